@@ -1,0 +1,4 @@
+pub mod Ascending
+pub mod Disks
+pub mod Maps
+pub mod Seen

@@ -1,0 +1,35 @@
+-- Which calls a fuse refuses, and the disk that a store with a fuse is.
+use Rattle.std.specs.Prelude.{◌≡◌, ℕ, ◌+◌, ◌==◌, min, Bool, true, if◌then◌else◌, nat_le, Result, Err}
+use Rattle.kb_store.specs.Disk.{Disk, IsLawfulDisk}
+use Rattle.kb_store.specs.declared.fault.StoreFault.{StoreFault}
+use Rattle.kb_store.specs.declared.fault.StoreFault.TheVariants.{Device}
+use Rattle.kb_store.specs.declared.fused.Fuse.{Fuse}
+use Rattle.kb_store.specs.declared.fused.Fuse.TheVariants.{Once, From}
+use Rattle.kb_store.specs.declared.fused.FusedStore.{FusedStore}
+
+-- The call of that number is refused. The first call has the number 1.
+abbrev pub refuses_call : Fuse → ℕ → Bool
+refuses_call (Once k) n = n == k
+refuses_call (From k) n = nat_le k n
+
+-- One more, short of u64's end.
+abbrev pub one_more : ℕ → ℕ
+one_more n = min (n + 1) 18446744073709551615
+
+-- The inner disk, whose device also failed at each refused call. The count stays at u64's end.
+abbrev pub fused_disk : Disk → ℕ → Disk
+fused_disk d refused = record { table = d.table; files = d.files; honest = d.honest; failures = min (d.failures + refused) 18446744073709551615 }
+
+abbrev pub disk_through : {S : Type 0} → (S → Disk) → FusedStore S → Disk
+disk_through inner s = fused_disk (inner s.store) s.refused
+
+-- A call was counted, and it was refused if the fuse names its number.
+pub record Counts {S T : Type 0} (old : FusedStore S) (result : Result T StoreFault) (new : FusedStore S) : Type 0 where
+  pub fuse : new.fuse ≡ old.fuse
+  pub keep : new.keep ≡ old.keep
+  pub calls : new.calls ≡ one_more old.calls
+  pub refused : new.refused ≡ (if refuses_call old.fuse (one_more old.calls) then one_more old.refused else old.refused)
+  pub device : refuses_call old.fuse (one_more old.calls) ≡ true → result ≡ Err Device
+
+pub fused_lawful : (d : Disk) (refused : ℕ) → IsLawfulDisk d → IsLawfulDisk (fused_disk d refused)
+fused_lawful d refused l = record { lengths = l.lengths; fits = l.fits }

@@ -1,0 +1,7 @@
+pub mod Codec
+pub mod Fits
+pub mod Laws
+pub mod Reads
+pub mod Sunk
+pub mod Varint
+pub mod VarintLaws

@@ -1,0 +1,13 @@
+-- A partition's answer in a reply of Fetch, whose records are appended behind its front.
+use Rattle.std.specs.Prelude.{ℕ, List, [], Some, None}
+use Rattle.kb_api_data.specs.declared.fetch.FetchPartitionReply.{FetchPartitionReply}
+use Rattle.kb_api_data.specs.declared.fetch_records.FetchPartitionFront.{FetchPartitionFront}
+use Rattle.kb_api_data.specs.Layouts.{fetch_partition_reply}
+
+-- The answer with these records.
+abbrev pub answer_with : FetchPartitionFront → List ℕ → FetchPartitionReply
+answer_with f records = record { partition = f.partition; error_code = f.error_code; high_watermark = f.high_watermark; last_stable_offset = f.last_stable_offset; aborted_transactions = None; records = Some records }
+
+-- What is written before the records: the answer with none.
+abbrev pub answer_front : FetchPartitionFront → List ℕ
+answer_front f = fetch_partition_reply.written (answer_with f [])

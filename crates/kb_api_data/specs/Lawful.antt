@@ -1,0 +1,144 @@
+-- Each layout is lawful, since its parts are.
+use Rattle.std.proofs.Common.{refl}
+use Rattle.kb_wire.specs.Laws.{IsLawful, int8_lawful, int16_lawful, int32_lawful, int64_lawful, boolean_lawful, string_lawful, nullable_string_lawful, nullable_blob_lawful, array_lawful, nullable_array_lawful, pair_lawful, via_lawful}
+use Rattle.kb_api_data.specs.Layouts.{produce_partition, produce_topic, produce_request, produce_partition_reply, produce_topic_reply, produce_reply, fetch_partition, fetch_topic, fetch_request, aborted_transaction, fetch_partition_reply, fetch_topic_reply, fetch_reply, list_offsets_partition, list_offsets_topic, list_offsets_request, list_offsets_partition_reply, list_offsets_topic_reply, list_offsets_reply, metadata_request, metadata_broker, metadata_partition, metadata_topic, metadata_reply, create_assignment, create_config, create_topic, create_topics_request, create_topic_reply, create_topics_reply, delete_topics_request, delete_topic_reply, delete_topics_reply, init_producer_id_request, init_producer_id_reply}
+
+pub produce_partition_lawful : IsLawful produce_partition
+unfolding produce_partition
+produce_partition_lawful = via_lawful _ _ (pair_lawful int32_lawful nullable_blob_lawful) (λ _. refl) (λ _. refl)
+
+pub produce_topic_lawful : IsLawful produce_topic
+unfolding produce_topic
+produce_topic_lawful = via_lawful _ _ (pair_lawful string_lawful (array_lawful _ produce_partition_lawful)) (λ _. refl) (λ _. refl)
+
+pub produce_request_lawful : IsLawful produce_request
+unfolding produce_request
+produce_request_lawful = via_lawful _ _ (pair_lawful nullable_string_lawful (pair_lawful int16_lawful (pair_lawful int32_lawful (array_lawful _ produce_topic_lawful)))) (λ _. refl) (λ _. refl)
+
+pub produce_partition_reply_lawful : IsLawful produce_partition_reply
+unfolding produce_partition_reply
+produce_partition_reply_lawful = via_lawful _ _ (pair_lawful int32_lawful (pair_lawful int16_lawful (pair_lawful int64_lawful int64_lawful))) (λ _. refl) (λ _. refl)
+
+pub produce_topic_reply_lawful : IsLawful produce_topic_reply
+unfolding produce_topic_reply
+produce_topic_reply_lawful = via_lawful _ _ (pair_lawful string_lawful (array_lawful _ produce_partition_reply_lawful)) (λ _. refl) (λ _. refl)
+
+pub produce_reply_lawful : IsLawful produce_reply
+unfolding produce_reply
+produce_reply_lawful = via_lawful _ _ (pair_lawful (array_lawful _ produce_topic_reply_lawful) int32_lawful) (λ _. refl) (λ _. refl)
+
+pub fetch_partition_lawful : IsLawful fetch_partition
+unfolding fetch_partition
+fetch_partition_lawful = via_lawful _ _ (pair_lawful int32_lawful (pair_lawful int64_lawful int32_lawful)) (λ _. refl) (λ _. refl)
+
+pub fetch_topic_lawful : IsLawful fetch_topic
+unfolding fetch_topic
+fetch_topic_lawful = via_lawful _ _ (pair_lawful string_lawful (array_lawful _ fetch_partition_lawful)) (λ _. refl) (λ _. refl)
+
+pub fetch_request_lawful : IsLawful fetch_request
+unfolding fetch_request
+fetch_request_lawful = via_lawful _ _ (pair_lawful int32_lawful (pair_lawful int32_lawful (pair_lawful int32_lawful (pair_lawful int32_lawful (pair_lawful int8_lawful (array_lawful _ fetch_topic_lawful)))))) (λ _. refl) (λ _. refl)
+
+pub aborted_transaction_lawful : IsLawful aborted_transaction
+unfolding aborted_transaction
+aborted_transaction_lawful = via_lawful _ _ (pair_lawful int64_lawful int64_lawful) (λ _. refl) (λ _. refl)
+
+pub fetch_partition_reply_lawful : IsLawful fetch_partition_reply
+unfolding fetch_partition_reply
+fetch_partition_reply_lawful = via_lawful _ _ (pair_lawful int32_lawful (pair_lawful int16_lawful (pair_lawful int64_lawful (pair_lawful int64_lawful (pair_lawful (nullable_array_lawful _ aborted_transaction_lawful) nullable_blob_lawful))))) (λ _. refl) (λ _. refl)
+
+pub fetch_topic_reply_lawful : IsLawful fetch_topic_reply
+unfolding fetch_topic_reply
+fetch_topic_reply_lawful = via_lawful _ _ (pair_lawful string_lawful (array_lawful _ fetch_partition_reply_lawful)) (λ _. refl) (λ _. refl)
+
+pub fetch_reply_lawful : IsLawful fetch_reply
+unfolding fetch_reply
+fetch_reply_lawful = via_lawful _ _ (pair_lawful int32_lawful (array_lawful _ fetch_topic_reply_lawful)) (λ _. refl) (λ _. refl)
+
+pub list_offsets_partition_lawful : IsLawful list_offsets_partition
+unfolding list_offsets_partition
+list_offsets_partition_lawful = via_lawful _ _ (pair_lawful int32_lawful int64_lawful) (λ _. refl) (λ _. refl)
+
+pub list_offsets_topic_lawful : IsLawful list_offsets_topic
+unfolding list_offsets_topic
+list_offsets_topic_lawful = via_lawful _ _ (pair_lawful string_lawful (array_lawful _ list_offsets_partition_lawful)) (λ _. refl) (λ _. refl)
+
+pub list_offsets_request_lawful : IsLawful list_offsets_request
+unfolding list_offsets_request
+list_offsets_request_lawful = via_lawful _ _ (pair_lawful int32_lawful (array_lawful _ list_offsets_topic_lawful)) (λ _. refl) (λ _. refl)
+
+pub list_offsets_partition_reply_lawful : IsLawful list_offsets_partition_reply
+unfolding list_offsets_partition_reply
+list_offsets_partition_reply_lawful = via_lawful _ _ (pair_lawful int32_lawful (pair_lawful int16_lawful (pair_lawful int64_lawful int64_lawful))) (λ _. refl) (λ _. refl)
+
+pub list_offsets_topic_reply_lawful : IsLawful list_offsets_topic_reply
+unfolding list_offsets_topic_reply
+list_offsets_topic_reply_lawful = via_lawful _ _ (pair_lawful string_lawful (array_lawful _ list_offsets_partition_reply_lawful)) (λ _. refl) (λ _. refl)
+
+pub list_offsets_reply_lawful : IsLawful list_offsets_reply
+unfolding list_offsets_reply
+list_offsets_reply_lawful = via_lawful _ _ (array_lawful _ list_offsets_topic_reply_lawful) (λ _. refl) (λ _. refl)
+
+pub metadata_request_lawful : IsLawful metadata_request
+unfolding metadata_request
+metadata_request_lawful = via_lawful _ _ (nullable_array_lawful _ string_lawful) (λ _. refl) (λ _. refl)
+
+pub metadata_broker_lawful : IsLawful metadata_broker
+unfolding metadata_broker
+metadata_broker_lawful = via_lawful _ _ (pair_lawful int32_lawful (pair_lawful string_lawful (pair_lawful int32_lawful nullable_string_lawful))) (λ _. refl) (λ _. refl)
+
+pub metadata_partition_lawful : IsLawful metadata_partition
+unfolding metadata_partition
+metadata_partition_lawful = via_lawful _ _ (pair_lawful int16_lawful (pair_lawful int32_lawful (pair_lawful int32_lawful (pair_lawful (array_lawful _ int32_lawful) (array_lawful _ int32_lawful))))) (λ _. refl) (λ _. refl)
+
+pub metadata_topic_lawful : IsLawful metadata_topic
+unfolding metadata_topic
+metadata_topic_lawful = via_lawful _ _ (pair_lawful int16_lawful (pair_lawful string_lawful (pair_lawful boolean_lawful (array_lawful _ metadata_partition_lawful)))) (λ _. refl) (λ _. refl)
+
+pub metadata_reply_lawful : IsLawful metadata_reply
+unfolding metadata_reply
+metadata_reply_lawful = via_lawful _ _ (pair_lawful (array_lawful _ metadata_broker_lawful) (pair_lawful int32_lawful (array_lawful _ metadata_topic_lawful))) (λ _. refl) (λ _. refl)
+
+pub create_assignment_lawful : IsLawful create_assignment
+unfolding create_assignment
+create_assignment_lawful = via_lawful _ _ (pair_lawful int32_lawful (array_lawful _ int32_lawful)) (λ _. refl) (λ _. refl)
+
+pub create_config_lawful : IsLawful create_config
+unfolding create_config
+create_config_lawful = via_lawful _ _ (pair_lawful string_lawful nullable_string_lawful) (λ _. refl) (λ _. refl)
+
+pub create_topic_lawful : IsLawful create_topic
+unfolding create_topic
+create_topic_lawful = via_lawful _ _ (pair_lawful string_lawful (pair_lawful int32_lawful (pair_lawful int16_lawful (pair_lawful (array_lawful _ create_assignment_lawful) (array_lawful _ create_config_lawful))))) (λ _. refl) (λ _. refl)
+
+pub create_topics_request_lawful : IsLawful create_topics_request
+unfolding create_topics_request
+create_topics_request_lawful = via_lawful _ _ (pair_lawful (array_lawful _ create_topic_lawful) int32_lawful) (λ _. refl) (λ _. refl)
+
+pub create_topic_reply_lawful : IsLawful create_topic_reply
+unfolding create_topic_reply
+create_topic_reply_lawful = via_lawful _ _ (pair_lawful string_lawful int16_lawful) (λ _. refl) (λ _. refl)
+
+pub create_topics_reply_lawful : IsLawful create_topics_reply
+unfolding create_topics_reply
+create_topics_reply_lawful = via_lawful _ _ (array_lawful _ create_topic_reply_lawful) (λ _. refl) (λ _. refl)
+
+pub delete_topics_request_lawful : IsLawful delete_topics_request
+unfolding delete_topics_request
+delete_topics_request_lawful = via_lawful _ _ (pair_lawful (array_lawful _ string_lawful) int32_lawful) (λ _. refl) (λ _. refl)
+
+pub delete_topic_reply_lawful : IsLawful delete_topic_reply
+unfolding delete_topic_reply
+delete_topic_reply_lawful = via_lawful _ _ (pair_lawful string_lawful int16_lawful) (λ _. refl) (λ _. refl)
+
+pub delete_topics_reply_lawful : IsLawful delete_topics_reply
+unfolding delete_topics_reply
+delete_topics_reply_lawful = via_lawful _ _ (array_lawful _ delete_topic_reply_lawful) (λ _. refl) (λ _. refl)
+
+pub init_producer_id_request_lawful : IsLawful init_producer_id_request
+unfolding init_producer_id_request
+init_producer_id_request_lawful = via_lawful _ _ (pair_lawful nullable_string_lawful int32_lawful) (λ _. refl) (λ _. refl)
+
+pub init_producer_id_reply_lawful : IsLawful init_producer_id_reply
+unfolding init_producer_id_reply
+init_producer_id_reply_lawful = via_lawful _ _ (pair_lawful int32_lawful (pair_lawful int16_lawful (pair_lawful int64_lawful int16_lawful))) (λ _. refl) (λ _. refl)

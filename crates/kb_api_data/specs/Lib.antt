@@ -1,0 +1,3 @@
+pub mod FetchRecords
+pub mod Layouts
+pub mod Lawful

@@ -1,0 +1,4 @@
+pub mod Fronts
+pub mod Logins
+pub mod Nuls
+pub mod Streams

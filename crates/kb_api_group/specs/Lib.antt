@@ -1,0 +1,5 @@
+pub mod ErrorCode
+pub mod Frames
+pub mod Lawful
+pub mod Layouts
+pub mod Plain

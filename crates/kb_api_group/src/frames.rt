@@ -1,0 +1,183 @@
+//! A stream that comes in pieces, given out by frames.
+
+ghost use Rattle.std.specs.Prelude.{◌≡◌, ◌++◌, List, ℕ, [], length, drop, vec_len, OnOk, OnErr, ◌≤◌, ◌+◌};
+ghost use Rattle.kb_api_group.specs.Frames.{Front, Whole, front, answer, behind, with_more, Fronts, IsSize, IsStuck, Splits, Event, Run, joined, taken};
+
+use kb_wire::{Blob, Cursor};
+use std::alloc::{AllocError, Global};
+use std::marker::Model;
+
+/// The least size of a request: its key, its version and its correlation id.
+const LEAST_SIZE: i32 = 8;
+
+/// The greatest size of a request that is read.
+const GREATEST_SIZE: i32 = 2_097_152;
+
+/// What stands in front of the unread bytes.
+#[derive(Drop)]
+pub enum Next<'a> {
+    /// A whole frame: the bytes behind its size.
+    Frame(Blob<'a>),
+    /// Less than a whole frame.
+    More,
+    /// A size below 8.
+    TooSmall,
+    /// A size above 2,097,152.
+    TooLarge,
+}
+
+/// The bytes of a stream that were not yet read. A clause sees their list.
+///
+/// Bytes are read by moving a position. When a piece comes, what was read makes room where it is at least half of what is
+/// kept: so each byte is moved a constant number of times in however many pieces and frames it comes, and less than half
+/// of what is kept was read.
+#[derive(Drop)]
+pub struct FrameFeed {
+    bytes: Vec<u8>,
+    start: usize,
+}
+
+impl Model for FrameFeed {
+    ghost use Rattle.std.specs.Prelude.{◌≤◌, drop, length, List, ℕ};
+
+    ghost Value = { List ℕ };
+
+    ghost view = { λ a. drop a.start a.bytes.items };
+
+    ghost invariant = { λ a. a.start ≤ length a.bytes.items };
+}
+
+impl FrameFeed {
+    /// A feed with nothing unread.
+    pub fn new(alloc: Global) -> FrameFeed
+        ensures { result ≡ [] }
+    {
+        FrameFeed {
+            bytes: Vec::new(alloc),
+            start: 0,
+        }
+    }
+
+    /// Adds the next piece of the stream.
+    ///
+    /// An `Err` leaves what was unread.
+    pub fn push(&mut self, piece: &[u8]) -> Result<(), AllocError>
+        ensures ok { OnOk result (self.new ≡ self.old ++ piece.now) }
+        ensures err { OnErr result (self.new ≡ self.old) }
+    {
+        self.make_room();
+        self.bytes.extend_from_slice(piece)
+    }
+
+    /// How many bytes are unread.
+    pub fn unread(&self) -> usize
+        ensures { result ≡ length self.now }
+    {
+        self.bytes.len() - self.start
+    }
+
+    /// What stands in front. A frame is lent and stays unread until `skip`. It takes no memory.
+    pub fn next(&self) -> Next<'_>
+        ensures { result ≡ answer (front self.now) }
+    {
+        front_of(&self.bytes[self.start..])
+    }
+
+    /// Leaves the frame in front behind. Where no whole frame stands in front nothing changes. It takes no memory.
+    pub fn skip(&mut self)
+        ensures { self.new ≡ behind (front self.old) self.old }
+    {
+        let size = match self.next() {
+            Next::Frame(frame) => frame.as_slice().len(),
+            _ => return,
+        };
+        self.start += 4 + size;
+    }
+
+    /// Drops the unread bytes, and gives their memory back.
+    pub fn clear(&mut self)
+        ensures { self.new ≡ [] }
+    {
+        self.bytes.clear();
+        self.bytes.shrink_to_fit();
+        self.start = 0;
+    }
+
+    /// Drops what was read, where that is at least half of what is kept.
+    fn make_room(&mut self)
+        ensures { self.new ≡ self.old }
+    {
+        if self.unread() <= self.start {
+            drop_front(&mut self.bytes, self.start);
+            self.start = 0;
+        }
+    }
+}
+
+/// Brings the bytes from `n` on to the front. They are no more than those before them, so each is moved once.
+fn drop_front(bytes: &mut Vec<u8>, n: usize)
+    requires within { n ≤ vec_len bytes.old }
+    requires half { vec_len bytes.old ≤ n + n }
+    ensures { bytes.new.items ≡ drop n bytes.old.items }
+{
+    let unread = bytes.len() - n;
+    let (read, rest) = bytes.as_mut_slice().split_at_mut(n);
+    read[..unread].copy_from_slice(rest);
+    bytes.truncate(unread);
+}
+
+/// What bytes begin with.
+#[tactic(auto, unfolding(crate::specs::Frames::front, kb_wire::specs::Codec::octets))]
+fn front_of(bytes: &[u8]) -> Next<'_>
+    ensures { result ≡ answer (front bytes.now) }
+{
+    let mut cursor = Cursor::new(bytes);
+    let Ok(size) = cursor.i32() else {
+        return Next::More;
+    };
+    if size < LEAST_SIZE {
+        return Next::TooSmall;
+    }
+    if size > GREATEST_SIZE {
+        return Next::TooLarge;
+    }
+    match cursor.take(size as usize) {
+        Ok(frame) => Next::Frame(frame),
+        Err(_) => Next::More,
+    }
+}
+
+/// What stands in front is what the protocol says and nothing else, so the four answers exclude each other.
+pub fn one_front()
+    ensures found { (bytes : List ℕ) → Fronts bytes (front bytes) }
+    ensures only { (bytes : List ℕ) (other : Front) → Fronts bytes other → front bytes ≡ other }
+{}
+
+/// How long a whole frame is, and how many bytes it takes from the front.
+pub fn whole_frame()
+    ensures size { (bytes frame rest : List ℕ) → front bytes ≡ Whole frame rest → IsSize (length frame) }
+    ensures len { (bytes frame rest : List ℕ) → front bytes ≡ Whole frame rest
+        → length bytes ≡ 4 + length frame + length rest }
+{}
+
+/// More bytes behind change no whole frame and no bad size: a bad size stays in front and is answered again.
+pub fn more_bytes()
+    ensures { (bytes more : List ℕ) → front (bytes ++ more) ≡ with_more (front bytes) bytes more }
+{}
+
+/// In whatever pieces the bytes came and whenever frames were taken, those frames are the ones of the bytes joined, and
+/// what is unread is what stands behind them.
+pub fn any_pieces()
+    ensures split { (old new : List ℕ) (events : List Event) → Run old events new
+        → Splits (old ++ joined events) (taken events) new }
+    ensures same { (old new other : List ℕ) (events others : List Event) → Run old events new
+        → Run old others other → joined events ≡ joined others → IsStuck new → IsStuck other
+        → (taken events ≡ taken others) × (new ≡ other) }
+{}
+
+/// A stream has one reading: where no frame stands in front of either rest, the frames are the same.
+pub fn one_reading()
+    ensures { (stream rest other : List ℕ) (frames others : List (List ℕ)) → Splits stream frames rest
+        → Splits stream others other → IsStuck rest → IsStuck other
+        → (frames ≡ others) × (rest ≡ other) }
+{}

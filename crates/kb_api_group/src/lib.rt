@@ -1,0 +1,50 @@
+//! What comes off a connection of the Kafka protocol becomes requests: frames, the request header, the greeting's messages
+//! and those of consumer groups.
+//!
+//! [`FrameFeed`] takes a stream in pieces and lends it out by frames; [`RequestHeader`] (and [`RequestStart`], enough for an
+//! ApiVersions of any version) stands at the front of each frame; each request and reply of keys 8 to 14, 17, 18 and 36 is a
+//! type with `read` and `write` (`kb_wire::Layout`); [`read_plain`] reads the message of SASL PLAIN; [`ErrorCode`] has the
+//! protocol's error codes. The contract in one sentence: bytes are read as what they spell and refused where they spell
+//! nothing, what is written is read again, and in whatever pieces a stream came its frames are those of its bytes joined.
+//!
+//! Kafka protocol guide: requests, headers, the named APIs and error codes. RFC 4616: the PLAIN message.
+#![tactic(auto)]
+
+mod api_versions;
+mod error_code;
+mod find_coordinator;
+mod frames;
+mod header;
+mod heartbeat;
+mod join_group;
+mod leave_group;
+mod offset_commit;
+mod offset_fetch;
+mod plain;
+mod sasl_authenticate;
+mod sasl_handshake;
+mod sync_group;
+
+pub use api_versions::{ApiVersion, ApiVersionsReply, ApiVersionsRequest};
+pub use error_code::ErrorCode;
+pub use find_coordinator::{FindCoordinatorReply, FindCoordinatorRequest};
+pub use frames::{FrameFeed, Next, any_pieces, more_bytes, one_front, one_reading, whole_frame};
+pub use header::{RequestHeader, RequestStart};
+pub use heartbeat::{HeartbeatReply, HeartbeatRequest};
+pub use join_group::{JoinGroupReply, JoinGroupRequest, JoinMember, JoinProtocol};
+pub use leave_group::{LeaveGroupReply, LeaveGroupRequest};
+pub use offset_commit::{
+    CommitPartition, CommitPartitionReply, CommitTopic, CommitTopicReply, OffsetCommitReply,
+    OffsetCommitRequest,
+};
+pub use offset_fetch::{
+    OffsetFetchPartitionReply, OffsetFetchReply, OffsetFetchRequest, OffsetFetchTopic,
+    OffsetFetchTopicReply,
+};
+pub use plain::{PlainLogin, read_plain};
+pub use sasl_authenticate::{SaslAuthenticateReply, SaslAuthenticateRequest};
+pub use sasl_handshake::{SaslHandshakeReply, SaslHandshakeRequest};
+pub use sync_group::{SyncAssignment, SyncGroupReply, SyncGroupRequest};
+
+#[cfg(test)]
+mod tests;

@@ -1,0 +1,7 @@
+pub mod ChoiceSteps
+pub mod Each
+pub mod Longest
+pub mod Place
+pub mod Steps
+pub mod Settled
+pub mod Quiet

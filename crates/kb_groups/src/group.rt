@@ -1,0 +1,163 @@
+//! One consumer group.
+
+ghost use Rattle.std.specs.Prelude.{◌≡◌, ◌≤◌, IfOk, OnErr, OnOk};
+ghost use Rattle.kb_groups.specs.Calls.{after_heartbeat, after_may_commit, dropped, fresh, heartbeat, join, join_code, leave, leave_code, may_commit, sync};
+ghost use Rattle.kb_groups.specs.Moments.{tick};
+
+use crate::borrowed::{Join, SyncAssignment};
+use crate::code::Code;
+use crate::reply::{Release, SyncAnswer};
+use crate::state::State;
+use std::alloc::{AllocError, Global};
+use std::marker::Model;
+
+/// One consumer group, which contracts see as its `State`.
+///
+/// Clocks are in milliseconds, at most 2^62. The calls that allocate answer `Err` for want of memory, and the group is then as before.
+#[derive(Drop)]
+pub struct Group {
+    state: State,
+    /// Before this moment no session ends and no deadline comes.
+    quiet_until: u64,
+}
+
+impl Model for Group {
+    ghost use Rattle.std.specs.Prelude.{◌≤◌};
+    ghost use Rattle.kb_groups.specs.declared.state.State.{State};
+    ghost use Rattle.kb_groups.specs.Moments.{next_due};
+
+    ghost Value = { State };
+
+    ghost view = { λ g. g.state };
+
+    ghost invariant = { λ g. g.quiet_until ≤ next_due g.state };
+}
+
+impl Group {
+    /// A group that nobody joined yet.
+    pub fn new(alloc: Global) -> Group
+        ensures { result ≡ fresh }
+    {
+        Group {
+            state: State::new(alloc),
+            quiet_until: 0,
+        }
+    }
+
+    /// The group, to be read.
+    pub fn state(&self) -> &State
+        ensures { result.now ≡ self.now }
+    {
+        &self.state
+    }
+
+    /// The code of a join, as far as the group decides it: session timeout, protocols and type, member, agreement with the others,
+    /// and the greatest number of members, in this order.
+    pub fn join_code(&self, request: &Join<'_>) -> Code
+        ensures { result ≡ join_code request.now self.now }
+    {
+        self.state.join_code(request)
+    }
+
+    /// Kafka's JoinGroup, with the requests that wait no longer, by connection; the join's own reply is among them if Joining ends.
+    pub fn join(
+        &mut self,
+        alloc: Global,
+        request: &Join<'_>,
+        clock: u64,
+    ) -> Result<(Code, Vec<Release>), AllocError>
+        requires { clock ≤ 4611686018427387904 }
+        ensures code { IfOk result (λ r. r.0 ≡ join_code request.now self.old) }
+        ensures released { IfOk result (λ r. r.1.items ≡ (join clock request.now self.old).released) }
+        ensures group { OnOk result (self.new ≡ (join clock request.now self.old).group) }
+        ensures refused { OnErr result (self.new ≡ self.old) }
+    {
+        let result = self.state.join(alloc, request, clock);
+        self.quiet_until = self.state.next_due();
+        result
+    }
+
+    /// Kafka's SyncGroup, with the requests that wait no longer, by connection.
+    pub fn sync(
+        &mut self,
+        alloc: Global,
+        connection: u64,
+        number: u64,
+        generation: i32,
+        assignments: &[SyncAssignment<'_>],
+        clock: u64,
+    ) -> Result<(SyncAnswer, Vec<Release>), AllocError>
+        ensures answer { IfOk result (λ r. r.0 ≡ (sync clock connection number generation assignments.now self.old).0) }
+        ensures released { IfOk result (λ r. r.1.items ≡ (sync clock connection number generation assignments.now self.old).1.released) }
+        ensures group { OnOk result (self.new ≡ (sync clock connection number generation assignments.now self.old).1.group) }
+        ensures refused { OnErr result (self.new ≡ self.old) }
+    {
+        let result = self
+            .state
+            .sync(alloc, connection, number, generation, assignments, clock);
+        self.quiet_until = self.state.next_due();
+        result
+    }
+
+    /// Kafka's Heartbeat: 25, 22, 27 in Joining, else 0. It takes no memory.
+    pub fn heartbeat(&mut self, number: u64, generation: i32, clock: u64) -> Code
+        ensures code { result ≡ heartbeat number generation self.old }
+        ensures after { self.new ≡ after_heartbeat clock number generation self.old }
+    {
+        let due = self.state.session_due(number, clock);
+        self.quiet_until = self.quiet_until.min(due);
+        self.state.heartbeat(number, generation, clock)
+    }
+
+    /// Whether a commit is taken: 25, 22, 27 in Syncing, else 0. It takes no memory.
+    pub fn may_commit(&mut self, number: u64, generation: i32, clock: u64) -> Code
+        ensures code { result ≡ may_commit number generation self.old }
+        ensures after { self.new ≡ after_may_commit clock number generation self.old }
+    {
+        let due = self.state.session_due(number, clock);
+        self.quiet_until = self.quiet_until.min(due);
+        self.state.may_commit(number, generation, clock)
+    }
+
+    /// Kafka's LeaveGroup, with the requests that wait no longer, by connection.
+    pub fn leave(
+        &mut self,
+        alloc: Global,
+        number: u64,
+        clock: u64,
+    ) -> Result<(Code, Vec<Release>), AllocError>
+        requires { clock ≤ 4611686018427387904 }
+        ensures code { IfOk result (λ r. r.0 ≡ leave_code number self.old) }
+        ensures released { IfOk result (λ r. r.1.items ≡ (leave clock number self.old).released) }
+        ensures group { OnOk result (self.new ≡ (leave clock number self.old).group) }
+        ensures refused { OnErr result (self.new ≡ self.old) }
+    {
+        let result = self.state.leave(alloc, number, clock);
+        self.quiet_until = self.state.next_due();
+        result
+    }
+
+    /// The wait of a closed connection goes; the member stays. It takes no memory.
+    pub fn dropped(&mut self, connection: u64, clock: u64)
+        ensures { self.new ≡ dropped clock connection self.old }
+    {
+        self.state.dropped(connection, clock);
+        self.quiet_until = self.state.next_due();
+    }
+
+    /// A moment: sessions end, and then a deadline comes; with the requests that wait no longer, by connection.
+    /// Where nothing is due it costs constant time.
+    pub fn tick(&mut self, alloc: Global, clock: u64) -> Result<Vec<Release>, AllocError>
+        requires { clock ≤ 4611686018427387904 }
+        ensures released { IfOk result (λ v. v.items ≡ (tick clock self.old).released) }
+        ensures group { OnOk result (self.new ≡ (tick clock self.old).group) }
+        ensures refused { OnErr result (self.new ≡ self.old) }
+    {
+        if clock < self.quiet_until {
+            return Ok(Vec::new(alloc));
+        }
+        let result = self.state.tick(alloc, clock);
+        self.quiet_until = self.state.next_due();
+        result
+    }
+}

@@ -1,0 +1,126 @@
+//! The protocols that members list.
+
+ghost use Rattle.std.specs.Prelude.{◌≡◌, IfOk, map, List, ℕ};
+ghost use Rattle.kb_groups.specs.Calls.{kept};
+ghost use Rattle.kb_groups.specs.Protocols.{lists, metadata};
+
+use crate::borrowed::JoinProtocol;
+use crate::bytes::Bytes;
+use std::alloc::{AllocError, Global};
+use std::marker::Model;
+
+/// A protocol that a member lists.
+#[derive(Drop)]
+pub struct Protocol {
+    pub name: Bytes,
+    pub metadata: Bytes,
+}
+
+impl Clone for Protocol {
+    ghost is_clone = { λ p copy. copy ≡ p };
+
+    fn clone(&self) -> Result<Protocol, AllocError> {
+        Ok(Protocol {
+            name: self.name.clone()?,
+            metadata: self.metadata.clone()?,
+        })
+    }
+}
+
+/// What has a protocol's name.
+pub(crate) trait Named {
+    ghost name_of: { Self → List ℕ };
+
+    fn name(&self) -> &[u8]
+        ensures { result.now ≡ name_of self.now };
+}
+
+impl Named for Protocol {
+    ghost name_of = { λ p. p.name };
+
+    fn name(&self) -> &[u8] {
+        self.name.as_slice()
+    }
+}
+
+impl<'a> Named for JoinProtocol<'a> {
+    ghost name_of = { λ p. p.name };
+
+    fn name(&self) -> &[u8] {
+        self.name.as_bytes()
+    }
+}
+
+/// A member's protocols, in its order of preference.
+#[derive(Drop)]
+pub struct Protocols {
+    pub(crate) items: Vec<Protocol>,
+}
+
+impl Model for Protocols {
+    ghost use Rattle.std.specs.Prelude.{List};
+    ghost use Rattle.kb_groups.specs.declared.protocol.Protocol.{Protocol};
+
+    ghost Value = { List Protocol };
+
+    ghost view = { λ b. b.items.items };
+}
+
+impl Clone for Protocols {
+    ghost is_clone = { λ ps copy. copy ≡ ps };
+
+    fn clone(&self) -> Result<Protocols, AllocError> {
+        Ok(Protocols {
+            items: self.items.clone()?,
+        })
+    }
+}
+
+impl Protocols {
+    pub fn as_slice(&self) -> &[Protocol]
+        ensures { result.now ≡ self.now }
+    {
+        self.items.as_slice()
+    }
+
+    /// A copy of what a join lists.
+    pub(crate) fn copy_of(
+        alloc: Global,
+        offers: &[JoinProtocol<'_>],
+    ) -> Result<Protocols, AllocError>
+        ensures { IfOk result (λ r. r ≡ map kept offers.now) }
+    {
+        let mut items = Vec::new(alloc);
+        for offer in offers {
+            items.push(Protocol {
+                name: Bytes::copy_of(alloc, offer.name.as_bytes())?,
+                metadata: Bytes::copy_of(alloc, offer.metadata.as_slice())?,
+            })?;
+        }
+        Ok(Protocols { items })
+    }
+
+    /// Whether the protocol of that name is among these.
+    pub(crate) fn lists(&self, name: &[u8]) -> bool
+        ensures { result ≡ lists self.now name.now }
+    {
+        for protocol in &self.items {
+            if protocol.name.as_slice() == name {
+                return true;
+            }
+        }
+        false
+    }
+
+    /// A copy of the first metadata under that name; empty if there is none.
+    pub(crate) fn metadata(&self, alloc: Global, name: &[u8]) -> Result<Bytes, AllocError>
+        ensures { IfOk result (λ b. b ≡ metadata self.now name.now) }
+    {
+        for protocol in &self.items {
+            if protocol.name.as_slice() == name {
+                return Bytes::copy_of(alloc, protocol.metadata.as_slice());
+            }
+        }
+        Ok(Bytes::new(alloc))
+    }
+}

@@ -1,0 +1,5 @@
+pub mod Finding
+pub mod Fives
+pub mod Summaries
+pub mod Tables
+pub mod Stamps

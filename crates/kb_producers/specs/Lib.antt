@@ -1,0 +1,4 @@
+pub mod Batches
+pub mod Recent
+pub mod Table
+pub mod Verdict

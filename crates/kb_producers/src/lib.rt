@@ -1,0 +1,21 @@
+//! Idempotent producers: a batch that comes twice is stored once and answered alike, and a gap is refused.
+//!
+//! [`ProducerTable`] stands for the batches of idempotent producers that are in a partition's list now, oldest first, and a
+//! contract sees it as that list. [`ProducerTable::judge`] says what becomes of a batch, by the producer's batches in it
+//! alone (Kafka documentation, "Idempotent Producer"; the codes are those of the protocol guide).
+#![tactic(auto)]
+
+mod batch;
+mod judge;
+mod kept;
+mod producer;
+mod recent;
+mod table;
+mod verdict;
+
+pub use kept::Kept;
+pub use table::ProducerTable;
+pub use verdict::Verdict;
+
+#[cfg(test)]
+mod tests;

@@ -1,0 +1,207 @@
+-- A piece that comes on a connection.
+use Rattle.std.proofs.Common.{◌≡◌, ◌≢◌, ◌<◌, ◌≤◌, ◌++◌, ◌∷◌, [], ℕ, zero, suc, List, length, get_or, set, eqb, Bool, true, false, Option, Some, None, refl, sym, ◌∙◌, ap, subst, arith, append-nil, inl, inr, length-set}
+use Rattle.std.specs.Prelude.{cond, nat_lt, ◌⊎◌}
+use Rattle.std.specs.List.{AllByRecursion}
+use Rattle.std.proofs.lemmas.Bool.Decides.{nat_tests}
+use Rattle.std.proofs.lemmas.List.{set-get_or}
+use Rattle.kb_machine.specs.Tenant.{Wait}
+use Rattle.kb_machine.specs.Session.{Stage, Greets, BoundTo, Session, fed, room, shut_down, without_wait, can}
+use Rattle.kb_machine.specs.Greeting.{Setup}
+use Rattle.kb_machine.specs.Machine.{Happening, Comes, Line, World, each, on, those, first_able, turns, stepped}
+use Rattle.kb_machine.specs.Owners.{Owns, Fits, find_line, whose, heard, destiny}
+use Rattle.kb_machine.specs.Broker.{BrokerState, Part, IsSound, IsReady, IsStep, Grows, IsCalm, IsCalmFor, IsUncounted, IsUntaken, IsComing, is_deaf, InRange, Rising, Mine, view_of, kept_of, refusals_of, bound_to, bound_as}
+use Rattle.kb_machine.specs.Turned.{IsStill, SameOthers, IsWithin, Turned, IsFed}
+use Rattle.kb_machine.proofs.Laws.{none-those, turns-none, those-each}
+use Rattle.kb_machine.proofs.Owners.{IsBound, IsMine, heard-still, fate-bound, mine-bound, bound-same, bound-fed, those-on_other, kept-one, stage-fed, stage-shut}
+use Rattle.kb_machine.proofs.Ranges.{range-same, range-without, range-fed}
+use Rattle.kb_machine.proofs.Sets.{IsAt, all-at, all-map, all-set, all-those, all-still, rising-above, set-on, find-at, find-none, tail-at, no-at, each-on_none}
+use Rattle.kb_machine.proofs.Parts.{count, count-at, count-same, count-other, count-grows, names-same, each-tenant, calm-left, calm-right, grows-same, grows-then, calm-first, calm-then}
+use Rattle.kb_machine.proofs.Turns.{changed, changed-within, bound-stays, within-then}
+use Rattle.kb_machine.proofs.Steps.{settled-turns, with_lines}
+
+-- 1. What a piece is to those that it does not come on
+
+comes-above : (setup : Setup) (t low last n : ℕ) (mine : ℕ → Bool) (piece : List ℕ) (es : List Happening) (ls : List Line) → Rising low last ls → n ≤ low → AllByRecursion (IsMine setup t mine (Comes n piece ∷ es)) ls → AllByRecursion (IsMine setup t mine es) ls
+comes-above setup t low last n mine piece es [] r h o = tt
+comes-above setup t low last n mine piece es (l ∷ ls) r h o =
+    let ne : eqb n l.number ≡ false = (let lt = r.0 in grind (arith, nat_tests)) in
+    (subst (Fits t (mine l.number)) (ap (λ (b : Bool). cond b (destiny setup l.number (heard setup (fed piece (heard setup l.session))) es) (destiny setup l.number (heard setup l.session) es)) ne) o.0, comes-above setup t l.number last n mine piece es ls r.1 (let lt = r.0 in omega arith) o.1)
+
+comes-set : (setup : Setup) (t low last : ℕ) (mine : ℕ → Bool) (piece : List ℕ) (es : List Happening) (ls : List Line) (i : ℕ) (l m : Line) → Rising low last ls → IsAt ls i l → m.number ≡ l.number →
+    (IsMine setup t mine (Comes l.number piece ∷ es) l → IsMine setup t mine es m) → AllByRecursion (IsMine setup t mine (Comes l.number piece ∷ es)) ls → AllByRecursion (IsMine setup t mine es) (set ls i m)
+comes-set setup t low last mine piece es [] i l m r a e f o = no-at i l a
+comes-set setup t low last mine piece es (k ∷ ls) zero l m r a e f o =
+    let n : l.number ≡ k.number = ap (λ (x : Line). x.number) a.here in
+    (f (subst (IsMine setup t mine (Comes l.number piece ∷ es)) (sym a.here) o.0), comes-above setup t k.number last l.number mine piece es ls r.1 (omega (arith, n)) o.1)
+comes-set setup t low last mine piece es (k ∷ ls) (suc i) l m r a e f o =
+    let lt : k.number < l.number = rising-above k.number last ls i l r.1 (tail-at k ls i l a) in
+    let ne : eqb l.number k.number ≡ false = grind (arith, nat_tests) in
+    (subst (Fits t (mine k.number)) (ap (λ (b : Bool). cond b (destiny setup k.number (heard setup (fed piece (heard setup k.session))) es) (destiny setup k.number (heard setup k.session) es)) ne) o.0, comes-set setup t k.number last mine piece es ls i l m r.1 (tail-at k ls i l a) e f o.1)
+
+comes-none : (setup : Setup) (t n : ℕ) (mine : ℕ → Bool) (piece : List ℕ) (es : List Happening) (ls : List Line) → AllByRecursion (λ l. l.number ≢ n) ls → AllByRecursion (IsMine setup t mine (Comes n piece ∷ es)) ls → AllByRecursion (IsMine setup t mine es) ls
+comes-none setup t n mine piece es [] h o = tt
+comes-none setup t n mine piece es (l ∷ ls) h o =
+    let no = h.0 in
+    let ne : eqb n l.number ≡ false = grind (arith, nat_tests) in
+    (subst (Fits t (mine l.number)) (ap (λ (b : Bool). cond b (destiny setup l.number (heard setup (fed piece (heard setup l.session))) es) (destiny setup l.number (heard setup l.session) es)) ne) o.0, comes-none setup t n mine piece es ls h.1 o.1)
+
+-- the connection that the piece came on, if it was kept
+comes-fed : (setup : Setup) (t : ℕ) (mine : ℕ → Bool) (piece : List ℕ) (es : List Happening) (l m : Line) → can l.session ≡ false → m.number ≡ l.number → m.session ≡ fed piece l.session → IsMine setup t mine (Comes l.number piece ∷ es) l → IsMine setup t mine es m
+comes-fed setup t mine piece es l m c n e h =
+    let same : eqb l.number l.number ≡ true = grind (arith, nat_tests) in
+    let still : heard setup l.session ≡ l.session = heard-still setup l.session c in
+    let g : Fits t (mine l.number) (destiny setup l.number (heard setup (fed piece (heard setup l.session))) es) = subst (Fits t (mine l.number)) (ap (λ (b : Bool). cond b (destiny setup l.number (heard setup (fed piece (heard setup l.session))) es) (destiny setup l.number (heard setup l.session) es)) same) h in
+    let k : Fits t (mine l.number) (destiny setup l.number (heard setup m.session) es) = subst (λ x. Fits t (mine l.number) (destiny setup l.number (heard setup x) es)) (ap (fed piece) still ∙ sym e) g in
+    subst (λ x. Fits t (mine x) (destiny setup x (heard setup m.session) es)) (sym n) k
+
+-- a bound connection, whatever it is left as
+comes-bound : (setup : Setup) (t u : ℕ) (mine : ℕ → Bool) (piece : List ℕ) (es : List Happening) (l m : Line) → IsBound u l.session → IsBound u m.session → m.number ≡ l.number → IsMine setup t mine (Comes l.number piece ∷ es) l → IsMine setup t mine es m
+comes-bound setup t u mine piece es l m p q n h =
+    let g : Fits t (mine l.number) (Some u) = subst (Fits t (mine l.number)) (fate-bound setup l.number l.session (Comes l.number piece ∷ es) u p) h in
+    let k : Fits t (mine l.number) (destiny setup m.number (heard setup m.session) es) = subst (Fits t (mine l.number)) (sym (fate-bound setup m.number m.session es u q)) g in
+    subst (λ y. Fits t (mine y) (destiny setup m.number (heard setup m.session) es)) (sym n) k
+
+whose-same : (a b : Stage) → without_wait b ≡ without_wait a → whose b ≡ whose a
+whose-same (Greets g) (Greets h) e = refl
+whose-same (Greets g) (BoundTo v w) e = cc
+whose-same (BoundTo v w) (Greets h) e = cc
+whose-same (BoundTo v w) (BoundTo x y) e = let g : x ≡ v = cc in ap Some g
+
+-- 2. A piece that is taken
+
+still-settled : (n : ℕ) (b : BrokerState) → first_able b.lines ≡ None → AllByRecursion (IsStill n) b.lines
+still-settled n b h = all-map (λ l. can l.session ≡ false) (IsStill n) (λ l c ne. c) b.lines (all-still b.lines h)
+
+view-fed : (w : World) (mine : ℕ → Bool) (n : ℕ) (piece : List ℕ) (ls : List Line) (yes : Bool) → mine n ≡ yes → w.lines ≡ those mine ls → first_able ls ≡ None → turns (with_lines w (those mine (each (on n (fed piece)) ls))) ≡ stepped yes (Comes n piece) w
+view-fed w mine n piece ls true m f none = ap (λ x. turns (with_lines w x)) (those-each mine (on n (fed piece)) ls ∙ ap (each (on n (fed piece))) (sym f))
+view-fed w mine n piece ls false m f none = ap (λ x. turns (with_lines w x)) (those-on_other mine n (fed piece) ls m ∙ sym f) ∙ turns-none w (ap first_able f ∙ none-those mine ls none)
+
+-- the piece was taken, or it was longer than the room and the connection is shut
+pub fed-kept : (b : BrokerState) (i : ℕ) (l m : Line) (piece : List ℕ) → IsReady b → IsAt b.lines i l → m.number ≡ l.number → m.session ≡ fed piece l.session → IsFed l.number piece b (changed b i m b.parts b.unbound_refusals)
+fed-kept b i l m piece r at n e =
+    let s = r.sound in
+    let same : without_wait m.session.stage ≡ without_wait l.session.stage = ap (λ (x : Session). without_wait x.stage) e ∙ stage-fed piece l.session in
+    let owner : whose m.session.stage ≡ whose l.session.stage = whose-same l.session.stage m.session.stage same in
+    let still = all-at (λ x. can x.session ≡ false) b.lines i l at (all-still b.lines r.settled) in
+    let lines : set b.lines i m ≡ each (on l.number (fed piece)) b.lines = set-on 0 b.last (fed piece) b.lines i l m s.rising at n e in
+    record {
+      within = changed-within b i l m b.parts b.unbound_refusals s (still-settled l.number b r.settled) at n refl (range-same (length b.parts) l.session.stage m.session.stage same (all-at _ b.lines i l at s.in_range))
+          (record { setup = refl; names = refl; own = λ t. omega arith; unbound = omega arith }) (λ t f. owner ∙ f) (λ t ne. refl) (λ t f. refl);
+      mine = λ t mine es k calm. record { now = comes-set b.setup t 0 b.last mine piece es b.lines i l m s.rising at n (comes-fed b.setup t mine piece es l m still n e) k.now; later = k.later };
+      view = λ t mine es k calm. ap (λ x. turns (with_lines (view_of t mine b) (those mine x))) lines ∙ view-fed (view_of t mine b) mine l.number piece b.lines (mine l.number) refl refl r.settled;
+    }
+
+-- a greeting connection's piece could not be kept
+pub fed-refused : (b : BrokerState) (i : ℕ) (l m : Line) (piece : List ℕ) (h : Bool) (x : ℕ) → IsReady b → IsAt b.lines i l → l.session.stage ≡ Greets h → m.number ≡ l.number → m.session ≡ shut_down l.session → b.unbound_refusals ≤ x → (IsCalm b.unbound_refusals x → ⊥) →
+    IsFed l.number piece b (changed b i m b.parts x)
+fed-refused b i l m piece h x r at g n e up rises =
+    let s = r.sound in
+    let same : without_wait m.session.stage ≡ without_wait l.session.stage = ap (λ (x : Session). without_wait x.stage) e ∙ stage-shut l.session in
+    let none : whose l.session.stage ≡ None = ap whose g in
+    record {
+      within = changed-within b i l m b.parts x s (still-settled l.number b r.settled) at n refl (range-same (length b.parts) l.session.stage m.session.stage same (all-at _ b.lines i l at s.in_range))
+          (record { setup = refl; names = refl; own = λ t. omega arith; unbound = up })
+          (λ t f. let k : None ≡ Some t = sym none ∙ f in absurd (cc)) (λ t ne. refl) (λ t f. let k : None ≡ Some t = sym none ∙ f in absurd (cc));
+      mine = λ t mine es k calm. absurd (rises calm);
+      view = λ t mine es k calm. absurd (rises calm.unbound);
+    }
+
+view-hidden : (w : World) (mine : ℕ → Bool) (n : ℕ) (f : Session → Session) (piece : List ℕ) (ls : List Line) → mine n ≡ false → w.lines ≡ those mine ls → first_able ls ≡ None → turns (with_lines w (those mine (each (on n f) ls))) ≡ stepped (mine n) (Comes n piece) w
+view-hidden w mine n f piece ls m e none =
+    ap (λ x. turns (with_lines w x)) (those-on_other mine n f ls m ∙ sym e) ∙ (turns-none w (ap first_able e ∙ none-those mine ls none) ∙ sym (ap (λ y. stepped y (Comes n piece) w) m))
+
+-- a bound connection's piece could not be kept
+pub fed-bound : (b : BrokerState) (i u : ℕ) (l m : Line) (piece : List ℕ) (w : Option Wait) (y x : Part) → IsReady b → IsAt b.lines i l → l.session.stage ≡ BoundTo u w → m.number ≡ l.number → m.session ≡ shut_down l.session →
+    u < length b.parts → y ≡ get_or b.parts u y → x.name ≡ y.name → y.refusals ≤ x.refusals → (IsCalm y.refusals x.refusals → ⊥) → IsFed l.number piece b (changed b i m (set b.parts u x) b.unbound_refusals)
+fed-bound b i u l m piece w y x r at g n e lt is name up rises =
+    let s = r.sound in
+    let p : IsBound u l.session = record { wait = w; is = g } in
+    let same : without_wait m.session.stage ≡ without_wait l.session.stage = ap (λ (z : Session). without_wait z.stage) e ∙ stage-shut l.session in
+    let q : IsBound u m.session = bound-same u l.session m.session p same in
+    let new = changed b i m (set b.parts u x) b.unbound_refusals in
+    let lines : set b.lines i m ≡ each (on l.number (λ z. m.session)) b.lines = set-on 0 b.last (λ z. m.session) b.lines i l m s.rising at n refl in
+    record {
+      within = changed-within b i l m (set b.parts u x) b.unbound_refusals s (still-settled l.number b r.settled) at n (length-set b.parts u x) (range-same (length b.parts) l.session.stage m.session.stage same (all-at _ b.lines i l at s.in_range))
+          (record { setup = refl; names = names-same b.parts u y x lt is name; own = count-grows b.parts u y x lt is up; unbound = omega arith })
+          (bound-stays u l m p q) (λ t ne. count-other b.parts u t x (λ h. ne (ap whose q.is ∙ ap Some (sym h)))) (λ t f. refl);
+      mine = λ t mine es k calm. record { now = comes-set b.setup t 0 b.last mine piece es b.lines i l m s.rising at n (comes-bound b.setup t u mine piece es l m p q n) k.now; later = k.later };
+      view = λ t mine es k calm. each-tenant (λ v. Mine v mine (Comes l.number piece ∷ es) b → IsCalm (count b.parts v) (count (set b.parts u x) v) → turns (view_of v mine new) ≡ stepped (mine l.number) (Comes l.number piece) (view_of v mine b)) u t (eqb u t) refl
+          (λ k' c'. absurd (rises (rw (← count-at b.parts u y lt is, ← count-same b.parts u x lt) c')))
+          (λ ne k' c'.
+          let is' : mine l.number ≡ eqb u t = mine-bound b.setup t mine (Comes l.number piece ∷ es) l u p (all-at (IsMine b.setup t mine (Comes l.number piece ∷ es)) b.lines i l at k'.now) in
+          let no : mine l.number ≡ false = is' ∙ grind (arith, nat_tests) in
+          ap (λ z. turns (record (view_of t mine b) { kept = kept_of new t; lines = those mine z })) lines
+          ∙ (ap (λ z. turns (record (view_of t mine b) { kept = z; lines = those mine (each (on l.number (λ z. m.session)) b.lines) })) (kept-one (kept_of new t) (kept_of b t))
+          ∙ view-hidden (view_of t mine b) mine l.number (λ z. m.session) piece b.lines no refl r.settled))
+          k calm.own;
+    }
+
+-- 3. The end of the event
+
+pub ready-turned : (n : ℕ) (a c : BrokerState) → IsWithin n a c → first_able c.lines ≡ None → IsReady c
+ready-turned n a c w e = record { sound = w.sound; settled = e }
+
+-- a piece that was taken, and then turns until none is left
+pub step-comes : (n : ℕ) (piece : List ℕ) (a b c : BrokerState) → IsFed n piece a b → Turned n b c → first_able c.lines ≡ None → (IsUntaken n piece a → ⊥) → IsStep (Comes n piece) a c
+step-comes n piece a b c f t none taken =
+    let g = f.within.grows in
+    let h = t.within.grows in
+    let w = within-then n a b c f.within t.within in
+    record {
+      last = let e = w.last in omega (arith, e);
+      grows = w.grows;
+      counted = record { own = w.own; unbound = w.unbound; none = λ u. absurd (taken u) };
+      mine = λ u mine es m calm. t.mine u mine es
+          (f.mine u mine es m (calm-left a.unbound_refusals b.unbound_refusals c.unbound_refusals g.unbound h.unbound calm))
+          (calm-right a.unbound_refusals b.unbound_refusals c.unbound_refusals g.unbound h.unbound calm);
+      view = λ u mine es m calm.
+          let left = calm-first u a b c g h calm in
+          sym (settled-turns u mine c none) ∙ (t.view u mine es (f.mine u mine es m left.unbound) (calm-then u a b c g h calm) ∙ f.view u mine es m left);
+    }
+
+-- 4. A piece that nobody takes
+
+-- on a number that is not open nothing changes
+pub step-not_open : (b : BrokerState) (n : ℕ) (piece : List ℕ) → IsReady b → AllByRecursion (λ l. l.number ≢ n) b.lines → IsStep (Comes n piece) b b
+step-not_open b n piece r none = record {
+  last = omega arith;
+  grows = grows-same b;
+  counted = record { own = λ t ne. refl; unbound = λ t e. refl; none = λ u. record { own = λ t. refl; unbound = refl } };
+  mine = λ t mine es m q. record { now = comes-none b.setup t n mine piece es b.lines none m.now; later = m.later };
+  view = λ t mine es m q. by t mine (mine n);
+}
+  where
+    by : (t : ℕ) (mine : ℕ → Bool) (yes : Bool) → view_of t mine b ≡ stepped yes (Comes n piece) (view_of t mine b)
+    by t mine true = sym (ap (λ x. turns (with_lines (view_of t mine b) x)) (each-on_none n (fed piece) (those mine b.lines) (all-those _ mine b.lines none)) ∙ settled-turns t mine b r.settled)
+    by t mine false = refl
+
+fed-nothing : (s : Session) → fed [] s ≡ s
+unfolding fed
+fed-nothing s = by s s.shut refl
+  where
+    by : (s : Session) (b : Bool) → s.shut ≡ b → cond s.shut s (cond (nat_lt (room s) 0) (shut_down s) (record s { unread = s.unread ++ [] })) ≡ s
+    by s true e = grind (arith, nat_tests, e)
+    by s false e = let f = append-nil s.unread in let no : nat_lt (room s) 0 ≡ false = grind (arith, nat_tests) in rw (e, no) (ap (λ u. record s { unread = u; shut = false }) f)
+
+fed-shut : (piece : List ℕ) (s : Session) → s.shut ≡ true → fed piece s ≡ s
+unfolding fed
+fed-shut piece s e = grind (arith, e)
+
+-- a piece that leaves the connection as it was
+pub step-same : (b : BrokerState) (i : ℕ) (l : Line) (piece : List ℕ) → IsReady b → IsAt b.lines i l → fed piece l.session ≡ l.session → IsStep (Comes l.number piece) b b
+step-same b i l piece r at e =
+    let f = fed-kept b i l l piece r at refl (sym e) in
+    let same : set b.lines i l ≡ b.lines = ap (set b.lines i) at.here ∙ set-get_or b.lines i l in
+    record {
+      last = omega arith;
+      grows = grows-same b;
+      counted = record { own = λ t ne. refl; unbound = λ t g. refl; none = λ u. record { own = λ t. refl; unbound = refl } };
+      mine = λ t mine es m q. subst (Owns b.setup t mine b.last es) same (f.mine t mine es m q);
+      view = λ t mine es m q. sym (settled-turns t mine b r.settled) ∙ (ap (λ x. turns (with_lines (view_of t mine b) (those mine x))) (sym same) ∙ f.view t mine es m (record { own = q.own; unbound = q.unbound }));
+    }
+
+pub step-nothing : (b : BrokerState) (i : ℕ) (l : Line) → IsReady b → IsAt b.lines i l → IsStep (Comes l.number []) b b
+step-nothing b i l r at = step-same b i l [] r at (fed-nothing l.session)
+
+pub step-shut : (b : BrokerState) (i : ℕ) (l : Line) (piece : List ℕ) → IsReady b → IsAt b.lines i l → l.session.shut ≡ true → IsStep (Comes l.number piece) b b
+step-shut b i l piece r at e = step-same b i l piece r at (fed-shut piece l.session e)

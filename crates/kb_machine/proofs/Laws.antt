@@ -1,0 +1,262 @@
+-- Laws of the one-tenant machine.
+use Rattle.std.proofs.Common.{◌≡◌, ℕ, ℤ, pos, negsuc, zero, suc, ◌<◌, ◌≤◌, ◌-◌, List, [], ◌∷◌, length, take, drop, Bool, true, false, Some, None, Option, refl, sym, ◌∙◌, ap, arith, length-drop}
+use Rattle.std.specs.Prelude.{nat_lt, cond, ◌&&◌, ◌||◌}
+use Rattle.std.proofs.lemmas.Bool.Decides.{nat_tests}
+use Rattle.std.specs.Int.{w32, cast_signed, from_be_bytes}
+use Rattle.kb_wire.specs.Codec.{int, int32}
+use Rattle.kb_api_group.specs.Frames.{Front, Whole, Partial, TooSmall, TooLarge, front, front_by}
+use Rattle.kb_machine.specs.Requests.{Asked, Versions, OtherVersions, Handshake, Authenticate, Another, Unread, request, reply_size}
+use Rattle.kb_machine.specs.Tenant.{Kept, Wait, Answer, Replies, Waits, Silent, Shuts, answer, ready}
+use Rattle.kb_machine.specs.Session.{Stage, Greets, BoundTo, Session, shut_down, replied, is_turn, can}
+use Rattle.kb_machine.specs.Greeting.{Setup, greeted_by, greeted_at, greeted, shaken, authenticated, logged_in, login, versions_reply}
+use Rattle.kb_machine.specs.Machine.{Line, World, answered, served_by, served_at, served, put, told, woken_by, woken, each, on, those, first_able, turn_at, turn_of, turn, again, work, turns, all_woken}
+
+-- 1. Lists of connections
+
+-- a change of each connection, cut down to some
+pub those-each : (mine : ℕ → Bool) (g : ℕ → Session → Session) (ls : List Line) → those mine (each g ls) ≡ each g (those mine ls)
+those-each mine g [] = refl
+those-each mine g (l ∷ ls) = grind (arith, nat_tests, those-each mine g ls)
+
+pub first-those : (mine : ℕ → Bool) (ls : List Line) (l : Line) → first_able ls ≡ Some l → mine l.number ≡ true → first_able (those mine ls) ≡ Some l
+first-those mine [] l h m = cc
+first-those mine (k ∷ ls) l h m = grind (arith, nat_tests, first-those mine ls l)
+
+pub none-those : (mine : ℕ → Bool) (ls : List Line) → first_able ls ≡ None → first_able (those mine ls) ≡ None
+none-those mine [] h = refl
+none-those mine (k ∷ ls) h = grind (arith, nat_tests, none-those mine ls)
+
+-- the one that takes its turn can
+pub first-can : (ls : List Line) (l : Line) → first_able ls ≡ Some l → can l.session ≡ true
+first-can [] l h = cc
+first-can (k ∷ ls) l h = grind (arith, nat_tests, first-can ls l)
+
+-- 2. A turn takes unread bytes
+
+last-rest : (n : ℕ) (behind frame rest : List ℕ) → Whole (take n behind) (drop n behind) ≡ Whole frame rest → length rest ≤ length behind
+last-rest n behind frame rest e = let d : drop n behind ≡ rest = cc in omega (arith, ap length d, length-drop n behind)
+
+by-rest : (z : ℤ) (behind frame rest : List ℕ) → front_by z behind ≡ Whole frame rest → length rest ≤ length behind
+by-rest (negsuc n) behind frame rest e = cc
+by-rest (pos n) behind frame rest e = cases n behind frame rest (nat_lt n 8) (nat_lt 2097152 n) (nat_lt (length behind) n) e
+  where
+    cases : (n : ℕ) (behind frame rest : List ℕ) (a b c : Bool) → cond a TooSmall (cond b TooLarge (cond c Partial (Whole (take n behind) (drop n behind)))) ≡ Whole frame rest → length rest ≤ length behind
+    cases n behind frame rest true b c e = cc
+    cases n behind frame rest false true c e = cc
+    cases n behind frame rest false false true e = cc
+    cases n behind frame rest false false false e = last-rest n behind frame rest e
+
+front-rest_by : (unread frame rest : List ℕ) (b : Bool) → nat_lt (length unread) 4 ≡ b → front unread ≡ Whole frame rest → length rest < length unread
+unfolding front int
+front-rest_by unread frame rest true h e = let f : Partial ≡ Whole frame rest = rw h at e in cc
+front-rest_by unread frame rest false h e =
+    let le : 4 ≤ length unread = grind (arith, nat_tests) in
+    let size = cast_signed w32 (from_be_bytes w32 (take 4 unread)) in
+    let f : front_by size (drop 4 unread) ≡ Whole frame rest = rw h at e in
+    let g = by-rest size (drop 4 unread) frame rest f in
+    omega (arith, g, length-drop 4 unread)
+
+-- what stands behind a frame is shorter
+pub front-rest : (unread frame rest : List ℕ) → front unread ≡ Whole frame rest → length rest < length unread
+front-rest unread frame rest e = front-rest_by unread frame rest (nat_lt (length unread) 4) refl e
+
+pub some-left : (unread : List ℕ) → is_turn (front unread) ≡ true → 0 < length unread
+unfolding front int
+some-left [] h = cc
+some-left (b ∷ unread) h = omega arith
+
+pub replied-le : (id : ℤ) (body : List ℕ) (s : Session) → length (replied id body s).unread ≤ length s.unread
+unfolding replied
+replied-le id body s = grind (arith, nat_tests)
+
+pub greeted_by-le : (setup : Setup) (h : Bool) (id : ℤ) (a : Asked) (s : Session) → length (greeted_by setup h id a s).unread ≤ length s.unread
+unfolding greeted_by
+greeted_by-le setup h id Versions s = replied-le id _ s
+greeted_by-le setup h id OtherVersions s = replied-le id _ s
+greeted_by-le setup h id (Handshake m) s = shaken-le _ id h s
+  where
+    shaken-le : (b : Bool) (id : ℤ) (h : Bool) (s : Session) → length (shaken b id h s).unread ≤ length s.unread
+    shaken-le true id h s = replied-le id _ (record s { stage = Greets true })
+    shaken-le false id h s = replied-le id _ s
+greeted_by-le setup h id (Authenticate m) s = authenticated-le setup h id m s
+  where
+    logged_in-le : (o : Option ℕ) (id : ℤ) (s : Session) → length (logged_in o id s).unread ≤ length s.unread
+    logged_in-le (Some t) id s = replied-le id _ (record s { stage = BoundTo t None })
+    logged_in-le None id s = omega arith
+
+    authenticated-le : (setup : Setup) (h : Bool) (id : ℤ) (m : List ℕ) (s : Session) → length (authenticated setup h id m s).unread ≤ length s.unread
+    authenticated-le setup true id m s = logged_in-le (login setup.users m) id s
+    authenticated-le setup false id m s = replied-le id _ s
+greeted_by-le setup h id (Another k v b) s = omega arith
+greeted_by-le setup h id Unread s = omega arith
+
+pub served_by-le : (setup : Setup) (kept : Kept) (clock : ℕ) (id : ℤ) (a : Asked) (s : Session) → length (served_by setup kept clock id a s).unread ≤ length s.unread
+unfolding served_by
+served_by-le setup kept clock id Versions s = replied-le id _ s
+served_by-le setup kept clock id OtherVersions s = replied-le id _ s
+served_by-le setup kept clock id (Handshake m) s = replied-le id _ s
+served_by-le setup kept clock id (Authenticate m) s = replied-le id _ s
+served_by-le setup kept clock id (Another k v b) s = answered-le (answer kept clock k v b) id s
+  where
+    answered-le : (a : Answer) (id : ℤ) (s : Session) → length (answered a id s).unread ≤ length s.unread
+    answered-le (Replies body) id s = replied-le id body s
+    answered-le (Waits w) id s = omega arith
+    answered-le Silent id s = omega arith
+    answered-le Shuts id s = omega arith
+served_by-le setup kept clock id Unread s = omega arith
+
+greeted_at-less : (setup : Setup) (h : Bool) (s : Session) (f : Front) → front s.unread ≡ f → is_turn f ≡ true → length (greeted_at setup h s f).unread < length s.unread
+greeted_at-less setup h s (Whole frame rest) e t =
+    let r = request frame in
+    let le = greeted_by-le setup h r.correlation_id r.asked (record s { unread = rest }) in
+    let lt = front-rest s.unread frame rest e in
+    omega arith
+greeted_at-less setup h s TooSmall e t = some-left s.unread (ap is_turn e)
+greeted_at-less setup h s TooLarge e t = some-left s.unread (ap is_turn e)
+greeted_at-less setup h s Partial e t = cc
+
+-- a greeting connection's turn takes bytes
+pub greeted-less : (setup : Setup) (h : Bool) (s : Session) → is_turn (front s.unread) ≡ true → length (greeted setup h s).unread < length s.unread
+unfolding greeted
+greeted-less setup h s t = greeted_at-less setup h s (front s.unread) refl t
+
+greeted_at-still : (setup : Setup) (h : Bool) (s : Session) (f : Front) → is_turn f ≡ false → greeted_at setup h s f ≡ s
+greeted_at-still setup h s (Whole frame rest) t = cc
+greeted_at-still setup h s TooSmall t = cc
+greeted_at-still setup h s TooLarge t = cc
+greeted_at-still setup h s Partial t = refl
+
+-- or changes nothing
+pub greeted-still : (setup : Setup) (h : Bool) (s : Session) → is_turn (front s.unread) ≡ false → greeted setup h s ≡ s
+unfolding greeted
+greeted-still setup h s t = greeted_at-still setup h s (front s.unread) t
+
+served_at-less : (setup : Setup) (kept : Kept) (clock : ℕ) (s : Session) (f : Front) → front s.unread ≡ f → is_turn f ≡ true → length (served_at setup kept clock s f).unread < length s.unread
+served_at-less setup kept clock s (Whole frame rest) e t =
+    let r = request frame in
+    let le = served_by-le setup kept clock r.correlation_id r.asked (record s { unread = rest }) in
+    let lt = front-rest s.unread frame rest e in
+    omega arith
+served_at-less setup kept clock s TooSmall e t = some-left s.unread (ap is_turn e)
+served_at-less setup kept clock s TooLarge e t = some-left s.unread (ap is_turn e)
+served_at-less setup kept clock s Partial e t = cc
+
+-- a bound connection's turn takes bytes
+pub served-less : (setup : Setup) (kept : Kept) (clock : ℕ) (s : Session) → is_turn (front s.unread) ≡ true → length (served setup kept clock s).unread < length s.unread
+unfolding served
+served-less setup kept clock s t = served_at-less setup kept clock s (front s.unread) refl t
+
+served_at-still : (setup : Setup) (kept : Kept) (clock : ℕ) (s : Session) (f : Front) → is_turn f ≡ false → served_at setup kept clock s f ≡ s
+served_at-still setup kept clock s (Whole frame rest) t = cc
+served_at-still setup kept clock s TooSmall t = cc
+served_at-still setup kept clock s TooLarge t = cc
+served_at-still setup kept clock s Partial t = refl
+
+served-still : (setup : Setup) (kept : Kept) (clock : ℕ) (s : Session) → is_turn (front s.unread) ≡ false → served setup kept clock s ≡ s
+unfolding served
+served-still setup kept clock s t = served_at-still setup kept clock s (front s.unread) t
+
+pub can-turn : (s : Session) → can s ≡ true → is_turn (front s.unread) ≡ true
+unfolding can
+can-turn s h = grind arith
+
+-- a change that takes bytes from whoever can take a turn
+pub record Takes (f : Session → Session) : Type 0 where
+  pub le : (s : Session) → length (f s).unread ≤ length s.unread
+  pub less : (s : Session) → can s ≡ true → length (f s).unread < length s.unread
+
+le_by : (b : Bool) (x y : Session) → (b ≡ true → length x.unread < length y.unread) → (b ≡ false → x ≡ y) → length x.unread ≤ length y.unread
+le_by true x y p q = let lt = p refl in omega arith
+le_by false x y p q = let e = ap (λ (s : Session). length s.unread) (q refl) in omega arith
+
+pub greeted-takes : (setup : Setup) (h : Bool) → Takes (greeted setup h)
+greeted-takes setup h = record {
+  le = λ s. le_by (is_turn (front s.unread)) (greeted setup h s) s (greeted-less setup h s) (greeted-still setup h s);
+  less = λ s c. greeted-less setup h s (can-turn s c);
+}
+
+pub served-takes : (setup : Setup) (kept : Kept) (clock : ℕ) → Takes (served setup kept clock)
+served-takes setup kept clock = record {
+  le = λ s. le_by (is_turn (front s.unread)) (served setup kept clock s) s (served-less setup kept clock s) (served-still setup kept clock s);
+  less = λ s c. served-less setup kept clock s (can-turn s c);
+}
+
+le-on : (n : ℕ) (f : Session → Session) (t : Takes f) (l : Line) → length (on n f l.number l.session).unread ≤ length l.session.unread
+le-on n f t l = let h = t.le l.session in grind (arith, nat_tests, h)
+
+pub work-on_le : (n : ℕ) (f : Session → Session) (t : Takes f) (ls : List Line) → work (each (on n f) ls) ≤ work ls
+work-on_le n f t [] = omega arith
+work-on_le n f t (l ∷ ls) = omega (arith, le-on n f t l, work-on_le n f t ls)
+
+pub work-on : (n : ℕ) (f : Session → Session) (t : Takes f) (ls : List Line) (l : Line) → first_able ls ≡ Some l → l.number ≡ n → work (each (on n f) ls) < work ls
+work-on n f t [] l h e = cc
+work-on n f t (k ∷ ls) l h e =
+    let rest = work-on n f t ls l in
+    let here = t.less k.session in
+    let le = le-on n f t k in
+    let les = work-on_le n f t ls in
+    grind (arith, nat_tests, rest, here, le, les)
+
+told-le : (o : Option (ℤ × List ℕ)) (s : Session) → length (told o s).unread ≤ length s.unread
+told-le None s = omega arith
+told-le (Some r) s = replied-le r.0 r.1 _
+
+woken_by-le : (kept : Kept) (clock : ℕ) (s : Session) (st : Stage) → length (woken_by kept clock s st).unread ≤ length s.unread
+unfolding woken_by
+woken_by-le kept clock s (Greets h) = omega arith
+woken_by-le kept clock s (BoundTo u None) = omega arith
+woken_by-le kept clock s (BoundTo u (Some w)) = told-le (ready kept clock w) s
+
+pub work-woken : (kept : Kept) (clock : ℕ) (ls : List Line) → work (each (λ k s. woken kept clock s) ls) ≤ work ls
+work-woken kept clock [] = omega arith
+work-woken kept clock (l ∷ ls) = let h = woken_by-le kept clock l.session l.session.stage in omega (arith, h, work-woken kept clock ls)
+
+work-turn_at : (w : World) (l : Line) (st : Stage) → first_able w.lines ≡ Some l → work (turn_at w l.number l.session.unread st).lines < work w.lines
+work-turn_at w l (Greets h) f = work-on l.number (greeted w.setup h) (greeted-takes w.setup h) w.lines l f refl
+work-turn_at w l (BoundTo u wait) f =
+    let e = work-woken (put w.kept w.clock l.session.unread) w.clock (each (on l.number (served w.setup w.kept w.clock)) w.lines) in
+    let lt = work-on l.number (served w.setup w.kept w.clock) (served-takes w.setup w.kept w.clock) w.lines l f refl in
+    omega (arith, e, lt)
+
+-- 3. The turn of a world
+
+pub turn-none : (w : World) → first_able w.lines ≡ None → turn w ≡ w
+unfolding turn
+turn-none w h = ap (turn_of w) h
+
+pub turn-some : (w : World) (l : Line) → first_able w.lines ≡ Some l → turn w ≡ turn_at w l.number l.session.unread l.session.stage
+unfolding turn
+turn-some w l h = ap (turn_of w) h
+
+pub work-turn : (w : World) (l : Line) → first_able w.lines ≡ Some l → work (turn w).lines < work w.lines
+work-turn w l h = rw (turn-some w l h) (work-turn_at w l l.session.stage h)
+
+-- where no connection can take a turn, turns change nothing
+pub again-none : (n : ℕ) (w : World) → first_able w.lines ≡ None → again turn n w ≡ w
+again-none zero w h = refl
+again-none (suc n) w h = ap (again turn n) (turn-none w h) ∙ again-none n w h
+
+-- more turns than unread bytes are as good
+enough_by : (n m : ℕ) (w : World) (o : Option Line) → first_able w.lines ≡ o → work w.lines ≤ n → work w.lines ≤ m → again turn n w ≡ again turn m w
+enough_by n m w None h p q = again-none n w h ∙ sym (again-none m w h)
+enough_by zero m w (Some l) h p q = absurd (omega (arith, work-turn w l h))
+enough_by (suc n) zero w (Some l) h p q = absurd (omega (arith, work-turn w l h))
+enough_by (suc n) (suc m) w (Some l) h p q =
+    let lt = work-turn w l h in
+    enough_by n m (turn w) (first_able (turn w).lines) refl (omega (arith, lt)) (omega (arith, lt))
+
+pub turns-none : (w : World) → first_able w.lines ≡ None → turns w ≡ w
+unfolding turns
+turns-none w h = again-none (work w.lines) w h
+
+-- a turn is the first of the turns
+turns-turn_by : (w : World) (o : Option Line) → first_able w.lines ≡ o → turns (turn w) ≡ turns w
+unfolding turns
+turns-turn_by w None h = ap turns (turn-none w h)
+turns-turn_by w (Some l) h =
+    let lt = work-turn w l h in
+    enough_by (work (turn w).lines) (work w.lines) (turn w) (first_able (turn w).lines) refl (omega arith) (omega (arith, lt))
+    ∙ enough_by (suc (work w.lines)) (work w.lines) w (Some l) h (omega arith) (omega arith)
+
+pub turns-turn : (w : World) → turns (turn w) ≡ turns w
+turns-turn w = turns-turn_by w (first_able w.lines) refl

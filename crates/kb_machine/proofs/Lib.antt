@@ -1,0 +1,11 @@
+pub mod Feeds
+pub mod Laws
+pub mod Owned
+pub mod Owners
+pub mod Parts
+pub mod Ranges
+pub mod Runs
+pub mod Sets
+pub mod Steps
+pub mod Taken
+pub mod Turns

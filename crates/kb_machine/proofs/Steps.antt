@@ -1,0 +1,212 @@
+-- The events of the broker.
+use Rattle.std.proofs.Common.{◌≡◌, ◌≢◌, ◌<◌, ◌≤◌, ◌^◌, ◌++◌, ◌∷◌, [], ℕ, zero, suc, List, length, get_or, set, eqb, Bool, true, false, Option, Some, None, refl, sym, ◌∙◌, ap, subst, arith, append-nil, inl, inr}
+use Rattle.std.specs.Prelude.{map, not, cond, nat_lt, max, ◌⊎◌}
+use Rattle.std.specs.List.{AllByRecursion, remove}
+use Rattle.std.proofs.lemmas.Bool.Decides.{nat_tests}
+use Rattle.kb_api_group.specs.Frames.{front}
+use Rattle.kb_wire.specs.Codec.{int}
+use Rattle.kb_machine.specs.Tenant.{Kept, retained}
+use Rattle.kb_machine.specs.Session.{Stage, Greets, BoundTo, Session, fresh, fed, room, LIMIT, shut_down, without_wait, can}
+use Rattle.kb_machine.specs.Greeting.{Setup}
+use Rattle.kb_machine.specs.Machine.{Happening, Opens, Comes, Closes, Moment, Line, World, each, on, those, first_able, turns, all_woken, step, stepped, sent}
+use Rattle.kb_machine.specs.Owners.{Owns, Fits, find_line, whose, heard, destiny, unborn}
+use Rattle.kb_machine.specs.Broker.{BrokerState, Part, IsSound, IsReady, IsStep, Grows, IsCalm, IsCalmFor, IsUncounted, IsUntaken, IsComing, is_deaf, InRange, Rising, Mine, view_of, kept_of, refusals_of, bound_to, bound_as}
+use Rattle.kb_machine.specs.Calls.{opened, closed, moved, taken, without_output, other_than, IsRefused}
+use Rattle.kb_machine.specs.Turned.{IsStill, SameOthers, IsWithin, Turned, IsFed}
+use Rattle.kb_machine.proofs.Laws.{none-those, turns-none, those-each}
+use Rattle.kb_machine.proofs.Owners.{IsBound, IsMine, SameFate, heard-still, fate-bound, mine-bound, bound-same, bound-fed, those-on_other, all_woken-none, kept-one, stage-fed, stage-shut, same_line}
+use Rattle.kb_machine.proofs.Ranges.{range-same, range-without, range-fed}
+use Rattle.kb_machine.proofs.Sets.{IsAt, all-at, all-map, all-set, all-those, all-push, all-still, none-able, still-none, rising-set, rising-above, rising-below, rising-last, set-on, set-at, find-at, find-none, find-set_other, tail-at, no-at, each-on_none}
+use Rattle.kb_machine.proofs.Parts.{count, count-at, count-same, count-other, count-grows, names-same, each-tenant, calm-left, calm-right, grows-same, grows-then, calm-first, calm-then}
+use Rattle.kb_machine.proofs.Turns.{changed, changed-within, bound-stays}
+
+-- where no connection can take a turn, turns are nothing
+pub settled-turns : (t : ℕ) (mine : ℕ → Bool) (b : BrokerState) → first_able b.lines ≡ None → turns (view_of t mine b) ≡ view_of t mine b
+settled-turns t mine b h = turns-none (view_of t mine b) (none-those mine b.lines h)
+
+-- the same world with other connections
+abbrev pub with_lines : World → List Line → World
+with_lines w ls = record w { lines = ls }
+
+-- 1. A new connection
+
+lines-push : (ls : List Line) (x : Line) (mine : ℕ → Bool) → those mine (ls ++ x ∷ []) ≡ those mine ls ++ those mine (x ∷ [])
+lines-push [] x mine = refl
+lines-push (l ∷ ls) x mine = let rest = lines-push ls x mine in grind (arith, rest)
+
+rising-push : (low last n : ℕ) (ls : List Line) (x : Line) → Rising low last ls → last < n → x.number ≡ n → Rising low n (ls ++ x ∷ [])
+rising-push low last n [] x r h e = (omega (arith, r), omega arith)
+rising-push low last n (l ∷ ls) x r h e = (r.0, rising-push l.number last n ls x r.1 h e)
+
+first-push : (ls : List Line) (x : Line) → first_able ls ≡ None → can x.session ≡ false → first_able (ls ++ x ∷ []) ≡ None
+first-push [] x h e = grind (arith, e)
+first-push (l ∷ ls) x h e = let rest = first-push ls x in grind (arith, rest)
+
+can-fresh : can fresh ≡ false
+unfolding can front int
+can-fresh = refl
+
+heard-fresh : (setup : Setup) → heard setup fresh ≡ fresh
+heard-fresh setup = heard-still setup fresh can-fresh
+
+owns-opens : (setup : Setup) (t last n : ℕ) (mine : ℕ → Bool) (es : List Happening) (ls : List Line) → last < n → Owns setup t mine last (Opens n ∷ es) ls → Owns setup t mine n es (ls ++ record { number = n; session = fresh } ∷ [])
+owns-opens setup t last n mine es ls h o =
+    let same : eqb n n ≡ true = grind (arith, nat_tests) in
+    let new : Fits t (mine n) (destiny setup n fresh es) = subst (Fits t (mine n)) (ap (λ (b : Bool). cond b (destiny setup n fresh es) (unborn setup n es)) same) (o.later n h) in
+    record {
+      now = all-push (IsMine setup t mine es) ls (record { number = n; session = fresh }) o.now (subst (λ s. Fits t (mine n) (destiny setup n s es)) (sym (heard-fresh setup)) new);
+      later = λ k lt.
+          let ne : eqb n k ≡ false = grind (arith, nat_tests) in
+          subst (Fits t (mine k)) (ap (λ (b : Bool). cond b (destiny setup k fresh es) (unborn setup k es)) ne) (o.later k (omega arith));
+    }
+
+pub ready-opened : (b : BrokerState) (n : ℕ) → IsReady b → b.last < n → IsReady (opened b n)
+ready-opened b n r lt = record {
+  sound = record {
+    rising = rising-push 0 b.last n b.lines (record { number = n; session = fresh }) r.sound.rising lt refl;
+    in_range = all-push _ b.lines (record { number = n; session = fresh }) r.sound.in_range tt;
+    users = r.sound.users;
+    clock = r.sound.clock;
+  };
+  settled = first-push b.lines (record { number = n; session = fresh }) r.settled can-fresh;
+}
+
+view-opened : (w : World) (n : ℕ) (mine : ℕ → Bool) (yes : Bool) → mine n ≡ yes → with_lines w (w.lines ++ those mine (record { number = n; session = fresh } ∷ [])) ≡ stepped yes (Opens n) w
+view-opened w n mine true e = ap (λ (x : List Line). with_lines w (w.lines ++ x)) (grind (arith, e))
+view-opened w n mine false e =
+    let none : those mine (record { number = n; session = fresh } ∷ []) ≡ [] = grind (arith, e) in
+    ap (with_lines w) (ap (λ x. w.lines ++ x) none ∙ append-nil w.lines)
+
+pub step-opened : (b : BrokerState) (n : ℕ) → IsReady b → b.last < n → IsStep (Opens n) b (opened b n)
+step-opened b n r lt = record {
+  last = omega arith;
+  grows = record { setup = refl; names = refl; own = λ t. omega arith; unbound = omega arith };
+  counted = λ t. refl;
+  mine = λ t mine es m q. owns-opens b.setup t b.last n mine es b.lines lt m;
+  view = λ t mine es m q. ap (with_lines (view_of t mine b)) (lines-push b.lines (record { number = n; session = fresh }) mine) ∙ view-opened (view_of t mine b) n mine (mine n) refl;
+}
+
+-- a connection that could not be kept
+pub step-unopened : (b : BrokerState) (n x : ℕ) → IsReady b → b.last < n → b.unbound_refusals ≤ x → (IsCalm b.unbound_refusals x → ⊥) → IsStep (Opens n) b (record b { unbound_refusals = x })
+step-unopened b n x r lt up rises = record {
+  last = omega arith;
+  grows = record { setup = refl; names = refl; own = λ t. omega arith; unbound = up };
+  counted = λ t. refl;
+  mine = λ t mine es m q. absurd (rises q);
+  view = λ t mine es m q. absurd (rises q.unbound);
+}
+
+-- 2. A connection that closes
+
+those-above : (low last n : ℕ) (ls : List Line) → Rising low last ls → n ≤ low → those (other_than n) ls ≡ ls
+those-above low last n [] r h = refl
+those-above low last n (l ∷ ls) r h = let lt = r.0 in let rest = those-above l.number last n ls r.1 (omega arith) in grind (arith, nat_tests, rest)
+
+pub remove-those : (low last : ℕ) (ls : List Line) (i : ℕ) (l : Line) → Rising low last ls → IsAt ls i l → remove ls i ≡ those (other_than l.number) ls
+remove-those low last [] i l r a = no-at i l a
+remove-those low last (k ∷ ls) zero l r a =
+    let n : l.number ≡ k.number = ap (λ (x : Line). x.number) a.here in
+    let rest = those-above k.number last l.number ls r.1 (omega (arith, n)) in
+    grind (arith, nat_tests, rest, n)
+remove-those low last (k ∷ ls) (suc i) l r a =
+    let lt : k.number < l.number = rising-above k.number last ls i l r.1 (tail-at k ls i l a) in
+    let rest = remove-those k.number last ls i l r.1 (tail-at k ls i l a) in
+    grind (arith, nat_tests, rest, lt)
+
+none-above : (low last n : ℕ) (ls : List Line) → Rising low last ls → n ≤ low → those (λ k. eqb k n) ls ≡ []
+none-above low last n [] r h = refl
+none-above low last n (l ∷ ls) r h = let lt = r.0 in let rest = none-above l.number last n ls r.1 (omega arith) in grind (arith, nat_tests, rest)
+
+pub those-one : (low last : ℕ) (ls : List Line) (i : ℕ) (l : Line) → Rising low last ls → IsAt ls i l → those (λ k. eqb k l.number) ls ≡ l ∷ []
+those-one low last [] i l r a = no-at i l a
+those-one low last (k ∷ ls) zero l r a =
+    let n : l.number ≡ k.number = ap (λ (x : Line). x.number) a.here in
+    let rest = none-above k.number last l.number ls r.1 (omega (arith, n)) in
+    let same : l ≡ k = a.here in
+    grind (arith, nat_tests, rest, n, same)
+those-one low last (k ∷ ls) (suc i) l r a =
+    let lt : k.number < l.number = rising-above k.number last ls i l r.1 (tail-at k ls i l a) in
+    let rest = those-one k.number last ls i l r.1 (tail-at k ls i l a) in
+    grind (arith, nat_tests, rest, lt)
+
+pub those-none : (n : ℕ) (ls : List Line) → AllByRecursion (λ l. l.number ≢ n) ls → those (λ k. eqb k n) ls ≡ []
+those-none n [] h = refl
+those-none n (l ∷ ls) h = let no = h.0 in let rest = those-none n ls h.1 in grind (arith, nat_tests, rest)
+
+pub those-all : (n : ℕ) (ls : List Line) → AllByRecursion (λ l. l.number ≢ n) ls → those (other_than n) ls ≡ ls
+those-all n [] h = refl
+those-all n (l ∷ ls) h = let no = h.0 in let rest = those-all n ls h.1 in grind (arith, nat_tests, rest)
+
+those-those : (p q : ℕ → Bool) (ls : List Line) → those p (those q ls) ≡ those q (those p ls)
+those-those p q [] = refl
+those-those p q (l ∷ ls) = let rest = those-those p q ls in grind (arith, rest)
+
+those-without : (mine : ℕ → Bool) (n : ℕ) (ls : List Line) → mine n ≡ false → those mine (those (other_than n) ls) ≡ those mine ls
+those-without mine n [] h = refl
+those-without mine n (l ∷ ls) h = let rest = those-without mine n ls h in grind (arith, nat_tests, rest)
+
+rising-lower : (low low' last : ℕ) (ls : List Line) → low' ≤ low → Rising low last ls → Rising low' last ls
+rising-lower low low' last [] h r = omega (arith, r)
+rising-lower low low' last (l ∷ ls) h r = (let lt = r.0 in omega arith, r.1)
+
+rising-those : (low last : ℕ) (mine : ℕ → Bool) (ls : List Line) → Rising low last ls → Rising low last (those mine ls)
+rising-those low last mine [] r = r
+rising-those low last mine (l ∷ ls) r = rising-those_by low last mine l (those mine ls) (mine l.number) refl r.0 (rising-those l.number last mine ls r.1)
+  where
+    rising-those_by : (low last : ℕ) (mine : ℕ → Bool) (l : Line) (ls : List Line) (b : Bool) → mine l.number ≡ b → low < l.number → Rising l.number last ls → Rising low last (cond (mine l.number) (l ∷ ls) ls)
+    rising-those_by low last mine l ls true e p h = rw e (p, h)
+    rising-those_by low last mine l ls false e p h = rw e (rising-lower l.number low last ls (omega arith) h)
+
+-- the others are still where they were
+closes-others : (setup : Setup) (t n : ℕ) (mine : ℕ → Bool) (es : List Happening) (ls : List Line) → AllByRecursion (IsMine setup t mine (Closes n ∷ es)) ls → AllByRecursion (IsMine setup t mine es) (those (other_than n) ls)
+closes-others setup t n mine es [] h = tt
+closes-others setup t n mine es (l ∷ ls) h = closes-others_by setup t n mine es l (those (other_than n) ls) (eqb l.number n) refl h.0 (closes-others setup t n mine es ls h.1)
+  where
+    closes-others_by : (setup : Setup) (t n : ℕ) (mine : ℕ → Bool) (es : List Happening) (l : Line) (ls : List Line) (b : Bool) → eqb l.number n ≡ b → IsMine setup t mine (Closes n ∷ es) l → AllByRecursion (IsMine setup t mine es) ls → AllByRecursion (IsMine setup t mine es) (cond (not (eqb l.number n)) (l ∷ ls) ls)
+    closes-others_by setup t n mine es l ls true e p h = rw e h
+    closes-others_by setup t n mine es l ls false e p h = let ne : eqb n l.number ≡ false = grind (arith, nat_tests) in rw e (subst (Fits t (mine l.number)) (ap (λ (b : Bool). cond b (whose (heard setup l.session).stage) (destiny setup l.number (heard setup l.session) es)) ne) p, h)
+
+view-closed : (w : World) (n : ℕ) (mine : ℕ → Bool) (ls : List Line) (yes : Bool) → w.lines ≡ those mine ls → mine n ≡ yes → with_lines w (those mine (those (other_than n) ls)) ≡ stepped yes (Closes n) w
+view-closed w n mine ls true f e = ap (with_lines w) (those-those mine (other_than n) ls ∙ ap (those (other_than n)) (sym f))
+view-closed w n mine ls false f e = ap (with_lines w) (those-without mine n ls e ∙ sym f)
+
+pub ready-closed : (b : BrokerState) (n : ℕ) → IsReady b → IsReady (closed b n)
+ready-closed b n r = record {
+  sound = record {
+    rising = rising-those 0 b.last (other_than n) b.lines r.sound.rising;
+    in_range = all-those _ (other_than n) b.lines r.sound.in_range;
+    users = r.sound.users;
+    clock = r.sound.clock;
+  };
+  settled = none-those (other_than n) b.lines r.settled;
+}
+
+pub step-closed : (b : BrokerState) (n : ℕ) → IsStep (Closes n) b (closed b n)
+step-closed b n = record {
+  last = omega arith;
+  grows = record { setup = refl; names = refl; own = λ t. omega arith; unbound = omega arith };
+  counted = record { own = λ t. refl; unbound = refl };
+  mine = λ t mine es m q. record { now = closes-others b.setup t n mine es b.lines m.now; later = m.later };
+  view = λ t mine es m q. view-closed (view_of t mine b) n mine b.lines (mine n) refl refl;
+}
+
+pub find-other : (k n : ℕ) (ls : List Line) → k ≢ n → find_line k (those (other_than n) ls) ≡ find_line k ls
+find-other k n [] ne = refl
+find-other k n (l ∷ ls) ne = let rest = find-other k n ls ne in grind (arith, nat_tests, rest)
+
+-- 3. A moment
+
+pub ready-moved : (b : BrokerState) (now : ℕ) → IsReady b → max b.clock now ≤ 2 ^ 62 → IsReady (moved b now)
+ready-moved b now r le = record { sound = record { rising = r.sound.rising; in_range = r.sound.in_range; users = r.sound.users; clock = le }; settled = r.settled }
+
+pub step-moved : (b : BrokerState) (now : ℕ) → IsReady b → IsStep (Moment now) b (moved b now)
+step-moved b now r = record {
+  last = omega arith;
+  grows = record { setup = refl; names = refl; own = λ t. omega arith; unbound = omega arith };
+  counted = refl;
+  mine = λ t mine es m q. record { now = m.now; later = m.later };
+  view = λ t mine es m q.
+      let v = view_of t mine (moved b now) in
+      let w = record v { kept = retained (max b.clock now) v.kept } in
+      sym (ap turns (all_woken-none w) ∙ (turns-none w (none-those mine b.lines r.settled) ∙ ap (λ k. record v { kept = k }) (kept-one w.kept v.kept)));
+}

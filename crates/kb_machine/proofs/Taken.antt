@@ -1,0 +1,47 @@
+-- Output that is taken.
+use Rattle.std.proofs.Common.{◌≡◌, ◌≢◌, ◌<◌, ℕ, zero, suc, List, [], ◌∷◌, ◌++◌, length, eqb, Bool, true, false, Option, Some, None, refl, sym, ◌∙◌, ap, subst, arith}
+use Rattle.std.specs.Prelude.{cond, nat_lt}
+use Rattle.std.specs.List.{AllByRecursion}
+use Rattle.std.proofs.lemmas.Bool.Decides.{nat_tests}
+use Rattle.kb_machine.specs.Session.{Stage, Session, can}
+use Rattle.kb_machine.specs.Machine.{Happening, Line, World, each, on, those, first_able}
+use Rattle.kb_machine.specs.Owners.{Owns, Fits, Pairwise, destiny, heard, whose}
+use Rattle.kb_machine.specs.Broker.{BrokerState, IsSound, IsReady, InRange, Rising, Mine, view_of}
+use Rattle.kb_machine.specs.Calls.{taken, without_output}
+use Rattle.kb_machine.proofs.Laws.{those-each}
+use Rattle.kb_machine.proofs.Owners.{IsMine, heard-still}
+use Rattle.kb_machine.proofs.Sets.{all-still, none-able}
+
+can-taken : (s : Session) → can (without_output s) ≡ can s
+unfolding can
+can-taken s = refl
+
+first-taken : (n : ℕ) (ls : List Line) → AllByRecursion (λ l. can l.session ≡ false) ls → AllByRecursion (λ l. can l.session ≡ false) (each (on n without_output) ls)
+first-taken n [] h = tt
+first-taken n (l ∷ ls) h = (by (eqb l.number n), first-taken n ls h.1)
+  where
+    by : (b : Bool) → can (cond b (without_output l.session) l.session) ≡ false
+    by true = can-taken l.session ∙ h.0
+    by false = h.0
+
+rising-taken : (n low last : ℕ) (ls : List Line) → Rising low last ls → Rising low last (each (on n without_output) ls)
+rising-taken n low last [] r = r
+rising-taken n low last (l ∷ ls) r = (r.0, rising-taken n l.number last ls r.1)
+
+range-taken : (n tenants : ℕ) (ls : List Line) → AllByRecursion (λ l. InRange tenants l.session.stage) ls → AllByRecursion (λ l. InRange tenants l.session.stage) (each (on n without_output) ls)
+range-taken n tenants [] h = tt
+range-taken n tenants (l ∷ ls) h = (by (eqb l.number n), range-taken n tenants ls h.1)
+  where
+    by : (b : Bool) → InRange tenants (cond b (without_output l.session) l.session).stage
+    by true = h.0
+    by false = h.0
+
+pub ready-taken : (b : BrokerState) (n : ℕ) → IsReady b → IsReady (taken b n)
+ready-taken b n r = record {
+  sound = record { rising = rising-taken n 0 b.last b.lines r.sound.rising; in_range = range-taken n (length b.parts) b.lines r.sound.in_range; users = r.sound.users; clock = r.sound.clock };
+  settled = none-able (each (on n without_output) b.lines) (first-taken n b.lines (all-still b.lines r.settled));
+}
+
+-- the view of a tenant, its output taken too
+pub view-taken : (t : ℕ) (mine : ℕ → Bool) (b : BrokerState) (n : ℕ) → view_of t mine (taken b n) ≡ record (view_of t mine b) { lines = each (on n without_output) (those mine b.lines) }
+view-taken t mine b n = ap (λ x. record (view_of t mine b) { lines = x }) (those-each mine (on n without_output) b.lines)

@@ -1,0 +1,183 @@
+-- The turns of one connection.
+use Rattle.std.proofs.Common.{◌≡◌, ◌≢◌, ◌<◌, ◌≤◌, ℕ, List, [], ◌∷◌, length, get_or, set, eqb, Bool, true, false, Option, Some, None, refl, sym, ◌∙◌, ap, subst, arith, length-set}
+use Rattle.std.specs.List.{AllByRecursion}
+use Rattle.std.proofs.lemmas.Bool.Decides.{nat_tests}
+use Rattle.kb_machine.specs.Tenant.{Kept, Wait}
+use Rattle.kb_machine.specs.Session.{Stage, Greets, BoundTo, Session, shut_down, without_wait, can}
+use Rattle.kb_machine.specs.Greeting.{greeted}
+use Rattle.kb_machine.specs.Machine.{Happening, Line, World, served, put, each, on, those, first_able, all_woken, turns}
+use Rattle.kb_machine.specs.Owners.{Owns, Fits, find_line, whose}
+use Rattle.kb_machine.specs.Broker.{BrokerState, Part, IsSound, Grows, IsCalm, IsCalmFor, InRange, Mine, view_of, kept_of, refusals_of, bound_to, bound_as}
+use Rattle.kb_machine.specs.Turned.{IsStill, SameOthers, IsWithin, Turned}
+use Rattle.kb_machine.proofs.Owners.{IsBound, IsMine, SameFate, fate-same, fate-greeted, fate-bound, mine-bound, bound-same, owns-fates, those-on_other, view-greeting, view-served, all_woken-none, kept-one, stage-served, stage-shut}
+use Rattle.kb_machine.proofs.Ranges.{range-greeted, range-same, range-without}
+use Rattle.kb_machine.proofs.Sets.{IsAt, all-at, all-set, pairwise-set, rising-set, set-on, set-at, find-at, find-set_other}
+use Rattle.kb_machine.proofs.Parts.{count, count-at, count-same, count-other, count-grows, names-same, each-tenant, eqb_other, calm-left, calm-right, grows-same, grows-then, calm-first, calm-then}
+
+-- 1. Turns, one after another
+
+pub turned-same : (n : ℕ) (b : BrokerState) → IsSound b → AllByRecursion (IsStill n) b.lines → Turned n b b
+turned-same n b s h = record {
+  within = record { sound = s; still = h; grows = grows-same b; clock = refl; last = refl; others = λ k ne. refl; bound = λ t e. e; own = λ t ne. refl; unbound = λ t e. refl };
+  mine = λ t mine es m q. m;
+  view = λ t mine es m q. refl;
+}
+
+pub within-then : (n : ℕ) (a b c : BrokerState) → IsWithin n a b → IsWithin n b c → IsWithin n a c
+within-then n a b c p q = record {
+  sound = q.sound;
+  still = q.still;
+  grows = grows-then a b c p.grows q.grows;
+  clock = q.clock ∙ p.clock;
+  last = q.last ∙ p.last;
+  others = λ k ne. q.others k ne ∙ p.others k ne;
+  bound = λ t e. q.bound t (p.bound t e);
+  own = λ t ne. q.own t ne ∙ p.own t (λ e. ne (q.bound t e));
+  unbound = λ t e. q.unbound t (p.bound t e) ∙ p.unbound t e;
+}
+
+pub turned-then : (n : ℕ) (a b c : BrokerState) → Turned n a b → Turned n b c → Turned n a c
+turned-then n a b c p q =
+    let g = p.within.grows in
+    let h = q.within.grows in
+    record {
+      within = within-then n a b c p.within q.within;
+      mine = λ t mine es m calm. q.mine t mine es
+          (p.mine t mine es m (calm-left a.unbound_refusals b.unbound_refusals c.unbound_refusals g.unbound h.unbound calm))
+          (calm-right a.unbound_refusals b.unbound_refusals c.unbound_refusals g.unbound h.unbound calm);
+      view = λ t mine es m calm.
+          let left = calm-first t a b c g h calm in
+          q.view t mine es (p.mine t mine es m left.unbound) (calm-then t a b c g h calm) ∙ p.view t mine es m left;
+    }
+
+-- 2. One turn
+
+-- the broker with another connection at a place, other counts and other parts
+abbrev pub changed : BrokerState → ℕ → Line → List Part → ℕ → BrokerState
+changed b i m ps x = record b { lines = set b.lines i m; parts = ps; unbound_refusals = x }
+
+-- what does not depend on what the turn is
+pub changed-within : (b : BrokerState) (i : ℕ) (l m : Line) (ps : List Part) (x : ℕ) → IsSound b → AllByRecursion (IsStill l.number) b.lines → IsAt b.lines i l → m.number ≡ l.number →
+    length ps ≡ length b.parts → InRange (length b.parts) m.session.stage → Grows b (changed b i m ps x) →
+    ((t : ℕ) → whose l.session.stage ≡ Some t → whose m.session.stage ≡ Some t) →
+    ((t : ℕ) → whose m.session.stage ≢ Some t → count ps t ≡ count b.parts t) →
+    ((t : ℕ) → whose l.session.stage ≡ Some t → x ≡ b.unbound_refusals) →
+    IsWithin l.number b (changed b i m ps x)
+changed-within b i l m ps x s h at n len r g stays own unbound =
+    let before : bound_to l.number b ≡ whose l.session.stage = ap bound_as (find-at 0 b.last b.lines i l s.rising at) in
+    let rising = rising-set 0 b.last b.lines i l m s.rising at n in
+    let after : bound_to l.number (changed b i m ps x) ≡ whose m.session.stage = ap (λ k. bound_as (find_line k (set b.lines i m))) (sym n) ∙ ap bound_as (find-at 0 b.last (set b.lines i m) i m rising (set-at b.lines i l m at)) in
+    record {
+      sound = record { rising = rising; in_range = rw len (all-set _ b.lines i m s.in_range r); users = rw len s.users; clock = s.clock };
+      still = all-set (IsStill l.number) b.lines i m h (λ ne. absurd (ne n));
+      grows = g;
+      clock = refl;
+      last = refl;
+      others = λ k ne. find-set_other k b.lines i l m at n ne;
+      bound = λ t e. after ∙ stays t (sym before ∙ e);
+      own = λ t ne. own t (λ e. ne (after ∙ e));
+      unbound = λ t e. unbound t (sym before ∙ e);
+    }
+
+-- the turn of a greeting connection
+pub turned-greeting : (b : BrokerState) (i : ℕ) (l m : Line) (h : Bool) → IsSound b → AllByRecursion (IsStill l.number) b.lines → IsAt b.lines i l → first_able b.lines ≡ Some l →
+    l.session.stage ≡ Greets h → m.number ≡ l.number → m.session ≡ greeted b.setup h l.session → Turned l.number b (changed b i m b.parts b.unbound_refusals)
+turned-greeting b i l m h s still at able g n e =
+    let none : whose l.session.stage ≡ None = ap whose g in
+    let in_range = subst (λ x. InRange (length b.parts) x.stage) (sym e) (range-greeted (length b.parts) b.setup h l.session s.users (all-at _ b.lines i l at s.in_range)) in
+    let lines : set b.lines i m ≡ each (on l.number (greeted b.setup h)) b.lines = set-on 0 b.last (greeted b.setup h) b.lines i l m s.rising at n e in
+    record {
+      within = changed-within b i l m b.parts b.unbound_refusals s still at n refl in_range
+          (record { setup = refl; names = refl; own = λ t. omega arith; unbound = omega arith })
+          (λ t f. let k : None ≡ Some t = sym none ∙ f in absurd (cc)) (λ t ne. refl) (λ t f. refl);
+      mine = λ t mine es k calm. owns-fates b.setup t mine b.last es b.lines (set b.lines i m) (pairwise-set (SameFate b.setup) (fate-same b.setup) b.lines i l m at (fate-greeted b.setup h l m g n e)) k;
+      view = λ t mine es k calm.
+          let w = view_of t mine b in
+          ap (λ x. turns (record w { lines = those mine x })) lines ∙ view-greeting mine w b.lines l h (mine l.number) refl able g refl;
+    }
+
+-- a greeting connection whose reply or request could not be kept is shut, with a count
+pub refused-greeting : (b : BrokerState) (i : ℕ) (l m : Line) (h : Bool) (x : ℕ) → IsSound b → AllByRecursion (IsStill l.number) b.lines → IsAt b.lines i l →
+    l.session.stage ≡ Greets h → m.number ≡ l.number → m.session ≡ shut_down l.session → b.unbound_refusals ≤ x → (IsCalm b.unbound_refusals x → ⊥) → Turned l.number b (changed b i m b.parts x)
+refused-greeting b i l m h x s still at g n e up rises =
+    let none : whose l.session.stage ≡ None = ap whose g in
+    let in_range = subst (λ y. InRange (length b.parts) y.stage) (sym e) (range-without (length b.parts) l.session.stage (all-at _ b.lines i l at s.in_range)) in
+    record {
+      within = changed-within b i l m b.parts x s still at n refl in_range
+          (record { setup = refl; names = refl; own = λ t. omega arith; unbound = up })
+          (λ t f. let k : None ≡ Some t = sym none ∙ f in absurd (cc)) (λ t ne. refl) (λ t f. let k : None ≡ Some t = sym none ∙ f in absurd (cc));
+      mine = λ t mine es k calm. absurd (rises calm);
+      view = λ t mine es k calm. absurd (rises calm.unbound);
+    }
+
+-- two bound lines of one tenant have the same fate
+pub fate-two : (b : BrokerState) (u : ℕ) (l m : Line) → IsBound u l.session → IsBound u m.session → m.number ≡ l.number → SameFate b.setup l m
+fate-two b u l m p q n = record { number = n; fate = λ es. fate-bound b.setup l.number m.session es u q ∙ sym (fate-bound b.setup l.number l.session es u p) }
+
+bound-mine : (b : BrokerState) (i u : ℕ) (l m : Line) → IsAt b.lines i l → IsBound u l.session → IsBound u m.session → m.number ≡ l.number →
+    (t : ℕ) (mine : ℕ → Bool) (es : List Happening) → Mine t mine es b → Owns b.setup t mine b.last es (set b.lines i m)
+bound-mine b i u l m at p q n t mine es k = owns-fates b.setup t mine b.last es b.lines (set b.lines i m) (pairwise-set (SameFate b.setup) (fate-same b.setup) b.lines i l m at (fate-two b u l m p q n)) k
+
+-- to another tenant, what happens to a bound connection is nothing
+hidden : (b : BrokerState) (i u : ℕ) (l m : Line) → IsSound b → IsAt b.lines i l → IsBound u l.session → m.number ≡ l.number →
+    (t : ℕ) (mine : ℕ → Bool) (es : List Happening) → Mine t mine es b → t ≢ u → those mine (set b.lines i m) ≡ those mine b.lines
+hidden b i u l m s at p n t mine es k ne =
+    let is : mine l.number ≡ eqb u t = mine-bound b.setup t mine es l u p (all-at (IsMine b.setup t mine es) b.lines i l at k.now) in
+    let no : mine l.number ≡ false = is ∙ grind (arith, nat_tests) in
+    ap (those mine) (set-on 0 b.last (λ x. m.session) b.lines i l m s.rising at n refl) ∙ those-on_other mine l.number (λ x. m.session) b.lines no
+
+pub bound-stays : (u : ℕ) (l m : Line) → IsBound u l.session → IsBound u m.session → (t : ℕ) → whose l.session.stage ≡ Some t → whose m.session.stage ≡ Some t
+bound-stays u l m p q t e = ap whose q.is ∙ (sym (ap whose p.is) ∙ e)
+
+-- the turn of a bound connection
+pub turned-bound : (b : BrokerState) (i u : ℕ) (l m : Line) (w : Option Wait) → IsSound b → AllByRecursion (IsStill l.number) b.lines → IsAt b.lines i l → first_able b.lines ≡ Some l →
+    l.session.stage ≡ BoundTo u w → m.number ≡ l.number → m.session ≡ served b.setup (kept_of b u) b.clock l.session → Turned l.number b (changed b i m b.parts b.unbound_refusals)
+turned-bound b i u l m w s still at able g n e =
+    let p : IsBound u l.session = record { wait = w; is = g } in
+    let same : without_wait m.session.stage ≡ without_wait l.session.stage = ap (λ (x : Session). without_wait x.stage) e ∙ stage-served b.setup (kept_of b u) b.clock l.session in
+    let q : IsBound u m.session = bound-same u l.session m.session p same in
+    let in_range = range-same (length b.parts) l.session.stage m.session.stage same (all-at _ b.lines i l at s.in_range) in
+    let lines : set b.lines i m ≡ each (on l.number (served b.setup (kept_of b u) b.clock)) b.lines = set-on 0 b.last (served b.setup (kept_of b u) b.clock) b.lines i l m s.rising at n e in
+    record {
+      within = changed-within b i l m b.parts b.unbound_refusals s still at n refl in_range
+          (record { setup = refl; names = refl; own = λ t. omega arith; unbound = omega arith })
+          (bound-stays u l m p q) (λ t ne. refl) (λ t f. refl);
+      mine = λ t mine es k calm. bound-mine b i u l m at p q n t mine es k;
+      view = λ t mine es k calm. each-tenant (λ v. Mine v mine es b → turns (view_of v mine (changed b i m b.parts b.unbound_refusals)) ≡ turns (view_of v mine b)) u t (eqb u t) refl
+          (λ k'.
+          let x = view_of u mine b in
+          let yes : mine l.number ≡ true = mine-bound b.setup u mine es l u p (all-at (IsMine b.setup u mine es) b.lines i l at k'.now) ∙ grind (arith, nat_tests) in
+          let y = record x { kept = put x.kept x.clock l.session.unread; lines = those mine (each (on l.number (served x.setup x.kept x.clock)) b.lines) } in
+          ap (λ z. turns (record x { lines = those mine z })) lines
+          ∙ (ap (λ z. turns (record x { kept = z; lines = those mine (each (on l.number (served x.setup x.kept x.clock)) b.lines) })) (kept-one x.kept (put x.kept x.clock l.session.unread))
+          ∙ (ap turns (sym (all_woken-none y)) ∙ view-served mine x b.lines l u w able g refl yes)))
+          (λ ne k'. ap (λ z. turns (record (view_of t mine b) { lines = z })) (hidden b i u l m s at p n t mine es k' ne))
+          k;
+    }
+
+-- a bound connection whose reply or request could not be kept is shut, with a count of its tenant
+pub refused-bound : (b : BrokerState) (i u : ℕ) (l m : Line) (w : Option Wait) (y x : Part) → IsSound b → AllByRecursion (IsStill l.number) b.lines → IsAt b.lines i l →
+    l.session.stage ≡ BoundTo u w → m.number ≡ l.number → m.session ≡ shut_down l.session → u < length b.parts → y ≡ get_or b.parts u y → x.name ≡ y.name → y.refusals ≤ x.refusals → (IsCalm y.refusals x.refusals → ⊥) →
+    Turned l.number b (changed b i m (set b.parts u x) b.unbound_refusals)
+refused-bound b i u l m w y x s still at g n e lt is name up rises =
+    let p : IsBound u l.session = record { wait = w; is = g } in
+    let same : without_wait m.session.stage ≡ without_wait l.session.stage = ap (λ (z : Session). without_wait z.stage) e ∙ stage-shut l.session in
+    let q : IsBound u m.session = bound-same u l.session m.session p same in
+    let in_range = range-same (length b.parts) l.session.stage m.session.stage same (all-at _ b.lines i l at s.in_range) in
+    record {
+      within = changed-within b i l m (set b.parts u x) b.unbound_refusals s still at n (length-set b.parts u x) in_range
+          (record { setup = refl; names = names-same b.parts u y x lt is name; own = count-grows b.parts u y x lt is up; unbound = omega arith })
+          (bound-stays u l m p q)
+          (λ t ne. count-other b.parts u t x (λ h. ne (ap whose q.is ∙ ap Some (sym h))))
+          (λ t f. refl);
+      mine = λ t mine es k calm. bound-mine b i u l m at p q n t mine es k;
+      view = λ t mine es k calm. each-tenant (λ v. Mine v mine es b → IsCalm (count b.parts v) (count (set b.parts u x) v) → turns (view_of v mine (changed b i m (set b.parts u x) b.unbound_refusals)) ≡ turns (view_of v mine b)) u t (eqb u t) refl
+          (λ k' c'. absurd (rises (rw (← count-at' b u y lt is, ← count-same b.parts u x lt) c')))
+          (λ ne k' c'.
+          ap (λ z. turns (record (view_of t mine b) { kept = kept_of (changed b i m (set b.parts u x) b.unbound_refusals) t; lines = z })) (hidden b i u l m s at p n t mine es k' ne)
+          ∙ ap (λ z. turns (record (view_of t mine b) { kept = z })) (kept-one (kept_of (changed b i m (set b.parts u x) b.unbound_refusals) t) (kept_of b t)))
+          k calm.own;
+    }
+  where
+    count-at' : (b : BrokerState) (u : ℕ) (y : Part) → u < length b.parts → y ≡ get_or b.parts u y → count b.parts u ≡ y.refusals
+    count-at' b u y lt is = count-at b.parts u y lt is

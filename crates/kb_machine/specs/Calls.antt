@@ -1,0 +1,88 @@
+-- What the broker's calls answer, and the state that they leave.
+use Rattle.std.specs.Prelude.{◌≡◌, ℕ, ◌≤◌, ◌==◌, ◌&&◌, List, [], ◌∷◌, ◌++◌, max, Bool, true, false, not, Option, Some, None, if◌then◌else◌}
+use Rattle.std.specs.Str.{bytes_eq}
+use Rattle.kb_machine.specs.Session.{Session, fresh, room}
+use Rattle.kb_machine.specs.Machine.{Line, each, on, those}
+use Rattle.kb_machine.specs.Owners.{find_line}
+use Rattle.kb_machine.specs.Broker.{BrokerState, Part, IsCalm}
+
+-- 1. The state that a call leaves
+
+-- after a connection opened
+abbrev pub opened : BrokerState → ℕ → BrokerState
+opened b n = record b { last = n; lines = b.lines ++ record { number = n; session = fresh } ∷ [] }
+
+-- after a connection could not be kept: a refusal is counted for no tenant
+pub record IsRefused (old new : BrokerState) : Type 0 where
+  pub is : new ≡ record old { unbound_refusals = new.unbound_refusals }
+  pub grows : old.unbound_refusals ≤ new.unbound_refusals
+  pub counted : IsCalm old.unbound_refusals new.unbound_refusals → ⊥
+
+abbrev pub other_than : ℕ → ℕ → Bool
+other_than n k = not (k == n)
+
+-- after a connection closed
+abbrev pub closed : BrokerState → ℕ → BrokerState
+closed b n = record b { lines = those (other_than n) b.lines }
+
+-- after a moment
+abbrev pub moved : BrokerState → ℕ → BrokerState
+moved b now = record b { clock = max b.clock now }
+
+abbrev pub without_output : Session → Session
+without_output s = record s { output = [] }
+
+-- after a connection's output was taken
+abbrev pub taken : BrokerState → ℕ → BrokerState
+taken b n = record b { lines = each (on n without_output) b.lines }
+
+-- 2. What is asked of a connection: of one that is not open there is nothing
+
+abbrev pub output_in : Option Session → List ℕ
+output_in None = []
+output_in (Some s) = s.output
+
+-- the untaken output
+abbrev pub output_of : ℕ → BrokerState → List ℕ
+output_of n b = output_in (find_line n b.lines)
+
+abbrev pub shut_in : Option Session → Bool
+shut_in None = false
+shut_in (Some s) = s.shut
+
+-- whether the broker shut it
+abbrev pub is_shut : ℕ → BrokerState → Bool
+is_shut n b = shut_in (find_line n b.lines)
+
+abbrev pub open_in : Option Session → Bool
+open_in None = false
+open_in (Some s) = true
+
+abbrev pub is_open : ℕ → BrokerState → Bool
+is_open n b = open_in (find_line n b.lines)
+
+abbrev pub room_in : Option Session → ℕ
+room_in None = 0
+room_in (Some s) = room s
+
+-- how many more bytes it takes
+abbrev pub room_of : ℕ → BrokerState → ℕ
+room_of n b = room_in (find_line n b.lines)
+
+-- 3. Counts
+
+-- the count of the first tenant of that name, or 0
+abbrev pub count_named : List ℕ → List Part → ℕ
+count_named name [] = 0
+count_named name (p ∷ ps) = if bytes_eq p.name name then p.refusals else count_named name ps
+
+abbrev pub refusals_named : List ℕ → BrokerState → ℕ
+refusals_named name b = count_named name b.parts
+
+abbrev pub all_calm : List Part → Bool
+all_calm [] = true
+all_calm (p ∷ ps) = p.refusals == 0 && all_calm ps
+
+-- no refusal has been counted
+abbrev pub is_calm : BrokerState → Bool
+is_calm b = b.unbound_refusals == 0 && all_calm b.parts

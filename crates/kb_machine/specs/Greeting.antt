@@ -1,0 +1,90 @@
+-- The requests that need no tenant: ApiVersions, and the SASL greeting (Kafka protocol guide, "SASL Authentication Sequence"; RFC 4616).
+use Rattle.std.specs.Prelude.{ℕ, ℤ, pos, List, [], ◌∷◌, Bool, true, false, ◌&&◌, if◌then◌else◌, Option, Some, None, codes}
+use Rattle.std.specs.Str.{bytes_eq}
+use Rattle.kb_api_group.specs.Plain.{plain}
+use Rattle.kb_api_group.specs.Frames.{Front, Whole, Partial, TooSmall, TooLarge, front}
+use Rattle.kb_api_group.specs.Layouts.{sasl_handshake_reply, sasl_authenticate_reply, api_versions_reply}
+use Rattle.kb_api_group.specs.ErrorCode.{code_of}
+use Rattle.kb_api_group.specs.declared.error_code.ErrorCode.{ErrorCode}
+use Rattle.kb_api_group.specs.declared.error_code.ErrorCode.TheVariants as errors
+use Rattle.kb_api_group.specs.declared.plain.PlainLogin.{PlainLogin}
+use Rattle.kb_api_group.specs.declared.api_versions.ApiVersion.{ApiVersion}
+use Rattle.kb_machine.specs.Requests.{Asked, Versions, OtherVersions, Handshake, Authenticate, Another, Unread, Request, request}
+use Rattle.kb_machine.specs.Session.{Stage, Greets, BoundTo, Session, shut_down, replied}
+
+-- a user: the name and password of its login, and its tenant
+pub record User : Type 0 where
+  pub name : List ℕ
+  pub password : List ℕ
+  pub tenant : ℕ
+
+-- what is fixed while a broker runs: the versions that it lists, and its users
+pub record Setup : Type 0 where
+  pub versions : List ApiVersion
+  pub users : List User
+
+-- the tenant of the first user of that name and password
+abbrev pub tenant_of : List User → List ℕ → List ℕ → Option ℕ
+tenant_of [] name password = None
+tenant_of (u ∷ us) name password = if bytes_eq u.name name && bytes_eq u.password password then Some u.tenant else tenant_of us name password
+
+abbrev pub tenant_at : List User → Option PlainLogin → Option ℕ
+tenant_at users None = None
+tenant_at users (Some p) = tenant_of users p.authcid p.passwd
+
+-- the tenant that a PLAIN message names with its password
+unfoldable pub login : List User → List ℕ → Option ℕ
+login users message = tenant_at users (plain message)
+
+-- 1. The replies
+
+-- ApiVersions: a code and the whole table
+abbrev pub versions_reply : List ApiVersion → ErrorCode → List ℕ
+versions_reply versions code = api_versions_reply.written (record { error_code = code_of code; versions = versions })
+
+-- SaslHandshake: a code and the mechanisms, PLAIN alone
+abbrev pub handshake_reply : ErrorCode → List ℕ
+handshake_reply code = sasl_handshake_reply.written (record { error_code = code_of code; mechanisms = codes "PLAIN" ∷ [] })
+
+-- SaslAuthenticate: a code, and a text where it is not 0
+abbrev pub authenticate_reply : ErrorCode → Option (List ℕ) → List ℕ
+authenticate_reply code text = sasl_authenticate_reply.written (record { error_code = code_of code; error_message = text; auth_bytes = [] })
+
+-- SaslAuthenticate where no mechanism was accepted, or after authentication
+abbrev pub illegal_state : List ℕ
+illegal_state = authenticate_reply errors.IllegalSaslState (Some (codes "illegal SASL state"))
+
+-- 2. Before authentication
+
+-- a login that names a user with its password binds the connection, any other shuts it after the reply
+abbrev pub logged_in : Option ℕ → ℤ → Session → Session
+logged_in (Some tenant) id s = replied id (authenticate_reply errors.None None) (record s { stage = BoundTo tenant None })
+logged_in None id s = shut_down (replied id (authenticate_reply errors.SaslAuthenticationFailed (Some (codes "authentication failed"))) s)
+
+-- the mechanism PLAIN is accepted, another changes nothing
+abbrev pub shaken : Bool → ℤ → Bool → Session → Session
+shaken true id handshaken s = replied id (handshake_reply errors.None) (record s { stage = Greets true })
+shaken false id handshaken s = replied id (handshake_reply errors.UnsupportedSaslMechanism) s
+
+abbrev pub authenticated : Setup → Bool → ℤ → List ℕ → Session → Session
+authenticated setup true id message s = logged_in (login setup.users message) id s
+authenticated setup false id message s = replied id illegal_state s
+
+-- what a request of a greeting connection does to it; s is the connection without the request
+unfoldable pub greeted_by : Setup → Bool → ℤ → Asked → Session → Session
+greeted_by setup handshaken id Versions s = replied id (versions_reply setup.versions errors.None) s
+greeted_by setup handshaken id OtherVersions s = replied id (versions_reply setup.versions errors.UnsupportedVersion) s
+greeted_by setup handshaken id (Handshake mechanism) s = shaken (bytes_eq mechanism (codes "PLAIN")) id handshaken s
+greeted_by setup handshaken id (Authenticate message) s = authenticated setup handshaken id message s
+greeted_by setup handshaken id (Another key version body) s = shut_down s
+greeted_by setup handshaken id Unread s = shut_down s
+
+abbrev pub greeted_at : Setup → Bool → Session → Front → Session
+greeted_at setup handshaken s (Whole frame rest) = let r = request frame in greeted_by setup handshaken r.correlation_id r.asked (record s { unread = rest })
+greeted_at setup handshaken s TooSmall = shut_down s
+greeted_at setup handshaken s TooLarge = shut_down s
+greeted_at setup handshaken s Partial = s
+
+-- the turn of a greeting connection
+unfoldable pub greeted : Setup → Bool → Session → Session
+greeted setup handshaken s = greeted_at setup handshaken s (front s.unread)

@@ -1,0 +1,10 @@
+pub mod Broker
+pub mod Greeting
+pub mod Machine
+pub mod Owners
+pub mod Requests
+pub mod Session
+pub mod Tenant
+pub mod Turned
+pub mod Calls
+pub mod Told

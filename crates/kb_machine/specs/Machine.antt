@@ -1,0 +1,190 @@
+-- The machine of one tenant: its world, and what each event does to it. No other tenant is in it, and no queue, index or cache.
+use Rattle.std.specs.Prelude.{ℕ, zero, suc, ◌+◌, ◌==◌, ℤ, pos, List, [], ◌∷◌, ◌++◌, length, map, filter, Bool, true, false, not, if◌then◌else◌, Option, Some, None, nat_lt, max}
+use Rattle.kb_api_group.specs.Frames.{Front, Whole, Partial, TooSmall, TooLarge, front}
+use Rattle.kb_api_group.specs.declared.error_code.ErrorCode.TheVariants as errors
+use Rattle.kb_machine.specs.Requests.{Asked, Versions, OtherVersions, Handshake, Authenticate, Another, Unread, request}
+use Rattle.kb_machine.specs.Tenant.{Kept, Wait, Answer, Replies, Waits, Silent, Shuts, kept_after, answer, ready, retained}
+use Rattle.kb_machine.specs.Session.{Stage, Greets, BoundTo, Session, fresh, without_wait, shut_down, fed, replied, can}
+use Rattle.kb_machine.specs.Greeting.{Setup, greeted, versions_reply, handshake_reply, illegal_state}
+
+-- a connection: its number and what it has
+pub record Line : Type 0 where
+  pub number : ℕ
+  pub session : Session
+
+-- the world of a tenant: what is fixed, what it keeps, the clock, and its connections by rising number
+pub record World : Type 0 where
+  pub setup : Setup
+  pub kept : Kept
+  pub clock : ℕ
+  pub lines : List Line
+
+-- what may happen: a connection opens, bytes come on it, it closes, or a moment of time
+pub data Happening : Type 0 where
+  Opens : (number : ℕ) → Happening
+  Comes : (number : ℕ) (piece : List ℕ) → Happening
+  Closes : (number : ℕ) → Happening
+  Moment : (now : ℕ) → Happening
+
+-- 1. Requests of a bound connection
+
+abbrev pub waiting : Stage → Wait → Stage
+waiting (Greets handshaken) wait = Greets handshaken
+waiting (BoundTo tenant old) wait = BoundTo tenant (Some wait)
+
+abbrev pub answered : Answer → ℤ → Session → Session
+answered (Replies body) id s = replied id body s
+answered (Waits wait) id s = record s { stage = waiting s.stage wait }
+answered Silent id s = s
+answered Shuts id s = shut_down s
+
+-- what a request of a bound connection does to it; s is the connection without the request
+unfoldable pub served_by : Setup → Kept → ℕ → ℤ → Asked → Session → Session
+served_by setup kept clock id Versions s = replied id (versions_reply setup.versions errors.None) s
+served_by setup kept clock id OtherVersions s = replied id (versions_reply setup.versions errors.UnsupportedVersion) s
+served_by setup kept clock id (Handshake mechanism) s = replied id (handshake_reply errors.IllegalSaslState) s
+served_by setup kept clock id (Authenticate message) s = replied id illegal_state s
+served_by setup kept clock id (Another key version body) s = answered (answer kept clock key version body) id s
+served_by setup kept clock id Unread s = shut_down s
+
+abbrev pub served_at : Setup → Kept → ℕ → Session → Front → Session
+served_at setup kept clock s (Whole frame rest) = let r = request frame in served_by setup kept clock r.correlation_id r.asked (record s { unread = rest })
+served_at setup kept clock s TooSmall = shut_down s
+served_at setup kept clock s TooLarge = shut_down s
+served_at setup kept clock s Partial = s
+
+-- the turn of a bound connection
+unfoldable pub served : Setup → Kept → ℕ → Session → Session
+served setup kept clock s = served_at setup kept clock s (front s.unread)
+
+abbrev pub kept_by : Kept → ℕ → Asked → Kept
+kept_by kept clock Versions = kept
+kept_by kept clock OtherVersions = kept
+kept_by kept clock (Handshake mechanism) = kept
+kept_by kept clock (Authenticate message) = kept
+kept_by kept clock (Another key version body) = kept_after kept clock key version body
+kept_by kept clock Unread = kept
+
+abbrev pub kept_at : Kept → ℕ → Front → Kept
+kept_at kept clock (Whole frame rest) = kept_by kept clock (request frame).asked
+kept_at kept clock TooSmall = kept
+kept_at kept clock TooLarge = kept
+kept_at kept clock Partial = kept
+
+-- what the turn of a bound connection leaves of what is kept
+unfoldable pub put : Kept → ℕ → List ℕ → Kept
+put kept clock unread = kept_at kept clock (front unread)
+
+-- 2. Waits
+
+abbrev pub told : Option (ℤ × List ℕ) → Session → Session
+told None s = s
+told (Some r) s = replied r.0 r.1 (record s { stage = without_wait s.stage })
+
+unfoldable pub woken_by : Kept → ℕ → Session → Stage → Session
+woken_by kept clock s (Greets handshaken) = s
+woken_by kept clock s (BoundTo tenant None) = s
+woken_by kept clock s (BoundTo tenant (Some wait)) = told (ready kept clock wait) s
+
+-- a wait that is ready is answered
+abbrev pub woken : Kept → ℕ → Session → Session
+woken kept clock s = woken_by kept clock s s.stage
+
+-- 3. Lists of connections
+
+-- each connection is changed by its number
+abbrev pub each : (ℕ → Session → Session) → List Line → List Line
+each g lines = map (λ l. record { number = l.number; session = g l.number l.session }) lines
+
+-- the connection of that number is changed
+abbrev pub on : ℕ → (Session → Session) → ℕ → Session → Session
+on n f k s = if k == n then f s else s
+
+abbrev pub those : (ℕ → Bool) → List Line → List Line
+those mine lines = filter (λ l. mine l.number) lines
+
+-- the least-numbered connection that can take a turn
+abbrev pub first_able : List Line → Option Line
+first_able [] = None
+first_able (l ∷ ls) = if can l.session then Some l else first_able ls
+
+-- 4. Turns
+
+-- all waits that are ready are answered
+abbrev pub all_woken : World → World
+all_woken w = record w { lines = each (λ k s. woken w.kept w.clock s) w.lines }
+
+-- a bound connection's request: what is kept changes, then all waits that became ready are answered
+abbrev pub turn_at : World → ℕ → List ℕ → Stage → World
+turn_at w n unread (Greets handshaken) = record w { lines = each (on n (greeted w.setup handshaken)) w.lines }
+turn_at w n unread (BoundTo tenant wait) = all_woken (record w { kept = put w.kept w.clock unread; lines = each (on n (served w.setup w.kept w.clock)) w.lines })
+
+abbrev pub turn_of : World → Option Line → World
+turn_of w None = w
+turn_of w (Some l) = turn_at w l.number l.session.unread l.session.stage
+
+-- one request is served: that of the least-numbered connection that can take a turn, if any can
+unfoldable pub turn : World → World
+turn w = turn_of w (first_able w.lines)
+
+abbrev pub again : {A : Type 0} → (A → A) → ℕ → A → A
+again f zero x = x
+again f (suc n) x = again f n (f x)
+
+-- how many unread bytes there are
+abbrev pub work : List Line → ℕ
+work [] = 0
+work (l ∷ ls) = length l.session.unread + work ls
+
+-- turns until none is left: each takes at least one unread byte, and where no connection can take one a turn changes nothing
+unfoldable pub turns : World → World
+turns w = again turn (work w.lines) w
+
+-- 5. Events
+
+-- one event: at a moment the clock, then the tenant's own part, then the waits that are ready, then turns; a moment before the clock acts as one at the clock
+abbrev pub step : Happening → World → World
+step (Opens n) w = record w { lines = w.lines ++ record { number = n; session = fresh } ∷ [] }
+step (Comes n piece) w = turns (record w { lines = each (on n (fed piece)) w.lines })
+step (Closes n) w = record w { lines = those (λ k. not (k == n)) w.lines }
+step (Moment now) w = let clock = max w.clock now in turns (all_woken (record w { kept = retained clock w.kept; clock = clock }))
+
+-- an event that concerns the tenant is a step, any other is nothing
+abbrev pub stepped : Bool → Happening → World → World
+stepped true e w = step e w
+stepped false e w = w
+
+-- 6. Whole runs
+
+-- what was written to a connection, and whether the broker shut it
+pub record Sent : Type 0 where
+  pub number : ℕ
+  pub bytes : List ℕ
+  pub shut : Bool
+
+abbrev pub sent : Line → Sent
+sent l = record { number = l.number; bytes = l.session.output; shut = l.session.shut }
+
+-- what a closing connection got
+abbrev pub leaving : Happening → List Line → List Sent
+leaving (Opens n) lines = []
+leaving (Comes n piece) lines = []
+leaving (Closes n) lines = map sent (those (λ k. k == n) lines)
+leaving (Moment now) lines = []
+
+-- what each connection got: those that were closed, in order, and then those that are still open
+abbrev pub run : List Happening → World → List Sent
+run [] w = map sent w.lines
+run (e ∷ es) w = leaving e w.lines ++ run es (step e w)
+
+abbrev pub those_sent : (ℕ → Bool) → List Sent → List Sent
+those_sent mine ss = filter (λ s. mine s.number) ss
+
+abbrev pub place : Sent → List Sent → List Sent
+place s [] = s ∷ []
+place s (x ∷ xs) = if nat_lt s.number x.number then s ∷ x ∷ xs else x ∷ place s xs
+
+-- the same list, by rising number
+abbrev pub by_number : List Sent → List Sent
+by_number [] = []
+by_number (s ∷ ss) = place s (by_number ss)

@@ -1,0 +1,8 @@
+//! What the broker's headline speaks of: definitions and their laws, and no code.
+//!
+//! `specs/Requests.antt` says what a connection's bytes ask, `specs/Session.antt` what a connection has,
+//! `specs/Greeting.antt` what the requests mean that need no tenant (Kafka protocol guide, "SASL Authentication
+//! Sequence"; RFC 4616), `specs/Tenant.antt` what a tenant keeps, `specs/Machine.antt` the machine of one tenant
+//! as a function of its events, `specs/Owners.antt` which connections are a tenant's, and `specs/Broker.antt`
+//! the broker of all tenants and how each of its steps is a step of each tenant's machine.
+#![tactic(auto)]

@@ -1,0 +1,163 @@
+/* Reads a record batch of magic 2 in plain C, with the same tests: header, CRC-32C by slicing by 8, each record.
+   For each number of records: the time of one read in nanoseconds, the best of nine runs. */
+#include <stdint.h>
+#include <stdio.h>
+#include <stdlib.h>
+#include <string.h>
+#include <time.h>
+
+#include "tables.h"
+
+static uint32_t crc32c(const uint8_t *p, size_t n) {
+    uint32_t crc = ~0u;
+    for (; n >= 8; p += 8, n -= 8) {
+        uint32_t low, high;
+        memcpy(&low, p, 4);
+        memcpy(&high, p + 4, 4);
+        low ^= crc;
+        crc = TABLES[7][low & 0xff] ^ TABLES[6][low >> 8 & 0xff] ^ TABLES[5][low >> 16 & 0xff] ^ TABLES[4][low >> 24]
+            ^ TABLES[3][high & 0xff] ^ TABLES[2][high >> 8 & 0xff] ^ TABLES[1][high >> 16 & 0xff] ^ TABLES[0][high >> 24];
+    }
+    while (n--)
+        crc = crc >> 8 ^ TABLES[0][(crc ^ *p++) & 0xff];
+    return ~crc;
+}
+
+static int64_t big(const uint8_t *p, int n) {
+    uint64_t v = p[0] & 0x80 ? ~0ull : 0;
+    for (int i = 0; i < n; i++)
+        v = v << 8 | p[i];
+    return (int64_t)v;
+}
+
+/* A zigzag number of at most `most` groups; 0 where it is cut off or too long. */
+static int varint(const uint8_t **p, const uint8_t *end, int most, int64_t *out) {
+    uint64_t v = 0;
+    for (int i = 0; i < most; i++) {
+        if (*p == end)
+            return 0;
+        uint8_t b = *(*p)++;
+        v |= (uint64_t)(b & 0x7f) << (7 * i);
+        if (!(b & 0x80)) {
+            *out = (int64_t)(v >> 1) ^ -(int64_t)(v & 1);
+            return 1;
+        }
+    }
+    return 0;
+}
+
+static int skip(const uint8_t **p, const uint8_t *end, int nullable) {
+    int64_t n;
+    if (!varint(p, end, 5, &n) || n < (nullable ? -1 : 0) || n > end - *p)
+        return 0;
+    if (n > 0)
+        *p += n;
+    return 1;
+}
+
+/* Whether the bytes are an accepted batch; its greatest timestamp. */
+static int read_batch(const uint8_t *b, size_t len, int64_t *greatest) {
+    if (len < 61 || big(b + 8, 4) < 49 || (size_t)big(b + 8, 4) + 12 != len || b[16] != 2 || len > 1048588)
+        return 0;
+    if (big(b + 21, 2) != 0 || (uint32_t)big(b + 17, 4) != crc32c(b + 21, len - 21))
+        return 0;
+    int64_t count = big(b + 57, 4), base = big(b + 27, 8);
+    if (count < 1 || big(b + 23, 4) != count - 1)
+        return 0;
+    const uint8_t *p = b + 61, *end = b + len;
+    *greatest = INT64_MIN;
+    for (int64_t k = 0; k < count; k++) {
+        int64_t n, delta, offset, headers, time;
+        if (!varint(&p, end, 5, &n) || n < 1 || n > end - p)
+            return 0;
+        const uint8_t *q = p + 1, *stop = p + n;
+        if (!varint(&q, stop, 10, &delta) || !varint(&q, stop, 5, &offset) || offset != k)
+            return 0;
+        if (__builtin_add_overflow(base, delta, &time))
+            return 0;
+        if (time > *greatest)
+            *greatest = time;
+        if (!skip(&q, stop, 1) || !skip(&q, stop, 1) || !varint(&q, stop, 5, &headers) || headers < 0)
+            return 0;
+        for (int64_t h = 0; h < headers; h++)
+            if (!skip(&q, stop, 0) || !skip(&q, stop, 1))
+                return 0;
+        if (q != stop)
+            return 0;
+        p = stop;
+    }
+    return p == end;
+}
+
+static uint8_t *put_varint(uint8_t *p, int64_t value) {
+    uint64_t v = (uint64_t)value << 1 ^ (uint64_t)(value >> 63);
+    for (; v > 127; v >>= 7)
+        *p++ = v | 0x80;
+    *p++ = v;
+    return p;
+}
+
+static void put_big(uint8_t *p, int64_t v, int n) {
+    for (int i = n; i--; v >>= 8)
+        p[i] = v;
+}
+
+/* A batch of records of 20 bytes, one a millisecond. */
+static size_t build(uint8_t *b, int count) {
+    memset(b, 0, 61);
+    uint8_t *p = b + 61;
+    for (int k = 0; k < count; k++) {
+        uint8_t record[64], *q = record;
+        *q++ = 0;
+        q = put_varint(q, k);
+        q = put_varint(q, k);
+        q = put_varint(q, -1);
+        q = put_varint(q, 20);
+        memset(q, 'x', 20);
+        q = put_varint(q + 20, 0);
+        p = put_varint(p, q - record);
+        memcpy(p, record, q - record);
+        p += q - record;
+    }
+    size_t len = p - b;
+    put_big(b + 8, len - 12, 4);
+    b[16] = 2;
+    put_big(b + 23, count - 1, 4);
+    put_big(b + 35, count - 1, 8);
+    put_big(b + 43, -1, 8);
+    put_big(b + 51, -1, 2);
+    put_big(b + 53, -1, 4);
+    put_big(b + 57, count, 4);
+    put_big(b + 17, crc32c(b + 21, len - 21), 4);
+    return len;
+}
+
+static int (*volatile method)(const uint8_t *, size_t, int64_t *) = read_batch;
+
+int main(void) {
+    static uint8_t batch[1 << 20];
+    for (int count = 1; count <= 10000; count *= 10) {
+        size_t len = build(batch, count);
+        int reads = 20000000 / (int)len + 1;
+        double best = 1e9;
+        int64_t sum = 0;
+        for (int i = 0; i < 9; i++) {
+            struct timespec a, z;
+            clock_gettime(CLOCK_MONOTONIC, &a);
+            for (int k = 0; k < reads; k++) {
+                int64_t greatest;
+                if (!method(batch, len, &greatest))
+                    return 1;
+                sum += greatest;
+            }
+            clock_gettime(CLOCK_MONOTONIC, &z);
+            double ns = ((z.tv_sec - a.tv_sec) * 1e9 + (z.tv_nsec - a.tv_nsec)) / reads;
+            if (ns < best)
+                best = ns;
+        }
+        printf("C %d %zu %.0f\n", count, len, best);
+        if (sum < 0)
+            return 1;
+    }
+    return 0;
+}

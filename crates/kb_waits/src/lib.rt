@@ -15,8 +15,8 @@
 
 mod entries;
 mod entry;
+mod gather;
 mod key;
-mod out;
 #[cfg(test)]
 mod plain;
 #[cfg(test)]

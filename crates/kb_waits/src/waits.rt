@@ -6,8 +6,8 @@ ghost use Rattle.kb_waits.specs.Queue.{AreParked, IsDue, IsUnder};
 
 use crate::entries::Entries;
 use crate::entry::Entry;
+use crate::gather::{clear_with_room, push_all, push_due};
 use crate::key::WaitKey;
-use crate::out::{clear_with_room, push_all, push_due};
 use crate::waiters::Waiters;
 use std::alloc::{AllocError, Global};
 use std::collections::BTreeSet;

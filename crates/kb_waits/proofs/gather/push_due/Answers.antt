@@ -2,7 +2,7 @@ use Rattle.std.proofs.Common.{◌∙◌, ap, arith, length, ◌++◌}
 use Rattle.std.proofs.lemmas.Map.Keys.{sorted_tail}
 use Rattle.kb_waits.specs.Due.{by_deadline, due_of}
 use Rattle.kb_waits.proofs.Due.{due-stop, due-more}
-use Rattle.kb_waits.proofs.out.push_due.Goals as goal
+use Rattle.kb_waits.proofs.gather.push_due.Goals as goal
 
 pub returns-then-deadline-clock-clause-pushed : goal.returns-then-deadline-clock-clause-pushed
 returns-then-deadline-clock-clause-pushed c =

@@ -1,6 +1,6 @@
 -- A piece that comes on a connection.
-use Rattle.std.proofs.Common.{◌≡◌, ◌≢◌, ◌<◌, ◌≤◌, ◌++◌, ◌∷◌, [], ℕ, zero, suc, List, length, get_or, set, eqb, Bool, true, false, Option, Some, None, refl, sym, ◌∙◌, ap, subst, arith, append-nil, inl, inr, length-set}
-use Rattle.std.specs.Prelude.{cond, nat_lt, ◌⊎◌}
+use Rattle.std.proofs.Common.{◌≡◌, ◌≢◌, ◌<◌, ◌≤◌, ◌++◌, ◌∷◌, [], ℕ, zero, suc, List, length, get_or, set, eqb, Bool, true, false, Option, Some, None, refl, sym, ◌∙◌, ap, subst, arith, append-nil, length-set}
+use Rattle.std.specs.Prelude.{cond, nat_lt}
 use Rattle.std.specs.List.{AllByRecursion}
 use Rattle.std.proofs.lemmas.Bool.Decides.{nat_tests}
 use Rattle.std.proofs.lemmas.List.{set-get_or}
@@ -8,14 +8,14 @@ use Rattle.kb_machine.specs.Tenant.{Wait}
 use Rattle.kb_machine.specs.Session.{Stage, Greets, BoundTo, Session, fed, room, shut_down, without_wait, can}
 use Rattle.kb_machine.specs.Greeting.{Setup}
 use Rattle.kb_machine.specs.Machine.{Happening, Comes, Line, World, each, on, those, first_able, turns, stepped}
-use Rattle.kb_machine.specs.Owners.{Owns, Fits, find_line, whose, heard, destiny}
-use Rattle.kb_machine.specs.Broker.{BrokerState, Part, IsSound, IsReady, IsStep, Grows, IsCalm, IsCalmFor, IsUncounted, IsUntaken, IsComing, is_deaf, InRange, Rising, Mine, view_of, kept_of, refusals_of, bound_to, bound_as}
-use Rattle.kb_machine.specs.Turned.{IsStill, SameOthers, IsWithin, Turned, IsFed}
+use Rattle.kb_machine.specs.Owners.{Owns, Fits, whose, heard, destiny}
+use Rattle.kb_machine.specs.Broker.{BrokerState, Part, IsReady, IsStep, IsCalm, IsUntaken, Rising, Mine, view_of, kept_of}
+use Rattle.kb_machine.specs.Turned.{IsStill, IsWithin, Turned, IsFed}
 use Rattle.kb_machine.proofs.Laws.{none-those, turns-none, those-each}
-use Rattle.kb_machine.proofs.Owners.{IsBound, IsMine, heard-still, fate-bound, mine-bound, bound-same, bound-fed, those-on_other, kept-one, stage-fed, stage-shut}
-use Rattle.kb_machine.proofs.Ranges.{range-same, range-without, range-fed}
-use Rattle.kb_machine.proofs.Sets.{IsAt, all-at, all-map, all-set, all-those, all-still, rising-above, set-on, find-at, find-none, tail-at, no-at, each-on_none}
-use Rattle.kb_machine.proofs.Parts.{count, count-at, count-same, count-other, count-grows, names-same, each-tenant, calm-left, calm-right, grows-same, grows-then, calm-first, calm-then}
+use Rattle.kb_machine.proofs.Owners.{IsBound, IsMine, heard-still, fate-bound, mine-bound, bound-same, those-on_other, kept-one, stage-fed, stage-shut}
+use Rattle.kb_machine.proofs.Ranges.{range-same}
+use Rattle.kb_machine.proofs.Sets.{IsAt, all-at, all-map, all-those, all-still, rising-above, set-on, tail-at, no-at, each-on_none}
+use Rattle.kb_machine.proofs.Parts.{count, count-at, count-same, count-other, count-grows, names-same, each-tenant, calm-left, calm-right, grows-same, calm-first, calm-then}
 use Rattle.kb_machine.proofs.Turns.{changed, changed-within, bound-stays, within-then}
 use Rattle.kb_machine.proofs.Steps.{settled-turns, with_lines}
 

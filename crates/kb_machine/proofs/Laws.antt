@@ -1,15 +1,15 @@
 -- Laws of the one-tenant machine.
-use Rattle.std.proofs.Common.{◌≡◌, ℕ, ℤ, pos, negsuc, zero, suc, ◌<◌, ◌≤◌, ◌-◌, List, [], ◌∷◌, length, take, drop, Bool, true, false, Some, None, Option, refl, sym, ◌∙◌, ap, arith, length-drop}
-use Rattle.std.specs.Prelude.{nat_lt, cond, ◌&&◌, ◌||◌}
+use Rattle.std.proofs.Common.{◌≡◌, ℕ, ℤ, pos, negsuc, zero, suc, ◌<◌, ◌≤◌, List, [], ◌∷◌, length, take, drop, Bool, true, false, Some, None, Option, refl, sym, ◌∙◌, ap, arith, length-drop}
+use Rattle.std.specs.Prelude.{nat_lt, cond}
 use Rattle.std.proofs.lemmas.Bool.Decides.{nat_tests}
 use Rattle.std.specs.Int.{w32, cast_signed, from_be_bytes}
-use Rattle.kb_wire.specs.Codec.{int, int32}
+use Rattle.kb_wire.specs.Codec.{int}
 use Rattle.kb_api_group.specs.Frames.{Front, Whole, Partial, TooSmall, TooLarge, front, front_by}
-use Rattle.kb_machine.specs.Requests.{Asked, Versions, OtherVersions, Handshake, Authenticate, Another, Unread, request, reply_size}
-use Rattle.kb_machine.specs.Tenant.{Kept, Wait, Answer, Replies, Waits, Silent, Shuts, answer, ready}
-use Rattle.kb_machine.specs.Session.{Stage, Greets, BoundTo, Session, shut_down, replied, is_turn, can}
-use Rattle.kb_machine.specs.Greeting.{Setup, greeted_by, greeted_at, greeted, shaken, authenticated, logged_in, login, versions_reply}
-use Rattle.kb_machine.specs.Machine.{Line, World, answered, served_by, served_at, served, put, told, woken_by, woken, each, on, those, first_able, turn_at, turn_of, turn, again, work, turns, all_woken}
+use Rattle.kb_machine.specs.Requests.{Asked, Versions, OtherVersions, Handshake, Authenticate, Another, Unread, request}
+use Rattle.kb_machine.specs.Tenant.{Kept, Answer, Replies, Waits, Silent, Shuts, answer, ready}
+use Rattle.kb_machine.specs.Session.{Stage, Greets, BoundTo, Session, replied, is_turn, can}
+use Rattle.kb_machine.specs.Greeting.{Setup, greeted_by, greeted_at, greeted, shaken, authenticated, logged_in, login}
+use Rattle.kb_machine.specs.Machine.{Line, World, answered, served_by, served_at, served, put, told, woken_by, woken, each, on, those, first_able, turn_at, turn_of, turn, again, work, turns}
 
 -- 1. Lists of connections
 

@@ -9,3 +9,4 @@ pub mod Sets
 pub mod Steps
 pub mod Taken
 pub mod Turns
+pub mod Pinned

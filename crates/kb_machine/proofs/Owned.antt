@@ -1,13 +1,13 @@
 -- The owners of a run.
-use Rattle.std.proofs.Common.{◌≡◌, ◌<◌, ◌≤◌, ◌++◌, ◌∷◌, [], ℕ, zero, suc, List, length, eqb, Bool, true, false, Option, Some, None, refl, sym, ◌∙◌, ap, subst, arith, lit<}
-use Rattle.std.specs.Prelude.{map, cond, nat_lt, ⊤}
+use Rattle.std.proofs.Common.{◌≡◌, ◌<◌, ◌≤◌, ◌∷◌, [], ℕ, List, length, eqb, Bool, true, false, Option, Some, None, refl, sym, ◌∙◌, ap, subst, arith, lit<}
+use Rattle.std.specs.Prelude.{cond}
 use Rattle.std.specs.List.{AllByRecursion}
 use Rattle.std.proofs.lemmas.Bool.Decides.{nat_tests}
 use Rattle.kb_machine.specs.Session.{Stage, Greets, BoundTo, Session, fresh, fed}
 use Rattle.kb_machine.specs.Greeting.{Setup}
 use Rattle.kb_machine.specs.Machine.{Happening, Opens, Comes, Closes, Moment, Line}
 use Rattle.kb_machine.specs.Owners.{destiny, heard, unborn, find_line, fate_from, owner, owned, is_owner, whose, Fits}
-use Rattle.kb_machine.specs.Broker.{BrokerState, Part, IsSound, Rising, IsRun, last_after, Mine, owned_by, InRange, only, IsUnowned, refusals_of, IsCalm, IsCalmFor, Grows}
+use Rattle.kb_machine.specs.Broker.{BrokerState, IsSound, Rising, IsRun, last_after, Mine, owned_by, InRange, only, IsUnowned, IsCalm, IsCalmFor, Grows}
 use Rattle.kb_machine.proofs.Ranges.{AreUsers, IsBelow, range-heard, range-fed}
 use Rattle.kb_machine.proofs.Sets.{all-map, rising-last}
 use Rattle.kb_machine.proofs.Parts.{count-past, length-names}

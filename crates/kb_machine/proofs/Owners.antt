@@ -1,15 +1,15 @@
 -- A step of the whole broker, cut down to a tenant, is a turn of its machine or nothing.
-use Rattle.std.proofs.Common.{◌≡◌, ◌≢◌, ℕ, ℤ, zero, suc, ◌<◌, ◌≤◌, List, [], ◌∷◌, ◌++◌, length, eqb, Bool, true, false, Some, None, Option, refl, sym, ◌∙◌, ap, subst, arith, inl, inr}
+use Rattle.std.proofs.Common.{◌≡◌, ℕ, ℤ, zero, suc, ◌<◌, ◌≤◌, List, [], ◌∷◌, ◌++◌, length, eqb, Bool, true, false, Some, None, Option, refl, sym, ◌∙◌, ap, subst, arith, inl, inr}
 use Rattle.std.specs.Prelude.{◌⊎◌, cond, nat_lt}
 use Rattle.std.specs.List.{AllByRecursion}
 use Rattle.std.proofs.lemmas.Bool.Decides.{nat_tests}
 use Rattle.kb_api_group.specs.Frames.{Front, Whole, Partial, TooSmall, TooLarge, front}
 use Rattle.kb_machine.specs.Requests.{Asked, Versions, OtherVersions, Handshake, Authenticate, Another, Unread, request, reply, reply_size}
 use Rattle.kb_machine.specs.Tenant.{Kept, Nothing, Wait, Answer, Replies, Waits, Silent, Shuts, answer}
-use Rattle.kb_machine.specs.Session.{Stage, Greets, BoundTo, Session, fresh, fed, shut_down, without_wait, can, is_turn, room, replied}
+use Rattle.kb_machine.specs.Session.{Stage, Greets, BoundTo, Session, fed, shut_down, without_wait, can, is_turn, room, replied}
 use Rattle.kb_machine.specs.Greeting.{Setup, greeted}
 use Rattle.kb_machine.specs.Machine.{Happening, Opens, Comes, Closes, Moment, Line, World, answered, waiting, served_by, served_at, served, put, each, on, those, first_able, all_woken, turn_at, turn, turns, again, woken, woken_by}
-use Rattle.kb_machine.specs.Owners.{greet_turn, greet_turn_at, heard, destiny, is_for, whose, Fits, Owns, Keeps, Pairwise, SameBut}
+use Rattle.kb_machine.specs.Owners.{greet_turn, greet_turn_at, heard, destiny, is_for, whose, Fits, Owns, Keeps, Pairwise}
 use Rattle.kb_machine.proofs.Laws.{those-each, first-those, turn-some, turns-turn, greeted-less, greeted-still}
 
 -- 1. The greeting, as far as the bytes go

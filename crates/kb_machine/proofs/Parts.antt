@@ -1,9 +1,9 @@
 -- What a change of one tenant's part is to each tenant.
-use Rattle.std.proofs.Common.{◌≡◌, ◌≢◌, ℕ, ◌<◌, ◌≤◌, List, [], length, get_or, set, eqb, Bool, true, false, refl, sym, ◌∙◌, ap, arith, subst, lit<}
+use Rattle.std.proofs.Common.{◌≡◌, ◌≢◌, ℕ, ◌<◌, ◌≤◌, List, [], length, get_or, set, eqb, Bool, true, false, refl, sym, ◌∙◌, ap, arith, subst}
 use Rattle.std.specs.Prelude.{map}
 use Rattle.std.proofs.lemmas.Bool.Decides.{nat_tests}
 use Rattle.std.proofs.lemmas.List.{map-set, set-get_or, get_or-map, get_or-set_same, get_or-set_other, length-map, get_or_past}
-use Rattle.kb_machine.specs.Broker.{BrokerState, Part, refusals_of, IsCalm, IsCalmFor, Grows, IsUncounted}
+use Rattle.kb_machine.specs.Broker.{BrokerState, Part, refusals_of, IsCalm, IsCalmFor, Grows}
 
 -- the broker with another part for a tenant
 abbrev pub with_part : BrokerState → ℕ → Part → BrokerState

@@ -1,5 +1,5 @@
 -- A connection is bound to a tenant of the broker.
-use Rattle.std.proofs.Common.{◌≡◌, ◌<◌, ℕ, ℤ, zero, suc, List, [], ◌∷◌, ◌++◌, length, Bool, true, false, Option, Some, None, refl, sym, ◌∙◌, ap, subst, arith}
+use Rattle.std.proofs.Common.{◌≡◌, ◌<◌, ℕ, ℤ, zero, suc, List, [], ◌∷◌, ◌++◌, length, Bool, true, false, Option, Some, None, refl, sym, subst}
 use Rattle.std.specs.Prelude.{cond, nat_lt, ⊤, ◌&&◌}
 use Rattle.std.specs.List.{AllByRecursion}
 use Rattle.std.specs.Str.{bytes_eq}
@@ -7,8 +7,7 @@ use Rattle.kb_api_group.specs.Plain.{plain}
 use Rattle.kb_api_group.specs.declared.plain.PlainLogin.{PlainLogin}
 use Rattle.kb_api_group.specs.Frames.{Front, Whole, Partial, TooSmall, TooLarge, front}
 use Rattle.kb_machine.specs.Requests.{Asked, Versions, OtherVersions, Handshake, Authenticate, Another, Unread, request, reply, reply_size}
-use Rattle.kb_machine.specs.Tenant.{Wait}
-use Rattle.kb_machine.specs.Session.{Stage, Greets, BoundTo, Session, shut_down, replied, without_wait, fed, room}
+use Rattle.kb_machine.specs.Session.{Stage, Greets, BoundTo, Session, shut_down, replied, without_wait, fed}
 use Rattle.kb_machine.specs.Greeting.{Setup, User, greeted_by, greeted_at, greeted, shaken, authenticated, logged_in, login, tenant_of, tenant_at}
 use Rattle.kb_machine.specs.Owners.{greet_turn, greet_turn_at, heard}
 use Rattle.kb_machine.specs.Machine.{again}

@@ -1,10 +1,10 @@
 -- A change of one connection in the list.
-use Rattle.std.proofs.Common.{◌≡◌, ◌≢◌, ℕ, zero, suc, ◌+◌, ◌<◌, ◌≤◌, List, [], ◌∷◌, ◌++◌, length, get_or, set, take, eqb, Bool, true, false, Option, Some, None, refl, sym, ◌∙◌, ap, arith, subst}
-use Rattle.std.specs.Prelude.{not, cond}
-use Rattle.std.specs.List.{AllByRecursion, remove}
+use Rattle.std.proofs.Common.{◌≡◌, ◌≢◌, ℕ, zero, suc, ◌+◌, ◌<◌, ◌≤◌, List, [], ◌∷◌, ◌++◌, length, get_or, set, Bool, true, false, Some, None, refl, sym, ◌∙◌, ap, arith, subst}
+use Rattle.std.specs.Prelude.{cond}
+use Rattle.std.specs.List.{AllByRecursion}
 use Rattle.std.proofs.lemmas.Bool.Decides.{nat_tests}
-use Rattle.kb_machine.specs.Session.{Stage, Session, can}
-use Rattle.kb_machine.specs.Machine.{Line, Happening, each, on, those, work, first_able}
+use Rattle.kb_machine.specs.Session.{Session, can}
+use Rattle.kb_machine.specs.Machine.{Line, each, on, those, work, first_able}
 use Rattle.kb_machine.specs.Owners.{Pairwise, find_line}
 use Rattle.kb_machine.specs.Broker.{Rising}
 use Rattle.kb_machine.specs.Turned.{IsStill}

@@ -1,24 +1,20 @@
 -- The events of the broker.
-use Rattle.std.proofs.Common.{◌≡◌, ◌≢◌, ◌<◌, ◌≤◌, ◌^◌, ◌++◌, ◌∷◌, [], ℕ, zero, suc, List, length, get_or, set, eqb, Bool, true, false, Option, Some, None, refl, sym, ◌∙◌, ap, subst, arith, append-nil, inl, inr}
-use Rattle.std.specs.Prelude.{map, not, cond, nat_lt, max, ◌⊎◌}
+use Rattle.std.proofs.Common.{◌≡◌, ◌≢◌, ◌<◌, ◌≤◌, ◌^◌, ◌++◌, ◌∷◌, [], ℕ, zero, suc, List, eqb, Bool, true, false, None, refl, sym, ◌∙◌, ap, subst, arith, append-nil}
+use Rattle.std.specs.Prelude.{not, cond, max}
 use Rattle.std.specs.List.{AllByRecursion, remove}
 use Rattle.std.proofs.lemmas.Bool.Decides.{nat_tests}
 use Rattle.kb_api_group.specs.Frames.{front}
 use Rattle.kb_wire.specs.Codec.{int}
-use Rattle.kb_machine.specs.Tenant.{Kept, retained}
-use Rattle.kb_machine.specs.Session.{Stage, Greets, BoundTo, Session, fresh, fed, room, LIMIT, shut_down, without_wait, can}
+use Rattle.kb_machine.specs.Tenant.{retained}
+use Rattle.kb_machine.specs.Session.{fresh, can}
 use Rattle.kb_machine.specs.Greeting.{Setup}
-use Rattle.kb_machine.specs.Machine.{Happening, Opens, Comes, Closes, Moment, Line, World, each, on, those, first_able, turns, all_woken, step, stepped, sent}
+use Rattle.kb_machine.specs.Machine.{Happening, Opens, Closes, Moment, Line, World, those, first_able, turns, stepped}
 use Rattle.kb_machine.specs.Owners.{Owns, Fits, find_line, whose, heard, destiny, unborn}
-use Rattle.kb_machine.specs.Broker.{BrokerState, Part, IsSound, IsReady, IsStep, Grows, IsCalm, IsCalmFor, IsUncounted, IsUntaken, IsComing, is_deaf, InRange, Rising, Mine, view_of, kept_of, refusals_of, bound_to, bound_as}
-use Rattle.kb_machine.specs.Calls.{opened, closed, moved, taken, without_output, other_than, IsRefused}
-use Rattle.kb_machine.specs.Turned.{IsStill, SameOthers, IsWithin, Turned, IsFed}
-use Rattle.kb_machine.proofs.Laws.{none-those, turns-none, those-each}
-use Rattle.kb_machine.proofs.Owners.{IsBound, IsMine, SameFate, heard-still, fate-bound, mine-bound, bound-same, bound-fed, those-on_other, all_woken-none, kept-one, stage-fed, stage-shut, same_line}
-use Rattle.kb_machine.proofs.Ranges.{range-same, range-without, range-fed}
-use Rattle.kb_machine.proofs.Sets.{IsAt, all-at, all-map, all-set, all-those, all-push, all-still, none-able, still-none, rising-set, rising-above, rising-below, rising-last, set-on, set-at, find-at, find-none, find-set_other, tail-at, no-at, each-on_none}
-use Rattle.kb_machine.proofs.Parts.{count, count-at, count-same, count-other, count-grows, names-same, each-tenant, calm-left, calm-right, grows-same, grows-then, calm-first, calm-then}
-use Rattle.kb_machine.proofs.Turns.{changed, changed-within, bound-stays}
+use Rattle.kb_machine.specs.Broker.{BrokerState, IsReady, IsStep, IsCalm, Rising, view_of}
+use Rattle.kb_machine.specs.Calls.{opened, closed, moved, other_than}
+use Rattle.kb_machine.proofs.Laws.{none-those, turns-none}
+use Rattle.kb_machine.proofs.Owners.{IsMine, heard-still, all_woken-none, kept-one}
+use Rattle.kb_machine.proofs.Sets.{IsAt, all-those, all-push, rising-above, tail-at, no-at}
 
 -- where no connection can take a turn, turns are nothing
 pub settled-turns : (t : ℕ) (mine : ℕ → Bool) (b : BrokerState) → first_able b.lines ≡ None → turns (view_of t mine b) ≡ view_of t mine b

@@ -1,15 +1,12 @@
 -- Output that is taken.
-use Rattle.std.proofs.Common.{◌≡◌, ◌≢◌, ◌<◌, ℕ, zero, suc, List, [], ◌∷◌, ◌++◌, length, eqb, Bool, true, false, Option, Some, None, refl, sym, ◌∙◌, ap, subst, arith}
-use Rattle.std.specs.Prelude.{cond, nat_lt}
+use Rattle.std.proofs.Common.{◌≡◌, ℕ, List, [], ◌∷◌, length, eqb, Bool, true, false, refl, ◌∙◌, ap}
+use Rattle.std.specs.Prelude.{cond}
 use Rattle.std.specs.List.{AllByRecursion}
-use Rattle.std.proofs.lemmas.Bool.Decides.{nat_tests}
-use Rattle.kb_machine.specs.Session.{Stage, Session, can}
-use Rattle.kb_machine.specs.Machine.{Happening, Line, World, each, on, those, first_able}
-use Rattle.kb_machine.specs.Owners.{Owns, Fits, Pairwise, destiny, heard, whose}
-use Rattle.kb_machine.specs.Broker.{BrokerState, IsSound, IsReady, InRange, Rising, Mine, view_of}
+use Rattle.kb_machine.specs.Session.{Session, can}
+use Rattle.kb_machine.specs.Machine.{Line, each, on, those}
+use Rattle.kb_machine.specs.Broker.{BrokerState, IsReady, InRange, Rising, view_of}
 use Rattle.kb_machine.specs.Calls.{taken, without_output}
 use Rattle.kb_machine.proofs.Laws.{those-each}
-use Rattle.kb_machine.proofs.Owners.{IsMine, heard-still}
 use Rattle.kb_machine.proofs.Sets.{all-still, none-able}
 
 can-taken : (s : Session) → can (without_output s) ≡ can s

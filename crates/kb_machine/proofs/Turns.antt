@@ -1,18 +1,18 @@
 -- The turns of one connection.
-use Rattle.std.proofs.Common.{◌≡◌, ◌≢◌, ◌<◌, ◌≤◌, ℕ, List, [], ◌∷◌, length, get_or, set, eqb, Bool, true, false, Option, Some, None, refl, sym, ◌∙◌, ap, subst, arith, length-set}
+use Rattle.std.proofs.Common.{◌≡◌, ◌≢◌, ◌<◌, ◌≤◌, ℕ, List, length, get_or, set, eqb, Bool, true, false, Option, Some, None, refl, sym, ◌∙◌, ap, subst, arith, length-set}
 use Rattle.std.specs.List.{AllByRecursion}
 use Rattle.std.proofs.lemmas.Bool.Decides.{nat_tests}
-use Rattle.kb_machine.specs.Tenant.{Kept, Wait}
-use Rattle.kb_machine.specs.Session.{Stage, Greets, BoundTo, Session, shut_down, without_wait, can}
+use Rattle.kb_machine.specs.Tenant.{Wait}
+use Rattle.kb_machine.specs.Session.{Greets, BoundTo, Session, shut_down, without_wait}
 use Rattle.kb_machine.specs.Greeting.{greeted}
-use Rattle.kb_machine.specs.Machine.{Happening, Line, World, served, put, each, on, those, first_able, all_woken, turns}
-use Rattle.kb_machine.specs.Owners.{Owns, Fits, find_line, whose}
-use Rattle.kb_machine.specs.Broker.{BrokerState, Part, IsSound, Grows, IsCalm, IsCalmFor, InRange, Mine, view_of, kept_of, refusals_of, bound_to, bound_as}
-use Rattle.kb_machine.specs.Turned.{IsStill, SameOthers, IsWithin, Turned}
+use Rattle.kb_machine.specs.Machine.{Happening, Line, served, put, each, on, those, first_able, turns}
+use Rattle.kb_machine.specs.Owners.{Owns, find_line, whose}
+use Rattle.kb_machine.specs.Broker.{BrokerState, Part, IsSound, Grows, IsCalm, InRange, Mine, view_of, kept_of, bound_to, bound_as}
+use Rattle.kb_machine.specs.Turned.{IsStill, IsWithin, Turned}
 use Rattle.kb_machine.proofs.Owners.{IsBound, IsMine, SameFate, fate-same, fate-greeted, fate-bound, mine-bound, bound-same, owns-fates, those-on_other, view-greeting, view-served, all_woken-none, kept-one, stage-served, stage-shut}
 use Rattle.kb_machine.proofs.Ranges.{range-greeted, range-same, range-without}
 use Rattle.kb_machine.proofs.Sets.{IsAt, all-at, all-set, pairwise-set, rising-set, set-on, set-at, find-at, find-set_other}
-use Rattle.kb_machine.proofs.Parts.{count, count-at, count-same, count-other, count-grows, names-same, each-tenant, eqb_other, calm-left, calm-right, grows-same, grows-then, calm-first, calm-then}
+use Rattle.kb_machine.proofs.Parts.{count, count-at, count-same, count-other, count-grows, names-same, each-tenant, calm-left, calm-right, grows-same, grows-then, calm-first, calm-then}
 
 -- 1. Turns, one after another
 

@@ -1,10 +1,10 @@
 -- The broker of all tenants, and what each of its steps is to each tenant.
-use Rattle.std.specs.Prelude.{◌≡◌, ◌≢◌, ℕ, ◌-◌, ◌<◌, ◌≤◌, ◌^◌, ◌==◌, List, [], ◌∷◌, map, get_or, length, Option, Some, None, Bool, true, false, ⊤, ◌⊎◌}
+use Rattle.std.specs.Prelude.{◌≡◌, ◌≢◌, ℕ, ◌-◌, ◌<◌, ◌≤◌, ◌^◌, ◌==◌, List, [], ◌∷◌, map, get_or, length, Option, Some, None, Bool, true, ⊤, ◌⊎◌}
 use Rattle.std.specs.List.{AllByRecursion}
 use Rattle.kb_machine.specs.Tenant.{Kept, Nothing}
 use Rattle.kb_machine.specs.Session.{Stage, Greets, BoundTo, Session}
 use Rattle.kb_machine.specs.Greeting.{Setup, User}
-use Rattle.kb_machine.specs.Machine.{Happening, Opens, Comes, Closes, Moment, Line, World, Sent, those, each, on, first_able, stepped, run}
+use Rattle.kb_machine.specs.Machine.{Happening, Opens, Comes, Closes, Moment, Line, World, Sent, those, first_able, stepped, run}
 use Rattle.kb_machine.specs.Owners.{Owns, concerns, purge, owner, owned, find_line, whose}
 
 -- a tenant's part of the broker: its name, what it keeps, and how many refusals were counted for it

@@ -2,7 +2,7 @@
 use Rattle.std.specs.Prelude.{◌≡◌, ℕ, ◌≤◌, ◌==◌, ◌&&◌, List, [], ◌∷◌, ◌++◌, max, Bool, true, false, not, Option, Some, None, if◌then◌else◌}
 use Rattle.std.specs.Str.{bytes_eq}
 use Rattle.kb_machine.specs.Session.{Session, fresh, room}
-use Rattle.kb_machine.specs.Machine.{Line, each, on, those}
+use Rattle.kb_machine.specs.Machine.{each, on, those}
 use Rattle.kb_machine.specs.Owners.{find_line}
 use Rattle.kb_machine.specs.Broker.{BrokerState, Part, IsCalm}
 

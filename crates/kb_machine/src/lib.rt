@@ -6,3 +6,10 @@
 //! as a function of its events, `specs/Owners.antt` which connections are a tenant's, and `specs/Broker.antt`
 //! the broker of all tenants and how each of its steps is a step of each tenant's machine.
 #![tactic(auto)]
+
+mod promises;
+
+pub use promises::{
+    bound_for_good, first_event, nothing_before_login, one_tenants_in_order, owners_at_entry,
+    room_is_kept, turns_end,
+};

@@ -1,0 +1,49 @@
+-- What the public laws say, where no lemma beside has it yet.
+use Rattle.std.proofs.Common.{◌≡◌, ◌∙◌, ◌≤◌, ℕ, ℤ, zero, suc, List, ◌++◌, length, Bool, true, false, cond, nat_lt, Option, Some, None, refl, sym, ap, arith}
+use Rattle.std.proofs.lemmas.Bool.Decides.{nat_tests}
+use Rattle.std.proofs.lemmas.List.{length-append}
+use Rattle.kb_machine.specs.Session.{Stage, Greets, BoundTo, Session, LIMIT, room, without_wait, shut_down, fed}
+use Rattle.kb_machine.specs.Requests.{Another, Authenticate}
+use Rattle.kb_machine.specs.Tenant.{Kept}
+use Rattle.kb_machine.specs.Greeting.{Setup, greeted_by, logged_in, login}
+use Rattle.kb_machine.specs.Machine.{World, Line, first_able, turn, turns, again, work, served}
+use Rattle.kb_machine.specs.Owners.{whose}
+use Rattle.kb_machine.proofs.Laws.{work-turn, again-none}
+use Rattle.kb_machine.proofs.Owners.{stage-served}
+
+fed_by : (shut over : Bool) (piece : List ℕ) (s : Session) → s.shut ≡ shut → nat_lt (room s) (length piece) ≡ over → length s.unread ≤ LIMIT → length (cond shut s (cond over (shut_down s) (record s { unread = s.unread ++ piece }))).unread ≤ LIMIT
+fed_by true over piece s e o h = h
+fed_by false true piece s e o h = omega arith
+fed_by false false piece s e o h = let fits : length piece ≤ room s = grind (arith, nat_tests, o) in let long = length-append s.unread piece in omega (arith, h, fits, long)
+
+pub fed-limit : (piece : List ℕ) (s : Session) → length s.unread ≤ LIMIT → length (fed piece s).unread ≤ LIMIT
+unfolding fed
+fed-limit piece s h = fed_by s.shut (nat_lt (room s) (length piece)) piece s refl refl h
+
+pub fed-shut : (piece : List ℕ) (s : Session) → s.shut ≡ true → fed piece s ≡ s
+unfolding fed
+fed-shut piece s e = ap (λ (b : Bool). cond b s (cond (nat_lt (room s) (length piece)) (shut_down s) (record s { unread = s.unread ++ piece }))) e
+
+pub another-shuts : (setup : Setup) (h : Bool) (id key version : ℤ) (body : List ℕ) (s : Session) → greeted_by setup h id (Another key version body) s ≡ shut_down s
+unfolding greeted_by
+another-shuts setup h id key version body s = refl
+
+pub denied-shuts : (setup : Setup) (id : ℤ) (message : List ℕ) (s : Session) → login setup.users message ≡ None → (greeted_by setup true id (Authenticate message) s).shut ≡ true
+unfolding greeted_by
+denied-shuts setup id message s e = ap (λ (o : Option ℕ). (logged_in o id s).shut) e
+
+whose-without_wait : (st : Stage) → whose (without_wait st) ≡ whose st
+whose-without_wait (Greets h) = refl
+whose-without_wait (BoundTo t w) = refl
+
+pub whose-served : (setup : Setup) (kept : Kept) (clock tenant : ℕ) (s : Session) → whose s.stage ≡ Some tenant → whose (served setup kept clock s).stage ≡ Some tenant
+whose-served setup kept clock tenant s e = sym (whose-without_wait (served setup kept clock s).stage) ∙ ap whose (stage-served setup kept clock s) ∙ whose-without_wait s.stage ∙ e
+
+settled_by : (n : ℕ) (w : World) (o : Option Line) → first_able w.lines ≡ o → work w.lines ≤ n → first_able (again turn n w).lines ≡ None
+settled_by n w None h p = ap (λ (v : World). first_able v.lines) (again-none n w h) ∙ h
+settled_by zero w (Some l) h p = absurd (omega (arith, work-turn w l h))
+settled_by (suc n) w (Some l) h p = let lt = work-turn w l h in settled_by n (turn w) (first_able (turn w).lines) refl (omega (arith, lt, p))
+
+pub turns-settled : (w : World) → first_able (turns w).lines ≡ None
+unfolding turns
+turns-settled w = settled_by (work w.lines) w (first_able w.lines) refl (omega arith)

@@ -1,0 +1,8 @@
+use Rattle.kb_machine.proofs.Pinned.{another-shuts, denied-shuts}
+use Rattle.kb_machine.proofs.promises.nothing_before_login.Goals as goal
+
+pub returns-clause-request : goal.returns-clause-request
+returns-clause-request c = another-shuts
+
+pub returns-clause-denied : goal.returns-clause-denied
+returns-clause-denied c = denied-shuts

@@ -1,0 +1,52 @@
+//! Laws about the definitions, each as the contract of a function with an empty body.
+ghost use Rattle.std.specs.Prelude.{◌≡◌, ◌≤◌, ◌++◌, ◌∷◌, ℕ, ℤ, List, Bool, true, length, Some, None};
+ghost use Rattle.kb_machine.specs.Session.{Session, Stage, BoundTo, LIMIT, fed, shut_down};
+ghost use Rattle.kb_machine.specs.Requests.{Another, Authenticate};
+ghost use Rattle.kb_machine.specs.Tenant.{Kept, Wait};
+ghost use Rattle.kb_machine.specs.Greeting.{Setup, greeted_by, login};
+ghost use Rattle.kb_machine.specs.Machine.{World, Line, Happening, Sent, first_able, turns, those, those_sent, served, stepped, leaving, run, by_number};
+ghost use Rattle.kb_machine.specs.Owners.{whose, concerns, purge};
+ghost use Rattle.kb_machine.specs.Broker.{BrokerState, Mine, Rising, owned_by};
+
+/// A connection never has more unread bytes than its limit, and one that was shut takes no piece.
+pub fn room_is_kept()
+    ensures limit { (piece : List ℕ) (s : Session) → length s.unread ≤ LIMIT → length (fed piece s).unread ≤ LIMIT }
+    ensures shut { (piece : List ℕ) (s : Session) → s.shut ≡ true → fed piece s ≡ s }
+{}
+
+/// Before authentication a request of a tenant shuts the connection; a login that names no user with its password shuts it.
+pub fn nothing_before_login()
+    ensures request { (setup : Setup) (handshaken : Bool) (id key version : ℤ) (body : List ℕ) (s : Session)
+        → greeted_by setup handshaken id (Another key version body) s ≡ shut_down s }
+    ensures denied { (setup : Setup) (id : ℤ) (message : List ℕ) (s : Session) → login setup.users message ≡ None
+        → (greeted_by setup true id (Authenticate message) s).shut ≡ true }
+{}
+
+/// A connection stays its tenant's for good, whatever it asks.
+pub fn bound_for_good()
+    ensures { (setup : Setup) (kept : Kept) (clock tenant : ℕ) (s : Session) → whose s.stage ≡ Some tenant
+        → whose (served setup kept clock s).stage ≡ Some tenant }
+{}
+
+/// Turns come to an end: then no connection can take one.
+pub fn turns_end()
+    ensures { (w : World) → first_able (turns w).lines ≡ None }
+{}
+
+/// A run is for a tenant what the run of its own events is: one event that is a step of its machine, or nothing, and then
+/// the others.
+pub fn first_event()
+    ensures { (mine : ℕ → Bool) (e : Happening) (es : List Happening) (w next : World) (lines : List Line)
+        → w.lines ≡ those mine lines → next ≡ stepped (concerns mine e) e w
+        → those_sent mine (leaving e lines) ++ run (purge mine es) next ≡ run (purge mine (e ∷ es)) w }
+{}
+
+/// Putting what was sent into the order of numbers and leaving a tenant's alone may be done in either order.
+pub fn one_tenants_in_order()
+    ensures { (mine : ℕ → Bool) (all : List Sent) → those_sent mine (by_number all) ≡ by_number (those_sent mine all) }
+{}
+
+/// A tenant's connections, as they are told apart before a run, are those that their own bytes will bind to it.
+pub fn owners_at_entry()
+    ensures { (tenant : ℕ) (es : List Happening) (b : BrokerState) → Rising 0 b.last b.lines → Mine tenant (owned_by tenant es b) es b }
+{}

@@ -8,6 +8,7 @@ use Rattle.kb_machine.specs.Greeting.{greeted}
 use Rattle.kb_machine.specs.Machine.{Happening, Line, served, put, each, on, those, first_able, turns}
 use Rattle.kb_machine.specs.Owners.{Owns, find_line, whose}
 use Rattle.kb_machine.specs.Broker.{BrokerState, Part, IsSound, Grows, IsCalm, InRange, Mine, view_of, kept_of, bound_to, bound_as}
+use Rattle.kb_machine.specs.Calls.{is_open, open_in}
 use Rattle.kb_machine.specs.Turned.{IsStill, IsWithin, Turned}
 use Rattle.kb_machine.proofs.Owners.{IsBound, IsMine, SameFate, fate-same, fate-greeted, fate-bound, mine-bound, bound-same, owns-fates, those-on_other, view-greeting, view-served, all_woken-none, kept-one, stage-served, stage-shut}
 use Rattle.kb_machine.proofs.Ranges.{range-greeted, range-same, range-without}
@@ -18,7 +19,7 @@ use Rattle.kb_machine.proofs.Parts.{count, count-at, count-same, count-other, co
 
 pub turned-same : (n : ℕ) (b : BrokerState) → IsSound b → AllByRecursion (IsStill n) b.lines → Turned n b b
 turned-same n b s h = record {
-  within = record { sound = s; still = h; grows = grows-same b; clock = refl; last = refl; others = λ k ne. refl; bound = λ t e. e; own = λ t ne. refl; unbound = λ t e. refl };
+  within = record { sound = s; still = h; grows = grows-same b; clock = refl; last = refl; others = λ k ne. refl; stays = refl; bound = λ t e. e; own = λ t ne. refl; unbound = λ t e. refl };
   mine = λ t mine es m q. m;
   view = λ t mine es m q. refl;
 }
@@ -31,6 +32,7 @@ within-then n a b c p q = record {
   clock = q.clock ∙ p.clock;
   last = q.last ∙ p.last;
   others = λ k ne. q.others k ne ∙ p.others k ne;
+  stays = q.stays ∙ p.stays;
   bound = λ t e. q.bound t (p.bound t e);
   own = λ t ne. q.own t ne ∙ p.own t (λ e. ne (q.bound t e));
   unbound = λ t e. q.unbound t (p.bound t e) ∙ p.unbound t e;
@@ -64,9 +66,12 @@ pub changed-within : (b : BrokerState) (i : ℕ) (l m : Line) (ps : List Part) (
     ((t : ℕ) → whose l.session.stage ≡ Some t → x ≡ b.unbound_refusals) →
     IsWithin l.number b (changed b i m ps x)
 changed-within b i l m ps x s h at n len r g stays own unbound =
-    let before : bound_to l.number b ≡ whose l.session.stage = ap bound_as (find-at 0 b.last b.lines i l s.rising at) in
+    let found : find_line l.number b.lines ≡ Some l.session = find-at 0 b.last b.lines i l s.rising at in
+    let before : bound_to l.number b ≡ whose l.session.stage = ap bound_as found in
     let rising = rising-set 0 b.last b.lines i l m s.rising at n in
-    let after : bound_to l.number (changed b i m ps x) ≡ whose m.session.stage = ap (λ k. bound_as (find_line k (set b.lines i m))) (sym n) ∙ ap bound_as (find-at 0 b.last (set b.lines i m) i m rising (set-at b.lines i l m at)) in
+    let kept : find_line l.number (set b.lines i m) ≡ Some m.session = ap (λ k. find_line k (set b.lines i m)) (sym n) ∙ find-at 0 b.last (set b.lines i m) i m rising (set-at b.lines i l m at) in
+    let after : bound_to l.number (changed b i m ps x) ≡ whose m.session.stage = ap bound_as kept in
+    let open-after : is_open l.number (changed b i m ps x) ≡ true = ap open_in kept in
     record {
       sound = record { rising = rising; in_range = rw len (all-set _ b.lines i m s.in_range r); users = rw len s.users; clock = s.clock };
       still = all-set (IsStill l.number) b.lines i m h (λ ne. absurd (ne n));
@@ -74,6 +79,7 @@ changed-within b i l m ps x s h at n len r g stays own unbound =
       clock = refl;
       last = refl;
       others = λ k ne. find-set_other k b.lines i l m at n ne;
+      stays = open-after ∙ sym (ap open_in found);
       bound = λ t e. after ∙ stays t (sym before ∙ e);
       own = λ t ne. own t (λ e. ne (after ∙ e));
       unbound = λ t e. unbound t (sym before ∙ e);

@@ -5,6 +5,7 @@ use Rattle.kb_machine.specs.Session.{can}
 use Rattle.kb_machine.specs.Machine.{Happening, Comes, Line, turns, stepped}
 use Rattle.kb_machine.specs.Owners.{find_line}
 use Rattle.kb_machine.specs.Broker.{BrokerState, IsSound, Grows, IsCalm, IsCalmFor, Mine, view_of, refusals_of, bound_to}
+use Rattle.kb_machine.specs.Calls.{is_open}
 
 -- another connection than that cannot take a turn
 abbrev pub IsStill : ℕ → Line → Type 0
@@ -22,6 +23,7 @@ pub record IsWithin (n : ℕ) (old new : BrokerState) : Type 0 where
   pub clock : new.clock ≡ old.clock
   pub last : new.last ≡ old.last
   pub others : SameOthers n old new
+  pub stays : is_open n new ≡ is_open n old
   -- a bound connection stays bound; a tenant's count changes only where the connection has or gets the tenant, the unbound count only where it has none
   pub bound : (t : ℕ) → bound_to n old ≡ Some t → bound_to n new ≡ Some t
   pub own : (t : ℕ) → bound_to n new ≢ Some t → refusals_of new t ≡ refusals_of old t

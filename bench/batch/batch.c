@@ -6,22 +6,7 @@
 #include <string.h>
 #include <time.h>
 
-#include "tables.h"
-
-static uint32_t crc32c(const uint8_t *p, size_t n) {
-    uint32_t crc = ~0u;
-    for (; n >= 8; p += 8, n -= 8) {
-        uint32_t low, high;
-        memcpy(&low, p, 4);
-        memcpy(&high, p + 4, 4);
-        low ^= crc;
-        crc = TABLES[7][low & 0xff] ^ TABLES[6][low >> 8 & 0xff] ^ TABLES[5][low >> 16 & 0xff] ^ TABLES[4][low >> 24]
-            ^ TABLES[3][high & 0xff] ^ TABLES[2][high >> 8 & 0xff] ^ TABLES[1][high >> 16 & 0xff] ^ TABLES[0][high >> 24];
-    }
-    while (n--)
-        crc = crc >> 8 ^ TABLES[0][(crc ^ *p++) & 0xff];
-    return ~crc;
-}
+#include "crc32c.h"
 
 static int64_t big(const uint8_t *p, int n) {
     uint64_t v = p[0] & 0x80 ? ~0ull : 0;
@@ -59,7 +44,7 @@ static int skip(const uint8_t **p, const uint8_t *end, int nullable) {
 static int read_batch(const uint8_t *b, size_t len, int64_t *greatest) {
     if (len < 61 || big(b + 8, 4) < 49 || (size_t)big(b + 8, 4) + 12 != len || b[16] != 2 || len > 1048588)
         return 0;
-    if (big(b + 21, 2) != 0 || (uint32_t)big(b + 17, 4) != crc32c(b + 21, len - 21))
+    if (big(b + 21, 2) != 0 || (uint32_t)big(b + 17, 4) != by_8(b + 21, len - 21))
         return 0;
     int64_t count = big(b + 57, 4), base = big(b + 27, 8);
     if (count < 1 || big(b + 23, 4) != count - 1)
@@ -128,7 +113,7 @@ static size_t build(uint8_t *b, int count) {
     put_big(b + 51, -1, 2);
     put_big(b + 53, -1, 4);
     put_big(b + 57, count, 4);
-    put_big(b + 17, crc32c(b + 21, len - 21), 4);
+    put_big(b + 17, by_8(b + 21, len - 21), 4);
     return len;
 }
 

@@ -5,26 +5,7 @@
 #include <string.h>
 #include <time.h>
 
-#include "tables.h"
-
-static uint32_t tail(uint32_t crc, const uint8_t *p, size_t n) {
-    while (n--)
-        crc = crc >> 8 ^ TABLES[0][(crc ^ *p++) & 0xff];
-    return ~crc;
-}
-
-static uint32_t by_8(const uint8_t *p, size_t n) {
-    uint32_t crc = ~0u;
-    for (; n >= 8; p += 8, n -= 8) {
-        uint32_t low, high;
-        memcpy(&low, p, 4);
-        memcpy(&high, p + 4, 4);
-        low ^= crc;
-        crc = TABLES[7][low & 0xff] ^ TABLES[6][low >> 8 & 0xff] ^ TABLES[5][low >> 16 & 0xff] ^ TABLES[4][low >> 24]
-            ^ TABLES[3][high & 0xff] ^ TABLES[2][high >> 8 & 0xff] ^ TABLES[1][high >> 16 & 0xff] ^ TABLES[0][high >> 24];
-    }
-    return tail(crc, p, n);
-}
+#include "crc32c.h"
 
 static uint32_t by_16(const uint8_t *p, size_t n) {
     uint32_t crc = ~0u;

@@ -3,12 +3,7 @@
 # Builds everything in a folder of its own (the first argument, or a new one), from this repository's sources.
 set -eu
 here=$(cd "$(dirname "$0")" && pwd)
-top=$(cd "$here/../.." && pwd)
-work=${1:-$(mktemp -d)}
-mkdir -p "$work/crates"
-cd "$work"
-[ -d .git ] || git init -q .
-echo 'Handles allowed: none.' > HANDLES
+. "$here/../folder.sh"
 
 # The checksum's files alone, as a crate, and a program that times it.
 if [ ! -d crates/crcbench ]; then
@@ -81,7 +76,7 @@ END
 (cd crates/kb_batch && rt lib) > lib.log 2>&1 || { cat lib.log; exit 1; }
 (cd crates/crcbench && rt run) > run.log 2>&1 || { cat run.log; exit 1; }
 python3 "$here/tables.py" --c > tables.h
-gcc -O2 -I. -o crc_gcc "$here/crc.c"
+gcc -O2 -I. -I"$here/.." -o crc_gcc "$here/crc.c"
 { for _ in 1 2 3; do ./crc_gcc; crates/crcbench/out/crcbench; done; } | sort | awk '
     { key = $1 " " $2; if (!(key in best) || $4 < best[key]) best[key] = $4; sum[$2] = sum[$2] $3 "\n"; sizes[$2] }
     END {

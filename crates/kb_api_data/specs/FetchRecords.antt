@@ -8,6 +8,10 @@ use Rattle.kb_api_data.specs.Layouts.{fetch_partition_reply}
 abbrev pub answer_with : FetchPartitionFront → List ℕ → FetchPartitionReply
 answer_with f records = record { partition = f.partition; error_code = f.error_code; high_watermark = f.high_watermark; last_stable_offset = f.last_stable_offset; aborted_transactions = None; records = Some records }
 
+-- The answer with these records, as it is written.
+abbrev pub answer_written : FetchPartitionFront → List ℕ → List ℕ
+answer_written f records = fetch_partition_reply.written (answer_with f records)
+
 -- What is written before the records: the answer with none.
 abbrev pub answer_front : FetchPartitionFront → List ℕ
-answer_front f = fetch_partition_reply.written (answer_with f [])
+answer_front f = answer_written f []

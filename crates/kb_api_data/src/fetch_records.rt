@@ -1,7 +1,8 @@
 //! The records of a reply of Fetch, appended where they are sent from.
 ghost use Rattle.std.specs.Prelude.{◌≡◌, ◌≤◌, ◌<◌, ◌+◌, ◌-◌, ◌^◌, ◌++◌, [], ℕ, List, length, take, drop, OnOk, OnErr, IsOk};
 ghost use Rattle.std.specs.Int.{w32, to_be_bytes};
-ghost use Rattle.kb_api_data.specs.FetchRecords.{answer_front};
+ghost use Rattle.kb_api_data.specs.FetchRecords.{answer_front, answer_with, answer_written};
+ghost use Rattle.kb_api_data.specs.Layouts.{fetch_partition_reply};
 
 use crate::fetch::FetchPartitionReply;
 use kb_wire::{Blob, Layout, Sink};
@@ -20,11 +21,18 @@ pub struct FetchPartitionFront {
 }
 
 impl FetchPartitionFront {
-    /// Writes the answer with records of length 0. An `Err` changes nothing.
+    /// Writes the answer with records of length 0, which is 30 bytes. An `Err` changes nothing.
+    ///
+    /// Once records stand behind it, and [`count_records`] has set their length, the whole answer is there.
     pub fn write(&self, sink: &mut Sink) -> Result<(), AllocError>
         ensures ok { OnOk result (sink.new.bytes ≡ sink.old.bytes ++ answer_front self.now) }
         ensures err { OnErr result (sink.new.bytes ≡ sink.old.bytes) }
         ensures succeeds { 30 ≤ sink.old.room → IsOk result }
+        ensures room { OnOk result (sink.old.room ≤ sink.new.room + 30) }
+        ensures err_room { OnErr result (sink.old.room ≤ sink.new.room) }
+        ensures size { length (answer_front self.now) ≡ 30 }
+        // With records of any bytes that an INT32 can count, the whole answer is read again as that answer.
+        ensures spelled { (records : List ℕ) → length records < 2 ^ 31 → fetch_partition_reply.Spells (answer_written self.now records) (answer_with self.now records) }
     {
         let answer = FetchPartitionReply {
             partition: self.partition,
@@ -43,7 +51,9 @@ pub fn count_records(bytes: &mut [u8], start: usize)
     requires front { 4 ≤ start }
     requires within { start ≤ length bytes.old }
     requires fits { length bytes.old - start < 2 ^ 31 }
-    ensures { bytes.new ≡ take (start - 4) bytes.old ++ to_be_bytes w32 (length bytes.old - start) ++ drop start bytes.old }
+    ensures placed { bytes.new ≡ take (start - 4) bytes.old ++ to_be_bytes w32 (length bytes.old - start) ++ drop start bytes.old }
+    // A front and the records behind it become the whole answer with these records.
+    ensures whole { (before records : List ℕ) (front : FetchPartitionFront) → bytes.old ≡ before ++ answer_front front ++ records → start ≡ length (before ++ answer_front front) → bytes.new ≡ before ++ answer_written front records }
 {
     let count = (bytes.len() - start) as u32;
     let place = &mut bytes[start - 4..start];

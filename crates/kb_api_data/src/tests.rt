@@ -101,6 +101,84 @@ const INIT_PRODUCER_ID_REPLY: &[u8] =
 const INIT_PRODUCER_ID_REPLY_LONGER: &[u8] =
     b"\x00\x00\x00\x00\x00\x00\x00\x00\x00\x00\x00\x00\x00\x00\x00\x00\x00";
 
+/// A topic with an assignment to two brokers, a setting and a setting that is null.
+const CREATE_TOPICS_REQUEST_FULL: &[u8] =
+    b"\x00\x00\x00\x01\x00\x01\x74\xff\xff\xff\xff\xff\xff\x00\x00\x00\x01\x00\x00\x00\x00\x00\x00\x00\x02\x00\x00\x00\x01\x00\x00\x00\x02\x00\x00\x00\x02\x00\x01\x61\x00\x01\x62\x00\x01\x63\xff\xff\x00\x00\x13\x88";
+
+const CREATE_TOPICS_REQUEST_FULL_LONGER: &[u8] =
+    b"\x00\x00\x00\x01\x00\x01\x74\xff\xff\xff\xff\xff\xff\x00\x00\x00\x01\x00\x00\x00\x00\x00\x00\x00\x02\x00\x00\x00\x01\x00\x00\x00\x02\x00\x00\x00\x02\x00\x01\x61\x00\x01\x62\x00\x01\x63\xff\xff\x00\x00\x13\x88\x00";
+
+/// A partition with an aborted transaction and null records, one with neither but empty lists.
+const FETCH_REPLY_FULL: &[u8] =
+    b"\x00\x00\x00\x07\x00\x00\x00\x01\x00\x01\x74\x00\x00\x00\x02\x00\x00\x00\x01\x00\x00\x00\x00\x00\x00\x00\x00\x00\x02\x00\x00\x00\x00\x00\x00\x00\x03\x00\x00\x00\x01\x00\x00\x00\x00\x00\x00\x00\x04\x00\x00\x00\x00\x00\x00\x00\x05\xff\xff\xff\xff\x00\x00\x00\x02\x00\x03\xff\xff\xff\xff\xff\xff\xff\xff\xff\xff\xff\xff\xff\xff\xff\xff\x00\x00\x00\x00\x00\x00\x00\x00";
+
+const FETCH_REPLY_FULL_LONGER: &[u8] =
+    b"\x00\x00\x00\x07\x00\x00\x00\x01\x00\x01\x74\x00\x00\x00\x02\x00\x00\x00\x01\x00\x00\x00\x00\x00\x00\x00\x00\x00\x02\x00\x00\x00\x00\x00\x00\x00\x03\x00\x00\x00\x01\x00\x00\x00\x00\x00\x00\x00\x04\x00\x00\x00\x00\x00\x00\x00\x05\xff\xff\xff\xff\x00\x00\x00\x02\x00\x03\xff\xff\xff\xff\xff\xff\xff\xff\xff\xff\xff\xff\xff\xff\xff\xff\x00\x00\x00\x00\x00\x00\x00\x00\x00";
+
+/// A broker with a rack and one without, no topic.
+const METADATA_REPLY_FULL: &[u8] =
+    b"\x00\x00\x00\x02\x00\x00\x00\x01\x00\x01\x68\x00\x00\x23\x84\x00\x01\x72\x00\x00\x00\x02\x00\x00\x00\x00\x23\x85\xff\xff\x00\x00\x00\x01\x00\x00\x00\x00";
+
+const METADATA_REPLY_FULL_LONGER: &[u8] =
+    b"\x00\x00\x00\x02\x00\x00\x00\x01\x00\x01\x68\x00\x00\x23\x84\x00\x01\x72\x00\x00\x00\x02\x00\x00\x00\x00\x23\x85\xff\xff\x00\x00\x00\x01\x00\x00\x00\x00\x00";
+
+/// Two topics that are asked for by name.
+const METADATA_REQUEST_FULL: &[u8] = b"\x00\x00\x00\x02\x00\x01\x74\x00\x01\x75";
+
+const METADATA_REQUEST_FULL_LONGER: &[u8] = b"\x00\x00\x00\x02\x00\x01\x74\x00\x01\x75\x00";
+
+/// A transactional producer, a partition with null records and one with no bytes of them.
+const PRODUCE_REQUEST_FULL: &[u8] =
+    b"\x00\x01\x78\xff\xff\x00\x00\x75\x30\x00\x00\x00\x01\x00\x01\x74\x00\x00\x00\x02\x00\x00\x00\x01\xff\xff\xff\xff\x00\x00\x00\x02\x00\x00\x00\x00";
+
+const PRODUCE_REQUEST_FULL_LONGER: &[u8] =
+    b"\x00\x01\x78\xff\xff\x00\x00\x75\x30\x00\x00\x00\x01\x00\x01\x74\x00\x00\x00\x02\x00\x00\x00\x01\xff\xff\xff\xff\x00\x00\x00\x02\x00\x00\x00\x00\x00";
+
+/// What is inside the bodies: lists that are empty or null, settings, racks, transactions.
+#[test]
+fn full_bodies_come_back(rt: HostRuntime) -> Result<(), Fail> {
+    assert!(rt;
+        comes_back::<CreateTopicsRequest>(
+            rt.alloc(),
+            CREATE_TOPICS_REQUEST_FULL,
+            CREATE_TOPICS_REQUEST_FULL_LONGER
+        )?
+    );
+    assert!(rt; comes_back::<FetchReply>(rt.alloc(), FETCH_REPLY_FULL, FETCH_REPLY_FULL_LONGER)?);
+    assert!(rt;
+        comes_back::<MetadataReply>(rt.alloc(), METADATA_REPLY_FULL, METADATA_REPLY_FULL_LONGER)?
+    );
+    assert!(rt;
+        comes_back::<MetadataRequest>(
+            rt.alloc(),
+            METADATA_REQUEST_FULL,
+            METADATA_REQUEST_FULL_LONGER
+        )?
+    );
+    assert!(rt;
+        comes_back::<ProduceRequest>(
+            rt.alloc(),
+            PRODUCE_REQUEST_FULL,
+            PRODUCE_REQUEST_FULL_LONGER
+        )?
+    );
+    Ok(())
+}
+
+/// Brokers stand in the order of an assignment, and a setting may have no value.
+#[test]
+fn a_topic_is_read_whole(rt: HostRuntime) -> Result<(), Fail> {
+    let request = CreateTopicsRequest::read(rt.alloc(), CREATE_TOPICS_REQUEST_FULL)?;
+    let topic = request.topics.as_slice().first().ok_or("a topic")?;
+    let assignment = topic.assignments.as_slice().first().ok_or("an assignment")?;
+    assert_eq!(rt; assignment.brokers.as_slice(), [1, 2].as_slice());
+    let set = topic.configs.as_slice().first().ok_or("a setting")?;
+    let unset = topic.configs.as_slice().last().ok_or("a setting")?;
+    assert!(rt; set.value.is_some());
+    assert!(rt; unset.value.is_none());
+    Ok(())
+}
+
 #[test]
 fn bodies_come_back(rt: HostRuntime) -> Result<(), Fail> {
     assert!(rt; comes_back::<ProduceRequest>(rt.alloc(), PRODUCE_REQUEST, PRODUCE_REQUEST_LONGER)?);
@@ -249,5 +327,25 @@ fn fields_stand_in_their_order(rt: HostRuntime) -> Result<(), Fail> {
         ),
         (1, 2, 3)
     );
+    Ok(())
+}
+
+/// A front, records behind it and their length are the answer that a broker sends.
+#[test]
+fn records_are_appended_behind_their_answer(rt: HostRuntime) -> Result<(), Fail> {
+    let front = FetchPartitionFront {
+        partition: 0,
+        error_code: 0,
+        high_watermark: 1,
+        last_stable_offset: 1,
+    };
+    let mut sink = Sink::new(rt.alloc());
+    sink.put_bytes(&FETCH_REPLY[..15])?;
+    front.write(&mut sink)?;
+    let start = sink.len();
+    sink.put_bytes(&FETCH_REPLY[45..])?;
+    let mut bytes = sink.into_vec();
+    count_records(&mut bytes, start);
+    assert!(rt; bytes.as_slice() == FETCH_REPLY);
     Ok(())
 }

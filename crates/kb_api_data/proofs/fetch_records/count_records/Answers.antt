@@ -1,0 +1,10 @@
+use Rattle.std.proofs.Common.{◌∙◌, arith}
+use Rattle.std.proofs.lemmas.Grind.{common_steps}
+use Rattle.kb_api_data.proofs.Counting.{counted}
+use Rattle.kb_api_data.proofs.fetch_records.count_records.Goals as goal
+
+pub returns-clause-placed : goal.returns-clause-placed
+returns-clause-placed c = grind (arith, common_steps)
+
+pub returns-clause-whole : goal.returns-clause-whole
+returns-clause-whole c = λ before records front is at. returns-clause-placed c ∙ counted c.args.bytes.now before records front c.args.start is at

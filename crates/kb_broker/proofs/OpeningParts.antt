@@ -1,0 +1,70 @@
+-- The parts of the broker at its start.
+use Rattle.std.proofs.Common.{◌≡◌, ◌<◌, ◌^◌, ℕ, List, [], ◌∷◌, map, length, get_or, refl, sym, ap, subst, ◌∙◌, lit≤}
+use Rattle.std.proofs.Math.ListN.{get_or-map, length-map}
+use Rattle.std.specs.List.{AllByRecursion, Contains}
+use Rattle.std.proofs.lemmas.List.{get_or_default}
+use Rattle.std.proofs.lemmas.List.Elements.{recursion_from_All}
+use Rattle.kb_wire.specs.Codec.{int, array}
+use Rattle.kb_wire.specs.Fits.{array_fits}
+use Rattle.kb_api_group.specs.Layouts.{api_version}
+use Rattle.kb_api_group.specs.declared.api_versions.ApiVersion.{ApiVersion}
+use Rattle.kb_machine.specs.Requests.{served_versions}
+use Rattle.kb_machine.specs.Greeting.{User as Login, Setup}
+use Rattle.kb_machine.specs.Broker.{BrokerState, Part, IsReady}
+use Rattle.kb_broker.specs.Names.{place_of}
+use Rattle.kb_broker.specs.Opening.{tenant_of, tenants_of, login_of, new_part, opening}
+use Rattle.kb_broker.specs.declared.settings.User.{User}
+use Rattle.kb_broker.specs.declared.settings.Settings.{Settings}
+use Rattle.kb_broker.proofs.OpeningNames.{rises-in_order, in-in_order, place-below}
+
+pub versions-fit : (vs : List ApiVersion) → length vs < 2 ^ 31 → (array api_version).Fits vs
+unfolding api_version int
+versions-fit vs lt = array_fits api_version vs lt (λ k d below. (tt, (tt, tt)))
+
+contains-map : {X Y : Type 0} (f : X → Y) (xs : List X) (i : ℕ) (x : X) → i < length xs → x ≡ get_or xs i x → Contains (map f xs) (f x)
+contains-map f xs i x lt is = (i, subst (λ (n : ℕ). i < n) (sym (length-map xs f)) lt, get_or-map f xs i x ∙ ap f (sym is))
+
+-- the tenant of a user is one of the users' tenants
+pub tenant-in : (users : List User) (i : ℕ) (u : User) → i < length users → u ≡ get_or users i u → Contains (tenants_of users) (tenant_of u)
+tenant-in users i u lt is = in-in_order (map tenant_of users) (tenant_of u) (contains-map tenant_of users i u lt is)
+
+all-map : {X Y : Type 0} (P : Y → Type 0) (f : X → Y) (xs : List X) → AllByRecursion (λ x. P (f x)) xs → AllByRecursion P (map f xs)
+all-map P f [] all = tt
+all-map P f (x ∷ xs) all = (all.0, all-map P f xs all.1)
+
+-- the broker at its start is ready for an event
+pub opening-ready : (s : Settings) → IsReady (opening s)
+opening-ready s =
+    let users : List User = s.users.items in
+    let names : List (List ℕ) = tenants_of users in
+    let below : AllByRecursion (λ (u : User). place_of (tenant_of u) names < length (map new_part names)) users = recursion_from_All _ users (λ k d lt.
+    subst (λ (n : ℕ). place_of (tenant_of (get_or users k d)) names < n) (sym (length-map names new_part))
+    (place-below names (tenant_of (get_or users k d)) (rises-in_order (map tenant_of users)) (tenant-in users k (get_or users k d) lt (get_or_default users k d (get_or users k d) lt)))) in
+    record {
+      sound = record {
+        rising = lit≤ tt;
+        in_range = tt;
+        users = all-map (λ (u : Login). u.tenant < length (map new_part names)) (login_of names) users below;
+        clock = lit≤ tt;
+      };
+      settled = refl;
+    }
+
+map-twice : {X Y Z : Type 0} (f : X → Y) (g : Y → Z) (xs : List X) → map (λ x. g (f x)) xs ≡ map g (map f xs)
+map-twice f g [] = refl
+map-twice f g (x ∷ xs) = ap (λ zs. g (f x) ∷ zs) (map-twice f g xs)
+
+-- a broker that is made of these parts is the one at its start
+pub opening-made : {X : Type 0} (f : X → List ℕ) (s : Settings) (users again : List User) (names : List X) (versions : List ApiVersion) (logins : List Login) (parts : List Part) (setup : Setup) (b : BrokerState)
+    → users ≡ s.users.items → again ≡ s.users.items → map f names ≡ tenants_of users
+    → logins ≡ map (login_of (tenants_of again)) again → parts ≡ map (λ n. new_part (f n)) names → versions ≡ served_versions
+    → setup ≡ record { versions = versions; users = logins }
+    → b ≡ record { setup = setup; parts = parts; unbound_refusals = 0; clock = 0; last = 0; lines = [] }
+    → b ≡ opening s
+opening-made f s users again names versions logins parts setup b u a n l p v made is =
+    let start : Setup → List Part → BrokerState = λ setup parts. record { setup = setup; parts = parts; unbound_refusals = 0; clock = 0; last = 0; lines = [] } in
+    let named : parts ≡ map new_part (tenants_of s.users.items) = p ∙ map-twice f new_part names ∙ ap (map new_part) (n ∙ ap tenants_of u) in
+    let listed : logins ≡ map (login_of (tenants_of s.users.items)) s.users.items = l ∙ ap (λ (us : List User). map (login_of (tenants_of us)) us) a in
+    let fixed : setup ≡ record { versions = served_versions; users = map (login_of (tenants_of s.users.items)) s.users.items } =
+    made ∙ ap (λ (vs : List ApiVersion). record { versions = vs; users = logins }) v ∙ ap (λ (us : List Login). record { versions = served_versions; users = us }) listed in
+    is ∙ ap (λ setup. start setup parts) fixed ∙ ap (start (record { versions = served_versions; users = map (login_of (tenants_of s.users.items)) s.users.items })) named

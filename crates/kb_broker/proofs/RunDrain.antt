@@ -1,0 +1,73 @@
+-- Taking the output of one connection after another.
+use Rattle.std.proofs.Common.{◌≡◌, ◌≢◌, ℕ, zero, suc, ◌<◌, ◌≤◌, List, [], ◌∷◌, ◌++◌, length, take, drop, get_or, eqb, true, false, Some, refl, ◌∙◌, ap, arith}
+use Rattle.std.specs.List.{AllByRecursion}
+use Rattle.std.proofs.lemmas.Bool.Decides.{nat_tests}
+use Rattle.kb_machine.specs.Machine.{Line, Sent, sent, each, on}
+use Rattle.kb_machine.specs.Owners.{find_line}
+use Rattle.kb_machine.specs.Broker.{BrokerState, Rising}
+use Rattle.kb_machine.specs.Calls.{without_output, taken, output_of, output_in}
+use Rattle.kb_machine.specs.Told.{quieted_lines}
+use Rattle.kb_broker.proofs.RunEvents.{same_sent}
+use Rattle.kb_machine.proofs.Sets.{IsAt, tail-at, no-at, rising-above, each-on_none}
+
+-- the first of them are quiet
+abbrev pub quieted_to : ℕ → List Line → List Line
+quieted_to i ls = quieted_lines (take i ls) ++ drop i ls
+
+pub length-quieted : (i : ℕ) (ls : List Line) → length (quieted_to i ls) ≡ length ls
+length-quieted zero [] = refl
+length-quieted (suc i) [] = refl
+length-quieted zero (l ∷ ls) = refl
+length-quieted (suc i) (l ∷ ls) = ap suc (length-quieted i ls)
+
+-- the next is as it was
+pub quieted-at : (i : ℕ) (ls : List Line) (d : Line) → get_or (quieted_to i ls) i d ≡ get_or ls i d
+quieted-at zero [] d = refl
+quieted-at (suc i) [] d = refl
+quieted-at zero (l ∷ ls) d = refl
+quieted-at (suc i) (l ∷ ls) d = quieted-at i ls d
+
+pub quieted-find : (low last i : ℕ) (ls : List Line) (l : Line) → Rising low last ls → IsAt ls i l → find_line l.number (quieted_to i ls) ≡ Some l.session
+quieted-find low last i [] l r a = no-at i l a
+quieted-find low last zero (k ∷ ls) l r a = let e = a.here in grind (arith, nat_tests, e)
+quieted-find low last (suc i) (k ∷ ls) l r a =
+    let lt : k.number < l.number = rising-above k.number last ls i l r.1 (tail-at k ls i l a) in
+    let ne : eqb k.number l.number ≡ false = grind (arith, nat_tests) in
+    let rest = quieted-find k.number last i ls l r.1 (tail-at k ls i l a) in
+    rw ne rest
+
+others-above : (low last n : ℕ) (ls : List Line) → Rising low last ls → n ≤ low → AllByRecursion (λ l. l.number ≢ n) ls
+others-above low last n [] r h = tt
+others-above low last n (l ∷ ls) r h = let lt = r.0 in (omega arith, others-above l.number last n ls r.1 (omega arith))
+
+-- and its output is taken next
+pub quieted-more : (low last i : ℕ) (ls : List Line) (l : Line) → Rising low last ls → IsAt ls i l → each (on l.number without_output) (quieted_to i ls) ≡ quieted_to (suc i) ls
+quieted-more low last i [] l r a = no-at i l a
+quieted-more low last zero (k ∷ ls) l r a =
+    let n : l.number ≡ k.number = ap (λ (x : Line). x.number) a.here in
+    let same : eqb k.number l.number ≡ true = grind (arith, nat_tests) in
+    let rest = each-on_none l.number without_output ls (others-above k.number last l.number ls r.1 (omega (arith, n))) in
+    rw (same, rest) refl
+quieted-more low last (suc i) (k ∷ ls) l r a =
+    let lt : k.number < l.number = rising-above k.number last ls i l r.1 (tail-at k ls i l a) in
+    let ne : eqb k.number l.number ≡ false = grind (arith, nat_tests) in
+    let rest = quieted-more k.number last i ls l r.1 (tail-at k ls i l a) in
+    rw (ne, rest) refl
+
+pub quieted-all : (ls : List Line) → quieted_to (length ls) ls ≡ quieted_lines ls
+quieted-all [] = refl
+quieted-all (l ∷ ls) = ap (λ ks. record { number = l.number; session = without_output l.session } ∷ ks) (quieted-all ls)
+
+-- the broker after the first of them
+abbrev pub drained_to : ℕ → BrokerState → BrokerState
+drained_to i b = record b { lines = quieted_to i b.lines }
+
+pub drained-more : (b old : BrokerState) (i n : ℕ) (l : Line) → Rising 0 old.last old.lines → IsAt old.lines i l → n ≡ l.number → b ≡ drained_to i old → taken b n ≡ drained_to (suc i) old
+drained-more b old i n l r a e f = ap (λ x. taken x n) f ∙ (ap (taken (drained_to i old)) e ∙ ap (λ ls. let x : BrokerState = record old { lines = ls } in x) (quieted-more 0 old.last i old.lines l r a))
+
+pub drained-at : (b old : BrokerState) (i : ℕ) (l : Line) (ls : List Line) → i < length old.lines → b ≡ drained_to i old → ls ≡ b.lines → l ≡ get_or ls i l → IsAt old.lines i l
+drained-at b old i l ls lt f e h = record { within = lt; here = h ∙ (ap (λ x. get_or x i l) (e ∙ ap (λ (x : BrokerState). x.lines) f) ∙ quieted-at i old.lines l) }
+
+pub drained-sent : (b old : BrokerState) (i : ℕ) (l : Line) (w : Sent) → Rising 0 old.last old.lines → IsAt old.lines i l → b ≡ drained_to i old → w.number ≡ l.number → w.bytes ≡ output_of w.number b → w.shut ≡ l.session.shut → w ≡ sent l
+drained-sent b old i l w r a f n o s =
+    same_sent w (sent l) n (o ∙ (ap (λ x. output_of w.number x) f ∙ (ap (λ k. output_of k (drained_to i old)) n ∙ ap output_in (quieted-find 0 old.last i old.lines l r a)))) s

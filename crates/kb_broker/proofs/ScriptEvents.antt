@@ -1,0 +1,88 @@
+-- Each event of a script on a broker.
+use Rattle.std.proofs.Common.{◌≡◌, ℕ, ◌<◌, ◌≤◌, ◌^◌, ◌&&◌, Bool, true, not, List, ◌++◌, refl, sym, ap, subst, ◌∙◌, arith, Option, Result, Ok, Err, OnOk, OnErr, IfErr, cond}
+use Rattle.std.specs.Io.KnownBytes.{Appends}
+use Rattle.std.proofs.KnownBytes.{Appends-nil}
+use Rattle.kb_machine.specs.Machine.{Happening, Opens, Comes, Closes, Moment}
+use Rattle.kb_machine.specs.Broker.{BrokerState, IsReady, IsStep}
+use Rattle.kb_machine.specs.Calls.{opened, closed, moved, taken, is_calm, is_open, is_shut, output_of}
+use Rattle.kb_machine.specs.Turned.{SameOthers}
+use Rattle.kb_machine.proofs.Steps.{ready-opened, step-opened, ready-closed, step-closed, ready-moved, step-moved}
+use Rattle.kb_broker.specs.declared.script.ScriptFault.{ScriptFault}
+use Rattle.kb_broker.specs.declared.script.ScriptFault.TheVariants as faults
+use Rattle.kb_broker.specs.Script.{Told, Event, Plays, Stops, is_in_place, course_of, sent_text}
+use Rattle.kb_broker.specs.ScriptRun.{IsQuiet, hushed, here, Happens, HappensSilently, IsSpoken, IsDone, IsBroken, words}
+use Rattle.kb_broker.proofs.ScriptWords.{silent-opened, silent-closed, silent-moved, quiet-opened, quiet-closed, said-one, taken-hushed, hushed-quiet, open-opened, open-closed, open-came}
+
+pub opens-silently : (b new : BrokerState) (n : ℕ) → IsReady b → IsQuiet b → is_calm b ≡ true → b.last < n → new ≡ opened b n → HappensSilently (Opens n) b new
+opens-silently b new n ready quiet calm above is =
+    subst (λ x. HappensSilently (Opens n) b x) (sym is) (record {
+      happens = record { step = step-opened b n ready above; ready = ready-opened b n ready above; calm = calm; stands = record { open_now = λ k. open-opened b n k; last = refl } };
+      quiet = quiet-opened b n quiet;
+      silent = silent-opened b n ready.sound.rising quiet;
+    })
+
+pub closes-silently : (b new : BrokerState) (n : ℕ) → IsReady b → IsQuiet b → is_calm b ≡ true → new ≡ closed b n → HappensSilently (Closes n) b new
+closes-silently b new n ready quiet calm is =
+    subst (λ x. HappensSilently (Closes n) b x) (sym is) (record {
+      happens = record { step = step-closed b n; ready = ready-closed b n ready; calm = calm; stands = record { open_now = λ k. open-closed b n k; last = refl } };
+      quiet = quiet-closed b n quiet;
+      silent = silent-closed b n ready.sound.rising quiet;
+    })
+
+pub passes-silently : (b new : BrokerState) (now : ℕ) → IsReady b → IsQuiet b → is_calm b ≡ true → now ≤ 2 ^ 62 → new ≡ moved b now → HappensSilently (Moment now) b new
+passes-silently b new now ready quiet calm most is =
+    let clock = ready.sound.clock in
+    subst (λ x. HappensSilently (Moment now) b x) (sym is) (record {
+      happens = record { step = step-moved b now ready; ready = ready-moved b now ready (omega arith); calm = calm; stands = record { open_now = λ k. refl; last = refl } };
+      quiet = quiet;
+      silent = silent-moved b now ready.sound.rising quiet;
+    })
+
+pub comes : (b new : BrokerState) (n : ℕ) (piece : List ℕ) → IsStep (Comes n piece) b new → IsReady new → is_calm new ≡ true → new.last ≡ b.last → SameOthers n b new → is_open n new ≡ is_open n b → Happens (Comes n piece) b new
+comes b new n piece step ready calm last others stays = record { step = step; ready = ready; calm = calm; stands = record { open_now = open-came n b new others stays; last = sym last } }
+
+-- the text that was made of a connection is what the broker said
+pub text-is : (b new : BrokerState) (n : ℕ) (text output : List ℕ) (shut : Bool) → IsReady new → IsQuiet b → SameOthers n b new → text ≡ sent_text n output shut → output ≡ output_of n new → shut ≡ (is_shut n new && not (is_shut n b)) → text ≡ words b new
+text-is b new n text output shut ready quiet others is got closed = is ∙ ap (λ o. sent_text n o shut) got ∙ ap (sent_text n (output_of n new)) closed ∙ sym (said-one n b new ready.sound.rising quiet others)
+
+pub final-is : (b new final : BrokerState) (n : ℕ) → IsReady new → IsQuiet b → SameOthers n b new → final ≡ taken new n → final ≡ hushed new
+final-is b new final n ready quiet others is = is ∙ taken-hushed n b new ready.sound.rising quiet others
+
+-- a silent event, as one that was written
+pub spoken-silently : (e : Happening) (b new : BrokerState) (w : Option (List ℕ)) → HappensSilently e b new → IsSpoken e b new w w
+spoken-silently e b new w h = (new, h.happens, hushed-quiet new h.quiet, subst (Appends w w) (sym h.silent) (Appends-nil w))
+
+-- a line, by what it says
+placed-here : (number : ℕ) (b : BrokerState) (e : Happening) → is_in_place (here number b) e ≡ is_in_place (here 0 b) e
+placed-here number b (Opens n) = refl
+placed-here number b (Comes n piece) = refl
+placed-here number b (Closes n) = refl
+placed-here number b (Moment now) = refl
+
+course-plays : (number : ℕ) (b : BrokerState) (t : Told) (e : Happening) → t ≡ Event e → is_in_place (here 0 b) e ≡ true → course_of (here number b) t ≡ Plays e
+course-plays number b t e is placed = ap (course_of (here number b)) is ∙ ap (λ a. cond a (Plays e) (Stops (faults.BadLine number))) (placed-here number b e ∙ placed)
+
+pub on-any : {A E : Type 0} (r : Result A E) (P : Type 0) → P → OnOk r P
+on-any (Ok x) P h = h
+on-any (Err e) P h = tt
+
+pub on-ok : {A E : Type 0} (r : Result A E) (P Q : Type 0) → (P → Q) → OnOk r P → OnOk r Q
+on-ok (Ok x) P Q f h = f h
+on-ok (Err e) P Q f h = tt
+
+pub if-err : {A E : Type 0} (r : Result A E) (P Q : E → Type 0) → ((e : E) → P e → Q e) → IfErr r P → IfErr r Q
+if-err (Ok x) P Q f h = tt
+if-err (Err e) P Q f h = f e h
+
+pub done-silently : {A E : Type 0} (r : Result A E) (number : ℕ) (b new : BrokerState) (t : Told) (e : Happening) (w : Option (List ℕ)) → t ≡ Event e → is_in_place (here 0 b) e ≡ true → OnOk r (HappensSilently e b new)
+    → OnOk r (IsDone (course_of (here number b) t) b new w w)
+done-silently r number b new t e w is placed h =
+    on-ok r (HappensSilently e b new) (IsDone (course_of (here number b) t) b new w w)
+    (λ s. subst (λ k. IsDone k b new w w) (sym (course-plays number b t e is placed)) (spoken-silently e b new w s)) h
+
+-- the writer failed
+pub cut-off : {A : Type 0} (r : Result A ScriptFault) (e : Happening) (b new : BrokerState) (text : List ℕ) (from to : Option (List ℕ)) → Happens e b new → text ≡ words b new → IfErr r (λ fault. fault ≡ faults.Write)
+    → OnErr r ((front : List ℕ) × (rest : List ℕ) × (text ≡ front ++ rest) × Appends from to front) → IfErr r (λ fault. IsBroken (Plays e) fault b from to)
+cut-off (Ok x) e b new text from to h is fault front = tt
+cut-off (Err f) e b new text from to h is fault front =
+    subst (λ x. IsBroken (Plays e) x b from to) (sym fault) (e, refl, (new, h, front.0, front.1, sym is ∙ front.2, front.3))

@@ -1,0 +1,131 @@
+-- Output that is taken changes nothing of what a connection's bytes lead it to.
+use Rattle.std.proofs.Common.{◌≡◌, ℕ, ℤ, zero, suc, Bool, true, false, cond, eqb, nat_lt, List, [], ◌∷◌, ◌++◌, length, refl, sym, ap, ◌∙◌, Option, Some, None}
+use Rattle.std.specs.Str.{bytes_eq}
+use Rattle.std.specs.Prelude.{codes}
+use Rattle.kb_api_group.specs.Frames.{Front, Whole, Partial, TooSmall, TooLarge, front}
+use Rattle.kb_api_group.specs.declared.error_code.ErrorCode.TheVariants as errors
+use Rattle.kb_machine.specs.Requests.{Asked, Versions, OtherVersions, Handshake, Authenticate, Another, Unread, request, reply_size}
+use Rattle.kb_machine.specs.Session.{Stage, Greets, BoundTo, Session, shut_down, replied, fed, room}
+use Rattle.kb_machine.specs.Greeting.{Setup, authenticate_reply, login, logged_in, shaken, authenticated, greeted_by, greeted_at, greeted}
+use Rattle.kb_machine.specs.Machine.{Happening, Opens, Comes, Closes, Moment, Line, again}
+use Rattle.kb_machine.specs.Owners.{greet_turn_at, greet_turn, heard, whose, destiny, Pairwise}
+use Rattle.kb_machine.specs.Broker.{BrokerState, Mine}
+use Rattle.kb_machine.specs.Calls.{without_output}
+use Rattle.kb_machine.specs.Told.{quieted_lines}
+use Rattle.kb_machine.proofs.Owners.{SameFate, owns-fates}
+use Rattle.kb_broker.specs.ScriptRun.{hushed}
+
+-- but for their output, the same
+abbrev Same : Session → Session → Type 0
+Same s t = without_output s ≡ without_output t
+
+same-shut : (s t : Session) → Same s t → Same (shut_down s) (shut_down t)
+same-shut s t e = ap shut_down e
+
+replied_by : (b : Bool) (x y s t : Session) → Same s t → Same x y → Same (cond b (shut_down s) x) (cond b (shut_down t) y)
+replied_by true x y s t e f = same-shut s t e
+replied_by false x y s t e f = f
+
+same-replied : (id : ℤ) (body : List ℕ) (s t : Session) → Same s t → Same (replied id body s) (replied id body t)
+unfolding replied
+same-replied id body s t e = replied_by (nat_lt 2147483647 (reply_size body)) _ _ s t e e
+
+same-stage : (st : Stage) (s t : Session) → Same s t → Same (record s { stage = st }) (record t { stage = st })
+same-stage st s t e = ap (λ (x : Session). record x { stage = st }) e
+
+same-shaken : (b : Bool) (id : ℤ) (h : Bool) (s t : Session) → Same s t → Same (shaken b id h s) (shaken b id h t)
+same-shaken true id h s t e = same-replied id _ _ _ (same-stage (Greets true) s t e)
+same-shaken false id h s t e = same-replied id _ s t e
+
+same-denied : (id : ℤ) (body : List ℕ) (s t : Session) → Same s t → Same (shut_down (replied id body s)) (shut_down (replied id body t))
+same-denied id body s t e = same-shut (replied id body s) (replied id body t) (same-replied id body s t e)
+
+same-logged_in : (o : Option ℕ) (id : ℤ) (s t : Session) → Same s t → Same (logged_in o id s) (logged_in o id t)
+same-logged_in (Some u) id s t e = same-replied id _ _ _ (same-stage (BoundTo u None) s t e)
+same-logged_in None id s t e = same-denied id (authenticate_reply errors.SaslAuthenticationFailed (Some (codes "authentication failed"))) s t e
+
+same-authenticated : (setup : Setup) (h : Bool) (id : ℤ) (message : List ℕ) (s t : Session) → Same s t → Same (authenticated setup h id message s) (authenticated setup h id message t)
+same-authenticated setup true id message s t e = same-logged_in (login setup.users message) id s t e
+same-authenticated setup false id message s t e = same-replied id _ s t e
+
+same-greeted_by : (setup : Setup) (h : Bool) (id : ℤ) (a : Asked) (s t : Session) → Same s t → Same (greeted_by setup h id a s) (greeted_by setup h id a t)
+unfolding greeted_by
+same-greeted_by setup h id Versions s t e = same-replied id _ s t e
+same-greeted_by setup h id OtherVersions s t e = same-replied id _ s t e
+same-greeted_by setup h id (Handshake mechanism) s t e = same-shaken (bytes_eq mechanism (codes "PLAIN")) id h s t e
+same-greeted_by setup h id (Authenticate message) s t e = same-authenticated setup h id message s t e
+same-greeted_by setup h id (Another key version body) s t e = same-shut s t e
+same-greeted_by setup h id Unread s t e = same-shut s t e
+
+same-greeted_at : (setup : Setup) (h : Bool) (f : Front) (s t : Session) → Same s t → Same (greeted_at setup h s f) (greeted_at setup h t f)
+same-greeted_at setup h (Whole frame rest) s t e = same-greeted_by setup h (request frame).correlation_id (request frame).asked _ _ (ap (λ (x : Session). record x { unread = rest }) e)
+same-greeted_at setup h TooSmall s t e = same-shut s t e
+same-greeted_at setup h TooLarge s t e = same-shut s t e
+same-greeted_at setup h Partial s t e = e
+
+same-greeted : (setup : Setup) (h : Bool) (s t : Session) → Same s t → Same (greeted setup h s) (greeted setup h t)
+unfolding greeted
+same-greeted setup h s t e =
+    let f : front s.unread ≡ front t.unread = ap (λ (x : Session). front x.unread) e in
+    same-greeted_at setup h (front s.unread) s t e ∙ ap (λ f. without_output (greeted_at setup h t f)) f
+
+same-turn_at : (setup : Setup) (st : Stage) (s t : Session) → Same s t → Same (greet_turn_at setup s st) (greet_turn_at setup t st)
+same-turn_at setup (Greets h) s t e = same-greeted setup h s t e
+same-turn_at setup (BoundTo u w) s t e = e
+
+same-turn : (setup : Setup) (s t : Session) → Same s t → Same (greet_turn setup s) (greet_turn setup t)
+unfolding greet_turn
+same-turn setup s t e =
+    let f : s.stage ≡ t.stage = ap (λ (x : Session). x.stage) e in
+    same-turn_at setup s.stage s t e ∙ ap (λ st. without_output (greet_turn_at setup t st)) f
+
+same-again : (setup : Setup) (n : ℕ) (s t : Session) → Same s t → Same (again (greet_turn setup) n s) (again (greet_turn setup) n t)
+same-again setup zero s t e = e
+same-again setup (suc n) s t e = same-again setup n (greet_turn setup s) (greet_turn setup t) (same-turn setup s t e)
+
+same-heard : (setup : Setup) (s t : Session) → Same s t → Same (heard setup s) (heard setup t)
+unfolding heard
+same-heard setup s t e =
+    let f : length s.unread ≡ length t.unread = ap (λ (x : Session). length x.unread) e in
+    same-again setup (length s.unread) s t e ∙ ap (λ n. without_output (again (greet_turn setup) n t)) f
+
+fed-hushed : (piece : List ℕ) (s : Session) → without_output (fed piece s) ≡ fed piece (without_output s)
+unfolding fed
+fed-hushed piece s = by s.shut (nat_lt (room s) (length piece))
+  where
+    by : (a b : Bool) → without_output (cond a s (cond b (shut_down s) (record s { unread = s.unread ++ piece })))
+        ≡ cond a (without_output s) (cond b (shut_down (without_output s)) (record (without_output s) { unread = s.unread ++ piece }))
+    by true b = refl
+    by false true = refl
+    by false false = refl
+
+same-fed : (piece : List ℕ) (s t : Session) → Same s t → Same (fed piece s) (fed piece t)
+same-fed piece s t e = fed-hushed piece s ∙ ap (fed piece) e ∙ sym (fed-hushed piece t)
+
+same-destiny : (setup : Setup) (n : ℕ) (s t : Session) (es : List Happening) → Same s t → destiny setup n s es ≡ destiny setup n t es
+same-destiny setup n s t [] e = ap (λ (x : Session). whose x.stage) e
+same-destiny setup n s t (Opens m ∷ es) e = same-destiny setup n s t es e
+same-destiny setup n s t (Comes m piece ∷ es) e = by (eqb m n) (same-destiny setup n (heard setup (fed piece s)) (heard setup (fed piece t)) es (same-heard setup (fed piece s) (fed piece t) (same-fed piece s t e))) (same-destiny setup n s t es e)
+  where
+    by : (b : Bool) → destiny setup n (heard setup (fed piece s)) es ≡ destiny setup n (heard setup (fed piece t)) es → destiny setup n s es ≡ destiny setup n t es → cond b (destiny setup n (heard setup (fed piece s)) es) (destiny setup n s es) ≡ cond b (destiny setup n (heard setup (fed piece t)) es) (destiny setup n t es)
+    by true here rest = here
+    by false here rest = rest
+same-destiny setup n s t (Closes m ∷ es) e = by (eqb m n) (same-destiny setup n s t es e)
+  where
+    by : (b : Bool) → destiny setup n s es ≡ destiny setup n t es → cond b (whose s.stage) (destiny setup n s es) ≡ cond b (whose t.stage) (destiny setup n t es)
+    by true rest = ap (λ (x : Session). whose x.stage) e
+    by false rest = rest
+same-destiny setup n s t (Moment now ∷ es) e = same-destiny setup n s t es e
+
+fate-hushed : (setup : Setup) (l : Line) → SameFate setup l (record { number = l.number; session = without_output l.session })
+fate-hushed setup l = record { number = refl; fate = λ es. same-destiny setup l.number (heard setup (without_output l.session)) (heard setup l.session) es (same-heard setup (without_output l.session) l.session refl) }
+
+fates-hushed : (setup : Setup) (ls : List Line) → Pairwise (SameFate setup) ls (quieted_lines ls)
+fates-hushed setup [] = tt
+fates-hushed setup (l ∷ ls) = (fate-hushed setup l, fates-hushed setup ls)
+
+-- a tenant's connections are the same after output was taken
+pub mine-hushed : (t : ℕ) (mine : ℕ → Bool) (es : List Happening) (b : BrokerState) → Mine t mine es b → Mine t mine es (hushed b)
+mine-hushed t mine es b m =
+    let owns = owns-fates b.setup t mine b.last es b.lines (quieted_lines b.lines) (fates-hushed b.setup b.lines) m in
+    record { now = owns.now; later = owns.later }

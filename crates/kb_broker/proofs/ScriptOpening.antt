@@ -1,0 +1,12 @@
+-- A script on a broker that has just opened.
+use Rattle.std.proofs.Common.{◌≡◌, ℕ, true, List, [], ◌∷◌, map, refl}
+use Rattle.kb_machine.specs.Calls.{is_calm, all_calm}
+use Rattle.kb_broker.specs.declared.settings.Settings.{Settings}
+use Rattle.kb_broker.specs.Opening.{opening, new_part, tenants_of}
+
+all-new-calm : (names : List (List ℕ)) → all_calm (map new_part names) ≡ true
+all-new-calm [] = refl
+all-new-calm (name ∷ names) = all-new-calm names
+
+pub calm-opening : (s : Settings) → is_calm (opening s) ≡ true
+calm-opening s = all-new-calm (tenants_of s.users.items)

@@ -1,0 +1,9 @@
+pub mod View
+pub mod Reactions
+pub mod Places
+pub mod Settings
+pub mod Names
+pub mod Opening
+pub mod Runs
+pub mod Script
+pub mod ScriptRun

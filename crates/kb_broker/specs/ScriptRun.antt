@@ -1,0 +1,94 @@
+-- What a script does to a broker, and what is written then.
+use Rattle.std.specs.Prelude.{◌≡◌, ℕ, List, [], ◌∷◌, ◌++◌, true, Option, Some, None}
+use Rattle.std.specs.List.{AllByRecursion}
+use Rattle.std.specs.Io.KnownBytes.{Appends}
+use Rattle.kb_machine.specs.Machine.{Happening, Line, Sent}
+use Rattle.kb_machine.specs.Broker.{BrokerState, IsReady, IsStep}
+use Rattle.kb_machine.specs.Calls.{is_open, is_calm}
+use Rattle.kb_machine.specs.Told.{quieted_lines, said, Tells}
+use Rattle.kb_broker.specs.declared.script.ScriptFault.{ScriptFault}
+use Rattle.kb_broker.specs.declared.script.ScriptFault.TheVariants as faults
+use Rattle.kb_broker.specs.Script.{Place, Course, Plays, Passes, Stops, Script, after_event, step_text, script_text}
+
+-- 1. One event
+
+-- no connection has untaken output
+abbrev pub IsQuiet : BrokerState → Type 0
+IsQuiet b = AllByRecursion (λ (l : Line). l.session.output ≡ []) b.lines
+
+-- all output was taken
+abbrev pub hushed : BrokerState → BrokerState
+hushed b = record b { lines = quieted_lines b.lines }
+
+-- where a script stands, for that line, on a broker
+abbrev pub here : ℕ → BrokerState → Place
+here number b = record { line = number; room = 0; open_now = λ k. is_open k b; last = b.last }
+
+pub record IsAt (p : Place) (b : BrokerState) : Type 0 where
+  pub open_now : (k : ℕ) → p.open_now k ≡ is_open k b
+  pub last : p.last ≡ b.last
+
+-- an event happened to a broker, and nothing was refused
+pub record Happens (e : Happening) (old new : BrokerState) : Type 0 where
+  pub step : IsStep e old new
+  pub ready : IsReady new
+  pub calm : is_calm new ≡ true
+  pub stands : IsAt (after_event e (here 0 old)) new
+
+-- what the broker said at an event
+abbrev pub words : BrokerState → BrokerState → List ℕ
+words old new = step_text (said old.lines new.lines)
+
+-- it happened, and the broker said nothing
+pub record HappensSilently (e : Happening) (old new : BrokerState) : Type 0 where
+  pub happens : Happens e old new
+  pub quiet : IsQuiet new
+  pub silent : words old new ≡ []
+
+-- it happened, and what the broker said was taken and written
+abbrev pub IsSpoken : Happening → BrokerState → BrokerState → Option (List ℕ) → Option (List ℕ) → Type 0
+IsSpoken e old final from to = (new : BrokerState) × Happens e old new × (final ≡ hushed new) × Appends from to (words old new)
+
+-- it happened, and the writer failed: the front of what the broker said was written
+abbrev pub IsCutOff : Happening → BrokerState → Option (List ℕ) → Option (List ℕ) → Type 0
+IsCutOff e old from to = (new : BrokerState) × Happens e old new × (front : List ℕ) × (rest : List ℕ) × (words old new ≡ front ++ rest) × Appends from to front
+
+-- a line that was played
+abbrev pub IsDone : Course → BrokerState → BrokerState → Option (List ℕ) → Option (List ℕ) → Type 0
+IsDone (Plays e) old final from to = IsSpoken e old final from to
+IsDone Passes old final from to = (final ≡ old) × Appends from to []
+IsDone (Stops fault) old final from to = ⊥
+
+-- a line at which the script ended
+abbrev pub IsBroken : Course → ScriptFault → BrokerState → Option (List ℕ) → Option (List ℕ) → Type 0
+IsBroken course (faults.BadLine k) old from to = (course ≡ Stops (faults.BadLine k)) × Appends from to []
+IsBroken course faults.TooLong old from to = ⊥
+IsBroken course faults.Read old from to = ⊥
+IsBroken course faults.Write old from to = (e : Happening) × (course ≡ Plays e) × IsCutOff e old from to
+IsBroken course faults.Memory old from to = Appends from to []
+
+-- 2. A whole script
+
+-- a machine's steps at those events, and their text was written
+abbrev pub IsWritten : BrokerState → List Happening → Option (List ℕ) → Option (List ℕ) → Type 0
+IsWritten b es from to = (steps : List (List Sent)) × Tells b es steps × Appends from to (script_text steps)
+
+-- and their text was written, of the last step the front alone
+abbrev pub IsWrittenInPart : BrokerState → List Happening → Option (List ℕ) → Option (List ℕ) → Type 0
+IsWrittenInPart b es from to = (steps : List (List Sent)) × (last : List Sent) × Tells b es (steps ++ last ∷ []) × (front : List ℕ) × (rest : List ℕ) × (step_text last ≡ front ++ rest) × Appends from to (script_text steps ++ front)
+
+-- some of the events, from the first on
+abbrev pub OfSome : List Happening → (List Happening → Type 0) → Type 0
+OfSome events P = (es : List Happening) × (rest : List Happening) × (events ≡ es ++ rest) × P es
+
+-- the whole script was played
+abbrev pub IsPlayed : BrokerState → Script → Option (List ℕ) → Option (List ℕ) → Type 0
+IsPlayed b s from to = (s.fault ≡ None) × IsWritten b s.events from to
+
+-- it ended with a fault: a bad line or too long a script is that of the text, and all before it was played; any other ended it earlier
+abbrev pub IsEnded : BrokerState → Script → ScriptFault → Option (List ℕ) → Option (List ℕ) → Type 0
+IsEnded b s (faults.BadLine k) from to = (s.fault ≡ Some (faults.BadLine k)) × IsWritten b s.events from to
+IsEnded b s faults.TooLong from to = (s.fault ≡ Some faults.TooLong) × IsWritten b s.events from to
+IsEnded b s faults.Read from to = OfSome s.events (λ es. IsWritten b es from to)
+IsEnded b s faults.Write from to = OfSome s.events (λ es. IsWrittenInPart b es from to)
+IsEnded b s faults.Memory from to = OfSome s.events (λ es. IsWritten b es from to)

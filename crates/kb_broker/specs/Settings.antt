@@ -1,0 +1,32 @@
+-- The limits of the settings.
+use Rattle.std.specs.Prelude.{ℕ, List, [], ◌∷◌, length, Bool, true, not, ◌==◌, ◌&&◌, ◌||◌, nat_lt}
+use Rattle.std.specs.List.{list_all, list_any}
+use Rattle.std.specs.Str.{bytes_eq}
+
+-- both included
+abbrev pub is_within : ℕ → ℕ → ℕ → Bool
+is_within low high n = not (nat_lt n low) && not (nat_lt high n)
+
+-- 1 to 255 bytes
+abbrev pub is_host : List ℕ → Bool
+is_host text = is_within 1 255 (length text)
+
+abbrev pub is_not_nul : ℕ → Bool
+is_not_nul byte = not (byte == 0)
+
+-- a user's name or password: 1 to 255 bytes, none of them NUL
+abbrev pub is_credential : List ℕ → Bool
+is_credential text = is_within 1 255 (length text) && list_all is_not_nul text
+
+-- one of a-z A-Z 0-9 . _ -
+abbrev pub is_name_char : ℕ → Bool
+is_name_char c = is_within 97 122 c || is_within 65 90 c || is_within 48 57 c || c == 46 || c == 95 || c == 45
+
+-- a tenant's name: 1 to 64 of these
+abbrev pub is_tenant : List ℕ → Bool
+is_tenant text = is_within 1 64 (length text) && list_all is_name_char text
+
+-- no text stands twice
+abbrev pub are_different : List (List ℕ) → Bool
+are_different [] = true
+are_different (text ∷ texts) = not (list_any (bytes_eq text) texts) && are_different texts

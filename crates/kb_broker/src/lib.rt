@@ -1,0 +1,39 @@
+//! A broker of many tenants in one event loop, which speaks the Kafka protocol.
+//!
+//! [`Broker`] takes events: a connection opens, bytes come on it, it closes, time passes. What it sends on each connection is
+//! taken from it. [`Broker::run`] takes a list of events and carries the isolation theorem; [`run_script`] reads the events
+//! from a text. So far a connection greets and logs in (Kafka protocol guide, "SASL Authentication Sequence"; RFC 4616), and
+//! no request of a tenant is served.
+//!
+//! The definitions that the contracts speak of are those of `kb_machine`, seen through `specs/`.
+#![tactic(auto)]
+
+mod broker;
+mod connection;
+mod engine;
+mod opening;
+mod reaction;
+mod reply;
+mod request;
+mod run;
+mod script;
+mod settings;
+mod setup;
+mod tenant;
+
+pub use broker::Broker;
+pub use opening::{names_in_order, places_of_names};
+pub use run::{Event, Written};
+pub use script::{ScriptFault, run_script};
+pub use settings::{Settings, User};
+
+#[cfg(test)]
+mod opening_tests;
+#[cfg(test)]
+mod parts_tests;
+#[cfg(test)]
+mod run_tests;
+#[cfg(test)]
+mod script_tests;
+#[cfg(test)]
+mod tests;

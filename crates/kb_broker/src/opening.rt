@@ -1,0 +1,154 @@
+//! The broker at its start: what the settings fix, and nobody connected.
+
+ghost use Rattle.std.specs.Prelude.{◌≡◌, ◌<◌, ℕ, List, IfOk, map, length, get_or};
+ghost use Rattle.std.specs.List.{Contains};
+ghost use Rattle.std.specs.List.Sorted.{IsStrictlySortedBy};
+ghost use Rattle.kb_wire.specs.Codec.{array};
+ghost use Rattle.kb_api_group.specs.Layouts.{api_version};
+ghost use Rattle.kb_machine.specs.Requests.{served_versions};
+ghost use Rattle.kb_broker.specs.Names.{byte_order, in_order, place_of};
+ghost use Rattle.kb_broker.specs.Opening.{opening, tenants_of, login_of, new_part};
+
+use crate::broker::Broker;
+use crate::engine::Engine;
+use crate::settings::{Settings, User};
+use crate::setup::{Login, Setup};
+use crate::tenant::Tenant;
+use kb_api_group::ApiVersion;
+use kb_wire::Array;
+use std::alloc::{AllocError, Global};
+
+/// The APIs that are served, each at one version, by rising key: Produce, Fetch, ListOffsets, Metadata, OffsetCommit,
+/// OffsetFetch, FindCoordinator, JoinGroup, Heartbeat, LeaveGroup, SyncGroup, SaslHandshake, ApiVersions, CreateTopics,
+/// DeleteTopics, InitProducerId, SaslAuthenticate.
+const SERVED: [(i16, i16); 17] = [
+    (0, 3),
+    (1, 4),
+    (2, 1),
+    (3, 1),
+    (8, 2),
+    (9, 1),
+    (10, 0),
+    (11, 1),
+    (12, 0),
+    (13, 0),
+    (14, 0),
+    (17, 1),
+    (18, 0),
+    (19, 0),
+    (20, 0),
+    (22, 0),
+    (36, 0),
+];
+
+impl Broker {
+    /// A broker to which nobody is connected, at moment 0: its users and their tenants are those of the settings, and no
+    /// tenant keeps anything.
+    pub fn empty(alloc: Global, settings: &Settings) -> Result<Broker, AllocError>
+        ensures { IfOk result (λ broker. broker ≡ opening settings.now) }
+    {
+        let engine = new_engine(alloc, settings)?;
+        Ok(Broker::new(engine))
+    }
+}
+
+/// The engine of that broker.
+fn new_engine(alloc: Global, settings: &Settings) -> Result<Engine, AllocError>
+    ensures { IfOk result (λ engine. engine ≡ opening settings.now) }
+{
+    let names = tenant_names(alloc, &settings.users)?;
+    let logins = logins_of(alloc, &settings.users, &names)?;
+    let tenants = new_tenants(alloc, &names)?;
+    let setup = Setup::new(served_versions(alloc)?, logins);
+    Ok(Engine::new(alloc, setup, tenants))
+}
+
+/// The versions that are listed. They fit a reply.
+fn served_versions(alloc: Global) -> Result<Array<ApiVersion>, AllocError>
+    ensures is { IfOk result (λ versions. versions ≡ served_versions) }
+    ensures fits { IfOk result (λ versions. (array api_version).Fits versions) }
+{
+    let versions = at_each(alloc, &SERVED)?;
+    Ok(Array::from_vec(versions))
+}
+
+/// Each key at its one version.
+fn at_each(alloc: Global, keys: &[(i16, i16)]) -> Result<Vec<ApiVersion>, AllocError>
+    ensures { IfOk result (λ versions. versions.items ≡ map (λ k. record { api_key = k.0; min_version = k.1; max_version = k.1 }) keys.now) }
+{
+    keys.iter()
+        .map(|(key, version)| ApiVersion {
+            api_key: *key,
+            min_version: *version,
+            max_version: *version,
+        })
+        .collect(alloc)
+}
+
+/// The names of the tenants, in byte order, each once.
+fn tenant_names<'a>(alloc: Global, users: &'a [User]) -> Result<Vec<&'a str>, AllocError>
+    ensures { IfOk result (λ names. map (λ name. name.now) names.items ≡ tenants_of users.now) }
+{
+    let mut names = Vec::with_capacity(alloc, users.len())?;
+    for user in users {
+        names.push(user.tenant.as_str())?;
+    }
+    names.sort_unstable();
+    names.dedup();
+    Ok(names)
+}
+
+/// The users' logins, where the names are those of their tenants.
+fn logins_of<'a>(
+    alloc: Global,
+    users: &'a [User],
+    names: &[&'a str],
+) -> Result<Vec<Login>, AllocError>
+    requires { map (λ name. name.now) names.now ≡ tenants_of users.now }
+    ensures { IfOk result (λ logins. logins.items ≡ map (login_of (tenants_of users.now)) users.now) }
+{
+    let mut logins = Vec::with_capacity(alloc, users.len())?;
+    for user in users {
+        let name = user.name.as_bytes().to_vec(alloc)?;
+        let password = user.password.as_bytes().to_vec(alloc)?;
+        let tenant = place_of(names, user.tenant.as_str());
+        logins.push(Login::new(name, password, tenant))?;
+    }
+    Ok(logins)
+}
+
+/// The place of a name among rising names, by halving.
+fn place_of<'a>(names: &[&'a str], name: &'a str) -> usize
+    requires rise { IsStrictlySortedBy byte_order (map (λ n. n.now) names.now) }
+    requires named { Contains (map (λ n. n.now) names.now) name.now }
+    ensures { result ≡ place_of name.now (map (λ n. n.now) names.now) }
+{
+    names.binary_search(&name).unwrap_or_else(|place| place)
+}
+
+/// A tenant for each name.
+fn new_tenants(alloc: Global, names: &[&str]) -> Result<Vec<Tenant>, AllocError>
+    ensures { IfOk result (λ tenants. tenants.items ≡ map (λ name. new_part name.now) names.now) }
+{
+    let mut tenants = Vec::with_capacity(alloc, names.len())?;
+    for name in names {
+        tenants.push(Tenant::new(name.as_bytes().to_vec(alloc)?))?;
+    }
+    Ok(tenants)
+}
+
+/// Names in order rise strictly, are the same names, and are the only list that does both.
+pub fn names_in_order()
+    ensures rise { (names : List (List ℕ)) → IsStrictlySortedBy byte_order (in_order names) }
+    ensures stay { (names : List (List ℕ)) (name : List ℕ) → Contains names name → Contains (in_order names) name }
+    ensures no_other { (names : List (List ℕ)) (name : List ℕ) → Contains (in_order names) name → Contains names name }
+    ensures only { (names list : List (List ℕ)) → IsStrictlySortedBy byte_order list
+        → ((name : List ℕ) → Contains list name → Contains names name) → ((name : List ℕ) → Contains names name → Contains list name)
+        → list ≡ in_order names }
+{}
+
+/// At the place of a name among names in order stands the name.
+pub fn places_of_names()
+    ensures within { (names : List (List ℕ)) (name : List ℕ) → Contains names name → place_of name (in_order names) < length (in_order names) }
+    ensures there { (names : List (List ℕ)) (name d : List ℕ) → Contains names name → get_or (in_order names) (place_of name (in_order names)) d ≡ name }
+{}

@@ -1,0 +1,133 @@
+//! Whole runs: events in, what each connection got out.
+
+ghost use Rattle.std.specs.Prelude.{◌≡◌, ◌+◌, ◌≤◌, ℕ, List, [], ◌∷◌, ◌++◌, map, length, count_by, IfOk, OnErr};
+ghost use Rattle.std.specs.Vec.{vec_len, vec_capacity};
+ghost use Rattle.kb_machine.specs.Machine.{Closes, Sent, those_sent, by_number, sent, leaving};
+ghost use Rattle.kb_machine.specs.Calls.{closed};
+ghost use Rattle.kb_machine.specs.Broker.{IsReady, IsStep, IsRun, IsCalm, IsCalmFor, IsUnowned, owned_by, alone, alone_unowned, only};
+ghost use Rattle.kb_broker.specs.Runs.{happening_of, happenings, sent_of, is_opening, connections_of, emptied, IsPassed, Passes};
+
+use crate::broker::Broker;
+use std::alloc::{AllocError, Global};
+
+/// What may happen to a broker.
+#[derive(Drop)]
+pub enum Event {
+    /// A connection opens, under a number above that of each earlier one.
+    Open(u64),
+    /// Bytes come on a connection.
+    In(u64, Vec<u8>),
+    /// A connection closes.
+    Close(u64),
+    /// A moment of time, in milliseconds, at most 2^62.
+    At(u64),
+}
+
+/// What a connection got, and whether the broker shut it, also where it was closed afterwards.
+#[derive(Drop)]
+pub struct Written {
+    pub conn: u64,
+    pub bytes: Vec<u8>,
+    pub shut: bool,
+}
+
+impl Broker {
+    /// A whole run: what each connection got, by rising number.
+    ///
+    /// To each tenant to which nothing was refused, and nothing to a connection that was not bound, what its connections got is
+    /// what the machine of that tenant alone writes, given the tenant's events and the moments. A connection that is never
+    /// bound gets what a machine with nothing in it but that connection writes.
+    ///
+    /// The entry of a connection that could not be kept is empty and shut. In the end the output of the open ones is taken.
+    ///
+    /// An `Err`, for want of memory, comes before the first event and changes nothing.
+    pub fn run(&mut self, alloc: Global, events: &[Event]) -> Result<Vec<Written>, AllocError>
+        requires { IsRun self.old.last (happenings events.now) }
+        ensures headline { IfOk result (λ written. (t : ℕ) → IsCalmFor t self.old self.new →
+            those_sent (owned_by t (happenings events.now) self.old) (map sent_of written.items) ≡ by_number (alone t (happenings events.now) self.old)) }
+        ensures unowned { IfOk result (λ written. (n : ℕ) → IsUnowned n (happenings events.now) self.old → IsCalm self.old.unbound_refusals self.new.unbound_refusals →
+            those_sent (only n) (map sent_of written.items) ≡ by_number (alone_unowned n (happenings events.now) self.old)) }
+        ensures connections { IfOk result (λ written. map (λ (w : Written). w.conn) written.items ≡ connections_of (happenings events.now) self.old) }
+        ensures history { IfOk result (λ written. (got : List Sent) × (map sent_of written.items ≡ by_number got) × Passes (happenings events.now) self.old self.new got) }
+        ensures memory { OnErr result (self.new ≡ self.old) }
+    {
+        // an entry for each connection that is open or opens, so that no event is left half done for want of memory
+        let open = self.connections().len();
+        let room = open.checked_add(openings(events)).ok_or(AllocError)?;
+        let mut written = Vec::with_capacity(alloc, room)?;
+        for event in events {
+            self.happen(alloc, event, &mut written);
+        }
+        self.drain(alloc, &mut written);
+        written.sort_unstable_by_key(|entry| entry.conn);
+        Ok(written)
+    }
+
+    /// One event. What a connection got that ends in it is added.
+    fn happen(&mut self, alloc: Global, event: &Event, written: &mut Vec<Written>)
+        requires ready { IsReady self.old }
+        requires run { IsRun self.old.last (happening_of event.now ∷ []) }
+        requires room { vec_len written.old + length (connections_of (happening_of event.now ∷ []) self.old) ≤ vec_capacity written.old }
+        ensures ready { IsReady self.new }
+        ensures passed { (ended : List Sent) × (map sent_of written.new.items ≡ map sent_of written.old.items ++ ended) × IsPassed (happening_of event.now) self.old self.new ended }
+        ensures capacity { vec_capacity written.new ≡ vec_capacity written.old }
+    {
+        match event {
+            Event::Open(number) => {
+                if self.connect(alloc, *number).is_err() {
+                    written.push_reserved(Written {
+                        conn: *number,
+                        bytes: Vec::new(alloc),
+                        shut: true,
+                    });
+                }
+            }
+            Event::In(number, piece) => self.input(alloc, *number, piece),
+            Event::Close(number) => self.close(alloc, *number, written),
+            Event::At(now) => self.moment(*now),
+        }
+    }
+
+    /// Closes a connection, and adds what it got. On a number that is not open nothing changes.
+    fn close(&mut self, alloc: Global, conn: u64, written: &mut Vec<Written>)
+        requires ready { IsReady self.old }
+        requires room { vec_len written.old + length self.old.lines ≤ vec_capacity written.old }
+        ensures step { IsStep (Closes conn) self.old self.new }
+        ensures state { self.new ≡ closed self.old conn }
+        ensures left { map sent_of written.new.items ≡ map sent_of written.old.items ++ leaving (Closes conn) self.old.lines }
+        ensures capacity { vec_capacity written.new ≡ vec_capacity written.old }
+    {
+        let open = self.is_open(conn);
+        let shut = self.shut(conn);
+        let bytes = self.disconnect(alloc, conn);
+        if open {
+            written.push_reserved(Written { conn, bytes, shut });
+        }
+    }
+
+    /// Takes what the open connections have not taken yet.
+    fn drain(&mut self, alloc: Global, written: &mut Vec<Written>)
+        requires ready { IsReady self.old }
+        requires room { vec_len written.old + length self.old.lines ≤ vec_capacity written.old }
+        ensures state { self.new ≡ emptied self.old }
+        ensures left { map sent_of written.new.items ≡ map sent_of written.old.items ++ map sent self.old.lines }
+    {
+        for i in 0..self.connections().len() {
+            let connection = &self.connections()[i];
+            let conn = connection.number();
+            let shut = connection.is_shut();
+            let bytes = self.take_output(alloc, conn);
+            written.push_reserved(Written { conn, bytes, shut });
+        }
+    }
+}
+
+/// How many of the events open a connection.
+fn openings(events: &[Event]) -> usize
+    ensures { result ≡ count_by is_opening events.now }
+{
+    events
+        .iter()
+        .filter(|event| matches!(event, Event::Open(_)))
+        .count()
+}

@@ -1,0 +1,233 @@
+//! Scripts: lines that say what happens to a broker, and what it says after each.
+
+ghost use Rattle.std.specs.Prelude.{◌≡◌, ◌≤◌, ◌<◌, ◌^◌, ◌&&◌, ℕ, true, not, IfSome, IfErr, OnOk};
+ghost use Rattle.std.specs.Io.BufRead.{strip_last};
+ghost use Rattle.kb_machine.specs.Machine.{Opens, Comes, Closes, Moment};
+ghost use Rattle.kb_machine.specs.Broker.{IsReady};
+ghost use Rattle.kb_machine.specs.Calls.{is_calm, is_shut};
+ghost use Rattle.kb_broker.specs.Opening.{opening};
+ghost use Rattle.kb_broker.specs.Script.{Plays, script, told, told_of, course_of, is_placed};
+ghost use Rattle.kb_broker.specs.ScriptRun.{IsQuiet, HappensSilently, IsSpoken, IsDone, IsBroken, IsPlayed, IsEnded, here};
+
+mod answer;
+mod line;
+mod reading;
+
+use crate::broker::Broker;
+use crate::settings::Settings;
+use answer::{answer_of, write_all};
+use line::Line;
+use reading::next_line;
+use std::alloc::Global;
+use std::io::{BufRead, Write};
+use thiserror::Error;
+
+/// The most lines of a script.
+const LINES: u64 = 1_000_000;
+
+/// The most bytes of a script.
+const SCRIPT_BYTES: usize = 1_073_741_824;
+
+/// The greatest moment.
+const LAST_MOMENT: u64 = 4_611_686_018_427_387_904;
+
+/// What ends a script early.
+#[derive(Clone, Copy, Debug, PartialEq, Eq, Error)]
+pub enum ScriptFault {
+    /// A line that is none of a script, or is out of place. Lines count from 1.
+    #[error("bad line {0}")]
+    BadLine(u64),
+    /// It has too many lines or bytes.
+    #[error("script too long")]
+    TooLong,
+    /// The reader failed.
+    #[error("read fault")]
+    Read,
+    /// The writer failed.
+    #[error("write fault")]
+    Write,
+    /// Memory was refused.
+    #[error("out of memory")]
+    Memory,
+}
+
+/// Plays a script on a new broker of those settings: reads its lines and writes what the broker says after each.
+///
+/// A fault ends it; what the lines before it said has been written. The script is read a line at a time.
+pub fn run_script<R: BufRead, W: Write>(
+    alloc: Global,
+    settings: &Settings,
+    reader: &mut R,
+    writer: &mut W,
+) -> Result<(), ScriptFault>
+    ensures ok { OnOk result (IfSome (R.remaining reader.old) (λ text. IsPlayed (opening settings.now) (script (opening settings.now) text) (W.contents writer.old) (W.contents writer.new))) }
+    ensures err { IfErr result (λ fault. IfSome (R.remaining reader.old) (λ text. IsEnded (opening settings.now) (script (opening settings.now) text) fault (W.contents writer.old) (W.contents writer.new))) }
+{
+    let Ok(mut broker) = Broker::empty(alloc, settings) else {
+        return Err(ScriptFault::Memory);
+    };
+    play(alloc, &mut broker, reader, writer)
+}
+
+/// Plays a script on a broker, a line at a time.
+fn play<R: BufRead, W: Write>(
+    alloc: Global,
+    broker: &mut Broker,
+    reader: &mut R,
+    writer: &mut W,
+) -> Result<(), ScriptFault>
+    requires calm { is_calm broker.old ≡ true }
+    requires quiet { IsQuiet broker.old }
+    requires ready { IsReady broker.old }
+    ensures ok { OnOk result (IfSome (R.remaining reader.old) (λ text. IsPlayed broker.old (script broker.old text) (W.contents writer.old) (W.contents writer.new))) }
+    ensures err { IfErr result (λ fault. IfSome (R.remaining reader.old) (λ text. IsEnded broker.old (script broker.old text) fault (W.contents writer.old) (W.contents writer.new))) }
+{
+    let mut text = Vec::new(alloc);
+    let mut room = SCRIPT_BYTES;
+    for index in 0..LINES {
+        let number = index + 1;
+        next_line(reader, &mut text, number, room)?;
+        if text.is_empty() {
+            return Ok(());
+        }
+        room -= text.len();
+        play_line(alloc, broker, writer, &text, number)?;
+    }
+    next_line(reader, &mut text, LINES + 1, 0)
+}
+
+/// Plays a line, with its line feed or without.
+fn play_line<W: Write>(
+    alloc: Global,
+    broker: &mut Broker,
+    writer: &mut W,
+    text: &[u8],
+    number: u64,
+) -> Result<(), ScriptFault>
+    requires calm { is_calm broker.old ≡ true }
+    requires quiet { IsQuiet broker.old }
+    requires ready { IsReady broker.old }
+    ensures ok { OnOk result (IsDone (course_of (here number broker.old) (told (strip_last 10 text.now))) broker.old broker.new (W.contents writer.old) (W.contents writer.new)) }
+    ensures err { IfErr result (λ fault. IsBroken (course_of (here number broker.old) (told (strip_last 10 text.now))) fault broker.old (W.contents writer.old) (W.contents writer.new)) }
+{
+    let Ok(line) = Line::read(alloc, without_feed(text)) else {
+        return Err(ScriptFault::Memory);
+    };
+    if !is_in_place(broker, &line) {
+        return Err(ScriptFault::BadLine(number));
+    }
+    match line {
+        Line::Open(connection) => open(alloc, broker, connection),
+        Line::In(connection, piece) => give(alloc, broker, writer, connection, &piece),
+        Line::Close(connection) => close(alloc, broker, connection),
+        Line::At(now) => pass(broker, now),
+        Line::Empty | Line::Bad => Ok(()),
+    }
+}
+
+/// The line with no line feed.
+fn without_feed(line: &[u8]) -> &[u8]
+    ensures { result.now ≡ strip_last 10 line.now }
+{
+    match line {
+        [front @ .., b'\n'] => front,
+        _ => line,
+    }
+}
+
+/// Whether a line says nothing, or what may happen now.
+fn is_in_place(broker: &Broker, line: &Line) -> bool
+    ensures { result ≡ is_placed (here 0 broker.now) (told_of line.now) }
+{
+    match line {
+        Line::Open(connection) => broker.last_connection() < *connection,
+        Line::In(connection, _) | Line::Close(connection) => broker.is_open(*connection),
+        Line::At(now) => *now <= LAST_MOMENT,
+        Line::Empty => true,
+        Line::Bad => false,
+    }
+}
+
+/// A connection opens.
+fn open(alloc: Global, broker: &mut Broker, connection: u64) -> Result<(), ScriptFault>
+    requires calm { is_calm broker.old ≡ true }
+    requires quiet { IsQuiet broker.old }
+    requires ready { IsReady broker.old }
+    requires above { broker.old.last < connection }
+    ensures ok { OnOk result (HappensSilently (Opens connection) broker.old broker.new) }
+    ensures err { IfErr result (λ fault. fault ≡ ScriptFault.Memory) }
+{
+    match broker.connect(alloc, connection) {
+        Ok(()) => Ok(()),
+        Err(_) => Err(ScriptFault::Memory),
+    }
+}
+
+/// A connection closes. It has no output.
+fn close(alloc: Global, broker: &mut Broker, connection: u64) -> Result<(), ScriptFault>
+    requires calm { is_calm broker.old ≡ true }
+    requires quiet { IsQuiet broker.old }
+    requires ready { IsReady broker.old }
+    ensures ok { OnOk result (HappensSilently (Closes connection) broker.old broker.new) }
+    ensures err { IfErr result (λ fault. fault ≡ ScriptFault.Memory) }
+{
+    broker.disconnect(alloc, connection);
+    calm(broker)
+}
+
+/// A moment passes.
+fn pass(broker: &mut Broker, now: u64) -> Result<(), ScriptFault>
+    requires calm { is_calm broker.old ≡ true }
+    requires quiet { IsQuiet broker.old }
+    requires ready { IsReady broker.old }
+    requires in_time { now ≤ 2 ^ 62 }
+    ensures ok { OnOk result (HappensSilently (Moment now) broker.old broker.new) }
+    ensures err { IfErr result (λ fault. fault ≡ ScriptFault.Memory) }
+{
+    broker.moment(now);
+    calm(broker)
+}
+
+/// Gives a piece to a connection, and writes what the broker says. It says nothing to any other connection.
+fn give<W: Write>(
+    alloc: Global,
+    broker: &mut Broker,
+    writer: &mut W,
+    connection: u64,
+    piece: &[u8],
+) -> Result<(), ScriptFault>
+    requires calm { is_calm broker.old ≡ true }
+    requires quiet { IsQuiet broker.old }
+    requires ready { IsReady broker.old }
+    ensures ok { OnOk result (IsSpoken (Comes connection piece.now) broker.old broker.new (W.contents writer.old) (W.contents writer.new)) }
+    ensures err { IfErr result (λ fault. IsBroken (Plays (Comes connection piece.now)) fault broker.old (W.contents writer.old) (W.contents writer.new)) }
+{
+    let was_shut = broker.shut(connection);
+    broker.input(alloc, connection, piece);
+    calm(broker)?;
+    let is_shut = is_newly_shut(broker, connection, was_shut);
+    let output = broker.take_output(alloc, connection);
+    let Ok(answer) = answer_of(alloc, connection, &output, is_shut) else {
+        return Err(ScriptFault::Memory);
+    };
+    write_all(writer, &answer)
+}
+
+/// Whether a connection is shut that was not.
+fn is_newly_shut(broker: &Broker, connection: u64, was_shut: bool) -> bool
+    ensures { result ≡ (is_shut connection broker.now && not was_shut) }
+{
+    broker.shut(connection) && !was_shut
+}
+
+/// An `Err` where a refusal has been counted.
+fn calm(broker: &Broker) -> Result<(), ScriptFault>
+    ensures ok { OnOk result (is_calm broker.now ≡ true) }
+    ensures err { IfErr result (λ fault. fault ≡ ScriptFault.Memory) }
+{
+    if broker.is_calm() {
+        Ok(())
+    } else {
+        Err(ScriptFault::Memory)
+    }
+}

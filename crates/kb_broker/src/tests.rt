@@ -1,0 +1,192 @@
+use crate::{Broker, Settings};
+use std::alloc::Global;
+use std::process::Abort;
+use std::test::Fail;
+
+/// The versions that are served, as ApiVersions lists them.
+const TABLE: &[u8] = b"000000030003000100040004000200010001000300010001000800020002000900010001\
+000a00000000000b00010001000c00000000000d00000000000e00000000001100010001\
+001200000000001300000000001400000000001600000000002400000000";
+
+fn bytes(rt: &impl Abort, alloc: Global, digits: &[u8]) -> Result<Vec<u8>, Fail> {
+    match hex::decode(alloc, digits) {
+        Ok(bytes) => Ok(bytes),
+        Err(_) => panic!(rt; "the digits are hexadecimal"),
+    }
+}
+
+/// The reply of a size, a correlation id and a code in front of the table.
+fn versions_reply(rt: &impl Abort, alloc: Global, front: &[u8]) -> Result<Vec<u8>, Fail> {
+    let mut reply = bytes(rt, alloc, front)?;
+    let table = bytes(rt, alloc, TABLE)?;
+    reply.extend_from_slice(&table)?;
+    Ok(reply)
+}
+
+fn broker_with(rt: &impl Abort, alloc: Global, number: u64) -> Result<Broker, Fail> {
+    let settings = Settings::standard(alloc)?;
+    let mut broker = Broker::empty(alloc, &settings)?;
+    connect(rt, alloc, &mut broker, number)?;
+    Ok(broker)
+}
+
+fn connect(rt: &impl Abort, alloc: Global, broker: &mut Broker, number: u64) -> Result<(), Fail> {
+    assert!(rt; broker.last_connection() < number);
+    broker.connect(alloc, number)?;
+    Ok(())
+}
+
+/// What a connection is answered, byte by byte.
+fn is_answered(
+    rt: &impl Abort,
+    alloc: Global,
+    broker: &mut Broker,
+    number: u64,
+    request: &[u8],
+    reply: &[u8],
+) -> Result<(), Fail> {
+    let request = bytes(rt, alloc, request)?;
+    let reply = bytes(rt, alloc, reply)?;
+    broker.input(alloc, number, &request);
+    let output = broker.take_output(alloc, number);
+    assert_eq!(rt; output.as_slice(), reply.as_slice());
+    assert_eq!(rt; broker.refusals_unbound(), 0);
+    assert_eq!(rt; broker.refusals("a"), 0);
+    Ok(())
+}
+
+const VERSIONS: &[u8] = b"0000000a0012000000000001ffff";
+
+#[test]
+fn versions_in_one_piece_and_in_many(rt: HostRuntime) -> Result<(), Fail> {
+    let alloc = rt.alloc();
+    let request = bytes(&rt, alloc, VERSIONS)?;
+    let reply = versions_reply(&rt, alloc, b"0000007000000001000000000011")?;
+    let mut broker = broker_with(&rt, alloc, 1)?;
+    broker.input(alloc, 1, &request);
+    assert_eq!(rt; broker.take_output(alloc, 1).as_slice(), reply.as_slice());
+    for byte in request.iter() {
+        broker.input(alloc, 1, &[*byte]);
+    }
+    assert_eq!(rt; broker.take_output(alloc, 1).as_slice(), reply.as_slice());
+    assert!(rt; request.len() > 2);
+    broker.input(alloc, 1, &request[..2]);
+    assert_eq!(rt; broker.room(1), 4_194_310);
+    broker.input(alloc, 1, &request[2..]);
+    assert_eq!(rt; broker.take_output(alloc, 1).as_slice(), reply.as_slice());
+    assert!(rt; !broker.shut(1));
+    Ok(())
+}
+
+#[test]
+fn versions_of_another_version(rt: HostRuntime) -> Result<(), Fail> {
+    let alloc = rt.alloc();
+    let mut broker = broker_with(&rt, alloc, 1)?;
+    let request = bytes(&rt, alloc, b"000000110012000300000007000178000278023100")?;
+    let reply = versions_reply(&rt, alloc, b"0000007000000007002300000011")?;
+    broker.input(alloc, 1, &request);
+    assert_eq!(rt; broker.take_output(alloc, 1).as_slice(), reply.as_slice());
+    let request = bytes(&rt, alloc, b"000000080012000900000005")?;
+    let reply = versions_reply(&rt, alloc, b"0000007000000005002300000011")?;
+    broker.input(alloc, 1, &request);
+    assert_eq!(rt; broker.disconnect(alloc, 1).as_slice(), reply.as_slice());
+    Ok(())
+}
+
+const HANDSHAKE: &[u8] = b"000000110011000100000002ffff0005504c41494e";
+
+const HANDSHAKE_REPLY: &[u8] = b"00000011000000020000000000010005504c41494e";
+
+#[test]
+fn a_login_and_one_more(rt: HostRuntime) -> Result<(), Fail> {
+    let alloc = rt.alloc();
+    let mut broker = broker_with(&rt, alloc, 1)?;
+    is_answered(
+        &rt,
+        alloc,
+        &mut broker,
+        1,
+        b"000000120011000100000001ffff0006475353415049",
+        b"00000011000000010021000000010005504c41494e",
+    )?;
+    is_answered(&rt, alloc, &mut broker, 1, HANDSHAKE, HANDSHAKE_REPLY)?;
+    is_answered(
+        &rt,
+        alloc,
+        &mut broker,
+        1,
+        b"000000160024000000000003ffff0000000800616e6e00707731",
+        b"0000000c000000030000ffff00000000",
+    )?;
+    is_answered(
+        &rt,
+        alloc,
+        &mut broker,
+        1,
+        b"000000160024000000000004ffff0000000800616e6e00707731",
+        b"0000001e0000000400220012696c6c6567616c205341534c20737461746500000000",
+    )?;
+    assert!(rt; !broker.shut(1));
+    is_answered(&rt, alloc, &mut broker, 1, b"000000080012000000000005", b"")?;
+    assert!(rt; broker.shut(1));
+    assert!(rt; broker.is_calm());
+    Ok(())
+}
+
+#[test]
+fn a_wrong_password(rt: HostRuntime) -> Result<(), Fail> {
+    let alloc = rt.alloc();
+    let mut broker = broker_with(&rt, alloc, 7)?;
+    is_answered(&rt, alloc, &mut broker, 7, HANDSHAKE, HANDSHAKE_REPLY)?;
+    is_answered(
+        &rt,
+        alloc,
+        &mut broker,
+        7,
+        b"000000160024000000000003ffff0000000800616e6e00707732",
+        b"0000002100000003003a001561757468656e7469636174696f6e206661696c656400000000",
+    )?;
+    assert!(rt; broker.shut(7));
+    is_answered(&rt, alloc, &mut broker, 7, VERSIONS, b"")?;
+    assert_eq!(rt; broker.room(7), 4_194_312);
+    assert_eq!(rt; broker.disconnect(alloc, 7).len(), 0);
+    assert!(rt; !broker.is_open(7));
+    Ok(())
+}
+
+/// The connection is shut without an answer.
+fn is_shut_by(rt: &impl Abort, alloc: Global, request: &[u8]) -> Result<(), Fail> {
+    let mut broker = broker_with(rt, alloc, 3)?;
+    is_answered(rt, alloc, &mut broker, 3, request, b"")?;
+    assert!(rt; broker.shut(3));
+    connect(rt, alloc, &mut broker, 4)?;
+    broker.moment(5);
+    assert!(rt; !broker.shut(4));
+    Ok(())
+}
+
+#[test]
+fn what_shuts_without_an_answer(rt: HostRuntime) -> Result<(), Fail> {
+    let alloc = rt.alloc();
+    is_shut_by(&rt, alloc, b"0000000e0003000100000001ffffffffffff")?;
+    is_shut_by(&rt, alloc, b"ffffffff")?;
+    is_shut_by(&rt, alloc, b"00000007")?;
+    is_shut_by(&rt, alloc, b"00200001")?;
+    is_shut_by(&rt, alloc, b"000000080012000000000005")?;
+    Ok(())
+}
+
+#[test]
+fn a_piece_over_the_room(rt: HostRuntime) -> Result<(), Fail> {
+    let alloc = rt.alloc();
+    let mut broker = broker_with(&rt, alloc, 1)?;
+    let zeros = vec![in alloc; 0; 4_194_309]?;
+    is_answered(&rt, alloc, &mut broker, 1, b"00200000", b"")?;
+    assert_eq!(rt; broker.room(1), 4_194_308);
+    broker.input(alloc, 1, &zeros);
+    assert!(rt; broker.shut(1));
+    assert_eq!(rt; broker.room(1), 4_194_312);
+    assert_eq!(rt; broker.room(2), 0);
+    assert_eq!(rt; broker.refusals("nobody"), 0);
+    Ok(())
+}

@@ -20,3 +20,4 @@ pub mod ScriptTells
 pub mod ScriptEvents
 pub mod ScriptPlay
 pub mod ScriptOpening
+pub mod Limits

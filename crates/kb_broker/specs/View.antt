@@ -1,9 +1,9 @@
 -- What the code's types are in the machine's words.
-use Rattle.std.specs.Prelude.{◌≡◌, None, Result, Ok, Err}
+use Rattle.std.specs.Prelude.{◌≡◌, ◌≤◌, ℕ, List, [], length, Bool, true, Option, Some, None, Result, Ok, Err}
 use Rattle.kb_wire.specs.declared.fault.ReadFault.{ReadFault}
 use Rattle.kb_wire.specs.declared.fault.ReadFault.TheVariants as faults
 use Rattle.kb_machine.specs.Requests.{Asked, Versions, OtherVersions, Handshake, Authenticate, Another, Unread, Request}
-use Rattle.kb_machine.specs.Session.{Stage, Greets, BoundTo, Session}
+use Rattle.kb_machine.specs.Session.{Stage, Greets, BoundTo, Session, LIMIT}
 use Rattle.kb_machine.specs.Machine.{Line}
 use Rattle.kb_api_group.specs.Frames.{front, behind}
 use Rattle.kb_broker.specs.declared.request.Asked.TheVariants as asked
@@ -42,3 +42,12 @@ with_session l s = record { number = l.number; session = s }
 -- a connection without the request in front
 abbrev pub without_front : Session → Session
 without_front s = record s { unread = behind (front s.unread) s.unread }
+
+-- a connection has at most so many unread bytes, and one that was shut has none
+abbrev pub IsLimited : List ℕ → Bool → Type 0
+IsLimited unread shut = (length unread ≤ LIMIT) × (shut ≡ true → unread ≡ [])
+
+-- and so has each open connection of that number
+abbrev pub IsLimitedIn : Option Session → Type 0
+IsLimitedIn None = Unit {0}
+IsLimitedIn (Some s) = IsLimited s.unread s.shut

@@ -7,7 +7,7 @@ ghost use Rattle.kb_machine.specs.Tenant.{Kept};
 ghost use Rattle.kb_machine.specs.Greeting.{Setup, greeted, greeted_by};
 ghost use Rattle.kb_machine.specs.Machine.{served, served_by};
 ghost use Rattle.kb_machine.specs.Calls.{without_output};
-ghost use Rattle.kb_broker.specs.View.{stage_of, with_session, without_front};
+ghost use Rattle.kb_broker.specs.View.{stage_of, with_session, without_front, IsLimited};
 ghost use Rattle.kb_broker.specs.Reactions.{reacted, IfReacts};
 
 use crate::reaction::Reaction;
@@ -47,11 +47,13 @@ pub struct Connection {
 
 impl Model for Connection {
     ghost use Rattle.kb_machine.specs.Machine.{Line};
-    ghost use Rattle.kb_broker.specs.View.{stage_of};
+    ghost use Rattle.kb_broker.specs.View.{stage_of, IsLimited};
 
     ghost Value = { Line };
 
     ghost view = { λ c. record { number = c.number; session = record { stage = stage_of c.phase; unread = c.unread; output = c.output.items; shut = c.shut } } };
+
+    ghost invariant = { λ c. IsLimited c.unread c.shut };
 }
 
 impl Connection {
@@ -91,7 +93,8 @@ impl Connection {
 
     /// How many more bytes it takes.
     pub fn room(&self) -> usize
-        ensures { result ≡ room self.now.session }
+        ensures room { result ≡ room self.now.session }
+        ensures limited { IsLimited self.now.session.unread self.now.session.shut }
     {
         UNREAD_LIMIT.saturating_sub(self.unread.unread())
     }

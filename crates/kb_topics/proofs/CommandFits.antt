@@ -1,0 +1,24 @@
+-- Commands whose texts fit.
+use Rattle.std.proofs.Common.{◌<◌, ◌^◌, ℕ, ℤ, List, length}
+use Rattle.kb_wire.specs.Codec.{int}
+use Rattle.kb_wire.specs.Fits.{string_fits}
+use Rattle.kb_topics.specs.declared.command.CreateTopic.{CreateTopic}
+use Rattle.kb_topics.specs.declared.command.MoveStart.{MoveStart}
+use Rattle.kb_topics.specs.declared.command.Command.TheVariants.{Create, Delete, Issue, Start}
+use Rattle.kb_topics.specs.Layouts.{command_codec, create_topic, move_start}
+
+pub create_fits : (c : CreateTopic) → length c.name < 2 ^ 15 → command_codec.Fits (Create c)
+unfolding command_codec create_topic int
+create_fits c lt = (tt, (string_fits c.name lt, (tt, (tt, (tt, tt)))))
+
+pub delete_fits : (name : List ℕ) → length name < 2 ^ 15 → command_codec.Fits (Delete name)
+unfolding command_codec int
+delete_fits name lt = (tt, string_fits name lt)
+
+pub issue_fits : (id : ℤ) → command_codec.Fits (Issue id)
+unfolding command_codec int
+issue_fits id = (tt, tt)
+
+pub start_fits : (s : MoveStart) → command_codec.Fits (Start s)
+unfolding command_codec move_start int
+start_fits s = (tt, (tt, (tt, tt)))

@@ -1,0 +1,9 @@
+pub mod Appending
+pub mod CommandFits
+pub mod Commits
+pub mod KindWritten
+pub mod Links
+pub mod Numerals
+pub mod Said
+pub mod Steps
+pub mod Topics

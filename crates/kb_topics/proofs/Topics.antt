@@ -1,0 +1,107 @@
+-- What a catalog's topics are after a change.
+use Rattle.std.proofs.Common.{◌≡◌, ◌∙◌, ◌+◌, ◌<◌, ℕ, zero, suc, cond, List, [], ◌∷◌, ◌++◌, Option, Some, None, inl, inr, refl, sym, ap, subst, length, arith}
+use Rattle.std.specs.Prelude.{ℤ, pos, replicate, slice_get, slice_index_or, IsSome, IfSome, MatchOption}
+use Rattle.std.specs.declared.cmp.Ordering.{Ordering}
+use Rattle.std.specs.declared.cmp.Ordering.TheVariants.{Less, Equal, Greater}
+use Rattle.std.specs.Ordering.{nat_cmp, is_eq, match_ordering}
+use Rattle.std.specs.Map.{keys_of, remove_entry, set_value}
+use Rattle.std.specs.BTreeMap.{BTreeMap, get_by_text, is_at, insert_entry}
+use Rattle.std.specs.Option.{option_and_then}
+use Rattle.kb_topics.specs.Known.{Known, PartitionState, TopicState, topic_at, named, partition_at, new_partition, without_topic, with_part, with_start, with_partition, put_topic}
+use Rattle.std.specs.List.Sorted.{IsStrictlySortedBy}
+use Rattle.std.specs.Str.{bytes_eq}
+use Rattle.std.specs.declared.string.String.{String}
+use Rattle.kb_topics.specs.Linked.{IsLinked}
+use Rattle.kb_topics.proofs.Links.{own_number, cases, bytes_same, bytes_alike, named_is, linked_added}
+
+pub replicate_more : {A : Type 0} (n : ℕ) (x : A) → replicate n x ++ x ∷ [] ≡ replicate (n + 1) x
+replicate_more zero x = refl
+replicate_more (suc n) x =
+    let e : suc (n + 1) ≡ suc n + 1 = omega arith in
+    ap (λ xs. x ∷ xs) (replicate_more n x) ∙ ap (λ m. replicate m x) e
+
+removed_by : (n : ℕ) (t : TopicState) (e : ℕ × TopicState) (ts : List (ℕ × TopicState)) (o : Ordering) → nat_cmp n e.0 ≡ o → topic_at n (e ∷ ts) ≡ None → (topic_at n ts ≡ None → remove_entry (is_at (nat_cmp n)) (insert_entry nat_cmp ts n t) ≡ ts) → remove_entry (is_at (nat_cmp n)) (match_ordering o ((n, t) ∷ e ∷ ts) ((e.0, t) ∷ ts) (e ∷ insert_entry nat_cmp ts n t)) ≡ e ∷ ts
+removed_by n t e ts Less c none more = ap (λ b. cond b (e ∷ ts) ((n, t) ∷ remove_entry (is_at (nat_cmp n)) (e ∷ ts))) (own_number n)
+removed_by n t e ts Equal c none more =
+    let here : topic_at n (e ∷ ts) ≡ Some e.1 = ap (λ o. cond (is_eq o) (Some e.1) (topic_at n ts)) c in
+    absurd cc
+removed_by n t e ts Greater c none more =
+    let later : topic_at n ts ≡ None = sym (ap (λ o. cond (is_eq o) (Some e.1) (topic_at n ts)) c) ∙ none in
+    ap (λ o. cond (is_eq o) (insert_entry nat_cmp ts n t) (e ∷ remove_entry (is_at (nat_cmp n)) (insert_entry nat_cmp ts n t))) c ∙ ap (λ us. e ∷ us) (more later)
+
+-- what was put under a new number and taken out
+pub remove_inserted : (n : ℕ) (t : TopicState) (ts : List (ℕ × TopicState)) → topic_at n ts ≡ None → remove_entry (is_at (nat_cmp n)) (insert_entry nat_cmp ts n t) ≡ ts
+remove_inserted n t [] none = ap (λ b. cond b [] ((n, t) ∷ [])) (own_number n)
+remove_inserted n t (e ∷ ts) none = removed_by n t e ts (nat_cmp n e.0) refl none (remove_inserted n t ts)
+
+-- a partition that is there
+found_part : (ps : List PartitionState) (m : ℕ) (part : PartitionState) → slice_get ps m ≡ Some part → slice_index_or ps m new_partition ≡ part
+found_part [] m part e = absurd cc
+found_part (p ∷ ps) zero part e = cc
+found_part (p ∷ ps) (suc m) part e = found_part ps m part e
+
+part_within : (ps : List PartitionState) (m : ℕ) → IsSome (slice_get ps m) → m < length ps
+part_within [] m e = absurd cc
+part_within (p ∷ ps) zero e = omega arith
+part_within (p ∷ ps) (suc m) e = let lt = part_within ps m e in omega arith
+
+pub there_within : (k : Known) (n m : ℕ) (t : TopicState) → topic_at n k.topics ≡ Some t → IsSome (partition_at k (pos n) (pos m)) → m < length t.partitions
+there_within k n m t e some = part_within t.partitions m (subst (λ o. IsSome (option_and_then (λ (u : TopicState). slice_get u.partitions m) o)) e some)
+
+start_put : (k : Known) (n m : ℕ) (offset : ℤ) (t : TopicState) (ts' : List (ℕ × TopicState)) (o : Option PartitionState) → topic_at n k.topics ≡ Some t → ts' ≡ set_value (is_at (nat_cmp n)) k.topics (with_part m (with_start (slice_index_or t.partitions m new_partition) offset) t) → slice_get t.partitions m ≡ o → IfSome o (λ part. record k { topics = ts' } ≡ with_partition k (pos n) (pos m) (with_start part offset))
+start_put k n m offset t ts' None e f g = tt
+start_put k n m offset t ts' (Some part) e f g =
+    ap (λ us. record k { topics = us }) (f ∙ ap (λ p. set_value (is_at (nat_cmp n)) k.topics (with_part m (with_start p offset) t)) (found_part t.partitions m part g))
+    ∙ sym (ap (λ o. record k { topics = put_topic n m (with_start part offset) k.topics o }) e)
+
+pub start_set : (k : Known) (n m : ℕ) (offset : ℤ) (t : TopicState) (ts' : List (ℕ × TopicState)) → topic_at n k.topics ≡ Some t → ts' ≡ set_value (is_at (nat_cmp n)) k.topics (with_part m (with_start (slice_index_or t.partitions m new_partition) offset) t) → IfSome (partition_at k (pos n) (pos m)) (λ part. record k { topics = ts' } ≡ with_partition k (pos n) (pos m) (with_start part offset))
+start_set k n m offset t ts' e f =
+    subst (λ o. IfSome (option_and_then (λ (u : TopicState). slice_get u.partitions m) o) (λ part. record k { topics = ts' } ≡ with_partition k (pos n) (pos m) (with_start part offset))) (sym e)
+    (start_put k n m offset t ts' (slice_get t.partitions m) e f refl)
+
+-- ---- what a removal by name leaves
+
+pub not_removed : (k k' : Known) (o : Option ℕ) → o ≡ None → k' ≡ k → MatchOption o (k' ≡ k) (λ i. k' ≡ without_topic k i)
+not_removed k k' None e f = f
+not_removed k k' (Some i) e f = absurd cc
+
+pub was_removed : (k k' : Known) (o : Option ℕ) (i : ℕ) → o ≡ Some i → k' ≡ without_topic k i → MatchOption o (k' ≡ k) (λ i. k' ≡ without_topic k i)
+was_removed k k' None i e f = absurd cc
+was_removed k k' (Some j) i e f = f ∙ ap (without_topic k) (let same : i ≡ j = cc in same)
+
+-- the instance that was taken out is no topic's
+pub gone_removed : (k k' : Known) (o : Option ℕ) (i : ℕ) → o ≡ Some i → MatchOption o (k' ≡ k) (λ i. k' ≡ without_topic k i) → k' ≡ without_topic k i
+gone_removed k k' None i e f = absurd cc
+gone_removed k k' (Some j) i e f = f ∙ ap (without_topic k) (let same : j ≡ i = cc in same)
+
+pub gone_none : (o : Option ℕ) (ts : List (ℕ × TopicState)) → o ≡ None → IfSome o (λ i. topic_at i ts ≡ None)
+gone_none None ts e = tt
+gone_none (Some i) ts e = absurd cc
+
+pub gone_some : (o : Option ℕ) (i : ℕ) (ts : List (ℕ × TopicState)) → o ≡ Some i → topic_at i ts ≡ None → IfSome o (λ i. topic_at i ts ≡ None)
+gone_some None i ts e f = tt
+gone_some (Some j) i ts e f = subst (λ k. topic_at k ts ≡ None) (let same : i ≡ j = cc in same) f
+
+pub gone_at : (o : Option ℕ) (i : ℕ) (ts : List (ℕ × TopicState)) → o ≡ Some i → IfSome o (λ i. topic_at i ts ≡ None) → topic_at i ts ≡ None
+gone_at None i ts e f = absurd cc
+gone_at (Some j) i ts e f = subst (λ k. topic_at k ts ≡ None) (let same : j ≡ i = cc in same) f
+
+abbrev pub known_of : List (ℕ × TopicState) → ℕ → ℕ → Known
+known_of ts n m = record { topics = ts; creates = n; issues = m }
+
+-- ---- names, before and after
+
+-- a name that was put and taken out
+pub names_back : (f g h : List ℕ → Option ℕ) (key name : List ℕ) (n : ℕ) → ((q : List ℕ) → g q ≡ cond (bytes_eq key q) (Some n) (f q)) → key ≡ name → ((q : List ℕ) → h q ≡ cond (bytes_eq name q) None (g q)) → f name ≡ None → (q : List ℕ) → h q ≡ f q
+names_back f g h key name n put same taken none q =
+    elim (cases (bytes_eq name q)) [
+      | inl b ↦ taken q ∙ ap (λ c. cond c None (g q)) b ∙ sym none ∙ ap f (bytes_same name q b)
+      | inr b ↦ taken q ∙ ap (λ c. cond c None (g q)) b ∙ put q ∙ ap (λ k. cond (bytes_eq k q) (Some n) (f q)) same ∙ ap (λ c. cond c (Some n) (f q)) b
+    ]
+
+-- one more topic, and its name
+pub linked_inserted : {Y : Type 0} (names names' : BTreeMap (String Y) ℕ) (ts ts' : List (ℕ × TopicState)) (n : ℕ) (t : TopicState) (key name : List ℕ) → IsLinked names ts n → IsStrictlySortedBy nat_cmp (keys_of ts') → ((i : ℕ) → topic_at i ts' ≡ cond (is_at (nat_cmp n) i) (Some t) (topic_at i ts)) → ((q : List ℕ) → get_by_text names' q ≡ cond (bytes_eq key q) (Some n) (get_by_text names q)) → key ≡ name → t.name ≡ name → named name ts ≡ None → IsLinked names' ts' (n + 1) × (named name ts' ≡ Some n)
+linked_inserted names names' ts ts' n t key name l s u v same own none =
+    let absent : get_by_text names t.name ≡ None = ap (get_by_text names) own ∙ named_is names ts n l name ∙ none in
+    let link : IsLinked names' ts' (n + 1) = linked_added names ts n l names' ts' t s u (λ q. v q ∙ ap (λ k. cond (bytes_eq k q) (Some n) (get_by_text names q)) (same ∙ sym own)) absent in
+    (link, sym (named_is names' ts' (n + 1) link name) ∙ v name ∙ ap (λ b. cond b (Some n) (get_by_text names name)) (bytes_alike key name same))

@@ -1,0 +1,11 @@
+pub mod Calls
+pub mod Catalog
+pub mod CatalogFault
+pub mod Config
+pub mod Known
+pub mod Lawful
+pub mod Layouts
+pub mod Linked
+pub mod MetaLog
+pub mod Name
+pub mod Refusals

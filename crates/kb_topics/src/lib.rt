@@ -1,0 +1,30 @@
+//! The catalog of one tenant: its topics and their settings, the starts of partitions, and its producer ids.
+//!
+//! [`Catalog`] records each change as one [`Command`] in the tenant's meta log before it makes it, so that the catalog is what the
+//! commands of its log come to, one after another (`specs/Known.antt`). A refused call leaves the catalog and the list of batches as
+//! they were and answers a [`CatalogFault`]. [`Topic`] and [`Partition`] are what is known of each.
+//!
+//! Names and settings are judged by [`is_legal_name`], [`config_entry`] and [`ConfigReader`] (Apache Kafka's rules for topic names and
+//! its names of topic settings). Look-ups by name and by instance take logarithmic time.
+#![tactic(auto)]
+
+mod append;
+mod batch;
+mod catalog;
+mod command;
+mod config;
+mod contents;
+mod fault;
+mod name;
+mod topic;
+
+pub use batch::meta_batch;
+pub use catalog::Catalog;
+pub use command::{Command, CommitOffset, CreateTopic, MoveStart};
+pub use config::{ConfigEntry, ConfigReader, TopicConfig, config_entry};
+pub use fault::CatalogFault;
+pub use name::is_legal_name;
+pub use topic::{Committed, Partition, Topic};
+
+#[cfg(test)]
+mod tests;

@@ -1,5 +1,5 @@
 use crate::{Broker, Event, Settings};
-use std::alloc::Global;
+use std::alloc::{AllocError, Global};
 use std::process::Abort;
 use std::test::Fail;
 
@@ -12,6 +12,7 @@ const LOGIN_REPLY: &[u8] = b"0000000c000000020000ffff00000000";
 fn bytes(rt: &impl Abort, alloc: Global, digits: &[u8]) -> Result<Vec<u8>, Fail> {
     match hex::decode(alloc, digits) {
         Ok(bytes) => Ok(bytes),
+        Err(hex::FromHexError::OutOfMemory) => Err(AllocError)?,
         Err(_) => panic!(rt; "the digits are hexadecimal"),
     }
 }

@@ -1,5 +1,5 @@
 use crate::{Broker, Settings};
-use std::alloc::Global;
+use std::alloc::{AllocError, Global};
 use std::process::Abort;
 use std::test::Fail;
 
@@ -11,6 +11,7 @@ const TABLE: &[u8] = b"000000030003000100040004000200010001000300010001000800020
 fn bytes(rt: &impl Abort, alloc: Global, digits: &[u8]) -> Result<Vec<u8>, Fail> {
     match hex::decode(alloc, digits) {
         Ok(bytes) => Ok(bytes),
+        Err(hex::FromHexError::OutOfMemory) => Err(AllocError)?,
         Err(_) => panic!(rt; "the digits are hexadecimal"),
     }
 }
@@ -188,5 +189,55 @@ fn a_piece_over_the_room(rt: HostRuntime) -> Result<(), Fail> {
     assert_eq!(rt; broker.room(1), 4_194_312);
     assert_eq!(rt; broker.room(2), 0);
     assert_eq!(rt; broker.refusals("nobody"), 0);
+    Ok(())
+}
+
+/// What a connection got for a request is the reply, or nothing: then memory was refused, the connection is shut and one refusal
+/// is counted.
+fn is_answered_or_refused(
+    rt: &impl Abort,
+    alloc: Global,
+    broker: &mut Broker,
+    request: &[u8],
+    reply: &[u8],
+) -> Result<bool, Fail> {
+    let request = bytes(rt, alloc, request)?;
+    let reply = bytes(rt, alloc, reply)?;
+    broker.input(alloc, 1, &request);
+    let output = broker.take_output(alloc, 1);
+    if !broker.shut(1) {
+        assert_eq!(rt; output.as_slice(), reply.as_slice());
+        assert!(rt; broker.is_calm());
+        return Ok(true);
+    }
+    assert!(rt; output.is_empty());
+    assert_eq!(rt; broker.room(1), 4_194_312);
+    let counts = (broker.refusals_unbound(), broker.refusals("a"));
+    assert!(rt; counts == (1, 0) || counts == (0, 1));
+    assert_eq!(rt; broker.refusals("b"), 0);
+    Ok(false)
+}
+
+/// Also where any one allocation is refused, each step is answered exactly or refused with one count.
+#[test]
+fn a_refused_growth_is_counted_once(rt: HostRuntime) -> Result<(), Fail> {
+    let alloc = rt.alloc();
+    let settings = Settings::standard(alloc)?;
+    let mut broker = Broker::empty(alloc, &settings)?;
+    assert_eq!(rt; broker.last_connection(), 0);
+    if broker.connect(alloc, 1).is_err() {
+        assert!(rt; !broker.is_open(1));
+        assert_eq!(rt; broker.refusals_unbound(), 1);
+        return Ok(());
+    }
+    let login = b"000000160024000000000003ffff0000000800616e6e00707731";
+    let bound = b"0000000c000000030000ffff00000000";
+    let again = b"0000001e0000000300220012696c6c6567616c205341534c20737461746500000000";
+    let steps: [(&[u8], &[u8]); 3] = [(HANDSHAKE, HANDSHAKE_REPLY), (login, bound), (login, again)];
+    for (request, reply) in steps {
+        if !is_answered_or_refused(&rt, alloc, &mut broker, request, reply)? {
+            return Ok(());
+        }
+    }
     Ok(())
 }

@@ -20,7 +20,7 @@ use Rattle.kb_machine.proofs.Laws.{can-turn, some-left, greeted-less, served-les
 use Rattle.kb_machine.proofs.Sets.{IsAt, all-at, set-at, first-still, still-none}
 use Rattle.kb_machine.proofs.Turns.{turned-greeting, turned-bound, refused-greeting, refused-bound, turned-then}
 use Rattle.kb_machine.proofs.Feeds.{fed-kept, fed-refused, fed-bound, step-comes, step-nothing, step-shut}
-use Rattle.kb_broker.specs.View.{with_session}
+use Rattle.kb_connection.specs.View.{with_session}
 use Rattle.kb_broker.specs.Places.{numbers, number_at, unread_at, session_by, session_after, IsTurning, IsCountedAt}
 use Rattle.kb_broker.proofs.Placed.{IsFound, at-read, get-at, find-found, number_at-is, unread_at-is, numbers-set}
 

@@ -1,8 +1,3 @@
-pub mod Bodies
-pub mod Served
-pub mod Appended
-pub mod Reacting
-pub mod Turning
 pub mod Placed
 pub mod Handled
 pub mod Happened
@@ -20,4 +15,3 @@ pub mod ScriptTells
 pub mod ScriptEvents
 pub mod ScriptPlay
 pub mod ScriptOpening
-pub mod Limits

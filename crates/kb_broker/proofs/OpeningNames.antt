@@ -16,7 +16,7 @@ use Rattle.std.specs.FinMap.{slice_cmp-IsAntisymmetric, nat_cmp-IsAntisymmetric}
 use Rattle.std.proofs.lemmas.List.Sorted.{list_any-IsPermutation, searchable_from_sorted}
 use Rattle.std.proofs.lemmas.List.Kept.{IsStrictlySortedBy-dedup}
 use Rattle.std.proofs.lemmas.Map.Views.{list_any-from_Contains, Contains-from_any}
-use Rattle.kb_broker.specs.Names.{byte_order, by_order, with_name, in_order, place_of}
+use Rattle.kb_settings.specs.Names.{byte_order, by_order, with_name, in_order, place_of}
 
 -- 1. Two names
 

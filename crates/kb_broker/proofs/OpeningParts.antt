@@ -11,10 +11,10 @@ use Rattle.kb_api_group.specs.declared.api_versions.ApiVersion.{ApiVersion}
 use Rattle.kb_machine.specs.Requests.{served_versions}
 use Rattle.kb_machine.specs.Greeting.{User as Login, Setup}
 use Rattle.kb_machine.specs.Broker.{BrokerState, Part, IsReady}
-use Rattle.kb_broker.specs.Names.{place_of}
+use Rattle.kb_settings.specs.Names.{place_of}
 use Rattle.kb_broker.specs.Opening.{tenant_of, tenants_of, login_of, new_part, opening}
-use Rattle.kb_broker.specs.declared.settings.User.{User}
-use Rattle.kb_broker.specs.declared.settings.Settings.{Settings}
+use Rattle.kb_settings.specs.declared.settings.User.{User}
+use Rattle.kb_settings.specs.declared.settings.Settings.{Settings}
 use Rattle.kb_broker.proofs.OpeningNames.{rises-in_order, in-in_order, place-below}
 
 pub versions-fit : (vs : List ApiVersion) → length vs < 2 ^ 31 → (array api_version).Fits vs

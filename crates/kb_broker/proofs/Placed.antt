@@ -17,7 +17,7 @@ use Rattle.kb_machine.specs.Broker.{BrokerState, Rising}
 use Rattle.kb_machine.specs.Calls.{closed, taken, without_output, is_open, open_in}
 use Rattle.kb_machine.proofs.Sets.{IsAt, rising-places, set-on, each-on_none, find-at, find-none}
 use Rattle.kb_machine.proofs.Steps.{remove-those, those-all}
-use Rattle.kb_broker.specs.View.{with_session}
+use Rattle.kb_connection.specs.View.{with_session}
 use Rattle.kb_broker.specs.Places.{number_at, unread_at}
 
 -- 1. Places

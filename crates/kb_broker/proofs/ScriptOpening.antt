@@ -1,7 +1,7 @@
 -- A script on a broker that has just opened.
 use Rattle.std.proofs.Common.{◌≡◌, ℕ, true, List, [], ◌∷◌, map, refl}
 use Rattle.kb_machine.specs.Calls.{is_calm, all_calm}
-use Rattle.kb_broker.specs.declared.settings.Settings.{Settings}
+use Rattle.kb_settings.specs.declared.settings.Settings.{Settings}
 use Rattle.kb_broker.specs.Opening.{opening, new_part, tenants_of}
 
 all-new-calm : (names : List (List ℕ)) → all_calm (map new_part names) ≡ true

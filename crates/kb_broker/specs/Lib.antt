@@ -1,8 +1,4 @@
-pub mod View
-pub mod Reactions
 pub mod Places
-pub mod Settings
-pub mod Names
 pub mod Opening
 pub mod Runs
 pub mod Script

@@ -9,31 +9,25 @@
 #![tactic(auto)]
 
 mod broker;
-mod connection;
 mod engine;
 mod opening;
-mod reaction;
-mod reply;
-mod request;
 mod run;
 mod script;
-mod settings;
-mod setup;
 mod tenant;
 
 pub use broker::Broker;
+pub use kb_settings::{Settings, User};
 pub use opening::{names_in_order, places_of_names};
 pub use run::{Event, Written};
 pub use script::{ScriptFault, run_script};
-pub use settings::{Settings, User};
 
 #[cfg(test)]
 mod opening_tests;
 #[cfg(test)]
-mod parts_tests;
-#[cfg(test)]
 mod run_tests;
 #[cfg(test)]
 mod script_tests;
+#[cfg(test)]
+mod tenant_tests;
 #[cfg(test)]
 mod tests;

@@ -6,15 +6,15 @@ ghost use Rattle.std.specs.List.Sorted.{IsStrictlySortedBy};
 ghost use Rattle.kb_wire.specs.Codec.{array};
 ghost use Rattle.kb_api_group.specs.Layouts.{api_version};
 ghost use Rattle.kb_machine.specs.Requests.{served_versions};
-ghost use Rattle.kb_broker.specs.Names.{byte_order, in_order, place_of};
+ghost use Rattle.kb_settings.specs.Names.{byte_order, in_order, place_of};
 ghost use Rattle.kb_broker.specs.Opening.{opening, tenants_of, login_of, new_part};
 
 use crate::broker::Broker;
 use crate::engine::Engine;
-use crate::settings::{Settings, User};
-use crate::setup::{Login, Setup};
 use crate::tenant::Tenant;
 use kb_api_group::ApiVersion;
+use kb_connection::{Login, Setup};
+use kb_settings::{Settings, User};
 use kb_wire::Array;
 use std::alloc::{AllocError, Global};
 

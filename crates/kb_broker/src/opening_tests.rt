@@ -1,5 +1,4 @@
-use crate::settings::new_user;
-use crate::{Broker, Settings};
+use crate::{Broker, Settings, User};
 use std::alloc::Global;
 use std::process::Abort;
 use std::test::Fail;
@@ -95,9 +94,9 @@ fn greeting(rt: HostRuntime) -> Result<(), Fail> {
 fn users_out_of_order(rt: HostRuntime) -> Result<(), Fail> {
     let alloc = rt.alloc();
     let mut users = Vec::new(alloc);
-    users.push(new_user(alloc, "cay", "pw3", "z")?)?;
-    users.push(new_user(alloc, "ann", "pw1", "a.b")?)?;
-    users.push(new_user(alloc, "bob", "pw2", "z")?)?;
+    users.push(User::new(alloc, "cay", "pw3", "z")?)?;
+    users.push(User::new(alloc, "ann", "pw1", "a.b")?)?;
+    users.push(User::new(alloc, "bob", "pw2", "z")?)?;
     let settings = Settings {
         host: String::from_str(alloc, "h")?,
         port: 1,

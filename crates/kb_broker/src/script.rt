@@ -14,8 +14,8 @@ mod line;
 mod reading;
 
 use crate::broker::Broker;
-use crate::settings::Settings;
 use answer::{answer_of, write_all};
+use kb_settings::Settings;
 use line::Line;
 use reading::next_line;
 use std::alloc::Global;

@@ -1,7 +1,7 @@
 use Rattle.std.proofs.Common.{◌∙◌, ap}
 use Rattle.std.proofs.lemmas.List.{take_all}
 use Rattle.std.proofs.lemmas.List.Filters.{dedup_is}
-use Rattle.kb_broker.specs.Names.{in_order}
+use Rattle.kb_settings.specs.Names.{in_order}
 use Rattle.kb_broker.specs.Opening.{tenants_of}
 use Rattle.kb_broker.proofs.OpeningNames.{sorted-in_order}
 use Rattle.kb_broker.proofs.opening.tenant_names.Goals as goal

@@ -1,7 +1,7 @@
 use Rattle.std.proofs.Common.{sym, ◌∙◌, ap, subst}
 use Rattle.kb_machine.specs.Calls.{room_in}
 use Rattle.kb_machine.proofs.Sets.{find-none}
-use Rattle.kb_broker.specs.View.{IsLimitedIn}
+use Rattle.kb_connection.specs.View.{IsLimitedIn}
 use Rattle.kb_broker.proofs.Placed.{found, find-found}
 use Rattle.kb_broker.proofs.engine.Engine.room.Goals as goal
 

@@ -1,7 +1,7 @@
 use Rattle.std.proofs.Common.{◌≡◌, ℕ, ap}
 use Rattle.kb_machine.specs.Tenant.{Kept, Nothing}
 use Rattle.kb_machine.specs.Machine.{Line}
-use Rattle.kb_broker.specs.View.{stage_of, with_session}
+use Rattle.kb_connection.specs.View.{stage_of, with_session}
 use Rattle.kb_broker.specs.Places.{session_after}
 use Rattle.kb_broker.proofs.Placed.{at-read}
 use Rattle.kb_broker.proofs.Handled.{from_err, from_ok, can-at, numbers-put, turned-put, less-served, shut-at, numbers-shut, turned-shut, less-shut}

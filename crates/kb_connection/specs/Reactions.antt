@@ -1,0 +1,23 @@
+-- What each reaction does to a connection.
+use Rattle.std.specs.Prelude.{ℤ, None, Some, true, Result, Ok, Err, codes}
+use Rattle.std.specs.declared.alloc.AllocError.{AllocError}
+use Rattle.kb_api_group.specs.declared.error_code.ErrorCode.TheVariants as errors
+use Rattle.kb_machine.specs.Session.{Greets, BoundTo, Session, shut_down, replied}
+use Rattle.kb_machine.specs.Greeting.{Setup, versions_reply, handshake_reply, authenticate_reply, illegal_state}
+use Rattle.kb_connection.specs.declared.reaction.Reaction.{Reaction}
+use Rattle.kb_connection.specs.declared.reaction.Reaction.TheVariants as reactions
+
+-- s is the connection without the request
+abbrev pub reacted : Setup → Reaction → ℤ → Session → Session
+reacted setup (reactions.Versions code) id s = replied id (versions_reply setup.versions code) s
+reacted setup reactions.Accepts id s = replied id (handshake_reply errors.None) (record s { stage = Greets true })
+reacted setup (reactions.Handshake code) id s = replied id (handshake_reply code) s
+reacted setup reactions.IllegalState id s = replied id illegal_state s
+reacted setup (reactions.LogsIn tenant) id s = replied id (authenticate_reply errors.None None) (record s { stage = BoundTo tenant None })
+reacted setup reactions.Denies id s = shut_down (replied id (authenticate_reply errors.SaslAuthenticationFailed (Some (codes "authentication failed"))) s)
+reacted setup reactions.Shuts id s = shut_down s
+
+-- a reaction was worked out, and the fact holds of its correlation id and of it
+abbrev pub IfReacts : Result (ℤ × Reaction) AllocError → (ℤ → Reaction → Type 0) → Type 0
+IfReacts (Ok done) fact = fact done.0 done.1
+IfReacts (Err e) fact = ⊥

@@ -1,0 +1,53 @@
+-- What the code's types are in the machine's words.
+use Rattle.std.specs.Prelude.{◌≡◌, ◌≤◌, ℕ, List, [], length, Bool, true, Option, Some, None, Result, Ok, Err}
+use Rattle.kb_wire.specs.declared.fault.ReadFault.{ReadFault}
+use Rattle.kb_wire.specs.declared.fault.ReadFault.TheVariants as faults
+use Rattle.kb_machine.specs.Requests.{Asked, Versions, OtherVersions, Handshake, Authenticate, Another, Unread, Request}
+use Rattle.kb_machine.specs.Session.{Stage, Greets, BoundTo, Session, LIMIT}
+use Rattle.kb_machine.specs.Machine.{Line}
+use Rattle.kb_api_group.specs.Frames.{front, behind}
+use Rattle.kb_connection.specs.declared.request.Asked.TheVariants as asked
+use Rattle.kb_connection.specs.declared.request.Asked.{Asked as Read}
+use Rattle.kb_connection.specs.declared.request.Request.{Request as ReadRequest}
+use Rattle.kb_connection.specs.declared.connection.Phase.{Phase}
+use Rattle.kb_connection.specs.declared.connection.Phase.TheVariants as phases
+
+-- what a request asks
+abbrev pub asked_of : Read → Asked
+asked_of asked.Versions = Versions
+asked_of asked.OtherVersions = OtherVersions
+asked_of (asked.Handshake mechanism) = Handshake mechanism
+asked_of (asked.Authenticate message) = Authenticate message
+asked_of (asked.Another key version body) = Another key version body
+asked_of asked.Unread = Unread
+
+-- what a body is read as, unless memory ran out; bytes that match nothing are not read
+abbrev pub Reads : Asked → Result Read ReadFault → Type 0
+Reads a (Ok read) = asked_of read ≡ a
+Reads a (Err (faults.Wire fault)) = Unread ≡ a
+Reads a (Err faults.Memory) = Unit {0}
+
+abbrev pub request_of : ReadRequest → Request
+request_of r = record { correlation_id = r.correlation_id; asked = asked_of r.asked }
+
+-- the stage of a connection: so far none waits
+abbrev pub stage_of : Phase → Stage
+stage_of (phases.Greets handshaken) = Greets handshaken
+stage_of (phases.Bound tenant) = BoundTo tenant None
+
+-- a connection with another session
+abbrev pub with_session : Line → Session → Line
+with_session l s = record { number = l.number; session = s }
+
+-- a connection without the request in front
+abbrev pub without_front : Session → Session
+without_front s = record s { unread = behind (front s.unread) s.unread }
+
+-- a connection has at most so many unread bytes, and one that was shut has none
+abbrev pub IsLimited : List ℕ → Bool → Type 0
+IsLimited unread shut = (length unread ≤ LIMIT) × (shut ≡ true → unread ≡ [])
+
+-- and so has each open connection of that number
+abbrev pub IsLimitedIn : Option Session → Type 0
+IsLimitedIn None = Unit {0}
+IsLimitedIn (Some s) = IsLimited s.unread s.shut

@@ -1,0 +1,322 @@
+//! One connection: its unread bytes, its untaken output, and how far it is.
+
+ghost use Rattle.std.specs.Prelude.{◌≡◌, ◌<◌, ◌^◌, ◌++◌, ℕ, IfOk, OnOk, OnErr};
+ghost use Rattle.kb_machine.specs.Requests.{request, reply, reply_size};
+ghost use Rattle.kb_machine.specs.Session.{Session, Greets, fresh, room, fed, replied, shut_down, can};
+ghost use Rattle.kb_machine.specs.Tenant.{Kept};
+ghost use Rattle.kb_machine.specs.Greeting.{Setup, greeted, greeted_by};
+ghost use Rattle.kb_machine.specs.Machine.{served, served_by};
+ghost use Rattle.kb_machine.specs.Calls.{without_output};
+ghost use Rattle.kb_connection.specs.View.{stage_of, with_session, without_front, IsLimited};
+ghost use Rattle.kb_connection.specs.Reactions.{reacted, IfReacts};
+
+use crate::reaction::Reaction;
+use crate::reply::{authenticate_body, handshake_body, versions_body};
+use crate::request::Request;
+use crate::setup::Setup;
+use kb_api_group::{ErrorCode, FrameFeed, Next};
+use kb_wire::Text;
+use std::alloc::{AllocError, Global};
+use std::marker::Model;
+use std::mem;
+
+/// How many unread bytes a connection may have: a size and the largest request, twice.
+const UNREAD_LIMIT: usize = 4_194_312;
+
+/// The greatest size of a reply, which is an INT32.
+const REPLY_LIMIT: usize = 2_147_483_647;
+
+/// How far a connection is.
+#[derive(Clone, Copy, Debug, PartialEq, Eq)]
+pub enum Phase {
+    /// It greets, and a mechanism was accepted or not.
+    Greets(bool),
+    /// It is bound to a tenant, whose place this is.
+    Bound(usize),
+}
+
+/// A connection. A clause sees its number and its session.
+#[derive(Drop)]
+pub struct Connection {
+    number: u64,
+    phase: Phase,
+    unread: FrameFeed,
+    output: Vec<u8>,
+    shut: bool,
+}
+
+impl Model for Connection {
+    ghost use Rattle.kb_machine.specs.Machine.{Line};
+    ghost use Rattle.kb_connection.specs.View.{stage_of, IsLimited};
+
+    ghost Value = { Line };
+
+    ghost view = { λ c. record { number = c.number; session = record { stage = stage_of c.phase; unread = c.unread; output = c.output.items; shut = c.shut } } };
+
+    ghost invariant = { λ c. IsLimited c.unread c.shut };
+}
+
+impl Connection {
+    /// A connection that has said nothing. It takes no memory.
+    pub fn new(alloc: Global, number: u64) -> Connection
+        ensures { result ≡ record { number = number; session = fresh } }
+    {
+        Connection {
+            number,
+            phase: Phase::Greets(false),
+            unread: FrameFeed::new(alloc),
+            output: Vec::new(alloc),
+            shut: false,
+        }
+    }
+
+    /// Its number.
+    pub fn number(&self) -> u64
+        ensures { result ≡ self.now.number }
+    {
+        self.number
+    }
+
+    /// How far it is.
+    pub fn phase(&self) -> Phase
+        ensures { stage_of result ≡ self.now.session.stage }
+    {
+        self.phase
+    }
+
+    /// Whether the broker shut it.
+    pub fn is_shut(&self) -> bool
+        ensures { result ≡ self.now.session.shut }
+    {
+        self.shut
+    }
+
+    /// How many more bytes it takes.
+    pub fn room(&self) -> usize
+        ensures room { result ≡ room self.now.session }
+        ensures limited { IsLimited self.now.session.unread self.now.session.shut }
+    {
+        UNREAD_LIMIT.saturating_sub(self.unread.unread())
+    }
+
+    /// Whether it can take a turn: a whole request or a bad size stands in front.
+    #[tactic(auto, unfolding(kb_machine::specs::Session::can))]
+    pub fn can_turn(&self) -> bool
+        ensures { result ≡ can self.now.session }
+    {
+        !matches!(self.unread.next(), Next::More)
+    }
+
+    /// Takes the output.
+    pub fn take_output(&mut self, alloc: Global) -> Vec<u8>
+        ensures output { result.items ≡ self.old.session.output }
+        ensures state { self.new ≡ with_session self.old (without_output self.old.session) }
+    {
+        mem::replace(&mut self.output, Vec::new(alloc))
+    }
+
+    /// Its output, where it closes.
+    pub fn into_output(self) -> Vec<u8>
+        ensures { result.items ≡ self.session.output }
+    {
+        let Connection { output, .. } = self;
+        output
+    }
+
+    /// Shuts it: unread bytes are dropped, untaken output stays.
+    pub fn shut_down(&mut self)
+        ensures { self.new ≡ with_session self.old (shut_down self.old.session) }
+    {
+        self.unread.clear();
+        self.shut = true;
+    }
+
+    /// Takes a piece. One longer than the room shuts it, and where the piece cannot be kept it is shut too.
+    #[tactic(auto, unfolding(kb_machine::specs::Session::fed))]
+    pub fn feed(&mut self, piece: &[u8]) -> Result<(), AllocError>
+        ensures ok { OnOk result (self.new ≡ with_session self.old (fed piece.now self.old.session)) }
+        ensures err { OnErr result (self.new ≡ with_session self.old (shut_down self.old.session)) }
+    {
+        if self.shut {
+            return Ok(());
+        }
+        if self.room() < piece.len() {
+            self.shut_down();
+            return Ok(());
+        }
+        let kept = self.unread.push(piece);
+        if kept.is_err() {
+            self.shut_down();
+        }
+        kept
+    }
+
+    /// Serves the request in front of a greeting connection. Where memory is refused it is shut.
+    pub fn greet(
+        &mut self,
+        alloc: Global,
+        setup: &Setup,
+        handshaken: bool,
+    ) -> Result<(), AllocError>
+        requires { self.old.session.stage ≡ Greets handshaken }
+        ensures ok { OnOk result (self.new ≡ with_session self.old (greeted setup.now handshaken self.old.session)) }
+        ensures err { OnErr result (self.new ≡ with_session self.old (shut_down self.old.session)) }
+    {
+        match self.unread.next() {
+            Next::More => Ok(()),
+            Next::TooSmall | Next::TooLarge => {
+                self.shut_down();
+                Ok(())
+            }
+            Next::Frame(frame) => {
+                let reaction = greeting_reaction(alloc, setup, handshaken, frame.as_slice());
+                self.take_turn(alloc, setup, reaction)
+            }
+        }
+    }
+
+    /// Serves the request in front of a bound connection. Where memory is refused it is shut.
+    pub fn serve(&mut self, alloc: Global, setup: &Setup) -> Result<(), AllocError>
+        ensures ok { (kept : Kept) (clock : ℕ) → OnOk result (self.new ≡ with_session self.old (served setup.now kept clock self.old.session)) }
+        ensures err { OnErr result (self.new ≡ with_session self.old (shut_down self.old.session)) }
+    {
+        match self.unread.next() {
+            Next::More => Ok(()),
+            Next::TooSmall | Next::TooLarge => {
+                self.shut_down();
+                Ok(())
+            }
+            Next::Frame(frame) => {
+                let reaction = bound_reaction(alloc, frame.as_slice());
+                self.take_turn(alloc, setup, reaction)
+            }
+        }
+    }
+
+    /// Leaves the request in front behind and reacts.
+    fn take_turn(
+        &mut self,
+        alloc: Global,
+        setup: &Setup,
+        reaction: Result<(i32, Reaction), AllocError>,
+    ) -> Result<(), AllocError>
+        ensures ok { OnOk result (IfReacts reaction (λ id what. self.new ≡ with_session self.old (reacted setup.now what id (without_front self.old.session)))) }
+        ensures err { OnErr result (self.new ≡ with_session self.old (shut_down self.old.session)) }
+    {
+        self.unread.skip();
+        let done = match reaction {
+            Ok((correlation_id, reaction)) => self.react(alloc, setup, correlation_id, reaction),
+            Err(e) => Err(e),
+        };
+        if done.is_err() {
+            self.shut_down();
+        }
+        done
+    }
+
+    /// Does what a request came to. An `Err` leaves everything as it was.
+    fn react(
+        &mut self,
+        alloc: Global,
+        setup: &Setup,
+        correlation_id: i32,
+        reaction: Reaction,
+    ) -> Result<(), AllocError>
+        ensures ok { OnOk result (self.new ≡ with_session self.old (reacted setup.now reaction correlation_id self.old.session)) }
+        ensures err { OnErr result (self.new ≡ self.old) }
+    {
+        match reaction {
+            Reaction::Versions(code) => {
+                let body = versions_body(alloc, setup.versions(), code)?;
+                self.reply(correlation_id, &body)
+            }
+            Reaction::Accepts => {
+                let body = handshake_body(alloc, ErrorCode::None)?;
+                self.reply(correlation_id, &body)?;
+                self.phase = Phase::Greets(true);
+                Ok(())
+            }
+            Reaction::Handshake(code) => {
+                let body = handshake_body(alloc, code)?;
+                self.reply(correlation_id, &body)
+            }
+            Reaction::IllegalState => {
+                let text = Text::new("illegal SASL state");
+                let body = authenticate_body(alloc, ErrorCode::IllegalSaslState, Some(text))?;
+                self.reply(correlation_id, &body)
+            }
+            Reaction::LogsIn(tenant) => {
+                let body = authenticate_body(alloc, ErrorCode::None, None)?;
+                self.reply(correlation_id, &body)?;
+                self.phase = Phase::Bound(tenant);
+                Ok(())
+            }
+            Reaction::Denies => {
+                let text = Text::new("authentication failed");
+                let body = authenticate_body(
+                    alloc,
+                    ErrorCode::SaslAuthenticationFailed,
+                    Some(text),
+                )?;
+                self.reply(correlation_id, &body)?;
+                self.shut_down();
+                Ok(())
+            }
+            Reaction::Shuts => {
+                self.shut_down();
+                Ok(())
+            }
+        }
+    }
+
+    /// Adds a reply to the output. One whose size fits no INT32 is not sent and shuts the connection. An `Err` leaves
+    /// everything as it was.
+    #[tactic(auto, unfolding(kb_machine::specs::Session::replied, kb_machine::specs::Requests::reply))]
+    fn reply(&mut self, correlation_id: i32, body: &[u8]) -> Result<(), AllocError>
+        ensures ok { OnOk result (self.new ≡ with_session self.old (replied correlation_id body.now self.old.session)) }
+        ensures err { OnErr result (self.new ≡ self.old) }
+    {
+        if body.len() > REPLY_LIMIT - 4 {
+            self.shut_down();
+            return Ok(());
+        }
+        append_reply(&mut self.output, correlation_id, body)
+    }
+}
+
+/// What a greeting connection's request comes to, under its correlation id.
+fn greeting_reaction(
+    alloc: Global,
+    setup: &Setup,
+    handshaken: bool,
+    frame: &[u8],
+) -> Result<(i32, Reaction), AllocError>
+    ensures { let r = request frame.now in IfOk result (λ done. (s : Session) → reacted setup.now done.1 done.0 s ≡ greeted_by setup.now handshaken r.correlation_id r.asked s) }
+{
+    let request = Request::read(alloc, frame)?;
+    Ok((
+        request.correlation_id,
+        Reaction::greeting(setup, handshaken, &request.asked),
+    ))
+}
+
+/// What a bound connection's request comes to, under its correlation id.
+fn bound_reaction(alloc: Global, frame: &[u8]) -> Result<(i32, Reaction), AllocError>
+    ensures { let r = request frame.now in IfOk result (λ done. (setup : Setup) (kept : Kept) (clock : ℕ) (s : Session) → reacted setup done.1 done.0 s ≡ served_by setup kept clock r.correlation_id r.asked s) }
+{
+    let request = Request::read(alloc, frame)?;
+    Ok((request.correlation_id, Reaction::bound(&request.asked)))
+}
+
+/// Adds a size, a correlation id and a body, all or nothing.
+fn append_reply(output: &mut Vec<u8>, correlation_id: i32, body: &[u8]) -> Result<(), AllocError>
+    requires { reply_size body.now < 2 ^ 31 }
+    ensures ok { OnOk result (output.new.items ≡ output.old.items ++ reply correlation_id body.now) }
+    ensures err { OnErr result (output.new.items ≡ output.old.items) }
+{
+    let size = (4 + body.len()) as i32;
+    output.try_reserve(8 + body.len())?;
+    output.extend_from_slice(&size.to_be_bytes())?;
+    output.extend_from_slice(&correlation_id.to_be_bytes())?;
+    output.extend_from_slice(body)
+}

@@ -1,0 +1,19 @@
+//! One connection of a broker: its unread bytes, its untaken output, and how far it is.
+//!
+//! A [`Connection`] is fed pieces and takes turns: in each it reads the request in front (Kafka protocol guide, "Request
+//! Header") and reacts. One that greets is served the versions and the SASL messages (Kafka protocol guide, "SASL Authentication
+//! Sequence"; RFC 4616), by what is fixed in a [`Setup`]; one that is bound to a tenant is served the tenant's requests, which
+//! are none so far. A contract sees it as a line of `kb_machine`'s worlds, so each call is a word of the one-tenant machine.
+#![tactic(auto)]
+
+mod connection;
+mod reaction;
+mod reply;
+mod request;
+mod setup;
+
+pub use connection::{Connection, Phase};
+pub use setup::{Login, Setup};
+
+#[cfg(test)]
+mod tests;

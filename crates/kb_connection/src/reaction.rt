@@ -1,0 +1,67 @@
+//! What a request comes to for its connection.
+
+ghost use Rattle.std.specs.Prelude.{◌≡◌, ℤ, ℕ};
+ghost use Rattle.kb_machine.specs.Session.{Session};
+ghost use Rattle.kb_machine.specs.Tenant.{Kept};
+ghost use Rattle.kb_machine.specs.Greeting.{Setup, greeted_by};
+ghost use Rattle.kb_machine.specs.Machine.{served_by};
+ghost use Rattle.kb_connection.specs.View.{asked_of};
+ghost use Rattle.kb_connection.specs.Reactions.{reacted};
+
+use crate::request::Asked;
+use crate::setup::Setup;
+use kb_api_group::ErrorCode;
+
+/// What a request comes to for its connection.
+#[derive(Clone, Copy, Debug, PartialEq, Eq)]
+pub enum Reaction {
+    /// The versions are listed, under a code.
+    Versions(ErrorCode),
+    /// The mechanism is accepted.
+    Accepts,
+    /// A handshake is answered with a code, and nothing changes.
+    Handshake(ErrorCode),
+    /// The SASL request came out of turn.
+    IllegalState,
+    /// The connection is bound to a tenant.
+    LogsIn(usize),
+    /// The login is answered with a refusal, and the connection is shut.
+    Denies,
+    /// The connection is shut without a reply.
+    Shuts,
+}
+
+impl Reaction {
+    /// What a request of a greeting connection comes to (Kafka protocol guide, "SASL Authentication Sequence").
+    #[tactic(auto, unfolding(kb_machine::specs::Greeting::greeted_by))]
+    pub fn greeting(setup: &Setup, handshaken: bool, asked: &Asked<'_>) -> Reaction
+        ensures { (id : ℤ) (s : Session) → reacted setup.now result id s ≡ greeted_by setup.now handshaken id (asked_of asked.now) s }
+    {
+        match asked {
+            Asked::Versions => Reaction::Versions(ErrorCode::None),
+            Asked::OtherVersions => Reaction::Versions(ErrorCode::UnsupportedVersion),
+            Asked::Handshake(mechanism) if mechanism.as_str() == "PLAIN" => Reaction::Accepts,
+            Asked::Handshake(_) => Reaction::Handshake(ErrorCode::UnsupportedSaslMechanism),
+            Asked::Authenticate(_) if !handshaken => Reaction::IllegalState,
+            Asked::Authenticate(message) => match setup.login(message.as_slice()) {
+                Some(tenant) => Reaction::LogsIn(tenant),
+                None => Reaction::Denies,
+            },
+            Asked::Another { .. } | Asked::Unread => Reaction::Shuts,
+        }
+    }
+
+    /// What a request of a bound connection comes to: no request of a tenant is served so far.
+    #[tactic(auto, unfolding(kb_machine::specs::Machine::served_by, kb_machine::specs::Tenant::answer))]
+    pub fn bound(asked: &Asked<'_>) -> Reaction
+        ensures { (setup : Setup) (kept : Kept) (clock : ℕ) (id : ℤ) (s : Session) → reacted setup result id s ≡ served_by setup kept clock id (asked_of asked.now) s }
+    {
+        match asked {
+            Asked::Versions => Reaction::Versions(ErrorCode::None),
+            Asked::OtherVersions => Reaction::Versions(ErrorCode::UnsupportedVersion),
+            Asked::Handshake(_) => Reaction::Handshake(ErrorCode::IllegalSaslState),
+            Asked::Authenticate(_) => Reaction::IllegalState,
+            Asked::Another { .. } | Asked::Unread => Reaction::Shuts,
+        }
+    }
+}

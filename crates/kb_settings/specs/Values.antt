@@ -1,0 +1,40 @@
+-- The settings as bytes and numbers, and the standard ones.
+use Rattle.std.specs.Prelude.{ℕ, List, [], ◌∷◌, map, Option, None, option_map, string_bytes, codes}
+use Rattle.kb_settings.specs.declared.settings.User.{User}
+use Rattle.kb_settings.specs.declared.settings.Settings.{Settings}
+
+pub record Account : Type 0 where
+  pub name : List ℕ
+  pub password : List ℕ
+  pub tenant : List ℕ
+
+pub record Values : Type 0 where
+  pub host : List ℕ
+  pub port : ℕ
+  pub segment_bytes : ℕ
+  pub cache_batches : ℕ
+  pub folder : Option (List ℕ)
+  pub users : List Account
+
+abbrev pub account_of : User → Account
+account_of u = record { name = string_bytes u.name; password = string_bytes u.password; tenant = string_bytes u.tenant }
+
+abbrev pub values_of : Settings → Values
+values_of s = record {
+  host = string_bytes s.host;
+  port = s.port;
+  segment_bytes = s.segment_bytes;
+  cache_batches = s.cache_batches;
+  folder = option_map string_bytes s.folder;
+  users = map account_of s.users.items;
+}
+
+abbrev pub ann : Account
+ann = record { name = codes "ann"; password = codes "pw1"; tenant = codes "a" }
+
+abbrev pub bob : Account
+bob = record { name = codes "bob"; password = codes "pw2"; tenant = codes "b" }
+
+-- the standard settings
+abbrev pub standard : Values
+standard = record { host = codes "localhost"; port = 9092; segment_bytes = 16777216; cache_batches = 1024; folder = None; users = ann ∷ bob ∷ [] }

@@ -1,0 +1,86 @@
+//! The settings of a broker. The types keep their limits.
+
+ghost use Rattle.std.specs.Prelude.{◌≡◌, ◌≤◌, IsTrue, IfOk, map, string_bytes, length};
+ghost use Rattle.kb_settings.specs.Settings.{is_host, is_credential, is_tenant, are_different};
+ghost use Rattle.kb_settings.specs.Names.{in_order};
+
+use std::alloc::{AllocError, Global};
+
+/// A user: what it logs in with, and its tenant. It has no `Debug`, which would print the password.
+#[derive(Drop)]
+pub struct User {
+    /// 1 to 255 bytes, none of them NUL. No other user has it.
+    pub name: String,
+    /// 1 to 255 bytes, none of them NUL.
+    pub password: String,
+    /// The tenant's name: 1 to 64 of the characters `a-z A-Z 0-9 . _ -`.
+    pub tenant: String,
+    pub ghost name_fits: { IsTrue (is_credential (string_bytes name)) },
+    pub ghost password_fits: { IsTrue (is_credential (string_bytes password)) },
+    pub ghost tenant_fits: { IsTrue (is_tenant (string_bytes tenant)) },
+}
+
+impl User {
+    /// A user of these texts, within their limits.
+    pub fn new(alloc: Global, name: &str, password: &str, tenant: &str) -> Result<User, AllocError>
+        requires name { IsTrue (is_credential name.now) }
+        requires password { IsTrue (is_credential password.now) }
+        requires tenant { IsTrue (is_tenant tenant.now) }
+        ensures name { IfOk result (λ user. string_bytes user.name ≡ name.now) }
+        ensures password { IfOk result (λ user. string_bytes user.password ≡ password.now) }
+        ensures tenant { IfOk result (λ user. string_bytes user.tenant ≡ tenant.now) }
+    {
+        Ok(User {
+            name: String::from_str(alloc, name)?,
+            password: String::from_str(alloc, password)?,
+            tenant: String::from_str(alloc, tenant)?,
+        })
+    }
+}
+
+/// The settings of a broker.
+#[derive(Drop)]
+pub struct Settings {
+    /// The host that clients are told to connect to: 1 to 255 bytes.
+    pub host: String,
+    /// The port that is listened on, from 1.
+    pub port: u16,
+    /// The size in bytes past which a log begins a new file: 4,096 to 1,073,741,824.
+    pub segment_bytes: u32,
+    /// How many read batches are kept in memory: 1 to 65,536.
+    pub cache_batches: u32,
+    /// The data folder, where there is one.
+    pub folder: Option<String>,
+    /// 1 to 1,000 users, no two of one name, of at most 256 different tenants.
+    pub users: Vec<User>,
+    pub ghost host_fits: { IsTrue (is_host (string_bytes host)) },
+    pub ghost port_fits: { 1 ≤ port },
+    pub ghost segment_bytes_fit: { (4096 ≤ segment_bytes) × (segment_bytes ≤ 1073741824) },
+    pub ghost cache_batches_fit: { (1 ≤ cache_batches) × (cache_batches ≤ 65536) },
+    pub ghost users_fit: { (1 ≤ length users.items) × (length users.items ≤ 1000) },
+    pub ghost names_differ: { IsTrue (are_different (map (λ u. string_bytes u.name) users.items)) },
+    pub ghost tenants_fit: { length (in_order (map (λ u. string_bytes u.tenant) users.items)) ≤ 256 },
+}
+
+impl Settings {
+    ghost use Rattle.kb_settings.specs.Values.{values_of, standard};
+
+    /// The settings of a text that names two users alone: `ann` with password `pw1` of tenant `a`, and `bob` with password
+    /// `pw2` of tenant `b`. The host is `localhost`, the port 9092, a file has 16,777,216 bytes, 1,024 read batches are kept,
+    /// and there is no folder.
+    pub fn standard(alloc: Global) -> Result<Settings, AllocError>
+        ensures { IfOk result (λ settings. values_of settings ≡ standard) }
+    {
+        let mut users = Vec::new(alloc);
+        users.push(User::new(alloc, "ann", "pw1", "a")?)?;
+        users.push(User::new(alloc, "bob", "pw2", "b")?)?;
+        Ok(Settings {
+            host: String::from_str(alloc, "localhost")?,
+            port: 9092,
+            segment_bytes: 16_777_216,
+            cache_batches: 1024,
+            folder: None,
+            users,
+        })
+    }
+}

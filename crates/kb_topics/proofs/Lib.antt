@@ -6,5 +6,6 @@ pub mod KindWritten
 pub mod Links
 pub mod Numerals
 pub mod Said
+pub mod Sizes
 pub mod Steps
 pub mod Topics

@@ -1,9 +1,11 @@
 pub mod Appending
 pub mod CommandFits
 pub mod Commits
+pub mod InOrder
 pub mod KindWritten
 pub mod Links
 pub mod Numerals
 pub mod Said
+pub mod Sizes
 pub mod Steps
 pub mod Topics

@@ -30,7 +30,7 @@ same_number k i e = eqb-true k i (sym (unsigned_tied k i) ∙ e)
 pub own_number : (k : ℕ) → is_at (nat_cmp k) k ≡ true
 own_number k = unsigned_tied k k ∙ eq-eqb k k refl
 
-topic_in_tail : (j : ℕ) (e : ℕ × TopicState) (ts : List (ℕ × TopicState)) (u : TopicState) → IsStrictlySortedBy nat_cmp (keys_of (e ∷ ts)) → topic_at j ts ≡ Some u → topic_at j (e ∷ ts) ≡ Some u
+pub topic_in_tail : (j : ℕ) (e : ℕ × TopicState) (ts : List (ℕ × TopicState)) (u : TopicState) → IsStrictlySortedBy nat_cmp (keys_of (e ∷ ts)) → topic_at j ts ≡ Some u → topic_at j (e ∷ ts) ≡ Some u
 topic_in_tail j e ts u s f =
     elim (cases (is_at (nat_cmp j) e.0)) [
       | inl t ↦ let none : topic_at j ts ≡ None = lookup-none _ ts (none_past_head (eq_by_cmp_equiv nat_cmp_total) j e ts (IsDistinct-from_sorted nat_cmp (keys_of (e ∷ ts)) s) t) in absurd cc

@@ -94,7 +94,7 @@ starved a old new c answer refusal none same = (subst (λ r. IsCause a r faults.
 
 -- ---- a topic is made
 
-chain : (legal there count limits many used : Bool) → cond (not legal) (Some faults.Name) (cond there (Some faults.Exists) (cond (not count) (Some faults.Partitions) (cond (not limits) (Some faults.Limit) (cond many (Some faults.TooMany) (cond used (Some faults.UsedUp) None))))) ≡ None → (legal ≡ true) × (there ≡ false) × (count ≡ true) × (limits ≡ true) × (many ≡ false) × (used ≡ false)
+chain : (legal there count limits many used : Bool) → cond (not legal) (Some faults.Name) (cond there (Some faults.Exists) (cond (not count) (Some faults.Partitions) (cond (not limits) (Some faults.Limit) (cond many (Some faults.TooMany) (cond used (Some faults.Full) None))))) ≡ None → (legal ≡ true) × (there ≡ false) × (count ≡ true) × (limits ≡ true) × (many ≡ false) × (used ≡ false)
 chain false there count limits many used e = absurd cc
 chain true true count limits many used e = absurd cc
 chain true false false limits many used e = absurd cc

@@ -1,3 +1,4 @@
+pub mod ByName
 pub mod Calls
 pub mod Catalog
 pub mod CatalogFault

@@ -14,7 +14,7 @@ create_refusal k name partitions config =
     else (if not (is_partition_count partitions) then Some faults.Partitions
     else (if not (is_limit config.retention_ms && is_limit config.retention_bytes) then Some faults.Limit
     else (if nat_le 1000 (length k.topics) then Some faults.TooMany
-    else (if nat_le (2 ^ 63 - 1) k.creates then Some faults.UsedUp else None)))))
+    else (if nat_le (2 ^ 63 - 1) k.creates then Some faults.Full else None)))))
 
 -- the topic is there
 abbrev pub delete_refusal : Option ℕ → Option CatalogFault

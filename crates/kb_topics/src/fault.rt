@@ -32,10 +32,10 @@ pub enum CatalogFault {
     /// The start would go back.
     #[error("the start would go back")]
     Back,
-    /// Every number was given out.
-    #[error("no number is left")]
+    /// Every producer id was given out.
+    #[error("no producer id is left")]
     UsedUp,
-    /// The meta log is full.
+    /// The meta log is full, or every instance was given out.
     #[error("the meta log is full")]
     Full,
     /// The store refused.
@@ -44,6 +44,28 @@ pub enum CatalogFault {
     /// Memory ran out.
     #[error("out of memory")]
     Memory,
+}
+
+impl CatalogFault {
+    ghost use Rattle.kb_topics.specs.CatalogFault.{code_of};
+
+    /// The error code of the Kafka protocol guide.
+    pub fn code(&self) -> i16
+        ensures { result ≡ code_of self.now }
+    {
+        match self {
+            CatalogFault::Name => 17,
+            CatalogFault::Exists => 36,
+            CatalogFault::Partitions => 37,
+            CatalogFault::Limit => 40,
+            CatalogFault::TooMany => 44,
+            CatalogFault::Unknown => 3,
+            CatalogFault::Metadata => 12,
+            CatalogFault::Back => 1,
+            CatalogFault::Full | CatalogFault::Store => 56,
+            CatalogFault::UsedUp | CatalogFault::Memory => -1,
+        }
+    }
 }
 
 impl From<AllocError> for CatalogFault {

@@ -10,6 +10,7 @@
 
 mod append;
 mod batch;
+mod by_name;
 mod catalog;
 mod command;
 mod config;
@@ -19,6 +20,7 @@ mod name;
 mod topic;
 
 pub use batch::meta_batch;
+pub use by_name::TopicsByName;
 pub use catalog::Catalog;
 pub use command::{Command, CommitOffset, CreateTopic, MoveStart};
 pub use config::{ConfigEntry, ConfigReader, TopicConfig, config_entry};

@@ -1,6 +1,7 @@
 pub mod Appending
 pub mod CommandFits
 pub mod Commits
+pub mod Committing
 pub mod KindWritten
 pub mod Links
 pub mod Numerals

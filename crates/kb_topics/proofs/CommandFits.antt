@@ -3,9 +3,10 @@ use Rattle.std.proofs.Common.{◌<◌, ◌^◌, ℕ, ℤ, List, length}
 use Rattle.kb_wire.specs.Codec.{int}
 use Rattle.kb_wire.specs.Fits.{string_fits}
 use Rattle.kb_topics.specs.declared.command.CreateTopic.{CreateTopic}
+use Rattle.kb_topics.specs.declared.command.CommitOffset.{CommitOffset}
 use Rattle.kb_topics.specs.declared.command.MoveStart.{MoveStart}
-use Rattle.kb_topics.specs.declared.command.Command.TheVariants.{Create, Delete, Issue, Start}
-use Rattle.kb_topics.specs.Layouts.{command_codec, create_topic, move_start}
+use Rattle.kb_topics.specs.declared.command.Command.TheVariants.{Create, Delete, Issue, Commit, Start}
+use Rattle.kb_topics.specs.Layouts.{command_codec, create_topic, commit_offset, move_start}
 
 pub create_fits : (c : CreateTopic) → length c.name < 2 ^ 15 → command_codec.Fits (Create c)
 unfolding command_codec create_topic int
@@ -18,6 +19,10 @@ delete_fits name lt = (tt, string_fits name lt)
 pub issue_fits : (id : ℤ) → command_codec.Fits (Issue id)
 unfolding command_codec int
 issue_fits id = (tt, tt)
+
+pub commit_fits : (c : CommitOffset) → length c.group < 2 ^ 15 → length c.metadata < 2 ^ 15 → command_codec.Fits (Commit c)
+unfolding command_codec commit_offset int
+commit_fits c lt short = (tt, (string_fits c.group lt, (tt, (tt, (tt, string_fits c.metadata short)))))
 
 pub start_fits : (s : MoveStart) → command_codec.Fits (Start s)
 unfolding command_codec move_start int

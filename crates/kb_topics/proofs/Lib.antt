@@ -2,6 +2,7 @@ pub mod Appending
 pub mod CommandFits
 pub mod Commits
 pub mod InOrder
+pub mod Committing
 pub mod KindWritten
 pub mod Links
 pub mod Numerals

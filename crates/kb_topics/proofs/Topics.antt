@@ -1,17 +1,16 @@
 -- What a catalog's topics are after a change.
-use Rattle.std.proofs.Common.{◌≡◌, ◌∙◌, ◌+◌, ◌<◌, ℕ, zero, suc, cond, List, [], ◌∷◌, ◌++◌, Option, Some, None, inl, inr, refl, sym, ap, subst, length, arith}
-use Rattle.std.specs.Prelude.{ℤ, pos, replicate, slice_get, slice_index_or, IsSome, IfSome, MatchOption}
-use Rattle.std.specs.declared.cmp.Ordering.{Ordering}
-use Rattle.std.specs.declared.cmp.Ordering.TheVariants.{Less, Equal, Greater}
-use Rattle.std.specs.Ordering.{nat_cmp, is_eq, match_ordering}
+use Rattle.std.proofs.Common.{◌≡◌, ◌∙◌, ◌+◌, ◌<◌, ℕ, zero, suc, cond, List, [], ◌∷◌, ◌++◌, Option, Some, None, Result, Ok, Err, OnOk, OnErr, IfOk, inl, inr, refl, sym, ap, subst, length, arith}
+use Rattle.std.specs.Prelude.{pos, replicate, slice_get, slice_index_or, IsSome, IfSome, MatchOption}
+use Rattle.std.specs.Ordering.{nat_cmp}
 use Rattle.std.specs.Map.{keys_of, remove_entry, set_value}
 use Rattle.std.specs.BTreeMap.{BTreeMap, get_by_text, is_at, insert_entry}
 use Rattle.std.specs.Option.{option_and_then}
-use Rattle.kb_topics.specs.Known.{Known, PartitionState, TopicState, topic_at, named, partition_at, new_partition, without_topic, with_part, with_start, with_partition, put_topic}
+use Rattle.kb_topics.specs.Known.{Known, PartitionState, TopicState, topic_at, named, partition_at, new_partition, without_topic, with_part, with_partition, put_topic}
 use Rattle.std.specs.List.Sorted.{IsStrictlySortedBy}
 use Rattle.std.specs.Str.{bytes_eq}
 use Rattle.std.specs.declared.string.String.{String}
 use Rattle.kb_topics.specs.Linked.{IsLinked}
+use Rattle.kb_topics.proofs.Commits.{removed_inserted}
 use Rattle.kb_topics.proofs.Links.{own_number, cases, bytes_same, bytes_alike, named_is, linked_added}
 
 pub replicate_more : {A : Type 0} (n : ℕ) (x : A) → replicate n x ++ x ∷ [] ≡ replicate (n + 1) x
@@ -20,19 +19,9 @@ replicate_more (suc n) x =
     let e : suc (n + 1) ≡ suc n + 1 = omega arith in
     ap (λ xs. x ∷ xs) (replicate_more n x) ∙ ap (λ m. replicate m x) e
 
-removed_by : (n : ℕ) (t : TopicState) (e : ℕ × TopicState) (ts : List (ℕ × TopicState)) (o : Ordering) → nat_cmp n e.0 ≡ o → topic_at n (e ∷ ts) ≡ None → (topic_at n ts ≡ None → remove_entry (is_at (nat_cmp n)) (insert_entry nat_cmp ts n t) ≡ ts) → remove_entry (is_at (nat_cmp n)) (match_ordering o ((n, t) ∷ e ∷ ts) ((e.0, t) ∷ ts) (e ∷ insert_entry nat_cmp ts n t)) ≡ e ∷ ts
-removed_by n t e ts Less c none more = ap (λ b. cond b (e ∷ ts) ((n, t) ∷ remove_entry (is_at (nat_cmp n)) (e ∷ ts))) (own_number n)
-removed_by n t e ts Equal c none more =
-    let here : topic_at n (e ∷ ts) ≡ Some e.1 = ap (λ o. cond (is_eq o) (Some e.1) (topic_at n ts)) c in
-    absurd cc
-removed_by n t e ts Greater c none more =
-    let later : topic_at n ts ≡ None = sym (ap (λ o. cond (is_eq o) (Some e.1) (topic_at n ts)) c) ∙ none in
-    ap (λ o. cond (is_eq o) (insert_entry nat_cmp ts n t) (e ∷ remove_entry (is_at (nat_cmp n)) (insert_entry nat_cmp ts n t))) c ∙ ap (λ us. e ∷ us) (more later)
-
 -- what was put under a new number and taken out
 pub remove_inserted : (n : ℕ) (t : TopicState) (ts : List (ℕ × TopicState)) → topic_at n ts ≡ None → remove_entry (is_at (nat_cmp n)) (insert_entry nat_cmp ts n t) ≡ ts
-remove_inserted n t [] none = ap (λ b. cond b [] ((n, t) ∷ [])) (own_number n)
-remove_inserted n t (e ∷ ts) none = removed_by n t e ts (nat_cmp n e.0) refl none (remove_inserted n t ts)
+remove_inserted n t ts none = removed_inserted nat_cmp n (own_number n) t ts none
 
 -- a partition that is there
 found_part : (ps : List PartitionState) (m : ℕ) (part : PartitionState) → slice_get ps m ≡ Some part → slice_index_or ps m new_partition ≡ part
@@ -48,16 +37,43 @@ part_within (p ∷ ps) (suc m) e = let lt = part_within ps m e in omega arith
 pub there_within : (k : Known) (n m : ℕ) (t : TopicState) → topic_at n k.topics ≡ Some t → IsSome (partition_at k (pos n) (pos m)) → m < length t.partitions
 there_within k n m t e some = part_within t.partitions m (subst (λ o. IsSome (option_and_then (λ (u : TopicState). slice_get u.partitions m) o)) e some)
 
-start_put : (k : Known) (n m : ℕ) (offset : ℤ) (t : TopicState) (ts' : List (ℕ × TopicState)) (o : Option PartitionState) → topic_at n k.topics ≡ Some t → ts' ≡ set_value (is_at (nat_cmp n)) k.topics (with_part m (with_start (slice_index_or t.partitions m new_partition) offset) t) → slice_get t.partitions m ≡ o → IfSome o (λ part. record k { topics = ts' } ≡ with_partition k (pos n) (pos m) (with_start part offset))
-start_put k n m offset t ts' None e f g = tt
-start_put k n m offset t ts' (Some part) e f g =
-    ap (λ us. record k { topics = us }) (f ∙ ap (λ p. set_value (is_at (nat_cmp n)) k.topics (with_part m (with_start p offset) t)) (found_part t.partitions m part g))
-    ∙ sym (ap (λ o. record k { topics = put_topic n m (with_start part offset) k.topics o }) e)
+part_put : (k : Known) (n m : ℕ) (new : PartitionState → PartitionState) (t : TopicState) (ts' : List (ℕ × TopicState)) (o : Option PartitionState) → topic_at n k.topics ≡ Some t → ts' ≡ set_value (is_at (nat_cmp n)) k.topics (with_part m (new (slice_index_or t.partitions m new_partition)) t) → slice_get t.partitions m ≡ o → IfSome o (λ part. record k { topics = ts' } ≡ with_partition k (pos n) (pos m) (new part))
+part_put k n m new t ts' None e f g = tt
+part_put k n m new t ts' (Some part) e f g =
+    ap (λ us. record k { topics = us }) (f ∙ ap (λ p. set_value (is_at (nat_cmp n)) k.topics (with_part m (new p) t)) (found_part t.partitions m part g))
+    ∙ sym (ap (λ o. record k { topics = put_topic n m (new part) k.topics o }) e)
 
-pub start_set : (k : Known) (n m : ℕ) (offset : ℤ) (t : TopicState) (ts' : List (ℕ × TopicState)) → topic_at n k.topics ≡ Some t → ts' ≡ set_value (is_at (nat_cmp n)) k.topics (with_part m (with_start (slice_index_or t.partitions m new_partition) offset) t) → IfSome (partition_at k (pos n) (pos m)) (λ part. record k { topics = ts' } ≡ with_partition k (pos n) (pos m) (with_start part offset))
-start_set k n m offset t ts' e f =
-    subst (λ o. IfSome (option_and_then (λ (u : TopicState). slice_get u.partitions m) o) (λ part. record k { topics = ts' } ≡ with_partition k (pos n) (pos m) (with_start part offset))) (sym e)
-    (start_put k n m offset t ts' (slice_get t.partitions m) e f refl)
+-- a partition that was changed
+pub part_set : (k : Known) (n m : ℕ) (new : PartitionState → PartitionState) (t : TopicState) (ts' : List (ℕ × TopicState)) → topic_at n k.topics ≡ Some t → ts' ≡ set_value (is_at (nat_cmp n)) k.topics (with_part m (new (slice_index_or t.partitions m new_partition)) t) → IfSome (partition_at k (pos n) (pos m)) (λ part. record k { topics = ts' } ≡ with_partition k (pos n) (pos m) (new part))
+part_set k n m new t ts' e f =
+    subst (λ o. IfSome (option_and_then (λ (u : TopicState). slice_get u.partitions m) o) (λ part. record k { topics = ts' } ≡ with_partition k (pos n) (pos m) (new part))) (sym e)
+    (part_put k n m new t ts' (slice_get t.partitions m) e f refl)
+
+held_by : (ps : List PartitionState) (m : ℕ) (P : PartitionState → Type 0) (o : Option PartitionState) → slice_get ps m ≡ o → P (slice_index_or ps m new_partition) → IfSome o P
+held_by ps m P None e h = tt
+held_by ps m P (Some part) e h = subst P (found_part ps m part e) h
+
+-- what holds of a topic's partition
+pub part_holds : (k : Known) (n m : ℕ) (t : TopicState) (P : PartitionState → Type 0) → topic_at n k.topics ≡ Some t → P (slice_index_or t.partitions m new_partition) → IfSome (partition_at k (pos n) (pos m)) P
+part_holds k n m t P e h =
+    subst (λ o. IfSome (option_and_then (λ (u : TopicState). slice_get u.partitions m) o) P) (sym e) (held_by t.partitions m P (slice_get t.partitions m) refl h)
+
+-- a change that may be refused keeps the name
+pub name_kept : {T E : Type 0} (r : Result T E) (t u : TopicState) (m : ℕ) (part : PartitionState) → OnOk r (u ≡ with_part m part t) → OnErr r (u ≡ t) → u.name ≡ t.name
+name_kept (Ok x) t u m part h g = ap (λ (v : TopicState). v.name) h
+name_kept (Err f) t u m part h g = ap (λ (v : TopicState). v.name) g
+
+pub on_ok_then : {T E P Q : Type 0} (r : Result T E) → (P → Q) → OnOk r P → OnOk r Q
+on_ok_then (Ok x) f h = f h
+on_ok_then (Err e) f h = tt
+
+pub on_err_then : {T E P Q : Type 0} (r : Result T E) → (P → Q) → OnErr r P → OnErr r Q
+on_err_then (Ok x) f h = tt
+on_err_then (Err e) f h = f h
+
+pub if_ok_then : {T E : Type 0} (P Q : T → Type 0) (r : Result T E) → ((x : T) → P x → Q x) → IfOk r P → IfOk r Q
+if_ok_then P Q (Ok x) f h = f x h
+if_ok_then P Q (Err e) f h = tt
 
 -- ---- what a removal by name leaves
 

@@ -98,6 +98,11 @@ with_start p offset = record p { start = offset }
 abbrev pub with_commit : PartitionState → List ℕ → CommittedOffset → PartitionState
 with_commit p group c = record p { commits = insert_entry (slice_cmp nat_cmp) p.commits group c }
 
+-- what a group had committed, or nothing, in place of what it has
+abbrev pub with_former : PartitionState → List ℕ → Option CommittedOffset → PartitionState
+with_former p group None = record p { commits = remove_entry (is_at (slice_cmp nat_cmp group)) p.commits }
+with_former p group (Some c) = record p { commits = set_value (is_at (slice_cmp nat_cmp group)) p.commits c }
+
 -- ---- commands
 
 -- at least -1

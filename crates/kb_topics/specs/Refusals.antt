@@ -1,5 +1,5 @@
 -- Why a call of the catalog is refused: the first cause, if there is one.
-use Rattle.std.specs.Prelude.{ℕ, ℤ, ◌-◌, ◌^◌, List, length, Option, Some, None, is_some, not, nat_le, int_lt, ◌&&◌, if◌then◌else◌}
+use Rattle.std.specs.Prelude.{ℕ, ℤ, ◌-◌, ◌^◌, List, length, Option, Some, None, is_some, not, nat_le, nat_lt, int_lt, ◌&&◌, if◌then◌else◌}
 use Rattle.kb_topics.specs.declared.config.TopicConfig.{TopicConfig}
 use Rattle.kb_topics.specs.declared.fault.CatalogFault.{CatalogFault}
 use Rattle.kb_topics.specs.declared.fault.CatalogFault.TheVariants as faults
@@ -29,3 +29,8 @@ issue_refusal k = if nat_le (2 ^ 63 - 1) k.issues then Some faults.UsedUp else N
 abbrev pub start_refusal : ℤ → Option PartitionState → Option CatalogFault
 start_refusal offset None = Some faults.Unknown
 start_refusal offset (Some p) = if int_lt offset p.start then Some faults.Back else None
+
+-- the partition is there, and the metadata has at most 4,096 bytes
+abbrev pub commit_refusal : List ℕ → Option PartitionState → Option CatalogFault
+commit_refusal metadata None = Some faults.Unknown
+commit_refusal metadata (Some p) = if nat_lt 4096 (length metadata) then Some faults.Metadata else None

@@ -1,4 +1,4 @@
-//! The catalog of one tenant: its topics and their settings, the starts of partitions, and its producer ids.
+//! The catalog of one tenant: its topics and their settings, the starts of partitions, what groups committed to them, and its producer ids.
 //!
 //! [`Catalog`] records each change as one [`Command`] in the tenant's meta log before it makes it, so that the catalog is what the
 //! commands of its log come to, one after another (`specs/Known.antt`). A refused call leaves the catalog and the list of batches as

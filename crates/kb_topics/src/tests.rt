@@ -351,6 +351,27 @@ fn refusals(rt: HostRuntime) -> Result<(), Fail> {
 }
 
 #[test]
+fn commits(rt: HostRuntime) -> Result<(), Fail> {
+    let mut shelf = empty_shelf(rt.alloc())?;
+    let mut catalog = empty_catalog(rt.alloc());
+    assert_eq!(rt; catalog.create(&mut shelf, "t", 1, STANDARD), Ok(0));
+    assert_eq!(rt; catalog.commit(&mut shelf, "g", 0, 0, 7, "m"), Ok(()));
+    assert_eq!(rt; catalog.commit(&mut shelf, "g", 0, 0, 5, ""), Ok(()));
+    assert_eq!(rt;
+        catalog.commit(&mut shelf, "g", 0, 1, 9, ""),
+        Err(CatalogFault::Unknown)
+    );
+    assert_eq!(rt;
+        catalog
+            .committed("g", 0, 0)
+            .map(|committed| committed.offset()),
+        Some(5)
+    );
+    assert!(rt; catalog.committed("h", 0, 0).is_none());
+    Ok(())
+}
+
+#[test]
 fn settings(rt: HostRuntime) -> Result<(), Fail> {
     let mut reader = ConfigReader::new();
     assert!(rt; reader.read("retention.ms", Some("0000")));

@@ -2,7 +2,7 @@
 ghost use Rattle.std.specs.Prelude.{◌≡◌, ◌<◌, pos, length, slice_get, slice_set, slice_index_or, replicate, OnOk, OnErr, IfOk};
 ghost use Rattle.std.specs.Option.{option_copied};
 ghost use Rattle.std.specs.String.{string_bytes};
-ghost use Rattle.kb_topics.specs.Known.{CommittedOffset, PartitionState, TopicState, new_partition, new_topic, committed_at, with_part, with_start, with_commit};
+ghost use Rattle.kb_topics.specs.Known.{CommittedOffset, PartitionState, TopicState, new_partition, new_topic, committed_at, with_part, with_start, with_commit, with_former};
 
 use crate::config::TopicConfig;
 use std::alloc::{AllocError, Global};
@@ -93,6 +93,33 @@ impl Partition {
         self.commits.get(group)
     }
 
+    /// Records what a group commits, and answers what it had committed. A refusal leaves all as it was.
+    fn commit(
+        &mut self,
+        group: String,
+        committed: Committed,
+    ) -> Result<Option<Committed>, AllocError>
+        ensures committed { OnOk result (self.new ≡ with_commit self.old (string_bytes group) committed) }
+        ensures former { IfOk result (λ former. with_former (with_commit self.old (string_bytes group) committed) (string_bytes group) former ≡ self.old) }
+        ensures refused { OnErr result (self.new ≡ self.old) }
+    {
+        Ok(self.commits.insert(group, committed)?)
+    }
+
+    /// Puts back what a group had committed. It takes no memory.
+    fn take_commit_back(&mut self, group: &str, former: Option<Committed>)
+        ensures { self.new ≡ with_former self.old group.now former }
+    {
+        let Some(former) = former else {
+            self.commits.remove(group);
+            return;
+        };
+        let Some(committed) = self.commits.get_mut(group) else {
+            return;
+        };
+        *committed = former;
+    }
+
     fn set_start(&mut self, offset: i64)
         ensures { self.new ≡ with_start self.old offset }
     {
@@ -153,6 +180,28 @@ impl Topic {
         ensures { result.now ≡ self.now.partitions }
     {
         self.partitions.as_slice()
+    }
+
+    pub(crate) fn commit(
+        &mut self,
+        place: usize,
+        group: String,
+        committed: Committed,
+    ) -> Result<Option<Committed>, AllocError>
+        requires { place < length self.old.partitions }
+        ensures committed { OnOk result (self.new ≡ with_part place (with_commit (slice_index_or self.old.partitions place new_partition) (string_bytes group) committed) self.old) }
+        ensures former { IfOk result (λ former.
+            with_former (with_commit (slice_index_or self.old.partitions place new_partition) (string_bytes group) committed) (string_bytes group) former ≡ slice_index_or self.old.partitions place new_partition) }
+        ensures refused { OnErr result (self.new ≡ self.old) }
+    {
+        self.partitions[place].commit(group, committed)
+    }
+
+    pub(crate) fn take_commit_back(&mut self, place: usize, group: &str, former: Option<Committed>)
+        requires { place < length self.old.partitions }
+        ensures { self.new ≡ with_part place (with_former (slice_index_or self.old.partitions place new_partition) group.now former) self.old }
+    {
+        self.partitions[place].take_commit_back(group, former);
     }
 
     pub(crate) fn set_start(&mut self, place: usize, offset: i64)

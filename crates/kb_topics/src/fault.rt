@@ -49,7 +49,7 @@ pub enum CatalogFault {
 impl CatalogFault {
     ghost use Rattle.kb_topics.specs.CatalogFault.{code_of};
 
-    /// The error code of the Kafka protocol guide.
+    /// The error code of the Kafka protocol guide: 17, 36, 37, 40, 44, 3, 12, 1, -1, 56, 56 or -1, in the order of the faults.
     pub fn code(&self) -> i16
         ensures { result ≡ code_of self.now }
     {

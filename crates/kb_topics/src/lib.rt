@@ -2,7 +2,8 @@
 //!
 //! [`Catalog`] records each change as one [`Command`] in the tenant's meta log before it makes it, so that the catalog is what the
 //! commands of its log come to, one after another (`specs/Known.antt`). A refused call leaves the catalog and the list of batches as
-//! they were and answers a [`CatalogFault`]. [`Topic`] and [`Partition`] are what is known of each.
+//! they were and answers a [`CatalogFault`], which has one of Kafka's error codes. [`Topic`] and [`Partition`] are what is known of
+//! each; [`TopicsByName`] gives the topics in byte order of their names (`specs/ByName.antt`).
 //!
 //! Names and settings are judged by [`is_legal_name`], [`config_entry`] and [`ConfigReader`] (Apache Kafka's rules for topic names and
 //! its names of topic settings). Look-ups by name and by instance take logarithmic time.

@@ -11,9 +11,9 @@ use std::alloc::{AllocError, Global};
 use std::process::Abort;
 use std::test::Fail;
 
-/// The meta log of the creation of `t` and of `u`, the deletion of `u`, the producer ids 0, 1 and 2, and the start of partition 0
-/// of `t` moved to 1: each batch in hexadecimal.
-const FOLDED: [&[u8]; 7] = [
+/// The meta log of the creation of `t` and of `u`, the deletion of `u`, the producer ids 0, 1 and 2, the start of partition 0 of
+/// `t` moved to 1, and the commit of offset 1 there by `g` with metadata `m`: each batch in hexadecimal.
+const FOLDED: [&[u8]; 8] = [
     b"00000000000000000000005800000000021b94e8c500000000000000000000000000000000000000000000ffffffffff\
 ffffffffffffffffff000000014c00000001400100017400000000000000000000000100000000240c8400ffffffffff\
 ffffff00",
@@ -30,6 +30,8 @@ ffffffffffffffffff000000011e000000011203000000000000000100",
 ffffffffffffffffff000000011e000000011203000000000000000200",
     b"00000000000000060000004d00000000028aed839a00000000000000000000000000000000000000000000ffffffffff\
 ffffffffffffffffff0000000136000000012a05000000000000000000000000000000000000000100",
+    b"000000000000000700000053000000000235a91e5000000000000000000000000000000000000000000000ffffffffff\
+ffffffffffffffffff0000000142000000013604000167000000000000000000000000000000000000000100016d00",
 ];
 
 /// The batch of the creation of `t`, before a log keeps it.
@@ -181,6 +183,13 @@ fn each_call(rt: HostRuntime) -> Result<(), Fail> {
     assert_eq!(rt; catalog.issue(&mut shelf), Ok(1));
     assert_eq!(rt; catalog.issue(&mut shelf), Ok(2));
     assert_eq!(rt; catalog.moved_start(&mut shelf, 0, 0, 1), Ok(()));
+    assert_eq!(rt; catalog.commit(&mut shelf, "g", 0, 0, 1, "m"), Ok(()));
+    assert_eq!(rt;
+        catalog
+            .committed("g", 0, 0)
+            .map(|committed| (committed.offset(), committed.metadata())),
+        Some((1, "m"))
+    );
     assert_eq!(rt;
         catalog.partition(0, 0).map(|partition| partition.start()),
         Some(1)
@@ -271,8 +280,13 @@ fn a_refused_growth_changes_nothing(rt: HostRuntime) -> Result<(), Fail> {
         );
         assert_eq!(rt; catalog.moved_start(&mut shelf, 0, 1, 5), Ok(()));
     }
+    if catalog.commit(&mut shelf, "g", 0, 1, 7, "m") == Err(CatalogFault::Memory) {
+        assert!(rt; catalog.committed("g", 0, 1).is_none());
+        assert_eq!(rt; catalog.log.end(), 3);
+        assert_eq!(rt; catalog.commit(&mut shelf, "g", 0, 1, 7, "m"), Ok(()));
+    }
     if catalog.delete(&mut shelf, "t") == Err(CatalogFault::Memory) {
-        assert_eq!(rt; (catalog.instance_of("t"), catalog.log.end()), (Some(0), 3));
+        assert_eq!(rt; (catalog.instance_of("t"), catalog.log.end()), (Some(0), 4));
         assert_eq!(rt; catalog.delete(&mut shelf, "t"), Ok(()));
     }
     assert_eq!(rt;
@@ -282,7 +296,7 @@ fn a_refused_growth_changes_nothing(rt: HostRuntime) -> Result<(), Fail> {
             catalog.next_producer_id(),
             catalog.log.end()
         ),
-        (0, 1, 1, 4)
+        (0, 1, 1, 5)
     );
     Ok(())
 }

@@ -8,6 +8,7 @@ use clap::Command;
 use clap::error::ErrorKind;
 use kb_node::{NodeFault, play_script};
 use std::alloc::{AllocError, Global};
+use std::io::{BufReader, BufWriter};
 use std::process::ExitCode;
 use std::{env, io};
 use thiserror::Error;
@@ -61,8 +62,19 @@ fn run(rt: &HostRuntime) -> Result<(), Fault> {
     let words: Vec<String> = args.collect(alloc)?;
     // The one subcommand is asked for: no other line is taken.
     command(alloc)?.try_get_matches_from(words.as_slice())?;
-    play_script(alloc, rt.reader(), io::writer(rt))?;
+    script(rt)?;
     Ok(())
+}
+
+/// Runs a script from standard input to standard output.
+fn script(rt: &HostRuntime) -> Result<(), NodeFault> {
+    let Ok(mut reader) = BufReader::new(rt.alloc(), rt.reader()) else {
+        return Err(NodeFault::Memory);
+    };
+    let Ok(mut writer) = BufWriter::new(rt.alloc(), io::writer(rt)) else {
+        return Err(NodeFault::Memory);
+    };
+    play_script(rt.alloc(), &mut reader, &mut writer)
 }
 
 fn main(rt: HostRuntime) -> ExitCode {

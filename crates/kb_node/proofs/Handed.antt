@@ -1,0 +1,71 @@
+-- What is handed on after a script.
+use Rattle.std.proofs.Common.{◌≡◌, ℕ, List, Option, None, Some, IfSome, Result, Ok, Err, OnOk, IfErr, IsOk, subst, inl, inr}
+use Rattle.std.specs.Io.KnownBytes.{Keeps}
+use Rattle.std.proofs.KnownBytes.{Appends-kept}
+use Rattle.kb_machine.specs.Machine.{Happening}
+use Rattle.kb_machine.specs.Broker.{BrokerState}
+use Rattle.kb_broker.specs.declared.script.ScriptFault.{ScriptFault}
+use Rattle.kb_broker.specs.declared.script.ScriptFault.TheVariants as script_faults
+use Rattle.kb_broker.specs.Script.{Script, script}
+use Rattle.kb_broker.specs.ScriptRun.{IsWritten, IsWrittenInPart, IsPlayed, IsEnded}
+use Rattle.kb_node.specs.declared.fault.NodeFault.{NodeFault}
+use Rattle.kb_node.specs.declared.fault.NodeFault.TheVariants as faults
+use Rattle.kb_node.specs.Node.{IsRun, IsHalted, IsFaultOf}
+
+-- ---- what was written stands after a flush
+
+written-kept : (b : BrokerState) (es : List Happening) (from mid to : Option (List ℕ)) → IsWritten b es from mid → Keeps mid to → IsWritten b es from to
+written-kept b es from mid to w k = (w.0, w.1, Appends-kept from mid to _ w.2 k)
+
+in-part-kept : (b : BrokerState) (es : List Happening) (from mid to : Option (List ℕ)) → IsWrittenInPart b es from mid → Keeps mid to → IsWrittenInPart b es from to
+in-part-kept b es from mid to w k = (w.0, w.1, w.2, w.3, w.4, w.5, Appends-kept from mid to _ w.6 k)
+
+pub played-kept : (b : BrokerState) (s : Script) (from mid to : Option (List ℕ)) → IsPlayed b s from mid → Keeps mid to → IsPlayed b s from to
+played-kept b s from mid to p k = (p.0, written-kept b s.events from mid to p.1 k)
+
+pub ended-kept : (b : BrokerState) (s : Script) (fault : ScriptFault) (from mid to : Option (List ℕ)) → IsEnded b s fault from mid → Keeps mid to → IsEnded b s fault from to
+ended-kept b s (script_faults.BadLine n) from mid to p k = (p.0, written-kept b s.events from mid to p.1 k)
+ended-kept b s script_faults.TooLong from mid to p k = (p.0, written-kept b s.events from mid to p.1 k)
+ended-kept b s script_faults.Read from mid to p k = (p.0, p.1, p.2, written-kept b p.0 from mid to p.3 k)
+ended-kept b s script_faults.Write from mid to p k = (p.0, p.1, p.2, in-part-kept b p.0 from mid to p.3 k)
+ended-kept b s script_faults.Memory from mid to p k = (p.0, p.1, p.2, written-kept b p.0 from mid to p.3 k)
+
+-- ---- the answer to a run
+
+-- a run of what is known to be left, by what it answered
+abbrev RunOk : {A : Type 0} → Result A ScriptFault → BrokerState → Option (List ℕ) → Option (List ℕ) → Option (List ℕ) → Type 0
+RunOk ran b left from to = OnOk ran (IfSome left (λ text. IsPlayed b (script b text) from to))
+
+abbrev RunErr : {A : Type 0} → Result A ScriptFault → BrokerState → Option (List ℕ) → Option (List ℕ) → Option (List ℕ) → Type 0
+RunErr ran b left from to = IfErr ran (λ fault. IfSome left (λ text. IsEnded b (script b text) fault from to))
+
+pub answered-ok : {A B : Type 0} (ran : Result A ScriptFault) (answer : Result B NodeFault) (b : BrokerState) (left from mid to : Option (List ℕ))
+    → RunOk ran b left from mid → Keeps mid to → OnOk answer (IsOk ran) → OnOk answer (IfSome left (λ text. IsPlayed b (script b text) from to))
+answered-ok ran (Err e) b left from mid to run k ok = tt
+answered-ok (Err e) (Ok y) b left from mid to run k ok = cc
+answered-ok (Ok x) (Ok y) b None from mid to run k ok = tt
+answered-ok (Ok x) (Ok y) b (Some text) from mid to run k ok = played-kept b (script b text) from mid to run k
+
+-- a run is known whatever it answered
+run-known : {A : Type 0} (ran : Result A ScriptFault) (b : BrokerState) (text : List ℕ) (from mid to : Option (List ℕ))
+    → RunOk ran b (Some text) from mid → RunErr ran b (Some text) from mid → Keeps mid to → IsRun b (script b text) from to
+run-known (Ok x) b text from mid to ok err k = inl (played-kept b (script b text) from mid to ok k)
+run-known (Err e) b text from mid to ok err k = inr (e, ended-kept b (script b text) e from mid to err k)
+
+fault-known : {A : Type 0} (ran : Result A ScriptFault) (fault : ScriptFault) (b : BrokerState) (text : List ℕ) (from mid to : Option (List ℕ))
+    → ran ≡ Err fault → RunErr ran b (Some text) from mid → Keeps mid to → IsEnded b (script b text) fault from to
+fault-known ran fault b text from mid to is err k =
+    ended-kept b (script b text) fault from mid to (subst (λ r. RunErr r b (Some text) from mid) is err) k
+
+halted : {A : Type 0} (ran : Result A ScriptFault) (fault : NodeFault) (b : BrokerState) (text : List ℕ) (from mid to : Option (List ℕ))
+    → RunOk ran b (Some text) from mid → RunErr ran b (Some text) from mid → Keeps mid to → IsFaultOf fault ran → IsHalted b (script b text) fault from to
+halted ran (faults.Script fault) b text from mid to ok err k is = fault-known ran fault b text from mid to is err k
+halted ran faults.Write b text from mid to ok err k is = run-known ran b text from mid to ok err k
+halted ran faults.Memory b text from mid to ok err k is = absurd is
+
+pub answered-err : {A B : Type 0} (ran : Result A ScriptFault) (answer : Result B NodeFault) (b : BrokerState) (left from mid to : Option (List ℕ))
+    → RunOk ran b left from mid → RunErr ran b left from mid → Keeps mid to → IfErr answer (λ fault. IsFaultOf fault ran)
+    → IfErr answer (λ fault. IfSome left (λ text. IsHalted b (script b text) fault from to))
+answered-err ran (Ok y) b left from mid to ok err k is = tt
+answered-err ran (Err e) b None from mid to ok err k is = tt
+answered-err ran (Err e) b (Some text) from mid to ok err k is = halted ran e b text from mid to ok err k is

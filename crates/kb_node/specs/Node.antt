@@ -1,0 +1,59 @@
+-- What a program of the broker writes.
+use Rattle.std.specs.Prelude.{◌≡◌, ◌⊎◌, ℕ, List, [], ◌∷◌, codes, Option, Result, Err}
+use Rattle.std.specs.Io.KnownBytes.{Keeps}
+use Rattle.kb_machine.specs.Requests.{served_versions}
+use Rattle.kb_machine.specs.Broker.{BrokerState}
+use Rattle.kb_broker.specs.declared.script.ScriptFault.{ScriptFault}
+use Rattle.kb_broker.specs.Opening.{new_part}
+use Rattle.kb_broker.specs.Script.{Script, script}
+use Rattle.kb_broker.specs.ScriptRun.{IsPlayed, IsEnded}
+use Rattle.kb_node.specs.declared.fault.NodeFault.{NodeFault}
+use Rattle.kb_node.specs.declared.fault.NodeFault.TheVariants as faults
+
+-- 1. The broker of the standard settings
+
+-- the tenants a and b, which keep nothing, with a user each; nobody is connected, and no time has passed
+abbrev pub standard_broker : BrokerState
+standard_broker = record {
+  setup = record {
+    versions = served_versions;
+    users = record { name = codes "ann"; password = codes "pw1"; tenant = 0 } ∷ record { name = codes "bob"; password = codes "pw2"; tenant = 1 } ∷ [];
+  };
+  parts = new_part (codes "a") ∷ new_part (codes "b") ∷ [];
+  unbound_refusals = 0;
+  clock = 0;
+  last = 0;
+  lines = [];
+}
+
+-- what a text says to it
+abbrev pub standard_script : List ℕ → Script
+standard_script text = script standard_broker text
+
+-- 2. A program that plays a script
+
+-- a script was played, or it ended with some fault
+abbrev pub IsRun : BrokerState → Script → Option (List ℕ) → Option (List ℕ) → Type 0
+IsRun b s from to = IsPlayed b s from to ⊎ ((fault : ScriptFault) × IsEnded b s fault from to)
+
+-- the program ended with a fault: at a refused write what was written is that of a run all the same, and with no memory for the settings it is nothing
+abbrev pub IsHalted : BrokerState → Script → NodeFault → Option (List ℕ) → Option (List ℕ) → Type 0
+IsHalted b s (faults.Script fault) from to = IsEnded b s fault from to
+IsHalted b s faults.Write from to = IsRun b s from to
+IsHalted b s faults.Memory from to = Keeps from to
+
+-- the text was played, and all that the broker said was written
+abbrev pub IsScriptPlayed : List ℕ → Option (List ℕ) → Option (List ℕ) → Type 0
+IsScriptPlayed text from to = IsPlayed standard_broker (standard_script text) from to
+
+-- the text ended with that fault
+abbrev pub IsScriptEnded : List ℕ → NodeFault → Option (List ℕ) → Option (List ℕ) → Type 0
+IsScriptEnded text fault from to = IsHalted standard_broker (standard_script text) fault from to
+
+-- 3. How a run is answered
+
+-- a script's fault is that of the run, and no memory is asked for then
+abbrev pub IsFaultOf : {A : Type 0} → NodeFault → Result A ScriptFault → Type 0
+IsFaultOf (faults.Script fault) ran = ran ≡ Err fault
+IsFaultOf faults.Write ran = Unit {0}
+IsFaultOf faults.Memory ran = ⊥

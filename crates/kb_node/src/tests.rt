@@ -1,0 +1,85 @@
+use crate::{NodeFault, play_script};
+use kb_broker::ScriptFault;
+use std::io;
+use std::io::{Error, ErrorKind, Write};
+use std::test::Fail;
+
+/// A size that is below a request's shuts the connection.
+const SHUT: &[u8] = b"open 1\nin 1 00000007\n";
+
+/// A writer that takes everything, and hands nothing on.
+#[derive(Drop)]
+struct Held {
+    taken: usize,
+}
+
+impl Write for Held {
+    fn write(&mut self, buf: &[u8]) -> io::Result<usize> {
+        self.taken = self.taken.saturating_add(buf.len());
+        Ok(buf.len())
+    }
+
+    fn flush(&mut self) -> io::Result<()> {
+        Err(Error::from(ErrorKind::Other))
+    }
+}
+
+#[test]
+fn scripts_are_played(rt: HostRuntime) -> Result<(), Fail> {
+    let bad_line = Err(NodeFault::Script(ScriptFault::BadLine(3)));
+    let scripts: [(&[u8], Result<(), NodeFault>); 2] = [
+        (SHUT, Ok(())),
+        (
+            b"open 1\nin 1 00000007\nopen 1\nopen 2\nin 2 00000007\n",
+            bad_line,
+        ),
+    ];
+    for (script, outcome) in scripts {
+        let mut reader = script;
+        let mut writer: Vec<u8> = Vec::new(rt.alloc());
+        let played = play_script(rt.alloc(), &mut reader, &mut writer);
+        assert_eq!(rt; played, outcome);
+        assert_eq!(rt; writer.as_slice(), b"shut 1\n".as_slice());
+    }
+    Ok(())
+}
+
+#[test]
+fn output_that_is_not_handed_on_is_a_fault(rt: HostRuntime) -> Result<(), Fail> {
+    let mut reader = SHUT;
+    let mut writer = Held { taken: 0 };
+    let played = play_script(rt.alloc(), &mut reader, &mut writer);
+    assert_eq!(rt; played, Err(NodeFault::Write));
+    assert_eq!(rt; writer.taken, 7);
+    Ok(())
+}
+
+#[test]
+fn faults_have_their_texts(rt: HostRuntime) -> Result<(), Fail> {
+    let faults = [
+        (
+            NodeFault::Script(ScriptFault::BadLine(2)),
+            "kbroker: bad line 2",
+        ),
+        (
+            NodeFault::Script(ScriptFault::TooLong),
+            "kbroker: script too long",
+        ),
+        (NodeFault::Script(ScriptFault::Read), "kbroker: read fault"),
+        (
+            NodeFault::Script(ScriptFault::Write),
+            "kbroker: write fault",
+        ),
+        (
+            NodeFault::Script(ScriptFault::Memory),
+            "kbroker: out of memory",
+        ),
+        (NodeFault::Write, "kbroker: write fault"),
+        (NodeFault::Memory, "kbroker: out of memory"),
+    ];
+    for (fault, text) in faults {
+        let written = format!(in rt.alloc(); "{fault}")?;
+        assert_eq!(rt; written.as_str(), text);
+    }
+    Ok(())
+}

@@ -1,0 +1,45 @@
+//! What a turn of the edge came to.
+
+ghost use Rattle.std.specs.Prelude.{◌≡◌, ◌↔◌, IsTrue};
+
+/// What a turn did.
+#[derive(Clone, Copy, Debug, Default, PartialEq, Eq)]
+pub struct Turn {
+    /// The sockets that were accepted, also those that were closed at once.
+    pub accepted: u64,
+    /// The bytes that were read.
+    pub read: u64,
+    /// The bytes that were written.
+    pub written: u64,
+    /// The sockets that were closed.
+    pub closed: u64,
+}
+
+impl Turn {
+    /// Whether nothing happened.
+    pub fn is_idle(&self) -> bool
+        ensures { IsTrue result ↔ (self.now ≡ record { accepted = 0; read = 0; written = 0; closed = 0 }) }
+    {
+        *self == Turn::default()
+    }
+
+    /// One more socket was accepted.
+    pub(crate) fn count_accepted(&mut self) {
+        self.accepted = self.accepted.saturating_add(1);
+    }
+
+    /// More bytes were read.
+    pub(crate) fn count_read(&mut self, bytes: usize) {
+        self.read = self.read.saturating_add(bytes as u64);
+    }
+
+    /// More bytes were written.
+    pub(crate) fn count_written(&mut self, bytes: usize) {
+        self.written = self.written.saturating_add(bytes as u64);
+    }
+
+    /// One more socket was closed.
+    pub(crate) fn count_closed(&mut self) {
+        self.closed = self.closed.saturating_add(1);
+    }
+}

@@ -25,6 +25,7 @@ mod group;
 mod ids;
 mod join;
 mod leave;
+mod listed;
 mod member;
 mod members;
 mod moment;

@@ -1,5 +1,6 @@
 pub mod ChoiceSteps
 pub mod Each
+pub mod Index
 pub mod Longest
 pub mod Place
 pub mod Steps

@@ -1,5 +1,5 @@
 -- Recursions over lists, entry by entry, as the loops go.
-use Rattle.std.proofs.Common.{◌≡◌, ℕ, zero, suc, ◌+◌, ◌<◌, ◌≤◌, min, List, [], ◌∷◌, ◌++◌, length, Some, slice_get, get_or, drop, map, refl, sym, ap, ◌∙◌, Bool, true, false, ◌&&◌, ◌||◌, arith, bytes_eq, append_assoc, if◌then◌else◌}
+use Rattle.std.proofs.Common.{◌≡◌, ℕ, zero, suc, ◌+◌, ◌<◌, ◌≤◌, min, List, [], ◌∷◌, ◌++◌, length, Some, slice_get, get_or, drop, map, refl, sym, ap, ◌∙◌, Bool, true, false, ◌&&◌, arith, bytes_eq, append_assoc, if◌then◌else◌}
 use Rattle.std.proofs.lemmas.List.{append-nil}
 use Rattle.kb_groups.specs.declared.borrowed.JoinProtocol.{JoinProtocol}
 use Rattle.kb_groups.specs.Calls.{kept, assigned}
@@ -14,7 +14,7 @@ use Rattle.kb_groups.specs.declared.reply.Listed.{Listed}
 use Rattle.kb_groups.specs.Members.{Roster}
 use Rattle.kb_groups.specs.Answers.{waits_join}
 use Rattle.kb_groups.specs.Rebalance.{all_join, Step}
-use Rattle.kb_groups.specs.Protocols.{lists, metadata, listing}
+use Rattle.kb_groups.specs.Protocols.{metadata, listing}
 
 -- One further, by the loop's next index.
 pub drop_next : {A : Type 0} (i : ℕ) (xs : List A) (x : A) → slice_get xs i ≡ Some x → drop i xs ≡ x ∷ drop (i + 1) xs
@@ -50,32 +50,6 @@ all_join_go i es n m all inv at same = ap (λ b. b && all_join (drop (i + 1) es)
 pub all_join_end : (i : ℕ) (es : Roster) (all : Bool) → all_join (drop i es) ≡ all → length es ≤ i → true ≡ all
 unfolding all_join
 all_join_end i es all inv h = sym (ap all_join (drop_end i es h)) ∙ inv
-
--- Whether a name is listed.
-pub lists_stop : (i : ℕ) (ps : List Protocol) (p : Protocol) (name : List ℕ) (all : Bool) → lists (drop i ps) name ≡ all → i < length ps → p ≡ get_or ps i p → bytes_eq p.name name ≡ true → true ≡ all
-unfolding lists
-lists_stop i ps p name all inv h e same = ap (λ b. b || lists (drop (i + 1) ps) name) (sym same) ∙ sym (ap (λ l. lists l name) (drop_next i ps p (at_index ps i p h e))) ∙ inv
-
-pub lists_go : (i : ℕ) (ps : List Protocol) (p : Protocol) (name : List ℕ) (all : Bool) → lists (drop i ps) name ≡ all → i < length ps → p ≡ get_or ps i p → bytes_eq p.name name ≡ false → lists (drop (i + 1) ps) name ≡ all
-unfolding lists
-lists_go i ps p name all inv h e differ = ap (λ b. b || lists (drop (i + 1) ps) name) (sym differ) ∙ sym (ap (λ l. lists l name) (drop_next i ps p (at_index ps i p h e))) ∙ inv
-
-pub lists_end : (i : ℕ) (ps : List Protocol) (name : List ℕ) (all : Bool) → lists (drop i ps) name ≡ all → length ps ≤ i → false ≡ all
-unfolding lists
-lists_end i ps name all inv h = sym (ap (λ l. lists l name) (drop_end i ps h)) ∙ inv
-
--- The first metadata under a name.
-pub metadata_stop : (i : ℕ) (ps : List Protocol) (p : Protocol) (name all : List ℕ) → metadata (drop i ps) name ≡ all → i < length ps → p ≡ get_or ps i p → bytes_eq p.name name ≡ true → p.metadata ≡ all
-unfolding metadata
-metadata_stop i ps p name all inv h e same = ap (λ b. if b then p.metadata else metadata (drop (i + 1) ps) name) (sym same) ∙ sym (ap (λ l. metadata l name) (drop_next i ps p (at_index ps i p h e))) ∙ inv
-
-pub metadata_go : (i : ℕ) (ps : List Protocol) (p : Protocol) (name all : List ℕ) → metadata (drop i ps) name ≡ all → i < length ps → p ≡ get_or ps i p → bytes_eq p.name name ≡ false → metadata (drop (i + 1) ps) name ≡ all
-unfolding metadata
-metadata_go i ps p name all inv h e differ = ap (λ b. if b then p.metadata else metadata (drop (i + 1) ps) name) (sym differ) ∙ sym (ap (λ l. metadata l name) (drop_next i ps p (at_index ps i p h e))) ∙ inv
-
-pub metadata_end : (i : ℕ) (ps : List Protocol) (name all : List ℕ) → metadata (drop i ps) name ≡ all → length ps ≤ i → [] ≡ all
-unfolding metadata
-metadata_end i ps name all inv h = sym (ap (λ l. metadata l name) (drop_end i ps h)) ∙ inv
 
 -- Copies of what a join lists.
 pub kept_go : (i : ℕ) (os : List JoinProtocol) (o : JoinProtocol) (done next : List Protocol) (all : List Protocol) → done ++ map kept (drop i os) ≡ all → i < length os → o ≡ get_or os i o → next ≡ done ++ kept o ∷ [] → next ++ map kept (drop (i + 1) os) ≡ all

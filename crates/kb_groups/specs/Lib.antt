@@ -1,6 +1,7 @@
 pub mod Answers
 pub mod Calls
 pub mod Codes
+pub mod Index
 pub mod MemberId
 pub mod Members
 pub mod Moments

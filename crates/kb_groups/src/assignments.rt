@@ -7,7 +7,7 @@ ghost use Rattle.kb_groups.specs.Members.{each, member};
 
 use crate::answer::Answer;
 use crate::borrowed::SyncAssignment;
-use crate::bytes::Bytes;
+use crate::bytes::{Bytes, SharedBytes};
 use crate::ids::member_id;
 use crate::member::{Asked, Member};
 use crate::members::Members;
@@ -54,7 +54,7 @@ impl<'a> Answer for Assigned<'a> {
 
 impl Member {
     /// Its assignment goes into the member, which has its answer if it waited or leads.
-    fn hand(&mut self, clock: u64, leader: u64, number: u64, gift: &mut Bytes)
+    fn hand(&mut self, clock: u64, leader: u64, number: u64, gift: &mut SharedBytes)
         ensures { self.new ≡ handed clock leader number gift.old self.old }
     {
         mem::swap(&mut self.assignment, gift);
@@ -81,20 +81,21 @@ impl Members {
         &self,
         alloc: Global,
         assignments: &[SyncAssignment<'_>],
-    ) -> Result<Vec<Bytes>, AllocError>
+    ) -> Result<Vec<SharedBytes>, AllocError>
         ensures { IfOk result (λ v. v.items ≡ map (λ e. assigned assignments.now e.0) self.now) }
     {
         let mut gifts = Vec::new(alloc);
         for i in 0..self.map.len() {
             if let Some((number, _)) = self.map.get_index(i) {
-                gifts.push(copy_assigned(alloc, assignments, *number)?)?;
+                let gift = copy_assigned(alloc, assignments, *number)?;
+                gifts.push(SharedBytes::from_bytes(alloc, gift)?)?;
             }
         }
         Ok(gifts)
     }
 
     /// Each member gets its assignment.
-    pub(crate) fn give(&mut self, clock: u64, leader: u64, mut gifts: Vec<Bytes>)
+    pub(crate) fn give(&mut self, clock: u64, leader: u64, mut gifts: Vec<SharedBytes>)
         requires { vec_len gifts ≡ length self.old }
         ensures { (as_ : List SyncAssignment) → gifts.items ≡ map (λ e. assigned as_ e.0) self.old → self.new ≡ each (given clock as_ leader) self.old }
     {

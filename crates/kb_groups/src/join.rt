@@ -6,7 +6,7 @@ ghost use Rattle.kb_groups.specs.Rebalance.{ended, looked_at, opened_unless};
 
 use crate::answer::{NewGeneration, SyncsRefused};
 use crate::borrowed::Join;
-use crate::bytes::Bytes;
+use crate::bytes::SharedBytes;
 use crate::code::Code;
 use crate::member::{Asked, Member, Waiter};
 use crate::protocol::Protocols;
@@ -48,7 +48,7 @@ impl<'a> Join<'a> {
             protocols: Protocols::copy_of(alloc, self.protocols)?,
             session_timeout: natural(self.session_timeout),
             rebalance_timeout: natural(self.rebalance_timeout),
-            assignment: Bytes::new(alloc),
+            assignment: SharedBytes::new(),
             waiter: Some(Waiter {
                 connection: self.connection,
                 asked,
@@ -153,7 +153,7 @@ impl State {
     {
         let number = request.number();
         let member = request.joining(alloc, clock)?;
-        let protocol_type = Bytes::copy_of(alloc, request.protocol_type.as_bytes())?;
+        let protocol_type = SharedBytes::copy_of(alloc, request.protocol_type.as_bytes())?;
         let mut out = Vec::new(alloc);
         self.members
             .turn_away(alloc, Code::RebalanceInProgress, number, &mut out)?;

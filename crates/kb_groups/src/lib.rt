@@ -25,6 +25,7 @@ mod group;
 mod ids;
 mod join;
 mod leave;
+mod listed;
 mod member;
 mod members;
 mod moment;
@@ -33,7 +34,7 @@ mod reply;
 mod state;
 
 pub use borrowed::{Blob, Join, JoinProtocol, SyncAssignment, Text};
-pub use bytes::Bytes;
+pub use bytes::{Bytes, SharedBytes};
 pub use code::Code;
 pub use group::Group;
 pub use ids::{member_id, member_number};

@@ -3,7 +3,7 @@
 ghost use Rattle.std.specs.Prelude.{◌≡◌};
 ghost use Rattle.kb_groups.specs.Answers.{waits_join};
 
-use crate::bytes::Bytes;
+use crate::bytes::SharedBytes;
 use crate::protocol::Protocols;
 use std::alloc::AllocError;
 
@@ -30,7 +30,7 @@ pub struct Member {
     pub protocols: Protocols,
     pub session_timeout: u32,
     pub rebalance_timeout: u32,
-    pub assignment: Bytes,
+    pub assignment: SharedBytes,
     pub waiter: Option<Waiter>,
     /// When its session started, which counts while no request of it waits.
     pub session_start: u64,

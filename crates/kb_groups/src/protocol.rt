@@ -6,8 +6,10 @@ ghost use Rattle.kb_groups.specs.Protocols.{lists, metadata};
 
 use crate::borrowed::JoinProtocol;
 use crate::bytes::Bytes;
+use crate::listed::ListedProtocols;
 use std::alloc::{AllocError, Global};
 use std::marker::Model;
+use std::rc::Rc;
 
 /// A protocol that a member lists.
 #[derive(Drop)]
@@ -51,10 +53,10 @@ impl<'a> Named for JoinProtocol<'a> {
     }
 }
 
-/// A member's protocols, in its order of preference.
+/// A member's protocols, in its order of preference. Copies share them.
 #[derive(Drop)]
 pub struct Protocols {
-    pub(crate) items: Vec<Protocol>,
+    shared: Rc<ListedProtocols>,
 }
 
 impl Model for Protocols {
@@ -63,7 +65,7 @@ impl Model for Protocols {
 
     ghost Value = { List Protocol };
 
-    ghost view = { λ b. b.items.items };
+    ghost view = { λ b. b.shared.value };
 }
 
 impl Clone for Protocols {
@@ -71,7 +73,7 @@ impl Clone for Protocols {
 
     fn clone(&self) -> Result<Protocols, AllocError> {
         Ok(Protocols {
-            items: self.items.clone()?,
+            shared: self.shared.clone()?,
         })
     }
 }
@@ -80,7 +82,7 @@ impl Protocols {
     pub fn as_slice(&self) -> &[Protocol]
         ensures { result.now ≡ self.now }
     {
-        self.items.as_slice()
+        self.shared.as_ref().as_slice()
     }
 
     /// A copy of what a join lists.
@@ -90,37 +92,26 @@ impl Protocols {
     ) -> Result<Protocols, AllocError>
         ensures { IfOk result (λ r. r ≡ map kept offers.now) }
     {
-        let mut items = Vec::new(alloc);
-        for offer in offers {
-            items.push(Protocol {
-                name: Bytes::copy_of(alloc, offer.name.as_bytes())?,
-                metadata: Bytes::copy_of(alloc, offer.metadata.as_slice())?,
-            })?;
-        }
-        Ok(Protocols { items })
+        let listed = ListedProtocols::copy_of(alloc, offers)?;
+        Ok(Protocols {
+            shared: Rc::new(alloc, listed)?,
+        })
     }
 
     /// Whether the protocol of that name is among these.
     pub(crate) fn lists(&self, name: &[u8]) -> bool
         ensures { result ≡ lists self.now name.now }
     {
-        for protocol in &self.items {
-            if protocol.name.as_slice() == name {
-                return true;
-            }
-        }
-        false
+        self.shared.as_ref().find(name).is_some()
     }
 
     /// A copy of the first metadata under that name; empty if there is none.
     pub(crate) fn metadata(&self, alloc: Global, name: &[u8]) -> Result<Bytes, AllocError>
         ensures { IfOk result (λ b. b ≡ metadata self.now name.now) }
     {
-        for protocol in &self.items {
-            if protocol.name.as_slice() == name {
-                return Bytes::copy_of(alloc, protocol.metadata.as_slice());
-            }
+        match self.shared.as_ref().find(name) {
+            Some(protocol) => Bytes::copy_of(alloc, protocol.metadata.as_slice()),
+            None => Ok(Bytes::new(alloc)),
         }
-        Ok(Bytes::new(alloc))
     }
 }

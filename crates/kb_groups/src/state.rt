@@ -5,7 +5,7 @@ ghost use Rattle.kb_groups.specs.declared.reply.Release.{Release};
 ghost use Rattle.kb_groups.specs.Calls.{fresh};
 ghost use Rattle.kb_groups.specs.Rebalance.{opened, ended, is_joining, looked_at, next_generation};
 
-use crate::bytes::Bytes;
+use crate::bytes::SharedBytes;
 use crate::change::{Free, FreeSync};
 use crate::members::Members;
 use std::alloc::{AllocError, Global};
@@ -28,7 +28,7 @@ pub struct State {
     pub phase: Phase,
     pub leader: Option<u64>,
     /// The type that all members' protocols have.
-    pub protocol_type: Bytes,
+    pub protocol_type: SharedBytes,
     pub members: Members,
 }
 
@@ -41,12 +41,12 @@ impl State {
             generation: 0,
             phase: Phase::Empty,
             leader: None,
-            protocol_type: Bytes::new(alloc),
+            protocol_type: SharedBytes::new(),
             members: Members::new(alloc),
         }
     }
 
-    /// A copy of the group.
+    /// A copy of the group, which shares the members' protocols and all other bytes.
     pub(crate) fn copy(&self) -> Result<State, AllocError>
         ensures { IfOk result (λ g. g ≡ self.now) }
     {

@@ -97,10 +97,20 @@ impl Play {
         requires { clock ≤ 4611686018427387904 }
     {
         let metadata = [(connection % 256) as u8];
-        let protocols = [JoinProtocol {
-            name: Text::new("range"),
-            metadata: Blob::new(&metadata),
-        }];
+        let protocols = [offer("range", &metadata)];
+        self.join_with(alloc, connection, member, &protocols, clock)
+    }
+
+    fn join_with(
+        &mut self,
+        alloc: Global,
+        connection: u64,
+        member: Option<u64>,
+        protocols: &[JoinProtocol<'_>],
+        clock: u64,
+    ) -> Result<Vec<u64>, Fail>
+        requires { clock ≤ 4611686018427387904 }
+    {
         let request = Join {
             connection,
             member,
@@ -108,7 +118,7 @@ impl Play {
             session_timeout: self.session_timeout,
             rebalance_timeout: self.rebalance_timeout,
             protocol_type: Text::new("consumer"),
-            protocols: &protocols,
+            protocols,
         };
         let (answer, released) = self.group.join(alloc, &request, clock)?;
         if member.is_none() {
@@ -198,6 +208,13 @@ impl Play {
     }
 }
 
+fn offer<'a>(name: &'a str, metadata: &'a [u8]) -> JoinProtocol<'a> {
+    JoinProtocol {
+        name: Text::new(name),
+        metadata: Blob::new(metadata),
+    }
+}
+
 fn assigned<'a>(member_id: &'a str, assignment: &'a [u8]) -> SyncAssignment<'a> {
     SyncAssignment {
         member_id: Text::new(member_id),
@@ -279,6 +296,27 @@ fn limits(rt: HostRuntime) -> Result<(), Fail> {
     assert_eq!(rt;
         play.join(rt.alloc(), 201, Some(200), 0)?.as_slice(),
         [0, 200, 27, 0].as_slice()
+    );
+    Ok(())
+}
+
+#[test]
+fn names_that_repeat(rt: HostRuntime) -> Result<(), Fail> {
+    let first = [offer("a", &[1]), offer("b", &[2]), offer("a", &[3])];
+    let second = [offer("c", &[4]), offer("b", &[5]), offer("b", &[6])];
+    let mut play = Play::new(rt.alloc(), 10000, 20000);
+    assert_eq!(rt;
+        play.join_with(rt.alloc(), 1, None, &first, 0)?.as_slice(),
+        [0, 1, 1001, 1, 1, 1, 2001].as_slice()
+    );
+    assert_eq!(rt;
+        play.join_with(rt.alloc(), 2, None, &second, 0)?.as_slice(),
+        [0].as_slice()
+    );
+    assert_eq!(rt;
+        play.join_with(rt.alloc(), 1, Some(1), &first, 0)?
+            .as_slice(),
+        [0, 1, 1002, 1, 1, 1, 2002, 2, 2005, 2, 1002, 1, 2].as_slice()
     );
     Ok(())
 }

@@ -1,0 +1,5 @@
+pub mod Calls
+pub mod Fault
+pub mod Logs
+pub mod Partitions
+pub mod Scene

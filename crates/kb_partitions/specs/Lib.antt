@@ -1,5 +1,6 @@
 pub mod Calls
 pub mod Fault
 pub mod Logs
+pub mod OneLog
 pub mod Partitions
 pub mod Scene

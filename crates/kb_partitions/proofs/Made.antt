@@ -1,0 +1,92 @@
+-- What the partitions of a tenant are after those of a topic were made.
+use Rattle.std.proofs.Common.{◌≡◌, ◌∙◌, ◌⊎◌, ⊎_elim, inl, inr, ℕ, Bool, true, false, cond, List, [], ◌∷◌, Option, Some, refl, sym, ap, subst, length}
+use Rattle.std.specs.Prelude.{map, replicate, slice_get}
+use Rattle.std.specs.List.{All}
+use Rattle.std.specs.Option.{option_and_then}
+use Rattle.std.specs.Ordering.{nat_cmp, match_ordering}
+use Rattle.std.specs.declared.cmp.Ordering.{Ordering}
+use Rattle.std.specs.declared.cmp.Ordering.TheVariants.{Less, Equal, Greater}
+use Rattle.std.specs.Map.{lookup}
+use Rattle.std.specs.BTreeMap.{insert_entry, is_at}
+use Rattle.std.specs.declared.alloc.Global.{Global}
+use Rattle.std.specs.declared.vec.Vec.{Vec}
+use Rattle.std.proofs.lemmas.List.Elements.{All-head, All-tail}
+use Rattle.std.proofs.lemmas.Option.{slice_get_within, get_or_from_slice_get}
+use Rattle.kb_store.specs.Disk.{Files}
+use Rattle.kb_log.specs.OnShelf.{Log}
+use Rattle.kb_producers.specs.Batches.{kept_all}
+use Rattle.kb_partitions.specs.Logs.{LogState, no_log}
+use Rattle.kb_partitions.specs.Made.{IsEmptyPartition}
+use Rattle.kb_partitions.specs.Partitions.{Entries, partition_at, log_state, logs_of, IsMade}
+use Rattle.kb_partitions.specs.declared.partition.Partition.{Partition}
+
+-- what holds of each item holds of the one at a place
+each_at : {A : Type 0} (P : A → Type 0) (xs : List A) (k : ℕ) (x : A) → All P xs → slice_get xs k ≡ Some x → P x
+each_at P xs k x all at = subst P (get_or_from_slice_get xs k x x at) (all k x (slice_get_within xs k x at))
+
+-- an entry with its value seen
+abbrev seen : {A B : Type 0} → (A → B) → ℕ × A → ℕ × B
+seen f e = (e.0, f e.1)
+
+-- an entry is put in before its value is looked at, or after
+insert_mapped : {A B : Type 0} (f : A → B) (i : ℕ) (v : A) (es : List (ℕ × A)) → map (seen f) (insert_entry nat_cmp es i v) ≡ insert_entry nat_cmp (map (seen f) es) i (f v)
+insert_mapped f i v [] = refl
+insert_mapped {A} {B} f i v (e ∷ es) = by (nat_cmp i e.0) (insert_mapped f i v es)
+  where
+    by : (o : Ordering) → map (seen f) (insert_entry nat_cmp es i v) ≡ insert_entry nat_cmp (map (seen f) es) i (f v)
+        → map (seen f) (match_ordering o ((i, v) ∷ e ∷ es) ((e.0, v) ∷ es) (e ∷ insert_entry nat_cmp es i v))
+          ≡ match_ordering o ((i, f v) ∷ seen f e ∷ map (seen f) es) ((e.0, f v) ∷ map (seen f) es) (seen f e ∷ insert_entry nat_cmp (map (seen f) es) i (f v))
+    by Less h = refl
+    by Equal h = refl
+    by Greater h = ap (λ rest. seen f e ∷ rest) h
+
+abbrev log_of : ℕ → ℕ → List (List ℕ) → LogState
+log_of start end batches = record { start = start; end = end; batches = batches }
+
+module _ {L : Type 0} (log : L → Log) where
+  -- what the tenant sees of a partition without records
+  seen_empty : (files : Files) (x : Partition L) → IsEmptyPartition log x → log_state (log x.log) files ≡ no_log
+  seen_empty files x new =
+      ap (λ n. log_of n (log x.log).end ((log x.log).batches files)) new.begun.start
+      ∙ ap (λ n. log_of 0 n ((log x.log).batches files)) new.begun.end
+      ∙ ap (λ bs. log_of 0 0 bs) (new.begun.empty files)
+
+  all_empty : (files : Files) (xs : List (Partition L)) → All (IsEmptyPartition log) xs → map (λ (x : Partition L). log_state (log x.log) files) xs ≡ replicate (length xs) no_log
+  all_empty files [] all = refl
+  all_empty files (x ∷ xs) all =
+      ap (λ l. l ∷ map (λ (y : Partition L). log_state (log y.log) files) xs) (seen_empty files x (All-head (IsEmptyPartition log) x xs all))
+      ∙ ap (λ ls. no_log ∷ ls) (all_empty files xs (All-tail (IsEmptyPartition log) x xs all))
+
+module _ {L : Type 0} (log : L → Log) (instance count : ℕ) (es es' : Entries L) (v : Vec (Partition L) Global)
+    (len : length v.items ≡ count) (empty : All (IsEmptyPartition log) v.items) (entries : es' ≡ insert_entry nat_cmp es instance v)
+    (updates : (j : ℕ) → lookup (is_at (nat_cmp j)) es' ≡ cond (is_at (nat_cmp instance) j) (Some v) (lookup (is_at (nat_cmp j)) es)) where
+  -- each partition is a new one, or stands where it stood
+  made_at : (j q : ℕ) (x : Partition L) → partition_at j q es' ≡ Some x → IsEmptyPartition log x ⊎ (partition_at j q es ≡ Some x)
+  made_at j q x at = by (is_at (nat_cmp instance) j) (updates j)
+    where
+      by : (b : Bool) → lookup (is_at (nat_cmp j)) es' ≡ cond b (Some v) (lookup (is_at (nat_cmp j)) es) → IsEmptyPartition log x ⊎ (partition_at j q es ≡ Some x)
+      by true u = inl (each_at (IsEmptyPartition log) v.items q x empty (sym (ap (λ (o : Option (Vec (Partition L) Global)). option_and_then (λ (t : Vec (Partition L) Global). slice_get t.items q) o) u) ∙ at))
+      by false u = inr (sym (ap (λ (o : Option (Vec (Partition L) Global)). option_and_then (λ (t : Vec (Partition L) Global). slice_get t.items q) o) u) ∙ at)
+
+  pub made : IsMade log instance count es es'
+  made = record {
+    owned = λ file o. ⊎_elim
+        (λ (new : IsEmptyPartition log o.partition). absurd (new.begun.owns file o.own))
+        (λ was. record { instance = o.instance; number = o.number; partition = o.partition; at = was; own = o.own })
+        (made_at o.instance o.number o.partition o.at);
+    sound = λ table next s. record {
+      each = λ i p x at. ⊎_elim (λ (new : IsEmptyPartition log x). new.begun.sound table next) (λ was. s.each i p x was) (made_at i p x at);
+      apart = λ i p j q x y at there differ file own other. ⊎_elim
+          (λ (new : IsEmptyPartition log x). new.begun.owns file own)
+          (λ was. ⊎_elim (λ (new : IsEmptyPartition log y). new.begun.owns file other) (λ is. s.apart i p j q x y was is differ file own other) (made_at j q y there))
+          (made_at i p x at);
+    };
+    agrees = λ files a. record {
+      each = λ i p x at. ⊎_elim (λ (new : IsEmptyPartition log x). new.begun.agrees files) (λ was. a.each i p x was) (made_at i p x at);
+      producers = λ i p x at. ⊎_elim (λ (new : IsEmptyPartition log x). new.unproduced ∙ sym (ap kept_all (new.begun.empty files))) (λ was. a.producers i p x was) (made_at i p x at);
+    };
+    state = λ files.
+        ap (λ ds. logs_of log ds files) entries
+        ∙ insert_mapped (λ (t : Vec (Partition L) Global). map (λ (x : Partition L). log_state (log x.log) files) t.items) instance v es
+        ∙ ap (λ (t : List LogState). insert_entry nat_cmp (logs_of log es files) instance t) (all_empty log files v.items empty ∙ ap (λ n. replicate n no_log) len);
+  }

@@ -1,0 +1,7 @@
+use Rattle.std.proofs.Common.{◌≡◌, length}
+use Rattle.std.specs.List.{All}
+use Rattle.kb_partitions.specs.Made.{IsEmptyPartition}
+use Rattle.kb_partitions.proofs.topic.new_partitions.Given as goal
+
+abbrev pub invariant-loop-number : goal.invariant-loop-number
+invariant-loop-number g l = record { count : length l.partitions.items ≡ l.number; empty : All (IsEmptyPartition g.L.PartitionLog.log) l.partitions.items }

@@ -1,0 +1,25 @@
+-- What some logs on a shelf are to their tenant, and how each call takes them from one moment to the next.
+use Rattle.std.specs.Prelude.{◌≡◌, ◌≤◌, ℕ}
+use Rattle.kb_store.specs.Disk.{Disk}
+use Rattle.kb_log.specs.OnShelf.{Spares}
+
+-- Some logs at one moment: which files are theirs; what holds of the files' numbers and lengths on any store; what holds of their
+-- bytes where the store is honest; the disk of the shelf and its next file number; and what the tenant sees of the logs.
+pub record Scene (W : Type 0) : Type 1 where
+  pub owns : ℕ → Type 0
+  pub sound : Type 0
+  pub agrees : Type 0
+  pub disk : Disk
+  pub next : ℕ
+  pub state : W
+
+-- A statement about bytes holds where the store is honest at the end, and the logs agreed with their files before.
+abbrev pub WhereHonest : {V W : Type 0} → Scene V → Scene W → Type 0 → Type 0
+WhereHonest a b P = b.disk.honest → a.agrees → P
+
+-- What each call keeps, also where it is refused: the files of all others are as they were.
+pub record Frame {V W : Type 0} (a : Scene V) (b : Scene W) : Type 0 where
+  pub sound : b.sound
+  pub others : Spares a.owns b.owns a.disk b.disk a.next b.next
+  pub failures : a.disk.failures ≤ b.disk.failures
+  pub agrees : b.disk.honest → a.agrees → b.agrees

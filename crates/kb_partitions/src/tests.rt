@@ -1,0 +1,92 @@
+//! Worked exchanges, over logs and files in memory.
+ghost use Rattle.std.specs.Prelude.{IfOk, ℕ};
+ghost use Rattle.kb_store.specs.Disk.{Table};
+ghost use Rattle.kb_log.specs.ListLog.{list_log};
+ghost use Rattle.kb_partitions.specs.Partitions.{AreSound};
+
+use super::*;
+use kb_batch::BatchView;
+use kb_log::{ListLog, Shelf};
+use kb_producers::Verdict;
+use kb_store::{MemoryStore, Store};
+use std::alloc::Global;
+use std::test::Fail;
+
+/// One record, value `hi`, timestamp 5.
+#[rattlefmt::skip]
+const HI: &[u8; 70] = &[
+    0x00, 0x00, 0x00, 0x00, 0x00, 0x00, 0x00, 0x00, 0x00, 0x00, 0x00, 0x3a, 0xff, 0xff, 0xff, 0xff,
+    0x02, 0x71, 0xa3, 0xaf, 0x2c, 0x00, 0x00, 0x00, 0x00, 0x00, 0x00, 0x00, 0x00, 0x00, 0x00, 0x00,
+    0x00, 0x00, 0x05, 0x00, 0x00, 0x00, 0x00, 0x00, 0x00, 0x00, 0x05, 0xff, 0xff, 0xff, 0xff, 0xff,
+    0xff, 0xff, 0xff, 0xff, 0xff, 0xff, 0xff, 0xff, 0xff, 0x00, 0x00, 0x00, 0x01, 0x10, 0x00, 0x00,
+    0x00, 0x01, 0x04, 0x68, 0x69, 0x00,
+];
+
+/// A topic of instance 7 with two partitions.
+fn made(alloc: Global) -> Result<Partitions<ListLog>, Fail>
+    ensures { IfOk result (λ partitions. (table : Table) (next : ℕ) → AreSound list_log partitions.topics.entries table next) }
+{
+    let mut partitions = Partitions::new(alloc);
+    partitions.add(alloc, "tenant", 7, 2, 1_048_576)?;
+    Ok(partitions)
+}
+
+fn fetched(
+    alloc: Global,
+    shelf: &mut Shelf<MemoryStore>,
+    partitions: &Partitions<ListLog>,
+    number: usize,
+    offset: i64,
+) -> Result<Vec<u8>, PartitionFault>
+    requires { (table : Table) (next : ℕ) → AreSound list_log partitions.now.topics.entries table next }
+{
+    let mut out = Vec::new(alloc);
+    partitions.fetch(shelf, 7, number, offset, 1000, true, &mut out)?;
+    Ok(out)
+}
+
+#[test]
+fn places(rt: HostRuntime) -> Result<(), Fail> {
+    let partitions = made(rt.alloc())?;
+    let rows = [
+        (7u64, 0usize, Some(0i64)),
+        (7, 1, Some(0)),
+        (7, 2, None),
+        (8, 0, None),
+    ];
+    for (instance, number, want) in rows {
+        assert_eq!(rt; partitions.start(instance, number), want);
+        assert_eq!(rt; partitions.end(instance, number), want);
+    }
+    let batch = BatchView::read(HI).ok().ok_or("a batch")?;
+    assert_eq!(rt; partitions.judge(7, 1, &batch), Some(Verdict::Append));
+    assert_eq!(rt; partitions.judge(7, 2, &batch), None);
+    Ok(())
+}
+
+#[test]
+fn reads(rt: HostRuntime) -> Result<(), Fail> {
+    let mut shelf = Shelf::new(rt.alloc(), MemoryStore::new(rt.alloc()), 0)
+        .ok()
+        .ok_or("a shelf")?;
+    let partitions = made(rt.alloc())?;
+    let given = fetched(rt.alloc(), &mut shelf, &partitions, 1, 0)
+        .ok()
+        .ok_or("a fetch")?;
+    assert_eq!(rt; given.as_slice(), &[]);
+    let past = fetched(rt.alloc(), &mut shelf, &partitions, 1, 1);
+    assert_eq!(rt; past.err(), Some(PartitionFault::Range));
+    let unknown = fetched(rt.alloc(), &mut shelf, &partitions, 2, 0);
+    assert_eq!(rt; unknown.err(), Some(PartitionFault::Unknown));
+    let found = partitions
+        .first_at(&mut shelf, 7, 1, 0)
+        .ok()
+        .ok_or("a search")?;
+    assert_eq!(rt; found.is_none(), true);
+    let start = partitions
+        .retained_start(&mut shelf, 7, 0, 0, 0, 0)
+        .ok()
+        .ok_or("a start")?;
+    assert_eq!(rt; start, 0);
+    Ok(())
+}

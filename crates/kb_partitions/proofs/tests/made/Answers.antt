@@ -20,7 +20,7 @@ none_sound log table next = record {
 }
 
 pub add-requires-clause-new : goal.add-requires-clause-new
-add-requires-clause-new c = ap (λ es. lookup (is_at (nat_cmp 7)) es) c.new.ensures
+add-requires-clause-new c = ap (λ es. lookup (is_at (nat_cmp 7)) es) c.new-partitions.ensures
 
 pub returns : goal.returns
-returns c = λ table next. c.in_ok-add.ensures.made.sound table next (subst (λ es. AreSound list_log es table next) (sym c.new.ensures) (none_sound list_log table next))
+returns c = λ table next. c.in_ok-add.ensures.made.sound table next (subst (λ es. AreSound list_log es table next) (sym c.new-partitions.ensures) (none_sound list_log table next))

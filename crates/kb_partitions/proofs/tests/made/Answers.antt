@@ -6,7 +6,6 @@ use Rattle.kb_store.specs.Disk.{Table}
 use Rattle.kb_log.specs.OnShelf.{Log}
 use Rattle.kb_log.specs.ListLog.{list_log}
 use Rattle.kb_partitions.specs.Partitions.{AreSound}
-use Rattle.kb_partitions.specs.declared.partition.Partition.{Partition}
 use Rattle.kb_partitions.proofs.tests.made.Goals as goal
 
 nothing : {A : Type 0} (x : A) → None ≡ Some x → ⊥

@@ -35,7 +35,7 @@ insert_mapped {A} {B} f i v (e ∷ es) = by (nat_cmp i e.0) (insert_mapped f i v
   where
     by : (o : Ordering) → map (seen f) (insert_entry nat_cmp es i v) ≡ insert_entry nat_cmp (map (seen f) es) i (f v)
         → map (seen f) (match_ordering o ((i, v) ∷ e ∷ es) ((e.0, v) ∷ es) (e ∷ insert_entry nat_cmp es i v))
-          ≡ match_ordering o ((i, f v) ∷ seen f e ∷ map (seen f) es) ((e.0, f v) ∷ map (seen f) es) (seen f e ∷ insert_entry nat_cmp (map (seen f) es) i (f v))
+        ≡ match_ordering o ((i, f v) ∷ seen f e ∷ map (seen f) es) ((e.0, f v) ∷ map (seen f) es) (seen f e ∷ insert_entry nat_cmp (map (seen f) es) i (f v))
     by Less h = refl
     by Equal h = refl
     by Greater h = ap (λ rest. seen f e ∷ rest) h

@@ -58,7 +58,7 @@ fn places(rt: HostRuntime) -> Result<(), Fail> {
         assert_eq!(rt; partitions.start(instance, number), want);
         assert_eq!(rt; partitions.end(instance, number), want);
     }
-    let batch = BatchView::read(HI).ok().ok_or("a batch")?;
+    let batch = BatchView::read(HI.as_slice()).ok().ok_or("a batch")?;
     assert_eq!(rt; partitions.judge(7, 1, &batch), Some(Verdict::Append));
     assert_eq!(rt; partitions.judge(7, 2, &batch), None);
     Ok(())
@@ -70,23 +70,15 @@ fn reads(rt: HostRuntime) -> Result<(), Fail> {
         .ok()
         .ok_or("a shelf")?;
     let partitions = made(rt.alloc())?;
-    let given = fetched(rt.alloc(), &mut shelf, &partitions, 1, 0)
-        .ok()
-        .ok_or("a fetch")?;
-    assert_eq!(rt; given.as_slice(), &[]);
+    let given = fetched(rt.alloc(), &mut shelf, &partitions, 1, 0)?;
+    assert_eq!(rt; given.len(), 0);
     let past = fetched(rt.alloc(), &mut shelf, &partitions, 1, 1);
-    assert_eq!(rt; past.err(), Some(PartitionFault::Range));
+    assert_eq!(rt; past.err().map(|fault| fault.code()), Some(1));
     let unknown = fetched(rt.alloc(), &mut shelf, &partitions, 2, 0);
-    assert_eq!(rt; unknown.err(), Some(PartitionFault::Unknown));
-    let found = partitions
-        .first_at(&mut shelf, 7, 1, 0)
-        .ok()
-        .ok_or("a search")?;
+    assert_eq!(rt; unknown.err().map(|fault| fault.code()), Some(3));
+    let found = partitions.first_at(&mut shelf, 7, 1, 0)?;
     assert_eq!(rt; found.is_none(), true);
-    let start = partitions
-        .retained_start(&mut shelf, 7, 0, 0, 0, 0)
-        .ok()
-        .ok_or("a start")?;
+    let start = partitions.retained_start(&mut shelf, 7, 0, 0, 0, 0)?;
     assert_eq!(rt; start, 0);
     Ok(())
 }

@@ -6,7 +6,6 @@ use Rattle.kb_store.specs.Disk.{Table}
 use Rattle.kb_log.specs.OnShelf.{Log}
 use Rattle.kb_log.specs.ListLog.{list_log}
 use Rattle.kb_partitions.specs.Partitions.{AreSound}
-use Rattle.kb_partitions.specs.declared.partition.Partition.{Partition}
 use Rattle.kb_partitions.proofs.tests.made.Goals as goal
 
 nothing : {A : Type 0} (x : A) → None ≡ Some x → ⊥
@@ -20,7 +19,7 @@ none_sound log table next = record {
 }
 
 pub add-requires-clause-new : goal.add-requires-clause-new
-add-requires-clause-new c = ap (λ es. lookup (is_at (nat_cmp 7)) es) c.new.ensures
+add-requires-clause-new c = ap (λ es. lookup (is_at (nat_cmp 7)) es) c.new-partitions.ensures
 
 pub returns : goal.returns
-returns c = λ table next. c.in_ok-add.ensures.made.sound table next (subst (λ es. AreSound list_log es table next) (sym c.new.ensures) (none_sound list_log table next))
+returns c = λ table next. c.in_ok-add.ensures.made.sound table next (subst (λ es. AreSound list_log es table next) (sym c.new-partitions.ensures) (none_sound list_log table next))

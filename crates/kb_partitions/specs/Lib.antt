@@ -1,3 +1,4 @@
+pub mod Alone
 pub mod Calls
 pub mod Fault
 pub mod Logs

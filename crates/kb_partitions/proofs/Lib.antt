@@ -1,1 +1,4 @@
+pub mod Calls
+pub mod Changed
 pub mod Dropping
+pub mod Put

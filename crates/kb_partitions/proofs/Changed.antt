@@ -89,12 +89,12 @@ module _ {L : Type 0} (es es' : Entries L) (i p : ℕ) (x x' : Partition L) (c :
       in_topic (Some u) e =
           let found : slice_get u.items q ≡ Some y = sym (ap (λ o. option_and_then (λ (t : Vec (Partition L) Global). slice_get t.items q) o) e) ∙ at in
           ⊎_elim
-            (λ s. ⊎_elim
-              (λ h. inl (s.0, h.0, h.1))
-              (λ o. inr (ap (λ k. partition_at k q es) s.0 ∙ ap (λ o. option_and_then (λ (t : Vec (Partition L) Global). slice_get t.items q) o) c.there ∙ o.1, λ bad. o.0 bad.1))
-              (get_put c.topic.items p q x x' y c.here (subst (λ (t : Vec (Partition L) Global). slice_get t.items q ≡ Some y) s.1 found)))
-            (λ o. inr (ap (λ o. option_and_then (λ (t : Vec (Partition L) Global). slice_get t.items q) o) o.1 ∙ found, λ bad. o.0 bad.0))
-            (lookup_put es i j c.topic (with_item c.topic p x') u c.there (subst (λ (fs : Entries L). lookup (is_at (nat_cmp j)) fs ≡ Some u) c.put e))
+          (λ s. ⊎_elim
+          (λ h. inl (s.0, h.0, h.1))
+          (λ o. inr (ap (λ k. partition_at k q es) s.0 ∙ ap (λ o. option_and_then (λ (t : Vec (Partition L) Global). slice_get t.items q) o) c.there ∙ o.1, λ bad. o.0 bad.1))
+          (get_put c.topic.items p q x x' y c.here (subst (λ (t : Vec (Partition L) Global). slice_get t.items q ≡ Some y) s.1 found)))
+          (λ o. inr (ap (λ o. option_and_then (λ (t : Vec (Partition L) Global). slice_get t.items q) o) o.1 ∙ found, λ bad. o.0 bad.0))
+          (lookup_put es i j c.topic (with_item c.topic p x') u c.there (subst (λ (fs : Entries L). lookup (is_at (nat_cmp j)) fs ≡ Some u) c.put e))
 
   -- what holds of the new partition and of the others holds of each
   pub each_partition : (P : ℕ → ℕ → Partition L → Type 0) → P i p x' → ((j q : ℕ) (y : Partition L) → partition_at j q es ≡ Some y → ((j ≡ i) × (q ≡ p) → ⊥) → P j q y) → (j q : ℕ) (y : Partition L) → partition_at j q es' ≡ Some y → P j q y
@@ -106,53 +106,52 @@ module _ {L : Type 0} (es es' : Entries L) (i p : ℕ) (x x' : Partition L) (c :
   -- a call for one log, which keeps to its own files
   module _ (log : L → Log) (law : (l : L) → IsLawfulLog (log l)) (d d' : Disk) (next next' : ℕ) (sound : AreSound log es d.table next)
       (frames : Frames (record { log = log x.log; disk = d; next = next }) (record { log = log x'.log; disk = d'; next = next' })) where
-
     stays : (j q : ℕ) (y : Partition L) → partition_at j q es ≡ Some y → ((j ≡ i) × (q ≡ p) → ⊥) → Stays (log y.log) (log x'.log).owns d d' next'
     stays j q y at ne = other_stays (log y.log) (log x.log).owns (log x'.log).owns d d' next next' (law y.log) frames.others (sound.each j q y at)
         (λ file mine theirs. sound.apart j q i p y x at old_at ne file mine theirs)
 
     pub changed_sound : AreSound log es' d'.table next'
     changed_sound = record {
-        each = each_partition (λ j q y. (log y.log).sound d'.table next') frames.sound (λ j q y at ne. (stays j q y at ne).sound);
-        apart = λ j q k r y z a b ne file own theirs. ⊎_elim
-            (λ s. ⊎_elim
-                (λ u. ne (s.0 ∙ sym u.0, s.1 ∙ sym u.1))
-                (λ u. (stays k r z u.0 u.1).apart file theirs (subst (λ (v : Partition L). (log v.log).owns file) s.2 own))
-                (changed_at k r z b))
-            (λ s. ⊎_elim
-                (λ u. (stays j q y s.0 s.1).apart file own (subst (λ (v : Partition L). (log v.log).owns file) u.2 theirs))
-                (λ u. sound.apart j q k r y z s.0 u.0 ne file own theirs)
-                (changed_at k r z b))
-            (changed_at j q y a);
-      }
+      each = each_partition (λ j q y. (log y.log).sound d'.table next') frames.sound (λ j q y at ne. (stays j q y at ne).sound);
+      apart = λ j q k r y z a b ne file own theirs. ⊎_elim
+          (λ s. ⊎_elim
+          (λ u. ne (s.0 ∙ sym u.0, s.1 ∙ sym u.1))
+          (λ u. (stays k r z u.0 u.1).apart file theirs (subst (λ (v : Partition L). (log v.log).owns file) s.2 own))
+          (changed_at k r z b))
+          (λ s. ⊎_elim
+          (λ u. (stays j q y s.0 s.1).apart file own (subst (λ (v : Partition L). (log v.log).owns file) u.2 theirs))
+          (λ u. sound.apart j q k r y z s.0 u.0 ne file own theirs)
+          (changed_at k r z b))
+          (changed_at j q y a);
+    }
 
     mine : (file : ℕ) → (log x.log).owns file → Owned log es file
     mine file own = record { instance = i; number = p; partition = x; at = old_at; own = own }
 
     pub changed_spares : Spares (Owned log es) (Owned log es') d d' next next'
     changed_spares = record {
-        later = frames.others.later;
-        honest = frames.others.honest;
-        owned = λ file o. ⊎_elim
-            (λ s. ⊎_elim (λ old. inl (mine file old)) (λ new. inr new) (frames.others.owned file (subst (λ (v : Partition L). (log v.log).owns file) s.2 o.own)))
-            (λ s. inl (record { instance = o.instance; number = o.number; partition = o.partition; at = s.0; own = o.own }))
-            (changed_at o.instance o.number o.partition o.at);
-        lengths = λ file lt not. frames.others.lengths file lt (λ own. not (mine file own));
-        contents = λ honest file lt not. frames.others.contents honest file lt (λ own. not (mine file own));
-      }
+      later = frames.others.later;
+      honest = frames.others.honest;
+      owned = λ file o. ⊎_elim
+          (λ s. ⊎_elim (λ old. inl (mine file old)) (λ new. inr new) (frames.others.owned file (subst (λ (v : Partition L). (log v.log).owns file) s.2 o.own)))
+          (λ s. inl (record { instance = o.instance; number = o.number; partition = o.partition; at = s.0; own = o.own }))
+          (changed_at o.instance o.number o.partition o.at);
+      lengths = λ file lt not. frames.others.lengths file lt (λ own. not (mine file own));
+      contents = λ honest file lt not. frames.others.contents honest file lt (λ own. not (mine file own));
+    }
 
     -- what a call keeps, where its partition's table of producers stays told
     pub changed_frame : StaysTold (record { log = log x.log; disk = d; next = next }) x.producers.kept (record { log = log x'.log; disk = d'; next = next' }) x'.producers.kept → Frame (scene_on log es d next) (scene_on log es' d' next')
     changed_frame told = record {
-        sound = changed_sound;
-        others = changed_spares;
-        failures = frames.failures;
-        agrees = λ honest agree. record {
-            each = each_partition (λ j q y. (log y.log).agrees d'.files) (frames.agrees honest (agree.each i p x old_at)) (λ j q y at ne. (stays j q y at ne).agrees honest (agree.each j q y at));
-            producers = each_partition (λ j q y. y.producers.kept ≡ kept_all ((log y.log).batches d'.files)) (told honest (agree.each i p x old_at) (agree.producers i p x old_at))
-                (λ j q y at ne. agree.producers j q y at ∙ sym (ap kept_all ((stays j q y at ne).list honest)));
-          };
-      }
+      sound = changed_sound;
+      others = changed_spares;
+      failures = frames.failures;
+      agrees = λ honest agree. record {
+        each = each_partition (λ j q y. (log y.log).agrees d'.files) (frames.agrees honest (agree.each i p x old_at)) (λ j q y at ne. (stays j q y at ne).agrees honest (agree.each j q y at));
+        producers = each_partition (λ j q y. y.producers.kept ≡ kept_all ((log y.log).batches d'.files)) (told honest (agree.each i p x old_at) (agree.producers i p x old_at))
+            (λ j q y at ne. agree.producers j q y at ∙ sym (ap kept_all ((stays j q y at ne).list honest)));
+      };
+    }
 
     same_state : d'.honest → (j q : ℕ) (y : Partition L) → partition_at j q es ≡ Some y → ((j ≡ i) × (q ≡ p) → ⊥) → log_state (log y.log) d'.files ≡ log_state (log y.log) d.files
     same_state honest j q y at ne = ap (λ bs. (let s : LogState = record { start = (log y.log).start; end = (log y.log).end; batches = bs } in s)) ((stays j q y at ne).list honest)
@@ -163,11 +162,11 @@ module _ {L : Type 0} (es es' : Entries L) (i p : ℕ) (x x' : Partition L) (c :
         let state : Partition L → LogState = λ y. log_state (log y.log) d.files in
         let state' : Partition L → LogState = λ y. log_state (log y.log) d'.files in
         let topic : shown log d'.files (with_item c.topic p x') ≡ slice_set (shown log d.files c.topic) p w =
-            map_put state state' c.topic.items p x' w (λ q y a ne. same_state honest i q y (ap (λ o. option_and_then (λ (t : Vec (Partition L) Global). slice_get t.items q) o) c.there ∙ a) (λ bad. ne bad.1)) new in
+        map_put state state' c.topic.items p x' w (λ q y a ne. same_state honest i q y (ap (λ o. option_and_then (λ (t : Vec (Partition L) Global). slice_get t.items q) o) c.there ∙ a) (λ bad. ne bad.1)) new in
         ap (λ fs. logs_of log fs d'.files) c.put
         ∙ values_put (shown log d.files) (shown log d'.files) es i (with_item c.topic p x') (slice_set (shown log d.files c.topic) p w) c.ordered
-            (λ j t a ne. map_same state state' t.items (λ q y b. same_state honest j q y (ap (λ o. option_and_then (λ (t : Vec (Partition L) Global). slice_get t.items q) o) a ∙ b) (λ bad. ne bad.0)))
-            topic
+        (λ j t a ne. map_same state state' t.items (λ q y b. same_state honest j q y (ap (λ o. option_and_then (λ (t : Vec (Partition L) Global). slice_get t.items q) o) a ∙ b) (λ bad. ne bad.0)))
+        topic
         ∙ sym (with_log_is log es i p d.files c.topic w c.there)
 
     -- where the log is as before, the tenant sees nothing new
@@ -179,14 +178,14 @@ module _ {L : Type 0} (es es' : Entries L) (i p : ℕ) (x x' : Partition L) (c :
 -- the entries are as before, and nothing was done
 pub frame_same : {L : Type 0} (log : L → Log) (es es' : Entries L) (d : Disk) (next : ℕ) → es' ≡ es → AreSound log es d.table next → Frame (scene_on log es d next) (scene_on log es' d next)
 frame_same {L} log es es' d next e sound = subst (λ (fs : Entries L). Frame (scene_on log es d next) (scene_on log fs d next)) (sym e) (record {
-    sound = sound;
-    others = record {
-        later = omega arith;
-        honest = λ h. h;
-        owned = λ file o. inl o;
-        lengths = λ file lt not. refl;
-        contents = λ honest file lt not. refl;
-      };
-    failures = omega arith;
-    agrees = λ honest agree. agree;
-  })
+  sound = sound;
+  others = record {
+    later = omega arith;
+    honest = λ h. h;
+    owned = λ file o. inl o;
+    lengths = λ file lt not. refl;
+    contents = λ honest file lt not. refl;
+  };
+  failures = omega arith;
+  agrees = λ honest agree. agree;
+})

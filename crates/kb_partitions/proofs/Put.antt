@@ -61,7 +61,7 @@ pub lookup_put : {A : Type 0} (es : List (ℕ × A)) (i j : ℕ) (t u v : A) →
 lookup_put {A} es i j t u v a b =
     let laws = eq_by_cmp_equiv nat_cmp_total in
     let found : lookup (is_at (nat_cmp j)) (set_value (is_at (nat_cmp i)) es u) ≡ cond (is_at (nat_cmp i) j) (Some u) (lookup (is_at (nat_cmp j)) es) =
-        lookup-set_value laws (is_at (nat_cmp i)) (λ x y. laws.congr i x y) j u es (subst (λ (o : Option A). IsSome o) (sym a) refl) in
+    lookup-set_value laws (is_at (nat_cmp i)) (λ x y. laws.congr i x y) j u es (subst (λ (o : Option A). IsSome o) (sym a) refl) in
     elim (cases (is_at (nat_cmp i) j)) [
       | inl e ↦
           let here : Some u ≡ Some v = sym (found ∙ ap (λ c. cond c (Some u) (lookup (is_at (nat_cmp j)) es)) e) ∙ b in
@@ -100,7 +100,7 @@ pub values_same : {A B : Type 0} (f g : A → B) (es : List (ℕ × A)) → IsSt
 values_same f g [] s h = refl
 values_same f g (e ∷ es) s h =
     one_more e.0 (g e.1) (f e.1) (each_value g es) (each_value f es) (h e.0 e.1 (at_head e es))
-        (values_same f g es (sorted_tail nat_cmp e.0 (keys_of es) s) (λ j v l. h j v (in_tail j e es v s l)))
+    (values_same f g es (sorted_tail nat_cmp e.0 (keys_of es) s) (λ j v l. h j v (in_tail j e es v s l)))
 
 pub values_put : {A B : Type 0} (f g : A → B) (es : List (ℕ × A)) (i : ℕ) (u : A) (z : B) → IsStrictlySortedBy nat_cmp (keys_of es) → ((j : ℕ) (v : A) → lookup (is_at (nat_cmp j)) es ≡ Some v → (j ≡ i → ⊥) → g v ≡ f v) → g u ≡ z
     → each_value g (set_value (is_at (nat_cmp i)) es u) ≡ set_value (is_at (nat_cmp i)) (each_value f es) z

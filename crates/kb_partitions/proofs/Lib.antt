@@ -1,2 +1,6 @@
+pub mod Calls
+pub mod Changed
+pub mod Dropping
 pub mod Made
 pub mod Placed
+pub mod Put

@@ -1,5 +1,5 @@
 -- One partition among a tenant's becomes another.
-use Rattle.std.proofs.Common.{◌≡◌, ◌∙◌, ◌⊎◌, ◌≤◌, ◌<◌, inl, inr, ⊎_elim, ℕ, List, Option, Some, None, refl, sym, ap, subst, arith}
+use Rattle.std.proofs.Common.{◌≡◌, ◌∙◌, ◌⊎◌, ◌<◌, inl, inr, ⊎_elim, ℕ, List, Option, Some, None, refl, sym, ap, subst, arith}
 use Rattle.std.specs.Prelude.{map, option_map, slice_get, slice_set, slice_index_or}
 use Rattle.std.specs.Option.{option_and_then}
 use Rattle.std.specs.Ordering.{nat_cmp}
@@ -17,8 +17,8 @@ use Rattle.kb_log.specs.Apart.{Stays, other_stays}
 use Rattle.kb_log.specs.OnShelf.{Log, Spares, Frames, IsLawfulLog}
 use Rattle.kb_producers.specs.Batches.{kept_all}
 use Rattle.kb_partitions.specs.OneLog.{StaysTold}
-use Rattle.kb_partitions.specs.Logs.{LogState, Logs, log_at, with_log, put_log}
-use Rattle.kb_partitions.specs.Partitions.{Entries, Owned, AreSound, Agree, partition_at, log_state, logs_of, scene_on}
+use Rattle.kb_partitions.specs.Logs.{LogState, log_at, with_log, put_log}
+use Rattle.kb_partitions.specs.Partitions.{Entries, Owned, AreSound, partition_at, log_state, logs_of, scene_on}
 use Rattle.kb_partitions.specs.Scene.{Frame}
 use Rattle.kb_partitions.specs.declared.partition.Partition.{Partition}
 use Rattle.kb_partitions.proofs.Put.{get_put, map_same, map_put, put_same, lookup_put, values_put}

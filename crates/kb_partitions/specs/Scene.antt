@@ -1,5 +1,5 @@
 -- What some logs on a shelf are to their tenant, and how each call takes them from one moment to the next.
-use Rattle.std.specs.Prelude.{◌≡◌, ◌≤◌, ℕ}
+use Rattle.std.specs.Prelude.{◌≤◌, ℕ}
 use Rattle.kb_store.specs.Disk.{Disk}
 use Rattle.kb_log.specs.OnShelf.{Spares}
 

@@ -82,3 +82,38 @@ fn reads(rt: HostRuntime) -> Result<(), Fail> {
     assert_eq!(rt; start, 0);
     Ok(())
 }
+
+#[test]
+fn appends(rt: HostRuntime) -> Result<(), Fail> {
+    let mut shelf = Shelf::new(rt.alloc(), MemoryStore::new(rt.alloc()), 0)
+        .ok()
+        .ok_or("a shelf")?;
+    let mut partitions = made(rt.alloc())?;
+    let batch = BatchView::read(HI).ok().ok_or("a batch")?;
+    assert_eq!(rt; partitions.append(&mut shelf, 7, 1, &batch), Ok(0));
+    assert_eq!(rt; partitions.append(&mut shelf, 7, 1, &batch), Ok(1));
+    assert_eq!(rt;
+        partitions.append(&mut shelf, 7, 2, &batch),
+        Err(PartitionFault::Unknown)
+    );
+    assert_eq!(rt; partitions.end(7, 1), Some(2));
+    assert_eq!(rt; partitions.end(7, 0), Some(0));
+    let mut given = Vec::new(rt.alloc());
+    assert_eq!(rt;
+        partitions.fetch(&mut shelf, 7, 1, 1, 0, true, &mut given),
+        Ok(())
+    );
+    assert_eq!(rt; given.len(), 70);
+    assert_eq!(rt; &given[..8], [0, 0, 0, 0, 0, 0, 0, 1].as_slice());
+    let found = partitions.first_at(&mut shelf, 7, 1, 5).ok().flatten();
+    assert_eq!(rt; found.map(|record| record.offset), Some(0));
+    assert_eq!(rt;
+        partitions.retained_start(&mut shelf, 7, 1, 6, 0, -1),
+        Ok(2)
+    );
+    assert_eq!(rt;
+        partitions.retained_start(&mut shelf, 7, 1, 5, 0, 100),
+        Ok(1)
+    );
+    Ok(())
+}

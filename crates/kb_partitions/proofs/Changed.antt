@@ -1,14 +1,16 @@
 -- One partition among a tenant's becomes another.
-use Rattle.std.proofs.Common.{◌≡◌, ◌∙◌, ◌⊎◌, ◌<◌, inl, inr, ⊎_elim, ℕ, List, Option, Some, None, refl, sym, ap, subst, arith}
+use Rattle.std.proofs.Common.{◌≡◌, ◌∙◌, ◌⊎◌, ◌<◌, inl, inr, ⊎_elim, ℕ, List, Option, Some, None, refl, sym, ap, subst, arith, length}
 use Rattle.std.specs.Prelude.{map, option_map, slice_get, slice_set, slice_index_or}
 use Rattle.std.specs.Option.{option_and_then}
 use Rattle.std.specs.Ordering.{nat_cmp}
 use Rattle.std.specs.List.Sorted.{IsStrictlySortedBy}
 use Rattle.std.specs.Map.{keys_of, lookup, set_value}
 use Rattle.std.specs.BTreeMap.{is_at}
+use Rattle.std.proofs.lemmas.Map.{keys-set_value}
 use Rattle.std.specs.Vec.{with_item, vec_len}
 use Rattle.std.specs.declared.alloc.Global.{Global}
 use Rattle.std.specs.declared.vec.Vec.{Vec}
+use Rattle.std.proofs.lemmas.List.{length-set}
 use Rattle.std.proofs.lemmas.Map.Made.{lookup-map_values}
 use Rattle.std.proofs.lemmas.Map.Steps.{set_value_same}
 use Rattle.std.proofs.lemmas.Option.{slice_get-map, slice_get-get_or, slice_get_past}
@@ -18,7 +20,7 @@ use Rattle.kb_log.specs.OnShelf.{Log, Spares, Frames, IsLawfulLog}
 use Rattle.kb_producers.specs.Batches.{kept_all}
 use Rattle.kb_partitions.specs.OneLog.{StaysTold}
 use Rattle.kb_partitions.specs.Logs.{LogState, log_at, with_log, put_log}
-use Rattle.kb_partitions.specs.Partitions.{Entries, Owned, AreSound, partition_at, log_state, logs_of, scene_on}
+use Rattle.kb_partitions.specs.Partitions.{Entries, Owned, AreSound, partition_at, places_of, log_state, logs_of, scene_on}
 use Rattle.kb_partitions.specs.Scene.{Frame}
 use Rattle.kb_partitions.specs.declared.partition.Partition.{Partition}
 use Rattle.kb_partitions.proofs.Put.{get_put, map_same, map_put, put_same, lookup_put, values_put}
@@ -103,6 +105,14 @@ module _ {L : Type 0} (es es' : Entries L) (i p : ℕ) (x x' : Partition L) (c :
       (λ o. other j q y o.0 o.1)
       (changed_at j q y at)
 
+  -- each topic has as many partitions as before
+  pub same_places : places_of es' ≡ places_of es
+  same_places =
+      let count : Vec (Partition L) Global → ℕ = λ t. length t.items in
+      ap places_of c.put
+      ∙ values_put count count es i (with_item c.topic p x') (count c.topic) c.ordered (λ j t a ne. refl) (length-set c.topic.items p x')
+      ∙ set_value_same (is_at (nat_cmp i)) (places_of es) (count c.topic) (lookup-map_values count (is_at (nat_cmp i)) es ∙ ap (option_map count) c.there)
+
   -- a call for one log, which keeps to its own files
   module _ (log : L → Log) (law : (l : L) → IsLawfulLog (log l)) (d d' : Disk) (next next' : ℕ) (sound : AreSound log es d.table next)
       (frames : Frames (record { log = log x.log; disk = d; next = next }) (record { log = log x'.log; disk = d'; next = next' })) where
@@ -112,6 +122,7 @@ module _ {L : Type 0} (es es' : Entries L) (i p : ℕ) (x x' : Partition L) (c :
 
     pub changed_sound : AreSound log es' d'.table next'
     changed_sound = record {
+      ordered = subst (λ ks. IsStrictlySortedBy nat_cmp ks) (sym (ap keys_of c.put ∙ keys-set_value (is_at (nat_cmp i)) es (with_item c.topic p x'))) c.ordered;
       each = each_partition (λ j q y. (log y.log).sound d'.table next') frames.sound (λ j q y at ne. (stays j q y at ne).sound);
       apart = λ j q k r y z a b ne file own theirs. ⊎_elim
           (λ s. ⊎_elim

@@ -1,15 +1,17 @@
 -- What the partitions of a tenant are after those of a topic were made.
-use Rattle.std.proofs.Common.{◌≡◌, ◌∙◌, ◌⊎◌, ⊎_elim, inl, inr, ℕ, Bool, true, false, cond, List, [], ◌∷◌, Option, Some, refl, sym, ap, subst, length}
-use Rattle.std.specs.Prelude.{map, replicate, slice_get}
+use Rattle.std.proofs.Common.{◌≡◌, ◌∙◌, ◌⊎◌, ⊎_elim, inl, inr, ℕ, Bool, true, false, cond, List, [], ◌∷◌, Option, Some, None, refl, sym, ap, subst, length}
+use Rattle.std.specs.Prelude.{map, option_map, replicate, slice_get}
 use Rattle.std.specs.List.{All}
 use Rattle.std.specs.Option.{option_and_then}
-use Rattle.std.specs.Ordering.{nat_cmp, match_ordering}
+use Rattle.std.specs.Ordering.{nat_cmp, match_ordering, is_eq}
+use Rattle.std.specs.List.Sorted.{IsStrictlySortedBy}
 use Rattle.std.specs.declared.cmp.Ordering.{Ordering}
 use Rattle.std.specs.declared.cmp.Ordering.TheVariants.{Less, Equal, Greater}
-use Rattle.std.specs.Map.{lookup}
+use Rattle.std.specs.Map.{keys_of, lookup, remove_entry}
 use Rattle.std.specs.BTreeMap.{insert_entry, is_at}
 use Rattle.std.specs.declared.alloc.Global.{Global}
 use Rattle.std.specs.declared.vec.Vec.{Vec}
+use Rattle.std.proofs.lemmas.Map.Made.{lookup-map_values}
 use Rattle.std.proofs.lemmas.List.Elements.{All-head, All-tail}
 use Rattle.std.proofs.lemmas.Option.{slice_get_within, get_or_from_slice_get}
 use Rattle.kb_store.specs.Disk.{Files}
@@ -17,8 +19,9 @@ use Rattle.kb_log.specs.OnShelf.{Log}
 use Rattle.kb_producers.specs.Batches.{kept_all}
 use Rattle.kb_partitions.specs.Logs.{LogState, no_log}
 use Rattle.kb_partitions.specs.Made.{IsEmptyPartition}
-use Rattle.kb_partitions.specs.Partitions.{Entries, partition_at, log_state, logs_of, IsMade}
+use Rattle.kb_partitions.specs.Partitions.{Entries, partition_at, log_state, logs_of, places_of, IsMade, IsUnmade}
 use Rattle.kb_partitions.specs.declared.partition.Partition.{Partition}
+use Rattle.kb_partitions.proofs.Put.{own_number}
 
 -- what holds of each item holds of the one at a place
 each_at : {A : Type 0} (P : A → Type 0) (xs : List A) (k : ℕ) (x : A) → All P xs → slice_get xs k ≡ Some x → P x
@@ -40,6 +43,34 @@ insert_mapped {A} {B} f i v (e ∷ es) = by (nat_cmp i e.0) (insert_mapped f i v
     by Equal h = refl
     by Greater h = ap (λ rest. seen f e ∷ rest) h
 
+-- a new entry that is taken out again
+remove_inserted : {A : Type 0} (i : ℕ) (v : A) (es : List (ℕ × A)) → lookup (is_at (nat_cmp i)) es ≡ None → remove_entry (is_at (nat_cmp i)) (insert_entry nat_cmp es i v) ≡ es
+remove_inserted i v [] none = ap (λ b. cond b [] ((i, v) ∷ [])) (own_number i)
+remove_inserted {A} i v (e ∷ es) none = by (nat_cmp i e.0) refl none (remove_inserted i v es)
+  where
+    by : (o : Ordering) → nat_cmp i e.0 ≡ o → lookup (is_at (nat_cmp i)) (e ∷ es) ≡ None → (lookup (is_at (nat_cmp i)) es ≡ None → remove_entry (is_at (nat_cmp i)) (insert_entry nat_cmp es i v) ≡ es)
+        → remove_entry (is_at (nat_cmp i)) (match_ordering o ((i, v) ∷ e ∷ es) ((e.0, v) ∷ es) (e ∷ insert_entry nat_cmp es i v)) ≡ e ∷ es
+    by Less same gone h = ap (λ b. cond b (e ∷ es) ((i, v) ∷ remove_entry (is_at (nat_cmp i)) (e ∷ es))) (own_number i)
+    by Equal same gone h = absurd (let here : Some e.1 ≡ None = sym (ap (λ o. cond (is_eq o) (Some e.1) (lookup (is_at (nat_cmp i)) es)) same) ∙ gone in cc)
+    by Greater same gone h =
+        let past : is_at (nat_cmp i) e.0 ≡ false = ap is_eq same in
+        ap (λ b. cond b (insert_entry nat_cmp es i v) (e ∷ remove_entry (is_at (nat_cmp i)) (insert_entry nat_cmp es i v))) past
+        ∙ ap (λ rest. e ∷ rest) (h (sym (ap (λ b. cond b (Some e.1) (lookup (is_at (nat_cmp i)) es)) past) ∙ gone))
+
+counted_by : {A : Type 0} (f : A → ℕ) (n : ℕ) (x : A) (o : Option A) (b : Bool) → f x ≡ n → option_map f (cond b (Some x) o) ≡ cond b (Some n) (option_map f o)
+counted_by f n x o true e = ap Some e
+counted_by f n x o false e = refl
+
+-- no number of partitions: no partitions
+none_counted : {A B : Type 0} (f : A → B) (o : Option A) → option_map f o ≡ None → o ≡ None
+none_counted f None e = refl
+none_counted f (Some x) e = absurd cc
+
+unmade_here : {L : Type 0} (i : ℕ) (es : Entries L) → IsUnmade i es → lookup (is_at (nat_cmp i)) es ≡ None
+unmade_here {L} i es unmade =
+    let count : Vec (Partition L) Global → ℕ = λ t. length t.items in
+    none_counted count (lookup (is_at (nat_cmp i)) es) (sym (lookup-map_values count (is_at (nat_cmp i)) es) ∙ unmade)
+
 abbrev log_of : ℕ → ℕ → List (List ℕ) → LogState
 log_of start end batches = record { start = start; end = end; batches = batches }
 
@@ -59,6 +90,7 @@ module _ {L : Type 0} (log : L → Log) where
 
 module _ {L : Type 0} (log : L → Log) (instance count : ℕ) (es es' : Entries L) (v : Vec (Partition L) Global)
     (len : length v.items ≡ count) (empty : All (IsEmptyPartition log) v.items) (entries : es' ≡ insert_entry nat_cmp es instance v)
+    (unmade : IsUnmade instance es) (ordered : IsStrictlySortedBy nat_cmp (keys_of es'))
     (updates : (j : ℕ) → lookup (is_at (nat_cmp j)) es' ≡ cond (is_at (nat_cmp instance) j) (Some v) (lookup (is_at (nat_cmp j)) es)) where
   -- each partition is a new one, or stands where it stood
   made_at : (j q : ℕ) (x : Partition L) → partition_at j q es' ≡ Some x → IsEmptyPartition log x ⊎ (partition_at j q es ≡ Some x)
@@ -75,6 +107,7 @@ module _ {L : Type 0} (log : L → Log) (instance count : ℕ) (es es' : Entries
         (λ was. record { instance = o.instance; number = o.number; partition = o.partition; at = was; own = o.own })
         (made_at o.instance o.number o.partition o.at);
     sound = λ table next s. record {
+      ordered = ordered;
       each = λ i p x at. ⊎_elim (λ (new : IsEmptyPartition log x). new.begun.sound table next) (λ was. s.each i p x was) (made_at i p x at);
       apart = λ i p j q x y at there differ file own other. ⊎_elim
           (λ (new : IsEmptyPartition log x). new.begun.owns file own)
@@ -89,4 +122,14 @@ module _ {L : Type 0} (log : L → Log) (instance count : ℕ) (es es' : Entries
         ap (λ ds. logs_of log ds files) entries
         ∙ insert_mapped (λ (t : Vec (Partition L) Global). map (λ (x : Partition L). log_state (log x.log) files) t.items) instance v es
         ∙ ap (λ (t : List LogState). insert_entry nat_cmp (logs_of log es files) instance t) (all_empty log files v.items empty ∙ ap (λ n. replicate n no_log) len);
+    places =
+        ap places_of entries
+        ∙ insert_mapped (λ (t : Vec (Partition L) Global). length t.items) instance v es
+        ∙ ap (λ n. insert_entry nat_cmp (places_of es) instance n) len;
+    counts = λ i.
+        let count_of : Vec (Partition L) Global → ℕ = λ t. length t.items in
+        let test : ℕ → Bool = is_at (nat_cmp i) in
+        lookup-map_values count_of test es' ∙ ap (option_map count_of) (updates i) ∙ counted_by count_of count v (lookup test es) (is_at (nat_cmp instance) i) len
+        ∙ ap (λ o. cond (is_at (nat_cmp instance) i) (Some count) o) (sym (lookup-map_values count_of test es));
+    back = ap (λ ds. remove_entry (is_at (nat_cmp instance)) ds) entries ∙ remove_inserted instance v es (unmade_here instance es unmade);
   }

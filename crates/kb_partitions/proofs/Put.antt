@@ -10,17 +10,17 @@ use Rattle.std.proofs.lemmas.Map.{lookup-none, lookup-set_value}
 use Rattle.std.proofs.lemmas.Map.Entries.{none_past_head}
 use Rattle.std.proofs.lemmas.Map.Keys.{IsDistinct-from_sorted, sorted_tail}
 
-cases : (b : Bool) → (b ≡ true) ⊎ (b ≡ false)
+pub cases : (b : Bool) → (b ≡ true) ⊎ (b ≡ false)
 cases true = inl refl
 cases false = inr refl
 
 same_number : (k i : ℕ) → is_at (nat_cmp k) i ≡ true → k ≡ i
 same_number k i e = eqb-true k i (sym (unsigned_tied k i) ∙ e)
 
-own_number : (k : ℕ) → is_at (nat_cmp k) k ≡ true
+pub own_number : (k : ℕ) → is_at (nat_cmp k) k ≡ true
 own_number k = unsigned_tied k k ∙ eq-eqb k k refl
 
-other_number : (k i : ℕ) → is_at (nat_cmp k) i ≡ false → i ≡ k → ⊥
+pub other_number : (k i : ℕ) → is_at (nat_cmp k) i ≡ false → i ≡ k → ⊥
 other_number k i e same = let yes : is_at (nat_cmp k) i ≡ true = subst (λ j. is_at (nat_cmp k) j ≡ true) (sym same) (own_number k) in cc
 
 -- ---- an item at a place

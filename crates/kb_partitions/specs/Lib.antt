@@ -5,3 +5,4 @@ pub mod Made
 pub mod OneLog
 pub mod Partitions
 pub mod Scene
+pub mod Topic

@@ -31,6 +31,16 @@ fn made(alloc: Global) -> Result<Partitions<ListLog>, Fail>
     Ok(partitions)
 }
 
+/// Topics of instances 7 and 9, each with one partition.
+fn two_topics(alloc: Global) -> Result<Partitions<ListLog>, Fail>
+    ensures { IfOk result (λ partitions. (table : Table) (next : ℕ) → AreSound list_log partitions.topics.entries table next) }
+{
+    let mut partitions = Partitions::new(alloc);
+    partitions.add(alloc, "tenant", 7, 1, 1_048_576)?;
+    partitions.add(alloc, "tenant", 9, 1, 1_048_576)?;
+    Ok(partitions)
+}
+
 fn fetched(
     alloc: Global,
     shelf: &mut Shelf<MemoryStore>,
@@ -115,5 +125,40 @@ fn appends(rt: HostRuntime) -> Result<(), Fail> {
         partitions.retained_start(&mut shelf, 7, 1, 5, 0, 100),
         Ok(1)
     );
+    Ok(())
+}
+
+#[test]
+fn removes(rt: HostRuntime) -> Result<(), Fail> {
+    let mut shelf = Shelf::new(rt.alloc(), MemoryStore::new(rt.alloc()), 0)
+        .ok()
+        .ok_or("a shelf")?;
+    let mut partitions = two_topics(rt.alloc())?;
+    let batch = BatchView::read(HI).ok().ok_or("a batch")?;
+    assert_eq!(rt; partitions.append(&mut shelf, 7, 0, &batch), Ok(0));
+    assert_eq!(rt; partitions.append(&mut shelf, 9, 0, &batch), Ok(0));
+    assert_eq!(rt; partitions.append(&mut shelf, 9, 0, &batch), Ok(1));
+    assert_eq!(rt; partitions.remove(&mut shelf, 7), Ok(()));
+    assert_eq!(rt; partitions.end(7, 0), None);
+    assert_eq!(rt; partitions.end(9, 0), Some(2));
+    let mut given = Vec::new(rt.alloc());
+    assert_eq!(rt;
+        partitions.fetch(&mut shelf, 9, 0, 0, 1000, true, &mut given),
+        Ok(())
+    );
+    assert_eq!(rt; given.len(), 140);
+    assert_eq!(rt; partitions.remove(&mut shelf, 7), Ok(()));
+    assert_eq!(rt; partitions.end(9, 0), Some(2));
+    Ok(())
+}
+
+#[test]
+fn takes_back(rt: HostRuntime) -> Result<(), Fail> {
+    let mut partitions = two_topics(rt.alloc())?;
+    partitions.take_back(9);
+    assert_eq!(rt; partitions.end(9, 0), None);
+    assert_eq!(rt; partitions.end(7, 0), Some(0));
+    partitions.take_back(9);
+    assert_eq!(rt; partitions.end(7, 0), Some(0));
     Ok(())
 }

@@ -1,0 +1,39 @@
+-- Arrays: what fits, and what is written.
+use Rattle.std.proofs.Common.{◌≡◌, ◌∙◌, sym, ap, refl, subst, ℕ, ◌<◌, ◌^◌, List, [], ◌∷◌, ◌++◌, length, get_or, append_assoc, w32}
+use Rattle.std.proofs.lemmas.List.{append-nil}
+use Rattle.std.specs.List.{flat_map}
+use Rattle.std.proofs.lemmas.List.Elements.{All-get_or}
+use Rattle.kb_wire.specs.Codec.{Codec, count, counted, nullable_counted, int, sized, nullable, items, array, nullable_array}
+use Rattle.std.specs.Prelude.{Option, Some}
+
+-- the count of an array that fits
+pub count_fits : {A : Type 0} (c : Codec A) (vs : List A) (n : ℕ) → (array c).Fits vs → n ≡ length vs → (count w32).Fits n
+unfolding sized items
+count_fits c vs n fits is = subst (count w32).Fits (sym is) fits.0
+
+-- an item of an array that fits
+pub item_fits : {A : Type 0} (c : Codec A) (vs : List A) (i : ℕ) (e : A) → (array c).Fits vs → i < length vs → e ≡ get_or vs i e → c.Fits e
+unfolding sized items
+item_fits c vs i e fits lt is = subst c.Fits (sym is) (All-get_or c.Fits vs i e lt fits.1)
+
+pub array_written : {A : Type 0} (c : Codec A) (vs : List A) (n : ℕ) → n ≡ length vs → (count w32).written n ++ flat_map c.written vs ≡ (array c).written vs
+unfolding sized items
+array_written c vs n is = ap (λ m. (count w32).written m ++ flat_map c.written vs) is
+
+-- one after another
+pub written_both : (old s1 s2 x y : List ℕ) → s1 ≡ old ++ x → s2 ≡ s1 ++ y → s2 ≡ old ++ (x ++ y)
+written_both old s1 s2 x y p q = q ∙ ap (λ s. s ++ y) p ∙ append_assoc old x y
+
+-- a count below 2 ^ 31 fits
+pub small_count : (n : ℕ) → n < 2 ^ 31 → (count w32).Fits n
+unfolding counted int
+small_count n lt = (tt, record { sfits = lt })
+
+-- an array of one item
+pub one_written : {A : Type 0} (c : Codec A) (v : A) → (count w32).written 1 ++ c.written v ≡ (array c).written (v ∷ [])
+one_written c v = ap (λ x. (count w32).written 1 ++ x) (sym (append-nil (c.written v))) ∙ array_written c (v ∷ []) 1 refl
+
+-- an array that might have been null
+pub array_of_nullable : {A : Type 0} (c : Codec A) (o : Option (List A)) (vs : List A) → o ≡ Some vs → (nullable_array c).Fits o → (array c).Fits vs
+unfolding nullable nullable_counted sized counted items
+array_of_nullable c o vs is fits = subst (nullable_array c).Fits is fits

@@ -1,0 +1,17 @@
+pub mod Creating
+pub mod Deleting
+pub mod Described
+pub mod Fetching
+pub mod Fitting
+pub mod Framing
+pub mod Keys
+pub mod Offsets
+pub mod Produced
+pub mod Ready
+pub mod Refused
+pub mod Refusing
+pub mod Repeats
+pub mod Replies
+pub mod Serving
+pub mod Turning
+pub mod Waiting

@@ -1,0 +1,71 @@
+-- What is listed of a partition, by what is known of its log.
+use Rattle.std.proofs.Common.{◌≡◌, ◌∙◌, sym, ap, refl, ℕ, arith, List, ◌++◌, length, map, w32}
+use Rattle.std.specs.Prelude.{ℤ, pos, negsuc, true, false, Option, Some, None, is_some, option_map, int_lt}
+use Rattle.std.specs.Ordering.{int_eq}
+use Rattle.std.proofs.lemmas.Int.{ints}
+use Rattle.std.specs.Option.{option_and_then}
+use Rattle.std.specs.List.{flat_map}
+use Rattle.std.proofs.lemmas.List.{length-map}
+use Rattle.kb_wire.specs.Codec.{count, string, array}
+use Rattle.kb_api_data.specs.Layouts.{list_offsets_partition_reply, list_offsets_topic_reply, list_offsets_reply}
+use Rattle.kb_api_data.specs.declared.list_offsets.ListOffsetsPartition.{ListOffsetsPartition}
+use Rattle.kb_api_data.specs.declared.list_offsets.ListOffsetsTopic.{ListOffsetsTopic}
+use Rattle.kb_api_data.specs.declared.list_offsets.ListOffsetsRequest.{ListOffsetsRequest}
+use Rattle.kb_topics.specs.Known.{named}
+use Rattle.kb_partitions.specs.Logs.{LogState}
+use Rattle.kb_world.specs.Calls.{found_in}
+use Rattle.kb_tenant.specs.ListOffsets.{offset_refused, edge_answered, offset_found, listed_in, listed_at, listed, listed_topic, list_offsets}
+use Rattle.kb_world.specs.World.{World, place_in, log_in}
+use Rattle.kb_world.specs.declared.place.Place.{Place}
+use Rattle.kb_tenant.proofs.Fitting.{array_written, written_both}
+
+-- a partition is at its place
+pub at_place : (w : World) (topic : Option ℕ) (p t : ℤ) (place : Place) → Some place ≡ place_in topic p → listed_in p t (log_in w place) ≡ listed_at w topic p t
+at_place w topic p t place is = ap (λ x. listed_in p t (option_and_then (log_in w) x)) is
+
+pub listed_none : (p t : ℤ) (f : LogState → ℤ) (o : Option LogState) → is_some (option_map f o) ≡ false → offset_refused p (pos 3) ≡ listed_in p t o
+listed_none p t f None h = refl
+listed_none p t f (Some l) h = absurd cc
+
+pub listed_wrong : (p t : ℤ) (f : LogState → ℤ) (o : Option LogState) → is_some (option_map f o) ≡ true → int_lt t (negsuc 1) ≡ true → offset_refused p (pos 42) ≡ listed_in p t o
+listed_wrong p t f None h low = absurd cc
+listed_wrong p t f (Some l) h low = rw low refl
+
+pub listed_end : (p t : ℤ) (o : Option LogState) → t ≡ negsuc 0 → edge_answered p (option_map (λ (l : LogState). pos l.end) o) ≡ listed_in p t o
+listed_end p t None at = refl
+listed_end p t (Some l) at = rw at refl
+
+pub listed_start : (p t : ℤ) (o : Option LogState) → t ≡ negsuc 1 → edge_answered p (option_map (λ (l : LogState). pos l.start) o) ≡ listed_in p t o
+listed_start p t None at = refl
+listed_start p t (Some l) at = rw at refl
+
+pub listed_found : (p t : ℤ) (o : Option LogState) → int_lt t (negsuc 1) ≡ false → (t ≡ negsuc 0 → ⊥) → (t ≡ negsuc 1 → ⊥) → offset_found p (found_in t o) ≡ listed_in p t o
+listed_found p t None low end start = refl
+listed_found p t (Some l) low end start =
+    let second : int_eq t (negsuc 0) ≡ false = grind (arith, ints) in
+    let third : int_eq t (negsuc 1) ≡ false = grind (arith, ints) in
+    rw (third, second, low) refl
+
+-- a topic's answer is its name, its count and its partitions' answers
+pub topic_listed : (w : World) (t : ListOffsetsTopic) (name : List ℕ) (n : ℕ) (instance : Option ℕ) (entries : List ListOffsetsPartition) (old s1 s2 s3 : List ℕ)
+    → name ≡ t.name → n ≡ length t.partitions → instance ≡ named t.name w.known.topics → entries ≡ t.partitions
+    → s1 ≡ old ++ string.written name → s2 ≡ s1 ++ (count w32).written n → s3 ≡ s2 ++ flat_map list_offsets_partition_reply.written (map (listed w instance) entries)
+    → s3 ≡ old ++ list_offsets_topic_reply.written (listed_topic w t)
+unfolding list_offsets_topic_reply
+topic_listed w t name n instance entries old s1 s2 s3 name_is n_is instance_is entries_is p q r =
+    let write = list_offsets_partition_reply.written in
+    let replies = map (listed w (named t.name w.known.topics)) t.partitions in
+    let all = flat_map write replies in
+    let last : s3 ≡ s2 ++ all = r ∙ ap (λ i. s2 ++ flat_map write (map (listed w i) entries)) instance_is ∙ ap (λ es. s2 ++ flat_map write (map (listed w (named t.name w.known.topics)) es)) entries_is in
+    let tail : s3 ≡ s1 ++ ((count w32).written n ++ all) = written_both s1 s2 s3 ((count w32).written n) all q last in
+    let array_is = array_written list_offsets_partition_reply replies n (n_is ∙ sym (length-map t.partitions (listed w (named t.name w.known.topics)))) in
+    written_both old s1 s3 (string.written t.name) ((array list_offsets_partition_reply).written replies) (p ∙ ap (λ m. old ++ string.written m) name_is) (tail ∙ ap (λ x. s1 ++ x) array_is)
+
+-- the reply is its count and its topics' answers
+pub all_listed : (w : World) (r : ListOffsetsRequest) (n : ℕ) (old s1 s2 : List ℕ) → n ≡ length r.topics → s1 ≡ old ++ (count w32).written n → s2 ≡ s1 ++ flat_map list_offsets_topic_reply.written (map (listed_topic w) r.topics)
+    → s2 ≡ old ++ list_offsets_reply.written (list_offsets w r)
+unfolding list_offsets_reply
+all_listed w r n old s1 s2 n_is p q =
+    let replies = map (listed_topic w) r.topics in
+    written_both old s1 s2 ((count w32).written n) (flat_map list_offsets_topic_reply.written replies) p q
+    ∙ ap (λ x. old ++ x) (array_written list_offsets_topic_reply replies n (n_is ∙ sym (length-map r.topics (listed_topic w))))

@@ -1,0 +1,137 @@
+-- What a fetch was given, as its reply tells it.
+use Rattle.std.proofs.Common.{◌≡◌, ◌∙◌, sym, ap, refl, ℕ, ◌+◌, ◌-◌, List, [], ◌∷◌, ◌++◌, length, take, Bool, true, false, arith}
+use Rattle.std.specs.Prelude.{ℤ, Option, Some, None, Result, Ok, Err, nat_le, not, ◌==◌, ◌||◌, if◌then◌else◌}
+use Rattle.std.specs.List.{sum_by}
+use Rattle.std.specs.List.{list_any}
+use Rattle.std.proofs.lemmas.List.Sums.{sum_by-cons}
+use Rattle.std.proofs.lemmas.Bool.Decides.{nat_tests}
+use Rattle.kb_batch.specs.Batch.{natural}
+use Rattle.kb_api_data.specs.declared.fetch.FetchPartition.{FetchPartition}
+use Rattle.kb_api_data.specs.declared.fetch.FetchTopic.{FetchTopic}
+use Rattle.kb_api_data.specs.declared.fetch.FetchRequest.{FetchRequest}
+use Rattle.kb_api_data.specs.declared.fetch.FetchPartitionReply.{FetchPartitionReply}
+use Rattle.kb_api_data.specs.declared.fetch.FetchTopicReply.{FetchTopicReply}
+use Rattle.kb_api_data.specs.Layouts.{fetch_reply}
+use Rattle.kb_api_data.specs.declared.fetch.FetchReply.{FetchReply}
+use Rattle.kb_topics.specs.Known.{named}
+use Rattle.kb_partitions.specs.declared.fault.PartitionFault.{PartitionFault}
+use Rattle.kb_partitions.specs.declared.fault.PartitionFault.TheVariants as partition
+use Rattle.kb_world.specs.Calls.{end_of}
+use Rattle.kb_tenant.specs.Fetch.{answered, answered_at, answered_by, answered_topic, fetched, fetched_at, refused, begun, has_enough, is_ready, records_size, is_error, looked, fetch_answer}
+use Rattle.kb_tenant.proofs.Fetching.{cut_back}
+use Rattle.kb_tenant.specs.Turns.{in_turn}
+use Rattle.kb_world.specs.World.{World, place_in}
+use Rattle.kb_tenant.specs.declared.fetch.given.Given.{Given}
+use Rattle.kb_world.specs.declared.place.Place.{Place}
+
+-- what an answer adds to what was given before
+record Tells {A : Type 0} (size : A → ℕ) (bad some : A → Bool) (g h : Given) (a : A) : Type 0 where
+  pub missing : h.missing ≡ g.missing - size a
+  pub wrong : h.is_wrong ≡ (g.is_wrong || bad a)
+  pub asked : h.is_asked ≡ (g.is_asked || some a)
+
+or_true : (b : Bool) → true ≡ (b || true)
+or_true true = refl
+or_true false = refl
+
+or_false : (b : Bool) → b ≡ (b || false)
+or_false true = refl
+or_false false = refl
+
+or_or : (a b c : Bool) → ((a || b) || c) ≡ (a || (b || c))
+or_or true b c = refl
+or_or false b c = refl
+
+less_twice : (m a b s : ℕ) → s ≡ a + b → (m - a) - b ≡ m - s
+less_twice m a b s is = omega (arith, is)
+
+in_turn_tells : {E A : Type 0} (size : A → ℕ) (bad some : A → Bool) (f : Given → E → Given × A) → ((g : Given) (e : E) → Tells size bad some g (f g e).0 (f g e).1) → (g : Given) (es : List E)
+    → Tells (sum_by size) (list_any bad) (list_any some) g (in_turn f g es).0 (in_turn f g es).1
+in_turn_tells size bad some f each g [] = record { missing = omega arith; wrong = or_false g.is_wrong; asked = or_false g.is_asked }
+in_turn_tells {A = A} size bad some f each g (e ∷ es) =
+    let a : A = (f g e).1 in
+    let first = each g e in
+    let h : Given = (f g e).0 in
+    let others : List A = (in_turn f h es).1 in
+    let later = in_turn_tells size bad some f each h es in
+    record {
+      missing = later.missing ∙ ap (λ n. n - sum_by size others) first.missing ∙ less_twice g.missing (size a) (sum_by size others) (sum_by size (a ∷ others)) (sum_by-cons size a others);
+      wrong = later.wrong ∙ ap (λ b. b || list_any bad others) first.wrong ∙ or_or g.is_wrong (bad a) (list_any bad others);
+      asked = later.asked ∙ ap (λ b. b || list_any some others) first.asked ∙ or_or g.is_asked (some a) (list_any some others);
+    }
+
+-- ---- one partition
+
+abbrev is_refusal : FetchPartitionReply → Bool
+is_refusal p = is_error p.error_code
+
+abbrev Partition : Given → Given × FetchPartitionReply → Type 0
+Partition g r = Tells records_size is_refusal (λ p. true) g r.0 r.1
+
+refusal_bad : (p : ℤ) (f : PartitionFault) (g : Given) → is_refusal (refused g p f).1 ≡ true
+refusal_bad p partition.Unknown g = refl
+refusal_bad p partition.Range g = refl
+refusal_bad p partition.Full g = refl
+refusal_bad p partition.Store g = refl
+refusal_bad p partition.Memory g = refl
+
+refused_tells : (g : Given) (p : ℤ) (f : PartitionFault) → Partition g (refused g p f)
+refused_tells g p f = record {
+  missing = omega arith;
+  wrong = or_true g.is_wrong ∙ ap (λ b. g.is_wrong || b) (sym (refusal_bad p f g));
+  asked = or_true g.is_asked;
+}
+
+by_tells : (g : Given) (p : ℤ) (o : Option ℤ) (r : Result (List ℕ) PartitionFault) → Partition g (answered_by g p o r)
+by_tells g p None r = refused_tells g p partition.Unknown
+by_tells g p (Some end) (Err f) = refused_tells g p f
+by_tells g p (Some end) (Ok records) = record { missing = refl; wrong = or_false g.is_wrong; asked = or_true g.is_asked }
+
+at_tells : (w : World) (g : Given) (e : FetchPartition) (o : Option Place) → Partition g (answered_at w g e o)
+at_tells w g e None = refused_tells g e.partition partition.Unknown
+at_tells w g e (Some place) = by_tells g e.partition (end_of w place) (fetched_at w g e place)
+
+-- ---- the whole
+
+topic_tells : (w : World) (g : Given) (t : FetchTopic)
+    → Tells (λ (a : FetchTopicReply). sum_by records_size a.partitions) (λ a. list_any is_refusal a.partitions) (λ a. list_any (λ p. true) a.partitions) g (answered_topic w g t).0 (answered_topic w g t).1
+topic_tells w g t =
+    let all = in_turn_tells records_size is_refusal (λ p. true) (answered w (named t.topic w.known.topics)) (λ h e. at_tells w h e (place_in (named t.topic w.known.topics) e.partition)) g t.partitions in
+    record { missing = all.missing; wrong = all.wrong; asked = all.asked }
+
+none_missing : (n s : ℕ) → ((n - s) == 0) ≡ nat_le n s
+none_missing n s = grind (arith, nat_tests)
+
+-- what was counted on the way says whether the reply waits no longer
+pub ready_is : (w : World) (r : FetchRequest) (deadline : ℕ) → has_enough (fetched w r).0 w.clock deadline ≡ is_ready w r (fetched w r).1 deadline
+ready_is w r deadline =
+    let all = in_turn_tells (λ (a : FetchTopicReply). sum_by records_size a.partitions) (λ a. list_any is_refusal a.partitions) (λ a. list_any (λ p. true) a.partitions) (answered_topic w) (topic_tells w) (begun r) r.topics in
+    let g = (fetched w r).0 in
+    ap (λ b. not b || g.is_wrong || (g.missing == 0) || nat_le deadline w.clock) all.asked
+    ∙ ap (λ b. not (list_any (λ a. list_any (λ p. true) a.partitions) (fetched w r).1.topics) || b || (g.missing == 0) || nat_le deadline w.clock) all.wrong
+    ∙ ap (λ b. not (list_any (λ a. list_any (λ p. true) a.partitions) (fetched w r).1.topics) || list_any (λ a. list_any is_refusal a.partitions) (fetched w r).1.topics || b || nat_le deadline w.clock)
+    (ap (λ n. n == 0) all.missing ∙ none_missing (natural r.min_bytes) (sum_by (λ (a : FetchTopicReply). sum_by records_size a.partitions) (fetched w r).1.topics))
+
+-- ---- what a look answers
+
+done_is : (w v : World) (r : FetchRequest) (given : Given) (clock deadline : ℕ) (ready : Bool) → ready ≡ has_enough given clock deadline → clock ≡ v.clock → v ≡ w → given ≡ (fetched w r).0 → is_ready w r (fetched w r).1 deadline ≡ ready
+done_is w v r given clock deadline ready is at stays same =
+    sym (ready_is w r deadline) ∙ sym (ap (λ g. has_enough g w.clock deadline) same) ∙ sym (ap (λ n. has_enough given n deadline) (at ∙ ap (λ u. u.clock) stays)) ∙ sym is
+
+when_done : (old : List ℕ) (reply : FetchReply) (b : Bool) → b ≡ true → (true, old ++ fetch_reply.written reply) ≡ looked old (if b then Some reply else None)
+when_done old reply true is = refl
+when_done old reply false is = absurd cc
+
+when_not : (old : List ℕ) (reply : FetchReply) (b : Bool) → b ≡ false → (false, old) ≡ looked old (if b then Some reply else None)
+when_not old reply true is = absurd cc
+when_not old reply false is = refl
+
+pub looked_done : (w v : World) (r : FetchRequest) (given : Given) (clock deadline : ℕ) (ready : Bool) (old new : List ℕ) → ready ≡ has_enough given clock deadline → ready ≡ true → clock ≡ v.clock → v ≡ w
+    → (given ≡ (fetched w r).0) × (new ≡ old ++ fetch_reply.written (fetched w r).1) → (true, new) ≡ looked old (fetch_answer w r deadline)
+looked_done w v r given clock deadline ready old new is over at stays told =
+    ap (λ s. (true, s)) told.1 ∙ when_done old (fetched w r).1 (is_ready w r (fetched w r).1 deadline) (done_is w v r given clock deadline ready is at stays told.0 ∙ over)
+
+pub looked_not : (w v : World) (r : FetchRequest) (given : Given) (clock deadline : ℕ) (ready : Bool) (old mid new : List ℕ) (n : ℕ) → ready ≡ has_enough given clock deadline → ready ≡ false → clock ≡ v.clock → v ≡ w
+    → (given ≡ (fetched w r).0) × (mid ≡ old ++ fetch_reply.written (fetched w r).1) → n ≡ length old → new ≡ take n mid → (false, new) ≡ looked old (fetch_answer w r deadline)
+looked_not w v r given clock deadline ready old mid new n is early at stays told len back =
+    ap (λ s. (false, s)) (back ∙ cut_back old (fetch_reply.written (fetched w r).1) mid n told.1 len) ∙ when_not old (fetched w r).1 (is_ready w r (fetched w r).1 deadline) (done_is w v r given clock deadline ready is at stays told.0 ∙ early)

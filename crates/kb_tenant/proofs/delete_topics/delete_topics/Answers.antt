@@ -1,0 +1,82 @@
+use Rattle.std.proofs.Common.{◌≡◌, ◌∙◌, ◌++◌, sym, ap, refl, subst, w16, ℕ, List}
+use Rattle.std.proofs.lemmas.Int.{to_z-of_z}
+use Rattle.kb_wire.specs.Codec.{string, array}
+use Rattle.kb_api_data.specs.Layouts.{delete_topic_reply, delete_topics_reply}
+use Rattle.kb_partitions.specs.Scene.{Scene}
+use Rattle.kb_tenant.specs.DeleteTopics.{deleted_topic}
+use Rattle.kb_world.specs.Parts.{Seen, scene}
+use Rattle.kb_world.specs.Steps.{step_then, meets_then, meets_so}
+use Rattle.kb_tenant.specs.Turns.{in_turn}
+use Rattle.kb_world.specs.World.{World}
+use Rattle.kb_world.specs.declared.place.Place.{Place}
+use Rattle.kb_tenant.proofs.Deleting.{answered_is, deleted_fits, name_short, names_fit, deletions_written, kept_more}
+use Rattle.kb_tenant.proofs.Replies.{entry_next, entries_over, count_fits, item_fits}
+use Rattle.kb_tenant.proofs.delete_topics.delete_topics.Goals as goal
+
+pub put_count-requires : goal.put_count-requires
+put_count-requires g c =
+    let fits = subst (array string).Fits (sym c.as_slice-names.ensures) (names_fit c.args.request.now c.requires.fits) in
+    count_fits string c.as_slice-names.result.now fits
+
+pub delete_topic-requires-clause-text : goal.delete_topic-requires-clause-text
+delete_topic-requires-clause-text g c =
+    let fits = subst (array string).Fits (sym c.as_slice-names.ensures) (names_fit c.args.request.now c.requires.fits) in
+    let t = c.name-item.result in
+    name_short t _ c.as_str-name.ensures (item_fits string c.as_slice-names.result.now c.loop-name.name-index t c.loop-name-test.true c.name-item.is fits)
+
+pub write-requires : goal.write-requires
+write-requires g c =
+    let fits = subst (array string).Fits (sym c.as_slice-names.ensures) (names_fit c.args.request.now c.requires.fits) in
+    let t = c.name-item.result in
+    λ k. ((refl, tt), deleted_fits t _ _ (c.new.ensures ∙ c.as_str-name.ensures) (item_fits string c.as_slice-names.result.now c.loop-name.name-index t c.loop-name-test.true c.name-item.is fits))
+
+pub returns-in_err-write-clause-step : goal.returns-in_err-write-clause-step
+returns-in_err-write-clause-step g c =
+    let log = g.L.PartitionLog.log in
+    let disk = g.S.Store.disk in
+    let a : Scene Seen = scene log disk c.args.parts.now c.args.shelf.now in
+    let b : Scene Seen = scene log disk c.loop-name.parts c.loop-name.shelf in
+    let d : Scene Seen = scene log disk c.delete_topic.new.parts c.delete_topic.new.shelf in
+    step_then a b d c.loop-name.invariant.step c.delete_topic.ensures.step
+
+pub returns-in_err-write-clause-kept : goal.returns-in_err-write-clause-kept
+returns-in_err-write-clause-kept g c =
+    kept_more c.args.touched.now.items c.loop-name.touched.items c.delete_topic.new.touched.items _ (c.delete_topic.ensures.told (g.S.Store.disk c.loop-name.shelf.store).files) c.loop-name.invariant.kept
+
+pub loop-name-preserved : goal.loop-name-preserved
+loop-name-preserved g c =
+    let log = g.L.PartitionLog.log in
+    let disk = g.S.Store.disk in
+    let a : Scene Seen = scene log disk c.args.parts.now c.args.shelf.now in
+    let b : Scene Seen = scene log disk c.loop-name.parts c.loop-name.shelf in
+    let d : Scene Seen = scene log disk c.delete_topic.new.parts c.delete_topic.new.shelf in
+    let names = c.as_slice-names.result.now in
+    let old = c.loop-name.touched.items in
+    let now = c.delete_topic.new.touched.items in
+    let i = c.loop-name.name-index in
+    let t = c.name-item.result in
+    let sent = to_z-of_z w16 c.delete_topic.result (record { sfits = c.delete_topic.type_inv }) in
+    record {
+      step = step_then a b d c.loop-name.invariant.step c.delete_topic.ensures.step;
+      kept = kept_more c.args.touched.now.items old now _ (c.delete_topic.ensures.told (disk c.loop-name.shelf.store).files) c.loop-name.invariant.kept;
+      told = meets_so a d _ _ (λ both. entry_next delete_topic_reply deleted_topic c.loop-name.sink.bytes c.write.new.sink.bytes (b.state.world, old) (d.state.world, now) _ names i t _ c.loop-name-test.true c.name-item.is c.in_ok-write.ensures.ok
+          (answered_is b.state.world d.state.world old now t c.as_str-name.result.now c.new.result c.delete_topic.result _ c.as_str-name.ensures c.new.ensures both.1 sent) both.0)
+          (meets_then a b d _ _ c.loop-name.invariant.step c.delete_topic.ensures.step c.loop-name.invariant.told c.delete_topic.ensures.meets);
+    }
+
+pub returns-clause-meets : goal.returns-clause-meets
+returns-clause-meets g c = λ honest agrees calm.
+    let log = g.L.PartitionLog.log in
+    let disk = g.S.Store.disk in
+    let a : Scene Seen = scene log disk c.args.parts.now c.args.shelf.now in
+    let b : Scene Seen = scene log disk c.loop-name.parts c.loop-name.shelf in
+    let names = c.as_slice-names.result.now in
+    let start = c.args.sink.now.bytes in
+    let end = c.loop-name.sink.bytes in
+    let s : World × List Place = (a.state.world, c.args.touched.now.items) in
+    let t : World × List Place = (b.state.world, c.loop-name.touched.items) in
+    let over = entries_over delete_topic_reply deleted_topic start c.put_count.new.self.bytes end s t names c.loop-name.name-index c.loop-name-test.false c.in_ok-put_count.ensures.ok (c.loop-name.invariant.told honest agrees calm) in
+    let world : t.0 ≡ (in_turn deleted_topic s names).0.0 = ap (λ (x : World × List Place). x.0) over.0 in
+    let touched : t.1 ≡ (in_turn deleted_topic s names).0.1 = ap (λ (x : World × List Place). x.1) over.0 in
+    let bytes : end ≡ start ++ delete_topics_reply.written (record { topics = (in_turn deleted_topic s names).1 }) = over.1 ∙ ap (λ r. start ++ r) (deletions_written (in_turn deleted_topic s names).1) in
+    subst (λ (xs : List (List ℕ)). let r = in_turn deleted_topic s xs in (t.0 ≡ r.0.0) × (t.1 ≡ r.0.1) × (end ≡ start ++ delete_topics_reply.written (record { topics = r.1 }))) c.as_slice-names.ensures (world, touched, bytes)

@@ -1,0 +1,19 @@
+use Rattle.std.proofs.Common.{◌≡◌, drop, take, length}
+use Rattle.kb_api_data.specs.Layouts.{delete_topic_reply}
+use Rattle.kb_tenant.specs.DeleteTopics.{deleted_topic}
+use Rattle.kb_world.specs.Parts.{scene}
+use Rattle.kb_world.specs.Steps.{IsStep, Meets}
+use Rattle.kb_tenant.specs.Turns.{in_turn, written_behind}
+use Rattle.kb_tenant.proofs.delete_topics.delete_topics.Given as goal
+
+-- what was deleted, told and written, and what is still to be, is all
+abbrev pub invariant-loop-name : goal.invariant-loop-name
+invariant-loop-name g l =
+    let a = scene g.L.PartitionLog.log g.S.Store.disk l.initial.parts l.initial.shelf in
+    let b = scene g.L.PartitionLog.log g.S.Store.disk l.parts l.shelf in
+    record {
+      step : IsStep a b;
+      kept : take (length l.initial.touched.items) l.touched.items ≡ l.initial.touched.items;
+      told : Meets a b (written_behind delete_topic_reply.written l.sink.bytes (in_turn deleted_topic (b.state.world, l.touched.items) (drop l.name-index l.names))
+          ≡ written_behind delete_topic_reply.written l.initial.sink.bytes (in_turn deleted_topic (a.state.world, l.initial.touched.items) l.names));
+    }

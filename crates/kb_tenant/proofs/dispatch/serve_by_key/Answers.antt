@@ -1,0 +1,15 @@
+use Rattle.std.proofs.Common.{rules, ◌≡◌, pos, [], sym, subst}
+use Rattle.kb_world.specs.Parts.{world_of}
+use Rattle.kb_tenant.specs.Serve.{served, IsServed}
+use Rattle.kb_tenant.proofs.Keys.{served_metadata}
+use Rattle.kb_tenant.proofs.dispatch.serve_by_key.Goals as goal
+
+pub returns-in-3-clause-meets : goal.returns-in-3-clause-meets
+returns-in-3-clause-meets g c = λ honest agree calm.
+    let files = (g.S.Store.disk c.args.shelf.now.store).files in
+    let w = world_of g.L.PartitionLog.log c.args.parts.now files in
+    let request = c.args.request.now in
+    let key : request.api_key ≡ pos 3 = search rules in
+    subst (λ ts. IsServed request.correlation_id (served c.args.node.now w request.api_key request.body.now) w ts c.serve_metadata.result) (sym c.requires.untouched)
+    (subst (λ o. IsServed request.correlation_id o w [] c.serve_metadata.result) (sym (served_metadata c.args.node.now w request.api_key request.body.now key))
+    (c.serve_metadata.ensures files))

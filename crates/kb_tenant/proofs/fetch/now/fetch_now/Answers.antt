@@ -1,0 +1,20 @@
+use Rattle.std.proofs.Common.{sym, subst, w32}
+use Rattle.std.specs.Prelude.{All}
+use Rattle.kb_wire.specs.Codec.{count}
+use Rattle.kb_api_data.specs.Layouts.{fetch_topic}
+use Rattle.kb_world.specs.Parts.{world_of}
+use Rattle.kb_tenant.proofs.Fetching.{reply_told, request_count_fits, request_topics_fit}
+use Rattle.kb_tenant.proofs.fetch.now.fetch_now.Goals as goal
+
+pub put_count-requires : goal.put_count-requires
+put_count-requires g c = subst (λ n. (count w32).Fits n) (sym c.len.ensures) (request_count_fits c.args.request.now c.requires.fits)
+
+pub put_topics-requires-clause-fits : goal.put_topics-requires-clause-fits
+put_topics-requires-clause-fits g c = subst (λ ts. All fetch_topic.Fits ts) (sym c.as_slice.ensures) (request_topics_fit c.args.request.now c.requires.fits)
+
+pub returns-clause-meets : goal.returns-clause-meets
+returns-clause-meets g c = λ honest agrees calm.
+    let files = (g.S.Store.disk c.args.shelf.now.store).files in
+    reply_told (world_of g.L.PartitionLog.log c.args.parts.now files) c.args.request.now c.begun-given.result c.put_topics.new.given c.len.result c.as_slice.result.now
+    c.args.sink.now.bytes c.put_i32.new.self.bytes c.put_count.new.self.bytes c.put_topics.new.sink.bytes c.begun-given.ensures c.len.ensures c.as_slice.ensures
+    c.in_ok-put_i32.ensures.ok c.in_ok-put_count.ensures.ok (c.in_ok-put_topics.ensures.meets honest agrees calm)

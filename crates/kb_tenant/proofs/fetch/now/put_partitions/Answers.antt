@@ -1,0 +1,28 @@
+use Rattle.kb_api_data.specs.Layouts.{fetch_partition_reply}
+use Rattle.kb_partitions.specs.Scene.{Scene}
+use Rattle.kb_tenant.specs.Fetch.{answered}
+use Rattle.kb_world.specs.Parts.{Seen, scene}
+use Rattle.kb_world.specs.Steps.{step_then}
+use Rattle.kb_tenant.proofs.Fetching.{same_then, loop_next, get_or_any}
+use Rattle.kb_tenant.proofs.fetch.now.put_partitions.Goals as goal
+
+pub returns-in_err-put_partition-clause-step : goal.returns-in_err-put_partition-clause-step
+returns-in_err-put_partition-clause-step g c =
+    let a : Scene Seen = scene g.L.PartitionLog.log g.S.Store.disk c.args.parts.now c.args.shelf.now in
+    let b : Scene Seen = scene g.L.PartitionLog.log g.S.Store.disk c.loop-entry.parts c.loop-entry.shelf in
+    let d : Scene Seen = scene g.L.PartitionLog.log g.S.Store.disk c.put_partition.new.parts c.put_partition.new.shelf in
+    step_then a b d c.loop-entry.invariant.step c.put_partition.ensures.step
+
+pub loop-entry-preserved : goal.loop-entry-preserved
+loop-entry-preserved g c =
+    let a : Scene Seen = scene g.L.PartitionLog.log g.S.Store.disk c.args.parts.now c.args.shelf.now in
+    let b : Scene Seen = scene g.L.PartitionLog.log g.S.Store.disk c.loop-entry.parts c.loop-entry.shelf in
+    let d : Scene Seen = scene g.L.PartitionLog.log g.S.Store.disk c.put_partition.new.parts c.put_partition.new.shelf in
+    let i = c.loop-entry.entry-index in
+    let before = c.loop-entry.invariant in
+    record {
+      step = step_then a b d before.step c.put_partition.ensures.step;
+      same = same_then a b d before.step c.put_partition.ensures.step before.same c.put_partition.ensures.same;
+      told = loop_next fetch_partition_reply.written (λ w. answered w c.args.topic) a b d c.loop-entry.sink.bytes c.put_partition.new.sink.bytes c.loop-entry.given c.put_partition.new.given c.args.entries.now i _ _ c.loop-entry-test.true (get_or_any c.args.entries.now i _ _ c.loop-entry-test.true)
+          before.step c.put_partition.ensures.step before.same before.told c.in_ok-put_partition.ensures.meets;
+    }

@@ -1,0 +1,21 @@
+use Rattle.std.proofs.Common.{sym, subst, w32}
+use Rattle.std.proofs.lemmas.Result.{on_ok_weaker}
+use Rattle.kb_wire.specs.Codec.{count, string}
+use Rattle.kb_world.specs.Parts.{world_of}
+use Rattle.kb_tenant.proofs.Fetching.{topic_told, topic_name_fits, topic_count_fits}
+use Rattle.kb_tenant.proofs.fetch.now.put_topic.Goals as goal
+
+pub put_string-requires : goal.put_string-requires
+put_string-requires g c = subst (λ x. string.Fits x) (sym c.as_str-name.ensures) (topic_name_fits c.args.topic.now c.requires.fits)
+
+pub put_count-requires : goal.put_count-requires
+put_count-requires g c = subst (λ n. (count w32).Fits n) (sym c.len.ensures) (topic_count_fits c.args.topic.now c.requires.fits)
+
+pub returns-clause-meets : goal.returns-clause-meets
+returns-clause-meets g c =
+    let files = (g.S.Store.disk c.args.shelf.now.store).files in
+    on_ok_weaker c.put_partitions.result
+    (λ met honest agrees calm. topic_told (world_of g.L.PartitionLog.log c.args.parts.now files) c.args.given.now c.put_partitions.new.given c.args.topic.now c.as_str-name.result.now c.len.result c.topic_named-instance.result c.as_slice.result.now
+    c.args.sink.now.bytes c.put_string.new.self.bytes c.put_count.new.self.bytes c.put_partitions.new.sink.bytes c.as_str-name.ensures c.len.ensures (c.topic_named-instance.ensures files) c.as_slice.ensures
+    c.in_ok-put_string.ensures.ok c.in_ok-put_count.ensures.ok (met honest agrees calm))
+    c.put_partitions.ensures.meets

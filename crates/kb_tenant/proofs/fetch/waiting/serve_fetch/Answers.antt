@@ -1,0 +1,18 @@
+use Rattle.kb_tenant.specs.Fetch.{fetch_answer}
+use Rattle.kb_world.specs.Parts.{world_of}
+use Rattle.kb_tenant.proofs.Waiting.{reply_served, wait_served}
+use Rattle.kb_tenant.proofs.fetch.waiting.serve_fetch.Goals as goal
+
+pub returns-then-branch-clause-meets : goal.returns-then-branch-clause-meets
+returns-then-branch-clause-meets g c = λ honest agrees calm.
+    let files = (g.S.Store.disk c.args.shelf.now.store).files in
+    let w = world_of g.L.PartitionLog.log c.args.parts.now files in
+    reply_served w c.args.request.now c.deadline-deadline.result (fetch_answer w c.args.request.now) c.args.sink.now.bytes c.look.new.sink.bytes c.in_ok-look.field-0 c.if-branch.true (c.deadline-deadline.ensures files) (c.in_ok-look.ensures.meets honest agrees calm)
+
+pub returns-clause-meets : goal.returns-clause-meets
+returns-clause-meets g c = λ honest agrees calm.
+    let files = (g.S.Store.disk c.args.shelf.now.store).files in
+    let later = (g.S.Store.disk c.look.new.shelf.store).files in
+    let w = world_of g.L.PartitionLog.log c.args.parts.now files in
+    wait_served w (world_of g.L.PartitionLog.log c.look.new.parts later) c.args.request.now c.deadline-deadline.result (fetch_answer w c.args.request.now) c.args.sink.now.bytes c.look.new.sink.bytes c.in_ok-look.field-0 c.in_ok-places.field-0
+    c.if-branch.false (c.deadline-deadline.ensures files) (c.in_ok-look.ensures.meets honest agrees calm) (c.in_ok-places.ensures later) (c.look.ensures.same honest agrees)

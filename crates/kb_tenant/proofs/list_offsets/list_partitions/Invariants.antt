@@ -1,0 +1,21 @@
+use Rattle.std.proofs.Common.{◌≡◌, ◌++◌, map, drop}
+use Rattle.std.specs.List.{flat_map}
+use Rattle.kb_api_data.specs.Layouts.{list_offsets_partition_reply}
+use Rattle.kb_tenant.specs.ListOffsets.{listed}
+use Rattle.kb_world.specs.Parts.{scene}
+use Rattle.kb_world.specs.Steps.{IsStep, Meets}
+use Rattle.kb_tenant.proofs.Serving.{Stays}
+use Rattle.kb_tenant.proofs.list_offsets.list_partitions.Given as goal
+
+-- what was written, and what the rest is still to be answered, is the whole answer
+abbrev pub invariant-loop-entry : goal.invariant-loop-entry
+invariant-loop-entry g l =
+    let a = scene g.L.PartitionLog.log g.S.Store.disk l.initial.parts l.initial.shelf in
+    let b = scene g.L.PartitionLog.log g.S.Store.disk l.parts l.shelf in
+    let f = listed a.state.world l.topic in
+    let write = list_offsets_partition_reply.written in
+    record {
+      step : IsStep a b;
+      same : Stays a b;
+      told : Meets a b (l.sink.bytes ++ flat_map write (map f (drop l.entry-index l.entries)) ≡ l.initial.sink.bytes ++ flat_map write (map f l.entries));
+    }

@@ -1,0 +1,75 @@
+use Rattle.std.proofs.Common.{◌∙◌, ◌<◌, ◌≤◌, pos, ap, sym, refl, subst, length, get_or}
+use Rattle.std.proofs.lemmas.Result.{on_ok_weaker}
+use Rattle.kb_api_data.specs.Layouts.{produce_topic_reply}
+use Rattle.kb_api_data.specs.declared.produce.ProduceTopicReply.{ProduceTopicReply}
+use Rattle.kb_world.specs.Parts.{scene}
+use Rattle.kb_tenant.specs.Produce.{progress, served_topic, where_due}
+use Rattle.kb_world.specs.Steps.{step_then, meets_then, meets_so}
+use Rattle.kb_tenant.proofs.Produced.{number_fits, topics_fit, topic_fits, told_next, produce_told}
+use Rattle.kb_tenant.proofs.Turning.{turn_over}
+use Rattle.kb_tenant.proofs.produce.produce.Goals as goal
+
+pub put_count-requires : goal.put_count-requires
+put_count-requires g c = topics_fit c.args.request.now c.len.result c.len.ensures c.requires.fits
+
+pub serve_topic-requires-clause-fits : goal.serve_topic-requires-clause-fits
+serve_topic-requires-clause-fits g c =
+    let i = c.loop-topic.topic-index in
+    topic_fits c.args.request.now i c.topic-item.result
+    (subst (λ ts. i < length ts) c.as_slice-topic-items.ensures c.loop-topic-test.true)
+    (c.topic-item.is ∙ ap (λ ts. get_or ts i c.topic-item.result) c.as_slice-topic-items.ensures)
+    c.requires.fits
+
+pub put-requires : goal.put-requires
+put-requires g c κs = ((refl, tt), number_fits (pos 0))
+
+pub returns-in_err-serve_topic-clause-step : goal.returns-in_err-serve_topic-clause-step
+returns-in_err-serve_topic-clause-step g c =
+    let log = g.L.PartitionLog.log in
+    let disk = g.S.Store.disk in
+    let a = scene log disk c.args.parts.now c.args.shelf.now in
+    let b = scene log disk c.loop-topic.parts c.loop-topic.shelf in
+    let d = scene log disk c.serve_topic.new.parts c.serve_topic.new.shelf in
+    step_then a b d c.loop-topic.invariant.step c.serve_topic.ensures.step
+
+pub loop-topic-preserved : goal.loop-topic-preserved
+loop-topic-preserved g c =
+    let log = g.L.PartitionLog.log in
+    let disk = g.S.Store.disk in
+    let a = scene log disk c.args.parts.now c.args.shelf.now in
+    let b = scene log disk c.loop-topic.parts c.loop-topic.shelf in
+    let d = scene log disk c.serve_topic.new.parts c.serve_topic.new.shelf in
+    let terms = c.terms_of-terms.result in
+    let write : ProduceTopicReply → _ = λ x. where_due terms.due (produce_topic_reply.written x) in
+    let f = served_topic terms.refusal in
+    let p = progress b.state.world c.loop-topic.touched.items in
+    let q = progress d.state.world c.serve_topic.new.touched.items in
+    let i = c.loop-topic.topic-index in
+    record {
+      step = step_then a b d c.loop-topic.invariant.step c.serve_topic.ensures.step;
+      told = meets_so a d _ _
+          (told_next write f c.loop-topic.sink.bytes c.serve_topic.new.sink.bytes p q c.args.request.now.topics i c.topic-item.result _
+          (subst (λ ts. i < length ts) c.as_slice-topic-items.ensures c.loop-topic-test.true)
+          (c.topic-item.is ∙ ap (λ ts. get_or ts i c.topic-item.result) c.as_slice-topic-items.ensures))
+          (meets_then a b d _ _ c.loop-topic.invariant.step c.serve_topic.ensures.step c.loop-topic.invariant.told c.in_ok-serve_topic.ensures.meets);
+    }
+
+pub returns-clause-meets : goal.returns-clause-meets
+returns-clause-meets g c =
+    let log = g.L.PartitionLog.log in
+    let disk = g.S.Store.disk in
+    let a = scene log disk c.args.parts.now c.args.shelf.now in
+    let b = scene log disk c.loop-topic.parts c.loop-topic.shelf in
+    let request = c.args.request.now in
+    let terms = c.terms_of-terms.result in
+    let write : ProduceTopicReply → _ = λ x. where_due terms.due (produce_topic_reply.written x) in
+    let p = progress b.state.world c.loop-topic.touched.items in
+    let i = c.loop-topic.topic-index in
+    let over = turn_over write (served_topic terms.refusal) c.loop-topic.sink.bytes p request.topics i (subst (λ ts. length ts ≤ i) c.as_slice-topic-items.ensures c.loop-topic-test.false) in
+    on_ok_weaker c.put.result
+    (λ last. meets_so a b _ _
+    (λ told. produce_told terms request a.state.world b.state.world c.args.touched.now.items c.loop-topic.touched.items c.len.result
+    c.args.sink.now.bytes c.put_count.new.sink.bytes c.loop-topic.sink.bytes c.put.new.sink.bytes
+    c.terms_of-terms.ensures.refusal c.terms_of-terms.ensures.due c.len.ensures c.in_ok-put_count.ensures (sym over ∙ told) last)
+    c.loop-topic.invariant.told)
+    c.put.ensures

@@ -1,0 +1,19 @@
+use Rattle.std.proofs.Common.{◌≡◌, drop}
+use Rattle.kb_api_data.specs.Layouts.{produce_topic_reply}
+use Rattle.kb_world.specs.Parts.{scene}
+use Rattle.kb_tenant.specs.Produce.{progress, served_topic, where_due}
+use Rattle.kb_world.specs.Steps.{IsStep, Meets}
+use Rattle.kb_tenant.specs.Turns.{in_turn, written_behind}
+use Rattle.kb_tenant.proofs.produce.produce.Given as goal
+
+-- what was answered, and what the rest is still to be answered, is the whole answer
+abbrev pub invariant-loop-topic : goal.invariant-loop-topic
+invariant-loop-topic g l =
+    let log = g.L.PartitionLog.log in
+    let disk = g.S.Store.disk in
+    let a = scene log disk l.initial.parts l.initial.shelf in
+    let b = scene log disk l.parts l.shelf in
+    record {
+      step : IsStep a b;
+      told : Meets a b (written_behind (λ x. where_due l.terms.due (produce_topic_reply.written x)) l.sink.bytes (in_turn (served_topic l.terms.refusal) (progress b.state.world l.touched.items) (drop l.topic-index l.request.topics)) ≡ written_behind (λ x. where_due l.terms.due (produce_topic_reply.written x)) l.initial.sink.bytes (in_turn (served_topic l.terms.refusal) (progress a.state.world l.initial.touched.items) l.request.topics));
+    }

@@ -1,0 +1,19 @@
+use Rattle.std.proofs.Common.{◌≡◌, drop}
+use Rattle.kb_api_data.specs.Layouts.{produce_partition_reply}
+use Rattle.kb_world.specs.Parts.{scene}
+use Rattle.kb_tenant.specs.Produce.{progress, served, where_due}
+use Rattle.kb_world.specs.Steps.{IsStep, Meets}
+use Rattle.kb_tenant.specs.Turns.{in_turn, written_behind}
+use Rattle.kb_tenant.proofs.produce.serve_entries.Given as goal
+
+-- what was answered, and what the rest is still to be answered, is the whole answer
+abbrev pub invariant-loop-entry : goal.invariant-loop-entry
+invariant-loop-entry g l =
+    let log = g.L.PartitionLog.log in
+    let disk = g.S.Store.disk in
+    let a = scene log disk l.initial.parts l.initial.shelf in
+    let b = scene log disk l.parts l.shelf in
+    record {
+      step : IsStep a b;
+      told : Meets a b (written_behind (λ x. where_due l.terms.due (produce_partition_reply.written x)) l.sink.bytes (in_turn (served l.terms.refusal l.topic) (progress b.state.world l.touched.items) (drop l.entry-index l.entries)) ≡ written_behind (λ x. where_due l.terms.due (produce_partition_reply.written x)) l.initial.sink.bytes (in_turn (served l.terms.refusal l.topic) (progress a.state.world l.initial.touched.items) l.entries));
+    }

@@ -1,0 +1,53 @@
+-- What DeleteTopics makes of a world, and its reply (Kafka protocol guide, "The Messages: DeleteTopics", version 0).
+use Rattle.std.specs.Prelude.{ℕ, ℤ, List, [], ◌++◌, length, map, Option, Some, None, if◌then◌else◌}
+use Rattle.std.specs.List.{range_with_len}
+use Rattle.std.specs.Ordering.{int_eq}
+use Rattle.kb_api_group.specs.ErrorCode.{code_of}
+use Rattle.kb_api_group.specs.declared.error_code.ErrorCode.TheVariants as codes
+use Rattle.kb_api_data.specs.declared.delete_topics.DeleteTopicsRequest.{DeleteTopicsRequest}
+use Rattle.kb_api_data.specs.declared.delete_topics.DeleteTopicReply.{DeleteTopicReply}
+use Rattle.kb_api_data.specs.declared.delete_topics.DeleteTopicsReply.{DeleteTopicsReply}
+use Rattle.kb_topics.specs.Known.{TopicState, named, topic_at}
+use Rattle.kb_world.specs.Calls.{delete}
+use Rattle.kb_tenant.specs.CreateTopics.{code_in}
+use Rattle.kb_tenant.specs.Turns.{in_turn}
+use Rattle.kb_world.specs.World.{World}
+use Rattle.kb_world.specs.declared.place.Place.{Place}
+
+-- a partition of an instance
+abbrev pub place_at : ℕ → ℕ → Place
+place_at instance p = record { instance = instance; number = p }
+
+-- the first partitions of an instance, so many
+abbrev pub places : ℕ → ℕ → List Place
+places instance count = map (place_at instance) (range_with_len 0 count)
+
+abbrev pub places_in : ℕ → Option TopicState → List Place
+places_in instance None = []
+places_in instance (Some t) = places instance (length t.partitions)
+
+abbrev pub places_at : World → Option ℕ → List Place
+places_at w None = []
+places_at w (Some i) = places_in i (topic_at i w.known.topics)
+
+-- where the partitions of the topic of that name are
+abbrev pub places_named : World → List ℕ → List Place
+places_named w name = places_at w (named name w.known.topics)
+
+-- these places where a deletion was answered with no error, and else none
+abbrev pub told_if : ℤ → List Place → List Place
+told_if code ps = if int_eq code (code_of codes.None) then ps else []
+
+-- A topic is deleted, if it is there, and its partitions are told behind those that were told before.
+abbrev pub deleted : World × List Place → List ℕ → (World × List Place) × ℤ
+deleted s name =
+    let r = delete s.0 name in
+    ((r.0, s.1 ++ places_named s.0 name), code_in r.1)
+
+-- a name of a request
+abbrev pub deleted_topic : World × List Place → List ℕ → (World × List Place) × DeleteTopicReply
+deleted_topic s name = let r = deleted s name in (r.0, record { name = name; error_code = r.1 })
+
+-- The topics are deleted in order.
+abbrev pub deleted_all : World × List Place → DeleteTopicsRequest → (World × List Place) × DeleteTopicsReply
+deleted_all s q = let r = in_turn deleted_topic s q.names in (r.0, record { topics = r.1 })

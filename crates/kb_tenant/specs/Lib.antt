@@ -1,0 +1,11 @@
+pub mod CreateTopics
+pub mod DeleteTopics
+pub mod Fetch
+pub mod InitProducerId
+pub mod ListOffsets
+pub mod Metadata
+pub mod Produce
+pub mod Repeated
+pub mod Replies
+pub mod Serve
+pub mod Turns

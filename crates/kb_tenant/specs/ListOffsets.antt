@@ -1,0 +1,69 @@
+-- Offsets that are asked by time (Kafka protocol guide, "The Messages: ListOffsets").
+use Rattle.std.specs.Prelude.{ℕ, ℤ, pos, negsuc, map, Result, Ok, Err, Option, Some, None, int_lt, if◌then◌else◌}
+use Rattle.std.specs.Option.{option_and_then}
+use Rattle.std.specs.Ordering.{int_eq}
+use Rattle.kb_api_data.specs.declared.list_offsets.ListOffsetsPartition.{ListOffsetsPartition}
+use Rattle.kb_api_data.specs.declared.list_offsets.ListOffsetsTopic.{ListOffsetsTopic}
+use Rattle.kb_api_data.specs.declared.list_offsets.ListOffsetsRequest.{ListOffsetsRequest}
+use Rattle.kb_api_data.specs.declared.list_offsets.ListOffsetsPartitionReply.{ListOffsetsPartitionReply}
+use Rattle.kb_api_data.specs.declared.list_offsets.ListOffsetsTopicReply.{ListOffsetsTopicReply}
+use Rattle.kb_api_data.specs.declared.list_offsets.ListOffsetsReply.{ListOffsetsReply}
+use Rattle.kb_api_group.specs.ErrorCode.{code_of as code}
+use Rattle.kb_api_group.specs.declared.error_code.ErrorCode.TheVariants as codes
+use Rattle.kb_log.specs.Log.{first_at}
+use Rattle.kb_log.specs.declared.time.OffsetAndTimestamp.{OffsetAndTimestamp}
+use Rattle.kb_topics.specs.Known.{named}
+use Rattle.kb_partitions.specs.Fault.{code_of as fault_code}
+use Rattle.kb_partitions.specs.Logs.{LogState}
+use Rattle.kb_partitions.specs.declared.fault.PartitionFault.{PartitionFault}
+use Rattle.kb_world.specs.World.{World, place_in, log_in}
+
+-- no timestamp and no offset
+abbrev pub offset_refused : ℤ → ℤ → ListOffsetsPartitionReply
+offset_refused partition error = record {
+  partition = partition;
+  error_code = error;
+  timestamp = negsuc 0;
+  offset = negsuc 0;
+}
+
+abbrev pub offset_answered : ℤ → ℤ → ℤ → ListOffsetsPartitionReply
+offset_answered partition timestamp offset = record {
+  partition = partition;
+  error_code = code codes.None;
+  timestamp = timestamp;
+  offset = offset;
+}
+
+-- an end or a start, of a log that is there
+abbrev pub edge_answered : ℤ → Option ℤ → ListOffsetsPartitionReply
+edge_answered partition None = offset_refused partition (code codes.UnknownTopicOrPartition)
+edge_answered partition (Some offset) = offset_answered partition (negsuc 0) offset
+
+-- a record that was found, or none
+abbrev pub offset_found : ℤ → Result (Option OffsetAndTimestamp) PartitionFault → ListOffsetsPartitionReply
+offset_found partition (Ok None) = offset_answered partition (negsuc 0) (negsuc 0)
+offset_found partition (Ok (Some r)) = offset_answered partition r.timestamp r.offset
+offset_found partition (Err fault) = offset_refused partition (fault_code fault)
+
+-- Of a log, timestamp -1 asks the end and -2 the start, and any other the first record that is not older.
+abbrev pub listed_in : ℤ → ℤ → Option LogState → ListOffsetsPartitionReply
+listed_in partition timestamp None = offset_refused partition (code codes.UnknownTopicOrPartition)
+listed_in partition timestamp (Some l) =
+    if int_lt timestamp (negsuc 1) then offset_refused partition (code codes.InvalidRequest)
+    else (if int_eq timestamp (negsuc 0) then edge_answered partition (Some (pos l.end))
+    else (if int_eq timestamp (negsuc 1) then edge_answered partition (Some (pos l.start))
+    else offset_found partition (Ok (first_at timestamp l.batches))))
+
+-- a partition of the topic of an instance
+abbrev pub listed_at : World → Option ℕ → ℤ → ℤ → ListOffsetsPartitionReply
+listed_at w topic partition timestamp = listed_in partition timestamp (option_and_then (log_in w) (place_in topic partition))
+
+abbrev pub listed : World → Option ℕ → ListOffsetsPartition → ListOffsetsPartitionReply
+listed w topic e = listed_at w topic e.partition e.timestamp
+
+abbrev pub listed_topic : World → ListOffsetsTopic → ListOffsetsTopicReply
+listed_topic w t = record { name = t.name; partitions = map (listed w (named t.name w.known.topics)) t.partitions }
+
+abbrev pub list_offsets : World → ListOffsetsRequest → ListOffsetsReply
+list_offsets w r = record { topics = map (listed_topic w) r.topics }

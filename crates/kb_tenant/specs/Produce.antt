@@ -1,0 +1,149 @@
+-- Produce (Kafka protocol guide, "The Messages: Produce"): each entry offers a batch to a partition, and is answered with the batch's base offset or an error code.
+use Rattle.std.specs.Prelude.{ℕ, zero, suc, ℤ, pos, negsuc, Bool, true, false, List, [], ◌∷◌, ◌++◌, Option, Some, None, Result, Ok, Err, nat_lt, option_map, not, ◌||◌, if◌then◌else◌}
+use Rattle.std.specs.Ordering.{int_eq}
+use Rattle.kb_batch.specs.Batch.{first_fault}
+use Rattle.kb_batch.specs.Header.{producer_id_of}
+use Rattle.kb_batch.specs.declared.fault.BatchFault.{BatchFault}
+use Rattle.kb_batch.specs.declared.fault.BatchFault.TheVariants as fault
+use Rattle.kb_api_group.specs.ErrorCode.{code_of}
+use Rattle.kb_api_group.specs.declared.error_code.ErrorCode.{ErrorCode}
+use Rattle.kb_api_group.specs.declared.error_code.ErrorCode.TheVariants as error
+use Rattle.kb_api_data.specs.Layouts.{produce_reply}
+use Rattle.kb_api_data.specs.declared.produce.ProducePartition.{ProducePartition}
+use Rattle.kb_api_data.specs.declared.produce.ProduceTopic.{ProduceTopic}
+use Rattle.kb_api_data.specs.declared.produce.ProduceRequest.{ProduceRequest}
+use Rattle.kb_api_data.specs.declared.produce.ProducePartitionReply.{ProducePartitionReply}
+use Rattle.kb_api_data.specs.declared.produce.ProduceTopicReply.{ProduceTopicReply}
+use Rattle.kb_api_data.specs.declared.produce.ProduceReply.{ProduceReply}
+use Rattle.kb_producers.specs.declared.verdict.Verdict.{Verdict}
+use Rattle.kb_producers.specs.declared.verdict.Verdict.TheVariants.{Append, Repeat, Refuse}
+use Rattle.kb_topics.specs.Known.{named}
+use Rattle.kb_partitions.specs.Fault.{code_of as partition_code}
+use Rattle.kb_partitions.specs.Logs.{LogState}
+use Rattle.kb_partitions.specs.declared.fault.PartitionFault.{PartitionFault}
+use Rattle.kb_world.specs.World.{World, log_in, place_in}
+use Rattle.kb_world.specs.Calls.{append, judged}
+use Rattle.kb_tenant.specs.Turns.{in_turn}
+use Rattle.kb_world.specs.declared.place.Place.{Place}
+
+-- how far a produce came: the world, and where batches were appended, in order
+pub record Progress : Type 0 where
+  pub world : World
+  pub touched : List Place
+
+abbrev pub progress : World → List Place → Progress
+progress w places = record { world = w; touched = places }
+
+-- ---- the whole request
+
+-- what each entry is refused for: a transaction, or acks that are neither 0, 1 nor -1
+abbrev pub refusal_of : Option (List ℕ) → ℤ → Option ℤ
+refusal_of (Some id) acks = Some (code_of error.InvalidRequest)
+refusal_of None acks = if int_eq acks (pos 0) || int_eq acks (pos 1) || int_eq acks (negsuc 0) then None else Some (code_of error.InvalidRequiredAcks)
+
+-- ---- one batch
+
+-- the error for each test of a batch
+abbrev pub error_of : BatchFault → ErrorCode
+error_of fault.Short = error.CorruptMessage
+error_of fault.Length = error.CorruptMessage
+error_of fault.Trailing = error.InvalidRecord
+error_of fault.Magic = error.UnsupportedForMessageFormat
+error_of fault.TooLarge = error.MessageTooLarge
+error_of fault.Compression = error.UnsupportedCompressionType
+error_of fault.Attributes = error.InvalidRecord
+error_of fault.Checksum = error.CorruptMessage
+error_of fault.Record = error.InvalidRecord
+
+abbrev pub read_unless : List ℕ → Option BatchFault → Result (List ℕ) ℤ
+read_unless bytes None = Ok bytes
+read_unless bytes (Some f) = Err (code_of (error_of f))
+
+-- the batch that the records are, or the error of the first test that they fail
+abbrev pub batch_in : Option (List ℕ) → Result (List ℕ) ℤ
+batch_in None = Err (code_of error.CorruptMessage)
+batch_in (Some bytes) = read_unless bytes (first_fault bytes)
+
+-- the producer has no id, or one that was given out
+abbrev pub is_issued : ℕ → ℤ → Bool
+is_issued issues (pos id) = nat_lt id issues
+is_issued issues (negsuc zero) = true
+is_issued issues (negsuc (suc n)) = false
+
+-- what becomes of a batch, if there is such a partition
+abbrev pub verdict_on : World → Place → List ℕ → Option Verdict
+verdict_on w place batch = if is_issued w.known.issues (producer_id_of batch) then judged w place batch else Some (Refuse (code_of error.UnknownProducerId))
+
+-- ---- one entry, its answer a base offset or an error code
+
+abbrev pub appended_at : Progress → Place → World × Result ℤ PartitionFault → Progress × Result ℤ ℤ
+appended_at p place (w, Ok base) = (progress w (p.touched ++ place ∷ []), Ok base)
+appended_at p place (w, Err f) = (progress w p.touched, Err (partition_code f))
+
+abbrev pub decided : Progress → Place → List ℕ → Option Verdict → Progress × Result ℤ ℤ
+decided p place batch None = (p, Err (code_of error.UnknownTopicOrPartition))
+decided p place batch (Some Append) = appended_at p place (append p.world place batch)
+decided p place batch (Some (Repeat base)) = (p, Ok base)
+decided p place batch (Some (Refuse code)) = (p, Err code)
+
+-- A batch for a partition is appended, unless it is there already or is refused.
+abbrev pub offered : Progress → Place → List ℕ → Progress × Result ℤ ℤ
+offered p place batch = decided p place batch (verdict_on p.world place batch)
+
+abbrev pub offered_unless : Progress → Place → Result (List ℕ) ℤ → Progress × Result ℤ ℤ
+offered_unless p place (Ok batch) = offered p place batch
+offered_unless p place (Err code) = (p, Err code)
+
+-- the place, if a partition is there
+abbrev pub known_place : World → Option Place → Option Place
+known_place w None = None
+known_place w (Some place) = option_map (λ (l : LogState). place) (log_in w place)
+
+-- An unknown partition is answered before the batch is looked at.
+abbrev pub tried : Progress → Option Place → Option (List ℕ) → Progress × Result ℤ ℤ
+tried p None records = (p, Err (code_of error.UnknownTopicOrPartition))
+tried p (Some place) records = offered_unless p place (batch_in records)
+
+-- the reply for an entry
+abbrev pub answer : ℤ → Result ℤ ℤ → ProducePartitionReply
+answer index (Ok base) = record { index = index; error_code = code_of error.None; base_offset = base; log_append_time_ms = negsuc 0 }
+answer index (Err code) = record { index = index; error_code = code; base_offset = negsuc 0; log_append_time_ms = negsuc 0 }
+
+abbrev pub answered : ℤ → Progress × Result ℤ ℤ → Progress × ProducePartitionReply
+answered index r = (r.0, answer index r.1)
+
+-- An entry of a topic: its partition gets the batch, unless the whole request is refused.
+abbrev pub served : Option ℤ → Option ℕ → Progress → ProducePartition → Progress × ProducePartitionReply
+served (Some code) topic p e = (p, answer e.index (Err code))
+served None topic p e = answered e.index (tried p (known_place p.world (place_in topic e.index)) e.records)
+
+-- ---- all of them, in turn
+
+abbrev pub answered_topic : List ℕ → Progress × List ProducePartitionReply → Progress × ProduceTopicReply
+answered_topic name r = (r.0, record { name = name; partitions = r.1 })
+
+abbrev pub served_topic : Option ℤ → Progress → ProduceTopic → Progress × ProduceTopicReply
+served_topic refusal p t = answered_topic t.name (in_turn (served refusal (named t.name p.world.known.topics)) p t.partitions)
+
+abbrev pub replied : Progress × List ProduceTopicReply → Progress × ProduceReply
+replied r = (r.0, record { topics = r.1; throttle_time_ms = pos 0 })
+
+-- what a produce makes of a world and of the places where batches were appended before it, and its reply
+abbrev pub produced : World → List Place → ProduceRequest → Progress × ProduceReply
+produced w touched request = replied (in_turn (served_topic (refusal_of request.transactional_id request.acks)) (progress w touched) request.topics)
+
+-- one reply, written behind what was written before
+abbrev pub written_next : {S A : Type 0} → (A → List ℕ) → List ℕ → S × A → S × List ℕ
+written_next write out r = (r.0, out ++ write r.1)
+
+-- bytes of a reply, where there is one
+abbrev pub where_due : Bool → List ℕ → List ℕ
+where_due true bytes = bytes
+where_due false bytes = []
+
+-- acks 0 has no reply
+abbrev pub is_due : ℤ → Bool
+is_due acks = not (int_eq acks (pos 0))
+
+abbrev pub reply_bytes : ℤ → ProduceReply → List ℕ
+reply_bytes acks reply = where_due (is_due acks) (produce_reply.written reply)

@@ -1,0 +1,109 @@
+-- What a request of a tenant makes of its world, and comes to for the connection that sent it.
+use Rattle.std.specs.Prelude.{◌≡◌, ℕ, ℤ, pos, List, [], Option, Some, None, Result, Ok, Err, if◌then◌else◌}
+use Rattle.std.specs.Ordering.{int_eq}
+use Rattle.kb_wire.specs.Codec.{whole}
+use Rattle.kb_wire.specs.declared.fault.WireFault.{WireFault}
+use Rattle.kb_wire.specs.declared.fault.ReadFault.{ReadFault}
+use Rattle.kb_wire.specs.declared.fault.ReadFault.TheVariants as faults
+use Rattle.kb_api_data.specs.Layouts.{produce_request, produce_reply, fetch_request, fetch_reply, list_offsets_request, list_offsets_reply, metadata_request, metadata_reply}
+use Rattle.kb_api_data.specs.Layouts.{create_topics_request, create_topics_reply, delete_topics_request, delete_topics_reply, init_producer_id_request, init_producer_id_reply}
+use Rattle.kb_api_data.specs.declared.produce.ProduceRequest.{ProduceRequest}
+use Rattle.kb_api_data.specs.declared.fetch.FetchRequest.{FetchRequest}
+use Rattle.kb_api_data.specs.declared.fetch.FetchReply.{FetchReply}
+use Rattle.kb_api_data.specs.declared.list_offsets.ListOffsetsRequest.{ListOffsetsRequest}
+use Rattle.kb_api_data.specs.declared.metadata.MetadataRequest.{MetadataRequest}
+use Rattle.kb_api_data.specs.declared.create_topics.CreateTopicsRequest.{CreateTopicsRequest}
+use Rattle.kb_api_data.specs.declared.delete_topics.DeleteTopicsRequest.{DeleteTopicsRequest}
+use Rattle.kb_api_data.specs.declared.init_producer_id.InitProducerIdRequest.{InitProducerIdRequest}
+use Rattle.kb_world.specs.World.{World}
+use Rattle.kb_world.specs.declared.place.Place.{Place}
+use Rattle.kb_tenant.specs.CreateTopics.{created_all}
+use Rattle.kb_tenant.specs.DeleteTopics.{deleted_all}
+use Rattle.kb_tenant.specs.Fetch.{deadline_of, fetch_answer, places_of}
+use Rattle.kb_tenant.specs.InitProducerId.{init_producer_id}
+use Rattle.kb_tenant.specs.ListOffsets.{list_offsets}
+use Rattle.kb_tenant.specs.Metadata.{metadata_of}
+use Rattle.kb_tenant.specs.Produce.{produced, is_due}
+use Rattle.kb_tenant.specs.Replies.{Reaction, Replies, Waits, Silent, Shuts, IsAnswer}
+use Rattle.kb_tenant.specs.declared.answer.Answer.{Answer}
+use Rattle.kb_tenant.specs.declared.answer.Answer.TheVariants as answers
+use Rattle.kb_tenant.specs.declared.node.Node.{Node}
+
+-- the world after a request, the partitions that it changed, in order, and what it comes to
+pub record Outcome : Type 0 where
+  pub world : World
+  pub touched : List Place
+  pub reaction : Reaction
+
+-- the world stays
+abbrev pub stays : World → Reaction → Outcome
+stays w r = record { world = w; touched = []; reaction = r }
+
+-- ---- by API
+
+-- acks 0 has no reply
+abbrev pub of_produce : World → ProduceRequest → Outcome
+of_produce w r =
+    let p = produced w [] r in
+    record { world = p.0.world; touched = p.0.touched; reaction = if is_due r.acks then Replies (produce_reply.written p.1) else Silent }
+
+abbrev pub fetch_reaction : World → FetchRequest → Option FetchReply → Reaction
+fetch_reaction w r (Some reply) = Replies (fetch_reply.written reply)
+fetch_reaction w r None = Waits (deadline_of w r) (places_of w r)
+
+abbrev pub of_fetch : World → FetchRequest → Outcome
+of_fetch w r = stays w (fetch_reaction w r (fetch_answer w r (deadline_of w r)))
+
+abbrev pub of_list_offsets : World → ListOffsetsRequest → Outcome
+of_list_offsets w r = stays w (Replies (list_offsets_reply.written (list_offsets w r)))
+
+abbrev pub of_metadata : Node → World → MetadataRequest → Outcome
+of_metadata node w r = stays w (Replies (metadata_reply.written (metadata_of w node r)))
+
+abbrev pub of_create_topics : World → CreateTopicsRequest → Outcome
+of_create_topics w r = let c = created_all w r in record { world = c.0; touched = []; reaction = Replies (create_topics_reply.written c.1) }
+
+abbrev pub of_delete_topics : World → DeleteTopicsRequest → Outcome
+of_delete_topics w r = let d = deleted_all (w, []) r in record { world = d.0.0; touched = d.0.1; reaction = Replies (delete_topics_reply.written d.1) }
+
+abbrev pub of_init_producer_id : World → InitProducerIdRequest → Outcome
+of_init_producer_id w r = let i = init_producer_id w r in record { world = i.0; touched = []; reaction = Replies (init_producer_id_reply.written i.1) }
+
+-- ---- a request, by its key and its body
+
+-- A body that is not the API's shuts the connection.
+abbrev pub if_read : {A : Type 0} → World → Result A WireFault → (A → Outcome) → Outcome
+if_read w (Ok v) f = f v
+if_read w (Err fault) f = stays w Shuts
+
+-- 0 is Produce, 1 Fetch, 2 ListOffsets, 3 Metadata, 19 CreateTopics, 20 DeleteTopics, 22 InitProducerId
+unfoldable pub served : Node → World → ℤ → List ℕ → Outcome
+served node w key body =
+    if int_eq key (pos 0) then if_read w (whole produce_request body) (of_produce w)
+    else if int_eq key (pos 1) then if_read w (whole fetch_request body) (of_fetch w)
+    else if int_eq key (pos 2) then if_read w (whole list_offsets_request body) (of_list_offsets w)
+    else if int_eq key (pos 3) then if_read w (whole metadata_request body) (of_metadata node w)
+    else if int_eq key (pos 19) then if_read w (whole create_topics_request body) (of_create_topics w)
+    else if int_eq key (pos 20) then if_read w (whole delete_topics_request body) (of_delete_topics w)
+    else if int_eq key (pos 22) then if_read w (whole init_producer_id_request body) (of_init_producer_id w)
+    else stays w Shuts
+
+-- a waiting fetch, of that body and deadline: its reply, where it waits no longer
+abbrev pub looked_at : World → ℕ → Result FetchRequest WireFault → Reaction
+looked_at w deadline (Err fault) = Shuts
+looked_at w deadline (Ok r) = elim (fetch_answer w r deadline) [ Some reply ↦ Replies (fetch_reply.written reply) | None ↦ Silent ]
+
+unfoldable pub looked : World → ℕ → List ℕ → Reaction
+looked w deadline body = looked_at w deadline (whole fetch_request body)
+
+-- ---- what the code answers
+
+-- The outcome's world, touched partitions and answer.
+abbrev pub IsOutcome : ℤ → Outcome → World → List Place → Answer → Type 0
+IsOutcome id o w touched answer = (w ≡ o.world) × (touched ≡ o.touched) × IsAnswer id o.reaction answer
+
+-- the same, where a body that is not the API's is a fault; nothing is said where memory ran out
+abbrev pub IsServed : ℤ → Outcome → World → List Place → Result Answer ReadFault → Type 0
+IsServed id o w touched (Ok answer) = IsOutcome id o w touched answer
+IsServed id o w touched (Err (faults.Wire fault)) = IsOutcome id o w touched answers.Shut
+IsServed id o w touched (Err faults.Memory) = Unit {0}

@@ -1,0 +1,12 @@
+-- Entries that are served in order: each changes the state before the next.
+use Rattle.std.specs.Prelude.{ℕ, List, [], ◌∷◌, ◌++◌}
+use Rattle.std.specs.List.{flat_map}
+
+-- the last state, and what each entry was answered
+abbrev pub in_turn : {S E A : Type 0} → (S → E → S × A) → S → List E → S × List A
+in_turn f s [] = (s, [])
+in_turn f s (e ∷ es) = ((in_turn f (f s e).0 es).0, (f s e).1 ∷ (in_turn f (f s e).0 es).1)
+
+-- the last state, and the answers written behind what was written before
+abbrev pub written_behind : {S A : Type 0} → (A → List ℕ) → List ℕ → S × List A → S × List ℕ
+written_behind write out r = (r.0, out ++ flat_map write r.1)

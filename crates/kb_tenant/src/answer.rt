@@ -1,0 +1,59 @@
+//! What a request comes to for the connection that sent it.
+ghost use Rattle.std.specs.Prelude.{◌≡◌, ◌≤◌, ◌<◌, ◌-◌, ◌^◌, ◌++◌, ℕ, ℤ, List, length, drop, IfOk};
+ghost use Rattle.std.specs.Int.{w32, to_be_bytes};
+ghost use Rattle.kb_tenant.specs.Replies.{begun, framed, IsAnswer, Replies};
+
+use kb_wire::Sink;
+use kb_world::Place;
+use std::alloc::{AllocError, Global};
+
+/// What a request comes to for the connection that sent it.
+#[derive(Drop)]
+pub enum Answer {
+    /// A reply, from its size to the end of its body.
+    Reply(Vec<u8>),
+    /// A wait for one of these partitions, until the deadline at most.
+    Wait { deadline: u64, keys: Vec<Place> },
+    /// No reply.
+    NoReply,
+    /// The connection is to be shut without a reply.
+    Shut,
+}
+
+/// Begins a reply: room for its size, and its correlation id.
+pub(crate) fn begin(alloc: Global, correlation_id: i32) -> Result<Sink, AllocError>
+    ensures { IfOk result (λ sink. sink.bytes ≡ begun correlation_id) }
+{
+    let mut sink = Sink::new(alloc);
+    sink.put_i32(0)?;
+    sink.put_i32(correlation_id)?;
+    Ok(sink)
+}
+
+/// Sets the size in front of some bytes to the number of those behind it.
+fn set_size(bytes: &mut [u8])
+    requires front { 4 ≤ length bytes.old }
+    requires fits { length bytes.old - 4 < 2 ^ 31 }
+    ensures placed { bytes.new ≡ to_be_bytes w32 (length bytes.old - 4) ++ drop 4 bytes.old }
+    ensures len { length bytes.new ≡ length bytes.old }
+    ensures whole { (id : ℤ) (body : List ℕ) → bytes.old ≡ begun id ++ body → bytes.new ≡ framed id body }
+{
+    let size = (bytes.len() - 4) as u32;
+    let place = &mut bytes[..4];
+    place.copy_from_slice(&size.to_be_bytes());
+}
+
+/// Sets the size of a reply that was begun, behind whose correlation id its body stands.
+///
+/// A size above 2,147,483,647 cannot be told: then the connection is to be shut.
+#[tactic(auto, using(crate::proofs::Framing::sized, crate::proofs::Framing::long))]
+pub(crate) fn finish(sink: Sink) -> Answer
+    ensures { (id : ℤ) (body : List ℕ) → sink.bytes ≡ begun id ++ body → IsAnswer id (Replies body) result }
+{
+    let mut bytes = sink.into_vec();
+    if bytes.len() < 4 || bytes.len() - 4 > i32::MAX as usize {
+        return Answer::Shut;
+    }
+    set_size(&mut bytes);
+    Answer::Reply(bytes)
+}

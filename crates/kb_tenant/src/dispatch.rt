@@ -1,0 +1,282 @@
+//! A request of a tenant, by its key.
+ghost use Rattle.std.specs.Prelude.{◌≡◌, [], IfOk, OnErr};
+ghost use Rattle.kb_wire.specs.Codec.{string, whole};
+ghost use Rattle.kb_api_data.specs.Layouts.{produce_request, fetch_request, list_offsets_request, metadata_request, create_topics_request, delete_topics_request, init_producer_id_request};
+ghost use Rattle.kb_store.specs.Disk.{Files};
+ghost use Rattle.kb_world.specs.Parts.{scene, world_of};
+ghost use Rattle.kb_world.specs.Steps.{IsStep, Meets};
+ghost use Rattle.kb_tenant.specs.Replies.{IsAnswer};
+ghost use Rattle.kb_tenant.specs.Serve.{if_read, of_produce, of_fetch, of_list_offsets, of_metadata, of_create_topics, of_delete_topics, of_init_producer_id, served, looked, stays, IsOutcome, IsServed};
+
+use crate::answer::{Answer, begin, finish};
+use crate::create_topics::create_topics;
+use crate::delete_topics::delete_topics;
+use crate::fetch;
+use crate::fetch::{Fetching, serve_fetch};
+use crate::init_producer_id::init_producer_id;
+use crate::list_offsets::list_offsets;
+use crate::metadata::metadata;
+use crate::node::Node;
+use crate::produce::produce;
+use crate::request::Request;
+use kb_api_data::{
+    CreateTopicsRequest, DeleteTopicsRequest, FetchRequest, InitProducerIdRequest,
+    ListOffsetsRequest, MetadataRequest, ProduceRequest,
+};
+use kb_log::{PartitionLog, Shelf};
+use kb_store::Store;
+use kb_wire::{Layout, ReadFault};
+use kb_world::{Parts, Place};
+use std::alloc::Global;
+
+/// What became of a request.
+#[derive(Drop)]
+pub struct Served {
+    /// What it comes to for the connection that sent it.
+    pub answer: Answer,
+    /// The partitions that it changed, in order: waits for them are to be looked at.
+    pub touched: Vec<Place>,
+}
+
+/// Produce. Where acks is 0 there is no reply.
+fn serve_produce<L: PartitionLog + Drop, S: Store>(
+    alloc: Global,
+    parts: &mut Parts<L>,
+    shelf: &mut Shelf<S>,
+    request: &Request<'_>,
+    touched: &mut Vec<Place>,
+) -> Result<Answer, ReadFault>
+    requires untouched { touched.old.items ≡ [] }
+    requires sound { (scene L.log S.disk parts.old shelf.old).sound }
+    ensures step { IsStep (scene L.log S.disk parts.old shelf.old) (scene L.log S.disk parts.new shelf.new) }
+    ensures meets { let a = scene L.log S.disk parts.old shelf.old in let b = scene L.log S.disk parts.new shelf.new in
+        Meets a b (IsServed request.now.correlation_id (if_read a.state.world (whole produce_request request.now.body.now) (of_produce a.state.world)) b.state.world touched.new.items result) }
+{
+    let asked = ProduceRequest::read(alloc, request.body)?;
+    let mut sink = begin(alloc, request.correlation_id)?;
+    produce(parts, shelf, &asked, touched, &mut sink)?;
+    if asked.acks == 0 {
+        return Ok(Answer::NoReply);
+    }
+    Ok(finish(sink))
+}
+
+/// Fetch. It may wait.
+fn serve_a_fetch<L: PartitionLog + Drop, S: Store>(
+    alloc: Global,
+    parts: &mut Parts<L>,
+    shelf: &mut Shelf<S>,
+    request: &Request<'_>,
+) -> Result<Answer, ReadFault>
+    requires { (scene L.log S.disk parts.old shelf.old).sound }
+    ensures step { IsStep (scene L.log S.disk parts.old shelf.old) (scene L.log S.disk parts.new shelf.new) }
+    ensures meets { let a = scene L.log S.disk parts.old shelf.old in let b = scene L.log S.disk parts.new shelf.new in
+        Meets a b (IsServed request.now.correlation_id (if_read a.state.world (whole fetch_request request.now.body.now) (of_fetch a.state.world)) b.state.world [] result) }
+{
+    let asked = FetchRequest::read(alloc, request.body)?;
+    let mut sink = begin(alloc, request.correlation_id)?;
+    match serve_fetch(alloc, parts, shelf, &asked, &mut sink)? {
+        Fetching::Reply => Ok(finish(sink)),
+        Fetching::Wait { deadline, keys } => Ok(Answer::Wait { deadline, keys }),
+    }
+}
+
+/// ListOffsets.
+fn serve_list_offsets<L: PartitionLog + Drop, S: Store>(
+    alloc: Global,
+    parts: &mut Parts<L>,
+    shelf: &mut Shelf<S>,
+    request: &Request<'_>,
+) -> Result<Answer, ReadFault>
+    requires { (scene L.log S.disk parts.old shelf.old).sound }
+    ensures step { IsStep (scene L.log S.disk parts.old shelf.old) (scene L.log S.disk parts.new shelf.new) }
+    ensures meets { let a = scene L.log S.disk parts.old shelf.old in let b = scene L.log S.disk parts.new shelf.new in
+        Meets a b (IsServed request.now.correlation_id (if_read a.state.world (whole list_offsets_request request.now.body.now) (of_list_offsets a.state.world)) b.state.world [] result) }
+{
+    let asked = ListOffsetsRequest::read(alloc, request.body)?;
+    let mut sink = begin(alloc, request.correlation_id)?;
+    list_offsets(parts, shelf, &asked, &mut sink)?;
+    Ok(finish(sink))
+}
+
+/// Metadata.
+fn serve_metadata<L: PartitionLog + Drop>(
+    alloc: Global,
+    parts: &Parts<L>,
+    node: &Node<'_>,
+    request: &Request<'_>,
+) -> Result<Answer, ReadFault>
+    requires { string.Fits node.now.host }
+    ensures { (files : Files) → let w = world_of L.log parts.now files in
+        IsServed request.now.correlation_id (if_read w (whole metadata_request request.now.body.now) (of_metadata node.now w)) w [] result }
+{
+    let asked = MetadataRequest::read(alloc, request.body)?;
+    let mut sink = begin(alloc, request.correlation_id)?;
+    metadata(parts, node, &asked, &mut sink)?;
+    Ok(finish(sink))
+}
+
+/// CreateTopics.
+fn serve_create_topics<L: PartitionLog + Drop, S: Store>(
+    alloc: Global,
+    parts: &mut Parts<L>,
+    shelf: &mut Shelf<S>,
+    request: &Request<'_>,
+) -> Result<Answer, ReadFault>
+    requires { (scene L.log S.disk parts.old shelf.old).sound }
+    ensures step { IsStep (scene L.log S.disk parts.old shelf.old) (scene L.log S.disk parts.new shelf.new) }
+    ensures meets { let a = scene L.log S.disk parts.old shelf.old in let b = scene L.log S.disk parts.new shelf.new in
+        Meets a b (IsServed request.now.correlation_id (if_read a.state.world (whole create_topics_request request.now.body.now) (of_create_topics a.state.world)) b.state.world [] result) }
+{
+    let asked = CreateTopicsRequest::read(alloc, request.body)?;
+    let mut sink = begin(alloc, request.correlation_id)?;
+    create_topics(alloc, parts, shelf, &asked, &mut sink)?;
+    Ok(finish(sink))
+}
+
+/// DeleteTopics.
+fn serve_delete_topics<L: PartitionLog + Drop, S: Store>(
+    alloc: Global,
+    parts: &mut Parts<L>,
+    shelf: &mut Shelf<S>,
+    request: &Request<'_>,
+    touched: &mut Vec<Place>,
+) -> Result<Answer, ReadFault>
+    requires untouched { touched.old.items ≡ [] }
+    requires sound { (scene L.log S.disk parts.old shelf.old).sound }
+    ensures step { IsStep (scene L.log S.disk parts.old shelf.old) (scene L.log S.disk parts.new shelf.new) }
+    ensures meets { let a = scene L.log S.disk parts.old shelf.old in let b = scene L.log S.disk parts.new shelf.new in
+        Meets a b (IsServed request.now.correlation_id (if_read a.state.world (whole delete_topics_request request.now.body.now) (of_delete_topics a.state.world)) b.state.world touched.new.items result) }
+{
+    let asked = DeleteTopicsRequest::read(alloc, request.body)?;
+    let mut sink = begin(alloc, request.correlation_id)?;
+    delete_topics(parts, shelf, &asked, touched, &mut sink)?;
+    Ok(finish(sink))
+}
+
+/// InitProducerId.
+fn serve_init_producer_id<L: PartitionLog + Drop, S: Store>(
+    alloc: Global,
+    parts: &mut Parts<L>,
+    shelf: &mut Shelf<S>,
+    request: &Request<'_>,
+) -> Result<Answer, ReadFault>
+    requires { (scene L.log S.disk parts.old shelf.old).sound }
+    ensures step { IsStep (scene L.log S.disk parts.old shelf.old) (scene L.log S.disk parts.new shelf.new) }
+    ensures meets { let a = scene L.log S.disk parts.old shelf.old in let b = scene L.log S.disk parts.new shelf.new in
+        Meets a b (IsServed request.now.correlation_id (if_read a.state.world (whole init_producer_id_request request.now.body.now) (of_init_producer_id a.state.world)) b.state.world [] result) }
+{
+    let asked = InitProducerIdRequest::read(alloc, request.body)?;
+    let mut sink = begin(alloc, request.correlation_id)?;
+    init_producer_id(parts, shelf, &asked, &mut sink)?;
+    Ok(finish(sink))
+}
+
+/// Serves a request by its key. A key that is not a tenant's shuts the connection.
+#[tactic(auto, unfolding(crate::specs::Serve::served))]
+fn serve_by_key<L: PartitionLog + Drop, S: Store>(
+    alloc: Global,
+    parts: &mut Parts<L>,
+    shelf: &mut Shelf<S>,
+    node: &Node<'_>,
+    request: &Request<'_>,
+    touched: &mut Vec<Place>,
+) -> Result<Answer, ReadFault>
+    requires untouched { touched.old.items ≡ [] }
+    requires host { string.Fits node.now.host }
+    requires sound { (scene L.log S.disk parts.old shelf.old).sound }
+    ensures step { IsStep (scene L.log S.disk parts.old shelf.old) (scene L.log S.disk parts.new shelf.new) }
+    ensures meets { let a = scene L.log S.disk parts.old shelf.old in let b = scene L.log S.disk parts.new shelf.new in
+        Meets a b (IsServed request.now.correlation_id (served node.now a.state.world request.now.api_key request.now.body.now) b.state.world touched.new.items result) }
+{
+    match request.api_key {
+        0 => serve_produce(alloc, parts, shelf, request, touched),
+        1 => serve_a_fetch(alloc, parts, shelf, request),
+        2 => serve_list_offsets(alloc, parts, shelf, request),
+        3 => serve_metadata(alloc, parts, node, request),
+        19 => serve_create_topics(alloc, parts, shelf, request),
+        20 => serve_delete_topics(alloc, parts, shelf, request, touched),
+        22 => serve_init_producer_id(alloc, parts, shelf, request),
+        _ => Ok(Answer::Shut),
+    }
+}
+
+/// Serves a request of a tenant, at the clock of its parts.
+///
+/// A body that is not the API's, a key that is not a tenant's and a reply whose size does not fit an INT32 shut the
+/// connection. So does want of memory for the read request, the reply or the wait, which is counted; changes that were made
+/// stay. The host is to fit a STRING.
+pub fn serve<L: PartitionLog + Drop, S: Store>(
+    alloc: Global,
+    parts: &mut Parts<L>,
+    shelf: &mut Shelf<S>,
+    node: &Node<'_>,
+    request: &Request<'_>,
+) -> Served
+    requires host { string.Fits node.now.host }
+    requires sound { (scene L.log S.disk parts.old shelf.old).sound }
+    ensures step { IsStep (scene L.log S.disk parts.old shelf.old) (scene L.log S.disk parts.new shelf.new) }
+    ensures meets { let a = scene L.log S.disk parts.old shelf.old in let b = scene L.log S.disk parts.new shelf.new in
+        Meets a b (IsOutcome request.now.correlation_id (served node.now a.state.world request.now.api_key request.now.body.now) b.state.world result.touched.items result.answer) }
+{
+    let mut touched = Vec::new(alloc);
+    let answer = match serve_by_key(alloc, parts, shelf, node, request, &mut touched) {
+        Ok(answer) => answer,
+        Err(ReadFault::Wire(_)) => Answer::Shut,
+        Err(ReadFault::Memory) => {
+            parts.refuse();
+            Answer::Shut
+        }
+    };
+    Served { answer, touched }
+}
+
+/// Looks at a fetch that waits until the deadline at most, by its body.
+#[tactic(auto, unfolding(crate::specs::Serve::looked))]
+fn look_at<L: PartitionLog + Drop, S: Store>(
+    alloc: Global,
+    parts: &mut Parts<L>,
+    shelf: &mut Shelf<S>,
+    correlation_id: i32,
+    body: &[u8],
+    deadline: u64,
+) -> Result<Answer, ReadFault>
+    requires { (scene L.log S.disk parts.old shelf.old).sound }
+    ensures step { IsStep (scene L.log S.disk parts.old shelf.old) (scene L.log S.disk parts.new shelf.new) }
+    ensures meets { let a = scene L.log S.disk parts.old shelf.old in let b = scene L.log S.disk parts.new shelf.new in
+        Meets a b (IsServed correlation_id (stays a.state.world (looked a.state.world deadline body.now)) b.state.world [] result) }
+{
+    let asked = FetchRequest::read(alloc, body)?;
+    let mut sink = begin(alloc, correlation_id)?;
+    if fetch::look(alloc, parts, shelf, &asked, deadline, &mut sink)? {
+        return Ok(finish(sink));
+    }
+    Ok(Answer::NoReply)
+}
+
+/// Looks at a fetch that waits until the deadline at most, by its correlation id and its body.
+///
+/// It is answered where it waits no longer; `NoReply` says that it still waits. The world stays. Want of memory shuts the
+/// connection and is counted.
+pub fn look<L: PartitionLog + Drop, S: Store>(
+    alloc: Global,
+    parts: &mut Parts<L>,
+    shelf: &mut Shelf<S>,
+    correlation_id: i32,
+    body: &[u8],
+    deadline: u64,
+) -> Answer
+    requires { (scene L.log S.disk parts.old shelf.old).sound }
+    ensures step { IsStep (scene L.log S.disk parts.old shelf.old) (scene L.log S.disk parts.new shelf.new) }
+    ensures meets { let a = scene L.log S.disk parts.old shelf.old in let b = scene L.log S.disk parts.new shelf.new in
+        Meets a b ((b.state.world ≡ a.state.world) × IsAnswer correlation_id (looked a.state.world deadline body.now) result) }
+{
+    match look_at(alloc, parts, shelf, correlation_id, body, deadline) {
+        Ok(answer) => answer,
+        Err(ReadFault::Wire(_)) => Answer::Shut,
+        Err(ReadFault::Memory) => {
+            parts.refuse();
+            Answer::Shut
+        }
+    }
+}

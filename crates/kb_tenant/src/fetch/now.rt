@@ -1,0 +1,135 @@
+//! A whole fetch, answered with what there is.
+ghost use Rattle.std.specs.Prelude.{◌≡◌, ◌++◌, IfOk, OnOk, All};
+ghost use Rattle.kb_api_data.specs.Layouts.{fetch_partition_reply, fetch_reply, fetch_request, fetch_topic};
+ghost use Rattle.kb_api_data.specs.Layouts.{fetch_topic_reply};
+ghost use Rattle.kb_tenant.specs.Fetch.{answered, answered_topic, fetched};
+ghost use Rattle.kb_world.specs.Parts.{scene};
+ghost use Rattle.kb_world.specs.Steps.{IsStep, Meets};
+ghost use Rattle.kb_tenant.specs.Turns.{in_turn, written_behind};
+
+use crate::fetch::given::Given;
+use crate::fetch::partition::put_partition;
+use kb_api_data::{FetchPartition, FetchRequest, FetchTopic};
+use kb_log::{PartitionLog, Shelf};
+use kb_store::Store;
+use kb_wire::Sink;
+use kb_world::Parts;
+use std::alloc::{AllocError, Global};
+
+/// Answers a topic's entries in order.
+fn put_partitions<L: PartitionLog + Drop, S: Store>(
+    alloc: Global,
+    parts: &mut Parts<L>,
+    shelf: &mut Shelf<S>,
+    topic: Option<u64>,
+    entries: &[FetchPartition],
+    given: &mut Given,
+    sink: &mut Sink,
+) -> Result<(), AllocError>
+    requires sound { (scene L.log S.disk parts.old shelf.old).sound }
+    ensures step { IsStep (scene L.log S.disk parts.old shelf.old) (scene L.log S.disk parts.new shelf.new) }
+    ensures same { let a = scene L.log S.disk parts.old shelf.old in let b = scene L.log S.disk parts.new shelf.new in
+        b.disk.honest → a.agrees → b.state.world ≡ a.state.world }
+    ensures meets { let a = scene L.log S.disk parts.old shelf.old in
+        OnOk result (Meets a (scene L.log S.disk parts.new shelf.new)
+        ((given.new, sink.new.bytes) ≡ written_behind fetch_partition_reply.written sink.old.bytes
+        (in_turn (answered a.state.world topic) given.old entries.now))) }
+{
+    for entry in entries {
+        put_partition(alloc, parts, shelf, topic, entry, given, sink)?;
+    }
+    Ok(())
+}
+
+/// Answers a topic's entries, behind its name and their count.
+fn put_topic<L: PartitionLog + Drop, S: Store>(
+    alloc: Global,
+    parts: &mut Parts<L>,
+    shelf: &mut Shelf<S>,
+    topic: &FetchTopic<'_>,
+    given: &mut Given,
+    sink: &mut Sink,
+) -> Result<(), AllocError>
+    requires sound { (scene L.log S.disk parts.old shelf.old).sound }
+    requires fits { fetch_topic.Fits topic.now }
+    ensures step { IsStep (scene L.log S.disk parts.old shelf.old) (scene L.log S.disk parts.new shelf.new) }
+    ensures same { let a = scene L.log S.disk parts.old shelf.old in let b = scene L.log S.disk parts.new shelf.new in
+        b.disk.honest → a.agrees → b.state.world ≡ a.state.world }
+    ensures meets { let a = scene L.log S.disk parts.old shelf.old in
+        let r = answered_topic a.state.world given.old topic.now in
+        OnOk result (Meets a (scene L.log S.disk parts.new shelf.new)
+        ((given.new ≡ r.0) × (sink.new.bytes ≡ sink.old.bytes ++ fetch_topic_reply.written r.1))) }
+{
+    let name = topic.topic.as_str();
+    sink.put_string(name)?;
+    sink.put_count(topic.partitions.len())?;
+    let instance = parts.topic_named(name);
+    put_partitions(
+        alloc,
+        parts,
+        shelf,
+        instance,
+        topic.partitions.as_slice(),
+        given,
+        sink,
+    )
+}
+
+/// Answers the topics in order.
+fn put_topics<L: PartitionLog + Drop, S: Store>(
+    alloc: Global,
+    parts: &mut Parts<L>,
+    shelf: &mut Shelf<S>,
+    topics: &[FetchTopic<'_>],
+    given: &mut Given,
+    sink: &mut Sink,
+) -> Result<(), AllocError>
+    requires sound { (scene L.log S.disk parts.old shelf.old).sound }
+    requires fits { All fetch_topic.Fits topics.now }
+    ensures step { IsStep (scene L.log S.disk parts.old shelf.old) (scene L.log S.disk parts.new shelf.new) }
+    ensures same { let a = scene L.log S.disk parts.old shelf.old in let b = scene L.log S.disk parts.new shelf.new in
+        b.disk.honest → a.agrees → b.state.world ≡ a.state.world }
+    ensures meets { let a = scene L.log S.disk parts.old shelf.old in
+        OnOk result (Meets a (scene L.log S.disk parts.new shelf.new)
+        ((given.new, sink.new.bytes) ≡ written_behind fetch_topic_reply.written sink.old.bytes
+        (in_turn (answered_topic a.state.world) given.old topics.now))) }
+{
+    for topic in topics {
+        put_topic(alloc, parts, shelf, topic, given, sink)?;
+    }
+    Ok(())
+}
+
+/// Writes a fetch's whole reply as it is at this moment, whether the fetch is to wait or not, and answers what it gives.
+///
+/// A fetch changes nothing of what the tenant sees, also where it is refused.
+pub(crate) fn fetch_now<L: PartitionLog + Drop, S: Store>(
+    alloc: Global,
+    parts: &mut Parts<L>,
+    shelf: &mut Shelf<S>,
+    request: &FetchRequest<'_>,
+    sink: &mut Sink,
+) -> Result<Given, AllocError>
+    requires sound { (scene L.log S.disk parts.old shelf.old).sound }
+    requires fits { fetch_request.Fits request.now }
+    ensures step { IsStep (scene L.log S.disk parts.old shelf.old) (scene L.log S.disk parts.new shelf.new) }
+    ensures same { let a = scene L.log S.disk parts.old shelf.old in let b = scene L.log S.disk parts.new shelf.new in
+        b.disk.honest → a.agrees → b.state.world ≡ a.state.world }
+    ensures meets { let a = scene L.log S.disk parts.old shelf.old in
+        let r = fetched a.state.world request.now in
+        IfOk result (λ given. Meets a (scene L.log S.disk parts.new shelf.new)
+        ((given ≡ r.0) × (sink.new.bytes ≡ sink.old.bytes ++ fetch_reply.written r.1))) }
+{
+    let mut given = Given::begun(request);
+    sink.put_i32(0)?;
+    sink.put_count(request.topics.len())?;
+    put_topics(
+        alloc,
+        parts,
+        shelf,
+        request.topics.as_slice(),
+        &mut given,
+        sink,
+    )?;
+    Ok(given)
+}

@@ -1,0 +1,128 @@
+//! A fetch that is answered, or waits.
+ghost use Rattle.std.specs.Prelude.{◌≡◌, ◌++◌, IfOk, OnOk};
+ghost use Rattle.kb_store.specs.Disk.{Files};
+ghost use Rattle.kb_api_data.specs.Layouts.{fetch_request};
+ghost use Rattle.kb_tenant.specs.Fetch.{deadline_of, fetch_answer, looked, places_in, places_of, IsServed};
+ghost use Rattle.kb_world.specs.Parts.{scene, world_of};
+ghost use Rattle.kb_world.specs.Steps.{IsStep, Meets};
+
+use crate::fetch::given::not_negative;
+use crate::fetch::now::fetch_now;
+use crate::fetch::partition::place_of;
+use kb_api_data::{FetchPartition, FetchRequest};
+use kb_log::{PartitionLog, Shelf};
+use kb_store::Store;
+use kb_wire::Sink;
+use kb_world::{Parts, Place};
+use std::alloc::{AllocError, Global};
+
+/// What became of a fetch.
+#[derive(Drop)]
+pub(crate) enum Fetching {
+    /// Its reply was written.
+    Reply,
+    /// It waits for one of these partitions, until the deadline at most.
+    Wait { deadline: u64, keys: Vec<Place> },
+}
+
+/// Adds the partitions that a topic's entries ask for.
+fn add_places(
+    places: &mut Vec<Place>,
+    topic: Option<u64>,
+    entries: &[FetchPartition],
+) -> Result<(), AllocError>
+    ensures { OnOk result (places.new.items ≡ places.old.items ++ places_in topic entries.now) }
+{
+    for entry in entries {
+        if let Some(place) = place_of(topic, entry) {
+            places.push(place)?;
+        }
+    }
+    Ok(())
+}
+
+/// The partitions that a fetch asks for, in order.
+fn places<L: PartitionLog + Drop>(
+    alloc: Global,
+    parts: &Parts<L>,
+    request: &FetchRequest<'_>,
+) -> Result<Vec<Place>, AllocError>
+    ensures { IfOk result (λ places.
+        (files : Files) → places.items ≡ places_of (world_of L.log parts.now files) request.now) }
+{
+    let mut places = Vec::new(alloc);
+    for topic in request.topics.as_slice() {
+        let instance = parts.topic_named(topic.topic.as_str());
+        add_places(&mut places, instance, topic.partitions.as_slice())?;
+    }
+    Ok(places)
+}
+
+/// Until when a fetch of this moment waits at most.
+fn deadline<L: PartitionLog + Drop>(parts: &Parts<L>, request: &FetchRequest<'_>) -> u64
+    ensures { (files : Files) → result ≡ deadline_of (world_of L.log parts.now files) request.now }
+{
+    parts
+        .clock()
+        .saturating_add(not_negative(request.max_wait_ms))
+}
+
+/// Looks at a waiting fetch: writes its reply if it waits no longer, and answers whether it did.
+///
+/// Where it still waits the sink is as before. An `Err` may leave a front of the reply there.
+pub(crate) fn look<L: PartitionLog + Drop, S: Store>(
+    alloc: Global,
+    parts: &mut Parts<L>,
+    shelf: &mut Shelf<S>,
+    request: &FetchRequest<'_>,
+    deadline: u64,
+    sink: &mut Sink,
+) -> Result<bool, AllocError>
+    requires sound { (scene L.log S.disk parts.old shelf.old).sound }
+    requires fits { fetch_request.Fits request.now }
+    ensures step { IsStep (scene L.log S.disk parts.old shelf.old) (scene L.log S.disk parts.new shelf.new) }
+    ensures same { let a = scene L.log S.disk parts.old shelf.old in let b = scene L.log S.disk parts.new shelf.new in
+        b.disk.honest → a.agrees → b.state.world ≡ a.state.world }
+    ensures meets { let a = scene L.log S.disk parts.old shelf.old in
+        IfOk result (λ done. Meets a (scene L.log S.disk parts.new shelf.new)
+        ((done, sink.new.bytes) ≡ looked sink.old.bytes (fetch_answer a.state.world request.now deadline))) }
+{
+    let before = sink.len();
+    let given = fetch_now(alloc, parts, shelf, request, sink)?;
+    if given.is_ready(parts.clock(), deadline) {
+        return Ok(true);
+    }
+    sink.truncate(before);
+    Ok(false)
+}
+
+/// Serves a fetch: writes its reply, or answers until when and for which partitions it waits.
+///
+/// Where it waits the sink is as before. An `Err` may leave a front of the reply there.
+pub(crate) fn serve_fetch<L: PartitionLog + Drop, S: Store>(
+    alloc: Global,
+    parts: &mut Parts<L>,
+    shelf: &mut Shelf<S>,
+    request: &FetchRequest<'_>,
+    sink: &mut Sink,
+) -> Result<Fetching, AllocError>
+    requires sound { (scene L.log S.disk parts.old shelf.old).sound }
+    requires fits { fetch_request.Fits request.now }
+    ensures step { IsStep (scene L.log S.disk parts.old shelf.old) (scene L.log S.disk parts.new shelf.new) }
+    ensures same { let a = scene L.log S.disk parts.old shelf.old in let b = scene L.log S.disk parts.new shelf.new in
+        b.disk.honest → a.agrees → b.state.world ≡ a.state.world }
+    ensures meets { let a = scene L.log S.disk parts.old shelf.old in
+        IfOk result (λ served. Meets a (scene L.log S.disk parts.new shelf.new)
+        (IsServed a.state.world request.now
+        (fetch_answer a.state.world request.now (deadline_of a.state.world request.now))
+        sink.old.bytes served sink.new.bytes)) }
+{
+    let deadline = deadline(parts, request);
+    if look(alloc, parts, shelf, request, deadline, sink)? {
+        return Ok(Fetching::Reply);
+    }
+    Ok(Fetching::Wait {
+        deadline,
+        keys: places(alloc, parts, request)?,
+    })
+}

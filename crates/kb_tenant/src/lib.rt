@@ -1,0 +1,20 @@
+//! The requests of one tenant: what each does to its world, and answers.
+#![tactic(auto)]
+
+mod answer;
+mod create_topics;
+mod delete_topics;
+mod dispatch;
+mod fetch;
+mod init_producer_id;
+mod list_offsets;
+mod metadata;
+mod node;
+mod produce;
+mod repeated;
+mod request;
+
+pub use answer::Answer;
+pub use dispatch::{Served, look, serve};
+pub use node::Node;
+pub use request::Request;

@@ -1,0 +1,183 @@
+//! ListOffsets: offsets that are asked by time.
+ghost use Rattle.std.specs.Prelude.{◌≡◌, ◌++◌, OnOk, map};
+ghost use Rattle.std.specs.List.{flat_map};
+ghost use Rattle.kb_api_data.specs.Layouts.{list_offsets_topic, list_offsets_request, list_offsets_partition_reply, list_offsets_topic_reply, list_offsets_reply};
+ghost use Rattle.kb_tenant.specs.ListOffsets.{offset_refused, offset_answered, edge_answered, offset_found, listed, listed_at, listed_topic, list_offsets};
+ghost use Rattle.kb_world.specs.Parts.{scene};
+ghost use Rattle.kb_world.specs.Steps.{IsStep, Meets};
+
+use kb_api_data::{
+    ListOffsetsPartition, ListOffsetsPartitionReply, ListOffsetsRequest, ListOffsetsTopic,
+};
+use kb_api_group::ErrorCode;
+use kb_log::{OffsetAndTimestamp, PartitionLog, Shelf};
+use kb_partitions::PartitionFault;
+use kb_store::Store;
+use kb_wire::{Layout, Sink};
+use kb_world::{Parts, Place};
+use std::alloc::AllocError;
+
+fn refused(partition: i32, error_code: i16) -> ListOffsetsPartitionReply
+    ensures { result ≡ offset_refused partition error_code }
+{
+    ListOffsetsPartitionReply {
+        partition,
+        error_code,
+        timestamp: -1,
+        offset: -1,
+    }
+}
+
+fn answered(partition: i32, timestamp: i64, offset: i64) -> ListOffsetsPartitionReply
+    ensures { result ≡ offset_answered partition timestamp offset }
+{
+    ListOffsetsPartitionReply {
+        partition,
+        error_code: ErrorCode::None.code(),
+        timestamp,
+        offset,
+    }
+}
+
+/// The answer with an end or a start, where there is one.
+fn answered_edge(partition: i32, offset: Option<i64>) -> ListOffsetsPartitionReply
+    ensures { result ≡ edge_answered partition offset }
+{
+    match offset {
+        Some(offset) => answered(partition, -1, offset),
+        None => refused(partition, ErrorCode::UnknownTopicOrPartition.code()),
+    }
+}
+
+/// The answer by what a search found.
+fn answered_by(
+    partition: i32,
+    found: Result<Option<OffsetAndTimestamp>, PartitionFault>,
+) -> ListOffsetsPartitionReply
+    ensures { result ≡ offset_found partition found }
+{
+    match found {
+        Ok(None) => answered(partition, -1, -1),
+        Ok(Some(record)) => answered(partition, record.timestamp, record.offset),
+        Err(fault) => refused(partition, fault.code()),
+    }
+}
+
+/// Answers a partition of the topic of an instance.
+fn list_partition<L: PartitionLog + Drop, S: Store>(
+    parts: &mut Parts<L>,
+    shelf: &mut Shelf<S>,
+    topic: Option<u64>,
+    partition: i32,
+    timestamp: i64,
+) -> ListOffsetsPartitionReply
+    requires sound { (scene L.log S.disk parts.old shelf.old).sound }
+    ensures step { IsStep (scene L.log S.disk parts.old shelf.old) (scene L.log S.disk parts.new shelf.new) }
+    ensures same { let a = scene L.log S.disk parts.old shelf.old in let b = scene L.log S.disk parts.new shelf.new in
+        b.disk.honest → a.agrees → b.state.world ≡ a.state.world }
+    ensures meets { let a = scene L.log S.disk parts.old shelf.old in
+        Meets a (scene L.log S.disk parts.new shelf.new) (result ≡ listed_at a.state.world topic partition timestamp) }
+{
+    let Some(place) = Place::new(topic, partition) else {
+        return refused(partition, ErrorCode::UnknownTopicOrPartition.code());
+    };
+    if parts.start(place).is_none() {
+        return refused(partition, ErrorCode::UnknownTopicOrPartition.code());
+    }
+    if timestamp < -2 {
+        return refused(partition, ErrorCode::InvalidRequest.code());
+    }
+    if timestamp == -1 {
+        return answered_edge(partition, parts.end(place));
+    }
+    if timestamp == -2 {
+        return answered_edge(partition, parts.start(place));
+    }
+    answered_by(partition, parts.find(shelf, place, timestamp))
+}
+
+/// Answers an entry for the topic of an instance.
+fn list_entry<L: PartitionLog + Drop, S: Store>(
+    parts: &mut Parts<L>,
+    shelf: &mut Shelf<S>,
+    topic: Option<u64>,
+    entry: &ListOffsetsPartition,
+) -> ListOffsetsPartitionReply
+    requires sound { (scene L.log S.disk parts.old shelf.old).sound }
+    ensures step { IsStep (scene L.log S.disk parts.old shelf.old) (scene L.log S.disk parts.new shelf.new) }
+    ensures same { let a = scene L.log S.disk parts.old shelf.old in let b = scene L.log S.disk parts.new shelf.new in
+        b.disk.honest → a.agrees → b.state.world ≡ a.state.world }
+    ensures meets { let a = scene L.log S.disk parts.old shelf.old in
+        Meets a (scene L.log S.disk parts.new shelf.new) (result ≡ listed a.state.world topic entry.now) }
+{
+    list_partition(parts, shelf, topic, entry.partition, entry.timestamp)
+}
+
+/// Answers entries of a topic in order. An `Err` leaves some of the answers written.
+fn list_partitions<L: PartitionLog + Drop, S: Store>(
+    parts: &mut Parts<L>,
+    shelf: &mut Shelf<S>,
+    topic: Option<u64>,
+    entries: &[ListOffsetsPartition],
+    sink: &mut Sink,
+) -> Result<(), AllocError>
+    requires sound { (scene L.log S.disk parts.old shelf.old).sound }
+    ensures step { IsStep (scene L.log S.disk parts.old shelf.old) (scene L.log S.disk parts.new shelf.new) }
+    ensures same { let a = scene L.log S.disk parts.old shelf.old in let b = scene L.log S.disk parts.new shelf.new in
+        b.disk.honest → a.agrees → b.state.world ≡ a.state.world }
+    ensures meets { let a = scene L.log S.disk parts.old shelf.old in
+        OnOk result (Meets a (scene L.log S.disk parts.new shelf.new)
+        (sink.new.bytes ≡ sink.old.bytes ++ flat_map list_offsets_partition_reply.written (map (listed a.state.world topic) entries.now))) }
+{
+    for entry in entries {
+        list_entry(parts, shelf, topic, entry).write(sink)?;
+    }
+    Ok(())
+}
+
+/// Answers a topic. An `Err` leaves a part of the answer written.
+fn list_topic<L: PartitionLog + Drop, S: Store>(
+    parts: &mut Parts<L>,
+    shelf: &mut Shelf<S>,
+    topic: &ListOffsetsTopic<'_>,
+    sink: &mut Sink,
+) -> Result<(), AllocError>
+    requires sound { (scene L.log S.disk parts.old shelf.old).sound }
+    requires fits { list_offsets_topic.Fits topic.now }
+    ensures step { IsStep (scene L.log S.disk parts.old shelf.old) (scene L.log S.disk parts.new shelf.new) }
+    ensures same { let a = scene L.log S.disk parts.old shelf.old in let b = scene L.log S.disk parts.new shelf.new in
+        b.disk.honest → a.agrees → b.state.world ≡ a.state.world }
+    ensures meets { let a = scene L.log S.disk parts.old shelf.old in
+        OnOk result (Meets a (scene L.log S.disk parts.new shelf.new)
+        (sink.new.bytes ≡ sink.old.bytes ++ list_offsets_topic_reply.written (listed_topic a.state.world topic.now))) }
+{
+    sink.put_string(topic.name.as_str())?;
+    sink.put_count(topic.partitions.len())?;
+    let instance = parts.topic_named(topic.name.as_str());
+    list_partitions(parts, shelf, instance, topic.partitions.as_slice(), sink)
+}
+
+/// Serves ListOffsets: writes the reply behind what the sink has. The world stays as it is.
+///
+/// An `Err`, which is want of memory for the reply, leaves a part of it written.
+pub fn list_offsets<L: PartitionLog + Drop, S: Store>(
+    parts: &mut Parts<L>,
+    shelf: &mut Shelf<S>,
+    request: &ListOffsetsRequest<'_>,
+    sink: &mut Sink,
+) -> Result<(), AllocError>
+    requires sound { (scene L.log S.disk parts.old shelf.old).sound }
+    requires fits { list_offsets_request.Fits request.now }
+    ensures step { IsStep (scene L.log S.disk parts.old shelf.old) (scene L.log S.disk parts.new shelf.new) }
+    ensures same { let a = scene L.log S.disk parts.old shelf.old in let b = scene L.log S.disk parts.new shelf.new in
+        b.disk.honest → a.agrees → b.state.world ≡ a.state.world }
+    ensures meets { let a = scene L.log S.disk parts.old shelf.old in
+        OnOk result (Meets a (scene L.log S.disk parts.new shelf.new)
+        (sink.new.bytes ≡ sink.old.bytes ++ list_offsets_reply.written (list_offsets a.state.world request.now))) }
+{
+    sink.put_count(request.topics.len())?;
+    for topic in request.topics.as_slice() {
+        list_topic(parts, shelf, topic, sink)?;
+    }
+    Ok(())
+}

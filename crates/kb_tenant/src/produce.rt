@@ -1,0 +1,130 @@
+//! Produce (Kafka protocol guide, "The Messages: Produce").
+ghost use Rattle.std.specs.Prelude.{◌≡◌, ◌++◌, OnOk};
+ghost use Rattle.kb_api_data.specs.Layouts.{produce_request, produce_topic, produce_partition_reply, produce_topic_reply};
+ghost use Rattle.kb_world.specs.Parts.{scene};
+ghost use Rattle.kb_tenant.specs.Produce.{progress, refusal_of as refusal_for, is_due, served, served_topic, produced, where_due, written_next, reply_bytes};
+ghost use Rattle.kb_world.specs.Steps.{IsStep, Meets};
+ghost use Rattle.kb_tenant.specs.Turns.{in_turn, written_behind};
+
+mod batch;
+mod entry;
+mod reply;
+
+use crate::produce::entry::serve_entry;
+use crate::produce::reply::{put, put_count, put_string};
+use kb_api_data::{ProducePartition, ProduceRequest, ProduceTopic};
+use kb_api_group::ErrorCode;
+use kb_log::{PartitionLog, Shelf};
+use kb_store::Store;
+use kb_wire::Sink;
+use kb_world::{Parts, Place};
+use std::alloc::AllocError;
+
+/// What a request says of all its entries: why they are refused, if they are, and whether a reply is due.
+#[derive(Clone, Copy)]
+struct Terms {
+    refusal: Option<i16>,
+    due: bool,
+}
+
+/// What every entry is refused for: a transaction, or acks that are neither 0, 1 nor -1.
+fn refusal_of(request: &ProduceRequest<'_>) -> Option<i16>
+    ensures { result ≡ refusal_for request.now.transactional_id request.now.acks }
+{
+    if request.transactional_id.is_some() {
+        return Some(ErrorCode::InvalidRequest.code());
+    }
+    if !matches!(request.acks, -1..=1) {
+        return Some(ErrorCode::InvalidRequiredAcks.code());
+    }
+    None
+}
+
+/// What a request says of all its entries. With acks 0 no reply is due.
+fn terms_of(request: &ProduceRequest<'_>) -> Terms
+    ensures refusal { result.refusal ≡ refusal_for request.now.transactional_id request.now.acks }
+    ensures due { result.due ≡ is_due request.now.acks }
+{
+    Terms {
+        refusal: refusal_of(request),
+        due: request.acks != 0,
+    }
+}
+
+/// Serves a topic's entries in order.
+fn serve_entries<L: PartitionLog + Drop, S: Store>(
+    parts: &mut Parts<L>,
+    shelf: &mut Shelf<S>,
+    terms: Terms,
+    topic: Option<u64>,
+    entries: &[ProducePartition<'_>],
+    touched: &mut Vec<Place>,
+    sink: &mut Sink,
+) -> Result<(), AllocError>
+    requires sound { (scene L.log S.disk parts.old shelf.old).sound }
+    ensures step { IsStep (scene L.log S.disk parts.old shelf.old) (scene L.log S.disk parts.new shelf.new) }
+    ensures meets { OnOk result (let a = scene L.log S.disk parts.old shelf.old in let b = scene L.log S.disk parts.new shelf.new in
+        Meets a b ((progress b.state.world touched.new.items, sink.new.bytes) ≡ written_behind (λ x. where_due terms.due (produce_partition_reply.written x)) sink.old.bytes (in_turn (served terms.refusal topic) (progress a.state.world touched.old.items) entries.now))) }
+{
+    for entry in entries {
+        let reply = serve_entry(parts, shelf, terms.refusal, topic, entry, touched);
+        put(terms.due, &reply, sink)?;
+    }
+    Ok(())
+}
+
+/// Serves a topic's entries, behind the topic's name and their count.
+fn serve_topic<L: PartitionLog + Drop, S: Store>(
+    parts: &mut Parts<L>,
+    shelf: &mut Shelf<S>,
+    terms: Terms,
+    topic: &ProduceTopic<'_>,
+    touched: &mut Vec<Place>,
+    sink: &mut Sink,
+) -> Result<(), AllocError>
+    requires sound { (scene L.log S.disk parts.old shelf.old).sound }
+    requires fits { produce_topic.Fits topic.now }
+    ensures step { IsStep (scene L.log S.disk parts.old shelf.old) (scene L.log S.disk parts.new shelf.new) }
+    ensures meets { OnOk result (let a = scene L.log S.disk parts.old shelf.old in let b = scene L.log S.disk parts.new shelf.new in
+        Meets a b ((progress b.state.world touched.new.items, sink.new.bytes) ≡ written_next (λ x. where_due terms.due (produce_topic_reply.written x)) sink.old.bytes (served_topic terms.refusal (progress a.state.world touched.old.items) topic.now))) }
+{
+    put_string(terms.due, topic.name.as_str(), sink)?;
+    put_count(terms.due, topic.partitions.len(), sink)?;
+    let instance = parts.topic_named(topic.name.as_str());
+    serve_entries(
+        parts,
+        shelf,
+        terms,
+        instance,
+        topic.partitions.as_slice(),
+        touched,
+        sink,
+    )
+}
+
+/// Serves a produce: each entry's batch is appended to its partition, or is refused, in the order of the request.
+///
+/// The reply is written behind what is in the sink; with acks 0 there is none. The places where batches were appended are
+/// added to `touched`. An `Err` leaves what was served, and some front of the reply.
+pub(crate) fn produce<L: PartitionLog + Drop, S: Store>(
+    parts: &mut Parts<L>,
+    shelf: &mut Shelf<S>,
+    request: &ProduceRequest<'_>,
+    touched: &mut Vec<Place>,
+    sink: &mut Sink,
+) -> Result<(), AllocError>
+    requires sound { (scene L.log S.disk parts.old shelf.old).sound }
+    requires fits { produce_request.Fits request.now }
+    ensures step { IsStep (scene L.log S.disk parts.old shelf.old) (scene L.log S.disk parts.new shelf.new) }
+    ensures meets { OnOk result (let a = scene L.log S.disk parts.old shelf.old in let b = scene L.log S.disk parts.new shelf.new in
+        let r = produced a.state.world touched.old.items request.now in
+        Meets a b ((b.state.world ≡ r.0.world) × (touched.new.items ≡ r.0.touched) × (sink.new.bytes ≡ sink.old.bytes ++ reply_bytes request.now.acks r.1))) }
+{
+    let terms = terms_of(request);
+    put_count(terms.due, request.topics.len(), sink)?;
+    for topic in request.topics.as_slice() {
+        serve_topic(parts, shelf, terms, topic, touched, sink)?;
+    }
+    let throttle_time_ms: i32 = 0;
+    put(terms.due, &throttle_time_ms, sink)
+}

@@ -1,0 +1,45 @@
+//! The parts of a reply that is written only where one is due.
+ghost use Rattle.std.specs.Prelude.{◌≡◌, ◌++◌, OnOk};
+ghost use Rattle.std.specs.Int.{w32};
+ghost use Rattle.kb_wire.specs.Codec.{count, string};
+ghost use Rattle.kb_tenant.specs.Produce.{where_due};
+
+use kb_wire::{Layout, Sink};
+use std::alloc::AllocError;
+
+/// The count of an array.
+pub(super) fn put_count(due: bool, n: usize, sink: &mut Sink) -> Result<(), AllocError>
+    requires { (count w32).Fits n }
+    ensures { OnOk result (sink.new.bytes ≡ sink.old.bytes ++ where_due due ((count w32).written n)) }
+{
+    if !due {
+        return Ok(());
+    }
+    sink.put_count(n)
+}
+
+/// A text.
+pub(super) fn put_string(due: bool, text: &str, sink: &mut Sink) -> Result<(), AllocError>
+    requires { string.Fits text.now }
+    ensures { OnOk result (sink.new.bytes ≡ sink.old.bytes ++ where_due due (string.written text.now)) }
+{
+    if !due {
+        return Ok(());
+    }
+    sink.put_string(text)
+}
+
+/// A value.
+pub(super) fn put<'a, T: Layout<'a>>(
+    due: bool,
+    value: &T,
+    sink: &mut Sink,
+) -> Result<(), AllocError>
+    requires { T.codec.Fits value.now }
+    ensures { OnOk result (sink.new.bytes ≡ sink.old.bytes ++ where_due due (T.codec.written value.now)) }
+{
+    if !due {
+        return Ok(());
+    }
+    value.write(sink)
+}

@@ -1,0 +1,87 @@
+-- A topic is deleted: its command, and then its partitions go.
+use Rattle.std.proofs.Common.{◌≡◌, ◌∙◌, ℕ, Bool, true, false, cond, List, Option, Some, None, sym, ap, refl, subst, length, arith}
+use Rattle.std.specs.Prelude.{option_map}
+use Rattle.std.specs.Ordering.{nat_cmp}
+use Rattle.std.specs.Cmp.{nat_cmp_total, eq_by_cmp_equiv}
+use Rattle.std.specs.List.Sorted.{IsStrictlySortedBy}
+use Rattle.std.specs.Map.{keys_of, lookup, remove_entry}
+use Rattle.std.specs.BTreeMap.{is_at}
+use Rattle.std.specs.declared.alloc.Global.{Global}
+use Rattle.std.specs.declared.vec.Vec.{Vec}
+use Rattle.std.proofs.lemmas.Map.{lookup-remove_entry}
+use Rattle.std.proofs.lemmas.Map.Keys.{IsDistinct-from_sorted}
+use Rattle.std.proofs.lemmas.Map.Made.{keys_of-map_values}
+use Rattle.kb_store.specs.Disk.{Disk}
+use Rattle.kb_log.specs.OnShelf.{Log, Frames, IsLawfulLog}
+use Rattle.kb_topics.specs.Calls.{StaysFold}
+use Rattle.kb_topics.specs.Catalog.{known, meta_log}
+use Rattle.kb_topics.specs.declared.catalog.Catalog.{Catalog}
+use Rattle.kb_topics.specs.Known.{Known, named, without_topic, step}
+use Rattle.kb_topics.specs.declared.command.Command.TheVariants as commands
+use Rattle.kb_partitions.specs.Logs.{without_logs}
+use Rattle.kb_partitions.specs.Partitions.{Entries, IsUnmade, logs_of, places_of, scene_on}
+use Rattle.kb_partitions.specs.Scene.{Frame, WhereHonest}
+use Rattle.kb_partitions.specs.declared.partition.Partition.{Partition}
+use Rattle.kb_partitions.specs.declared.partitions.Partitions.{Partitions}
+use Rattle.kb_world.specs.Parts as parts
+use Rattle.kb_world.specs.Parts.{IsSound, Agrees, meta, entries, world_of}
+use Rattle.kb_world.specs.Steps.{IsStep, step_then}
+use Rattle.kb_world.specs.declared.parts.Parts.{Parts}
+use Rattle.kb_world.proofs.Lifted.{parts_step}
+use Rattle.kb_world.proofs.Recorded.{catalog_step, on_shelf, recorded_logs}
+
+mapped : {A B : Type 0} (f : A → B) (o : Option A) (x : A) (y : B) → o ≡ Some x → option_map f o ≡ Some y → y ≡ f x
+mapped f o x y here e = let is : Some y ≡ Some (f x) = sym e ∙ ap (option_map f) here in cc
+
+pub deleted : (old new : Known) (name : List ℕ) (i : ℕ) → named name old.topics ≡ Some i → step old (commands.Delete name) ≡ Some new → new ≡ without_topic old i
+deleted old new name i here e = mapped (without_topic old) (named name old.topics) i new here e
+
+module _ {L : Type 0} (i : ℕ) (es es' : Entries L) (ordered : IsStrictlySortedBy nat_cmp (keys_of es)) (places : places_of es' ≡ remove_entry (is_at (nat_cmp i)) (places_of es)) where
+  lookups : (j : ℕ) → lookup (is_at (nat_cmp j)) (places_of es') ≡ cond (is_at (nat_cmp i) j) None (lookup (is_at (nat_cmp j)) (places_of es))
+  lookups j =
+      let laws = eq_by_cmp_equiv nat_cmp_total in
+      let count : Vec (Partition L) Global → ℕ = λ t. length t.items in
+      let sorted : IsStrictlySortedBy nat_cmp (keys_of (places_of es)) = subst (λ ks. IsStrictlySortedBy nat_cmp ks) (sym (keys_of-map_values count es)) ordered in
+      ap (λ ps. lookup (is_at (nat_cmp j)) ps) places
+      ∙ lookup-remove_entry laws (is_at (nat_cmp i)) (λ x y. laws.congr i x y) j (places_of es) (IsDistinct-from_sorted nat_cmp (keys_of (places_of es)) sorted)
+
+  pub still_unmade : (j : ℕ) → IsUnmade j es → IsUnmade j es'
+  still_unmade j none = by (is_at (nat_cmp i) j) (lookups j)
+    where
+      by : (b : Bool) → lookup (is_at (nat_cmp j)) (places_of es') ≡ cond b None (lookup (is_at (nat_cmp j)) (places_of es)) → IsUnmade j es'
+      by true h = h
+      by false h = h ∙ none
+
+  pub still_small : (j n : ℕ) → lookup (is_at (nat_cmp j)) (places_of es') ≡ Some n → lookup (is_at (nat_cmp j)) (places_of es) ≡ Some n
+  still_small j n some = by (is_at (nat_cmp i) j) (lookups j)
+    where
+      by : (b : Bool) → lookup (is_at (nat_cmp j)) (places_of es') ≡ cond b None (lookup (is_at (nat_cmp j)) (places_of es)) → lookup (is_at (nat_cmp j)) (places_of es) ≡ Some n
+      by true h = absurd (let bad : None ≡ Some n = sym h ∙ some in cc)
+      by false h = sym h ∙ some
+
+module _ {L : Type 0} (log : L → Log) (law : (l : L) → IsLawfulLog (log l)) (old : Parts L) (changed : Catalog L) (d d' : Disk) (next next' : ℕ) (i : ℕ)
+    (sound : IsSound log old d.table next) (new : known changed ≡ without_topic (known old.catalog) i)
+    (frames : Frames (on_shelf (meta log old) d next) (on_shelf (log (meta_log changed)) d' next'))
+    (fold : StaysFold (on_shelf (meta log old) d next) (known old.catalog) (on_shelf (log (meta_log changed)) d' next') (known changed)) where
+  -- the command was recorded
+  pub recorded : IsStep (parts.scene_on log old d next) (parts.scene_on log (record old { catalog = changed }) d' next')
+  recorded =
+      let same = ap (λ k. k.creates) new in
+      catalog_step log law old changed d d' next next' sound frames fold (omega (arith, same)) (omega (arith, same, sound.few))
+
+  module _ (ps : Partitions L) (e : Disk) (last : ℕ) (places : places_of ps.topics.entries ≡ remove_entry (is_at (nat_cmp i)) (places_of (entries old)))
+      (frame : Frame (scene_on log (entries old) d' next') (scene_on log ps.topics.entries e last)) where
+    -- and the partitions are gone
+    pub delete_step : IsStep (parts.scene_on log old d next) (parts.scene_on log (record old { catalog = changed; partitions = ps }) e last)
+    delete_step =
+        step_then (parts.scene_on log old d next) (parts.scene_on log (record old { catalog = changed }) d' next') (parts.scene_on log (record old { catalog = changed; partitions = ps }) e last) recorded
+        (parts_step log law (record old { catalog = changed }) (record old { catalog = changed; partitions = ps }) d' e next' last refl
+        (still_unmade i (entries old) ps.topics.entries sound.logs.ordered places) (still_small i (entries old) ps.topics.entries sound.logs.ordered places) (omega arith)
+        recorded.frame.sound frame)
+
+    pub deleted_world : e.honest → Agrees log old d.files → WhereHonest (scene_on log (entries old) d' next') (scene_on log ps.topics.entries e last) (logs_of log ps.topics.entries e.files ≡ without_logs i (logs_of log (entries old) d'.files))
+        → world_of log (record old { catalog = changed; partitions = ps }) e.files ≡ record (world_of log old d.files) { known = without_topic (known old.catalog) i; logs = without_logs i (logs_of log (entries old) d.files) }
+    deleted_world honest agree removed =
+        let before = frame.others.honest honest in
+        let logs = removed honest (recorded.frame.agrees before agree).logs ∙ ap (without_logs i) (recorded_logs log law old changed d d' next next' sound frames before) in
+        λ j. record { known = new j; logs = logs j; clock = old.clock }

@@ -1,0 +1,108 @@
+-- A call for the catalog, as a step of the parts.
+use Rattle.std.proofs.Common.{◌≡◌, ◌∙◌, ⊎_elim, inl, inr, ◌≤◌, ◌<◌, ◌^◌, ℕ, Option, Some, None, Err, sym, ap, refl, arith}
+use Rattle.std.specs.Prelude.{Result}
+use Rattle.std.specs.FinMap.{get}
+use Rattle.kb_store.specs.Disk.{Disk, Files}
+use Rattle.kb_log.specs.OnShelf.{Log, OnShelf, Frames, IsLawfulLog}
+use Rattle.kb_topics.specs.Catalog.{known, meta_log}
+use Rattle.kb_topics.specs.Calls.{StaysFold, IsLogCause, IsCause}
+use Rattle.kb_topics.specs.declared.fault.CatalogFault.{CatalogFault}
+use Rattle.kb_topics.specs.declared.fault.CatalogFault.TheVariants as catalog
+use Rattle.kb_topics.specs.declared.catalog.Catalog.{Catalog}
+use Rattle.kb_partitions.specs.Partitions.{Owned, logs_of}
+use Rattle.kb_world.specs.Parts as parts
+use Rattle.kb_world.specs.Parts.{IsSound, Agrees, meta, entries, world_of, counted_for_catalog}
+use Rattle.kb_world.specs.Steps.{IsStep, IsCalm}
+use Rattle.kb_world.specs.World.{World}
+use Rattle.kb_world.specs.declared.parts.Parts.{Parts}
+use Rattle.kb_world.proofs.Lifted.{loud}
+use Rattle.kb_world.proofs.Spared as spared
+
+-- the meta log at a moment
+abbrev pub on_shelf : Log → Disk → ℕ → OnShelf
+on_shelf l d next = record { log = l; disk = d; next = next }
+
+module _ {L : Type 0} (log : L → Log) (law : (l : L) → IsLawfulLog (log l)) (p : Parts L) (changed : Catalog L) (d d' : Disk) (next next' : ℕ)
+    (sound : IsSound log p d.table next)
+    (frames : Frames (on_shelf (meta log p) d next) (on_shelf (log (meta_log changed)) d' next')) where
+  lengths : (file : ℕ) → file < next → Owned log (entries p) file → get d'.table file ≡ get d.table file
+  lengths file lt own = frames.others.lengths file lt (λ mine. sound.apart file mine own)
+
+  contents : d'.honest → (file : ℕ) → file < next → Owned log (entries p) file → get d'.files file ≡ get d.files file
+  contents honest file lt own = frames.others.contents honest file lt (λ mine. sound.apart file mine own)
+
+  pub recorded_logs : d'.honest → logs_of log (entries p) d'.files ≡ logs_of log (entries p) d.files
+  recorded_logs = spared.spared_logs log law (entries p) d d' next next' sound.logs frames.others.later lengths contents
+
+  below : (file : ℕ) → Owned log (entries p) file → file < next
+  below file o = (law o.partition.log).given_out d.table next (sound.logs.each o.instance o.number o.partition o.at) file o.own
+
+  pub catalog_step : StaysFold (on_shelf (meta log p) d next) (known p.catalog) (on_shelf (log (meta_log changed)) d' next') (known changed)
+      → (known p.catalog).creates ≤ (known changed).creates → (known changed).creates < 2 ^ 63
+      → IsStep (parts.scene_on log p d next) (parts.scene_on log (record p { catalog = changed }) d' next')
+  catalog_step fold more few = record {
+    frame = record {
+      sound = record {
+        catalog = frames.sound;
+        logs = spared.spared_sound log law (entries p) d d' next next' sound.logs frames.others.later lengths contents;
+        apart = λ file mine theirs. ⊎_elim (λ old. sound.apart file old theirs) (λ le. omega (arith, le, below file theirs)) (frames.others.owned file mine);
+        few = few;
+        unmade = λ i le. sound.unmade i (omega (arith, more, le));
+        small = sound.small;
+      };
+      others = record {
+        later = frames.others.later;
+        honest = frames.others.honest;
+        owned = λ file own. ⊎_elim (λ mine. ⊎_elim (λ old. inl (inl old)) (λ le. inr le) (frames.others.owned file mine)) (λ theirs. inl (inr theirs)) own;
+        lengths = λ file lt not. frames.others.lengths file lt (λ own. not (inl own));
+        contents = λ honest file lt not. frames.others.contents honest file lt (λ own. not (inl own));
+      };
+      failures = frames.failures;
+      agrees = λ honest agree. record {
+        catalog = frames.agrees honest agree.catalog;
+        fold = fold honest agree.catalog agree.fold;
+        logs = spared.spared_agree log law (entries p) d d' next next' sound.logs frames.others.later lengths contents honest agree.logs;
+      };
+    };
+    grows = omega arith;
+  }
+
+-- ---- refusals
+
+-- counting changes nothing that the tenant sees
+pub counted_world : {L : Type 0} (log : L → Log) (p : Parts L) (files : Files) (f : CatalogFault) → world_of log (counted_for_catalog f p) files ≡ world_of log p files
+counted_world log p files catalog.Name = refl
+counted_world log p files catalog.Exists = refl
+counted_world log p files catalog.Partitions = refl
+counted_world log p files catalog.Limit = refl
+counted_world log p files catalog.TooMany = refl
+counted_world log p files catalog.Unknown = refl
+counted_world log p files catalog.Metadata = refl
+counted_world log p files catalog.Back = refl
+counted_world log p files catalog.UsedUp = refl
+counted_world log p files catalog.Full = refl
+counted_world log p files catalog.Store = refl
+counted_world log p files catalog.Memory = refl
+
+-- where nothing is counted, the log did not refuse
+pub calm_cause : {L : Type 0} (o n : OnShelf) (k : ℕ) (p : Parts L) (f : CatalogFault) → IsLogCause o f n → k ≤ p.refusals → IsCalm k (counted_for_catalog f p).refusals → ⊥
+calm_cause o n k p catalog.Name cause le calm = cause
+calm_cause o n k p catalog.Exists cause le calm = cause
+calm_cause o n k p catalog.Partitions cause le calm = cause
+calm_cause o n k p catalog.Limit cause le calm = cause
+calm_cause o n k p catalog.TooMany cause le calm = cause
+calm_cause o n k p catalog.Unknown cause le calm = cause
+calm_cause o n k p catalog.Metadata cause le calm = cause
+calm_cause o n k p catalog.Back cause le calm = cause
+calm_cause o n k p catalog.UsedUp cause le calm = cause
+calm_cause o n k p catalog.Full cause le calm = loud k p le calm
+calm_cause o n k p catalog.Store cause le calm = loud k p le calm
+calm_cause o n k p catalog.Memory cause le calm = loud k p le calm
+
+-- a refusal that is not counted is the call's own, and the world is as before
+pub refused_meets : {L T : Type 0} (log : L → Log) (o n : OnShelf) (p : Parts L) (files : Files) (w : World) (k : ℕ) (unless : Option CatalogFault → World × Result T CatalogFault)
+    → ((g : CatalogFault) → unless (Some g) ≡ (w, Err g)) → (refusal : Option CatalogFault) (f : CatalogFault) → IsCause o refusal f n → world_of log p files ≡ w → k ≤ p.refusals
+    → IsCalm k (counted_for_catalog f p).refusals → (world_of log (counted_for_catalog f p) files, Err f) ≡ unless refusal
+refused_meets log o n p files w k unless is (Some g) f cause same le calm =
+    ap (λ v. (v, Err f)) (counted_world log p files f ∙ same) ∙ ap (λ h. (w, Err h)) cause ∙ sym (is g)
+refused_meets log o n p files w k unless is None f cause same le calm = absurd (calm_cause o n k p f cause le calm)

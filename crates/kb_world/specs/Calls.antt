@@ -1,0 +1,132 @@
+-- What each call makes of a world, and answers, where memory and the store refuse nothing.
+use Rattle.std.specs.Prelude.{ℕ, ℤ, pos, Bool, true, false, List, Option, Some, None, Result, Ok, Err, nat_le, int_lt, max, ◌+◌, ◌^◌, ◌≡◌, ◌++◌, ◌||◌, if◌then◌else◌, option_map}
+use Rattle.kb_batch.specs.Batch.{natural, count_of}
+use Rattle.kb_producers.specs.Batches.{kept_all, kept_of}
+use Rattle.kb_producers.specs.Verdict.{verdict}
+use Rattle.kb_producers.specs.declared.verdict.Verdict.{Verdict}
+use Rattle.kb_log.specs.Log.{fetched, first_at, retained_start}
+use Rattle.kb_log.specs.declared.time.OffsetAndTimestamp.{OffsetAndTimestamp}
+use Rattle.kb_topics.specs.Catalog.{start_command}
+use Rattle.kb_topics.specs.Known.{Known, TopicState, new_topic, with_topic, without_topic, with_id, named, topic_at, step}
+use Rattle.kb_topics.specs.Refusals.{create_refusal, issue_refusal}
+use Rattle.kb_topics.specs.declared.config.TopicConfig.{TopicConfig}
+use Rattle.kb_topics.specs.declared.fault.CatalogFault.{CatalogFault}
+use Rattle.kb_topics.specs.declared.fault.CatalogFault.TheVariants as catalog
+use Rattle.kb_partitions.specs.Logs.{LogState, with_log, with_new_logs, without_logs, appended, without_below}
+use Rattle.kb_partitions.specs.declared.fault.PartitionFault.{PartitionFault}
+use Rattle.kb_partitions.specs.declared.fault.PartitionFault.TheVariants as partition
+use Rattle.kb_world.specs.World.{World, log_in}
+use Rattle.kb_world.specs.declared.place.Place.{Place}
+
+-- with another log at a place
+abbrev pub with_log_at : World → Place → LogState → World
+with_log_at w place l = record w { logs = with_log place.instance place.number l w.logs }
+
+-- ---- one partition
+
+abbrev pub appended_to : World → Place → List ℕ → Option LogState → World × Result ℤ PartitionFault
+appended_to w place batch None = (w, Err partition.Unknown)
+appended_to w place batch (Some l) =
+    if nat_le (2 ^ 63) (l.end + count_of batch) then (w, Err partition.Full)
+    else (with_log_at w place (appended batch l), Ok (pos l.end))
+
+-- A batch is added at the log's end, which is the answer, unless the end would pass the greatest offset.
+abbrev pub append : World → Place → List ℕ → World × Result ℤ PartitionFault
+append w place batch = appended_to w place batch (log_in w place)
+
+abbrev pub fetched_from : ℤ → ℕ → Bool → Option LogState → Result (List ℕ) PartitionFault
+fetched_from offset limit first None = Err partition.Unknown
+fetched_from offset limit first (Some l) =
+    if int_lt offset (pos l.start) || int_lt (pos l.end) offset then Err partition.Range
+    else Ok (fetched (natural offset) limit first l.batches)
+
+-- the whole batches from the one that holds the offset on, within a limit
+abbrev pub fetch : World → Place → ℤ → ℕ → Bool → Result (List ℕ) PartitionFault
+fetch w place offset limit first = fetched_from offset limit first (log_in w place)
+
+-- Records were added behind what there was, or there is what there was.
+abbrev pub IsGiven : Result (List ℕ) PartitionFault → List ℕ → Result (Unit {0}) PartitionFault → List ℕ → Type 0
+IsGiven (Ok records) old (Ok u) new = new ≡ old ++ records
+IsGiven (Ok records) old (Err f) new = ⊥
+IsGiven (Err g) old (Ok u) new = ⊥
+IsGiven (Err g) old (Err f) new = (f ≡ g) × (new ≡ old)
+
+abbrev pub found_in : ℤ → Option LogState → Result (Option OffsetAndTimestamp) PartitionFault
+found_in timestamp None = Err partition.Unknown
+found_in timestamp (Some l) = Ok (first_at timestamp l.batches)
+
+-- the first record, in order of offsets, that is not older than a timestamp
+abbrev pub find : World → Place → ℤ → Result (Option OffsetAndTimestamp) PartitionFault
+find w place timestamp = found_in timestamp (log_in w place)
+
+-- where a log starts, and where it ends
+abbrev pub start_of : World → Place → Option ℤ
+start_of w place = option_map (λ (l : LogState). pos l.start) (log_in w place)
+
+abbrev pub end_of : World → Place → Option ℤ
+end_of w place = option_map (λ (l : LogState). pos l.end) (log_in w place)
+
+-- what becomes of a batch, by its producer's batches in the log
+abbrev pub judged : World → Place → List ℕ → Option Verdict
+judged w place batch = option_map (λ (l : LogState). verdict (kept_all l.batches) (kept_of batch)) (log_in w place)
+
+-- ---- topics and producer ids
+
+abbrev pub created_unless : World → List ℕ → ℤ → TopicConfig → Option CatalogFault → World × Result (Unit {0}) CatalogFault
+created_unless w name partitions config (Some f) = (w, Err f)
+created_unless w name partitions config None = (
+  record w {
+    known = with_topic w.known (new_topic name (natural partitions) config);
+    logs = with_new_logs w.known.creates (natural partitions) w.logs;
+  },
+  Ok tt,
+)
+
+-- A topic is made, with empty logs.
+abbrev pub create : World → List ℕ → ℤ → TopicConfig → World × Result (Unit {0}) CatalogFault
+create w name partitions config = created_unless w name partitions config (create_refusal w.known name partitions config)
+
+abbrev pub deleted_at : World → Option ℕ → World × Result (Unit {0}) CatalogFault
+deleted_at w None = (w, Err catalog.Unknown)
+deleted_at w (Some i) = (record w { known = without_topic w.known i; logs = without_logs i w.logs }, Ok tt)
+
+-- A topic is deleted, with its logs and what groups committed to it.
+abbrev pub delete : World → List ℕ → World × Result (Unit {0}) CatalogFault
+delete w name = deleted_at w (named name w.known.topics)
+
+abbrev pub issued_unless : World → Option CatalogFault → World × Result ℤ CatalogFault
+issued_unless w (Some f) = (w, Err f)
+issued_unless w None = (record w { known = with_id w.known }, Ok (pos w.known.issues))
+
+-- The next producer id is given out.
+abbrev pub issue : World → World × Result ℤ CatalogFault
+issue w = issued_unless w (issue_refusal w.known)
+
+-- ---- retention
+
+abbrev pub due_in : World → Option TopicState → Option LogState → Option ℕ
+due_in w (Some t) (Some l) =
+    let start = retained_start (pos w.clock) t.config.retention_ms t.config.retention_bytes l.end l.batches in
+    if nat_le start l.start then None else Some start
+due_in w None l = None
+due_in w (Some t) None = None
+
+-- the start of a partition after retention by its topic's settings, where it is above the one that it has
+abbrev pub due : World → Place → Option ℕ
+due w place = due_in w (topic_at place.instance w.known.topics) (log_in w place)
+
+abbrev pub moved_to : World → Place → ℕ → Option Known → World × Bool
+moved_to w place start None = (w, false)
+moved_to w place start (Some k) = (record w { known = k; logs = without_below place.instance place.number (pos start) (log_in w place) w.logs }, true)
+
+abbrev pub retained_from : World → Place → Option ℕ → World × Bool
+retained_from w place None = (w, false)
+retained_from w place (Some start) = moved_to w place start (step w.known (start_command (pos place.instance) (pos place.number) (pos start)))
+
+-- The new start of a partition is recorded, and the batches below it go; and whether any goes.
+abbrev pub retain : World → Place → World × Bool
+retain w place = retained_from w place (due w place)
+
+-- the clock does not go back
+abbrev pub at_clock : World → ℕ → World
+at_clock w now = record w { clock = max w.clock now }

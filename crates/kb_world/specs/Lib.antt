@@ -1,0 +1,5 @@
+pub mod Calls
+pub mod Dropping
+pub mod Parts
+pub mod Steps
+pub mod World

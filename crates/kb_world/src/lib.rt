@@ -1,0 +1,19 @@
+//! The topics, producer ids and logs of one tenant, as one: a call changes the catalog and the partitions together, or
+//! neither.
+//!
+//! What the tenant sees of them is a world, `specs/World.antt`, with no file in it. Each call is a function on worlds,
+//! `specs/Calls.antt`, wherever memory and the store refuse nothing; each refusal of theirs is counted for the tenant. The
+//! files of everybody else stay as they are in any case.
+#![tactic(auto)]
+
+mod logs;
+mod parts;
+mod place;
+mod retention;
+mod topics;
+
+pub use parts::Parts;
+pub use place::Place;
+
+#[cfg(test)]
+mod tests;

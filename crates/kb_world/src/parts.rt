@@ -1,0 +1,138 @@
+//! The parts of a tenant.
+ghost use Rattle.std.specs.Prelude.{◌≡◌, ◌⊎◌, ◌≤◌, ℕ, [], pos, length};
+ghost use Rattle.std.specs.Option.{option_copied};
+ghost use Rattle.kb_store.specs.Disk.{Table, Files};
+ghost use Rattle.kb_topics.specs.ByName.{by_name};
+ghost use Rattle.kb_topics.specs.Catalog.{known};
+ghost use Rattle.kb_topics.specs.Known.{named, topic_at};
+ghost use Rattle.kb_world.specs.Calls.{start_of, end_of, judged, at_clock};
+ghost use Rattle.kb_world.specs.Parts.{Agrees, IsSound, Owns, refused, world_of};
+ghost use Rattle.kb_world.specs.World.{new_world};
+
+use crate::place::Place;
+use kb_batch::BatchView;
+use kb_log::PartitionLog;
+use kb_partitions::Partitions;
+use kb_producers::Verdict;
+use kb_topics::{Catalog, Topic, TopicsByName};
+use std::alloc::Global;
+
+/// A tenant's catalog and its partitions, the clock, and how many refusals of memory and of the store were counted for it.
+#[derive(Drop)]
+pub struct Parts<L: PartitionLog> {
+    pub(crate) alloc: Global,
+    pub(crate) tenant: String,
+    pub(crate) segment_bytes: u64,
+    pub(crate) catalog: Catalog<L>,
+    pub(crate) partitions: Partitions<L>,
+    pub(crate) clock: u64,
+    pub(crate) refusals: u64,
+}
+
+impl<L: PartitionLog> Parts<L> {
+    /// A tenant without topics, at clock 0. It makes no store call. Files are to hold about `segment_bytes`.
+    pub fn new(alloc: Global, tenant: String, meta_tenant: String, segment_bytes: u64) -> Self
+        ensures world { (files : Files) → world_of L.log result files ≡ new_world }
+        ensures sound { (table : Table) (next : ℕ) → IsSound L.log result table next }
+        ensures agrees { (files : Files) → Agrees L.log result files }
+        ensures owns { (file : ℕ) → Owns L.log result file → ⊥ }
+        ensures refusals { result.refusals ≡ 0 }
+    {
+        Parts {
+            alloc,
+            tenant,
+            segment_bytes,
+            catalog: Catalog::new(alloc, meta_tenant, segment_bytes),
+            partitions: Partitions::new(alloc),
+            clock: 0,
+            refusals: 0,
+        }
+    }
+
+    /// The clock, in milliseconds.
+    pub fn clock(&self) -> u64
+        ensures { result ≡ self.now.clock }
+    {
+        self.clock
+    }
+
+    /// Moves the clock. It does not go back.
+    pub fn move_clock(&mut self, now: u64)
+        ensures world { (files : Files) → world_of L.log self.new files ≡ at_clock (world_of L.log self.old files) now }
+        ensures parts { self.new ≡ record self.old { clock = self.new.clock } }
+    {
+        self.clock = self.clock.max(now);
+    }
+
+    /// How many refusals of memory and of the store were counted. The count stays at its end.
+    pub fn refusals(&self) -> u64
+        ensures { result ≡ self.now.refusals }
+    {
+        self.refusals
+    }
+
+    /// Counts a refusal.
+    pub fn refuse(&mut self)
+        ensures { self.new ≡ refused self.old }
+    {
+        self.refusals = self.refusals.saturating_add(1);
+    }
+
+    /// The instance of the topic of that name.
+    pub fn topic_named(&self, name: &str) -> Option<u64>
+        ensures { (files : Files) → result ≡ named name.now (world_of L.log self.now files).known.topics }
+    {
+        self.catalog.instance_of(name)
+    }
+
+    /// The topic of an instance.
+    pub fn topic(&self, instance: u64) -> Option<&Topic>
+        ensures { (files : Files) → option_copied result ≡ topic_at instance (world_of L.log self.now files).known.topics }
+    {
+        self.catalog.topic(instance)
+    }
+
+    /// The topics, each with its instance, in byte order of their names. It takes no memory.
+    pub fn topics(&self) -> TopicsByName<'_>
+        ensures { (files : Files) → result ≡ by_name (world_of L.log self.now files).known.topics }
+    {
+        self.catalog.topics()
+    }
+
+    /// How many topics there are.
+    pub fn topic_count(&self) -> usize
+        ensures { (files : Files) → result ≡ length (world_of L.log self.now files).known.topics }
+    {
+        self.catalog.len()
+    }
+
+    /// How many producer ids were given out.
+    pub fn issued(&self) -> u64
+        ensures { (files : Files) → result ≡ (world_of L.log self.now files).known.issues }
+    {
+        self.catalog.next_producer_id()
+    }
+
+    /// The offset of a partition's first record, or else its end; none where there is no such partition.
+    pub fn start(&self, place: Place) -> Option<i64>
+        ensures { (files : Files) → result ≡ start_of (world_of L.log self.now files) place }
+    {
+        self.partitions.start(place.instance, place.number)
+    }
+
+    /// The offset behind a partition's last record; none where there is no such partition.
+    pub fn end(&self, place: Place) -> Option<i64>
+        ensures { (files : Files) → result ≡ end_of (world_of L.log self.now files) place }
+    {
+        self.partitions.end(place.instance, place.number)
+    }
+
+    /// What becomes of a batch, by its producer's batches in the partition's log; none where there is no such partition.
+    ///
+    /// It takes no memory. Whether the producer's id was ever given out is not asked here.
+    pub fn judge(&self, place: Place, batch: &BatchView<'_>) -> Option<Verdict>
+        ensures { (files : Files) → Agrees L.log self.now files → result ≡ judged (world_of L.log self.now files) place batch.now }
+    {
+        self.partitions.judge(place.instance, place.number, batch)
+    }
+}

@@ -1,0 +1,198 @@
+//! Worked exchanges of one tenant, over logs and files in memory.
+ghost use Rattle.std.specs.Prelude.{ℕ};
+ghost use Rattle.kb_store.specs.Disk.{Table};
+ghost use Rattle.kb_log.specs.ListLog.{list_log};
+ghost use Rattle.kb_world.specs.Parts.{IsSound};
+
+use super::*;
+use kb_batch::{BatchBuilder, BatchView};
+use kb_log::{ListLog, Shelf};
+use kb_partitions::PartitionFault;
+use kb_producers::Verdict;
+use kb_store::MemoryStore;
+use kb_topics::{CatalogFault, TopicConfig};
+use std::alloc::Global;
+use std::test::Fail;
+
+/// All batches stay.
+const KEPT: TopicConfig = TopicConfig {
+    retention_ms: -1,
+    retention_bytes: -1,
+};
+
+/// Batches stay for a second.
+const ONE_SECOND: TopicConfig = TopicConfig {
+    retention_ms: 1000,
+    retention_bytes: -1,
+};
+
+fn empty_shelf(alloc: Global) -> Result<Shelf<MemoryStore>, Fail> {
+    Ok(
+        Shelf::new(alloc, MemoryStore::new(alloc), 0)
+            .ok()
+            .ok_or("a shelf")?,
+    )
+}
+
+fn new_tenant(alloc: Global) -> Parts<ListLog>
+    ensures { (table : Table) (next : ℕ) → IsSound list_log result table next }
+{
+    Parts::new(alloc, String::new(alloc), String::new(alloc), 1_048_576)
+}
+
+/// A batch of one record, value `hi`, timestamp 5: 70 bytes.
+fn hi(alloc: Global) -> Result<Vec<u8>, Fail> {
+    let mut batch = BatchBuilder::new(alloc, -1, -1, -1);
+    batch.push(5, None, Some(b"hi".as_slice()))?;
+    Ok(batch.finish()?)
+}
+
+fn place_of(parts: &Parts<ListLog>, name: &str) -> Result<Place, Fail> {
+    Ok(Place::new(parts.topic_named(name), 0).ok_or("a place")?)
+}
+
+#[test]
+fn places(rt: HostRuntime) -> Result<(), Fail> {
+    assert_eq!(rt; Place::new(None, 0), None);
+    assert_eq!(rt; Place::new(Some(7), -1), None);
+    let place = Place {
+        instance: 7,
+        number: 1,
+    };
+    assert_eq!(rt; Place::new(Some(7), 1), Some(place));
+    Ok(())
+}
+
+#[test]
+fn each_call(rt: HostRuntime) -> Result<(), Fail> {
+    let bytes = hi(rt.alloc())?;
+    let batch = BatchView::read(&bytes).ok().ok_or("a batch")?;
+    let mut shelf = empty_shelf(rt.alloc())?;
+    let mut parts = new_tenant(rt.alloc());
+    assert_eq!(rt; parts.create(&mut shelf, "t", 1, KEPT), Ok(()));
+    assert_eq!(rt;
+        parts.create(&mut shelf, "t", 1, KEPT),
+        Err(CatalogFault::Exists)
+    );
+    let place = place_of(&parts, "t")?;
+    assert_eq!(rt; parts.append(&mut shelf, place, &batch), Ok(0));
+    assert_eq!(rt; parts.append(&mut shelf, place, &batch), Ok(1));
+    let nowhere = Place {
+        instance: 0,
+        number: 1,
+    };
+    assert_eq!(rt;
+        parts.append(&mut shelf, nowhere, &batch),
+        Err(PartitionFault::Unknown)
+    );
+    let mut given = Vec::new(rt.alloc());
+    assert_eq!(rt;
+        parts.fetch(&mut shelf, place, 1, 1000, true, &mut given),
+        Ok(())
+    );
+    assert_eq!(rt; given.len(), 70);
+    assert_eq!(rt; &given[..8], [0, 0, 0, 0, 0, 0, 0, 1].as_slice());
+    let found = parts.find(&mut shelf, place, 5).ok().flatten();
+    assert_eq!(rt; found.map(|record| record.offset), Some(0));
+    assert_eq!(rt; parts.find(&mut shelf, place, 6).ok().flatten(), None);
+    assert_eq!(rt; parts.judge(place, &batch), Some(Verdict::Append));
+    assert_eq!(rt; (parts.start(place), parts.end(place)), (Some(0), Some(2)));
+    assert_eq!(rt; parts.start(nowhere), None);
+    assert_eq!(rt; parts.issue(&mut shelf), Ok(0));
+    assert_eq!(rt; parts.issue(&mut shelf), Ok(1));
+    assert_eq!(rt; (parts.issued(), parts.refusals()), (2, 0));
+    Ok(())
+}
+
+#[test]
+fn retention_by_time(rt: HostRuntime) -> Result<(), Fail> {
+    let bytes = hi(rt.alloc())?;
+    let batch = BatchView::read(&bytes).ok().ok_or("a batch")?;
+    let mut shelf = empty_shelf(rt.alloc())?;
+    let mut parts = new_tenant(rt.alloc());
+    assert_eq!(rt; parts.create(&mut shelf, "t", 1, ONE_SECOND), Ok(()));
+    let place = place_of(&parts, "t")?;
+    assert_eq!(rt; parts.append(&mut shelf, place, &batch), Ok(0));
+    parts.move_clock(1005);
+    assert_eq!(rt; parts.clock(), 1005);
+    assert_eq!(rt; parts.retain(&mut shelf, place), false);
+    assert_eq!(rt; (parts.start(place), parts.end(place)), (Some(0), Some(1)));
+    parts.move_clock(1006);
+    parts.move_clock(7);
+    assert_eq!(rt; parts.clock(), 1006);
+    assert_eq!(rt; parts.retain(&mut shelf, place), true);
+    assert_eq!(rt; (parts.start(place), parts.end(place)), (Some(1), Some(1)));
+    assert_eq!(rt;
+        parts.topic(0).map(|topic| topic.partitions()[0].start()),
+        Some(1)
+    );
+    assert_eq!(rt; parts.refusals(), 0);
+    Ok(())
+}
+
+/// The start of a log of three batches of 70 bytes after retention by bytes.
+fn start_after(alloc: Global, retention_bytes: i64) -> Result<Option<i64>, Fail> {
+    let bytes = hi(alloc)?;
+    let batch = BatchView::read(&bytes).ok().ok_or("a batch")?;
+    let mut shelf = empty_shelf(alloc)?;
+    let mut parts = new_tenant(alloc);
+    let config = TopicConfig {
+        retention_ms: -1,
+        retention_bytes,
+    };
+    parts
+        .create(&mut shelf, "t", 1, config)
+        .ok()
+        .ok_or("a topic")?;
+    let place = place_of(&parts, "t")?;
+    for _ in 0..3 {
+        parts
+            .append(&mut shelf, place, &batch)
+            .ok()
+            .ok_or("an append")?;
+    }
+    if parts.clock() != 0 || !parts.retain(&mut shelf, place) {
+        return Ok(None);
+    }
+    Ok(parts.start(place))
+}
+
+#[test]
+fn retention_by_bytes(rt: HostRuntime) -> Result<(), Fail> {
+    assert_eq!(rt; start_after(rt.alloc(), -1)?, None);
+    assert_eq!(rt; start_after(rt.alloc(), 210)?, None);
+    assert_eq!(rt; start_after(rt.alloc(), 140)?, Some(1));
+    assert_eq!(rt; start_after(rt.alloc(), 100)?, Some(2));
+    assert_eq!(rt; start_after(rt.alloc(), 0)?, Some(2));
+    Ok(())
+}
+
+#[test]
+fn deletion(rt: HostRuntime) -> Result<(), Fail> {
+    let bytes = hi(rt.alloc())?;
+    let batch = BatchView::read(&bytes).ok().ok_or("a batch")?;
+    let mut shelf = empty_shelf(rt.alloc())?;
+    let mut parts = new_tenant(rt.alloc());
+    assert_eq!(rt; parts.create(&mut shelf, "t", 1, KEPT), Ok(()));
+    assert_eq!(rt; parts.create(&mut shelf, "a", 2, KEPT), Ok(()));
+    let old = place_of(&parts, "t")?;
+    assert_eq!(rt; parts.append(&mut shelf, old, &batch), Ok(0));
+    assert_eq!(rt; parts.delete(&mut shelf, "t"), Ok(()));
+    assert_eq!(rt; parts.delete(&mut shelf, "t"), Err(CatalogFault::Unknown));
+    assert_eq!(rt; (parts.topic_named("t"), parts.topic_count()), (None, 1));
+    assert_eq!(rt;
+        parts.append(&mut shelf, old, &batch),
+        Err(PartitionFault::Unknown)
+    );
+    assert_eq!(rt; (parts.start(old), parts.end(old)), (None, None));
+    assert_eq!(rt; parts.create(&mut shelf, "t", 1, KEPT), Ok(()));
+    let new = place_of(&parts, "t")?;
+    assert_eq!(rt; new.instance, 2);
+    assert_eq!(rt; (parts.start(new), parts.end(new)), (Some(0), Some(0)));
+    let mut names = parts.topics();
+    assert_eq!(rt; names.next().map(|topic| topic.0), Some(1));
+    assert_eq!(rt; names.next().map(|topic| topic.0), Some(2));
+    assert_eq!(rt; names.next().is_none(), true);
+    assert_eq!(rt; parts.refusals(), 0);
+    Ok(())
+}

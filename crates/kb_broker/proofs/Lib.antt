@@ -1,7 +1,6 @@
 pub mod Placed
 pub mod Handled
 pub mod Happened
-pub mod OpeningNames
 pub mod OpeningParts
 pub mod RunDrain
 pub mod RunEvents

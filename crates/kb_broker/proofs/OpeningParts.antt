@@ -8,14 +8,14 @@ use Rattle.kb_wire.specs.Codec.{int, array}
 use Rattle.kb_wire.specs.Fits.{array_fits}
 use Rattle.kb_api_group.specs.Layouts.{api_version}
 use Rattle.kb_api_group.specs.declared.api_versions.ApiVersion.{ApiVersion}
-use Rattle.kb_machine.specs.Requests.{served_versions}
 use Rattle.kb_machine.specs.Greeting.{User as Login, Setup}
 use Rattle.kb_machine.specs.Broker.{BrokerState, Part, IsReady}
 use Rattle.kb_settings.specs.Names.{place_of}
-use Rattle.kb_broker.specs.Opening.{tenant_of, tenants_of, login_of, new_part, opening}
+use Rattle.kb_broker.specs.Opening.{tenant_of, tenants_of, login_of, new_part, listed, opening_listing}
+use Rattle.kb_broker.specs.declared.opening.Listing.{Listing}
 use Rattle.kb_settings.specs.declared.settings.User.{User}
 use Rattle.kb_settings.specs.declared.settings.Settings.{Settings}
-use Rattle.kb_broker.proofs.OpeningNames.{rises-in_order, in-in_order, place-below}
+use Rattle.kb_settings.proofs.NamesInOrder.{rises-in_order, in-in_order, place-below}
 
 pub versions-fit : (vs : List ApiVersion) → length vs < 2 ^ 31 → (array api_version).Fits vs
 unfolding api_version int
@@ -33,8 +33,8 @@ all-map P f [] all = tt
 all-map P f (x ∷ xs) all = (all.0, all-map P f xs all.1)
 
 -- the broker at its start is ready for an event
-pub opening-ready : (s : Settings) → IsReady (opening s)
-opening-ready s =
+pub opening-ready : (listing : Listing) (s : Settings) → IsReady (opening_listing listing s)
+opening-ready listing s =
     let users : List User = s.users.items in
     let names : List (List ℕ) = tenants_of users in
     let below : AllByRecursion (λ (u : User). place_of (tenant_of u) names < length (map new_part names)) users = recursion_from_All _ users (λ k d lt.
@@ -55,16 +55,16 @@ map-twice f g [] = refl
 map-twice f g (x ∷ xs) = ap (λ zs. g (f x) ∷ zs) (map-twice f g xs)
 
 -- a broker that is made of these parts is the one at its start
-pub opening-made : {X : Type 0} (f : X → List ℕ) (s : Settings) (users again : List User) (names : List X) (versions : List ApiVersion) (logins : List Login) (parts : List Part) (setup : Setup) (b : BrokerState)
+pub opening-made : {X : Type 0} (listing : Listing) (f : X → List ℕ) (s : Settings) (users again : List User) (names : List X) (versions : List ApiVersion) (logins : List Login) (parts : List Part) (setup : Setup) (b : BrokerState)
     → users ≡ s.users.items → again ≡ s.users.items → map f names ≡ tenants_of users
-    → logins ≡ map (login_of (tenants_of again)) again → parts ≡ map (λ n. new_part (f n)) names → versions ≡ served_versions
+    → logins ≡ map (login_of (tenants_of again)) again → parts ≡ map (λ n. new_part (f n)) names → versions ≡ listed listing
     → setup ≡ record { versions = versions; users = logins }
     → b ≡ record { setup = setup; parts = parts; unbound_refusals = 0; clock = 0; last = 0; lines = [] }
-    → b ≡ opening s
-opening-made f s users again names versions logins parts setup b u a n l p v made is =
+    → b ≡ opening_listing listing s
+opening-made listing f s users again names versions logins parts setup b u a n l p v made is =
     let start : Setup → List Part → BrokerState = λ setup parts. record { setup = setup; parts = parts; unbound_refusals = 0; clock = 0; last = 0; lines = [] } in
     let named : parts ≡ map new_part (tenants_of s.users.items) = p ∙ map-twice f new_part names ∙ ap (map new_part) (n ∙ ap tenants_of u) in
-    let listed : logins ≡ map (login_of (tenants_of s.users.items)) s.users.items = l ∙ ap (λ (us : List User). map (login_of (tenants_of us)) us) a in
-    let fixed : setup ≡ record { versions = served_versions; users = map (login_of (tenants_of s.users.items)) s.users.items } =
-    made ∙ ap (λ (vs : List ApiVersion). record { versions = vs; users = logins }) v ∙ ap (λ (us : List Login). record { versions = served_versions; users = us }) listed in
-    is ∙ ap (λ setup. start setup parts) fixed ∙ ap (start (record { versions = served_versions; users = map (login_of (tenants_of s.users.items)) s.users.items })) named
+    let logged : logins ≡ map (login_of (tenants_of s.users.items)) s.users.items = l ∙ ap (λ (us : List User). map (login_of (tenants_of us)) us) a in
+    let fixed : setup ≡ record { versions = listed listing; users = map (login_of (tenants_of s.users.items)) s.users.items } =
+    made ∙ ap (λ (vs : List ApiVersion). record { versions = vs; users = logins }) v ∙ ap (λ (us : List Login). record { versions = listed listing; users = us }) logged in
+    is ∙ ap (λ setup. start setup parts) fixed ∙ ap (start (record { versions = listed listing; users = map (login_of (tenants_of s.users.items)) s.users.items })) named

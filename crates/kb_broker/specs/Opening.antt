@@ -1,5 +1,7 @@
 -- The broker that opens with settings.
-use Rattle.std.specs.Prelude.{ℕ, List, [], map, string_bytes}
+use Rattle.std.specs.Prelude.{ℕ, ℤ, pos, List, [], map, string_bytes, if◌then◌else◌}
+use Rattle.std.specs.Ordering.{int_eq}
+use Rattle.kb_api_group.specs.declared.api_versions.ApiVersion.{ApiVersion}
 use Rattle.kb_machine.specs.Requests.{served_versions}
 use Rattle.kb_machine.specs.Greeting.{User as Login}
 use Rattle.kb_machine.specs.Tenant.{Nothing}
@@ -7,6 +9,8 @@ use Rattle.kb_machine.specs.Broker.{Part, BrokerState}
 use Rattle.kb_settings.specs.Names.{in_order, place_of}
 use Rattle.kb_settings.specs.declared.settings.User.{User}
 use Rattle.kb_settings.specs.declared.settings.Settings.{Settings}
+use Rattle.kb_broker.specs.declared.opening.Listing.{Listing}
+use Rattle.kb_broker.specs.declared.opening.Listing.TheVariants as listings
 
 abbrev pub tenant_of : User → List ℕ
 tenant_of u = string_bytes u.tenant
@@ -23,15 +27,35 @@ login_of names u = record { name = string_bytes u.name; password = string_bytes 
 abbrev pub new_part : List ℕ → Part
 new_part name = record { name = name; kept = Nothing; refusals = 0 }
 
+-- the least version that is listed of an API whose one served version this is; stock clients see SaslHandshake from version 0 on
+abbrev pub least : Listing → ℤ → ℤ → ℤ
+least listings.Served key version = version
+least listings.StockClients key version = if int_eq key (pos 17) then pos 0 else version
+
+abbrev pub listed_as : Listing → ApiVersion → ApiVersion
+listed_as listing v = record {
+  api_key = v.api_key;
+  min_version = least listing v.api_key v.min_version;
+  max_version = v.max_version;
+}
+
+-- the versions that are listed
+abbrev pub listed : Listing → List ApiVersion
+listed listing = map (listed_as listing) served_versions
+
 -- nobody is connected, and no time has passed
-abbrev pub opening : Settings → BrokerState
-opening s =
+abbrev pub opening_listing : Listing → Settings → BrokerState
+opening_listing listing s =
     let names = tenants_of s.users.items in
     record {
-      setup = record { versions = served_versions; users = map (login_of names) s.users.items };
+      setup = record { versions = listed listing; users = map (login_of names) s.users.items };
       parts = map new_part names;
       unbound_refusals = 0;
       clock = 0;
       last = 0;
       lines = [];
     }
+
+-- what is listed is what is served
+abbrev pub opening : Settings → BrokerState
+opening = opening_listing listings.Served

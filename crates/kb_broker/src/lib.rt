@@ -17,7 +17,7 @@ mod tenant;
 
 pub use broker::Broker;
 pub use kb_settings::{Settings, User};
-pub use opening::{names_in_order, places_of_names};
+pub use opening::{Listing, names_in_order, places_of_names};
 pub use run::{Event, Written};
 pub use script::{ScriptFault, run_script};
 

@@ -5,16 +5,15 @@ ghost use Rattle.std.specs.List.{Contains};
 ghost use Rattle.std.specs.List.Sorted.{IsStrictlySortedBy};
 ghost use Rattle.kb_wire.specs.Codec.{array};
 ghost use Rattle.kb_api_group.specs.Layouts.{api_version};
-ghost use Rattle.kb_machine.specs.Requests.{served_versions};
 ghost use Rattle.kb_settings.specs.Names.{byte_order, in_order, place_of};
-ghost use Rattle.kb_broker.specs.Opening.{opening, tenants_of, login_of, new_part};
+ghost use Rattle.kb_broker.specs.Opening.{least, listed, opening, opening_listing, tenants_of, login_of, new_part};
 
 use crate::broker::Broker;
 use crate::engine::Engine;
 use crate::tenant::Tenant;
 use kb_api_group::ApiVersion;
 use kb_connection::{Login, Setup};
-use kb_settings::{Settings, User};
+use kb_settings::{Settings, User, tenant_names};
 use kb_wire::Array;
 use std::alloc::{AllocError, Global};
 
@@ -41,61 +40,89 @@ const SERVED: [(i16, i16); 17] = [
     (36, 0),
 ];
 
+/// The key of SaslHandshake.
+const SASL_HANDSHAKE: i16 = 17;
+
+/// Which versions a broker lists. What it serves is the same.
+#[derive(Clone, Copy, Debug, PartialEq, Eq)]
+pub enum Listing {
+    /// Each API at the one version that is served.
+    Served,
+    /// The same, but SaslHandshake from version 0 on. librdkafka asks for that before it logs in, and then sends version 1: a
+    /// handshake of version 0 is not served.
+    StockClients,
+}
+
+impl Listing {
+    /// The least version that is listed of an API.
+    fn least(self, key: i16, version: i16) -> i16
+        ensures { result ≡ least self key version }
+    {
+        if self == Listing::StockClients && key == SASL_HANDSHAKE {
+            0
+        } else {
+            version
+        }
+    }
+}
+
 impl Broker {
     /// A broker to which nobody is connected, at moment 0: its users and their tenants are those of the settings, and no
-    /// tenant keeps anything.
+    /// tenant keeps anything. It lists what it serves.
     pub fn empty(alloc: Global, settings: &Settings) -> Result<Broker, AllocError>
         ensures { IfOk result (λ broker. broker ≡ opening settings.now) }
     {
-        let engine = new_engine(alloc, settings)?;
+        Broker::empty_listing(alloc, settings, Listing::Served)
+    }
+
+    /// The same broker, which lists these versions.
+    pub fn empty_listing(
+        alloc: Global,
+        settings: &Settings,
+        listing: Listing,
+    ) -> Result<Broker, AllocError>
+        ensures { IfOk result (λ broker. broker ≡ opening_listing listing settings.now) }
+    {
+        let engine = new_engine(alloc, settings, listing)?;
         Ok(Broker::new(engine))
     }
 }
 
 /// The engine of that broker.
-fn new_engine(alloc: Global, settings: &Settings) -> Result<Engine, AllocError>
-    ensures { IfOk result (λ engine. engine ≡ opening settings.now) }
+fn new_engine(alloc: Global, settings: &Settings, listing: Listing) -> Result<Engine, AllocError>
+    ensures { IfOk result (λ engine. engine ≡ opening_listing listing settings.now) }
 {
     let names = tenant_names(alloc, &settings.users)?;
     let logins = logins_of(alloc, &settings.users, &names)?;
     let tenants = new_tenants(alloc, &names)?;
-    let setup = Setup::new(served_versions(alloc)?, logins);
+    let setup = Setup::new(listed_versions(alloc, listing)?, logins);
     Ok(Engine::new(alloc, setup, tenants))
 }
 
 /// The versions that are listed. They fit a reply.
-fn served_versions(alloc: Global) -> Result<Array<ApiVersion>, AllocError>
-    ensures is { IfOk result (λ versions. versions ≡ served_versions) }
+fn listed_versions(alloc: Global, listing: Listing) -> Result<Array<ApiVersion>, AllocError>
+    ensures is { IfOk result (λ versions. versions ≡ listed listing) }
     ensures fits { IfOk result (λ versions. (array api_version).Fits versions) }
 {
-    let versions = at_each(alloc, &SERVED)?;
+    let versions = at_each(alloc, listing, &SERVED)?;
     Ok(Array::from_vec(versions))
 }
 
-/// Each key at its one version.
-fn at_each(alloc: Global, keys: &[(i16, i16)]) -> Result<Vec<ApiVersion>, AllocError>
-    ensures { IfOk result (λ versions. versions.items ≡ map (λ k. record { api_key = k.0; min_version = k.1; max_version = k.1 }) keys.now) }
+/// Each key at its one version, and its least version by the listing.
+fn at_each(
+    alloc: Global,
+    listing: Listing,
+    keys: &[(i16, i16)],
+) -> Result<Vec<ApiVersion>, AllocError>
+    ensures { IfOk result (λ versions. versions.items ≡ map (λ k. record { api_key = k.0; min_version = least listing k.0 k.1; max_version = k.1 }) keys.now) }
 {
     keys.iter()
         .map(|(key, version)| ApiVersion {
             api_key: *key,
-            min_version: *version,
+            min_version: listing.least(*key, *version),
             max_version: *version,
         })
         .collect(alloc)
-}
-
-/// The names of the tenants, in byte order, each once.
-fn tenant_names<'a>(alloc: Global, users: &'a [User]) -> Result<Vec<&'a str>, AllocError>
-    ensures { IfOk result (λ names. map (λ name. name.now) names.items ≡ tenants_of users.now) }
-{
-    let mut names = Vec::with_capacity(alloc, users.len())?;
-    for user in users {
-        names.push(user.tenant.as_str())?;
-    }
-    names.sort_unstable();
-    names.dedup();
-    Ok(names)
 }
 
 /// The users' logins, where the names are those of their tenants.

@@ -1,4 +1,4 @@
-use crate::{Broker, Settings, User};
+use crate::{Broker, Listing, Settings, User};
 use std::alloc::Global;
 use std::process::Abort;
 use std::test::Fail;
@@ -129,5 +129,33 @@ fn users_out_of_order(rt: HostRuntime) -> Result<(), Fail> {
         &[ACCEPTED, DENIED],
     )?;
     assert!(rt; broker.is_calm());
+    Ok(())
+}
+
+/// The table with SaslHandshake from version 0 on.
+const STOCK_TABLE: &[u8] = b"\0\0\0\x70\0\0\0\x01\0\0\0\0\0\x11\
+    \0\0\0\x03\0\x03\0\x01\0\x04\0\x04\0\x02\0\x01\0\x01\0\x03\0\x01\0\x01\0\x08\0\x02\0\x02\0\x09\0\x01\0\x01\
+    \0\x0a\0\0\0\0\0\x0b\0\x01\0\x01\0\x0c\0\0\0\0\0\x0d\0\0\0\0\0\x0e\0\0\0\0\0\x11\0\0\0\x01\0\x12\0\0\0\0\
+    \0\x13\0\0\0\0\0\x14\0\0\0\0\0\x16\0\0\0\0\0\x24\0\0\0\0";
+
+/// A handshake of version 0.
+const OLD_HANDSHAKE: &[u8] = b"\0\0\0\x11\0\x11\0\0\0\0\0\x02\xff\xff\0\x05PLAIN";
+
+#[test]
+fn stock_clients(rt: HostRuntime) -> Result<(), Fail> {
+    let alloc = rt.alloc();
+    let settings = Settings::standard(alloc)?;
+    let mut broker = Broker::empty_listing(alloc, &settings, Listing::StockClients)?;
+    answers(
+        &rt,
+        alloc,
+        &mut broker,
+        1,
+        &[VERSIONS, HANDSHAKE, LOGIN],
+        &[STOCK_TABLE, ACCEPTED, WELCOME],
+    )?;
+    assert!(rt; !broker.shut(1));
+    answers(&rt, alloc, &mut broker, 2, &[OLD_HANDSHAKE], &[])?;
+    assert!(rt; broker.shut(2));
     Ok(())
 }

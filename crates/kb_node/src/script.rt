@@ -25,11 +25,12 @@ pub fn play_script<R: BufRead, W: Write>(
     ensures err { IfErr result (λ fault. IfSome (R.remaining reader.old) (λ text. IsScriptEnded text fault (W.contents writer.old) (W.contents writer.new))) }
 {
     let settings = Settings::standard(alloc)?;
-    play_on(alloc, &settings, reader, writer)
+    play_script_with(alloc, &settings, reader, writer)
 }
 
-/// Runs a script over a broker of those settings.
-fn play_on<R: BufRead, W: Write>(
+/// Runs a script over a broker of those settings, which keeps nothing on a disk: what is written is what [`play_script`] says,
+/// of that broker.
+pub fn play_script_with<R: BufRead, W: Write>(
     alloc: Global,
     settings: &Settings,
     reader: &mut R,

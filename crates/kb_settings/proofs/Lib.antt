@@ -1,0 +1,4 @@
+pub mod NamesInOrder
+pub mod Keys
+pub mod Entries
+pub mod StandardText

@@ -1,3 +1,5 @@
 pub mod Names
 pub mod Settings
 pub mod Values
+pub mod Document
+pub mod Reading

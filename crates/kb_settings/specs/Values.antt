@@ -1,5 +1,5 @@
 -- The settings as bytes and numbers, and the standard ones.
-use Rattle.std.specs.Prelude.{ℕ, List, [], ◌∷◌, map, Option, None, option_map, string_bytes, codes}
+use Rattle.std.specs.Prelude.{ℕ, List, [], ◌∷◌, ◌++◌, map, Option, None, option_map, string_bytes, codes}
 use Rattle.kb_settings.specs.declared.settings.User.{User}
 use Rattle.kb_settings.specs.declared.settings.Settings.{Settings}
 
@@ -38,3 +38,9 @@ bob = record { name = codes "bob"; password = codes "pw2"; tenant = codes "b" }
 -- the standard settings
 abbrev pub standard : Values
 standard = record { host = codes "localhost"; port = 9092; segment_bytes = 16777216; cache_batches = 1024; folder = None; users = ann ∷ bob ∷ [] }
+
+-- a text that names their two users
+abbrev pub standard_text : List ℕ
+standard_text =
+    codes "[[user]]\nname = \"ann\"\npassword = \"pw1\"\ntenant = \"a\"\n"
+    ++ codes "[[user]]\nname = \"bob\"\npassword = \"pw2\"\ntenant = \"b\"\n"

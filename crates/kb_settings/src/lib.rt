@@ -1,9 +1,21 @@
 //! The settings of a broker, whose types keep their limits.
 //!
+//! [`Settings::read`] reads them from a TOML text: exactly the values that the text spells, or its first wrong key.
 //! [`Settings::standard`] are those of a broker that nobody has set up: two users of two tenants on `localhost`. The contracts
-//! see settings as bytes and numbers, by `specs/Values.antt`.
+//! see settings as bytes and numbers, by `specs/Values.antt`, and a text by `specs/Document.antt`.
 #![tactic(auto)]
 
+mod document;
+mod fault;
+mod limits;
+mod names;
+mod read;
 mod settings;
+mod users;
 
+pub use fault::SettingsFault;
+pub use names::tenant_names;
 pub use settings::{Settings, User};
+
+#[cfg(test)]
+mod tests;

@@ -63,13 +63,16 @@ pub struct Settings {
 }
 
 impl Settings {
-    ghost use Rattle.kb_settings.specs.Values.{values_of, standard};
+    ghost use Rattle.std.specs.Prelude.{Some, Ok};
+    ghost use Rattle.kb_settings.specs.Values.{values_of, standard, standard_text};
+    ghost use Rattle.kb_settings.specs.Reading.{settings_of};
 
     /// The settings of a text that names two users alone: `ann` with password `pw1` of tenant `a`, and `bob` with password
     /// `pw2` of tenant `b`. The host is `localhost`, the port 9092, a file has 16,777,216 bytes, 1,024 read batches are kept,
     /// and there is no folder.
     pub fn standard(alloc: Global) -> Result<Settings, AllocError>
-        ensures { IfOk result (λ settings. values_of settings ≡ standard) }
+        ensures value { IfOk result (λ settings. values_of settings ≡ standard) }
+        ensures text { IfOk result (λ settings. settings_of standard_text ≡ Some (Ok (values_of settings))) }
     {
         let mut users = Vec::new(alloc);
         users.push(User::new(alloc, "ann", "pw1", "a")?)?;

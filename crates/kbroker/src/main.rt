@@ -1,17 +1,33 @@
 //! The broker's program.
 //!
 //! `kbroker script` runs a script of events from standard input and writes what each connection gets to standard output.
-//! Status 0 is done, 1 a fault with one line on standard error, 2 a fault of the command line with its usage.
+//! `kbroker serve` listens on the address of its settings and serves sockets until it is stopped. Status 0 is done, 1 a fault
+//! with one line on standard error, 2 a fault of the command line with its usage.
 #![tactic(auto)]
 
-use clap::Command;
+ghost use Rattle.std.specs.Prelude.{◌≤◌, ◌^◌};
+
 use clap::error::ErrorKind;
-use kb_node::{NodeFault, play_script};
+use clap::{Arg, ArgAction, ArgMatches, Command};
+use kb_node::{
+    Edge, Listing, NodeFault, Settings, StartFault, play_script, play_script_with, read_settings,
+    serving_broker,
+};
 use std::alloc::{AllocError, Global};
 use std::io::{BufReader, BufWriter};
 use std::process::ExitCode;
-use std::{env, io};
+use std::time::{Duration, SystemTime};
+use std::{env, fs, io, thread};
 use thiserror::Error;
+
+/// How often the edge is turned at most.
+const TURNS: u64 = 9_223_372_036_854_775_807;
+
+/// The last moment, in milliseconds.
+const LAST_MOMENT: u64 = 4_611_686_018_427_387_904;
+
+/// How long an idle turn is followed by a sleep, in milliseconds.
+const PAUSE: u64 = 5;
 
 /// Why the program ends early.
 #[derive(Debug, Drop, Error)]
@@ -20,12 +36,20 @@ enum Fault {
     #[error("{0}")]
     Words(clap::Error),
     #[error("{0}")]
+    Start(StartFault),
+    #[error("{0}")]
     Node(NodeFault),
 }
 
 impl From<AllocError> for Fault {
     fn from(_e: AllocError) -> Fault {
         Fault::Node(NodeFault::Memory)
+    }
+}
+
+impl From<StartFault> for Fault {
+    fn from(e: StartFault) -> Fault {
+        Fault::Start(e)
     }
 }
 
@@ -47,11 +71,31 @@ impl From<clap::Error> for Fault {
 
 /// The command line.
 fn command<'a>(alloc: Global) -> Result<Command<'a>, AllocError> {
-    let script = Command::new(alloc, "script").about("Runs a script of events from standard input");
+    let script = Command::new(alloc, "script")
+        .about("Runs a script of events from standard input")
+        .arg(config(alloc))?;
+    let stock_clients = Arg::new(alloc, "stock-clients")
+        .long("stock-clients")
+        .help("Lists SaslHandshake from version 0 on, which librdkafka asks for")
+        .action(ArgAction::SetTrue);
+    let serve = Command::new(alloc, "serve")
+        .about("Serves sockets on the settings' host and port")
+        .arg(config(alloc).required(true))?
+        .arg(stock_clients)?;
     Command::new(alloc, "kbroker")
         .about("A message broker for many tenants that speaks the Kafka protocol")
         .subcommand_required(true)
-        .subcommand(script)
+        .subcommand(script)?
+        .subcommand(serve)
+}
+
+/// The file of the settings.
+fn config<'a>(alloc: Global) -> Arg<'a> {
+    Arg::new(alloc, "config")
+        .long("config")
+        .value_name("FILE")
+        .help("The settings, a TOML file")
+        .action(ArgAction::Set)
 }
 
 fn run(rt: &HostRuntime) -> Result<(), Fault> {
@@ -60,21 +104,79 @@ fn run(rt: &HostRuntime) -> Result<(), Fault> {
         return Err(Fault::Node(NodeFault::Memory));
     };
     let words: Vec<String> = args.collect(alloc)?;
-    // The one subcommand is asked for: no other line is taken.
-    command(alloc)?.try_get_matches_from(words.as_slice())?;
-    script(rt)?;
-    Ok(())
+    let matches = command(alloc)?.try_get_matches_from(words.as_slice())?;
+    match matches.subcommand() {
+        Some(("serve", found)) => serve(rt, found),
+        Some((_, found)) => script(rt, found.get_str("config")),
+        // A subcommand is asked for: no other line is taken.
+        None => Ok(()),
+    }
+}
+
+/// The settings of a file.
+fn settings_of(rt: &HostRuntime, path: &str) -> Result<Settings, StartFault> {
+    match fs::read_to_string(rt, path) {
+        Ok(text) => read_settings(rt.alloc(), text.as_str()),
+        Err(e) if e.kind() == io::ErrorKind::OutOfMemory => Err(StartFault::Memory),
+        Err(_) => Err(StartFault::Settings),
+    }
 }
 
 /// Runs a script from standard input to standard output.
-fn script(rt: &HostRuntime) -> Result<(), NodeFault> {
+fn script(rt: &HostRuntime, config: Option<&str>) -> Result<(), Fault> {
+    let settings = match config {
+        Some(path) => Some(settings_of(rt, path)?),
+        None => None,
+    };
     let Ok(mut reader) = BufReader::new(rt.alloc(), rt.reader()) else {
-        return Err(NodeFault::Memory);
+        return Err(Fault::Node(NodeFault::Memory));
     };
     let Ok(mut writer) = BufWriter::new(rt.alloc(), io::writer(rt)) else {
-        return Err(NodeFault::Memory);
+        return Err(Fault::Node(NodeFault::Memory));
     };
-    play_script(rt.alloc(), &mut reader, &mut writer)
+    match settings {
+        Some(settings) => play_script_with(rt.alloc(), &settings, &mut reader, &mut writer)?,
+        None => play_script(rt.alloc(), &mut reader, &mut writer)?,
+    }
+    Ok(())
+}
+
+/// Serves sockets until the process is stopped, or the turns are used up.
+fn serve(rt: &HostRuntime, found: &ArgMatches<'_>) -> Result<(), Fault> {
+    let alloc = rt.alloc();
+    let settings = settings_of(rt, found.get_str("config").unwrap_or(""))?;
+    let listing = if found.get_flag("stock-clients") {
+        Listing::StockClients
+    } else {
+        Listing::Served
+    };
+    let broker = serving_broker(alloc, &settings, listing)?;
+    let address = format!(in alloc; "{}:{}", settings.host, settings.port)?;
+    let mut edge = Edge::bind(rt, alloc, broker, &address).map_err(StartFault::from)?;
+    if println!(rt; "listening on {}:{}", settings.host, edge.port()).is_err() {
+        return Err(Fault::Node(NodeFault::Write));
+    }
+    for _ in 0..TURNS {
+        if edge.turn(alloc, now(rt)).is_idle() {
+            thread::sleep(rt, Duration::from_millis(PAUSE));
+        }
+    }
+    Ok(())
+}
+
+/// The time since 1970 in milliseconds, at least 0 and at most the last moment.
+fn now(rt: &HostRuntime) -> u64
+    ensures { result ≤ 2 ^ 62 }
+{
+    let Ok(time) = SystemTime::now(rt) else {
+        return 0;
+    };
+    match time.duration_since(SystemTime::UNIX_EPOCH) {
+        Ok(since) => u64::try_from(since.as_millis())
+            .unwrap_or(LAST_MOMENT)
+            .min(LAST_MOMENT),
+        Err(_) => 0,
+    }
 }
 
 fn main(rt: HostRuntime) -> ExitCode {
@@ -88,7 +190,7 @@ fn main(rt: HostRuntime) -> ExitCode {
                 ExitCode::SUCCESS
             }
         }
-        Err(Fault::Node(fault)) => {
+        Err(fault) => {
             let _ = eprintln!(rt; "{fault}");
             ExitCode::FAILURE
         }

@@ -1,7 +1,7 @@
 use Rattle.std.proofs.Common.{ℕ, List, subst, sym, map}
 use Rattle.std.specs.List.{Contains}
 use Rattle.kb_broker.specs.Opening.{tenants_of, tenant_of}
-use Rattle.kb_broker.proofs.OpeningNames.{Rises, rises-in_order}
+use Rattle.kb_settings.proofs.NamesInOrder.{Rises, rises-in_order}
 use Rattle.kb_broker.proofs.OpeningParts.{tenant-in}
 use Rattle.kb_broker.proofs.opening.logins_of.Goals as goal
 

@@ -1,4 +1,4 @@
-use Rattle.kb_broker.proofs.OpeningNames.{rises-in_order, in-in_order, of-in_order, only-one-in_order}
+use Rattle.kb_settings.proofs.NamesInOrder.{rises-in_order, in-in_order, of-in_order, only-one-in_order}
 use Rattle.kb_broker.proofs.opening.names_in_order.Goals as goal
 
 pub returns-clause-rise : goal.returns-clause-rise

@@ -1,4 +1,4 @@
-use Rattle.kb_broker.proofs.OpeningNames.{place-in_order, in_order-at-place}
+use Rattle.kb_settings.proofs.NamesInOrder.{place-in_order, in_order-at-place}
 use Rattle.kb_broker.proofs.opening.places_of_names.Goals as goal
 
 pub returns-clause-within : goal.returns-clause-within

@@ -1,6 +1,6 @@
 use Rattle.kb_broker.specs.Opening.{opening}
 use Rattle.kb_node.proofs.Handed.{answered-ok, answered-err}
-use Rattle.kb_node.proofs.script.play_on.Goals as goal
+use Rattle.kb_node.proofs.script.play_script_with.Goals as goal
 
 pub returns-clause-ok : goal.returns-clause-ok
 returns-clause-ok g c =

@@ -1,7 +1,7 @@
 use Rattle.std.proofs.Common.{◌<◌, ◌^◌, ◌∙◌, List, length, lit<, subst, sym}
 use Rattle.kb_api_group.specs.declared.api_versions.ApiVersion.{ApiVersion}
 use Rattle.kb_broker.proofs.OpeningParts.{versions-fit}
-use Rattle.kb_broker.proofs.opening.served_versions.Goals as goal
+use Rattle.kb_broker.proofs.opening.listed_versions.Goals as goal
 
 pub returns-clause-is : goal.returns-clause-is
 returns-clause-is c = c.from_vec.ensures ∙ c.in_ok-versions.ensures

@@ -1,5 +1,5 @@
 -- Names in byte order: in_order rises, has the same names, and is the one list that does.
-use Rattle.std.proofs.Common.{◌≡◌, ℕ, ◌+◌, ◌<◌, zero, suc, Bool, true, false, ◌||◌, cond, List, [], ◌∷◌, map, length, get_or, Result, Ok, Err, MatchResult, refl, sym, ap, subst, ◌∙◌, inl, inr, arith}
+use Rattle.std.proofs.Common.{◌≡◌, ℕ, ◌+◌, ◌<◌, ◌≤◌, zero, suc, Bool, true, false, not, ◌||◌, ◌&&◌, MatchBool, cond, List, [], ◌∷◌, map, length, get_or, Result, Ok, Err, MatchResult, refl, sym, ap, subst, ◌∙◌, inl, inr, arith}
 use Rattle.std.proofs.Math.ListN.{get_or-map, length-map}
 use Rattle.std.specs.Ordering.{ordering_reverse, is_eq, is_lt}
 use Rattle.std.specs.Cmp.{tied_itself}
@@ -17,6 +17,7 @@ use Rattle.std.proofs.lemmas.List.Sorted.{list_any-IsPermutation, searchable_fro
 use Rattle.std.proofs.lemmas.List.Kept.{IsStrictlySortedBy-dedup}
 use Rattle.std.proofs.lemmas.Map.Views.{list_any-from_Contains, Contains-from_any}
 use Rattle.kb_settings.specs.Names.{byte_order, by_order, with_name, in_order, place_of}
+use Rattle.kb_settings.specs.Settings.{are_different}
 
 -- 1. Two names
 
@@ -258,3 +259,52 @@ same-test false false there back = refl
 
 pub only-one-in_order : (ns xs : List (List ℕ)) → Rises xs → ((q : List ℕ) → Contains xs q → Contains ns q) → ((q : List ℕ) → Contains ns q → Contains xs q) → xs ≡ in_order ns
 only-one-in_order ns xs rises there back = only-in_order ns xs rises (λ q. same-test (list_any (bytes_eq q) xs) (list_any (bytes_eq q) ns) (λ h. any-of q ns (there q (of-any q xs h))) (λ h. any-of q xs (back q (of-any q ns h))))
+
+-- 8. How many names there are in order
+
+or-right : (a b : Bool) → (a || b) ≡ false → b ≡ false
+or-right false b h = h
+or-right true b h = true-false refl h
+
+length-there : (n : List ℕ) (ns : List (List ℕ)) → Rises ns → list_any (bytes_eq n) ns ≡ true → length (with_name n ns) ≡ length ns
+unfolding IsStrictlySortedBy
+length-there n [] rises h = true-false h refl
+length-there n (m ∷ ms) rises h =
+    elim (byte_order n m) as (λ o. byte_order n m ≡ o → length (by_order o (n ∷ m ∷ ms) (m ∷ ms) (m ∷ with_name n ms)) ≡ suc (length ms)) [
+      | Less ↦ λ e. true-false h (not-in n m ms e rises.0)
+      | Equal ↦ λ e. refl
+      | Greater ↦ λ e. ap suc (length-there n ms rises.1 (sym (ap (λ b. b || list_any (bytes_eq n) ms) (texts_ties n m ∙ ap is_eq e)) ∙ h))
+    ] refl
+
+length-new : (n : List ℕ) (ns : List (List ℕ)) → list_any (bytes_eq n) ns ≡ false → length (with_name n ns) ≡ suc (length ns)
+length-new n [] h = refl
+length-new n (m ∷ ms) h =
+    elim (byte_order n m) as (λ o. byte_order n m ≡ o → length (by_order o (n ∷ m ∷ ms) (m ∷ ms) (m ∷ with_name n ms)) ≡ suc (suc (length ms))) [
+      | Less ↦ λ e. refl
+      | Equal ↦ λ e. true-false (ap (λ b. b || list_any (bytes_eq n) ms) (texts_ties n m ∙ ap is_eq e)) h
+      | Greater ↦ λ e. ap suc (length-new n ms (or-right (bytes_eq n m) _ h))
+    ] refl
+
+-- what a name before others adds, where it is among them and where it is not
+counted : (n : List ℕ) (ns : List (List ℕ)) (b : Bool) → list_any (bytes_eq n) ns ≡ b → length (in_order (n ∷ ns)) ≡ cond b (length (in_order ns)) (suc (length (in_order ns)))
+counted n ns true h = length-there n (in_order ns) (rises-in_order ns) (any-in_order n ns ∙ h)
+counted n ns false h = length-new n (in_order ns) (any-in_order n ns ∙ h)
+
+pub no-more : (ns : List (List ℕ)) → length (in_order ns) ≤ length ns
+no-more [] = omega arith
+no-more (n ∷ ns) = elim (list_any (bytes_eq n) ns) as (λ b. list_any (bytes_eq n) ns ≡ b → length (in_order (n ∷ ns)) ≤ suc (length ns)) [
+  | true ↦ λ e. omega (arith, counted n ns true e, no-more ns)
+  | false ↦ λ e. omega (arith, counted n ns false e, no-more ns)
+] refl
+
+-- names are different where as many are in order, and only there
+pub different-counted : (ns : List (List ℕ)) → MatchBool (are_different ns) (length (in_order ns) ≡ length ns) (length (in_order ns) < length ns)
+different-counted [] = refl
+different-counted (n ∷ ns) =
+    elim (list_any (bytes_eq n) ns) as (λ b. list_any (bytes_eq n) ns ≡ b → MatchBool (not b && are_different ns) (length (in_order (n ∷ ns)) ≡ suc (length ns)) (length (in_order (n ∷ ns)) < suc (length ns))) [
+      | true ↦ λ e. omega (arith, counted n ns true e, no-more ns)
+      | false ↦ λ e. elim (are_different ns) as (λ d. MatchBool d (length (in_order ns) ≡ length ns) (length (in_order ns) < length ns) → MatchBool d (length (in_order (n ∷ ns)) ≡ suc (length ns)) (length (in_order (n ∷ ns)) < suc (length ns))) [
+        | true ↦ λ h. counted n ns false e ∙ ap suc h
+        | false ↦ λ h. omega (arith, counted n ns false e, h)
+      ] (different-counted ns)
+    ] refl

@@ -1,0 +1,5 @@
+use Rattle.std.proofs.Common.{◌≡◌, map, take, string_bytes}
+use Rattle.kb_settings.proofs.names.tenant_names.Given as goal
+
+abbrev pub invariant-loop-user : goal.invariant-loop-user
+invariant-loop-user l = map (λ name. name.now) l.names.items ≡ map (λ u. string_bytes u.tenant) (take l.user-index l.users)

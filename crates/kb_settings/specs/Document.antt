@@ -1,0 +1,130 @@
+-- What a settings document says, key by key.
+use Rattle.std.specs.Prelude.{ℕ, pos, List, [], ◌∷◌, map, length, codes, Bool, ◌&&◌, if◌then◌else◌}
+use Rattle.std.specs.Prelude.{Option, None, Some, option_map, option_and_then, Result, Ok, Err}
+use Rattle.std.specs.List.{list_any}
+use Rattle.std.specs.Str.{bytes_eq}
+use Rattle.toml.specs.Data.{Data, as_str, integer, array, table, get_member}
+use Rattle.toml.specs.Data.{Items, no_items, item, Members, no_members, member}
+use Rattle.kb_settings.specs.Names.{in_order}
+use Rattle.kb_settings.specs.Settings.{is_within, is_host, is_credential, is_tenant, are_different}
+use Rattle.kb_settings.specs.Values.{Account, Values}
+
+-- 1. What a value says: nothing where it is wrong
+
+-- a text that fits
+abbrev pub fitting : (List ℕ → Bool) → List ℕ → Option (List ℕ)
+fitting fits text = if fits text then Some text else None
+
+abbrev pub text_in : (List ℕ → Bool) → Data → Option (List ℕ)
+text_in fits value = option_and_then (fitting fits) (as_str value)
+
+-- a number, both limits included
+abbrev pub number_in : ℕ → ℕ → Data → Option ℕ
+number_in low high (integer (pos n)) = if is_within low high n then Some n else None
+number_in low high _ = None
+
+-- a folder: any text
+abbrev pub folder_in : Data → Option (Option (List ℕ))
+folder_in value = option_map Some (as_str value)
+
+-- the keys that are none of these
+abbrev pub other_keys : List (List ℕ) → Members → List (List ℕ)
+other_keys keys no_members = []
+other_keys keys (member key value rest) =
+    if list_any (bytes_eq key) keys then other_keys keys rest else key ∷ other_keys keys rest
+
+abbrev pub first : List (List ℕ) → Option (List ℕ)
+first [] = None
+first (key ∷ keys) = Some key
+
+-- the first of them in byte order
+abbrev pub other_key : List (List ℕ) → Members → Option (List ℕ)
+other_key keys document = first (in_order (other_keys keys document))
+
+-- 2. The users
+
+-- a text that must be there, and fit
+abbrev pub text_of : (List ℕ → Bool) → List ℕ → Members → Option (List ℕ)
+text_of fits key entry = option_and_then (text_in fits) (get_member key entry)
+
+abbrev pub user_keys : List (List ℕ)
+user_keys = codes "name" ∷ codes "password" ∷ codes "tenant" ∷ []
+
+-- a user of these texts, where all are there, and no other key
+abbrev pub account_with : Option (List ℕ) → Option (List ℕ) → Option (List ℕ) → Option (List ℕ) → Option Account
+account_with (Some name) (Some password) (Some tenant) None =
+    Some (record { name = name; password = password; tenant = tenant })
+account_with name password tenant other = None
+
+-- an entry of `user`
+abbrev pub account_in : Data → Option Account
+account_in (table entry) =
+    account_with (text_of is_credential (codes "name") entry) (text_of is_credential (codes "password") entry)
+    (text_of is_tenant (codes "tenant") entry) (other_key user_keys entry)
+account_in _ = None
+
+-- one more in front, where both are there
+abbrev pub in_front : Option Account → Option (List Account) → Option (List Account)
+in_front (Some account) (Some accounts) = Some (account ∷ accounts)
+in_front account accounts = None
+
+-- all entries
+abbrev pub accounts_in : Items → Option (List Account)
+accounts_in no_items = Some []
+accounts_in (item entry entries) = in_front (account_in entry) (accounts_in entries)
+
+-- 1 to 1,000 users, no two of one name, of at most 256 different tenants
+abbrev pub are_users : List Account → Bool
+are_users users =
+    is_within 1 1000 (length users) && are_different (map (λ u. u.name) users)
+    && is_within 0 256 (length (in_order (map (λ u. u.tenant) users)))
+
+abbrev pub checked_users : List Account → Option (List Account)
+checked_users users = if are_users users then Some users else None
+
+abbrev pub users_in : Data → Option (List Account)
+users_in (array entries) = option_and_then checked_users (accounts_in entries)
+users_in _ = None
+
+-- 3. The document
+
+abbrev pub settings_keys : List (List ℕ)
+settings_keys =
+    codes "host" ∷ codes "port" ∷ codes "segment_bytes" ∷ codes "cache_batches" ∷ codes "data" ∷ codes "user" ∷ []
+
+-- what is said at a key that may be missing
+abbrev pub said_or : {A : Type 0} → A → (Data → Option A) → Option Data → Option A
+said_or standard says None = Some standard
+said_or standard says (Some value) = says value
+
+-- goes on with what is said at a key, or names the key where it is wrong
+abbrev pub go_on : {A B : Type 0} → List ℕ → Option A → (A → Result B (List ℕ)) → Result B (List ℕ)
+go_on key None next = Err key
+go_on key (Some says) next = next says
+
+-- the same of a key of the document, which may be missing
+abbrev pub read_key : {A B : Type 0} → Members → List ℕ → A → (Data → Option A) → (A → Result B (List ℕ)) → Result B (List ℕ)
+read_key document key standard says next = go_on key (said_or standard says (get_member key document)) next
+
+-- the settings, unless there is another key
+abbrev pub no_other : {A : Type 0} → Option (List ℕ) → A → Result A (List ℕ)
+no_other None settings = Ok settings
+no_other (Some key) settings = Err key
+
+-- the settings of a document, or its first wrong key: the keys in this order, then those that there are not
+abbrev pub settings_in : Members → Result Values (List ℕ)
+settings_in document =
+    read_key document (codes "host") (codes "localhost") (text_in is_host) λ host.
+    read_key document (codes "port") 9092 (number_in 1 65535) λ port.
+    read_key document (codes "segment_bytes") 16777216 (number_in 4096 1073741824) λ segment_bytes.
+    read_key document (codes "cache_batches") 1024 (number_in 1 65536) λ cache_batches.
+    read_key document (codes "data") None folder_in λ folder.
+    go_on (codes "user") (option_and_then users_in (get_member (codes "user") document)) λ users.
+    no_other (other_key settings_keys document) (record {
+      host = host;
+      port = port;
+      segment_bytes = segment_bytes;
+      cache_batches = cache_batches;
+      folder = folder;
+      users = users;
+    })

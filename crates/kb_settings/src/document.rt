@@ -1,0 +1,145 @@
+//! What a settings document says, key by key.
+
+ghost use Rattle.std.specs.Prelude.{◌≡◌, ◌≤◌, None, codes, map, option_map, IfSome, IsTrue};
+ghost use Rattle.std.specs.List.{list_any};
+ghost use Rattle.std.specs.Str.{bytes_eq};
+ghost use Rattle.toml.specs.Data.{get_member};
+ghost use Rattle.toml.specs.View.{view, table_view};
+ghost use Rattle.kb_settings.specs.Settings.{is_host, is_credential, is_tenant};
+ghost use Rattle.kb_settings.specs.Document.{text_in, number_in, folder_in, said_or, text_of, other_key};
+
+use crate::limits;
+use toml::{Table, Value};
+
+/// The value at a key.
+pub fn at<'a>(document: &'a Table, key: &str) -> Option<&'a Value>
+    ensures { option_map (λ value. view value.now) result ≡ get_member key.now (table_view document.now) }
+{
+    document.get(key)
+}
+
+/// The host that clients are told.
+pub fn host(document: &Table) -> Option<&str>
+    ensures says { option_map (λ text. text.now) result ≡ said_or (codes "localhost") (text_in is_host) (get_member (codes "host") (table_view document.now)) }
+    ensures fits { IfSome result (λ text. IsTrue (is_host text.now)) }
+{
+    match at(document, "host") {
+        None => Some("localhost"),
+        Some(value) => host_in(value),
+    }
+}
+
+fn host_in(value: &Value) -> Option<&str>
+    ensures says { option_map (λ text. text.now) result ≡ text_in is_host (view value.now) }
+    ensures fits { IfSome result (λ text. IsTrue (is_host text.now)) }
+{
+    let text = value.as_str()?;
+    if limits::is_host(text) {
+        Some(text)
+    } else {
+        None
+    }
+}
+
+/// A number at a key, both limits included.
+pub fn number(document: &Table, key: &str, standard: u32, low: u32, high: u32) -> Option<u32>
+    requires low { low ≤ standard }
+    requires high { standard ≤ high }
+    ensures says { result ≡ said_or standard (number_in low high) (get_member key.now (table_view document.now)) }
+    ensures low { IfSome result (λ n. low ≤ n) }
+    ensures high { IfSome result (λ n. n ≤ high) }
+{
+    match at(document, key) {
+        None => Some(standard),
+        Some(value) => number_in(value, low, high),
+    }
+}
+
+fn number_in(value: &Value, low: u32, high: u32) -> Option<u32>
+    ensures says { result ≡ number_in low high (view value.now) }
+    ensures low { IfSome result (λ n. low ≤ n) }
+    ensures high { IfSome result (λ n. n ≤ high) }
+{
+    let Value::Integer(integer) = value else {
+        return None;
+    };
+    match u32::try_from(*integer) {
+        Ok(n) if low <= n && n <= high => Some(n),
+        _ => None,
+    }
+}
+
+/// The data folder, where there is one.
+pub fn folder(document: &Table) -> Option<Option<&str>>
+    ensures { option_map (option_map (λ text. text.now)) result ≡ said_or None folder_in (get_member (codes "data") (table_view document.now)) }
+{
+    match at(document, "data") {
+        None => Some(None),
+        Some(value) => folder_in(value),
+    }
+}
+
+fn folder_in(value: &Value) -> Option<Option<&str>>
+    ensures { option_map (option_map (λ text. text.now)) result ≡ folder_in (view value.now) }
+{
+    let text = value.as_str()?;
+    Some(Some(text))
+}
+
+/// A user's name or password.
+pub fn credential<'a>(entry: &'a Table, key: &str) -> Option<&'a str>
+    ensures says { option_map (λ text. text.now) result ≡ text_of is_credential key.now (table_view entry.now) }
+    ensures fits { IfSome result (λ text. IsTrue (is_credential text.now)) }
+{
+    credential_in(at(entry, key)?)
+}
+
+fn credential_in(value: &Value) -> Option<&str>
+    ensures says { option_map (λ text. text.now) result ≡ text_in is_credential (view value.now) }
+    ensures fits { IfSome result (λ text. IsTrue (is_credential text.now)) }
+{
+    let text = value.as_str()?;
+    if limits::is_credential(text) {
+        Some(text)
+    } else {
+        None
+    }
+}
+
+/// The name of a user's tenant.
+pub fn tenant(entry: &Table) -> Option<&str>
+    ensures says { option_map (λ text. text.now) result ≡ text_of is_tenant (codes "tenant") (table_view entry.now) }
+    ensures fits { IfSome result (λ text. IsTrue (is_tenant text.now)) }
+{
+    tenant_in(at(entry, "tenant")?)
+}
+
+fn tenant_in(value: &Value) -> Option<&str>
+    ensures says { option_map (λ text. text.now) result ≡ text_in is_tenant (view value.now) }
+    ensures fits { IfSome result (λ text. IsTrue (is_tenant text.now)) }
+{
+    let text = value.as_str()?;
+    if limits::is_tenant(text) {
+        Some(text)
+    } else {
+        None
+    }
+}
+
+/// The first key, in byte order, that is none of these.
+pub fn other_key<'a>(document: &'a Table, keys: &[&str]) -> Option<&'a str>
+    ensures { option_map (λ key. key.now) result ≡ other_key (map (λ key. key.now) keys.now) (table_view document.now) }
+{
+    'members: for (key, _value) in document.iter() {
+        if !is_among(key.as_str(), keys) {
+            return Some(key.as_str());
+        }
+    }
+    None
+}
+
+fn is_among(key: &str, keys: &[&str]) -> bool
+    ensures { result ≡ list_any (bytes_eq key.now) (map (λ key. key.now) keys.now) }
+{
+    keys.iter().any(|known| *known == key)
+}

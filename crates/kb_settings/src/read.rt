@@ -1,0 +1,100 @@
+//! Settings read from a text.
+
+ghost use Rattle.std.specs.Prelude.{◌≡◌, Some, Ok, Err, IfOk, IfErr, option_map, string_bytes};
+ghost use Rattle.toml.specs.View.{table_view};
+ghost use Rattle.kb_settings.specs.Values.{values_of};
+ghost use Rattle.kb_settings.specs.Document.{settings_in};
+ghost use Rattle.kb_settings.specs.Reading.{settings_of, IsFaultOf, IsFaultIn};
+
+use crate::document::{folder, host, number, other_key};
+use crate::fault::SettingsFault;
+use crate::settings::Settings;
+use crate::users::users;
+use std::alloc::{AllocError, Global};
+use toml::Table;
+
+/// The keys that there are.
+const KEYS: [&str; 6] = [
+    "host",
+    "port",
+    "segment_bytes",
+    "cache_batches",
+    "data",
+    "user",
+];
+
+impl Settings {
+    /// The settings of a TOML text: `host`, `port`, `segment_bytes`, `cache_batches` and `data`, each as in
+    /// [`Settings::standard`] where it is missing, and an array of tables `user` with `name`, `password` and `tenant`.
+    ///
+    /// `Text` comes only where the text is no TOML document. `Field` names the first key that is wrong, in this order; keys
+    /// that there are not come last, in byte order. Anything wrong with a user, or with the users together, is wrong with
+    /// `user`.
+    pub fn read(alloc: Global, text: &str) -> Result<Settings, SettingsFault>
+        ensures ok { IfOk result (λ settings. settings_of text.now ≡ Some (Ok (values_of settings))) }
+        ensures err { IfErr result (IsFaultOf text.now) }
+    {
+        match toml::table_from_str(alloc, text) {
+            Ok(document) => in_document(alloc, &document),
+            Err(e) if e.is_memory() => Err(SettingsFault::Memory),
+            Err(_) => Err(SettingsFault::Text),
+        }
+    }
+}
+
+/// The settings of a document.
+fn in_document(alloc: Global, document: &Table) -> Result<Settings, SettingsFault>
+    ensures ok { IfOk result (λ settings. settings_in (table_view document.now) ≡ Ok (values_of settings)) }
+    ensures err { IfErr result (IsFaultIn (settings_in (table_view document.now))) }
+{
+    let Some(host) = host(document) else {
+        return Err(wrong(alloc, "host"));
+    };
+    let Some(port) = number(document, "port", 9092, 1, 65_535) else {
+        return Err(wrong(alloc, "port"));
+    };
+    let Some(segment_bytes) = number(document, "segment_bytes", 16_777_216, 4096, 1_073_741_824)
+    else {
+        return Err(wrong(alloc, "segment_bytes"));
+    };
+    let Some(cache_batches) = number(document, "cache_batches", 1024, 1, 65_536) else {
+        return Err(wrong(alloc, "cache_batches"));
+    };
+    let Some(folder) = folder(document) else {
+        return Err(wrong(alloc, "data"));
+    };
+    let Some(users) = users(alloc, document)? else {
+        return Err(wrong(alloc, "user"));
+    };
+    if let Some(key) = other_key(document, &KEYS) {
+        return Err(wrong(alloc, key));
+    }
+    Ok(Settings {
+        host: String::from_str(alloc, host)?,
+        port: port as u16,
+        segment_bytes,
+        cache_batches,
+        folder: copied(alloc, folder)?,
+        users,
+    })
+}
+
+/// A copy of a text, where there is one.
+fn copied(alloc: Global, text: Option<&str>) -> Result<Option<String>, AllocError>
+    ensures { IfOk result (λ copy. option_map string_bytes copy ≡ option_map (λ t. t.now) text.entry) }
+{
+    match text {
+        Some(text) => Ok(Some(String::from_str(alloc, text)?)),
+        None => Ok(None),
+    }
+}
+
+/// The fault of a wrong key.
+fn wrong(alloc: Global, key: &str) -> SettingsFault
+    ensures { IsFaultIn (Err key.now) result }
+{
+    match String::from_str(alloc, key) {
+        Ok(name) => SettingsFault::Field(name),
+        Err(_) => SettingsFault::Memory,
+    }
+}

@@ -5,7 +5,7 @@ use Rattle.std.specs.FinMap.{get}
 use Rattle.std.specs.Ordering.{nat_cmp}
 use Rattle.std.specs.Map.{lookup}
 use Rattle.std.specs.BTreeMap.{is_at}
-use Rattle.kb_store.specs.Disk.{Disk}
+use Rattle.kb_store.specs.Disk.{Disk, Table}
 use Rattle.kb_log.specs.OnShelf.{Log, IsLawfulLog}
 use Rattle.kb_topics.specs.MetaLog.{IsFold}
 use Rattle.kb_topics.specs.Catalog.{known, meta_log}
@@ -150,3 +150,9 @@ loud n p le calm = by (nat_lt p.refusals END) refl calm
     by : (t : Bool) → nat_lt p.refusals END ≡ t → IsCalm n (cond t (p.refusals + 1) p.refusals) → ⊥
     by true e c = omega (arith, le, c.same)
     by false e c = let lt : p.refusals < END = subst (λ m. m < END) (sym c.same) c.below in absurd (grind (arith, nat_tests))
+
+-- ---- the clock
+
+-- at another clock the parts are as sound
+pub clocked : {L : Type 0} (log : L → Log) (p : Parts L) (now : ℕ) (table : Table) (next : ℕ) → IsSound log p table next → IsSound log (record p { clock = now }) table next
+clocked log p now table next s = record { catalog = s.catalog; logs = s.logs; apart = s.apart; few = s.few; unmade = s.unmade; small = s.small }

@@ -14,13 +14,7 @@ use kb_topics::{CatalogFault, TopicConfig};
 use std::alloc::Global;
 use std::test::Fail;
 
-/// All batches stay.
-const KEPT: TopicConfig = TopicConfig {
-    retention_ms: -1,
-    retention_bytes: -1,
-};
-
-/// Batches stay for a second.
+/// A second, and any number of bytes.
 const ONE_SECOND: TopicConfig = TopicConfig {
     retention_ms: 1000,
     retention_bytes: -1,
@@ -34,10 +28,13 @@ fn empty_shelf(alloc: Global) -> Result<Shelf<MemoryStore>, Fail> {
     )
 }
 
-fn new_tenant(alloc: Global) -> Parts<ListLog>
+/// A tenant without topics.
+fn tenant_at(alloc: Global, clock: u64) -> Parts<ListLog>
     ensures { (table : Table) (next : ℕ) → IsSound list_log result table next }
 {
-    Parts::new(alloc, String::new(alloc), String::new(alloc), 1_048_576)
+    let mut parts = Parts::new(alloc, String::new(alloc), String::new(alloc), 1_048_576);
+    parts.move_clock(clock);
+    parts
 }
 
 /// A batch of one record, value `hi`, timestamp 5: 70 bytes.
@@ -64,19 +61,54 @@ fn places(rt: HostRuntime) -> Result<(), Fail> {
 }
 
 #[test]
-fn each_call(rt: HostRuntime) -> Result<(), Fail> {
+fn clock(rt: HostRuntime) -> Result<(), Fail> {
+    let mut parts = tenant_at(rt.alloc(), 1006);
+    parts.move_clock(7);
+    assert_eq!(rt; parts.clock(), 1006);
+    parts.refuse();
+    assert_eq!(rt; parts.refusals(), 1);
+    Ok(())
+}
+
+#[test]
+fn appends(rt: HostRuntime) -> Result<(), Fail> {
     let bytes = hi(rt.alloc())?;
     let batch = BatchView::read(&bytes).ok().ok_or("a batch")?;
     let mut shelf = empty_shelf(rt.alloc())?;
-    let mut parts = new_tenant(rt.alloc());
-    assert_eq!(rt; parts.create(&mut shelf, "t", 1, KEPT), Ok(()));
-    assert_eq!(rt;
-        parts.create(&mut shelf, "t", 1, KEPT),
-        Err(CatalogFault::Exists)
-    );
+    let mut parts = tenant_at(rt.alloc(), 0);
+    assert_eq!(rt; parts.create(&mut shelf, "t", 1, ONE_SECOND), Ok(()));
     let place = place_of(&parts, "t")?;
     assert_eq!(rt; parts.append(&mut shelf, place, &batch), Ok(0));
     assert_eq!(rt; parts.append(&mut shelf, place, &batch), Ok(1));
+    let mut given = Vec::new(rt.alloc());
+    assert_eq!(rt;
+        parts.fetch(&mut shelf, place, 1, 1000, true, &mut given),
+        Ok(())
+    );
+    assert_eq!(rt; given.len(), 70);
+    let second = BatchView::read(&given).ok().ok_or("a batch")?;
+    assert_eq!(rt; second.base_offset(), 1);
+    let found = parts.find(&mut shelf, place, 5).ok().flatten();
+    assert_eq!(rt; found.map(|record| record.offset), Some(0));
+    let later = parts.find(&mut shelf, place, 6).ok().flatten();
+    assert_eq!(rt; later.is_none(), true);
+    assert_eq!(rt; parts.judge(place, &batch), Some(Verdict::Append));
+    assert_eq!(rt; (parts.start(place), parts.end(place)), (Some(0), Some(2)));
+    assert_eq!(rt; parts.refusals(), 0);
+    Ok(())
+}
+
+#[test]
+fn refusals(rt: HostRuntime) -> Result<(), Fail> {
+    let bytes = hi(rt.alloc())?;
+    let batch = BatchView::read(&bytes).ok().ok_or("a batch")?;
+    let mut shelf = empty_shelf(rt.alloc())?;
+    let mut parts = tenant_at(rt.alloc(), 0);
+    assert_eq!(rt; parts.create(&mut shelf, "t", 1, ONE_SECOND), Ok(()));
+    assert_eq!(rt;
+        parts.create(&mut shelf, "t", 1, ONE_SECOND),
+        Err(CatalogFault::Exists)
+    );
     let nowhere = Place {
         instance: 0,
         number: 1,
@@ -85,18 +117,6 @@ fn each_call(rt: HostRuntime) -> Result<(), Fail> {
         parts.append(&mut shelf, nowhere, &batch),
         Err(PartitionFault::Unknown)
     );
-    let mut given = Vec::new(rt.alloc());
-    assert_eq!(rt;
-        parts.fetch(&mut shelf, place, 1, 1000, true, &mut given),
-        Ok(())
-    );
-    assert_eq!(rt; given.len(), 70);
-    assert_eq!(rt; &given[..8], [0, 0, 0, 0, 0, 0, 0, 1].as_slice());
-    let found = parts.find(&mut shelf, place, 5).ok().flatten();
-    assert_eq!(rt; found.map(|record| record.offset), Some(0));
-    assert_eq!(rt; parts.find(&mut shelf, place, 6).ok().flatten(), None);
-    assert_eq!(rt; parts.judge(place, &batch), Some(Verdict::Append));
-    assert_eq!(rt; (parts.start(place), parts.end(place)), (Some(0), Some(2)));
     assert_eq!(rt; parts.start(nowhere), None);
     assert_eq!(rt; parts.issue(&mut shelf), Ok(0));
     assert_eq!(rt; parts.issue(&mut shelf), Ok(1));
@@ -104,66 +124,56 @@ fn each_call(rt: HostRuntime) -> Result<(), Fail> {
     Ok(())
 }
 
-#[test]
-fn retention_by_time(rt: HostRuntime) -> Result<(), Fail> {
-    let bytes = hi(rt.alloc())?;
-    let batch = BatchView::read(&bytes).ok().ok_or("a batch")?;
-    let mut shelf = empty_shelf(rt.alloc())?;
-    let mut parts = new_tenant(rt.alloc());
-    assert_eq!(rt; parts.create(&mut shelf, "t", 1, ONE_SECOND), Ok(()));
-    let place = place_of(&parts, "t")?;
-    assert_eq!(rt; parts.append(&mut shelf, place, &batch), Ok(0));
-    parts.move_clock(1005);
-    assert_eq!(rt; parts.clock(), 1005);
-    assert_eq!(rt; parts.retain(&mut shelf, place), false);
-    assert_eq!(rt; (parts.start(place), parts.end(place)), (Some(0), Some(1)));
-    parts.move_clock(1006);
-    parts.move_clock(7);
-    assert_eq!(rt; parts.clock(), 1006);
-    assert_eq!(rt; parts.retain(&mut shelf, place), true);
-    assert_eq!(rt; (parts.start(place), parts.end(place)), (Some(1), Some(1)));
-    assert_eq!(rt;
-        parts.topic(0).map(|topic| topic.partitions()[0].start()),
-        Some(1)
-    );
-    assert_eq!(rt; parts.refusals(), 0);
-    Ok(())
-}
-
-/// The start of a log of three batches of 70 bytes after retention by bytes.
-fn start_after(alloc: Global, retention_bytes: i64) -> Result<Option<i64>, Fail> {
+/// The start of a log of three batches of 70 bytes and of timestamp 5 after retention, if that drops any. It is recorded.
+fn start_after(alloc: Global, clock: u64, config: TopicConfig) -> Result<Option<i64>, Fail> {
     let bytes = hi(alloc)?;
     let batch = BatchView::read(&bytes).ok().ok_or("a batch")?;
     let mut shelf = empty_shelf(alloc)?;
-    let mut parts = new_tenant(alloc);
-    let config = TopicConfig {
-        retention_ms: -1,
-        retention_bytes,
-    };
+    let mut parts = tenant_at(alloc, clock);
     parts
         .create(&mut shelf, "t", 1, config)
         .ok()
         .ok_or("a topic")?;
     let place = place_of(&parts, "t")?;
-    for _ in 0..3 {
-        parts
-            .append(&mut shelf, place, &batch)
-            .ok()
-            .ok_or("an append")?;
+    let first = parts.append(&mut shelf, place, &batch);
+    let second = parts.append(&mut shelf, place, &batch);
+    let third = parts.append(&mut shelf, place, &batch);
+    if (first, second, third) != (Ok(0), Ok(1), Ok(2)) {
+        return Err("three batches")?;
     }
-    if parts.clock() != 0 || !parts.retain(&mut shelf, place) {
+    if parts.clock() > 2000 || !parts.retain(&mut shelf, place) {
         return Ok(None);
+    }
+    let recorded = parts.catalog.partition(0, 0).ok_or("a partition")?;
+    if parts.refusals() > 0 || Some(recorded.start()) != parts.start(place) {
+        return Err("a record")?;
     }
     Ok(parts.start(place))
 }
 
 #[test]
+fn retention_by_time(rt: HostRuntime) -> Result<(), Fail> {
+    assert_eq!(rt; start_after(rt.alloc(), 1005, ONE_SECOND)?, None);
+    assert_eq!(rt; start_after(rt.alloc(), 1006, ONE_SECOND)?, Some(3));
+    Ok(())
+}
+
+#[test]
 fn retention_by_bytes(rt: HostRuntime) -> Result<(), Fail> {
-    assert_eq!(rt; start_after(rt.alloc(), -1)?, None);
-    assert_eq!(rt; start_after(rt.alloc(), 210)?, None);
-    assert_eq!(rt; start_after(rt.alloc(), 140)?, Some(1));
-    assert_eq!(rt; start_after(rt.alloc(), 100)?, Some(2));
-    assert_eq!(rt; start_after(rt.alloc(), 0)?, Some(2));
+    let rows = [
+        (-1i64, None),
+        (210, None),
+        (140, Some(1i64)),
+        (100, Some(2)),
+        (0, Some(2)),
+    ];
+    for (retention_bytes, want) in rows {
+        let config = TopicConfig {
+            retention_ms: -1,
+            retention_bytes,
+        };
+        assert_eq!(rt; start_after(rt.alloc(), 0, config)?, want);
+    }
     Ok(())
 }
 
@@ -172,20 +182,16 @@ fn deletion(rt: HostRuntime) -> Result<(), Fail> {
     let bytes = hi(rt.alloc())?;
     let batch = BatchView::read(&bytes).ok().ok_or("a batch")?;
     let mut shelf = empty_shelf(rt.alloc())?;
-    let mut parts = new_tenant(rt.alloc());
-    assert_eq!(rt; parts.create(&mut shelf, "t", 1, KEPT), Ok(()));
-    assert_eq!(rt; parts.create(&mut shelf, "a", 2, KEPT), Ok(()));
+    let mut parts = tenant_at(rt.alloc(), 0);
+    assert_eq!(rt; parts.create(&mut shelf, "t", 1, ONE_SECOND), Ok(()));
+    assert_eq!(rt; parts.create(&mut shelf, "a", 2, ONE_SECOND), Ok(()));
     let old = place_of(&parts, "t")?;
     assert_eq!(rt; parts.append(&mut shelf, old, &batch), Ok(0));
     assert_eq!(rt; parts.delete(&mut shelf, "t"), Ok(()));
     assert_eq!(rt; parts.delete(&mut shelf, "t"), Err(CatalogFault::Unknown));
     assert_eq!(rt; (parts.topic_named("t"), parts.topic_count()), (None, 1));
-    assert_eq!(rt;
-        parts.append(&mut shelf, old, &batch),
-        Err(PartitionFault::Unknown)
-    );
     assert_eq!(rt; (parts.start(old), parts.end(old)), (None, None));
-    assert_eq!(rt; parts.create(&mut shelf, "t", 1, KEPT), Ok(()));
+    assert_eq!(rt; parts.create(&mut shelf, "t", 1, ONE_SECOND), Ok(()));
     let new = place_of(&parts, "t")?;
     assert_eq!(rt; new.instance, 2);
     assert_eq!(rt; (parts.start(new), parts.end(new)), (Some(0), Some(0)));

@@ -18,3 +18,6 @@ pub use answer::Answer;
 pub use dispatch::{Served, look, serve};
 pub use node::Node;
 pub use request::Request;
+
+#[cfg(test)]
+mod exchanges;

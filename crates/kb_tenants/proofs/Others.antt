@@ -1,0 +1,152 @@
+-- What a tenant's own call leaves of the other tenants.
+use Rattle.std.proofs.Common.{◌≡◌, ◌∙◌, ◌⊎◌, ⊎_elim, inl, inr, ◌≤◌, ◌<◌, ℕ, zero, suc, List, [], ◌∷◌, Option, Some, None, sym, ap, refl, subst, arith, length, get_or}
+use Rattle.std.specs.Prelude.{slice_get, slice_set, option_map}
+use Rattle.std.specs.FinMap.{get}
+use Rattle.kb_store.specs.Disk.{Disk}
+use Rattle.kb_log.specs.OnShelf.{Log, IsLawfulLog}
+use Rattle.kb_topics.specs.Catalog.{known, meta_log}
+use Rattle.kb_topics.specs.MetaLog.{IsFold}
+use Rattle.std.proofs.lemmas.List.{length-set}
+use Rattle.kb_partitions.proofs.Put.{get_put}
+use Rattle.kb_world.specs.Parts as parts
+use Rattle.kb_world.specs.Parts.{IsSound, Agrees, Owns, entries, meta, world_of}
+use Rattle.kb_world.specs.Steps.{IsStep, Meets}
+use Rattle.kb_world.specs.World.{World}
+use Rattle.kb_world.specs.declared.parts.Parts.{Parts}
+use Rattle.kb_world.proofs.Spared as spared
+use Rattle.kb_tenants.specs.Tenants.{AreSound}
+use Rattle.kb_tenants.specs.Turns.{IsTurn, IsMet}
+
+-- ---- a tenant whose files were left as they were
+
+module _ {L : Type 0} (log : L → Log) (law : (l : L) → IsLawfulLog (log l)) (q : Parts L) (d e : Disk) (next last : ℕ)
+    (sound : IsSound log q d.table next) (later : next ≤ last)
+    (lengths : (file : ℕ) → file < next → Owns log q file → get e.table file ≡ get d.table file)
+    (contents : e.honest → (file : ℕ) → file < next → Owns log q file → get e.files file ≡ get d.files file) where
+  lawful : IsLawfulLog (meta log q)
+  lawful = law (meta_log q.catalog)
+
+  below : (file : ℕ) → (meta log q).owns file → file < next
+  below file own = lawful.given_out d.table next sound.catalog file own
+
+  there : e.honest → (file : ℕ) → (meta log q).owns file → get e.files file ≡ get d.files file
+  there honest file own = contents honest file (below file own) (inl own)
+
+  pub still_sound : IsSound log q e.table last
+  still_sound = record {
+    catalog = lawful.sound_stays d.table e.table next last sound.catalog later (λ file own. lengths file (below file own) (inl own));
+    logs = spared.spared_sound log law (entries q) d e next last sound.logs later (λ file lt own. lengths file lt (inr own)) (λ honest file lt own. contents honest file lt (inr own));
+    apart = sound.apart;
+    few = sound.few;
+    unmade = sound.unmade;
+    small = sound.small;
+  }
+
+  pub still_agrees : e.honest → Agrees log q d.files → Agrees log q e.files
+  still_agrees honest agree = record {
+    catalog = lawful.agrees_stays d.files e.files agree.catalog (there honest);
+    fold = subst (λ bs. IsFold bs (known q.catalog)) (sym (lawful.batches_stay d.files e.files (there honest))) agree.fold;
+    logs = spared.spared_agree log law (entries q) d e next last sound.logs later (λ file lt own. lengths file lt (inr own)) (λ h file lt own. contents h file lt (inr own)) honest agree.logs;
+  }
+
+  pub still_seen : e.honest → world_of log q e.files ≡ world_of log q d.files
+  still_seen honest =
+      ap (λ ls. (let w : World = record { known = known q.catalog; logs = ls; clock = q.clock } in w))
+      (spared.spared_logs log law (entries q) d e next last sound.logs later (λ file lt own. lengths file lt (inr own)) (λ h file lt own. contents h file lt (inr own)) honest)
+
+-- ---- all tenants
+
+-- another tenant is where it was
+other_at : {A : Type 0} (xs : List A) (t u : ℕ) (y : A) → (u ≡ t → ⊥) → slice_get (slice_set xs t y) u ≡ slice_get xs u
+other_at [] t u y ne = refl
+other_at (x ∷ xs) zero zero y ne = absurd (ne refl)
+other_at (x ∷ xs) zero (suc u) y ne = refl
+other_at (x ∷ xs) (suc t) zero y ne = refl
+other_at (x ∷ xs) (suc t) (suc u) y ne = other_at xs t u y (λ e. ne (ap suc e))
+
+one_item : {A : Type 0} (x y : A) → Some x ≡ Some y → x ≡ y
+one_item x y e = cc
+
+same_item : {A : Type 0} (xs : List A) (t u : ℕ) (x y : A) → slice_get xs t ≡ Some x → slice_get xs u ≡ Some y → u ≡ t → x ≡ y
+same_item xs t u x y a b e = one_item x y (sym a ∙ ap (slice_get xs) (sym e) ∙ b)
+
+-- an item within the list is found there
+pub found : {A : Type 0} (xs : List A) (i : ℕ) (x : A) → i < length xs → x ≡ get_or xs i x → slice_get xs i ≡ Some x
+found [] i x lt is = absurd (omega (arith, lt))
+found (y ∷ ys) zero x lt is = ap Some (sym is)
+found (y ∷ ys) (suc i) x lt is = found ys i x (omega (arith, lt)) is
+
+-- a tenant's files have numbers that were given out
+given : {L : Type 0} (log : L → Log) → ((l : L) → IsLawfulLog (log l)) → (q : Parts L) (d : Disk) (next file : ℕ) → IsSound log q d.table next → Owns log q file → file < next
+given log law q d next file sound own = ⊎_elim
+    (λ mine. (law (meta_log q.catalog)).given_out d.table next sound.catalog file mine)
+    (λ o. (law o.partition.log).given_out d.table next (sound.logs.each o.instance o.number o.partition o.at) file o.own)
+    own
+
+module _ {L : Type 0} (log : L → Log) (law : (l : L) → IsLawfulLog (log l)) (ps : List (Parts L)) (t : ℕ) (p p' : Parts L) (d e : Disk) (next last : ℕ)
+    (at : slice_get ps t ≡ Some p) (sound : AreSound log ps d.table next) (step : IsStep (parts.scene_on log p d next) (parts.scene_on log p' e last)) where
+  -- the files of another tenant are not those of the one that is served
+  lengths : (u : ℕ) (q : Parts L) → slice_get ps u ≡ Some q → (u ≡ t → ⊥) → (file : ℕ) → file < next → Owns log q file → get e.table file ≡ get d.table file
+  lengths u q here ne file lt own = step.frame.others.lengths file lt (λ mine. sound.apart u t q p here at ne file own mine)
+
+  contents : (u : ℕ) (q : Parts L) → slice_get ps u ≡ Some q → (u ≡ t → ⊥) → e.honest → (file : ℕ) → file < next → Owns log q file → get e.files file ≡ get d.files file
+  contents u q here ne honest file lt own = step.frame.others.contents honest file lt (λ mine. sound.apart u t q p here at ne file own mine)
+
+  -- a tenant is the one that was served, or another, which is where it was
+  either : (u : ℕ) (q : Parts L) → slice_get (slice_set ps t p') u ≡ Some q → ((u ≡ t) × (q ≡ p')) ⊎ ((u ≡ t → ⊥) × (slice_get ps u ≡ Some q))
+  either u q here = get_put ps t u p p' q at here
+
+  turn_each : (u : ℕ) (q : Parts L) → slice_get (slice_set ps t p') u ≡ Some q → IsSound log q e.table last
+  turn_each u q here = ⊎_elim
+      (λ s. subst (λ (v : Parts L). IsSound log v e.table last) (sym s.1) step.frame.sound)
+      (λ o. still_sound log law q d e next last (sound.each u q o.1) step.frame.others.later (lengths u q o.1 o.0) (contents u q o.1 o.0))
+      (either u q here)
+
+  new_file : (u : ℕ) (q : Parts L) → slice_get ps u ≡ Some q → (u ≡ t → ⊥) → (file : ℕ) → Owns log q file → Owns log p' file → ⊥
+  new_file u q here ne file own mine = ⊎_elim
+      (λ old. sound.apart u t q p here at ne file own old)
+      (λ le. omega (arith, le, given log law q d next file (sound.each u q here) own))
+      (step.frame.others.owned file mine)
+
+  turn_apart : (u v : ℕ) (q r : Parts L) → slice_get (slice_set ps t p') u ≡ Some q → slice_get (slice_set ps t p') v ≡ Some r → (u ≡ v → ⊥) → (file : ℕ) → Owns log q file → Owns log r file → ⊥
+  turn_apart u v q r a b ne file own theirs = ⊎_elim
+      (λ s. ⊎_elim
+      (λ w. ne (s.0 ∙ sym w.0))
+      (λ w. new_file v r w.1 w.0 file theirs (subst (λ (x : Parts L). Owns log x file) s.1 own))
+      (either v r b))
+      (λ s. ⊎_elim
+      (λ w. new_file u q s.1 s.0 file own (subst (λ (x : Parts L). Owns log x file) w.1 theirs))
+      (λ w. sound.apart u v q r s.1 w.1 ne file own theirs)
+      (either v r b))
+      (either u q a)
+
+  seen : e.honest → (u : ℕ) → (u ≡ t → ⊥) → (o : Option (Parts L)) → slice_get ps u ≡ o → option_map (λ (q : Parts L). world_of log q e.files) o ≡ option_map (λ (q : Parts L). world_of log q d.files) o
+  seen honest u ne None here = refl
+  seen honest u ne (Some q) here = ap Some (still_seen log law q d e next last (sound.each u q here) step.frame.others.later (lengths u q here ne) (contents u q here ne) honest)
+
+  -- a step of one tenant is a turn of all
+  pub turn : IsTurn log t ps (slice_set ps t p') d e next last
+  turn = record {
+    sound = record { each = turn_each; apart = turn_apart };
+    counts = λ u ne. ap (option_map (λ (q : Parts L). q.refusals)) (other_at ps t u p' ne);
+    worlds = λ honest u ne. ap (option_map (λ (q : Parts L). world_of log q e.files)) (other_at ps t u p' ne) ∙ seen honest u ne (slice_get ps u) refl;
+    agree = λ honest agree u q here. ⊎_elim
+        (λ s. subst (λ (v : Parts L). Agrees log v e.files) (sym s.1) (step.frame.agrees honest (agree t p at)))
+        (λ o. still_agrees log law q d e next last (sound.each u q o.1) step.frame.others.later (lengths u q o.1 o.0) (contents u q o.1 o.0) honest (agree u q o.1))
+        (either u q here);
+    honest = step.frame.others.honest;
+    failures = step.frame.failures;
+    many = length-set ps t p';
+    grows = λ u q r here now. ⊎_elim
+        (λ s. subst (λ n. n ≤ r.refusals) (ap (λ (v : Parts L). v.refusals) (same_item ps t u p q at here s.0)) (subst (λ (v : Parts L). p.refusals ≤ v.refusals) (sym s.1) step.grows))
+        (λ o. subst (λ (v : Parts L). q.refusals ≤ v.refusals) (one_item q r (sym here ∙ o.1)) (omega arith))
+        (either u r now);
+  }
+
+  -- what the step meets is what the turn meets
+  pub met : (P : World → World → Type 0) → Meets (parts.scene_on log p d next) (parts.scene_on log p' e last) (P (world_of log p d.files) (world_of log p' e.files)) → IsMet log t ps (slice_set ps t p') d e next last P
+  met P meets q r here now =
+      let old : p ≡ q = one_item p q (sym at ∙ here) in
+      let new : p' ≡ r = ⊎_elim (λ s. sym s.1) (λ o. absurd (o.0 refl)) (either t r now) in
+      subst (λ (v : Parts L). Meets (parts.scene_on log v d next) (parts.scene_on log r e last) (P (world_of log v d.files) (world_of log r e.files))) old
+      (subst (λ (v : Parts L). Meets (parts.scene_on log p d next) (parts.scene_on log v e last) (P (world_of log p d.files) (world_of log v e.files))) new meets)

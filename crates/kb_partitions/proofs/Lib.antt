@@ -2,6 +2,7 @@ pub mod Calls
 pub mod Changed
 pub mod Discarded
 pub mod Dropping
+pub mod Empty
 pub mod Made
 pub mod Placed
 pub mod Put

@@ -1,6 +1,7 @@
 pub mod CreateTopics
 pub mod DeleteTopics
 pub mod Fetch
+pub mod Hosted
 pub mod InitProducerId
 pub mod ListOffsets
 pub mod Metadata
@@ -9,3 +10,4 @@ pub mod Repeated
 pub mod Replies
 pub mod Serve
 pub mod Turns
+pub mod Waiting

@@ -11,12 +11,14 @@ mod list_offsets;
 mod metadata;
 mod node;
 mod produce;
+mod promises;
 mod repeated;
 mod request;
 
 pub use answer::Answer;
 pub use dispatch::{Served, look, serve};
 pub use node::Node;
+pub use promises::{before_deadline, requests_elsewhere, retention_elsewhere, worlds_stay_tied};
 pub use request::Request;
 
 #[cfg(test)]

@@ -127,6 +127,6 @@ retained_from w place (Some start) = moved_to w place start (step w.known (start
 abbrev pub retain : World → Place → World × Bool
 retain w place = retained_from w place (due w place)
 
--- the clock does not go back
+-- the clock is set
 abbrev pub at_clock : World → ℕ → World
-at_clock w now = record w { clock = max w.clock now }
+at_clock w now = record w { clock = now }

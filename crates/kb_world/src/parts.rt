@@ -56,12 +56,12 @@ impl<L: PartitionLog> Parts<L> {
         self.clock
     }
 
-    /// Moves the clock. It does not go back.
-    pub fn move_clock(&mut self, now: u64)
+    /// Sets the clock, in milliseconds.
+    pub fn set_clock(&mut self, now: u64)
         ensures world { (files : Files) → world_of L.log self.new files ≡ at_clock (world_of L.log self.old files) now }
-        ensures parts { self.new ≡ record self.old { clock = self.new.clock } }
+        ensures parts { self.new ≡ record self.old { clock = now } }
     {
-        self.clock = self.clock.max(now);
+        self.clock = now;
     }
 
     /// How many refusals of memory and of the store were counted. The count stays at its end.

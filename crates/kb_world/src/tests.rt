@@ -33,7 +33,7 @@ fn tenant_at(alloc: Global, clock: u64) -> Parts<ListLog>
     ensures { (table : Table) (next : ℕ) → IsSound list_log result table next }
 {
     let mut parts = Parts::new(alloc, String::new(alloc), String::new(alloc), 1_048_576);
-    parts.move_clock(clock);
+    parts.set_clock(clock);
     parts
 }
 
@@ -63,8 +63,9 @@ fn places(rt: HostRuntime) -> Result<(), Fail> {
 #[test]
 fn clock(rt: HostRuntime) -> Result<(), Fail> {
     let mut parts = tenant_at(rt.alloc(), 1006);
-    parts.move_clock(7);
     assert_eq!(rt; parts.clock(), 1006);
+    parts.set_clock(1007);
+    assert_eq!(rt; parts.clock(), 1007);
     parts.refuse();
     assert_eq!(rt; parts.refusals(), 1);
     Ok(())

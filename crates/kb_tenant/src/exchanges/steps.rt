@@ -192,7 +192,7 @@ impl Tenant {
         requires { (scene list_log (λ s. memory_disk s.files.entries) self.old.parts self.old.shelf).sound }
         ensures { (scene list_log (λ s. memory_disk s.files.entries) self.new.parts self.new.shelf).sound }
     {
-        self.parts.move_clock(now);
+        self.parts.set_clock(self.parts.clock().max(now));
     }
 
     /// Drops what a partition's settings keep no longer.

@@ -6,5 +6,5 @@ use Rattle.kb_world.proofs.tests.tenant_at.Goals as goal
 
 pub returns : goal.returns
 returns c = λ table next.
-    subst (λ p. IsSound list_log p table next) (sym c.move_clock.ensures.parts)
+    subst (λ p. IsSound list_log p table next) (sym c.set_clock.ensures.parts)
     (clocked list_log c.new-parts.result _ table next (c.new-parts.ensures.sound table next))

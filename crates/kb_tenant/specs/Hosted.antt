@@ -1,0 +1,69 @@
+-- A tenant among the others of a broker: what it keeps, and what a call for one of them leaves of all.
+use Rattle.std.specs.Prelude.{◌≡◌, ◌≤◌, ◌==◌, ◌&&◌, ℕ, List, [], ◌∷◌, map, get_or, Bool, true, if◌then◌else◌}
+use Rattle.std.specs.Str.{bytes_eq}
+use Rattle.kb_topics.specs.Known.{Known, empty}
+use Rattle.kb_partitions.specs.Logs.{Logs}
+use Rattle.kb_world.specs.World.{World}
+use Rattle.kb_world.specs.Steps.{IsCalm}
+
+-- what a tenant keeps from one request to the next: its topics with what is recorded of them, and their logs
+pub record Kept : Type 0 where
+  pub known : Known
+  pub logs : Logs
+
+-- nothing was made yet
+abbrev pub nothing : Kept
+nothing = record { known = empty; logs = [] }
+
+-- what a tenant sees at a time
+abbrev pub world_at : Kept → ℕ → World
+world_at kept clock = record { known = kept.known; logs = kept.logs; clock = clock }
+
+abbrev pub kept_in : World → Kept
+kept_in w = record { known = w.known; logs = w.logs }
+
+-- a tenant: its name, what it keeps, and how many refusals were counted for it
+pub record TenantState : Type 0 where
+  pub name : List ℕ
+  pub kept : Kept
+  pub refusals : ℕ
+
+-- one that keeps nothing, for which nothing was refused
+abbrev pub new_tenant : List ℕ → TenantState
+new_tenant name = record { name = name; kept = nothing; refusals = 0 }
+
+-- ---- of all tenants, by place
+
+abbrev pub kept_of : List TenantState → ℕ → Kept
+kept_of ts t = get_or (map (λ (x : TenantState). x.kept) ts) t nothing
+
+abbrev pub refusals_of : List TenantState → ℕ → ℕ
+refusals_of ts t = get_or (map (λ (x : TenantState). x.refusals) ts) t 0
+
+abbrev pub names_of : List TenantState → List (List ℕ)
+names_of ts = map (λ (x : TenantState). x.name) ts
+
+-- ---- a call for one of them
+
+-- names stay, and counts only rise; nothing is counted for another tenant; and on an honest store each of the others keeps what it kept
+pub record IsTurn (t : ℕ) (honest : Type 0) (old new : List TenantState) : Type 0 where
+  pub names : names_of new ≡ names_of old
+  pub grows : (u : ℕ) → refusals_of old u ≤ refusals_of new u
+  pub counts : (u : ℕ) → (u ≡ t → ⊥) → refusals_of new u ≡ refusals_of old u
+  pub others : honest → (u : ℕ) → (u ≡ t → ⊥) → kept_of new u ≡ kept_of old u
+
+-- what holds of the tenant's own part where nothing was refused to it, on an honest store
+abbrev pub IsMet : ℕ → Type 0 → List TenantState → List TenantState → (Kept → Kept → Type 0) → Type 0
+IsMet t honest old new P = honest → IsCalm (refusals_of old t) (refusals_of new t) → P (kept_of old t) (kept_of new t)
+
+-- ---- counts
+
+-- the count of the first tenant of that name, or 0
+abbrev pub count_named : List ℕ → List TenantState → ℕ
+count_named name [] = 0
+count_named name (x ∷ xs) = if bytes_eq x.name name then x.refusals else count_named name xs
+
+-- no refusal has been counted for a tenant
+abbrev pub all_calm : List TenantState → Bool
+all_calm [] = true
+all_calm (x ∷ xs) = x.refusals == 0 && all_calm xs

@@ -1,0 +1,38 @@
+//! Laws about the definitions, each as the contract of a function with an empty body.
+ghost use Rattle.std.specs.Prelude.{◌≡◌, ◌<◌, ℕ, ℤ, List, None};
+ghost use Rattle.std.specs.List.{Contains};
+ghost use Rattle.kb_api_data.specs.declared.fetch.FetchRequest.{FetchRequest};
+ghost use Rattle.kb_world.specs.World.{World, new_world};
+ghost use Rattle.kb_world.specs.Calls.{at_clock, retain};
+ghost use Rattle.kb_world.specs.declared.place.Place.{Place};
+ghost use Rattle.kb_tenant.specs.Fetch.{fetch_answer, places_of};
+ghost use Rattle.kb_tenant.specs.Serve.{served};
+ghost use Rattle.kb_tenant.specs.Waiting.{AreApart, IsTied, StillWaits};
+ghost use Rattle.kb_tenant.specs.declared.node.Node.{Node};
+
+/// The topics of a world are tied to its logs from the start on, whatever is asked, dropped by retention, or the time.
+pub fn worlds_stay_tied()
+    ensures begun { (clock : ℕ) → IsTied (at_clock new_world clock) }
+    ensures served { (node : Node) (w : World) (key : ℤ) (body : List ℕ) → IsTied w → IsTied (served node w key body).world }
+    ensures retained { (w : World) (place : Place) → IsTied w → IsTied (retain w place).0 }
+    ensures clocked { (w : World) (now : ℕ) → IsTied w → IsTied (at_clock w now) }
+{}
+
+/// A fetch that waits has no answer after a request that touches none of the places that it waits for, and waits for the
+/// same places.
+pub fn requests_elsewhere()
+    ensures { (node : Node) (w : World) (key : ℤ) (body : List ℕ) (r : FetchRequest) (deadline : ℕ) → IsTied w
+        → fetch_answer w r deadline ≡ None → AreApart (places_of w r) (served node w key body).touched
+        → StillWaits w (served node w key body).world r deadline }
+{}
+
+/// The same after retention at a place that it does not wait for.
+pub fn retention_elsewhere()
+    ensures { (w : World) (place : Place) (r : FetchRequest) (deadline : ℕ) → IsTied w
+        → fetch_answer w r deadline ≡ None → (Contains (places_of w r) place → ⊥) → StillWaits w (retain w place).0 r deadline }
+{}
+
+/// The same at each time before its deadline.
+pub fn before_deadline()
+    ensures { (w : World) (r : FetchRequest) (deadline now : ℕ) → fetch_answer w r deadline ≡ None → now < deadline → StillWaits w (at_clock w now) r deadline }
+{}

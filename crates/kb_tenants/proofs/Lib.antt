@@ -1,2 +1,4 @@
+pub mod Added
+pub mod Clocks
+pub mod Hosted
 pub mod Others
-pub mod Two

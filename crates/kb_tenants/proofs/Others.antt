@@ -15,7 +15,7 @@ use Rattle.kb_world.specs.World.{World}
 use Rattle.kb_world.specs.declared.parts.Parts.{Parts}
 use Rattle.kb_world.proofs.Spared as spared
 use Rattle.kb_tenants.specs.Tenants.{AreSound}
-use Rattle.kb_tenants.specs.Turns.{IsTurn, IsMet}
+use Rattle.kb_tenants.specs.Turns.{IsShelfTurn, IsShelfMet}
 
 -- ---- a tenant whose files were left as they were
 
@@ -63,6 +63,9 @@ other_at (x ∷ xs) zero zero y ne = absurd (ne refl)
 other_at (x ∷ xs) zero (suc u) y ne = refl
 other_at (x ∷ xs) (suc t) zero y ne = refl
 other_at (x ∷ xs) (suc t) (suc u) y ne = other_at xs t u y (λ e. ne (ap suc e))
+
+le_same : (n : ℕ) → n ≤ n
+le_same n = omega arith
 
 one_item : {A : Type 0} (x y : A) → Some x ≡ Some y → x ≡ y
 one_item x y e = cc
@@ -125,7 +128,7 @@ module _ {L : Type 0} (log : L → Log) (law : (l : L) → IsLawfulLog (log l)) 
   seen honest u ne (Some q) here = ap Some (still_seen log law q d e next last (sound.each u q here) step.frame.others.later (lengths u q here ne) (contents u q here ne) honest)
 
   -- a step of one tenant is a turn of all
-  pub turn : IsTurn log t ps (slice_set ps t p') d e next last
+  pub turn : IsShelfTurn log t ps (slice_set ps t p') d e next last
   turn = record {
     sound = record { each = turn_each; apart = turn_apart };
     counts = λ u ne. ap (option_map (λ (q : Parts L). q.refusals)) (other_at ps t u p' ne);
@@ -139,12 +142,12 @@ module _ {L : Type 0} (log : L → Log) (law : (l : L) → IsLawfulLog (log l)) 
     many = length-set ps t p';
     grows = λ u q r here now. ⊎_elim
         (λ s. subst (λ n. n ≤ r.refusals) (ap (λ (v : Parts L). v.refusals) (same_item ps t u p q at here s.0)) (subst (λ (v : Parts L). p.refusals ≤ v.refusals) (sym s.1) step.grows))
-        (λ o. subst (λ (v : Parts L). q.refusals ≤ v.refusals) (one_item q r (sym here ∙ o.1)) (omega arith))
+        (λ o. subst (λ (v : Parts L). q.refusals ≤ v.refusals) (one_item q r (sym here ∙ o.1)) (le_same q.refusals))
         (either u r now);
   }
 
   -- what the step meets is what the turn meets
-  pub met : (P : World → World → Type 0) → Meets (parts.scene_on log p d next) (parts.scene_on log p' e last) (P (world_of log p d.files) (world_of log p' e.files)) → IsMet log t ps (slice_set ps t p') d e next last P
+  pub met : (P : World → World → Type 0) → Meets (parts.scene_on log p d next) (parts.scene_on log p' e last) (P (world_of log p d.files) (world_of log p' e.files)) → IsShelfMet log t ps (slice_set ps t p') d e next last P
   met P meets q r here now =
       let old : p ≡ q = one_item p q (sym at ∙ here) in
       let new : p' ≡ r = ⊎_elim (λ s. sym s.1) (λ o. absurd (o.0 refl)) (either t r now) in

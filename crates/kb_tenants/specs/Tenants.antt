@@ -1,10 +1,12 @@
 -- All tenants of a broker on one shelf.
-use Rattle.std.specs.Prelude.{◌≡◌, ℕ, List, Option, Some, slice_get, option_map}
-use Rattle.kb_store.specs.Disk.{Table, Files}
+use Rattle.std.specs.Prelude.{◌≡◌, ℕ, List, Some, map, slice_get, string_bytes}
+use Rattle.kb_store.specs.Disk.{Disk, Table, Files}
 use Rattle.kb_log.specs.OnShelf.{Log}
 use Rattle.kb_world.specs.Parts.{IsSound, Agrees, Owns, world_of}
-use Rattle.kb_world.specs.World.{World}
 use Rattle.kb_world.specs.declared.parts.Parts.{Parts}
+use Rattle.kb_tenant.specs.Hosted.{TenantState, kept_in}
+use Rattle.kb_tenants.specs.declared.tenants.Tenant.{Tenant}
+use Rattle.kb_tenants.specs.declared.tenants.Tenants.{Tenants}
 
 -- Each tenant's parts are sound, and no file is of two tenants.
 pub record AreSound {L : Type 0} (log : L → Log) (ps : List (Parts L)) (table : Table) (next : ℕ) : Type 0 where
@@ -15,10 +17,23 @@ pub record AreSound {L : Type 0} (log : L → Log) (ps : List (Parts L)) (table 
 abbrev pub Agree : {L : Type 0} → (L → Log) → List (Parts L) → Files → Type 0
 Agree {L} log ps files = (t : ℕ) (p : Parts L) → slice_get ps t ≡ Some p → Agrees log p files
 
--- what a tenant sees
-abbrev pub world_at : {L : Type 0} → (L → Log) → List (Parts L) → Files → ℕ → Option World
-world_at {L} log ps files t = option_map (λ (p : Parts L). world_of log p files) (slice_get ps t)
+-- the parts of the tenants
+abbrev pub parts_of : {L : Type 0} → List (Tenant L) → List (Parts L)
+parts_of {L} ts = map (λ (x : Tenant L). x.parts) ts
 
--- how many refusals were counted for a tenant
-abbrev pub refusals_at : {L : Type 0} → List (Parts L) → ℕ → Option ℕ
-refusals_at {L} ps t = option_map (λ (p : Parts L). p.refusals) (slice_get ps t)
+-- a tenant, where the files are those: its name, what it keeps, and how many refusals were counted for it
+abbrev pub state_of : {L : Type 0} → (L → Log) → Files → Tenant L → TenantState
+state_of log files x = record { name = string_bytes x.name; kept = kept_in (world_of log x.parts files); refusals = x.parts.refusals }
+
+-- whether the store has told the truth so far
+abbrev pub is_honest : {L S : Type 0} → (S → Disk) → Tenants L S → Type 0
+is_honest disk ts = (disk ts.shelf.store).honest
+
+-- the tenants, by place
+abbrev pub hosted : {L S : Type 0} → (L → Log) → (S → Disk) → Tenants L S → List TenantState
+hosted log disk ts = map (state_of log (disk ts.shelf.store).files) ts.tenants.items
+
+-- What holds between the calls: the parts are sound on the shelf, and on an honest store they agree with their files.
+pub record AreKept {L S : Type 0} (log : L → Log) (disk : S → Disk) (ts : Tenants L S) : Type 0 where
+  pub sound : AreSound log (parts_of ts.tenants.items) (disk ts.shelf.store).table ts.shelf.next
+  pub agree : is_honest disk ts → Agree log (parts_of ts.tenants.items) (disk ts.shelf.store).files

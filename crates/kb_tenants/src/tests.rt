@@ -1,15 +1,16 @@
-//! Two tenants, whose requests alternate.
-ghost use Rattle.std.specs.Prelude.{◌≡◌, IfOk, length};
+//! Two tenants on one shelf.
+ghost use Rattle.std.specs.Prelude.{◌≡◌, [], ◌∷◌, IfOk};
 ghost use Rattle.kb_store.specs.Memory.{memory_disk};
 ghost use Rattle.kb_log.specs.ListLog.{list_log};
-ghost use Rattle.kb_tenants.specs.Tenants.{AreSound};
+ghost use Rattle.kb_tenant.specs.Hosted.{new_tenant};
+ghost use Rattle.kb_tenants.specs.Tenants.{AreKept, hosted};
 
 use crate::Tenants;
 use kb_log::{ListLog, Shelf};
-use kb_store::MemoryStore;
+use kb_store::{MemoryStore, Store};
 use kb_tenant::{Answer, Node, Request};
 use kb_wire::Text;
-use kb_world::Parts;
+use kb_world::Place;
 use std::alloc::{AllocError, Global};
 use std::test::Fail;
 
@@ -34,18 +35,16 @@ const FIRST_ID: &[u8] =
 const SECOND_ID: &[u8] =
     b"\x00\x00\x00\x14\x00\x00\x00\x09\x00\x00\x00\x00\x00\x00\x00\x00\x00\x00\x00\x00\x00\x01\x00\x00";
 
-/// Two tenants without topics.
+/// The tenants `a` and `b`, without topics.
 fn two(alloc: Global) -> Result<Tenants<ListLog, MemoryStore>, Fail>
-    ensures sound { IfOk result (λ two. AreSound list_log two.parts.items (memory_disk two.shelf.store.files.entries).table two.shelf.next) }
-    ensures many { IfOk result (λ two. length two.parts.items ≡ 2) }
+    ensures kept { IfOk result (λ two. AreKept list_log (λ s. memory_disk s.files.entries) two) }
+    ensures hosted { IfOk result (λ two. hosted list_log (λ s. memory_disk s.files.entries) two ≡ new_tenant (97 ∷ []) ∷ new_tenant (98 ∷ []) ∷ []) }
 {
-    let mut parts = Vec::new(alloc);
-    parts.push(Parts::new(alloc, String::new(alloc), String::new(alloc), 1_048_576))?;
-    parts.push(Parts::new(alloc, String::new(alloc), String::new(alloc), 1_048_576))?;
-    match Shelf::new(alloc, MemoryStore::new(alloc), 1) {
-        Ok(shelf) => Ok(Tenants::new(parts, shelf)),
-        Err(_) => Err(AllocError)?,
-    }
+    let shelf = Shelf::new(alloc, MemoryStore::new(alloc), 1).map_err(|_| AllocError)?;
+    let mut tenants = Tenants::new(alloc, shelf);
+    tenants.add(alloc, "a", 1_048_576)?;
+    tenants.add(alloc, "b", 1_048_576)?;
+    Ok(tenants)
 }
 
 /// Whether an answer is that reply.
@@ -78,9 +77,38 @@ fn each_tenant_has_its_own(rt: HostRuntime) -> Result<(), Fail> {
             body,
         };
         assert!(rt; tenant < tenants.len());
-        let served = tenants.serve(rt.alloc(), tenant, &node, &request);
+        let served = tenants.serve(rt.alloc(), tenant, 1000, &node, &request);
         assert!(rt; is_reply(&served.answer, reply));
-        assert_eq!(rt; tenants.refusals(tenant), 0);
+        assert!(rt; tenants.is_calm());
     }
+    Ok(())
+}
+
+#[test]
+fn refusals_are_counted_by_tenant(rt: HostRuntime) -> Result<(), Fail> {
+    let mut tenants = two(rt.alloc())?;
+    assert_eq!(rt; tenants.len(), 2);
+    assert!(rt; tenants.is_calm());
+    tenants.refuse(1);
+    assert!(rt; !tenants.is_calm());
+    assert_eq!(rt; tenants.refusals_named(b"a"), 0);
+    assert_eq!(rt; tenants.refusals_named(b"b"), 1);
+    assert_eq!(rt; tenants.refusals_named(b"c"), 0);
+    Ok(())
+}
+
+#[test]
+fn nothing_is_there_yet(rt: HostRuntime) -> Result<(), Fail> {
+    let mut tenants = two(rt.alloc())?;
+    let place = Place {
+        instance: 0,
+        number: 0,
+    };
+    assert!(rt; !tenants.retain(0, 1000, place));
+    let answer = tenants.look(rt.alloc(), 1, 1000, 9, b"", 2000);
+    assert!(rt; matches!(answer, Answer::Shut));
+    let mut store = tenants.into_shelf().into_store();
+    let files = store.list(rt.alloc()).map_err(|_| AllocError)?;
+    assert!(rt; files.is_empty());
     Ok(())
 }

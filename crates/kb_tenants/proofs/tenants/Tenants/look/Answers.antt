@@ -1,34 +1,35 @@
-use Rattle.std.proofs.Common.{◌≡◌, subst, to_z, of_z}
+use Rattle.std.proofs.Common.{◌≡◌, ap, subst, to_z, of_z}
 use Rattle.std.proofs.lemmas.Int.{to_z-of_z}
 use Rattle.std.specs.Int.{w32}
-use Rattle.std.specs.Prelude.{slice_set}
+use Rattle.kb_world.specs.Parts.{world_of}
+use Rattle.kb_tenant.specs.Hosted.{kept_in, world_at}
 use Rattle.kb_tenant.specs.Replies.{IsAnswer}
 use Rattle.kb_tenant.specs.Serve.{looked}
-use Rattle.kb_tenants.specs.Turns.{IsMet}
-use Rattle.kb_tenants.proofs.Others.{found, met, turn}
+use Rattle.kb_tenants.proofs.Hosted.{sound_at, kept_at, turn_at, met_at}
 use Rattle.kb_tenants.proofs.tenants.Tenants.look.Goals as goal
 
 pub look-requires : goal.look-requires
-look-requires g c = c.requires.sound.each c.args.tenant c.index_mut-parts.result.now (found c.args.self.now.parts.items c.args.tenant c.index_mut-parts.result.now c.requires.tenant c.index_mut-parts.ensures.value)
+look-requires g c =
+    sound_at g.L.PartitionLog.log g.S.Store.disk g.met.L.PartitionLog.lawful c.args.self.now c.args.tenant c.index_mut.result.now c.set_clock.new.self c.args.clock
+    c.requires.tenant c.index_mut.ensures.value c.requires.kept c.set_clock.ensures.parts
+
+pub returns-clause-kept : goal.returns-clause-kept
+returns-clause-kept g c =
+    kept_at g.L.PartitionLog.log g.S.Store.disk g.met.L.PartitionLog.lawful c.args.self.now c.args.tenant c.index_mut.result.now c.set_clock.new.self c.args.clock
+    c.requires.tenant c.index_mut.ensures.value c.requires.kept c.set_clock.ensures.parts c.look.new.parts c.look.new.shelf c.look.ensures.step
 
 pub returns-clause-turn : goal.returns-clause-turn
 returns-clause-turn g c =
-    turn g.L.PartitionLog.log g.met.L.PartitionLog.lawful c.args.self.now.parts.items c.args.tenant c.index_mut-parts.result.now c.look.new.parts
-    (g.S.Store.disk c.args.self.now.shelf.store) (g.S.Store.disk c.look.new.shelf.store) c.args.self.now.shelf.next c.look.new.shelf.next
-    (found c.args.self.now.parts.items c.args.tenant c.index_mut-parts.result.now c.requires.tenant c.index_mut-parts.ensures.value) c.requires.sound c.look.ensures.step
+    turn_at g.L.PartitionLog.log g.S.Store.disk g.met.L.PartitionLog.lawful c.args.self.now c.args.tenant c.index_mut.result.now c.set_clock.new.self c.args.clock
+    c.requires.tenant c.index_mut.ensures.value c.requires.kept c.set_clock.ensures.parts c.look.new.parts c.look.new.shelf c.look.ensures.step
 
 pub returns-clause-meets : goal.returns-clause-meets
 returns-clause-meets g c =
-    let log = g.L.PartitionLog.log in
-    let ps = c.args.self.now.parts.items in
-    let t = c.args.tenant in
-    let d = g.S.Store.disk c.args.self.now.shelf.store in
-    let e = g.S.Store.disk c.look.new.shelf.store in
-    let next = c.args.self.now.shelf.next in
-    let last = c.look.new.shelf.next in
     let id = to_z w32 (of_z w32 c.args.correlation_id) in
-    subst (λ z. IsMet log t ps (slice_set ps t c.look.new.parts) d e next last (λ w v. (v ≡ w) × IsAnswer z (looked w c.args.deadline c.args.body.now) c.look.result))
-    (to_z-of_z w32 c.args.correlation_id c.ranges.correlation_id)
-    (met log g.met.L.PartitionLog.lawful ps t c.index_mut-parts.result.now c.look.new.parts d e next last
-    (found ps t c.index_mut-parts.result.now c.requires.tenant c.index_mut-parts.ensures.value) c.requires.sound c.look.ensures.step
-    (λ w v. (v ≡ w) × IsAnswer id (looked w c.args.deadline c.args.body.now) c.look.result) c.look.ensures.meets)
+    let k = kept_in (world_of g.L.PartitionLog.log c.index_mut.result.now.parts (g.S.Store.disk c.args.self.now.shelf.store).files) in
+    met_at g.L.PartitionLog.log g.S.Store.disk g.met.L.PartitionLog.lawful c.args.self.now c.args.tenant c.index_mut.result.now c.set_clock.new.self c.args.clock
+    c.requires.tenant c.index_mut.ensures.value c.requires.kept c.set_clock.ensures.parts c.look.new.parts c.look.new.shelf c.look.ensures.step
+    (λ v u. (u ≡ v) × IsAnswer id (looked v c.args.deadline c.args.body.now) c.look.result)
+    (λ v u. (u ≡ v) × IsAnswer c.args.correlation_id (looked (world_at v c.args.clock) c.args.deadline c.args.body.now) c.look.result)
+    (λ done. (ap kept_in done.0, subst (λ z. IsAnswer z (looked (world_at k c.args.clock) c.args.deadline c.args.body.now) c.look.result) (to_z-of_z w32 c.args.correlation_id c.ranges.correlation_id) done.1))
+    c.look.ensures.meets

@@ -1,19 +1,38 @@
+use Rattle.std.proofs.Common.{ap, subst, ◌∙◌}
+use Rattle.kb_world.specs.Parts.{world_of}
+use Rattle.kb_tenant.specs.Hosted.{kept_in, world_at}
 use Rattle.kb_tenant.specs.Serve.{served, IsOutcome}
-use Rattle.kb_tenants.proofs.Others.{found, met, turn}
+use Rattle.kb_tenants.proofs.Clocks.{served_clock}
+use Rattle.kb_tenants.proofs.Hosted.{sound_at, kept_at, turn_at, met_at}
 use Rattle.kb_tenants.proofs.tenants.Tenants.serve.Goals as goal
 
 pub serve-requires-clause-sound : goal.serve-requires-clause-sound
-serve-requires-clause-sound g c = c.requires.sound.each c.args.tenant c.index_mut-parts.result.now (found c.args.self.now.parts.items c.args.tenant c.index_mut-parts.result.now c.requires.tenant c.index_mut-parts.ensures.value)
+serve-requires-clause-sound g c =
+    sound_at g.L.PartitionLog.log g.S.Store.disk g.met.L.PartitionLog.lawful c.args.self.now c.args.tenant c.index_mut.result.now c.set_clock.new.self c.args.clock
+    c.requires.tenant c.index_mut.ensures.value c.requires.kept c.set_clock.ensures.parts
+
+pub returns-clause-kept : goal.returns-clause-kept
+returns-clause-kept g c =
+    kept_at g.L.PartitionLog.log g.S.Store.disk g.met.L.PartitionLog.lawful c.args.self.now c.args.tenant c.index_mut.result.now c.set_clock.new.self c.args.clock
+    c.requires.tenant c.index_mut.ensures.value c.requires.kept c.set_clock.ensures.parts c.serve.new.parts c.serve.new.shelf c.serve.ensures.step
 
 pub returns-clause-turn : goal.returns-clause-turn
 returns-clause-turn g c =
-    turn g.L.PartitionLog.log g.met.L.PartitionLog.lawful c.args.self.now.parts.items c.args.tenant c.index_mut-parts.result.now c.serve.new.parts
-    (g.S.Store.disk c.args.self.now.shelf.store) (g.S.Store.disk c.serve.new.shelf.store) c.args.self.now.shelf.next c.serve.new.shelf.next
-    (found c.args.self.now.parts.items c.args.tenant c.index_mut-parts.result.now c.requires.tenant c.index_mut-parts.ensures.value) c.requires.sound c.serve.ensures.step
+    turn_at g.L.PartitionLog.log g.S.Store.disk g.met.L.PartitionLog.lawful c.args.self.now c.args.tenant c.index_mut.result.now c.set_clock.new.self c.args.clock
+    c.requires.tenant c.index_mut.ensures.value c.requires.kept c.set_clock.ensures.parts c.serve.new.parts c.serve.new.shelf c.serve.ensures.step
 
 pub returns-clause-meets : goal.returns-clause-meets
 returns-clause-meets g c =
-    met g.L.PartitionLog.log g.met.L.PartitionLog.lawful c.args.self.now.parts.items c.args.tenant c.index_mut-parts.result.now c.serve.new.parts
-    (g.S.Store.disk c.args.self.now.shelf.store) (g.S.Store.disk c.serve.new.shelf.store) c.args.self.now.shelf.next c.serve.new.shelf.next
-    (found c.args.self.now.parts.items c.args.tenant c.index_mut-parts.result.now c.requires.tenant c.index_mut-parts.ensures.value) c.requires.sound c.serve.ensures.step
-    (λ w v. IsOutcome c.args.request.now.correlation_id (served c.args.node.now w c.args.request.now.api_key c.args.request.now.body.now) v c.serve.result.touched.items c.serve.result.answer) c.serve.ensures.meets
+    let log = g.L.PartitionLog.log in
+    let r = c.args.request.now in
+    let node = c.args.node.now in
+    let k = kept_in (world_of log c.index_mut.result.now.parts (g.S.Store.disk c.args.self.now.shelf.store).files) in
+    let w = world_of log c.serve.new.parts (g.S.Store.disk c.serve.new.shelf.store).files in
+    let o = served node (world_at k c.args.clock) r.api_key r.body.now in
+    met_at log g.S.Store.disk g.met.L.PartitionLog.lawful c.args.self.now c.args.tenant c.index_mut.result.now c.set_clock.new.self c.args.clock
+    c.requires.tenant c.index_mut.ensures.value c.requires.kept c.set_clock.ensures.parts c.serve.new.parts c.serve.new.shelf c.serve.ensures.step
+    (λ v u. IsOutcome r.correlation_id (served node v r.api_key r.body.now) u c.serve.result.touched.items c.serve.result.answer)
+    (λ v u. IsOutcome r.correlation_id (served node (world_at v c.args.clock) r.api_key r.body.now) (world_at u c.args.clock) c.serve.result.touched.items c.serve.result.answer)
+    (λ done. subst (λ n. IsOutcome r.correlation_id o (world_at (kept_in w) n) c.serve.result.touched.items c.serve.result.answer)
+    (ap (λ v. v.clock) done.0 ∙ served_clock node (world_at k c.args.clock) r.api_key r.body.now) done)
+    c.serve.ensures.meets

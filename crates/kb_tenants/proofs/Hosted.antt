@@ -1,0 +1,262 @@
+-- What a call for one tenant is to those who see each tenant's name, what it keeps and its count.
+use Rattle.std.proofs.Common.{◌≡◌, ◌∙◌, ◌≤◌, ◌<◌, ℕ, zero, suc, Bool, true, false, eqb, List, [], ◌∷◌, Some, length, get_or, sym, ap, refl, subst, arith}
+use Rattle.std.specs.Prelude.{map, slice_get, slice_set, option_map, unwrap_or, string_bytes, ◌&&◌}
+use Rattle.std.specs.Bool.{MatchBool}
+use Rattle.std.specs.List.{AllWithin, HoldsAt, list_all}
+use Rattle.std.specs.Vec.{with_item}
+use Rattle.std.proofs.lemmas.List.Folds.{list_all_at}
+use Rattle.std.proofs.lemmas.List.Sums.{list_all-from_AllPass}
+use Rattle.std.proofs.lemmas.List.{map-set, length-map, get_or-set_other}
+use Rattle.std.proofs.lemmas.Option.{slice_get-map, get_or_from_slice_get}
+use Rattle.std.proofs.Math.Seq.{map-set_same}
+use Rattle.kb_store.specs.Disk.{Disk, Files}
+use Rattle.kb_log.specs.OnShelf.{Log, IsLawfulLog}
+use Rattle.kb_log.specs.Shelf.{Shelved}
+use Rattle.kb_world.specs.Parts.{Agrees, IsSound, scene, world_of, entries, refused}
+use Rattle.kb_world.specs.Steps.{IsStep, IsCalm, Meets, step_same, step_then}
+use Rattle.kb_world.specs.World.{World}
+use Rattle.kb_world.specs.declared.parts.Parts.{Parts}
+use Rattle.kb_world.proofs.Lifted.{clocked, recast, loud, refused_step}
+use Rattle.kb_tenant.specs.Hosted.{TenantState, Kept, IsTurn, IsMet, nothing, kept_in, kept_of, refusals_of, names_of, world_at, all_calm}
+use Rattle.kb_tenants.specs.Tenants.{AreKept, hosted, parts_of, state_of}
+use Rattle.kb_tenants.specs.Turns.{IsShelfTurn, seen_at}
+use Rattle.kb_tenants.specs.declared.tenants.Tenant.{Tenant}
+use Rattle.kb_tenants.specs.declared.tenants.Tenants.{Tenants}
+use Rattle.kb_tenants.proofs.Others.{found, turn}
+
+-- ---- lists
+
+-- a tenant's place is among the tenants that are seen
+within : {A B : Type 0} (f : A → B) (xs : List A) (t : ℕ) → t < length (map f xs) → t < length xs
+within f xs t lt = subst (λ n. t < n) (length-map xs f) lt
+
+-- a greater count at a place, and no count is less
+rises : (ns : List ℕ) (t u n : ℕ) → get_or ns t 0 ≤ n → get_or ns u 0 ≤ get_or (slice_set ns t n) u 0
+rises [] t u n le = omega arith
+rises (m ∷ ns) zero zero n le = le
+rises (m ∷ ns) zero (suc u) n le = omega arith
+rises (m ∷ ns) (suc t) zero n le = omega arith
+rises (m ∷ ns) (suc t) (suc u) n le = rises ns t u n le
+
+-- ---- what is seen of the tenants
+
+names_in : {L : Type 0} → List (Tenant L) → List (List ℕ)
+names_in {L} ts = map (λ (x : Tenant L). string_bytes x.name) ts
+
+counts_in : {L : Type 0} → List (Tenant L) → List ℕ
+counts_in {L} ts = map (λ (x : Tenant L). x.parts.refusals) ts
+
+kepts_in : {L : Type 0} → (L → Log) → Files → List (Tenant L) → List Kept
+kepts_in {L} log files ts = map (λ (x : Tenant L). kept_in (world_of log x.parts files)) ts
+
+module _ {L : Type 0} (log : L → Log) (files : Files) where
+  names_seen : (ts : List (Tenant L)) → names_of (map (state_of log files) ts) ≡ names_in ts
+  unfolding names_in
+  names_seen [] = refl
+  names_seen (x ∷ ts) = ap (λ ns. string_bytes x.name ∷ ns) (names_seen ts)
+
+  counts_seen : (ts : List (Tenant L)) → map (λ (x : TenantState). x.refusals) (map (state_of log files) ts) ≡ counts_in ts
+  unfolding counts_in
+  counts_seen [] = refl
+  counts_seen (x ∷ ts) = ap (λ ns. x.parts.refusals ∷ ns) (counts_seen ts)
+
+  refusals_seen : (ts : List (Tenant L)) (u : ℕ) → refusals_of (map (state_of log files) ts) u ≡ get_or (counts_in ts) u 0
+  refusals_seen ts u = ap (λ ns. get_or ns u 0) (counts_seen ts)
+
+  kepts_seen : (ts : List (Tenant L)) → map (λ (x : TenantState). x.kept) (map (state_of log files) ts) ≡ kepts_in log files ts
+  unfolding kepts_in
+  kepts_seen [] = refl
+  kepts_seen (x ∷ ts) = ap (λ ks. kept_in (world_of log x.parts files) ∷ ks) (kepts_seen ts)
+
+  kept_seen : (ts : List (Tenant L)) (u : ℕ) → kept_of (map (state_of log files) ts) u ≡ unwrap_or (option_map kept_in (seen_at log (parts_of ts) files u)) nothing
+  kept_seen [] u = refl
+  kept_seen (x ∷ ts) zero = refl
+  kept_seen (x ∷ ts) (suc u) = kept_seen ts u
+
+  kept_here : (ts : List (Tenant L)) (t : ℕ) (x : Tenant L) → slice_get ts t ≡ Some x → kept_of (map (state_of log files) ts) t ≡ kept_in (world_of log x.parts files)
+  kept_here [] t x at = absurd cc
+  kept_here (y ∷ ts) zero x at = let same : y ≡ x = cc in ap (λ (z : Tenant L). kept_in (world_of log z.parts files)) same
+  kept_here (y ∷ ts) (suc t) x at = kept_here ts t x at
+
+  refusals_here : (ts : List (Tenant L)) (t : ℕ) (x : Tenant L) → slice_get ts t ≡ Some x → refusals_of (map (state_of log files) ts) t ≡ x.parts.refusals
+  refusals_here [] t x at = absurd cc
+  refusals_here (y ∷ ts) zero x at = let same : y ≡ x = cc in ap (λ (z : Tenant L). z.parts.refusals) same
+  refusals_here (y ∷ ts) (suc t) x at = refusals_here ts t x at
+
+put_here : {A : Type 0} (xs : List A) (t : ℕ) (x y : A) → slice_get xs t ≡ Some x → slice_get (slice_set xs t y) t ≡ Some y
+put_here [] t x y at = absurd cc
+put_here (z ∷ xs) zero x y at = refl
+put_here (z ∷ xs) (suc t) x y at = put_here xs t x y at
+
+-- ---- a step of one tenant
+
+-- the tenants after a call that left the tenant at a place these parts, and this shelf
+abbrev pub after : {L S : Type 0} → Tenants L S → ℕ → Tenant L → Parts L → Shelved S → Tenants L S
+after ts t x p shelf = record { tenants = with_item ts.tenants t (record x { parts = p }); shelf = shelf }
+
+module _ {L S : Type 0} (log : L → Log) (disk : S → Disk) (law : (l : L) → IsLawfulLog (log l)) (old : Tenants L S) (t : ℕ) (x : Tenant L) (p : Parts L) (shelf : Shelved S)
+    (lt : t < length (hosted log disk old)) (read : x ≡ get_or old.tenants.items t x)
+    (kept : AreKept log disk old) (step : IsStep (scene log disk x.parts old.shelf) (scene log disk p shelf)) where
+  there : slice_get old.tenants.items t ≡ Some x
+  there = found old.tenants.items t x (within (state_of log (disk old.shelf.store).files) old.tenants.items t lt) read
+
+  parts_there : slice_get (parts_of old.tenants.items) t ≡ Some x.parts
+  parts_there = slice_get-map (λ (z : Tenant L). z.parts) old.tenants.items t ∙ ap (option_map (λ (z : Tenant L). z.parts)) there
+
+  there_after : slice_get (after old t x p shelf).tenants.items t ≡ Some (record x { parts = p })
+  there_after = put_here old.tenants.items t x (record x { parts = p }) there
+
+  shelf_turn : IsShelfTurn log t (parts_of old.tenants.items) (parts_of (after old t x p shelf).tenants.items) (disk old.shelf.store) (disk shelf.store) old.shelf.next shelf.next
+  shelf_turn =
+      subst (λ qs. IsShelfTurn log t (parts_of old.tenants.items) qs (disk old.shelf.store) (disk shelf.store) old.shelf.next shelf.next)
+      (sym (map-set (λ (z : Tenant L). z.parts) old.tenants.items t (record x { parts = p })))
+      (turn log law (parts_of old.tenants.items) t x.parts p (disk old.shelf.store) (disk shelf.store) old.shelf.next shelf.next parts_there kept.sound step)
+
+  pub kept_after : AreKept log disk (after old t x p shelf)
+  kept_after = record { sound = shelf_turn.sound; agree = λ honest. shelf_turn.agree honest (kept.agree (shelf_turn.honest honest)) }
+
+  counts_after : counts_in (after old t x p shelf).tenants.items ≡ slice_set (counts_in old.tenants.items) t p.refusals
+  unfolding counts_in
+  counts_after = map-set (λ (z : Tenant L). z.parts.refusals) old.tenants.items t (record x { parts = p })
+
+  count_after : (u : ℕ) → refusals_of (hosted log disk (after old t x p shelf)) u ≡ get_or (slice_set (counts_in old.tenants.items) t p.refusals) u 0
+  count_after u = refusals_seen log (disk shelf.store).files (after old t x p shelf).tenants.items u ∙ ap (λ ns. get_or ns u 0) counts_after
+
+  -- the count of another tenant is as it was
+  counts_stay : (u : ℕ) → (u ≡ t → ⊥) → refusals_of (hosted log disk (after old t x p shelf)) u ≡ refusals_of (hosted log disk old) u
+  counts_stay u ne =
+      count_after u ∙ get_or-set_other (counts_in old.tenants.items) t u p.refusals 0 ne ∙ sym (refusals_seen log (disk old.shelf.store).files old.tenants.items u)
+
+  -- no count is less
+  counts_rise : (u : ℕ) → refusals_of (hosted log disk old) u ≤ refusals_of (hosted log disk (after old t x p shelf)) u
+  counts_rise u =
+      let was = refusals_seen log (disk old.shelf.store).files old.tenants.items in
+      let here : get_or (counts_in old.tenants.items) t 0 ≡ x.parts.refusals = sym (was t) ∙ refusals_here log (disk old.shelf.store).files old.tenants.items t x there in
+      let more = rises (counts_in old.tenants.items) t u p.refusals (omega (arith, here, step.grows)) in
+      omega (arith, more, was u, count_after u)
+
+  names_stay : names_in (after old t x p shelf).tenants.items ≡ names_in old.tenants.items
+  unfolding names_in
+  names_stay = map-set_same (λ (z : Tenant L). string_bytes z.name) old.tenants.items t (record x { parts = p }) x
+      (ap (λ (z : Tenant L). string_bytes z.name) (sym (get_or_from_slice_get old.tenants.items t x x there)))
+
+  -- the step is a turn of what is seen
+  pub turn_after : IsTurn t (disk shelf.store).honest (hosted log disk old) (hosted log disk (after old t x p shelf))
+  turn_after = record {
+    names = names_seen log (disk shelf.store).files (after old t x p shelf).tenants.items ∙ names_stay ∙ sym (names_seen log (disk old.shelf.store).files old.tenants.items);
+    grows = counts_rise;
+    counts = counts_stay;
+    others = λ honest u ne.
+        kept_seen log (disk shelf.store).files (after old t x p shelf).tenants.items u
+        ∙ ap (λ o. unwrap_or (option_map kept_in o) nothing) (shelf_turn.worlds honest u ne)
+        ∙ sym (kept_seen log (disk old.shelf.store).files old.tenants.items u);
+  }
+
+  -- a calm that is seen is one of the tenant's parts
+  pub calm_here : IsCalm (refusals_of (hosted log disk old) t) (refusals_of (hosted log disk (after old t x p shelf)) t) → IsCalm x.parts.refusals p.refusals
+  calm_here calm =
+      subst (λ n. IsCalm x.parts.refusals n) (refusals_here log (disk shelf.store).files (after old t x p shelf).tenants.items t (record x { parts = p }) there_after)
+      (subst (λ n. IsCalm n (refusals_of (hosted log disk (after old t x p shelf)) t)) (refusals_here log (disk old.shelf.store).files old.tenants.items t x there) calm)
+
+  -- what the step meets is what is seen
+  pub met_after : (P : Kept → Kept → Type 0)
+      → Meets (scene log disk x.parts old.shelf) (scene log disk p shelf) (P (kept_in (world_of log x.parts (disk old.shelf.store).files)) (kept_in (world_of log p (disk shelf.store).files)))
+      → IsMet t (disk shelf.store).honest (hosted log disk old) (hosted log disk (after old t x p shelf)) P
+  met_after P meets honest calm =
+      subst (λ k. P k (kept_of (hosted log disk (after old t x p shelf)) t)) (sym (kept_here log (disk old.shelf.store).files old.tenants.items t x there))
+      (subst (λ k. P (kept_in (world_of log x.parts (disk old.shelf.store).files)) k) (sym (kept_here log (disk shelf.store).files (after old t x p shelf).tenants.items t (record x { parts = p }) there_after))
+      (meets honest (kept.agree (shelf_turn.honest honest) t x.parts parts_there) (calm_here calm)))
+
+-- ---- a refusal is counted
+
+module _ {L S : Type 0} (log : L → Log) (disk : S → Disk) (law : (l : L) → IsLawfulLog (log l)) (old : Tenants L S) (t : ℕ) (x : Tenant L) (p : Parts L)
+    (lt : t < length (hosted log disk old)) (read : x ≡ get_or old.tenants.items t x) (kept : AreKept log disk old) (counted : p ≡ refused x.parts) where
+  refused_at : IsStep (scene log disk x.parts old.shelf) (scene log disk p old.shelf)
+  refused_at =
+      let a = scene log disk x.parts old.shelf in
+      let here = found old.tenants.items t x (within (state_of log (disk old.shelf.store).files) old.tenants.items t lt) read in
+      let sound = kept.sound.each t x.parts (slice_get-map (λ (z : Tenant L). z.parts) old.tenants.items t ∙ ap (option_map (λ (z : Tenant L). z.parts)) here) in
+      subst (λ (v : Parts L). IsStep a (scene log disk v old.shelf)) (sym counted) (refused_step log a x.parts (disk old.shelf.store) old.shelf.next (step_same a sound))
+
+  pub kept_refused : AreKept log disk (after old t x p old.shelf)
+  kept_refused = kept_after log disk law old t x p old.shelf lt read kept refused_at
+
+  kepts_stay : kepts_in log (disk old.shelf.store).files (after old t x p old.shelf).tenants.items ≡ kepts_in log (disk old.shelf.store).files old.tenants.items
+  unfolding kepts_in
+  kepts_stay =
+      let files = (disk old.shelf.store).files in
+      let here = found old.tenants.items t x (within (state_of log files) old.tenants.items t lt) read in
+      map-set_same (λ (z : Tenant L). kept_in (world_of log z.parts files)) old.tenants.items t (record x { parts = p }) x
+      (ap (λ (v : Parts L). kept_in (world_of log v files)) counted ∙ ap (λ (z : Tenant L). kept_in (world_of log z.parts files)) (sym (get_or_from_slice_get old.tenants.items t x x here)))
+
+  pub kept_stays : (u : ℕ) → kept_of (hosted log disk (after old t x p old.shelf)) u ≡ kept_of (hosted log disk old) u
+  kept_stays u =
+      let files = (disk old.shelf.store).files in
+      ap (λ ks. get_or ks u nothing) (kepts_seen log files (after old t x p old.shelf).tenants.items ∙ kepts_stay ∙ sym (kepts_seen log files old.tenants.items))
+
+  -- what is kept needs no honest store here
+  pub turn_refused : IsTurn t (Unit {0}) (hosted log disk old) (hosted log disk (after old t x p old.shelf))
+  turn_refused =
+      let told = turn_after log disk law old t x p old.shelf lt read kept refused_at in
+      record { names = told.names; grows = told.grows; counts = told.counts; others = λ honest u ne. kept_stays u }
+
+  pub loud_refused : IsCalm (refusals_of (hosted log disk old) t) (refusals_of (hosted log disk (after old t x p old.shelf)) t) → ⊥
+  loud_refused calm =
+      loud x.parts.refusals x.parts (omega arith)
+      (subst (λ (v : Parts L). IsCalm x.parts.refusals v.refusals) counted (calm_here log disk law old t x p old.shelf lt read kept refused_at calm))
+
+-- ---- counts
+
+abbrev pub uncounted : {L : Type 0} → Tenant L → Bool
+uncounted x = eqb x.parts.refusals 0
+
+module _ {L : Type 0} (log : L → Log) (files : Files) where
+  calm_list : (ts : List (Tenant L)) → list_all (λ (x : Tenant L). uncounted x) ts ≡ all_calm (map (state_of log files) ts)
+  calm_list [] = refl
+  calm_list (x ∷ ts) = ap (λ (b : Bool). uncounted x && b) (calm_list ts)
+
+  -- what `all` answers of a test of each count
+  pub calm_cases : (ts : List (Tenant L)) (r : Bool) → MatchBool r (AllWithin (λ (x : Tenant L). uncounted x ≡ true) ts 0 (length ts)) ((k : ℕ) × (k < length ts) × HoldsAt (λ (x : Tenant L). uncounted x ≡ false) ts k)
+      → r ≡ all_calm (map (state_of log files) ts)
+  calm_cases ts true h = sym (list_all-from_AllPass (λ (x : Tenant L). uncounted x) ts (λ k e lt. h k e (omega arith) lt)) ∙ calm_list ts
+  calm_cases [] false h = absurd (omega (arith, h.1))
+  calm_cases (x ∷ ts) false h = sym (list_all_at (λ (x : Tenant L). uncounted x) (x ∷ ts) h.0 x h.1 (h.2 x)) ∙ calm_list (x ∷ ts)
+
+-- ---- the clock is set first
+
+module _ {L S : Type 0} (log : L → Log) (disk : S → Disk) (law : (l : L) → IsLawfulLog (log l)) (old : Tenants L S) (t : ℕ) (x : Tenant L) (q : Parts L) (clock : ℕ)
+    (lt : t < length (hosted log disk old)) (read : x ≡ get_or old.tenants.items t x) (kept : AreKept log disk old) (set : q ≡ record x.parts { clock = clock }) where
+  sound_here : IsSound log x.parts (disk old.shelf.store).table old.shelf.next
+  sound_here =
+      let here = found old.tenants.items t x (within (state_of log (disk old.shelf.store).files) old.tenants.items t lt) read in
+      kept.sound.each t x.parts (slice_get-map (λ (z : Tenant L). z.parts) old.tenants.items t ∙ ap (option_map (λ (z : Tenant L). z.parts)) here)
+
+  pub sound_at : IsSound log q (disk old.shelf.store).table old.shelf.next
+  sound_at = subst (λ (v : Parts L). IsSound log v (disk old.shelf.store).table old.shelf.next) (sym set) (clocked log x.parts clock (disk old.shelf.store).table old.shelf.next sound_here)
+
+  set_step : IsStep (scene log disk x.parts old.shelf) (scene log disk q old.shelf)
+  set_step =
+      let a = scene log disk x.parts old.shelf in
+      let same = ap (λ (v : Parts L). v.refusals) set in
+      recast log a x.parts q (disk old.shelf.store) old.shelf.next (ap (λ (v : Parts L). v.catalog) set) (ap (λ (v : Parts L). entries v) set) (omega (arith, same)) (step_same a sound_here)
+
+  agrees_at : Agrees log x.parts (disk old.shelf.store).files → Agrees log (record x.parts { clock = clock }) (disk old.shelf.store).files
+  agrees_at agree = record { catalog = agree.catalog; fold = agree.fold; logs = agree.logs }
+
+  module _ (p : Parts L) (shelf : Shelved S) (step : IsStep (scene log disk q old.shelf) (scene log disk p shelf)) where
+    step_at : IsStep (scene log disk x.parts old.shelf) (scene log disk p shelf)
+    step_at = step_then (scene log disk x.parts old.shelf) (scene log disk q old.shelf) (scene log disk p shelf) set_step step
+
+    pub kept_at : AreKept log disk (after old t x p shelf)
+    kept_at = kept_after log disk law old t x p shelf lt read kept step_at
+
+    pub turn_at : IsTurn t (disk shelf.store).honest (hosted log disk old) (hosted log disk (after old t x p shelf))
+    turn_at = turn_after log disk law old t x p shelf lt read kept step_at
+
+    -- what is met at that clock is what is seen
+    pub met_at : (P : World → World → Type 0) (Q : Kept → Kept → Type 0)
+        → (P (world_at (kept_in (world_of log x.parts (disk old.shelf.store).files)) clock) (world_of log p (disk shelf.store).files) → Q (kept_in (world_of log x.parts (disk old.shelf.store).files)) (kept_in (world_of log p (disk shelf.store).files)))
+        → Meets (scene log disk q old.shelf) (scene log disk p shelf) (P (world_of log q (disk old.shelf.store).files) (world_of log p (disk shelf.store).files))
+        → IsMet t (disk shelf.store).honest (hosted log disk old) (hosted log disk (after old t x p shelf)) Q
+    met_at P Q so meets = met_after log disk law old t x p shelf lt read kept step_at Q (λ honest agree calm.
+        so (subst (λ (v : Parts L). Meets (scene log disk v old.shelf) (scene log disk p shelf) (P (world_of log v (disk old.shelf.store).files) (world_of log p (disk shelf.store).files))) set meets honest (agrees_at agree) calm))

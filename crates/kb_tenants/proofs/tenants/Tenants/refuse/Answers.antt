@@ -1,0 +1,22 @@
+use Rattle.kb_tenants.proofs.Hosted.{kept_refused, kept_stays, turn_refused, loud_refused}
+use Rattle.kb_tenants.proofs.tenants.Tenants.refuse.Goals as goal
+
+pub returns-clause-kept : goal.returns-clause-kept
+returns-clause-kept g c =
+    kept_refused g.L.PartitionLog.log g.S.Store.disk g.met.L.PartitionLog.lawful c.args.self.now c.args.tenant c.index_mut.result.now c.refuse.new.self
+    c.requires.tenant c.index_mut.ensures.value c.requires.kept c.refuse.ensures
+
+pub returns-clause-turn : goal.returns-clause-turn
+returns-clause-turn g c =
+    turn_refused g.L.PartitionLog.log g.S.Store.disk g.met.L.PartitionLog.lawful c.args.self.now c.args.tenant c.index_mut.result.now c.refuse.new.self
+    c.requires.tenant c.index_mut.ensures.value c.requires.kept c.refuse.ensures
+
+pub returns-clause-stays : goal.returns-clause-stays
+returns-clause-stays g c =
+    kept_stays g.L.PartitionLog.log g.S.Store.disk g.met.L.PartitionLog.lawful c.args.self.now c.args.tenant c.index_mut.result.now c.refuse.new.self
+    c.requires.tenant c.index_mut.ensures.value c.requires.kept c.refuse.ensures
+
+pub returns-clause-counted : goal.returns-clause-counted
+returns-clause-counted g c =
+    loud_refused g.L.PartitionLog.log g.S.Store.disk g.met.L.PartitionLog.lawful c.args.self.now c.args.tenant c.index_mut.result.now c.refuse.new.self
+    c.requires.tenant c.index_mut.ensures.value c.requires.kept c.refuse.ensures

@@ -1,6 +1,8 @@
 pub mod Bodies
 pub mod Served
+pub mod Answering
 pub mod Appended
 pub mod Reacting
 pub mod Turning
+pub mod Fronts
 pub mod Limits

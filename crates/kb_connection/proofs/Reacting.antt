@@ -1,7 +1,7 @@
 -- What a reply and a change of the stage come to together.
 use Rattle.std.proofs.Common.{◌≡◌, ℕ, ℤ, List, ◌++◌, true, false, None, Some, refl, sym, ap, ◌∙◌, nat_lt, if◌then◌else◌, Result, Ok, Err, OnOk, codes}
 use Rattle.kb_api_group.specs.declared.error_code.ErrorCode.TheVariants as errors
-use Rattle.kb_machine.specs.Requests.{reply, reply_size}
+use Rattle.kb_tenant.specs.Replies.{framed, reply_size}
 use Rattle.kb_machine.specs.Session.{Stage, Greets, BoundTo, Session, shut_down, replied, without_wait}
 use Rattle.kb_machine.specs.Greeting.{Setup, handshake_reply, authenticate_reply}
 use Rattle.kb_machine.specs.Machine.{Line}
@@ -14,7 +14,7 @@ use Rattle.kb_connection.specs.Reactions.{reacted}
 staged : (id : ℤ) (body : List ℕ) (s : Session) (stage : Stage) → without_wait stage ≡ stage → record (replied id body s) { stage = stage } ≡ replied id body (record s { stage = stage })
 unfolding replied
 staged id body s stage free =
-    elim (nat_lt 2147483647 (reply_size body)) as (λ t. record (if t then shut_down s else record s { output = s.output ++ reply id body }) { stage = stage } ≡ (if t then shut_down (record s { stage = stage }) else record (record s { stage = stage }) { output = s.output ++ reply id body }))
+    elim (nat_lt 2147483647 (reply_size body)) as (λ t. record (if t then shut_down s else record s { output = s.output ++ framed id body }) { stage = stage } ≡ (if t then shut_down (record s { stage = stage }) else record (record s { stage = stage }) { output = s.output ++ framed id body }))
     [ true ↦ ap (λ x. record (shut_down s) { stage = x }) (sym free) | false ↦ refl ]
 
 -- a reply, and then the stage

@@ -1,20 +1,24 @@
 //! One connection: its unread bytes, its untaken output, and how far it is.
 
-ghost use Rattle.std.specs.Prelude.{◌≡◌, ◌<◌, ◌^◌, ◌++◌, ℕ, IfOk, OnOk, OnErr};
-ghost use Rattle.kb_machine.specs.Requests.{request, reply, reply_size};
-ghost use Rattle.kb_machine.specs.Session.{Session, Greets, fresh, room, fed, replied, shut_down, can};
-ghost use Rattle.kb_machine.specs.Tenant.{Kept};
+ghost use Rattle.std.specs.Prelude.{◌≡◌, ◌<◌, ◌^◌, ◌++◌, ℕ, ℤ, length, true, false, IfOk, IfSome, IfNone, OnOk, OnErr};
+ghost use Rattle.kb_api_group.specs.Frames.{front};
+ghost use Rattle.kb_tenant.specs.Hosted.{Kept};
+ghost use Rattle.kb_tenant.specs.Replies.{Reaction as Reacts, IsAnswer, framed, reply_size};
+ghost use Rattle.kb_machine.specs.Requests.{request};
+ghost use Rattle.kb_machine.specs.Session.{Session, Greets, fresh, room, fed, replied, shut_down, without_wait, can};
 ghost use Rattle.kb_machine.specs.Greeting.{Setup, greeted, greeted_by};
-ghost use Rattle.kb_machine.specs.Machine.{served, served_by};
+ghost use Rattle.kb_machine.specs.Machine.{answered, served, served_by};
 ghost use Rattle.kb_machine.specs.Calls.{without_output};
+ghost use Rattle.kb_connection.specs.Fronts.{IsOwn, IsAsked, is_tenants, is_tenants_at};
 ghost use Rattle.kb_connection.specs.View.{stage_of, with_session, without_front, IsLimited};
 ghost use Rattle.kb_connection.specs.Reactions.{reacted, IfReacts};
 
 use crate::reaction::Reaction;
 use crate::reply::{authenticate_body, handshake_body, versions_body};
-use crate::request::Request;
+use crate::request::{Asked, Request};
 use crate::setup::Setup;
 use kb_api_group::{ErrorCode, FrameFeed, Next};
+use kb_tenant::Answer;
 use kb_wire::Text;
 use std::alloc::{AllocError, Global};
 use std::marker::Model;
@@ -175,8 +179,71 @@ impl Connection {
         }
     }
 
-    /// Serves the request in front of a bound connection. Where memory is refused it is shut.
+    /// The request of its tenant that stands in front of a bound connection. `None`: what stands there is a matter of the
+    /// connection alone.
+    pub fn request(&self, alloc: Global) -> Result<Option<kb_tenant::Request<'_>>, AllocError>
+        ensures own { IfOk result (λ found. IfNone found (IsOwn self.now.session)) }
+        ensures asked { IfOk result (λ found. IfSome found (λ asked. IsAsked self.now.session asked.api_key asked.correlation_id asked.body.now)) }
+    {
+        let Next::Frame(frame) = self.unread.next() else {
+            return Ok(None);
+        };
+        let Request {
+            correlation_id,
+            asked,
+        } = Request::read(alloc, frame.as_slice())?;
+        match asked {
+            Asked::Another { key, body, .. } => Ok(Some(kb_tenant::Request {
+                api_key: key,
+                correlation_id,
+                body: body.as_slice(),
+            })),
+            _ => Ok(None),
+        }
+    }
+
+    /// Leaves the tenant's request in front behind, and gives the tenant's answer to it. Where memory is refused it is shut.
+    pub fn answer(&mut self, answer: Answer) -> Result<(), AllocError>
+        ensures ok { (id : ℤ) (reaction : Reacts) → IsAnswer id reaction answer → OnOk result (self.new ≡ with_session self.old (answered reaction id (without_front self.old.session))) }
+        ensures err { OnErr result (self.new ≡ with_session self.old (shut_down self.old.session)) }
+        // whatever the answer is, also where a refusal spoiled it
+        ensures number { self.new.number ≡ self.old.number }
+        ensures stage { without_wait self.new.session.stage ≡ without_wait self.old.session.stage }
+        ensures less { is_tenants_at (front self.old.session.unread) ≡ true → length self.new.session.unread < length self.old.session.unread }
+    {
+        self.unread.skip(); // it is not handed out again
+        match answer {
+            Answer::Reply(reply) => {
+                let sent = self.send(reply);
+                if sent.is_err() {
+                    self.shut_down();
+                }
+                sent
+            }
+            Answer::Shut => {
+                self.shut_down();
+                Ok(())
+            }
+            Answer::NoReply | Answer::Wait { .. } => Ok(()),
+        }
+    }
+
+    /// Adds a whole reply to the output: it is moved where nothing stands before it. An `Err` leaves everything as it was.
+    fn send(&mut self, reply: Vec<u8>) -> Result<(), AllocError>
+        ensures ok { OnOk result (self.new ≡ with_session self.old (record self.old.session { output = self.old.session.output ++ reply.items })) }
+        ensures err { OnErr result (self.new ≡ self.old) }
+    {
+        if self.output.is_empty() {
+            self.output = reply;
+            return Ok(());
+        }
+        self.output.extend_from_slice(&reply)
+    }
+
+    /// Serves what stands in front of a bound connection, where it is a matter of the connection alone. Where memory is refused
+    /// it is shut.
     pub fn serve(&mut self, alloc: Global, setup: &Setup) -> Result<(), AllocError>
+        requires { IsOwn self.old.session }
         ensures ok { (kept : Kept) (clock : ℕ) → OnOk result (self.new ≡ with_session self.old (served setup.now kept clock self.old.session)) }
         ensures err { OnErr result (self.new ≡ with_session self.old (shut_down self.old.session)) }
     {
@@ -203,7 +270,7 @@ impl Connection {
         ensures ok { OnOk result (IfReacts reaction (λ id what. self.new ≡ with_session self.old (reacted setup.now what id (without_front self.old.session)))) }
         ensures err { OnErr result (self.new ≡ with_session self.old (shut_down self.old.session)) }
     {
-        self.unread.skip();
+        self.unread.skip(); // the reaction keeps nothing of it
         let done = match reaction {
             Ok((correlation_id, reaction)) => self.react(alloc, setup, correlation_id, reaction),
             Err(e) => Err(e),
@@ -271,7 +338,7 @@ impl Connection {
 
     /// Adds a reply to the output. One whose size fits no INT32 is not sent and shuts the connection. An `Err` leaves
     /// everything as it was.
-    #[tactic(auto, unfolding(kb_machine::specs::Session::replied, kb_machine::specs::Requests::reply))]
+    #[tactic(auto, unfolding(kb_machine::specs::Session::replied, kb_tenant::specs::Replies::framed))]
     fn reply(&mut self, correlation_id: i32, body: &[u8]) -> Result<(), AllocError>
         ensures ok { OnOk result (self.new ≡ with_session self.old (replied correlation_id body.now self.old.session)) }
         ensures err { OnErr result (self.new ≡ self.old) }
@@ -300,9 +367,9 @@ fn greeting_reaction(
     ))
 }
 
-/// What a bound connection's request comes to, under its correlation id.
+/// What a bound connection's request comes to that is no request of its tenant, under its correlation id.
 fn bound_reaction(alloc: Global, frame: &[u8]) -> Result<(i32, Reaction), AllocError>
-    ensures { let r = request frame.now in IfOk result (λ done. (setup : Setup) (kept : Kept) (clock : ℕ) (s : Session) → reacted setup done.1 done.0 s ≡ served_by setup kept clock r.correlation_id r.asked s) }
+    ensures { let r = request frame.now in is_tenants r.asked ≡ false → IfOk result (λ done. (setup : Setup) (kept : Kept) (clock : ℕ) (s : Session) → reacted setup done.1 done.0 s ≡ served_by setup kept clock r.correlation_id r.asked s) }
 {
     let request = Request::read(alloc, frame)?;
     Ok((request.correlation_id, Reaction::bound(&request.asked)))
@@ -311,7 +378,7 @@ fn bound_reaction(alloc: Global, frame: &[u8]) -> Result<(i32, Reaction), AllocE
 /// Adds a size, a correlation id and a body, all or nothing.
 fn append_reply(output: &mut Vec<u8>, correlation_id: i32, body: &[u8]) -> Result<(), AllocError>
     requires { reply_size body.now < 2 ^ 31 }
-    ensures ok { OnOk result (output.new.items ≡ output.old.items ++ reply correlation_id body.now) }
+    ensures ok { OnOk result (output.new.items ≡ output.old.items ++ framed correlation_id body.now) }
     ensures err { OnErr result (output.new.items ≡ output.old.items) }
 {
     let size = (4 + body.len()) as i32;

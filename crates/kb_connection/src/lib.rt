@@ -2,8 +2,9 @@
 //!
 //! A [`Connection`] is fed pieces and takes turns: in each it reads the request in front (Kafka protocol guide, "Request
 //! Header") and reacts. One that greets is served the versions and the SASL messages (Kafka protocol guide, "SASL Authentication
-//! Sequence"; RFC 4616), by what is fixed in a [`Setup`]; one that is bound to a tenant is served the tenant's requests, which
-//! are none so far. A contract sees it as a line of `kb_machine`'s worlds, so each call is a word of the one-tenant machine.
+//! Sequence"; RFC 4616), by what is fixed in a [`Setup`]; of one that is bound to a tenant the tenant's requests are handed out,
+//! and answered by the tenant's own answer to them. A contract sees it as a line of `kb_machine`'s worlds, so each call is a
+//! word of the one-tenant machine.
 #![tactic(auto)]
 
 mod connection;

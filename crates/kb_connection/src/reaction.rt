@@ -1,10 +1,11 @@
 //! What a request comes to for its connection.
 
-ghost use Rattle.std.specs.Prelude.{◌≡◌, ℤ, ℕ};
+ghost use Rattle.std.specs.Prelude.{◌≡◌, ℤ, ℕ, false};
 ghost use Rattle.kb_machine.specs.Session.{Session};
-ghost use Rattle.kb_machine.specs.Tenant.{Kept};
+ghost use Rattle.kb_tenant.specs.Hosted.{Kept};
 ghost use Rattle.kb_machine.specs.Greeting.{Setup, greeted_by};
 ghost use Rattle.kb_machine.specs.Machine.{served_by};
+ghost use Rattle.kb_connection.specs.Fronts.{is_tenants};
 ghost use Rattle.kb_connection.specs.View.{asked_of};
 ghost use Rattle.kb_connection.specs.Reactions.{reacted};
 
@@ -51,10 +52,10 @@ impl Reaction {
         }
     }
 
-    /// What a request of a bound connection comes to: no request of a tenant is served so far.
-    #[tactic(auto, unfolding(kb_machine::specs::Machine::served_by, kb_machine::specs::Tenant::answer))]
+    /// What a request of a bound connection comes to that is no request of its tenant.
+    #[tactic(auto, unfolding(kb_machine::specs::Machine::served_by))]
     pub fn bound(asked: &Asked<'_>) -> Reaction
-        ensures { (setup : Setup) (kept : Kept) (clock : ℕ) (id : ℤ) (s : Session) → reacted setup result id s ≡ served_by setup kept clock id (asked_of asked.now) s }
+        ensures { is_tenants (asked_of asked.now) ≡ false → (setup : Setup) (kept : Kept) (clock : ℕ) (id : ℤ) (s : Session) → reacted setup result id s ≡ served_by setup kept clock id (asked_of asked.now) s }
     {
         match asked {
             Asked::Versions => Reaction::Versions(ErrorCode::None),

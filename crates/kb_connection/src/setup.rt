@@ -1,12 +1,13 @@
-//! What is fixed while a broker runs: the versions that it lists, and its users.
+//! What is fixed while a broker runs: the versions that it lists, its users, and where clients are told to connect to.
 
-ghost use Rattle.std.specs.Prelude.{◌≡◌};
-ghost use Rattle.kb_wire.specs.Codec.{array};
+ghost use Rattle.std.specs.Prelude.{◌≡◌, string_bytes};
+ghost use Rattle.kb_wire.specs.Codec.{array, string};
 ghost use Rattle.kb_api_group.specs.Layouts.{api_version};
 ghost use Rattle.kb_machine.specs.Greeting.{tenant_of, login};
 
 use kb_api_group::{ApiVersion, PlainLogin, read_plain};
-use kb_wire::Array;
+use kb_tenant::Node;
+use kb_wire::{Array, Text};
 use std::marker::Model;
 
 /// A user: the name and password of its login, and the place of its tenant.
@@ -38,32 +39,52 @@ impl Login {
     }
 }
 
-/// What is fixed while a broker runs. The versions fit a reply.
+/// What is fixed while a broker runs. The versions and the host fit a reply.
 #[derive(Drop)]
 pub struct Setup {
     versions: Array<ApiVersion>,
     logins: Vec<Login>,
+    host: String,
+    port: u16,
 }
 
 impl Model for Setup {
-    ghost use Rattle.kb_wire.specs.Codec.{array};
+    ghost use Rattle.std.specs.Prelude.{string_bytes};
+    ghost use Rattle.kb_wire.specs.Codec.{array, string};
     ghost use Rattle.kb_api_group.specs.Layouts.{api_version};
     ghost use Rattle.kb_machine.specs.Greeting.{Setup};
 
     ghost Value = { Setup };
 
-    ghost view = { λ s. record { versions = s.versions; users = s.logins.items } };
+    ghost view = { λ s. record { versions = s.versions; users = s.logins.items; node = record { host = string_bytes s.host; port = s.port } } };
 
-    ghost invariant = { λ s. (array api_version).Fits s.versions };
+    ghost invariant = { λ s. ((array api_version).Fits s.versions) × (string.Fits (string_bytes s.host)) };
 }
 
 impl Setup {
-    /// What is fixed: the versions that are listed, and the users.
-    pub fn new(versions: Array<ApiVersion>, logins: Vec<Login>) -> Setup
-        requires { (array api_version).Fits versions }
-        ensures { result ≡ record { versions = versions; users = logins.items } }
+    /// What is fixed: the versions that are listed, the users, and the host and port that clients are told to connect to.
+    pub fn new(versions: Array<ApiVersion>, logins: Vec<Login>, host: String, port: u16) -> Setup
+        requires versions { (array api_version).Fits versions }
+        requires host { string.Fits (string_bytes host) }
+        ensures { result ≡ record { versions = versions; users = logins.items; node = record { host = string_bytes host; port = port } } }
     {
-        Setup { versions, logins }
+        Setup {
+            versions,
+            logins,
+            host,
+            port,
+        }
+    }
+
+    /// Where clients are told to connect to. The host fits a reply.
+    pub fn node(&self) -> Node<'_>
+        ensures node { result ≡ self.now.node }
+        ensures fits { string.Fits result.host }
+    {
+        Node {
+            host: Text::new(self.host.as_str()),
+            port: self.port,
+        }
     }
 
     /// The versions that are listed. They fit a reply.

@@ -4,12 +4,13 @@ use crate::reply::{authenticate_body, handshake_body, versions_body};
 use crate::request::{Asked, Request};
 use crate::setup::{Login, Setup};
 use kb_api_group::{ApiVersion, ErrorCode};
+use kb_tenant::Answer;
 use kb_wire::{Array, Layout, Text};
 use std::alloc::Global;
 use std::process::Abort;
 use std::test::Fail;
 
-/// ApiVersions alone is listed, and the user u of the tenant 3 has the password p.
+/// ApiVersions alone is listed, the user u of the tenant 3 has the password p, and clients are told kafka:9092.
 fn setup(rt: &impl Abort, alloc: Global) -> Result<Setup, Fail> {
     let login = Login::new(
         Vec::from_slice(alloc, b"u")?,
@@ -18,8 +19,9 @@ fn setup(rt: &impl Abort, alloc: Global) -> Result<Setup, Fail> {
     );
     let mut logins = Vec::new(alloc);
     logins.push(login)?;
+    let host = String::from_str(alloc, "kafka")?;
     match Array::<ApiVersion>::read(alloc, b"\0\0\0\x01\0\x12\0\0\0\0") {
-        Ok(versions) => Ok(Setup::new(versions, logins)),
+        Ok(versions) => Ok(Setup::new(versions, logins, host, 9092)),
         Err(_) => panic!(rt; "the table is spelled so"),
     }
 }
@@ -37,7 +39,12 @@ fn answers(
     assert!(rt; connection.can_turn());
     match connection.phase() {
         Phase::Greets(handshaken) => connection.greet(alloc, setup, handshaken)?,
-        Phase::Bound(_) => connection.serve(alloc, setup)?,
+        Phase::Bound(_) => {
+            if connection.request(alloc)?.is_some() {
+                panic!(rt; "it is a matter of the connection");
+            }
+            connection.serve(alloc, setup)?;
+        }
     }
     let output = connection.take_output(alloc);
     assert_eq!(rt; output.as_slice(), reply);
@@ -47,6 +54,69 @@ fn answers(
 }
 
 const HANDSHAKE: &[u8] = b"\0\0\0\x11\0\x11\0\x01\0\0\0\x02\xff\xff\0\x05PLAIN";
+
+const LOGIN: &[u8] = b"\0\0\0\x12\0\x24\0\0\0\0\0\x03\xff\xff\0\0\0\x04\0u\0p";
+
+/// Metadata of all topics.
+const METADATA: &[u8] = b"\0\0\0\x0e\0\x03\0\x01\0\0\0\x09\xff\xff\xff\xff\xff\xff";
+
+/// A connection that logged in.
+fn bound(rt: &impl Abort, alloc: Global, setup: &Setup) -> Result<Connection, Fail> {
+    let mut connection = Connection::new(alloc, 1);
+    let talk: [(&[u8], &[u8]); 2] = [
+        (HANDSHAKE, b"\0\0\0\x11\0\0\0\x02\0\0\0\0\0\x01\0\x05PLAIN"),
+        (LOGIN, b"\0\0\0\x0c\0\0\0\x03\0\0\xff\xff\0\0\0\0"),
+    ];
+    for (request, reply) in talk {
+        answers(rt, alloc, setup, &mut connection, request, reply)?;
+    }
+    Ok(connection)
+}
+
+/// Gives a bound connection a request of its tenant, compares what is handed out, and gives the answer.
+fn asks(
+    rt: &impl Abort,
+    alloc: Global,
+    connection: &mut Connection,
+    answer: Answer,
+) -> Result<(), Fail> {
+    connection.feed(METADATA)?;
+    match connection.request(alloc)? {
+        Some(request) => {
+            assert_eq!(rt; (request.api_key, request.correlation_id), (3, 9));
+            assert_eq!(rt; request.body, b"\xff\xff\xff\xff".as_slice());
+        }
+        None => panic!(rt; "Metadata is for the tenant"),
+    }
+    assert!(rt; connection.can_turn());
+    connection.answer(answer)?;
+    assert!(rt; !connection.can_turn());
+    assert_eq!(rt; connection.room(), 4_194_312);
+    Ok(())
+}
+
+#[test]
+fn tenant_answers(rt: HostRuntime) -> Result<(), Fail> {
+    let alloc = rt.alloc();
+    let setup = setup(&rt, alloc)?;
+    let mut connection = bound(&rt, alloc, &setup)?;
+    asks(&rt, alloc, &mut connection, Answer::NoReply)?;
+    assert!(rt; connection.take_output(alloc).is_empty());
+    let first = Answer::Reply(Vec::from_slice(alloc, b"\0\0\0\x05\0\0\0\x09a")?);
+    asks(&rt, alloc, &mut connection, first)?;
+    let second = Answer::Reply(Vec::from_slice(alloc, b"\0\0\0\x05\0\0\0\x09b")?);
+    asks(&rt, alloc, &mut connection, second)?;
+    assert!(rt; !connection.is_shut());
+    // what is untaken stays
+    asks(&rt, alloc, &mut connection, Answer::Shut)?;
+    assert!(rt; connection.is_shut());
+    let output = connection.take_output(alloc);
+    assert_eq!(rt;
+        output.as_slice(),
+        b"\0\0\0\x05\0\0\0\x09a\0\0\0\x05\0\0\0\x09b".as_slice()
+    );
+    Ok(())
+}
 
 #[test]
 fn greets_logs_in_and_is_served(rt: HostRuntime) -> Result<(), Fail> {

@@ -1,21 +1,24 @@
 -- A piece that comes on a connection.
-use Rattle.std.proofs.Common.{◌≡◌, ◌≢◌, ◌<◌, ◌≤◌, ◌++◌, ◌∷◌, [], ℕ, zero, suc, List, length, get_or, set, eqb, Bool, true, false, Option, Some, None, refl, sym, ◌∙◌, ap, subst, arith, append-nil, length-set}
+use Rattle.std.proofs.Common.{◌≡◌, ◌≢◌, ◌<◌, ◌≤◌, ◌++◌, ◌∷◌, [], ℕ, zero, suc, List, length, set, eqb, Bool, true, false, Option, Some, None, refl, sym, ◌∙◌, ap, subst, arith, append-nil}
 use Rattle.std.specs.Prelude.{cond, nat_lt}
 use Rattle.std.specs.List.{AllByRecursion}
 use Rattle.std.proofs.lemmas.Bool.Decides.{nat_tests}
 use Rattle.std.proofs.lemmas.List.{set-get_or}
+use Rattle.kb_world.specs.Steps.{IsCalm}
+use Rattle.kb_tenant.specs.Hosted as hosted
+use Rattle.kb_tenant.specs.Hosted.{TenantState, IsTurn}
 use Rattle.kb_machine.specs.Tenant.{Wait}
 use Rattle.kb_machine.specs.Session.{Stage, Greets, BoundTo, Session, fed, room, shut_down, without_wait, can}
 use Rattle.kb_machine.specs.Greeting.{Setup}
 use Rattle.kb_machine.specs.Machine.{Happening, Comes, Line, World, each, on, those, first_able, turns, stepped}
 use Rattle.kb_machine.specs.Owners.{Owns, Fits, whose, heard, destiny}
-use Rattle.kb_machine.specs.Broker.{BrokerState, Part, IsReady, IsStep, IsCalm, IsUntaken, Rising, Mine, view_of, kept_of}
+use Rattle.kb_machine.specs.Broker.{BrokerState, IsReady, IsStep, IsUntaken, Rising, Mine, view_of}
 use Rattle.kb_machine.specs.Turned.{IsStill, IsWithin, Turned, IsFed}
 use Rattle.kb_machine.proofs.Laws.{none-those, turns-none, those-each}
-use Rattle.kb_machine.proofs.Owners.{IsBound, IsMine, heard-still, fate-bound, mine-bound, bound-same, those-on_other, kept-one, stage-fed, stage-shut}
+use Rattle.kb_machine.proofs.Owners.{IsBound, IsMine, heard-still, fate-bound, mine-bound, bound-same, those-on_other, stage-fed, stage-shut}
 use Rattle.kb_machine.proofs.Ranges.{range-same}
 use Rattle.kb_machine.proofs.Sets.{IsAt, all-at, all-map, all-those, all-still, rising-above, set-on, tail-at, no-at, each-on_none}
-use Rattle.kb_machine.proofs.Parts.{count, count-at, count-same, count-other, count-grows, names-same, each-tenant, calm-left, calm-right, grows-same, calm-first, calm-then}
+use Rattle.kb_machine.proofs.Parts.{count, turn-length, turn-grows, each-tenant, calm-left, calm-right, grows-same, calm-first, calm-then}
 use Rattle.kb_machine.proofs.Turns.{changed, changed-within, bound-stays, within-then}
 use Rattle.kb_machine.proofs.Steps.{settled-turns, with_lines}
 
@@ -77,7 +80,7 @@ view-fed w mine n piece ls true m f none = ap (λ x. turns (with_lines w x)) (th
 view-fed w mine n piece ls false m f none = ap (λ x. turns (with_lines w x)) (those-on_other mine n (fed piece) ls m ∙ sym f) ∙ turns-none w (ap first_able f ∙ none-those mine ls none)
 
 -- the piece was taken, or it was longer than the room and the connection is shut
-pub fed-kept : (b : BrokerState) (i : ℕ) (l m : Line) (piece : List ℕ) → IsReady b → IsAt b.lines i l → m.number ≡ l.number → m.session ≡ fed piece l.session → IsFed l.number piece b (changed b i m b.parts b.unbound_refusals)
+pub fed-kept : (b : BrokerState) (i : ℕ) (l m : Line) (piece : List ℕ) → IsReady b → IsAt b.lines i l → m.number ≡ l.number → m.session ≡ fed piece l.session → IsFed l.number piece b (changed b i m b.tenants b.unbound_refusals)
 fed-kept b i l m piece r at n e =
     let s = r.sound in
     let same : without_wait m.session.stage ≡ without_wait l.session.stage = ap (λ (x : Session). without_wait x.stage) e ∙ stage-fed piece l.session in
@@ -85,7 +88,7 @@ fed-kept b i l m piece r at n e =
     let still = all-at (λ x. can x.session ≡ false) b.lines i l at (all-still b.lines r.settled) in
     let lines : set b.lines i m ≡ each (on l.number (fed piece)) b.lines = set-on 0 b.last (fed piece) b.lines i l m s.rising at n e in
     record {
-      within = changed-within b i l m b.parts b.unbound_refusals s (still-settled l.number b r.settled) at n refl (range-same (length b.parts) l.session.stage m.session.stage same (all-at _ b.lines i l at s.in_range))
+      within = changed-within b i l m b.tenants b.unbound_refusals s (still-settled l.number b r.settled) at n refl (range-same (length b.tenants) l.session.stage m.session.stage same (all-at _ b.lines i l at s.in_range))
           (record { setup = refl; names = refl; own = λ t. omega arith; unbound = omega arith }) (λ t f. owner ∙ f) (λ t ne. refl) (λ t f. refl);
       mine = λ t mine es k calm. record { now = comes-set b.setup t 0 b.last mine piece es b.lines i l m s.rising at n (comes-fed b.setup t mine piece es l m still n e) k.now; later = k.later };
       view = λ t mine es k calm. ap (λ x. turns (with_lines (view_of t mine b) (those mine x))) lines ∙ view-fed (view_of t mine b) mine l.number piece b.lines (mine l.number) refl refl r.settled;
@@ -93,13 +96,13 @@ fed-kept b i l m piece r at n e =
 
 -- a greeting connection's piece could not be kept
 pub fed-refused : (b : BrokerState) (i : ℕ) (l m : Line) (piece : List ℕ) (h : Bool) (x : ℕ) → IsReady b → IsAt b.lines i l → l.session.stage ≡ Greets h → m.number ≡ l.number → m.session ≡ shut_down l.session → b.unbound_refusals ≤ x → (IsCalm b.unbound_refusals x → ⊥) →
-    IsFed l.number piece b (changed b i m b.parts x)
+    IsFed l.number piece b (changed b i m b.tenants x)
 fed-refused b i l m piece h x r at g n e up rises =
     let s = r.sound in
     let same : without_wait m.session.stage ≡ without_wait l.session.stage = ap (λ (x : Session). without_wait x.stage) e ∙ stage-shut l.session in
     let none : whose l.session.stage ≡ None = ap whose g in
     record {
-      within = changed-within b i l m b.parts x s (still-settled l.number b r.settled) at n refl (range-same (length b.parts) l.session.stage m.session.stage same (all-at _ b.lines i l at s.in_range))
+      within = changed-within b i l m b.tenants x s (still-settled l.number b r.settled) at n refl (range-same (length b.tenants) l.session.stage m.session.stage same (all-at _ b.lines i l at s.in_range))
           (record { setup = refl; names = refl; own = λ t. omega arith; unbound = up })
           (λ t f. let k : None ≡ Some t = sym none ∙ f in absurd (cc)) (λ t ne. refl) (λ t f. let k : None ≡ Some t = sym none ∙ f in absurd (cc));
       mine = λ t mine es k calm. absurd (rises calm);
@@ -110,28 +113,28 @@ view-hidden : (w : World) (mine : ℕ → Bool) (n : ℕ) (f : Session → Sessi
 view-hidden w mine n f piece ls m e none =
     ap (λ x. turns (with_lines w x)) (those-on_other mine n f ls m ∙ sym e) ∙ (turns-none w (ap first_able e ∙ none-those mine ls none) ∙ sym (ap (λ y. stepped y (Comes n piece) w) m))
 
--- a bound connection's piece could not be kept
-pub fed-bound : (b : BrokerState) (i u : ℕ) (l m : Line) (piece : List ℕ) (w : Option Wait) (y x : Part) → IsReady b → IsAt b.lines i l → l.session.stage ≡ BoundTo u w → m.number ≡ l.number → m.session ≡ shut_down l.session →
-    u < length b.parts → y ≡ get_or b.parts u y → x.name ≡ y.name → y.refusals ≤ x.refusals → (IsCalm y.refusals x.refusals → ⊥) → IsFed l.number piece b (changed b i m (set b.parts u x) b.unbound_refusals)
-fed-bound b i u l m piece w y x r at g n e lt is name up rises =
+-- a bound connection's piece could not be kept: a refusal is counted for its tenant
+pub fed-bound : (b : BrokerState) (i u : ℕ) (l m : Line) (piece : List ℕ) (w : Option Wait) (H : Type 0) (ts : List TenantState) → IsReady b → IsAt b.lines i l → l.session.stage ≡ BoundTo u w → m.number ≡ l.number → m.session ≡ shut_down l.session →
+    IsTurn u H b.tenants ts → H → (IsCalm (count b.tenants u) (count ts u) → ⊥) → IsFed l.number piece b (changed b i m ts b.unbound_refusals)
+fed-bound b i u l m piece w H ts r at g n e turn honest loud =
     let s = r.sound in
     let p : IsBound u l.session = record { wait = w; is = g } in
-    let same : without_wait m.session.stage ≡ without_wait l.session.stage = ap (λ (z : Session). without_wait z.stage) e ∙ stage-shut l.session in
+    let same : without_wait m.session.stage ≡ without_wait l.session.stage = ap (λ (x : Session). without_wait x.stage) e ∙ stage-shut l.session in
     let q : IsBound u m.session = bound-same u l.session m.session p same in
-    let new = changed b i m (set b.parts u x) b.unbound_refusals in
+    let new = changed b i m ts b.unbound_refusals in
     let lines : set b.lines i m ≡ each (on l.number (λ z. m.session)) b.lines = set-on 0 b.last (λ z. m.session) b.lines i l m s.rising at n refl in
     record {
-      within = changed-within b i l m (set b.parts u x) b.unbound_refusals s (still-settled l.number b r.settled) at n (length-set b.parts u x) (range-same (length b.parts) l.session.stage m.session.stage same (all-at _ b.lines i l at s.in_range))
-          (record { setup = refl; names = names-same b.parts u y x lt is name; own = count-grows b.parts u y x lt is up; unbound = omega arith })
-          (bound-stays u l m p q) (λ t ne. count-other b.parts u t x (λ h. ne (ap whose q.is ∙ ap Some (sym h)))) (λ t f. refl);
+      within = changed-within b i l m ts b.unbound_refusals s (still-settled l.number b r.settled) at n (turn-length u H b.tenants ts turn) (range-same (length b.tenants) l.session.stage m.session.stage same (all-at _ b.lines i l at s.in_range))
+          (turn-grows b u H ts turn (set b.lines i m))
+          (bound-stays u l m p q) (λ t ne. turn.counts t (λ h. ne (ap whose q.is ∙ ap Some (sym h)))) (λ t f. refl);
       mine = λ t mine es k calm. record { now = comes-set b.setup t 0 b.last mine piece es b.lines i l m s.rising at n (comes-bound b.setup t u mine piece es l m p q n) k.now; later = k.later };
-      view = λ t mine es k calm. each-tenant (λ v. Mine v mine (Comes l.number piece ∷ es) b → IsCalm (count b.parts v) (count (set b.parts u x) v) → turns (view_of v mine new) ≡ stepped (mine l.number) (Comes l.number piece) (view_of v mine b)) u t (eqb u t) refl
-          (λ k' c'. absurd (rises (rw (← count-at b.parts u y lt is, ← count-same b.parts u x lt) c')))
+      view = λ t mine es k calm. each-tenant (λ v. Mine v mine (Comes l.number piece ∷ es) b → IsCalm (count b.tenants v) (count ts v) → turns (view_of v mine new) ≡ stepped (mine l.number) (Comes l.number piece) (view_of v mine b)) u t (eqb u t) refl
+          (λ k' c'. absurd (loud c'))
           (λ ne k' c'.
           let is' : mine l.number ≡ eqb u t = mine-bound b.setup t mine (Comes l.number piece ∷ es) l u p (all-at (IsMine b.setup t mine (Comes l.number piece ∷ es)) b.lines i l at k'.now) in
           let no : mine l.number ≡ false = is' ∙ grind (arith, nat_tests) in
-          ap (λ z. turns (record (view_of t mine b) { kept = kept_of new t; lines = those mine z })) lines
-          ∙ (ap (λ z. turns (record (view_of t mine b) { kept = z; lines = those mine (each (on l.number (λ z. m.session)) b.lines) })) (kept-one (kept_of new t) (kept_of b t))
+          ap (λ z. turns (record (view_of t mine b) { kept = hosted.kept_of ts t; lines = those mine z })) lines
+          ∙ (ap (λ z. turns (record (view_of t mine b) { kept = z; lines = those mine (each (on l.number (λ z. m.session)) b.lines) })) (turn.others honest t ne)
           ∙ view-hidden (view_of t mine b) mine l.number (λ z. m.session) piece b.lines no refl r.settled))
           k calm.own;
     }

@@ -6,7 +6,9 @@ use Rattle.std.specs.Int.{w32, cast_signed, from_be_bytes}
 use Rattle.kb_wire.specs.Codec.{int}
 use Rattle.kb_api_group.specs.Frames.{Front, Whole, Partial, TooSmall, TooLarge, front, front_by}
 use Rattle.kb_machine.specs.Requests.{Asked, Versions, OtherVersions, Handshake, Authenticate, Another, Unread, request}
-use Rattle.kb_machine.specs.Tenant.{Kept, Answer, Replies, Waits, Silent, Shuts, answer, ready}
+use Rattle.kb_tenant.specs.Hosted.{Kept}
+use Rattle.kb_tenant.specs.Replies.{Reaction, Replies, Waits, Silent, Shuts}
+use Rattle.kb_machine.specs.Tenant.{answer, ready}
 use Rattle.kb_machine.specs.Session.{Stage, Greets, BoundTo, Session, replied, is_turn, can}
 use Rattle.kb_machine.specs.Greeting.{Setup, greeted_by, greeted_at, greeted, shaken, authenticated, logged_in, login}
 use Rattle.kb_machine.specs.Machine.{Line, World, answered, served_by, served_at, served, put, told, woken_by, woken, each, on, those, first_able, turn_at, turn_of, turn, again, work, turns}
@@ -90,19 +92,19 @@ greeted_by-le setup h id (Authenticate m) s = authenticated-le setup h id m s
 greeted_by-le setup h id (Another k v b) s = omega arith
 greeted_by-le setup h id Unread s = omega arith
 
+answered-le : (r : Reaction) (id : ℤ) (s : Session) → length (answered r id s).unread ≤ length s.unread
+answered-le (Replies body) id s = replied-le id body s
+answered-le (Waits deadline places) id s = omega arith
+answered-le Silent id s = omega arith
+answered-le Shuts id s = omega arith
+
 pub served_by-le : (setup : Setup) (kept : Kept) (clock : ℕ) (id : ℤ) (a : Asked) (s : Session) → length (served_by setup kept clock id a s).unread ≤ length s.unread
 unfolding served_by
 served_by-le setup kept clock id Versions s = replied-le id _ s
 served_by-le setup kept clock id OtherVersions s = replied-le id _ s
 served_by-le setup kept clock id (Handshake m) s = replied-le id _ s
 served_by-le setup kept clock id (Authenticate m) s = replied-le id _ s
-served_by-le setup kept clock id (Another k v b) s = answered-le (answer kept clock k v b) id s
-  where
-    answered-le : (a : Answer) (id : ℤ) (s : Session) → length (answered a id s).unread ≤ length s.unread
-    answered-le (Replies body) id s = replied-le id body s
-    answered-le (Waits w) id s = omega arith
-    answered-le Silent id s = omega arith
-    answered-le Shuts id s = omega arith
+served_by-le setup kept clock id (Another k v b) s = answered-le (answer setup.node kept clock k b) id s
 served_by-le setup kept clock id Unread s = omega arith
 
 greeted_at-less : (setup : Setup) (h : Bool) (s : Session) (f : Front) → front s.unread ≡ f → is_turn f ≡ true → length (greeted_at setup h s f).unread < length s.unread
@@ -214,7 +216,7 @@ work-woken kept clock (l ∷ ls) = let h = woken_by-le kept clock l.session l.se
 work-turn_at : (w : World) (l : Line) (st : Stage) → first_able w.lines ≡ Some l → work (turn_at w l.number l.session.unread st).lines < work w.lines
 work-turn_at w l (Greets h) f = work-on l.number (greeted w.setup h) (greeted-takes w.setup h) w.lines l f refl
 work-turn_at w l (BoundTo u wait) f =
-    let e = work-woken (put w.kept w.clock l.session.unread) w.clock (each (on l.number (served w.setup w.kept w.clock)) w.lines) in
+    let e = work-woken (put w.setup w.kept w.clock l.session.unread) w.clock (each (on l.number (served w.setup w.kept w.clock)) w.lines) in
     let lt = work-on l.number (served w.setup w.kept w.clock) (served-takes w.setup w.kept w.clock) w.lines l f refl in
     omega (arith, e, lt)
 

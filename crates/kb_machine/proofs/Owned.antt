@@ -7,7 +7,8 @@ use Rattle.kb_machine.specs.Session.{Stage, Greets, BoundTo, Session, fresh, fed
 use Rattle.kb_machine.specs.Greeting.{Setup}
 use Rattle.kb_machine.specs.Machine.{Happening, Opens, Comes, Closes, Moment, Line}
 use Rattle.kb_machine.specs.Owners.{destiny, heard, unborn, find_line, fate_from, owner, owned, is_owner, whose, Fits}
-use Rattle.kb_machine.specs.Broker.{BrokerState, IsSound, Rising, IsRun, last_after, Mine, owned_by, InRange, only, IsUnowned, IsCalm, IsCalmFor, Grows}
+use Rattle.kb_machine.specs.Broker.{BrokerState, IsSound, Rising, IsRun, last_after, Mine, owned_by, InRange, only, IsUnowned, IsCalmFor, Grows}
+use Rattle.kb_world.specs.Steps.{IsCalm}
 use Rattle.kb_machine.proofs.Ranges.{AreUsers, IsBelow, range-heard, range-fed}
 use Rattle.kb_machine.proofs.Sets.{all-map, rising-last}
 use Rattle.kb_machine.proofs.Parts.{count-past, length-names}
@@ -112,9 +113,9 @@ fates users setup n es all (l ∷ ls) us h f r = (
   fates users setup n es all ls us h f.1 r.1,
 )
 
-pub unowned-mine : (n : ℕ) (es : List Happening) (b : BrokerState) → IsSound b → IsUnowned n es b → Mine (length b.parts) (only n) es b
+pub unowned-mine : (n : ℕ) (es : List Happening) (b : BrokerState) → IsSound b → IsUnowned n es b → Mine (length b.tenants) (only n) es b
 unowned-mine n es b s h =
-    let users = length b.parts in
+    let users = length b.tenants in
     record {
       now = fates users b.setup n es b.lines b.lines s.users h (found 0 b.last b.lines s.rising) s.in_range;
       later = λ k lt. nobody users n k (unborn b.setup k es) (owner b.setup b.lines es n) (below-unborn users b.setup k es s.users) h
@@ -122,9 +123,9 @@ unowned-mine n es b s h =
     }
 
 -- to nobody nothing is refused
-pub calm-nobody : (a b : BrokerState) → Grows a b → IsCalm a.unbound_refusals b.unbound_refusals → IsCalmFor (length a.parts) a b
+pub calm-nobody : (a b : BrokerState) → Grows a b → IsCalm a.unbound_refusals b.unbound_refusals → IsCalmFor (length a.tenants) a b
 calm-nobody a b g q =
     let e = length-names a b g in
-    let x = count-past a.parts (length a.parts) (omega arith) in
-    let y = count-past b.parts (length a.parts) (omega (arith, e)) in
+    let x = count-past a.tenants (length a.tenants) (omega arith) in
+    let y = count-past b.tenants (length a.tenants) (omega (arith, e)) in
     record { own = record { same = y ∙ sym x; below = rw x (lit< tt) }; unbound = q }

@@ -4,11 +4,13 @@ use Rattle.std.specs.Prelude.{◌⊎◌, cond, nat_lt}
 use Rattle.std.specs.List.{AllByRecursion}
 use Rattle.std.proofs.lemmas.Bool.Decides.{nat_tests}
 use Rattle.kb_api_group.specs.Frames.{Front, Whole, Partial, TooSmall, TooLarge, front}
-use Rattle.kb_machine.specs.Requests.{Asked, Versions, OtherVersions, Handshake, Authenticate, Another, Unread, request, reply, reply_size}
-use Rattle.kb_machine.specs.Tenant.{Kept, Nothing, Wait, Answer, Replies, Waits, Silent, Shuts, answer}
+use Rattle.kb_machine.specs.Requests.{Asked, Versions, OtherVersions, Handshake, Authenticate, Another, Unread, request}
+use Rattle.kb_tenant.specs.Hosted.{Kept}
+use Rattle.kb_tenant.specs.Replies.{Reaction, Replies, Waits, Silent, Shuts, framed, reply_size}
+use Rattle.kb_machine.specs.Tenant.{Wait, answer}
 use Rattle.kb_machine.specs.Session.{Stage, Greets, BoundTo, Session, fed, shut_down, without_wait, can, is_turn, room, replied}
 use Rattle.kb_machine.specs.Greeting.{Setup, greeted}
-use Rattle.kb_machine.specs.Machine.{Happening, Opens, Comes, Closes, Moment, Line, World, answered, waiting, served_by, served_at, served, put, each, on, those, first_able, all_woken, turn_at, turn, turns, again, woken, woken_by}
+use Rattle.kb_machine.specs.Machine.{Happening, Opens, Comes, Closes, Moment, Line, World, answered, served_by, served_at, served, put, each, on, those, first_able, all_woken, turn_at, turn, turns, again, woken, woken_by}
 use Rattle.kb_machine.specs.Owners.{greet_turn, greet_turn_at, heard, destiny, is_for, whose, Fits, Owns, Keeps, Pairwise}
 use Rattle.kb_machine.proofs.Laws.{those-each, first-those, turn-some, turns-turn, greeted-less, greeted-still}
 
@@ -105,18 +107,17 @@ bound-fed u piece s h = bound-same u s (fed piece s) h (stage-fed piece s)
 
 stage-replied : (id : ℤ) (body : List ℕ) (s : Session) → without_wait (replied id body s).stage ≡ without_wait s.stage
 unfolding replied
-stage-replied id body s = by (nat_lt 2147483647 (reply_size body)) (s.output ++ reply id body)
+stage-replied id body s = by (nat_lt 2147483647 (reply_size body)) (s.output ++ framed id body)
   where
     by : (a : Bool) (bytes : List ℕ) → without_wait (let x : Session = cond a (shut_down s) (record s { output = bytes }) in x).stage ≡ without_wait s.stage
     by true bytes = stage-shut s
     by false bytes = refl
 
-stage-answered : (a : Answer) (id : ℤ) (s : Session) (st : Stage) → s.stage ≡ st → without_wait (answered a id s).stage ≡ without_wait s.stage
-stage-answered (Replies body) id s st e = stage-replied id body s
-stage-answered (Waits w) id s (Greets h) e = ap (λ x. without_wait (waiting x w)) e ∙ sym (ap without_wait e)
-stage-answered (Waits w) id s (BoundTo u v) e = ap (λ x. without_wait (waiting x w)) e ∙ sym (ap without_wait e)
-stage-answered Silent id s st e = refl
-stage-answered Shuts id s st e = stage-shut s
+pub stage-answered : (r : Reaction) (id : ℤ) (s : Session) → without_wait (answered r id s).stage ≡ without_wait s.stage
+stage-answered (Replies body) id s = stage-replied id body s
+stage-answered (Waits deadline places) id s = refl
+stage-answered Silent id s = refl
+stage-answered Shuts id s = stage-shut s
 
 stage-served_by : (setup : Setup) (kept : Kept) (clock : ℕ) (id : ℤ) (a : Asked) (s : Session) → without_wait (served_by setup kept clock id a s).stage ≡ without_wait s.stage
 unfolding served_by
@@ -124,7 +125,7 @@ stage-served_by setup kept clock id Versions s = stage-replied id _ s
 stage-served_by setup kept clock id OtherVersions s = stage-replied id _ s
 stage-served_by setup kept clock id (Handshake m) s = stage-replied id _ s
 stage-served_by setup kept clock id (Authenticate m) s = stage-replied id _ s
-stage-served_by setup kept clock id (Another k v b) s = stage-answered (answer kept clock k v b) id s s.stage refl
+stage-served_by setup kept clock id (Another k v b) s = stage-answered (answer setup.node kept clock k b) id s
 stage-served_by setup kept clock id Unread s = stage-shut s
 
 -- a bound connection's turn leaves it bound
@@ -237,14 +238,14 @@ view-greeting mine w all l h true m f g e =
 
 -- a turn for the tenant itself is the machine's turn
 pub view-served : (mine : ℕ → Bool) (w : World) (all : List Line) (l : Line) (t : ℕ) (wait : Option Wait) → first_able all ≡ Some l → l.session.stage ≡ BoundTo t wait → w.lines ≡ those mine all → mine l.number ≡ true →
-    turns (all_woken (record w { kept = put w.kept w.clock l.session.unread; lines = those mine (each (on l.number (served w.setup w.kept w.clock)) all) })) ≡ turns w
+    turns (all_woken (record w { kept = put w.setup w.kept w.clock l.session.unread; lines = those mine (each (on l.number (served w.setup w.kept w.clock)) all) })) ≡ turns w
 view-served mine w all l t wait f g e m =
     let able : first_able w.lines ≡ Some l = ap first_able e ∙ first-those mine all l f m in
     let lines : those mine (each (on l.number (served w.setup w.kept w.clock)) all) ≡ each (on l.number (served w.setup w.kept w.clock)) w.lines = those-each mine (on l.number (served w.setup w.kept w.clock)) all ∙ ap (each (on l.number (served w.setup w.kept w.clock))) (sym e) in
     let taken : turn w ≡ turn_at w l.number l.session.unread (BoundTo t wait) = turn-some w l able ∙ ap (turn_at w l.number l.session.unread) g in
-    ap (λ ls. turns (all_woken (record w { kept = put w.kept w.clock l.session.unread; lines = ls }))) lines ∙ (ap turns (sym taken) ∙ turns-turn w)
+    ap (λ ls. turns (all_woken (record w { kept = put w.setup w.kept w.clock l.session.unread; lines = ls }))) lines ∙ (ap turns (sym taken) ∙ turns-turn w)
 
--- 7. So far nothing waits and nothing is kept
+-- 7. So far nothing waits
 
 pub woken-none : (kept : Kept) (clock : ℕ) (s : Session) → woken kept clock s ≡ s
 unfolding woken_by
@@ -261,6 +262,3 @@ each-none kept clock (l ∷ ls) = let here = woken-none kept clock l.session in 
 
 pub all_woken-none : (w : World) → all_woken w ≡ w
 all_woken-none w = ap (λ ls. record w { lines = ls }) (each-none w.kept w.clock w.lines)
-
-pub kept-one : (a b : Kept) → a ≡ b
-kept-one Nothing Nothing = refl

@@ -1,33 +1,20 @@
--- What a change of one tenant's part is to each tenant.
-use Rattle.std.proofs.Common.{◌≡◌, ◌≢◌, ℕ, ◌<◌, ◌≤◌, List, [], length, get_or, set, eqb, Bool, true, false, refl, sym, ◌∙◌, ap, arith, subst}
+-- What a call for one tenant is to each tenant.
+use Rattle.std.proofs.Common.{◌≡◌, ◌≢◌, ℕ, ◌≤◌, List, length, eqb, Bool, true, false, refl, sym, ◌∙◌, ap, arith, subst}
 use Rattle.std.specs.Prelude.{map}
 use Rattle.std.proofs.lemmas.Bool.Decides.{nat_tests}
-use Rattle.std.proofs.lemmas.List.{map-set, set-get_or, get_or-map, get_or-set_same, get_or-set_other, length-map, get_or_past}
-use Rattle.kb_machine.specs.Broker.{BrokerState, Part, refusals_of, IsCalm, IsCalmFor, Grows}
+use Rattle.std.proofs.lemmas.List.{length-map, get_or_past}
+use Rattle.kb_world.specs.Steps.{IsCalm}
+use Rattle.kb_tenant.specs.Hosted.{TenantState, IsTurn, refusals_of}
+use Rattle.kb_machine.specs.Machine.{Line}
+use Rattle.kb_machine.specs.Broker as broker
+use Rattle.kb_machine.specs.Broker.{BrokerState, IsCalmFor, Grows}
 
--- the broker with another part for a tenant
-abbrev pub with_part : BrokerState → ℕ → Part → BrokerState
-with_part b u p = record b { parts = set b.parts u p }
+-- how many refusals were counted for a tenant
+abbrev pub count : List TenantState → ℕ → ℕ
+count = refusals_of
 
-abbrev pub count : List Part → ℕ → ℕ
-count ps t = get_or (map (λ (p : Part). p.refusals) ps) t 0
-
-pub count-same : (ps : List Part) (u : ℕ) (x : Part) → u < length ps → count (set ps u x) u ≡ x.refusals
-count-same ps u x h =
-    let f : Part → ℕ = λ y. y.refusals in
-    let lt : u < length (map f ps) = omega (arith, length-map ps f) in
-    ap (λ l. get_or l u 0) (map-set f ps u x) ∙ get_or-set_same (map f ps) u x.refusals 0 lt
-
-pub count-other : (ps : List Part) (u t : ℕ) (x : Part) → t ≢ u → count (set ps u x) t ≡ count ps t
-count-other ps u t x h =
-    let f : Part → ℕ = λ y. y.refusals in
-    ap (λ l. get_or l t 0) (map-set f ps u x) ∙ get_or-set_other (map f ps) u t x.refusals 0 h
-
-pub count-at : (ps : List Part) (u : ℕ) (y : Part) → u < length ps → y ≡ get_or ps u y → count ps u ≡ y.refusals
-count-at ps u y h e = get_or-map (λ (x : Part). x.refusals) ps u y 0 h ∙ ap (λ (x : Part). x.refusals) (sym e)
-
-pub count-past : (ps : List Part) (t : ℕ) → length ps ≤ t → count ps t ≡ 0
-count-past ps t h = get_or_past (map (λ (x : Part). x.refusals) ps) t 0 (omega (arith, length-map ps (λ (x : Part). x.refusals)))
+pub count-past : (ps : List TenantState) (t : ℕ) → length ps ≤ t → count ps t ≡ 0
+count-past ps t h = get_or_past (map (λ (x : TenantState). x.refusals) ps) t 0 (omega (arith, length-map ps (λ (x : TenantState). x.refusals)))
 
 pub eqb_same : (u t : ℕ) → eqb u t ≡ true → u ≡ t
 eqb_same u t h = grind (arith, nat_tests)
@@ -40,16 +27,22 @@ pub each-tenant : (P : ℕ → Type 0) (u t : ℕ) (b : Bool) → eqb u t ≡ b 
 each-tenant P u t true e here other = subst P (eqb_same u t e) here
 each-tenant P u t false e here other = other (eqb_other u t e)
 
-pub count-grows : (ps : List Part) (u : ℕ) (y x : Part) → u < length ps → y ≡ get_or ps u y → y.refusals ≤ x.refusals → (t : ℕ) → count ps t ≤ count (set ps u x) t
-count-grows ps u y x h e g t =
-    each-tenant (λ k. count ps k ≤ count (set ps u x) k) u t (eqb u t) refl
-    (rw (count-same ps u x h, count-at ps u y h e) g)
-    (λ ne. rw (count-other ps u t x ne) (omega arith))
+-- a call for a tenant leaves as many tenants as there were
+pub turn-length : (u : ℕ) (H : Type 0) (ps qs : List TenantState) → IsTurn u H ps qs → length qs ≡ length ps
+turn-length u H ps qs turn = sym (length-map qs (λ (x : TenantState). x.name)) ∙ (ap length turn.names ∙ length-map ps (λ (x : TenantState). x.name))
 
-pub names-same : (ps : List Part) (u : ℕ) (y x : Part) → u < length ps → y ≡ get_or ps u y → x.name ≡ y.name → map (λ (p : Part). p.name) (set ps u x) ≡ map (λ (p : Part). p.name) ps
-names-same ps u y x h e n =
-    let f : Part → List ℕ = λ p. p.name in
-    map-set f ps u x ∙ (ap (set (map f ps) u) (n ∙ (ap f e ∙ sym (get_or-map f ps u y [] h))) ∙ set-get_or (map f ps) u [])
+-- two calls for a tenant are one
+pub turn-then : (u : ℕ) (H G : Type 0) (ps qs rs : List TenantState) → (G → H) → IsTurn u H ps qs → IsTurn u G qs rs → IsTurn u G ps rs
+turn-then u H G ps qs rs before p q = record {
+  names = q.names ∙ p.names;
+  grows = λ t. let h = p.grows t in let k = q.grows t in omega arith;
+  counts = λ t ne. q.counts t ne ∙ p.counts t ne;
+  others = λ honest t ne. q.others honest t ne ∙ p.others (before honest) t ne;
+}
+
+-- what such a call is to the whole broker
+pub turn-grows : (b : BrokerState) (u : ℕ) (H : Type 0) (ts : List TenantState) → IsTurn u H b.tenants ts → (lines : List Line) → Grows b (record b { tenants = ts; lines = lines })
+turn-grows b u H ts turn lines = record { setup = refl; names = turn.names; own = turn.grows; unbound = omega arith }
 
 -- counts that rise fall into two halves
 pub calm-left : (a b c : ℕ) → a ≤ b → b ≤ c → IsCalm a c → IsCalm a b
@@ -66,15 +59,15 @@ grows-then a b c p q = record { setup = q.setup ∙ p.setup; names = q.names ∙
 
 pub calm-first : (t : ℕ) (a b c : BrokerState) → Grows a b → Grows b c → IsCalmFor t a c → IsCalmFor t a b
 calm-first t a b c p q h = record {
-  own = calm-left (refusals_of a t) (refusals_of b t) (refusals_of c t) (p.own t) (q.own t) h.own;
+  own = calm-left (broker.refusals_of a t) (broker.refusals_of b t) (broker.refusals_of c t) (p.own t) (q.own t) h.own;
   unbound = calm-left a.unbound_refusals b.unbound_refusals c.unbound_refusals p.unbound q.unbound h.unbound;
 }
 
 pub calm-then : (t : ℕ) (a b c : BrokerState) → Grows a b → Grows b c → IsCalmFor t a c → IsCalmFor t b c
 calm-then t a b c p q h = record {
-  own = calm-right (refusals_of a t) (refusals_of b t) (refusals_of c t) (p.own t) (q.own t) h.own;
+  own = calm-right (broker.refusals_of a t) (broker.refusals_of b t) (broker.refusals_of c t) (p.own t) (q.own t) h.own;
   unbound = calm-right a.unbound_refusals b.unbound_refusals c.unbound_refusals p.unbound q.unbound h.unbound;
 }
 
-pub length-names : (a b : BrokerState) → Grows a b → length b.parts ≡ length a.parts
-length-names a b g = sym (length-map b.parts (λ (p : Part). p.name)) ∙ (ap length g.names ∙ length-map a.parts (λ (p : Part). p.name))
+pub length-names : (a b : BrokerState) → Grows a b → length b.tenants ≡ length a.tenants
+length-names a b g = sym (length-map b.tenants (λ (x : TenantState). x.name)) ∙ (ap length g.names ∙ length-map a.tenants (λ (x : TenantState). x.name))

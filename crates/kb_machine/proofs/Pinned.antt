@@ -4,7 +4,7 @@ use Rattle.std.proofs.lemmas.Bool.Decides.{nat_tests}
 use Rattle.std.proofs.lemmas.List.{length-append}
 use Rattle.kb_machine.specs.Session.{Stage, Greets, BoundTo, Session, LIMIT, room, without_wait, shut_down, fed}
 use Rattle.kb_machine.specs.Requests.{Another, Authenticate}
-use Rattle.kb_machine.specs.Tenant.{Kept}
+use Rattle.kb_tenant.specs.Hosted.{Kept}
 use Rattle.kb_machine.specs.Greeting.{Setup, greeted_by, logged_in, login}
 use Rattle.kb_machine.specs.Machine.{World, Line, first_able, turn, turns, again, work, served}
 use Rattle.kb_machine.specs.Owners.{whose}

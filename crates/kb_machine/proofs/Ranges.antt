@@ -6,7 +6,8 @@ use Rattle.std.specs.Str.{bytes_eq}
 use Rattle.kb_api_group.specs.Plain.{plain}
 use Rattle.kb_api_group.specs.declared.plain.PlainLogin.{PlainLogin}
 use Rattle.kb_api_group.specs.Frames.{Front, Whole, Partial, TooSmall, TooLarge, front}
-use Rattle.kb_machine.specs.Requests.{Asked, Versions, OtherVersions, Handshake, Authenticate, Another, Unread, request, reply, reply_size}
+use Rattle.kb_tenant.specs.Replies.{framed, reply_size}
+use Rattle.kb_machine.specs.Requests.{Asked, Versions, OtherVersions, Handshake, Authenticate, Another, Unread, request}
 use Rattle.kb_machine.specs.Session.{Stage, Greets, BoundTo, Session, shut_down, replied, without_wait, fed}
 use Rattle.kb_machine.specs.Greeting.{Setup, User, greeted_by, greeted_at, greeted, shaken, authenticated, logged_in, login, tenant_of, tenant_at}
 use Rattle.kb_machine.specs.Owners.{greet_turn, greet_turn_at, heard}
@@ -33,7 +34,7 @@ range-same n (BoundTo v w) (BoundTo x y) e r = let g : x ≡ v = cc in rw g r
 
 range-replied : (n : ℕ) (id : ℤ) (body : List ℕ) (s : Session) → InRange n s.stage → InRange n (replied id body s).stage
 unfolding replied
-range-replied n id body s r = by (nat_lt 2147483647 (reply_size body)) (s.output ++ reply id body)
+range-replied n id body s r = by (nat_lt 2147483647 (reply_size body)) (s.output ++ framed id body)
   where
     by : (a : Bool) (bytes : List ℕ) → InRange n (let x : Session = cond a (shut_down s) (record s { output = bytes }) in x).stage
     by true bytes = range-without n s.stage r

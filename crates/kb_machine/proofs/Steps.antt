@@ -5,15 +5,17 @@ use Rattle.std.specs.List.{AllByRecursion, remove}
 use Rattle.std.proofs.lemmas.Bool.Decides.{nat_tests}
 use Rattle.kb_api_group.specs.Frames.{front}
 use Rattle.kb_wire.specs.Codec.{int}
+use Rattle.kb_world.specs.Steps.{IsCalm}
+use Rattle.kb_tenant.specs.Hosted.{Kept}
 use Rattle.kb_machine.specs.Tenant.{retained}
 use Rattle.kb_machine.specs.Session.{fresh, can}
 use Rattle.kb_machine.specs.Greeting.{Setup}
 use Rattle.kb_machine.specs.Machine.{Happening, Opens, Closes, Moment, Line, World, those, first_able, turns, stepped}
 use Rattle.kb_machine.specs.Owners.{Owns, Fits, find_line, whose, heard, destiny, unborn}
-use Rattle.kb_machine.specs.Broker.{BrokerState, IsReady, IsStep, IsCalm, Rising, view_of}
+use Rattle.kb_machine.specs.Broker.{BrokerState, IsReady, IsStep, Rising, view_of}
 use Rattle.kb_machine.specs.Calls.{opened, closed, moved, other_than}
 use Rattle.kb_machine.proofs.Laws.{none-those, turns-none}
-use Rattle.kb_machine.proofs.Owners.{IsMine, heard-still, all_woken-none, kept-one}
+use Rattle.kb_machine.proofs.Owners.{IsMine, heard-still, all_woken-none}
 use Rattle.kb_machine.proofs.Sets.{IsAt, all-those, all-push, rising-above, tail-at, no-at}
 
 -- where no connection can take a turn, turns are nothing
@@ -195,6 +197,11 @@ find-other k n (l ∷ ls) ne = let rest = find-other k n ls ne in grind (arith, 
 pub ready-moved : (b : BrokerState) (now : ℕ) → IsReady b → max b.clock now ≤ 2 ^ 62 → IsReady (moved b now)
 ready-moved b now r le = record { sound = record { rising = r.sound.rising; in_range = r.sound.in_range; users = r.sound.users; clock = le }; settled = r.settled }
 
+-- so far nothing is dropped
+retained-same : (clock : ℕ) (kept : Kept) → retained clock kept ≡ kept
+unfolding retained
+retained-same clock kept = refl
+
 pub step-moved : (b : BrokerState) (now : ℕ) → IsReady b → IsStep (Moment now) b (moved b now)
 step-moved b now r = record {
   last = omega arith;
@@ -204,5 +211,5 @@ step-moved b now r = record {
   view = λ t mine es m q.
       let v = view_of t mine (moved b now) in
       let w = record v { kept = retained (max b.clock now) v.kept } in
-      sym (ap turns (all_woken-none w) ∙ (turns-none w (none-those mine b.lines r.settled) ∙ ap (λ k. record v { kept = k }) (kept-one w.kept v.kept)));
+      sym (ap turns (all_woken-none w) ∙ (turns-none w (none-those mine b.lines r.settled) ∙ ap (λ k. record v { kept = k }) (retained-same (max b.clock now) v.kept)));
 }

@@ -35,7 +35,7 @@ range-taken n tenants (l ∷ ls) h = (by (eqb l.number n), range-taken n tenants
 
 pub ready-taken : (b : BrokerState) (n : ℕ) → IsReady b → IsReady (taken b n)
 ready-taken b n r = record {
-  sound = record { rising = rising-taken n 0 b.last b.lines r.sound.rising; in_range = range-taken n (length b.parts) b.lines r.sound.in_range; users = r.sound.users; clock = r.sound.clock };
+  sound = record { rising = rising-taken n 0 b.last b.lines r.sound.rising; in_range = range-taken n (length b.tenants) b.lines r.sound.in_range; users = r.sound.users; clock = r.sound.clock };
   settled = none-able (each (on n without_output) b.lines) (first-taken n b.lines (all-still b.lines r.settled));
 }
 

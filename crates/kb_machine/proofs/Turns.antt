@@ -1,19 +1,22 @@
 -- The turns of one connection.
-use Rattle.std.proofs.Common.{◌≡◌, ◌≢◌, ◌<◌, ◌≤◌, ℕ, List, length, get_or, set, eqb, Bool, true, false, Option, Some, None, refl, sym, ◌∙◌, ap, subst, arith, length-set}
+use Rattle.std.proofs.Common.{◌≡◌, ◌≢◌, ◌≤◌, ℕ, List, length, set, eqb, Bool, true, false, Option, Some, None, refl, sym, ◌∙◌, ap, subst, arith}
 use Rattle.std.specs.List.{AllByRecursion}
 use Rattle.std.proofs.lemmas.Bool.Decides.{nat_tests}
+use Rattle.kb_world.specs.Steps.{IsCalm}
+use Rattle.kb_tenant.specs.Hosted as hosted
+use Rattle.kb_tenant.specs.Hosted.{TenantState, IsTurn}
 use Rattle.kb_machine.specs.Tenant.{Wait}
-use Rattle.kb_machine.specs.Session.{Greets, BoundTo, Session, shut_down, without_wait}
+use Rattle.kb_machine.specs.Session.{Greets, BoundTo, shut_down, without_wait}
 use Rattle.kb_machine.specs.Greeting.{greeted}
 use Rattle.kb_machine.specs.Machine.{Happening, Line, served, put, each, on, those, first_able, turns}
 use Rattle.kb_machine.specs.Owners.{Owns, find_line, whose}
-use Rattle.kb_machine.specs.Broker.{BrokerState, Part, IsSound, Grows, IsCalm, InRange, Mine, view_of, kept_of, bound_to, bound_as}
+use Rattle.kb_machine.specs.Broker.{BrokerState, IsSound, Grows, InRange, Mine, view_of, kept_of, bound_to, bound_as}
 use Rattle.kb_machine.specs.Calls.{is_open, open_in}
 use Rattle.kb_machine.specs.Turned.{IsStill, IsWithin, Turned}
-use Rattle.kb_machine.proofs.Owners.{IsBound, IsMine, SameFate, fate-same, fate-greeted, fate-bound, mine-bound, bound-same, owns-fates, those-on_other, view-greeting, view-served, all_woken-none, kept-one, stage-served, stage-shut}
+use Rattle.kb_machine.proofs.Owners.{IsBound, IsMine, SameFate, fate-same, fate-greeted, fate-bound, mine-bound, bound-same, owns-fates, those-on_other, view-greeting, view-served, all_woken-none}
 use Rattle.kb_machine.proofs.Ranges.{range-greeted, range-same, range-without}
 use Rattle.kb_machine.proofs.Sets.{IsAt, all-at, all-set, pairwise-set, rising-set, set-on, set-at, find-at, find-set_other}
-use Rattle.kb_machine.proofs.Parts.{count, count-at, count-same, count-other, count-grows, names-same, each-tenant, calm-left, calm-right, grows-same, grows-then, calm-first, calm-then}
+use Rattle.kb_machine.proofs.Parts.{count, turn-length, turn-grows, each-tenant, calm-left, calm-right, grows-same, grows-then, calm-first, calm-then}
 
 -- 1. Turns, one after another
 
@@ -54,15 +57,15 @@ turned-then n a b c p q =
 
 -- 2. One turn
 
--- the broker with another connection at a place, other counts and other parts
-abbrev pub changed : BrokerState → ℕ → Line → List Part → ℕ → BrokerState
-changed b i m ps x = record b { lines = set b.lines i m; parts = ps; unbound_refusals = x }
+-- the broker with another connection at a place, other counts and other tenants
+abbrev pub changed : BrokerState → ℕ → Line → List TenantState → ℕ → BrokerState
+changed b i m ps x = record b { lines = set b.lines i m; tenants = ps; unbound_refusals = x }
 
 -- what does not depend on what the turn is
-pub changed-within : (b : BrokerState) (i : ℕ) (l m : Line) (ps : List Part) (x : ℕ) → IsSound b → AllByRecursion (IsStill l.number) b.lines → IsAt b.lines i l → m.number ≡ l.number →
-    length ps ≡ length b.parts → InRange (length b.parts) m.session.stage → Grows b (changed b i m ps x) →
+pub changed-within : (b : BrokerState) (i : ℕ) (l m : Line) (ps : List TenantState) (x : ℕ) → IsSound b → AllByRecursion (IsStill l.number) b.lines → IsAt b.lines i l → m.number ≡ l.number →
+    length ps ≡ length b.tenants → InRange (length b.tenants) m.session.stage → Grows b (changed b i m ps x) →
     ((t : ℕ) → whose l.session.stage ≡ Some t → whose m.session.stage ≡ Some t) →
-    ((t : ℕ) → whose m.session.stage ≢ Some t → count ps t ≡ count b.parts t) →
+    ((t : ℕ) → whose m.session.stage ≢ Some t → count ps t ≡ count b.tenants t) →
     ((t : ℕ) → whose l.session.stage ≡ Some t → x ≡ b.unbound_refusals) →
     IsWithin l.number b (changed b i m ps x)
 changed-within b i l m ps x s h at n len r g stays own unbound =
@@ -87,13 +90,13 @@ changed-within b i l m ps x s h at n len r g stays own unbound =
 
 -- the turn of a greeting connection
 pub turned-greeting : (b : BrokerState) (i : ℕ) (l m : Line) (h : Bool) → IsSound b → AllByRecursion (IsStill l.number) b.lines → IsAt b.lines i l → first_able b.lines ≡ Some l →
-    l.session.stage ≡ Greets h → m.number ≡ l.number → m.session ≡ greeted b.setup h l.session → Turned l.number b (changed b i m b.parts b.unbound_refusals)
+    l.session.stage ≡ Greets h → m.number ≡ l.number → m.session ≡ greeted b.setup h l.session → Turned l.number b (changed b i m b.tenants b.unbound_refusals)
 turned-greeting b i l m h s still at able g n e =
     let none : whose l.session.stage ≡ None = ap whose g in
-    let in_range = subst (λ x. InRange (length b.parts) x.stage) (sym e) (range-greeted (length b.parts) b.setup h l.session s.users (all-at _ b.lines i l at s.in_range)) in
+    let in_range = subst (λ x. InRange (length b.tenants) x.stage) (sym e) (range-greeted (length b.tenants) b.setup h l.session s.users (all-at _ b.lines i l at s.in_range)) in
     let lines : set b.lines i m ≡ each (on l.number (greeted b.setup h)) b.lines = set-on 0 b.last (greeted b.setup h) b.lines i l m s.rising at n e in
     record {
-      within = changed-within b i l m b.parts b.unbound_refusals s still at n refl in_range
+      within = changed-within b i l m b.tenants b.unbound_refusals s still at n refl in_range
           (record { setup = refl; names = refl; own = λ t. omega arith; unbound = omega arith })
           (λ t f. let k : None ≡ Some t = sym none ∙ f in absurd (cc)) (λ t ne. refl) (λ t f. refl);
       mine = λ t mine es k calm. owns-fates b.setup t mine b.last es b.lines (set b.lines i m) (pairwise-set (SameFate b.setup) (fate-same b.setup) b.lines i l m at (fate-greeted b.setup h l m g n e)) k;
@@ -104,12 +107,12 @@ turned-greeting b i l m h s still at able g n e =
 
 -- a greeting connection whose reply or request could not be kept is shut, with a count
 pub refused-greeting : (b : BrokerState) (i : ℕ) (l m : Line) (h : Bool) (x : ℕ) → IsSound b → AllByRecursion (IsStill l.number) b.lines → IsAt b.lines i l →
-    l.session.stage ≡ Greets h → m.number ≡ l.number → m.session ≡ shut_down l.session → b.unbound_refusals ≤ x → (IsCalm b.unbound_refusals x → ⊥) → Turned l.number b (changed b i m b.parts x)
+    l.session.stage ≡ Greets h → m.number ≡ l.number → m.session ≡ shut_down l.session → b.unbound_refusals ≤ x → (IsCalm b.unbound_refusals x → ⊥) → Turned l.number b (changed b i m b.tenants x)
 refused-greeting b i l m h x s still at g n e up rises =
     let none : whose l.session.stage ≡ None = ap whose g in
-    let in_range = subst (λ y. InRange (length b.parts) y.stage) (sym e) (range-without (length b.parts) l.session.stage (all-at _ b.lines i l at s.in_range)) in
+    let in_range = subst (λ y. InRange (length b.tenants) y.stage) (sym e) (range-without (length b.tenants) l.session.stage (all-at _ b.lines i l at s.in_range)) in
     record {
-      within = changed-within b i l m b.parts x s still at n refl in_range
+      within = changed-within b i l m b.tenants x s still at n refl in_range
           (record { setup = refl; names = refl; own = λ t. omega arith; unbound = up })
           (λ t f. let k : None ≡ Some t = sym none ∙ f in absurd (cc)) (λ t ne. refl) (λ t f. let k : None ≡ Some t = sym none ∙ f in absurd (cc));
       mine = λ t mine es k calm. absurd (rises calm);
@@ -135,55 +138,35 @@ hidden b i u l m s at p n t mine es k ne =
 pub bound-stays : (u : ℕ) (l m : Line) → IsBound u l.session → IsBound u m.session → (t : ℕ) → whose l.session.stage ≡ Some t → whose m.session.stage ≡ Some t
 bound-stays u l m p q t e = ap whose q.is ∙ (sym (ap whose p.is) ∙ e)
 
--- the turn of a bound connection
-pub turned-bound : (b : BrokerState) (i u : ℕ) (l m : Line) (w : Option Wait) → IsSound b → AllByRecursion (IsStill l.number) b.lines → IsAt b.lines i l → first_able b.lines ≡ Some l →
-    l.session.stage ≡ BoundTo u w → m.number ≡ l.number → m.session ≡ served b.setup (kept_of b u) b.clock l.session → Turned l.number b (changed b i m b.parts b.unbound_refusals)
-turned-bound b i u l m w s still at able g n e =
+-- the turn of a bound connection, which is a call for its tenant: where nothing was refused to the tenant, it is the machine's turn
+pub turned-bound : (b : BrokerState) (i u : ℕ) (l m : Line) (w : Option Wait) (H : Type 0) (ts : List TenantState) → IsSound b → AllByRecursion (IsStill l.number) b.lines → IsAt b.lines i l → first_able b.lines ≡ Some l →
+    l.session.stage ≡ BoundTo u w → m.number ≡ l.number → without_wait m.session.stage ≡ without_wait l.session.stage → IsTurn u H b.tenants ts → H →
+    (IsCalm (count b.tenants u) (count ts u) → (m.session ≡ served b.setup (kept_of b u) b.clock l.session) × (hosted.kept_of ts u ≡ put b.setup (kept_of b u) b.clock l.session.unread)) →
+    Turned l.number b (changed b i m ts b.unbound_refusals)
+turned-bound b i u l m w H ts s still at able g n same turn honest meets =
     let p : IsBound u l.session = record { wait = w; is = g } in
-    let same : without_wait m.session.stage ≡ without_wait l.session.stage = ap (λ (x : Session). without_wait x.stage) e ∙ stage-served b.setup (kept_of b u) b.clock l.session in
     let q : IsBound u m.session = bound-same u l.session m.session p same in
-    let in_range = range-same (length b.parts) l.session.stage m.session.stage same (all-at _ b.lines i l at s.in_range) in
-    let lines : set b.lines i m ≡ each (on l.number (served b.setup (kept_of b u) b.clock)) b.lines = set-on 0 b.last (served b.setup (kept_of b u) b.clock) b.lines i l m s.rising at n e in
+    let in_range = range-same (length b.tenants) l.session.stage m.session.stage same (all-at _ b.lines i l at s.in_range) in
+    let new = changed b i m ts b.unbound_refusals in
     record {
-      within = changed-within b i l m b.parts b.unbound_refusals s still at n refl in_range
-          (record { setup = refl; names = refl; own = λ t. omega arith; unbound = omega arith })
-          (bound-stays u l m p q) (λ t ne. refl) (λ t f. refl);
+      within = changed-within b i l m ts b.unbound_refusals s still at n (turn-length u H b.tenants ts turn) in_range (turn-grows b u H ts turn (set b.lines i m))
+          (bound-stays u l m p q) (λ t ne. turn.counts t (λ h. ne (ap whose q.is ∙ ap Some (sym h)))) (λ t f. refl);
       mine = λ t mine es k calm. bound-mine b i u l m at p q n t mine es k;
-      view = λ t mine es k calm. each-tenant (λ v. Mine v mine es b → turns (view_of v mine (changed b i m b.parts b.unbound_refusals)) ≡ turns (view_of v mine b)) u t (eqb u t) refl
-          (λ k'.
-          let x = view_of u mine b in
-          let yes : mine l.number ≡ true = mine-bound b.setup u mine es l u p (all-at (IsMine b.setup u mine es) b.lines i l at k'.now) ∙ grind (arith, nat_tests) in
-          let y = record x { kept = put x.kept x.clock l.session.unread; lines = those mine (each (on l.number (served x.setup x.kept x.clock)) b.lines) } in
-          ap (λ z. turns (record x { lines = those mine z })) lines
-          ∙ (ap (λ z. turns (record x { kept = z; lines = those mine (each (on l.number (served x.setup x.kept x.clock)) b.lines) })) (kept-one x.kept (put x.kept x.clock l.session.unread))
-          ∙ (ap turns (sym (all_woken-none y)) ∙ view-served mine x b.lines l u w able g refl yes)))
-          (λ ne k'. ap (λ z. turns (record (view_of t mine b) { lines = z })) (hidden b i u l m s at p n t mine es k' ne))
-          k;
-    }
-
--- a bound connection whose reply or request could not be kept is shut, with a count of its tenant
-pub refused-bound : (b : BrokerState) (i u : ℕ) (l m : Line) (w : Option Wait) (y x : Part) → IsSound b → AllByRecursion (IsStill l.number) b.lines → IsAt b.lines i l →
-    l.session.stage ≡ BoundTo u w → m.number ≡ l.number → m.session ≡ shut_down l.session → u < length b.parts → y ≡ get_or b.parts u y → x.name ≡ y.name → y.refusals ≤ x.refusals → (IsCalm y.refusals x.refusals → ⊥) →
-    Turned l.number b (changed b i m (set b.parts u x) b.unbound_refusals)
-refused-bound b i u l m w y x s still at g n e lt is name up rises =
-    let p : IsBound u l.session = record { wait = w; is = g } in
-    let same : without_wait m.session.stage ≡ without_wait l.session.stage = ap (λ (z : Session). without_wait z.stage) e ∙ stage-shut l.session in
-    let q : IsBound u m.session = bound-same u l.session m.session p same in
-    let in_range = range-same (length b.parts) l.session.stage m.session.stage same (all-at _ b.lines i l at s.in_range) in
-    record {
-      within = changed-within b i l m (set b.parts u x) b.unbound_refusals s still at n (length-set b.parts u x) in_range
-          (record { setup = refl; names = names-same b.parts u y x lt is name; own = count-grows b.parts u y x lt is up; unbound = omega arith })
-          (bound-stays u l m p q)
-          (λ t ne. count-other b.parts u t x (λ h. ne (ap whose q.is ∙ ap Some (sym h))))
-          (λ t f. refl);
-      mine = λ t mine es k calm. bound-mine b i u l m at p q n t mine es k;
-      view = λ t mine es k calm. each-tenant (λ v. Mine v mine es b → IsCalm (count b.parts v) (count (set b.parts u x) v) → turns (view_of v mine (changed b i m (set b.parts u x) b.unbound_refusals)) ≡ turns (view_of v mine b)) u t (eqb u t) refl
-          (λ k' c'. absurd (rises (rw (← count-at' b u y lt is, ← count-same b.parts u x lt) c')))
-          (λ ne k' c'.
-          ap (λ z. turns (record (view_of t mine b) { kept = kept_of (changed b i m (set b.parts u x) b.unbound_refusals) t; lines = z })) (hidden b i u l m s at p n t mine es k' ne)
-          ∙ ap (λ z. turns (record (view_of t mine b) { kept = z })) (kept-one (kept_of (changed b i m (set b.parts u x) b.unbound_refusals) t) (kept_of b t)))
+      view = λ t mine es k calm. each-tenant (λ v. Mine v mine es b → IsCalm (count b.tenants v) (count ts v) → turns (view_of v mine new) ≡ turns (view_of v mine b)) u t (eqb u t) refl
+          (λ k' c'. own b i u l m w ts s at able g n p mine es k' (meets c'))
+          (λ ne k' c'. ap (λ z. turns (record (view_of t mine b) { kept = hosted.kept_of ts t; lines = z })) (hidden b i u l m s at p n t mine es k' ne)
+          ∙ ap (λ z. turns (record (view_of t mine b) { kept = z })) (turn.others honest t ne))
           k calm.own;
     }
   where
-    count-at' : (b : BrokerState) (u : ℕ) (y : Part) → u < length b.parts → y ≡ get_or b.parts u y → count b.parts u ≡ y.refusals
-    count-at' b u y lt is = count-at b.parts u y lt is
+    own : (b : BrokerState) (i u : ℕ) (l m : Line) (w : Option Wait) (ts : List TenantState) → IsSound b → IsAt b.lines i l → first_able b.lines ≡ Some l → l.session.stage ≡ BoundTo u w → m.number ≡ l.number → IsBound u l.session →
+        (mine : ℕ → Bool) (es : List Happening) → Mine u mine es b → (m.session ≡ served b.setup (kept_of b u) b.clock l.session) × (hosted.kept_of ts u ≡ put b.setup (kept_of b u) b.clock l.session.unread) →
+        turns (view_of u mine (changed b i m ts b.unbound_refusals)) ≡ turns (view_of u mine b)
+    own b i u l m w ts s at able g n p mine es k done =
+        let x = view_of u mine b in
+        let lines : set b.lines i m ≡ each (on l.number (served b.setup (kept_of b u) b.clock)) b.lines = set-on 0 b.last (served b.setup (kept_of b u) b.clock) b.lines i l m s.rising at n done.0 in
+        let yes : mine l.number ≡ true = mine-bound b.setup u mine es l u p (all-at (IsMine b.setup u mine es) b.lines i l at k.now) ∙ grind (arith, nat_tests) in
+        let y = record x { kept = put x.setup x.kept x.clock l.session.unread; lines = those mine (each (on l.number (served x.setup x.kept x.clock)) b.lines) } in
+        ap (λ z. turns (record x { kept = hosted.kept_of ts u; lines = those mine z })) lines
+        ∙ (ap (λ z. turns (record x { kept = z; lines = those mine (each (on l.number (served x.setup x.kept x.clock)) b.lines) })) done.1
+        ∙ (ap turns (sym (all_woken-none y)) ∙ view-served mine x b.lines l u w able g refl yes))

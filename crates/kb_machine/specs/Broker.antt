@@ -1,23 +1,19 @@
 -- The broker of all tenants, and what each of its steps is to each tenant.
-use Rattle.std.specs.Prelude.{◌≡◌, ◌≢◌, ℕ, ◌-◌, ◌<◌, ◌≤◌, ◌^◌, ◌==◌, List, [], ◌∷◌, map, get_or, length, Option, Some, None, Bool, true, ⊤, ◌⊎◌}
+use Rattle.std.specs.Prelude.{◌≡◌, ◌≢◌, ℕ, ◌<◌, ◌≤◌, ◌^◌, ◌==◌, List, [], ◌∷◌, length, Option, Some, None, Bool, true, ⊤, ◌⊎◌}
 use Rattle.std.specs.List.{AllByRecursion}
-use Rattle.kb_machine.specs.Tenant.{Kept, Nothing}
+use Rattle.kb_world.specs.Steps.{IsCalm}
+use Rattle.kb_tenant.specs.Hosted as hosted
+use Rattle.kb_tenant.specs.Hosted.{Kept, TenantState, names_of}
 use Rattle.kb_machine.specs.Session.{Stage, Greets, BoundTo, Session}
 use Rattle.kb_machine.specs.Greeting.{Setup, User}
 use Rattle.kb_machine.specs.Machine.{Happening, Opens, Comes, Closes, Moment, Line, World, Sent, those, first_able, stepped, run}
 use Rattle.kb_machine.specs.Owners.{Owns, concerns, purge, owner, owned, find_line, whose}
 
--- a tenant's part of the broker: its name, what it keeps, and how many refusals were counted for it
-pub record Part : Type 0 where
-  pub name : List ℕ
-  pub kept : Kept
-  pub refusals : ℕ
-
 -- the broker: what is fixed, the tenants in byte order of names, the refusals that were counted for no tenant, the clock,
 -- the greatest number that a connection has had, and the open connections by rising number
 pub record BrokerState : Type 0 where
   pub setup : Setup
-  pub parts : List Part
+  pub tenants : List TenantState
   pub unbound_refusals : ℕ
   pub clock : ℕ
   pub last : ℕ
@@ -26,10 +22,10 @@ pub record BrokerState : Type 0 where
 -- 1. What a tenant sees of it
 
 abbrev pub kept_of : BrokerState → ℕ → Kept
-kept_of b t = get_or (map (λ (p : Part). p.kept) b.parts) t Nothing
+kept_of b t = hosted.kept_of b.tenants t
 
 abbrev pub refusals_of : BrokerState → ℕ → ℕ
-refusals_of b t = get_or (map (λ (p : Part). p.refusals) b.parts) t 0
+refusals_of b t = hosted.refusals_of b.tenants t
 
 -- the world of a tenant whose connections are those
 abbrev pub view_of : ℕ → (ℕ → Bool) → BrokerState → World
@@ -49,15 +45,6 @@ bound_to n b = bound_as (find_line n b.lines)
 
 -- 2. Refusals
 
--- where a count of refusals stays
-abbrev pub END : ℕ
-END = 2 ^ 64 - 1
-
--- nothing was refused: the count is as before, and can still rise
-pub record IsCalm (old new : ℕ) : Type 0 where
-  pub same : new ≡ old
-  pub below : old < END
-
 -- nothing was refused for the tenant, nor for a connection that was not bound
 pub record IsCalmFor (t : ℕ) (old new : BrokerState) : Type 0 where
   pub own : IsCalm (refusals_of old t) (refusals_of new t)
@@ -66,7 +53,7 @@ pub record IsCalmFor (t : ℕ) (old new : BrokerState) : Type 0 where
 -- what is fixed stays, there are as many tenants, and counts only rise
 pub record Grows (old new : BrokerState) : Type 0 where
   pub setup : new.setup ≡ old.setup
-  pub names : map (λ (p : Part). p.name) new.parts ≡ map (λ (p : Part). p.name) old.parts
+  pub names : names_of new.tenants ≡ names_of old.tenants
   pub own : (t : ℕ) → refusals_of old t ≤ refusals_of new t
   pub unbound : old.unbound_refusals ≤ new.unbound_refusals
 
@@ -109,8 +96,8 @@ Rising low last (l ∷ ls) = (low < l.number) × Rising l.number last ls
 -- numbers rise, and each tenant is one of the broker's
 pub record IsSound (b : BrokerState) : Type 0 where
   pub rising : Rising 0 b.last b.lines
-  pub in_range : AllByRecursion (λ l. InRange (length b.parts) l.session.stage) b.lines
-  pub users : AllByRecursion (λ (u : User). u.tenant < length b.parts) b.setup.users
+  pub in_range : AllByRecursion (λ l. InRange (length b.tenants) l.session.stage) b.lines
+  pub users : AllByRecursion (λ (u : User). u.tenant < length b.tenants) b.setup.users
   pub clock : b.clock ≤ 2 ^ 62
 
 -- and no connection can take a turn
@@ -163,4 +150,4 @@ IsUnowned n es b = owner b.setup b.lines es n ≡ None
 
 -- what a machine with nothing in it but that connection writes
 abbrev pub alone_unowned : ℕ → List Happening → BrokerState → List Sent
-alone_unowned n es b = run (purge (only n) es) (view_of (length b.parts) (only n) b)
+alone_unowned n es b = run (purge (only n) es) (view_of (length b.tenants) (only n) b)

@@ -1,10 +1,11 @@
 -- What the broker's calls answer, and the state that they leave.
-use Rattle.std.specs.Prelude.{◌≡◌, ℕ, ◌≤◌, ◌==◌, ◌&&◌, List, [], ◌∷◌, ◌++◌, max, Bool, true, false, not, Option, Some, None, if◌then◌else◌}
-use Rattle.std.specs.Str.{bytes_eq}
+use Rattle.std.specs.Prelude.{◌≡◌, ℕ, ◌≤◌, ◌==◌, ◌&&◌, List, [], ◌∷◌, ◌++◌, max, Bool, true, false, not, Option, Some, None}
 use Rattle.kb_machine.specs.Session.{Session, fresh, room}
 use Rattle.kb_machine.specs.Machine.{each, on, those}
 use Rattle.kb_machine.specs.Owners.{find_line}
-use Rattle.kb_machine.specs.Broker.{BrokerState, Part, IsCalm}
+use Rattle.kb_world.specs.Steps.{IsCalm}
+use Rattle.kb_tenant.specs.Hosted.{count_named, all_calm}
+use Rattle.kb_machine.specs.Broker.{BrokerState}
 
 -- 1. The state that a call leaves
 
@@ -72,17 +73,9 @@ room_of n b = room_in (find_line n b.lines)
 -- 3. Counts
 
 -- the count of the first tenant of that name, or 0
-abbrev pub count_named : List ℕ → List Part → ℕ
-count_named name [] = 0
-count_named name (p ∷ ps) = if bytes_eq p.name name then p.refusals else count_named name ps
-
 abbrev pub refusals_named : List ℕ → BrokerState → ℕ
-refusals_named name b = count_named name b.parts
-
-abbrev pub all_calm : List Part → Bool
-all_calm [] = true
-all_calm (p ∷ ps) = p.refusals == 0 && all_calm ps
+refusals_named name b = count_named name b.tenants
 
 -- no refusal has been counted
 abbrev pub is_calm : BrokerState → Bool
-is_calm b = b.unbound_refusals == 0 && all_calm b.parts
+is_calm b = b.unbound_refusals == 0 && all_calm b.tenants

@@ -9,6 +9,7 @@ use Rattle.kb_api_group.specs.declared.error_code.ErrorCode.{ErrorCode}
 use Rattle.kb_api_group.specs.declared.error_code.ErrorCode.TheVariants as errors
 use Rattle.kb_api_group.specs.declared.plain.PlainLogin.{PlainLogin}
 use Rattle.kb_api_group.specs.declared.api_versions.ApiVersion.{ApiVersion}
+use Rattle.kb_tenant.specs.declared.node.Node.{Node}
 use Rattle.kb_machine.specs.Requests.{Asked, Versions, OtherVersions, Handshake, Authenticate, Another, Unread, request}
 use Rattle.kb_machine.specs.Session.{Greets, BoundTo, Session, shut_down, replied}
 
@@ -18,10 +19,11 @@ pub record User : Type 0 where
   pub password : List ℕ
   pub tenant : ℕ
 
--- what is fixed while a broker runs: the versions that it lists, and its users
+-- what is fixed while a broker runs: the versions that it lists, its users, and where clients are told to connect to
 pub record Setup : Type 0 where
   pub versions : List ApiVersion
   pub users : List User
+  pub node : Node
 
 -- the tenant of the first user of that name and password
 abbrev pub tenant_of : List User → List ℕ → List ℕ → Option ℕ

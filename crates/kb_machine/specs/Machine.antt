@@ -2,8 +2,10 @@
 use Rattle.std.specs.Prelude.{ℕ, zero, suc, ◌+◌, ◌==◌, ℤ, List, [], ◌∷◌, ◌++◌, length, map, filter, Bool, true, false, not, if◌then◌else◌, Option, Some, None, nat_lt, max}
 use Rattle.kb_api_group.specs.Frames.{Front, Whole, Partial, TooSmall, TooLarge, front}
 use Rattle.kb_api_group.specs.declared.error_code.ErrorCode.TheVariants as errors
+use Rattle.kb_tenant.specs.Hosted.{Kept}
+use Rattle.kb_tenant.specs.Replies.{Reaction, Replies, Waits, Silent, Shuts}
 use Rattle.kb_machine.specs.Requests.{Asked, Versions, OtherVersions, Handshake, Authenticate, Another, Unread, request}
-use Rattle.kb_machine.specs.Tenant.{Kept, Wait, Answer, Replies, Waits, Silent, Shuts, kept_after, answer, ready, retained}
+use Rattle.kb_machine.specs.Tenant.{kept_after, answer, ready, retained}
 use Rattle.kb_machine.specs.Session.{Stage, Greets, BoundTo, Session, fresh, without_wait, shut_down, fed, replied, can}
 use Rattle.kb_machine.specs.Greeting.{Setup, greeted, versions_reply, handshake_reply, illegal_state}
 
@@ -28,13 +30,10 @@ pub data Happening : Type 0 where
 
 -- 1. Requests of a bound connection
 
-abbrev pub waiting : Stage → Wait → Stage
-waiting (Greets handshaken) wait = Greets handshaken
-waiting (BoundTo tenant old) wait = BoundTo tenant (Some wait)
-
-abbrev pub answered : Answer → ℤ → Session → Session
+-- what a request comes to; an answer of the tenant is never to wait so far
+abbrev pub answered : Reaction → ℤ → Session → Session
 answered (Replies body) id s = replied id body s
-answered (Waits wait) id s = record s { stage = waiting s.stage wait }
+answered (Waits deadline places) id s = s
 answered Silent id s = s
 answered Shuts id s = shut_down s
 
@@ -44,7 +43,7 @@ served_by setup kept clock id Versions s = replied id (versions_reply setup.vers
 served_by setup kept clock id OtherVersions s = replied id (versions_reply setup.versions errors.UnsupportedVersion) s
 served_by setup kept clock id (Handshake mechanism) s = replied id (handshake_reply errors.IllegalSaslState) s
 served_by setup kept clock id (Authenticate message) s = replied id illegal_state s
-served_by setup kept clock id (Another key version body) s = answered (answer kept clock key version body) id s
+served_by setup kept clock id (Another key version body) s = answered (answer setup.node kept clock key body) id s
 served_by setup kept clock id Unread s = shut_down s
 
 abbrev pub served_at : Setup → Kept → ℕ → Session → Front → Session
@@ -57,23 +56,23 @@ served_at setup kept clock s Partial = s
 unfoldable pub served : Setup → Kept → ℕ → Session → Session
 served setup kept clock s = served_at setup kept clock s (front s.unread)
 
-abbrev pub kept_by : Kept → ℕ → Asked → Kept
-kept_by kept clock Versions = kept
-kept_by kept clock OtherVersions = kept
-kept_by kept clock (Handshake mechanism) = kept
-kept_by kept clock (Authenticate message) = kept
-kept_by kept clock (Another key version body) = kept_after kept clock key version body
-kept_by kept clock Unread = kept
+abbrev pub kept_by : Setup → Kept → ℕ → Asked → Kept
+kept_by setup kept clock Versions = kept
+kept_by setup kept clock OtherVersions = kept
+kept_by setup kept clock (Handshake mechanism) = kept
+kept_by setup kept clock (Authenticate message) = kept
+kept_by setup kept clock (Another key version body) = kept_after setup.node kept clock key body
+kept_by setup kept clock Unread = kept
 
-abbrev pub kept_at : Kept → ℕ → Front → Kept
-kept_at kept clock (Whole frame rest) = kept_by kept clock (request frame).asked
-kept_at kept clock TooSmall = kept
-kept_at kept clock TooLarge = kept
-kept_at kept clock Partial = kept
+abbrev pub kept_at : Setup → Kept → ℕ → Front → Kept
+kept_at setup kept clock (Whole frame rest) = kept_by setup kept clock (request frame).asked
+kept_at setup kept clock TooSmall = kept
+kept_at setup kept clock TooLarge = kept
+kept_at setup kept clock Partial = kept
 
 -- what the turn of a bound connection leaves of what is kept
-unfoldable pub put : Kept → ℕ → List ℕ → Kept
-put kept clock unread = kept_at kept clock (front unread)
+unfoldable pub put : Setup → Kept → ℕ → List ℕ → Kept
+put setup kept clock unread = kept_at setup kept clock (front unread)
 
 -- 2. Waits
 
@@ -117,7 +116,7 @@ all_woken w = record w { lines = each (λ k s. woken w.kept w.clock s) w.lines }
 -- a bound connection's request: what is kept changes, then all waits that became ready are answered
 abbrev pub turn_at : World → ℕ → List ℕ → Stage → World
 turn_at w n unread (Greets handshaken) = record w { lines = each (on n (greeted w.setup handshaken)) w.lines }
-turn_at w n unread (BoundTo tenant wait) = all_woken (record w { kept = put w.kept w.clock unread; lines = each (on n (served w.setup w.kept w.clock)) w.lines })
+turn_at w n unread (BoundTo tenant wait) = all_woken (record w { kept = put w.setup w.kept w.clock unread; lines = each (on n (served w.setup w.kept w.clock)) w.lines })
 
 abbrev pub turn_of : World → Option Line → World
 turn_of w None = w

@@ -1,8 +1,8 @@
 -- What a connection's bytes ask, and how a reply is spelled (Kafka protocol guide, "Protocol Primitives", "Request Header").
-use Rattle.std.specs.Prelude.{ℕ, ℤ, pos, ◌+◌, List, [], ◌∷◌, ◌++◌, length, Bool, not, ◌&&◌, if◌then◌else◌, Result, Ok, Err}
+use Rattle.std.specs.Prelude.{ℕ, ℤ, pos, List, [], ◌∷◌, Bool, not, ◌&&◌, if◌then◌else◌, Result, Ok, Err}
 use Rattle.std.specs.Ordering.{int_eq}
 use Rattle.std.specs.List.{list_any}
-use Rattle.kb_wire.specs.Codec.{int32, whole}
+use Rattle.kb_wire.specs.Codec.{whole}
 use Rattle.kb_wire.specs.declared.fault.WireFault.{WireFault}
 use Rattle.kb_api_group.specs.Layouts.{request_start, request_header, api_versions_request, sasl_handshake_request, sasl_authenticate_request}
 use Rattle.kb_api_group.specs.declared.header.RequestStart.{RequestStart}
@@ -68,11 +68,3 @@ request_at frame (Ok s) = record {
 -- the request of a frame
 unfoldable pub request : List ℕ → Request
 request frame = request_at frame (request_start.read frame)
-
--- the size of a reply, whose body stands behind its correlation id
-abbrev pub reply_size : List ℕ → ℕ
-reply_size body = 4 + length body
-
--- a reply: its size, its correlation id and its body
-unfoldable pub reply : ℤ → List ℕ → List ℕ
-reply correlation_id body = int32.written (pos (reply_size body)) ++ (int32.written correlation_id ++ body)

@@ -1,7 +1,7 @@
 -- What a connection has, and what happens to it alone.
 use Rattle.std.specs.Prelude.{ℕ, ℤ, ◌-◌, List, [], ◌++◌, length, Bool, true, false, ◌&&◌, if◌then◌else◌, nat_lt, Option, Some, None}
 use Rattle.kb_api_group.specs.Frames.{Front, Whole, Partial, TooSmall, TooLarge, front}
-use Rattle.kb_machine.specs.Requests.{reply, reply_size}
+use Rattle.kb_tenant.specs.Replies.{framed, reply_size}
 use Rattle.kb_machine.specs.Tenant.{Wait}
 
 -- whether a connection still greets, and then whether a mechanism was accepted, or the tenant that it is bound to and its waiting request
@@ -41,7 +41,7 @@ fed piece s = if s.shut then s else if nat_lt (room s) (length piece) then shut_
 
 -- a reply is sent, unless its size does not fit an INT32: then the connection is shut
 unfoldable pub replied : ℤ → List ℕ → Session → Session
-replied correlation_id body s = if nat_lt 2147483647 (reply_size body) then shut_down s else record s { output = s.output ++ reply correlation_id body }
+replied correlation_id body s = if nat_lt 2147483647 (reply_size body) then shut_down s else record s { output = s.output ++ framed correlation_id body }
 
 abbrev pub is_free : Stage → Bool
 is_free (Greets handshaken) = true

@@ -1,32 +1,37 @@
--- What a tenant keeps, and what its own requests mean. So far a tenant keeps nothing, and none of its requests is served.
+-- What a tenant's own requests mean to its machine. So far no fetch waits: one that would is answered at once with what there is.
 use Rattle.std.specs.Prelude.{ℕ, ℤ, List, Option, None}
-
--- what a tenant keeps
-pub data Kept : Type 0 where
-  Nothing : Kept
+use Rattle.kb_world.specs.World as world
+use Rattle.kb_tenant.specs.Hosted.{Kept, world_at, kept_in}
+use Rattle.kb_tenant.specs.Replies.{Reaction, Replies, Waits, Silent, Shuts}
+use Rattle.kb_tenant.specs.Serve.{Outcome, served, looked}
+use Rattle.kb_tenant.specs.declared.node.Node.{Node}
 
 -- a request that waits for its answer: no request does so far
 pub data Wait : Type 0 where
 
--- what a tenant's request comes to for its connection: a reply, a wait, no reply, or the connection is shut
-pub data Answer : Type 0 where
-  Replies : (body : List ℕ) → Answer
-  Waits : (wait : Wait) → Answer
-  Silent : Answer
-  Shuts : Answer
+-- what a request makes of the tenant's world, and comes to
+abbrev pub outcome : Node → Kept → ℕ → ℤ → List ℕ → Outcome
+outcome node kept clock key body = served node (world_at kept clock) key body
 
 -- what is kept after a request
-unfoldable pub kept_after : Kept → ℕ → ℤ → ℤ → List ℕ → Kept
-kept_after kept clock key version body = kept
+unfoldable pub kept_after : Node → Kept → ℕ → ℤ → List ℕ → Kept
+kept_after node kept clock key body = kept_in (outcome node kept clock key body).world
 
--- what a request is answered
-unfoldable pub answer : Kept → ℕ → ℤ → ℤ → List ℕ → Answer
-answer kept clock key version body = Shuts
+-- a fetch that would wait is looked at as one whose deadline has come
+abbrev pub at_once : world.World → List ℕ → Reaction → Reaction
+at_once w body (Replies reply) = Replies reply
+at_once w body (Waits deadline places) = looked w 0 body
+at_once w body Silent = Silent
+at_once w body Shuts = Shuts
+
+-- what a request comes to for its connection
+unfoldable pub answer : Node → Kept → ℕ → ℤ → List ℕ → Reaction
+answer node kept clock key body = let o = outcome node kept clock key body in at_once o.world body o.reaction
 
 -- the reply to a waiting request, where it is ready
 unfoldable pub ready : Kept → ℕ → Wait → Option (ℤ × List ℕ)
 ready kept clock wait = None
 
--- what is kept after the tenant's own part of a moment
+-- what is kept after the tenant's own part of a moment: nothing is dropped so far
 unfoldable pub retained : ℕ → Kept → Kept
 retained clock kept = kept

@@ -25,4 +25,4 @@ tell mine (e ∷ es) w = let next = stepped (concerns mine e) e w in said w.line
 -- without owner what a machine with nothing in it but that connection says
 pub record Tells (b : BrokerState) (es : List Happening) (steps : List (List Sent)) : Type 0 where
   pub owned : (t : ℕ) → map (those_sent (owned_by t es b)) steps ≡ tell (owned_by t es b) es (view_of t (owned_by t es b) b)
-  pub unowned : (n : ℕ) → IsUnowned n es b → map (those_sent (only n)) steps ≡ tell (only n) es (view_of (length b.parts) (only n) b)
+  pub unowned : (n : ℕ) → IsUnowned n es b → map (those_sent (only n)) steps ≡ tell (only n) es (view_of (length b.tenants) (only n) b)

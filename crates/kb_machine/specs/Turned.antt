@@ -4,7 +4,8 @@ use Rattle.std.specs.List.{AllByRecursion}
 use Rattle.kb_machine.specs.Session.{can}
 use Rattle.kb_machine.specs.Machine.{Happening, Comes, Line, turns, stepped}
 use Rattle.kb_machine.specs.Owners.{find_line}
-use Rattle.kb_machine.specs.Broker.{BrokerState, IsSound, Grows, IsCalm, IsCalmFor, Mine, view_of, refusals_of, bound_to}
+use Rattle.kb_world.specs.Steps.{IsCalm}
+use Rattle.kb_machine.specs.Broker.{BrokerState, IsSound, Grows, IsCalmFor, Mine, view_of, refusals_of, bound_to}
 use Rattle.kb_machine.specs.Calls.{is_open}
 
 -- another connection than that cannot take a turn

@@ -2,7 +2,7 @@
 ghost use Rattle.std.specs.Prelude.{◌≡◌, ◌≤◌, ◌++◌, ◌∷◌, ℕ, ℤ, List, Bool, true, length, Some, None};
 ghost use Rattle.kb_machine.specs.Session.{Session, Stage, BoundTo, LIMIT, fed, shut_down};
 ghost use Rattle.kb_machine.specs.Requests.{Another, Authenticate};
-ghost use Rattle.kb_machine.specs.Tenant.{Kept, Wait};
+ghost use Rattle.kb_tenant.specs.Hosted.{Kept};
 ghost use Rattle.kb_machine.specs.Greeting.{Setup, greeted_by, login};
 ghost use Rattle.kb_machine.specs.Machine.{World, Line, Happening, Sent, first_able, turns, those, those_sent, served, stepped, leaving, run, by_number};
 ghost use Rattle.kb_machine.specs.Owners.{whose, concerns, purge};

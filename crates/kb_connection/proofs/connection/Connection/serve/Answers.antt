@@ -1,5 +1,6 @@
 use Rattle.std.proofs.Common.{ap}
 use Rattle.kb_machine.specs.Machine.{Line}
+use Rattle.kb_connection.proofs.Fronts.{own_frame}
 use Rattle.kb_connection.proofs.Turning.{serve_more, serve_bad, serve_frame}
 use Rattle.kb_connection.proofs.connection.Connection.serve.Goals as goal
 
@@ -10,4 +11,7 @@ pub returns-in-TooSmall-clause-ok : goal.returns-in-TooSmall-clause-ok
 returns-in-TooSmall-clause-ok c kept clock = serve_bad c.args.setup.now kept clock _ _ _ _ (ap (λ (l : Line). l.session.unread) c.self.view_is) c.next.ensures c.in-TooSmall.is c.shut_down.ensures
 
 pub returns-in-Frame-clause-ok : goal.returns-in-Frame-clause-ok
-returns-in-Frame-clause-ok c kept clock = serve_frame c.args.setup.now kept clock _ _ _ _ _ _ _ (ap (λ (l : Line). l.session.unread) c.self.view_is) c.in-Frame.ensures c.as_slice.ensures c.bound_reaction-reaction.ensures c.take_turn.ensures.ok
+returns-in-Frame-clause-ok c kept clock =
+    let same = ap (λ (l : Line). l.session.unread) c.self.view_is in
+    let own = own_frame _ _ _ _ same c.in-Frame.ensures c.as_slice.ensures c.requires in
+    serve_frame c.args.setup.now kept clock _ _ _ _ _ _ _ same c.in-Frame.ensures c.as_slice.ensures (c.bound_reaction-reaction.ensures own) c.take_turn.ensures.ok

@@ -1,0 +1,35 @@
+-- Whose the request is that stands in front of a bound connection: its tenant's, or a matter of the connection alone.
+use Rattle.std.specs.Prelude.{◌≡◌, ℕ, ℤ, List, Bool, true, false}
+use Rattle.kb_api_group.specs.Frames.{Front, Whole, Partial, TooSmall, TooLarge, front}
+use Rattle.kb_tenant.specs.Hosted.{Kept}
+use Rattle.kb_machine.specs.Requests.{Asked, Versions, OtherVersions, Handshake, Authenticate, Another, Unread, request}
+use Rattle.kb_machine.specs.Session.{Session}
+use Rattle.kb_machine.specs.Tenant.{answer, kept_after}
+use Rattle.kb_machine.specs.Greeting.{Setup}
+use Rattle.kb_machine.specs.Machine.{answered, served, put}
+use Rattle.kb_connection.specs.View.{without_front}
+
+abbrev pub is_tenants : Asked → Bool
+is_tenants Versions = false
+is_tenants OtherVersions = false
+is_tenants (Handshake mechanism) = false
+is_tenants (Authenticate message) = false
+is_tenants (Another key version body) = true
+is_tenants Unread = false
+
+abbrev pub is_tenants_at : Front → Bool
+is_tenants_at (Whole frame rest) = is_tenants (request frame).asked
+is_tenants_at Partial = false
+is_tenants_at TooSmall = false
+is_tenants_at TooLarge = false
+
+-- no request of the tenant stands in front: what the tenant keeps stays
+pub record IsOwn (s : Session) : Type 0 where
+  pub own : is_tenants_at (front s.unread) ≡ false
+  pub put : (setup : Setup) (kept : Kept) (clock : ℕ) → put setup kept clock s.unread ≡ kept
+
+-- this request of the tenant stands in front
+pub record IsAsked (s : Session) (key id : ℤ) (body : List ℕ) : Type 0 where
+  pub tenants : is_tenants_at (front s.unread) ≡ true
+  pub served : (setup : Setup) (kept : Kept) (clock : ℕ) → served setup kept clock s ≡ answered (answer setup.node kept clock key body) id (without_front s)
+  pub put : (setup : Setup) (kept : Kept) (clock : ℕ) → put setup kept clock s.unread ≡ kept_after setup.node kept clock key body

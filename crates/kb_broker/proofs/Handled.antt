@@ -8,44 +8,23 @@ use Rattle.std.specs.Bool.{MatchBool}
 use Rattle.std.proofs.lemmas.List.{get_or_default, length-map}
 use Rattle.std.proofs.lemmas.List.Sums.{list_all-from_AllPass}
 use Rattle.std.proofs.lemmas.List.Folds.{list_all_at}
-use Rattle.kb_machine.specs.Tenant.{Kept, Nothing}
+use Rattle.kb_tenant.specs.Hosted.{TenantState}
 use Rattle.kb_machine.specs.Session.{Stage, Greets, BoundTo, Session, fresh, shut_down, fed, can}
 use Rattle.kb_machine.specs.Greeting.{Setup}
 use Rattle.kb_machine.specs.Machine.{Comes, Line, first_able}
 use Rattle.kb_machine.specs.Owners.{find_line}
-use Rattle.kb_machine.specs.Broker.{BrokerState, Part, IsReady, IsSound, IsStep, IsUntaken, is_deaf, InRange, kept_of}
-use Rattle.kb_machine.specs.Calls.{all_calm, is_calm}
+use Rattle.kb_machine.specs.Broker.{BrokerState, IsReady, IsSound, IsStep, IsUntaken, is_deaf, InRange, kept_of}
 use Rattle.kb_machine.specs.Turned.{IsStill, IsWithin, IsFed, Turned}
 use Rattle.kb_machine.proofs.Laws.{can-turn, some-left, greeted-less, served-less}
 use Rattle.kb_machine.proofs.Sets.{IsAt, all-at, set-at, first-still, still-none}
-use Rattle.kb_machine.proofs.Turns.{turned-greeting, turned-bound, refused-greeting, refused-bound, turned-then}
+use Rattle.kb_machine.proofs.Parts.{count, turn-then, calm-right}
+use Rattle.kb_machine.proofs.Turns.{turned-greeting, turned-bound, refused-greeting, turned-then}
 use Rattle.kb_machine.proofs.Feeds.{fed-kept, fed-refused, fed-bound, step-comes, step-nothing, step-shut}
 use Rattle.kb_connection.specs.View.{with_session}
-use Rattle.kb_broker.specs.Places.{numbers, number_at, unread_at, session_by, session_after, IsTurning, IsCountedAt}
+use Rattle.kb_broker.specs.Places.{numbers, number_at, unread_at, IsSpent, IsTakenAt, IsTurnAt, IsTurning, IsCountedAt}
 use Rattle.kb_broker.proofs.Placed.{IsFound, at-read, get-at, find-found, number_at-is, unread_at-is, numbers-set}
 
--- 1. Counts
-
-abbrev pub uncounted : Part → Bool
-uncounted p = eqb p.refusals 0
-
-calm-list : (ps : List Part) → list_all uncounted ps ≡ all_calm ps
-calm-list [] = refl
-calm-list (p ∷ ps) = ap (λ (b : Bool). uncounted p && b) (calm-list ps)
-
--- what `all` answers of a test of each count
-calm-cases : (ps : List Part) (r : Bool) → MatchBool r (AllWithin (λ p. uncounted p ≡ true) ps 0 (length ps)) ((k : ℕ) × (k < length ps) × HoldsAt (λ p. uncounted p ≡ false) ps k) → r ≡ list_all uncounted ps
-calm-cases ps true h = sym (list_all-from_AllPass uncounted ps (λ k d lt. h k d (omega arith) lt))
-calm-cases ps false h =
-    let d : Part = record { name = []; kept = Nothing; refusals = 0 } in
-    sym (list_all_at uncounted ps h.0 d h.1 (h.2 d))
-
-pub calm-all : (a b : BrokerState) (ps : List Part) (r : Bool) → a ≡ b → a.unbound_refusals ≡ 0 → ps ≡ a.parts → MatchBool r (AllWithin (λ p. uncounted p ≡ true) ps 0 (length ps)) ((k : ℕ) × (k < length ps) × HoldsAt (λ p. uncounted p ≡ false) ps k) → r ≡ is_calm b
-calm-all a b ps r e z h all =
-    let zero : eqb a.unbound_refusals 0 ≡ true = grind (arith, nat_tests) in
-    calm-cases ps r all ∙ (ap (λ x. list_all uncounted x) h ∙ (calm-list a.parts ∙ (sym (ap (λ (t : Bool). t && all_calm a.parts) zero) ∙ ap is_calm e)))
-
--- 2. A connection at a place changes
+-- 1. A connection at a place changes
 
 -- the connection at a place is another
 abbrev pub put_at : BrokerState → ℕ → Line → BrokerState
@@ -75,36 +54,62 @@ fed-put a b i l m piece e ready at is =
     let g : IsFed (number_at i b) piece b (put_at b i m) = subst (λ n. IsFed n piece b (put_at b i m)) (sym (number_at-is b i l at)) f in
     subst (λ (x : BrokerState). IsFed (number_at i b) piece b (put_at x i m)) (sym e) g
 
--- 3. A turn was taken
+-- 2. A turn was taken
 
-served-put : (b : BrokerState) (i : ℕ) (l m : Line) (st : Stage) → IsSound b → AllByRecursion (IsStill l.number) b.lines → IsAt b.lines i l → first_able b.lines ≡ Some l → l.session.stage ≡ st → m.number ≡ l.number → ((kept : Kept) (clock : ℕ) → m.session ≡ session_by b.setup kept clock l.session st) → Turned l.number b (put_at b i m)
-served-put b i l m (Greets h) sound still at first s n e = turned-greeting b i l m h sound still at first s n (e (kept_of b 0) 0)
-served-put b i l m (BoundTo t w) sound still at first s n e = turned-bound b i t l m w sound still at first s n (e (kept_of b t) b.clock)
+-- the connection at a place is another, and so are the tenants
+abbrev pub put_with : BrokerState → ℕ → Line → List TenantState → BrokerState
+put_with b i m us = record b { lines = set b.lines i m; tenants = us }
 
 -- no other connection can take a turn, in the words of the one that can
 still-at : (b : BrokerState) (i : ℕ) (l : Line) → IsTurning i b → IsAt b.lines i l → AllByRecursion (IsStill l.number) b.lines
 still-at b i l t at = subst (λ n. AllByRecursion (IsStill n) b.lines) (number_at-is b i l at) t.still
 
-pub turned-put : (a b : BrokerState) (i : ℕ) (l m : Line) → a ≡ b → IsTurning i b → IsAt b.lines i l → can l.session ≡ true → ((kept : Kept) (clock : ℕ) → m ≡ with_session l (session_after a.setup kept clock l.session)) → Turned (number_at i b) b (put_at a i m)
-turned-put a b i l m e t at able is =
-    let is' = λ (kept : Kept) (clock : ℕ). let h : m ≡ with_session l (session_after b.setup kept clock l.session) = subst (λ (x : BrokerState). m ≡ with_session l (session_after x.setup kept clock l.session)) e (is kept clock) in h in
-    let still = still-at b i l t at in
-    let first = first-still 0 b.last b.lines i l t.sound.rising at still able in
-    let f = served-put b i l m l.session.stage t.sound still at first refl (ap (λ (x : Line). x.number) (is' (kept_of b 0) 0)) (λ kept clock. ap (λ (x : Line). x.session) (is' kept clock)) in
-    let g : Turned (number_at i b) b (put_at b i m) = subst (λ n. Turned n b (put_at b i m)) (sym (number_at-is b i l at)) f in
-    subst (λ (x : BrokerState). Turned (number_at i b) b (put_at x i m)) (sym e) g
+-- of the connection at a place and of the tenants, what its turn left in any case
+pub record IsTaken (b : BrokerState) (i : ℕ) (l m : Line) (us : List TenantState) : Type 0 where
+  pub turning : IsTurning i b
+  pub at : IsAt b.lines i l
+  pub able : can l.session ≡ true
+  pub number : m.number ≡ l.number
+  pub spent : IsSpent l.session m.session
+  pub turn : IsTurnAt l.session.stage b.tenants us
 
-less-by : (setup : Setup) (kept : Kept) (clock : ℕ) (s : Session) (st : Stage) → can s ≡ true → length (session_by setup kept clock s st).unread < length s.unread
-less-by setup kept clock s (Greets h) able = greeted-less setup h s (can-turn s able)
-less-by setup kept clock s (BoundTo t w) able = served-less setup kept clock s (can-turn s able)
+pub can-at : (b : BrokerState) (i : ℕ) (l : Line) → IsAt b.lines i l → ((d : Line) → can (get_or b.lines i d).session ≡ true) → can l.session ≡ true
+can-at b i l at able = ap (λ (x : Line). can x.session) at.here ∙ able l
 
-pub less-served : (a b : BrokerState) (i : ℕ) (l m : Line) → a ≡ b → IsAt b.lines i l → can l.session ≡ true → ((kept : Kept) (clock : ℕ) → m ≡ with_session l (session_after a.setup kept clock l.session)) → unread_at i (put_at a i m) < unread_at i b
-less-served a b i l m e at able is =
-    let lt = less-by a.setup (kept_of b 0) 0 l.session l.session.stage able in
-    let same = ap (λ (x : Line). length x.session.unread) (is (kept_of b 0) 0) in
-    less-put b (put_at a i m) i l m at (ap (λ (x : BrokerState). set x.lines i m) e) (omega (arith, lt, same))
+-- the same, where a is what the broker's own fields are
+pub taken-at : (a b : BrokerState) (i : ℕ) (l m : Line) (us : List TenantState) → a ≡ b → IsTurning i b → l ≡ get_or a.lines i l → ((d : Line) → can (get_or b.lines i d).session ≡ true) → m.number ≡ l.number → IsSpent l.session m.session → IsTurnAt l.session.stage a.tenants us → IsTaken b i l m us
+taken-at a b i l m us e turning read able n spent turn =
+    let at = at-read a b i l e turning.within read in
+    record {
+      turning = turning;
+      at = at;
+      able = can-at b i l at able;
+      number = n;
+      spent = spent;
+      turn = subst (λ (x : BrokerState). IsTurnAt l.session.stage x.tenants us) e turn;
+    }
 
--- 4. A connection was shut at a place, with a count
+taken-by : (b : BrokerState) (i : ℕ) (l m : Line) (us : List TenantState) (st : Stage) → IsSound b → AllByRecursion (IsStill l.number) b.lines → IsAt b.lines i l → first_able b.lines ≡ Some l → l.session.stage ≡ st → m.number ≡ l.number → IsSpent l.session m.session →
+    IsTurnAt st b.tenants us → IsTakenAt b.setup b.clock st b.tenants us l.session m.session → Turned l.number b (put_with b i m us)
+taken-by b i l m us (Greets h) sound still at first s n spent turn is = subst (λ ts. Turned l.number b (put_with b i m ts)) (sym turn) (turned-greeting b i l m h sound still at first s n is)
+taken-by b i l m us (BoundTo t w) sound still at first s n spent turn is = turned-bound b i t l m w (Unit {0}) us sound still at first s n (spent.stage t w s) turn tt (is tt)
+
+first-at : (b : BrokerState) (i : ℕ) (l m : Line) (us : List TenantState) → IsTaken b i l m us → first_able b.lines ≡ Some l
+first-at b i l m us h = first-still 0 b.last b.lines i l h.turning.sound.rising h.at (still-at b i l h.turning h.at) h.able
+
+-- nothing was refused to the connection
+pub turned-taken : (b : BrokerState) (i : ℕ) (l m : Line) (us : List TenantState) → IsTaken b i l m us → IsTakenAt b.setup b.clock l.session.stage b.tenants us l.session m.session → Turned (number_at i b) b (put_with b i m us)
+turned-taken b i l m us h is =
+    let f = taken-by b i l m us l.session.stage h.turning.sound (still-at b i l h.turning h.at) h.at (first-at b i l m us h) refl h.number h.spent h.turn is in
+    subst (λ n. Turned n b (put_with b i m us)) (sym (number_at-is b i l h.at)) f
+
+pub numbers-taken : (b : BrokerState) (i : ℕ) (l m : Line) (us : List TenantState) → IsTaken b i l m us → numbers (put_with b i m us) ≡ numbers b
+numbers-taken b i l m us h = numbers-set b.lines i l m h.at h.number
+
+pub less-taken : (b : BrokerState) (i : ℕ) (l m : Line) (us : List TenantState) → IsTaken b i l m us → unread_at i (put_with b i m us) < unread_at i b
+less-taken b i l m us h = less-put b (put_with b i m us) i l m h.at refl h.spent.less
+
+-- 3. A connection was shut at a place, with a count
 
 pub record IsShut (b c : BrokerState) (i : ℕ) (l m : Line) (st : Stage) : Type 0 where
   pub at : IsAt b.lines i l
@@ -123,24 +128,11 @@ lines-counted : (st : Stage) (b c : BrokerState) → IsCountedAt st b c → c.li
 lines-counted (Greets h) b c r = ap (λ (x : BrokerState). x.lines) r.is
 lines-counted (BoundTo t w) b c r = ap (λ (x : BrokerState). x.lines) r.is
 
-at-part : (ps : List Part) (t : ℕ) (d : Part) → t < length ps → get_or ps t d ≡ get_or ps t (get_or ps t d)
-at-part ps t d lt = get_or_default ps t d (get_or ps t d) lt
-
 fed-counted : (b c : BrokerState) (i : ℕ) (l m : Line) (piece : List ℕ) (st : Stage) → IsReady b → IsAt b.lines i l → l.session.stage ≡ st → m.number ≡ l.number → m.session ≡ shut_down l.session → IsCountedAt st (put_at b i m) c → IsFed l.number piece b c
 fed-counted b c i l m piece (Greets h) ready at s n e r =
     subst (λ x. IsFed l.number piece b x) (sym r.is) (fed-refused b i l m piece h c.unbound_refusals ready at s n e r.grows r.counted)
 fed-counted b c i l m piece (BoundTo t w) ready at s n e r =
-    let lt : t < length b.parts = subst (InRange (length b.parts)) s (all-at _ b.lines i l at ready.sound.in_range) in
-    let y = get_or b.parts t r.part in
-    subst (λ x. IsFed l.number piece b x) (sym r.is) (fed-bound b i t l m piece w y r.part ready at s n e lt (at-part b.parts t r.part lt) (r.name r.part) (r.grows r.part) (r.counted r.part))
-
-turned-counted : (b c : BrokerState) (i : ℕ) (l m : Line) (st : Stage) → IsSound b → AllByRecursion (IsStill l.number) b.lines → IsAt b.lines i l → l.session.stage ≡ st → m.number ≡ l.number → m.session ≡ shut_down l.session → IsCountedAt st (put_at b i m) c → Turned l.number b c
-turned-counted b c i l m (Greets h) sound still at s n e r =
-    subst (λ x. Turned l.number b x) (sym r.is) (refused-greeting b i l m h c.unbound_refusals sound still at s n e r.grows r.counted)
-turned-counted b c i l m (BoundTo t w) sound still at s n e r =
-    let lt : t < length b.parts = subst (InRange (length b.parts)) s (all-at _ b.lines i l at sound.in_range) in
-    let y = get_or b.parts t r.part in
-    subst (λ x. Turned l.number b x) (sym r.is) (refused-bound b i t l m w y r.part sound still at s n e lt (at-part b.parts t r.part lt) (r.name r.part) (r.grows r.part) (r.counted r.part))
+    subst (λ x. IsFed l.number piece b x) (sym r.is) (fed-bound b i t l m piece w (Unit {0}) c.tenants ready at s n e r.turn tt r.counted)
 
 pub numbers-shut : (b c : BrokerState) (i : ℕ) (l m : Line) (st : Stage) → IsShut b c i l m st → numbers c ≡ numbers b
 numbers-shut b c i l m st h = ap (λ (ls : List Line). map (λ (x : Line). x.number) ls) (lines-counted st (put_at b i m) c h.counted) ∙ numbers-set b.lines i l m h.at (ap (λ (x : Line). x.number) h.is)
@@ -149,20 +141,29 @@ pub fed-shut : (b c : BrokerState) (i : ℕ) (l m : Line) (piece : List ℕ) (st
 fed-shut b c i l m piece st ready h =
     subst (λ n. IsFed n piece b c) (sym (number_at-is b i l h.at)) (fed-counted b c i l m piece st ready h.at h.stage (ap (λ (x : Line). x.number) h.is) (ap (λ (x : Line). x.session) h.is) h.counted)
 
-pub turned-shut : (b c : BrokerState) (i : ℕ) (l m : Line) (st : Stage) → IsTurning i b → IsShut b c i l m st → Turned (number_at i b) b c
-turned-shut b c i l m st t h =
-    subst (λ n. Turned n b c) (sym (number_at-is b i l h.at)) (turned-counted b c i l m st t.sound (still-at b i l t h.at) h.at h.stage (ap (λ (x : Line). x.number) h.is) (ap (λ (x : Line). x.session) h.is) h.counted)
+-- a turn that was refused to the connection, and counted
+refused-by : (b c : BrokerState) (i : ℕ) (l m : Line) (us : List TenantState) (st : Stage) → IsTaken b i l m us → l.session.stage ≡ st → m.session ≡ shut_down l.session → IsTurnAt st b.tenants us → IsCountedAt st (put_with b i m us) c → Turned l.number b c
+refused-by b c i l m us (Greets h) k s e turn r =
+    let f = refused-greeting b i l m h c.unbound_refusals k.turning.sound (still-at b i l k.turning k.at) k.at s k.number e r.grows r.counted in
+    let g = subst (λ ts. Turned l.number b (record (put_with b i m ts) { unbound_refusals = c.unbound_refusals })) (sym turn) f in
+    subst (λ x. Turned l.number b x) (sym r.is) g
+refused-by b c i l m us (BoundTo t w) k s e turn r =
+    let both = turn-then t (Unit {0}) (Unit {0}) b.tenants us c.tenants (λ u. u) turn r.turn in
+    let f = turned-bound b i t l m w (Unit {0}) c.tenants k.turning.sound (still-at b i l k.turning k.at) k.at (first-at b i l m us k) s k.number (k.spent.stage t w s) both tt
+    (λ calm. absurd (r.counted (calm-right (count b.tenants t) (count us t) (count c.tenants t) (turn.grows t) (r.turn.grows t) calm))) in
+    subst (λ x. Turned l.number b x) (sym r.is) f
 
-pub less-shut : (b c : BrokerState) (i : ℕ) (l m : Line) (st : Stage) → can l.session ≡ true → IsShut b c i l m st → unread_at i c < unread_at i b
-less-shut b c i l m st able h =
-    let some = some-left l.session.unread (can-turn l.session able) in
-    let none = ap (λ (x : Line). length x.session.unread) h.is in
-    less-put b c i l m h.at (lines-counted st (put_at b i m) c h.counted) (omega (arith, some, none))
+pub turned-refused : (b c : BrokerState) (i : ℕ) (l m : Line) (us : List TenantState) → IsTaken b i l m us → m ≡ with_session l (shut_down l.session) → IsCountedAt l.session.stage (put_with b i m us) c → Turned (number_at i b) b c
+turned-refused b c i l m us h e r =
+    subst (λ n. Turned n b c) (sym (number_at-is b i l h.at)) (refused-by b c i l m us l.session.stage h refl (ap (λ (x : Line). x.session) e) h.turn r)
 
--- 5. Turns until none is left
+pub numbers-refused : (b c : BrokerState) (i : ℕ) (l m : Line) (us : List TenantState) → IsTaken b i l m us → IsCountedAt l.session.stage (put_with b i m us) c → numbers c ≡ numbers b
+numbers-refused b c i l m us h r = ap (λ (ls : List Line). map (λ (x : Line). x.number) ls) (lines-counted l.session.stage (put_with b i m us) c r) ∙ numbers-taken b i l m us h
 
-pub can-at : (b : BrokerState) (i : ℕ) (l : Line) → IsAt b.lines i l → ((d : Line) → can (get_or b.lines i d).session ≡ true) → can l.session ≡ true
-can-at b i l at able = ap (λ (x : Line). can x.session) at.here ∙ able l
+pub less-refused : (b c : BrokerState) (i : ℕ) (l m : Line) (us : List TenantState) → IsTaken b i l m us → IsCountedAt l.session.stage (put_with b i m us) c → unread_at i c < unread_at i b
+less-refused b c i l m us h r = less-put b c i l m h.at (lines-counted l.session.stage (put_with b i m us) c r) h.spent.less
+
+-- 4. Turns until none is left
 
 pub able-at : (b : BrokerState) (i : ℕ) (l : Line) → IsAt b.lines i l → can l.session ≡ true → (d : Line) → can (get_or b.lines i d).session ≡ true
 able-at b i l at able d = ap (λ (x : Line). can x.session) (get_or_default b.lines i d l at.within ∙ sym at.here) ∙ able
@@ -183,7 +184,7 @@ turned-more a b c i e p q = turned-then (number_at i a) a b c p (subst (λ (ns :
 pub settled-at : (b : BrokerState) (i : ℕ) (l : Line) → IsTurning i b → IsAt b.lines i l → can l.session ≡ false → first_able b.lines ≡ None
 settled-at b i l t at f = still-none 0 b.last b.lines i l t.sound.rising at (still-at b i l t at) f
 
--- 6. A piece that came
+-- 5. A piece that came
 
 pub empty-is : (xs : List ℕ) (r : Bool) → r ≡ eqb (length xs) 0 → r ≡ true → xs ≡ []
 empty-is [] r e t = refl

@@ -6,6 +6,7 @@ pub mod RunDrain
 pub mod RunEvents
 pub mod RunHistory
 pub mod RunOrder
+pub mod TenantTurns
 pub mod ScriptLines
 pub mod ScriptReading
 pub mod ScriptWords

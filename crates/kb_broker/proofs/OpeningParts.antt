@@ -1,17 +1,22 @@
 -- The parts of the broker at its start.
-use Rattle.std.proofs.Common.{◌≡◌, ◌<◌, ◌^◌, ℕ, List, [], ◌∷◌, map, length, get_or, refl, sym, ap, subst, ◌∙◌, lit≤}
+use Rattle.std.proofs.Common.{◌≡◌, ◌<◌, ◌^◌, ℕ, List, [], ◌∷◌, map, length, get_or, refl, sym, ap, subst, ◌∙◌, lit≤, string_bytes, arith}
 use Rattle.std.proofs.Math.ListN.{get_or-map, length-map}
 use Rattle.std.specs.List.{AllByRecursion, Contains}
 use Rattle.std.proofs.lemmas.List.{get_or_default}
 use Rattle.std.proofs.lemmas.List.Elements.{recursion_from_All}
-use Rattle.kb_wire.specs.Codec.{int, array}
-use Rattle.kb_wire.specs.Fits.{array_fits}
+use Rattle.std.specs.Prelude.{IsTrue}
+use Rattle.std.proofs.lemmas.Bool.Decides.{nat_tests}
+use Rattle.kb_wire.specs.Codec.{int, array, string}
+use Rattle.kb_wire.specs.Fits.{array_fits, string_fits}
+use Rattle.kb_settings.specs.Settings.{is_host, is_within}
 use Rattle.kb_api_group.specs.Layouts.{api_version}
 use Rattle.kb_api_group.specs.declared.api_versions.ApiVersion.{ApiVersion}
+use Rattle.kb_tenant.specs.Hosted.{TenantState, new_tenant}
+use Rattle.kb_tenant.specs.declared.node.Node.{Node}
 use Rattle.kb_machine.specs.Greeting.{User as Login, Setup}
-use Rattle.kb_machine.specs.Broker.{BrokerState, Part, IsReady}
+use Rattle.kb_machine.specs.Broker.{BrokerState, IsReady}
 use Rattle.kb_settings.specs.Names.{place_of}
-use Rattle.kb_broker.specs.Opening.{tenant_of, tenants_of, login_of, new_part, listed, opening_listing}
+use Rattle.kb_broker.specs.Opening.{tenant_of, tenants_of, login_of, listed, opening_listing}
 use Rattle.kb_broker.specs.declared.opening.Listing.{Listing}
 use Rattle.kb_settings.specs.declared.settings.User.{User}
 use Rattle.kb_settings.specs.declared.settings.Settings.{Settings}
@@ -20,6 +25,13 @@ use Rattle.kb_settings.proofs.NamesInOrder.{rises-in_order, in-in_order, place-b
 pub versions-fit : (vs : List ApiVersion) → length vs < 2 ^ 31 → (array api_version).Fits vs
 unfolding api_version int
 versions-fit vs lt = array_fits api_version vs lt (λ k d below. (tt, (tt, tt)))
+
+-- a host of at most 255 bytes fits a reply
+pub host-fits : (s : Settings) (host : List ℕ) → host ≡ string_bytes s.host → IsTrue (is_host (string_bytes s.host)) → string.Fits host
+host-fits s host same fits = subst string.Fits (sym same) (string_fits (string_bytes s.host) (short (length (string_bytes s.host)) fits))
+  where
+    short : (n : ℕ) → IsTrue (is_within 1 255 n) → n < 2 ^ 15
+    short n fits = grind (arith, nat_tests)
 
 contains-map : {X Y : Type 0} (f : X → Y) (xs : List X) (i : ℕ) (x : X) → i < length xs → x ≡ get_or xs i x → Contains (map f xs) (f x)
 contains-map f xs i x lt is = (i, subst (λ (n : ℕ). i < n) (sym (length-map xs f)) lt, get_or-map f xs i x ∙ ap f (sym is))
@@ -37,14 +49,14 @@ pub opening-ready : (listing : Listing) (s : Settings) → IsReady (opening_list
 opening-ready listing s =
     let users : List User = s.users.items in
     let names : List (List ℕ) = tenants_of users in
-    let below : AllByRecursion (λ (u : User). place_of (tenant_of u) names < length (map new_part names)) users = recursion_from_All _ users (λ k d lt.
-    subst (λ (n : ℕ). place_of (tenant_of (get_or users k d)) names < n) (sym (length-map names new_part))
+    let below : AllByRecursion (λ (u : User). place_of (tenant_of u) names < length (map new_tenant names)) users = recursion_from_All _ users (λ k d lt.
+    subst (λ (n : ℕ). place_of (tenant_of (get_or users k d)) names < n) (sym (length-map names new_tenant))
     (place-below names (tenant_of (get_or users k d)) (rises-in_order (map tenant_of users)) (tenant-in users k (get_or users k d) lt (get_or_default users k d (get_or users k d) lt)))) in
     record {
       sound = record {
         rising = lit≤ tt;
         in_range = tt;
-        users = all-map (λ (u : Login). u.tenant < length (map new_part names)) (login_of names) users below;
+        users = all-map (λ (u : Login). u.tenant < length (map new_tenant names)) (login_of names) users below;
         clock = lit≤ tt;
       };
       settled = refl;
@@ -55,16 +67,18 @@ map-twice f g [] = refl
 map-twice f g (x ∷ xs) = ap (λ zs. g (f x) ∷ zs) (map-twice f g xs)
 
 -- a broker that is made of these parts is the one at its start
-pub opening-made : {X : Type 0} (listing : Listing) (f : X → List ℕ) (s : Settings) (users again : List User) (names : List X) (versions : List ApiVersion) (logins : List Login) (parts : List Part) (setup : Setup) (b : BrokerState)
+pub opening-made : {X : Type 0} (listing : Listing) (f : X → List ℕ) (s : Settings) (users again : List User) (names : List X) (versions : List ApiVersion) (logins : List Login) (node : Node) (tenants : List TenantState) (setup : Setup) (b : BrokerState)
     → users ≡ s.users.items → again ≡ s.users.items → map f names ≡ tenants_of users
-    → logins ≡ map (login_of (tenants_of again)) again → parts ≡ map (λ n. new_part (f n)) names → versions ≡ listed listing
-    → setup ≡ record { versions = versions; users = logins }
-    → b ≡ record { setup = setup; parts = parts; unbound_refusals = 0; clock = 0; last = 0; lines = [] }
+    → logins ≡ map (login_of (tenants_of again)) again → tenants ≡ map (λ n. new_tenant (f n)) names → versions ≡ listed listing
+    → node ≡ record { host = string_bytes s.host; port = s.port }
+    → setup ≡ record { versions = versions; users = logins; node = node }
+    → b ≡ record { setup = setup; tenants = tenants; unbound_refusals = 0; clock = 0; last = 0; lines = [] }
     → b ≡ opening_listing listing s
-opening-made listing f s users again names versions logins parts setup b u a n l p v made is =
-    let start : Setup → List Part → BrokerState = λ setup parts. record { setup = setup; parts = parts; unbound_refusals = 0; clock = 0; last = 0; lines = [] } in
-    let named : parts ≡ map new_part (tenants_of s.users.items) = p ∙ map-twice f new_part names ∙ ap (map new_part) (n ∙ ap tenants_of u) in
+opening-made listing f s users again names versions logins node tenants setup b u a n l p v told made is =
+    let start : Setup → List TenantState → BrokerState = λ setup tenants. record { setup = setup; tenants = tenants; unbound_refusals = 0; clock = 0; last = 0; lines = [] } in
+    let with : List ApiVersion → List Login → Node → Setup = λ versions users node. record { versions = versions; users = users; node = node } in
+    let named : tenants ≡ map new_tenant (tenants_of s.users.items) = p ∙ map-twice f new_tenant names ∙ ap (map new_tenant) (n ∙ ap tenants_of u) in
     let logged : logins ≡ map (login_of (tenants_of s.users.items)) s.users.items = l ∙ ap (λ (us : List User). map (login_of (tenants_of us)) us) a in
-    let fixed : setup ≡ record { versions = listed listing; users = map (login_of (tenants_of s.users.items)) s.users.items } =
-    made ∙ ap (λ (vs : List ApiVersion). record { versions = vs; users = logins }) v ∙ ap (λ (us : List Login). record { versions = listed listing; users = us }) logged in
-    is ∙ ap (λ setup. start setup parts) fixed ∙ ap (start (record { versions = listed listing; users = map (login_of (tenants_of s.users.items)) s.users.items })) named
+    let fixed : setup ≡ with (listed listing) (map (login_of (tenants_of s.users.items)) s.users.items) (record { host = string_bytes s.host; port = s.port }) =
+    made ∙ ap (λ vs. with vs logins node) v ∙ ap (λ us. with (listed listing) us node) logged ∙ ap (with (listed listing) (map (login_of (tenants_of s.users.items)) s.users.items)) told in
+    is ∙ ap (λ setup. start setup tenants) fixed ∙ ap (start (with (listed listing) (map (login_of (tenants_of s.users.items)) s.users.items) (record { host = string_bytes s.host; port = s.port }))) named

@@ -4,7 +4,8 @@ use Rattle.std.specs.Str.{bytes_eq}
 use Rattle.std.specs.Prelude.{codes}
 use Rattle.kb_api_group.specs.Frames.{Front, Whole, Partial, TooSmall, TooLarge, front}
 use Rattle.kb_api_group.specs.declared.error_code.ErrorCode.TheVariants as errors
-use Rattle.kb_machine.specs.Requests.{Asked, Versions, OtherVersions, Handshake, Authenticate, Another, Unread, request, reply_size}
+use Rattle.kb_tenant.specs.Replies.{reply_size}
+use Rattle.kb_machine.specs.Requests.{Asked, Versions, OtherVersions, Handshake, Authenticate, Another, Unread, request}
 use Rattle.kb_machine.specs.Session.{Stage, Greets, BoundTo, Session, shut_down, replied, fed, room}
 use Rattle.kb_machine.specs.Greeting.{Setup, authenticate_reply, login, logged_in, shaken, authenticated, greeted_by, greeted_at, greeted}
 use Rattle.kb_machine.specs.Machine.{Happening, Opens, Comes, Closes, Moment, Line, again}

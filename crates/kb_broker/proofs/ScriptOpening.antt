@@ -1,10 +1,11 @@
 -- A script on a broker that has just opened.
 use Rattle.std.proofs.Common.{◌≡◌, ℕ, true, List, [], ◌∷◌, map, refl}
-use Rattle.kb_machine.specs.Calls.{is_calm, all_calm}
+use Rattle.kb_tenant.specs.Hosted.{all_calm, new_tenant}
+use Rattle.kb_machine.specs.Calls.{is_calm}
 use Rattle.kb_settings.specs.declared.settings.Settings.{Settings}
-use Rattle.kb_broker.specs.Opening.{opening, new_part, tenants_of}
+use Rattle.kb_broker.specs.Opening.{opening, tenants_of}
 
-all-new-calm : (names : List (List ℕ)) → all_calm (map new_part names) ≡ true
+all-new-calm : (names : List (List ℕ)) → all_calm (map new_tenant names) ≡ true
 all-new-calm [] = refl
 all-new-calm (name ∷ names) = all-new-calm names
 

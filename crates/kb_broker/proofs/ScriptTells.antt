@@ -3,8 +3,11 @@ use Rattle.std.proofs.Common.{◌≡◌, ℕ, zero, suc, ◌&&◌, Bool, true, f
 use Rattle.std.proofs.lemmas.Bool.Decides.{nat_tests}
 use Rattle.kb_machine.specs.Machine.{Happening, Line, Sent, World, those, those_sent, stepped}
 use Rattle.kb_machine.specs.Owners.{find_line, concerns}
-use Rattle.kb_machine.specs.Broker.{BrokerState, Part, IsSound, IsCalm, IsCalmFor, Mine, view_of, refusals_of, owned_by, only}
-use Rattle.kb_machine.specs.Calls.{is_calm, all_calm, without_output, shut_in}
+use Rattle.kb_world.specs.Steps.{IsCalm}
+use Rattle.kb_tenant.specs.Hosted as hosted
+use Rattle.kb_tenant.specs.Hosted.{TenantState, all_calm}
+use Rattle.kb_machine.specs.Broker.{BrokerState, IsSound, IsCalmFor, Mine, view_of, refusals_of, owned_by, only}
+use Rattle.kb_machine.specs.Calls.{is_calm, without_output, shut_in}
 use Rattle.kb_machine.specs.Told.{said, quieted, tell, Tells}
 use Rattle.kb_machine.proofs.Laws.{those-each}
 use Rattle.kb_machine.proofs.Owned.{owned-mine, unowned-mine}
@@ -38,16 +41,16 @@ both_true true true e = (refl, refl)
 both_true true false e = cc
 both_true false b e = cc
 
-calm-at : (ps : List Part) (t : ℕ) → all_calm ps ≡ true → get_or (map (λ (p : Part). p.refusals) ps) t 0 ≡ 0
+calm-at : (ps : List TenantState) (t : ℕ) → all_calm ps ≡ true → hosted.refusals_of ps t ≡ 0
 calm-at [] t e = refl
 calm-at (p ∷ ps) zero e = let both = both_true (eqb p.refusals 0) (all_calm ps) e in let first = both.0 in grind (arith, nat_tests, first)
 calm-at (p ∷ ps) (suc t) e = calm-at ps t (both_true (eqb p.refusals 0) (all_calm ps) e).1
 
 calm-own : (b : BrokerState) (t : ℕ) → is_calm b ≡ true → refusals_of b t ≡ 0
-calm-own b t e = calm-at b.parts t (both_true (eqb b.unbound_refusals 0) (all_calm b.parts) e).1
+calm-own b t e = calm-at b.tenants t (both_true (eqb b.unbound_refusals 0) (all_calm b.tenants) e).1
 
 calm-unbound : (b : BrokerState) → is_calm b ≡ true → b.unbound_refusals ≡ 0
-calm-unbound b e = let first = (both_true (eqb b.unbound_refusals 0) (all_calm b.parts) e).0 in grind (arith, nat_tests, first)
+calm-unbound b e = let first = (both_true (eqb b.unbound_refusals 0) (all_calm b.tenants) e).0 in grind (arith, nat_tests, first)
 
 calm_zeros : (x y : ℕ) → x ≡ 0 → y ≡ 0 → IsCalm x y
 calm_zeros x y e f = record { same = f ∙ sym e; below = rw e (lit< tt) }
@@ -106,5 +109,5 @@ tells t mine b c (e ∷ es) (s ∷ ss) r calm m =
 pub runs-tell : (b c : BrokerState) (es : List Happening) (steps : List (List Sent)) → Runs b es steps c → is_calm b ≡ true → IsSound b → Tells b es steps
 runs-tell b c es steps r calm sound = record {
   owned = λ t. tells t (owned_by t es b) b c es steps r calm (owned-mine t es b sound.rising);
-  unowned = λ n none. tells (length b.parts) (only n) b c es steps r calm (unowned-mine n es b sound none);
+  unowned = λ n none. tells (length b.tenants) (only n) b c es steps r calm (unowned-mine n es b sound none);
 }

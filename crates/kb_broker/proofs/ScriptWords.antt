@@ -202,7 +202,7 @@ ready-lines low last tenants (l ∷ ls) r i h = let rest = ready-lines l.number 
 
 pub ready-hushed : (b : BrokerState) → IsReady b → IsReady (hushed b)
 ready-hushed b r =
-    let lines = ready-lines 0 b.last (length b.parts) b.lines r.sound.rising r.sound.in_range (all-settled b.lines r.settled) in record {
+    let lines = ready-lines 0 b.last (length b.tenants) b.lines r.sound.rising r.sound.in_range (all-settled b.lines r.settled) in record {
       sound = record { rising = lines.0; in_range = lines.1; users = r.sound.users; clock = r.sound.clock };
       settled = none-able (quieted_lines b.lines) lines.2;
     }

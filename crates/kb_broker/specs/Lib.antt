@@ -1,5 +1,6 @@
-pub mod Places
+pub mod Hosts
 pub mod Opening
+pub mod Places
 pub mod Runs
 pub mod Script
 pub mod ScriptRun

@@ -4,8 +4,8 @@ use Rattle.std.specs.Ordering.{int_eq}
 use Rattle.kb_api_group.specs.declared.api_versions.ApiVersion.{ApiVersion}
 use Rattle.kb_machine.specs.Requests.{served_versions}
 use Rattle.kb_machine.specs.Greeting.{User as Login}
-use Rattle.kb_machine.specs.Tenant.{Nothing}
-use Rattle.kb_machine.specs.Broker.{Part, BrokerState}
+use Rattle.kb_tenant.specs.Hosted.{new_tenant}
+use Rattle.kb_machine.specs.Broker.{BrokerState}
 use Rattle.kb_settings.specs.Names.{in_order, place_of}
 use Rattle.kb_settings.specs.declared.settings.User.{User}
 use Rattle.kb_settings.specs.declared.settings.Settings.{Settings}
@@ -22,10 +22,6 @@ tenants_of users = in_order (map tenant_of users)
 -- a user's login: its tenant is a place among the names
 abbrev pub login_of : List (List ℕ) → User → Login
 login_of names u = record { name = string_bytes u.name; password = string_bytes u.password; tenant = place_of (tenant_of u) names }
-
--- a tenant that keeps nothing, for which nothing was refused
-abbrev pub new_part : List ℕ → Part
-new_part name = record { name = name; kept = Nothing; refusals = 0 }
 
 -- the least version that is listed of an API whose one served version this is; stock clients see SaslHandshake from version 0 on
 abbrev pub least : Listing → ℤ → ℤ → ℤ
@@ -48,8 +44,8 @@ abbrev pub opening_listing : Listing → Settings → BrokerState
 opening_listing listing s =
     let names = tenants_of s.users.items in
     record {
-      setup = record { versions = listed listing; users = map (login_of names) s.users.items };
-      parts = map new_part names;
+      setup = record { versions = listed listing; users = map (login_of names) s.users.items; node = record { host = string_bytes s.host; port = s.port } };
+      tenants = map new_tenant names;
       unbound_refusals = 0;
       clock = 0;
       last = 0;

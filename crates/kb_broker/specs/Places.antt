@@ -1,11 +1,13 @@
 -- A connection's place in the broker, its turns there, and the count of a refusal.
-use Rattle.std.specs.Prelude.{◌≡◌, ℕ, ◌<◌, ◌≤◌, List, length, map, get_or, set}
+use Rattle.std.specs.Prelude.{◌≡◌, ℕ, ◌<◌, List, length, map, get_or, Option}
 use Rattle.std.specs.List.{AllByRecursion}
-use Rattle.kb_machine.specs.Tenant.{Kept}
-use Rattle.kb_machine.specs.Session.{Stage, Greets, BoundTo, Session}
+use Rattle.kb_world.specs.Steps.{IsCalm}
+use Rattle.kb_tenant.specs.Hosted.{TenantState, IsTurn, IsMet}
+use Rattle.kb_machine.specs.Tenant.{Wait}
+use Rattle.kb_machine.specs.Session.{Stage, Greets, BoundTo, Session, without_wait}
 use Rattle.kb_machine.specs.Greeting.{Setup, greeted}
-use Rattle.kb_machine.specs.Machine.{Line, served}
-use Rattle.kb_machine.specs.Broker.{BrokerState, Part, IsSound, IsCalm}
+use Rattle.kb_machine.specs.Machine.{Line, served, put}
+use Rattle.kb_machine.specs.Broker.{BrokerState, IsSound, refusals_of}
 use Rattle.kb_machine.specs.Calls.{IsRefused}
 use Rattle.kb_machine.specs.Turned.{IsStill}
 
@@ -21,28 +23,32 @@ number_at i b = get_or (numbers b) i 0
 abbrev pub unread_at : ℕ → BrokerState → ℕ
 unread_at i b = get_or (map (λ (l : Line). length l.session.unread) b.lines) i 0
 
--- what a turn leaves of a connection at that stage
-abbrev pub session_by : Setup → Kept → ℕ → Session → Stage → Session
-session_by setup kept clock s (Greets handshaken) = greeted setup handshaken s
-session_by setup kept clock s (BoundTo tenant wait) = served setup kept clock s
-
--- what a turn leaves of a connection
-abbrev pub session_after : Setup → Kept → ℕ → Session → Session
-session_after setup kept clock s = session_by setup kept clock s s.stage
-
 -- no connection but the one at that place can take a turn
 pub record IsTurning (i : ℕ) (b : BrokerState) : Type 0 where
   pub sound : IsSound b
   pub within : i < length b.lines
   pub still : AllByRecursion (IsStill (number_at i b)) b.lines
 
+-- what the turn of a connection at that stage leaves of the tenants, also where it is refused
+abbrev pub IsTurnAt : Stage → List TenantState → List TenantState → Type 0
+IsTurnAt (Greets handshaken) old new = new ≡ old
+IsTurnAt (BoundTo tenant wait) old new = IsTurn tenant (Unit {0}) old new
+
+-- the turn of a connection at that stage that was not refused: of its session s it leaves r
+abbrev pub IsTakenAt : Setup → ℕ → Stage → List TenantState → List TenantState → Session → Session → Type 0
+IsTakenAt setup clock (Greets handshaken) old new s r = r ≡ greeted setup handshaken s
+IsTakenAt setup clock (BoundTo tenant wait) old new s r = IsMet tenant (Unit {0}) old new (λ k l. (r ≡ served setup k clock s) × (l ≡ put setup k clock s.unread))
+
+-- what a turn leaves of a session s in any case: fewer unread bytes, and a bound connection stays bound
+pub record IsSpent (s r : Session) : Type 0 where
+  pub less : length r.unread < length s.unread
+  pub stage : (tenant : ℕ) (wait : Option Wait) → s.stage ≡ BoundTo tenant wait → without_wait r.stage ≡ without_wait s.stage
+
 -- a refusal was counted for a tenant, and nothing else has changed
 pub record IsCountedFor (t : ℕ) (old new : BrokerState) : Type 0 where
-  pub part : Part
-  pub is : new ≡ record old { parts = set old.parts t part }
-  pub name : (d : Part) → part.name ≡ (get_or old.parts t d).name
-  pub grows : (d : Part) → (get_or old.parts t d).refusals ≤ part.refusals
-  pub counted : (d : Part) → IsCalm (get_or old.parts t d).refusals part.refusals → ⊥
+  pub is : new ≡ record old { tenants = new.tenants }
+  pub turn : IsTurn t (Unit {0}) old.tenants new.tenants
+  pub counted : IsCalm (refusals_of old t) (refusals_of new t) → ⊥
 
 -- a refusal was counted for the tenant that a connection is bound to, or for none where it still greets
 abbrev pub IsCountedAt : Stage → BrokerState → BrokerState → Type 0

@@ -2,18 +2,19 @@
 //!
 //! [`Broker`] takes events: a connection opens, bytes come on it, it closes, time passes. What it sends on each connection is
 //! taken from it. [`Broker::run`] takes a list of events and carries the isolation theorem; [`run_script`] reads the events
-//! from a text. So far a connection greets and logs in (Kafka protocol guide, "SASL Authentication Sequence"; RFC 4616), and
-//! no request of a tenant is served.
+//! from a text. A connection greets and logs in (Kafka protocol guide, "SASL Authentication Sequence"; RFC 4616); then it is
+//! served the requests of its tenant, over a store in memory.
 //!
 //! The definitions that the contracts speak of are those of `kb_machine`, seen through `specs/`.
 #![tactic(auto)]
 
 mod broker;
+mod count;
 mod engine;
 mod opening;
 mod run;
 mod script;
-mod tenant;
+mod serving;
 
 pub use broker::Broker;
 pub use kb_settings::{Settings, User};
@@ -27,7 +28,5 @@ mod opening_tests;
 mod run_tests;
 #[cfg(test)]
 mod script_tests;
-#[cfg(test)]
-mod tenant_tests;
 #[cfg(test)]
 mod tests;

@@ -6,14 +6,18 @@ ghost use Rattle.std.specs.List.Sorted.{IsStrictlySortedBy};
 ghost use Rattle.kb_wire.specs.Codec.{array};
 ghost use Rattle.kb_api_group.specs.Layouts.{api_version};
 ghost use Rattle.kb_settings.specs.Names.{byte_order, in_order, place_of};
-ghost use Rattle.kb_broker.specs.Opening.{least, listed, opening, opening_listing, tenants_of, login_of, new_part};
+ghost use Rattle.kb_tenant.specs.Hosted.{new_tenant};
+ghost use Rattle.kb_broker.specs.Hosts.{tenants_in, AreHosted};
+ghost use Rattle.kb_broker.specs.Opening.{least, listed, opening, opening_listing, tenants_of, login_of};
 
 use crate::broker::Broker;
 use crate::engine::Engine;
-use crate::tenant::Tenant;
 use kb_api_group::ApiVersion;
 use kb_connection::{Login, Setup};
+use kb_log::{ListLog, Shelf};
 use kb_settings::{Settings, User, tenant_names};
+use kb_store::MemoryStore;
+use kb_tenants::Tenants;
 use kb_wire::Array;
 use std::alloc::{AllocError, Global};
 
@@ -94,8 +98,10 @@ fn new_engine(alloc: Global, settings: &Settings, listing: Listing) -> Result<En
 {
     let names = tenant_names(alloc, &settings.users)?;
     let logins = logins_of(alloc, &settings.users, &names)?;
-    let tenants = new_tenants(alloc, &names)?;
-    let setup = Setup::new(listed_versions(alloc, listing)?, logins);
+    let tenants = new_tenants(alloc, settings, &names)?;
+    let versions = listed_versions(alloc, listing)?;
+    let host = String::from_str(alloc, settings.host.as_str())?;
+    let setup = Setup::new(versions, logins, host, settings.port);
     Ok(Engine::new(alloc, setup, tenants))
 }
 
@@ -153,13 +159,21 @@ fn place_of<'a>(names: &[&'a str], name: &'a str) -> usize
     names.binary_search(&name).unwrap_or_else(|place| place)
 }
 
-/// A tenant for each name.
-fn new_tenants(alloc: Global, names: &[&str]) -> Result<Vec<Tenant>, AllocError>
-    ensures { IfOk result (λ tenants. tenants.items ≡ map (λ name. new_part name.now) names.now) }
+/// A tenant for each name, on a new store in memory.
+fn new_tenants(
+    alloc: Global,
+    settings: &Settings,
+    names: &[&str],
+) -> Result<Tenants<ListLog, MemoryStore>, AllocError>
+    ensures hosted { IfOk result AreHosted }
+    ensures new { IfOk result (λ tenants. tenants_in tenants ≡ map (λ name. new_tenant name.now) names.now) }
 {
-    let mut tenants = Vec::with_capacity(alloc, names.len())?;
+    let Ok(shelf) = Shelf::new(alloc, MemoryStore::new(alloc), settings.cache_batches) else {
+        return Err(AllocError);
+    };
+    let mut tenants = Tenants::new(alloc, shelf);
     for name in names {
-        tenants.push(Tenant::new(name.as_bytes().to_vec(alloc)?))?;
+        tenants.add(alloc, name, u64::from(settings.segment_bytes))?;
     }
     Ok(tenants)
 }

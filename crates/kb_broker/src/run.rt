@@ -4,7 +4,8 @@ ghost use Rattle.std.specs.Prelude.{◌≡◌, ◌+◌, ◌≤◌, ℕ, List, []
 ghost use Rattle.std.specs.Vec.{vec_len, vec_capacity};
 ghost use Rattle.kb_machine.specs.Machine.{Closes, Sent, those_sent, by_number, sent, leaving};
 ghost use Rattle.kb_machine.specs.Calls.{closed};
-ghost use Rattle.kb_machine.specs.Broker.{IsReady, IsStep, IsRun, IsCalm, IsCalmFor, IsUnowned, owned_by, alone, alone_unowned, only};
+ghost use Rattle.kb_world.specs.Steps.{IsCalm};
+ghost use Rattle.kb_machine.specs.Broker.{IsReady, IsStep, IsRun, IsCalmFor, IsUnowned, owned_by, alone, alone_unowned, only};
 ghost use Rattle.kb_broker.specs.Runs.{happening_of, happenings, sent_of, is_opening, connections_of, emptied, IsPassed, Passes};
 
 use crate::broker::Broker;

@@ -1,6 +1,8 @@
 -- The broker that opens with the standard settings.
 use Rattle.std.proofs.Common.{◌≡◌, ℕ, List, [], map, sym, ap, subst, ◌∙◌}
 use Rattle.std.proofs.lemmas.Simd.{map-map}
+use Rattle.kb_tenant.specs.Hosted.{new_tenant}
+use Rattle.kb_tenant.specs.declared.node.Node.{Node}
 use Rattle.kb_machine.specs.Requests.{served_versions}
 use Rattle.kb_machine.specs.Greeting.{User as Login}
 use Rattle.kb_machine.specs.Broker.{BrokerState}
@@ -8,7 +10,7 @@ use Rattle.kb_settings.specs.declared.settings.User.{User}
 use Rattle.kb_settings.specs.declared.settings.Settings.{Settings}
 use Rattle.kb_settings.specs.Names.{in_order, place_of}
 use Rattle.kb_settings.specs.Values.{Account, Values, account_of, values_of, standard}
-use Rattle.kb_broker.specs.Opening.{tenants_of, login_of, new_part, opening}
+use Rattle.kb_broker.specs.Opening.{tenants_of, login_of, opening}
 use Rattle.kb_node.specs.Node.{standard_broker}
 
 abbrev names_of : List Account → List (List ℕ)
@@ -17,11 +19,15 @@ names_of accounts = in_order (map (λ (a : Account). a.tenant) accounts)
 abbrev login_in : List (List ℕ) → Account → Login
 login_in names a = record { name = a.name; password = a.password; tenant = place_of a.tenant names }
 
-abbrev broker_of : List (List ℕ) → List Login → BrokerState
-broker_of names logins = record { setup = record { versions = served_versions; users = logins }; parts = map new_part names; unbound_refusals = 0; clock = 0; last = 0; lines = [] }
+abbrev broker_of : Node → List (List ℕ) → List Login → BrokerState
+broker_of node names logins = record { setup = record { versions = served_versions; users = logins; node = node }; tenants = map new_tenant names; unbound_refusals = 0; clock = 0; last = 0; lines = [] }
 
-abbrev broker_for : List Account → BrokerState
-broker_for accounts = broker_of (names_of accounts) (map (login_in (names_of accounts)) accounts)
+-- where clients are told to connect to
+abbrev told_at : Values → Node
+told_at v = record { host = v.host; port = v.port }
+
+abbrev broker_for : Values → BrokerState
+broker_for v = broker_of (told_at v) (names_of v.users) (map (login_in (names_of v.users)) v.users)
 
 names-same : (s : Settings) → names_of (map account_of s.users.items) ≡ tenants_of s.users.items
 names-same s = ap in_order (map-map (λ (a : Account). a.tenant) account_of s.users.items)
@@ -29,14 +35,15 @@ names-same s = ap in_order (map-map (λ (a : Account). a.tenant) account_of s.us
 logins-same : (names : List (List ℕ)) (users : List User) → map (login_in names) (map account_of users) ≡ map (login_of names) users
 logins-same names users = map-map (login_in names) account_of users
 
--- a broker opens with what the settings say of the users
-opening-for : (s : Settings) → broker_for (map account_of s.users.items) ≡ opening s
+-- a broker opens with what the settings say of the users, and of the host and port
+opening-for : (s : Settings) → broker_for (values_of s) ≡ opening s
 opening-for s =
-    ap (λ names. broker_of names (map (login_in names) (map account_of s.users.items))) (names-same s)
-    ∙ ap (broker_of (tenants_of s.users.items)) (logins-same (tenants_of s.users.items) s.users.items)
+    let node = told_at (values_of s) in
+    ap (λ names. broker_of node names (map (login_in names) (map account_of s.users.items))) (names-same s)
+    ∙ ap (broker_of node (tenants_of s.users.items)) (logins-same (tenants_of s.users.items) s.users.items)
 
 pub opening-standard : (s : Settings) → values_of s ≡ standard → opening s ≡ standard_broker
-opening-standard s is = sym (opening-for s) ∙ ap (λ (v : Values). broker_for v.users) is
+opening-standard s is = sym (opening-for s) ∙ ap broker_for is
 
 -- what is told of a broker that opens with the standard settings is told of this one
 pub told-standard : (s : Settings) (P : BrokerState → Type 0) → values_of s ≡ standard → P (opening s) → P standard_broker

@@ -1,10 +1,10 @@
 -- What a program of the broker writes.
 use Rattle.std.specs.Prelude.{◌≡◌, ◌⊎◌, ℕ, List, [], ◌∷◌, codes, Option, Result, Err}
 use Rattle.std.specs.Io.KnownBytes.{Keeps}
+use Rattle.kb_tenant.specs.Hosted.{new_tenant}
 use Rattle.kb_machine.specs.Requests.{served_versions}
 use Rattle.kb_machine.specs.Broker.{BrokerState}
 use Rattle.kb_broker.specs.declared.script.ScriptFault.{ScriptFault}
-use Rattle.kb_broker.specs.Opening.{new_part}
 use Rattle.kb_broker.specs.Script.{Script, script}
 use Rattle.kb_broker.specs.ScriptRun.{IsPlayed, IsEnded}
 use Rattle.kb_node.specs.declared.fault.NodeFault.{NodeFault}
@@ -12,14 +12,16 @@ use Rattle.kb_node.specs.declared.fault.NodeFault.TheVariants as faults
 
 -- 1. The broker of the standard settings
 
--- the tenants a and b, which keep nothing, with a user each; nobody is connected, and no time has passed
+-- the tenants a and b, which keep nothing, with a user each; clients are told localhost and port 9092; nobody is connected, and
+-- no time has passed
 abbrev pub standard_broker : BrokerState
 standard_broker = record {
   setup = record {
     versions = served_versions;
     users = record { name = codes "ann"; password = codes "pw1"; tenant = 0 } ∷ record { name = codes "bob"; password = codes "pw2"; tenant = 1 } ∷ [];
+    node = record { host = codes "localhost"; port = 9092 };
   };
-  parts = new_part (codes "a") ∷ new_part (codes "b") ∷ [];
+  tenants = new_tenant (codes "a") ∷ new_tenant (codes "b") ∷ [];
   unbound_refusals = 0;
   clock = 0;
   last = 0;

@@ -14,9 +14,9 @@ use std::net::{Net, OpenListener, OpenStream, TcpListener};
 /// The most sockets at a time: more are closed at once.
 pub const SOCKETS: usize = 1024;
 
-/// How often a turn looks over the sockets while nothing happens, so that a client that pauses briefly is answered in the
-/// same turn.
-const LOOKS: usize = 100;
+/// How many sockets a turn looks at while nothing happens, the listener among them, so that a client that pauses briefly is
+/// answered in the same turn. All of them are looked at once in any case.
+const VISITS: usize = 200;
 
 /// The most bytes that are read from a socket at once.
 const PIECE: usize = 65_536;
@@ -92,7 +92,8 @@ impl<R: Net> Edge<R> {
     {
         let mut turn = Turn::default();
         self.broker.moment(now);
-        for _ in 0..LOOKS {
+        let looks = (VISITS / (self.sockets.len() + 1)).max(1);
+        for _ in 0..looks {
             self.accept(alloc, &mut turn);
             self.serve(alloc, &mut turn);
             if !turn.is_idle() {

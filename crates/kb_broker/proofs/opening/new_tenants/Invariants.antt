@@ -1,6 +1,7 @@
 use Rattle.std.proofs.Common.{◌≡◌, map, take}
-use Rattle.kb_broker.specs.Opening.{new_part}
+use Rattle.kb_tenant.specs.Hosted.{new_tenant}
+use Rattle.kb_broker.specs.Hosts.{tenants_in, AreHosted}
 use Rattle.kb_broker.proofs.opening.new_tenants.Given as goal
 
 abbrev pub invariant-loop-name : goal.invariant-loop-name
-invariant-loop-name l = l.tenants.items ≡ map (λ name. new_part name.now) (take l.name-index l.names)
+invariant-loop-name l = record { hosted : AreHosted l.tenants; new : tenants_in l.tenants ≡ map (λ name. new_tenant name.now) (take l.name-index l.names) }

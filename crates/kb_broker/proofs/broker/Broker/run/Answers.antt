@@ -113,7 +113,7 @@ returns-clause-unowned c = λ n h q.
     let hs = happenings c.args.events.now in
     let got = map sent_of c.drain.new.written.items in
     let calm = calm-nobody a new (grows-passes hs a new got (whole c)) q in
-    ap (those_sent (only n)) (in_order c).ordered ∙ (those-by_number (only n) got ∙ ap by_number (run-passes (length a.parts) (only n) hs a new got (whole c) (unowned-mine n hs a c.connections-open.ensures.ready.sound h) calm))
+    ap (those_sent (only n)) (in_order c).ordered ∙ (those-by_number (only n) got ∙ ap by_number (run-passes (length a.tenants) (only n) hs a new got (whole c) (unowned-mine n hs a c.connections-open.ensures.ready.sound h) calm))
 
 pub returns-clause-connections : goal.returns-clause-connections
 returns-clause-connections c =

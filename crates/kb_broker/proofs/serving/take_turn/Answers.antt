@@ -1,0 +1,7 @@
+use Rattle.std.proofs.Common.{sym}
+use Rattle.kb_broker.proofs.TenantTurns.{spent-greeted}
+use Rattle.kb_broker.proofs.serving.take_turn.Goals as goal
+
+pub returns-in-Greets-clause-spent : goal.returns-in-Greets-clause-spent
+returns-in-Greets-clause-spent c =
+    spent-greeted c.greet.result c.args.setup.now c.in-Greets.handshaken c.args.connection.now c.greet.new.self (sym c.in-Greets.ensures) c.requires.able c.greet.ensures.ok c.greet.ensures.err

@@ -1,0 +1,26 @@
+//! Worked exchanges with a whole broker: what happens to it, and every byte that each connection gets.
+//!
+//! There is nothing here but tests. The bytes are those of the Kafka protocol guide's layouts, written down beforehand; the
+//! checksums of the record batches are CRC-32C by another program.
+#![tactic(auto)]
+
+#[cfg(test)]
+mod batches;
+#[cfg(test)]
+mod greeting;
+#[cfg(test)]
+mod memory;
+#[cfg(test)]
+mod mixing;
+#[cfg(test)]
+mod playing;
+#[cfg(test)]
+mod producers;
+#[cfg(test)]
+mod running;
+#[cfg(test)]
+mod tenants;
+#[cfg(test)]
+mod topics;
+#[cfg(test)]
+mod words;

@@ -1,0 +1,346 @@
+/* Puts a load on a server over the loopback, and prints a line for each figure: what, and its two numbers, between bars.
+
+       load PORT PID broker|echo
+
+   The server is `kbroker serve` with the user `ann`, or echo.c, which answers with as many bytes as it is asked for: then each
+   request has the broker's size, and the size of the broker's reply in the place of its key and version. */
+#include <arpa/inet.h>
+#include <netinet/tcp.h>
+#include <stdint.h>
+#include <stdio.h>
+#include <stdlib.h>
+#include <string.h>
+#include <sys/prctl.h>
+#include <time.h>
+#include <unistd.h>
+
+enum { RUNS = 3, IN_FLIGHT = 4, MESSAGES = 100, MOST = 1000, SAMPLES = 1 << 20 };
+
+static const double SECONDS = 2, IDLE_SECONDS = 10;
+
+static int port, pid, echo;
+
+static int sockets[MOST];
+
+/* A request in bytes, the size of its reply, and where the two bytes of the reply's error code are. */
+struct request {
+    uint8_t bytes[1 << 18];
+    size_t size, reply, code;
+};
+
+static void fail(const char *what) {
+    fprintf(stderr, "load: %s\n", what);
+    exit(1);
+}
+
+static double now(void) {
+    struct timespec t;
+    clock_gettime(CLOCK_MONOTONIC, &t);
+    return t.tv_sec + t.tv_nsec * 1e-9;
+}
+
+/* ---- Bytes ---- */
+
+static uint8_t *put(uint8_t *p, int64_t v, int n) {
+    for (int i = n; i--; v >>= 8)
+        p[i] = v;
+    return p + n;
+}
+
+static uint8_t *put_bytes(uint8_t *p, const void *bytes, size_t n) {
+    memcpy(p, bytes, n);
+    return p + n;
+}
+
+static uint8_t *put_varint(uint8_t *p, int64_t value) {
+    uint64_t v = (uint64_t)value << 1 ^ (uint64_t)(value >> 63);
+    for (; v > 127; v >>= 7)
+        *p++ = v | 0x80;
+    *p++ = v;
+    return p;
+}
+
+static uint32_t crc32c(const uint8_t *p, size_t n) {
+    uint32_t crc = ~0u;
+    for (; n--; p++) {
+        crc ^= *p;
+        for (int i = 0; i < 8; i++)
+            crc = crc >> 1 ^ (crc & 1 ? 0x82f63b78 : 0);
+    }
+    return ~crc;
+}
+
+/* A batch of messages without key, of that many bytes each. */
+static size_t put_batch(uint8_t *b, int messages, int bytes) {
+    memset(b, 0, 61);
+    uint8_t *p = b + 61;
+    for (int k = 0; k < messages; k++) {
+        uint8_t head[32], *q = head;
+        *q++ = 0;
+        q = put_varint(q, k);
+        q = put_varint(q, k);
+        q = put_varint(q, -1);
+        q = put_varint(q, bytes);
+        p = put_varint(p, q - head + bytes + 1);
+        p = put_bytes(p, head, q - head);
+        memset(p, 'a' + k % 26, bytes);
+        p = put_varint(p + bytes, 0);
+    }
+    size_t size = p - b;
+    put(b + 8, size - 12, 4);
+    b[16] = 2;
+    put(b + 23, messages - 1, 4);
+    put(b + 35, messages - 1, 8);
+    put(b + 43, -1, 8);
+    put(b + 51, -1, 2);
+    put(b + 53, -1, 4);
+    put(b + 57, messages, 4);
+    put(b + 17, crc32c(b + 21, size - 21), 4);
+    return size;
+}
+
+/* ---- Requests ---- */
+
+static uint8_t *begin(struct request *r, int key, int version) {
+    uint8_t *p = put(r->bytes + 4, key, 2);
+    p = put(p, version, 2);
+    p = put(p, 1, 4);
+    return put(p, -1, 2);
+}
+
+static void end(struct request *r, uint8_t *p, size_t reply, size_t code) {
+    r->size = p - r->bytes;
+    r->reply = reply;
+    r->code = code;
+    put(r->bytes, r->size - 4, 4);
+    if (echo)
+        put(r->bytes + 4, reply, 4);
+}
+
+/* One topic `t`, of which one partition 0. */
+static uint8_t *put_place(uint8_t *p) {
+    return put_bytes(p, "\0\0\0\1\0\1t\0\0\0\1\0\0\0\0", 15);
+}
+
+/* Produces a batch; how many bytes it has. */
+static size_t produce(struct request *r, int messages, int bytes) {
+    uint8_t *p = put(begin(r, 0, 3), -1, 2);
+    p = put(p, 1, 2);
+    p = put_place(put(p, 1000, 4));
+    size_t batch = put_batch(p + 4, messages, bytes);
+    end(r, put(p, batch, 4) + batch, 45, 23);
+    return batch;
+}
+
+/* Fetches as many batches from an offset on, which stands 12 bytes before the request's end. */
+static void fetch(struct request *r, size_t batch, int batches) {
+    uint8_t *p = put(begin(r, 1, 4), -1, 4);
+    p = put(p, 0, 4);
+    p = put(p, 1, 4);
+    p = put(p, batch * batches, 4);
+    p = put_place(put(p, 0, 1));
+    p = put(p, 0, 8);
+    end(r, put(p, batch * batches, 4), 53 + batch * batches, 27);
+}
+
+/* ---- Connections ---- */
+
+static void send_all(int fd, const uint8_t *p, size_t n) {
+    while (n) {
+        ssize_t k = write(fd, p, n);
+        if (k <= 0)
+            fail("the server closed");
+        p += k;
+        n -= k;
+    }
+}
+
+static void receive(int fd, const struct request *r) {
+    static uint8_t reply[1 << 21];
+    for (size_t n = 0; n < r->reply;) {
+        ssize_t k = read(fd, reply + n, r->reply - n);
+        if (k <= 0)
+            fail("the server closed");
+        n += k;
+        if (n >= 4 && (reply[0] << 24 | reply[1] << 16 | reply[2] << 8 | reply[3]) != (int)r->reply - 4)
+            fail("a reply of another size");
+    }
+    if (reply[r->code] || reply[r->code + 1])
+        fail("an error code");
+}
+
+static void ask(int fd, const struct request *r) {
+    send_all(fd, r->bytes, r->size);
+    receive(fd, r);
+}
+
+/* Makes the topic `t`, or deletes it. */
+static void topic(int is_made) {
+    static struct request r;
+    uint8_t *p = put(begin(&r, is_made ? 19 : 20, 0), 1, 4);
+    p = put_bytes(p, "\0\1t", 3);
+    if (is_made)
+        p = put_bytes(p, "\0\0\0\1\0\1\0\0\0\0\0\0\0\0", 14);
+    end(&r, put(p, 5000, 4), 17, 15);
+    ask(sockets[0], &r);
+}
+
+static void log_in(int fd) {
+    static struct request r;
+    end(&r, put_bytes(begin(&r, 17, 1), "\0\5PLAIN", 7), 21, 8);
+    ask(fd, &r);
+    end(&r, put_bytes(begin(&r, 36, 0), "\0\0\0\10\0ann\0pw1", 12), 16, 8);
+    ask(fd, &r);
+}
+
+/* Has that many connections open, each logged in. */
+static void open_to(int connections) {
+    static int count;
+    struct sockaddr_in to = {.sin_family = AF_INET, .sin_port = htons(port), .sin_addr.s_addr = htonl(INADDR_LOOPBACK)};
+    for (; count < connections; count++) {
+        int fd = sockets[count] = socket(AF_INET, SOCK_STREAM, 0), one = 1;
+        if (fd < 0 || connect(fd, (struct sockaddr *)&to, sizeof to))
+            fail("cannot connect");
+        setsockopt(fd, IPPROTO_TCP, TCP_NODELAY, &one, sizeof one);
+        log_in(fd);
+    }
+}
+
+/* ---- Figures ---- */
+
+/* How often a request is answered in a second, with a few in flight. Those of a fetch go through the topic's batches: `batches`
+   of them, `step` at a time; at 0 the request is sent as it is. How many were answered is added to `answered`. */
+static double rate(struct request *r, int batches, int step, int *answered) {
+    double start = now(), end = start + SECONDS;
+    int sent = 0, done = 0, place = 0;
+    while (sent < IN_FLIGHT || done < sent) {
+        if (sent - done < IN_FLIGHT && (sent < IN_FLIGHT || now() < end)) {
+            if (batches) {
+                put(r->bytes + r->size - 12, (int64_t)place * MESSAGES, 8);
+                place = place + 2 * step <= batches ? place + step : 0;
+            }
+            send_all(sockets[0], r->bytes, r->size);
+            sent++;
+        } else {
+            receive(sockets[0], r);
+            done++;
+        }
+    }
+    *answered += done;
+    return done / (now() - start);
+}
+
+static void print_rate(const char *what, int bytes, double messages) {
+    printf("%s of %d bytes|%.0f|%.1f\n", what, bytes, messages, messages * bytes * 1e-6);
+    fflush(stdout);
+}
+
+static void throughput(int bytes) {
+    static struct request make, one, many;
+    double best[3] = {0};
+    size_t batch = produce(&make, MESSAGES, bytes);
+    int step = 1000000 / batch;
+    fetch(&one, batch, 1);
+    fetch(&many, batch, step);
+    for (int i = 0; i < RUNS; i++) {
+        int batches = 0, fetched = 0;
+        topic(1);
+        double got[3] = {rate(&make, 0, 0, &batches)};
+        while (batches < step) {
+            ask(sockets[0], &make);
+            batches++;
+        }
+        got[1] = rate(&one, batches, 1, &fetched);
+        got[2] = rate(&many, batches, step, &fetched) * step;
+        topic(0);
+        for (int k = 0; k < 3; k++)
+            best[k] = got[k] > best[k] ? got[k] : best[k];
+    }
+    print_rate("Produce, 100 messages", bytes, best[0] * MESSAGES);
+    print_rate("Fetch, 100 messages", bytes, best[1] * MESSAGES);
+    print_rate("Fetch, 1 MB of messages", bytes, best[2] * MESSAGES);
+}
+
+static int by_size(const void *a, const void *b) {
+    float x = *(const float *)a, y = *(const float *)b;
+    return (x > y) - (x < y);
+}
+
+/* The median and the 99th percentile, in microseconds, of the time from a request of one message of 100 bytes to its reply, one
+   at a time on connections that take turns. */
+static void latency(const char *what, int connections, double pause) {
+    static struct request r;
+    static float took[SAMPLES];
+    double best[2] = {1e9, 1e9};
+    struct timespec rest = {.tv_nsec = pause * 1e9};
+    produce(&r, 1, 100);
+    for (int i = 0; i < RUNS; i++) {
+        int n = 0;
+        for (double end = now() + SECONDS; n < SAMPLES && now() < end; n++) {
+            double start = now();
+            ask(sockets[n % connections], &r);
+            took[n] = (now() - start) * 1e6;
+            if (pause > 0)
+                nanosleep(&rest, NULL);
+        }
+        qsort(took, n, sizeof *took, by_size);
+        double got[2] = {took[n / 2], took[n - 1 - n / 100]};
+        for (int k = 0; k < 2; k++)
+            best[k] = got[k] < best[k] ? got[k] : best[k];
+    }
+    printf("%s|%.0f|%.0f\n", what, best[0], best[1]);
+    fflush(stdout);
+}
+
+/* The server's processor time so far, in seconds. */
+static double used(void) {
+    char path[64], text[1024];
+    unsigned long user, system;
+    snprintf(path, sizeof path, "/proc/%d/stat", pid);
+    FILE *file = fopen(path, "r");
+    size_t n = file ? fread(text, 1, sizeof text - 1, file) : 0;
+    text[n] = 0;
+    char *rest = strrchr(text, ')');
+    if (!rest || sscanf(rest, ") %*c %*d %*d %*d %*d %*d %*u %*u %*u %*u %*u %lu %lu", &user, &system) != 2)
+        fail("no such process");
+    fclose(file);
+    return (double)(user + system) / sysconf(_SC_CLK_TCK);
+}
+
+/* The percentage of a processor that the server takes while nobody asks. */
+static void idle(const char *what) {
+    double best = 1e9;
+    for (int i = 0; i < RUNS; i++) {
+        double before = used();
+        sleep(IDLE_SECONDS);
+        double got = (used() - before) / IDLE_SECONDS * 100;
+        best = got < best ? got : best;
+    }
+    printf("%s|%.1f|\n", what, best);
+    fflush(stdout);
+}
+
+int main(int count, char **words) {
+    if (count != 4)
+        fail("load PORT PID broker|echo");
+    port = atoi(words[1]);
+    pid = atoi(words[2]);
+    echo = !strcmp(words[3], "echo");
+    prctl(PR_SET_TIMERSLACK, 1);
+    idle("idle, no connection");
+    open_to(1);
+    throughput(100);
+    throughput(1000);
+    topic(1);
+    latency("1 connection", 1, 0);
+    latency("pause of 0.1 ms", 1, 1e-4);
+    latency("pause of 1 ms", 1, 1e-3);
+    open_to(100);
+    latency("100 connections, one works", 1, 0);
+    latency("100 connections, all in turn", 100, 0);
+    open_to(MOST);
+    latency("1000 connections, one works", 1, 0);
+    latency("1000 connections, all in turn", MOST, 0);
+    idle("idle, 1000 connections");
+    return 0;
+}

@@ -37,7 +37,7 @@ def main(host, port, user, password, topic, partitions="1"):
         code = struct.unpack(">h", reply[-2:])[0]
         if code != 0:
             sys.exit(f"create_topic: error {code}")
-    print(f"{topic} has {partitions} partitions")
+    print(f"made {topic}, partitions: {partitions}")
 
 
 if __name__ == "__main__":

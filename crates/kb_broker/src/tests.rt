@@ -3,25 +3,12 @@ use std::alloc::{AllocError, Global};
 use std::process::Abort;
 use std::test::Fail;
 
-/// The versions that are served, as ApiVersions lists them.
-const TABLE: &[u8] = b"000000030003000100040004000200010001000300010001000800020002000900010001\
-000a00000000000b00010001000c00000000000d00000000000e00000000001100010001\
-001200000000001300000000001400000000001600000000002400000000";
-
 fn bytes(rt: &impl Abort, alloc: Global, digits: &[u8]) -> Result<Vec<u8>, Fail> {
     match hex::decode(alloc, digits) {
         Ok(bytes) => Ok(bytes),
         Err(hex::FromHexError::OutOfMemory) => Err(AllocError)?,
         Err(_) => panic!(rt; "the digits are hexadecimal"),
     }
-}
-
-/// The reply of a size, a correlation id and a code in front of the table.
-fn versions_reply(rt: &impl Abort, alloc: Global, front: &[u8]) -> Result<Vec<u8>, Fail> {
-    let mut reply = bytes(rt, alloc, front)?;
-    let table = bytes(rt, alloc, TABLE)?;
-    reply.extend_from_slice(&table)?;
-    Ok(reply)
 }
 
 fn broker_with(rt: &impl Abort, alloc: Global, number: u64) -> Result<Broker, Fail> {
@@ -57,42 +44,6 @@ fn is_answered(
 }
 
 const VERSIONS: &[u8] = b"0000000a0012000000000001ffff";
-
-#[test]
-fn versions_in_one_piece_and_in_many(rt: HostRuntime) -> Result<(), Fail> {
-    let alloc = rt.alloc();
-    let request = bytes(&rt, alloc, VERSIONS)?;
-    let reply = versions_reply(&rt, alloc, b"0000007000000001000000000011")?;
-    let mut broker = broker_with(&rt, alloc, 1)?;
-    broker.input(alloc, 1, &request);
-    assert_eq!(rt; broker.take_output(alloc, 1).as_slice(), reply.as_slice());
-    for byte in request.iter() {
-        broker.input(alloc, 1, &[*byte]);
-    }
-    assert_eq!(rt; broker.take_output(alloc, 1).as_slice(), reply.as_slice());
-    assert!(rt; request.len() > 2);
-    broker.input(alloc, 1, &request[..2]);
-    assert_eq!(rt; broker.room(1), 4_194_310);
-    broker.input(alloc, 1, &request[2..]);
-    assert_eq!(rt; broker.take_output(alloc, 1).as_slice(), reply.as_slice());
-    assert!(rt; !broker.shut(1));
-    Ok(())
-}
-
-#[test]
-fn versions_of_another_version(rt: HostRuntime) -> Result<(), Fail> {
-    let alloc = rt.alloc();
-    let mut broker = broker_with(&rt, alloc, 1)?;
-    let request = bytes(&rt, alloc, b"000000110012000300000007000178000278023100")?;
-    let reply = versions_reply(&rt, alloc, b"0000007000000007002300000011")?;
-    broker.input(alloc, 1, &request);
-    assert_eq!(rt; broker.take_output(alloc, 1).as_slice(), reply.as_slice());
-    let request = bytes(&rt, alloc, b"000000080012000900000005")?;
-    let reply = versions_reply(&rt, alloc, b"0000007000000005002300000011")?;
-    broker.input(alloc, 1, &request);
-    assert_eq!(rt; broker.disconnect(alloc, 1).as_slice(), reply.as_slice());
-    Ok(())
-}
 
 const HANDSHAKE: &[u8] = b"000000110011000100000002ffff0005504c41494e";
 

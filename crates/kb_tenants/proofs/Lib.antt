@@ -1,4 +1,3 @@
 pub mod Added
-pub mod Clocks
 pub mod Hosted
 pub mod Others

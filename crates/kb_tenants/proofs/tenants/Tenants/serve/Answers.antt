@@ -2,7 +2,7 @@ use Rattle.std.proofs.Common.{ap, subst, ◌∙◌}
 use Rattle.kb_world.specs.Parts.{world_of}
 use Rattle.kb_tenant.specs.Hosted.{kept_in, world_at}
 use Rattle.kb_tenant.specs.Serve.{served, IsOutcome}
-use Rattle.kb_tenants.proofs.Clocks.{served_clock}
+use Rattle.kb_tenant.proofs.ServeMoves.{serve_leaves}
 use Rattle.kb_tenants.proofs.Hosted.{sound_at, kept_at, turn_at, met_at}
 use Rattle.kb_tenants.proofs.tenants.Tenants.serve.Goals as goal
 
@@ -34,5 +34,5 @@ returns-clause-meets g c =
     (λ v u. IsOutcome r.correlation_id (served node v r.api_key r.body.now) u c.serve.result.touched.items c.serve.result.answer)
     (λ v u. IsOutcome r.correlation_id (served node (world_at v c.args.clock) r.api_key r.body.now) (world_at u c.args.clock) c.serve.result.touched.items c.serve.result.answer)
     (λ done. subst (λ n. IsOutcome r.correlation_id o (world_at (kept_in w) n) c.serve.result.touched.items c.serve.result.answer)
-    (ap (λ v. v.clock) done.0 ∙ served_clock node (world_at k c.args.clock) r.api_key r.body.now) done)
+    (ap (λ v. v.clock) done.0 ∙ (serve_leaves node (world_at k c.args.clock) r.api_key r.body.now).clock) done)
     c.serve.ensures.meets

@@ -6,7 +6,7 @@
 #include <string.h>
 #include <time.h>
 
-#include "crc32c.h"
+#include "batch.h"
 
 static int64_t big(const uint8_t *p, int n) {
     uint64_t v = p[0] & 0x80 ? ~0ull : 0;
@@ -74,55 +74,12 @@ static int read_batch(const uint8_t *b, size_t len, int64_t *greatest) {
     return p == end;
 }
 
-static uint8_t *put_varint(uint8_t *p, int64_t value) {
-    uint64_t v = (uint64_t)value << 1 ^ (uint64_t)(value >> 63);
-    for (; v > 127; v >>= 7)
-        *p++ = v | 0x80;
-    *p++ = v;
-    return p;
-}
-
-static void put_big(uint8_t *p, int64_t v, int n) {
-    for (int i = n; i--; v >>= 8)
-        p[i] = v;
-}
-
-/* A batch of records of 20 bytes, one a millisecond. */
-static size_t build(uint8_t *b, int count) {
-    memset(b, 0, 61);
-    uint8_t *p = b + 61;
-    for (int k = 0; k < count; k++) {
-        uint8_t record[64], *q = record;
-        *q++ = 0;
-        q = put_varint(q, k);
-        q = put_varint(q, k);
-        q = put_varint(q, -1);
-        q = put_varint(q, 20);
-        memset(q, 'x', 20);
-        q = put_varint(q + 20, 0);
-        p = put_varint(p, q - record);
-        memcpy(p, record, q - record);
-        p += q - record;
-    }
-    size_t len = p - b;
-    put_big(b + 8, len - 12, 4);
-    b[16] = 2;
-    put_big(b + 23, count - 1, 4);
-    put_big(b + 35, count - 1, 8);
-    put_big(b + 43, -1, 8);
-    put_big(b + 51, -1, 2);
-    put_big(b + 53, -1, 4);
-    put_big(b + 57, count, 4);
-    put_big(b + 17, by_8(b + 21, len - 21), 4);
-    return len;
-}
-
 static int (*volatile method)(const uint8_t *, size_t, int64_t *) = read_batch;
 
 int main(void) {
     static uint8_t batch[1 << 20];
     for (int count = 1; count <= 10000; count *= 10) {
-        size_t len = build(batch, count);
+        size_t len = put_batch(batch, count, 20);
         int reads = 20000000 / (int)len + 1;
         double best = 1e9;
         int64_t sum = 0;

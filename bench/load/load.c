@@ -14,6 +14,8 @@
 #include <time.h>
 #include <unistd.h>
 
+#include "batch.h"
+
 enum { RUNS = 3, IN_FLIGHT = 4, MESSAGES = 100, MOST = 1000, SAMPLES = 1 << 20 };
 
 static const double SECONDS = 2, IDLE_SECONDS = 10;
@@ -37,66 +39,6 @@ static double now(void) {
     struct timespec t;
     clock_gettime(CLOCK_MONOTONIC, &t);
     return t.tv_sec + t.tv_nsec * 1e-9;
-}
-
-/* ---- Bytes ---- */
-
-static uint8_t *put(uint8_t *p, int64_t v, int n) {
-    for (int i = n; i--; v >>= 8)
-        p[i] = v;
-    return p + n;
-}
-
-static uint8_t *put_bytes(uint8_t *p, const void *bytes, size_t n) {
-    memcpy(p, bytes, n);
-    return p + n;
-}
-
-static uint8_t *put_varint(uint8_t *p, int64_t value) {
-    uint64_t v = (uint64_t)value << 1 ^ (uint64_t)(value >> 63);
-    for (; v > 127; v >>= 7)
-        *p++ = v | 0x80;
-    *p++ = v;
-    return p;
-}
-
-static uint32_t crc32c(const uint8_t *p, size_t n) {
-    uint32_t crc = ~0u;
-    for (; n--; p++) {
-        crc ^= *p;
-        for (int i = 0; i < 8; i++)
-            crc = crc >> 1 ^ (crc & 1 ? 0x82f63b78 : 0);
-    }
-    return ~crc;
-}
-
-/* A batch of messages without key, of that many bytes each. */
-static size_t put_batch(uint8_t *b, int messages, int bytes) {
-    memset(b, 0, 61);
-    uint8_t *p = b + 61;
-    for (int k = 0; k < messages; k++) {
-        uint8_t head[32], *q = head;
-        *q++ = 0;
-        q = put_varint(q, k);
-        q = put_varint(q, k);
-        q = put_varint(q, -1);
-        q = put_varint(q, bytes);
-        p = put_varint(p, q - head + bytes + 1);
-        p = put_bytes(p, head, q - head);
-        memset(p, 'a' + k % 26, bytes);
-        p = put_varint(p + bytes, 0);
-    }
-    size_t size = p - b;
-    put(b + 8, size - 12, 4);
-    b[16] = 2;
-    put(b + 23, messages - 1, 4);
-    put(b + 35, messages - 1, 8);
-    put(b + 43, -1, 8);
-    put(b + 51, -1, 2);
-    put(b + 53, -1, 4);
-    put(b + 57, messages, 4);
-    put(b + 17, crc32c(b + 21, size - 21), 4);
-    return size;
 }
 
 /* ---- Requests ---- */

@@ -6,7 +6,8 @@ here=$(cd "$(dirname "$0")" && pwd)
 broker=$(realpath "${1:-$here/../../crates/kbroker/out/kbroker}")
 cd "$(mktemp -d)"
 ulimit -n 2048
-gcc -O2 -o load "$here/load.c"
+python3 "$here/../crc/tables.py" --c > tables.h
+gcc -O2 -I. -I"$here/.." -o load "$here/load.c"
 gcc -O2 -o echo "$here/echo.c"
 trap 'kill $pid' EXIT
 

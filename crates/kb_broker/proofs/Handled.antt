@@ -1,28 +1,28 @@
 -- What the broker's steps leave of it.
-use Rattle.std.proofs.Common.{◌≡◌, ◌<◌, ℕ, List, [], ◌∷◌, length, get_or, set, eqb, Some, None, Result, Ok, Err, OnOk, OnErr, Bool, true, false, inl, inr, refl, sym, ◌∙◌, ap, subst, arith}
-use Rattle.std.specs.Prelude.{map, ◌&&◌}
+use Rattle.std.proofs.Common.{◌≡◌, ◌≢◌, ◌++◌, ◌+◌, ◌<◌, ℕ, List, [], ◌∷◌, length, get_or, set, eqb, Some, None, Result, Ok, Err, OnOk, OnErr, Bool, true, false, suc, inl, inr, refl, sym, ◌∙◌, ap, subst, arith}
+use Rattle.std.specs.Prelude.{map, max, ◌^◌, ◌≤◌, not, cond, nat_lt, Option}
+use Rattle.std.specs.List.{position, position_or_len}
+use Rattle.std.proofs.lemmas.List.Quantifiers.{position-Some}
 use Rattle.std.specs.Result.{is_err}
-use Rattle.std.specs.List.{AllByRecursion, AllWithin, HoldsAt, list_all}
+use Rattle.std.specs.List.{AllByRecursion}
 use Rattle.std.proofs.lemmas.Bool.Decides.{nat_tests}
-use Rattle.std.specs.Bool.{MatchBool}
 use Rattle.std.proofs.lemmas.List.{get_or_default, length-map}
-use Rattle.std.proofs.lemmas.List.Sums.{list_all-from_AllPass}
-use Rattle.std.proofs.lemmas.List.Folds.{list_all_at}
 use Rattle.kb_tenant.specs.Hosted.{TenantState}
-use Rattle.kb_machine.specs.Session.{Stage, Greets, BoundTo, Session, fresh, shut_down, fed, can}
-use Rattle.kb_machine.specs.Greeting.{Setup}
-use Rattle.kb_machine.specs.Machine.{Comes, Line, first_able}
+use Rattle.kb_machine.specs.Session.{Stage, Greets, BoundTo, Session, fresh, shut_down, without_wait, is_free, fed, room, can}
+use Rattle.kb_machine.specs.Machine.{Comes, Moment, Line, first_able, work}
 use Rattle.kb_machine.specs.Owners.{find_line}
-use Rattle.kb_machine.specs.Broker.{BrokerState, IsReady, IsSound, IsStep, IsUntaken, is_deaf, InRange, kept_of}
-use Rattle.kb_machine.specs.Turned.{IsStill, IsWithin, IsFed, Turned}
-use Rattle.kb_machine.proofs.Laws.{can-turn, some-left, greeted-less, served-less}
-use Rattle.kb_machine.proofs.Sets.{IsAt, all-at, set-at, first-still, still-none}
-use Rattle.kb_machine.proofs.Parts.{count, turn-then, calm-right}
-use Rattle.kb_machine.proofs.Turns.{turned-greeting, turned-bound, refused-greeting, turned-then}
-use Rattle.kb_machine.proofs.Feeds.{fed-kept, fed-refused, fed-bound, step-comes, step-nothing, step-shut}
+use Rattle.kb_machine.specs.Broker.{BrokerState, IsReady, IsSound, IsStep, IsUntaken, is_deaf}
+use Rattle.kb_machine.specs.Turned.{Scope, Of, Everybody, IsStill, AreStill, IsGoing, is_resting, AreUntouched, IsFed, Turned, Served, Waked, IsSettled}
+use Rattle.kb_machine.proofs.Sets.{IsAt, all-at, all-map, all-set, all-still, work-set, first-still, still-none}
+use Rattle.kb_machine.proofs.Parts.{count, turn-then, calm-right, eqb_same}
+use Rattle.kb_machine.proofs.Owned.{found as found-all}
+use Rattle.kb_machine.specs.Calls.{moved}
+use Rattle.kb_machine.proofs.Steps.{sound-moved, step-moment}
+use Rattle.kb_machine.proofs.Turns.{going-then, untouched-then, turned-greeting, served-bound, refused-greeting}
+use Rattle.kb_machine.proofs.Feeds.{still-settled, fed-kept, fed-refused, fed-bound, step-comes, step-nothing, step-shut}
 use Rattle.kb_connection.specs.View.{with_session}
-use Rattle.kb_broker.specs.Places.{numbers, number_at, unread_at, IsSpent, IsTakenAt, IsTurnAt, IsTurning, IsCountedAt}
-use Rattle.kb_broker.proofs.Placed.{IsFound, at-read, get-at, find-found, number_at-is, unread_at-is, numbers-set}
+use Rattle.kb_broker.specs.Places.{numbers, number_at, waits_in, AreFree, IsSpent, IsTakenAt, IsTurnAt, AreIdle, IsNext, IsScoped, IsCountedAt, IsServedAt}
+use Rattle.kb_broker.proofs.Placed.{IsFound, at-read, get-at, find-found, number_at-is, numbers-set}
 
 -- 1. A connection at a place changes
 
@@ -41,11 +41,9 @@ from_ok (Err x) b P e t h = let no : true ≡ false = sym e ∙ t in absurd (cc)
 pub numbers-put : (a b : BrokerState) (i : ℕ) (l m : Line) → a ≡ b → IsAt b.lines i l → m.number ≡ l.number → numbers (put_at a i m) ≡ numbers b
 numbers-put a b i l m e at n = ap (λ (x : BrokerState). numbers (put_at x i m)) e ∙ numbers-set b.lines i l m at n
 
-less-put : (b c : BrokerState) (i : ℕ) (l m : Line) → IsAt b.lines i l → c.lines ≡ set b.lines i m → length m.session.unread < length l.session.unread → unread_at i c < unread_at i b
-less-put b c i l m at e lt =
-    let new : unread_at i c ≡ length m.session.unread = ap (λ (ls : List Line). unread_at i (record b { lines = ls })) e ∙ unread_at-is (put_at b i m) i m (set-at b.lines i l m at) in
-    let old = unread_at-is b i l at in
-    omega (arith, new, old)
+-- fewer unread bytes there are fewer unread bytes of all
+pub work-put : (b : BrokerState) (i : ℕ) (l m : Line) (ls : List Line) → IsAt b.lines i l → ls ≡ set b.lines i m → length m.session.unread < length l.session.unread → work ls < work b.lines
+work-put b i l m ls at e lt = let h = work-set b.lines i l m at in let f = ap work e in omega (arith, h, f)
 
 -- the piece was taken
 pub fed-put : (a b : BrokerState) (i : ℕ) (l m : Line) (piece : List ℕ) → a ≡ b → IsReady b → IsAt b.lines i l → m ≡ with_session l (fed piece l.session) → IsFed (number_at i b) piece b (put_at a i m)
@@ -60,69 +58,80 @@ fed-put a b i l m piece e ready at is =
 abbrev pub put_with : BrokerState → ℕ → Line → List TenantState → BrokerState
 put_with b i m us = record b { lines = set b.lines i m; tenants = us }
 
--- no other connection can take a turn, in the words of the one that can
-still-at : (b : BrokerState) (i : ℕ) (l : Line) → IsTurning i b → IsAt b.lines i l → AllByRecursion (IsStill l.number) b.lines
-still-at b i l t at = subst (λ n. AllByRecursion (IsStill n) b.lines) (number_at-is b i l at) t.still
-
 -- of the connection at a place and of the tenants, what its turn left in any case
 pub record IsTaken (b : BrokerState) (i : ℕ) (l m : Line) (us : List TenantState) : Type 0 where
-  pub turning : IsTurning i b
+  pub next : IsNext i b
   pub at : IsAt b.lines i l
   pub able : can l.session ≡ true
   pub number : m.number ≡ l.number
   pub spent : IsSpent l.session m.session
   pub turn : IsTurnAt l.session.stage b.tenants us
 
-pub can-at : (b : BrokerState) (i : ℕ) (l : Line) → IsAt b.lines i l → ((d : Line) → can (get_or b.lines i d).session ≡ true) → can l.session ≡ true
-can-at b i l at able = ap (λ (x : Line). can x.session) at.here ∙ able l
+first-can : (ls : List Line) (l : Line) → first_able ls ≡ Some l → can l.session ≡ true
+first-can [] l e = absurd (cc)
+first-can (k ∷ ls) l e = by (can k.session) refl (first-can ls l) e
+  where
+    by : (b : Bool) → can k.session ≡ b → (first_able ls ≡ Some l → can l.session ≡ true) → cond b (Some k) (first_able ls) ≡ Some l → can l.session ≡ true
+    by true c rest f = let same : k ≡ l = cc in ap (λ (x : Line). can x.session) (sym same) ∙ c
+    by false c rest f = rest f
+
+first-at : (b : BrokerState) (i : ℕ) (l : Line) → IsNext i b → IsAt b.lines i l → first_able b.lines ≡ Some l
+first-at b i l next at = next.first l ∙ ap Some (sym at.here)
+
+pub next-can : (b : BrokerState) (i : ℕ) (l : Line) → IsNext i b → IsAt b.lines i l → can l.session ≡ true
+next-can b i l next at = first-can b.lines l (first-at b i l next at)
 
 -- the same, where a is what the broker's own fields are
-pub taken-at : (a b : BrokerState) (i : ℕ) (l m : Line) (us : List TenantState) → a ≡ b → IsTurning i b → l ≡ get_or a.lines i l → ((d : Line) → can (get_or b.lines i d).session ≡ true) → m.number ≡ l.number → IsSpent l.session m.session → IsTurnAt l.session.stage a.tenants us → IsTaken b i l m us
-taken-at a b i l m us e turning read able n spent turn =
-    let at = at-read a b i l e turning.within read in
+pub taken-at : (a b : BrokerState) (i : ℕ) (l m : Line) (us : List TenantState) → a ≡ b → IsNext i b → l ≡ get_or a.lines i l → m.number ≡ l.number → IsSpent l.session m.session → IsTurnAt l.session.stage a.tenants us → IsTaken b i l m us
+taken-at a b i l m us e next read n spent turn =
+    let at = at-read a b i l e next.within read in
     record {
-      turning = turning;
+      next = next;
       at = at;
-      able = can-at b i l at able;
+      able = next-can b i l next at;
       number = n;
       spent = spent;
       turn = subst (λ (x : BrokerState). IsTurnAt l.session.stage x.tenants us) e turn;
     }
 
-taken-by : (b : BrokerState) (i : ℕ) (l m : Line) (us : List TenantState) (st : Stage) → IsSound b → AllByRecursion (IsStill l.number) b.lines → IsAt b.lines i l → first_able b.lines ≡ Some l → l.session.stage ≡ st → m.number ≡ l.number → IsSpent l.session m.session →
-    IsTurnAt st b.tenants us → IsTakenAt b.setup b.clock st b.tenants us l.session m.session → Turned l.number b (put_with b i m us)
-taken-by b i l m us (Greets h) sound still at first s n spent turn is = subst (λ ts. Turned l.number b (put_with b i m ts)) (sym turn) (turned-greeting b i l m h sound still at first s n is)
-taken-by b i l m us (BoundTo t w) sound still at first s n spent turn is = turned-bound b i t l m w (Unit {0}) us sound still at first s n (spent.stage t w s) turn tt (is tt)
+-- one that can take a turn does not wait
+free-stage : (st : Stage) → is_free st ≡ true → without_wait st ≡ st
+free-stage (Greets h) e = refl
+free-stage (BoundTo t None) e = refl
+free-stage (BoundTo t (Some w)) e = let no : false ≡ true = e in absurd (cc)
 
-first-at : (b : BrokerState) (i : ℕ) (l m : Line) (us : List TenantState) → IsTaken b i l m us → first_able b.lines ≡ Some l
-first-at b i l m us h = first-still 0 b.last b.lines i l h.turning.sound.rising h.at (still-at b i l h.turning h.at) h.able
+pub able-stage : (s : Session) → can s ≡ true → without_wait s.stage ≡ s.stage
+unfolding can
+able-stage s e = free-stage s.stage (grind (arith, e))
 
 -- nothing was refused to the connection
-pub turned-taken : (b : BrokerState) (i : ℕ) (l m : Line) (us : List TenantState) → IsTaken b i l m us → IsTakenAt b.setup b.clock l.session.stage b.tenants us l.session m.session → Turned (number_at i b) b (put_with b i m us)
-turned-taken b i l m us h is =
-    let f = taken-by b i l m us l.session.stage h.turning.sound (still-at b i l h.turning h.at) h.at (first-at b i l m us h) refl h.number h.spent h.turn is in
-    subst (λ n. Turned n b (put_with b i m us)) (sym (number_at-is b i l h.at)) f
+pub served-taken : (scope : Scope) (b : BrokerState) (i : ℕ) (l m : Line) (us : List TenantState) (st : Stage) → AreStill scope b → IsTaken b i l m us → l.session.stage ≡ st → IsTurnAt st b.tenants us → IsTakenAt b.setup b.clock st b.tenants us l.session m.session →
+    IsServedAt st scope b (put_with b i m us)
+served-taken scope b i l m us (Greets h) still k s turn is = subst (λ ts. Turned scope b (put_with b i m ts)) (sym turn) (turned-greeting scope b i l m h k.next.sound still k.at (first-at b i l k.next k.at) k.able s k.number is)
+served-taken scope b i l m us (BoundTo t w) still k s turn is = served-bound scope b i t l m w (Unit {0}) us k.next.sound still k.at (first-at b i l k.next k.at) k.able s k.number (k.spent.stage t w s) turn tt (is tt)
 
-pub numbers-taken : (b : BrokerState) (i : ℕ) (l m : Line) (us : List TenantState) → IsTaken b i l m us → numbers (put_with b i m us) ≡ numbers b
-numbers-taken b i l m us h = numbers-set b.lines i l m h.at h.number
-
-pub less-taken : (b : BrokerState) (i : ℕ) (l m : Line) (us : List TenantState) → IsTaken b i l m us → unread_at i (put_with b i m us) < unread_at i b
-less-taken b i l m us h = less-put b (put_with b i m us) i l m h.at refl h.spent.less
+pub work-taken : (b : BrokerState) (i : ℕ) (l m : Line) (us : List TenantState) → IsTaken b i l m us → work (put_with b i m us).lines < work b.lines
+work-taken b i l m us h = work-put b i l m (set b.lines i m) h.at refl h.spent.less
 
 -- 3. A connection was shut at a place, with a count
 
-pub record IsShut (b c : BrokerState) (i : ℕ) (l m : Line) (st : Stage) : Type 0 where
+pub record IsShut (b c : BrokerState) (i : ℕ) (l m : Line) : Type 0 where
   pub at : IsAt b.lines i l
-  pub stage : l.session.stage ≡ st
   pub is : m ≡ with_session l (shut_down l.session)
-  pub counted : IsCountedAt st (put_at b i m) c
+  pub counted : IsCountedAt l.session.stage (put_at b i m) c
 
-pub shut-at : (a b c : BrokerState) (i : ℕ) (k l m : Line) (st : Stage) → a ≡ b → i < length b.lines → k ≡ get_or a.lines i k → l ≡ get_or a.lines i l → st ≡ k.session.stage → m ≡ with_session l (shut_down l.session) → IsCountedAt st (put_at a i m) c → IsShut b c i l m st
+-- waiting or not, it is counted for the same
+counted-stage : (st : Stage) (b c : BrokerState) → IsCountedAt (without_wait st) b c → IsCountedAt st b c
+counted-stage (Greets h) b c r = r
+counted-stage (BoundTo t w) b c r = r
+
+pub shut-at : (a b c : BrokerState) (i : ℕ) (k l m : Line) (st : Stage) → a ≡ b → i < length b.lines → k ≡ get_or a.lines i k → l ≡ get_or a.lines i l → st ≡ without_wait k.session.stage → m ≡ with_session l (shut_down l.session) → IsCountedAt st (put_at a i m) c → IsShut b c i l m
 shut-at a b c i k l m st e lt read at s is counted =
     let here = at-read a b i l e lt at in
     let there = at-read a b i k e lt read in
-    let same : l ≡ k = here.here ∙ (get_or_default b.lines i l k lt ∙ sym there.here) in
-    record { at = here; stage = ap (λ (x : Line). x.session.stage) same ∙ sym s; is = is; counted = subst (λ (x : BrokerState). IsCountedAt st (put_at x i m) c) e counted }
+    let same : k ≡ l = there.here ∙ (get_or_default b.lines i k l lt ∙ sym here.here) in
+    let stage : st ≡ without_wait l.session.stage = s ∙ ap (λ (x : Line). without_wait x.session.stage) same in
+    record { at = here; is = is; counted = counted-stage l.session.stage (put_at b i m) c (subst (λ x. IsCountedAt x (put_at b i m) c) stage (subst (λ (x : BrokerState). IsCountedAt st (put_at x i m) c) e counted)) }
 
 lines-counted : (st : Stage) (b c : BrokerState) → IsCountedAt st b c → c.lines ≡ b.lines
 lines-counted (Greets h) b c r = ap (λ (x : BrokerState). x.lines) r.is
@@ -134,55 +143,183 @@ fed-counted b c i l m piece (Greets h) ready at s n e r =
 fed-counted b c i l m piece (BoundTo t w) ready at s n e r =
     subst (λ x. IsFed l.number piece b x) (sym r.is) (fed-bound b i t l m piece w (Unit {0}) c.tenants ready at s n e r.turn tt r.counted)
 
-pub numbers-shut : (b c : BrokerState) (i : ℕ) (l m : Line) (st : Stage) → IsShut b c i l m st → numbers c ≡ numbers b
-numbers-shut b c i l m st h = ap (λ (ls : List Line). map (λ (x : Line). x.number) ls) (lines-counted st (put_at b i m) c h.counted) ∙ numbers-set b.lines i l m h.at (ap (λ (x : Line). x.number) h.is)
+pub fed-shut : (b c : BrokerState) (i : ℕ) (l m : Line) (piece : List ℕ) → IsReady b → IsShut b c i l m → IsFed (number_at i b) piece b c
+fed-shut b c i l m piece ready h =
+    subst (λ n. IsFed n piece b c) (sym (number_at-is b i l h.at)) (fed-counted b c i l m piece l.session.stage ready h.at refl (ap (λ (x : Line). x.number) h.is) (ap (λ (x : Line). x.session) h.is) h.counted)
 
-pub fed-shut : (b c : BrokerState) (i : ℕ) (l m : Line) (piece : List ℕ) (st : Stage) → IsReady b → IsShut b c i l m st → IsFed (number_at i b) piece b c
-fed-shut b c i l m piece st ready h =
-    subst (λ n. IsFed n piece b c) (sym (number_at-is b i l h.at)) (fed-counted b c i l m piece st ready h.at h.stage (ap (λ (x : Line). x.number) h.is) (ap (λ (x : Line). x.session) h.is) h.counted)
+-- what waits for nothing does not wait after a piece
+pub free-fed : (piece : List ℕ) (s : Session) → is_free s.stage ≡ true → is_free (fed piece s).stage ≡ true
+unfolding fed
+free-fed piece s free = by s.shut (nat_lt (room s) (length piece))
+  where
+    by : (a b : Bool) → is_free (let x : Session = cond a s (cond b (shut_down s) (record s { unread = s.unread ++ piece })) in x).stage ≡ true
+    by true b = free
+    by false true = ap is_free (free-stage s.stage free) ∙ free
+    by false false = free
+
+-- a connection at a place that waits no more than the one before
+pub free-put : (may_wait : Bool) (ls : List Line) (i : ℕ) (l m : Line) → IsAt ls i l → AreFree may_wait ls → (is_free l.session.stage ≡ true → is_free m.session.stage ≡ true) → AreFree may_wait (set ls i m)
+free-put may_wait ls i l m at free more = λ e. let all = free e in all-set (λ (k : Line). is_free k.session.stage ≡ true) ls i m all (more (all-at (λ (k : Line). is_free k.session.stage ≡ true) ls i l at all))
+
+pub free-fed-put : (may_wait : Bool) (ls : List Line) (i : ℕ) (l m : Line) (piece : List ℕ) → IsAt ls i l → AreFree may_wait ls → m ≡ with_session l (fed piece l.session) → AreFree may_wait (set ls i m)
+free-fed-put may_wait ls i l m piece at free is = free-put may_wait ls i l m at free (λ f. ap (λ (x : Line). is_free x.session.stage) is ∙ free-fed piece l.session f)
+
+-- the connection is at its place among the broker's own
+pub at-inside : (a b : BrokerState) (i : ℕ) (l : Line) → a ≡ b → IsAt b.lines i l → IsAt a.lines i l
+at-inside a b i l e at = subst (λ (x : BrokerState). IsAt x.lines i l) (sym e) at
 
 -- a turn that was refused to the connection, and counted
-refused-by : (b c : BrokerState) (i : ℕ) (l m : Line) (us : List TenantState) (st : Stage) → IsTaken b i l m us → l.session.stage ≡ st → m.session ≡ shut_down l.session → IsTurnAt st b.tenants us → IsCountedAt st (put_with b i m us) c → Turned l.number b c
-refused-by b c i l m us (Greets h) k s e turn r =
-    let f = refused-greeting b i l m h c.unbound_refusals k.turning.sound (still-at b i l k.turning k.at) k.at s k.number e r.grows r.counted in
-    let g = subst (λ ts. Turned l.number b (record (put_with b i m ts) { unbound_refusals = c.unbound_refusals })) (sym turn) f in
-    subst (λ x. Turned l.number b x) (sym r.is) g
-refused-by b c i l m us (BoundTo t w) k s e turn r =
+pub served-refused : (scope : Scope) (b c : BrokerState) (i : ℕ) (l m : Line) (us : List TenantState) (st : Stage) → AreStill scope b → IsTaken b i l m us → l.session.stage ≡ st → m.session ≡ shut_down l.session → IsTurnAt st b.tenants us → IsCountedAt st (put_with b i m us) c → IsServedAt st scope b c
+served-refused scope b c i l m us (Greets h) still k s e turn r =
+    let f = refused-greeting scope b i l m h c.unbound_refusals k.next.sound still k.at k.able s k.number e r.grows r.counted in
+    let g = subst (λ ts. Turned scope b (record (put_with b i m ts) { unbound_refusals = c.unbound_refusals })) (sym turn) f in
+    subst (λ x. Turned scope b x) (sym r.is) g
+served-refused scope b c i l m us (BoundTo t w) still k s e turn r =
     let both = turn-then t (Unit {0}) (Unit {0}) b.tenants us c.tenants (λ u. u) turn r.turn in
-    let f = turned-bound b i t l m w (Unit {0}) c.tenants k.turning.sound (still-at b i l k.turning k.at) k.at (first-at b i l m us k) s k.number (k.spent.stage t w s) both tt
+    let f = served-bound scope b i t l m w (Unit {0}) c.tenants k.next.sound still k.at (first-at b i l k.next k.at) k.able s k.number (k.spent.stage t w s) both tt
     (λ calm. absurd (r.counted (calm-right (count b.tenants t) (count us t) (count c.tenants t) (turn.grows t) (r.turn.grows t) calm))) in
-    subst (λ x. Turned l.number b x) (sym r.is) f
+    subst (λ x. Served t scope b x) (sym r.is) f
 
-pub turned-refused : (b c : BrokerState) (i : ℕ) (l m : Line) (us : List TenantState) → IsTaken b i l m us → m ≡ with_session l (shut_down l.session) → IsCountedAt l.session.stage (put_with b i m us) c → Turned (number_at i b) b c
-turned-refused b c i l m us h e r =
-    subst (λ n. Turned n b c) (sym (number_at-is b i l h.at)) (refused-by b c i l m us l.session.stage h refl (ap (λ (x : Line). x.session) e) h.turn r)
+pub work-refused : (b c : BrokerState) (i : ℕ) (l m : Line) (us : List TenantState) (st : Stage) → IsTaken b i l m us → IsCountedAt st (put_with b i m us) c → work c.lines < work b.lines
+work-refused b c i l m us st h r = work-put b i l m c.lines h.at (lines-counted st (put_with b i m us) c r) h.spent.less
 
-pub numbers-refused : (b c : BrokerState) (i : ℕ) (l m : Line) (us : List TenantState) → IsTaken b i l m us → IsCountedAt l.session.stage (put_with b i m us) c → numbers c ≡ numbers b
-numbers-refused b c i l m us h r = ap (λ (ls : List Line). map (λ (x : Line). x.number) ls) (lines-counted l.session.stage (put_with b i m us) c r) ∙ numbers-taken b i l m us h
+served-going : (st : Stage) (scope : Scope) (b c : BrokerState) → IsServedAt st scope b c → IsGoing b c
+served-going (Greets h) scope b c r = r.going
+served-going (BoundTo t w) scope b c r = r.going
 
-pub less-refused : (b c : BrokerState) (i : ℕ) (l m : Line) (us : List TenantState) → IsTaken b i l m us → IsCountedAt l.session.stage (put_with b i m us) c → unread_at i c < unread_at i b
-less-refused b c i l m us h r = less-put b c i l m h.at (lines-counted l.session.stage (put_with b i m us) c r) h.spent.less
+pub served-sound : (st : Stage) (b c : BrokerState) → IsScoped b → ((scope : Scope) → AreStill scope b → IsServedAt st scope b c) → IsSound c
+served-sound st b c still served = (served-going st still.0 b c (served still.0 still.1)).sound
 
 -- 4. Turns until none is left
 
-pub able-at : (b : BrokerState) (i : ℕ) (l : Line) → IsAt b.lines i l → can l.session ≡ true → (d : Line) → can (get_or b.lines i d).session ≡ true
-able-at b i l at able d = ap (λ (x : Line). can x.session) (get_or_default b.lines i d l at.within ∙ sym at.here) ∙ able
+-- of the connection of a number holds what holds of each
+find-all : (P : ℕ → Session → Type 0) (n : ℕ) (s : Session) (ls : List Line) → AllByRecursion (λ (l : Line). P l.number l.session) ls → find_line n ls ≡ Some s → P n s
+find-all P n s [] h e = absurd (cc)
+find-all P n s (l ∷ ls) h e = by (eqb l.number n) refl (find-all P n s ls h.1) e
+  where
+    by : (b : Bool) → eqb l.number n ≡ b → (find_line n ls ≡ Some s → P n s) → cond b (Some l.session) (find_line n ls) ≡ Some s → P n s
+    by true f rest g = let same : l.number ≡ n = eqb_same l.number n f in let is : l.session ≡ s = cc in subst (λ k. P k s) same (subst (P l.number) is h.0)
+    by false f rest g = rest g
+
+-- a connection that is found here is found there
+find-both : (n : ℕ) (s : Session) (ls ms : List Line) → map (λ (x : Line). x.number) ms ≡ map (λ (x : Line). x.number) ls → find_line n ms ≡ Some s → find_line n ls ≡ None → ⊥
+find-both n s [] [] e f g = absurd (cc)
+find-both n s [] (m ∷ ms) e f g = absurd (cc)
+find-both n s (l ∷ ls) [] e f g = absurd (cc)
+find-both n s (l ∷ ls) (m ∷ ms) e f g =
+    let here : m.number ≡ l.number = cc in
+    let rest : map (λ (x : Line). x.number) ms ≡ map (λ (x : Line). x.number) ls = cc in
+    let same : eqb m.number n ≡ eqb l.number n = ap (λ k. eqb k n) here in
+    by (eqb l.number n) same (find-both n s ls ms rest) g
+  where
+    by : (b : Bool) → eqb m.number n ≡ b → (find_line n ms ≡ Some s → find_line n ls ≡ None → ⊥) → cond b (Some l.session) (find_line n ls) ≡ None → ⊥
+    by true h rest k = absurd (cc)
+    by false h rest k = rest (ap (λ (x : Bool). cond x (Some m.session) (find_line n ms)) (sym h) ∙ f) k
+
+rests : (s : Session) → is_free s.stage ≡ true → can s ≡ false → is_resting (Some s) ≡ true
+rests s free still = grind (arith, free, still)
+
+-- where nobody waits and nobody else can take a turn, a turn of that connection lets nobody else take one
+idle-by : (n k : ℕ) (s : Session) (old : Option Session) (a : BrokerState) → find_line k a.lines ≡ old → (old ≡ None → ⊥) → AllByRecursion (λ (l : Line). is_free l.session.stage ≡ true) a.lines → AreIdle n a → (is_resting old ≡ true → Some s ≡ old) → k ≢ n → can s ≡ false
+idle-by n k s None a e some free idle same ne = absurd (some refl)
+idle-by n k s (Some old) a e some free idle same ne =
+    let f : is_free old.stage ≡ true = find-all (λ j (x : Session). is_free x.stage ≡ true) k old a.lines free e in
+    let c : can old ≡ false = find-all (λ j (x : Session). j ≢ n → can x ≡ false) k old a.lines idle e ne in
+    let is : Some s ≡ Some old = same (rests old f c) in
+    let eq : s ≡ old = cc in
+    ap can eq ∙ c
+
+pub idle-turned : (n : ℕ) (a b : BrokerState) → IsGoing a b → AreUntouched a b → AllByRecursion (λ (l : Line). is_free l.session.stage ≡ true) a.lines → AreIdle n a → AreIdle n b
+idle-turned n a b g untouched free idle =
+    all-map (λ l. find_line l.number b.lines ≡ Some l.session) (λ l. l.number ≢ n → can l.session ≡ false)
+    (λ l f ne. idle-by n l.number l.session (find_line l.number a.lines) a refl (find-both l.number l.session a.lines b.lines g.numbers f) free idle (λ r. sym f ∙ untouched l.number r) ne)
+    b.lines (found-all 0 b.last b.lines g.sound.rising)
+
+pub idle-still : (n : ℕ) (b : BrokerState) → AreIdle n b → AreStill (Of n) b
+idle-still n b idle = all-map (λ (l : Line). l.number ≢ n → can l.session ≡ false) (IsStill (Of n) b) (λ l h c. inl (by l.number l.session h c (eqb l.number n) refl)) b.lines idle
+  where
+    by : (k : ℕ) (s : Session) → (k ≢ n → can s ≡ false) → can s ≡ true → (b : Bool) → eqb k n ≡ b → k ≡ n
+    by k s h c true e = eqb_same k n e
+    by k s h c false e = let no : false ≡ true = sym (h (λ g. (let f : eqb k n ≡ true = grind (arith, nat_tests) in cc))) ∙ c in absurd (cc)
+
+pub idle-scoped : (n : ℕ) (b : BrokerState) → AreIdle n b → IsScoped b
+idle-scoped n b idle = (Of n, idle-still n b idle)
+
+pub ready-scoped : (b : BrokerState) → first_able b.lines ≡ None → IsScoped b
+ready-scoped b none = (Everybody, still-settled Everybody b none)
+
+-- after turns of some event only its connections can take one
+pub scoped-turned : (a b : BrokerState) → IsScoped a → ((scope : Scope) → AreStill scope a → Turned scope a b) → IsScoped b
+scoped-turned a b still turned = (still.0, (turned still.0 still.1).still)
+
+-- the connection that alone can take a turn is the next
+pub next-idle : (b : BrokerState) (i : ℕ) (l : Line) → IsSound b → IsAt b.lines i l → AreIdle (number_at i b) b → can l.session ≡ true → IsNext i b
+next-idle b i l sound at idle able =
+    let mine = subst (λ n. AreIdle n b) (number_at-is b i l at) idle in
+    record { sound = sound; within = at.within; first = λ d. first-still 0 b.last b.lines i l sound.rising at mine able ∙ ap Some (at.here ∙ get_or_default b.lines i l d at.within) }
+
+pub idle-settled : (b : BrokerState) (i : ℕ) (l : Line) → IsSound b → IsAt b.lines i l → AreIdle (number_at i b) b → can l.session ≡ false → first_able b.lines ≡ None
+idle-settled b i l sound at idle stuck = still-none 0 b.last b.lines i l sound.rising at (subst (λ n. AreIdle n b) (number_at-is b i l at) idle) stuck
+
+-- after a piece came, the connection that it came on alone can take a turn
+pub idle-fed : (n : ℕ) (piece : List ℕ) (a b : BrokerState) → IsReady a → IsFed n piece a b → AreIdle n b
+idle-fed n piece a b ready given =
+    all-map (λ l. find_line l.number b.lines ≡ Some l.session) (λ l. l.number ≢ n → can l.session ≡ false)
+    (λ l f ne. find-all (λ j (x : Session). can x ≡ false) l.number l.session a.lines (all-still a.lines ready.settled) (sym (given.others l.number ne) ∙ f))
+    b.lines (found-all 0 b.last b.lines given.going.sound.rising)
 
 length-numbers : (a b : BrokerState) → numbers b ≡ numbers a → length b.lines ≡ length a.lines
 length-numbers a b e = sym (length-map b.lines (λ (x : Line). x.number)) ∙ (ap length e ∙ length-map a.lines (λ (x : Line). x.number))
 
-pub turning-same : (a b : BrokerState) (i : ℕ) → i < length a.lines → numbers b ≡ numbers a → IsWithin (number_at i a) a b → IsTurning i b
-turning-same a b i lt e w = record {
-  sound = w.sound;
-  within = (let h = length-numbers a b e in omega arith);
-  still = subst (λ (ns : List ℕ). AllByRecursion (IsStill (get_or ns i 0)) b.lines) (sym e) w.still;
+-- the code's word for it
+pub none-waits : (ls : List Line) → AllByRecursion (λ (l : Line). waits_in (Some l.session) ≡ false) ls → AllByRecursion (λ (l : Line). is_free l.session.stage ≡ true) ls
+none-waits ls h = all-map (λ (l : Line). waits_in (Some l.session) ≡ false) (λ (l : Line). is_free l.session.stage ≡ true) (λ l f. by (is_free l.session.stage) f) ls h
+  where
+    by : (b : Bool) → not b ≡ false → b ≡ true
+    by true e = refl
+    by false e = absurd (cc)
+
+pub within-going : (a b : BrokerState) (i : ℕ) → IsGoing a b → i < length a.lines → i < length b.lines
+within-going a b i g lt = let h = length-numbers a b g.numbers in omega arith
+
+pub number-going : (a b : BrokerState) (i : ℕ) → IsGoing a b → number_at i b ≡ number_at i a
+number-going a b i g = ap (λ ns. get_or ns i 0) g.numbers
+
+-- the first that can take a turn, by its place
+first-place : (ls : List Line) (d : Line) → first_able ls ≡ cond (nat_lt (position_or_len (λ (l : Line). can l.session) ls) (length ls)) (Some (get_or ls (position_or_len (λ (l : Line). can l.session) ls) d)) None
+first-place [] d = refl
+first-place (l ∷ ls) d = by (can l.session) (first-place ls d)
+  where
+    by : (b : Bool) → first_able ls ≡ cond (nat_lt (position_or_len (λ (l : Line). can l.session) ls) (length ls)) (Some (get_or ls (position_or_len (λ (l : Line). can l.session) ls) d)) None →
+        cond b (Some l) (first_able ls) ≡ cond (nat_lt (cond (not b) (1 + position_or_len (λ (l : Line). can l.session) ls) 0) (suc (length ls))) (Some (get_or (l ∷ ls) (cond (not b) (1 + position_or_len (λ (l : Line). can l.session) ls) 0) d)) None
+    by true rest = let some : nat_lt 0 (suc (length ls)) ≡ true = grind (arith, nat_tests) in ap (λ (b : Bool). cond b (Some l) None) (sym some)
+    by false rest =
+        let n = position_or_len (λ (l : Line). can l.session) ls in
+        let at : ℕ → Option Line = λ k. cond (nat_lt k (suc (length ls))) (Some (get_or (l ∷ ls) k d)) None in
+        let same : nat_lt n (length ls) ≡ nat_lt (suc n) (suc (length ls)) = grind (arith, nat_tests) in
+        let one : suc n ≡ 1 + n = omega arith in
+        rest ∙ (ap (λ (b : Bool). cond b (Some (get_or ls n d)) None) same ∙ ap at one)
+
+pub nowhere-able : (ls : List Line) (o : Option ℕ) → o ≡ position (λ (l : Line). can l.session) ls → ((i : ℕ) → o ≡ Some i → ⊥) → first_able ls ≡ None
+nowhere-able ls o e none =
+    let d : Line = record { number = 0; session = fresh } in
+    let n = position_or_len (λ (l : Line). can l.session) ls in
+    first-place ls d ∙ by (nat_lt n (length ls)) n (get_or ls n d) (λ i h. none i (e ∙ h))
+  where
+    by : (b : Bool) (i : ℕ) (l : Line) → ((k : ℕ) → cond b (Some i) None ≡ Some k → ⊥) → cond b (Some l) None ≡ None
+    by true i l h = absurd (h i refl)
+    by false i l h = refl
+
+pub next-able : (b : BrokerState) (o : Option ℕ) (i : ℕ) → IsSound b → o ≡ position (λ (l : Line). can l.session) b.lines → o ≡ Some i → IsNext i b
+next-able b o i sound e some = record {
+  sound = sound;
+  within = (position-Some (λ (l : Line). can l.session) b.lines i (record { number = 0; session = fresh }) (sym e ∙ some)).0;
+  first = λ d. first-place b.lines d ∙ by (nat_lt (position_or_len (λ (l : Line). can l.session) b.lines) (length b.lines)) d (position_or_len (λ (l : Line). can l.session) b.lines) (sym e ∙ some);
 }
-
-pub turned-more : (a b c : BrokerState) (i : ℕ) → numbers b ≡ numbers a → Turned (number_at i a) a b → Turned (number_at i b) b c → Turned (number_at i a) a c
-turned-more a b c i e p q = turned-then (number_at i a) a b c p (subst (λ (ns : List ℕ). Turned (get_or ns i 0) b c) e q)
-
-pub settled-at : (b : BrokerState) (i : ℕ) (l : Line) → IsTurning i b → IsAt b.lines i l → can l.session ≡ false → first_able b.lines ≡ None
-settled-at b i l t at f = still-none 0 b.last b.lines i l t.sound.rising at (still-at b i l t at) f
+  where
+    by : (c : Bool) (d : Line) (j : ℕ) → cond c (Some j) None ≡ Some i → cond c (Some (get_or b.lines j d)) None ≡ Some (get_or b.lines i d)
+    by true d j h = let same : j ≡ i = cc in ap (λ k. Some (get_or b.lines k d)) same
+    by false d j h = absurd (cc)
 
 -- 5. A piece that came
 
@@ -207,13 +344,63 @@ pub step-deaf : (b : BrokerState) (i n : ℕ) (l : Line) (piece : List ℕ) → 
 step-deaf b i n l piece ready f e = subst (λ m. IsStep (Comes m piece) b b) f.number (step-shut b i l piece ready f.at e)
 
 -- a piece that somebody takes, and then turns until none is left
-pub step-taken : (a b c : BrokerState) (i n : ℕ) (l : Line) (piece : List ℕ) → IsReady a → IsFound a i n l → IsFed (number_at i a) piece a b → numbers b ≡ numbers a → Turned (number_at i b) b c → first_able c.lines ≡ None → (piece ≡ [] → ⊥) → l.session.shut ≡ false → IsStep (Comes n piece) a c
-step-taken a b c i n l piece ready f fed same turned settled full heard =
+pub step-taken : (a b c : BrokerState) (i n : ℕ) (l : Line) (piece : List ℕ) → IsReady a → IsFound a i n l → IsFed (number_at i a) piece a b → ((scope : Scope) → AreStill scope b → Turned scope b c) → first_able c.lines ≡ None → (piece ≡ [] → ⊥) → l.session.shut ≡ false → IsStep (Comes n piece) a c
+step-taken a b c i n l piece ready f fed turned settled full heard =
     let number : number_at i a ≡ n = number_at-is a i l f.at ∙ f.number in
     let first : IsFed n piece a b = subst (λ m. IsFed m piece a b) number fed in
-    let then : Turned n b c = subst (λ m. Turned m b c) number (subst (λ (ns : List ℕ). Turned (get_or ns i 0) b c) same turned) in
-    step-comes n piece a b c first then settled (untaken (find-found a i n l ready.sound.rising f))
+    step-comes n piece a b c first (turned (Of n) first.still) settled (untaken (find-found a i n l ready.sound.rising f))
   where
     untaken : find_line n a.lines ≡ Some l.session → IsUntaken n piece a → ⊥
     untaken found (inl e) = full e
     untaken found (inr e) = let deaf : true ≡ false = sym e ∙ (ap is_deaf found ∙ heard) in absurd (cc)
+
+-- a connection that did not wait, and on which nothing came, was not touched
+free-by : (k : ℕ) (old : Option Session) (a b : BrokerState) → IsReady a → find_line k a.lines ≡ old → waits_in old ≡ false → is_resting old ≡ true
+free-by k None a b ready e free = refl
+free-by k (Some s) a b ready e free =
+    let c : can s ≡ false = find-all (λ j (x : Session). can x ≡ false) k s a.lines (all-still a.lines ready.settled) e in
+    let f : is_free s.stage ≡ true = grind (arith, free) in
+    rests s f c
+
+pub resting-free : (k : ℕ) (a b : BrokerState) → IsReady a → waits_in (find_line k a.lines) ≡ false → is_resting (find_line k a.lines) ≡ true
+resting-free k a b ready free = free-by k (find_line k a.lines) a b ready refl free
+
+pub others-taken : (a b c : BrokerState) (i n : ℕ) (l : Line) (piece : List ℕ) → IsReady a → IsFound a i n l → IsFed (number_at i a) piece a b → ((scope : Scope) → AreStill scope b → Turned scope b c) →
+    (k : ℕ) → k ≢ n → waits_in (find_line k a.lines) ≡ false → find_line k c.lines ≡ find_line k a.lines
+others-taken a b c i n l piece ready f fed turned k ne free =
+    let number : number_at i a ≡ n = number_at-is a i l f.at ∙ f.number in
+    let first : IsFed n piece a b = subst (λ m. IsFed m piece a b) number fed in
+    let same = first.others k ne in
+    (turned (Of n) first.still).untouched k (ap is_resting same ∙ resting-free k a b ready free) ∙ same
+
+-- 6. A moment
+
+-- the clock moved
+pub moved-is : (a b : BrokerState) (now clock : ℕ) → a ≡ b → clock ≡ max a.clock now → record a { clock = clock } ≡ moved b now
+moved-is a b now clock e is = ap (λ (n : ℕ). record a { clock = n }) is ∙ ap (λ (x : BrokerState). moved x now) e
+
+pub sound-then : (b : BrokerState) (now : ℕ) → IsReady b → now ≤ 2 ^ 62 → IsSound (moved b now)
+sound-then b now ready le = sound-moved b now ready.sound (let h = ready.sound.clock in grind (arith, h, le))
+
+pub waked-scoped : (a b : BrokerState) (now : ℕ) → IsReady a → Waked None (moved a now) b → IsScoped b
+waked-scoped a b now ready waked = (Everybody, waked.still Everybody (λ t h. tt) (still-settled Everybody (moved a now) ready.settled))
+
+-- the waiting fetches were looked at, and then there were turns until none was left
+pub record IsMoved (now : ℕ) (a b c : BrokerState) : Type 0 where
+  pub ready : IsReady a
+  pub waked : Waked None (moved a now) b
+  pub settled : AllByRecursion (IsSettled None (moved a now) b) b.lines
+  pub turned : (scope : Scope) → AreStill scope b → Turned scope b c
+  pub none : first_able c.lines ≡ None
+
+moved-turned : (now : ℕ) (a b c : BrokerState) → IsMoved now a b c → Turned Everybody b c
+moved-turned now a b c m = m.turned Everybody (m.waked.still Everybody (λ t h. tt) (still-settled Everybody (moved a now) m.ready.settled))
+
+pub moved-going : (now : ℕ) (a b c : BrokerState) → IsMoved now a b c → IsGoing (moved a now) c
+moved-going now a b c m = going-then (moved a now) b c m.waked.going (moved-turned now a b c m).going
+
+pub moved-step : (now : ℕ) (a b c : BrokerState) → IsMoved now a b c → IsStep (Moment now) a c
+moved-step now a b c m = step-moment now a b c m.ready m.waked m.settled (moved-turned now a b c m) m.none
+
+pub moved-others : (now : ℕ) (a b c : BrokerState) → IsMoved now a b c → (k : ℕ) → waits_in (find_line k a.lines) ≡ false → find_line k c.lines ≡ find_line k a.lines
+moved-others now a b c m k free = untouched-then (moved a now) b c m.waked.untouched (moved-turned now a b c m).untouched k (resting-free k a a m.ready free)

@@ -1,9 +1,9 @@
 -- What each call is to the broker: the engine's own state a is the one that clauses see, b.
 use Rattle.std.proofs.Common.{◌≡◌, ◌<◌, ℕ, Result, Ok, Err, OnOk, OnErr, sym, subst}
-use Rattle.kb_machine.specs.Machine.{Opens, Closes, Moment}
+use Rattle.kb_machine.specs.Machine.{Opens, Closes}
 use Rattle.kb_machine.specs.Broker.{BrokerState, IsReady, IsStep}
-use Rattle.kb_machine.specs.Calls.{IsRefused, opened, closed, moved, taken}
-use Rattle.kb_machine.proofs.Steps.{ready-opened, step-opened, step-unopened, ready-closed, step-closed, step-moved}
+use Rattle.kb_machine.specs.Calls.{IsRefused, opened, closed, taken}
+use Rattle.kb_machine.proofs.Steps.{ready-opened, step-opened, step-unopened, ready-closed, step-closed}
 use Rattle.kb_machine.proofs.Taken.{ready-taken}
 
 ready-refused : (a c : BrokerState) → IsReady a → IsRefused a c → IsReady c
@@ -26,9 +26,6 @@ disconnected-ready a c n ready h = subst IsReady (sym h) (ready-closed a n ready
 
 pub disconnected : (a b c : BrokerState) (n : ℕ) → a ≡ b → c ≡ closed a n → IsStep (Closes n) b c
 disconnected a b c n e h = subst (λ x. IsStep (Closes n) x c) e (subst (λ x. IsStep (Closes n) a x) (sym h) (step-closed a n))
-
-pub passed : (a b c : BrokerState) (now : ℕ) → a ≡ b → IsReady a → c ≡ moved a now → IsStep (Moment now) b c
-passed a b c now e ready h = subst (λ x. IsStep (Moment now) x c) e (subst (λ x. IsStep (Moment now) a x) (sym h) (step-moved a now ready))
 
 pub drained-ready : (a c : BrokerState) (n : ℕ) → IsReady a → c ≡ taken a n → IsReady c
 drained-ready a c n ready h = subst IsReady (sym h) (ready-taken a n ready)

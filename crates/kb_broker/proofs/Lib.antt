@@ -1,5 +1,6 @@
 pub mod Placed
 pub mod Handled
+pub mod Looked
 pub mod Happened
 pub mod OpeningParts
 pub mod RunDrain
@@ -11,6 +12,7 @@ pub mod ScriptLines
 pub mod ScriptReading
 pub mod ScriptWords
 pub mod ScriptHush
+pub mod ScriptSaid
 pub mod ScriptTells
 pub mod ScriptEvents
 pub mod ScriptPlay

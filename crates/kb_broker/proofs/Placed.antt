@@ -18,7 +18,7 @@ use Rattle.kb_machine.specs.Calls.{closed, taken, without_output, is_open, open_
 use Rattle.kb_machine.proofs.Sets.{IsAt, rising-places, set-on, each-on_none, find-at, find-none}
 use Rattle.kb_machine.proofs.Steps.{remove-those, those-all}
 use Rattle.kb_connection.specs.View.{with_session}
-use Rattle.kb_broker.specs.Places.{number_at, unread_at}
+use Rattle.kb_broker.specs.Places.{number_at}
 
 -- 1. Places
 
@@ -40,9 +40,6 @@ find-found b i n l r f = subst (λ k. find_line k b.lines ≡ Some l.session) f.
 
 pub number_at-is : (b : BrokerState) (i : ℕ) (l : Line) → IsAt b.lines i l → number_at i b ≡ l.number
 number_at-is b i l at = get_or-map (λ (x : Line). x.number) b.lines i l 0 at.within ∙ ap (λ (x : Line). x.number) (sym at.here)
-
-pub unread_at-is : (b : BrokerState) (i : ℕ) (l : Line) → IsAt b.lines i l → unread_at i b ≡ length l.session.unread
-unread_at-is b i l at = get_or-map (λ (x : Line). length x.session.unread) b.lines i l 0 at.within ∙ ap (λ (x : Line). length x.session.unread) (sym at.here)
 
 pub numbers-set : (ls : List Line) (i : ℕ) (l m : Line) → IsAt ls i l → m.number ≡ l.number → map (λ (x : Line). x.number) (set ls i m) ≡ map (λ (x : Line). x.number) ls
 numbers-set ls i l m at e = map-set_same (λ (x : Line). x.number) ls i m l (e ∙ ap (λ (x : Line). x.number) at.here)

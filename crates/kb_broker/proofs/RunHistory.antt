@@ -84,7 +84,7 @@ numbers-leads (Closes n) es old new ended h =
     ∙ ap (λ ss. numbered ss ++ connections_of es new) (sym h.1))))
     (IsPermutation-append_left (opening es) (numbers old.lines) (numbers (filter p old.lines ++ filter q old.lines)) here)
 numbers-leads (Moment now) es old new ended h = same-permutation (connections_of es old) (numbered ended ++ connections_of es new) (
-    ap (connections_of es) (sym h.0) ∙ ap (λ ss. numbered ss ++ connections_of es new) (sym h.1))
+    ap (λ xs. xs ++ opening es) (sym h.0) ∙ ap (λ ss. numbered ss ++ connections_of es new) (sym h.1))
 
 pub numbers-passes : (es : List Happening) (old new : BrokerState) (got : List Sent) → Passes es old new got → IsPermutation (connections_of es old) (numbered got)
 numbers-passes [] old new got p = same-permutation (numbers old.lines ++ []) (numbered got) (append-nil (numbers old.lines) ∙ (sym (numbered-sent old.lines) ∙ ap numbered (sym p.1)))

@@ -1,17 +1,20 @@
 -- Each event of a script on a broker.
-use Rattle.std.proofs.Common.{◌≡◌, ℕ, ◌<◌, ◌≤◌, ◌^◌, ◌&&◌, Bool, true, not, List, ◌++◌, refl, sym, ap, subst, ◌∙◌, arith, Option, Result, Ok, Err, OnOk, OnErr, IfErr, cond}
+use Rattle.std.proofs.Common.{◌≡◌, ℕ, ◌<◌, ◌&&◌, Bool, true, not, List, ◌++◌, refl, sym, ap, subst, ◌∙◌, Option, Result, Ok, Err, OnOk, OnErr, IfErr, cond}
 use Rattle.std.specs.Io.KnownBytes.{Appends}
 use Rattle.std.proofs.KnownBytes.{Appends-nil}
 use Rattle.kb_machine.specs.Machine.{Happening, Opens, Comes, Closes, Moment}
 use Rattle.kb_machine.specs.Broker.{BrokerState, IsReady, IsStep}
-use Rattle.kb_machine.specs.Calls.{opened, closed, moved, taken, is_calm, is_open, is_shut, output_of}
+use Rattle.kb_machine.specs.Owners.{find_line}
+use Rattle.kb_machine.specs.Calls.{opened, closed, taken, is_calm, is_shut, output_of}
 use Rattle.kb_machine.specs.Turned.{SameOthers}
-use Rattle.kb_machine.proofs.Steps.{ready-opened, step-opened, ready-closed, step-closed, ready-moved, step-moved}
+use Rattle.kb_machine.proofs.Steps.{ready-opened, step-opened, ready-closed, step-closed}
 use Rattle.kb_broker.specs.declared.script.ScriptFault.{ScriptFault}
 use Rattle.kb_broker.specs.declared.script.ScriptFault.TheVariants as faults
-use Rattle.kb_broker.specs.Script.{Told, Event, Plays, Stops, is_in_place, course_of, sent_text}
-use Rattle.kb_broker.specs.ScriptRun.{IsQuiet, hushed, here, Happens, HappensSilently, IsSpoken, IsDone, IsBroken, words}
-use Rattle.kb_broker.proofs.ScriptWords.{silent-opened, silent-closed, silent-moved, quiet-opened, quiet-closed, said-one, taken-hushed, hushed-quiet, open-opened, open-closed, open-came}
+use Rattle.kb_broker.specs.Places.{numbers}
+use Rattle.kb_broker.specs.Script.{Told, Event, Plays, Stops, is_in_place, course_of, sent_text, step_text}
+use Rattle.kb_broker.specs.ScriptRun.{IsQuiet, hushed, here, Happens, HappensSilently, IsSpoken, IsUnwritten, IsDone, IsBroken, words, shut_marks, said_since}
+use Rattle.kb_broker.proofs.ScriptWords.{silent-opened, silent-closed, silent-same, quiet-opened, quiet-closed, quiet-same, said-one, taken-hushed, hushed-quiet, open-opened, open-closed, open-stays}
+use Rattle.kb_broker.proofs.ScriptSaid.{words-since}
 
 pub opens-silently : (b new : BrokerState) (n : ℕ) → IsReady b → IsQuiet b → is_calm b ≡ true → b.last < n → new ≡ opened b n → HappensSilently (Opens n) b new
 opens-silently b new n ready quiet calm above is =
@@ -29,17 +32,20 @@ closes-silently b new n ready quiet calm is =
       silent = silent-closed b n ready.sound.rising quiet;
     })
 
-pub passes-silently : (b new : BrokerState) (now : ℕ) → IsReady b → IsQuiet b → is_calm b ≡ true → now ≤ 2 ^ 62 → new ≡ moved b now → HappensSilently (Moment now) b new
-passes-silently b new now ready quiet calm most is =
-    let clock = ready.sound.clock in
-    subst (λ x. HappensSilently (Moment now) b x) (sym is) (record {
-      happens = record { step = step-moved b now ready; ready = ready-moved b now ready (omega arith); calm = calm; stands = record { open_now = λ k. refl; last = refl } };
-      quiet = quiet;
-      silent = silent-moved b now ready.sound.rising quiet;
-    })
+-- a piece came, or a moment passed
+pub comes : (b new : BrokerState) (n : ℕ) (piece : List ℕ) → IsStep (Comes n piece) b new → IsReady new → is_calm new ≡ true → new.last ≡ b.last → numbers new ≡ numbers b → Happens (Comes n piece) b new
+comes b new n piece step ready calm last same = record { step = step; ready = ready; calm = calm; stands = record { open_now = λ k. open-stays k b new same; last = sym last } }
 
-pub comes : (b new : BrokerState) (n : ℕ) (piece : List ℕ) → IsStep (Comes n piece) b new → IsReady new → is_calm new ≡ true → new.last ≡ b.last → SameOthers n b new → is_open n new ≡ is_open n b → Happens (Comes n piece) b new
-comes b new n piece step ready calm last others stays = record { step = step; ready = ready; calm = calm; stands = record { open_now = open-came n b new others stays; last = sym last } }
+pub passes : (b new : BrokerState) (now : ℕ) → IsStep (Moment now) b new → IsReady new → is_calm new ≡ true → new.last ≡ b.last → numbers new ≡ numbers b → Happens (Moment now) b new
+passes b new now step ready calm last same = record { step = step; ready = ready; calm = calm; stands = record { open_now = λ k. open-stays k b new same; last = sym last } }
+
+-- where no connection has changed, nothing is said
+pub silently : (e : Happening) (b new : BrokerState) → Happens e b new → IsQuiet b → ((k : ℕ) → find_line k new.lines ≡ find_line k b.lines) → HappensSilently e b new
+silently e b new happens quiet same = record {
+  happens = happens;
+  quiet = quiet-same b new happens.ready.sound.rising quiet same;
+  silent = silent-same b new happens.ready.sound.rising quiet same;
+}
 
 -- the text that was made of a connection is what the broker said
 pub text-is : (b new : BrokerState) (n : ℕ) (text output : List ℕ) (shut : Bool) → IsReady new → IsQuiet b → SameOthers n b new → text ≡ sent_text n output shut → output ≡ output_of n new → shut ≡ (is_shut n new && not (is_shut n b)) → text ≡ words b new
@@ -51,6 +57,25 @@ final-is b new final n ready quiet others is = is ∙ taken-hushed n b new ready
 -- a silent event, as one that was written
 pub spoken-silently : (e : Happening) (b new : BrokerState) (w : Option (List ℕ)) → HappensSilently e b new → IsSpoken e b new w w
 spoken-silently e b new w h = (new, h.happens, hushed-quiet new h.quiet, subst (Appends w w) (sym h.silent) (Appends-nil w))
+
+-- an event whose words were written, or not
+pub spoken : {A E : Type 0} (r : Result A E) (e : Happening) (b new final : BrokerState) (marks : List Bool) (from to : Option (List ℕ)) → IsReady b → Happens e b new → numbers new ≡ numbers b → marks ≡ shut_marks b.lines
+    → OnOk r (final ≡ hushed new) → OnOk r (Appends from to (step_text (said_since marks new.lines))) → OnOk r (IsSpoken e b final from to)
+spoken (Ok x) e b new final marks from to ready happens same is state wrote = (new, happens, state, subst (Appends from to) (words-since b new marks ready.sound.rising same is) wrote)
+spoken (Err x) e b new final marks from to ready happens same is state wrote = tt
+
+broken-off : (fault : ScriptFault) (e : Happening) (b new : BrokerState) (marks : List Bool) (from to : Option (List ℕ)) → IsReady b → Happens e b new → numbers new ≡ numbers b → marks ≡ shut_marks b.lines
+    → IsUnwritten fault (step_text (said_since marks new.lines)) from to → IsBroken (Plays e) fault b from to
+broken-off (faults.BadLine k) e b new marks from to ready happens same is h = absurd h
+broken-off faults.TooLong e b new marks from to ready happens same is h = absurd h
+broken-off faults.Read e b new marks from to ready happens same is h = absurd h
+broken-off faults.Write e b new marks from to ready happens same is h = (e, refl, (new, happens, h.0, h.1, sym (words-since b new marks ready.sound.rising same is) ∙ h.2, h.3))
+broken-off faults.Memory e b new marks from to ready happens same is h = h
+
+pub unspoken : {A : Type 0} (r : Result A ScriptFault) (e : Happening) (b new : BrokerState) (marks : List Bool) (from to : Option (List ℕ)) → IsReady b → Happens e b new → numbers new ≡ numbers b → marks ≡ shut_marks b.lines
+    → IfErr r (λ fault. IsUnwritten fault (step_text (said_since marks new.lines)) from to) → IfErr r (λ fault. IsBroken (Plays e) fault b from to)
+unspoken (Ok x) e b new marks from to ready happens same is h = tt
+unspoken (Err fault) e b new marks from to ready happens same is h = broken-off fault e b new marks from to ready happens same is h
 
 -- a line, by what it says
 placed-here : (number : ℕ) (b : BrokerState) (e : Happening) → is_in_place (here number b) e ≡ is_in_place (here 0 b) e

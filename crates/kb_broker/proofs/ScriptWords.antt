@@ -1,16 +1,17 @@
--- What a broker says at an event: only the connection that the event names can be told anything.
-use Rattle.std.proofs.Common.{◌≡◌, ◌≢◌, ℕ, ◌≤◌, ◌==◌, ◌&&◌, ◌||◌, Bool, true, false, not, cond, eqb, List, [], ◌∷◌, ◌++◌, length, refl, sym, ap, subst, ◌∙◌, arith, Option, Some, None, append-nil}
+-- What a broker says at an event, and to whom.
+use Rattle.std.proofs.Common.{◌≡◌, ◌≢◌, ℕ, ◌≤◌, ◌==◌, ◌&&◌, ◌||◌, Bool, true, false, not, cond, eqb, List, [], ◌∷◌, ◌++◌, length, map, refl, sym, ap, subst, ◌∙◌, arith, Option, Some, None, append-nil}
 use Rattle.std.proofs.lemmas.Bool.Decides.{nat_tests}
 use Rattle.std.specs.List.{AllByRecursion}
 use Rattle.kb_machine.specs.Session.{Session, fresh, can}
 use Rattle.kb_machine.specs.Machine.{Line, each, on, those}
 use Rattle.kb_machine.specs.Owners.{find_line}
 use Rattle.kb_machine.specs.Broker.{BrokerState, Rising, InRange, IsReady}
-use Rattle.kb_machine.specs.Calls.{opened, closed, moved, taken, without_output, other_than, open_in, output_in, shut_in, is_open, is_shut, output_of}
+use Rattle.kb_machine.specs.Calls.{opened, closed, taken, without_output, other_than, open_in, output_in, shut_in, is_open, is_shut, output_of}
 use Rattle.kb_machine.specs.Told.{said, quieted_lines}
 use Rattle.kb_machine.specs.Turned.{SameOthers}
 use Rattle.kb_machine.proofs.Sets.{all-map, all-those, all-push, none-able, all-still as all-settled}
 use Rattle.kb_machine.proofs.Owned.{found}
+use Rattle.kb_broker.specs.Places.{numbers, waits_in}
 use Rattle.kb_broker.specs.Script.{Place, sent_text, step_text}
 use Rattle.kb_broker.specs.ScriptRun.{IsQuiet, IsAt, hushed, words}
 
@@ -45,16 +46,22 @@ silent-opened b n rising quiet = silent b.lines (b.lines ++ record { number = n;
 pub silent-closed : (b : BrokerState) (n : ℕ) → Rising 0 b.last b.lines → IsQuiet b → words b (closed b n) ≡ []
 silent-closed b n rising quiet = silent b.lines (those (other_than n) b.lines) (all-those (Still b.lines) (other_than n) b.lines (still-old b rising quiet))
 
-pub silent-moved : (b : BrokerState) (now : ℕ) → Rising 0 b.last b.lines → IsQuiet b → words b (moved b now) ≡ []
-silent-moved b now rising quiet = silent b.lines b.lines (still-old b rising quiet)
-
 pub quiet-opened : (b : BrokerState) (n : ℕ) → IsQuiet b → IsQuiet (opened b n)
 quiet-opened b n quiet = all-push (λ (l : Line). l.session.output ≡ []) b.lines (record { number = n; session = fresh }) quiet refl
 
 pub quiet-closed : (b : BrokerState) (n : ℕ) → IsQuiet b → IsQuiet (closed b n)
 quiet-closed b n quiet = all-those (λ (l : Line). l.session.output ≡ []) (other_than n) b.lines quiet
 
--- 2. Only one connection is told anything
+-- 2. Where no connection waits, at most one is told anything
+
+-- of no number is there one that waits
+pub none-waits : (k : ℕ) (ls : List Line) → AllByRecursion (λ (l : Line). waits_in (Some l.session) ≡ false) ls → waits_in (find_line k ls) ≡ false
+none-waits k [] h = refl
+none-waits k (l ∷ ls) h = by (eqb l.number k) (none-waits k ls h.1)
+  where
+    by : (b : Bool) → waits_in (find_line k ls) ≡ false → waits_in (cond b (Some l.session) (find_line k ls)) ≡ false
+    by true rest = h.0
+    by false rest = rest
 
 quiet-found : (k : ℕ) (s : Session) (ls : List Line) → AllByRecursion (λ (l : Line). l.session.output ≡ []) ls → find_line k ls ≡ Some s → s.output ≡ []
 quiet-found k s [] q e = cc
@@ -64,6 +71,20 @@ quiet-found k s (l ∷ ls) q e = by (eqb l.number k) (quiet-found k s ls q.1) e
     by true rest f = subst (λ (o : Option Session). output_in o ≡ []) f q.0
     by false rest f = rest f
 
+-- no connection has changed
+same-still : (old new : BrokerState) → Rising 0 new.last new.lines → IsQuiet old → ((k : ℕ) → find_line k new.lines ≡ find_line k old.lines) → AllByRecursion (Still old.lines) new.lines
+same-still old new rising quiet same =
+    all-map (λ l. find_line l.number new.lines ≡ Some l.session) (Still old.lines)
+    (λ l f. let was : find_line l.number old.lines ≡ Some l.session = sym (same l.number) ∙ f in still old.lines l (quiet-found l.number l.session old.lines quiet was) was)
+    new.lines (found 0 new.last new.lines rising)
+
+pub silent-same : (old new : BrokerState) → Rising 0 new.last new.lines → IsQuiet old → ((k : ℕ) → find_line k new.lines ≡ find_line k old.lines) → words old new ≡ []
+silent-same old new rising quiet same = silent old.lines new.lines (same-still old new rising quiet same)
+
+pub quiet-same : (old new : BrokerState) → Rising 0 new.last new.lines → IsQuiet old → ((k : ℕ) → find_line k new.lines ≡ find_line k old.lines) → IsQuiet new
+quiet-same old new rising quiet same = all-map (Still old.lines) (λ (l : Line). l.session.output ≡ []) (λ l s. s.output) new.lines (same-still old new rising quiet same)
+
+-- no other connection has changed
 others-still : (n : ℕ) (old new : BrokerState) → Rising 0 new.last new.lines → IsQuiet old → SameOthers n old new → AllByRecursion (λ l. l.number ≢ n → Still old.lines l) new.lines
 others-still n old new rising quiet others =
     all-map (λ l. find_line l.number new.lines ≡ Some l.session) (λ l. l.number ≢ n → Still old.lines l)
@@ -182,15 +203,22 @@ open-without k n (l ∷ ls) = by (eqb l.number n) refl (eqb l.number k) refl (eq
 pub open-closed : (b : BrokerState) (n k : ℕ) → (not (k == n) && is_open k b) ≡ is_open k (closed b n)
 open-closed b n k = open-without k n b.lines
 
-open-other : (k n : ℕ) (old new : BrokerState) → SameOthers n old new → is_open n new ≡ is_open n old → is_open k old ≡ is_open k new
-open-other k n old new others stays = by (eqb k n) refl
+open-same : (k : ℕ) (old new : List Line) → map (λ (l : Line). l.number) new ≡ map (λ (l : Line). l.number) old → open_in (find_line k old) ≡ open_in (find_line k new)
+open-same k [] [] e = refl
+open-same k [] (m ∷ ms) e = cc
+open-same k (l ∷ ls) [] e = cc
+open-same k (l ∷ ls) (m ∷ ms) e =
+    let first : m.number ≡ l.number = cc in
+    let behind : map (λ (l : Line). l.number) ms ≡ map (λ (l : Line). l.number) ls = cc in
+    rw first (by (eqb l.number k) (open-same k ls ms behind))
   where
-    by : (b : Bool) → eqb k n ≡ b → is_open k old ≡ is_open k new
-    by true e = let is : k ≡ n = grind (arith, nat_tests) in rw is (sym stays)
-    by false e = let ne : k ≢ n = grind (arith, nat_tests) in ap open_in (sym (others k ne))
+    by : (b : Bool) → open_in (find_line k ls) ≡ open_in (find_line k ms) → open_in (cond b (Some l.session) (find_line k ls)) ≡ open_in (cond b (Some m.session) (find_line k ms))
+    by true rest = refl
+    by false rest = rest
 
-pub open-came : (n : ℕ) (old new : BrokerState) → SameOthers n old new → is_open n new ≡ is_open n old → (k : ℕ) → is_open k old ≡ is_open k new
-open-came n old new others stays k = open-other k n old new others stays
+-- where the numbers stay, the same connections are open
+pub open-stays : (k : ℕ) (old new : BrokerState) → numbers new ≡ numbers old → is_open k old ≡ is_open k new
+open-stays k old new e = open-same k old.lines new.lines e
 
 -- 5. Taken output leaves a broker ready
 

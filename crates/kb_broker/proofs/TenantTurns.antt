@@ -1,73 +1,48 @@
 -- What a tenant's call is to the connection that it is for.
-use Rattle.std.proofs.Common.{◌≡◌, ◌<◌, ℕ, ℤ, List, length, Bool, true, Vec, Global, Result, Ok, Err, OnOk, OnErr, refl, sym, ap, subst, ◌∙◌, arith}
-use Rattle.kb_world.specs.World as world
+use Rattle.std.proofs.Common.{◌≡◌, ◌≢◌, ◌≤◌, false, Option, Some, None, inr, ℕ, ℤ, List, length, Bool, true, Result, Ok, Err, OnOk, OnErr, refl, sym, ap, subst, ◌∙◌, arith}
 use Rattle.kb_world.specs.Steps.{IsCalm}
 use Rattle.kb_world.specs.declared.place.Place.{Place}
 use Rattle.kb_tenant.specs.Hosted.{Kept, nothing, TenantState, IsTurn, IsMet, kept_in, kept_of, refusals_of, world_at}
-use Rattle.kb_tenant.specs.Replies.{Reaction, Replies, Waits, Silent, Shuts, IsAnswer}
+use Rattle.kb_tenant.specs.Replies.{Reaction, IsAnswer}
 use Rattle.kb_tenant.specs.Serve.{IsOutcome, served, looked}
 use Rattle.kb_tenant.specs.declared.answer.Answer.{Answer}
-use Rattle.kb_tenant.specs.declared.answer.Answer.TheVariants as answers
 use Rattle.kb_tenant.specs.declared.node.Node.{Node}
-use Rattle.kb_machine.specs.Tenant.{answer, at_once, kept_after}
+use Rattle.kb_machine.specs.Tenant.{Wait, answer, ready, kept_after}
 use Rattle.kb_machine.specs.Session.{Greets, BoundTo, Session, can, shut_down, without_wait}
 use Rattle.kb_machine.specs.Greeting.{Setup, greeted}
-use Rattle.kb_machine.specs.Machine.{Line, served as served_by_turn, put}
+use Rattle.kb_machine.specs.Machine.{Line, answered, told, woken, woken_by, served as served_by_turn, put}
 use Rattle.kb_machine.proofs.Laws.{can-turn, some-left, greeted-less, served-less}
 use Rattle.kb_machine.proofs.Owners.{stage-served, stage-shut}
-use Rattle.kb_connection.specs.Fronts.{IsOwn}
-use Rattle.kb_connection.specs.View.{with_session}
-use Rattle.kb_broker.specs.Places.{IsSpent}
-use Rattle.kb_machine.proofs.Parts.{calm-left, calm-right}
+use Rattle.kb_connection.specs.Fronts.{IsOwn, IsAsked}
+use Rattle.kb_connection.specs.View.{with_session, without_front}
+use Rattle.kb_broker.specs.Places.{IsSpent, IsLookedAt}
+use Rattle.std.specs.Prelude.{unwrap_or}
+use Rattle.std.specs.Result.{is_err}
+use Rattle.kb_machine.specs.Turned.{Concerns}
+use Rattle.kb_machine.proofs.Parts.{turn-then, calm-right}
 
--- 1. An answer, where a fetch that would wait is looked at once more
-
--- what is no wait stays
-at-once_same : (id : ℤ) (w : world.World) (body : List ℕ) (reaction : Reaction) (r : Answer) → ((deadline : ℕ) (keys : Vec Place Global) → r ≡ answers.Wait deadline keys → ⊥) → IsAnswer id reaction r → IsAnswer id (at_once w body reaction) r
-at-once_same id w body (Replies reply) r other h = h
-at-once_same id w body (Waits deadline places) (answers.Reply reply) other h = absurd h
-at-once_same id w body (Waits deadline places) (answers.Wait until keys) other h = absurd (other until keys refl)
-at-once_same id w body (Waits deadline places) answers.NoReply other h = absurd h
-at-once_same id w body (Waits deadline places) answers.Shut other h = absurd h
-at-once_same id w body Silent r other h = h
-at-once_same id w body Shuts r other h = h
-
--- a wait is looked at
-at-once_looked : (id : ℤ) (w : world.World) (body : List ℕ) (reaction : Reaction) (deadline : ℕ) (keys : Vec Place Global) → IsAnswer id reaction (answers.Wait deadline keys) → at_once w body reaction ≡ looked w 0 body
-at-once_looked id w body (Replies reply) deadline keys h = absurd h
-at-once_looked id w body (Waits until places) deadline keys h = refl
-at-once_looked id w body Silent deadline keys h = absurd h
-at-once_looked id w body Shuts deadline keys h = absurd h
+-- 1. A request of the tenant
 
 -- what is answered, and kept
-abbrev pub Answers : Node → ℕ → ℤ → ℤ → List ℕ → Answer → Kept → Kept → Type 0
-Answers node clock id key body r k l = IsAnswer id (answer node k clock key body) r × (l ≡ kept_after node k clock key body)
-
-pub answers-now : (node : Node) (k l : Kept) (clock : ℕ) (id key : ℤ) (body : List ℕ) (touched : List Place) (r : Answer) → ((deadline : ℕ) (keys : Vec Place Global) → r ≡ answers.Wait deadline keys → ⊥)
-    → IsOutcome id (served node (world_at k clock) key body) (world_at l clock) touched r → Answers node clock id key body r k l
+pub answered-now : (node : Node) (k l : Kept) (clock : ℕ) (id key : ℤ) (body : List ℕ) (touched : List Place) (r : Answer) → IsOutcome id (served node (world_at k clock) key body) (world_at l clock) touched r
+    → IsAnswer id (answer node k clock key body) r × (l ≡ kept_after node k clock key body)
 unfolding answer kept_after
-answers-now node k l clock id key body touched r other h =
-    let o = served node (world_at k clock) key body in
-    (at-once_same id o.world body o.reaction r other h.2, ap kept_in h.0)
+answered-now node k l clock id key body touched r h = (h.2, ap kept_in h.0)
 
-pub answers-looked : (node : Node) (k l m : Kept) (clock : ℕ) (id key : ℤ) (body : List ℕ) (touched : List Place) (first r : Answer) (deadline : ℕ) (keys : Vec Place Global) → first ≡ answers.Wait deadline keys
-    → IsOutcome id (served node (world_at k clock) key body) (world_at l clock) touched first → (m ≡ l) × IsAnswer id (looked (world_at l clock) 0 body) r → Answers node clock id key body r k m
-unfolding answer kept_after
-answers-looked node k l m clock id key body touched first r deadline keys is h then =
-    let o = served node (world_at k clock) key body in
-    let look : at_once o.world body o.reaction ≡ looked o.world 0 body = at-once_looked id o.world body o.reaction deadline keys (subst (IsAnswer id o.reaction) is h.2) in
-    (subst (λ x. IsAnswer id x r) (sym look) (subst (λ w. IsAnswer id (looked w 0 body) r) h.0 then.1), then.0 ∙ ap kept_in h.0)
+-- what stands in front was asked, and answered so: the connection is the machine's
+pub met-asked : {A E : Type 0} (result : Result A E) (setup : Setup) (clock t : ℕ) (ts us : List TenantState) (l new : Line) (key id : ℤ) (body : List ℕ) (touched : List Place) (r : Answer) → IsAsked l.session key id body
+    → IsMet t (Unit {0}) ts us (λ k m. IsOutcome id (served setup.node (world_at k clock) key body) (world_at m clock) touched r)
+    → ((key' id' : ℤ) (body' : List ℕ) (reaction : Reaction) → IsAsked l.session key' id' body' → IsAnswer id' reaction r → OnOk result (new ≡ with_session l (answered reaction id' body' (without_front l.session))))
+    → OnOk result (IsMet t (Unit {0}) ts us (λ k m. (new.session ≡ served_by_turn setup k clock l.session) × (m ≡ put setup k clock l.session.unread)))
+met-asked (Err x) setup clock t ts us l new key id body touched r asked meets ok = tt
+met-asked (Ok x) setup clock t ts us l new key id body touched r asked meets ok = λ honest calm.
+    let k = kept_of ts t in
+    let m = kept_of us t in
+    let done = answered-now setup.node k m clock id key body touched r (meets honest calm) in
+    let is = ok key id body (answer setup.node k clock key body) asked done.0 in
+    (ap (λ (x : Line). x.session) is ∙ sym (asked.served setup k clock), done.1 ∙ sym (asked.put setup k clock))
 
--- 2. Two calls
-
--- where two calls meet something each, both together meet what follows
-pub met-then : (t : ℕ) (a b c : List TenantState) (P Q R : Kept → Kept → Type 0) → IsTurn t (Unit {0}) a b → IsTurn t (Unit {0}) b c → ((k l m : Kept) → P k l → Q l m → R k m) → IsMet t (Unit {0}) a b P → IsMet t (Unit {0}) b c Q → IsMet t (Unit {0}) a c R
-met-then t a b c P Q R p q f first second honest calm =
-    f (kept_of a t) (kept_of b t) (kept_of c t)
-    (first tt (calm-left (refusals_of a t) (refusals_of b t) (refusals_of c t) (p.grows t) (q.grows t) calm))
-    (second tt (calm-right (refusals_of a t) (refusals_of b t) (refusals_of c t) (p.grows t) (q.grows t) calm))
-
--- 3. What a turn leaves of a connection in any case
+-- 2. What a turn leaves of a connection in any case
 
 pub number-left : {A E : Type 0} (result : Result A E) (l new : Line) (s r : Session) → OnOk result (new ≡ with_session l s) → OnErr result (new ≡ with_session l r) → new.number ≡ l.number
 number-left (Ok x) l new s r ok err = ap (λ (x : Line). x.number) ok
@@ -104,3 +79,48 @@ pub met-own : {A E : Type 0} (result : Result A E) (setup : Setup) (clock t : �
     → OnOk result (IsMet t (Unit {0}) ts ts (λ k m. (new.session ≡ served_by_turn setup k clock l.session) × (m ≡ put setup k clock l.session.unread)))
 met-own (Ok x) setup clock t ts l new own ok = λ honest calm. (ap (λ (x : Line). x.session) (ok (kept_of ts t) clock), sym (own.put setup (kept_of ts t) clock))
 met-own (Err x) setup clock t ts l new own ok = tt
+
+-- 3. A look at a waiting fetch
+
+-- what the tenant answers to it is what the machine tells
+pub met-looked : {A E : Type 0} (result : Result A E) (clock t : ℕ) (ts us : List TenantState) (l new : Line) (w : Wait) (r : Answer) → l.session.stage ≡ BoundTo t (Some w)
+    → IsMet t (Unit {0}) ts us (λ k m. (m ≡ k) × IsAnswer w.correlation_id (looked (world_at k clock) w.deadline w.body) r)
+    → ((id : ℤ) (reaction : Reaction) → IsAnswer id reaction r → OnOk result (new ≡ with_session l (told reaction id l.session)))
+    → OnOk result (IsMet t (Unit {0}) ts us (λ k m. (new.session ≡ woken k clock l.session) × (m ≡ k)))
+unfolding ready woken_by
+met-looked (Err x) clock t ts us l new w r stage meets ok = tt
+met-looked (Ok x) clock t ts us l new w r stage meets ok = λ honest calm.
+    let k = kept_of ts t in
+    let done = meets honest calm in
+    let is = ok w.correlation_id (looked (world_at k clock) w.deadline w.body) done.1 in
+    (ap (λ (x : Line). x.session) is ∙ sym (ap (woken_by k clock l.session) stage), done.0)
+
+-- whether a tenant is concerned
+pub concerned : (whom : Option ℕ) (t : ℕ) → unwrap_or whom t ≡ t → Concerns whom t
+concerned None t e = tt
+concerned (Some u) t e = sym e
+
+pub unconcerned : (whom : Option ℕ) (t : ℕ) → unwrap_or whom t ≢ t → Concerns whom t → ⊥
+unconcerned None t ne h = ne refl
+unconcerned (Some u) t ne h = ne (sym h)
+
+-- a connection that waits was looked at, and not refused
+pub looked-ok : {A E : Type 0} (result : Result A E) (whom : Option ℕ) (clock t : ℕ) (ts us : List TenantState) (l new : Line) (w : Wait) (r : Answer) → l.session.stage ≡ BoundTo t (Some w) → Concerns whom t → IsTurn t (Unit {0}) ts us
+    → IsMet t (Unit {0}) ts us (λ k m. (m ≡ k) × IsAnswer w.correlation_id (looked (world_at k clock) w.deadline w.body) r)
+    → ((id : ℤ) (reaction : Reaction) → IsAnswer id reaction r → OnOk result (new ≡ with_session l (told reaction id l.session)))
+    → new.number ≡ l.number → without_wait new.session.stage ≡ without_wait l.session.stage → length new.session.unread ≤ length l.session.unread → is_err result ≡ false → IsLookedAt whom clock l.session.stage ts us l new
+looked-ok result whom clock t ts us l new w r stage yours turn meets ok number same unread good =
+    subst (λ st. IsLookedAt whom clock st ts us l new) (sym stage)
+    (inr (yours, record { number = number; stage = same; unread = unread; turn = turn; meets = by result (met-looked result clock t ts us l new w r stage meets ok) good }))
+  where
+    by : {A E : Type 0} {P : Type 0} (result : Result A E) → OnOk result P → is_err result ≡ false → P
+    by (Ok x) h e = h
+    by (Err x) h e = let no : true ≡ false = e in absurd (cc)
+
+-- a connection that waits was looked at, and the reply could not be kept: a refusal was counted
+pub looked-err : {A E : Type 0} (result : Result A E) (whom : Option ℕ) (clock t : ℕ) (ts us vs : List TenantState) (l new : Line) (w : Wait) → l.session.stage ≡ BoundTo t (Some w) → Concerns whom t → IsTurn t (Unit {0}) ts us → IsTurn t (Unit {0}) us vs
+    → (IsCalm (refusals_of us t) (refusals_of vs t) → ⊥) → new.number ≡ l.number → without_wait new.session.stage ≡ without_wait l.session.stage → length new.session.unread ≤ length l.session.unread → IsLookedAt whom clock l.session.stage ts vs l new
+looked-err result whom clock t ts us vs l new w stage yours first then counted number same unread =
+    subst (λ st. IsLookedAt whom clock st ts vs l new) (sym stage)
+    (inr (yours, record { number = number; stage = same; unread = unread; turn = turn-then t (Unit {0}) (Unit {0}) ts us vs (λ u. u) first then;
+      meets = λ honest calm. absurd (counted (calm-right (refusals_of ts t) (refusals_of us t) (refusals_of vs t) (first.grows t) (then.grows t) calm)) }))

@@ -1,15 +1,15 @@
 -- A connection's place in the broker, its turns there, and the count of a refusal.
-use Rattle.std.specs.Prelude.{◌≡◌, ℕ, ◌<◌, List, length, map, get_or, Option}
+use Rattle.std.specs.Prelude.{◌≡◌, ◌≢◌, ℕ, ◌<◌, ◌≤◌, List, length, take, map, get_or, Option, Some, None, Bool, true, false, not, ◌⊎◌}
 use Rattle.std.specs.List.{AllByRecursion}
 use Rattle.kb_world.specs.Steps.{IsCalm}
 use Rattle.kb_tenant.specs.Hosted.{TenantState, IsTurn, IsMet}
 use Rattle.kb_machine.specs.Tenant.{Wait}
-use Rattle.kb_machine.specs.Session.{Stage, Greets, BoundTo, Session, without_wait}
+use Rattle.kb_machine.specs.Session.{Stage, Greets, BoundTo, Session, without_wait, is_free, can}
 use Rattle.kb_machine.specs.Greeting.{Setup, greeted}
-use Rattle.kb_machine.specs.Machine.{Line, served, put}
+use Rattle.kb_machine.specs.Machine.{Line, served, put, woken, first_able, work}
 use Rattle.kb_machine.specs.Broker.{BrokerState, IsSound, refusals_of}
 use Rattle.kb_machine.specs.Calls.{IsRefused}
-use Rattle.kb_machine.specs.Turned.{IsStill}
+use Rattle.kb_machine.specs.Turned.{Scope, AreStill, Turned, Served, Concerns, Waked, IsSettled}
 
 -- the numbers of the open connections, in order
 abbrev pub numbers : BrokerState → List ℕ
@@ -19,15 +19,28 @@ numbers b = map (λ (l : Line). l.number) b.lines
 abbrev pub number_at : ℕ → BrokerState → ℕ
 number_at i b = get_or (numbers b) i 0
 
--- how many unread bytes the connection at a place has
-abbrev pub unread_at : ℕ → BrokerState → ℕ
-unread_at i b = get_or (map (λ (l : Line). length l.session.unread) b.lines) i 0
+-- whether a connection waits for the answer to a fetch
+abbrev pub waits_in : Option Session → Bool
+waits_in None = false
+waits_in (Some s) = not (is_free s.stage)
 
--- no connection but the one at that place can take a turn
-pub record IsTurning (i : ℕ) (b : BrokerState) : Type 0 where
+-- of these connections none waits, unless some may
+abbrev pub AreFree : Bool → List Line → Type 0
+AreFree may_wait lines = may_wait ≡ false → AllByRecursion (λ (l : Line). is_free l.session.stage ≡ true) lines
+
+-- no connection but that one can take a turn
+abbrev pub AreIdle : ℕ → BrokerState → Type 0
+AreIdle n b = AllByRecursion (λ (l : Line). l.number ≢ n → can l.session ≡ false) b.lines
+
+-- only connections of some event can take a turn
+abbrev pub IsScoped : BrokerState → Type 0
+IsScoped b = (scope : Scope) × AreStill scope b
+
+-- the least-numbered connection that can take a turn is at that place
+pub record IsNext (i : ℕ) (b : BrokerState) : Type 0 where
   pub sound : IsSound b
   pub within : i < length b.lines
-  pub still : AllByRecursion (IsStill (number_at i b)) b.lines
+  pub first : (d : Line) → first_able b.lines ≡ Some (get_or b.lines i d)
 
 -- what the turn of a connection at that stage leaves of the tenants, also where it is refused
 abbrev pub IsTurnAt : Stage → List TenantState → List TenantState → Type 0
@@ -54,3 +67,33 @@ pub record IsCountedFor (t : ℕ) (old new : BrokerState) : Type 0 where
 abbrev pub IsCountedAt : Stage → BrokerState → BrokerState → Type 0
 IsCountedAt (Greets handshaken) old new = IsRefused old new
 IsCountedAt (BoundTo tenant wait) old new = IsCountedFor tenant old new
+
+-- the turn of a connection at that stage, before its tenant's waiting fetches are looked at again
+abbrev pub IsServedAt : Stage → Scope → BrokerState → BrokerState → Type 0
+IsServedAt (Greets handshaken) scope old new = Turned scope old new
+IsServedAt (BoundTo tenant wait) scope old new = Served tenant scope old new
+
+-- a look at a waiting fetch of a tenant left this of the connection l and of the tenants
+pub record IsLookedFor (t clock : ℕ) (old new : List TenantState) (l m : Line) : Type 0 where
+  pub number : m.number ≡ l.number
+  pub stage : without_wait m.session.stage ≡ without_wait l.session.stage
+  pub unread : length m.session.unread ≤ length l.session.unread
+  pub turn : IsTurn t (Unit {0}) old new
+  pub meets : IsMet t (Unit {0}) old new (λ k n. (m.session ≡ woken k clock l.session) × (n ≡ k))
+
+-- nothing was looked at
+abbrev pub IsPassedBy : List TenantState → List TenantState → Line → Line → Type 0
+IsPassedBy old new l m = (new ≡ old) × (m ≡ l)
+
+-- a connection at that stage was looked at, if it waits for a fetch of a tenant that is concerned
+abbrev pub IsLookedAt : Option ℕ → ℕ → Stage → List TenantState → List TenantState → Line → Line → Type 0
+IsLookedAt whom clock (Greets handshaken) old new l m = IsPassedBy old new l m
+IsLookedAt whom clock (BoundTo t None) old new l m = IsPassedBy old new l m
+IsLookedAt whom clock (BoundTo t (Some wait)) old new l m = ((Concerns whom t → ⊥) × IsPassedBy old new l m) ⊎ (Concerns whom t × IsLookedFor t clock old new l m)
+
+-- the connections before a place were looked at, and of those none waits unless some may
+pub record AreWaked (whom : Option ℕ) (old new : BrokerState) (i : ℕ) (may_wait : Bool) : Type 0 where
+  pub waked : Waked whom old new
+  pub settled : AllByRecursion (IsSettled whom old new) (take i new.lines)
+  pub free : AreFree may_wait (take i new.lines)
+  pub work : work new.lines ≤ work old.lines

@@ -2,7 +2,7 @@
 use Rattle.std.specs.Prelude.{◌≡◌, ℕ, List, [], ◌∷◌, ◌++◌, map, Bool, true, false, ◌⊎◌}
 use Rattle.kb_machine.specs.Machine.{Happening, Opens, Comes, Closes, Moment, Line, Sent, sent, leaving}
 use Rattle.kb_machine.specs.Broker.{BrokerState, IsStep}
-use Rattle.kb_machine.specs.Calls.{opened, closed, moved, IsRefused}
+use Rattle.kb_machine.specs.Calls.{opened, closed, IsRefused}
 use Rattle.kb_machine.specs.Told.{quieted_lines}
 use Rattle.kb_broker.specs.declared.run.Event.{Event}
 use Rattle.kb_broker.specs.declared.run.Event.TheVariants as events
@@ -56,7 +56,7 @@ abbrev pub Leads : Happening → BrokerState → BrokerState → List Sent → T
 Leads (Opens n) old new ended = ((new ≡ opened old n) × (ended ≡ [])) ⊎ (IsRefused old new × (ended ≡ unkept n ∷ []))
 Leads (Comes n piece) old new ended = (numbers new.lines ≡ numbers old.lines) × (ended ≡ [])
 Leads (Closes n) old new ended = (new ≡ closed old n) × (ended ≡ leaving (Closes n) old.lines)
-Leads (Moment now) old new ended = (new ≡ moved old now) × (ended ≡ [])
+Leads (Moment now) old new ended = (numbers new.lines ≡ numbers old.lines) × (ended ≡ [])
 
 -- the output of every connection was taken
 abbrev pub emptied : BrokerState → BrokerState

@@ -1,5 +1,5 @@
 -- What a script does to a broker, and what is written then.
-use Rattle.std.specs.Prelude.{◌≡◌, ℕ, List, [], ◌∷◌, ◌++◌, true, Option, Some, None}
+use Rattle.std.specs.Prelude.{◌≡◌, ℕ, List, [], ◌∷◌, ◌++◌, map, Bool, true, false, not, ◌&&◌, Option, Some, None}
 use Rattle.std.specs.List.{AllByRecursion}
 use Rattle.std.specs.Io.KnownBytes.{Appends}
 use Rattle.kb_machine.specs.Machine.{Happening, Line, Sent}
@@ -8,6 +8,7 @@ use Rattle.kb_machine.specs.Calls.{is_open, is_calm}
 use Rattle.kb_machine.specs.Told.{quieted_lines, said, Tells}
 use Rattle.kb_broker.specs.declared.script.ScriptFault.{ScriptFault}
 use Rattle.kb_broker.specs.declared.script.ScriptFault.TheVariants as faults
+use Rattle.kb_broker.specs.Places.{waits_in}
 use Rattle.kb_broker.specs.Script.{Place, Course, Plays, Passes, Stops, Script, after_event, step_text, script_text}
 
 -- 1. One event
@@ -19,6 +20,10 @@ IsQuiet b = AllByRecursion (λ (l : Line). l.session.output ≡ []) b.lines
 -- all output was taken
 abbrev pub hushed : BrokerState → BrokerState
 hushed b = record b { lines = quieted_lines b.lines }
+
+-- no connection waits for a fetch
+abbrev pub NoneWaits : BrokerState → Type 0
+NoneWaits b = AllByRecursion (λ (l : Line). waits_in (Some l.session) ≡ false) b.lines
 
 -- where a script stands, for that line, on a broker
 abbrev pub here : ℕ → BrokerState → Place
@@ -39,6 +44,16 @@ pub record Happens (e : Happening) (old new : BrokerState) : Type 0 where
 abbrev pub words : BrokerState → BrokerState → List ℕ
 words old new = step_text (said old.lines new.lines)
 
+-- whether each connection is shut, in order
+abbrev pub shut_marks : List Line → List Bool
+shut_marks lines = map (λ (l : Line). l.session.shut) lines
+
+-- what each connection got, and whether it is shut where it was not, by the marks of those that were shut
+abbrev pub said_since : List Bool → List Line → List Sent
+said_since [] lines = []
+said_since (was_shut ∷ marks) [] = []
+said_since (was_shut ∷ marks) (l ∷ lines) = record { number = l.number; bytes = l.session.output; shut = l.session.shut && not was_shut } ∷ said_since marks lines
+
 -- it happened, and the broker said nothing
 pub record HappensSilently (e : Happening) (old new : BrokerState) : Type 0 where
   pub happens : Happens e old new
@@ -52,6 +67,14 @@ IsSpoken e old final from to = (new : BrokerState) × Happens e old new × (fina
 -- it happened, and the writer failed: the front of what the broker said was written
 abbrev pub IsCutOff : Happening → BrokerState → Option (List ℕ) → Option (List ℕ) → Type 0
 IsCutOff e old from to = (new : BrokerState) × Happens e old new × (front : List ℕ) × (rest : List ℕ) × (words old new ≡ front ++ rest) × Appends from to front
+
+-- a text was not written: of it there is the front where the writer failed, and nothing where memory was refused
+abbrev pub IsUnwritten : ScriptFault → List ℕ → Option (List ℕ) → Option (List ℕ) → Type 0
+IsUnwritten (faults.BadLine k) text from to = ⊥
+IsUnwritten faults.TooLong text from to = ⊥
+IsUnwritten faults.Read text from to = ⊥
+IsUnwritten faults.Write text from to = (front : List ℕ) × (rest : List ℕ) × (text ≡ front ++ rest) × Appends from to front
+IsUnwritten faults.Memory text from to = Appends from to []
 
 -- a line that was played
 abbrev pub IsDone : Course → BrokerState → BrokerState → Option (List ℕ) → Option (List ℕ) → Type 0

@@ -85,7 +85,7 @@ impl Broker {
             }
             Event::In(number, piece) => self.input(alloc, *number, piece),
             Event::Close(number) => self.close(alloc, *number, written),
-            Event::At(now) => self.moment(*now),
+            Event::At(now) => self.moment(alloc, *now),
         }
     }
 

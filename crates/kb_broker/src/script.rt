@@ -7,17 +7,19 @@ ghost use Rattle.kb_machine.specs.Broker.{IsReady};
 ghost use Rattle.kb_machine.specs.Calls.{is_calm, is_shut};
 ghost use Rattle.kb_broker.specs.Opening.{opening};
 ghost use Rattle.kb_broker.specs.Script.{Plays, script, told, told_of, course_of, is_placed};
-ghost use Rattle.kb_broker.specs.ScriptRun.{IsQuiet, HappensSilently, IsSpoken, IsDone, IsBroken, IsPlayed, IsEnded, here};
+ghost use Rattle.kb_broker.specs.ScriptRun.{IsQuiet, NoneWaits, HappensSilently, IsSpoken, IsDone, IsBroken, IsPlayed, IsEnded, here};
 
 mod answer;
 mod line;
 mod reading;
+mod saying;
 
 use crate::broker::Broker;
 use answer::{answer_of, write_all};
 use kb_settings::Settings;
 use line::Line;
 use reading::next_line;
+use saying::{say, shut_places};
 use std::alloc::Global;
 use std::io::{BufRead, Write};
 use thiserror::Error;
@@ -120,7 +122,7 @@ fn play_line<W: Write>(
         Line::Open(connection) => open(alloc, broker, connection),
         Line::In(connection, piece) => give(alloc, broker, writer, connection, &piece),
         Line::Close(connection) => close(alloc, broker, connection),
-        Line::At(now) => pass(broker, now),
+        Line::At(now) => pass(alloc, broker, writer, now),
         Line::Empty | Line::Bad => Ok(()),
     }
 }
@@ -175,20 +177,33 @@ fn close(alloc: Global, broker: &mut Broker, connection: u64) -> Result<(), Scri
     calm(broker)
 }
 
-/// A moment passes.
-fn pass(broker: &mut Broker, now: u64) -> Result<(), ScriptFault>
+/// A moment passes, and what the broker says is written. Where nobody waits for a fetch it says nothing.
+fn pass<W: Write>(
+    alloc: Global,
+    broker: &mut Broker,
+    writer: &mut W,
+    now: u64,
+) -> Result<(), ScriptFault>
     requires calm { is_calm broker.old ≡ true }
     requires quiet { IsQuiet broker.old }
     requires ready { IsReady broker.old }
     requires in_time { now ≤ 2 ^ 62 }
-    ensures ok { OnOk result (HappensSilently (Moment now) broker.old broker.new) }
-    ensures err { IfErr result (λ fault. fault ≡ ScriptFault.Memory) }
+    ensures ok { OnOk result (IsSpoken (Moment now) broker.old broker.new (W.contents writer.old) (W.contents writer.new)) }
+    ensures err { IfErr result (λ fault. IsBroken (Plays (Moment now)) fault broker.old (W.contents writer.old) (W.contents writer.new)) }
 {
-    broker.moment(now);
+    if broker.may_wait() {
+        let Ok(were_shut) = shut_places(alloc, broker) else {
+            return Err(ScriptFault::Memory);
+        };
+        broker.moment(alloc, now);
+        calm(broker)?;
+        return say(alloc, broker, writer, &were_shut);
+    }
+    broker.moment(alloc, now);
     calm(broker)
 }
 
-/// Gives a piece to a connection, and writes what the broker says. It says nothing to any other connection.
+/// Gives a piece to a connection, and writes what the broker says, to this connection and to those that wait for a fetch.
 fn give<W: Write>(
     alloc: Global,
     broker: &mut Broker,
@@ -199,6 +214,32 @@ fn give<W: Write>(
     requires calm { is_calm broker.old ≡ true }
     requires quiet { IsQuiet broker.old }
     requires ready { IsReady broker.old }
+    ensures ok { OnOk result (IsSpoken (Comes connection piece.now) broker.old broker.new (W.contents writer.old) (W.contents writer.new)) }
+    ensures err { IfErr result (λ fault. IsBroken (Plays (Comes connection piece.now)) fault broker.old (W.contents writer.old) (W.contents writer.new)) }
+{
+    if !broker.may_wait() {
+        return give_alone(alloc, broker, writer, connection, piece);
+    }
+    let Ok(were_shut) = shut_places(alloc, broker) else {
+        return Err(ScriptFault::Memory);
+    };
+    broker.input(alloc, connection, piece);
+    calm(broker)?;
+    say(alloc, broker, writer, &were_shut)
+}
+
+/// Gives a piece to a connection where none waits for a fetch, and writes what the broker says: it says nothing to any other.
+fn give_alone<W: Write>(
+    alloc: Global,
+    broker: &mut Broker,
+    writer: &mut W,
+    connection: u64,
+    piece: &[u8],
+) -> Result<(), ScriptFault>
+    requires calm { is_calm broker.old ≡ true }
+    requires quiet { IsQuiet broker.old }
+    requires ready { IsReady broker.old }
+    requires alone { NoneWaits broker.old }
     ensures ok { OnOk result (IsSpoken (Comes connection piece.now) broker.old broker.new (W.contents writer.old) (W.contents writer.new)) }
     ensures err { IfErr result (λ fault. IsBroken (Plays (Comes connection piece.now)) fault broker.old (W.contents writer.old) (W.contents writer.new)) }
 {

@@ -1,21 +1,18 @@
 //! The turn of one connection, beside the tenants.
 
 ghost use Rattle.std.specs.Prelude.{◌≡◌, ◌<◌, length, OnOk, OnErr, true};
-ghost use Rattle.kb_wire.specs.Codec.{string};
 ghost use Rattle.kb_tenant.specs.Hosted.{IsTurn, IsMet};
-ghost use Rattle.kb_tenant.specs.Replies.{IsAnswer};
 ghost use Rattle.kb_machine.specs.Session.{shut_down, can};
-ghost use Rattle.kb_machine.specs.Tenant.{answer, kept_after};
 ghost use Rattle.kb_machine.specs.Machine.{served, put};
 ghost use Rattle.kb_machine.specs.Broker.{InRange};
 ghost use Rattle.kb_connection.specs.View.{with_session};
 ghost use Rattle.kb_broker.specs.Hosts.{tenants_in, AreHosted};
-ghost use Rattle.kb_broker.specs.Places.{IsSpent, IsTakenAt, IsTurnAt};
+ghost use Rattle.kb_broker.specs.Places.{IsSpent, IsTakenAt, IsTurnAt, IsLookedAt};
 
 use kb_connection::{Connection, Phase, Setup};
 use kb_log::ListLog;
 use kb_store::MemoryStore;
-use kb_tenant::{Answer, Node, Request, Served};
+use kb_tenant::Served;
 use kb_tenants::Tenants;
 use std::alloc::{AllocError, Global};
 
@@ -66,44 +63,49 @@ fn serve_bound(
     ensures err { OnErr result (connection.new ≡ with_session connection.old (shut_down connection.old.session)) }
 {
     let answer = match connection.request(alloc) {
-        Ok(Some(request)) => answer_at_once(alloc, tenants, tenant, clock, &setup.node(), &request),
+        Ok(Some(request)) => {
+            let node = setup.node();
+            let Served { answer, .. } = tenants.serve(alloc, tenant, clock, &node, &request);
+            answer
+        }
         Ok(None) => return connection.serve(alloc, setup),
         Err(e) => {
             connection.shut_down();
             return Err(e);
         }
     };
-    connection.answer(answer)
+    connection.answer(alloc, answer)
 }
 
-/// What a request of a tenant is answered. A fetch that would wait is looked at as one whose deadline has come.
-fn answer_at_once(
+/// Looks at a connection again, where it waits for a fetch of a tenant that is concerned: that one, or any. A fetch that is
+/// ready is answered. Where memory is refused the connection is shut, with a count.
+pub fn look_again(
     alloc: Global,
     tenants: &mut Tenants<ListLog, MemoryStore>,
-    tenant: usize,
     clock: u64,
-    node: &Node<'_>,
-    request: &Request<'_>,
-) -> Answer
+    whom: Option<usize>,
+    connection: &mut Connection,
+)
     requires hosted { AreHosted tenants.old }
-    requires tenant { tenant < length (tenants_in tenants.old) }
-    requires host { string.Fits node.now.host }
+    requires tenant { InRange (length (tenants_in tenants.old)) connection.old.session.stage }
     ensures hosted { AreHosted tenants.new }
-    ensures turn { IsTurn tenant (Unit {0}) (tenants_in tenants.old) (tenants_in tenants.new) }
-    ensures meets { IsMet tenant (Unit {0}) (tenants_in tenants.old) (tenants_in tenants.new)
-        (λ k l. (IsAnswer request.now.correlation_id (answer node.now k clock request.now.api_key request.now.body.now) result)
-        × (l ≡ kept_after node.now k clock request.now.api_key request.now.body.now)) }
+    ensures looked { IsLookedAt whom clock connection.old.session.stage (tenants_in tenants.old) (tenants_in tenants.new) connection.old connection.new }
 {
-    let Served { answer, .. } = tenants.serve(alloc, tenant, clock, node, request);
-    if let Answer::Wait { .. } = &answer {
-        return tenants.look(
-            alloc,
-            tenant,
-            clock,
-            request.correlation_id,
-            request.body,
-            0,
-        );
+    let Some((tenant, waiting)) = connection.waiting() else {
+        return;
+    };
+    if whom.unwrap_or(tenant) != tenant {
+        return;
     }
-    answer
+    let answer = tenants.look(
+        alloc,
+        tenant,
+        clock,
+        waiting.correlation_id,
+        &waiting.body,
+        waiting.deadline,
+    );
+    if connection.wake(answer).is_err() {
+        tenants.refuse(tenant);
+    }
 }

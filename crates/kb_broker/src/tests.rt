@@ -112,7 +112,7 @@ fn is_shut_by(rt: &impl Abort, alloc: Global, request: &[u8]) -> Result<(), Fail
     is_answered(rt, alloc, &mut broker, 3, request, b"")?;
     assert!(rt; broker.shut(3));
     connect(rt, alloc, &mut broker, 4)?;
-    broker.moment(5);
+    broker.moment(alloc, 5);
     assert!(rt; !broker.shut(4));
     Ok(())
 }

@@ -1,67 +1,127 @@
--- What a tenant's answer to a request makes of its connection.
-use Rattle.std.proofs.Common.{◌≡◌, ◌<◌, ◌≤◌, ℕ, ℤ, List, length, ◌++◌, true, false, refl, ap, ◌∙◌, subst, arith, nat_lt, Result, Ok, Err, OnOk, OnErr, Global}
+-- What a tenant's answer makes of its connection.
+use Rattle.std.proofs.Common.{◌≡◌, ◌<◌, ◌≤◌, ℕ, ℤ, List, length, ◌++◌, true, false, Option, Some, None, refl, sym, ap, ◌∙◌, subst, arith, nat_lt, Result, Ok, Err, OnOk, OnErr, Global}
 use Rattle.std.proofs.lemmas.Bool.Decides.{nat_tests}
 use Rattle.std.specs.declared.vec.Vec.{Vec}
+use Rattle.kb_world.specs.declared.place.Place.{Place}
 use Rattle.kb_api_group.specs.Frames.{front, behind}
 use Rattle.kb_tenant.specs.Replies.{Reaction, Replies, Waits, Silent, Shuts, IsAnswer, reply_size}
 use Rattle.kb_tenant.specs.declared.answer.Answer.{Answer}
 use Rattle.kb_tenant.specs.declared.answer.Answer.TheVariants as answers
-use Rattle.kb_machine.specs.Session.{Session, shut_down, replied}
-use Rattle.kb_machine.specs.Machine.{Line, answered}
+use Rattle.kb_machine.specs.Session.{Session, shut_down, replied, without_wait}
+use Rattle.kb_machine.specs.Machine.{Line, answered, told}
+use Rattle.kb_machine.proofs.Owners.{stage-shut}
 use Rattle.kb_connection.specs.Fronts.{is_tenants_at}
+use Rattle.kb_connection.specs.TenantAnswers.{given, parked}
 use Rattle.kb_connection.specs.View.{with_session, without_front}
 use Rattle.kb_connection.proofs.Fronts.{fewer-behind}
 
--- 1. By the answer
+-- 1. A reply
 
--- a reply, whose size fits an INT32
-reply_is : (id : ℤ) (reaction : Reaction) (reply : Vec ℕ Global) (s : Session) → IsAnswer id reaction (answers.Reply reply) → record s { output = s.output ++ reply.items } ≡ answered reaction id s
+-- its size fits an INT32
+reply_is : (id : ℤ) (body : List ℕ) (reply : Vec ℕ Global) (s : Session) → IsAnswer id (Replies body) (answers.Reply reply) → record s { output = s.output ++ reply.items } ≡ replied id body s
 unfolding replied
-reply_is id (Replies body) reply s h =
+reply_is id body reply s h =
     let small : nat_lt 2147483647 (reply_size body) ≡ false = grind (arith, nat_tests, h.0) in
     rw (small, h.1) refl
-reply_is id (Waits until places) reply s h = absurd h
-reply_is id Silent reply s h = absurd h
-reply_is id Shuts reply s h = absurd h
 
--- a reply whose size does not fit, and what is no request
-shut_is : (id : ℤ) (reaction : Reaction) (s : Session) → IsAnswer id reaction answers.Shut → shut_down s ≡ answered reaction id s
+-- its size does not fit
+long_is : (id : ℤ) (body : List ℕ) (s : Session) → IsAnswer id (Replies body) answers.Shut → shut_down s ≡ replied id body s
 unfolding replied
-shut_is id (Replies body) s h =
+long_is id body s h =
     let long : nat_lt 2147483647 (reply_size body) ≡ true = grind (arith, nat_tests, h) in
     rw long refl
-shut_is id (Waits until places) s h = absurd h
-shut_is id Silent s h = absurd h
-shut_is id Shuts s h = refl
 
--- 2. Behind the request in front
+-- 2. To the request in front, but for a wait; s is the connection without it
 
--- the connection without the request
-left : (l v : Line) (unread : List ℕ) → v ≡ l → unread ≡ behind (front v.session.unread) v.session.unread → with_session v (record v.session { unread = unread }) ≡ with_session l (without_front l.session)
-left l v unread same e = ap (λ u. with_session v (record v.session { unread = u })) e ∙ ap (λ (x : Line). with_session x (without_front x.session)) same
+abbrev pub IsNoWait : Answer → Type 0
+IsNoWait answer = (deadline : ℕ) (keys : Vec Place Global) → answer ≡ answers.Wait deadline keys → ⊥
 
-pub sent : {E : Type 0} (result : Result (Unit {0}) E) (l v new : Line) (unread : List ℕ) (answer : Answer) (reply : Vec ℕ Global) (id : ℤ) (reaction : Reaction) → v ≡ l → unread ≡ behind (front v.session.unread) v.session.unread → answer ≡ answers.Reply reply
-    → OnOk result (new ≡ with_session v (record v.session { unread = unread; output = v.session.output ++ reply.items })) → IsAnswer id reaction answer → OnOk result (new ≡ with_session l (answered reaction id (without_front l.session)))
-sent (Ok u) l v new unread answer reply id reaction same e is done h =
-    done ∙ ap (λ (m : Line). with_session m (record m.session { output = m.session.output ++ reply.items })) (left l v unread same e)
-    ∙ ap (with_session l) (reply_is id reaction reply (without_front l.session) (subst (IsAnswer id reaction) is h))
-sent (Err fault) l v new unread answer reply id reaction same e is done h = tt
+answer_is : (id : ℤ) (body : List ℕ) (reaction : Reaction) (answer : Answer) (s : Session) → IsNoWait answer → IsAnswer id reaction answer → given answer s ≡ answered reaction id body s
+answer_is id body (Replies reply) (answers.Reply r) s no_wait h = reply_is id reply r s h
+answer_is id body (Replies reply) (answers.Wait d k) s no_wait h = absurd h
+answer_is id body (Replies reply) answers.NoReply s no_wait h = absurd h
+answer_is id body (Replies reply) answers.Shut s no_wait h = long_is id reply s h
+answer_is id body (Waits until places) (answers.Reply r) s no_wait h = absurd h
+answer_is id body (Waits until places) (answers.Wait d k) s no_wait h = absurd (no_wait d k refl)
+answer_is id body (Waits until places) answers.NoReply s no_wait h = absurd h
+answer_is id body (Waits until places) answers.Shut s no_wait h = absurd h
+answer_is id body Silent (answers.Reply r) s no_wait h = absurd h
+answer_is id body Silent (answers.Wait d k) s no_wait h = absurd h
+answer_is id body Silent answers.NoReply s no_wait h = refl
+answer_is id body Silent answers.Shut s no_wait h = absurd h
+answer_is id body Shuts (answers.Reply r) s no_wait h = absurd h
+answer_is id body Shuts (answers.Wait d k) s no_wait h = absurd h
+answer_is id body Shuts answers.NoReply s no_wait h = absurd h
+answer_is id body Shuts answers.Shut s no_wait h = refl
 
-pub shut : (l v new : Line) (unread : List ℕ) (answer : Answer) (id : ℤ) (reaction : Reaction) → v ≡ l → unread ≡ behind (front v.session.unread) v.session.unread → answer ≡ answers.Shut
-    → new ≡ with_session v (shut_down (record v.session { unread = unread })) → IsAnswer id reaction answer → new ≡ with_session l (answered reaction id (without_front l.session))
-shut l v new unread answer id reaction same e is done h =
-    done ∙ ap (λ (m : Line). with_session m (shut_down m.session)) (left l v unread same e)
-    ∙ ap (with_session l) (shut_is id reaction (without_front l.session) (subst (IsAnswer id reaction) is h))
+pub gives : {E : Type 0} (result : Result (Unit {0}) E) (l m new : Line) (id : ℤ) (body : List ℕ) (reaction : Reaction) (answer : Answer) → IsNoWait answer → m ≡ with_session l (without_front l.session)
+    → OnOk result (new ≡ with_session m (given answer m.session)) → IsAnswer id reaction answer → OnOk result (new ≡ with_session l (answered reaction id body (without_front l.session)))
+gives (Ok u) l m new id body reaction answer no_wait left done h =
+    done ∙ ap (λ (x : Line). with_session x (given answer x.session)) left ∙ ap (with_session l) (answer_is id body reaction answer (without_front l.session) no_wait h)
+gives (Err fault) l m new id body reaction answer no_wait left done h = tt
 
 -- 3. The request's bytes are gone
 
-pub less : (l v : Line) (unread after : List ℕ) → v ≡ l → unread ≡ behind (front v.session.unread) v.session.unread → length after ≤ length unread → is_tenants_at (front l.session.unread) ≡ true → length after < length l.session.unread
-less l v unread after same e few asked =
-    let fewer = fewer-behind l.session.unread asked in
-    let is : length unread ≡ length (behind (front l.session.unread) l.session.unread) = ap length e ∙ ap (λ (x : Line). length (behind (front x.session.unread) x.session.unread)) same in
-    omega arith
+less : (l new : Line) → is_tenants_at (front l.session.unread) ≡ true → length new.session.unread ≤ length (behind (front l.session.unread) l.session.unread) → length new.session.unread < length l.session.unread
+less l new asks few = let fewer = fewer-behind l.session.unread asks in omega arith
 
--- and none come back with a reply
-pub no_more : {E : Type 0} (result : Result (Unit {0}) E) (old new : Line) (output : List ℕ) → OnOk result (new ≡ with_session old (record old.session { output = output })) → OnErr result (new ≡ old) → length new.session.unread ≤ length old.session.unread
-no_more (Ok u) old new output ok err = omega (arith, ap (λ (l : Line). length l.session.unread) ok)
-no_more (Err fault) old new output ok err = omega (arith, ap (λ (l : Line). length l.session.unread) err)
+unread_parked : (deadline : ℕ) (asked : Option (ℤ × ℤ × List ℕ)) (s : Session) → (parked deadline asked s).unread ≡ s.unread
+unread_parked deadline None s = refl
+unread_parked deadline (Some a) s = refl
+
+pub less_parked : {E : Type 0} (result : Result (Unit {0}) E) (l new : Line) (deadline : ℕ) (asked : Option (ℤ × ℤ × List ℕ)) → OnOk result (new ≡ with_session l (parked deadline asked (without_front l.session)))
+    → OnErr result (new ≡ with_session l (shut_down l.session)) → is_tenants_at (front l.session.unread) ≡ true → length new.session.unread < length l.session.unread
+less_parked (Ok u) l new deadline asked ok err asks = less l new asks (omega (arith, ap (λ (x : Line). length x.session.unread) ok, ap length (unread_parked deadline asked (without_front l.session))))
+less_parked (Err fault) l new deadline asked ok err asks = less l new asks (omega (arith, ap (λ (x : Line). length x.session.unread) err))
+
+unread_given : (answer : Answer) (s : Session) → length (given answer s).unread ≤ length s.unread
+unread_given (answers.Reply reply) s = omega arith
+unread_given (answers.Wait deadline keys) s = omega arith
+unread_given answers.NoReply s = omega arith
+unread_given answers.Shut s = omega arith
+
+pub less_given : {E : Type 0} (result : Result (Unit {0}) E) (l m new : Line) (answer : Answer) → m ≡ with_session l (without_front l.session) → OnOk result (new ≡ with_session m (given answer m.session))
+    → OnErr result (new ≡ with_session m (shut_down m.session)) → is_tenants_at (front l.session.unread) ≡ true → length new.session.unread < length l.session.unread
+less_given (Ok u) l m new answer left ok err asks =
+    less l new asks (omega (arith, ap (λ (x : Line). length x.session.unread) ok, unread_given answer m.session, ap (λ (x : Line). length x.session.unread) left))
+less_given (Err fault) l m new answer left ok err asks = less l new asks (omega (arith, ap (λ (x : Line). length x.session.unread) err))
+
+-- 4. To a fetch that waits
+
+-- a reply ends the wait
+ended_is : (id : ℤ) (reaction : Reaction) (reply : Vec ℕ Global) (s : Session) → IsAnswer id reaction (answers.Reply reply) → given (answers.Reply reply) (record s { stage = without_wait s.stage }) ≡ told reaction id s
+ended_is id (Replies body) reply s h = reply_is id body reply (record s { stage = without_wait s.stage }) h
+ended_is id (Waits until places) reply s h = absurd h
+ended_is id Silent reply s h = absurd h
+ended_is id Shuts reply s h = absurd h
+
+pub ends : {E : Type 0} (result : Result (Unit {0}) E) (l m new : Line) (id : ℤ) (reaction : Reaction) (answer : Answer) (reply : Vec ℕ Global) → answer ≡ answers.Reply reply → m ≡ with_session l (record l.session { stage = without_wait l.session.stage })
+    → OnOk result (new ≡ with_session m (given answer m.session)) → IsAnswer id reaction answer → OnOk result (new ≡ with_session l (told reaction id l.session))
+ends (Ok u) l m new id reaction answer reply is left done h =
+    done ∙ ap (λ (x : Line). with_session x (given answer x.session)) left ∙ ap (λ a. with_session l (given a (record l.session { stage = without_wait l.session.stage }))) is
+    ∙ ap (with_session l) (ended_is id reaction reply l.session (subst (IsAnswer id reaction) is h))
+ends (Err fault) l m new id reaction answer reply is left done h = tt
+
+-- and no other answer does
+abbrev pub IsNoReply : Answer → Type 0
+IsNoReply answer = (reply : Vec ℕ Global) → answer ≡ answers.Reply reply → ⊥
+
+told_is : (id : ℤ) (reaction : Reaction) (answer : Answer) (s : Session) → IsNoReply answer → IsAnswer id reaction answer → given answer s ≡ told reaction id s
+told_is id reaction (answers.Reply r) s no_reply h = absurd (no_reply r refl)
+told_is id (Replies reply) (answers.Wait d k) s no_reply h = absurd h
+told_is id (Replies reply) answers.NoReply s no_reply h = absurd h
+told_is id (Replies reply) answers.Shut s no_reply h = ap (λ st. record (shut_down s) { stage = st }) (sym (stage-shut s)) ∙ long_is id reply (record s { stage = without_wait s.stage }) h
+told_is id (Waits until places) (answers.Wait d k) s no_reply h = refl
+told_is id (Waits until places) answers.NoReply s no_reply h = absurd h
+told_is id (Waits until places) answers.Shut s no_reply h = absurd h
+told_is id Silent (answers.Wait d k) s no_reply h = absurd h
+told_is id Silent answers.NoReply s no_reply h = refl
+told_is id Silent answers.Shut s no_reply h = absurd h
+told_is id Shuts (answers.Wait d k) s no_reply h = absurd h
+told_is id Shuts answers.NoReply s no_reply h = absurd h
+told_is id Shuts answers.Shut s no_reply h = refl
+
+pub tells : {E : Type 0} (result : Result (Unit {0}) E) (l m new : Line) (id : ℤ) (reaction : Reaction) (answer : Answer) → IsNoReply answer → m ≡ l
+    → OnOk result (new ≡ with_session m (given answer m.session)) → IsAnswer id reaction answer → OnOk result (new ≡ with_session l (told reaction id l.session))
+tells (Ok u) l m new id reaction answer no_reply left done h = done ∙ ap (λ (x : Line). with_session x (given answer x.session)) left ∙ ap (with_session l) (told_is id reaction answer l.session no_reply h)
+tells (Err fault) l m new id reaction answer no_reply left done h = tt

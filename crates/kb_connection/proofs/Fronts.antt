@@ -13,7 +13,7 @@ use Rattle.kb_connection.specs.declared.request.Asked.{Asked as Read}
 use Rattle.kb_connection.specs.declared.request.Asked.TheVariants as asked
 use Rattle.kb_connection.specs.declared.request.Request.{Request as ReadRequest}
 use Rattle.kb_connection.specs.View.{asked_of, request_of, without_front}
-use Rattle.kb_connection.specs.Fronts.{IsOwn, IsAsked, is_tenants, is_tenants_at}
+use Rattle.kb_connection.specs.Fronts.{IsOwn, IsAsked, is_tenants, is_tenants_at, asked_under, asked_at}
 
 -- 1. A matter of the connection alone
 
@@ -84,10 +84,17 @@ kept_whole setup kept clock bytes Partial e = cc
 kept_whole setup kept clock bytes TooSmall e = cc
 kept_whole setup kept clock bytes TooLarge e = cc
 
+asked_whole : (bytes : List ℕ) (f : Front) → answers.Frame bytes ≡ answer f → asked_at f ≡ asked_under (request bytes).correlation_id (request bytes).asked
+asked_whole bytes (Whole frame rest) e = let same : frame ≡ bytes = cc in ap (λ x. asked_under (request x).correlation_id (request x).asked) same
+asked_whole bytes Partial e = cc
+asked_whole bytes TooSmall e = cc
+asked_whole bytes TooLarge e = cc
+
 is_asked : (s : Session) (bytes : List ℕ) (key version id : ℤ) (body : List ℕ) → answers.Frame bytes ≡ answer (front s.unread) → request bytes ≡ record { correlation_id = id; asked = Another key version body } → IsAsked s key id body
 unfolding served served_by put
 is_asked s bytes key version id body e is = record {
   tenants = at_frame bytes (Another key version body) (front s.unread) e (ap (λ (q : Request). q.asked) is);
+  asked = asked_whole bytes (front s.unread) e ∙ ap (λ (q : Request). asked_under q.correlation_id q.asked) is;
   served = λ setup kept clock. served_whole setup kept clock s bytes (front s.unread) e ∙ ap (λ (q : Request). served_by setup kept clock q.correlation_id q.asked (without_front s)) is;
   put = λ setup kept clock. kept_whole setup kept clock bytes (front s.unread) e ∙ ap (λ (q : Request). kept_by setup kept clock q.asked) is;
 }

@@ -1,5 +1,5 @@
 -- Whose the request is that stands in front of a bound connection: its tenant's, or a matter of the connection alone.
-use Rattle.std.specs.Prelude.{◌≡◌, ℕ, ℤ, List, Bool, true, false}
+use Rattle.std.specs.Prelude.{◌≡◌, ℕ, ℤ, List, Bool, true, false, Option, Some, None}
 use Rattle.kb_api_group.specs.Frames.{Front, Whole, Partial, TooSmall, TooLarge, front}
 use Rattle.kb_tenant.specs.Hosted.{Kept}
 use Rattle.kb_machine.specs.Requests.{Asked, Versions, OtherVersions, Handshake, Authenticate, Another, Unread, request}
@@ -23,6 +23,22 @@ is_tenants_at Partial = false
 is_tenants_at TooSmall = false
 is_tenants_at TooLarge = false
 
+-- a request of the tenant: its correlation id, its key and its body
+abbrev pub asked_under : ℤ → Asked → Option (ℤ × ℤ × List ℕ)
+asked_under id Versions = None
+asked_under id OtherVersions = None
+asked_under id (Handshake mechanism) = None
+asked_under id (Authenticate message) = None
+asked_under id (Another key version body) = Some (id, key, body)
+asked_under id Unread = None
+
+-- the request of the tenant that stands in front
+abbrev pub asked_at : Front → Option (ℤ × ℤ × List ℕ)
+asked_at (Whole frame rest) = let r = request frame in asked_under r.correlation_id r.asked
+asked_at Partial = None
+asked_at TooSmall = None
+asked_at TooLarge = None
+
 -- no request of the tenant stands in front: what the tenant keeps stays
 pub record IsOwn (s : Session) : Type 0 where
   pub own : is_tenants_at (front s.unread) ≡ false
@@ -31,5 +47,6 @@ pub record IsOwn (s : Session) : Type 0 where
 -- this request of the tenant stands in front
 pub record IsAsked (s : Session) (key id : ℤ) (body : List ℕ) : Type 0 where
   pub tenants : is_tenants_at (front s.unread) ≡ true
-  pub served : (setup : Setup) (kept : Kept) (clock : ℕ) → served setup kept clock s ≡ answered (answer setup.node kept clock key body) id (without_front s)
+  pub asked : asked_at (front s.unread) ≡ Some (id, key, body)
+  pub served : (setup : Setup) (kept : Kept) (clock : ℕ) → served setup kept clock s ≡ answered (answer setup.node kept clock key body) id body (without_front s)
   pub put : (setup : Setup) (kept : Kept) (clock : ℕ) → put setup kept clock s.unread ≡ kept_after setup.node kept clock key body

@@ -1,3 +1,4 @@
 pub mod Fronts
 pub mod Reactions
+pub mod TenantAnswers
 pub mod View

@@ -1,16 +1,17 @@
 //! One connection: its unread bytes, its untaken output, and how far it is.
 
-ghost use Rattle.std.specs.Prelude.{◌≡◌, ◌<◌, ◌^◌, ◌++◌, ℕ, ℤ, length, true, false, IfOk, IfSome, IfNone, OnOk, OnErr};
+ghost use Rattle.std.specs.Prelude.{◌≡◌, ◌<◌, ◌≤◌, ◌^◌, ◌++◌, ℕ, ℤ, List, length, true, false, option_map, IfOk, IfSome, IfNone, OnOk, OnErr};
 ghost use Rattle.kb_api_group.specs.Frames.{front};
 ghost use Rattle.kb_tenant.specs.Hosted.{Kept};
 ghost use Rattle.kb_tenant.specs.Replies.{Reaction as Reacts, IsAnswer, framed, reply_size};
 ghost use Rattle.kb_machine.specs.Requests.{request};
-ghost use Rattle.kb_machine.specs.Session.{Session, Greets, fresh, room, fed, replied, shut_down, without_wait, can};
+ghost use Rattle.kb_machine.specs.Session.{Session, Greets, BoundTo, fresh, room, fed, replied, shut_down, without_wait, waiting, is_free, can};
 ghost use Rattle.kb_machine.specs.Greeting.{Setup, greeted, greeted_by};
-ghost use Rattle.kb_machine.specs.Machine.{answered, served, served_by};
+ghost use Rattle.kb_machine.specs.Machine.{answered, served, served_by, told};
 ghost use Rattle.kb_machine.specs.Calls.{without_output};
-ghost use Rattle.kb_connection.specs.Fronts.{IsOwn, IsAsked, is_tenants, is_tenants_at};
-ghost use Rattle.kb_connection.specs.View.{stage_of, with_session, without_front, IsLimited};
+ghost use Rattle.kb_connection.specs.TenantAnswers.{given, is_quiet, wait_for, parked};
+ghost use Rattle.kb_connection.specs.Fronts.{IsOwn, IsAsked, is_tenants, is_tenants_at, asked_at};
+ghost use Rattle.kb_connection.specs.View.{stage_of, wait_of, with_session, without_front, IsLimited};
 ghost use Rattle.kb_connection.specs.Reactions.{reacted, IfReacts};
 
 use crate::reaction::Reaction;
@@ -39,11 +40,33 @@ pub enum Phase {
     Bound(usize),
 }
 
+/// A fetch that waits for its answer.
+#[derive(Drop)]
+pub struct Waiting {
+    /// The correlation id of its request.
+    pub correlation_id: i32,
+    /// The body of its request.
+    pub body: Vec<u8>,
+    /// The moment after which it waits no longer.
+    pub deadline: u64,
+}
+
+/// How far a connection is, and what it waits for.
+#[derive(Drop)]
+enum Stage {
+    /// It greets, and a mechanism was accepted or not.
+    Greets(bool),
+    /// It is bound to a tenant, whose place this is.
+    Bound(usize),
+    /// It is bound to a tenant, and waits for the answer to a fetch.
+    Waits(usize, Waiting),
+}
+
 /// A connection. A clause sees its number and its session.
 #[derive(Drop)]
 pub struct Connection {
     number: u64,
-    phase: Phase,
+    stage: Stage,
     unread: FrameFeed,
     output: Vec<u8>,
     shut: bool,
@@ -51,11 +74,11 @@ pub struct Connection {
 
 impl Model for Connection {
     ghost use Rattle.kb_machine.specs.Machine.{Line};
-    ghost use Rattle.kb_connection.specs.View.{stage_of, IsLimited};
+    ghost use Rattle.kb_connection.specs.View.{stage_with_wait, IsLimited};
 
     ghost Value = { Line };
 
-    ghost view = { λ c. record { number = c.number; session = record { stage = stage_of c.phase; unread = c.unread; output = c.output.items; shut = c.shut } } };
+    ghost view = { λ c. record { number = c.number; session = record { stage = stage_with_wait c.stage; unread = c.unread; output = c.output.items; shut = c.shut } } };
 
     ghost invariant = { λ c. IsLimited c.unread c.shut };
 }
@@ -67,7 +90,7 @@ impl Connection {
     {
         Connection {
             number,
-            phase: Phase::Greets(false),
+            stage: Stage::Greets(false),
             unread: FrameFeed::new(alloc),
             output: Vec::new(alloc),
             shut: false,
@@ -81,11 +104,25 @@ impl Connection {
         self.number
     }
 
-    /// How far it is.
+    /// How far it is, waiting or not.
     pub fn phase(&self) -> Phase
-        ensures { stage_of result ≡ self.now.session.stage }
+        ensures { stage_of result ≡ without_wait self.now.session.stage }
     {
-        self.phase
+        match &self.stage {
+            Stage::Greets(handshaken) => Phase::Greets(*handshaken),
+            Stage::Bound(tenant) | Stage::Waits(tenant, _) => Phase::Bound(*tenant),
+        }
+    }
+
+    /// The tenant that it is bound to and the fetch that it waits for, if it waits.
+    pub fn waiting(&self) -> Option<(usize, &Waiting)>
+        ensures some { IfSome result (λ r. self.now.session.stage ≡ BoundTo r.0 (Some (wait_of r.1.now))) }
+        ensures none { IfNone result (is_free self.now.session.stage ≡ true) }
+    {
+        match &self.stage {
+            Stage::Waits(tenant, fetch) => Some((*tenant, fetch)),
+            Stage::Greets(_) | Stage::Bound(_) => None,
+        }
     }
 
     /// Whether the broker shut it.
@@ -103,12 +140,12 @@ impl Connection {
         UNREAD_LIMIT.saturating_sub(self.unread.unread())
     }
 
-    /// Whether it can take a turn: a whole request or a bad size stands in front.
+    /// Whether it can take a turn: it waits for nothing, and a whole request or a bad size stands in front.
     #[tactic(auto, unfolding(kb_machine::specs::Session::can))]
     pub fn can_turn(&self) -> bool
         ensures { result ≡ can self.now.session }
     {
-        !matches!(self.unread.next(), Next::More)
+        self.waiting().is_none() && !matches!(self.unread.next(), Next::More)
     }
 
     /// Takes the output.
@@ -127,12 +164,29 @@ impl Connection {
         output
     }
 
-    /// Shuts it: unread bytes are dropped, untaken output stays.
+    /// Shuts it: unread bytes are dropped, and what it waits for; untaken output stays.
     pub fn shut_down(&mut self)
         ensures { self.new ≡ with_session self.old (shut_down self.old.session) }
     {
+        self.stop_waiting(); // its fetch gets no answer
         self.unread.clear();
         self.shut = true;
+    }
+
+    /// Waits for nothing.
+    fn stop_waiting(&mut self)
+        ensures { self.new ≡ with_session self.old (record self.old.session { stage = without_wait self.old.session.stage }) }
+    {
+        if let Stage::Waits(tenant, _) = self.stage {
+            self.stage = Stage::Bound(tenant);
+        }
+    }
+
+    /// Leaves the request in front behind.
+    fn skip(&mut self)
+        ensures { self.new ≡ with_session self.old (without_front self.old.session) }
+    {
+        self.unread.skip();
     }
 
     /// Takes a piece. One longer than the room shuts it, and where the piece cannot be kept it is shut too.
@@ -202,16 +256,94 @@ impl Connection {
         }
     }
 
-    /// Leaves the tenant's request in front behind, and gives the tenant's answer to it. Where memory is refused it is shut.
-    pub fn answer(&mut self, answer: Answer) -> Result<(), AllocError>
-        ensures ok { (id : ℤ) (reaction : Reacts) → IsAnswer id reaction answer → OnOk result (self.new ≡ with_session self.old (answered reaction id (without_front self.old.session))) }
+    /// Leaves the tenant's request in front behind, and gives the tenant's answer to it. Where the answer is to wait, the
+    /// request is kept until `wake` ends the wait. Where memory is refused it is shut.
+    #[tactic(auto, using(crate::proofs::Answering::gives, crate::proofs::Answering::less_given, crate::proofs::Answering::less_parked))]
+    pub fn answer(&mut self, alloc: Global, answer: Answer) -> Result<(), AllocError>
+        ensures ok { (key id : ℤ) (body : List ℕ) (reaction : Reacts) → IsAsked self.old.session key id body → IsAnswer id reaction answer → OnOk result (self.new ≡ with_session self.old (answered reaction id body (without_front self.old.session))) }
         ensures err { OnErr result (self.new ≡ with_session self.old (shut_down self.old.session)) }
         // whatever the answer is, also where a refusal spoiled it
         ensures number { self.new.number ≡ self.old.number }
         ensures stage { without_wait self.new.session.stage ≡ without_wait self.old.session.stage }
         ensures less { is_tenants_at (front self.old.session.unread) ≡ true → length self.new.session.unread < length self.old.session.unread }
     {
-        self.unread.skip(); // it is not handed out again
+        match answer {
+            Answer::Wait { deadline, .. } => self.park(alloc, deadline),
+            answer => {
+                self.skip(); // it is not handed out again
+                self.give(answer)
+            }
+        }
+    }
+
+    /// Gives an answer to the fetch that it waits for: a reply ends the wait, and no reply leaves it waiting. Where memory is
+    /// refused it is shut.
+    #[tactic(auto, using(crate::proofs::Answering::ends, crate::proofs::Answering::tells))]
+    pub fn wake(&mut self, answer: Answer) -> Result<(), AllocError>
+        ensures ok { (id : ℤ) (reaction : Reacts) → IsAnswer id reaction answer → OnOk result (self.new ≡ with_session self.old (told reaction id self.old.session)) }
+        ensures err { OnErr result (self.new ≡ with_session self.old (shut_down self.old.session)) }
+        // whatever the answer is, also where a refusal spoiled it
+        ensures number { self.new.number ≡ self.old.number }
+        ensures stage { without_wait self.new.session.stage ≡ without_wait self.old.session.stage }
+        ensures same { is_quiet answer ≡ true → self.new ≡ self.old }
+        ensures unread { length self.new.session.unread ≤ length self.old.session.unread }
+    {
+        if let Answer::Reply(_) = &answer {
+            self.stop_waiting(); // the reply ends the wait
+        }
+        self.give(answer)
+    }
+
+    /// Leaves the request in front behind, and waits for its answer until the deadline at most. Where memory is refused it is
+    /// shut.
+    fn park(&mut self, alloc: Global, deadline: u64) -> Result<(), AllocError>
+        ensures ok { OnOk result (self.new ≡ with_session self.old (parked deadline (asked_at (front self.old.session.unread)) (without_front self.old.session))) }
+        ensures err { OnErr result (self.new ≡ with_session self.old (shut_down self.old.session)) }
+    {
+        let fetch = self.fetch_in_front(alloc, deadline);
+        self.skip();
+        match fetch {
+            Ok(Some(fetch)) => {
+                self.wait_for(fetch);
+                Ok(())
+            }
+            Ok(None) => Ok(()),
+            Err(e) => {
+                self.shut_down();
+                Err(e)
+            }
+        }
+    }
+
+    /// The request of its tenant that stands in front, to wait for its answer until the deadline.
+    fn fetch_in_front(&self, alloc: Global, deadline: u64) -> Result<Option<Waiting>, AllocError>
+        ensures { IfOk result (λ found. option_map wait_of found ≡ option_map (wait_for deadline) (asked_at (front self.now.session.unread))) }
+    {
+        let Some(request) = self.request(alloc)? else {
+            return Ok(None);
+        };
+        Ok(Some(Waiting {
+            correlation_id: request.correlation_id,
+            body: Vec::from_slice(alloc, request.body)?,
+            deadline,
+        }))
+    }
+
+    /// Waits for the answer to a fetch. One that greets has none.
+    fn wait_for(&mut self, fetch: Waiting)
+        ensures { self.new ≡ with_session self.old (record self.old.session { stage = waiting (wait_of fetch) self.old.session.stage }) }
+    {
+        if let Phase::Bound(tenant) = self.phase() {
+            self.stage = Stage::Waits(tenant, fetch);
+        }
+    }
+
+    /// Does what an answer says, but for a wait. Where memory is refused it is shut.
+    fn give(&mut self, answer: Answer) -> Result<(), AllocError>
+        ensures ok { OnOk result (self.new ≡ with_session self.old (given answer self.old.session)) }
+        ensures err { OnErr result (self.new ≡ with_session self.old (shut_down self.old.session)) }
+        ensures same { is_quiet answer ≡ true → self.new ≡ self.old }
+    {
         match answer {
             Answer::Reply(reply) => {
                 let sent = self.send(reply);
@@ -270,7 +402,7 @@ impl Connection {
         ensures ok { OnOk result (IfReacts reaction (λ id what. self.new ≡ with_session self.old (reacted setup.now what id (without_front self.old.session)))) }
         ensures err { OnErr result (self.new ≡ with_session self.old (shut_down self.old.session)) }
     {
-        self.unread.skip(); // the reaction keeps nothing of it
+        self.skip(); // the reaction keeps nothing of it
         let done = match reaction {
             Ok((correlation_id, reaction)) => self.react(alloc, setup, correlation_id, reaction),
             Err(e) => Err(e),
@@ -300,7 +432,7 @@ impl Connection {
             Reaction::Accepts => {
                 let body = handshake_body(alloc, ErrorCode::None)?;
                 self.reply(correlation_id, &body)?;
-                self.phase = Phase::Greets(true);
+                self.stage = Stage::Greets(true);
                 Ok(())
             }
             Reaction::Handshake(code) => {
@@ -315,7 +447,7 @@ impl Connection {
             Reaction::LogsIn(tenant) => {
                 let body = authenticate_body(alloc, ErrorCode::None, None)?;
                 self.reply(correlation_id, &body)?;
-                self.phase = Phase::Bound(tenant);
+                self.stage = Stage::Bound(tenant);
                 Ok(())
             }
             Reaction::Denies => {

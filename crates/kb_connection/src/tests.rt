@@ -89,7 +89,7 @@ fn asks(
         None => panic!(rt; "Metadata is for the tenant"),
     }
     assert!(rt; connection.can_turn());
-    connection.answer(answer)?;
+    connection.answer(alloc, answer)?;
     assert!(rt; !connection.can_turn());
     assert_eq!(rt; connection.room(), 4_194_312);
     Ok(())
@@ -115,6 +115,61 @@ fn tenant_answers(rt: HostRuntime) -> Result<(), Fail> {
         output.as_slice(),
         b"\0\0\0\x05\0\0\0\x09a\0\0\0\x05\0\0\0\x09b".as_slice()
     );
+    Ok(())
+}
+
+/// That the fetch of `asks` waits until 500.
+fn is_parked(rt: &impl Abort, connection: &Connection) {
+    match connection.waiting() {
+        Some((tenant, fetch)) => {
+            assert_eq!(rt; (tenant, fetch.correlation_id, fetch.deadline), (3, 9, 500));
+            assert_eq!(rt; fetch.body.as_slice(), b"\xff\xff\xff\xff".as_slice());
+        }
+        None => panic!(rt; "it waits"),
+    }
+    assert_eq!(rt; connection.phase(), Phase::Bound(3));
+    assert!(rt; !connection.can_turn());
+}
+
+#[test]
+fn fetch_waits_and_is_woken(rt: HostRuntime) -> Result<(), Fail> {
+    let alloc = rt.alloc();
+    let setup = setup(&rt, alloc)?;
+    let mut connection = bound(&rt, alloc, &setup)?;
+    assert!(rt; connection.waiting().is_none());
+    let wait = Answer::Wait {
+        deadline: 500,
+        keys: Vec::new(alloc),
+    };
+    asks(&rt, alloc, &mut connection, wait)?;
+    is_parked(&rt, &connection);
+    // another request comes, and has to wait too
+    connection.feed(METADATA)?;
+    is_parked(&rt, &connection);
+    connection.wake(Answer::NoReply)?;
+    is_parked(&rt, &connection);
+    let reply = Vec::from_slice(alloc, b"\0\0\0\x05\0\0\0\x09a")?;
+    connection.wake(Answer::Reply(reply))?;
+    assert!(rt; connection.waiting().is_none());
+    assert!(rt; connection.can_turn());
+    let output = connection.take_output(alloc);
+    assert_eq!(rt; output.as_slice(), b"\0\0\0\x05\0\0\0\x09a".as_slice());
+    Ok(())
+}
+
+#[test]
+fn shut_connection_waits_no_longer(rt: HostRuntime) -> Result<(), Fail> {
+    let alloc = rt.alloc();
+    let setup = setup(&rt, alloc)?;
+    let mut connection = bound(&rt, alloc, &setup)?;
+    let wait = Answer::Wait {
+        deadline: 500,
+        keys: Vec::new(alloc),
+    };
+    asks(&rt, alloc, &mut connection, wait)?;
+    connection.wake(Answer::Shut)?;
+    assert!(rt; connection.is_shut());
+    assert!(rt; connection.waiting().is_none());
     Ok(())
 }
 

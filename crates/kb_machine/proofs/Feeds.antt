@@ -1,5 +1,5 @@
 -- A piece that comes on a connection.
-use Rattle.std.proofs.Common.{◌≡◌, ◌≢◌, ◌<◌, ◌≤◌, ◌++◌, ◌∷◌, [], ℕ, zero, suc, List, length, set, eqb, Bool, true, false, Option, Some, None, refl, sym, ◌∙◌, ap, subst, arith, append-nil}
+use Rattle.std.proofs.Common.{◌≡◌, ◌≢◌, ◌<◌, ◌≤◌, ◌++◌, ◌∷◌, [], ℕ, zero, suc, List, length, set, eqb, Bool, true, false, Option, Some, None, refl, sym, ◌∙◌, ap, subst, arith, append-nil, inl}
 use Rattle.std.specs.Prelude.{cond, nat_lt}
 use Rattle.std.specs.List.{AllByRecursion}
 use Rattle.std.proofs.lemmas.Bool.Decides.{nat_tests}
@@ -13,13 +13,14 @@ use Rattle.kb_machine.specs.Greeting.{Setup}
 use Rattle.kb_machine.specs.Machine.{Happening, Comes, Line, World, each, on, those, first_able, turns, stepped}
 use Rattle.kb_machine.specs.Owners.{Owns, Fits, whose, heard, destiny}
 use Rattle.kb_machine.specs.Broker.{BrokerState, IsReady, IsStep, IsUntaken, Rising, Mine, view_of}
-use Rattle.kb_machine.specs.Turned.{IsStill, IsWithin, Turned, IsFed}
+use Rattle.kb_machine.specs.Turned.{Scope, Of, IsStill, AreStill, Turned, IsFed}
 use Rattle.kb_machine.proofs.Laws.{none-those, turns-none, those-each}
+use Rattle.kb_machine.specs.Turned.{IsGoing}
 use Rattle.kb_machine.proofs.Owners.{IsBound, IsMine, heard-still, fate-bound, mine-bound, bound-same, those-on_other, stage-fed, stage-shut}
 use Rattle.kb_machine.proofs.Ranges.{range-same}
-use Rattle.kb_machine.proofs.Sets.{IsAt, all-at, all-map, all-those, all-still, rising-above, set-on, tail-at, no-at, each-on_none}
-use Rattle.kb_machine.proofs.Parts.{count, turn-length, turn-grows, each-tenant, calm-left, calm-right, grows-same, calm-first, calm-then}
-use Rattle.kb_machine.proofs.Turns.{changed, changed-within, bound-stays, within-then}
+use Rattle.kb_machine.proofs.Sets.{IsAt, all-at, all-map, all-those, all-still, rising-above, set-on, find-set_other, tail-at, no-at, each-on_none}
+use Rattle.kb_machine.proofs.Parts.{count, each-tenant, calm-left, calm-right, grows-same, calm-first, calm-then}
+use Rattle.kb_machine.proofs.Turns.{changed, changed-going, changed-still, called-going, going-then, counted-then, counted-same, counted-tenant, counted-unbound, scope-tenant, tenant-later}
 use Rattle.kb_machine.proofs.Steps.{settled-turns, with_lines}
 
 -- 1. What a piece is to those that it does not come on
@@ -72,8 +73,13 @@ whose-same (BoundTo v w) (BoundTo x y) e = let g : x ≡ v = cc in ap Some g
 
 -- 2. A piece that is taken
 
-still-settled : (n : ℕ) (b : BrokerState) → first_able b.lines ≡ None → AllByRecursion (IsStill n) b.lines
-still-settled n b h = all-map (λ l. can l.session ≡ false) (IsStill n) (λ l c ne. c) b.lines (all-still b.lines h)
+-- between two events nobody can take a turn
+pub still-settled : (scope : Scope) (b : BrokerState) → first_able b.lines ≡ None → AreStill scope b
+still-settled scope b h = all-map (λ l. can l.session ≡ false) (IsStill scope b) (λ l c able. let no : false ≡ true = sym c ∙ able in absurd (cc)) b.lines (all-still b.lines h)
+
+-- but the connection that was given the piece
+fed-still : (b : BrokerState) (i : ℕ) (l m : Line) (ps : List TenantState) (x : ℕ) → first_able b.lines ≡ None → m.number ≡ l.number → IsGoing b (changed b i m ps x) → AreStill (Of l.number) (changed b i m ps x)
+fed-still b i l m ps x none n g = changed-still (Of l.number) b i m ps x g (still-settled (Of l.number) b none) (λ c. inl n)
 
 view-fed : (w : World) (mine : ℕ → Bool) (n : ℕ) (piece : List ℕ) (ls : List Line) (yes : Bool) → mine n ≡ yes → w.lines ≡ those mine ls → first_able ls ≡ None → turns (with_lines w (those mine (each (on n (fed piece)) ls))) ≡ stepped yes (Comes n piece) w
 view-fed w mine n piece ls true m f none = ap (λ x. turns (with_lines w x)) (those-each mine (on n (fed piece)) ls ∙ ap (each (on n (fed piece))) (sym f))
@@ -87,9 +93,13 @@ fed-kept b i l m piece r at n e =
     let owner : whose m.session.stage ≡ whose l.session.stage = whose-same l.session.stage m.session.stage same in
     let still = all-at (λ x. can x.session ≡ false) b.lines i l at (all-still b.lines r.settled) in
     let lines : set b.lines i m ≡ each (on l.number (fed piece)) b.lines = set-on 0 b.last (fed piece) b.lines i l m s.rising at n e in
+    let going = changed-going b i l m b.tenants b.unbound_refusals s at n refl (range-same (length b.tenants) l.session.stage m.session.stage same (all-at _ b.lines i l at s.in_range))
+        (record { setup = refl; names = refl; own = λ t. omega arith; unbound = omega arith }) (λ t f. owner ∙ f) in
     record {
-      within = changed-within b i l m b.tenants b.unbound_refusals s (still-settled l.number b r.settled) at n refl (range-same (length b.tenants) l.session.stage m.session.stage same (all-at _ b.lines i l at s.in_range))
-          (record { setup = refl; names = refl; own = λ t. omega arith; unbound = omega arith }) (λ t f. owner ∙ f) (λ t ne. refl) (λ t f. refl);
+      going = going;
+      still = fed-still b i l m b.tenants b.unbound_refusals r.settled n going;
+      counted = counted-same (Of l.number) b (changed b i m b.tenants b.unbound_refusals) (λ t. refl) refl;
+      others = λ k ne. find-set_other k b.lines i l m at n ne;
       mine = λ t mine es k calm. record { now = comes-set b.setup t 0 b.last mine piece es b.lines i l m s.rising at n (comes-fed b.setup t mine piece es l m still n e) k.now; later = k.later };
       view = λ t mine es k calm. ap (λ x. turns (with_lines (view_of t mine b) (those mine x))) lines ∙ view-fed (view_of t mine b) mine l.number piece b.lines (mine l.number) refl refl r.settled;
     }
@@ -101,10 +111,13 @@ fed-refused b i l m piece h x r at g n e up rises =
     let s = r.sound in
     let same : without_wait m.session.stage ≡ without_wait l.session.stage = ap (λ (x : Session). without_wait x.stage) e ∙ stage-shut l.session in
     let none : whose l.session.stage ≡ None = ap whose g in
+    let going = changed-going b i l m b.tenants x s at n refl (range-same (length b.tenants) l.session.stage m.session.stage same (all-at _ b.lines i l at s.in_range))
+        (record { setup = refl; names = refl; own = λ t. omega arith; unbound = up }) (λ t f. let k : None ≡ Some t = sym none ∙ f in absurd (cc)) in
     record {
-      within = changed-within b i l m b.tenants x s (still-settled l.number b r.settled) at n refl (range-same (length b.tenants) l.session.stage m.session.stage same (all-at _ b.lines i l at s.in_range))
-          (record { setup = refl; names = refl; own = λ t. omega arith; unbound = up })
-          (λ t f. let k : None ≡ Some t = sym none ∙ f in absurd (cc)) (λ t ne. refl) (λ t f. let k : None ≡ Some t = sym none ∙ f in absurd (cc));
+      going = going;
+      still = fed-still b i l m b.tenants x r.settled n going;
+      counted = counted-unbound (Of l.number) b i l m x s at (inl refl) none;
+      others = λ k ne. find-set_other k b.lines i l m at n ne;
       mine = λ t mine es k calm. absurd (rises calm);
       view = λ t mine es k calm. absurd (rises calm.unbound);
     }
@@ -123,10 +136,12 @@ fed-bound b i u l m piece w H ts r at g n e turn honest loud =
     let q : IsBound u m.session = bound-same u l.session m.session p same in
     let new = changed b i m ts b.unbound_refusals in
     let lines : set b.lines i m ≡ each (on l.number (λ z. m.session)) b.lines = set-on 0 b.last (λ z. m.session) b.lines i l m s.rising at n refl in
+    let going = called-going b i u l m H ts s at p n same turn in
     record {
-      within = changed-within b i l m ts b.unbound_refusals s (still-settled l.number b r.settled) at n (turn-length u H b.tenants ts turn) (range-same (length b.tenants) l.session.stage m.session.stage same (all-at _ b.lines i l at s.in_range))
-          (turn-grows b u H ts turn (set b.lines i m))
-          (bound-stays u l m p q) (λ t ne. turn.counts t (λ h. ne (ap whose q.is ∙ ap Some (sym h)))) (λ t f. refl);
+      going = going;
+      still = fed-still b i l m ts b.unbound_refusals r.settled n going;
+      counted = counted-tenant (Of l.number) b new u (tenant-later (Of l.number) b new u going (scope-tenant (Of l.number) b i u l s at (inl refl) (ap whose g))) (λ t ne. turn.counts t ne) refl;
+      others = λ k ne. find-set_other k b.lines i l m at n ne;
       mine = λ t mine es k calm. record { now = comes-set b.setup t 0 b.last mine piece es b.lines i l m s.rising at n (comes-bound b.setup t u mine piece es l m p q n) k.now; later = k.later };
       view = λ t mine es k calm. each-tenant (λ v. Mine v mine (Comes l.number piece ∷ es) b → IsCalm (count b.tenants v) (count ts v) → turns (view_of v mine new) ≡ stepped (mine l.number) (Comes l.number piece) (view_of v mine b)) u t (eqb u t) refl
           (λ k' c'. absurd (loud c'))
@@ -141,19 +156,20 @@ fed-bound b i u l m piece w H ts r at g n e turn honest loud =
 
 -- 3. The end of the event
 
-pub ready-turned : (n : ℕ) (a c : BrokerState) → IsWithin n a c → first_able c.lines ≡ None → IsReady c
-ready-turned n a c w e = record { sound = w.sound; settled = e }
+pub ready-turned : (a c : BrokerState) → IsGoing a c → first_able c.lines ≡ None → IsReady c
+ready-turned a c w e = record { sound = w.sound; settled = e }
 
 -- a piece that was taken, and then turns until none is left
-pub step-comes : (n : ℕ) (piece : List ℕ) (a b c : BrokerState) → IsFed n piece a b → Turned n b c → first_able c.lines ≡ None → (IsUntaken n piece a → ⊥) → IsStep (Comes n piece) a c
+pub step-comes : (n : ℕ) (piece : List ℕ) (a b c : BrokerState) → IsFed n piece a b → Turned (Of n) b c → first_able c.lines ≡ None → (IsUntaken n piece a → ⊥) → IsStep (Comes n piece) a c
 step-comes n piece a b c f t none taken =
-    let g = f.within.grows in
-    let h = t.within.grows in
-    let w = within-then n a b c f.within t.within in
+    let g = f.going.grows in
+    let h = t.going.grows in
+    let w = going-then a b c f.going t.going in
+    let counts = counted-then (Of n) a b c f.going t.going f.counted t.counted in
     record {
       last = let e = w.last in omega (arith, e);
       grows = w.grows;
-      counted = record { own = w.own; unbound = w.unbound; none = λ u. absurd (taken u) };
+      counted = record { own = counts.0; unbound = counts.1; none = λ u. absurd (taken u) };
       mine = λ u mine es m calm. t.mine u mine es
           (f.mine u mine es m (calm-left a.unbound_refusals b.unbound_refusals c.unbound_refusals g.unbound h.unbound calm))
           (calm-right a.unbound_refusals b.unbound_refusals c.unbound_refusals g.unbound h.unbound calm);

@@ -92,11 +92,11 @@ greeted_by-le setup h id (Authenticate m) s = authenticated-le setup h id m s
 greeted_by-le setup h id (Another k v b) s = omega arith
 greeted_by-le setup h id Unread s = omega arith
 
-answered-le : (r : Reaction) (id : ℤ) (s : Session) → length (answered r id s).unread ≤ length s.unread
-answered-le (Replies body) id s = replied-le id body s
-answered-le (Waits deadline places) id s = omega arith
-answered-le Silent id s = omega arith
-answered-le Shuts id s = omega arith
+answered-le : (r : Reaction) (id : ℤ) (body : List ℕ) (s : Session) → length (answered r id body s).unread ≤ length s.unread
+answered-le (Replies reply) id body s = replied-le id reply s
+answered-le (Waits deadline places) id body s = omega arith
+answered-le Silent id body s = omega arith
+answered-le Shuts id body s = omega arith
 
 pub served_by-le : (setup : Setup) (kept : Kept) (clock : ℕ) (id : ℤ) (a : Asked) (s : Session) → length (served_by setup kept clock id a s).unread ≤ length s.unread
 unfolding served_by
@@ -104,7 +104,7 @@ served_by-le setup kept clock id Versions s = replied-le id _ s
 served_by-le setup kept clock id OtherVersions s = replied-le id _ s
 served_by-le setup kept clock id (Handshake m) s = replied-le id _ s
 served_by-le setup kept clock id (Authenticate m) s = replied-le id _ s
-served_by-le setup kept clock id (Another k v b) s = answered-le (answer setup.node kept clock k b) id s
+served_by-le setup kept clock id (Another k v b) s = answered-le (answer setup.node kept clock k b) id b s
 served_by-le setup kept clock id Unread s = omega arith
 
 greeted_at-less : (setup : Setup) (h : Bool) (s : Session) (f : Front) → front s.unread ≡ f → is_turn f ≡ true → length (greeted_at setup h s f).unread < length s.unread
@@ -199,15 +199,17 @@ work-on n f t (k ∷ ls) l h e =
     let les = work-on_le n f t ls in
     grind (arith, nat_tests, rest, here, le, les)
 
-told-le : (o : Option (ℤ × List ℕ)) (s : Session) → length (told o s).unread ≤ length s.unread
-told-le None s = omega arith
-told-le (Some r) s = replied-le r.0 r.1 _
+told-le : (r : Reaction) (id : ℤ) (s : Session) → length (told r id s).unread ≤ length s.unread
+told-le (Replies reply) id s = replied-le id reply _
+told-le (Waits deadline places) id s = omega arith
+told-le Silent id s = omega arith
+told-le Shuts id s = omega arith
 
 woken_by-le : (kept : Kept) (clock : ℕ) (s : Session) (st : Stage) → length (woken_by kept clock s st).unread ≤ length s.unread
 unfolding woken_by
 woken_by-le kept clock s (Greets h) = omega arith
 woken_by-le kept clock s (BoundTo u None) = omega arith
-woken_by-le kept clock s (BoundTo u (Some w)) = told-le (ready kept clock w) s
+woken_by-le kept clock s (BoundTo u (Some w)) = told-le (ready kept clock w) w.correlation_id s
 
 pub work-woken : (kept : Kept) (clock : ℕ) (ls : List Line) → work (each (λ k s. woken kept clock s) ls) ≤ work ls
 work-woken kept clock [] = omega arith

@@ -9,4 +9,5 @@ pub mod Sets
 pub mod Steps
 pub mod Taken
 pub mod Turns
+pub mod Wakes
 pub mod Pinned

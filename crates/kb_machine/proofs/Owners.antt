@@ -7,10 +7,10 @@ use Rattle.kb_api_group.specs.Frames.{Front, Whole, Partial, TooSmall, TooLarge,
 use Rattle.kb_machine.specs.Requests.{Asked, Versions, OtherVersions, Handshake, Authenticate, Another, Unread, request}
 use Rattle.kb_tenant.specs.Hosted.{Kept}
 use Rattle.kb_tenant.specs.Replies.{Reaction, Replies, Waits, Silent, Shuts, framed, reply_size}
-use Rattle.kb_machine.specs.Tenant.{Wait, answer}
-use Rattle.kb_machine.specs.Session.{Stage, Greets, BoundTo, Session, fed, shut_down, without_wait, can, is_turn, room, replied}
+use Rattle.kb_machine.specs.Tenant.{Wait, answer, ready}
+use Rattle.kb_machine.specs.Session.{Stage, Greets, BoundTo, Session, fed, shut_down, without_wait, waiting, can, is_turn, room, replied}
 use Rattle.kb_machine.specs.Greeting.{Setup, greeted}
-use Rattle.kb_machine.specs.Machine.{Happening, Opens, Comes, Closes, Moment, Line, World, answered, served_by, served_at, served, put, each, on, those, first_able, all_woken, turn_at, turn, turns, again, woken, woken_by}
+use Rattle.kb_machine.specs.Machine.{Happening, Opens, Comes, Closes, Moment, Line, World, answered, told, served_by, served_at, served, put, each, on, those, first_able, all_woken, turn_at, turn, turns, again, woken, woken_by}
 use Rattle.kb_machine.specs.Owners.{greet_turn, greet_turn_at, heard, destiny, is_for, whose, Fits, Owns, Keeps, Pairwise}
 use Rattle.kb_machine.proofs.Laws.{those-each, first-those, turn-some, turns-turn, greeted-less, greeted-still}
 
@@ -113,11 +113,15 @@ stage-replied id body s = by (nat_lt 2147483647 (reply_size body)) (s.output ++ 
     by true bytes = stage-shut s
     by false bytes = refl
 
-pub stage-answered : (r : Reaction) (id : ℤ) (s : Session) → without_wait (answered r id s).stage ≡ without_wait s.stage
-stage-answered (Replies body) id s = stage-replied id body s
-stage-answered (Waits deadline places) id s = refl
-stage-answered Silent id s = refl
-stage-answered Shuts id s = stage-shut s
+stage-waiting : (wait : Wait) (st : Stage) → without_wait (waiting wait st) ≡ without_wait st
+stage-waiting wait (Greets h) = refl
+stage-waiting wait (BoundTo u w) = refl
+
+pub stage-answered : (r : Reaction) (id : ℤ) (body : List ℕ) (s : Session) → without_wait (answered r id body s).stage ≡ without_wait s.stage
+stage-answered (Replies reply) id body s = stage-replied id reply s
+stage-answered (Waits deadline places) id body s = stage-waiting (record { correlation_id = id; body = body; deadline = deadline }) s.stage
+stage-answered Silent id body s = refl
+stage-answered Shuts id body s = stage-shut s
 
 stage-served_by : (setup : Setup) (kept : Kept) (clock : ℕ) (id : ℤ) (a : Asked) (s : Session) → without_wait (served_by setup kept clock id a s).stage ≡ without_wait s.stage
 unfolding served_by
@@ -125,7 +129,7 @@ stage-served_by setup kept clock id Versions s = stage-replied id _ s
 stage-served_by setup kept clock id OtherVersions s = stage-replied id _ s
 stage-served_by setup kept clock id (Handshake m) s = stage-replied id _ s
 stage-served_by setup kept clock id (Authenticate m) s = stage-replied id _ s
-stage-served_by setup kept clock id (Another k v b) s = stage-answered (answer setup.node kept clock k b) id s
+stage-served_by setup kept clock id (Another k v b) s = stage-answered (answer setup.node kept clock k b) id b s
 stage-served_by setup kept clock id Unread s = stage-shut s
 
 -- a bound connection's turn leaves it bound
@@ -138,6 +142,22 @@ stage-served setup kept clock s = by (front s.unread)
     by TooSmall = stage-shut s
     by TooLarge = stage-shut s
     by Partial = refl
+
+stage-told : (r : Reaction) (id : ℤ) (s : Session) → without_wait (told r id s).stage ≡ without_wait s.stage
+stage-told (Replies reply) id s = stage-replied id reply (record s { stage = without_wait s.stage }) ∙ without-twice s.stage
+stage-told (Waits deadline places) id s = refl
+stage-told Silent id s = refl
+stage-told Shuts id s = stage-shut s
+
+-- a look at a connection leaves it bound
+pub stage-woken : (kept : Kept) (clock : ℕ) (s : Session) → without_wait (woken kept clock s).stage ≡ without_wait s.stage
+unfolding woken_by
+stage-woken kept clock s = by s.stage
+  where
+    by : (st : Stage) → without_wait (woken_by kept clock s st).stage ≡ without_wait s.stage
+    by (Greets h) = refl
+    by (BoundTo u None) = refl
+    by (BoundTo u (Some w)) = stage-told (ready kept clock w) w.correlation_id s
 
 pub destiny-bound : (setup : Setup) (n : ℕ) (s : Session) (es : List Happening) (u : ℕ) → IsBound u s → destiny setup n s es ≡ Some u
 destiny-bound setup n s [] u b = ap whose b.is
@@ -244,21 +264,3 @@ view-served mine w all l t wait f g e m =
     let lines : those mine (each (on l.number (served w.setup w.kept w.clock)) all) ≡ each (on l.number (served w.setup w.kept w.clock)) w.lines = those-each mine (on l.number (served w.setup w.kept w.clock)) all ∙ ap (each (on l.number (served w.setup w.kept w.clock))) (sym e) in
     let taken : turn w ≡ turn_at w l.number l.session.unread (BoundTo t wait) = turn-some w l able ∙ ap (turn_at w l.number l.session.unread) g in
     ap (λ ls. turns (all_woken (record w { kept = put w.setup w.kept w.clock l.session.unread; lines = ls }))) lines ∙ (ap turns (sym taken) ∙ turns-turn w)
-
--- 7. So far nothing waits
-
-pub woken-none : (kept : Kept) (clock : ℕ) (s : Session) → woken kept clock s ≡ s
-unfolding woken_by
-woken-none kept clock s = by s.stage
-  where
-    by : (st : Stage) → woken_by kept clock s st ≡ s
-    by (Greets h) = refl
-    by (BoundTo u None) = refl
-    by (BoundTo u (Some w)) = elim w [ ]
-
-each-none : (kept : Kept) (clock : ℕ) (ls : List Line) → each (λ k s. woken kept clock s) ls ≡ ls
-each-none kept clock [] = refl
-each-none kept clock (l ∷ ls) = let here = woken-none kept clock l.session in let rest = each-none kept clock ls in grind (arith, here, rest)
-
-pub all_woken-none : (w : World) → all_woken w ≡ w
-all_woken-none w = ap (λ ls. record w { lines = ls }) (each-none w.kept w.clock w.lines)

@@ -1,13 +1,12 @@
 -- A change of one connection in the list.
 use Rattle.std.proofs.Common.{◌≡◌, ◌≢◌, ℕ, zero, suc, ◌+◌, ◌<◌, ◌≤◌, List, [], ◌∷◌, ◌++◌, length, get_or, set, Bool, true, false, Some, None, refl, sym, ◌∙◌, ap, arith, subst}
-use Rattle.std.specs.Prelude.{cond}
+use Rattle.std.specs.Prelude.{cond, map}
 use Rattle.std.specs.List.{AllByRecursion}
 use Rattle.std.proofs.lemmas.Bool.Decides.{nat_tests}
 use Rattle.kb_machine.specs.Session.{Session, can}
 use Rattle.kb_machine.specs.Machine.{Line, each, on, those, work, first_able}
 use Rattle.kb_machine.specs.Owners.{Pairwise, find_line}
 use Rattle.kb_machine.specs.Broker.{Rising}
-use Rattle.kb_machine.specs.Turned.{IsStill}
 use Rattle.kb_machine.proofs.Owners.{same_line, pairwise-same}
 
 -- the connection at a place
@@ -93,6 +92,12 @@ set-on low last f (k ∷ ls) (suc i) l m r a e g =
     let lt : k.number < l.number = rising-above k.number last ls i l r.1 (tail-at k ls i l a) in
     grind (arith, nat_tests, rest, lt)
 
+-- numbers stay
+pub numbers-set : (ls : List Line) (i : ℕ) (l m : Line) → IsAt ls i l → m.number ≡ l.number → map (λ (x : Line). x.number) (set ls i m) ≡ map (λ (x : Line). x.number) ls
+numbers-set [] i l m a e = no-at i l a
+numbers-set (k ∷ ls) zero l m a e = ap (λ n. n ∷ map (λ (x : Line). x.number) ls) (e ∙ ap (λ (x : Line). x.number) a.here)
+numbers-set (k ∷ ls) (suc i) l m a e = ap (λ ns. k.number ∷ ns) (numbers-set ls i l m (tail-at k ls i l a) e)
+
 -- 2. What holds of each connection
 
 pub all-set : (P : Line → Type 0) (ls : List Line) (i : ℕ) (m : Line) → AllByRecursion P ls → P m → AllByRecursion P (set ls i m)
@@ -148,8 +153,12 @@ pub none-able : (ls : List Line) → AllByRecursion (λ l. can l.session ≡ fal
 none-able [] h = refl
 none-able (l ∷ ls) h = let here = h.0 in let rest = none-able ls h.1 in grind (arith, here, rest)
 
+-- another connection than that cannot take a turn
+abbrev pub IsIdle : ℕ → Line → Type 0
+IsIdle n l = l.number ≢ n → can l.session ≡ false
+
 -- where no other can, the one that can is the first
-pub first-still : (low last : ℕ) (ls : List Line) (i : ℕ) (l : Line) → Rising low last ls → IsAt ls i l → AllByRecursion (IsStill l.number) ls → can l.session ≡ true → first_able ls ≡ Some l
+pub first-still : (low last : ℕ) (ls : List Line) (i : ℕ) (l : Line) → Rising low last ls → IsAt ls i l → AllByRecursion (IsIdle l.number) ls → can l.session ≡ true → first_able ls ≡ Some l
 first-still low last [] i l r a s c = no-at i l a
 first-still low last (k ∷ ls) zero l r a s c = let e = a.here in grind (arith, e, c)
 first-still low last (k ∷ ls) (suc i) l r a s c =
@@ -158,7 +167,7 @@ first-still low last (k ∷ ls) (suc i) l r a s c =
     let rest = first-still k.number last ls i l r.1 (tail-at k ls i l a) s.1 c in
     grind (arith, no, rest)
 
-pub still-none : (low last : ℕ) (ls : List Line) (i : ℕ) (l : Line) → Rising low last ls → IsAt ls i l → AllByRecursion (IsStill l.number) ls → can l.session ≡ false → first_able ls ≡ None
+pub still-none : (low last : ℕ) (ls : List Line) (i : ℕ) (l : Line) → Rising low last ls → IsAt ls i l → AllByRecursion (IsIdle l.number) ls → can l.session ≡ false → first_able ls ≡ None
 still-none low last [] i l r a s c = no-at i l a
 still-none low last (k ∷ ls) zero l r a s c =
     let e : can k.session ≡ false = ap (λ (x : Line). can x.session) (sym a.here) ∙ c in
@@ -166,7 +175,7 @@ still-none low last (k ∷ ls) zero l r a s c =
     let rest = none-able ls (still-above k.number last l.number ls r.1 (omega arith) s.1) in
     grind (arith, e, rest)
   where
-    still-above : (low last n : ℕ) (ls : List Line) → Rising low last ls → n ≤ low → AllByRecursion (IsStill n) ls → AllByRecursion (λ l. can l.session ≡ false) ls
+    still-above : (low last n : ℕ) (ls : List Line) → Rising low last ls → n ≤ low → AllByRecursion (IsIdle n) ls → AllByRecursion (λ l. can l.session ≡ false) ls
     still-above low last n [] r h s = tt
     still-above low last n (l ∷ ls) r h s = (let lt = r.0 in s.0 (omega arith), still-above l.number last n ls r.1 (let lt = r.0 in omega arith) s.1)
 still-none low last (k ∷ ls) (suc i) l r a s c =

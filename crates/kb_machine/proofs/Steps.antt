@@ -10,12 +10,16 @@ use Rattle.kb_tenant.specs.Hosted.{Kept}
 use Rattle.kb_machine.specs.Tenant.{retained}
 use Rattle.kb_machine.specs.Session.{fresh, can}
 use Rattle.kb_machine.specs.Greeting.{Setup}
-use Rattle.kb_machine.specs.Machine.{Happening, Opens, Closes, Moment, Line, World, those, first_able, turns, stepped}
+use Rattle.kb_machine.specs.Machine.{Happening, Opens, Closes, Moment, Line, World, those, first_able, all_woken, turns, stepped}
 use Rattle.kb_machine.specs.Owners.{Owns, Fits, find_line, whose, heard, destiny, unborn}
-use Rattle.kb_machine.specs.Broker.{BrokerState, IsReady, IsStep, Rising, view_of}
+use Rattle.kb_machine.specs.Broker.{BrokerState, IsSound, IsReady, IsStep, Rising, Mine, view_of}
 use Rattle.kb_machine.specs.Calls.{opened, closed, moved, other_than}
 use Rattle.kb_machine.proofs.Laws.{none-those, turns-none}
-use Rattle.kb_machine.proofs.Owners.{IsMine, heard-still, all_woken-none}
+use Rattle.kb_machine.specs.Turned.{Everybody, Turned, Waked, IsSettled}
+use Rattle.kb_machine.proofs.Owners.{IsMine, heard-still}
+use Rattle.kb_machine.proofs.Parts.{calm-right, calm-first, calm-then}
+use Rattle.kb_machine.proofs.Turns.{going-then}
+use Rattle.kb_machine.proofs.Wakes.{settled-view}
 use Rattle.kb_machine.proofs.Sets.{IsAt, all-those, all-push, rising-above, tail-at, no-at}
 
 -- where no connection can take a turn, turns are nothing
@@ -194,22 +198,35 @@ find-other k n (l ∷ ls) ne = let rest = find-other k n ls ne in grind (arith, 
 
 -- 3. A moment
 
-pub ready-moved : (b : BrokerState) (now : ℕ) → IsReady b → max b.clock now ≤ 2 ^ 62 → IsReady (moved b now)
-ready-moved b now r le = record { sound = record { rising = r.sound.rising; in_range = r.sound.in_range; users = r.sound.users; clock = le }; settled = r.settled }
+-- the clock moves first
+pub sound-moved : (b : BrokerState) (now : ℕ) → IsSound b → max b.clock now ≤ 2 ^ 62 → IsSound (moved b now)
+sound-moved b now s le = record { rising = s.rising; in_range = s.in_range; users = s.users; clock = le }
 
 -- so far nothing is dropped
 retained-same : (clock : ℕ) (kept : Kept) → retained clock kept ≡ kept
 unfolding retained
 retained-same clock kept = refl
 
-pub step-moved : (b : BrokerState) (now : ℕ) → IsReady b → IsStep (Moment now) b (moved b now)
-step-moved b now r = record {
-  last = omega arith;
-  grows = record { setup = refl; names = refl; own = λ t. omega arith; unbound = omega arith };
-  counted = refl;
-  mine = λ t mine es m q. record { now = m.now; later = m.later };
-  view = λ t mine es m q.
-      let v = view_of t mine (moved b now) in
-      let w = record v { kept = retained (max b.clock now) v.kept } in
-      sym (ap turns (all_woken-none w) ∙ (turns-none w (none-those mine b.lines r.settled) ∙ ap (λ k. record v { kept = k }) (retained-same (max b.clock now) v.kept)));
-}
+-- then all waiting fetches are looked at, and then there are turns until none is left
+pub step-moment : (now : ℕ) (a b c : BrokerState) → IsReady a → Waked None (moved a now) b → AllByRecursion (IsSettled None (moved a now) b) b.lines → Turned Everybody b c → first_able c.lines ≡ None → IsStep (Moment now) a c
+step-moment now a b c r q settled t none =
+    let start = moved a now in
+    let g = q.going.grows in
+    let h = t.going.grows in
+    let w = going-then start b c q.going t.going in
+    record {
+      last = let e = w.last in omega (arith, e);
+      grows = record { setup = w.grows.setup; names = w.grows.names; own = w.grows.own; unbound = w.grows.unbound };
+      counted = t.counted ∙ q.unbound;
+      mine = λ u mine es m calm. t.mine u mine es (q.mine u mine es (record { now = m.now; later = m.later })) (calm-right a.unbound_refusals b.unbound_refusals c.unbound_refusals g.unbound h.unbound calm);
+      view = λ u mine es m calm.
+          let first = calm-first u start b c g h (record { own = calm.own; unbound = calm.unbound }) in
+          let then = calm-then u start b c g h (record { own = calm.own; unbound = calm.unbound }) in
+          let at : Mine u mine es start = record { now = m.now; later = m.later } in
+          let mb = q.mine u mine es at in
+          let v = view_of u mine start in
+          sym (settled-turns u mine c none)
+          ∙ (t.view u mine es mb then
+          ∙ (ap turns (sym (settled-view None start b u mine es settled mb tt first.own) ∙ q.view u mine es at first.own)
+          ∙ ap (λ k. turns (all_woken (record v { kept = k }))) (sym (retained-same (max a.clock now) v.kept))));
+    }

@@ -1,52 +1,66 @@
--- The turns of one connection.
-use Rattle.std.proofs.Common.{◌≡◌, ◌≢◌, ◌≤◌, ℕ, List, length, set, eqb, Bool, true, false, Option, Some, None, refl, sym, ◌∙◌, ap, subst, arith}
-use Rattle.std.specs.List.{AllByRecursion}
+-- The turns of connections.
+use Rattle.std.proofs.Common.{◌≡◌, ◌≢◌, ◌≤◌, ℕ, List, length, set, eqb, Bool, true, false, Option, Some, None, refl, sym, ◌∙◌, ap, subst, arith, inl, inr}
 use Rattle.std.proofs.lemmas.Bool.Decides.{nat_tests}
 use Rattle.kb_world.specs.Steps.{IsCalm}
 use Rattle.kb_tenant.specs.Hosted as hosted
 use Rattle.kb_tenant.specs.Hosted.{TenantState, IsTurn}
 use Rattle.kb_machine.specs.Tenant.{Wait}
-use Rattle.kb_machine.specs.Session.{Greets, BoundTo, shut_down, without_wait}
+use Rattle.kb_machine.specs.Session.{Session, Greets, BoundTo, shut_down, without_wait, can}
 use Rattle.kb_machine.specs.Greeting.{greeted}
-use Rattle.kb_machine.specs.Machine.{Happening, Line, served, put, each, on, those, first_able, turns}
+use Rattle.kb_machine.specs.Machine.{Happening, Line, served, put, each, on, those, first_able, all_woken, turns}
 use Rattle.kb_machine.specs.Owners.{Owns, find_line, whose}
-use Rattle.kb_machine.specs.Broker.{BrokerState, IsSound, Grows, InRange, Mine, view_of, kept_of, bound_to, bound_as}
-use Rattle.kb_machine.specs.Calls.{is_open, open_in}
-use Rattle.kb_machine.specs.Turned.{IsStill, IsWithin, Turned}
-use Rattle.kb_machine.proofs.Owners.{IsBound, IsMine, SameFate, fate-same, fate-greeted, fate-bound, mine-bound, bound-same, owns-fates, those-on_other, view-greeting, view-served, all_woken-none}
+use Rattle.kb_machine.specs.Broker.{BrokerState, IsSound, Grows, InRange, Mine, view_of, kept_of, refusals_of, bound_to, bound_as}
+use Rattle.kb_machine.specs.Turned.{Scope, Of, Everybody, HasTenant, InScope, IsStill, AreStill, IsCountedIn, IsGoing, is_resting, AreUntouched, Turned, Served}
+use Rattle.kb_machine.proofs.Owners.{IsBound, IsMine, SameFate, fate-same, fate-greeted, fate-bound, mine-bound, bound-same, owns-fates, those-on_other, view-greeting, view-served}
 use Rattle.kb_machine.proofs.Ranges.{range-greeted, range-same, range-without}
-use Rattle.kb_machine.proofs.Sets.{IsAt, all-at, all-set, pairwise-set, rising-set, set-on, set-at, find-at, find-set_other}
-use Rattle.kb_machine.proofs.Parts.{count, turn-length, turn-grows, each-tenant, calm-left, calm-right, grows-same, grows-then, calm-first, calm-then}
+use Rattle.kb_machine.proofs.Sets.{IsAt, all-at, all-map, all-set, pairwise-set, rising-set, numbers-set, set-on, set-at, find-at, find-set_other}
+use Rattle.kb_machine.proofs.Parts.{count, turn-length, turn-grows, eqb_same, calm-left, calm-right, grows-same, grows-then, calm-first, calm-then}
 
--- 1. Turns, one after another
+-- 1. From one moment within an event to a later one
 
-pub turned-same : (n : ℕ) (b : BrokerState) → IsSound b → AllByRecursion (IsStill n) b.lines → Turned n b b
-turned-same n b s h = record {
-  within = record { sound = s; still = h; grows = grows-same b; clock = refl; last = refl; others = λ k ne. refl; stays = refl; bound = λ t e. e; own = λ t ne. refl; unbound = λ t e. refl };
+pub going-same : (b : BrokerState) → IsSound b → IsGoing b b
+going-same b s = record { sound = s; grows = grows-same b; clock = refl; last = refl; numbers = refl; bound = λ k t e. e }
+
+pub going-then : (a b c : BrokerState) → IsGoing a b → IsGoing b c → IsGoing a c
+going-then a b c p q = record {
+  sound = q.sound;
+  grows = grows-then a b c p.grows q.grows;
+  clock = q.clock ∙ p.clock;
+  last = q.last ∙ p.last;
+  numbers = q.numbers ∙ p.numbers;
+  bound = λ k t e. q.bound k t (p.bound k t e);
+}
+
+pub counted-same : (scope : Scope) (a b : BrokerState) → ((t : ℕ) → refusals_of b t ≡ refusals_of a t) → b.unbound_refusals ≡ a.unbound_refusals → IsCountedIn scope a b
+counted-same (Of n) a b own unbound = (λ t ne. own t, λ t e. unbound)
+counted-same Everybody a b own unbound = unbound
+
+pub counted-then : (scope : Scope) (a b c : BrokerState) → IsGoing a b → IsGoing b c → IsCountedIn scope a b → IsCountedIn scope b c → IsCountedIn scope a c
+counted-then (Of n) a b c g h p q = (λ t ne. q.0 t ne ∙ p.0 t (λ e. ne (h.bound n t e)), λ t e. q.1 t (g.bound n t e) ∙ p.1 t e)
+counted-then Everybody a b c g h p q = q ∙ p
+
+pub untouched-then : (a b c : BrokerState) → AreUntouched a b → AreUntouched b c → AreUntouched a c
+untouched-then a b c p q = λ k e. let same = p k e in q k (ap is_resting same ∙ e) ∙ same
+
+pub turned-same : (scope : Scope) (b : BrokerState) → IsSound b → AreStill scope b → Turned scope b b
+turned-same scope b s h = record {
+  going = going-same b s;
+  still = h;
+  counted = counted-same scope b b (λ t. refl) refl;
+  untouched = λ k e. refl;
   mine = λ t mine es m q. m;
   view = λ t mine es m q. refl;
 }
 
-pub within-then : (n : ℕ) (a b c : BrokerState) → IsWithin n a b → IsWithin n b c → IsWithin n a c
-within-then n a b c p q = record {
-  sound = q.sound;
-  still = q.still;
-  grows = grows-then a b c p.grows q.grows;
-  clock = q.clock ∙ p.clock;
-  last = q.last ∙ p.last;
-  others = λ k ne. q.others k ne ∙ p.others k ne;
-  stays = q.stays ∙ p.stays;
-  bound = λ t e. q.bound t (p.bound t e);
-  own = λ t ne. q.own t ne ∙ p.own t (λ e. ne (q.bound t e));
-  unbound = λ t e. q.unbound t (p.bound t e) ∙ p.unbound t e;
-}
-
-pub turned-then : (n : ℕ) (a b c : BrokerState) → Turned n a b → Turned n b c → Turned n a c
-turned-then n a b c p q =
-    let g = p.within.grows in
-    let h = q.within.grows in
+pub turned-then : (scope : Scope) (a b c : BrokerState) → Turned scope a b → Turned scope b c → Turned scope a c
+turned-then scope a b c p q =
+    let g = p.going.grows in
+    let h = q.going.grows in
     record {
-      within = within-then n a b c p.within q.within;
+      going = going-then a b c p.going q.going;
+      still = q.still;
+      counted = counted-then scope a b c p.going q.going p.counted q.counted;
+      untouched = untouched-then a b c p.untouched q.untouched;
       mine = λ t mine es m calm. q.mine t mine es
           (p.mine t mine es m (calm-left a.unbound_refusals b.unbound_refusals c.unbound_refusals g.unbound h.unbound calm))
           (calm-right a.unbound_refusals b.unbound_refusals c.unbound_refusals g.unbound h.unbound calm);
@@ -55,50 +69,119 @@ turned-then n a b c p q =
           q.view t mine es (p.mine t mine es m left.unbound) (calm-then t a b c g h calm) ∙ p.view t mine es m left;
     }
 
--- 2. One turn
+-- 2. Another connection at a place
 
 -- the broker with another connection at a place, other counts and other tenants
 abbrev pub changed : BrokerState → ℕ → Line → List TenantState → ℕ → BrokerState
 changed b i m ps x = record b { lines = set b.lines i m; tenants = ps; unbound_refusals = x }
 
--- what does not depend on what the turn is
-pub changed-within : (b : BrokerState) (i : ℕ) (l m : Line) (ps : List TenantState) (x : ℕ) → IsSound b → AllByRecursion (IsStill l.number) b.lines → IsAt b.lines i l → m.number ≡ l.number →
-    length ps ≡ length b.tenants → InRange (length b.tenants) m.session.stage → Grows b (changed b i m ps x) →
-    ((t : ℕ) → whose l.session.stage ≡ Some t → whose m.session.stage ≡ Some t) →
-    ((t : ℕ) → whose m.session.stage ≢ Some t → count ps t ≡ count b.tenants t) →
-    ((t : ℕ) → whose l.session.stage ≡ Some t → x ≡ b.unbound_refusals) →
-    IsWithin l.number b (changed b i m ps x)
-changed-within b i l m ps x s h at n len r g stays own unbound =
-    let found : find_line l.number b.lines ≡ Some l.session = find-at 0 b.last b.lines i l s.rising at in
-    let before : bound_to l.number b ≡ whose l.session.stage = ap bound_as found in
-    let rising = rising-set 0 b.last b.lines i l m s.rising at n in
-    let kept : find_line l.number (set b.lines i m) ≡ Some m.session = ap (λ k. find_line k (set b.lines i m)) (sym n) ∙ find-at 0 b.last (set b.lines i m) i m rising (set-at b.lines i l m at) in
-    let after : bound_to l.number (changed b i m ps x) ≡ whose m.session.stage = ap bound_as kept in
-    let open-after : is_open l.number (changed b i m ps x) ≡ true = ap open_in kept in
-    record {
-      sound = record { rising = rising; in_range = rw len (all-set _ b.lines i m s.in_range r); users = rw len s.users; clock = s.clock };
-      still = all-set (IsStill l.number) b.lines i m h (λ ne. absurd (ne n));
-      grows = g;
-      clock = refl;
-      last = refl;
-      others = λ k ne. find-set_other k b.lines i l m at n ne;
-      stays = open-after ∙ sym (ap open_in found);
-      bound = λ t e. after ∙ stays t (sym before ∙ e);
-      own = λ t ne. own t (λ e. ne (after ∙ e));
-      unbound = λ t e. unbound t (sym before ∙ e);
-    }
+-- the connection at a place, by its number
+found-at : (b : BrokerState) (i : ℕ) (l : Line) → IsSound b → IsAt b.lines i l → find_line l.number b.lines ≡ Some l.session
+found-at b i l s at = find-at 0 b.last b.lines i l s.rising at
+
+found-set : (b : BrokerState) (i : ℕ) (l m : Line) → IsSound b → IsAt b.lines i l → m.number ≡ l.number → find_line l.number (set b.lines i m) ≡ Some m.session
+found-set b i l m s at n = ap (λ k. find_line k (set b.lines i m)) (sym n) ∙ find-at 0 b.last (set b.lines i m) i m (rising-set 0 b.last b.lines i l m s.rising at n) (set-at b.lines i l m at)
+
+bound-set_by : (b : BrokerState) (i : ℕ) (l m : Line) (yes : Bool) (k t : ℕ) → eqb k l.number ≡ yes → IsSound b → IsAt b.lines i l → m.number ≡ l.number → ((t : ℕ) → whose l.session.stage ≡ Some t → whose m.session.stage ≡ Some t)
+    → bound_to k b ≡ Some t → bound_as (find_line k (set b.lines i m)) ≡ Some t
+bound-set_by b i l m true k t f s at n stays e =
+    let is : k ≡ l.number = eqb_same k l.number f in
+    let before : whose l.session.stage ≡ Some t = sym (ap bound_as (found-at b i l s at)) ∙ (ap (λ j. bound_to j b) (sym is) ∙ e) in
+    ap (λ j. bound_as (find_line j (set b.lines i m))) is ∙ (ap bound_as (found-set b i l m s at n) ∙ stays t before)
+bound-set_by b i l m false k t f s at n stays e =
+    let ne : k ≢ l.number = λ g. (let h : eqb k l.number ≡ true = grind (arith, nat_tests) in cc) in
+    ap bound_as (find-set_other k b.lines i l m at n ne) ∙ e
+
+-- what does not depend on what happened to the connection
+pub changed-going : (b : BrokerState) (i : ℕ) (l m : Line) (ps : List TenantState) (x : ℕ) → IsSound b → IsAt b.lines i l → m.number ≡ l.number → length ps ≡ length b.tenants → InRange (length b.tenants) m.session.stage → Grows b (changed b i m ps x) →
+    ((t : ℕ) → whose l.session.stage ≡ Some t → whose m.session.stage ≡ Some t) → IsGoing b (changed b i m ps x)
+changed-going b i l m ps x s at n len r g stays = record {
+  sound = record { rising = rising-set 0 b.last b.lines i l m s.rising at n; in_range = rw len (all-set _ b.lines i m s.in_range r); users = rw len s.users; clock = s.clock };
+  grows = g;
+  clock = refl;
+  last = refl;
+  numbers = numbers-set b.lines i l m at n;
+  bound = λ k t e. bound-set_by b i l m (eqb k l.number) k t refl s at n stays e;
+}
+
+-- a connection that did not rest
+changed-untouched_by : (b : BrokerState) (i : ℕ) (l m : Line) (yes : Bool) (k : ℕ) → eqb k l.number ≡ yes → IsSound b → IsAt b.lines i l → m.number ≡ l.number → is_resting (Some l.session) ≡ false
+    → is_resting (find_line k b.lines) ≡ true → find_line k (set b.lines i m) ≡ find_line k b.lines
+changed-untouched_by b i l m true k f s at n busy e =
+    let is : k ≡ l.number = eqb_same k l.number f in
+    let rests : is_resting (Some l.session) ≡ true = ap is_resting (sym (found-at b i l s at)) ∙ (ap (λ j. is_resting (find_line j b.lines)) (sym is) ∙ e) in
+    let no : false ≡ true = sym busy ∙ rests in
+    absurd (cc)
+changed-untouched_by b i l m false k f s at n busy e = find-set_other k b.lines i l m at n (λ g. (let h : eqb k l.number ≡ true = grind (arith, nat_tests) in cc))
+
+pub changed-untouched : (b : BrokerState) (i : ℕ) (l m : Line) (ps : List TenantState) (x : ℕ) → IsSound b → IsAt b.lines i l → m.number ≡ l.number → is_resting (Some l.session) ≡ false → AreUntouched b (changed b i m ps x)
+changed-untouched b i l m ps x s at n busy = λ k e. changed-untouched_by b i l m (eqb k l.number) k refl s at n busy e
+
+pub able-busy : (s : Session) → can s ≡ true → is_resting (Some s) ≡ false
+able-busy s e = grind (arith, e)
+
+-- 3. Whose connections may take turns
+
+pub scope-later : (scope : Scope) (a b : BrokerState) (l : Line) → IsGoing a b → InScope scope a l → InScope scope b l
+scope-later (Of n) a b l g (inl e) = inl e
+scope-later (Of n) a b l g (inr h) = inr (h.0, g.bound n h.0 h.1, h.2)
+scope-later Everybody a b l g (inl e) = absurd e
+scope-later Everybody a b l g (inr h) = inr h
+
+scope-moved : (scope : Scope) (b : BrokerState) (l m : Line) → m.number ≡ l.number → ((t : ℕ) → whose l.session.stage ≡ Some t → whose m.session.stage ≡ Some t) → InScope scope b l → InScope scope b m
+scope-moved (Of n) b l m e stays (inl h) = inl (e ∙ h)
+scope-moved (Of n) b l m e stays (inr h) = inr (h.0, h.1, stays h.0 h.2)
+scope-moved Everybody b l m e stays (inl h) = absurd h
+scope-moved Everybody b l m e stays (inr h) = inr (h.0, h.1, stays h.0 h.2)
+
+-- the others as before, and the changed one where it may
+pub changed-still : (scope : Scope) (b : BrokerState) (i : ℕ) (m : Line) (ps : List TenantState) (x : ℕ) → IsGoing b (changed b i m ps x) → AreStill scope b → IsStill scope (changed b i m ps x) m → AreStill scope (changed b i m ps x)
+changed-still scope b i m ps x g still here =
+    let new = changed b i m ps x in
+    all-set (IsStill scope new) b.lines i m (all-map (IsStill scope b) (IsStill scope new) (λ l h c. scope-later scope b new l g (h c)) b.lines still) here
+
+turned-still : (scope : Scope) (b : BrokerState) (i : ℕ) (l m : Line) (ps : List TenantState) (x : ℕ) → IsGoing b (changed b i m ps x) → AreStill scope b → InScope scope b l → m.number ≡ l.number →
+    ((t : ℕ) → whose l.session.stage ≡ Some t → whose m.session.stage ≡ Some t) → AreStill scope (changed b i m ps x)
+turned-still scope b i l m ps x g still inside n stays = changed-still scope b i m ps x g still (λ c. scope-later scope b (changed b i m ps x) m g (scope-moved scope b l m n stays inside))
+
+-- an able connection's tenant is the scope's
+pub scope-tenant : (scope : Scope) (b : BrokerState) (i u : ℕ) (l : Line) → IsSound b → IsAt b.lines i l → InScope scope b l → whose l.session.stage ≡ Some u → HasTenant scope b u
+scope-tenant (Of n) b i u l s at (inl e) is = ap (λ k. bound_to k b) (sym e) ∙ (ap bound_as (found-at b i l s at) ∙ is)
+scope-tenant (Of n) b i u l s at (inr h) is = h.1 ∙ (sym h.2 ∙ is)
+scope-tenant Everybody b i u l s at inside is = tt
+
+pub tenant-later : (scope : Scope) (a b : BrokerState) (u : ℕ) → IsGoing a b → HasTenant scope a u → HasTenant scope b u
+tenant-later (Of n) a b u g h = g.bound n u h
+tenant-later Everybody a b u g h = tt
+
+-- a count of the scope's tenant
+pub counted-tenant : (scope : Scope) (a b : BrokerState) (u : ℕ) → HasTenant scope b u → ((t : ℕ) → t ≢ u → refusals_of b t ≡ refusals_of a t) → b.unbound_refusals ≡ a.unbound_refusals → IsCountedIn scope a b
+counted-tenant (Of n) a b u h own unbound = (λ t ne. own t (λ e. ne (h ∙ ap Some (sym e))), λ t e. unbound)
+counted-tenant Everybody a b u h own unbound = unbound
+
+-- a count for no tenant, where the connection has none
+pub counted-unbound : (scope : Scope) (b : BrokerState) (i : ℕ) (l m : Line) (x : ℕ) → IsSound b → IsAt b.lines i l → InScope scope b l → whose l.session.stage ≡ None → IsCountedIn scope b (changed b i m b.tenants x)
+counted-unbound (Of n) b i l m x s at (inl e) none = (λ t ne. refl, λ t is. (let no : Some t ≡ None = sym is ∙ (ap (λ k. bound_to k b) (sym e) ∙ (ap bound_as (found-at b i l s at) ∙ none)) in absurd (cc)))
+counted-unbound (Of n) b i l m x s at (inr h) none = let no : Some h.0 ≡ None = sym h.2 ∙ none in absurd (cc)
+counted-unbound Everybody b i l m x s at (inl e) none = absurd e
+counted-unbound Everybody b i l m x s at (inr h) none = let no : Some h.0 ≡ None = sym h.2 ∙ none in absurd (cc)
+
+-- 4. One turn
 
 -- the turn of a greeting connection
-pub turned-greeting : (b : BrokerState) (i : ℕ) (l m : Line) (h : Bool) → IsSound b → AllByRecursion (IsStill l.number) b.lines → IsAt b.lines i l → first_able b.lines ≡ Some l →
-    l.session.stage ≡ Greets h → m.number ≡ l.number → m.session ≡ greeted b.setup h l.session → Turned l.number b (changed b i m b.tenants b.unbound_refusals)
-turned-greeting b i l m h s still at able g n e =
+pub turned-greeting : (scope : Scope) (b : BrokerState) (i : ℕ) (l m : Line) (h : Bool) → IsSound b → AreStill scope b → IsAt b.lines i l → first_able b.lines ≡ Some l → can l.session ≡ true →
+    l.session.stage ≡ Greets h → m.number ≡ l.number → m.session ≡ greeted b.setup h l.session → Turned scope b (changed b i m b.tenants b.unbound_refusals)
+turned-greeting scope b i l m h s still at able c g n e =
     let none : whose l.session.stage ≡ None = ap whose g in
     let in_range = subst (λ x. InRange (length b.tenants) x.stage) (sym e) (range-greeted (length b.tenants) b.setup h l.session s.users (all-at _ b.lines i l at s.in_range)) in
     let lines : set b.lines i m ≡ each (on l.number (greeted b.setup h)) b.lines = set-on 0 b.last (greeted b.setup h) b.lines i l m s.rising at n e in
+    let stays : (t : ℕ) → whose l.session.stage ≡ Some t → whose m.session.stage ≡ Some t = λ t f. (let k : None ≡ Some t = sym none ∙ f in absurd (cc)) in
+    let going = changed-going b i l m b.tenants b.unbound_refusals s at n refl in_range (record { setup = refl; names = refl; own = λ t. omega arith; unbound = omega arith }) stays in
     record {
-      within = changed-within b i l m b.tenants b.unbound_refusals s still at n refl in_range
-          (record { setup = refl; names = refl; own = λ t. omega arith; unbound = omega arith })
-          (λ t f. let k : None ≡ Some t = sym none ∙ f in absurd (cc)) (λ t ne. refl) (λ t f. refl);
+      going = going;
+      still = turned-still scope b i l m b.tenants b.unbound_refusals going still (all-at (IsStill scope b) b.lines i l at still c) n stays;
+      counted = counted-same scope b (changed b i m b.tenants b.unbound_refusals) (λ t. refl) refl;
+      untouched = changed-untouched b i l m b.tenants b.unbound_refusals s at n (able-busy l.session c);
       mine = λ t mine es k calm. owns-fates b.setup t mine b.last es b.lines (set b.lines i m) (pairwise-set (SameFate b.setup) (fate-same b.setup) b.lines i l m at (fate-greeted b.setup h l m g n e)) k;
       view = λ t mine es k calm.
           let w = view_of t mine b in
@@ -106,15 +189,19 @@ turned-greeting b i l m h s still at able g n e =
     }
 
 -- a greeting connection whose reply or request could not be kept is shut, with a count
-pub refused-greeting : (b : BrokerState) (i : ℕ) (l m : Line) (h : Bool) (x : ℕ) → IsSound b → AllByRecursion (IsStill l.number) b.lines → IsAt b.lines i l →
-    l.session.stage ≡ Greets h → m.number ≡ l.number → m.session ≡ shut_down l.session → b.unbound_refusals ≤ x → (IsCalm b.unbound_refusals x → ⊥) → Turned l.number b (changed b i m b.tenants x)
-refused-greeting b i l m h x s still at g n e up rises =
+pub refused-greeting : (scope : Scope) (b : BrokerState) (i : ℕ) (l m : Line) (h : Bool) (x : ℕ) → IsSound b → AreStill scope b → IsAt b.lines i l → can l.session ≡ true →
+    l.session.stage ≡ Greets h → m.number ≡ l.number → m.session ≡ shut_down l.session → b.unbound_refusals ≤ x → (IsCalm b.unbound_refusals x → ⊥) → Turned scope b (changed b i m b.tenants x)
+refused-greeting scope b i l m h x s still at c g n e up rises =
     let none : whose l.session.stage ≡ None = ap whose g in
     let in_range = subst (λ y. InRange (length b.tenants) y.stage) (sym e) (range-without (length b.tenants) l.session.stage (all-at _ b.lines i l at s.in_range)) in
+    let stays : (t : ℕ) → whose l.session.stage ≡ Some t → whose m.session.stage ≡ Some t = λ t f. (let k : None ≡ Some t = sym none ∙ f in absurd (cc)) in
+    let going = changed-going b i l m b.tenants x s at n refl in_range (record { setup = refl; names = refl; own = λ t. omega arith; unbound = up }) stays in
+    let inside = all-at (IsStill scope b) b.lines i l at still c in
     record {
-      within = changed-within b i l m b.tenants x s still at n refl in_range
-          (record { setup = refl; names = refl; own = λ t. omega arith; unbound = up })
-          (λ t f. let k : None ≡ Some t = sym none ∙ f in absurd (cc)) (λ t ne. refl) (λ t f. let k : None ≡ Some t = sym none ∙ f in absurd (cc));
+      going = going;
+      still = turned-still scope b i l m b.tenants x going still inside n stays;
+      counted = counted-unbound scope b i l m x s at inside none;
+      untouched = changed-untouched b i l m b.tenants x s at n (able-busy l.session c);
       mine = λ t mine es k calm. absurd (rises calm);
       view = λ t mine es k calm. absurd (rises calm.unbound);
     }
@@ -123,50 +210,65 @@ refused-greeting b i l m h x s still at g n e up rises =
 pub fate-two : (b : BrokerState) (u : ℕ) (l m : Line) → IsBound u l.session → IsBound u m.session → m.number ≡ l.number → SameFate b.setup l m
 fate-two b u l m p q n = record { number = n; fate = λ es. fate-bound b.setup l.number m.session es u q ∙ sym (fate-bound b.setup l.number l.session es u p) }
 
-bound-mine : (b : BrokerState) (i u : ℕ) (l m : Line) → IsAt b.lines i l → IsBound u l.session → IsBound u m.session → m.number ≡ l.number →
+pub bound-mine : (b : BrokerState) (i u : ℕ) (l m : Line) → IsAt b.lines i l → IsBound u l.session → IsBound u m.session → m.number ≡ l.number →
     (t : ℕ) (mine : ℕ → Bool) (es : List Happening) → Mine t mine es b → Owns b.setup t mine b.last es (set b.lines i m)
 bound-mine b i u l m at p q n t mine es k = owns-fates b.setup t mine b.last es b.lines (set b.lines i m) (pairwise-set (SameFate b.setup) (fate-same b.setup) b.lines i l m at (fate-two b u l m p q n)) k
 
 -- to another tenant, what happens to a bound connection is nothing
-hidden : (b : BrokerState) (i u : ℕ) (l m : Line) → IsSound b → IsAt b.lines i l → IsBound u l.session → m.number ≡ l.number →
+pub hidden : (b : BrokerState) (i u : ℕ) (l m : Line) → IsSound b → IsAt b.lines i l → IsBound u l.session → m.number ≡ l.number →
     (t : ℕ) (mine : ℕ → Bool) (es : List Happening) → Mine t mine es b → t ≢ u → those mine (set b.lines i m) ≡ those mine b.lines
 hidden b i u l m s at p n t mine es k ne =
     let is : mine l.number ≡ eqb u t = mine-bound b.setup t mine es l u p (all-at (IsMine b.setup t mine es) b.lines i l at k.now) in
     let no : mine l.number ≡ false = is ∙ grind (arith, nat_tests) in
     ap (those mine) (set-on 0 b.last (λ x. m.session) b.lines i l m s.rising at n refl) ∙ those-on_other mine l.number (λ x. m.session) b.lines no
 
+-- it is in the tenant's own view
+pub shown : (b : BrokerState) (i u : ℕ) (l : Line) → IsAt b.lines i l → IsBound u l.session → (mine : ℕ → Bool) (es : List Happening) → Mine u mine es b → mine l.number ≡ true
+shown b i u l at p mine es k = mine-bound b.setup u mine es l u p (all-at (IsMine b.setup u mine es) b.lines i l at k.now) ∙ grind (arith, nat_tests)
+
 pub bound-stays : (u : ℕ) (l m : Line) → IsBound u l.session → IsBound u m.session → (t : ℕ) → whose l.session.stage ≡ Some t → whose m.session.stage ≡ Some t
 bound-stays u l m p q t e = ap whose q.is ∙ (sym (ap whose p.is) ∙ e)
 
--- the turn of a bound connection, which is a call for its tenant: where nothing was refused to the tenant, it is the machine's turn
-pub turned-bound : (b : BrokerState) (i u : ℕ) (l m : Line) (w : Option Wait) (H : Type 0) (ts : List TenantState) → IsSound b → AllByRecursion (IsStill l.number) b.lines → IsAt b.lines i l → first_able b.lines ≡ Some l →
-    l.session.stage ≡ BoundTo u w → m.number ≡ l.number → without_wait m.session.stage ≡ without_wait l.session.stage → IsTurn u H b.tenants ts → H →
-    (IsCalm (count b.tenants u) (count ts u) → (m.session ≡ served b.setup (kept_of b u) b.clock l.session) × (hosted.kept_of ts u ≡ put b.setup (kept_of b u) b.clock l.session.unread)) →
-    Turned l.number b (changed b i m ts b.unbound_refusals)
-turned-bound b i u l m w H ts s still at able g n same turn honest meets =
-    let p : IsBound u l.session = record { wait = w; is = g } in
+-- a call for a bound connection's tenant, and another connection in its place
+pub called-going : (b : BrokerState) (i u : ℕ) (l m : Line) (H : Type 0) (ts : List TenantState) → IsSound b → IsAt b.lines i l → IsBound u l.session → m.number ≡ l.number → without_wait m.session.stage ≡ without_wait l.session.stage →
+    IsTurn u H b.tenants ts → IsGoing b (changed b i m ts b.unbound_refusals)
+called-going b i u l m H ts s at p n same turn =
     let q : IsBound u m.session = bound-same u l.session m.session p same in
     let in_range = range-same (length b.tenants) l.session.stage m.session.stage same (all-at _ b.lines i l at s.in_range) in
+    changed-going b i l m ts b.unbound_refusals s at n (turn-length u H b.tenants ts turn) in_range (turn-grows b u H ts turn (set b.lines i m)) (bound-stays u l m p q)
+
+-- what another tenant sees of it
+pub called-others : (b : BrokerState) (i u : ℕ) (l m : Line) (H : Type 0) (ts : List TenantState) → IsSound b → IsAt b.lines i l → IsBound u l.session → m.number ≡ l.number → IsTurn u H b.tenants ts → H →
+    (t : ℕ) (mine : ℕ → Bool) (es : List Happening) → Mine t mine es b → t ≢ u → view_of t mine (changed b i m ts b.unbound_refusals) ≡ view_of t mine b
+called-others b i u l m H ts s at p n turn honest t mine es k ne =
+    ap (λ z. record (view_of t mine b) { kept = hosted.kept_of ts t; lines = z }) (hidden b i u l m s at p n t mine es k ne)
+    ∙ ap (λ z. record (view_of t mine b) { kept = z }) (turn.others honest t ne)
+
+-- the turn of a bound connection, which is a call for its tenant: where nothing was refused to the tenant, it is the machine's
+pub served-bound : (scope : Scope) (b : BrokerState) (i u : ℕ) (l m : Line) (w : Option Wait) (H : Type 0) (ts : List TenantState) → IsSound b → AreStill scope b → IsAt b.lines i l → first_able b.lines ≡ Some l → can l.session ≡ true →
+    l.session.stage ≡ BoundTo u w → m.number ≡ l.number → without_wait m.session.stage ≡ without_wait l.session.stage → IsTurn u H b.tenants ts → H →
+    (IsCalm (count b.tenants u) (count ts u) → (m.session ≡ served b.setup (kept_of b u) b.clock l.session) × (hosted.kept_of ts u ≡ put b.setup (kept_of b u) b.clock l.session.unread)) →
+    Served u scope b (changed b i m ts b.unbound_refusals)
+served-bound scope b i u l m w H ts s still at able c g n same turn honest meets =
+    let p : IsBound u l.session = record { wait = w; is = g } in
+    let q : IsBound u m.session = bound-same u l.session m.session p same in
     let new = changed b i m ts b.unbound_refusals in
+    let going = called-going b i u l m H ts s at p n same turn in
+    let inside = all-at (IsStill scope b) b.lines i l at still c in
+    let tenant = tenant-later scope b new u going (scope-tenant scope b i u l s at inside (ap whose g)) in
     record {
-      within = changed-within b i l m ts b.unbound_refusals s still at n (turn-length u H b.tenants ts turn) in_range (turn-grows b u H ts turn (set b.lines i m))
-          (bound-stays u l m p q) (λ t ne. turn.counts t (λ h. ne (ap whose q.is ∙ ap Some (sym h)))) (λ t f. refl);
-      mine = λ t mine es k calm. bound-mine b i u l m at p q n t mine es k;
-      view = λ t mine es k calm. each-tenant (λ v. Mine v mine es b → IsCalm (count b.tenants v) (count ts v) → turns (view_of v mine new) ≡ turns (view_of v mine b)) u t (eqb u t) refl
-          (λ k' c'. own b i u l m w ts s at able g n p mine es k' (meets c'))
-          (λ ne k' c'. ap (λ z. turns (record (view_of t mine b) { kept = hosted.kept_of ts t; lines = z })) (hidden b i u l m s at p n t mine es k' ne)
-          ∙ ap (λ z. turns (record (view_of t mine b) { kept = z })) (turn.others honest t ne))
-          k calm.own;
+      going = going;
+      still = turned-still scope b i l m ts b.unbound_refusals going still inside n (bound-stays u l m p q);
+      counted = counted-tenant scope b new u tenant (λ t ne. turn.counts t ne) refl;
+      untouched = changed-untouched b i l m ts b.unbound_refusals s at n (able-busy l.session c);
+      tenants = tenant;
+      mine = λ t mine es k. bound-mine b i u l m at p q n t mine es k;
+      others = λ t mine es k ne. called-others b i u l m H ts s at p n turn honest t mine es k ne;
+      view = λ mine es k calm.
+          let done = meets calm in
+          let x = view_of u mine b in
+          let lines : set b.lines i m ≡ each (on l.number (served b.setup (kept_of b u) b.clock)) b.lines = set-on 0 b.last (served b.setup (kept_of b u) b.clock) b.lines i l m s.rising at n done.0 in
+          ap (λ z. turns (all_woken (record x { kept = hosted.kept_of ts u; lines = those mine z }))) lines
+          ∙ (ap (λ z. turns (all_woken (record x { kept = z; lines = those mine (each (on l.number (served x.setup x.kept x.clock)) b.lines) }))) done.1
+          ∙ view-served mine x b.lines l u w able g refl (shown b i u l at p mine es k));
     }
-  where
-    own : (b : BrokerState) (i u : ℕ) (l m : Line) (w : Option Wait) (ts : List TenantState) → IsSound b → IsAt b.lines i l → first_able b.lines ≡ Some l → l.session.stage ≡ BoundTo u w → m.number ≡ l.number → IsBound u l.session →
-        (mine : ℕ → Bool) (es : List Happening) → Mine u mine es b → (m.session ≡ served b.setup (kept_of b u) b.clock l.session) × (hosted.kept_of ts u ≡ put b.setup (kept_of b u) b.clock l.session.unread) →
-        turns (view_of u mine (changed b i m ts b.unbound_refusals)) ≡ turns (view_of u mine b)
-    own b i u l m w ts s at able g n p mine es k done =
-        let x = view_of u mine b in
-        let lines : set b.lines i m ≡ each (on l.number (served b.setup (kept_of b u) b.clock)) b.lines = set-on 0 b.last (served b.setup (kept_of b u) b.clock) b.lines i l m s.rising at n done.0 in
-        let yes : mine l.number ≡ true = mine-bound b.setup u mine es l u p (all-at (IsMine b.setup u mine es) b.lines i l at k.now) ∙ grind (arith, nat_tests) in
-        let y = record x { kept = put x.setup x.kept x.clock l.session.unread; lines = those mine (each (on l.number (served x.setup x.kept x.clock)) b.lines) } in
-        ap (λ z. turns (record x { kept = hosted.kept_of ts u; lines = those mine z })) lines
-        ∙ (ap (λ z. turns (record x { kept = z; lines = those mine (each (on l.number (served x.setup x.kept x.clock)) b.lines) })) done.1
-        ∙ (ap turns (sym (all_woken-none y)) ∙ view-served mine x b.lines l u w able g refl yes))

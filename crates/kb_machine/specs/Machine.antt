@@ -6,7 +6,7 @@ use Rattle.kb_tenant.specs.Hosted.{Kept}
 use Rattle.kb_tenant.specs.Replies.{Reaction, Replies, Waits, Silent, Shuts}
 use Rattle.kb_machine.specs.Requests.{Asked, Versions, OtherVersions, Handshake, Authenticate, Another, Unread, request}
 use Rattle.kb_machine.specs.Tenant.{kept_after, answer, ready, retained}
-use Rattle.kb_machine.specs.Session.{Stage, Greets, BoundTo, Session, fresh, without_wait, shut_down, fed, replied, can}
+use Rattle.kb_machine.specs.Session.{Stage, Greets, BoundTo, Session, fresh, without_wait, waiting, shut_down, fed, replied, can}
 use Rattle.kb_machine.specs.Greeting.{Setup, greeted, versions_reply, handshake_reply, illegal_state}
 
 -- a connection: its number and what it has
@@ -30,12 +30,12 @@ pub data Happening : Type 0 where
 
 -- 1. Requests of a bound connection
 
--- what a request comes to; an answer of the tenant is never to wait so far
-abbrev pub answered : Reaction → ℤ → Session → Session
-answered (Replies body) id s = replied id body s
-answered (Waits deadline places) id s = s
-answered Silent id s = s
-answered Shuts id s = shut_down s
+-- what a request of that body comes to
+abbrev pub answered : Reaction → ℤ → List ℕ → Session → Session
+answered (Replies reply) id body s = replied id reply s
+answered (Waits deadline places) id body s = record s { stage = waiting (record { correlation_id = id; body = body; deadline = deadline }) s.stage }
+answered Silent id body s = s
+answered Shuts id body s = shut_down s
 
 -- what a request of a bound connection does to it; s is the connection without the request
 unfoldable pub served_by : Setup → Kept → ℕ → ℤ → Asked → Session → Session
@@ -43,7 +43,7 @@ served_by setup kept clock id Versions s = replied id (versions_reply setup.vers
 served_by setup kept clock id OtherVersions s = replied id (versions_reply setup.versions errors.UnsupportedVersion) s
 served_by setup kept clock id (Handshake mechanism) s = replied id (handshake_reply errors.IllegalSaslState) s
 served_by setup kept clock id (Authenticate message) s = replied id illegal_state s
-served_by setup kept clock id (Another key version body) s = answered (answer setup.node kept clock key body) id s
+served_by setup kept clock id (Another key version body) s = answered (answer setup.node kept clock key body) id body s
 served_by setup kept clock id Unread s = shut_down s
 
 abbrev pub served_at : Setup → Kept → ℕ → Session → Front → Session
@@ -76,16 +76,19 @@ put setup kept clock unread = kept_at setup kept clock (front unread)
 
 -- 2. Waits
 
-abbrev pub told : Option (ℤ × List ℕ) → Session → Session
-told None s = s
-told (Some r) s = replied r.0 r.1 (record s { stage = without_wait s.stage })
+-- what a waiting fetch comes to: a reply ends the wait
+abbrev pub told : Reaction → ℤ → Session → Session
+told (Replies reply) id s = replied id reply (record s { stage = without_wait s.stage })
+told (Waits deadline places) id s = s
+told Silent id s = s
+told Shuts id s = shut_down s
 
 unfoldable pub woken_by : Kept → ℕ → Session → Stage → Session
 woken_by kept clock s (Greets handshaken) = s
 woken_by kept clock s (BoundTo tenant None) = s
-woken_by kept clock s (BoundTo tenant (Some wait)) = told (ready kept clock wait) s
+woken_by kept clock s (BoundTo tenant (Some wait)) = told (ready kept clock wait) wait.correlation_id s
 
--- a wait that is ready is answered
+-- a fetch that waits is answered where it is ready
 abbrev pub woken : Kept → ℕ → Session → Session
 woken kept clock s = woken_by kept clock s s.stage
 

@@ -23,6 +23,11 @@ abbrev pub without_wait : Stage → Stage
 without_wait (Greets handshaken) = Greets handshaken
 without_wait (BoundTo tenant wait) = BoundTo tenant None
 
+-- it waits for the answer to a fetch
+abbrev pub waiting : Wait → Stage → Stage
+waiting wait (Greets handshaken) = Greets handshaken
+waiting wait (BoundTo tenant earlier) = BoundTo tenant (Some wait)
+
 -- the broker shuts it: unread bytes and wait are dropped, untaken output stays
 abbrev pub shut_down : Session → Session
 shut_down s = record { stage = without_wait s.stage; unread = []; output = s.output; shut = true }

@@ -1,13 +1,16 @@
--- What a tenant's own requests mean to its machine. So far no fetch waits: one that would is answered at once with what there is.
-use Rattle.std.specs.Prelude.{ℕ, ℤ, List, Option, None}
+-- What a tenant's own requests mean to its machine.
+use Rattle.std.specs.Prelude.{ℕ, ℤ, List}
 use Rattle.kb_world.specs.World as world
 use Rattle.kb_tenant.specs.Hosted.{Kept, world_at, kept_in}
-use Rattle.kb_tenant.specs.Replies.{Reaction, Replies, Waits, Silent, Shuts}
+use Rattle.kb_tenant.specs.Replies.{Reaction}
 use Rattle.kb_tenant.specs.Serve.{Outcome, served, looked}
 use Rattle.kb_tenant.specs.declared.node.Node.{Node}
 
--- a request that waits for its answer: no request does so far
-pub data Wait : Type 0 where
+-- a fetch that waits for its answer: its correlation id and its body, and the moment after which it waits no longer
+pub record Wait : Type 0 where
+  pub correlation_id : ℤ
+  pub body : List ℕ
+  pub deadline : ℕ
 
 -- what a request makes of the tenant's world, and comes to
 abbrev pub outcome : Node → Kept → ℕ → ℤ → List ℕ → Outcome
@@ -17,20 +20,13 @@ outcome node kept clock key body = served node (world_at kept clock) key body
 unfoldable pub kept_after : Node → Kept → ℕ → ℤ → List ℕ → Kept
 kept_after node kept clock key body = kept_in (outcome node kept clock key body).world
 
--- a fetch that would wait is looked at as one whose deadline has come
-abbrev pub at_once : world.World → List ℕ → Reaction → Reaction
-at_once w body (Replies reply) = Replies reply
-at_once w body (Waits deadline places) = looked w 0 body
-at_once w body Silent = Silent
-at_once w body Shuts = Shuts
-
 -- what a request comes to for its connection
 unfoldable pub answer : Node → Kept → ℕ → ℤ → List ℕ → Reaction
-answer node kept clock key body = let o = outcome node kept clock key body in at_once o.world body o.reaction
+answer node kept clock key body = (outcome node kept clock key body).reaction
 
--- the reply to a waiting request, where it is ready
-unfoldable pub ready : Kept → ℕ → Wait → Option (ℤ × List ℕ)
-ready kept clock wait = None
+-- what a waiting fetch comes to now: a reply where it is ready, else silence
+unfoldable pub ready : Kept → ℕ → Wait → Reaction
+ready kept clock wait = looked (world_at kept clock) wait.deadline wait.body
 
 -- what is kept after the tenant's own part of a moment: nothing is dropped so far
 unfoldable pub retained : ℕ → Kept → Kept

@@ -1,4 +1,4 @@
-use Rattle.std.proofs.Common.{◌∙◌, List, ap, map, Bor, ℕ, refl}
+use Rattle.std.proofs.Common.{◌∙◌, List, ap, map, Bor, ℕ}
 use Rattle.kb_tenant.specs.Hosted.{new_tenant}
 use Rattle.kb_broker.proofs.OpeningParts.{opening-made, host-fits}
 use Rattle.kb_broker.proofs.opening.new_engine.Goals as goal

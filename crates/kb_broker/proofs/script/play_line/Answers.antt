@@ -1,6 +1,6 @@
 use Rattle.std.proofs.Common.{◌≡◌, true, rules, sym, ap, ◌∙◌}
 use Rattle.std.specs.Io.BufRead.{strip_last}
-use Rattle.kb_machine.specs.Machine.{Opens, Closes, Moment}
+use Rattle.kb_machine.specs.Machine.{Opens, Closes}
 use Rattle.kb_broker.specs.Script.{told, told_of, Event, is_placed, is_in_place}
 use Rattle.kb_broker.specs.ScriptRun.{here}
 use Rattle.kb_broker.proofs.ScriptEvents.{done-silently}
@@ -19,10 +19,3 @@ returns-in-Close-clause-ok g c =
     let yes_placed : c.is_in_place.result ≡ true = search rules in
     let placed : is_in_place (here 0 c.args.broker.now) (Closes c.in-Close.connection) ≡ true = ap (λ l. is_placed (here 0 c.args.broker.now) (told_of l)) (sym c.in-Close.is) ∙ sym c.is_in_place.ensures ∙ yes_placed in
     done-silently c.close.result c.args.number c.args.broker.now c.close.new.broker (told (strip_last 10 c.args.text.now)) (Closes c.in-Close.connection) _ says placed c.close.ensures.ok
-
-pub returns-in-At-clause-ok : goal.returns-in-At-clause-ok
-returns-in-At-clause-ok g c =
-    let says : told (strip_last 10 c.args.text.now) ≡ Event (Moment c.in-At.now) = ap told (sym c.without_feed.ensures) ∙ sym c.in-Ok.ensures ∙ ap told_of c.in-At.is in
-    let yes_placed : c.is_in_place.result ≡ true = search rules in
-    let placed : is_in_place (here 0 c.args.broker.now) (Moment c.in-At.now) ≡ true = ap (λ l. is_placed (here 0 c.args.broker.now) (told_of l)) (sym c.in-At.is) ∙ sym c.is_in_place.ensures ∙ yes_placed in
-    done-silently c.pass.result c.args.number c.args.broker.now c.pass.new.broker (told (strip_last 10 c.args.text.now)) (Moment c.in-At.now) _ says placed c.pass.ensures.ok

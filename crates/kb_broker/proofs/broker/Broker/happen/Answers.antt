@@ -1,13 +1,13 @@
-use Rattle.std.proofs.Common.{◌≡◌, ◌^◌, ◌++◌, ◌∷◌, [], refl, sym, ◌∙◌, ap, subst, inr}
+use Rattle.std.proofs.Common.{◌≡◌, ◌++◌, ◌∷◌, [], refl, sym, ◌∙◌, ap, subst, inr}
 use Rattle.std.specs.Prelude.{map, true}
 use Rattle.std.proofs.lemmas.List.{map_push, append-nil}
 use Rattle.kb_machine.specs.Machine.{Sent, Comes}
 use Rattle.kb_machine.specs.Broker.{IsStep}
 use Rattle.kb_machine.specs.Calls.{opened, IsRefused}
-use Rattle.kb_machine.proofs.Steps.{ready-opened, ready-closed, ready-moved}
+use Rattle.kb_machine.proofs.Steps.{ready-opened, ready-closed}
 use Rattle.kb_broker.specs.Runs.{sent_of, unkept}
 use Rattle.kb_broker.specs.declared.run.Written.{Written}
-use Rattle.kb_broker.proofs.RunEvents.{numbers-comes, max-most, when_ok, when_err}
+use Rattle.kb_broker.proofs.RunEvents.{when_ok, when_err}
 use Rattle.kb_broker.proofs.broker.Broker.happen.Goals as goal
 
 pub returns-then-is_err-clause-passed : goal.returns-then-is_err-clause-passed
@@ -36,15 +36,7 @@ returns-in-In-clause-passed c =
     let new = c.input.new.self in
     let n = c.in-In.number in
     let step : IsStep (Comes n c.in-In.piece.items) old new = subst (λ p. IsStep (Comes n p) old new) c.deref.ensures.value c.input.ensures.step in
-    let same = numbers-comes n old new c.requires.ready c.input.ensures.ready c.input.ensures.others c.input.ensures.stays in
-    rw c.in-In.is ([], sym (append-nil (map sent_of c.args.written.now.items)), record { step = step; leads = (same, refl) })
+    rw c.in-In.is ([], sym (append-nil (map sent_of c.args.written.now.items)), record { step = step; leads = (c.input.ensures.numbers, refl) })
 
 pub returns-in-Close-clause-ready : goal.returns-in-Close-clause-ready
 returns-in-Close-clause-ready c = rw c.close.ensures.state (ready-closed c.args.self.now c.in-Close.number c.requires.ready)
-
-pub returns-in-At-clause-ready : goal.returns-in-At-clause-ready
-returns-in-At-clause-ready c =
-    let old = c.args.self.now in
-    let now = c.in-At.now in
-    let run = rw c.in-At.is at c.requires.run in
-    rw c.moment.ensures.state (ready-moved old now c.requires.ready (max-most old.clock now (2 ^ 62) c.requires.ready.sound.clock run.0))

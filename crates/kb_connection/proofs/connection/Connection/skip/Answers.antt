@@ -1,10 +1,7 @@
 use Rattle.std.proofs.Common.{sym, subst}
 use Rattle.kb_connection.specs.View.{IsLimited}
 use Rattle.kb_connection.proofs.Limits.{limited-behind}
-use Rattle.kb_connection.proofs.connection.Connection.take_turn.Goals as goal
+use Rattle.kb_connection.proofs.connection.Connection.skip.Goals as goal
 
 pub invariant_of-self : goal.invariant_of-self
 invariant_of-self c = subst (λ u. IsLimited u c.self.inside.shut) (sym c.skip.ensures) (limited-behind c.self.inside.unread c.self.inside.shut c.self.invariant)
-
-pub invariant_of-self-in-Err : goal.invariant_of-self-in-Err
-invariant_of-self-in-Err c = subst (λ u. IsLimited u c.self.inside.shut) (sym c.skip.ensures) (limited-behind c.self.inside.unread c.self.inside.shut c.self.invariant)

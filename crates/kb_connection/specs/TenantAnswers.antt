@@ -1,0 +1,29 @@
+-- What a tenant's answer does to a connection.
+use Rattle.std.specs.Prelude.{ℕ, ℤ, List, ◌++◌, Bool, true, false, Option, Some, None}
+use Rattle.kb_tenant.specs.declared.answer.Answer.{Answer}
+use Rattle.kb_tenant.specs.declared.answer.Answer.TheVariants as answers
+use Rattle.kb_machine.specs.Tenant.{Wait}
+use Rattle.kb_machine.specs.Session.{Session, shut_down, waiting}
+
+-- an answer, but for a wait
+abbrev pub given : Answer → Session → Session
+given (answers.Reply reply) s = record s { output = s.output ++ reply.items }
+given (answers.Wait deadline keys) s = s
+given answers.NoReply s = s
+given answers.Shut s = shut_down s
+
+-- it says nothing to a fetch that waits
+abbrev pub is_quiet : Answer → Bool
+is_quiet (answers.Reply reply) = false
+is_quiet (answers.Wait deadline keys) = true
+is_quiet answers.NoReply = true
+is_quiet answers.Shut = false
+
+-- the wait for the answer to a request of that correlation id, key and body
+abbrev pub wait_for : ℕ → ℤ × ℤ × List ℕ → Wait
+wait_for deadline asked = record { correlation_id = asked.0; body = asked.2; deadline = deadline }
+
+-- the connection waits for the answer to a request of its tenant, if there is one
+abbrev pub parked : ℕ → Option (ℤ × ℤ × List ℕ) → Session → Session
+parked deadline None s = s
+parked deadline (Some asked) s = record s { stage = waiting (wait_for deadline asked) s.stage }

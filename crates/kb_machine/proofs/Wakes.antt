@@ -1,0 +1,224 @@
+-- Waiting fetches that are looked at again.
+use Rattle.std.proofs.Common.{◌≡◌, ◌≢◌, ℕ, ℤ, List, [], ◌∷◌, ◌++◌, set, eqb, Bool, true, false, Option, Some, None, refl, sym, ◌∙◌, ap, subst, arith, inr}
+use Rattle.std.specs.Prelude.{cond, nat_lt}
+use Rattle.std.specs.List.{AllByRecursion}
+use Rattle.kb_world.specs.Steps.{IsCalm}
+use Rattle.kb_tenant.specs.Hosted as hosted
+use Rattle.kb_tenant.specs.Hosted.{Kept, TenantState, IsTurn}
+use Rattle.kb_tenant.specs.Replies.{Reaction, Replies, Waits, Silent, Shuts, framed, reply_size}
+use Rattle.kb_machine.specs.Tenant.{Wait, ready}
+use Rattle.kb_machine.specs.Session.{Stage, Greets, BoundTo, Session, without_wait, is_free, shut_down, replied}
+use Rattle.kb_machine.specs.Greeting.{Setup}
+use Rattle.kb_machine.specs.Machine.{Happening, Line, told, woken_by, woken, each, on, those, all_woken, turns}
+use Rattle.kb_machine.specs.Owners.{whose}
+use Rattle.kb_machine.specs.Broker.{BrokerState, IsSound, Mine, view_of, kept_of, refusals_of}
+use Rattle.kb_machine.specs.Turned.{Scope, HasTenant, IsGoing, is_resting, Turned, Served, Concerns, Waked, IsSettled}
+use Rattle.kb_machine.proofs.Laws.{those-each}
+use Rattle.kb_machine.proofs.Owners.{IsBound, IsMine, mine-bound, bound-same}
+use Rattle.kb_machine.proofs.Sets.{IsAt, all-map, set-on}
+use Rattle.kb_machine.proofs.Parts.{count, each-tenant, eqb_same, calm-left, calm-right}
+use Rattle.kb_machine.proofs.Turns.{going-same, going-then, counted-then, counted-tenant, untouched-then, changed, changed-untouched, changed-still, called-going, called-others, bound-mine, tenant-later}
+
+-- 1. A second look finds nothing new
+
+woken-free : (kept : Kept) (clock : ℕ) (s : Session) → is_free s.stage ≡ true → woken kept clock s ≡ s
+unfolding woken_by
+woken-free kept clock s free = by s.stage refl
+  where
+    by : (st : Stage) → s.stage ≡ st → woken_by kept clock s st ≡ s
+    by (Greets h) e = refl
+    by (BoundTo u None) e = refl
+    by (BoundTo u (Some w)) e = let no : false ≡ true = sym (ap is_free e) ∙ free in absurd (cc)
+
+free-without : (st : Stage) → is_free (without_wait st) ≡ true
+free-without (Greets h) = refl
+free-without (BoundTo u w) = refl
+
+free-replied : (id : ℤ) (body : List ℕ) (s : Session) → is_free s.stage ≡ true → is_free (replied id body s).stage ≡ true
+unfolding replied
+free-replied id body s free = by (nat_lt 2147483647 (reply_size body))
+  where
+    by : (b : Bool) → is_free (let x : Session = cond b (shut_down s) (record s { output = s.output ++ framed id body }) in x).stage ≡ true
+    by true = free-without s.stage
+    by false = free
+
+told-twice : (kept : Kept) (clock : ℕ) (r : Reaction) (id : ℤ) (s : Session) → woken kept clock s ≡ told r id s → woken kept clock (told r id s) ≡ told r id s
+told-twice kept clock (Replies reply) id s e = woken-free kept clock (told (Replies reply) id s) (free-replied id reply (record s { stage = without_wait s.stage }) (free-without s.stage))
+told-twice kept clock (Waits deadline places) id s e = e
+told-twice kept clock Silent id s e = e
+told-twice kept clock Shuts id s e = woken-free kept clock (shut_down s) (free-without s.stage)
+
+woken-at : (kept : Kept) (clock : ℕ) (s : Session) (u : ℕ) (w : Wait) → s.stage ≡ BoundTo u (Some w) → woken kept clock s ≡ told (ready kept clock w) w.correlation_id s
+unfolding woken_by
+woken-at kept clock s u w e = ap (woken_by kept clock s) e
+
+pub woken-twice : (kept : Kept) (clock : ℕ) (s : Session) → woken kept clock (woken kept clock s) ≡ woken kept clock s
+woken-twice kept clock s = by kept clock s s.stage refl
+  where
+    by : (kept : Kept) (clock : ℕ) (s : Session) (st : Stage) → s.stage ≡ st → woken kept clock (woken kept clock s) ≡ woken kept clock s
+    by kept clock s (Greets h) e = let same = woken-free kept clock s (ap is_free e) in ap (woken kept clock) same
+    by kept clock s (BoundTo u None) e = let same = woken-free kept clock s (ap is_free e) in ap (woken kept clock) same
+    by kept clock s (BoundTo u (Some w)) e =
+        let is = woken-at kept clock s u w e in
+        ap (woken kept clock) is ∙ (told-twice kept clock (ready kept clock w) w.correlation_id s is ∙ sym is)
+
+-- 2. Looks, one after another
+
+pub waked-same : (whom : Option ℕ) (b : BrokerState) → IsSound b → Waked whom b b
+waked-same whom b s = record {
+  going = going-same b s;
+  unbound = refl;
+  untouched = λ k e. refl;
+  counts = λ t never. refl;
+  kept = λ t calm. refl;
+  still = λ scope has still. still;
+  mine = λ t mine es m. m;
+  others = λ t mine es m never. refl;
+  view = λ t mine es m calm. refl;
+}
+
+pub waked-then : (whom : Option ℕ) (a b c : BrokerState) → Waked whom a b → Waked whom b c → Waked whom a c
+waked-then whom a b c p q =
+    let g = p.going.grows in
+    let h = q.going.grows in
+    record {
+      going = going-then a b c p.going q.going;
+      unbound = q.unbound ∙ p.unbound;
+      untouched = untouched-then a b c p.untouched q.untouched;
+      counts = λ t never. q.counts t never ∙ p.counts t never;
+      kept = λ t calm. q.kept t (calm-right (refusals_of a t) (refusals_of b t) (refusals_of c t) (g.own t) (h.own t) calm) ∙ p.kept t (calm-left (refusals_of a t) (refusals_of b t) (refusals_of c t) (g.own t) (h.own t) calm);
+      still = λ scope has still. q.still scope (λ t is. tenant-later scope a b t p.going (has t is)) (p.still scope has still);
+      mine = λ t mine es m. q.mine t mine es (p.mine t mine es m);
+      others = λ t mine es m never. q.others t mine es (p.mine t mine es m) never ∙ p.others t mine es m never;
+      view = λ t mine es m calm.
+          q.view t mine es (p.mine t mine es m) (calm-right (refusals_of a t) (refusals_of b t) (refusals_of c t) (g.own t) (h.own t) calm)
+          ∙ p.view t mine es m (calm-left (refusals_of a t) (refusals_of b t) (refusals_of c t) (g.own t) (h.own t) calm);
+    }
+
+-- 3. One look
+
+-- it is not about a tenant that is not concerned
+unconcerned : (whom : Option ℕ) (t u : ℕ) → Concerns whom u → (Concerns whom t → ⊥) → t ≢ u
+unconcerned whom t u concerned never = λ e. never (subst (Concerns whom) (sym e) concerned)
+
+busy : (u : ℕ) (w : Wait) (s : Session) → s.stage ≡ BoundTo u (Some w) → is_resting (Some s) ≡ false
+busy u w s e = let f : is_free s.stage ≡ false = ap is_free e in grind (arith, f)
+
+each-again : (kept : Kept) (clock n : ℕ) (ls : List Line) → each (λ k s. woken kept clock s) (each (on n (woken kept clock)) ls) ≡ each (λ k s. woken kept clock s) ls
+each-again kept clock n [] = refl
+each-again kept clock n (l ∷ ls) = by (eqb l.number n) (each-again kept clock n ls)
+  where
+    by : (b : Bool) → each (λ k s. woken kept clock s) (each (on n (woken kept clock)) ls) ≡ each (λ k s. woken kept clock s) ls →
+        (let x : Line = record { number = l.number; session = woken kept clock (cond b (woken kept clock l.session) l.session) } in x) ∷ each (λ k s. woken kept clock s) (each (on n (woken kept clock)) ls) ≡ (let x : Line = record { number = l.number; session = woken kept clock l.session } in x) ∷ each (λ k s. woken kept clock s) ls
+    by true rest = let twice = woken-twice kept clock l.session in ap (λ s. (let x : Line = record { number = l.number; session = s } in x) ∷ each (λ k s. woken kept clock s) (each (on n (woken kept clock)) ls)) twice ∙ ap (λ xs. (let x : Line = record { number = l.number; session = woken kept clock l.session } in x) ∷ xs) rest
+    by false rest = ap (λ xs. (let x : Line = record { number = l.number; session = woken kept clock l.session } in x) ∷ xs) rest
+
+-- a waiting connection of a concerned tenant was looked at
+pub waked-line : (whom : Option ℕ) (b : BrokerState) (i u : ℕ) (l m : Line) (w : Wait) (H : Type 0) (ts : List TenantState) → IsSound b → IsAt b.lines i l → l.session.stage ≡ BoundTo u (Some w) → Concerns whom u →
+    m.number ≡ l.number → without_wait m.session.stage ≡ without_wait l.session.stage → IsTurn u H b.tenants ts → H →
+    (IsCalm (count b.tenants u) (count ts u) → (m.session ≡ woken (kept_of b u) b.clock l.session) × (hosted.kept_of ts u ≡ kept_of b u)) →
+    Waked whom b (changed b i m ts b.unbound_refusals)
+waked-line whom b i u l m w H ts s at g concerned n same turn honest meets =
+    let p : IsBound u l.session = record { wait = Some w; is = g } in
+    let q : IsBound u m.session = bound-same u l.session m.session p same in
+    let new = changed b i m ts b.unbound_refusals in
+    let going = called-going b i u l m H ts s at p n same turn in
+    record {
+      going = going;
+      unbound = refl;
+      untouched = changed-untouched b i l m ts b.unbound_refusals s at n (busy u w l.session g);
+      counts = λ t never. turn.counts t (unconcerned whom t u concerned never);
+      kept = λ t calm. each-tenant (λ v. IsCalm (count b.tenants v) (count ts v) → hosted.kept_of ts v ≡ kept_of b v) u t (eqb u t) refl (λ c. (meets c).1) (λ ne c. turn.others honest t ne) calm;
+      still = λ scope has still. changed-still scope b i m ts b.unbound_refusals going still (λ c. inr (u, tenant-later scope b new u going (has u concerned), ap whose q.is));
+      mine = λ t mine es k. bound-mine b i u l m at p q n t mine es k;
+      others = λ t mine es k never. called-others b i u l m H ts s at p n turn honest t mine es k (unconcerned whom t u concerned never);
+      view = λ t mine es k calm. each-tenant (λ v. Mine v mine es b → IsCalm (count b.tenants v) (count ts v) → all_woken (view_of v mine new) ≡ all_woken (view_of v mine b)) u t (eqb u t) refl
+          (λ k' c'. own b i u l m ts s at n mine (meets c'))
+          (λ ne k' c'. ap all_woken (called-others b i u l m H ts s at p n turn honest t mine es k' ne))
+          k calm;
+    }
+  where
+    own : (b : BrokerState) (i u : ℕ) (l m : Line) (ts : List TenantState) → IsSound b → IsAt b.lines i l → m.number ≡ l.number → (mine : ℕ → Bool) →
+        (m.session ≡ woken (kept_of b u) b.clock l.session) × (hosted.kept_of ts u ≡ kept_of b u) → all_woken (view_of u mine (changed b i m ts b.unbound_refusals)) ≡ all_woken (view_of u mine b)
+    own b i u l m ts s at n mine done =
+        let x = view_of u mine b in
+        let g = woken (kept_of b u) b.clock in
+        let lines : set b.lines i m ≡ each (on l.number g) b.lines = set-on 0 b.last g b.lines i l m s.rising at n done.0 in
+        let cut : those mine (set b.lines i m) ≡ each (on l.number g) (those mine b.lines) = ap (those mine) lines ∙ those-each mine (on l.number g) b.lines in
+        ap (λ k. all_woken (record x { kept = k; lines = those mine (set b.lines i m) })) done.1
+        ∙ (ap (λ z. all_woken (record x { lines = z })) cut
+        ∙ ap (λ z. record x { lines = z }) (each-again (kept_of b u) b.clock l.number (those mine b.lines)))
+
+-- 4. All were looked at
+
+-- a later state has as much settled
+pub settled-later : (whom : Option ℕ) (a b c : BrokerState) (l : Line) → IsGoing a b → Waked whom b c → IsSettled whom a b l → IsSettled whom a c l
+settled-later whom a b c l g q h = λ t concerned is calm.
+    let left = calm-left (refusals_of a t) (refusals_of b t) (refusals_of c t) (g.grows.own t) (q.going.grows.own t) calm in
+    let right = calm-right (refusals_of a t) (refusals_of b t) (refusals_of c t) (g.grows.own t) (q.going.grows.own t) calm in
+    ap (λ k. woken k c.clock l.session) (q.kept t right) ∙ (ap (λ k. woken (kept_of b t) k l.session) q.going.clock ∙ h t concerned is left)
+
+-- a connection that does not wait is settled
+pub settled-free : (whom : Option ℕ) (a b : BrokerState) (l : Line) → is_free l.session.stage ≡ true → IsSettled whom a b l
+settled-free whom a b l free = λ t concerned is calm. woken-free (kept_of b t) b.clock l.session free
+
+-- and so is one of a tenant that is not concerned
+pub settled-other : (whom : Option ℕ) (a b : BrokerState) (l : Line) (u : ℕ) → whose l.session.stage ≡ Some u → (Concerns whom u → ⊥) → IsSettled whom a b l
+settled-other whom a b l u is never = λ t concerned is' calm. let e : u ≡ t = (let k : Some u ≡ Some t = sym is ∙ is' in cc) in absurd (never (subst (Concerns whom) (sym e) concerned))
+
+-- the one that was looked at is settled
+pub settled-looked : (whom : Option ℕ) (a b : BrokerState) (i u : ℕ) (l m : Line) (w : Wait) (H : Type 0) (ts : List TenantState) → IsGoing a b → l.session.stage ≡ BoundTo u (Some w) → without_wait m.session.stage ≡ without_wait l.session.stage → IsTurn u H b.tenants ts →
+    (IsCalm (count b.tenants u) (count ts u) → (m.session ≡ woken (kept_of b u) b.clock l.session) × (hosted.kept_of ts u ≡ kept_of b u)) → IsSettled whom a (changed b i m ts b.unbound_refusals) m
+settled-looked whom a b i u l m w H ts g is same turn meets = λ t concerned is' calm.
+    let q : IsBound u m.session = bound-same u l.session m.session (record { wait = Some w; is = is }) same in
+    let e : u ≡ t = (let k : Some u ≡ Some t = sym (ap whose q.is) ∙ is' in cc) in
+    let own : IsCalm (refusals_of a u) (count ts u) = subst (λ v. IsCalm (refusals_of a v) (count ts v)) (sym e) calm in
+    let done = meets (calm-right (refusals_of a u) (refusals_of b u) (count ts u) (g.grows.own u) (turn.grows u) own) in
+    let kept = woken (kept_of b u) b.clock in
+    let twice : kept m.session ≡ m.session = ap kept done.0 ∙ (woken-twice (kept_of b u) b.clock l.session ∙ sym done.0) in
+    subst (λ v. woken (hosted.kept_of ts v) b.clock m.session ≡ m.session) e (ap (λ k. woken k b.clock m.session) done.1 ∙ twice)
+
+-- of the tenant's connections each is settled
+each-settled : (setup : Setup) (t : ℕ) (mine : ℕ → Bool) (es : List Happening) (kept : Kept) (clock : ℕ) (ls : List Line) → AllByRecursion (IsMine setup t mine es) ls → AllByRecursion (λ (l : Line). whose l.session.stage ≡ Some t → woken kept clock l.session ≡ l.session) ls →
+    each (λ k s. woken kept clock s) (those mine ls) ≡ those mine ls
+each-settled setup t mine es kept clock [] m h = refl
+each-settled setup t mine es kept clock (l ∷ ls) m h = by (mine l.number) refl (each-settled setup t mine es kept clock ls m.1 h.1)
+  where
+    at : (st : Stage) → l.session.stage ≡ st → mine l.number ≡ true → woken kept clock l.session ≡ l.session
+    at (Greets g) e among = woken-free kept clock l.session (ap is_free e)
+    at (BoundTo u w) e among =
+        let is : mine l.number ≡ eqb u t = mine-bound setup t mine es l u (record { wait = w; is = e }) m.0 in
+        let same : u ≡ t = eqb_same u t (sym is ∙ among) in
+        h.0 (ap whose e ∙ ap Some same)
+    by : (b : Bool) → mine l.number ≡ b → each (λ k s. woken kept clock s) (those mine ls) ≡ those mine ls → each (λ k s. woken kept clock s) (cond b (l ∷ those mine ls) (those mine ls)) ≡ cond b (l ∷ those mine ls) (those mine ls)
+    by false e rest = rest
+    by true e rest = ap (λ s. (let x : Line = record { number = l.number; session = s } in x) ∷ each (λ k s. woken kept clock s) (those mine ls)) (at l.session.stage refl e) ∙ ap (λ xs. l ∷ xs) rest
+
+-- then no look finds anything new
+pub settled-view : (whom : Option ℕ) (a b : BrokerState) (t : ℕ) (mine : ℕ → Bool) (es : List Happening) → AllByRecursion (IsSettled whom a b) b.lines → Mine t mine es b → Concerns whom t → IsCalm (refusals_of a t) (refusals_of b t) → all_woken (view_of t mine b) ≡ view_of t mine b
+settled-view whom a b t mine es settled m concerned calm =
+    ap (λ ls. record (view_of t mine b) { lines = ls })
+    (each-settled b.setup t mine es (kept_of b t) b.clock b.lines m.now (all-map (IsSettled whom a b) (λ (l : Line). whose l.session.stage ≡ Some t → woken (kept_of b t) b.clock l.session ≡ l.session) (λ l h is. h t concerned is calm) b.lines settled))
+
+-- 5. A whole turn of a bound connection
+
+pub turned-served : (u : ℕ) (scope : Scope) (a b c : BrokerState) → Served u scope a b → Waked (Some u) b c → AllByRecursion (IsSettled (Some u) b c) c.lines → Turned scope a c
+turned-served u scope a b c p q settled =
+    let g = p.going.grows in
+    let h = q.going.grows in
+    let tenant = tenant-later scope b c u q.going p.tenants in
+    record {
+      going = going-then a b c p.going q.going;
+      still = q.still scope (λ t is. subst (HasTenant scope b) (sym is) p.tenants) p.still;
+      counted = counted-then scope a b c p.going q.going p.counted (counted-tenant scope b c u tenant (λ t ne. q.counts t ne) q.unbound);
+      untouched = untouched-then a b c p.untouched q.untouched;
+      mine = λ t mine es m calm. q.mine t mine es (p.mine t mine es m);
+      view = λ t mine es m calm. each-tenant (λ v. Mine v mine es a → IsCalm (refusals_of a v) (refusals_of c v) → turns (view_of v mine c) ≡ turns (view_of v mine a)) u t (eqb u t) refl
+          (λ m' c'.
+          let left = calm-left (refusals_of a u) (refusals_of b u) (refusals_of c u) (g.own u) (h.own u) c' in
+          let right = calm-right (refusals_of a u) (refusals_of b u) (refusals_of c u) (g.own u) (h.own u) c' in
+          let mb = p.mine u mine es m' in
+          ap turns (sym (settled-view (Some u) b c u mine es settled (q.mine u mine es mb) refl right) ∙ q.view u mine es mb right) ∙ p.view mine es m' left)
+          (λ ne m' c'. ap turns (q.others t mine es (p.mine t mine es m') ne ∙ p.others t mine es m' ne))
+          m calm.own;
+    }

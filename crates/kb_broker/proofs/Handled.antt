@@ -11,13 +11,13 @@ use Rattle.kb_tenant.specs.Hosted.{TenantState}
 use Rattle.kb_machine.specs.Session.{Stage, Greets, BoundTo, Session, fresh, shut_down, without_wait, is_free, fed, room, can}
 use Rattle.kb_machine.specs.Machine.{Comes, Moment, Line, first_able, work}
 use Rattle.kb_machine.specs.Owners.{find_line}
-use Rattle.kb_machine.specs.Broker.{BrokerState, IsReady, IsSound, IsStep, IsUntaken, is_deaf}
-use Rattle.kb_machine.specs.Turned.{Scope, Of, Everybody, IsStill, AreStill, IsGoing, is_resting, AreUntouched, IsFed, Turned, Served, Waked, IsSettled}
+use Rattle.kb_machine.specs.Broker.{BrokerState, AreUnready, AnyWait, IsReady, IsSound, IsStep, IsUntaken, is_deaf}
+use Rattle.kb_machine.specs.Turned.{Scope, Of, Everybody, IsStill, AreStill, IsGoing, is_resting, AreUntouched, IsFed, Turned, Served, Waked, IsPassedOver}
 use Rattle.kb_machine.proofs.Sets.{IsAt, all-at, all-map, all-set, all-still, work-set, first-still, still-none}
 use Rattle.kb_machine.proofs.Parts.{count, turn-then, calm-right, eqb_same}
 use Rattle.kb_machine.proofs.Owned.{found as found-all}
 use Rattle.kb_machine.specs.Calls.{moved}
-use Rattle.kb_machine.proofs.Steps.{sound-moved, step-moment}
+use Rattle.kb_machine.proofs.Steps.{sound-moved, moved-unready, step-moment}
 use Rattle.kb_machine.proofs.Turns.{going-then, untouched-then, turned-greeting, served-bound, refused-greeting}
 use Rattle.kb_machine.proofs.Feeds.{still-settled, fed-kept, fed-refused, fed-bound, step-comes, step-nothing, step-shut}
 use Rattle.kb_connection.specs.View.{with_session}
@@ -141,7 +141,7 @@ fed-counted : (b c : BrokerState) (i : ℕ) (l m : Line) (piece : List ℕ) (st 
 fed-counted b c i l m piece (Greets h) ready at s n e r =
     subst (λ x. IsFed l.number piece b x) (sym r.is) (fed-refused b i l m piece h c.unbound_refusals ready at s n e r.grows r.counted)
 fed-counted b c i l m piece (BoundTo t w) ready at s n e r =
-    subst (λ x. IsFed l.number piece b x) (sym r.is) (fed-bound b i t l m piece w (Unit {0}) c.tenants ready at s n e r.turn tt r.counted)
+    subst (λ x. IsFed l.number piece b x) (sym r.is) (fed-bound b i t l m piece w (Unit {0}) c.tenants ready at s n e r.turn tt r.stays r.counted)
 
 pub fed-shut : (b c : BrokerState) (i : ℕ) (l m : Line) (piece : List ℕ) → IsReady b → IsShut b c i l m → IsFed (number_at i b) piece b c
 fed-shut b c i l m piece ready h =
@@ -389,7 +389,7 @@ waked-scoped a b now ready waked = (Everybody, waked.still Everybody (λ t h. tt
 pub record IsMoved (now : ℕ) (a b c : BrokerState) : Type 0 where
   pub ready : IsReady a
   pub waked : Waked None (moved a now) b
-  pub settled : AllByRecursion (IsSettled None (moved a now) b) b.lines
+  pub rest : AreUnready (IsPassedOver None (max a.clock now)) (moved a now) → AreUnready AnyWait b
   pub turned : (scope : Scope) → AreStill scope b → Turned scope b c
   pub none : first_able c.lines ≡ None
 
@@ -400,7 +400,10 @@ pub moved-going : (now : ℕ) (a b c : BrokerState) → IsMoved now a b c → Is
 moved-going now a b c m = going-then (moved a now) b c m.waked.going (moved-turned now a b c m).going
 
 pub moved-step : (now : ℕ) (a b c : BrokerState) → IsMoved now a b c → IsStep (Moment now) a c
-moved-step now a b c m = step-moment now a b c m.ready m.waked m.settled (moved-turned now a b c m) m.none
+moved-step now a b c m = step-moment now a b c m.ready m.waked (m.rest (moved-unready a now m.ready.unready)) (moved-turned now a b c m) m.none
+
+pub moved-ready : (now : ℕ) (a b c : BrokerState) → IsMoved now a b c → IsReady c
+moved-ready now a b c m = record { sound = (moved-going now a b c m).sound; settled = m.none; unready = (moved-turned now a b c m).unready (m.rest (moved-unready a now m.ready.unready)) }
 
 pub moved-others : (now : ℕ) (a b c : BrokerState) → IsMoved now a b c → (k : ℕ) → waits_in (find_line k a.lines) ≡ false → find_line k c.lines ≡ find_line k a.lines
 moved-others now a b c m k free = untouched-then (moved a now) b c m.waked.untouched (moved-turned now a b c m).untouched k (resting-free k a a m.ready free)

@@ -7,7 +7,7 @@ use Rattle.kb_machine.proofs.Steps.{ready-opened, step-opened, step-unopened, re
 use Rattle.kb_machine.proofs.Taken.{ready-taken}
 
 ready-refused : (a c : BrokerState) → IsReady a → IsRefused a c → IsReady c
-ready-refused a c r h = subst IsReady (sym h.is) (record { sound = record { rising = r.sound.rising; in_range = r.sound.in_range; users = r.sound.users; clock = r.sound.clock }; settled = r.settled })
+ready-refused a c r h = subst IsReady (sym h.is) (record { sound = record { rising = r.sound.rising; in_range = r.sound.in_range; users = r.sound.users; clock = r.sound.clock }; settled = r.settled; unready = r.unready })
 
 pub connected-ready : {A E : Type 0} (r : Result A E) (a b c : BrokerState) (n : ℕ) → a ≡ b → IsReady a → b.last < n → OnOk r (c ≡ opened a n) → OnErr r (IsRefused a c) → IsReady c
 connected-ready (Ok x) a b c n e ready lt ok err = let up : a.last < n = subst (λ (x : BrokerState). x.last < n) (sym e) lt in subst IsReady (sym ok) (ready-opened a n ready up)

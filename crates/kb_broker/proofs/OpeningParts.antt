@@ -60,6 +60,7 @@ opening-ready listing s =
         clock = lit≤ tt;
       };
       settled = refl;
+      unready = tt;
     }
 
 map-twice : {X Y Z : Type 0} (f : X → Y) (g : Y → Z) (xs : List X) → map (λ x. g (f x)) xs ≡ map g (map f xs)

@@ -1,11 +1,13 @@
 -- What a tenant's call is to the connection that it is for.
-use Rattle.std.proofs.Common.{◌≡◌, ◌≢◌, ◌≤◌, false, Option, Some, None, inr, ℕ, ℤ, List, length, Bool, true, Result, Ok, Err, OnOk, OnErr, refl, sym, ap, subst, ◌∙◌, arith}
+use Rattle.std.proofs.Common.{◌≡◌, ◌≤◌, false, Option, Some, inr, ℕ, ℤ, List, length, Bool, true, Result, Ok, Err, OnOk, OnErr, refl, sym, ap, subst, ◌∙◌, arith}
+use Rattle.kb_world.specs.Parts.{END}
 use Rattle.kb_world.specs.Steps.{IsCalm}
 use Rattle.kb_world.specs.declared.place.Place.{Place}
 use Rattle.kb_tenant.specs.Hosted.{Kept, nothing, TenantState, IsTurn, IsMet, kept_in, kept_of, refusals_of, world_at}
-use Rattle.kb_tenant.specs.Replies.{Reaction, IsAnswer}
+use Rattle.kb_tenant.specs.Replies.{Reaction, Shuts, IsAnswer}
 use Rattle.kb_tenant.specs.Serve.{IsOutcome, served, looked}
 use Rattle.kb_tenant.specs.declared.answer.Answer.{Answer}
+use Rattle.kb_tenant.specs.declared.answer.Answer.TheVariants as answers
 use Rattle.kb_tenant.specs.declared.node.Node.{Node}
 use Rattle.kb_machine.specs.Tenant.{Wait, answer, ready, kept_after}
 use Rattle.kb_machine.specs.Session.{Greets, BoundTo, Session, can, shut_down, without_wait}
@@ -16,9 +18,14 @@ use Rattle.kb_machine.proofs.Owners.{stage-served, stage-shut}
 use Rattle.kb_connection.specs.Fronts.{IsOwn, IsAsked}
 use Rattle.kb_connection.specs.View.{with_session, without_front}
 use Rattle.kb_broker.specs.Places.{IsSpent, IsLookedAt}
-use Rattle.std.specs.Prelude.{unwrap_or}
+use Rattle.std.proofs.Common.{eqb}
+use Rattle.std.specs.Prelude.{nat_lt, ◌&&◌}
 use Rattle.std.specs.Result.{is_err}
-use Rattle.kb_machine.specs.Turned.{Concerns}
+use Rattle.kb_machine.specs.Turned.{IsLookedFor}
+use Rattle.kb_machine.specs.Broker.{BrokerState, IsUnready, AnyWait}
+use Rattle.kb_machine.proofs.Turns.{shut-unready}
+use Rattle.kb_machine.proofs.Wakes.{unready-woken}
+use Rattle.std.proofs.lemmas.Bool.Decides.{nat_tests}
 use Rattle.kb_machine.proofs.Parts.{turn-then, calm-right}
 
 -- 1. A request of the tenant
@@ -83,44 +90,61 @@ met-own (Err x) setup clock t ts l new own ok = tt
 -- 3. A look at a waiting fetch
 
 -- what the tenant answers to it is what the machine tells
-pub met-looked : {A E : Type 0} (result : Result A E) (clock t : ℕ) (ts us : List TenantState) (l new : Line) (w : Wait) (r : Answer) → l.session.stage ≡ BoundTo t (Some w)
+met-looked : {A E : Type 0} (result : Result A E) (clock t : ℕ) (ts us : List TenantState) (l new : Line) (w : Wait) (r : Answer) → l.session.stage ≡ BoundTo t (Some w)
     → IsMet t (Unit {0}) ts us (λ k m. (m ≡ k) × IsAnswer w.correlation_id (looked (world_at k clock) w.deadline w.body) r)
     → ((id : ℤ) (reaction : Reaction) → IsAnswer id reaction r → OnOk result (new ≡ with_session l (told reaction id l.session)))
-    → OnOk result (IsMet t (Unit {0}) ts us (λ k m. (new.session ≡ woken k clock l.session) × (m ≡ k)))
+    → IsCalm (refusals_of ts t) (refusals_of us t) → OnOk result (new.session ≡ woken (kept_of ts t) clock l.session)
 unfolding ready woken_by
-met-looked (Err x) clock t ts us l new w r stage meets ok = tt
-met-looked (Ok x) clock t ts us l new w r stage meets ok = λ honest calm.
+met-looked (Err x) clock t ts us l new w r stage meets ok calm = tt
+met-looked (Ok x) clock t ts us l new w r stage meets ok calm =
     let k = kept_of ts t in
-    let done = meets honest calm in
+    let done = meets tt calm in
     let is = ok w.correlation_id (looked (world_at k clock) w.deadline w.body) done.1 in
-    (ap (λ (x : Line). x.session) is ∙ sym (ap (woken_by k clock l.session) stage), done.0)
+    ap (λ (x : Line). x.session) is ∙ sym (ap (woken_by k clock l.session) stage)
 
--- whether a tenant is concerned
-pub concerned : (whom : Option ℕ) (t : ℕ) → unwrap_or whom t ≡ t → Concerns whom t
-concerned None t e = tt
-concerned (Some u) t e = sym e
-
-pub unconcerned : (whom : Option ℕ) (t : ℕ) → unwrap_or whom t ≢ t → Concerns whom t → ⊥
-unconcerned None t ne h = ne refl
-unconcerned (Some u) t ne h = ne (sym h)
-
--- a connection that waits was looked at, and not refused
-pub looked-ok : {A E : Type 0} (result : Result A E) (whom : Option ℕ) (clock t : ℕ) (ts us : List TenantState) (l new : Line) (w : Wait) (r : Answer) → l.session.stage ≡ BoundTo t (Some w) → Concerns whom t → IsTurn t (Unit {0}) ts us
-    → IsMet t (Unit {0}) ts us (λ k m. (m ≡ k) × IsAnswer w.correlation_id (looked (world_at k clock) w.deadline w.body) r)
+-- a look that was not refused is told by its answer, and one that was shuts the connection
+pub looked-ok : {A E : Type 0} (result : Result A E) (whom : Option ℕ) (clock t : ℕ) (ts us : List TenantState) (l new : Line) (w : Wait) (r : Answer) → l.session.stage ≡ BoundTo t (Some w) → IsLookedFor whom clock t w → IsTurn t (Unit {0}) ts us
+    → ((u : ℕ) → kept_of us u ≡ kept_of ts u) → IsMet t (Unit {0}) ts us (λ k m. (m ≡ k) × IsAnswer w.correlation_id (looked (world_at k clock) w.deadline w.body) r) → ((IsCalm (refusals_of ts t) (refusals_of us t) → ⊥) → r ≡ answers.Shut)
     → ((id : ℤ) (reaction : Reaction) → IsAnswer id reaction r → OnOk result (new ≡ with_session l (told reaction id l.session)))
     → new.number ≡ l.number → without_wait new.session.stage ≡ without_wait l.session.stage → length new.session.unread ≤ length l.session.unread → is_err result ≡ false → IsLookedAt whom clock l.session.stage ts us l new
-looked-ok result whom clock t ts us l new w r stage yours turn meets ok number same unread good =
+looked-ok result whom clock t ts us l new w r stage yours turn stays meets shut ok number same unread good =
+    let met = λ (honest : Unit {0}) (calm : IsCalm (refusals_of ts t) (refusals_of us t)). let h : OnOk result (new.session ≡ woken (kept_of ts t) clock l.session) = met-looked result clock t ts us l new w r stage meets ok calm in good-result result h good in
     subst (λ st. IsLookedAt whom clock st ts us l new) (sym stage)
-    (inr (yours, record { number = number; stage = same; unread = unread; turn = turn; meets = by result (met-looked result clock t ts us l new w r stage meets ok) good }))
+    (inr (yours, record {
+      number = number;
+      stage = same;
+      unread = unread;
+      turn = turn;
+      stays = stays;
+      meets = met;
+      unready = λ b is now. calm-or (refusals_of ts t) (refusals_of us t)
+          (λ calm. unready-met b t w l new stage (met tt calm ∙ (ap (λ k. woken k clock l.session) (ap (λ x. kept_of x t) (sym is)) ∙ ap (λ n. woken (kept_of b.tenants t) n l.session) (sym now))))
+          (λ loud. let is-shut = good-result result (ok w.correlation_id Shuts (subst (IsAnswer w.correlation_id Shuts) (sym (shut loud)) tt)) good in subst (λ (x : Line). IsUnready AnyWait b x.session.stage) (sym is-shut) (shut-unready AnyWait b l.session));
+    }))
   where
-    by : {A E : Type 0} {P : Type 0} (result : Result A E) → OnOk result P → is_err result ≡ false → P
-    by (Ok x) h e = h
-    by (Err x) h e = let no : true ≡ false = e in absurd (cc)
+    good-result : {A E : Type 0} {P : Type 0} (result : Result A E) → OnOk result P → is_err result ≡ false → P
+    good-result (Ok x) h e = h
+    good-result (Err x) h e = let no : true ≡ false = e in absurd (cc)
+    unready-met : (b : BrokerState) (t : ℕ) (w : Wait) (l new : Line) → l.session.stage ≡ BoundTo t (Some w) → new.session ≡ woken (kept_of b.tenants t) b.clock l.session → IsUnready AnyWait b new.session.stage
+    unready-met b t w l new stage is = subst (λ (s : Session). IsUnready AnyWait b s.stage) (sym is) (unready-woken AnyWait b l.session t w stage)
+    by : (x y : ℕ) {P : Type 0} (b : Bool) → (eqb y x && nat_lt x END) ≡ b → (IsCalm x y → P) → ((IsCalm x y → ⊥) → P) → P
+    by x y true e calm loud = calm (record { same = grind (arith, nat_tests, e); below = grind (arith, nat_tests, e) })
+    by x y false e calm loud = loud (λ h. let s = h.same in let l = h.below in grind (arith, nat_tests, e, s, l))
+    calm-or : (x y : ℕ) {P : Type 0} → (IsCalm x y → P) → ((IsCalm x y → ⊥) → P) → P
+    calm-or x y calm loud = by x y (eqb y x && nat_lt x END) refl calm loud
 
--- a connection that waits was looked at, and the reply could not be kept: a refusal was counted
-pub looked-err : {A E : Type 0} (result : Result A E) (whom : Option ℕ) (clock t : ℕ) (ts us vs : List TenantState) (l new : Line) (w : Wait) → l.session.stage ≡ BoundTo t (Some w) → Concerns whom t → IsTurn t (Unit {0}) ts us → IsTurn t (Unit {0}) us vs
-    → (IsCalm (refusals_of us t) (refusals_of vs t) → ⊥) → new.number ≡ l.number → without_wait new.session.stage ≡ without_wait l.session.stage → length new.session.unread ≤ length l.session.unread → IsLookedAt whom clock l.session.stage ts vs l new
-looked-err result whom clock t ts us vs l new w stage yours first then counted number same unread =
+-- the reply could not be kept: the connection is shut, and a refusal was counted
+pub looked-err : (whom : Option ℕ) (clock t : ℕ) (ts us vs : List TenantState) (l new : Line) (w : Wait) → l.session.stage ≡ BoundTo t (Some w) → IsLookedFor whom clock t w → IsTurn t (Unit {0}) ts us → IsTurn t (Unit {0}) us vs
+    → ((u : ℕ) → kept_of us u ≡ kept_of ts u) → ((u : ℕ) → kept_of vs u ≡ kept_of us u) → (IsCalm (refusals_of us t) (refusals_of vs t) → ⊥) → new ≡ with_session l (shut_down l.session)
+    → new.number ≡ l.number → without_wait new.session.stage ≡ without_wait l.session.stage → length new.session.unread ≤ length l.session.unread → IsLookedAt whom clock l.session.stage ts vs l new
+looked-err whom clock t ts us vs l new w stage yours first then stays again counted is number same unread =
     subst (λ st. IsLookedAt whom clock st ts vs l new) (sym stage)
-    (inr (yours, record { number = number; stage = same; unread = unread; turn = turn-then t (Unit {0}) (Unit {0}) ts us vs (λ u. u) first then;
-      meets = λ honest calm. absurd (counted (calm-right (refusals_of ts t) (refusals_of us t) (refusals_of vs t) (first.grows t) (then.grows t) calm)) }))
+    (inr (yours, record {
+      number = number;
+      stage = same;
+      unread = unread;
+      turn = turn-then t (Unit {0}) (Unit {0}) ts us vs (λ u. u) first then;
+      stays = λ u. again u ∙ stays u;
+      meets = λ honest calm. absurd (counted (calm-right (refusals_of ts t) (refusals_of us t) (refusals_of vs t) (first.grows t) (then.grows t) calm));
+      unready = λ b e now. subst (λ (x : Line). IsUnready AnyWait b x.session.stage) (sym is) (shut-unready AnyWait b l.session);
+    }))

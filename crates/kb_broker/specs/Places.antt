@@ -2,14 +2,15 @@
 use Rattle.std.specs.Prelude.{◌≡◌, ◌≢◌, ℕ, ◌<◌, ◌≤◌, List, length, take, map, get_or, Option, Some, None, Bool, true, false, not, ◌⊎◌}
 use Rattle.std.specs.List.{AllByRecursion}
 use Rattle.kb_world.specs.Steps.{IsCalm}
+use Rattle.kb_tenant.specs.Hosted as hosted
 use Rattle.kb_tenant.specs.Hosted.{TenantState, IsTurn, IsMet}
 use Rattle.kb_machine.specs.Tenant.{Wait}
 use Rattle.kb_machine.specs.Session.{Stage, Greets, BoundTo, Session, without_wait, is_free, can}
 use Rattle.kb_machine.specs.Greeting.{Setup, greeted}
 use Rattle.kb_machine.specs.Machine.{Line, served, put, woken, first_able, work}
-use Rattle.kb_machine.specs.Broker.{BrokerState, IsSound, refusals_of}
+use Rattle.kb_machine.specs.Broker.{BrokerState, IsSound, IsUnready, AreUnready, AnyWait, refusals_of}
 use Rattle.kb_machine.specs.Calls.{IsRefused}
-use Rattle.kb_machine.specs.Turned.{Scope, AreStill, Turned, Served, Concerns, Waked, IsSettled}
+use Rattle.kb_machine.specs.Turned.{Scope, AreStill, Turned, Served, Waked, IsLookedFor, IsPassedOver}
 
 -- the numbers of the open connections, in order
 abbrev pub numbers : BrokerState → List ℕ
@@ -61,6 +62,7 @@ pub record IsSpent (s r : Session) : Type 0 where
 pub record IsCountedFor (t : ℕ) (old new : BrokerState) : Type 0 where
   pub is : new ≡ record old { tenants = new.tenants }
   pub turn : IsTurn t (Unit {0}) old.tenants new.tenants
+  pub stays : (u : ℕ) → hosted.kept_of new.tenants u ≡ hosted.kept_of old.tenants u
   pub counted : IsCalm (refusals_of old t) (refusals_of new t) → ⊥
 
 -- a refusal was counted for the tenant that a connection is bound to, or for none where it still greets
@@ -73,27 +75,31 @@ abbrev pub IsServedAt : Stage → Scope → BrokerState → BrokerState → Type
 IsServedAt (Greets handshaken) scope old new = Turned scope old new
 IsServedAt (BoundTo tenant wait) scope old new = Served tenant scope old new
 
--- a look at a waiting fetch of a tenant left this of the connection l and of the tenants
-pub record IsLookedFor (t clock : ℕ) (old new : List TenantState) (l m : Line) : Type 0 where
+-- a look at a waiting fetch of that tenant left this of the connection l and of the tenants: what they keep stays, and the fetch waits no longer, or is not ready
+pub record IsLooked (t clock : ℕ) (old new : List TenantState) (l m : Line) : Type 0 where
   pub number : m.number ≡ l.number
   pub stage : without_wait m.session.stage ≡ without_wait l.session.stage
   pub unread : length m.session.unread ≤ length l.session.unread
   pub turn : IsTurn t (Unit {0}) old new
-  pub meets : IsMet t (Unit {0}) old new (λ k n. (m.session ≡ woken k clock l.session) × (n ≡ k))
+  pub stays : (u : ℕ) → hosted.kept_of new u ≡ hosted.kept_of old u
+  pub meets : IsMet t (Unit {0}) old new (λ k n. m.session ≡ woken k clock l.session)
+  pub unready : (b : BrokerState) → b.tenants ≡ old → b.clock ≡ clock → IsUnready AnyWait b m.session.stage
 
 -- nothing was looked at
 abbrev pub IsPassedBy : List TenantState → List TenantState → Line → Line → Type 0
 IsPassedBy old new l m = (new ≡ old) × (m ≡ l)
 
--- a connection at that stage was looked at, if it waits for a fetch of a tenant that is concerned
+-- a connection at that stage was looked at, if it waits for a fetch that is looked for
 abbrev pub IsLookedAt : Option ℕ → ℕ → Stage → List TenantState → List TenantState → Line → Line → Type 0
 IsLookedAt whom clock (Greets handshaken) old new l m = IsPassedBy old new l m
 IsLookedAt whom clock (BoundTo t None) old new l m = IsPassedBy old new l m
-IsLookedAt whom clock (BoundTo t (Some wait)) old new l m = ((Concerns whom t → ⊥) × IsPassedBy old new l m) ⊎ (Concerns whom t × IsLookedFor t clock old new l m)
+IsLookedAt whom clock (BoundTo t (Some w)) old new l m = (IsPassedOver whom clock t w × IsPassedBy old new l m) ⊎ (IsLookedFor whom clock t w × IsLooked t clock old new l m)
 
--- the connections before a place were looked at, and of those none waits unless some may
+-- the connections before a place were looked at, those behind it are as they were, and of those before it none waits unless some may
 pub record AreWaked (whom : Option ℕ) (old new : BrokerState) (i : ℕ) (may_wait : Bool) : Type 0 where
   pub waked : Waked whom old new
-  pub settled : AllByRecursion (IsSettled whom old new) (take i new.lines)
+  pub looked : AllByRecursion (λ (l : Line). IsUnready (IsLookedFor whom old.clock) new l.session.stage) (take i new.lines)
+  pub rest : AreUnready (IsPassedOver whom old.clock) old → AllByRecursion (λ (l : Line). IsUnready AnyWait new l.session.stage) (take i new.lines)
+  pub over : AreUnready (IsPassedOver whom old.clock) old → AreUnready (IsPassedOver whom old.clock) new
   pub free : AreFree may_wait (take i new.lines)
   pub work : work new.lines ≤ work old.lines

@@ -21,12 +21,3 @@ pub use kb_settings::{Settings, User};
 pub use opening::{Listing, names_in_order, places_of_names};
 pub use run::{Event, Written};
 pub use script::{ScriptFault, run_script};
-
-#[cfg(test)]
-mod opening_tests;
-#[cfg(test)]
-mod run_tests;
-#[cfg(test)]
-mod script_tests;
-#[cfg(test)]
-mod tests;

@@ -5,11 +5,12 @@ ghost use Rattle.kb_tenant.specs.Hosted.{IsTurn, IsMet};
 ghost use Rattle.kb_machine.specs.Session.{shut_down, can};
 ghost use Rattle.kb_machine.specs.Machine.{served, put};
 ghost use Rattle.kb_machine.specs.Broker.{InRange};
-ghost use Rattle.kb_connection.specs.View.{with_session};
+ghost use Rattle.kb_machine.specs.Turned.{is_looked_for};
+ghost use Rattle.kb_connection.specs.View.{wait_of, with_session};
 ghost use Rattle.kb_broker.specs.Hosts.{tenants_in, AreHosted};
 ghost use Rattle.kb_broker.specs.Places.{IsSpent, IsTakenAt, IsTurnAt, IsLookedAt};
 
-use kb_connection::{Connection, Phase, Setup};
+use kb_connection::{Connection, Phase, Setup, Waiting};
 use kb_log::ListLog;
 use kb_store::MemoryStore;
 use kb_tenant::Served;
@@ -77,8 +78,8 @@ fn serve_bound(
     connection.answer(alloc, answer)
 }
 
-/// Looks at a connection again, where it waits for a fetch of a tenant that is concerned: that one, or any. A fetch that is
-/// ready is answered. Where memory is refused the connection is shut, with a count.
+/// Looks at a connection again, where it waits for a fetch of that tenant, or, of all, for one whose deadline has come. A fetch
+/// that is ready is answered. Where memory is refused the connection is shut, with a count.
 pub fn look_again(
     alloc: Global,
     tenants: &mut Tenants<ListLog, MemoryStore>,
@@ -94,7 +95,7 @@ pub fn look_again(
     let Some((tenant, waiting)) = connection.waiting() else {
         return;
     };
-    if whom.unwrap_or(tenant) != tenant {
+    if !is_looked_for(whom, clock, tenant, waiting) {
         return;
     }
     let answer = tenants.look(
@@ -107,5 +108,15 @@ pub fn look_again(
     );
     if connection.wake(answer).is_err() {
         tenants.refuse(tenant);
+    }
+}
+
+/// Whether a waiting fetch is looked at: one of that tenant, or, of all, one whose deadline has come.
+fn is_looked_for(whom: Option<usize>, clock: u64, tenant: usize, waiting: &Waiting) -> bool
+    ensures { result ≡ is_looked_for whom clock tenant (wait_of waiting.now) }
+{
+    match whom {
+        Some(concerned) => tenant == concerned,
+        None => waiting.deadline <= clock,
     }
 }

@@ -12,7 +12,7 @@ use Rattle.kb_machine.specs.Session.{Stage, Greets, BoundTo, Session, fed, room,
 use Rattle.kb_machine.specs.Greeting.{Setup}
 use Rattle.kb_machine.specs.Machine.{Happening, Comes, Line, World, each, on, those, first_able, turns, stepped}
 use Rattle.kb_machine.specs.Owners.{Owns, Fits, whose, heard, destiny}
-use Rattle.kb_machine.specs.Broker.{BrokerState, IsReady, IsStep, IsUntaken, Rising, Mine, view_of}
+use Rattle.kb_machine.specs.Broker.{BrokerState, IsUnready, AreUnready, AnyWait, kept_of, IsReady, IsStep, IsUntaken, Rising, Mine, view_of}
 use Rattle.kb_machine.specs.Turned.{Scope, Of, IsStill, AreStill, Turned, IsFed}
 use Rattle.kb_machine.proofs.Laws.{none-those, turns-none, those-each}
 use Rattle.kb_machine.specs.Turned.{IsGoing}
@@ -20,7 +20,7 @@ use Rattle.kb_machine.proofs.Owners.{IsBound, IsMine, heard-still, fate-bound, m
 use Rattle.kb_machine.proofs.Ranges.{range-same}
 use Rattle.kb_machine.proofs.Sets.{IsAt, all-at, all-map, all-those, all-still, rising-above, set-on, find-set_other, tail-at, no-at, each-on_none}
 use Rattle.kb_machine.proofs.Parts.{count, each-tenant, calm-left, calm-right, grows-same, calm-first, calm-then}
-use Rattle.kb_machine.proofs.Turns.{changed, changed-going, changed-still, called-going, going-then, counted-then, counted-same, counted-tenant, counted-unbound, scope-tenant, tenant-later}
+use Rattle.kb_machine.proofs.Turns.{shut-unready, changed-unready, changed, changed-going, changed-still, called-going, going-then, counted-then, counted-same, counted-tenant, counted-unbound, scope-tenant, tenant-later}
 use Rattle.kb_machine.proofs.Steps.{settled-turns, with_lines}
 
 -- 1. What a piece is to those that it does not come on
@@ -85,6 +85,15 @@ view-fed : (w : World) (mine : ℕ → Bool) (n : ℕ) (piece : List ℕ) (ls : 
 view-fed w mine n piece ls true m f none = ap (λ x. turns (with_lines w x)) (those-each mine (on n (fed piece)) ls ∙ ap (each (on n (fed piece))) (sym f))
 view-fed w mine n piece ls false m f none = ap (λ x. turns (with_lines w x)) (those-on_other mine n (fed piece) ls m ∙ sym f) ∙ turns-none w (ap first_able f ∙ none-those mine ls none)
 
+unready-fed : (P : ℕ → Wait → Type 0) (b : BrokerState) (piece : List ℕ) (s : Session) → IsUnready P b s.stage → IsUnready P b (fed piece s).stage
+unfolding fed
+unready-fed P b piece s u = by s.shut (nat_lt (room s) (length piece))
+  where
+    by : (x y : Bool) → IsUnready P b (let r : Session = cond x s (cond y (shut_down s) (record s { unread = s.unread ++ piece })) in r).stage
+    by true y = u
+    by false true = shut-unready P b s
+    by false false = u
+
 -- the piece was taken, or it was longer than the room and the connection is shut
 pub fed-kept : (b : BrokerState) (i : ℕ) (l m : Line) (piece : List ℕ) → IsReady b → IsAt b.lines i l → m.number ≡ l.number → m.session ≡ fed piece l.session → IsFed l.number piece b (changed b i m b.tenants b.unbound_refusals)
 fed-kept b i l m piece r at n e =
@@ -99,6 +108,7 @@ fed-kept b i l m piece r at n e =
       going = going;
       still = fed-still b i l m b.tenants b.unbound_refusals r.settled n going;
       counted = counted-same (Of l.number) b (changed b i m b.tenants b.unbound_refusals) (λ t. refl) refl;
+      unready = λ u. changed-unready AnyWait b i m b.tenants b.unbound_refusals (λ t. refl) u (subst (λ (x : Session). IsUnready AnyWait b x.stage) (sym e) (unready-fed AnyWait b piece l.session (all-at (λ x. IsUnready AnyWait b x.session.stage) b.lines i l at u)));
       others = λ k ne. find-set_other k b.lines i l m at n ne;
       mine = λ t mine es k calm. record { now = comes-set b.setup t 0 b.last mine piece es b.lines i l m s.rising at n (comes-fed b.setup t mine piece es l m still n e) k.now; later = k.later };
       view = λ t mine es k calm. ap (λ x. turns (with_lines (view_of t mine b) (those mine x))) lines ∙ view-fed (view_of t mine b) mine l.number piece b.lines (mine l.number) refl refl r.settled;
@@ -117,6 +127,7 @@ fed-refused b i l m piece h x r at g n e up rises =
       going = going;
       still = fed-still b i l m b.tenants x r.settled n going;
       counted = counted-unbound (Of l.number) b i l m x s at (inl refl) none;
+      unready = λ u. changed-unready AnyWait b i m b.tenants x (λ t. refl) u (subst (λ (y : Session). IsUnready AnyWait b y.stage) (sym e) (shut-unready AnyWait b l.session));
       others = λ k ne. find-set_other k b.lines i l m at n ne;
       mine = λ t mine es k calm. absurd (rises calm);
       view = λ t mine es k calm. absurd (rises calm.unbound);
@@ -128,8 +139,8 @@ view-hidden w mine n f piece ls m e none =
 
 -- a bound connection's piece could not be kept: a refusal is counted for its tenant
 pub fed-bound : (b : BrokerState) (i u : ℕ) (l m : Line) (piece : List ℕ) (w : Option Wait) (H : Type 0) (ts : List TenantState) → IsReady b → IsAt b.lines i l → l.session.stage ≡ BoundTo u w → m.number ≡ l.number → m.session ≡ shut_down l.session →
-    IsTurn u H b.tenants ts → H → (IsCalm (count b.tenants u) (count ts u) → ⊥) → IsFed l.number piece b (changed b i m ts b.unbound_refusals)
-fed-bound b i u l m piece w H ts r at g n e turn honest loud =
+    IsTurn u H b.tenants ts → H → ((t : ℕ) → hosted.kept_of ts t ≡ kept_of b t) → (IsCalm (count b.tenants u) (count ts u) → ⊥) → IsFed l.number piece b (changed b i m ts b.unbound_refusals)
+fed-bound b i u l m piece w H ts r at g n e turn honest stays loud =
     let s = r.sound in
     let p : IsBound u l.session = record { wait = w; is = g } in
     let same : without_wait m.session.stage ≡ without_wait l.session.stage = ap (λ (x : Session). without_wait x.stage) e ∙ stage-shut l.session in
@@ -141,6 +152,7 @@ fed-bound b i u l m piece w H ts r at g n e turn honest loud =
       going = going;
       still = fed-still b i l m ts b.unbound_refusals r.settled n going;
       counted = counted-tenant (Of l.number) b new u (tenant-later (Of l.number) b new u going (scope-tenant (Of l.number) b i u l s at (inl refl) (ap whose g))) (λ t ne. turn.counts t ne) refl;
+      unready = λ k. changed-unready AnyWait b i m ts b.unbound_refusals stays k (subst (λ (y : Session). IsUnready AnyWait b y.stage) (sym e) (shut-unready AnyWait b l.session));
       others = λ k ne. find-set_other k b.lines i l m at n ne;
       mine = λ t mine es k calm. record { now = comes-set b.setup t 0 b.last mine piece es b.lines i l m s.rising at n (comes-bound b.setup t u mine piece es l m p q n) k.now; later = k.later };
       view = λ t mine es k calm. each-tenant (λ v. Mine v mine (Comes l.number piece ∷ es) b → IsCalm (count b.tenants v) (count ts v) → turns (view_of v mine new) ≡ stepped (mine l.number) (Comes l.number piece) (view_of v mine b)) u t (eqb u t) refl
@@ -156,8 +168,8 @@ fed-bound b i u l m piece w H ts r at g n e turn honest loud =
 
 -- 3. The end of the event
 
-pub ready-turned : (a c : BrokerState) → IsGoing a c → first_able c.lines ≡ None → IsReady c
-ready-turned a c w e = record { sound = w.sound; settled = e }
+pub ready-turned : (a c : BrokerState) → IsGoing a c → first_able c.lines ≡ None → AreUnready AnyWait c → IsReady c
+ready-turned a c w e u = record { sound = w.sound; settled = e; unready = u }
 
 -- a piece that was taken, and then turns until none is left
 pub step-comes : (n : ℕ) (piece : List ℕ) (a b c : BrokerState) → IsFed n piece a b → Turned (Of n) b c → first_able c.lines ≡ None → (IsUntaken n piece a → ⊥) → IsStep (Comes n piece) a c

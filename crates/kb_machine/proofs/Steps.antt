@@ -6,21 +6,31 @@ use Rattle.std.proofs.lemmas.Bool.Decides.{nat_tests}
 use Rattle.kb_api_group.specs.Frames.{front}
 use Rattle.kb_wire.specs.Codec.{int}
 use Rattle.kb_world.specs.Steps.{IsCalm}
-use Rattle.kb_tenant.specs.Hosted.{Kept}
-use Rattle.kb_machine.specs.Tenant.{retained}
-use Rattle.kb_machine.specs.Session.{fresh, can}
+use Rattle.kb_tenant.specs.Hosted.{Kept, world_at}
+use Rattle.std.specs.Prelude.{Option, Some, Result, Ok, Err}
+use Rattle.kb_wire.specs.Codec.{whole}
+use Rattle.kb_wire.specs.declared.fault.WireFault.{WireFault}
+use Rattle.kb_api_data.specs.Layouts.{fetch_request, fetch_reply}
+use Rattle.kb_api_data.specs.declared.fetch.FetchRequest.{FetchRequest}
+use Rattle.kb_api_data.specs.declared.fetch.FetchReply.{FetchReply}
+use Rattle.kb_tenant.specs.Fetch.{fetch_answer}
+use Rattle.kb_tenant.specs.Replies.{Replies, Silent}
+use Rattle.kb_tenant.specs.Serve.{looked, looked_at}
+use Rattle.kb_tenant.proofs.Asked.{waits_at}
+use Rattle.kb_machine.specs.Tenant.{Wait, ready, retained}
+use Rattle.kb_machine.specs.Session.{Stage, Greets, BoundTo, fresh, can}
 use Rattle.kb_machine.specs.Greeting.{Setup}
 use Rattle.kb_machine.specs.Machine.{Happening, Opens, Closes, Moment, Line, World, those, first_able, all_woken, turns, stepped}
 use Rattle.kb_machine.specs.Owners.{Owns, Fits, find_line, whose, heard, destiny, unborn}
-use Rattle.kb_machine.specs.Broker.{BrokerState, IsSound, IsReady, IsStep, Rising, Mine, view_of}
+use Rattle.kb_machine.specs.Broker.{BrokerState, IsSound, IsUnready, AreUnready, AnyWait, kept_of, IsReady, IsStep, Rising, Mine, view_of}
 use Rattle.kb_machine.specs.Calls.{opened, closed, moved, other_than}
 use Rattle.kb_machine.proofs.Laws.{none-those, turns-none}
-use Rattle.kb_machine.specs.Turned.{Everybody, Turned, Waked, IsSettled}
+use Rattle.kb_machine.specs.Turned.{Everybody, Turned, Waked, IsPassedOver}
 use Rattle.kb_machine.proofs.Owners.{IsMine, heard-still}
 use Rattle.kb_machine.proofs.Parts.{calm-right, calm-first, calm-then}
 use Rattle.kb_machine.proofs.Turns.{going-then}
-use Rattle.kb_machine.proofs.Wakes.{settled-view}
-use Rattle.kb_machine.proofs.Sets.{IsAt, all-those, all-push, rising-above, tail-at, no-at}
+use Rattle.kb_machine.proofs.Wakes.{unready-view}
+use Rattle.kb_machine.proofs.Sets.{IsAt, all-map, all-those, all-push, rising-above, tail-at, no-at}
 
 -- where no connection can take a turn, turns are nothing
 pub settled-turns : (t : ℕ) (mine : ℕ → Bool) (b : BrokerState) → first_able b.lines ≡ None → turns (view_of t mine b) ≡ view_of t mine b
@@ -71,6 +81,7 @@ ready-opened b n r lt = record {
     clock = r.sound.clock;
   };
   settled = first-push b.lines (record { number = n; session = fresh }) r.settled can-fresh;
+  unready = all-push (λ l. IsUnready AnyWait b l.session.stage) b.lines (record { number = n; session = fresh }) r.unready tt;
 }
 
 view-opened : (w : World) (n : ℕ) (mine : ℕ → Bool) (yes : Bool) → mine n ≡ yes → with_lines w (w.lines ++ those mine (record { number = n; session = fresh } ∷ [])) ≡ stepped yes (Opens n) w
@@ -181,6 +192,7 @@ ready-closed b n r = record {
     clock = r.sound.clock;
   };
   settled = none-those (other_than n) b.lines r.settled;
+  unready = all-those (λ l. IsUnready AnyWait b l.session.stage) (other_than n) b.lines r.unready;
 }
 
 pub step-closed : (b : BrokerState) (n : ℕ) → IsStep (Closes n) b (closed b n)
@@ -207,9 +219,33 @@ retained-same : (clock : ℕ) (kept : Kept) → retained clock kept ≡ kept
 unfolding retained
 retained-same clock kept = refl
 
--- then all waiting fetches are looked at, and then there are turns until none is left
-pub step-moment : (now : ℕ) (a b c : BrokerState) → IsReady a → Waked None (moved a now) b → AllByRecursion (IsSettled None (moved a now) b) b.lines → Turned Everybody b c → first_able c.lines ≡ None → IsStep (Moment now) a c
-step-moment now a b c r q settled t none =
+-- a fetch that was not ready is not before its deadline, as long as its tenant keeps the same
+later : (kept : Kept) (clock now : ℕ) (w : Wait) → ready kept clock w ≡ Silent → now < w.deadline → ready kept now w ≡ Silent
+unfolding ready looked
+later kept clock now w e early = by (whole fetch_request w.body) e
+  where
+    none : (o : Option FetchReply) → elim o [ Some reply ↦ Replies (fetch_reply.written reply) | None ↦ Silent ] ≡ Silent → o ≡ None
+    none (Some reply) h = absurd (cc)
+    none None h = refl
+    by : (r : Result FetchRequest WireFault) → looked_at (world_at kept clock) w.deadline r ≡ Silent → looked_at (world_at kept now) w.deadline r ≡ Silent
+    by (Ok r) h =
+        let waits = none (fetch_answer (world_at kept clock) r w.deadline) h in
+        let still = waits_at (world_at kept clock) r w.deadline waits now early in
+        ap (λ (o : Option FetchReply). elim o [ Some reply ↦ Replies (fetch_reply.written reply) | None ↦ Silent ]) still.0
+    by (Err fault) h = absurd (cc)
+
+-- so after the clock moved only those can be ready whose deadline has come
+pub moved-unready : (b : BrokerState) (now : ℕ) → AreUnready AnyWait b → AreUnready (IsPassedOver None (max b.clock now)) (moved b now)
+moved-unready b now r = all-map (λ l. IsUnready AnyWait b l.session.stage) (λ l. IsUnready (IsPassedOver None (max b.clock now)) (moved b now) l.session.stage) (λ l. one b now l.session.stage) b.lines r
+  where
+    one : (b : BrokerState) (now : ℕ) (st : Stage) → IsUnready AnyWait b st → IsUnready (IsPassedOver None (max b.clock now)) (moved b now) st
+    one b now (Greets h) u = tt
+    one b now (BoundTo t None) u = tt
+    one b now (BoundTo t (Some w)) u = λ early. later (kept_of b t) b.clock (max b.clock now) w (u tt) (grind (arith, nat_tests, early))
+
+-- then the waiting fetches that are due are looked at, and then there are turns until none is left
+pub step-moment : (now : ℕ) (a b c : BrokerState) → IsReady a → Waked None (moved a now) b → AreUnready AnyWait b → Turned Everybody b c → first_able c.lines ≡ None → IsStep (Moment now) a c
+step-moment now a b c r q unready t none =
     let start = moved a now in
     let g = q.going.grows in
     let h = t.going.grows in
@@ -227,6 +263,6 @@ step-moment now a b c r q settled t none =
           let v = view_of u mine start in
           sym (settled-turns u mine c none)
           ∙ (t.view u mine es mb then
-          ∙ (ap turns (sym (settled-view None start b u mine es settled mb tt first.own) ∙ q.view u mine es at first.own)
+          ∙ (ap turns (sym (unready-view AnyWait b u mine es unready (λ w. tt) mb) ∙ q.view u mine es at first.own)
           ∙ ap (λ k. turns (all_woken (record v { kept = k }))) (sym (retained-same (max a.clock now) v.kept))));
     }

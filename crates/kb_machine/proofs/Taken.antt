@@ -4,7 +4,7 @@ use Rattle.std.specs.Prelude.{cond}
 use Rattle.std.specs.List.{AllByRecursion}
 use Rattle.kb_machine.specs.Session.{Session, can}
 use Rattle.kb_machine.specs.Machine.{Line, each, on, those}
-use Rattle.kb_machine.specs.Broker.{BrokerState, IsReady, InRange, Rising, view_of}
+use Rattle.kb_machine.specs.Broker.{BrokerState, IsUnready, AnyWait, IsReady, InRange, Rising, view_of}
 use Rattle.kb_machine.specs.Calls.{taken, without_output}
 use Rattle.kb_machine.proofs.Laws.{those-each}
 use Rattle.kb_machine.proofs.Sets.{all-still, none-able}
@@ -33,10 +33,19 @@ range-taken n tenants (l ∷ ls) h = (by (eqb l.number n), range-taken n tenants
     by true = h.0
     by false = h.0
 
+unready-taken : (n : ℕ) (b : BrokerState) (ls : List Line) → AllByRecursion (λ l. IsUnready AnyWait b l.session.stage) ls → AllByRecursion (λ l. IsUnready AnyWait b l.session.stage) (each (on n without_output) ls)
+unready-taken n b [] h = tt
+unready-taken n b (l ∷ ls) h = (by (eqb l.number n), unready-taken n b ls h.1)
+  where
+    by : (c : Bool) → IsUnready AnyWait b (cond c (without_output l.session) l.session).stage
+    by true = h.0
+    by false = h.0
+
 pub ready-taken : (b : BrokerState) (n : ℕ) → IsReady b → IsReady (taken b n)
 ready-taken b n r = record {
   sound = record { rising = rising-taken n 0 b.last b.lines r.sound.rising; in_range = range-taken n (length b.tenants) b.lines r.sound.in_range; users = r.sound.users; clock = r.sound.clock };
   settled = none-able (each (on n without_output) b.lines) (first-taken n b.lines (all-still b.lines r.settled));
+  unready = unready-taken n b b.lines r.unready;
 }
 
 -- the view of a tenant, its output taken too

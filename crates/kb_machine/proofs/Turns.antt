@@ -1,15 +1,20 @@
 -- The turns of connections.
-use Rattle.std.proofs.Common.{◌≡◌, ◌≢◌, ◌≤◌, ℕ, List, length, set, eqb, Bool, true, false, Option, Some, None, refl, sym, ◌∙◌, ap, subst, arith, inl, inr}
+use Rattle.std.proofs.Common.{◌≡◌, ◌≢◌, ◌≤◌, ◌++◌, ℕ, ℤ, List, length, set, eqb, Bool, true, false, Option, Some, None, refl, sym, ◌∙◌, ap, subst, arith, inl, inr}
+use Rattle.std.specs.Prelude.{cond, nat_lt, codes}
+use Rattle.std.specs.Str.{bytes_eq}
+use Rattle.kb_api_group.specs.Frames.{Front, Whole, Partial, TooSmall, TooLarge, front}
+use Rattle.kb_tenant.specs.Replies.{framed, reply_size}
+use Rattle.kb_machine.specs.Requests.{Asked, Versions, OtherVersions, Handshake, Authenticate, Another, Unread, request}
 use Rattle.std.proofs.lemmas.Bool.Decides.{nat_tests}
 use Rattle.kb_world.specs.Steps.{IsCalm}
 use Rattle.kb_tenant.specs.Hosted as hosted
 use Rattle.kb_tenant.specs.Hosted.{TenantState, IsTurn}
-use Rattle.kb_machine.specs.Tenant.{Wait}
-use Rattle.kb_machine.specs.Session.{Session, Greets, BoundTo, shut_down, without_wait, can}
-use Rattle.kb_machine.specs.Greeting.{greeted}
+use Rattle.kb_machine.specs.Tenant.{Wait, ready}
+use Rattle.kb_machine.specs.Session.{Stage, Session, Greets, BoundTo, shut_down, replied, without_wait, is_free, can}
+use Rattle.kb_machine.specs.Greeting.{Setup, login, logged_in, shaken, greeted_by, greeted_at, greeted}
 use Rattle.kb_machine.specs.Machine.{Happening, Line, served, put, each, on, those, first_able, all_woken, turns}
 use Rattle.kb_machine.specs.Owners.{Owns, find_line, whose}
-use Rattle.kb_machine.specs.Broker.{BrokerState, IsSound, Grows, InRange, Mine, view_of, kept_of, refusals_of, bound_to, bound_as}
+use Rattle.kb_machine.specs.Broker.{BrokerState, IsSound, IsUnready, AreUnready, AnyWait, Grows, InRange, Mine, view_of, kept_of, refusals_of, bound_to, bound_as}
 use Rattle.kb_machine.specs.Turned.{Scope, Of, Everybody, HasTenant, InScope, IsStill, AreStill, IsCountedIn, IsGoing, is_resting, AreUntouched, Turned, Served}
 use Rattle.kb_machine.proofs.Owners.{IsBound, IsMine, SameFate, fate-same, fate-greeted, fate-bound, mine-bound, bound-same, owns-fates, those-on_other, view-greeting, view-served}
 use Rattle.kb_machine.proofs.Ranges.{range-greeted, range-same, range-without}
@@ -48,6 +53,7 @@ turned-same scope b s h = record {
   still = h;
   counted = counted-same scope b b (λ t. refl) refl;
   untouched = λ k e. refl;
+  unready = λ u. u;
   mine = λ t mine es m q. m;
   view = λ t mine es m q. refl;
 }
@@ -61,6 +67,7 @@ turned-then scope a b c p q =
       still = q.still;
       counted = counted-then scope a b c p.going q.going p.counted q.counted;
       untouched = untouched-then a b c p.untouched q.untouched;
+      unready = λ u. q.unready (p.unready u);
       mine = λ t mine es m calm. q.mine t mine es
           (p.mine t mine es m (calm-left a.unbound_refusals b.unbound_refusals c.unbound_refusals g.unbound h.unbound calm))
           (calm-right a.unbound_refusals b.unbound_refusals c.unbound_refusals g.unbound h.unbound calm);
@@ -69,7 +76,78 @@ turned-then scope a b c p q =
           q.view t mine es (p.mine t mine es m left.unbound) (calm-then t a b c g h calm) ∙ p.view t mine es m left;
     }
 
--- 2. Another connection at a place
+-- 2. Waits that are not ready
+
+pub free-unready : (P : ℕ → Wait → Type 0) (b : BrokerState) (st : Stage) → is_free st ≡ true → IsUnready P b st
+free-unready P b (Greets h) e = tt
+free-unready P b (BoundTo t None) e = tt
+free-unready P b (BoundTo t (Some w)) e = let no : false ≡ true = e in absurd (cc)
+
+pub free-without : (st : Stage) → is_free (without_wait st) ≡ true
+free-without (Greets h) = refl
+free-without (BoundTo t w) = refl
+
+pub shut-unready : (P : ℕ → Wait → Type 0) (b : BrokerState) (s : Session) → IsUnready P b (shut_down s).stage
+shut-unready P b s = free-unready P b (without_wait s.stage) (free-without s.stage)
+
+pub free-replied : (id : ℤ) (body : List ℕ) (s : Session) → is_free s.stage ≡ true → is_free (replied id body s).stage ≡ true
+unfolding replied
+free-replied id body s free = by (nat_lt 2147483647 (reply_size body))
+  where
+    by : (b : Bool) → is_free (let x : Session = cond b (shut_down s) (record s { output = s.output ++ framed id body }) in x).stage ≡ true
+    by true = free-without s.stage
+    by false = free
+
+free-logged_in : (o : Option ℕ) (id : ℤ) (s : Session) → is_free s.stage ≡ true → is_free (logged_in o id s).stage ≡ true
+free-logged_in (Some t) id s free = free-replied id _ (record s { stage = BoundTo t None }) refl
+free-logged_in None id s free = free-without _
+
+free-greeted_by : (setup : Setup) (h : Bool) (id : ℤ) (a : Asked) (s : Session) → is_free s.stage ≡ true → is_free (greeted_by setup h id a s).stage ≡ true
+unfolding greeted_by
+free-greeted_by setup h id Versions s free = free-replied id _ s free
+free-greeted_by setup h id OtherVersions s free = free-replied id _ s free
+free-greeted_by setup h id (Handshake mechanism) s free = by (bytes_eq mechanism (codes "PLAIN"))
+  where
+    by : (b : Bool) → is_free (shaken b id h s).stage ≡ true
+    by true = free-replied id _ (record s { stage = Greets true }) refl
+    by false = free-replied id _ s free
+free-greeted_by setup true id (Authenticate message) s free = free-logged_in (login setup.users message) id s free
+free-greeted_by setup false id (Authenticate message) s free = free-replied id _ s free
+free-greeted_by setup h id (Another key version body) s free = free-without s.stage
+free-greeted_by setup h id Unread s free = free-without s.stage
+
+free-greeted : (setup : Setup) (h : Bool) (s : Session) → is_free s.stage ≡ true → is_free (greeted setup h s).stage ≡ true
+unfolding greeted
+free-greeted setup h s free = by (front s.unread)
+  where
+    by : (f : Front) → is_free (greeted_at setup h s f).stage ≡ true
+    by (Whole frame rest) = free-greeted_by setup h (request frame).correlation_id (request frame).asked (record s { unread = rest }) free
+    by TooSmall = free-without s.stage
+    by TooLarge = free-without s.stage
+    by Partial = free
+
+-- a state in which the tenants keep the same at the same time
+pub unready-same : (P : ℕ → Wait → Type 0) (a b : BrokerState) (st : Stage) → b.clock ≡ a.clock → ((t : ℕ) → kept_of b t ≡ kept_of a t) → IsUnready P a st → IsUnready P b st
+unready-same P a b (Greets h) e kept u = tt
+unready-same P a b (BoundTo t None) e kept u = tt
+unready-same P a b (BoundTo t (Some w)) e kept u = λ p. ap (λ k. ready k b.clock w) (kept t) ∙ (ap (λ c. ready (kept_of a t) c w) e ∙ u p)
+
+-- fewer waits pass
+pub weaken : (P Q : ℕ → Wait → Type 0) (b : BrokerState) → ((t : ℕ) (w : Wait) → Q t w → P t w) → (st : Stage) → IsUnready P b st → IsUnready Q b st
+weaken P Q b less (Greets h) u = tt
+weaken P Q b less (BoundTo t None) u = tt
+weaken P Q b less (BoundTo t (Some w)) u = λ q. u (less t w q)
+
+pub unready-weaken : (P Q : ℕ → Wait → Type 0) (b : BrokerState) → ((t : ℕ) (w : Wait) → Q t w → P t w) → AreUnready P b → AreUnready Q b
+unready-weaken P Q b less u = all-map (λ l. IsUnready P b l.session.stage) (λ l. IsUnready Q b l.session.stage) (λ l. weaken P Q b less l.session.stage) b.lines u
+
+-- another connection at a place, while the tenants keep the same
+pub changed-unready : (P : ℕ → Wait → Type 0) (b : BrokerState) (i : ℕ) (m : Line) (ps : List TenantState) (x : ℕ) → ((t : ℕ) → hosted.kept_of ps t ≡ kept_of b t) → AreUnready P b → IsUnready P b m.session.stage → AreUnready P (record b { lines = set b.lines i m; tenants = ps; unbound_refusals = x })
+changed-unready P b i m ps x stays u here =
+    let new = record b { lines = set b.lines i m; tenants = ps; unbound_refusals = x } in
+    all-map (λ l. IsUnready P b l.session.stage) (λ l. IsUnready P new l.session.stage) (λ l. unready-same P b new l.session.stage refl stays) (set b.lines i m) (all-set (λ l. IsUnready P b l.session.stage) b.lines i m u here)
+
+-- 3. Another connection at a place
 
 -- the broker with another connection at a place, other counts and other tenants
 abbrev pub changed : BrokerState → ℕ → Line → List TenantState → ℕ → BrokerState
@@ -120,7 +198,7 @@ changed-untouched b i l m ps x s at n busy = λ k e. changed-untouched_by b i l 
 pub able-busy : (s : Session) → can s ≡ true → is_resting (Some s) ≡ false
 able-busy s e = grind (arith, e)
 
--- 3. Whose connections may take turns
+-- 4. Whose connections may take turns
 
 pub scope-later : (scope : Scope) (a b : BrokerState) (l : Line) → IsGoing a b → InScope scope a l → InScope scope b l
 scope-later (Of n) a b l g (inl e) = inl e
@@ -166,7 +244,7 @@ counted-unbound (Of n) b i l m x s at (inr h) none = let no : Some h.0 ≡ None 
 counted-unbound Everybody b i l m x s at (inl e) none = absurd e
 counted-unbound Everybody b i l m x s at (inr h) none = let no : Some h.0 ≡ None = sym h.2 ∙ none in absurd (cc)
 
--- 4. One turn
+-- 5. One turn
 
 -- the turn of a greeting connection
 pub turned-greeting : (scope : Scope) (b : BrokerState) (i : ℕ) (l m : Line) (h : Bool) → IsSound b → AreStill scope b → IsAt b.lines i l → first_able b.lines ≡ Some l → can l.session ≡ true →
@@ -182,6 +260,7 @@ turned-greeting scope b i l m h s still at able c g n e =
       still = turned-still scope b i l m b.tenants b.unbound_refusals going still (all-at (IsStill scope b) b.lines i l at still c) n stays;
       counted = counted-same scope b (changed b i m b.tenants b.unbound_refusals) (λ t. refl) refl;
       untouched = changed-untouched b i l m b.tenants b.unbound_refusals s at n (able-busy l.session c);
+      unready = λ u. changed-unready AnyWait b i m b.tenants b.unbound_refusals (λ t. refl) u (free-unready AnyWait b m.session.stage (ap (λ (x : Session). is_free x.stage) e ∙ free-greeted b.setup h l.session (ap is_free g)));
       mine = λ t mine es k calm. owns-fates b.setup t mine b.last es b.lines (set b.lines i m) (pairwise-set (SameFate b.setup) (fate-same b.setup) b.lines i l m at (fate-greeted b.setup h l m g n e)) k;
       view = λ t mine es k calm.
           let w = view_of t mine b in
@@ -202,6 +281,7 @@ refused-greeting scope b i l m h x s still at c g n e up rises =
       still = turned-still scope b i l m b.tenants x going still inside n stays;
       counted = counted-unbound scope b i l m x s at inside none;
       untouched = changed-untouched b i l m b.tenants x s at n (able-busy l.session c);
+      unready = λ u. changed-unready AnyWait b i m b.tenants x (λ t. refl) u (subst (λ (y : Session). IsUnready AnyWait b y.stage) (sym e) (shut-unready AnyWait b l.session));
       mine = λ t mine es k calm. absurd (rises calm);
       view = λ t mine es k calm. absurd (rises calm.unbound);
     }
@@ -244,6 +324,21 @@ called-others b i u l m H ts s at p n turn honest t mine es k ne =
     ap (λ z. record (view_of t mine b) { kept = hosted.kept_of ts t; lines = z }) (hidden b i u l m s at p n t mine es k ne)
     ∙ ap (λ z. record (view_of t mine b) { kept = z }) (turn.others honest t ne)
 
+-- of the other tenants no wait becomes ready
+served-unready : (b : BrokerState) (i u : ℕ) (m : Line) (H : Type 0) (ts : List TenantState) → IsTurn u H b.tenants ts → H → IsBound u m.session → AreUnready AnyWait b → AreUnready (λ t w. t ≢ u) (changed b i m ts b.unbound_refusals)
+served-unready b i u m H ts turn honest q k =
+    let new = changed b i m ts b.unbound_refusals in
+    all-set (λ l. IsUnready (λ t w. t ≢ u) new l.session.stage) b.lines i m (all-map (λ l. IsUnready AnyWait b l.session.stage) (λ l. IsUnready (λ t w. t ≢ u) new l.session.stage) (λ l. other b u new (λ t ne. turn.others honest t ne) l.session.stage) b.lines k)
+    (subst (IsUnready (λ t w. t ≢ u) new) (sym q.is) (own u new q.wait))
+  where
+    other : (b : BrokerState) (u : ℕ) (new : BrokerState) → ((t : ℕ) → t ≢ u → hosted.kept_of ts t ≡ kept_of b t) → (st : Stage) → IsUnready AnyWait b st → IsUnready (λ t w. t ≢ u) (changed b i m ts b.unbound_refusals) st
+    other b u new kept (Greets h) k = tt
+    other b u new kept (BoundTo t None) k = tt
+    other b u new kept (BoundTo t (Some w)) k = λ ne. ap (λ x. ready x b.clock w) (kept t ne) ∙ k tt
+    own : (u : ℕ) (new : BrokerState) (w : Option Wait) → IsUnready (λ t w. t ≢ u) new (BoundTo u w)
+    own u new None = tt
+    own u new (Some w) = λ ne. absurd (ne refl)
+
 -- the turn of a bound connection, which is a call for its tenant: where nothing was refused to the tenant, it is the machine's
 pub served-bound : (scope : Scope) (b : BrokerState) (i u : ℕ) (l m : Line) (w : Option Wait) (H : Type 0) (ts : List TenantState) → IsSound b → AreStill scope b → IsAt b.lines i l → first_able b.lines ≡ Some l → can l.session ≡ true →
     l.session.stage ≡ BoundTo u w → m.number ≡ l.number → without_wait m.session.stage ≡ without_wait l.session.stage → IsTurn u H b.tenants ts → H →
@@ -262,6 +357,7 @@ served-bound scope b i u l m w H ts s still at able c g n same turn honest meets
       counted = counted-tenant scope b new u tenant (λ t ne. turn.counts t ne) refl;
       untouched = changed-untouched b i l m ts b.unbound_refusals s at n (able-busy l.session c);
       tenants = tenant;
+      unready = λ k. served-unready b i u m H ts turn honest q k;
       mine = λ t mine es k. bound-mine b i u l m at p q n t mine es k;
       others = λ t mine es k ne. called-others b i u l m H ts s at p n turn honest t mine es k ne;
       view = λ mine es k calm.

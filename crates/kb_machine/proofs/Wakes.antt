@@ -1,23 +1,31 @@
 -- Waiting fetches that are looked at again.
-use Rattle.std.proofs.Common.{◌≡◌, ◌≢◌, ℕ, ℤ, List, [], ◌∷◌, ◌++◌, set, eqb, Bool, true, false, Option, Some, None, refl, sym, ◌∙◌, ap, subst, arith, inr}
-use Rattle.std.specs.Prelude.{cond, nat_lt}
+use Rattle.std.proofs.Common.{◌≡◌, ◌≢◌, ℕ, ℤ, List, [], ◌∷◌, set, eqb, Bool, true, false, Option, Some, None, refl, sym, ◌∙◌, ap, subst, arith, inr}
+use Rattle.std.specs.Prelude.{cond, Result, Ok, Err}
 use Rattle.std.specs.List.{AllByRecursion}
+use Rattle.std.proofs.lemmas.Bool.Decides.{nat_tests}
 use Rattle.kb_world.specs.Steps.{IsCalm}
 use Rattle.kb_tenant.specs.Hosted as hosted
-use Rattle.kb_tenant.specs.Hosted.{Kept, TenantState, IsTurn}
-use Rattle.kb_tenant.specs.Replies.{Reaction, Replies, Waits, Silent, Shuts, framed, reply_size}
+use Rattle.kb_tenant.specs.Hosted.{Kept, TenantState, IsTurn, world_at}
+use Rattle.kb_tenant.specs.Fetch.{fetch_answer}
+use Rattle.kb_tenant.specs.Serve.{looked, looked_at}
+use Rattle.kb_wire.specs.Codec.{whole}
+use Rattle.kb_wire.specs.declared.fault.WireFault.{WireFault}
+use Rattle.kb_api_data.specs.Layouts.{fetch_request, fetch_reply}
+use Rattle.kb_api_data.specs.declared.fetch.FetchRequest.{FetchRequest}
+use Rattle.kb_api_data.specs.declared.fetch.FetchReply.{FetchReply}
+use Rattle.kb_world.specs.declared.place.Place.{Place}
+use Rattle.kb_tenant.specs.Replies.{Reaction, Replies, Waits, Silent, Shuts}
 use Rattle.kb_machine.specs.Tenant.{Wait, ready}
-use Rattle.kb_machine.specs.Session.{Stage, Greets, BoundTo, Session, without_wait, is_free, shut_down, replied}
-use Rattle.kb_machine.specs.Greeting.{Setup}
+use Rattle.kb_machine.specs.Session.{Stage, Greets, BoundTo, Session, without_wait, is_free, shut_down}
 use Rattle.kb_machine.specs.Machine.{Happening, Line, told, woken_by, woken, each, on, those, all_woken, turns}
 use Rattle.kb_machine.specs.Owners.{whose}
-use Rattle.kb_machine.specs.Broker.{BrokerState, IsSound, Mine, view_of, kept_of, refusals_of}
-use Rattle.kb_machine.specs.Turned.{Scope, HasTenant, IsGoing, is_resting, Turned, Served, Concerns, Waked, IsSettled}
+use Rattle.kb_machine.specs.Broker.{BrokerState, IsSound, IsUnready, AreUnready, AnyWait, Mine, view_of, kept_of, refusals_of}
+use Rattle.kb_machine.specs.Turned.{Scope, HasTenant, is_resting, Turned, Served, Concerns, Waked, IsLookedFor, IsPassedOver}
 use Rattle.kb_machine.proofs.Laws.{those-each}
 use Rattle.kb_machine.proofs.Owners.{IsBound, IsMine, mine-bound, bound-same}
-use Rattle.kb_machine.proofs.Sets.{IsAt, all-map, set-on}
-use Rattle.kb_machine.proofs.Parts.{count, each-tenant, eqb_same, calm-left, calm-right}
-use Rattle.kb_machine.proofs.Turns.{going-same, going-then, counted-then, counted-tenant, untouched-then, changed, changed-untouched, changed-still, called-going, called-others, bound-mine, tenant-later}
+use Rattle.kb_machine.proofs.Sets.{IsAt, set-on}
+use Rattle.kb_machine.proofs.Parts.{eqb_other, count, each-tenant, eqb_same, calm-left, calm-right}
+use Rattle.kb_machine.proofs.Turns.{free-unready, free-without, free-replied, shut-unready, unready-weaken, going-same, going-then, counted-then, counted-tenant, untouched-then, changed, changed-untouched, changed-still, called-going, called-others, bound-mine, tenant-later}
 
 -- 1. A second look finds nothing new
 
@@ -29,18 +37,6 @@ woken-free kept clock s free = by s.stage refl
     by (Greets h) e = refl
     by (BoundTo u None) e = refl
     by (BoundTo u (Some w)) e = let no : false ≡ true = sym (ap is_free e) ∙ free in absurd (cc)
-
-free-without : (st : Stage) → is_free (without_wait st) ≡ true
-free-without (Greets h) = refl
-free-without (BoundTo u w) = refl
-
-free-replied : (id : ℤ) (body : List ℕ) (s : Session) → is_free s.stage ≡ true → is_free (replied id body s).stage ≡ true
-unfolding replied
-free-replied id body s free = by (nat_lt 2147483647 (reply_size body))
-  where
-    by : (b : Bool) → is_free (let x : Session = cond b (shut_down s) (record s { output = s.output ++ framed id body }) in x).stage ≡ true
-    by true = free-without s.stage
-    by false = free
 
 told-twice : (kept : Kept) (clock : ℕ) (r : Reaction) (id : ℤ) (s : Session) → woken kept clock s ≡ told r id s → woken kept clock (told r id s) ≡ told r id s
 told-twice kept clock (Replies reply) id s e = woken-free kept clock (told (Replies reply) id s) (free-replied id reply (record s { stage = without_wait s.stage }) (free-without s.stage))
@@ -70,7 +66,7 @@ waked-same whom b s = record {
   unbound = refl;
   untouched = λ k e. refl;
   counts = λ t never. refl;
-  kept = λ t calm. refl;
+  kept = λ t. refl;
   still = λ scope has still. still;
   mine = λ t mine es m. m;
   others = λ t mine es m never. refl;
@@ -86,7 +82,7 @@ waked-then whom a b c p q =
       unbound = q.unbound ∙ p.unbound;
       untouched = untouched-then a b c p.untouched q.untouched;
       counts = λ t never. q.counts t never ∙ p.counts t never;
-      kept = λ t calm. q.kept t (calm-right (refusals_of a t) (refusals_of b t) (refusals_of c t) (g.own t) (h.own t) calm) ∙ p.kept t (calm-left (refusals_of a t) (refusals_of b t) (refusals_of c t) (g.own t) (h.own t) calm);
+      kept = λ t. q.kept t ∙ p.kept t;
       still = λ scope has still. q.still scope (λ t is. tenant-later scope a b t p.going (has t is)) (p.still scope has still);
       mine = λ t mine es m. q.mine t mine es (p.mine t mine es m);
       others = λ t mine es m never. q.others t mine es (p.mine t mine es m) never ∙ p.others t mine es m never;
@@ -115,10 +111,10 @@ each-again kept clock n (l ∷ ls) = by (eqb l.number n) (each-again kept clock 
 
 -- a waiting connection of a concerned tenant was looked at
 pub waked-line : (whom : Option ℕ) (b : BrokerState) (i u : ℕ) (l m : Line) (w : Wait) (H : Type 0) (ts : List TenantState) → IsSound b → IsAt b.lines i l → l.session.stage ≡ BoundTo u (Some w) → Concerns whom u →
-    m.number ≡ l.number → without_wait m.session.stage ≡ without_wait l.session.stage → IsTurn u H b.tenants ts → H →
-    (IsCalm (count b.tenants u) (count ts u) → (m.session ≡ woken (kept_of b u) b.clock l.session) × (hosted.kept_of ts u ≡ kept_of b u)) →
+    m.number ≡ l.number → without_wait m.session.stage ≡ without_wait l.session.stage → IsTurn u H b.tenants ts → H → ((t : ℕ) → hosted.kept_of ts t ≡ kept_of b t) →
+    (IsCalm (count b.tenants u) (count ts u) → m.session ≡ woken (kept_of b u) b.clock l.session) →
     Waked whom b (changed b i m ts b.unbound_refusals)
-waked-line whom b i u l m w H ts s at g concerned n same turn honest meets =
+waked-line whom b i u l m w H ts s at g concerned n same turn honest stays meets =
     let p : IsBound u l.session = record { wait = Some w; is = g } in
     let q : IsBound u m.session = bound-same u l.session m.session p same in
     let new = changed b i m ts b.unbound_refusals in
@@ -128,97 +124,97 @@ waked-line whom b i u l m w H ts s at g concerned n same turn honest meets =
       unbound = refl;
       untouched = changed-untouched b i l m ts b.unbound_refusals s at n (busy u w l.session g);
       counts = λ t never. turn.counts t (unconcerned whom t u concerned never);
-      kept = λ t calm. each-tenant (λ v. IsCalm (count b.tenants v) (count ts v) → hosted.kept_of ts v ≡ kept_of b v) u t (eqb u t) refl (λ c. (meets c).1) (λ ne c. turn.others honest t ne) calm;
+      kept = stays;
       still = λ scope has still. changed-still scope b i m ts b.unbound_refusals going still (λ c. inr (u, tenant-later scope b new u going (has u concerned), ap whose q.is));
       mine = λ t mine es k. bound-mine b i u l m at p q n t mine es k;
       others = λ t mine es k never. called-others b i u l m H ts s at p n turn honest t mine es k (unconcerned whom t u concerned never);
       view = λ t mine es k calm. each-tenant (λ v. Mine v mine es b → IsCalm (count b.tenants v) (count ts v) → all_woken (view_of v mine new) ≡ all_woken (view_of v mine b)) u t (eqb u t) refl
-          (λ k' c'. own b i u l m ts s at n mine (meets c'))
+          (λ k' c'. own b i u l m ts s at n mine (meets c') (stays u))
           (λ ne k' c'. ap all_woken (called-others b i u l m H ts s at p n turn honest t mine es k' ne))
           k calm;
     }
   where
     own : (b : BrokerState) (i u : ℕ) (l m : Line) (ts : List TenantState) → IsSound b → IsAt b.lines i l → m.number ≡ l.number → (mine : ℕ → Bool) →
-        (m.session ≡ woken (kept_of b u) b.clock l.session) × (hosted.kept_of ts u ≡ kept_of b u) → all_woken (view_of u mine (changed b i m ts b.unbound_refusals)) ≡ all_woken (view_of u mine b)
-    own b i u l m ts s at n mine done =
+        m.session ≡ woken (kept_of b u) b.clock l.session → hosted.kept_of ts u ≡ kept_of b u → all_woken (view_of u mine (changed b i m ts b.unbound_refusals)) ≡ all_woken (view_of u mine b)
+    own b i u l m ts s at n mine done same =
         let x = view_of u mine b in
         let g = woken (kept_of b u) b.clock in
-        let lines : set b.lines i m ≡ each (on l.number g) b.lines = set-on 0 b.last g b.lines i l m s.rising at n done.0 in
+        let lines : set b.lines i m ≡ each (on l.number g) b.lines = set-on 0 b.last g b.lines i l m s.rising at n done in
         let cut : those mine (set b.lines i m) ≡ each (on l.number g) (those mine b.lines) = ap (those mine) lines ∙ those-each mine (on l.number g) b.lines in
-        ap (λ k. all_woken (record x { kept = k; lines = those mine (set b.lines i m) })) done.1
+        ap (λ k. all_woken (record x { kept = k; lines = those mine (set b.lines i m) })) same
         ∙ (ap (λ z. all_woken (record x { lines = z })) cut
         ∙ ap (λ z. record x { lines = z }) (each-again (kept_of b u) b.clock l.number (those mine b.lines)))
 
--- 4. All were looked at
+-- 4. What was looked at is not ready
 
--- a later state has as much settled
-pub settled-later : (whom : Option ℕ) (a b c : BrokerState) (l : Line) → IsGoing a b → Waked whom b c → IsSettled whom a b l → IsSettled whom a c l
-settled-later whom a b c l g q h = λ t concerned is calm.
-    let left = calm-left (refusals_of a t) (refusals_of b t) (refusals_of c t) (g.grows.own t) (q.going.grows.own t) calm in
-    let right = calm-right (refusals_of a t) (refusals_of b t) (refusals_of c t) (g.grows.own t) (q.going.grows.own t) calm in
-    ap (λ k. woken k c.clock l.session) (q.kept t right) ∙ (ap (λ k. woken (kept_of b t) k l.session) q.going.clock ∙ h t concerned is left)
-
--- a connection that does not wait is settled
-pub settled-free : (whom : Option ℕ) (a b : BrokerState) (l : Line) → is_free l.session.stage ≡ true → IsSettled whom a b l
-settled-free whom a b l free = λ t concerned is calm. woken-free (kept_of b t) b.clock l.session free
-
--- and so is one of a tenant that is not concerned
-pub settled-other : (whom : Option ℕ) (a b : BrokerState) (l : Line) (u : ℕ) → whose l.session.stage ≡ Some u → (Concerns whom u → ⊥) → IsSettled whom a b l
-settled-other whom a b l u is never = λ t concerned is' calm. let e : u ≡ t = (let k : Some u ≡ Some t = sym is ∙ is' in cc) in absurd (never (subst (Concerns whom) (sym e) concerned))
-
--- the one that was looked at is settled
-pub settled-looked : (whom : Option ℕ) (a b : BrokerState) (i u : ℕ) (l m : Line) (w : Wait) (H : Type 0) (ts : List TenantState) → IsGoing a b → l.session.stage ≡ BoundTo u (Some w) → without_wait m.session.stage ≡ without_wait l.session.stage → IsTurn u H b.tenants ts →
-    (IsCalm (count b.tenants u) (count ts u) → (m.session ≡ woken (kept_of b u) b.clock l.session) × (hosted.kept_of ts u ≡ kept_of b u)) → IsSettled whom a (changed b i m ts b.unbound_refusals) m
-settled-looked whom a b i u l m w H ts g is same turn meets = λ t concerned is' calm.
-    let q : IsBound u m.session = bound-same u l.session m.session (record { wait = Some w; is = is }) same in
-    let e : u ≡ t = (let k : Some u ≡ Some t = sym (ap whose q.is) ∙ is' in cc) in
-    let own : IsCalm (refusals_of a u) (count ts u) = subst (λ v. IsCalm (refusals_of a v) (count ts v)) (sym e) calm in
-    let done = meets (calm-right (refusals_of a u) (refusals_of b u) (count ts u) (g.grows.own u) (turn.grows u) own) in
-    let kept = woken (kept_of b u) b.clock in
-    let twice : kept m.session ≡ m.session = ap kept done.0 ∙ (woken-twice (kept_of b u) b.clock l.session ∙ sym done.0) in
-    subst (λ v. woken (hosted.kept_of ts v) b.clock m.session ≡ m.session) e (ap (λ k. woken k b.clock m.session) done.1 ∙ twice)
-
--- of the tenant's connections each is settled
-each-settled : (setup : Setup) (t : ℕ) (mine : ℕ → Bool) (es : List Happening) (kept : Kept) (clock : ℕ) (ls : List Line) → AllByRecursion (IsMine setup t mine es) ls → AllByRecursion (λ (l : Line). whose l.session.stage ≡ Some t → woken kept clock l.session ≡ l.session) ls →
-    each (λ k s. woken kept clock s) (those mine ls) ≡ those mine ls
-each-settled setup t mine es kept clock [] m h = refl
-each-settled setup t mine es kept clock (l ∷ ls) m h = by (mine l.number) refl (each-settled setup t mine es kept clock ls m.1 h.1)
+-- a look never comes to a wait
+never-waits : (kept : Kept) (clock : ℕ) (w : Wait) (deadline : ℕ) (places : List Place) → ready kept clock w ≡ Waits deadline places → ⊥
+unfolding ready looked
+never-waits kept clock w deadline places e = by (whole fetch_request w.body) e
   where
-    at : (st : Stage) → l.session.stage ≡ st → mine l.number ≡ true → woken kept clock l.session ≡ l.session
-    at (Greets g) e among = woken-free kept clock l.session (ap is_free e)
-    at (BoundTo u w) e among =
-        let is : mine l.number ≡ eqb u t = mine-bound setup t mine es l u (record { wait = w; is = e }) m.0 in
+    answers : (o : Option FetchReply) → elim o [ Some reply ↦ Replies (fetch_reply.written reply) | None ↦ Silent ] ≡ Waits deadline places → ⊥
+    answers (Some reply) h = absurd (cc)
+    answers None h = absurd (cc)
+    by : (r : Result FetchRequest WireFault) → looked_at (world_at kept clock) w.deadline r ≡ Waits deadline places → ⊥
+    by (Ok r) h = answers (fetch_answer (world_at kept clock) r w.deadline) h
+    by (Err fault) h = absurd (cc)
+
+-- what is left of a connection after a look waits no longer, or is not ready
+pub unready-woken : (P : ℕ → Wait → Type 0) (b : BrokerState) (s : Session) (u : ℕ) (w : Wait) → s.stage ≡ BoundTo u (Some w) → IsUnready P b (woken (kept_of b u) b.clock s).stage
+unready-woken P b s u w e = subst (λ (x : Session). IsUnready P b x.stage) (sym (woken-at (kept_of b u) b.clock s u w e)) (by (ready (kept_of b u) b.clock w) refl)
+  where
+    by : (r : Reaction) → ready (kept_of b u) b.clock w ≡ r → IsUnready P b (told r w.correlation_id s).stage
+    by (Replies reply) f = free-unready P b (told (Replies reply) w.correlation_id s).stage (free-replied w.correlation_id reply (record s { stage = without_wait s.stage }) (free-without s.stage))
+    by (Waits deadline places) f = absurd (never-waits (kept_of b u) b.clock w deadline places f)
+    by Silent f = subst (IsUnready P b) (sym e) (λ p. f)
+    by Shuts f = shut-unready P b s
+
+-- of the tenant's connections none is ready
+each-unready : (P : ℕ → Wait → Type 0) (b : BrokerState) (t : ℕ) (mine : ℕ → Bool) (es : List Happening) → ((w : Wait) → P t w) → (ls : List Line) → AllByRecursion (IsMine b.setup t mine es) ls → AllByRecursion (λ (l : Line). IsUnready P b l.session.stage) ls →
+    each (λ k s. woken (kept_of b t) b.clock s) (those mine ls) ≡ those mine ls
+each-unready P b t mine es passes [] m h = refl
+each-unready P b t mine es passes (l ∷ ls) m h = by (mine l.number) refl (each-unready P b t mine es passes ls m.1 h.1)
+  where
+    at : (st : Stage) → l.session.stage ≡ st → mine l.number ≡ true → woken (kept_of b t) b.clock l.session ≡ l.session
+    at (Greets g) e among = woken-free (kept_of b t) b.clock l.session (ap is_free e)
+    at (BoundTo u None) e among = woken-free (kept_of b t) b.clock l.session (ap is_free e)
+    at (BoundTo u (Some w)) e among =
+        let is : mine l.number ≡ eqb u t = mine-bound b.setup t mine es l u (record { wait = Some w; is = e }) m.0 in
         let same : u ≡ t = eqb_same u t (sym is ∙ among) in
-        h.0 (ap whose e ∙ ap Some same)
-    by : (b : Bool) → mine l.number ≡ b → each (λ k s. woken kept clock s) (those mine ls) ≡ those mine ls → each (λ k s. woken kept clock s) (cond b (l ∷ those mine ls) (those mine ls)) ≡ cond b (l ∷ those mine ls) (those mine ls)
+        let silent : ready (kept_of b t) b.clock w ≡ Silent = subst (λ v. P v w → ready (kept_of b v) b.clock w ≡ Silent) same (subst (IsUnready P b) e h.0) (passes w) in
+        woken-at (kept_of b t) b.clock l.session u w e ∙ ap (λ r. told r w.correlation_id l.session) silent
+    by : (c : Bool) → mine l.number ≡ c → each (λ k s. woken (kept_of b t) b.clock s) (those mine ls) ≡ those mine ls → each (λ k s. woken (kept_of b t) b.clock s) (cond c (l ∷ those mine ls) (those mine ls)) ≡ cond c (l ∷ those mine ls) (those mine ls)
     by false e rest = rest
-    by true e rest = ap (λ s. (let x : Line = record { number = l.number; session = s } in x) ∷ each (λ k s. woken kept clock s) (those mine ls)) (at l.session.stage refl e) ∙ ap (λ xs. l ∷ xs) rest
+    by true e rest = ap (λ s. (let x : Line = record { number = l.number; session = s } in x) ∷ each (λ k s. woken (kept_of b t) b.clock s) (those mine ls)) (at l.session.stage refl e) ∙ ap (λ xs. l ∷ xs) rest
 
 -- then no look finds anything new
-pub settled-view : (whom : Option ℕ) (a b : BrokerState) (t : ℕ) (mine : ℕ → Bool) (es : List Happening) → AllByRecursion (IsSettled whom a b) b.lines → Mine t mine es b → Concerns whom t → IsCalm (refusals_of a t) (refusals_of b t) → all_woken (view_of t mine b) ≡ view_of t mine b
-settled-view whom a b t mine es settled m concerned calm =
-    ap (λ ls. record (view_of t mine b) { lines = ls })
-    (each-settled b.setup t mine es (kept_of b t) b.clock b.lines m.now (all-map (IsSettled whom a b) (λ (l : Line). whose l.session.stage ≡ Some t → woken (kept_of b t) b.clock l.session ≡ l.session) (λ l h is. h t concerned is calm) b.lines settled))
+pub unready-view : (P : ℕ → Wait → Type 0) (b : BrokerState) (t : ℕ) (mine : ℕ → Bool) (es : List Happening) → AreUnready P b → ((w : Wait) → P t w) → Mine t mine es b → all_woken (view_of t mine b) ≡ view_of t mine b
+unready-view P b t mine es unready passes m = ap (λ ls. record (view_of t mine b) { lines = ls }) (each-unready P b t mine es passes b.lines m.now unready)
 
 -- 5. A whole turn of a bound connection
 
-pub turned-served : (u : ℕ) (scope : Scope) (a b c : BrokerState) → Served u scope a b → Waked (Some u) b c → AllByRecursion (IsSettled (Some u) b c) c.lines → Turned scope a c
-turned-served u scope a b c p q settled =
+pub turned-served : (u : ℕ) (scope : Scope) (a b c : BrokerState) → Served u scope a b → Waked (Some u) b c → AreUnready (IsLookedFor (Some u) b.clock) c → (AreUnready (IsPassedOver (Some u) b.clock) b → AreUnready AnyWait c) → Turned scope a c
+turned-served u scope a b c p q own rest =
     let g = p.going.grows in
     let h = q.going.grows in
     let tenant = tenant-later scope b c u q.going p.tenants in
+    let self : eqb u u ≡ true = grind (arith, nat_tests) in
     record {
       going = going-then a b c p.going q.going;
       still = q.still scope (λ t is. subst (HasTenant scope b) (sym is) p.tenants) p.still;
       counted = counted-then scope a b c p.going q.going p.counted (counted-tenant scope b c u tenant (λ t ne. q.counts t ne) q.unbound);
       untouched = untouched-then a b c p.untouched q.untouched;
+      unready = λ k. rest (unready-weaken (λ t w. t ≢ u) (IsPassedOver (Some u) b.clock) b (λ t w e. eqb_other u t (eqb-swap t u e)) (p.unready k));
       mine = λ t mine es m calm. q.mine t mine es (p.mine t mine es m);
       view = λ t mine es m calm. each-tenant (λ v. Mine v mine es a → IsCalm (refusals_of a v) (refusals_of c v) → turns (view_of v mine c) ≡ turns (view_of v mine a)) u t (eqb u t) refl
           (λ m' c'.
           let left = calm-left (refusals_of a u) (refusals_of b u) (refusals_of c u) (g.own u) (h.own u) c' in
           let right = calm-right (refusals_of a u) (refusals_of b u) (refusals_of c u) (g.own u) (h.own u) c' in
           let mb = p.mine u mine es m' in
-          ap turns (sym (settled-view (Some u) b c u mine es settled (q.mine u mine es mb) refl right) ∙ q.view u mine es mb right) ∙ p.view mine es m' left)
+          ap turns (sym (unready-view (IsLookedFor (Some u) b.clock) c u mine es own (λ w. self) (q.mine u mine es mb)) ∙ q.view u mine es mb right) ∙ p.view mine es m' left)
           (λ ne m' c'. ap turns (q.others t mine es (p.mine t mine es m') ne ∙ p.others t mine es m' ne))
           m calm.own;
     }
+  where
+    eqb-swap : (t u : ℕ) → eqb t u ≡ false → eqb u t ≡ false
+    eqb-swap t u e = grind (arith, nat_tests)

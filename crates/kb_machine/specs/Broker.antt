@@ -4,6 +4,8 @@ use Rattle.std.specs.List.{AllByRecursion}
 use Rattle.kb_world.specs.Steps.{IsCalm}
 use Rattle.kb_tenant.specs.Hosted as hosted
 use Rattle.kb_tenant.specs.Hosted.{Kept, TenantState, names_of}
+use Rattle.kb_tenant.specs.Replies.{Silent}
+use Rattle.kb_machine.specs.Tenant.{Wait, ready}
 use Rattle.kb_machine.specs.Session.{Stage, Greets, BoundTo, Session}
 use Rattle.kb_machine.specs.Greeting.{Setup, User}
 use Rattle.kb_machine.specs.Machine.{Happening, Opens, Comes, Closes, Moment, Line, World, Sent, those, first_able, stepped, run}
@@ -100,10 +102,23 @@ pub record IsSound (b : BrokerState) : Type 0 where
   pub users : AllByRecursion (λ (u : User). u.tenant < length b.tenants) b.setup.users
   pub clock : b.clock ≤ 2 ^ 62
 
--- and no connection can take a turn
+-- at that stage nothing waits that is ready, among the waits of a tenant that pass
+abbrev pub IsUnready : (ℕ → Wait → Type 0) → BrokerState → Stage → Type 0
+IsUnready P b (Greets handshaken) = ⊤
+IsUnready P b (BoundTo tenant None) = ⊤
+IsUnready P b (BoundTo tenant (Some wait)) = P tenant wait → ready (kept_of b tenant) b.clock wait ≡ Silent
+
+abbrev pub AreUnready : (ℕ → Wait → Type 0) → BrokerState → Type 0
+AreUnready P b = AllByRecursion (λ l. IsUnready P b l.session.stage) b.lines
+
+abbrev pub AnyWait : ℕ → Wait → Type 0
+AnyWait tenant wait = ⊤
+
+-- and no connection can take a turn, and no fetch that waits is ready
 pub record IsReady (b : BrokerState) : Type 0 where
   pub sound : IsSound b
   pub settled : first_able b.lines ≡ None
+  pub unready : AreUnready AnyWait b
 
 -- 4. Events
 

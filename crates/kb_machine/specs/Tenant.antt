@@ -1,6 +1,5 @@
 -- What a tenant's own requests mean to its machine.
 use Rattle.std.specs.Prelude.{ℕ, ℤ, List}
-use Rattle.kb_world.specs.World as world
 use Rattle.kb_tenant.specs.Hosted.{Kept, world_at, kept_in}
 use Rattle.kb_tenant.specs.Replies.{Reaction}
 use Rattle.kb_tenant.specs.Serve.{Outcome, served, looked}

@@ -1,11 +1,12 @@
 -- The broker within an event: what stands between what happened and the end of the turns that it led to.
-use Rattle.std.specs.Prelude.{◌≡◌, ◌≢◌, ℕ, List, ◌∷◌, map, Bool, true, not, ◌&&◌, Option, Some, None, ⊤, ◌⊎◌}
+use Rattle.std.specs.Prelude.{◌≡◌, ◌≢◌, ◌==◌, ℕ, nat_le, List, ◌∷◌, map, Bool, true, false, not, ◌&&◌, Option, Some, None, ⊤, ◌⊎◌}
 use Rattle.std.specs.List.{AllByRecursion}
+use Rattle.kb_machine.specs.Tenant.{Wait}
 use Rattle.kb_machine.specs.Session.{Session, can, is_free}
-use Rattle.kb_machine.specs.Machine.{Happening, Comes, Line, all_woken, woken, turns, stepped}
+use Rattle.kb_machine.specs.Machine.{Happening, Comes, Line, all_woken, turns, stepped}
 use Rattle.kb_machine.specs.Owners.{find_line, whose}
 use Rattle.kb_world.specs.Steps.{IsCalm}
-use Rattle.kb_machine.specs.Broker.{BrokerState, IsSound, Grows, IsCalmFor, Mine, view_of, kept_of, refusals_of, bound_to}
+use Rattle.kb_machine.specs.Broker.{BrokerState, IsSound, AreUnready, AnyWait, Grows, IsCalmFor, Mine, view_of, kept_of, refusals_of, bound_to}
 
 -- 1. Whose event it is
 
@@ -70,6 +71,7 @@ pub record Turned (scope : Scope) (old new : BrokerState) : Type 0 where
   pub still : AreStill scope new
   pub counted : IsCountedIn scope old new
   pub untouched : AreUntouched old new
+  pub unready : AreUnready AnyWait old → AreUnready AnyWait new
   pub mine : (t : ℕ) (mine : ℕ → Bool) (es : List Happening) → Mine t mine es old → IsCalm old.unbound_refusals new.unbound_refusals → Mine t mine es new
   pub view : (t : ℕ) (mine : ℕ → Bool) (es : List Happening) → Mine t mine es old → IsCalmFor t old new → turns (view_of t mine new) ≡ turns (view_of t mine old)
 
@@ -80,6 +82,7 @@ pub record Served (tenant : ℕ) (scope : Scope) (old new : BrokerState) : Type 
   pub counted : IsCountedIn scope old new
   pub untouched : AreUntouched old new
   pub tenants : HasTenant scope new tenant
+  pub unready : AreUnready AnyWait old → AreUnready (λ t w. t ≢ tenant) new
   pub mine : (t : ℕ) (mine : ℕ → Bool) (es : List Happening) → Mine t mine es old → Mine t mine es new
   pub others : (t : ℕ) (mine : ℕ → Bool) (es : List Happening) → Mine t mine es old → t ≢ tenant → view_of t mine new ≡ view_of t mine old
   pub view : (mine : ℕ → Bool) (es : List Happening) → Mine tenant mine es old → IsCalm (refusals_of old tenant) (refusals_of new tenant) → turns (all_woken (view_of tenant mine new)) ≡ turns (view_of tenant mine old)
@@ -90,6 +93,7 @@ pub record IsFed (n : ℕ) (piece : List ℕ) (old new : BrokerState) : Type 0 w
   pub still : AreStill (Of n) new
   pub counted : IsCountedIn (Of n) old new
   pub others : SameOthers n old new
+  pub unready : AreUnready AnyWait old → AreUnready AnyWait new
   pub mine : (t : ℕ) (mine : ℕ → Bool) (es : List Happening) → Mine t mine (Comes n piece ∷ es) old → IsCalm old.unbound_refusals new.unbound_refusals → Mine t mine es new
   pub view : (t : ℕ) (mine : ℕ → Bool) (es : List Happening) → Mine t mine (Comes n piece ∷ es) old → IsCalmFor t old new → turns (view_of t mine new) ≡ stepped (mine n) (Comes n piece) (view_of t mine old)
 
@@ -99,18 +103,25 @@ abbrev pub Concerns : Option ℕ → ℕ → Type 0
 Concerns (Some u) t = t ≡ u
 Concerns None t = ⊤
 
--- some were looked at and answered where they were ready: what tenants keep stays, unless something was refused to them, and nothing happens to a tenant that is not concerned
+-- some were looked at and answered where they were ready: what tenants keep stays, and nothing happens to a tenant that is not concerned
 pub record Waked (whom : Option ℕ) (old new : BrokerState) : Type 0 where
   pub going : IsGoing old new
   pub unbound : new.unbound_refusals ≡ old.unbound_refusals
   pub untouched : AreUntouched old new
   pub counts : (t : ℕ) → (Concerns whom t → ⊥) → refusals_of new t ≡ refusals_of old t
-  pub kept : (t : ℕ) → IsCalm (refusals_of old t) (refusals_of new t) → kept_of new t ≡ kept_of old t
+  pub kept : (t : ℕ) → kept_of new t ≡ kept_of old t
   pub still : (scope : Scope) → ((t : ℕ) → Concerns whom t → HasTenant scope old t) → AreStill scope old → AreStill scope new
   pub mine : (t : ℕ) (mine : ℕ → Bool) (es : List Happening) → Mine t mine es old → Mine t mine es new
   pub others : (t : ℕ) (mine : ℕ → Bool) (es : List Happening) → Mine t mine es old → (Concerns whom t → ⊥) → view_of t mine new ≡ view_of t mine old
   pub view : (t : ℕ) (mine : ℕ → Bool) (es : List Happening) → Mine t mine es old → IsCalm (refusals_of old t) (refusals_of new t) → all_woken (view_of t mine new) ≡ all_woken (view_of t mine old)
 
--- of a connection of a concerned tenant to which nothing was refused: it waits no longer, or is not ready
-abbrev pub IsSettled : Option ℕ → BrokerState → BrokerState → Line → Type 0
-IsSettled whom old new l = (t : ℕ) → Concerns whom t → whose l.session.stage ≡ Some t → IsCalm (refusals_of old t) (refusals_of new t) → woken (kept_of new t) new.clock l.session ≡ l.session
+-- whether a wait is looked at: one of the tenant, or, of all, one whose deadline has come
+abbrev pub is_looked_for : Option ℕ → ℕ → ℕ → Wait → Bool
+is_looked_for (Some u) clock t w = t == u
+is_looked_for None clock t w = nat_le w.deadline clock
+
+abbrev pub IsLookedFor : Option ℕ → ℕ → ℕ → Wait → Type 0
+IsLookedFor whom clock t w = is_looked_for whom clock t w ≡ true
+
+abbrev pub IsPassedOver : Option ℕ → ℕ → ℕ → Wait → Type 0
+IsPassedOver whom clock t w = is_looked_for whom clock t w ≡ false

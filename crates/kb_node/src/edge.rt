@@ -91,7 +91,7 @@ impl<R: Net> Edge<R> {
         requires { now ≤ 2 ^ 62 }
     {
         let mut turn = Turn::default();
-        self.broker.moment(now);
+        self.broker.moment(alloc, now);
         let looks = (VISITS / (self.sockets.len() + 1)).max(1);
         for _ in 0..looks {
             self.accept(alloc, &mut turn);

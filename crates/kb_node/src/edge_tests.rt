@@ -1,234 +1,269 @@
+//! Edges on the loopback, and one on a network of no system.
+
+use crate::edge_bench::{Bench, Move, bytes, new_broker};
+use crate::edge_crowd::Crowd;
 use crate::{BindFault, Edge, Turn};
-use kb_broker::{Broker, Settings};
+use Move::{Ask, Closed, Drip, Idle, Join, Leave, Send, Stays, Told, Turns};
+use kb_broker::Broker;
 use std::alloc::{AllocError, Global};
-use std::cell::Cell;
 use std::io;
-use std::io::{ErrorKind, Read, Write};
-use std::net::{Net, OpenListener, OpenStream, SocketAddr, TcpStream};
-use std::os::fd::{AsRawFd, RawFd};
 use std::process::Abort;
 use std::test::Fail;
 
-/// How often a client looks for an answer.
-const LOOKS: usize = 10_000;
-
 /// ApiVersions of version 0, and its reply (Kafka protocol guide, key 18).
-const VERSIONS: &[u8] = b"0000000a0012000000000001ffff";
+const VERSIONS: &str = "0000000a0012000000000001ffff";
 
-const VERSIONS_REPLY: &[u8] =
-    b"000000700000000100000000001100000003000300010004000400020001000100030001000100080002000200090001\
-    0001000a00000000000b00010001000c00000000000d00000000000e0000000000110001000100120000000000130000\
-    0000001400000000001600000000002400000000";
+const LISTED: &str =
+    "00000070000000010000000000110000000300030001000400040002000100010003000100010008000200020009\
+    00010001000a00000000000b00010001000c00000000000d00000000000e00000000001100010001001200000000\
+    001300000000001400000000001600000000002400000000";
 
-/// ApiVersions of version 0 in bytes.
-const ASKED: &[u8] = b"\0\0\0\x0a\0\x12\0\0\0\0\0\x01\xff\xff";
+/// A mechanism that is not known, which is refused.
+const UNKNOWN: &str = "000000120011000100000001ffff0006475353415049";
 
-/// A mechanism that is not known, PLAIN, the login of `ann` and a second one, each with its reply.
-const LOGIN: [(&[u8], &[u8]); 4] = [
-    (
-        b"000000120011000100000001ffff0006475353415049",
-        b"00000011000000010021000000010005504c41494e",
-    ),
-    (
-        b"000000110011000100000002ffff0005504c41494e",
-        b"00000011000000020000000000010005504c41494e",
-    ),
-    (
-        b"000000160024000000000003ffff0000000800616e6e00707731",
-        b"0000000c000000030000ffff00000000",
-    ),
-    (
-        b"000000160024000000000004ffff0000000800616e6e00707731",
-        b"0000001e0000000400220012696c6c6567616c205341534c20737461746500000000",
-    ),
-];
+const REFUSED: &str = "00000011000000010021000000010005504c41494e";
 
-/// PLAIN and then a wrong password.
-const WRONG_LOGIN: [(&[u8], &[u8]); 2] = [
-    (
-        b"000000110011000100000002ffff0005504c41494e",
-        b"00000011000000020000000000010005504c41494e",
-    ),
-    (
-        b"000000160024000000000003ffff0000000800616e6e00707732",
-        b"0000002100000003003a001561757468656e7469636174696f6e206661696c656400000000",
-    ),
-];
+/// PLAIN, which is accepted.
+const PLAIN: &str = "000000110011000100000002ffff0005504c41494e";
 
-/// A topic `t` with one partition is made, and made again, and all topics are listed.
-const TOPIC: [(&[u8], &[u8]); 3] = [
-    (
-        b"00000023001300000000000affff00000001000174000000010001000000000000000000001388",
-        b"0000000d0000000a000000010001740000",
-    ),
-    (
-        b"00000023001300000000000bffff00000001000174000000010001000000000000000000001388",
-        b"0000000d0000000b000000010001740024",
-    ),
-    (
-        b"0000000e000300010000000cffffffffffff",
-        b"000000490000000c000000010000000000096c6f63616c686f737400002384ffff0000000000000001000000017400000000\
-        010000000000000000000000000001000000000000000100000000",
-    ),
-];
+const ACCEPTED: &str = "00000011000000020000000000010005504c41494e";
 
-/// A batch of one record `hi` is produced to `t`, and fetched from 0 on.
-const RECORDS: [(&[u8], &[u8]); 2] = [
-    (
-        b"0000006b0000000300000014ffffffff0001000003e800000001000174000000010000000000000046000000000000000000\
-        00003affffffff0271a3af2c00000000000000000000000000050000000000000005ffffffffffffffffffffffffffff0000\
-        0001100000000104686900",
-        b"000000290000001400000001000174000000010000000000000000000000000000ffffffffffffffff00000000",
-    ),
-    (
-        b"000000360001000400000015ffffffffffff0000000000000001001000000000000001000174000000010000000000000000\
-        0000000000100000",
-        b"000000770000001500000000000000010001740000000100000000000000000000000000010000000000000001ffffffff00\
-        00004600000000000000000000003a000000000271a3af2c00000000000000000000000000050000000000000005ffffffff\
-        ffffffffffffffffffff00000001100000000104686900",
-    ),
-];
+/// The login of `ann`, who is let in.
+const ANN: &str = "000000160024000000000003ffff0000000800616e6e00707731";
+
+const WELCOME: &str = "0000000c000000030000ffff00000000";
+
+/// A second login, which comes at no time.
+const ANN_AGAIN: &str = "000000160024000000000004ffff0000000800616e6e00707731";
+
+const ILLEGAL: &str = "0000001e0000000400220012696c6c6567616c205341534c20737461746500000000";
+
+/// A login with a wrong password, which is denied.
+const WRONG: &str = "000000160024000000000003ffff0000000800616e6e00707732";
+
+const DENIED: &str = "0000002100000003003a001561757468656e7469636174696f6e206661696c656400000000";
+
+/// A topic `t` with one partition is made.
+const CREATE: &str =
+    "00000023001300000000000affff00000001000174000000010001000000000000000000001388";
+
+const CREATED: &str = "0000000d0000000a000000010001740000";
+
+/// It is made again.
+const CREATE_AGAIN: &str =
+    "00000023001300000000000bffff00000001000174000000010001000000000000000000001388";
+
+const EXISTS: &str = "0000000d0000000b000000010001740024";
+
+/// All topics are listed.
+const METADATA: &str = "0000000e000300010000000cffffffffffff";
+
+const DESCRIBED: &str =
+    "000000490000000c000000010000000000096c6f63616c686f737400002384ffff00000000000000010000000174\
+    00000000010000000000000000000000000001000000000000000100000000";
+
+/// A batch of one record `hi` is produced to `t`.
+const APPEND: &str =
+    "0000006b0000000300000014ffffffff0001000003e8000000010001740000000100000000000000460000000000\
+    0000000000003affffffff0271a3af2c00000000000000000000000000050000000000000005ffffffffffffffff\
+    ffffffffffff00000001100000000104686900";
+
+const APPENDED: &str =
+    "000000290000001400000001000174000000010000000000000000000000000000ffffffffffffffff00000000";
+
+/// It is fetched from 0 on.
+const FETCH: &str =
+    "000000360001000400000015ffffffffffff00000000000000010010000000000000010001740000000100000000\
+    000000000000000000100000";
+
+const FETCHED: &str =
+    "000000770000001500000000000000010001740000000100000000000000000000000000010000000000000001ff\
+    ffffff0000004600000000000000000000003a000000000271a3af2c000000000000000000000000000500000000\
+    00000005ffffffffffffffffffffffffffff00000001100000000104686900";
 
 /// Metadata before a login.
-const TOO_EARLY: &[u8] = b"0000000e0003000100000001ffffffffffff";
+const TOO_EARLY: &str = "0000000e0003000100000001ffffffffffff";
 
-fn bytes(rt: &impl Abort, alloc: Global, digits: &[u8]) -> Result<Vec<u8>, Fail> {
-    match hex::decode(alloc, digits) {
-        Ok(bytes) => Ok(bytes),
-        Err(hex::FromHexError::OutOfMemory) => Err(AllocError)?,
-        Err(_) => panic!(rt; "the digits are hexadecimal"),
-    }
-}
+/// What happens to an edge of the standard settings, under its name.
+type Scene = (&'static str, &'static [Move<'static>]);
 
-fn new_broker(alloc: Global) -> Result<Broker, AllocError> {
-    let settings = Settings::standard(alloc)?;
-    Broker::empty(alloc, &settings)
-}
+/// A turn that accepts one client and has nothing to read.
+const ONE_ACCEPTED: Turn = Turn {
+    accepted: 1,
+    read: 0,
+    written: 0,
+    closed: 0,
+};
 
-/// An edge on a port of the system's choice.
-fn new_edge<R: Net>(rt: &R, alloc: Global) -> Result<Edge<R>, Fail> {
-    let broker = new_broker(alloc)?;
-    match Edge::bind(rt, alloc, broker, "127.0.0.1:0") {
-        Ok(edge) => Ok(edge),
-        Err(refused) => Err(refused.fault)?,
-    }
-}
+/// A turn that accepts one client, and closes it at once.
+const ONE_TURNED_AWAY: Turn = Turn {
+    accepted: 1,
+    read: 0,
+    written: 0,
+    closed: 1,
+};
 
-/// A client on the other side: it turns the edge itself.
-#[derive(Drop)]
-struct Client {
-    stream: TcpStream,
-    got: Vec<u8>,
-    is_over: bool,
-}
+const VERSIONS_ARE_ANSWERED: [Move<'static>; 4] = [
+    Join,
+    Turns(ONE_ACCEPTED),
+    Ask(0, VERSIONS, LISTED),
+    Idle,
+];
 
-impl Client {
-    fn connect<R: Net>(rt: &HostRuntime, alloc: Global, edge: &Edge<R>) -> io::Result<Client> {
-        let stream = TcpStream::connect(rt, ("127.0.0.1", edge.port()))?;
-        stream.set_nonblocking(true)?;
-        stream.set_nodelay(true)?;
-        Ok(Client {
-            stream,
-            got: Vec::new(alloc),
-            is_over: false,
-        })
-    }
+const USERS_LOG_IN: [Move<'static>; 10] = [
+    Join,
+    Join,
+    Ask(0, UNKNOWN, REFUSED),
+    Ask(0, PLAIN, ACCEPTED),
+    Ask(0, ANN, WELCOME),
+    Ask(0, ANN_AGAIN, ILLEGAL),
+    Ask(1, PLAIN, ACCEPTED),
+    Ask(1, WRONG, DENIED),
+    Closed(1),
+    Stays(0),
+];
 
-    /// Takes what there is now.
-    fn look(&mut self) -> io::Result<()> {
-        let mut buffer = [0u8; 16_384];
-        match self.stream.read(&mut buffer) {
-            Ok(0) => self.is_over = true,
-            Ok(n) => self.got.extend_from_slice(&buffer[..n])?,
-            Err(e) if e.kind() == ErrorKind::WouldBlock => {}
-            Err(_) => self.is_over = true,
-        }
-        Ok(())
-    }
+const A_REQUEST_BEFORE_THE_LOGIN_IS_SHUT: [Move<'static>; 3] = [
+    Join,
+    Ask(0, TOO_EARLY, ""),
+    Closed(0),
+];
 
-    /// Turns the edge until that many bytes have come, or the connection is over.
-    fn await_bytes<R: Net>(
-        &mut self,
-        alloc: Global,
-        edge: &mut Edge<R>,
-        count: usize,
-    ) -> io::Result<()> {
-        self.got.clear();
-        for _ in 0..LOOKS {
-            if self.got.len() >= count || self.is_over {
-                break;
-            }
-            edge.turn(alloc, 0);
-            self.look()?;
-        }
-        Ok(())
-    }
-}
+const A_TOPIC_IS_MADE_ONCE_AND_LISTED: [Move<'static>; 6] = [
+    Join,
+    Ask(0, PLAIN, ACCEPTED),
+    Ask(0, ANN, WELCOME),
+    Ask(0, CREATE, CREATED),
+    Ask(0, CREATE_AGAIN, EXISTS),
+    Ask(0, METADATA, DESCRIBED),
+];
 
-/// A client that is answered this.
-fn is_answered<R: Net>(
+const A_BATCH_COMES_BACK: [Move<'static>; 6] = [
+    Join,
+    Ask(0, PLAIN, ACCEPTED),
+    Ask(0, ANN, WELCOME),
+    Ask(0, CREATE, CREATED),
+    Ask(0, APPEND, APPENDED),
+    Ask(0, FETCH, FETCHED),
+];
+
+const A_CLIENT_MAY_SEND_BYTE_BY_BYTE: [Move<'static>; 3] = [
+    Join,
+    Drip(0, VERSIONS),
+    Told(0, LISTED),
+];
+
+const A_CLIENT_MAY_CLOSE_IN_THE_MIDDLE: [Move<'static>; 5] = [
+    Join,
+    Join,
+    Send(1, "0000000a001200"),
+    Leave,
+    Ask(0, VERSIONS, LISTED),
+];
+
+const SCENES: [Scene; 7] = [
+    ("versions are answered", &VERSIONS_ARE_ANSWERED),
+    ("users log in", &USERS_LOG_IN),
+    (
+        "a request before the login is shut",
+        &A_REQUEST_BEFORE_THE_LOGIN_IS_SHUT,
+    ),
+    (
+        "a topic is made once and listed",
+        &A_TOPIC_IS_MADE_ONCE_AND_LISTED,
+    ),
+    ("a batch comes back", &A_BATCH_COMES_BACK),
+    (
+        "a client may send byte by byte",
+        &A_CLIENT_MAY_SEND_BYTE_BY_BYTE,
+    ),
+    (
+        "a client may close in the middle",
+        &A_CLIENT_MAY_CLOSE_IN_THE_MIDDLE,
+    ),
+];
+
+/// A scene is played on an edge for a broker.
+fn plays(
+    net: &HostRuntime,
     rt: &impl Abort,
     alloc: Global,
-    edge: &mut Edge<R>,
-    client: &mut Client,
-    request: &[u8],
-    reply: &[u8],
+    broker: Broker,
+    name: &'static str,
+    moves: &[Move<'_>],
 ) -> Result<(), Fail> {
-    let request = bytes(rt, alloc, request)?;
-    let reply = bytes(rt, alloc, reply)?;
-    client.stream.write_all(&request)?;
-    client.await_bytes(alloc, edge, reply.len())?;
-    assert_eq!(rt; client.got.as_slice(), reply.as_slice());
+    let mut bench = Bench::new(net, alloc, broker, name)?;
+    for next in moves {
+        bench.happen(net, rt, alloc, *next)?;
+    }
     Ok(())
 }
 
-/// A client that is answered all of these in turn.
-fn are_answered<R: Net>(
-    rt: &impl Abort,
-    alloc: Global,
-    edge: &mut Edge<R>,
-    client: &mut Client,
-    exchanges: &[(&[u8], &[u8])],
-) -> Result<(), Fail> {
-    for (request, reply) in exchanges {
-        is_answered(rt, alloc, edge, client, request, reply)?;
+#[test]
+fn scenes_are_played(rt: HostRuntime) -> Result<(), Fail> {
+    for (name, moves) in SCENES {
+        plays(&rt, &rt, rt.alloc(), new_broker(rt.alloc())?, name, moves)?;
     }
     Ok(())
 }
 
-/// A client whose connection is closed with no more bytes.
-fn is_closed<R: Net>(
-    rt: &impl Abort,
-    alloc: Global,
-    edge: &mut Edge<R>,
-    client: &mut Client,
-) -> Result<(), Fail> {
-    client.await_bytes(alloc, edge, 1)?;
-    assert!(rt; client.is_over);
-    assert_eq!(rt; client.got.as_slice(), b"".as_slice());
-    Ok(())
+/// The last number is given to one client, and none is left for the next.
+const LAST: [Move<'static>; 5] = [
+    Join,
+    Ask(0, VERSIONS, LISTED),
+    Join,
+    Turns(ONE_TURNED_AWAY),
+    Closed(1),
+];
+
+#[test]
+fn the_last_number_is_given_once(rt: HostRuntime) -> Result<(), Fail> {
+    let mut broker = new_broker(rt.alloc())?;
+    assert!(rt; broker.last_connection() < u64::MAX - 1);
+    broker.connect(rt.alloc(), u64::MAX - 1)?;
+    plays(&rt, &rt, rt.alloc(), broker, "the last number", &LAST)
 }
 
-/// A client that sends requests of 14 bytes and reads nothing, until what it is told can no longer be written: what waits
-/// there holds up the reading of more. How many bytes were sent, and how many written.
-fn send_unread<R: Net>(
-    rt: &impl Abort,
-    alloc: Global,
-    edge: &mut Edge<R>,
-    client: &mut Client,
-) -> Result<(usize, u64), Fail> {
+/// How many requests are sent at once, at the most.
+const REQUESTS: usize = 4096;
+
+/// How often a client sends what can be sent, and looks for what comes.
+const SENDS: usize = 64;
+
+const LOOKS: usize = 1_000_000;
+
+/// Requests of 14 bytes in a row.
+fn many_requests(rt: &impl Abort, alloc: Global) -> Result<Vec<u8>, AllocError> {
     let request = bytes(rt, alloc, VERSIONS)?;
     let mut requests = Vec::new(alloc);
-    for _ in 0..4096 {
+    for _ in 0..REQUESTS {
         requests.extend_from_slice(&request)?;
     }
-    assert_eq!(rt; requests.len(), 57_344);
+    Ok(requests)
+}
+
+/// What is sent of requests behind what was sent before.
+fn send_on(bench: &mut Bench, rt: &impl Abort, requests: &[u8], sent: usize) -> usize {
+    match requests.get(sent % 14..) {
+        Some(rest) => bench.client(rt, 0).send_some(rest),
+        None => 0,
+    }
+}
+
+/// The first client sends requests and reads nothing, until what it is told can no longer be written: what waits there holds
+/// up the reading of more. How many bytes were sent, and how many written.
+fn send_unread(
+    rt: &impl Abort,
+    alloc: Global,
+    bench: &mut Bench,
+) -> Result<(usize, u64), AllocError> {
+    let requests = many_requests(rt, alloc)?;
+    assert!(rt; requests.len() == 57_344);
     let mut sent = 0usize;
     let mut written = 0u64;
-    for _ in 0..64 {
-        let n = client.stream.write(&requests[sent % 14..]).unwrap_or(0);
-        sent = sent.saturating_add(n);
-        let turn = edge.turn(alloc, 0);
+    for _ in 0..SENDS {
+        sent = sent.saturating_add(send_on(bench, rt, &requests, sent));
+        let turn = bench.turn(alloc);
         if turn.written == 0 {
             break;
         }
@@ -237,307 +272,77 @@ fn send_unread<R: Net>(
     Ok((sent, written))
 }
 
-/// The sockets that are closed in some turns.
-fn closed<R: Net>(alloc: Global, edge: &mut Edge<R>) -> u64 {
-    let mut closed = 0u64;
-    for _ in 0..100 {
-        closed = closed.saturating_add(edge.turn(alloc, 0).closed);
+/// How many bytes the first client gets once it reads.
+fn read_all(rt: &impl Abort, alloc: Global, bench: &mut Bench) -> io::Result<usize> {
+    let mut got = 0usize;
+    for _ in 0..LOOKS {
+        let count = bench.client(rt, 0).pass_over()?;
+        got = got.saturating_add(count);
+        if count == 0 && bench.turn(alloc).is_idle() {
+            break;
+        }
     }
-    closed
+    Ok(got)
 }
 
-#[test]
-fn versions_are_answered(rt: HostRuntime) -> Result<(), Fail> {
-    let mut edge = new_edge(&rt, rt.alloc())?;
-    let mut client = Client::connect(&rt, rt.alloc(), &edge)?;
-    let turn = edge.turn(rt.alloc(), 0);
-    assert_eq!(rt; turn.accepted, 1);
-    is_answered(
-        &rt,
-        rt.alloc(),
-        &mut edge,
-        &mut client,
-        VERSIONS,
-        VERSIONS_REPLY,
-    )?;
-    assert!(rt; edge.turn(rt.alloc(), 0).is_idle());
-    Ok(())
-}
-
-#[test]
-fn users_log_in(rt: HostRuntime) -> Result<(), Fail> {
-    let mut edge = new_edge(&rt, rt.alloc())?;
-    let mut ann = Client::connect(&rt, rt.alloc(), &edge)?;
-    let mut other = Client::connect(&rt, rt.alloc(), &edge)?;
-    for (request, reply) in LOGIN {
-        is_answered(&rt, rt.alloc(), &mut edge, &mut ann, request, reply)?;
-    }
-    for (request, reply) in WRONG_LOGIN {
-        is_answered(&rt, rt.alloc(), &mut edge, &mut other, request, reply)?;
-    }
-    is_closed(&rt, rt.alloc(), &mut edge, &mut other)?;
-    assert!(rt; !ann.is_over);
-    Ok(())
-}
-
-#[test]
-fn a_request_before_the_login_is_shut(rt: HostRuntime) -> Result<(), Fail> {
-    let mut edge = new_edge(&rt, rt.alloc())?;
-    let mut client = Client::connect(&rt, rt.alloc(), &edge)?;
-    is_answered(&rt, rt.alloc(), &mut edge, &mut client, TOO_EARLY, b"")?;
-    is_closed(&rt, rt.alloc(), &mut edge, &mut client)
-}
-
-#[test]
-fn a_topic_is_made_once_and_listed(rt: HostRuntime) -> Result<(), Fail> {
-    let alloc = rt.alloc();
-    let mut edge = new_edge(&rt, alloc)?;
-    let mut ann = Client::connect(&rt, alloc, &edge)?;
-    are_answered(&rt, alloc, &mut edge, &mut ann, &LOGIN[1..3])?;
-    are_answered(&rt, alloc, &mut edge, &mut ann, &TOPIC)
-}
-
-#[test]
-fn a_batch_comes_back(rt: HostRuntime) -> Result<(), Fail> {
-    let alloc = rt.alloc();
-    let mut edge = new_edge(&rt, alloc)?;
-    let mut ann = Client::connect(&rt, alloc, &edge)?;
-    are_answered(&rt, alloc, &mut edge, &mut ann, &LOGIN[1..3])?;
-    are_answered(&rt, alloc, &mut edge, &mut ann, &TOPIC[..1])?;
-    are_answered(&rt, alloc, &mut edge, &mut ann, &RECORDS)
-}
-
-#[test]
-fn a_client_may_send_byte_by_byte(rt: HostRuntime) -> Result<(), Fail> {
-    let alloc = rt.alloc();
-    let mut edge = new_edge(&rt, alloc)?;
-    let mut client = Client::connect(&rt, alloc, &edge)?;
-    let request = bytes(&rt, alloc, VERSIONS)?;
-    let reply = bytes(&rt, alloc, VERSIONS_REPLY)?;
-    for byte in request.iter() {
-        client.stream.write_all(&[*byte])?;
-        edge.turn(alloc, 0);
-    }
-    client.await_bytes(alloc, &mut edge, reply.len())?;
-    assert_eq!(rt; client.got.as_slice(), reply.as_slice());
-    Ok(())
-}
-
-#[test]
-fn a_client_may_close_in_the_middle(rt: HostRuntime) -> Result<(), Fail> {
-    let alloc = rt.alloc();
-    let mut edge = new_edge(&rt, alloc)?;
-    let mut stays = Client::connect(&rt, alloc, &edge)?;
-    let mut leaves = Client::connect(&rt, alloc, &edge)?;
-    let request = bytes(&rt, alloc, VERSIONS)?;
-    assert!(rt; request.len() > 7);
-    leaves.stream.write_all(&request[..7])?;
-    edge.turn(alloc, 0);
-    drop(leaves);
-    assert_eq!(rt; closed(alloc, &mut edge), 1);
-    is_answered(
-        &rt,
-        rt.alloc(),
-        &mut edge,
-        &mut stays,
-        VERSIONS,
-        VERSIONS_REPLY,
-    )
-}
-
+/// Two clients, of which the first does not read.
 #[test]
 fn a_client_that_does_not_read_holds_nobody_up(rt: HostRuntime) -> Result<(), Fail> {
     let alloc = rt.alloc();
-    let mut edge = new_edge(&rt, alloc)?;
-    let mut silent = Client::connect(&rt, alloc, &edge)?;
-    let mut other = Client::connect(&rt, alloc, &edge)?;
-    let (sent, written) = send_unread(&rt, alloc, &mut edge, &mut silent)?;
+    let mut bench = Bench::new(&rt, alloc, new_broker(alloc)?, "a client does not read")?;
+    bench.happen(&rt, &rt, alloc, Join)?;
+    bench.happen(&rt, &rt, alloc, Join)?;
+    let (sent, written) = send_unread(&rt, alloc, &mut bench)?;
     let replies = (sent / 14).saturating_mul(116);
     assert!(rt;
         written < replies as u64,
         "{written} of {replies} for {sent}"
     );
-    is_answered(
-        &rt,
-        rt.alloc(),
-        &mut edge,
-        &mut other,
-        VERSIONS,
-        VERSIONS_REPLY,
-    )?;
+    bench.happen(&rt, &rt, alloc, Ask(1, VERSIONS, LISTED))?;
     // Once it reads it gets every reply.
-    let mut got = 0usize;
-    for _ in 0..1_000_000 {
-        silent.got.clear();
-        silent.look()?;
-        got = got.saturating_add(silent.got.len());
-        if silent.got.is_empty() && edge.turn(alloc, 0).is_idle() {
-            break;
-        }
-    }
-    assert_eq!(rt; got, replies);
+    assert_eq!(rt; read_all(&rt, alloc, &mut bench)?, replies);
     Ok(())
+}
+
+/// Why an edge for a broker is not bound to an address, and the last connection of the broker that comes back. With none it is
+/// bound.
+fn refused(
+    net: &HostRuntime,
+    alloc: Global,
+    broker: Broker,
+    address: &str,
+) -> Option<(BindFault, u64)> {
+    match Edge::bind(net, alloc, broker, address) {
+        Ok(_) => None,
+        Err(refused) => Some((refused.fault, refused.broker.last_connection())),
+    }
 }
 
 #[test]
 fn a_taken_port_is_refused(rt: HostRuntime) -> Result<(), Fail> {
-    let alloc = rt.alloc();
-    let edge = new_edge(&rt, alloc)?;
-    let address = format!(in alloc; "127.0.0.1:{}", edge.port())?;
-    let broker = new_broker(alloc)?;
-    match Edge::bind(&rt, alloc, broker, &address) {
-        Ok(_) => panic!(rt; "the port is taken"),
-        Err(refused) => {
-            assert_eq!(rt; refused.fault, BindFault::Bind);
-            assert_eq!(rt; refused.broker.last_connection(), 0);
-        }
-    }
+    let bench = Bench::new(&rt, rt.alloc(), new_broker(rt.alloc())?, "a taken port")?;
+    let address = format!(in rt.alloc(); "127.0.0.1:{}", bench.edge.port())?;
+    let found = refused(&rt, rt.alloc(), new_broker(rt.alloc())?, &address);
+    assert_eq!(rt; found, Some((BindFault::Bind, 0)));
     Ok(())
 }
 
-#[test]
-fn the_last_number_is_given_once(rt: HostRuntime) -> Result<(), Fail> {
-    let alloc = rt.alloc();
-    let mut broker = new_broker(alloc)?;
-    assert!(rt; broker.last_connection() < u64::MAX - 1);
-    broker.connect(alloc, u64::MAX - 1)?;
-    let mut edge = match Edge::bind(&rt, alloc, broker, "127.0.0.1:0") {
-        Ok(edge) => edge,
-        Err(refused) => Err(refused.fault)?,
-    };
-    let mut last = Client::connect(&rt, alloc, &edge)?;
-    is_answered(
-        &rt,
-        rt.alloc(),
-        &mut edge,
-        &mut last,
-        VERSIONS,
-        VERSIONS_REPLY,
-    )?;
-    let mut late = Client::connect(&rt, alloc, &edge)?;
-    let turn = edge.turn(alloc, 0);
-    assert_eq!(rt;
-        turn,
-        Turn {
-            accepted: 1,
-            read: 0,
-            written: 0,
-            closed: 1
-        }
-    );
-    is_closed(&rt, rt.alloc(), &mut edge, &mut late)
-}
-
-/// A network of no system, whose one door many wait at. The first 1,024 ask for the versions, and those behind say nothing.
-#[derive(Drop)]
-struct Crowd {
-    waiting: u32,
-}
-
-/// A door, and how many have come through it.
-#[derive(Drop)]
-struct Door {
-    address: SocketAddr,
-    waiting: u32,
-    entered: Cell<u32>,
-}
-
-/// One of them: what it still says. It takes all that it is told.
-#[derive(Drop)]
-struct Guest {
-    says: &'static [u8],
-}
-
-impl Net for Crowd {
-    type Stream = Guest;
-
-    type Listener = Door;
-
-    fn bind(&self, address: SocketAddr) -> io::Result<Door> {
-        Ok(Door {
-            address,
-            waiting: self.waiting,
-            entered: Cell::new(0),
-        })
-    }
-
-    fn connect(&self, _address: SocketAddr) -> io::Result<Guest> {
-        Err(io::Error::from(ErrorKind::Unsupported))
-    }
-}
-
-impl OpenListener for Door {
-    type Stream = Guest;
-
-    fn accept(&self) -> io::Result<(Guest, SocketAddr)> {
-        let number = self.entered.get();
-        if number >= self.waiting {
-            return Err(io::Error::from(ErrorKind::WouldBlock));
-        }
-        self.entered.set(number.saturating_add(1));
-        let says: &[u8] = if number < 1024 { ASKED } else { b"" };
-        Ok((Guest { says }, self.address))
-    }
-
-    fn local_addr(&self) -> io::Result<SocketAddr> {
-        Ok(self.address)
-    }
-
-    fn set_nonblocking(&self, _nonblocking: bool) -> io::Result<()> {
-        Ok(())
-    }
-}
-
-impl AsRawFd for Door {
-    fn as_raw_fd(&self) -> RawFd {
-        -1
-    }
-}
-
-impl Read for Guest {
-    fn read(&mut self, buf: &mut [u8]) -> io::Result<usize> {
-        if self.says.is_empty() {
-            return Err(io::Error::from(ErrorKind::WouldBlock));
-        }
-        self.says.read(buf)
-    }
-}
-
-impl Write for Guest {
-    fn write(&mut self, buf: &[u8]) -> io::Result<usize> {
-        Ok(buf.len())
-    }
-
-    fn flush(&mut self) -> io::Result<()> {
-        Ok(())
-    }
-}
-
-impl OpenStream for Guest {
-    fn set_nonblocking(&self, _nonblocking: bool) -> io::Result<()> {
-        Ok(())
-    }
-
-    fn set_nodelay(&self, _nodelay: bool) -> io::Result<()> {
-        Ok(())
-    }
-}
-
-impl AsRawFd for Guest {
-    fn as_raw_fd(&self) -> RawFd {
-        -1
+/// What the first turns of an edge with 1,025 clients at its door do.
+fn first_turns(alloc: Global, broker: Broker) -> Result<[Turn; 3], BindFault> {
+    let crowd = Crowd { waiting: 1025 };
+    match Edge::bind(&crowd, alloc, broker, "127.0.0.1:9092") {
+        Ok(mut edge) => Ok([
+            edge.turn(alloc, 0),
+            edge.turn(alloc, 0),
+            edge.turn(alloc, 0),
+        ]),
+        Err(refused) => Err(refused.fault),
     }
 }
 
 #[test]
 fn one_too_many_is_closed(rt: HostRuntime) -> Result<(), Fail> {
-    let alloc = rt.alloc();
-    let broker = new_broker(alloc)?;
-    let mut edge = match Edge::bind(&Crowd { waiting: 1025 }, alloc, broker, "127.0.0.1:9092") {
-        Ok(edge) => edge,
-        Err(refused) => Err(refused.fault)?,
-    };
-    let full = edge.turn(alloc, 0);
+    let [full, next, last] = first_turns(rt.alloc(), new_broker(rt.alloc())?)?;
     assert_eq!(rt;
         full,
         Turn {
@@ -547,16 +352,7 @@ fn one_too_many_is_closed(rt: HostRuntime) -> Result<(), Fail> {
             closed: 0
         }
     );
-    let next = edge.turn(alloc, 0);
-    assert_eq!(rt;
-        next,
-        Turn {
-            accepted: 1,
-            read: 0,
-            written: 0,
-            closed: 1
-        }
-    );
-    assert!(rt; edge.turn(alloc, 0).is_idle());
+    assert_eq!(rt; next, ONE_TURNED_AWAY);
+    assert!(rt; last.is_idle());
     Ok(())
 }

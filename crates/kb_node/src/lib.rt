@@ -21,6 +21,10 @@ pub use start::{read_settings, serving_broker};
 pub use turn::Turn;
 
 #[cfg(test)]
+mod edge_bench;
+#[cfg(test)]
+mod edge_crowd;
+#[cfg(test)]
 mod edge_tests;
 #[cfg(test)]
 mod start_tests;

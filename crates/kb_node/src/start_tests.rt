@@ -1,7 +1,9 @@
+use crate::edge_bench::bytes;
 use crate::{BindFault, BindRefused, Edge, Listing, StartFault, read_settings, serving_broker};
 use kb_broker::{Broker, Settings};
 use kb_settings::SettingsFault;
-use std::alloc::Global;
+use std::alloc::{AllocError, Global};
+use std::process::Abort;
 use std::test::Fail;
 
 /// A data folder and one user.
@@ -9,39 +11,43 @@ const TEXT: &str =
     "host = \"127.0.0.1\"\ndata = \"d\"\n[[user]]\nname = \"ann\"\npassword = \"pw1\"\ntenant = \"a\"\n";
 
 /// ApiVersions of version 0, and where SaslHandshake stands in the reply.
-const VERSIONS: &[u8] = b"\0\0\0\x0a\0\x12\0\0\0\0\0\x01\xff\xff";
+const VERSIONS: &str = "0000000a0012000000000001ffff";
 
 const HANDSHAKE: usize = 14 + 11 * 6;
 
-/// What is listed of SaslHandshake.
-fn listed_handshake(alloc: Global, broker: &mut Broker) -> Result<Vec<u8>, Fail> {
-    if broker.last_connection() == 0 {
-        broker.connect(alloc, 1)?;
-    }
-    broker.input(alloc, 1, VERSIONS);
-    let reply = broker.take_output(alloc, 1);
-    let mut listed = Vec::new(alloc);
-    for byte in reply.iter().skip(HANDSHAKE).take(6) {
-        listed.push(*byte)?;
-    }
-    Ok(listed)
+/// What a new broker answers to ApiVersions.
+fn versions_of(rt: &impl Abort, alloc: Global, broker: &mut Broker) -> Result<Vec<u8>, AllocError> {
+    let request = bytes(rt, alloc, VERSIONS)?;
+    assert_eq!(rt; broker.last_connection(), 0);
+    broker.connect(alloc, 1)?;
+    broker.input(alloc, 1, &request);
+    Ok(broker.take_output(alloc, 1))
+}
+
+/// This is what a new broker of the settings lists of SaslHandshake.
+fn lists(
+    rt: &impl Abort,
+    alloc: Global,
+    settings: &Settings,
+    listing: Listing,
+    listed: &str,
+) -> Result<(), StartFault> {
+    let mut broker = serving_broker(alloc, settings, listing)?;
+    let reply = versions_of(rt, alloc, &mut broker)?;
+    let listed = bytes(rt, alloc, listed)?;
+    assert_eq!(rt;
+        reply.get(HANDSHAKE..HANDSHAKE + 6),
+        Some(listed.as_slice())
+    );
+    Ok(())
 }
 
 #[test]
 fn a_broker_serves_its_settings(rt: HostRuntime) -> Result<(), Fail> {
     let alloc = rt.alloc();
     let settings = read_settings(alloc, TEXT)?;
-    let listings = [
-        (Listing::Served, b"\0\x11\0\x01\0\x01"),
-        (Listing::StockClients, b"\0\x11\0\0\0\x01"),
-    ];
-    for (listing, listed) in listings {
-        let mut broker = serving_broker(alloc, &settings, listing)?;
-        assert_eq!(rt;
-            listed_handshake(alloc, &mut broker)?.as_slice(),
-            listed.as_slice()
-        );
-    }
+    lists(&rt, alloc, &settings, Listing::Served, "001100010001")?;
+    lists(&rt, alloc, &settings, Listing::StockClients, "001100000001")?;
     Ok(())
 }
 
@@ -79,17 +85,20 @@ fn texts_of_settings_are_read(rt: HostRuntime) -> Result<(), Fail> {
     Ok(())
 }
 
-#[test]
-fn a_bound_port_is_not_bound_again(rt: HostRuntime) -> Result<(), Fail> {
-    let alloc = rt.alloc();
+/// An edge for a broker of the settings.
+fn bound(net: &HostRuntime, alloc: Global, address: &str) -> Result<Edge<HostRuntime>, StartFault> {
     let settings = read_settings(alloc, TEXT)?;
     let broker = serving_broker(alloc, &settings, Listing::Served)?;
-    let edge = Edge::bind(&rt, alloc, broker, "127.0.0.1:0").map_err(StartFault::from)?;
-    let address = format!(in alloc; "127.0.0.1:{}", edge.port())?;
-    let broker = serving_broker(alloc, &settings, Listing::Served)?;
-    match Edge::bind(&rt, alloc, broker, &address) {
+    Ok(Edge::bind(net, alloc, broker, address)?)
+}
+
+#[test]
+fn a_bound_port_is_not_bound_again(rt: HostRuntime) -> Result<(), Fail> {
+    let edge = bound(&rt, rt.alloc(), "127.0.0.1:0")?;
+    let address = format!(in rt.alloc(); "127.0.0.1:{}", edge.port())?;
+    match bound(&rt, rt.alloc(), &address) {
         Ok(_) => panic!(rt; "the port is taken"),
-        Err(refused) => assert_eq!(rt; StartFault::from(refused), StartFault::Listen),
+        Err(fault) => assert_eq!(rt; fault, StartFault::Listen),
     }
     Ok(())
 }

@@ -1,6 +1,6 @@
 //! Exchanges on record batches: appended, refused, fetched, and found by time.
 
-use crate::playing::{ANN, HANDSHAKE, OFFERED, Step, WELCOME, plays};
+use crate::playing::{ANN, Exchange, HANDSHAKE, OFFERED, Step, WELCOME, plays};
 use crate::topics::{CREATE, CREATED};
 use Step::{In, Open};
 use std::test::Fail;
@@ -26,18 +26,15 @@ pub(crate) const FETCHED: &str =
 /// ListOffsets of the end, which is 0.
 const LIST_END: &str = "list ffffffffffffffff";
 
-#[test]
-fn a_batch_comes_back(rt: HostRuntime) -> Result<(), Fail> {
-    let steps = [
-        Open(1),
-        In(1, HANDSHAKE, OFFERED),
-        In(1, ANN, WELCOME),
-        In(1, CREATE, CREATED),
-        In(1, APPEND, APPENDED),
-        In(1, FETCH, FETCHED),
-    ];
-    plays(&rt, rt.alloc(), &steps)
-}
+/// A batch is appended, and fetched again.
+const KEPT: [Step<'static>; 6] = [
+    Open(1),
+    In(1, HANDSHAKE, OFFERED),
+    In(1, ANN, WELCOME),
+    In(1, CREATE, CREATED),
+    In(1, APPEND, APPENDED),
+    In(1, FETCH, FETCHED),
+];
 
 /// A value byte changed; compression, with the old checksum and with the right one; the timestamp type, with the right one; and
 /// a record count of 2, with the old one and with the right one.
@@ -79,11 +76,6 @@ const CHANGED: [Step<'static>; 11] = [
     In(1, LIST_END, "listed 0000 ffffffffffffffff 0000000000000000"),
 ];
 
-#[test]
-fn changed_batches_are_refused(rt: HostRuntime) -> Result<(), Fail> {
-    plays(&rt, rt.alloc(), &CHANGED)
-}
-
 /// Two batches in one, one without its last byte, one of the message format before, and acks of 2.
 const MISSHAPEN: [Step<'static>; 9] = [
     Open(1),
@@ -114,11 +106,6 @@ const MISSHAPEN: [Step<'static>; 9] = [
     ),
     In(1, LIST_END, "listed 0000 ffffffffffffffff 0000000000000000"),
 ];
-
-#[test]
-fn misshapen_batches_are_refused(rt: HostRuntime) -> Result<(), Fail> {
-    plays(&rt, rt.alloc(), &MISSHAPEN)
-}
 
 /// The same batches with acks of 0.
 const UNASKED: [Step<'static>; 16] = [
@@ -178,11 +165,6 @@ const UNASKED: [Step<'static>; 16] = [
     In(1, FETCH, FETCHED),
 ];
 
-#[test]
-fn no_reply_is_asked_and_none_given(rt: HostRuntime) -> Result<(), Fail> {
-    plays(&rt, rt.alloc(), &UNASKED)
-}
-
 /// Three records in each of two partitions. The first batch that is given comes whole, also past the limit.
 const FROM_AN_OFFSET: [Step<'static>; 7] = [
     Open(1),
@@ -216,11 +198,6 @@ const FROM_AN_OFFSET: [Step<'static>; 7] = [
             0000000000000003 0000000000000003 ffffffff 00000000",
     ),
 ];
-
-#[test]
-fn a_fetch_begins_at_the_batch_of_its_offset(rt: HostRuntime) -> Result<(), Fail> {
-    plays(&rt, rt.alloc(), &FROM_AN_OFFSET)
-}
 
 /// A batch of three records with timestamps 5, 3 and 9.
 const BY_TIME: [Step<'static>; 11] = [
@@ -267,7 +244,17 @@ const BY_TIME: [Step<'static>; 11] = [
     ),
 ];
 
+/// Each is played on a broker of its own.
+const EXCHANGES: [Exchange; 6] = [
+    ("a batch comes back", &KEPT),
+    ("changed batches are refused", &CHANGED),
+    ("misshapen batches are refused", &MISSHAPEN),
+    ("no reply is asked, and none given", &UNASKED),
+    ("a fetch begins at the batch of its offset", &FROM_AN_OFFSET),
+    ("a record is found by its time", &BY_TIME),
+];
+
 #[test]
-fn a_record_is_found_by_its_time(rt: HostRuntime) -> Result<(), Fail> {
-    plays(&rt, rt.alloc(), &BY_TIME)
+fn batches_are_kept_and_refused(rt: HostRuntime) -> Result<(), Fail> {
+    plays(&rt, rt.alloc(), &EXCHANGES)
 }

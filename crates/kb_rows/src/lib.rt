@@ -1,4 +1,5 @@
-//! Worked exchanges with a whole broker: what happens to it, and every byte that each connection gets.
+//! Worked exchanges with a whole broker, as runs, as scripts and call by call: what happens to it, and every byte that each
+//! connection gets.
 //!
 //! There is nothing here but tests. The bytes are those of the Kafka protocol guide's layouts, written down beforehand; the
 //! checksums of the record batches are CRC-32C by another program.
@@ -7,11 +8,15 @@
 #[cfg(test)]
 mod batches;
 #[cfg(test)]
+mod calls;
+#[cfg(test)]
 mod greeting;
 #[cfg(test)]
 mod memory;
 #[cfg(test)]
 mod mixing;
+#[cfg(test)]
+mod opening;
 #[cfg(test)]
 mod playing;
 #[cfg(test)]
@@ -19,8 +24,12 @@ mod producers;
 #[cfg(test)]
 mod running;
 #[cfg(test)]
+mod scripts;
+#[cfg(test)]
 mod tenants;
 #[cfg(test)]
 mod topics;
+#[cfg(test)]
+mod waits;
 #[cfg(test)]
 mod words;

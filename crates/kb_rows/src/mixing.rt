@@ -2,10 +2,9 @@
 
 ghost use Rattle.std.specs.Prelude.{◌<◌};
 
-use kb_broker::{Event, Written};
-use std::alloc::Global;
+use kb_broker::Event;
+use std::alloc::{AllocError, Global};
 use std::process::Abort;
-use std::test::Fail;
 use std::vec::IntoIter;
 
 /// Numbers drawn from a seed: Knuth's linear congruential generator modulo 2^64, of which the upper half is given.
@@ -59,7 +58,7 @@ impl Side {
     }
 
     /// The next event, with the number that its connection has in the mix, where there is one. `last` is the mix's last number.
-    fn next(&mut self, rt: &impl Abort, last: &mut u64) -> Result<Option<Event>, Fail> {
+    fn next(&mut self, rt: &impl Abort, last: &mut u64) -> Result<Option<Event>, AllocError> {
         let event = match self.coming.next() {
             None => return Ok(None),
             Some(Event::Open(_)) => Event::Open(self.open(rt, last)?),
@@ -71,7 +70,7 @@ impl Side {
     }
 
     /// The number of one more connection.
-    fn open(&mut self, rt: &impl Abort, last: &mut u64) -> Result<u64, Fail> {
+    fn open(&mut self, rt: &impl Abort, last: &mut u64) -> Result<u64, AllocError> {
         assert!(rt; *last < u64::MAX);
         *last += 1;
         self.numbers.push(*last)?;
@@ -92,11 +91,12 @@ fn next_of(
     one: &mut Side,
     other: &mut Side,
     last: &mut u64,
-) -> Result<Option<Event>, Fail> {
-    match one.next(rt, last)? {
-        Some(event) => Ok(Some(event)),
-        None => other.next(rt, last),
+) -> Result<Option<Event>, AllocError> {
+    let next = one.next(rt, last)?;
+    if next.is_some() {
+        return Ok(next);
     }
+    other.next(rt, last)
 }
 
 /// Mixes two lists: which one the next event is from is drawn. Connections get new numbers as they open.
@@ -106,8 +106,8 @@ pub(crate) fn mixed(
     draws: &mut Draws,
     first: Vec<Event>,
     second: Vec<Event>,
-) -> Result<Mix, Fail> {
-    let many = first.len().checked_add(second.len()).ok_or("too many")?;
+) -> Result<Mix, AllocError> {
+    let many = first.len().saturating_add(second.len());
     let mut first = Side::new(alloc, first);
     let mut second = Side::new(alloc, second);
     let mut events = Vec::with_capacity(alloc, many)?;
@@ -127,21 +127,4 @@ pub(crate) fn mixed(
         first_numbers: first.numbers,
         second_numbers: second.numbers,
     })
-}
-
-/// Each connection of those numbers got what it got alone.
-pub(crate) fn is_as_alone(
-    rt: &impl Abort,
-    written: &[Written],
-    numbers: &[u64],
-    alone: &[Written],
-) {
-    assert_eq!(rt; numbers.len(), alone.len());
-    for (number, alone) in numbers.iter().zip(alone) {
-        let Some(got) = written.iter().find(|got| got.conn == *number) else {
-            panic!(rt; "connection {number} has no entry");
-        };
-        assert_eq!(rt; got.bytes, alone.bytes, "connection {number}");
-        assert_eq!(rt; got.shut, alone.shut, "connection {number}");
-    }
 }

@@ -73,5 +73,5 @@ const SEQUENCES: [Step<'static>; 17] = [
 
 #[test]
 fn sequences_follow(rt: HostRuntime) -> Result<(), Fail> {
-    plays(&rt, rt.alloc(), &SEQUENCES)
+    plays(&rt, rt.alloc(), &[("sequences follow", &SEQUENCES)])
 }

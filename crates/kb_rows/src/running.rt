@@ -1,35 +1,89 @@
-//! A new broker, and runs of it.
+//! Runs of a new broker.
 
-ghost use Rattle.std.specs.Prelude.{◌≡◌, ◌∷◌, List, true, IfOk, IfSome};
+ghost use Rattle.std.specs.Prelude.{◌≡◌, ◌∷◌, List, true, IfSome};
 ghost use Rattle.kb_machine.specs.Machine.{Happening};
 ghost use Rattle.kb_machine.specs.Broker.{IsRun};
 ghost use Rattle.kb_broker.specs.Runs.{happening_of, happenings};
 
 use kb_broker::{Broker, Event, Settings, Written};
-use std::alloc::Global;
+use std::alloc::{AllocError, Global};
 use std::process::Abort;
-use std::test::Fail;
 
 /// The latest moment that may come.
-const LAST_MOMENT: u64 = 4_611_686_018_427_387_904;
+pub(crate) const LAST_MOMENT: u64 = 4_611_686_018_427_387_904;
+
+/// What came of a run.
+#[derive(Drop)]
+pub(crate) struct Outcome {
+    /// What each connection got.
+    pub(crate) written: Vec<Written>,
+    /// The refusals that were counted for `a`, for `b`, and for connections that were not bound.
+    pub(crate) refusals: [u64; 3],
+    /// Whether connection 1 is open in the end.
+    pub(crate) is_first_open: bool,
+}
 
 /// A broker of the standard settings.
-pub(crate) fn new_broker(alloc: Global) -> Result<Broker, Fail>
-    ensures { IfOk result (λ broker. broker.last ≡ 0) }
-{
+pub(crate) fn new_broker(alloc: Global) -> Result<Broker, AllocError> {
     let settings = Settings::standard(alloc)?;
-    Ok(Broker::empty(alloc, &settings)?)
+    Broker::empty(alloc, &settings)
+}
+
+/// A connection opens.
+pub(crate) fn opens(
+    rt: &impl Abort,
+    alloc: Global,
+    broker: &mut Broker,
+    number: u64,
+) -> Result<(), AllocError> {
+    assert!(rt; broker.last_connection() < number);
+    broker.connect(alloc, number)
+}
+
+/// Runs a new broker of the standard settings.
+pub(crate) fn outcome_of(
+    rt: &impl Abort,
+    alloc: Global,
+    events: &[Event],
+) -> Result<Outcome, AllocError> {
+    let mut broker = new_broker(alloc)?;
+    let written = run(rt, alloc, &mut broker, events)?;
+    Ok(Outcome {
+        written,
+        refusals: refusals_of(&broker),
+        is_first_open: broker.is_open(1),
+    })
 }
 
 /// Runs a broker.
-pub(crate) fn run(
+fn run(
     rt: &impl Abort,
     alloc: Global,
     broker: &mut Broker,
     events: &[Event],
-) -> Result<Vec<Written>, Fail> {
+) -> Result<Vec<Written>, AllocError> {
     assert!(rt; is_run(broker.last_connection(), events));
-    Ok(broker.run(alloc, events)?)
+    broker.run(alloc, events)
+}
+
+/// The refusals that were counted for `a`, for `b`, and for connections that were not bound.
+fn refusals_of(broker: &Broker) -> [u64; 3] {
+    [
+        broker.refusals("a"),
+        broker.refusals("b"),
+        broker.refusals_unbound(),
+    ]
+}
+
+/// What each connection gets of a new broker, which refuses nothing.
+pub(crate) fn written_of(
+    rt: &impl Abort,
+    alloc: Global,
+    events: &[Event],
+) -> Result<Vec<Written>, AllocError> {
+    let outcome = outcome_of(rt, alloc, events)?;
+    assert_eq!(rt; outcome.refusals, [0, 0, 0]);
+    Ok(outcome.written)
 }
 
 /// Whether the numbers of the connections that open rise above the last one, and no moment comes too late.
@@ -58,19 +112,17 @@ fn after(last: u64, event: &Event) -> Option<u64>
     }
 }
 
-/// Each connection got what is wanted, and was shut where it is wanted.
-pub(crate) fn is_as_wanted(rt: &impl Abort, written: &[Written], wanted: &[Written]) {
-    assert_eq!(rt; written.len(), wanted.len());
-    for (got, want) in written.iter().zip(wanted) {
-        assert_eq!(rt; got.conn, want.conn);
-        assert_eq!(rt; got.bytes, want.bytes, "connection {}", got.conn);
-        assert_eq!(rt; got.shut, want.shut, "connection {}", got.conn);
-    }
+/// A connection got what is wanted, and was shut where it is wanted.
+pub(crate) fn is_told(rt: &impl Abort, name: &str, got: &Written, wanted: &Written) {
+    assert_eq!(rt; got.bytes, wanted.bytes, "{name}: connection {}", got.conn);
+    assert!(rt; got.shut == wanted.shut, "{name}: connection {}", got.conn);
 }
 
-/// No refusal is counted.
-pub(crate) fn has_refused_nothing(rt: &impl Abort, broker: &Broker) {
-    assert_eq!(rt; broker.refusals("a"), 0);
-    assert_eq!(rt; broker.refusals("b"), 0);
-    assert_eq!(rt; broker.refusals_unbound(), 0);
+/// Each connection got what is wanted, and was shut where it is wanted.
+pub(crate) fn are_told(rt: &impl Abort, name: &str, written: &[Written], wanted: &[Written]) {
+    assert_eq!(rt; written.len(), wanted.len());
+    for (got, wanted) in written.iter().zip(wanted) {
+        assert_eq!(rt; got.conn, wanted.conn);
+        is_told(rt, name, got, wanted);
+    }
 }

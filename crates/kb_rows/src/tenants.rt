@@ -2,12 +2,13 @@
 
 use crate::batches::{APPEND, APPENDED, FETCH, FETCHED};
 use crate::greeting::{SERVED, VERSIONS};
-use crate::mixing::{Draws, is_as_alone, mixed};
-use crate::playing::{ANN, BOB, HANDSHAKE, OFFERED, Step, WELCOME, events_of, plays};
-use crate::running::{has_refused_nothing, new_broker, run};
+use crate::mixing::{Draws, mixed};
+use crate::playing::{ANN, BOB, Exchange, HANDSHAKE, OFFERED, Step, WELCOME, events_of, plays};
+use crate::running::{is_told, outcome_of, written_of};
 use crate::topics::{CREATE, CREATE_AGAIN, CREATED, DESCRIBED, EXISTS, METADATA};
-use Step::{Close, In, Open, Shut};
-use std::alloc::Global;
+use Step::{At, Close, In, Open, Shut};
+use kb_broker::Written;
+use std::alloc::{AllocError, Global};
 use std::process::Abort;
 use std::test::Fail;
 
@@ -85,15 +86,56 @@ const OF_BOB: [Step<'static>; 15] = [
     In(1, METADATA, DESCRIBED),
 ];
 
+/// Two tenants log in while their pieces alternate, one of them cut, and a third connection asks before it logs in.
+const AT_ONCE: [Step<'static>; 11] = [
+    Open(1),
+    Open(2),
+    In(
+        2,
+        "00000011 0011 0001 00000001 ffff 0005 'PLAIN",
+        "00000011 00000001 0000 00000001 0005 'PLAIN",
+    ),
+    In(
+        1,
+        "00000011 0011 0001 00000001 ffff 0005 'PLAIN",
+        "00000011 00000001 0000 00000001 0005 'PLAIN",
+    ),
+    In(1, "000000", ""),
+    At(7),
+    Open(5),
+    In(
+        2,
+        "00000016 0024 0000 00000002 ffff 00000008 00626f6200707732",
+        "0000000c 00000002 0000 ffff 00000000",
+    ),
+    Shut(5, "0000000e 0003 0001 00000001 ffff ffffffff", ""),
+    Close(2),
+    In(
+        1,
+        "16 0024 0000 00000002 ffff 00000008 00616e6e00707731",
+        "0000000c 00000002 0000 ffff 00000000",
+    ),
+];
+
+/// Two tenants in turn and at once, and each alone.
+const EXCHANGES: [Exchange; 4] = [
+    ("two tenants at once", &AT_ONCE),
+    ("two tenants alternate", &ALTERNATING),
+    ("ann alone", &OF_ANN),
+    ("bob alone", &OF_BOB),
+];
+
 #[test]
-fn two_tenants_alternate(rt: HostRuntime) -> Result<(), Fail> {
-    plays(&rt, rt.alloc(), &ALTERNATING)
+fn tenants_share_a_broker(rt: HostRuntime) -> Result<(), Fail> {
+    plays(&rt, rt.alloc(), &EXCHANGES)
 }
 
 #[test]
-fn each_tenant_alone(rt: HostRuntime) -> Result<(), Fail> {
-    plays(&rt, rt.alloc(), &OF_ANN)?;
-    plays(&rt, rt.alloc(), &OF_BOB)
+fn a_bound_connection_stays_open(rt: HostRuntime) -> Result<(), Fail> {
+    let events = events_of(&rt, rt.alloc(), &AT_ONCE, usize::MAX)?;
+    let outcome = outcome_of(&rt, rt.alloc(), &events)?;
+    assert!(rt; outcome.is_first_open);
+    Ok(())
 }
 
 /// Each tenant's connections get what they get where the other tenant is not there.
@@ -107,33 +149,43 @@ fn however_they_are_mixed(rt: HostRuntime) -> Result<(), Fail> {
 }
 
 /// Mixes the pieces of the two, each cut to a drawn length.
-fn is_kept_apart(rt: &impl Abort, alloc: Global, draws: &mut Draws) -> Result<(), Fail> {
+fn is_kept_apart(rt: &impl Abort, alloc: Global, draws: &mut Draws) -> Result<(), AllocError> {
     let ann_most = draws.below(40) + 1;
     let bob_most = draws.below(40) + 1;
-    let ann_alone = run(
-        rt,
-        alloc,
-        &mut new_broker(alloc)?,
-        &events_of(rt, alloc, &OF_ANN, ann_most)?,
-    )?;
-    let bob_alone = run(
-        rt,
-        alloc,
-        &mut new_broker(alloc)?,
-        &events_of(rt, alloc, &OF_BOB, bob_most)?,
-    )?;
-    let mix = mixed(
-        rt,
-        alloc,
-        draws,
-        events_of(rt, alloc, &OF_ANN, ann_most)?,
-        events_of(rt, alloc, &OF_BOB, bob_most)?,
-    )?;
-    let mut broker = new_broker(alloc)?;
-    let written = run(rt, alloc, &mut broker, &mix.events)?;
-    has_refused_nothing(rt, &broker);
-    assert_eq!(rt; written.len(), ann_alone.len() + bob_alone.len());
-    is_as_alone(rt, &written, &mix.first_numbers, &ann_alone);
-    is_as_alone(rt, &written, &mix.second_numbers, &bob_alone);
+    let of_ann = events_of(rt, alloc, &OF_ANN, ann_most)?;
+    let of_bob = events_of(rt, alloc, &OF_BOB, bob_most)?;
+    let mix = mixed(rt, alloc, draws, of_ann, of_bob)?;
+    let written = written_of(rt, alloc, &mix.events)?;
+    assert_eq!(rt;
+        written.len(),
+        mix.first_numbers.len() + mix.second_numbers.len()
+    );
+    is_as_alone(rt, alloc, &written, &mix.first_numbers, &OF_ANN, ann_most)?;
+    is_as_alone(rt, alloc, &written, &mix.second_numbers, &OF_BOB, bob_most)
+}
+
+/// Each connection of those numbers gets what it gets alone.
+fn is_as_alone(
+    rt: &impl Abort,
+    alloc: Global,
+    written: &[Written],
+    numbers: &[u64],
+    steps: &[Step<'_>],
+    most: usize,
+) -> Result<(), AllocError> {
+    let events = events_of(rt, alloc, steps, most)?;
+    let alone = written_of(rt, alloc, &events)?;
+    assert_eq!(rt; numbers.len(), alone.len());
+    for (number, wanted) in numbers.iter().zip(&alone) {
+        is_told_under(rt, written, *number, wanted);
+    }
     Ok(())
+}
+
+/// The connection of a number gets what is wanted.
+fn is_told_under(rt: &impl Abort, written: &[Written], number: u64, wanted: &Written) {
+    match written.iter().find(|got| got.conn == number) {
+        Some(got) => is_told(rt, "mixed", got, wanted),
+        None => panic!(rt; "connection {number} has no entry"),
+    }
 }

@@ -26,15 +26,17 @@ pub(crate) const DESCRIBED: &str =
     "00000049 0000000c 00000001 00000000 0009 'localhost 00002384 ffff 00000000 00000001 0000 \
     0001 't 00 00000001 0000 00000000 00000000 00000001 00000000 00000001 00000000";
 
+/// A topic is made, made again, and described.
+const MADE: [Step<'static>; 6] = [
+    Open(1),
+    In(1, HANDSHAKE, OFFERED),
+    In(1, ANN, WELCOME),
+    In(1, CREATE, CREATED),
+    In(1, CREATE_AGAIN, EXISTS),
+    In(1, METADATA, DESCRIBED),
+];
+
 #[test]
 fn a_topic_is_made_and_listed(rt: HostRuntime) -> Result<(), Fail> {
-    let steps = [
-        Open(1),
-        In(1, HANDSHAKE, OFFERED),
-        In(1, ANN, WELCOME),
-        In(1, CREATE, CREATED),
-        In(1, CREATE_AGAIN, EXISTS),
-        In(1, METADATA, DESCRIBED),
-    ];
-    plays(&rt, rt.alloc(), &steps)
+    plays(&rt, rt.alloc(), &[("a topic is made and listed", &MADE)])
 }

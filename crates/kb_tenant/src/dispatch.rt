@@ -243,6 +243,8 @@ fn look_at<L: PartitionLog + Drop, S: Store>(
 ) -> Result<Answer, ReadFault>
     requires { (scene L.log S.disk parts.old shelf.old).sound }
     ensures step { IsStep (scene L.log S.disk parts.old shelf.old) (scene L.log S.disk parts.new shelf.new) }
+    ensures same { let a = scene L.log S.disk parts.old shelf.old in let b = scene L.log S.disk parts.new shelf.new in
+        b.disk.honest → a.agrees → b.state.world ≡ a.state.world }
     ensures meets { let a = scene L.log S.disk parts.old shelf.old in let b = scene L.log S.disk parts.new shelf.new in
         Meets a b (IsServed correlation_id (stays a.state.world (looked a.state.world deadline body.now)) b.state.world [] result) }
 {
@@ -256,8 +258,8 @@ fn look_at<L: PartitionLog + Drop, S: Store>(
 
 /// Looks at a fetch that waits until the deadline at most, by its correlation id and its body.
 ///
-/// It is answered where it waits no longer; `NoReply` says that it still waits. The world stays. Want of memory shuts the
-/// connection and is counted.
+/// It is answered where it waits no longer; `NoReply` says that it still waits. The world stays, whatever is refused. Want
+/// of memory shuts the connection and is counted.
 pub fn look<L: PartitionLog + Drop, S: Store>(
     alloc: Global,
     parts: &mut Parts<L>,
@@ -268,6 +270,8 @@ pub fn look<L: PartitionLog + Drop, S: Store>(
 ) -> Answer
     requires { (scene L.log S.disk parts.old shelf.old).sound }
     ensures step { IsStep (scene L.log S.disk parts.old shelf.old) (scene L.log S.disk parts.new shelf.new) }
+    ensures same { let a = scene L.log S.disk parts.old shelf.old in let b = scene L.log S.disk parts.new shelf.new in
+        b.disk.honest → a.agrees → b.state.world ≡ a.state.world }
     ensures meets { let a = scene L.log S.disk parts.old shelf.old in let b = scene L.log S.disk parts.new shelf.new in
         Meets a b ((b.state.world ≡ a.state.world) × IsAnswer correlation_id (looked a.state.world deadline body.now) result) }
 {

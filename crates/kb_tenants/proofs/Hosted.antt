@@ -1,5 +1,5 @@
 -- What a call for one tenant is to those who see each tenant's name, what it keeps and its count.
-use Rattle.std.proofs.Common.{◌≡◌, ◌∙◌, ◌≤◌, ◌<◌, ℕ, zero, suc, Bool, true, false, eqb, List, [], ◌∷◌, Some, length, get_or, sym, ap, refl, subst, arith}
+use Rattle.std.proofs.Common.{◌≡◌, ◌∙◌, ◌≤◌, ◌<◌, ⊎_elim, ℕ, zero, suc, Bool, true, false, eqb, List, [], ◌∷◌, Some, length, get_or, sym, ap, refl, subst, arith}
 use Rattle.std.specs.Prelude.{map, slice_get, slice_set, option_map, unwrap_or, string_bytes, ◌&&◌}
 use Rattle.std.specs.Bool.{MatchBool}
 use Rattle.std.specs.List.{AllWithin, HoldsAt, list_all}
@@ -18,6 +18,7 @@ use Rattle.kb_world.specs.World.{World}
 use Rattle.kb_world.specs.declared.parts.Parts.{Parts}
 use Rattle.kb_world.proofs.Lifted.{clocked, recast, loud, refused_step}
 use Rattle.kb_tenant.specs.Hosted.{TenantState, Kept, IsTurn, IsMet, nothing, kept_in, kept_of, refusals_of, names_of, world_at, all_calm}
+use Rattle.kb_tenant.proofs.LogMoves.{same_or_not}
 use Rattle.kb_tenants.specs.Tenants.{AreKept, hosted, parts_of, state_of}
 use Rattle.kb_tenants.specs.Turns.{IsShelfTurn, seen_at}
 use Rattle.kb_tenants.specs.declared.tenants.Tenant.{Tenant}
@@ -158,6 +159,25 @@ module _ {L S : Type 0} (log : L → Log) (disk : S → Disk) (law : (l : L) →
       subst (λ n. IsCalm x.parts.refusals n) (refusals_here log (disk shelf.store).files (after old t x p shelf).tenants.items t (record x { parts = p }) there_after)
       (subst (λ n. IsCalm n (refusals_of (hosted log disk (after old t x p shelf)) t)) (refusals_here log (disk old.shelf.store).files old.tenants.items t x there) calm)
 
+  -- and a calm of its parts is one that is seen
+  pub calm_seen : IsCalm x.parts.refusals p.refusals → IsCalm (refusals_of (hosted log disk old) t) (refusals_of (hosted log disk (after old t x p shelf)) t)
+  calm_seen calm =
+      subst (λ n. IsCalm (refusals_of (hosted log disk old) t) n) (sym (refusals_here log (disk shelf.store).files (after old t x p shelf).tenants.items t (record x { parts = p }) there_after))
+      (subst (λ n. IsCalm n p.refusals) (sym (refusals_here log (disk old.shelf.store).files old.tenants.items t x there)) calm)
+
+  -- where the tenant keeps what it kept, all do
+  pub stays_after : ((disk shelf.store).honest → Agrees log x.parts (disk old.shelf.store).files → kept_in (world_of log p (disk shelf.store).files) ≡ kept_in (world_of log x.parts (disk old.shelf.store).files))
+      → (disk shelf.store).honest → (u : ℕ) → kept_of (hosted log disk (after old t x p shelf)) u ≡ kept_of (hosted log disk old) u
+  stays_after same honest u =
+      let here : kept_of (hosted log disk (after old t x p shelf)) t ≡ kept_of (hosted log disk old) t =
+      kept_here log (disk shelf.store).files (after old t x p shelf).tenants.items t (record x { parts = p }) there_after
+      ∙ same honest (kept.agree (shelf_turn.honest honest) t x.parts parts_there)
+      ∙ sym (kept_here log (disk old.shelf.store).files old.tenants.items t x there) in
+      ⊎_elim
+      (λ is. subst (λ v. kept_of (hosted log disk (after old t x p shelf)) v ≡ kept_of (hosted log disk old) v) (sym is) here)
+      (λ ne. turn_after.others honest u ne)
+      (same_or_not u t)
+
   -- what the step meets is what is seen
   pub met_after : (P : Kept → Kept → Type 0)
       → Meets (scene log disk x.parts old.shelf) (scene log disk p shelf) (P (kept_in (world_of log x.parts (disk old.shelf.store).files)) (kept_in (world_of log p (disk shelf.store).files)))
@@ -260,3 +280,18 @@ module _ {L S : Type 0} (log : L → Log) (disk : S → Disk) (law : (l : L) →
         → IsMet t (disk shelf.store).honest (hosted log disk old) (hosted log disk (after old t x p shelf)) Q
     met_at P Q so meets = met_after log disk law old t x p shelf lt read kept step_at Q (λ honest agree calm.
         so (subst (λ (v : Parts L). Meets (scene log disk v old.shelf) (scene log disk p shelf) (P (world_of log v (disk old.shelf.store).files) (world_of log p (disk shelf.store).files))) set meets honest (agrees_at agree) calm))
+
+    -- where the world at that clock stays, all keep what they kept
+    pub stays_at : ((disk shelf.store).honest → Agrees log q (disk old.shelf.store).files → world_of log p (disk shelf.store).files ≡ world_of log q (disk old.shelf.store).files)
+        → (disk shelf.store).honest → (u : ℕ) → kept_of (hosted log disk (after old t x p shelf)) u ≡ kept_of (hosted log disk old) u
+    stays_at same = stays_after log disk law old t x p shelf lt read kept step_at (λ honest agree.
+        ap kept_in (same honest (subst (λ (v : Parts L). Agrees log v (disk old.shelf.store).files) (sym set) (agrees_at agree)))
+        ∙ ap (λ (v : Parts L). kept_in (world_of log v (disk old.shelf.store).files)) set)
+
+    -- what is calm at that clock is seen to be calm
+    pub calm_at : IsCalm q.refusals p.refusals → IsCalm (refusals_of (hosted log disk old) t) (refusals_of (hosted log disk (after old t x p shelf)) t)
+    calm_at calm = calm_seen log disk law old t x p shelf lt read kept step_at (subst (λ (v : Parts L). IsCalm v.refusals p.refusals) set calm)
+
+    -- and the other way round
+    pub calm_from : IsCalm (refusals_of (hosted log disk old) t) (refusals_of (hosted log disk (after old t x p shelf)) t) → IsCalm q.refusals p.refusals
+    calm_from calm = subst (λ (v : Parts L). IsCalm v.refusals p.refusals) (sym set) (calm_here log disk law old t x p shelf lt read kept step_at calm)

@@ -1,12 +1,12 @@
-use Rattle.std.proofs.Common.{◌≡◌, FitsSigned, of_z, rules, subst, sym, ◌∙◌, to_z, w32}
-use Rattle.std.specs.Prelude.{unwrap_or}
+use Rattle.std.proofs.Common.{◌≡◌, FitsSigned, of_z, rules, subst, sym, ◌∙◌, to_z, true, w32}
 use Rattle.std.proofs.lemmas.Int.{to_z-of_z}
 use Rattle.kb_tenant.specs.Hosted.{kept_of, world_at}
 use Rattle.kb_tenant.specs.Replies.{IsAnswer}
 use Rattle.kb_tenant.specs.Serve.{looked}
 use Rattle.kb_connection.specs.View.{wait_of}
 use Rattle.kb_broker.specs.Hosts.{tenants_in}
-use Rattle.kb_broker.proofs.TenantTurns.{concerned, looked-ok}
+use Rattle.kb_broker.proofs.Handled.{from_err}
+use Rattle.kb_broker.proofs.TenantTurns.{looked-ok, looked-err}
 use Rattle.kb_broker.proofs.serving.look_again.Goals as goal
 
 pub returns-else-is_err-clause-looked : goal.returns-else-is_err-clause-looked
@@ -15,12 +15,22 @@ returns-else-is_err-clause-looked c =
     let t = c.in-Some.tenant in
     let w = c.in-Some.waiting.now in
     let fits : FitsSigned w32 w.correlation_id = search rules in
-    let is : unwrap_or a.whom t ≡ t = search rules in
-    let yours = concerned a.whom t is in
-    looked-ok c.wake.result a.whom a.clock t (tenants_in a.tenants.now) (tenants_in c.look-answer.new.self) a.connection.now c.wake.new.self (wait_of w) c.look-answer.result c.in-Some.ensures.some yours c.look-answer.ensures.turn
+    let passes : c.is_looked_for.result ≡ true = search rules in
+    let l = c.look-answer.ensures in
+    looked-ok c.wake.result a.whom a.clock t (tenants_in a.tenants.now) (tenants_in c.look-answer.new.self) a.connection.now c.wake.new.self (wait_of w) c.look-answer.result c.in-Some.ensures.some (sym c.is_looked_for.ensures ∙ passes) l.turn (l.stays tt)
     (λ honest calm.
-    let met = c.look-answer.ensures.meets honest calm in
+    let met = l.meets honest calm in
     let k = kept_of (tenants_in a.tenants.now) t in
     let same = subst (λ body. IsAnswer (to_z w32 (of_z w32 w.correlation_id)) (looked (world_at k a.clock) w.deadline body) c.look-answer.result) c.deref.ensures.value met.1 in
     (met.0, subst (λ z. IsAnswer z (looked (world_at k a.clock) w.deadline w.body.items) c.look-answer.result) (to_z-of_z w32 w.correlation_id fits) same))
-    c.wake.ensures.ok c.wake.ensures.number c.wake.ensures.stage c.wake.ensures.unread (sym c.is_err.ensures.value ∙ c.if-is_err.false)
+    l.shut c.wake.ensures.ok c.wake.ensures.number c.wake.ensures.stage c.wake.ensures.unread (sym c.is_err.ensures.value ∙ c.if-is_err.false)
+
+pub returns-then-is_err-clause-looked : goal.returns-then-is_err-clause-looked
+returns-then-is_err-clause-looked c =
+    let a = c.args in
+    let t = c.in-Some.tenant in
+    let passes : c.is_looked_for.result ≡ true = search rules in
+    let l = c.look-answer.ensures in
+    let shut = from_err c.wake.result c.is_err.result _ c.is_err.ensures.value c.if-is_err.true c.wake.ensures.err in
+    looked-err a.whom a.clock t (tenants_in a.tenants.now) (tenants_in c.look-answer.new.self) (tenants_in c.refuse.new.self) a.connection.now c.wake.new.self (wait_of c.in-Some.waiting.now) c.in-Some.ensures.some (sym c.is_looked_for.ensures ∙ passes) l.turn c.refuse.ensures.turn (l.stays tt) c.refuse.ensures.stays c.refuse.ensures.counted shut
+    c.wake.ensures.number c.wake.ensures.stage c.wake.ensures.unread

@@ -42,7 +42,7 @@ returns c =
     let turned = c.run_turns.ensures.turned in
     let g = going-then a b d given.going (turned (Of (number_at i a)) given.still).going in
     record {
-      ready = record { sound = g.sound; settled = c.run_turns.ensures.settled };
+      ready = record { sound = g.sound; settled = c.run_turns.ensures.settled; unready = (turned (Of (number_at i a)) given.still).unready (given.unready c.requires.unready) };
       step = step-taken a b d i n l c.args.piece.now c.requires f given turned c.run_turns.ensures.settled (full-is c.args.piece.now c.is_empty.result c.is_empty.ensures c.if-is_empty.false) (sym c.is_shut.ensures ∙ c.if-is_shut.false);
       last = g.last;
       numbers = g.numbers;

@@ -12,4 +12,4 @@ pub returns-in-Bound-clause-turned : goal.returns-in-Bound-clause-turned
 returns-in-Bound-clause-turned c = λ scope still.
     turned-served c.in-Bound.tenant scope c.args.self.now c.serve-phase.new.self c.wake.new.self
     (subst (λ p. IsServedAt (stage_of p) scope c.args.self.now c.serve-phase.new.self) c.in-Bound.is (c.serve-phase.ensures.served scope still))
-    c.wake.ensures.waked c.wake.ensures.settled
+    c.wake.ensures.waked c.wake.ensures.looked c.wake.ensures.rest

@@ -1,0 +1,260 @@
+//! Calls on a broker, one by one: what each answers.
+
+use crate::running::{LAST_MOMENT, new_broker, opens};
+use crate::words::bytes_of;
+use Call::{Asks, Calm, Closes, Opens, Passes, Room, Shut, Stays, Unknown, Zeros};
+use kb_broker::Broker;
+use std::alloc::{AllocError, Global};
+use std::process::Abort;
+use std::test::Fail;
+
+/// A call on a broker, and what it is to answer. Bytes are written as `words` says.
+#[derive(Clone, Copy)]
+enum Call<'a> {
+    /// A connection opens.
+    Opens(u64),
+    /// Bytes come on a connection, and that is its output then; no refusal is counted.
+    Asks(u64, &'a str, &'a str),
+    /// So many zeros come on a connection.
+    Zeros(u64, usize),
+    /// A moment passes.
+    Passes(u64),
+    /// A connection closes, with no output left.
+    Closes(u64),
+    /// The broker shut a connection.
+    Shut(u64),
+    /// The broker did not shut a connection.
+    Stays(u64),
+    /// A connection takes so many more bytes.
+    Room(u64, usize),
+    /// No refusal is counted for a tenant that there is not.
+    Unknown(&'a str),
+    /// No refusal is counted.
+    Calm,
+}
+
+/// SaslHandshake of `PLAIN`, which is offered.
+const HANDSHAKE: &str = "000000110011000100000002ffff0005504c41494e";
+
+const OFFERED: &str = "00000011000000020000000000010005504c41494e";
+
+/// The login of `ann`, who is let in; a second one comes at no time.
+const LOGIN: &str = "000000160024000000000003ffff0000000800616e6e00707731";
+
+const WELCOME: &str = "0000000c000000030000ffff00000000";
+
+const ILLEGAL: &str = "0000001e0000000300220012696c6c6567616c205341534c20737461746500000000";
+
+/// A header that is cut off.
+const CUT: &str = "000000080012000000000005";
+
+/// A mechanism that is not known, PLAIN, a login, a second one, and a header that is cut off.
+const ONE_LOGIN: [Call<'static>; 9] = [
+    Opens(1),
+    Asks(
+        1,
+        "000000120011000100000001ffff0006475353415049",
+        "00000011000000010021000000010005504c41494e",
+    ),
+    Asks(1, HANDSHAKE, OFFERED),
+    Asks(1, LOGIN, WELCOME),
+    Asks(
+        1,
+        "000000160024000000000004ffff0000000800616e6e00707731",
+        "0000001e0000000400220012696c6c6567616c205341534c20737461746500000000",
+    ),
+    Stays(1),
+    Asks(1, CUT, ""),
+    Shut(1),
+    Calm,
+];
+
+/// A wrong password; what comes behind it is not read.
+const WRONG_PASSWORD: [Call<'static>; 7] = [
+    Opens(7),
+    Asks(7, HANDSHAKE, OFFERED),
+    Asks(
+        7,
+        "000000160024000000000003ffff0000000800616e6e00707732",
+        "0000002100000003003a001561757468656e7469636174696f6e206661696c656400000000",
+    ),
+    Shut(7),
+    Asks(7, "0000000a0012000000000001ffff", ""),
+    Room(7, 4_194_312),
+    Closes(7),
+];
+
+/// A piece that is longer than the room.
+const OVER_THE_ROOM: [Call<'static>; 8] = [
+    Opens(1),
+    Asks(1, "00200000", ""),
+    Room(1, 4_194_308),
+    Zeros(1, 4_194_309),
+    Shut(1),
+    Room(1, 4_194_312),
+    Room(2, 0),
+    Unknown("nobody"),
+];
+
+/// A request before the login, sizes below 0, below a request's and above the greatest, and a header that is cut off.
+const SHUTTING: [&str; 5] = [
+    "0000000e0003000100000001ffffffffffff",
+    "ffffffff",
+    "00000007",
+    "00200001",
+    CUT,
+];
+
+/// Makes calls on a new broker.
+fn makes(rt: &impl Abort, alloc: Global, calls: &[Call<'_>]) -> Result<(), AllocError> {
+    let mut broker = new_broker(alloc)?;
+    for next in calls {
+        make(rt, alloc, &mut broker, *next)?;
+    }
+    Ok(())
+}
+
+/// Makes a call.
+fn make(
+    rt: &impl Abort,
+    alloc: Global,
+    broker: &mut Broker,
+    next: Call<'_>,
+) -> Result<(), AllocError> {
+    match next {
+        Call::Opens(number) => opens(rt, alloc, broker, number)?,
+        Call::Asks(number, request, reply) => asks(rt, alloc, broker, number, request, reply)?,
+        Call::Zeros(number, count) => broker.input(alloc, number, &vec![in alloc; 0; count]?),
+        Call::Passes(now) => passes(rt, alloc, broker, now),
+        Call::Closes(number) => closes(rt, alloc, broker, number),
+        Call::Shut(number) => assert!(rt; broker.shut(number)),
+        Call::Stays(number) => assert!(rt; !broker.shut(number)),
+        Call::Room(number, room) => assert_eq!(rt; broker.room(number), room),
+        Call::Unknown(name) => assert_eq!(rt; broker.refusals(name), 0),
+        Call::Calm => assert!(rt; broker.is_calm()),
+    }
+    Ok(())
+}
+
+/// What a connection gets for some bytes.
+fn output_of(
+    rt: &impl Abort,
+    alloc: Global,
+    broker: &mut Broker,
+    number: u64,
+    request: &str,
+) -> Result<Vec<u8>, AllocError> {
+    let request = bytes_of(rt, alloc, request)?;
+    broker.input(alloc, number, &request);
+    Ok(broker.take_output(alloc, number))
+}
+
+/// What a connection is answered, byte by byte.
+fn asks(
+    rt: &impl Abort,
+    alloc: Global,
+    broker: &mut Broker,
+    number: u64,
+    request: &str,
+    reply: &str,
+) -> Result<(), AllocError> {
+    let output = output_of(rt, alloc, broker, number, request)?;
+    assert_eq!(rt; output, bytes_of(rt, alloc, reply)?, "to {request}");
+    assert_eq!(rt; broker.refusals_unbound(), 0);
+    assert_eq!(rt; broker.refusals("a"), 0);
+    Ok(())
+}
+
+/// A moment passes.
+fn passes(rt: &impl Abort, alloc: Global, broker: &mut Broker, now: u64) {
+    assert!(rt; now <= LAST_MOMENT);
+    broker.moment(alloc, now);
+}
+
+/// A connection closes, with no output left.
+fn closes(rt: &impl Abort, alloc: Global, broker: &mut Broker, number: u64) {
+    assert_eq!(rt; broker.disconnect(alloc, number).len(), 0);
+    assert!(rt; !broker.is_open(number));
+}
+
+#[test]
+fn calls_are_answered(rt: HostRuntime) -> Result<(), Fail> {
+    makes(&rt, rt.alloc(), &ONE_LOGIN)?;
+    makes(&rt, rt.alloc(), &WRONG_PASSWORD)?;
+    makes(&rt, rt.alloc(), &OVER_THE_ROOM)?;
+    Ok(())
+}
+
+#[test]
+fn what_shuts_without_an_answer(rt: HostRuntime) -> Result<(), Fail> {
+    for request in SHUTTING {
+        let shutting = [
+            Opens(3),
+            Asks(3, request, ""),
+            Shut(3),
+            Opens(4),
+            Passes(5),
+            Stays(4),
+        ];
+        makes(&rt, rt.alloc(), &shutting)?;
+    }
+    Ok(())
+}
+
+/// Whether a connection is not shut. If it is, memory was refused: there is no output, and one refusal is counted.
+fn is_kept(rt: &impl Abort, broker: &Broker, output: &[u8]) -> bool {
+    if !broker.shut(1) {
+        assert!(rt; broker.is_calm());
+        return true;
+    }
+    assert!(rt; output.is_empty());
+    assert_eq!(rt; broker.room(1), 4_194_312);
+    let counts = (broker.refusals_unbound(), broker.refusals("a"));
+    assert!(rt; counts == (1, 0) || counts == (0, 1));
+    assert_eq!(rt; broker.refusals("b"), 0);
+    false
+}
+
+/// Whether what a connection got for a request is the reply, and not nothing for want of memory.
+fn asks_or_is_refused(
+    rt: &impl Abort,
+    alloc: Global,
+    broker: &mut Broker,
+    request: &str,
+    reply: &str,
+) -> Result<bool, AllocError> {
+    let output = output_of(rt, alloc, broker, 1, request)?;
+    let is_kept = is_kept(rt, broker, &output);
+    if is_kept {
+        assert_eq!(rt; output, bytes_of(rt, alloc, reply)?);
+    }
+    Ok(is_kept)
+}
+
+/// A handshake, a login and one more on a new broker, up to one that is refused.
+fn logs_in_or_is_refused(
+    rt: &impl Abort,
+    alloc: Global,
+    broker: &mut Broker,
+) -> Result<(), AllocError> {
+    let steps = [(HANDSHAKE, OFFERED), (LOGIN, WELCOME), (LOGIN, ILLEGAL)];
+    for (request, reply) in steps {
+        if !asks_or_is_refused(rt, alloc, broker, request, reply)? {
+            break;
+        }
+    }
+    Ok(())
+}
+
+/// Also where any one allocation is refused, each step is answered exactly or refused with one count.
+#[test]
+fn a_refused_growth_is_counted_once(rt: HostRuntime) -> Result<(), Fail> {
+    let mut broker = new_broker(rt.alloc())?;
+    assert_eq!(rt; broker.last_connection(), 0);
+    if broker.connect(rt.alloc(), 1).is_err() {
+        assert!(rt; !broker.is_open(1));
+        assert_eq!(rt; broker.refusals_unbound(), 1);
+        return Ok(());
+    }
+    Ok(logs_in_or_is_refused(&rt, rt.alloc(), &mut broker)?)
+}

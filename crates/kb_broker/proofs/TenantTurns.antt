@@ -110,26 +110,32 @@ pub looked-ok : {A E : Type 0} (result : Result A E) (whom : Option ℕ) (clock 
 looked-ok result whom clock t ts us l new w r stage yours turn stays meets shut ok number same unread good =
     let met = λ (honest : Unit {0}) (calm : IsCalm (refusals_of ts t) (refusals_of us t)). let h : OnOk result (new.session ≡ woken (kept_of ts t) clock l.session) = met-looked result clock t ts us l new w r stage meets ok calm in good-result result h good in
     subst (λ st. IsLookedAt whom clock st ts us l new) (sym stage)
-    (inr (yours, record {
-      number = number;
-      stage = same;
-      unread = unread;
-      turn = turn;
-      stays = stays;
-      meets = met;
-      unready = λ b is now. calm-or (refusals_of ts t) (refusals_of us t)
-          (λ calm. unready-met b t w l new stage (met tt calm ∙ (ap (λ k. woken k clock l.session) (ap (λ x. kept_of x t) (sym is)) ∙ ap (λ n. woken (kept_of b.tenants t) n l.session) (sym now))))
-          (λ loud. let is-shut = good-result result (ok w.correlation_id Shuts (subst (IsAnswer w.correlation_id Shuts) (sym (shut loud)) tt)) good in subst (λ (x : Line). IsUnready AnyWait b x.session.stage) (sym is-shut) (shut-unready AnyWait b l.session));
-    }))
+    (inr (
+      yours,
+      record {
+        number = number;
+        stage = same;
+        unread = unread;
+        turn = turn;
+        stays = stays;
+        meets = met;
+        unready = λ b is now. calm-or (refusals_of ts t) (refusals_of us t)
+            (λ calm. unready-met b t w l new stage (met tt calm ∙ (ap (λ k. woken k clock l.session) (ap (λ x. kept_of x t) (sym is)) ∙ ap (λ n. woken (kept_of b.tenants t) n l.session) (sym now))))
+            (λ loud. let is-shut = good-result result (ok w.correlation_id Shuts (subst (IsAnswer w.correlation_id Shuts) (sym (shut loud)) tt)) good in subst (λ (x : Line). IsUnready AnyWait b x.session.stage) (sym is-shut) (shut-unready AnyWait b l.session));
+      },
+    ))
   where
     good-result : {A E : Type 0} {P : Type 0} (result : Result A E) → OnOk result P → is_err result ≡ false → P
     good-result (Ok x) h e = h
     good-result (Err x) h e = let no : true ≡ false = e in absurd (cc)
+
     unready-met : (b : BrokerState) (t : ℕ) (w : Wait) (l new : Line) → l.session.stage ≡ BoundTo t (Some w) → new.session ≡ woken (kept_of b.tenants t) b.clock l.session → IsUnready AnyWait b new.session.stage
     unready-met b t w l new stage is = subst (λ (s : Session). IsUnready AnyWait b s.stage) (sym is) (unready-woken AnyWait b l.session t w stage)
+
     by : (x y : ℕ) {P : Type 0} (b : Bool) → (eqb y x && nat_lt x END) ≡ b → (IsCalm x y → P) → ((IsCalm x y → ⊥) → P) → P
     by x y true e calm loud = calm (record { same = grind (arith, nat_tests, e); below = grind (arith, nat_tests, e) })
     by x y false e calm loud = loud (λ h. let s = h.same in let l = h.below in grind (arith, nat_tests, e, s, l))
+
     calm-or : (x y : ℕ) {P : Type 0} → (IsCalm x y → P) → ((IsCalm x y → ⊥) → P) → P
     calm-or x y calm loud = by x y (eqb y x && nat_lt x END) refl calm loud
 
@@ -139,12 +145,15 @@ pub looked-err : (whom : Option ℕ) (clock t : ℕ) (ts us vs : List TenantStat
     → new.number ≡ l.number → without_wait new.session.stage ≡ without_wait l.session.stage → length new.session.unread ≤ length l.session.unread → IsLookedAt whom clock l.session.stage ts vs l new
 looked-err whom clock t ts us vs l new w stage yours first then stays again counted is number same unread =
     subst (λ st. IsLookedAt whom clock st ts vs l new) (sym stage)
-    (inr (yours, record {
-      number = number;
-      stage = same;
-      unread = unread;
-      turn = turn-then t (Unit {0}) (Unit {0}) ts us vs (λ u. u) first then;
-      stays = λ u. again u ∙ stays u;
-      meets = λ honest calm. absurd (counted (calm-right (refusals_of ts t) (refusals_of us t) (refusals_of vs t) (first.grows t) (then.grows t) calm));
-      unready = λ b e now. subst (λ (x : Line). IsUnready AnyWait b x.session.stage) (sym is) (shut-unready AnyWait b l.session);
-    }))
+    (inr (
+      yours,
+      record {
+        number = number;
+        stage = same;
+        unread = unread;
+        turn = turn-then t (Unit {0}) (Unit {0}) ts us vs (λ u. u) first then;
+        stays = λ u. again u ∙ stays u;
+        meets = λ honest calm. absurd (counted (calm-right (refusals_of ts t) (refusals_of us t) (refusals_of vs t) (first.grows t) (then.grows t) calm));
+        unready = λ b e now. subst (λ (x : Line). IsUnready AnyWait b x.session.stage) (sym is) (shut-unready AnyWait b l.session);
+      },
+    ))

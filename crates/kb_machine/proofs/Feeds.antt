@@ -103,7 +103,7 @@ fed-kept b i l m piece r at n e =
     let still = all-at (λ x. can x.session ≡ false) b.lines i l at (all-still b.lines r.settled) in
     let lines : set b.lines i m ≡ each (on l.number (fed piece)) b.lines = set-on 0 b.last (fed piece) b.lines i l m s.rising at n e in
     let going = changed-going b i l m b.tenants b.unbound_refusals s at n refl (range-same (length b.tenants) l.session.stage m.session.stage same (all-at _ b.lines i l at s.in_range))
-        (record { setup = refl; names = refl; own = λ t. omega arith; unbound = omega arith }) (λ t f. owner ∙ f) in
+    (record { setup = refl; names = refl; own = λ t. omega arith; unbound = omega arith }) (λ t f. owner ∙ f) in
     record {
       going = going;
       still = fed-still b i l m b.tenants b.unbound_refusals r.settled n going;
@@ -122,7 +122,7 @@ fed-refused b i l m piece h x r at g n e up rises =
     let same : without_wait m.session.stage ≡ without_wait l.session.stage = ap (λ (x : Session). without_wait x.stage) e ∙ stage-shut l.session in
     let none : whose l.session.stage ≡ None = ap whose g in
     let going = changed-going b i l m b.tenants x s at n refl (range-same (length b.tenants) l.session.stage m.session.stage same (all-at _ b.lines i l at s.in_range))
-        (record { setup = refl; names = refl; own = λ t. omega arith; unbound = up }) (λ t f. let k : None ≡ Some t = sym none ∙ f in absurd (cc)) in
+    (record { setup = refl; names = refl; own = λ t. omega arith; unbound = up }) (λ t f. let k : None ≡ Some t = sym none ∙ f in absurd (cc)) in
     record {
       going = going;
       still = fed-still b i l m b.tenants x r.settled n going;

@@ -227,6 +227,7 @@ later kept clock now w e early = by (whole fetch_request w.body) e
     none : (o : Option FetchReply) → elim o [ Some reply ↦ Replies (fetch_reply.written reply) | None ↦ Silent ] ≡ Silent → o ≡ None
     none (Some reply) h = absurd (cc)
     none None h = refl
+
     by : (r : Result FetchRequest WireFault) → looked_at (world_at kept clock) w.deadline r ≡ Silent → looked_at (world_at kept now) w.deadline r ≡ Silent
     by (Ok r) h =
         let waits = none (fetch_answer (world_at kept clock) r w.deadline) h in

@@ -335,6 +335,7 @@ served-unready b i u m H ts turn honest q k =
     other b u new kept (Greets h) k = tt
     other b u new kept (BoundTo t None) k = tt
     other b u new kept (BoundTo t (Some w)) k = λ ne. ap (λ x. ready x b.clock w) (kept t ne) ∙ k tt
+
     own : (u : ℕ) (new : BrokerState) (w : Option Wait) → IsUnready (λ t w. t ≢ u) new (BoundTo u w)
     own u new None = tt
     own u new (Some w) = λ ne. absurd (ne refl)

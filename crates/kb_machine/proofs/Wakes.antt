@@ -155,6 +155,7 @@ never-waits kept clock w deadline places e = by (whole fetch_request w.body) e
     answers : (o : Option FetchReply) → elim o [ Some reply ↦ Replies (fetch_reply.written reply) | None ↦ Silent ] ≡ Waits deadline places → ⊥
     answers (Some reply) h = absurd (cc)
     answers None h = absurd (cc)
+
     by : (r : Result FetchRequest WireFault) → looked_at (world_at kept clock) w.deadline r ≡ Waits deadline places → ⊥
     by (Ok r) h = answers (fetch_answer (world_at kept clock) r w.deadline) h
     by (Err fault) h = absurd (cc)
@@ -183,6 +184,7 @@ each-unready P b t mine es passes (l ∷ ls) m h = by (mine l.number) refl (each
         let same : u ≡ t = eqb_same u t (sym is ∙ among) in
         let silent : ready (kept_of b t) b.clock w ≡ Silent = subst (λ v. P v w → ready (kept_of b v) b.clock w ≡ Silent) same (subst (IsUnready P b) e h.0) (passes w) in
         woken-at (kept_of b t) b.clock l.session u w e ∙ ap (λ r. told r w.correlation_id l.session) silent
+
     by : (c : Bool) → mine l.number ≡ c → each (λ k s. woken (kept_of b t) b.clock s) (those mine ls) ≡ those mine ls → each (λ k s. woken (kept_of b t) b.clock s) (cond c (l ∷ those mine ls) (those mine ls)) ≡ cond c (l ∷ those mine ls) (those mine ls)
     by false e rest = rest
     by true e rest = ap (λ s. (let x : Line = record { number = l.number; session = s } in x) ∷ each (λ k s. woken (kept_of b t) b.clock s) (those mine ls)) (at l.session.stage refl e) ∙ ap (λ xs. l ∷ xs) rest

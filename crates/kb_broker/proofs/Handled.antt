@@ -22,7 +22,7 @@ use Rattle.kb_machine.proofs.Turns.{going-then, untouched-then, turned-greeting,
 use Rattle.kb_machine.proofs.Feeds.{still-settled, fed-kept, fed-refused, fed-bound, step-comes, step-nothing, step-shut}
 use Rattle.kb_connection.specs.View.{with_session}
 use Rattle.kb_broker.specs.Places.{numbers, number_at, waits_in, AreFree, IsSpent, IsTakenAt, IsTurnAt, AreIdle, IsNext, IsScoped, IsCountedAt, IsServedAt}
-use Rattle.kb_broker.proofs.Placed.{IsFound, at-read, get-at, find-found, number_at-is, numbers-set}
+use Rattle.kb_broker.proofs.Placed.{IsFound, at-read, get-at, find-found, number_at-is}
 
 -- 1. A connection at a place changes
 
@@ -37,9 +37,6 @@ from_err (Err x) b P e t h = h
 pub from_ok : {A E : Type 0} (r : Result A E) (b : Bool) (P : Type 0) → b ≡ is_err r → b ≡ false → OnOk r P → P
 from_ok (Ok x) b P e t h = h
 from_ok (Err x) b P e t h = let no : true ≡ false = sym e ∙ t in absurd (cc)
-
-pub numbers-put : (a b : BrokerState) (i : ℕ) (l m : Line) → a ≡ b → IsAt b.lines i l → m.number ≡ l.number → numbers (put_at a i m) ≡ numbers b
-numbers-put a b i l m e at n = ap (λ (x : BrokerState). numbers (put_at x i m)) e ∙ numbers-set b.lines i l m at n
 
 -- fewer unread bytes there are fewer unread bytes of all
 pub work-put : (b : BrokerState) (i : ℕ) (l m : Line) (ls : List Line) → IsAt b.lines i l → ls ≡ set b.lines i m → length m.session.unread < length l.session.unread → work ls < work b.lines
@@ -244,9 +241,6 @@ idle-still n b idle = all-map (λ (l : Line). l.number ≢ n → can l.session �
 
 pub idle-scoped : (n : ℕ) (b : BrokerState) → AreIdle n b → IsScoped b
 idle-scoped n b idle = (Of n, idle-still n b idle)
-
-pub ready-scoped : (b : BrokerState) → first_able b.lines ≡ None → IsScoped b
-ready-scoped b none = (Everybody, still-settled Everybody b none)
 
 -- after turns of some event only its connections can take one
 pub scoped-turned : (a b : BrokerState) → IsScoped a → ((scope : Scope) → AreStill scope a → Turned scope a b) → IsScoped b

@@ -11,7 +11,7 @@ use Rattle.kb_machine.specs.Broker.{BrokerState, IsSound, IsUnready, AreUnready,
 use Rattle.kb_machine.specs.Turned.{Concerns, Waked, IsLookedFor, IsPassedOver}
 use Rattle.kb_machine.proofs.Sets.{IsAt, all-at, all-set, all-map, tail-at, no-at, work-set}
 use Rattle.kb_machine.proofs.Wakes.{waked-same, waked-then, waked-line}
-use Rattle.kb_broker.specs.Places.{IsPassedBy, IsLookedAt, AreFree, AreWaked}
+use Rattle.kb_broker.specs.Places.{IsPassedBy, IsLookedAt, AreWaked}
 use Rattle.kb_machine.specs.Machine.{Moment}
 use Rattle.kb_machine.specs.Broker.{IsReady, IsStep}
 use Rattle.kb_machine.specs.Calls.{moved}
@@ -65,32 +65,12 @@ looked-unread whom clock old new l m (BoundTo t None) p = let e = ap (λ (x : Li
 looked-unread whom clock old new l m (BoundTo t (Some w)) (inl p) = let e = ap (λ (x : Line). length x.session.unread) p.1.1 in omega (arith, e)
 looked-unread whom clock old new l m (BoundTo t (Some w)) (inr p) = p.1.unread
 
--- who does not wait, does not wait after a look
-pub looked-free : (whom : Option ℕ) (clock : ℕ) (old new : List TenantState) (l m : Line) (st : Stage) → l.session.stage ≡ st → IsLookedAt whom clock st old new l m → is_free l.session.stage ≡ true → is_free m.session.stage ≡ true
-looked-free whom clock old new l m (Greets h) e p free = ap (λ (x : Line). is_free x.session.stage) p.1 ∙ free
-looked-free whom clock old new l m (BoundTo t None) e p free = ap (λ (x : Line). is_free x.session.stage) p.1 ∙ free
-looked-free whom clock old new l m (BoundTo t (Some w)) e p free = let no : false ≡ true = sym (ap is_free e) ∙ free in absurd (cc)
-
 -- 2. One after another
 
 take-set : (P : Line → Type 0) (ls : List Line) (i : ℕ) (l m : Line) → IsAt ls i l → AllByRecursion P (take i ls) → P m → AllByRecursion P (take (suc i) (set ls i m))
 take-set P [] i l m at h p = no-at i l at
 take-set P (k ∷ ls) zero l m at h p = (p, tt)
 take-set P (k ∷ ls) (suc i) l m at h p = (h.0, take-set P ls i l m (tail-at k ls i l at) h.1 p)
-
-none-taken : (P : Line → Type 0) (ls : List Line) → AllByRecursion P (take 0 ls)
-none-taken P [] = tt
-none-taken P (l ∷ ls) = tt
-
-pub waked-none : (whom : Option ℕ) (b : BrokerState) → IsSound b → AreWaked whom b b 0 false
-waked-none whom b s = record {
-  waked = waked-same whom b s;
-  looked = none-taken (λ (l : Line). IsUnready (IsLookedFor whom b.clock) b l.session.stage) b.lines;
-  rest = λ u. none-taken (λ (l : Line). IsUnready AnyWait b l.session.stage) b.lines;
-  over = λ u. u;
-  free = λ e. none-taken (λ (l : Line). is_free l.session.stage ≡ true) b.lines;
-  work = omega arith;
-}
 
 -- at a later moment, in which tenants keep the same
 all-same : (P : ℕ → Wait → Type 0) (b c : BrokerState) (ls : List Line) → c.clock ≡ b.clock → ((t : ℕ) → kept_of c t ≡ kept_of b t) → AllByRecursion (λ (l : Line). IsUnready P b l.session.stage) ls → AllByRecursion (λ (l : Line). IsUnready P c l.session.stage) ls
@@ -118,20 +98,6 @@ waked-more whom a b i before after l m us v at is free =
       free = λ e. take-set (λ (k : Line). is_free k.session.stage ≡ true) b.lines i l m at (v.free (free e).0) (free e).1;
       work = (let le = v.work in omega (arith, le, less, sizes));
     }
-
-take-all : (P : Line → Type 0) (n : ℕ) (ls : List Line) → length ls ≤ n → AllByRecursion P (take n ls) → AllByRecursion P ls
-take-all P n [] le h = tt
-take-all P zero (l ∷ ls) le h = absurd (omega arith)
-take-all P (suc n) (l ∷ ls) le h = (h.0, take-all P n ls (omega arith) h.1)
-
-pub waked-looked : (whom : Option ℕ) (a b : BrokerState) (n : ℕ) (may_wait : Bool) → AreWaked whom a b n may_wait → length b.lines ≤ n → AreUnready (IsLookedFor whom a.clock) b
-waked-looked whom a b n may_wait v le = take-all (λ (l : Line). IsUnready (IsLookedFor whom a.clock) b l.session.stage) n b.lines le v.looked
-
-pub waked-rest : (whom : Option ℕ) (a b : BrokerState) (n : ℕ) (may_wait : Bool) → AreWaked whom a b n may_wait → length b.lines ≤ n → AreUnready (IsPassedOver whom a.clock) a → AreUnready AnyWait b
-waked-rest whom a b n may_wait v le u = take-all (λ (l : Line). IsUnready AnyWait b l.session.stage) n b.lines le (v.rest u)
-
-pub waked-free : (whom : Option ℕ) (a b : BrokerState) (n : ℕ) (may_wait : Bool) → AreWaked whom a b n may_wait → length b.lines ≤ n → AreFree may_wait b.lines
-waked-free whom a b n may_wait v le = λ e. take-all (λ (l : Line). is_free l.session.stage ≡ true) n b.lines le (v.free e)
 
 -- one more, in the code's words: whether it waits is told by what it waits for
 pub waked-at : {W : Type 0} (whom : Option ℕ) (a b : BrokerState) (i : ℕ) (before : Bool) (l m : Line) (us : List TenantState) (waits : Option W) → AreWaked whom a b i before → IsAt b.lines i l → IsLookedAt whom b.clock l.session.stage b.tenants us l m →

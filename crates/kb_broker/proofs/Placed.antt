@@ -1,6 +1,5 @@
 -- The connection at a place, and what is found at a number.
 use Rattle.std.proofs.Common.{◌≡◌, ◌≢◌, ◌<◌, ◌≤◌, ℕ, suc, List, [], ◌∷◌, length, get_or, set, Option, Some, None, Result, Ok, Err, IfSome, IfNone, refl, sym, ◌∙◌, ap, subst, arith}
-use Rattle.std.specs.Prelude.{map}
 use Rattle.std.specs.Option.{is_some}
 use Rattle.std.specs.Result.{result_ok}
 use Rattle.std.specs.List.{AllByRecursion, remove}
@@ -9,7 +8,6 @@ use Rattle.std.specs.Ordering.{nat_cmp, ordering_index}
 use Rattle.std.proofs.lemmas.Bool.Decides.{nat_tests}
 use Rattle.std.proofs.lemmas.Cmp.{ranked}
 use Rattle.std.proofs.lemmas.List.{get_or-map, get_or_default}
-use Rattle.std.proofs.Math.Seq.{map-set_same}
 use Rattle.kb_machine.specs.Session.{fresh}
 use Rattle.kb_machine.specs.Machine.{Line, each, on}
 use Rattle.kb_machine.specs.Owners.{find_line}
@@ -40,9 +38,6 @@ find-found b i n l r f = subst (λ k. find_line k b.lines ≡ Some l.session) f.
 
 pub number_at-is : (b : BrokerState) (i : ℕ) (l : Line) → IsAt b.lines i l → number_at i b ≡ l.number
 number_at-is b i l at = get_or-map (λ (x : Line). x.number) b.lines i l 0 at.within ∙ ap (λ (x : Line). x.number) (sym at.here)
-
-pub numbers-set : (ls : List Line) (i : ℕ) (l m : Line) → IsAt ls i l → m.number ≡ l.number → map (λ (x : Line). x.number) (set ls i m) ≡ map (λ (x : Line). x.number) ls
-numbers-set ls i l m at e = map-set_same (λ (x : Line). x.number) ls i m l (e ∙ ap (λ (x : Line). x.number) at.here)
 
 -- 2. The search
 

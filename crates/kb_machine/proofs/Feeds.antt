@@ -12,7 +12,7 @@ use Rattle.kb_machine.specs.Session.{Stage, Greets, BoundTo, Session, fed, room,
 use Rattle.kb_machine.specs.Greeting.{Setup}
 use Rattle.kb_machine.specs.Machine.{Happening, Comes, Line, World, each, on, those, first_able, turns, stepped}
 use Rattle.kb_machine.specs.Owners.{Owns, Fits, whose, heard, destiny}
-use Rattle.kb_machine.specs.Broker.{BrokerState, IsUnready, AreUnready, AnyWait, kept_of, IsReady, IsStep, IsUntaken, Rising, Mine, view_of}
+use Rattle.kb_machine.specs.Broker.{BrokerState, IsUnready, AnyWait, kept_of, IsReady, IsStep, IsUntaken, Rising, Mine, view_of}
 use Rattle.kb_machine.specs.Turned.{Scope, Of, IsStill, AreStill, Turned, IsFed}
 use Rattle.kb_machine.proofs.Laws.{none-those, turns-none, those-each}
 use Rattle.kb_machine.specs.Turned.{IsGoing}
@@ -167,9 +167,6 @@ fed-bound b i u l m piece w H ts r at g n e turn honest stays loud =
     }
 
 -- 3. The end of the event
-
-pub ready-turned : (a c : BrokerState) → IsGoing a c → first_able c.lines ≡ None → AreUnready AnyWait c → IsReady c
-ready-turned a c w e u = record { sound = w.sound; settled = e; unready = u }
 
 -- a piece that was taken, and then turns until none is left
 pub step-comes : (n : ℕ) (piece : List ℕ) (a b c : BrokerState) → IsFed n piece a b → Turned (Of n) b c → first_able c.lines ≡ None → (IsUntaken n piece a → ⊥) → IsStep (Comes n piece) a c

@@ -7,10 +7,10 @@ use Rattle.kb_api_group.specs.Frames.{Front, Whole, Partial, TooSmall, TooLarge,
 use Rattle.kb_machine.specs.Requests.{Asked, Versions, OtherVersions, Handshake, Authenticate, Another, Unread, request}
 use Rattle.kb_tenant.specs.Hosted.{Kept}
 use Rattle.kb_tenant.specs.Replies.{Reaction, Replies, Waits, Silent, Shuts, framed, reply_size}
-use Rattle.kb_machine.specs.Tenant.{Wait, answer, ready}
+use Rattle.kb_machine.specs.Tenant.{Wait, answer}
 use Rattle.kb_machine.specs.Session.{Stage, Greets, BoundTo, Session, fed, shut_down, without_wait, waiting, can, is_turn, room, replied}
 use Rattle.kb_machine.specs.Greeting.{Setup, greeted}
-use Rattle.kb_machine.specs.Machine.{Happening, Opens, Comes, Closes, Moment, Line, World, answered, told, served_by, served_at, served, put, each, on, those, first_able, all_woken, turn_at, turn, turns, again, woken, woken_by}
+use Rattle.kb_machine.specs.Machine.{Happening, Opens, Comes, Closes, Moment, Line, World, answered, served_by, served_at, served, put, each, on, those, first_able, all_woken, turn_at, turn, turns, again}
 use Rattle.kb_machine.specs.Owners.{greet_turn, greet_turn_at, heard, destiny, is_for, whose, Fits, Owns, Keeps, Pairwise}
 use Rattle.kb_machine.proofs.Laws.{those-each, first-those, turn-some, turns-turn, greeted-less, greeted-still}
 
@@ -142,22 +142,6 @@ stage-served setup kept clock s = by (front s.unread)
     by TooSmall = stage-shut s
     by TooLarge = stage-shut s
     by Partial = refl
-
-stage-told : (r : Reaction) (id : ℤ) (s : Session) → without_wait (told r id s).stage ≡ without_wait s.stage
-stage-told (Replies reply) id s = stage-replied id reply (record s { stage = without_wait s.stage }) ∙ without-twice s.stage
-stage-told (Waits deadline places) id s = refl
-stage-told Silent id s = refl
-stage-told Shuts id s = stage-shut s
-
--- a look at a connection leaves it bound
-pub stage-woken : (kept : Kept) (clock : ℕ) (s : Session) → without_wait (woken kept clock s).stage ≡ without_wait s.stage
-unfolding woken_by
-stage-woken kept clock s = by s.stage
-  where
-    by : (st : Stage) → without_wait (woken_by kept clock s st).stage ≡ without_wait s.stage
-    by (Greets h) = refl
-    by (BoundTo u None) = refl
-    by (BoundTo u (Some w)) = stage-told (ready kept clock w) w.correlation_id s
 
 pub destiny-bound : (setup : Setup) (n : ℕ) (s : Session) (es : List Happening) (u : ℕ) → IsBound u s → destiny setup n s es ≡ Some u
 destiny-bound setup n s [] u b = ap whose b.is

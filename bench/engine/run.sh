@@ -58,16 +58,16 @@ for bytes in 100 1000; do
     play
 done | awk -v n=$requests '
     {
-        row = $2 " of " $3 " bytes | " $4 " | " $5; key = $1 row $6; time = $7 + $8
-        if (!(row in kinds)) { rows[++count] = row; kinds[row] = $2 $3 }
-        if (!(key in best) || time < best[key]) best[key] = time
+        script = $2 " of " $3 " bytes | " $4 " | " $5; loaded = $6; time = $7 + $8
+        if (!(script in kinds)) { scripts[++count] = script; kinds[script] = $2 $3 }
+        if (!(($1, script, loaded) in best) || time < best[$1, script, loaded]) best[$1, script, loaded] = time
     }
-    function cost(player, row) { return (best[player row 1] - best[player row 0]) / n }
+    function cost(player, script) { return (best[player, script, 1] - best[player, script, 0]) / n }
     END {
         print "what | topics | idle connections | broker: requests/s, us | plain C: the same | ratio | against the first of its kind"
         for (i = 1; i <= count; i++) {
-            row = rows[i]; kind = kinds[row]; b = cost("broker", row); c = cost("floor", row)
+            script = scripts[i]; kind = kinds[script]; b = cost("broker", script); c = cost("floor", script)
             if (!(kind in first)) first[kind] = b
-            printf "%s | %.0f | %.2f | %.0f | %.2f | %.2f | %.2f\n", row, 1 / b, b * 1e6, 1 / c, c * 1e6, b / c, b / first[kind]
+            printf "%s | %.0f | %.2f | %.0f | %.2f | %.2f | %.2f\n", script, 1 / b, b * 1e6, 1 / c, c * 1e6, b / c, b / first[kind]
         }
     }'

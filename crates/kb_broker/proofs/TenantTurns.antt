@@ -18,6 +18,7 @@ use Rattle.kb_machine.proofs.Owners.{stage-served, stage-shut}
 use Rattle.kb_connection.specs.Fronts.{IsOwn, IsAsked}
 use Rattle.kb_connection.specs.View.{with_session, without_front}
 use Rattle.kb_broker.specs.Places.{IsSpent, IsLookedAt}
+use Rattle.kb_broker.proofs.Handled.{from_ok}
 use Rattle.std.proofs.Common.{eqb}
 use Rattle.std.specs.Prelude.{nat_lt, ◌&&◌}
 use Rattle.std.specs.Result.{is_err}
@@ -108,7 +109,7 @@ pub looked-ok : {A E : Type 0} (result : Result A E) (whom : Option ℕ) (clock 
     → ((id : ℤ) (reaction : Reaction) → IsAnswer id reaction r → OnOk result (new ≡ with_session l (told reaction id l.session)))
     → new.number ≡ l.number → without_wait new.session.stage ≡ without_wait l.session.stage → length new.session.unread ≤ length l.session.unread → is_err result ≡ false → IsLookedAt whom clock l.session.stage ts us l new
 looked-ok result whom clock t ts us l new w r stage yours turn stays meets shut ok number same unread good =
-    let met = λ (honest : Unit {0}) (calm : IsCalm (refusals_of ts t) (refusals_of us t)). let h : OnOk result (new.session ≡ woken (kept_of ts t) clock l.session) = met-looked result clock t ts us l new w r stage meets ok calm in good-result result h good in
+    let met = λ (honest : Unit {0}) (calm : IsCalm (refusals_of ts t) (refusals_of us t)). let h : OnOk result (new.session ≡ woken (kept_of ts t) clock l.session) = met-looked result clock t ts us l new w r stage meets ok calm in from_ok result false (new.session ≡ woken (kept_of ts t) clock l.session) (sym good) refl h in
     subst (λ st. IsLookedAt whom clock st ts us l new) (sym stage)
     (inr (
       yours,
@@ -121,14 +122,10 @@ looked-ok result whom clock t ts us l new w r stage yours turn stays meets shut 
         meets = met;
         unready = λ b is now. calm-or (refusals_of ts t) (refusals_of us t)
             (λ calm. unready-met b t w l new stage (met tt calm ∙ (ap (λ k. woken k clock l.session) (ap (λ x. kept_of x t) (sym is)) ∙ ap (λ n. woken (kept_of b.tenants t) n l.session) (sym now))))
-            (λ loud. let is-shut = good-result result (ok w.correlation_id Shuts (subst (IsAnswer w.correlation_id Shuts) (sym (shut loud)) tt)) good in subst (λ (x : Line). IsUnready AnyWait b x.session.stage) (sym is-shut) (shut-unready AnyWait b l.session));
+            (λ loud. let is-shut = from_ok result false (new ≡ with_session l (shut_down l.session)) (sym good) refl (ok w.correlation_id Shuts (subst (IsAnswer w.correlation_id Shuts) (sym (shut loud)) tt)) in subst (λ (x : Line). IsUnready AnyWait b x.session.stage) (sym is-shut) (shut-unready AnyWait b l.session));
       },
     ))
   where
-    good-result : {A E : Type 0} {P : Type 0} (result : Result A E) → OnOk result P → is_err result ≡ false → P
-    good-result (Ok x) h e = h
-    good-result (Err x) h e = let no : true ≡ false = e in absurd (cc)
-
     unready-met : (b : BrokerState) (t : ℕ) (w : Wait) (l new : Line) → l.session.stage ≡ BoundTo t (Some w) → new.session ≡ woken (kept_of b.tenants t) b.clock l.session → IsUnready AnyWait b new.session.stage
     unready-met b t w l new stage is = subst (λ (s : Session). IsUnready AnyWait b s.stage) (sym is) (unready-woken AnyWait b l.session t w stage)
 

@@ -125,6 +125,10 @@ fn appends(rt: HostRuntime) -> Result<(), Fail> {
         partitions.retained_start(&mut shelf, 7, 1, 5, 0, 100),
         Ok(1)
     );
+    assert_eq!(rt; partitions.kept_until(7, 1, 1000, -1), 1005);
+    assert_eq!(rt; partitions.kept_until(7, 1, 1000, 100), i64::MIN);
+    assert_eq!(rt; partitions.kept_until(7, 0, 1000, 0), i64::MAX);
+    assert_eq!(rt; partitions.kept_until(7, 2, 1000, 0), i64::MAX);
     Ok(())
 }
 

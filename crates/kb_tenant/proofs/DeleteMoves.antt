@@ -12,10 +12,10 @@ use Rattle.kb_api_data.specs.declared.delete_topics.DeleteTopicsRequest.{DeleteT
 use Rattle.kb_topics.specs.Known.{named, without_topic}
 use Rattle.kb_partitions.specs.Logs.{LogState, without_logs}
 use Rattle.kb_world.specs.Calls.{deleted_at}
+use Rattle.kb_world.specs.Tied.{IsTied, partition_count}
 use Rattle.kb_world.specs.World.{World}
 use Rattle.kb_world.specs.declared.place.Place.{Place}
 use Rattle.kb_tenant.specs.DeleteTopics.{deleted_all, deleted_topic, place_at, places, places_at, places_in}
-use Rattle.kb_tenant.specs.Waiting.{IsTied, partition_count}
 use Rattle.kb_tenant.proofs.Asked.{IsHeld}
 use Rattle.kb_tenant.proofs.Entries.{counted_removed, none_removed, remove_other}
 use Rattle.kb_tenant.proofs.Moves.{Moves, stays_told, turns_move}

@@ -10,9 +10,9 @@ use Rattle.std.proofs.lemmas.List.{length-set}
 use Rattle.std.proofs.lemmas.List.Elements.{Contains-append_left, Contains-push}
 use Rattle.kb_partitions.specs.Logs.{LogState, Logs, log_at, put_log, with_log}
 use Rattle.kb_world.specs.Calls.{with_log_at}
+use Rattle.kb_world.specs.Tied.{counted}
 use Rattle.kb_world.specs.World.{World}
 use Rattle.kb_world.specs.declared.place.Place.{Place}
-use Rattle.kb_tenant.specs.Waiting.{counted}
 use Rattle.kb_tenant.proofs.Entries.{counted_set, get_other, set_other, set_same}
 use Rattle.kb_tenant.proofs.Moves.{Moves}
 

@@ -5,11 +5,12 @@ use Rattle.std.proofs.lemmas.List.Elements.{Contains-append_left}
 use Rattle.kb_api_data.specs.declared.fetch.FetchRequest.{FetchRequest}
 use Rattle.std.specs.Prelude.{None}
 use Rattle.kb_partitions.specs.Logs.{LogState}
+use Rattle.kb_world.specs.Tied.{IsTied}
 use Rattle.kb_world.specs.World.{World}
 use Rattle.kb_world.specs.declared.place.Place.{Place}
 use Rattle.kb_tenant.specs.Fetch.{fetch_answer, places_of}
 use Rattle.kb_tenant.specs.Turns.{in_turn}
-use Rattle.kb_tenant.specs.Waiting.{AreApart, IsTied, StillWaits}
+use Rattle.kb_tenant.specs.Waiting.{AreApart, StillWaits}
 use Rattle.kb_tenant.proofs.Asked.{IsHeld, waits_on}
 
 -- A tied world stays tied, at the same clock; and each log stays under its topic's name, unless its place is told.

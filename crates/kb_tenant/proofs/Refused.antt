@@ -18,10 +18,10 @@ refused_step log a p d next step =
     let s = step.frame.sound in
     record {
       frame = record {
-        sound = record { catalog = s.catalog; logs = s.logs; apart = s.apart; few = s.few; unmade = s.unmade; small = s.small };
+        sound = record { catalog = s.catalog; logs = s.logs; apart = s.apart; few = s.few; unmade = s.unmade; small = s.small; tied = s.tied };
         others = step.frame.others;
         failures = step.frame.failures;
-        agrees = λ honest agree. let g = step.frame.agrees honest agree in record { catalog = g.catalog; fold = g.fold; logs = g.logs };
+        agrees = λ honest agree. let g = step.frame.agrees honest agree in record { catalog = g.catalog; fold = g.fold; logs = g.logs; until = g.until };
       };
       grows = more_counted a.state.refusals p.refusals (nat_lt p.refusals END) step.grows;
     }

@@ -10,9 +10,9 @@ use Rattle.kb_topics.specs.Catalog.{start_command}
 use Rattle.kb_topics.specs.Known.{Known, PartitionState, TopicState, named, partition_at, put_topic, step, topic_at, with_part, with_partition, with_start}
 use Rattle.kb_partitions.specs.Logs.{LogState, Logs, dropped, log_at, without_below}
 use Rattle.kb_world.specs.Calls.{due, moved_to, retain, retained_from}
+use Rattle.kb_world.specs.Tied.{counted, partition_count}
 use Rattle.kb_world.specs.World.{World, log_in}
 use Rattle.kb_world.specs.declared.place.Place.{Place}
-use Rattle.kb_tenant.specs.Waiting.{counted, partition_count}
 use Rattle.kb_tenant.proofs.Asked.{here_first}
 use Rattle.kb_tenant.proofs.Entries.{counted_set, none_set}
 use Rattle.kb_tenant.proofs.LogMoves.{log_elsewhere, same_counts}

@@ -14,13 +14,14 @@ use Rattle.kb_api_group.specs.declared.error_code.ErrorCode.TheVariants as codes
 use Rattle.kb_topics.specs.Refusals.{issue_refusal}
 use Rattle.kb_topics.specs.declared.fault.CatalogFault.{CatalogFault}
 use Rattle.kb_world.specs.Calls.{issue, issued_unless, retain}
+use Rattle.kb_world.specs.Tied.{IsTied}
 use Rattle.kb_world.specs.World.{World}
 use Rattle.kb_world.specs.declared.place.Place.{Place}
 use Rattle.kb_tenant.specs.Fetch.{fetch_answer, places_of}
 use Rattle.kb_tenant.specs.InitProducerId.{id_given, id_refused, init_producer_id}
 use Rattle.kb_tenant.specs.Serve.{Outcome, if_read, of_produce, of_fetch, of_list_offsets, of_metadata, of_create_topics, of_delete_topics, of_init_producer_id, served, stays}
 use Rattle.kb_tenant.specs.Replies.{Shuts}
-use Rattle.kb_tenant.specs.Waiting.{AreApart, IsTied, StillWaits}
+use Rattle.kb_tenant.specs.Waiting.{AreApart, StillWaits}
 use Rattle.kb_tenant.specs.declared.node.Node.{Node}
 use Rattle.kb_tenant.proofs.CreateMoves.{create_moves}
 use Rattle.kb_tenant.proofs.DeleteMoves.{delete_moves}

@@ -10,8 +10,8 @@ use Rattle.std.proofs.lemmas.Option.{slice_get_within}
 use Rattle.kb_topics.specs.Known.{TopicState, topic_at}
 use Rattle.kb_partitions.specs.Logs.{LogState, log_at}
 use Rattle.kb_world.specs.Calls.{at_clock}
+use Rattle.kb_world.specs.Tied.{IsTied, partition_count}
 use Rattle.kb_world.specs.World.{World, new_world}
-use Rattle.kb_tenant.specs.Waiting.{IsTied, partition_count}
 
 -- the topic of a log, which has a partition of its number
 pub record Owner (w : World) (i p : ℕ) : Type 0 where

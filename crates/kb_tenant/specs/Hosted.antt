@@ -3,6 +3,7 @@ use Rattle.std.specs.Prelude.{◌≡◌, ◌≤◌, ◌==◌, ◌&&◌, ℕ, Lis
 use Rattle.std.specs.Str.{bytes_eq}
 use Rattle.kb_topics.specs.Known.{Known, empty}
 use Rattle.kb_partitions.specs.Logs.{Logs}
+use Rattle.kb_world.specs.Calls.{retain_all}
 use Rattle.kb_world.specs.World.{World}
 use Rattle.kb_world.specs.Steps.{IsCalm}
 
@@ -21,6 +22,10 @@ world_at kept clock = record { known = kept.known; logs = kept.logs; clock = clo
 
 abbrev pub kept_in : World → Kept
 kept_in w = record { known = w.known; logs = w.logs }
+
+-- what is kept after retention at a time: each partition's settings are asked, by topic name and number
+unfoldable pub retained : ℕ → Kept → Kept
+retained clock kept = kept_in (retain_all (world_at kept clock)).0
 
 -- a tenant: its name, what it keeps, and how many refusals were counted for it
 pub record TenantState : Type 0 where
@@ -55,6 +60,14 @@ pub record IsTurn (t : ℕ) (honest : Type 0) (old new : List TenantState) : Typ
 -- what holds of the tenant's own part where nothing was refused to it, on an honest store
 abbrev pub IsMet : ℕ → Type 0 → List TenantState → List TenantState → (Kept → Kept → Type 0) → Type 0
 IsMet t honest old new P = honest → IsCalm (refusals_of old t) (refusals_of new t) → P (kept_of old t) (kept_of new t)
+
+-- ---- retention for all of them
+
+-- Names stay, and counts only rise; and on an honest store each to which nothing was refused keeps what retention leaves at that time.
+pub record AreRetained (clock : ℕ) (honest : Type 0) (old new : List TenantState) : Type 0 where
+  pub names : names_of new ≡ names_of old
+  pub grows : (u : ℕ) → refusals_of old u ≤ refusals_of new u
+  pub kept : honest → (u : ℕ) → IsCalm (refusals_of old u) (refusals_of new u) → kept_of new u ≡ retained clock (kept_of old u)
 
 -- ---- counts
 

@@ -2,12 +2,13 @@
 ghost use Rattle.std.specs.Prelude.{◌≡◌, ◌<◌, ℕ, ℤ, List, None};
 ghost use Rattle.std.specs.List.{Contains};
 ghost use Rattle.kb_api_data.specs.declared.fetch.FetchRequest.{FetchRequest};
+ghost use Rattle.kb_world.specs.Tied.{IsTied};
 ghost use Rattle.kb_world.specs.World.{World, new_world};
 ghost use Rattle.kb_world.specs.Calls.{at_clock, retain};
 ghost use Rattle.kb_world.specs.declared.place.Place.{Place};
 ghost use Rattle.kb_tenant.specs.Fetch.{fetch_answer, places_of};
 ghost use Rattle.kb_tenant.specs.Serve.{served};
-ghost use Rattle.kb_tenant.specs.Waiting.{AreApart, IsTied, StillWaits};
+ghost use Rattle.kb_tenant.specs.Waiting.{AreApart, StillWaits};
 ghost use Rattle.kb_tenant.specs.declared.node.Node.{Node};
 
 /// The topics of a world are tied to its logs from the start on, whatever is asked, dropped by retention, or the time.

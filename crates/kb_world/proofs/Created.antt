@@ -1,24 +1,28 @@
 -- A topic is made: its partitions, and then its command.
-use Rattle.std.proofs.Common.{◌≡◌, ◌∙◌, ⊎_elim, inl, inr, ◌≤◌, ◌<◌, ◌+◌, ◌-◌, ◌^◌, ℕ, Bool, true, false, cond, Some, sym, refl, arith, eqb-true}
+use Rattle.std.proofs.Common.{◌≡◌, ◌∙◌, ⊎_elim, inl, inr, ◌≤◌, ◌<◌, ◌+◌, ◌-◌, ◌^◌, ℕ, Bool, true, false, cond, Some, sym, ap, refl, arith, eqb-true}
 use Rattle.std.specs.FinMap.{get}
 use Rattle.std.specs.Ordering.{nat_cmp}
 use Rattle.std.specs.Cmp.{unsigned_tied}
 use Rattle.std.specs.Map.{lookup}
-use Rattle.std.specs.BTreeMap.{is_at}
+use Rattle.std.specs.BTreeMap.{insert_entry, is_at}
 use Rattle.kb_store.specs.Disk.{Disk}
 use Rattle.kb_log.specs.OnShelf.{Log, Frames, IsLawfulLog}
 use Rattle.kb_topics.specs.Catalog.{known, meta_log}
 use Rattle.kb_topics.specs.Calls.{StaysFold}
+use Rattle.kb_topics.specs.Known.{TopicState}
 use Rattle.kb_topics.specs.declared.catalog.Catalog.{Catalog}
 use Rattle.kb_partitions.specs.Logs.{with_new_logs}
 use Rattle.kb_partitions.specs.Partitions.{Owned, IsMade, IsUnmade, logs_of, places_of}
 use Rattle.kb_partitions.specs.declared.partitions.Partitions.{Partitions}
 use Rattle.kb_world.specs.Parts as parts
-use Rattle.kb_world.specs.Parts.{IsSound, meta, entries}
+use Rattle.kb_world.specs.Parts.{IsSound, meta, entries, world_of}
 use Rattle.kb_world.specs.Steps.{IsStep}
+use Rattle.kb_world.specs.Tied.{counted, partition_count}
 use Rattle.kb_world.specs.declared.parts.Parts.{Parts}
+use Rattle.kb_world.proofs.StillKept.{kept_created}
 use Rattle.kb_world.proofs.Recorded.{on_shelf}
 use Rattle.kb_world.proofs.Spared as spared
+use Rattle.kb_world.proofs.Tied.{counted_inserted}
 
 same_number : (k i : ℕ) → is_at (nat_cmp k) i ≡ true → k ≡ i
 same_number k i e = eqb-true k i (sym (unsigned_tied k i) ∙ e)
@@ -60,10 +64,19 @@ module _ {L : Type 0} (log : L → Log) (law : (l : L) → IsLawfulLog (log l)) 
       by true h = let some : Some count ≡ Some n = sym h ∙ is in let same : count ≡ n = cc in omega (arith, le, same)
       by false h = sound.small i n (sym h ∙ is)
 
+  tied : (new : TopicState) → (known changed).topics ≡ insert_entry nat_cmp (known p.catalog).topics (known p.catalog).creates new → partition_count new ≡ count
+      → places_of ps.topics.entries ≡ counted partition_count (known changed).topics
+  tied new topics many =
+      let i = (known p.catalog).creates in
+      made.places ∙ ap (λ ns. insert_entry nat_cmp ns i count) sound.tied
+      ∙ ap (λ n. insert_entry nat_cmp (counted partition_count (known p.catalog).topics) i n) (sym many)
+      ∙ sym (counted_inserted partition_count (known p.catalog).topics i new) ∙ sym (ap (counted partition_count) topics)
+
   pub create_step : StaysFold (on_shelf (meta log p) d next) (known p.catalog) (on_shelf (log (meta_log changed)) d' next') (known changed)
       → (known changed).creates ≡ (known p.catalog).creates + 1 → (known p.catalog).creates < 2 ^ 63 - 1 → count ≤ 64
+      → (new : TopicState) → (known changed).topics ≡ insert_entry nat_cmp (known p.catalog).topics (known p.catalog).creates new → partition_count new ≡ count
       → IsStep (parts.scene_on log p d next) (parts.scene_on log (record p { catalog = changed; partitions = ps }) d' next')
-  create_step fold more left few = record {
+  create_step fold more left few new topics many = record {
     frame = record {
       sound = record {
         catalog = frames.sound;
@@ -72,6 +85,7 @@ module _ {L : Type 0} (log : L → Log) (law : (l : L) → IsLawfulLog (log l)) 
         few = omega (arith, more, left);
         unmade = λ i le. unmade i (omega (arith, more, le));
         small = small few;
+        tied = tied new topics many;
       };
       others = record {
         later = frames.others.later;
@@ -85,6 +99,7 @@ module _ {L : Type 0} (log : L → Log) (law : (l : L) → IsLawfulLog (log l)) 
         catalog = frames.agrees honest agree.catalog;
         fold = fold honest agree.catalog agree.fold;
         logs = spared.spared_agree log law ps.topics.entries d d' next next' (made.sound d.table next sound.logs) frames.others.later lengths contents honest (made.agrees d.files agree.logs);
+        until = kept_created p.kept_until (world_of log p d.files) (world_of log (record p { catalog = changed; partitions = ps }) d'.files) (known p.catalog).creates count new topics (created_logs honest) agree.until;
       };
     };
     grows = omega arith;

@@ -1,6 +1,6 @@
 -- A topic is deleted: its command, and then its partitions go.
 use Rattle.std.proofs.Common.{◌≡◌, ◌∙◌, ℕ, Bool, true, false, cond, List, Option, Some, None, sym, ap, refl, subst, length, arith}
-use Rattle.std.specs.Prelude.{option_map}
+use Rattle.std.specs.Prelude.{IfSome, option_map}
 use Rattle.std.specs.Ordering.{nat_cmp}
 use Rattle.std.specs.Cmp.{nat_cmp_total, eq_by_cmp_equiv}
 use Rattle.std.specs.List.Sorted.{IsStrictlySortedBy}
@@ -16,7 +16,7 @@ use Rattle.kb_log.specs.OnShelf.{Log, Frames, IsLawfulLog}
 use Rattle.kb_topics.specs.Calls.{StaysFold}
 use Rattle.kb_topics.specs.Catalog.{known, meta_log}
 use Rattle.kb_topics.specs.declared.catalog.Catalog.{Catalog}
-use Rattle.kb_topics.specs.Known.{Known, named, without_topic, step}
+use Rattle.kb_topics.specs.Known.{Known, named, topic_at, without_topic, step}
 use Rattle.kb_topics.specs.declared.command.Command.TheVariants as commands
 use Rattle.kb_partitions.specs.Logs.{without_logs}
 use Rattle.kb_partitions.specs.Partitions.{Entries, IsUnmade, logs_of, places_of, scene_on}
@@ -26,15 +26,21 @@ use Rattle.kb_partitions.specs.declared.partitions.Partitions.{Partitions}
 use Rattle.kb_world.specs.Parts as parts
 use Rattle.kb_world.specs.Parts.{IsSound, Agrees, meta, entries, world_of}
 use Rattle.kb_world.specs.Steps.{IsStep, step_then}
+use Rattle.kb_world.specs.Tied.{counted, partition_count}
 use Rattle.kb_world.specs.declared.parts.Parts.{Parts}
+use Rattle.kb_world.proofs.StillKept.{as_before, as_deleted, kept_deleted}
 use Rattle.kb_world.proofs.Lifted.{parts_step}
-use Rattle.kb_world.proofs.Recorded.{catalog_step, on_shelf, recorded_logs}
+use Rattle.kb_world.proofs.Recorded.{on_shelf, recorded_logs, untied_step}
+use Rattle.kb_world.proofs.Tied.{counted_removed, untied_on}
 
 mapped : {A B : Type 0} (f : A → B) (o : Option A) (x : A) (y : B) → o ≡ Some x → option_map f o ≡ Some y → y ≡ f x
 mapped f o x y here e = let is : Some y ≡ Some (f x) = sym e ∙ ap (option_map f) here in cc
 
 pub deleted : (old new : Known) (name : List ℕ) (i : ℕ) → named name old.topics ≡ Some i → step old (commands.Delete name) ≡ Some new → new ≡ without_topic old i
 deleted old new name i here e = mapped (without_topic old) (named name old.topics) i new here e
+
+pub deleted_gone : (o : Option ℕ) (i : ℕ) (new : Known) → o ≡ Some i → IfSome o (λ j. topic_at j new.topics ≡ None) → topic_at i new.topics ≡ None
+deleted_gone o i new here gone = subst (λ (x : Option ℕ). IfSome x (λ j. topic_at j new.topics ≡ None)) here gone
 
 module _ {L : Type 0} (i : ℕ) (es es' : Entries L) (ordered : IsStrictlySortedBy nat_cmp (keys_of es)) (places : places_of es' ≡ remove_entry (is_at (nat_cmp i)) (places_of es)) where
   lookups : (j : ℕ) → lookup (is_at (nat_cmp j)) (places_of es') ≡ cond (is_at (nat_cmp i) j) None (lookup (is_at (nat_cmp j)) (places_of es))
@@ -60,28 +66,36 @@ module _ {L : Type 0} (i : ℕ) (es es' : Entries L) (ordered : IsStrictlySorted
       by false h = sym h ∙ some
 
 module _ {L : Type 0} (log : L → Log) (law : (l : L) → IsLawfulLog (log l)) (old : Parts L) (changed : Catalog L) (d d' : Disk) (next next' : ℕ) (i : ℕ)
-    (sound : IsSound log old d.table next) (new : known changed ≡ without_topic (known old.catalog) i)
+    (sound : IsSound log old d.table next) (new : known changed ≡ without_topic (known old.catalog) i) (gone : topic_at i (known changed).topics ≡ None)
     (frames : Frames (on_shelf (meta log old) d next) (on_shelf (log (meta_log changed)) d' next'))
     (fold : StaysFold (on_shelf (meta log old) d next) (known old.catalog) (on_shelf (log (meta_log changed)) d' next') (known changed)) where
-  -- the command was recorded
-  pub recorded : IsStep (parts.scene_on log old d next) (parts.scene_on log (record old { catalog = changed }) d' next')
+  -- the command was recorded, and the topic's partitions are still there
+  pub recorded : IsStep (parts.scene_on log old d next) (untied_on log (record old { catalog = changed }) d' next')
   recorded =
       let same = ap (λ k. k.creates) new in
-      catalog_step log law old changed d d' next next' sound frames fold (omega (arith, same)) (omega (arith, same, sound.few))
+      untied_step log law old changed d d' next next' sound frames fold (omega (arith, same)) (omega (arith, same, sound.few)) (as_deleted (known old.catalog) (known changed) i new gone)
 
   module _ (ps : Partitions L) (e : Disk) (last : ℕ) (places : places_of ps.topics.entries ≡ remove_entry (is_at (nat_cmp i)) (places_of (entries old)))
-      (frame : Frame (scene_on log (entries old) d' next') (scene_on log ps.topics.entries e last)) where
+      (frame : Frame (scene_on log (entries old) d' next') (scene_on log ps.topics.entries e last))
+      (removed : WhereHonest (scene_on log (entries old) d' next') (scene_on log ps.topics.entries e last) (logs_of log ps.topics.entries e.files ≡ without_logs i (logs_of log (entries old) d'.files))) where
+    tied : places_of ps.topics.entries ≡ counted partition_count (known changed).topics
+    tied =
+        places ∙ ap (remove_entry (is_at (nat_cmp i))) sound.tied ∙ sym (counted_removed partition_count (is_at (nat_cmp i)) (known old.catalog).topics)
+        ∙ sym (ap (λ k. counted partition_count k.topics) new)
+
     -- and the partitions are gone
     pub delete_step : IsStep (parts.scene_on log old d next) (parts.scene_on log (record old { catalog = changed; partitions = ps }) e last)
     delete_step =
-        step_then (parts.scene_on log old d next) (parts.scene_on log (record old { catalog = changed }) d' next') (parts.scene_on log (record old { catalog = changed; partitions = ps }) e last) recorded
+        step_then (parts.scene_on log old d next) (untied_on log (record old { catalog = changed }) d' next') (parts.scene_on log (record old { catalog = changed; partitions = ps }) e last) recorded
         (parts_step log law (record old { catalog = changed }) (record old { catalog = changed; partitions = ps }) d' e next' last refl
-        (still_unmade i (entries old) ps.topics.entries sound.logs.ordered places) (still_small i (entries old) ps.topics.entries sound.logs.ordered places) (omega arith)
-        recorded.frame.sound frame)
+        (still_unmade i (entries old) ps.topics.entries sound.logs.ordered places) (still_small i (entries old) ps.topics.entries sound.logs.ordered places) (omega arith) tied
+        recorded.frame.sound frame
+        (λ honest agree. kept_deleted old.kept_until (world_of log (record old { catalog = changed }) d'.files) (world_of log (record old { catalog = changed; partitions = ps }) e.files) i gone
+        (as_before (known changed) (known changed) refl) (removed honest agree.logs) agree.until))
 
-    pub deleted_world : e.honest → Agrees log old d.files → WhereHonest (scene_on log (entries old) d' next') (scene_on log ps.topics.entries e last) (logs_of log ps.topics.entries e.files ≡ without_logs i (logs_of log (entries old) d'.files))
+    pub deleted_world : e.honest → Agrees log old d.files
         → world_of log (record old { catalog = changed; partitions = ps }) e.files ≡ record (world_of log old d.files) { known = without_topic (known old.catalog) i; logs = without_logs i (logs_of log (entries old) d.files) }
-    deleted_world honest agree removed =
+    deleted_world honest agree =
         let before = frame.others.honest honest in
         let logs = removed honest (recorded.frame.agrees before agree).logs ∙ ap (without_logs i) (recorded_logs log law old changed d d' next next' sound frames before) in
         λ j. record { known = new j; logs = logs j; clock = old.clock }

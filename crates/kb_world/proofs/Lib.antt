@@ -2,7 +2,11 @@ pub mod Created
 pub mod Creating
 pub mod Deleted
 pub mod Issued
+pub mod KeptEach
 pub mod Lifted
 pub mod Recorded
 pub mod Retained
+pub mod RetainedAll
 pub mod Spared
+pub mod StillKept
+pub mod Tied

@@ -1,5 +1,5 @@
 -- A call for the partitions or for the catalog alone, as a step of the parts.
-use Rattle.std.proofs.Common.{◌≡◌, ◌∙◌, ⊎_elim, inl, inr, ◌≤◌, ◌<◌, ◌+◌, ◌^◌, ℕ, nat_lt, Bool, true, false, cond, Some, sym, ap, subst, refl, arith}
+use Rattle.std.proofs.Common.{◌≡◌, ◌∙◌, ⊎_elim, inl, inr, ◌≤◌, ◌<◌, ◌+◌, ◌^◌, ℕ, ℤ, nat_lt, Bool, true, false, cond, Some, sym, ap, subst, refl, arith}
 use Rattle.std.proofs.lemmas.Bool.Decides.{nat_tests}
 use Rattle.std.specs.FinMap.{get}
 use Rattle.std.specs.Ordering.{nat_cmp}
@@ -10,24 +10,32 @@ use Rattle.kb_log.specs.OnShelf.{Log, IsLawfulLog}
 use Rattle.kb_topics.specs.MetaLog.{IsFold}
 use Rattle.kb_topics.specs.Catalog.{known, meta_log}
 use Rattle.kb_topics.specs.declared.catalog.Catalog.{Catalog}
-use Rattle.kb_partitions.specs.Partitions.{Entries, Owned, AreSound, Agree, IsUnmade, scene_on, places_of}
+use Rattle.kb_partitions.specs.Calls.{Same}
+use Rattle.kb_partitions.specs.Partitions.{Entries, Owned, AreSound, Agree, IsUnmade, logs_of, scene_on, places_of}
 use Rattle.kb_partitions.specs.Scene.{Scene, Frame}
 use Rattle.kb_partitions.specs.declared.fault.PartitionFault.{PartitionFault}
 use Rattle.kb_partitions.specs.declared.fault.PartitionFault.TheVariants as partition
 use Rattle.kb_topics.specs.declared.fault.CatalogFault.{CatalogFault}
 use Rattle.kb_topics.specs.declared.fault.CatalogFault.TheVariants as catalog
 use Rattle.kb_world.specs.Parts as parts
-use Rattle.kb_world.specs.Parts.{IsSound, Agrees, Seen, meta, entries, END, refused, counted_for, counted_for_catalog}
+use Rattle.kb_world.specs.KeptUntil.{AreAllKept}
+use Rattle.kb_world.specs.Parts.{IsSound, Agrees, Seen, meta, entries, world_of, END, refused, counted_for, counted_for_catalog}
 use Rattle.kb_world.specs.Steps.{IsStep, IsCalm}
+use Rattle.kb_world.specs.Tied.{counted, partition_count}
 use Rattle.kb_world.specs.declared.parts.Parts.{Parts}
+use Rattle.kb_world.proofs.StillKept.{as_before, kept_by}
+use Rattle.kb_world.proofs.Tied.{IsUntied, from_untied, untied, untied_on}
 
--- A call for the partitions: the catalog is as before, and topics that had no partitions have none, or as many as they had.
+-- A call for the partitions: the catalog is as before, and topics that had no partitions have none, or as many as they had. Behind it
+-- the catalog says how many.
 pub parts_step : {L : Type 0} (log : L → Log) (law : (l : L) → IsLawfulLog (log l)) (p p' : Parts L) (d d' : Disk) (next next' : ℕ)
     → p'.catalog ≡ p.catalog → ((i : ℕ) → IsUnmade i (entries p) → IsUnmade i (entries p'))
     → ((i n : ℕ) → lookup (is_at (nat_cmp i)) (places_of (entries p')) ≡ Some n → lookup (is_at (nat_cmp i)) (places_of (entries p)) ≡ Some n) → p.refusals ≤ p'.refusals
-    → IsSound log p d.table next → Frame (scene_on log (entries p) d next) (scene_on log (entries p') d' next')
-    → IsStep (parts.scene_on log p d next) (parts.scene_on log p' d' next')
-parts_step {L} log law p p' d d' next next' catalog unmade small grows sound frame =
+    → places_of (entries p') ≡ counted partition_count (known p'.catalog).topics
+    → IsUntied log p d.table next → Frame (scene_on log (entries p) d next) (scene_on log (entries p') d' next')
+    → (d'.honest → Agrees log p d.files → AreAllKept p'.kept_until (world_of log p' d'.files))
+    → IsStep (untied_on log p d next) (parts.scene_on log p' d' next')
+parts_step {L} log law p p' d d' next next' catalog unmade small grows tied sound frame until =
     let m = meta log p in
     let lawful : IsLawfulLog m = law (meta_log p.catalog) in
     let same : meta log p' ≡ m = ap (λ c. log (meta_log c)) catalog in
@@ -45,6 +53,7 @@ parts_step {L} log law p p' d d' next next' catalog unmade small grows sound fra
           few = subst (λ c. (known c).creates < 2 ^ 63) (sym catalog) sound.few;
           unmade = λ i le. unmade i (sound.unmade i (subst (λ c. (known c).creates ≤ i) catalog le));
           small = λ i count e. sound.small i count (small i count e);
+          tied = tied;
         };
         others = record {
           later = others.later;
@@ -64,6 +73,7 @@ parts_step {L} log law p p' d d' next next' catalog unmade small grows sound fra
               fold = subst (λ c. IsFold ((log (meta_log c)).batches d'.files) (known c)) (sym catalog)
                   (subst (λ bs. IsFold bs (known p.catalog)) (sym (lawful.batches_stay d.files d'.files stay)) agree.fold);
               logs = frame.agrees honest agree.logs;
+              until = until honest agree;
             };
       };
       grows = grows;
@@ -73,11 +83,25 @@ parts_step {L} log law p p' d d' next next' catalog unmade small grows sound fra
 pub logs_step : {L : Type 0} (log : L → Log) (law : (l : L) → IsLawfulLog (log l)) (p p' : Parts L) (d d' : Disk) (next next' : ℕ)
     → p'.catalog ≡ p.catalog → places_of (entries p') ≡ places_of (entries p) → p.refusals ≤ p'.refusals
     → IsSound log p d.table next → Frame (scene_on log (entries p) d next) (scene_on log (entries p') d' next')
+    → (d'.honest → Agrees log p d.files → AreAllKept p'.kept_until (world_of log p' d'.files))
     → IsStep (parts.scene_on log p d next) (parts.scene_on log p' d' next')
-logs_step log law p p' d d' next next' catalog places grows sound frame =
-    parts_step log law p p' d d' next next' catalog
+logs_step log law p p' d d' next next' catalog places grows sound frame until =
+    from_untied log p (parts.scene_on log p' d' next') d next
+    (parts_step log law p p' d d' next next' catalog
     (λ i none. ap (λ ps. lookup (is_at (nat_cmp i)) ps) places ∙ none)
-    (λ i n e. ap (λ ps. lookup (is_at (nat_cmp i)) ps) (sym places) ∙ e) grows sound frame
+    (λ i n e. ap (λ ps. lookup (is_at (nat_cmp i)) ps) (sym places) ∙ e) grows
+    (places ∙ sound.tied ∙ sym (ap (λ c. counted partition_count (known c).topics) catalog)) (untied log p d.table next sound) frame until)
+
+-- A call for the partitions that leaves them as they are, and each log's batches as they were.
+pub read_step : {L : Type 0} (log : L → Log) (law : (l : L) → IsLawfulLog (log l)) (p p' : Parts L) (d d' : Disk) (next next' : ℕ)
+    → p'.catalog ≡ p.catalog → places_of (entries p') ≡ places_of (entries p) → p.refusals ≤ p'.refusals → p'.kept_until ≡ p.kept_until
+    → IsSound log p d.table next → Frame (scene_on log (entries p) d next) (scene_on log (entries p') d' next') → Same (scene_on log (entries p) d next) (scene_on log (entries p') d' next')
+    → IsStep (parts.scene_on log p d next) (parts.scene_on log p' d' next')
+read_step log law p p' d d' next next' catalog places grows until sound frame same =
+    logs_step log law p p' d d' next next' catalog places grows sound frame
+    (λ honest agree. subst (λ u. AreAllKept u (world_of log p' d'.files)) (sym until)
+    (kept_by p.kept_until (world_of log p d.files) (world_of log p' d'.files)
+    (as_before (known p.catalog) (known p'.catalog) (ap (λ c. (known c).topics) catalog)) (same honest agree.logs) agree.until))
 
 -- ---- counts
 
@@ -86,9 +110,9 @@ more_counted a n true le = omega (arith, le)
 more_counted a n false le = le
 
 -- the same catalog and partitions, under another count
-pub recast : {L : Type 0} (log : L → Log) (a : Scene Seen) (p q : Parts L) (d : Disk) (next : ℕ) → q.catalog ≡ p.catalog → entries q ≡ entries p → a.state.refusals ≤ q.refusals
+pub recast : {L : Type 0} (log : L → Log) (a : Scene Seen) (p q : Parts L) (d : Disk) (next : ℕ) → q.catalog ≡ p.catalog → entries q ≡ entries p → q.kept_until ≡ p.kept_until → a.state.refusals ≤ q.refusals
     → IsStep a (parts.scene_on log p d next) → IsStep a (parts.scene_on log q d next)
-recast {L} log a p q d next c e le step =
+recast {L} log a p q d next c e until le step =
     let s = step.frame.sound in
     let m : meta log q ≡ meta log p = ap (λ (k : Catalog L). log (meta_log k)) c in
     record {
@@ -100,6 +124,7 @@ recast {L} log a p q d next c e le step =
           few = subst (λ (k : Catalog L). (known k).creates < 2 ^ 63) (sym c) s.few;
           unmade = λ i le. subst (λ (es : Entries L). IsUnmade i es) (sym e) (s.unmade i (subst (λ (k : Catalog L). (known k).creates ≤ i) c le));
           small = λ i n h. s.small i n (subst (λ (es : Entries L). lookup (is_at (nat_cmp i)) (places_of es) ≡ Some n) e h);
+          tied = ap places_of e ∙ s.tied ∙ sym (ap (λ (k : Catalog L). counted partition_count (known k).topics) c);
         };
         others = record {
           later = step.frame.others.later;
@@ -113,6 +138,9 @@ recast {L} log a p q d next c e le step =
           catalog = subst (λ (l : Log). l.agrees d.files) (sym m) g.catalog;
           fold = subst (λ (k : Catalog L). IsFold ((log (meta_log k)).batches d.files) (known k)) (sym c) g.fold;
           logs = subst (λ (es : Entries L). Agree log es d.files) (sym e) g.logs;
+          until = subst (λ u. AreAllKept u (world_of log q d.files)) (sym until)
+              (kept_by p.kept_until (world_of log p d.files) (world_of log q d.files)
+              (as_before (known p.catalog) (known q.catalog) (ap (λ (k : Catalog L). (known k).topics) c)) (ap (λ (es : Entries L). logs_of log es d.files) e) g.until);
         };
       };
       grows = le;
@@ -120,7 +148,7 @@ recast {L} log a p q d next c e le step =
 
 -- a step, and a refusal is counted
 pub refused_step : {L : Type 0} (log : L → Log) (a : Scene Seen) (p : Parts L) (d : Disk) (next : ℕ) → IsStep a (parts.scene_on log p d next) → IsStep a (parts.scene_on log (refused p) d next)
-refused_step log a p d next step = recast log a p (refused p) d next refl refl (more_counted a.state.refusals p.refusals (nat_lt p.refusals END) step.grows) step
+refused_step log a p d next step = recast log a p (refused p) d next refl refl refl (more_counted a.state.refusals p.refusals (nat_lt p.refusals END) step.grows) step
 
 pub counted_step : {L : Type 0} (log : L → Log) (a : Scene Seen) (p : Parts L) (d : Disk) (next : ℕ) (f : PartitionFault) → IsStep a (parts.scene_on log p d next) → IsStep a (parts.scene_on log (counted_for f p) d next)
 counted_step log a p d next partition.Unknown step = step
@@ -151,8 +179,29 @@ loud n p le calm = by (nat_lt p.refusals END) refl calm
     by true e c = omega (arith, le, c.same)
     by false e c = let lt : p.refusals < END = subst (λ m. m < END) (sym c.same) c.below in absurd (grind (arith, nat_tests))
 
+-- a step, and then another clock up to which no partition has anything to drop
+pub kept_step : {L : Type 0} (log : L → Log) (a : Scene Seen) (p : Parts L) (u : ℤ) (d : Disk) (next : ℕ) → (d.honest → Agrees log p d.files → AreAllKept u (world_of log p d.files))
+    → IsStep a (parts.scene_on log p d next) → IsStep a (parts.scene_on log (record p { kept_until = u }) d next)
+kept_step log a p u d next until step =
+    let s = step.frame.sound in
+    record {
+      frame = record {
+        sound = record { catalog = s.catalog; logs = s.logs; apart = s.apart; few = s.few; unmade = s.unmade; small = s.small; tied = s.tied };
+        others = record {
+          later = step.frame.others.later;
+          honest = step.frame.others.honest;
+          owned = step.frame.others.owned;
+          lengths = step.frame.others.lengths;
+          contents = step.frame.others.contents;
+        };
+        failures = step.frame.failures;
+        agrees = λ honest agree. let g = step.frame.agrees honest agree in record { catalog = g.catalog; fold = g.fold; logs = g.logs; until = until honest g };
+      };
+      grows = step.grows;
+    }
+
 -- ---- the clock
 
 -- at another clock the parts are as sound
 pub clocked : {L : Type 0} (log : L → Log) (p : Parts L) (now : ℕ) (table : Table) (next : ℕ) → IsSound log p table next → IsSound log (record p { clock = now }) table next
-clocked log p now table next s = record { catalog = s.catalog; logs = s.logs; apart = s.apart; few = s.few; unmade = s.unmade; small = s.small }
+clocked log p now table next s = record { catalog = s.catalog; logs = s.logs; apart = s.apart; few = s.few; unmade = s.unmade; small = s.small; tied = s.tied }

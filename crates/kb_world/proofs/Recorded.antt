@@ -13,10 +13,13 @@ use Rattle.kb_partitions.specs.Partitions.{Owned, logs_of}
 use Rattle.kb_world.specs.Parts as parts
 use Rattle.kb_world.specs.Parts.{IsSound, Agrees, meta, entries, world_of, counted_for_catalog}
 use Rattle.kb_world.specs.Steps.{IsStep, IsCalm}
+use Rattle.kb_world.specs.Tied.{counted, partition_count}
 use Rattle.kb_world.specs.World.{World}
 use Rattle.kb_world.specs.declared.parts.Parts.{Parts}
+use Rattle.kb_world.proofs.StillKept.{WereThere, kept_by}
 use Rattle.kb_world.proofs.Lifted.{loud}
 use Rattle.kb_world.proofs.Spared as spared
+use Rattle.kb_world.proofs.Tied.{tie, untied_on}
 
 -- the meta log at a moment
 abbrev pub on_shelf : Log → Disk → ℕ → OnShelf
@@ -37,10 +40,11 @@ module _ {L : Type 0} (log : L → Log) (law : (l : L) → IsLawfulLog (log l)) 
   below : (file : ℕ) → Owned log (entries p) file → file < next
   below file o = (law o.partition.log).given_out d.table next (sound.logs.each o.instance o.number o.partition o.at) file o.own
 
-  pub catalog_step : StaysFold (on_shelf (meta log p) d next) (known p.catalog) (on_shelf (log (meta_log changed)) d' next') (known changed)
-      → (known p.catalog).creates ≤ (known changed).creates → (known changed).creates < 2 ^ 63
-      → IsStep (parts.scene_on log p d next) (parts.scene_on log (record p { catalog = changed }) d' next')
-  catalog_step fold more few = record {
+  -- whatever partitions the topics have by then
+  pub untied_step : StaysFold (on_shelf (meta log p) d next) (known p.catalog) (on_shelf (log (meta_log changed)) d' next') (known changed)
+      → (known p.catalog).creates ≤ (known changed).creates → (known changed).creates < 2 ^ 63 → WereThere (known p.catalog) (known changed)
+      → IsStep (parts.scene_on log p d next) (untied_on log (record p { catalog = changed }) d' next')
+  untied_step fold more few were = record {
     frame = record {
       sound = record {
         catalog = frames.sound;
@@ -62,10 +66,18 @@ module _ {L : Type 0} (log : L → Log) (law : (l : L) → IsLawfulLog (log l)) 
         catalog = frames.agrees honest agree.catalog;
         fold = fold honest agree.catalog agree.fold;
         logs = spared.spared_agree log law (entries p) d d' next next' sound.logs frames.others.later lengths contents honest agree.logs;
+        until = kept_by p.kept_until (world_of log p d.files) (world_of log (record p { catalog = changed }) d'.files) were (recorded_logs honest) agree.until;
       };
     };
     grows = omega arith;
   }
+
+  -- each topic has as many partitions as before
+  pub catalog_step : StaysFold (on_shelf (meta log p) d next) (known p.catalog) (on_shelf (log (meta_log changed)) d' next') (known changed)
+      → counted partition_count (known changed).topics ≡ counted partition_count (known p.catalog).topics
+      → (known p.catalog).creates ≤ (known changed).creates → (known changed).creates < 2 ^ 63 → WereThere (known p.catalog) (known changed)
+      → IsStep (parts.scene_on log p d next) (parts.scene_on log (record p { catalog = changed }) d' next')
+  catalog_step fold counts more few were = tie log (parts.scene_on log p d next) (record p { catalog = changed }) d' next' (sound.tied ∙ sym counts) (untied_step fold more few were)
 
 -- ---- refusals
 

@@ -1,11 +1,13 @@
 -- What each call makes of a world, and answers, where memory and the store refuse nothing.
-use Rattle.std.specs.Prelude.{ℕ, ℤ, pos, Bool, true, false, List, Option, Some, None, Result, Ok, Err, nat_le, int_lt, max, ◌+◌, ◌^◌, ◌≡◌, ◌++◌, ◌||◌, if◌then◌else◌, option_map}
+use Rattle.std.specs.Prelude.{ℕ, ℤ, pos, Bool, true, false, List, [], ◌∷◌, length, map, Option, Some, None, Result, Ok, Err, nat_le, int_lt, ◌+◌, ◌^◌, ◌≡◌, ◌++◌, ◌||◌, if◌then◌else◌, option_map}
+use Rattle.std.specs.List.{flat_map, range_with_len}
 use Rattle.kb_batch.specs.Batch.{natural, count_of}
 use Rattle.kb_producers.specs.Batches.{kept_all, kept_of}
 use Rattle.kb_producers.specs.Verdict.{verdict}
 use Rattle.kb_producers.specs.declared.verdict.Verdict.{Verdict}
 use Rattle.kb_log.specs.Log.{fetched, first_at, retained_start}
 use Rattle.kb_log.specs.declared.time.OffsetAndTimestamp.{OffsetAndTimestamp}
+use Rattle.kb_topics.specs.ByName.{by_name}
 use Rattle.kb_topics.specs.Catalog.{start_command}
 use Rattle.kb_topics.specs.Known.{Known, TopicState, new_topic, with_topic, without_topic, with_id, named, topic_at, step}
 use Rattle.kb_topics.specs.Refusals.{create_refusal, issue_refusal}
@@ -126,6 +128,29 @@ retained_from w place (Some start) = moved_to w place start (step w.known (start
 -- The new start of a partition is recorded, and the batches below it go; and whether any goes.
 abbrev pub retain : World → Place → World × Bool
 retain w place = retained_from w place (due w place)
+
+abbrev pub numbered : ℕ → ℕ → Place
+numbered instance number = record { instance = instance; number = number }
+
+-- the partitions of a topic, by number
+abbrev pub places_of_topic : ℕ × TopicState → List Place
+places_of_topic topic = map (numbered topic.0) (range_with_len 0 (length topic.1.partitions))
+
+-- the partitions of all topics, by name and number
+abbrev pub all_places : World → List Place
+all_places w = flat_map places_of_topic (by_name w.known.topics)
+
+-- The batches that the settings keep no longer go from each of these partitions in turn; and whether any goes.
+abbrev pub retain_each : List Place → World → World × Bool
+retain_each [] w = (w, false)
+retain_each (place ∷ places) w =
+    let first = retain w place in
+    let rest = retain_each places first.0 in
+    (rest.0, first.1 || rest.1)
+
+-- ... from all partitions
+abbrev pub retain_all : World → World × Bool
+retain_all w = retain_each (all_places w) w
 
 -- the clock is set
 abbrev pub at_clock : World → ℕ → World

@@ -14,6 +14,8 @@ use Rattle.kb_topics.specs.declared.fault.CatalogFault.{CatalogFault}
 use Rattle.kb_topics.specs.declared.fault.CatalogFault.TheVariants as catalog
 use Rattle.kb_partitions.specs.declared.fault.PartitionFault.{PartitionFault}
 use Rattle.kb_partitions.specs.declared.fault.PartitionFault.TheVariants as partition
+use Rattle.kb_world.specs.KeptUntil.{AreAllKept}
+use Rattle.kb_world.specs.Tied.{counted, partition_count}
 use Rattle.kb_world.specs.World.{World}
 use Rattle.kb_world.specs.declared.parts.Parts.{Parts}
 
@@ -29,7 +31,7 @@ abbrev pub Owns : {L : Type 0} → (L → Log) → Parts L → ℕ → Type 0
 Owns log p file = (meta log p).owns file ⊎ Owned log (entries p) file
 
 -- Each log is sound, and no file is of two logs. No instance that is still to be given out has partitions, and no topic has more
--- than 64.
+-- than 64. Each topic has as many partitions as the catalog says, under its instance, and there are no others.
 pub record IsSound {L : Type 0} (log : L → Log) (p : Parts L) (table : Table) (next : ℕ) : Type 0 where
   pub catalog : (meta log p).sound table next
   pub logs : AreSound log (entries p) table next
@@ -37,16 +39,18 @@ pub record IsSound {L : Type 0} (log : L → Log) (p : Parts L) (table : Table) 
   pub few : (known p.catalog).creates < 2 ^ 63
   pub unmade : (i : ℕ) → (known p.catalog).creates ≤ i → IsUnmade i (entries p)
   pub small : (i count : ℕ) → lookup (is_at (nat_cmp i)) (places_of (entries p)) ≡ Some count → count ≤ 64
-
--- Each log agrees with its files, and the catalog is what its meta log comes to.
-pub record Agrees {L : Type 0} (log : L → Log) (p : Parts L) (files : Files) : Type 0 where
-  pub catalog : (meta log p).agrees files
-  pub fold : IsFold ((meta log p).batches files) (known p.catalog)
-  pub logs : Agree log (entries p) files
+  pub tied : places_of (entries p) ≡ counted partition_count (known p.catalog).topics
 
 -- what the tenant sees
 abbrev pub world_of : {L : Type 0} → (L → Log) → Parts L → Files → World
 world_of log p files = record { known = known p.catalog; logs = logs_of log (entries p) files; clock = p.clock }
+
+-- Each log agrees with its files, the catalog is what its meta log comes to, and up to a clock no partition has anything to drop.
+pub record Agrees {L : Type 0} (log : L → Log) (p : Parts L) (files : Files) : Type 0 where
+  pub catalog : (meta log p).agrees files
+  pub fold : IsFold ((meta log p).batches files) (known p.catalog)
+  pub logs : Agree log (entries p) files
+  pub until : AreAllKept p.kept_until (world_of log p files)
 
 -- what the tenant sees, and how many refusals were counted for it
 pub record Seen : Type 0 where

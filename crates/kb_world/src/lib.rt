@@ -6,6 +6,7 @@
 //! files of everybody else stay as they are in any case.
 #![tactic(auto)]
 
+mod kept;
 mod logs;
 mod parts;
 mod place;

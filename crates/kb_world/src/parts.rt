@@ -1,11 +1,11 @@
 //! The parts of a tenant.
-ghost use Rattle.std.specs.Prelude.{◌≡◌, ◌⊎◌, ◌≤◌, ℕ, [], pos, length};
+ghost use Rattle.std.specs.Prelude.{◌≡◌, ◌⊎◌, ◌≤◌, ◌≤ℤ◌, ℕ, [], pos, false, length};
 ghost use Rattle.std.specs.Option.{option_copied};
 ghost use Rattle.kb_store.specs.Disk.{Table, Files};
 ghost use Rattle.kb_topics.specs.ByName.{by_name};
 ghost use Rattle.kb_topics.specs.Catalog.{known};
 ghost use Rattle.kb_topics.specs.Known.{named, topic_at};
-ghost use Rattle.kb_world.specs.Calls.{start_of, end_of, judged, at_clock};
+ghost use Rattle.kb_world.specs.Calls.{start_of, end_of, judged, at_clock, retain_all};
 ghost use Rattle.kb_world.specs.Parts.{Agrees, IsSound, Owns, refused, world_of};
 ghost use Rattle.kb_world.specs.World.{new_world};
 
@@ -17,7 +17,8 @@ use kb_producers::Verdict;
 use kb_topics::{Catalog, Topic, TopicsByName};
 use std::alloc::Global;
 
-/// A tenant's catalog and its partitions, the clock, and how many refusals of memory and of the store were counted for it.
+/// A tenant's catalog and its partitions, the clock, a clock up to which no partition has anything to drop, and how many refusals of
+/// memory and of the store were counted for it.
 #[derive(Drop)]
 pub struct Parts<L: PartitionLog> {
     pub(crate) alloc: Global,
@@ -26,6 +27,7 @@ pub struct Parts<L: PartitionLog> {
     pub(crate) catalog: Catalog<L>,
     pub(crate) partitions: Partitions<L>,
     pub(crate) clock: u64,
+    pub(crate) kept_until: i64,
     pub(crate) refusals: u64,
 }
 
@@ -45,6 +47,7 @@ impl<L: PartitionLog> Parts<L> {
             catalog: Catalog::new(alloc, meta_tenant, segment_bytes),
             partitions: Partitions::new(alloc),
             clock: 0,
+            kept_until: i64::MAX,
             refusals: 0,
         }
     }
@@ -62,6 +65,14 @@ impl<L: PartitionLog> Parts<L> {
         ensures parts { self.new ≡ record self.old { clock = now } }
     {
         self.clock = now;
+    }
+
+    /// A clock, in milliseconds, up to which no partition has anything to drop.
+    pub fn kept_until(&self) -> i64
+        ensures { (files : Files) → Agrees L.log self.now files → (clock : ℕ) → pos clock ≤ℤ result
+            → retain_all (at_clock (world_of L.log self.now files) clock) ≡ (at_clock (world_of L.log self.now files) clock, false) }
+    {
+        self.kept_until
     }
 
     /// How many refusals of memory and of the store were counted. The count stays at its end.

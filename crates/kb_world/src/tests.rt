@@ -178,6 +178,60 @@ fn retention_by_bytes(rt: HostRuntime) -> Result<(), Fail> {
     Ok(())
 }
 
+/// Place `number` of the topic that was made as `instance`.
+fn numbered(instance: u64, number: usize) -> Place {
+    Place { instance, number }
+}
+
+#[test]
+fn retention_of_all(rt: HostRuntime) -> Result<(), Fail> {
+    let one_batch = TopicConfig {
+        retention_ms: -1,
+        retention_bytes: 70,
+    };
+    let bytes = hi(rt.alloc())?;
+    let batch = BatchView::read(&bytes).ok().ok_or("a batch")?;
+    let mut shelf = empty_shelf(rt.alloc())?;
+    let mut parts = tenant_at(rt.alloc(), 1006);
+    assert_eq!(rt; parts.create(&mut shelf, "b", 1, ONE_SECOND), Ok(()));
+    assert_eq!(rt; parts.create(&mut shelf, "a", 2, one_batch), Ok(()));
+    let (old, kept, long) = (numbered(0, 0), numbered(1, 0), numbered(1, 1));
+    let first = parts.append(&mut shelf, old, &batch);
+    let second = parts.append(&mut shelf, kept, &batch);
+    let third = parts.append(&mut shelf, long, &batch);
+    let fourth = parts.append(&mut shelf, long, &batch);
+    assert!(rt; (first, second, third, fourth) == (Ok(0), Ok(0), Ok(0), Ok(1)));
+    if parts.clock() > 2000 {
+        return Err("a clock")?;
+    }
+    let (once, again) = (parts.retain_all(&mut shelf), parts.retain_all(&mut shelf));
+    assert_eq!(rt; (once, again, parts.kept_until()), (true, false, i64::MAX));
+    let starts = (parts.start(old), parts.start(kept), parts.start(long));
+    assert_eq!(rt; starts, (Some(1), Some(0), Some(1)));
+    assert_eq!(rt; parts.refusals(), 0);
+    Ok(())
+}
+
+#[test]
+fn nothing_is_due(rt: HostRuntime) -> Result<(), Fail> {
+    let bytes = hi(rt.alloc())?;
+    let batch = BatchView::read(&bytes).ok().ok_or("a batch")?;
+    let mut shelf = empty_shelf(rt.alloc())?;
+    let mut parts = tenant_at(rt.alloc(), 1005);
+    assert_eq!(rt; parts.create(&mut shelf, "t", 1, ONE_SECOND), Ok(()));
+    assert_eq!(rt; parts.kept_until(), i64::MAX);
+    let place = numbered(0, 0);
+    assert_eq!(rt; parts.append(&mut shelf, place, &batch), Ok(0));
+    assert_eq!(rt; parts.kept_until(), 1005);
+    if parts.clock() > 2000 {
+        return Err("a clock")?;
+    }
+    assert_eq!(rt; parts.retain_all(&mut shelf), false);
+    assert_eq!(rt; (parts.start(place), parts.kept_until()), (Some(0), 1005));
+    assert_eq!(rt; parts.refusals(), 0);
+    Ok(())
+}
+
 #[test]
 fn deletion(rt: HostRuntime) -> Result<(), Fail> {
     let bytes = hi(rt.alloc())?;

@@ -9,9 +9,10 @@ use Rattle.kb_world.specs.Parts.{Agrees, IsSound, Owns, world_of}
 use Rattle.kb_world.specs.World.{new_world}
 use Rattle.kb_world.specs.declared.parts.Parts.{Parts}
 use Rattle.kb_tenant.specs.Hosted.{TenantState, kept_in, new_tenant}
-use Rattle.kb_tenants.specs.Tenants.{AreKept, AreSound, Agree, hosted, parts_of, state_of}
+use Rattle.kb_tenants.specs.Tenants.{AreKept, AreSound, Agree, IsIdleUntil, hosted, parts_of, state_of}
 use Rattle.kb_tenants.specs.declared.tenants.Tenant.{Tenant}
 use Rattle.kb_tenants.specs.declared.tenants.Tenants.{Tenants}
+use Rattle.kb_tenants.proofs.Idle.{idle_added}
 
 -- an item of a longer list stood there before, or is the last
 pushed_at : {A : Type 0} (xs : List A) (y : A) (u : ℕ) (z : A) → slice_get (xs ++ y ∷ []) u ≡ Some z → (slice_get xs u ≡ Some z) ⊎ (z ≡ y)
@@ -42,23 +43,36 @@ module _ {L : Type 0} (log : L → Log) (ps : List (Parts L)) (p : Parts L) wher
       (pushed_at ps p u q at)
 
 -- nothing was added
-module _ {L S : Type 0} (log : L → Log) (disk : S → Disk) (old new : Tenants L S) (left : new.tenants.items ≡ old.tenants.items) (same : new.shelf ≡ old.shelf) where
+module _ {L S : Type 0} (log : L → Log) (disk : S → Disk) (old new : Tenants L S) (left : new.tenants.items ≡ old.tenants.items) (same : new.shelf ≡ old.shelf) (until : new.kept_until ≡ old.kept_until) where
+  pub hosted_left : hosted log disk new ≡ hosted log disk old
+  hosted_left = ap (λ (s : Shelved S). map (state_of log (disk s.store).files) new.tenants.items) same ∙ ap (map (state_of log (disk old.shelf.store).files)) left
+
   pub kept_left : AreKept log disk old → AreKept log disk new
   kept_left kept = record {
     sound = subst (λ (s : Shelved S). AreSound log (parts_of new.tenants.items) (disk s.store).table s.next) (sym same)
         (subst (λ (xs : List (Tenant L)). AreSound log (parts_of xs) (disk old.shelf.store).table old.shelf.next) (sym left) kept.sound);
     agree = λ honest. subst (λ (s : Shelved S). Agree log (parts_of new.tenants.items) (disk s.store).files) (sym same)
         (subst (λ (xs : List (Tenant L)). Agree log (parts_of xs) (disk old.shelf.store).files) (sym left) (kept.agree (subst (λ (s : Shelved S). (disk s.store).honest) same honest)));
+    until = λ honest. subst (λ z. IsIdleUntil z (hosted log disk new)) (sym until)
+        (subst (IsIdleUntil old.kept_until) (sym hosted_left) (kept.until (subst (λ (s : Shelved S). (disk s.store).honest) same honest)));
   }
-
-  pub hosted_left : hosted log disk new ≡ hosted log disk old
-  hosted_left = ap (λ (s : Shelved S). map (state_of log (disk s.store).files) new.tenants.items) same ∙ ap (map (state_of log (disk old.shelf.store).files)) left
 
 -- a tenant was added behind the others
 module _ {L S : Type 0} (log : L → Log) (disk : S → Disk) (old new : Tenants L S) (x : Tenant L)
-    (pushed : new.tenants.items ≡ old.tenants.items ++ x ∷ []) (same : new.shelf ≡ old.shelf) where
+    (pushed : new.tenants.items ≡ old.tenants.items ++ x ∷ []) (same : new.shelf ≡ old.shelf) (until : new.kept_until ≡ old.kept_until)
+    (name : List ℕ) (named : string_bytes x.name ≡ name) (world : (files : Files) → world_of log x.parts files ≡ new_world) (calm : x.parts.refusals ≡ 0) where
   parts_pushed : parts_of new.tenants.items ≡ parts_of old.tenants.items ++ x.parts ∷ []
   parts_pushed = ap parts_of pushed ∙ map_push (λ (z : Tenant L). z.parts) old.tenants.items x
+
+  pub hosted_added : hosted log disk new ≡ hosted log disk old ++ new_tenant name ∷ []
+  hosted_added =
+      let files = (disk old.shelf.store).files in
+      let kept = ap kept_in (world files) in
+      let one : state_of log files x ≡ new_tenant name = (λ i. record { name = named i; kept = kept i; refusals = calm i }) in
+      ap (λ (s : Shelved S). map (state_of log (disk s.store).files) new.tenants.items) same
+      ∙ ap (map (state_of log files)) pushed
+      ∙ map_push (state_of log files) old.tenants.items x
+      ∙ ap (λ (s : TenantState). map (state_of log files) old.tenants.items ++ s ∷ []) one
 
   pub kept_added : ((table : Table) (next : ℕ) → IsSound log x.parts table next) → ((files : Files) → Agrees log x.parts files) → ((file : ℕ) → Owns log x.parts file → ⊥) → AreKept log disk old → AreKept log disk new
   kept_added sound agrees none kept = record {
@@ -68,14 +82,6 @@ module _ {L S : Type 0} (log : L → Log) (disk : S → Disk) (old new : Tenants
     agree = λ honest. subst (λ (s : Shelved S). Agree log (parts_of new.tenants.items) (disk s.store).files) (sym same)
         (subst (λ ps. Agree log ps (disk old.shelf.store).files) (sym parts_pushed)
         (agree_pushed log (parts_of old.tenants.items) x.parts (disk old.shelf.store).files (kept.agree (subst (λ (s : Shelved S). (disk s.store).honest) same honest)) (agrees (disk old.shelf.store).files)));
+    until = λ honest. subst (λ z. IsIdleUntil z (hosted log disk new)) (sym until)
+        (subst (IsIdleUntil old.kept_until) (sym hosted_added) (idle_added old.kept_until (hosted log disk old) name (kept.until (subst (λ (s : Shelved S). (disk s.store).honest) same honest))));
   }
-
-  pub hosted_added : (name : List ℕ) → string_bytes x.name ≡ name → ((files : Files) → world_of log x.parts files ≡ new_world) → x.parts.refusals ≡ 0 → hosted log disk new ≡ hosted log disk old ++ new_tenant name ∷ []
-  hosted_added name named world calm =
-      let files = (disk old.shelf.store).files in
-      let kept = ap kept_in (world files) in
-      let one : state_of log files x ≡ new_tenant name = (λ i. record { name = named i; kept = kept i; refusals = calm i }) in
-      ap (λ (s : Shelved S). map (state_of log (disk s.store).files) new.tenants.items) same
-      ∙ ap (map (state_of log files)) pushed
-      ∙ map_push (state_of log files) old.tenants.items x
-      ∙ ap (λ (s : TenantState). map (state_of log files) old.tenants.items ++ s ∷ []) one

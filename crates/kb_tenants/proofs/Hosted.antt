@@ -1,5 +1,5 @@
 -- What a call for one tenant is to those who see each tenant's name, what it keeps and its count.
-use Rattle.std.proofs.Common.{◌≡◌, ◌∙◌, ◌≤◌, ◌<◌, ⊎_elim, ℕ, zero, suc, Bool, true, false, eqb, List, [], ◌∷◌, Some, length, get_or, sym, ap, refl, subst, arith}
+use Rattle.std.proofs.Common.{◌≡◌, ◌∙◌, ◌≤◌, ◌<◌, ◌≤ℤ◌, ⊎_elim, ℕ, ℤ, pos, zero, suc, Bool, true, false, eqb, List, [], ◌∷◌, Some, length, get_or, sym, ap, refl, subst, arith}
 use Rattle.std.specs.Prelude.{map, slice_get, slice_set, option_map, unwrap_or, string_bytes, ◌&&◌}
 use Rattle.std.specs.Bool.{MatchBool}
 use Rattle.std.specs.List.{AllWithin, HoldsAt, list_all}
@@ -17,12 +17,13 @@ use Rattle.kb_world.specs.Steps.{IsStep, IsCalm, Meets, step_same, step_then}
 use Rattle.kb_world.specs.World.{World}
 use Rattle.kb_world.specs.declared.parts.Parts.{Parts}
 use Rattle.kb_world.proofs.Lifted.{clocked, recast, loud, refused_step}
-use Rattle.kb_tenant.specs.Hosted.{TenantState, Kept, IsTurn, IsMet, nothing, kept_in, kept_of, refusals_of, names_of, world_at, all_calm}
+use Rattle.kb_tenant.specs.Hosted.{TenantState, Kept, IsTurn, IsMet, nothing, kept_in, kept_of, refusals_of, names_of, retained, world_at, all_calm}
 use Rattle.kb_tenant.proofs.LogMoves.{same_or_not}
-use Rattle.kb_tenants.specs.Tenants.{AreKept, hosted, parts_of, state_of}
+use Rattle.kb_tenants.specs.Tenants.{AreKept, IsIdleUntil, hosted, parts_of, state_of}
 use Rattle.kb_tenants.specs.Turns.{IsShelfTurn, seen_at}
 use Rattle.kb_tenants.specs.declared.tenants.Tenant.{Tenant}
 use Rattle.kb_tenants.specs.declared.tenants.Tenants.{Tenants}
+use Rattle.kb_tenants.proofs.Idle.{IsQuiet, idle_stays, idle_turn, quiet_kept}
 use Rattle.kb_tenants.proofs.Others.{found, turn}
 
 -- ---- lists
@@ -74,12 +75,12 @@ module _ {L : Type 0} (log : L → Log) (files : Files) where
   kept_seen (x ∷ ts) zero = refl
   kept_seen (x ∷ ts) (suc u) = kept_seen ts u
 
-  kept_here : (ts : List (Tenant L)) (t : ℕ) (x : Tenant L) → slice_get ts t ≡ Some x → kept_of (map (state_of log files) ts) t ≡ kept_in (world_of log x.parts files)
+  pub kept_here : (ts : List (Tenant L)) (t : ℕ) (x : Tenant L) → slice_get ts t ≡ Some x → kept_of (map (state_of log files) ts) t ≡ kept_in (world_of log x.parts files)
   kept_here [] t x at = absurd cc
   kept_here (y ∷ ts) zero x at = let same : y ≡ x = cc in ap (λ (z : Tenant L). kept_in (world_of log z.parts files)) same
   kept_here (y ∷ ts) (suc t) x at = kept_here ts t x at
 
-  refusals_here : (ts : List (Tenant L)) (t : ℕ) (x : Tenant L) → slice_get ts t ≡ Some x → refusals_of (map (state_of log files) ts) t ≡ x.parts.refusals
+  pub refusals_here : (ts : List (Tenant L)) (t : ℕ) (x : Tenant L) → slice_get ts t ≡ Some x → refusals_of (map (state_of log files) ts) t ≡ x.parts.refusals
   refusals_here [] t x at = absurd cc
   refusals_here (y ∷ ts) zero x at = let same : y ≡ x = cc in ap (λ (z : Tenant L). z.parts.refusals) same
   refusals_here (y ∷ ts) (suc t) x at = refusals_here ts t x at
@@ -93,7 +94,13 @@ put_here (z ∷ xs) (suc t) x y at = put_here xs t x y at
 
 -- the tenants after a call that left the tenant at a place these parts, and this shelf
 abbrev pub after : {L S : Type 0} → Tenants L S → ℕ → Tenant L → Parts L → Shelved S → Tenants L S
-after ts t x p shelf = record { tenants = with_item ts.tenants t (record x { parts = p }); shelf = shelf }
+after ts t x p shelf = record { tenants = with_item ts.tenants t (record x { parts = p }); shelf = shelf; kept_until = ts.kept_until }
+
+-- what a tenant's parts have to drop is what it is seen to
+pub idle_here : {L : Type 0} (log : L → Log) (files : Files) (ts : List (Tenant L)) (t : ℕ) (x : Tenant L) (until : ℤ) → slice_get ts t ≡ Some x → Agrees log x.parts files → IsQuiet log x.parts until
+    → (clock : ℕ) → pos clock ≤ℤ until → retained clock (kept_of (map (state_of log files) ts) t) ≡ kept_of (map (state_of log files) ts) t
+idle_here log files ts t x until at agree quiet clock le =
+    subst (λ k. retained clock k ≡ k) (sym (kept_here log files ts t x at)) (quiet_kept (world_of log x.parts files) clock (quiet files agree clock le))
 
 module _ {L S : Type 0} (log : L → Log) (disk : S → Disk) (law : (l : L) → IsLawfulLog (log l)) (old : Tenants L S) (t : ℕ) (x : Tenant L) (p : Parts L) (shelf : Shelved S)
     (lt : t < length (hosted log disk old)) (read : x ≡ get_or old.tenants.items t x)
@@ -113,8 +120,8 @@ module _ {L S : Type 0} (log : L → Log) (disk : S → Disk) (law : (l : L) →
       (sym (map-set (λ (z : Tenant L). z.parts) old.tenants.items t (record x { parts = p })))
       (turn log law (parts_of old.tenants.items) t x.parts p (disk old.shelf.store) (disk shelf.store) old.shelf.next shelf.next parts_there kept.sound step)
 
-  pub kept_after : AreKept log disk (after old t x p shelf)
-  kept_after = record { sound = shelf_turn.sound; agree = λ honest. shelf_turn.agree honest (kept.agree (shelf_turn.honest honest)) }
+  kept_until : (until : ℤ) → ((disk shelf.store).honest → IsIdleUntil until (hosted log disk (after old t x p shelf))) → AreKept log disk (record (after old t x p shelf) { kept_until = until })
+  kept_until until idle = record { sound = shelf_turn.sound; agree = λ honest. shelf_turn.agree honest (kept.agree (shelf_turn.honest honest)); until = idle }
 
   counts_after : counts_in (after old t x p shelf).tenants.items ≡ slice_set (counts_in old.tenants.items) t p.refusals
   unfolding counts_in
@@ -152,6 +159,18 @@ module _ {L S : Type 0} (log : L → Log) (disk : S → Disk) (law : (l : L) →
         ∙ ap (λ o. unwrap_or (option_map kept_in o) nothing) (shelf_turn.worlds honest u ne)
         ∙ sym (kept_seen log (disk old.shelf.store).files old.tenants.items u);
   }
+
+  -- where the tenant is looked at
+  pub kept_after : (until : ℤ) → until ≤ℤ old.kept_until → IsQuiet log p until → AreKept log disk (record (after old t x p shelf) { kept_until = until })
+  kept_after until sooner quiet = kept_until until (λ honest.
+      let before = shelf_turn.honest honest in
+      idle_turn until old.kept_until t (disk shelf.store).honest (hosted log disk old) (hosted log disk (after old t x p shelf)) turn_after honest sooner (kept.until before)
+      (idle_here log (disk shelf.store).files (after old t x p shelf).tenants.items t (record x { parts = p }) until there_after (step.frame.agrees honest (kept.agree before t x.parts parts_there)) quiet))
+
+  -- where all keep what they kept
+  pub kept_same : ((disk shelf.store).honest → (u : ℕ) → kept_of (hosted log disk (after old t x p shelf)) u ≡ kept_of (hosted log disk old) u) → AreKept log disk (after old t x p shelf)
+  kept_same same = kept_until old.kept_until (λ honest.
+      idle_stays old.kept_until (hosted log disk old) (hosted log disk (after old t x p shelf)) (same honest) (kept.until (shelf_turn.honest honest)))
 
   -- a calm that is seen is one of the tenant's parts
   pub calm_here : IsCalm (refusals_of (hosted log disk old) t) (refusals_of (hosted log disk (after old t x p shelf)) t) → IsCalm x.parts.refusals p.refusals
@@ -198,9 +217,6 @@ module _ {L S : Type 0} (log : L → Log) (disk : S → Disk) (law : (l : L) →
       let sound = kept.sound.each t x.parts (slice_get-map (λ (z : Tenant L). z.parts) old.tenants.items t ∙ ap (option_map (λ (z : Tenant L). z.parts)) here) in
       subst (λ (v : Parts L). IsStep a (scene log disk v old.shelf)) (sym counted) (refused_step log a x.parts (disk old.shelf.store) old.shelf.next (step_same a sound))
 
-  pub kept_refused : AreKept log disk (after old t x p old.shelf)
-  kept_refused = kept_after log disk law old t x p old.shelf lt read kept refused_at
-
   kepts_stay : kepts_in log (disk old.shelf.store).files (after old t x p old.shelf).tenants.items ≡ kepts_in log (disk old.shelf.store).files old.tenants.items
   unfolding kepts_in
   kepts_stay =
@@ -213,6 +229,9 @@ module _ {L S : Type 0} (log : L → Log) (disk : S → Disk) (law : (l : L) →
   kept_stays u =
       let files = (disk old.shelf.store).files in
       ap (λ ks. get_or ks u nothing) (kepts_seen log files (after old t x p old.shelf).tenants.items ∙ kepts_stay ∙ sym (kepts_seen log files old.tenants.items))
+
+  pub kept_refused : AreKept log disk (after old t x p old.shelf)
+  kept_refused = kept_same log disk law old t x p old.shelf lt read kept refused_at (λ honest. kept_stays)
 
   -- what is kept needs no honest store here
   pub turn_refused : IsTurn t (Unit {0}) (hosted log disk old) (hosted log disk (after old t x p old.shelf))
@@ -258,16 +277,17 @@ module _ {L S : Type 0} (log : L → Log) (disk : S → Disk) (law : (l : L) →
   set_step =
       let a = scene log disk x.parts old.shelf in
       let same = ap (λ (v : Parts L). v.refusals) set in
-      recast log a x.parts q (disk old.shelf.store) old.shelf.next (ap (λ (v : Parts L). v.catalog) set) (ap (λ (v : Parts L). entries v) set) (omega (arith, same)) (step_same a sound_here)
+      recast log a x.parts q (disk old.shelf.store) old.shelf.next (ap (λ (v : Parts L). v.catalog) set) (ap (λ (v : Parts L). entries v) set) (ap (λ (v : Parts L). v.kept_until) set) (omega (arith, same)) (step_same a sound_here)
 
   agrees_at : Agrees log x.parts (disk old.shelf.store).files → Agrees log (record x.parts { clock = clock }) (disk old.shelf.store).files
-  agrees_at agree = record { catalog = agree.catalog; fold = agree.fold; logs = agree.logs }
+  agrees_at agree = record { catalog = agree.catalog; fold = agree.fold; logs = agree.logs; until = agree.until }
 
   module _ (p : Parts L) (shelf : Shelved S) (step : IsStep (scene log disk q old.shelf) (scene log disk p shelf)) where
     step_at : IsStep (scene log disk x.parts old.shelf) (scene log disk p shelf)
     step_at = step_then (scene log disk x.parts old.shelf) (scene log disk q old.shelf) (scene log disk p shelf) set_step step
 
-    pub kept_at : AreKept log disk (after old t x p shelf)
+    -- where the tenant is looked at
+    pub kept_at : (until : ℤ) → until ≤ℤ old.kept_until → IsQuiet log p until → AreKept log disk (record (after old t x p shelf) { kept_until = until })
     kept_at = kept_after log disk law old t x p shelf lt read kept step_at
 
     pub turn_at : IsTurn t (disk shelf.store).honest (hosted log disk old) (hosted log disk (after old t x p shelf))
@@ -287,6 +307,9 @@ module _ {L S : Type 0} (log : L → Log) (disk : S → Disk) (law : (l : L) →
     stays_at same = stays_after log disk law old t x p shelf lt read kept step_at (λ honest agree.
         ap kept_in (same honest (subst (λ (v : Parts L). Agrees log v (disk old.shelf.store).files) (sym set) (agrees_at agree)))
         ∙ ap (λ (v : Parts L). kept_in (world_of log v (disk old.shelf.store).files)) set)
+
+    pub kept_stay_at : ((disk shelf.store).honest → Agrees log q (disk old.shelf.store).files → world_of log p (disk shelf.store).files ≡ world_of log q (disk old.shelf.store).files) → AreKept log disk (after old t x p shelf)
+    kept_stay_at same = kept_same log disk law old t x p shelf lt read kept step_at (stays_at same)
 
     -- what is calm at that clock is seen to be calm
     pub calm_at : IsCalm q.refusals p.refusals → IsCalm (refusals_of (hosted log disk old) t) (refusals_of (hosted log disk (after old t x p shelf)) t)

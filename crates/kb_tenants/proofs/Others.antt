@@ -8,6 +8,7 @@ use Rattle.kb_topics.specs.Catalog.{known, meta_log}
 use Rattle.kb_topics.specs.MetaLog.{IsFold}
 use Rattle.std.proofs.lemmas.List.{length-set}
 use Rattle.kb_partitions.proofs.Put.{get_put}
+use Rattle.kb_world.specs.KeptUntil.{AreAllKept}
 use Rattle.kb_world.specs.Parts as parts
 use Rattle.kb_world.specs.Parts.{IsSound, Agrees, Owns, entries, meta, world_of}
 use Rattle.kb_world.specs.Steps.{IsStep, Meets}
@@ -40,19 +41,21 @@ module _ {L : Type 0} (log : L → Log) (law : (l : L) → IsLawfulLog (log l)) 
     few = sound.few;
     unmade = sound.unmade;
     small = sound.small;
-  }
-
-  pub still_agrees : e.honest → Agrees log q d.files → Agrees log q e.files
-  still_agrees honest agree = record {
-    catalog = lawful.agrees_stays d.files e.files agree.catalog (there honest);
-    fold = subst (λ bs. IsFold bs (known q.catalog)) (sym (lawful.batches_stay d.files e.files (there honest))) agree.fold;
-    logs = spared.spared_agree log law (entries q) d e next last sound.logs later (λ file lt own. lengths file lt (inr own)) (λ h file lt own. contents h file lt (inr own)) honest agree.logs;
+    tied = sound.tied;
   }
 
   pub still_seen : e.honest → world_of log q e.files ≡ world_of log q d.files
   still_seen honest =
       ap (λ ls. (let w : World = record { known = known q.catalog; logs = ls; clock = q.clock } in w))
       (spared.spared_logs log law (entries q) d e next last sound.logs later (λ file lt own. lengths file lt (inr own)) (λ h file lt own. contents h file lt (inr own)) honest)
+
+  pub still_agrees : e.honest → Agrees log q d.files → Agrees log q e.files
+  still_agrees honest agree = record {
+    catalog = lawful.agrees_stays d.files e.files agree.catalog (there honest);
+    fold = subst (λ bs. IsFold bs (known q.catalog)) (sym (lawful.batches_stay d.files e.files (there honest))) agree.fold;
+    logs = spared.spared_agree log law (entries q) d e next last sound.logs later (λ file lt own. lengths file lt (inr own)) (λ h file lt own. contents h file lt (inr own)) honest agree.logs;
+    until = subst (AreAllKept q.kept_until) (sym (still_seen honest)) agree.until;
+  }
 
 -- ---- all tenants
 

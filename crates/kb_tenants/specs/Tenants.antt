@@ -1,10 +1,10 @@
 -- All tenants of a broker on one shelf.
-use Rattle.std.specs.Prelude.{◌≡◌, ℕ, List, Some, map, slice_get, string_bytes}
+use Rattle.std.specs.Prelude.{◌≡◌, ◌≤ℤ◌, ℕ, ℤ, pos, List, Some, map, slice_get, string_bytes}
 use Rattle.kb_store.specs.Disk.{Disk, Table, Files}
 use Rattle.kb_log.specs.OnShelf.{Log}
 use Rattle.kb_world.specs.Parts.{IsSound, Agrees, Owns, world_of}
 use Rattle.kb_world.specs.declared.parts.Parts.{Parts}
-use Rattle.kb_tenant.specs.Hosted.{TenantState, kept_in}
+use Rattle.kb_tenant.specs.Hosted.{TenantState, kept_in, kept_of, retained}
 use Rattle.kb_tenants.specs.declared.tenants.Tenant.{Tenant}
 use Rattle.kb_tenants.specs.declared.tenants.Tenants.{Tenants}
 
@@ -33,7 +33,13 @@ is_honest disk ts = (disk ts.shelf.store).honest
 abbrev pub hosted : {L S : Type 0} → (L → Log) → (S → Disk) → Tenants L S → List TenantState
 hosted log disk ts = map (state_of log (disk ts.shelf.store).files) ts.tenants.items
 
--- What holds between the calls: the parts are sound on the shelf, and on an honest store they agree with their files.
+-- at each clock up to that one retention leaves each tenant what it keeps
+abbrev pub IsIdleUntil : ℤ → List TenantState → Type 0
+IsIdleUntil until ts = (t clock : ℕ) → pos clock ≤ℤ until → retained clock (kept_of ts t) ≡ kept_of ts t
+
+-- What holds between the calls: the parts are sound on the shelf; and on an honest store they agree with their files, and up to a
+-- clock no tenant has anything to drop.
 pub record AreKept {L S : Type 0} (log : L → Log) (disk : S → Disk) (ts : Tenants L S) : Type 0 where
   pub sound : AreSound log (parts_of ts.tenants.items) (disk ts.shelf.store).table ts.shelf.next
   pub agree : is_honest disk ts → Agree log (parts_of ts.tenants.items) (disk ts.shelf.store).files
+  pub until : is_honest disk ts → IsIdleUntil ts.kept_until (hosted log disk ts)

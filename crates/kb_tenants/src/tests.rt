@@ -10,13 +10,17 @@ use kb_log::{ListLog, Shelf};
 use kb_store::{MemoryStore, Store};
 use kb_tenant::{Answer, Node, Request};
 use kb_wire::Text;
-use kb_world::Place;
 use std::alloc::{AllocError, Global};
+use std::process::Abort;
 use std::test::Fail;
 
 /// CreateTopics of `t` with one partition.
 const CREATE: &[u8] =
     b"\x00\x00\x00\x01\x00\x01t\x00\x00\x00\x01\x00\x01\x00\x00\x00\x00\x00\x00\x00\x00\x00\x00\x13\x88";
+
+/// CreateTopics of `t` with one partition that keeps batches for 1000 milliseconds.
+const CREATE_KEPT: &[u8] =
+    b"\x00\x00\x00\x01\x00\x01t\x00\x00\x00\x01\x00\x01\x00\x00\x00\x00\x00\x00\x00\x01\x00\x0cretention.ms\x00\x041000\x00\x00\x13\x88";
 
 /// It is made.
 const MADE: &[u8] = b"\x00\x00\x00\x0d\x00\x00\x00\x09\x00\x00\x00\x01\x00\x01t\x00\x00";
@@ -34,6 +38,37 @@ const FIRST_ID: &[u8] =
 /// Id 1 of epoch 0.
 const SECOND_ID: &[u8] =
     b"\x00\x00\x00\x14\x00\x00\x00\x09\x00\x00\x00\x00\x00\x00\x00\x00\x00\x00\x00\x00\x00\x01\x00\x00";
+
+/// Produce to `t` of a batch of one record with timestamp 5.
+const APPEND: &[u8] =
+    b"\xff\xff\x00\x01\x00\x00\x03\xe8\x00\x00\x00\x01\x00\x01t\x00\x00\x00\x01\x00\x00\x00\x00\x00\x00\x00\x46\
+    \x00\x00\x00\x00\x00\x00\x00\x00\x00\x00\x00\x3a\xff\xff\xff\xff\x02\x71\xa3\xaf\x2c\x00\x00\x00\x00\x00\x00\
+    \x00\x00\x00\x00\x00\x00\x00\x05\x00\x00\x00\x00\x00\x00\x00\x05\xff\xff\xff\xff\xff\xff\xff\xff\xff\xff\xff\xff\xff\xff\
+    \x00\x00\x00\x01\x10\x00\x00\x00\x01\x04hi\x00";
+
+/// It is appended at offset 0.
+const APPENDED: &[u8] =
+    b"\x00\x00\x00\x29\x00\x00\x00\x09\x00\x00\x00\x01\x00\x01t\x00\x00\x00\x01\x00\x00\x00\x00\x00\x00\x00\x00\x00\x00\x00\x00\x00\x00\xff\xff\xff\xff\xff\xff\xff\xff\x00\x00\x00\x00";
+
+/// It is appended at offset 1.
+const APPENDED_NEXT: &[u8] =
+    b"\x00\x00\x00\x29\x00\x00\x00\x09\x00\x00\x00\x01\x00\x01t\x00\x00\x00\x01\x00\x00\x00\x00\x00\x00\x00\x00\x00\x00\x00\x00\x00\x01\xff\xff\xff\xff\xff\xff\xff\xff\x00\x00\x00\x00";
+
+/// ListOffsets of the first offset of `t`.
+const LIST_FIRST: &[u8] =
+    b"\xff\xff\xff\xff\x00\x00\x00\x01\x00\x01t\x00\x00\x00\x01\x00\x00\x00\x00\xff\xff\xff\xff\xff\xff\xff\xfe";
+
+/// It is 0.
+const AT_0: &[u8] =
+    b"\x00\x00\x00\x25\x00\x00\x00\x09\x00\x00\x00\x01\x00\x01t\x00\x00\x00\x01\x00\x00\x00\x00\x00\x00\xff\xff\xff\xff\xff\xff\xff\xff\x00\x00\x00\x00\x00\x00\x00\x00";
+
+/// It is 1.
+const AT_1: &[u8] =
+    b"\x00\x00\x00\x25\x00\x00\x00\x09\x00\x00\x00\x01\x00\x01t\x00\x00\x00\x01\x00\x00\x00\x00\x00\x00\xff\xff\xff\xff\xff\xff\xff\xff\x00\x00\x00\x00\x00\x00\x00\x01";
+
+/// It is 2.
+const AT_2: &[u8] =
+    b"\x00\x00\x00\x25\x00\x00\x00\x09\x00\x00\x00\x01\x00\x01t\x00\x00\x00\x01\x00\x00\x00\x00\x00\x00\xff\xff\xff\xff\xff\xff\xff\xff\x00\x00\x00\x00\x00\x00\x00\x02";
 
 /// The tenants `a` and `b`, without topics.
 fn two(alloc: Global) -> Result<Tenants<ListLog, MemoryStore>, Fail>
@@ -55,13 +90,36 @@ fn is_reply(answer: &Answer, reply: &[u8]) -> bool {
     }
 }
 
-#[test]
-fn each_tenant_has_its_own(rt: HostRuntime) -> Result<(), Fail> {
-    let mut tenants = two(rt.alloc())?;
+/// Plays some requests, each with its tenant, its API key, its body and its reply, and sees that no refusal is counted.
+fn plays(
+    rt: &impl Abort,
+    alloc: Global,
+    tenants: &mut Tenants<ListLog, MemoryStore>,
+    asked: &[(usize, i16, &[u8], &[u8])],
+)
+    requires { AreKept list_log (λ s. memory_disk s.files.entries) tenants.old }
+    ensures { AreKept list_log (λ s. memory_disk s.files.entries) tenants.new }
+{
     let node = Node {
         host: Text::new("localhost"),
         port: 9092,
     };
+    for (tenant, api_key, body, reply) in asked {
+        let request = Request {
+            api_key: *api_key,
+            correlation_id: 9,
+            body,
+        };
+        assert!(rt; *tenant < tenants.len());
+        let served = tenants.serve(alloc, *tenant, 1000, &node, &request);
+        assert!(rt; is_reply(&served.answer, reply));
+        assert!(rt; tenants.is_calm());
+    }
+}
+
+#[test]
+fn each_tenant_has_its_own(rt: HostRuntime) -> Result<(), Fail> {
+    let mut tenants = two(rt.alloc())?;
     let asked = [
         (0, 19, CREATE, MADE),
         (1, 19, CREATE, MADE),
@@ -70,17 +128,32 @@ fn each_tenant_has_its_own(rt: HostRuntime) -> Result<(), Fail> {
         (0, 22, INIT, SECOND_ID),
         (1, 22, INIT, FIRST_ID),
     ];
-    for (tenant, api_key, body, reply) in asked {
-        let request = Request {
-            api_key,
-            correlation_id: 9,
-            body,
-        };
-        assert!(rt; tenant < tenants.len());
-        let served = tenants.serve(rt.alloc(), tenant, 1000, &node, &request);
-        assert!(rt; is_reply(&served.answer, reply));
-        assert!(rt; tenants.is_calm());
-    }
+    plays(&rt, rt.alloc(), &mut tenants, &asked);
+    Ok(())
+}
+
+#[test]
+fn each_tenant_keeps_what_its_topics_say(rt: HostRuntime) -> Result<(), Fail> {
+    let mut tenants = two(rt.alloc())?;
+    let made = [
+        (0, 19, CREATE_KEPT, MADE),
+        (0, 0, APPEND, APPENDED),
+        (1, 19, CREATE_KEPT, MADE),
+        (1, 0, APPEND, APPENDED),
+    ];
+    let there = [(0, 2, LIST_FIRST, AT_0), (1, 2, LIST_FIRST, AT_0)];
+    let gone = [(0, 2, LIST_FIRST, AT_1), (1, 2, LIST_FIRST, AT_1)];
+    plays(&rt, rt.alloc(), &mut tenants, &made);
+    assert!(rt; !tenants.retain_all(1005));
+    plays(&rt, rt.alloc(), &mut tenants, &there);
+    assert!(rt; tenants.retain_all(1006));
+    plays(&rt, rt.alloc(), &mut tenants, &gone);
+    assert!(rt; !tenants.retain_all(1006));
+    let again = [(1, 0, APPEND, APPENDED_NEXT), (1, 2, LIST_FIRST, AT_1)];
+    let gone_again = [(0, 2, LIST_FIRST, AT_1), (1, 2, LIST_FIRST, AT_2)];
+    plays(&rt, rt.alloc(), &mut tenants, &again);
+    assert!(rt; tenants.retain_all(1006));
+    plays(&rt, rt.alloc(), &mut tenants, &gone_again);
     Ok(())
 }
 
@@ -100,11 +173,7 @@ fn refusals_are_counted_by_tenant(rt: HostRuntime) -> Result<(), Fail> {
 #[test]
 fn nothing_is_there_yet(rt: HostRuntime) -> Result<(), Fail> {
     let mut tenants = two(rt.alloc())?;
-    let place = Place {
-        instance: 0,
-        number: 0,
-    };
-    assert!(rt; !tenants.retain(0, 1000, place));
+    assert!(rt; !tenants.retain_all(1000));
     let answer = tenants.look(rt.alloc(), 1, 1000, 9, b"", 2000);
     assert!(rt; matches!(answer, Answer::Shut));
     let mut store = tenants.into_shelf().into_store();

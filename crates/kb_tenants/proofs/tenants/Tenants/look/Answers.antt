@@ -5,7 +5,7 @@ use Rattle.kb_world.specs.Parts.{END, world_of}
 use Rattle.kb_tenant.specs.Hosted.{kept_in, world_at}
 use Rattle.kb_tenant.specs.Replies.{IsAnswer}
 use Rattle.kb_tenant.specs.Serve.{looked}
-use Rattle.kb_tenants.proofs.Hosted.{sound_at, kept_at, turn_at, met_at, stays_at, calm_at, calm_from}
+use Rattle.kb_tenants.proofs.Hosted.{sound_at, kept_stay_at, turn_at, met_at, stays_at, calm_at, calm_from}
 use Rattle.kb_tenants.proofs.tenants.Tenants.look.Goals as goal
 use Rattle.kb_tenants.proofs.tenants.Tenants.look.Goals.{else-refusals-before-via-then-refusals-before+else-before-lt18446744073709551615, else-refusals-before-via-else-refusals-before}
 
@@ -18,8 +18,8 @@ look-answer-requires g c =
 
 pub returns-then-before-lt18446744073709551615-clause-kept : goal.returns-then-before-lt18446744073709551615-clause-kept
 returns-then-before-lt18446744073709551615-clause-kept g c =
-    kept_at g.L.PartitionLog.log g.S.Store.disk g.met.L.PartitionLog.lawful c.args.self.now c.args.tenant c.index_mut.result.now c.set_clock.new.self c.args.clock
-    c.requires.tenant c.index_mut.ensures.value c.requires.kept c.set_clock.ensures.parts c.look-answer.new.parts c.look-answer.new.shelf c.look-answer.ensures.step
+    kept_stay_at g.L.PartitionLog.log g.S.Store.disk g.met.L.PartitionLog.lawful c.args.self.now c.args.tenant c.index_mut.result.now c.set_clock.new.self c.args.clock
+    c.requires.tenant c.index_mut.ensures.value c.requires.kept c.set_clock.ensures.parts c.look-answer.new.parts c.look-answer.new.shelf c.look-answer.ensures.step c.look-answer.ensures.same
 
 pub returns-then-before-lt18446744073709551615-clause-turn : goal.returns-then-before-lt18446744073709551615-clause-turn
 returns-then-before-lt18446744073709551615-clause-turn g c =
@@ -55,8 +55,8 @@ returns-then-before-lt18446744073709551615-clause-shut g c = λ loud. absurd (lo
 
 pub returns-else-refusals-before-clause-kept : goal.returns-else-refusals-before-clause-kept
 returns-else-refusals-before-clause-kept g c =
-    kept_at g.L.PartitionLog.log g.S.Store.disk g.met.L.PartitionLog.lawful c.args.self.now c.args.tenant c.index_mut.result.now c.set_clock.new.self c.args.clock
-    c.requires.tenant c.index_mut.ensures.value c.requires.kept c.set_clock.ensures.parts c.look-answer.new.parts c.look-answer.new.shelf c.look-answer.ensures.step
+    kept_stay_at g.L.PartitionLog.log g.S.Store.disk g.met.L.PartitionLog.lawful c.args.self.now c.args.tenant c.index_mut.result.now c.set_clock.new.self c.args.clock
+    c.requires.tenant c.index_mut.ensures.value c.requires.kept c.set_clock.ensures.parts c.look-answer.new.parts c.look-answer.new.shelf c.look-answer.ensures.step c.look-answer.ensures.same
 
 pub returns-else-refusals-before-clause-turn : goal.returns-else-refusals-before-clause-turn
 returns-else-refusals-before-clause-turn g c =

@@ -1,0 +1,102 @@
+-- Up to when no tenant has anything to drop.
+use Rattle.std.proofs.Common.{◌≡◌, ◌∙◌, ◌⊎◌, ⊎_elim, ◌≤◌, ◌<◌, ◌≤ℤ◌, ◌+◌, ℕ, ℤ, zero, suc, pos, false, List, [], ◌∷◌, ◌++◌, length, sym, ap, refl, subst, arith}
+use Rattle.std.proofs.lemmas.Int.{ints}
+use Rattle.std.specs.Prelude.{map}
+use Rattle.std.specs.List.{flat_map}
+use Rattle.std.specs.Cmp.Lexicographic.{slice_cmp}
+use Rattle.std.specs.FinMap.{empty, entries, len-empty, len-entries}
+use Rattle.std.specs.Ordering.{nat_cmp}
+use Rattle.std.proofs.lemmas.List.{length-map, get_or_past}
+use Rattle.kb_store.specs.Disk.{Files}
+use Rattle.kb_log.specs.OnShelf.{Log}
+use Rattle.kb_topics.specs.ByName.{by_name}
+use Rattle.kb_topics.specs.Known.{TopicState}
+use Rattle.kb_world.specs.Calls.{at_clock, places_of_topic, retain_all, retain_each}
+use Rattle.kb_world.specs.Parts.{Agrees, world_of}
+use Rattle.kb_world.specs.World.{World}
+use Rattle.kb_world.specs.declared.parts.Parts.{Parts}
+use Rattle.kb_tenant.specs.Hosted.{TenantState, IsTurn, nothing, new_tenant, kept_in, kept_of, retained, world_at}
+use Rattle.kb_tenant.proofs.LogMoves.{same_or_not}
+use Rattle.kb_tenants.specs.Tenants.{IsIdleUntil}
+
+-- ---- nothing is kept
+
+past : (ts : List TenantState) (t : ℕ) → length ts ≤ t → kept_of ts t ≡ nothing
+past ts t le = get_or_past (map (λ (x : TenantState). x.kept) ts) t nothing (omega (arith, le, length-map ts (λ (x : TenantState). x.kept)))
+
+no_item : {A : Type 0} (xs : List A) → length xs ≡ 0 → xs ≡ []
+no_item [] e = refl
+no_item (x ∷ xs) e = absurd (omega (arith, e))
+
+no_topic : by_name [] ≡ []
+no_topic = ap (map (λ (e : List ℕ × (ℕ × TopicState)). e.1)) (no_item (entries (empty {R = slice_cmp nat_cmp})) (sym (len-entries (empty {R = slice_cmp nat_cmp})) ∙ len-empty (slice_cmp nat_cmp) (ℕ × TopicState)))
+
+-- where nothing is there is nothing to drop
+nothing_retained : (clock : ℕ) → retained clock nothing ≡ nothing
+unfolding retained
+nothing_retained clock = ap (λ ts. kept_in (retain_each (flat_map places_of_topic ts) (world_at nothing clock)).0) no_topic
+
+pub past_retained : (ts : List TenantState) (t clock : ℕ) → length ts ≤ t → retained clock (kept_of ts t) ≡ kept_of ts t
+past_retained ts t clock le = subst (λ k. retained clock k ≡ k) (sym (past ts t le)) (nothing_retained clock)
+
+-- ---- one tenant
+
+-- at each clock up to that one a tenant's parts have nothing to drop
+abbrev pub IsQuiet : {L : Type 0} → (L → Log) → Parts L → ℤ → Type 0
+IsQuiet log p until = (files : Files) → Agrees log p files → (clock : ℕ) → pos clock ≤ℤ until → retain_all (at_clock (world_of log p files) clock) ≡ (at_clock (world_of log p files) clock, false)
+
+pub quiet_kept : (w : World) (clock : ℕ) → retain_all (at_clock w clock) ≡ (at_clock w clock, false) → retained clock (kept_in w) ≡ kept_in w
+unfolding retained
+quiet_kept w clock quiet = ap (λ r. kept_in r.0) quiet
+
+-- ---- all tenants
+
+-- where there is none
+pub idle_none : (until : ℤ) (ts : List TenantState) → ts ≡ [] → IsIdleUntil until ts
+idle_none until ts none t clock le = past_retained ts t clock (omega (arith, ap length none))
+
+-- where all keep what they kept
+pub idle_stays : (until : ℤ) (old new : List TenantState) → ((t : ℕ) → kept_of new t ≡ kept_of old t) → IsIdleUntil until old → IsIdleUntil until new
+idle_stays until old new same idle t clock le = ap (retained clock) (same t) ∙ idle t clock le ∙ sym (same t)
+
+-- where one is looked at, and the others keep what they kept
+pub idle_turn : (until later : ℤ) (t : ℕ) (H : Type 0) (old new : List TenantState) → IsTurn t H old new → H → until ≤ℤ later → IsIdleUntil later old
+    → ((clock : ℕ) → pos clock ≤ℤ until → retained clock (kept_of new t) ≡ kept_of new t) → IsIdleUntil until new
+idle_turn until later t H old new turn honest sooner idle own u clock le = ⊎_elim
+    (λ same. subst (λ v. retained clock (kept_of new v) ≡ kept_of new v) (sym same) (own clock le))
+    (λ ne. let stays = turn.others honest u ne in ap (retained clock) stays ∙ idle u clock (omega (arith, ints, sooner, le)) ∙ sym stays)
+    (same_or_not u t)
+
+kept_pushed : (ts : List TenantState) (name : List ℕ) (t : ℕ) → kept_of (ts ++ new_tenant name ∷ []) t ≡ kept_of ts t
+kept_pushed [] name zero = refl
+kept_pushed [] name (suc t) = refl
+kept_pushed (x ∷ ts) name zero = refl
+kept_pushed (x ∷ ts) name (suc t) = kept_pushed ts name t
+
+-- one that keeps nothing is added
+pub idle_added : (until : ℤ) (ts : List TenantState) (name : List ℕ) → IsIdleUntil until ts → IsIdleUntil until (ts ++ new_tenant name ∷ [])
+idle_added until ts name = idle_stays until ts (ts ++ new_tenant name ∷ []) (kept_pushed ts name)
+
+-- ---- tenant by tenant
+
+-- at each clock up to that one retention leaves each tenant before a place what it keeps
+abbrev pub IsIdleBelow : ℕ → ℤ → List TenantState → Type 0
+IsIdleBelow i until ts = (t clock : ℕ) → t < i → pos clock ≤ℤ until → retained clock (kept_of ts t) ≡ kept_of ts t
+
+pub below_or_not : (u i : ℕ) → (u < i) ⊎ (i ≤ u)
+below_or_not u i = grind arith
+
+-- one more is looked at
+pub idle_next : (i : ℕ) (until later : ℤ) (ts : List TenantState) → until ≤ℤ later → IsIdleBelow i later ts
+    → ((clock : ℕ) → pos clock ≤ℤ until → retained clock (kept_of ts i) ≡ kept_of ts i) → IsIdleBelow (i + 1) until ts
+idle_next i until later ts sooner below here t clock lt le = ⊎_elim
+    (λ before. below t clock before (omega (arith, ints, sooner, le)))
+    (λ from. let same : i ≡ t = omega (arith, lt, from) in subst (λ v. retained clock (kept_of ts v) ≡ kept_of ts v) same (here clock le))
+    (below_or_not t i)
+
+-- behind the last tenant
+pub idle_over : (i : ℕ) (until : ℤ) (ts : List TenantState) → length ts ≤ i → IsIdleBelow i until ts → IsIdleUntil until ts
+idle_over i until ts all below t clock le = ⊎_elim
+    (λ before. below t clock before le)
+    (λ from. past_retained ts t clock (omega (arith, all, from)))
+    (below_or_not t i)

@@ -3,25 +3,28 @@ use Rattle.std.proofs.Common.{◌≡◌, ◌≢◌, ◌++◌, ◌+◌, ◌<◌, 
 use Rattle.std.specs.Prelude.{map, max, ◌^◌, ◌≤◌, not, cond, nat_lt, Option}
 use Rattle.std.specs.List.{position, position_or_len}
 use Rattle.std.proofs.lemmas.List.Quantifiers.{position-Some}
+use Rattle.std.specs.Option.{is_some}
 use Rattle.std.specs.Result.{is_err}
 use Rattle.std.specs.List.{AllByRecursion}
 use Rattle.std.proofs.lemmas.Bool.Decides.{nat_tests}
 use Rattle.std.proofs.lemmas.List.{get_or_default, length-map}
-use Rattle.kb_tenant.specs.Hosted.{TenantState}
+use Rattle.kb_tenant.specs.Hosted.{TenantState, AreRetained}
 use Rattle.kb_machine.specs.Session.{Stage, Greets, BoundTo, Session, fresh, shut_down, without_wait, is_free, fed, room, can}
 use Rattle.kb_machine.specs.Machine.{Comes, Moment, Line, first_able, work}
-use Rattle.kb_machine.specs.Owners.{find_line}
+use Rattle.kb_machine.specs.Owners.{find_line, whose}
 use Rattle.kb_machine.specs.Broker.{BrokerState, AreUnready, AnyWait, IsReady, IsSound, IsStep, IsUntaken, is_deaf}
-use Rattle.kb_machine.specs.Turned.{Scope, Of, Everybody, IsStill, AreStill, IsGoing, is_resting, AreUntouched, IsFed, Turned, Served, Waked, IsPassedOver}
-use Rattle.kb_machine.proofs.Sets.{IsAt, all-at, all-map, all-set, all-still, work-set, first-still, still-none}
+use Rattle.kb_machine.specs.declared.whom.Whom.{Whom}
+use Rattle.kb_machine.specs.Turned.{Scope, Of, Everybody, IsStill, AreStill, IsGoing, is_resting, AreUntouched, IsFed, SameOthers, Turned, Served, Waked, IsPassedOver}
+use Rattle.kb_machine.proofs.Quiet.{quiet-turn}
+use Rattle.kb_machine.proofs.Sets.{IsAt, all-at, all-map, all-set, all-still, find-set_other, work-set, first-still, still-none}
 use Rattle.kb_machine.proofs.Parts.{count, turn-then, calm-right, eqb_same}
 use Rattle.kb_machine.proofs.Owned.{found as found-all}
-use Rattle.kb_machine.specs.Calls.{moved}
-use Rattle.kb_machine.proofs.Steps.{sound-moved, moved-unready, step-moment}
-use Rattle.kb_machine.proofs.Turns.{going-then, untouched-then, turned-greeting, served-bound, refused-greeting}
+use Rattle.kb_machine.proofs.Steps.{begun, sound-begun, all-unready, due-unready, step-moment}
+use Rattle.kb_machine.proofs.Wakes.{turned-quiet}
+use Rattle.kb_machine.proofs.Turns.{going-then, turned-same, untouched-then, turned-greeting, served-bound, refused-greeting}
 use Rattle.kb_machine.proofs.Feeds.{still-settled, fed-kept, fed-refused, fed-bound, step-comes, step-nothing, step-shut}
 use Rattle.kb_connection.specs.View.{with_session}
-use Rattle.kb_broker.specs.Places.{numbers, number_at, waits_in, AreFree, IsSpent, IsTakenAt, IsTurnAt, AreIdle, IsNext, IsScoped, IsCountedAt, IsServedAt}
+use Rattle.kb_broker.specs.Places.{numbers, number_at, waits_in, WaitsUntil, AreWaiting, Leaves, IsSpent, IsTakenAt, IsTurnAt, AreIdle, IsNext, IsScoped, IsCountedAt, IsServedAt, IsServedFor, IsQuietAt}
 use Rattle.kb_broker.proofs.Placed.{IsFound, at-read, get-at, find-found, number_at-is}
 
 -- 1. A connection at a place changes
@@ -97,15 +100,38 @@ free-stage (Greets h) e = refl
 free-stage (BoundTo t None) e = refl
 free-stage (BoundTo t (Some w)) e = let no : false ≡ true = e in absurd (cc)
 
-pub able-stage : (s : Session) → can s ≡ true → without_wait s.stage ≡ s.stage
+able-free : (s : Session) → can s ≡ true → is_free s.stage ≡ true
 unfolding can
-able-stage s e = free-stage s.stage (grind (arith, e))
+able-free s e = grind (arith, e)
+
+pub able-stage : (s : Session) → can s ≡ true → without_wait s.stage ≡ s.stage
+able-stage s e = free-stage s.stage (able-free s e)
 
 -- nothing was refused to the connection
 pub served-taken : (scope : Scope) (b : BrokerState) (i : ℕ) (l m : Line) (us : List TenantState) (st : Stage) → AreStill scope b → IsTaken b i l m us → l.session.stage ≡ st → IsTurnAt st b.tenants us → IsTakenAt b.setup b.clock st b.tenants us l.session m.session →
     IsServedAt st scope b (put_with b i m us)
 served-taken scope b i l m us (Greets h) still k s turn is = subst (λ ts. Turned scope b (put_with b i m ts)) (sym turn) (turned-greeting scope b i l m h k.next.sound still k.at (first-at b i l k.next k.at) k.able s k.number is)
 served-taken scope b i l m us (BoundTo t w) still k s turn is = served-bound scope b i t l m w (Unit {0}) us k.next.sound still k.at (first-at b i l k.next k.at) k.able s k.number (k.spent.stage t w s) turn tt (is tt)
+
+-- it made no waiting fetch ready
+quiet-at : (scope : Scope) (b : BrokerState) (i : ℕ) (l m : Line) (us : List TenantState) (st : Stage) → AreUnready AnyWait b → IsTaken b i l m us → l.session.stage ≡ st → IsTurnAt st b.tenants us → IsServedAt st scope b (put_with b i m us) → IsQuietAt b.setup b.clock st b.tenants us l.session m.session → Turned scope b (put_with b i m us)
+quiet-at scope b i l m us (Greets h) unready k s turn served quiet = served
+quiet-at scope b i l m us (BoundTo t w) unready k s turn served quiet =
+    turned-quiet t scope b (put_with b i m us) served
+    (quiet-turn b i t l m us (Unit {0}) turn tt unready k.at (able-free l.session k.able) (ap without_wait s) (k.spent.stage t w s) quiet.session quiet.kept quiet.ready)
+
+pub served-quiet : (scope : Scope) (b : BrokerState) (i : ℕ) (l m : Line) (us : List TenantState) → AreStill scope b → AreUnready AnyWait b → IsTaken b i l m us → IsTakenAt b.setup b.clock l.session.stage b.tenants us l.session m.session →
+    IsQuietAt b.setup b.clock l.session.stage b.tenants us l.session m.session → Turned scope b (put_with b i m us)
+served-quiet scope b i l m us still unready k is quiet = quiet-at scope b i l m us l.session.stage unready k refl k.turn (served-taken scope b i l m us l.session.stage still k refl k.turn is) quiet
+
+-- whose waiting fetches are then looked at
+pub served-for : (st : Stage) (scope : Scope) (b c : BrokerState) → IsServedAt st scope b c → IsServedFor (whose st) scope b c
+served-for (Greets h) scope b c s = s
+served-for (BoundTo t w) scope b c s = s
+
+-- no other connection has changed
+pub others-put : (b : BrokerState) (i : ℕ) (l m : Line) (ls : List Line) → IsAt b.lines i l → m.number ≡ l.number → ls ≡ set b.lines i m → (k : ℕ) → k ≢ number_at i b → find_line k ls ≡ find_line k b.lines
+others-put b i l m ls at n is k ne = ap (find_line k) is ∙ find-set_other k b.lines i l m at n (λ e. ne (e ∙ sym (number_at-is b i l at)))
 
 pub work-taken : (b : BrokerState) (i : ℕ) (l m : Line) (us : List TenantState) → IsTaken b i l m us → work (put_with b i m us).lines < work b.lines
 work-taken b i l m us h = work-put b i l m (set b.lines i m) h.at refl h.spent.less
@@ -130,7 +156,7 @@ shut-at a b c i k l m st e lt read at s is counted =
     let stage : st ≡ without_wait l.session.stage = s ∙ ap (λ (x : Line). without_wait x.session.stage) same in
     record { at = here; is = is; counted = counted-stage l.session.stage (put_at b i m) c (subst (λ x. IsCountedAt x (put_at b i m) c) stage (subst (λ (x : BrokerState). IsCountedAt st (put_at x i m) c) e counted)) }
 
-lines-counted : (st : Stage) (b c : BrokerState) → IsCountedAt st b c → c.lines ≡ b.lines
+pub lines-counted : (st : Stage) (b c : BrokerState) → IsCountedAt st b c → c.lines ≡ b.lines
 lines-counted (Greets h) b c r = ap (λ (x : BrokerState). x.lines) r.is
 lines-counted (BoundTo t w) b c r = ap (λ (x : BrokerState). x.lines) r.is
 
@@ -144,22 +170,34 @@ pub fed-shut : (b c : BrokerState) (i : ℕ) (l m : Line) (piece : List ℕ) →
 fed-shut b c i l m piece ready h =
     subst (λ n. IsFed n piece b c) (sym (number_at-is b i l h.at)) (fed-counted b c i l m piece l.session.stage ready h.at refl (ap (λ (x : Line). x.number) h.is) (ap (λ (x : Line). x.session) h.is) h.counted)
 
--- what waits for nothing does not wait after a piece
-pub free-fed : (piece : List ℕ) (s : Session) → is_free s.stage ≡ true → is_free (fed piece s).stage ≡ true
+-- a piece leaves a wait as it is, or ends it
+until-fed : (due : Option ℕ) (piece : List ℕ) (s : Session) → WaitsUntil due s.stage → WaitsUntil due (fed piece s).stage
 unfolding fed
-free-fed piece s free = by s.shut (nat_lt (room s) (length piece))
+until-fed due piece s until = by s.shut (nat_lt (room s) (length piece))
   where
-    by : (a b : Bool) → is_free (let x : Session = cond a s (cond b (shut_down s) (record s { unread = s.unread ++ piece })) in x).stage ≡ true
-    by true b = free
-    by false true = ap is_free (free-stage s.stage free) ∙ free
-    by false false = free
+    ended : (st : Stage) → WaitsUntil due (without_wait st)
+    ended (Greets h) = tt
+    ended (BoundTo t w) = tt
 
--- a connection at a place that waits no more than the one before
-pub free-put : (may_wait : Bool) (ls : List Line) (i : ℕ) (l m : Line) → IsAt ls i l → AreFree may_wait ls → (is_free l.session.stage ≡ true → is_free m.session.stage ≡ true) → AreFree may_wait (set ls i m)
-free-put may_wait ls i l m at free more = λ e. let all = free e in all-set (λ (k : Line). is_free k.session.stage ≡ true) ls i m all (more (all-at (λ (k : Line). is_free k.session.stage ≡ true) ls i l at all))
+    by : (a b : Bool) → WaitsUntil due (let x : Session = cond a s (cond b (shut_down s) (record s { unread = s.unread ++ piece })) in x).stage
+    by true b = until
+    by false true = ended s.stage
+    by false false = until
 
-pub free-fed-put : (may_wait : Bool) (ls : List Line) (i : ℕ) (l m : Line) (piece : List ℕ) → IsAt ls i l → AreFree may_wait ls → m ≡ with_session l (fed piece l.session) → AreFree may_wait (set ls i m)
-free-fed-put may_wait ls i l m piece at free is = free-put may_wait ls i l m at free (λ f. ap (λ (x : Line). is_free x.session.stage) is ∙ free-fed piece l.session f)
+pub waiting-fed : (due : Option ℕ) (ls : List Line) (i : ℕ) (l m : Line) (piece : List ℕ) → IsAt ls i l → AreWaiting due ls → m ≡ with_session l (fed piece l.session) → AreWaiting due (set ls i m)
+waiting-fed due ls i l m piece at all is =
+    let until = until-fed due piece l.session (all-at (λ (k : Line). WaitsUntil due k.session.stage) ls i l at all) in
+    all-set (λ (k : Line). WaitsUntil due k.session.stage) ls i m all (subst (λ (k : Line). WaitsUntil due k.session.stage) (sym is) until)
+
+-- where there is no moment until which they wait, none waits
+pub none-waiting : (due : Option ℕ) (ls : List Line) → is_some due ≡ false → AreWaiting due ls → AllByRecursion (λ (l : Line). waits_in (Some l.session) ≡ false) ls
+none-waiting (Some t) ls e all = absurd (cc)
+none-waiting None ls e all = all-map (λ (l : Line). WaitsUntil None l.session.stage) (λ (l : Line). waits_in (Some l.session) ≡ false) (λ l. free l.session.stage) ls all
+  where
+    free : (st : Stage) → WaitsUntil None st → not (is_free st) ≡ false
+    free (Greets h) u = refl
+    free (BoundTo t None) u = refl
+    free (BoundTo t (Some w)) u = absurd u
 
 -- the connection is at its place among the broker's own
 pub at-inside : (a b : BrokerState) (i : ℕ) (l : Line) → a ≡ b → IsAt b.lines i l → IsAt a.lines i l
@@ -180,12 +218,8 @@ served-refused scope b c i l m us (BoundTo t w) still k s e turn r =
 pub work-refused : (b c : BrokerState) (i : ℕ) (l m : Line) (us : List TenantState) (st : Stage) → IsTaken b i l m us → IsCountedAt st (put_with b i m us) c → work c.lines < work b.lines
 work-refused b c i l m us st h r = work-put b i l m c.lines h.at (lines-counted st (put_with b i m us) c r) h.spent.less
 
-served-going : (st : Stage) (scope : Scope) (b c : BrokerState) → IsServedAt st scope b c → IsGoing b c
-served-going (Greets h) scope b c r = r.going
-served-going (BoundTo t w) scope b c r = r.going
-
-pub served-sound : (st : Stage) (b c : BrokerState) → IsScoped b → ((scope : Scope) → AreStill scope b → IsServedAt st scope b c) → IsSound c
-served-sound st b c still served = (served-going st still.0 b c (served still.0 still.1)).sound
+pub served-sound : (t : ℕ) (b c : BrokerState) → IsScoped b → ((scope : Scope) → AreStill scope b → IsServedFor (Some t) scope b c) → IsSound c
+served-sound t b c still served = (served still.0 still.1).going.sound
 
 -- 4. Turns until none is left
 
@@ -198,39 +232,15 @@ find-all P n s (l ∷ ls) h e = by (eqb l.number n) refl (find-all P n s ls h.1)
     by true f rest g = let same : l.number ≡ n = eqb_same l.number n f in let is : l.session ≡ s = cc in subst (λ k. P k s) same (subst (P l.number) is h.0)
     by false f rest g = rest g
 
--- a connection that is found here is found there
-find-both : (n : ℕ) (s : Session) (ls ms : List Line) → map (λ (x : Line). x.number) ms ≡ map (λ (x : Line). x.number) ls → find_line n ms ≡ Some s → find_line n ls ≡ None → ⊥
-find-both n s [] [] e f g = absurd (cc)
-find-both n s [] (m ∷ ms) e f g = absurd (cc)
-find-both n s (l ∷ ls) [] e f g = absurd (cc)
-find-both n s (l ∷ ls) (m ∷ ms) e f g =
-    let here : m.number ≡ l.number = cc in
-    let rest : map (λ (x : Line). x.number) ms ≡ map (λ (x : Line). x.number) ls = cc in
-    let same : eqb m.number n ≡ eqb l.number n = ap (λ k. eqb k n) here in
-    by (eqb l.number n) same (find-both n s ls ms rest) g
-  where
-    by : (b : Bool) → eqb m.number n ≡ b → (find_line n ms ≡ Some s → find_line n ls ≡ None → ⊥) → cond b (Some l.session) (find_line n ls) ≡ None → ⊥
-    by true h rest k = absurd (cc)
-    by false h rest k = rest (ap (λ (x : Bool). cond x (Some m.session) (find_line n ms)) (sym h) ∙ f) k
-
 rests : (s : Session) → is_free s.stage ≡ true → can s ≡ false → is_resting (Some s) ≡ true
 rests s free still = grind (arith, free, still)
 
--- where nobody waits and nobody else can take a turn, a turn of that connection lets nobody else take one
-idle-by : (n k : ℕ) (s : Session) (old : Option Session) (a : BrokerState) → find_line k a.lines ≡ old → (old ≡ None → ⊥) → AllByRecursion (λ (l : Line). is_free l.session.stage ≡ true) a.lines → AreIdle n a → (is_resting old ≡ true → Some s ≡ old) → k ≢ n → can s ≡ false
-idle-by n k s None a e some free idle same ne = absurd (some refl)
-idle-by n k s (Some old) a e some free idle same ne =
-    let f : is_free old.stage ≡ true = find-all (λ j (x : Session). is_free x.stage ≡ true) k old a.lines free e in
-    let c : can old ≡ false = find-all (λ j (x : Session). j ≢ n → can x ≡ false) k old a.lines idle e ne in
-    let is : Some s ≡ Some old = same (rests old f c) in
-    let eq : s ≡ old = cc in
-    ap can eq ∙ c
-
-pub idle-turned : (n : ℕ) (a b : BrokerState) → IsGoing a b → AreUntouched a b → AllByRecursion (λ (l : Line). is_free l.session.stage ≡ true) a.lines → AreIdle n a → AreIdle n b
-idle-turned n a b g untouched free idle =
+-- where no other connection has changed, no other can take a turn
+pub idle-others : (n : ℕ) (a b : BrokerState) → IsSound b → SameOthers n a b → AreIdle n a → AreIdle n b
+idle-others n a b sound same idle =
     all-map (λ l. find_line l.number b.lines ≡ Some l.session) (λ l. l.number ≢ n → can l.session ≡ false)
-    (λ l f ne. idle-by n l.number l.session (find_line l.number a.lines) a refl (find-both l.number l.session a.lines b.lines g.numbers f) free idle (λ r. sym f ∙ untouched l.number r) ne)
-    b.lines (found-all 0 b.last b.lines g.sound.rising)
+    (λ l f ne. find-all (λ j (x : Session). j ≢ n → can x ≡ false) l.number l.session a.lines idle (sym (same l.number ne) ∙ f) ne)
+    b.lines (found-all 0 b.last b.lines sound.rising)
 
 pub idle-still : (n : ℕ) (b : BrokerState) → AreIdle n b → AreStill (Of n) b
 idle-still n b idle = all-map (λ (l : Line). l.number ≢ n → can l.session ≡ false) (IsStill (Of n) b) (λ l h c. inl (by l.number l.session h c (eqb l.number n) refl)) b.lines idle
@@ -257,21 +267,10 @@ idle-settled b i l sound at idle stuck = still-none 0 b.last b.lines i l sound.r
 
 -- after a piece came, the connection that it came on alone can take a turn
 pub idle-fed : (n : ℕ) (piece : List ℕ) (a b : BrokerState) → IsReady a → IsFed n piece a b → AreIdle n b
-idle-fed n piece a b ready given =
-    all-map (λ l. find_line l.number b.lines ≡ Some l.session) (λ l. l.number ≢ n → can l.session ≡ false)
-    (λ l f ne. find-all (λ j (x : Session). can x ≡ false) l.number l.session a.lines (all-still a.lines ready.settled) (sym (given.others l.number ne) ∙ f))
-    b.lines (found-all 0 b.last b.lines given.going.sound.rising)
+idle-fed n piece a b ready given = idle-others n a b given.going.sound given.others (all-map (λ (l : Line). can l.session ≡ false) (λ (l : Line). l.number ≢ n → can l.session ≡ false) (λ l still ne. still) a.lines (all-still a.lines ready.settled))
 
-length-numbers : (a b : BrokerState) → numbers b ≡ numbers a → length b.lines ≡ length a.lines
+pub length-numbers : (a b : BrokerState) → numbers b ≡ numbers a → length b.lines ≡ length a.lines
 length-numbers a b e = sym (length-map b.lines (λ (x : Line). x.number)) ∙ (ap length e ∙ length-map a.lines (λ (x : Line). x.number))
-
--- the code's word for it
-pub none-waits : (ls : List Line) → AllByRecursion (λ (l : Line). waits_in (Some l.session) ≡ false) ls → AllByRecursion (λ (l : Line). is_free l.session.stage ≡ true) ls
-none-waits ls h = all-map (λ (l : Line). waits_in (Some l.session) ≡ false) (λ (l : Line). is_free l.session.stage ≡ true) (λ l f. by (is_free l.session.stage) f) ls h
-  where
-    by : (b : Bool) → not b ≡ false → b ≡ true
-    by true e = refl
-    by false e = absurd (cc)
 
 pub within-going : (a b : BrokerState) (i : ℕ) → IsGoing a b → i < length a.lines → i < length b.lines
 within-going a b i g lt = let h = length-numbers a b g.numbers in omega arith
@@ -369,35 +368,80 @@ others-taken a b c i n l piece ready f fed turned k ne free =
 
 -- 6. A moment
 
--- the clock moved
-pub moved-is : (a b : BrokerState) (now clock : ℕ) → a ≡ b → clock ≡ max a.clock now → record a { clock = clock } ≡ moved b now
-moved-is a b now clock e is = ap (λ (n : ℕ). record a { clock = n }) is ∙ ap (λ (x : BrokerState). moved x now) e
+-- the clock moved, and then retention left this
+pub record HasBegun (now : ℕ) (whom : Whom) (a s : BrokerState) : Type 0 where
+  pub is : s ≡ begun a now s.tenants
+  pub retained : AreRetained (max a.clock now) (Unit {0}) a.tenants s.tenants
+  pub leaves : Leaves whom a.tenants s.tenants
 
-pub sound-then : (b : BrokerState) (now : ℕ) → IsReady b → now ≤ 2 ^ 62 → IsSound (moved b now)
-sound-then b now ready le = sound-moved b now ready.sound (let h = ready.sound.clock in grind (arith, h, le))
+pub has-begun : (now clock : ℕ) (whom : Whom) (a b s : BrokerState) → a ≡ b → clock ≡ max a.clock now → AreRetained clock (Unit {0}) a.tenants s.tenants → s ≡ record a { clock = clock; tenants = s.tenants } → Leaves whom a.tenants s.tenants → HasBegun now whom b s
+has-begun now clock whom a b s e is retained rest leaves =
+    subst (λ (x : BrokerState). HasBegun now whom x s) e
+    (record {
+      is = rest ∙ ap (λ n. record a { clock = n; tenants = s.tenants }) is;
+      retained = subst (λ n. AreRetained n (Unit {0}) a.tenants s.tenants) is retained;
+      leaves = leaves;
+    })
 
-pub waked-scoped : (a b : BrokerState) (now : ℕ) → IsReady a → Waked None (moved a now) b → IsScoped b
-waked-scoped a b now ready waked = (Everybody, waked.still Everybody (λ t h. tt) (still-settled Everybody (moved a now) ready.settled))
+pub in-time : (b : BrokerState) (now : ℕ) → IsReady b → now ≤ 2 ^ 62 → max b.clock now ≤ 2 ^ 62
+in-time b now ready le = let h = ready.sound.clock in grind (arith, h, le)
 
--- the waiting fetches were looked at, and then there were turns until none was left
-pub record IsMoved (now : ℕ) (a b c : BrokerState) : Type 0 where
+pub sound-after : (now : ℕ) (whom : Whom) (a s : BrokerState) → IsReady a → now ≤ 2 ^ 62 → HasBegun now whom a s → IsSound s
+sound-after now whom a s ready le h = subst IsSound (sym h.is) (sound-begun a now (max a.clock now) (Unit {0}) s.tenants ready.sound h.retained (in-time a now ready le))
+
+-- what can be ready after it is looked at
+begun-unready : (whom : Whom) (a : BrokerState) (now : ℕ) (ts : List TenantState) → AreUnready AnyWait a → Leaves whom a.tenants ts → AreUnready (IsPassedOver whom (max a.clock now)) (begun a now ts)
+begun-unready whom a now ts u (inl all) = subst (λ w. AreUnready (IsPassedOver w (max a.clock now)) (begun a now ts)) (sym all) (all-unready (begun a now ts) (max a.clock now))
+begun-unready whom a now ts u (inr due) = subst (λ w. AreUnready (IsPassedOver w (max a.clock now)) (begun a now ts)) (sym due.0) (due-unready a now ts due.1 u)
+
+pub unready-over : (now : ℕ) (whom : Whom) (a s : BrokerState) → IsReady a → HasBegun now whom a s → AreUnready (IsPassedOver whom s.clock) s
+unready-over now whom a s ready h = subst (λ (x : BrokerState). AreUnready (IsPassedOver whom x.clock) x) (sym h.is) (begun-unready whom a now s.tenants ready.unready h.leaves)
+
+-- then waiting fetches were looked at, and then there were turns until none was left
+pub record IsMoved (now : ℕ) (whom : Whom) (a s b c : BrokerState) : Type 0 where
   pub ready : IsReady a
-  pub waked : Waked None (moved a now) b
-  pub rest : AreUnready (IsPassedOver None (max a.clock now)) (moved a now) → AreUnready AnyWait b
+  pub begun : HasBegun now whom a s
+  pub waked : Waked whom s b
+  pub rest : AreUnready (IsPassedOver whom s.clock) s → AreUnready AnyWait b
   pub turned : (scope : Scope) → AreStill scope b → Turned scope b c
   pub none : first_able c.lines ≡ None
 
-moved-turned : (now : ℕ) (a b c : BrokerState) → IsMoved now a b c → Turned Everybody b c
-moved-turned now a b c m = m.turned Everybody (m.waked.still Everybody (λ t h. tt) (still-settled Everybody (moved a now) m.ready.settled))
+module _ (now : ℕ) (whom : Whom) (a s b : BrokerState) (ready : IsReady a) (h : HasBegun now whom a s) (waked : Waked whom s b) where
+  waked-begun : Waked whom (begun a now s.tenants) b
+  waked-begun = subst (λ x. Waked whom x b) h.is waked
 
-pub moved-going : (now : ℕ) (a b c : BrokerState) → IsMoved now a b c → IsGoing (moved a now) c
-moved-going now a b c m = going-then (moved a now) b c m.waked.going (moved-turned now a b c m).going
+  pub waked-still : AreStill Everybody b
+  waked-still = waked-begun.still Everybody (λ t h. tt) (still-settled Everybody (begun a now s.tenants) ready.settled)
 
-pub moved-step : (now : ℕ) (a b c : BrokerState) → IsMoved now a b c → IsStep (Moment now) a c
-moved-step now a b c m = step-moment now a b c m.ready m.waked (m.rest (moved-unready a now m.ready.unready)) (moved-turned now a b c m) m.none
+module _ (now : ℕ) (whom : Whom) (a s b c : BrokerState) (m : IsMoved now whom a s b c) where
+  waked : Waked whom (begun a now s.tenants) b
+  waked = waked-begun now whom a s b m.ready m.begun m.waked
 
-pub moved-ready : (now : ℕ) (a b c : BrokerState) → IsMoved now a b c → IsReady c
-moved-ready now a b c m = record { sound = (moved-going now a b c m).sound; settled = m.none; unready = (moved-turned now a b c m).unready (m.rest (moved-unready a now m.ready.unready)) }
+  turned : Turned Everybody b c
+  turned = m.turned Everybody (waked-still now whom a s b m.ready m.begun m.waked)
 
-pub moved-others : (now : ℕ) (a b c : BrokerState) → IsMoved now a b c → (k : ℕ) → waits_in (find_line k a.lines) ≡ false → find_line k c.lines ≡ find_line k a.lines
-moved-others now a b c m k free = untouched-then (moved a now) b c m.waked.untouched (moved-turned now a b c m).untouched k (resting-free k a a m.ready free)
+  unready : AreUnready AnyWait b
+  unready = m.rest (unready-over now whom a s m.ready m.begun)
+
+  pub moved-going : IsGoing (begun a now s.tenants) c
+  moved-going = going-then (begun a now s.tenants) b c waked.going turned.going
+
+  pub moved-step : IsStep (Moment now) a c
+  moved-step = step-moment now whom a b c s.tenants m.begun.retained waked unready turned m.none
+
+  pub moved-ready : IsReady c
+  moved-ready = record { sound = moved-going.sound; settled = m.none; unready = turned.unready unready }
+
+  pub moved-others : (k : ℕ) → waits_in (find_line k a.lines) ≡ false → find_line k c.lines ≡ find_line k a.lines
+  moved-others k free = untouched-then (begun a now s.tenants) b c waked.untouched turned.untouched k (resting-free k a a m.ready free)
+
+-- where nothing was looked at there are no turns
+pub moved-idle : (now : ℕ) (whom : Whom) (a s b : BrokerState) → IsReady a → HasBegun now whom a s → Waked whom s b → (AreUnready (IsPassedOver whom s.clock) s → AreUnready AnyWait b) → b ≡ s → IsMoved now whom a s b b
+moved-idle now whom a s b ready h waked rest same = record {
+  ready = ready;
+  begun = h;
+  waked = waked;
+  rest = rest;
+  turned = λ scope still. turned-same scope b waked.going.sound still;
+  none = ap (λ (x : BrokerState). first_able x.lines) (same ∙ h.is) ∙ ready.settled;
+}

@@ -1,5 +1,5 @@
 -- What a tenant's call is to the connection that it is for.
-use Rattle.std.proofs.Common.{◌≡◌, ◌≤◌, false, Option, Some, inr, ℕ, ℤ, List, length, Bool, true, Result, Ok, Err, OnOk, OnErr, refl, sym, ap, subst, ◌∙◌, arith}
+use Rattle.std.proofs.Common.{◌≡◌, ◌≤◌, [], false, Option, Some, inr, ℕ, ℤ, List, length, Bool, true, Result, Ok, Err, OnOk, OnErr, refl, sym, ap, subst, ◌∙◌, arith}
 use Rattle.kb_world.specs.Parts.{END}
 use Rattle.kb_world.specs.Steps.{IsCalm}
 use Rattle.kb_world.specs.declared.place.Place.{Place}
@@ -17,11 +17,16 @@ use Rattle.kb_machine.proofs.Laws.{can-turn, some-left, greeted-less, served-les
 use Rattle.kb_machine.proofs.Owners.{stage-served, stage-shut}
 use Rattle.kb_connection.specs.Fronts.{IsOwn, IsAsked}
 use Rattle.kb_connection.specs.View.{with_session, without_front}
-use Rattle.kb_broker.specs.Places.{IsSpent, IsLookedAt}
+use Rattle.kb_log.specs.ListLog.{list_log}
+use Rattle.kb_tenants.proofs.Tied.{kept_tied}
+use Rattle.kb_machine.proofs.Quiet.{quiet-ready}
+use Rattle.kb_broker.specs.Hosts.{Hosts, AreHosted, memory, tenants_in}
+use Rattle.kb_broker.specs.Places.{IsQuiet, IsSpent, IsLookedAt}
 use Rattle.kb_broker.proofs.Handled.{from_ok}
 use Rattle.std.proofs.Common.{eqb}
-use Rattle.std.specs.Prelude.{nat_lt, ◌&&◌}
+use Rattle.std.specs.Prelude.{nat_lt, ◌&&◌, ◌∷◌, not}
 use Rattle.std.specs.Result.{is_err}
+use Rattle.kb_machine.specs.declared.whom.Whom.{Whom}
 use Rattle.kb_machine.specs.Turned.{IsLookedFor}
 use Rattle.kb_machine.specs.Broker.{BrokerState, IsUnready, AnyWait}
 use Rattle.kb_machine.proofs.Turns.{shut-unready}
@@ -33,22 +38,36 @@ use Rattle.kb_machine.proofs.Parts.{turn-then, calm-right}
 
 -- what is answered, and kept
 pub answered-now : (node : Node) (k l : Kept) (clock : ℕ) (id key : ℤ) (body : List ℕ) (touched : List Place) (r : Answer) → IsOutcome id (served node (world_at k clock) key body) (world_at l clock) touched r
-    → IsAnswer id (answer node k clock key body) r × (l ≡ kept_after node k clock key body)
+    → (l ≡ kept_after node k clock key body) × IsAnswer id (answer node k clock key body) r
 unfolding answer kept_after
-answered-now node k l clock id key body touched r h = (h.2, ap kept_in h.0)
+answered-now node k l clock id key body touched r h = (ap kept_in h.0, h.2)
 
 -- what stands in front was asked, and answered so: the connection is the machine's
-pub met-asked : {A E : Type 0} (result : Result A E) (setup : Setup) (clock t : ℕ) (ts us : List TenantState) (l new : Line) (key id : ℤ) (body : List ℕ) (touched : List Place) (r : Answer) → IsAsked l.session key id body
-    → IsMet t (Unit {0}) ts us (λ k m. IsOutcome id (served setup.node (world_at k clock) key body) (world_at m clock) touched r)
-    → ((key' id' : ℤ) (body' : List ℕ) (reaction : Reaction) → IsAsked l.session key' id' body' → IsAnswer id' reaction r → OnOk result (new ≡ with_session l (answered reaction id' body' (without_front l.session))))
-    → OnOk result (IsMet t (Unit {0}) ts us (λ k m. (new.session ≡ served_by_turn setup k clock l.session) × (m ≡ put setup k clock l.session.unread)))
-met-asked (Err x) setup clock t ts us l new key id body touched r asked meets ok = tt
-met-asked (Ok x) setup clock t ts us l new key id body touched r asked meets ok = λ honest calm.
-    let k = kept_of ts t in
-    let m = kept_of us t in
-    let done = answered-now setup.node k m clock id key body touched r (meets honest calm) in
-    let is = ok key id body (answer setup.node k clock key body) asked done.0 in
-    (ap (λ (x : Line). x.session) is ∙ sym (asked.served setup k clock), done.1 ∙ sym (asked.put setup k clock))
+pub asked-now : (setup : Setup) (clock : ℕ) (k m : Kept) (l new : Line) (key id : ℤ) (body : List ℕ) (r : Answer) → IsAsked l.session key id body → m ≡ kept_after setup.node k clock key body → IsAnswer id (answer setup.node k clock key body) r
+    → ((key' id' : ℤ) (body' : List ℕ) (reaction : Reaction) → IsAsked l.session key' id' body' → IsAnswer id' reaction r → new ≡ with_session l (answered reaction id' body' (without_front l.session)))
+    → (new.session ≡ served_by_turn setup k clock l.session) × (m ≡ put setup k clock l.session.unread)
+asked-now setup clock k m l new key id body r asked kept told ok =
+    let is = ok key id body (answer setup.node k clock key body) asked told in
+    (ap (λ (x : Line). x.session) is ∙ sym (asked.served setup k clock), kept ∙ sym (asked.put setup k clock))
+
+-- the code's word for it
+pub calm-of : (x y before after : ℕ) (calm : Bool) → before ≡ x → after ≡ y → after ≡ before → calm ≡ nat_lt before END → calm ≡ true → IsCalm x y
+calm-of x y before after calm p q same is up = record { same = sym q ∙ (same ∙ p); below = (let lt : nat_lt before END ≡ true = sym is ∙ up in grind (arith, nat_tests, lt, p)) }
+
+pub same-by : (before after : ℕ) (calm : Bool) → calm ≡ eqb after before → calm ≡ true → after ≡ before
+same-by before after calm is up = let same : eqb after before ≡ true = sym is ∙ up in grind (arith, nat_tests, same)
+
+pub none-by : {A : Type 0} (xs : List A) (result empty : Bool) → result ≡ not empty → empty ≡ eqb (length xs) 0 → result ≡ false → xs ≡ []
+none-by [] result empty e is down = refl
+none-by (x ∷ xs) result empty e is down = absurd (grind (arith, nat_tests, e, is, down))
+
+-- where nothing was refused and no partition was touched, no waiting fetch became ready
+pub quiet-now : (node : Node) (hosts : Hosts) (us : List TenantState) (clock t : ℕ) (id key : ℤ) (body : List ℕ) (touched : List Place) (r : Answer) → AreHosted hosts
+    → IsMet t (Unit {0}) (tenants_in hosts) us (λ k l. IsOutcome id (served node (world_at k clock) key body) (world_at l clock) touched r)
+    → IsCalm (refusals_of (tenants_in hosts) t) (refusals_of us t) → touched ≡ [] → IsQuiet t clock (tenants_in hosts) us
+quiet-now node hosts us clock t id key body touched r kept meets calm none =
+    let h = meets tt calm in
+    record { calm = calm; ready = λ w. quiet-ready node (kept_of (tenants_in hosts) t) (kept_of us t) clock key body w (kept_tied list_log memory hosts kept t clock) h.0 (sym h.1 ∙ none) }
 
 -- 2. What a turn leaves of a connection in any case
 
@@ -104,7 +123,7 @@ met-looked (Ok x) clock t ts us l new w r stage meets ok calm =
     ap (λ (x : Line). x.session) is ∙ sym (ap (woken_by k clock l.session) stage)
 
 -- a look that was not refused is told by its answer, and one that was shuts the connection
-pub looked-ok : {A E : Type 0} (result : Result A E) (whom : Option ℕ) (clock t : ℕ) (ts us : List TenantState) (l new : Line) (w : Wait) (r : Answer) → l.session.stage ≡ BoundTo t (Some w) → IsLookedFor whom clock t w → IsTurn t (Unit {0}) ts us
+pub looked-ok : {A E : Type 0} (result : Result A E) (whom : Whom) (clock t : ℕ) (ts us : List TenantState) (l new : Line) (w : Wait) (r : Answer) → l.session.stage ≡ BoundTo t (Some w) → IsLookedFor whom clock t w → IsTurn t (Unit {0}) ts us
     → ((u : ℕ) → kept_of us u ≡ kept_of ts u) → IsMet t (Unit {0}) ts us (λ k m. (m ≡ k) × IsAnswer w.correlation_id (looked (world_at k clock) w.deadline w.body) r) → ((IsCalm (refusals_of ts t) (refusals_of us t) → ⊥) → r ≡ answers.Shut)
     → ((id : ℤ) (reaction : Reaction) → IsAnswer id reaction r → OnOk result (new ≡ with_session l (told reaction id l.session)))
     → new.number ≡ l.number → without_wait new.session.stage ≡ without_wait l.session.stage → length new.session.unread ≤ length l.session.unread → is_err result ≡ false → IsLookedAt whom clock l.session.stage ts us l new
@@ -137,7 +156,7 @@ looked-ok result whom clock t ts us l new w r stage yours turn stays meets shut 
     calm-or x y calm loud = by x y (eqb y x && nat_lt x END) refl calm loud
 
 -- the reply could not be kept: the connection is shut, and a refusal was counted
-pub looked-err : (whom : Option ℕ) (clock t : ℕ) (ts us vs : List TenantState) (l new : Line) (w : Wait) → l.session.stage ≡ BoundTo t (Some w) → IsLookedFor whom clock t w → IsTurn t (Unit {0}) ts us → IsTurn t (Unit {0}) us vs
+pub looked-err : (whom : Whom) (clock t : ℕ) (ts us vs : List TenantState) (l new : Line) (w : Wait) → l.session.stage ≡ BoundTo t (Some w) → IsLookedFor whom clock t w → IsTurn t (Unit {0}) ts us → IsTurn t (Unit {0}) us vs
     → ((u : ℕ) → kept_of us u ≡ kept_of ts u) → ((u : ℕ) → kept_of vs u ≡ kept_of us u) → (IsCalm (refusals_of us t) (refusals_of vs t) → ⊥) → new ≡ with_session l (shut_down l.session)
     → new.number ≡ l.number → without_wait new.session.stage ≡ without_wait l.session.stage → length new.session.unread ≤ length l.session.unread → IsLookedAt whom clock l.session.stage ts vs l new
 looked-err whom clock t ts us vs l new w stage yours first then stays again counted is number same unread =

@@ -1,15 +1,18 @@
 -- A connection's place in the broker, its turns there, and the count of a refusal.
-use Rattle.std.specs.Prelude.{◌≡◌, ◌≢◌, ℕ, ◌<◌, ◌≤◌, List, length, take, map, get_or, Option, Some, None, Bool, true, false, not, ◌⊎◌}
+use Rattle.std.specs.Prelude.{◌≡◌, ◌≢◌, ℕ, ◌<◌, ◌≤◌, List, length, take, map, get_or, Option, Some, None, Bool, true, false, not, min, ◌⊎◌, ⊤}
 use Rattle.std.specs.List.{AllByRecursion}
 use Rattle.kb_world.specs.Steps.{IsCalm}
 use Rattle.kb_tenant.specs.Hosted as hosted
 use Rattle.kb_tenant.specs.Hosted.{TenantState, IsTurn, IsMet}
-use Rattle.kb_machine.specs.Tenant.{Wait}
+use Rattle.kb_tenant.specs.Replies.{Silent}
+use Rattle.kb_machine.specs.Tenant.{Wait, ready}
 use Rattle.kb_machine.specs.Session.{Stage, Greets, BoundTo, Session, without_wait, is_free, can}
 use Rattle.kb_machine.specs.Greeting.{Setup, greeted}
 use Rattle.kb_machine.specs.Machine.{Line, served, put, woken, first_able, work}
 use Rattle.kb_machine.specs.Broker.{BrokerState, IsSound, IsUnready, AreUnready, AnyWait, refusals_of}
 use Rattle.kb_machine.specs.Calls.{IsRefused}
+use Rattle.kb_machine.specs.declared.whom.Whom.{Whom}
+use Rattle.kb_machine.specs.declared.whom.Whom.TheVariants as whoms
 use Rattle.kb_machine.specs.Turned.{Scope, AreStill, Turned, Served, Waked, IsLookedFor, IsPassedOver}
 
 -- the numbers of the open connections, in order
@@ -25,9 +28,35 @@ abbrev pub waits_in : Option Session → Bool
 waits_in None = false
 waits_in (Some s) = not (is_free s.stage)
 
--- of these connections none waits, unless some may
-abbrev pub AreFree : Bool → List Line → Type 0
-AreFree may_wait lines = may_wait ≡ false → AllByRecursion (λ (l : Line). is_free l.session.stage ≡ true) lines
+-- a connection at that stage waits for nothing, or at least until then
+abbrev pub WaitsUntil : Option ℕ → Stage → Type 0
+WaitsUntil due (Greets handshaken) = ⊤
+WaitsUntil due (BoundTo tenant None) = ⊤
+WaitsUntil None (BoundTo tenant (Some wait)) = ⊥
+WaitsUntil (Some due) (BoundTo tenant (Some wait)) = due ≤ wait.deadline
+
+-- each of these connections that waits does so at least until then; where there is no such moment none waits
+abbrev pub AreWaiting : Option ℕ → List Line → Type 0
+AreWaiting due lines = AllByRecursion (λ (l : Line). WaitsUntil due l.session.stage) lines
+
+-- the sooner of two moments, where there are any
+abbrev pub sooner : Option ℕ → Option ℕ → Option ℕ
+sooner (Some x) (Some y) = Some (min x y)
+sooner (Some x) None = Some x
+sooner None due = due
+
+-- a connection at that stage waits for nothing that is looked for
+abbrev pub IsPassed : Whom → ℕ → Stage → Type 0
+IsPassed whom clock (Greets handshaken) = ⊤
+IsPassed whom clock (BoundTo tenant None) = ⊤
+IsPassed whom clock (BoundTo tenant (Some wait)) = IsPassedOver whom clock tenant wait
+
+abbrev pub ArePassed : Whom → BrokerState → Type 0
+ArePassed whom b = AllByRecursion (λ (l : Line). IsPassed whom b.clock l.session.stage) b.lines
+
+-- after retention all waits are looked at, or those that are due, where nobody's batches went
+abbrev pub Leaves : Whom → List TenantState → List TenantState → Type 0
+Leaves whom old new = (whom ≡ whoms.All) ⊎ ((whom ≡ whoms.Due) × ((t : ℕ) → hosted.kept_of new t ≡ hosted.kept_of old t))
 
 -- no connection but that one can take a turn
 abbrev pub AreIdle : ℕ → BrokerState → Type 0
@@ -53,6 +82,22 @@ abbrev pub IsTakenAt : Setup → ℕ → Stage → List TenantState → List Ten
 IsTakenAt setup clock (Greets handshaken) old new s r = r ≡ greeted setup handshaken s
 IsTakenAt setup clock (BoundTo tenant wait) old new s r = IsMet tenant (Unit {0}) old new (λ k l. (r ≡ served setup k clock s) × (l ≡ put setup k clock s.unread))
 
+-- nothing was refused to a tenant, and each of its fetches that was not ready is not ready
+pub record IsQuiet (t clock : ℕ) (old new : List TenantState) : Type 0 where
+  pub calm : IsCalm (hosted.refusals_of old t) (hosted.refusals_of new t)
+  pub ready : (w : Wait) → ready (hosted.kept_of old t) clock w ≡ Silent → ready (hosted.kept_of new t) clock w ≡ Silent
+
+-- the turn of a connection bound to that tenant, of whose session s it leaves r, was not refused, and makes no waiting fetch ready
+pub record IsQuietTurn (setup : Setup) (t clock : ℕ) (old new : List TenantState) (s r : Session) : Type 0 where
+  pub session : r ≡ served setup (hosted.kept_of old t) clock s
+  pub kept : hosted.kept_of new t ≡ put setup (hosted.kept_of old t) clock s.unread
+  pub ready : (w : Wait) → ready (hosted.kept_of old t) clock w ≡ Silent → ready (hosted.kept_of new t) clock w ≡ Silent
+
+-- the same at any stage: a greeting one changes nothing that a tenant keeps
+abbrev pub IsQuietAt : Setup → ℕ → Stage → List TenantState → List TenantState → Session → Session → Type 0
+IsQuietAt setup clock (Greets handshaken) old new s r = ⊤
+IsQuietAt setup clock (BoundTo tenant wait) old new s r = IsQuietTurn setup tenant clock old new s r
+
 -- what a turn leaves of a session s in any case: fewer unread bytes, and a bound connection stays bound
 pub record IsSpent (s r : Session) : Type 0 where
   pub less : length r.unread < length s.unread
@@ -69,6 +114,11 @@ pub record IsCountedFor (t : ℕ) (old new : BrokerState) : Type 0 where
 abbrev pub IsCountedAt : Stage → BrokerState → BrokerState → Type 0
 IsCountedAt (Greets handshaken) old new = IsRefused old new
 IsCountedAt (BoundTo tenant wait) old new = IsCountedFor tenant old new
+
+-- a turn after which nobody's waiting fetches have to be looked at again, or before those of a tenant are
+abbrev pub IsServedFor : Option ℕ → Scope → BrokerState → BrokerState → Type 0
+IsServedFor None scope old new = Turned scope old new
+IsServedFor (Some tenant) scope old new = Served tenant scope old new
 
 -- the turn of a connection at that stage, before its tenant's waiting fetches are looked at again
 abbrev pub IsServedAt : Stage → Scope → BrokerState → BrokerState → Type 0
@@ -90,16 +140,16 @@ abbrev pub IsPassedBy : List TenantState → List TenantState → Line → Line 
 IsPassedBy old new l m = (new ≡ old) × (m ≡ l)
 
 -- a connection at that stage was looked at, if it waits for a fetch that is looked for
-abbrev pub IsLookedAt : Option ℕ → ℕ → Stage → List TenantState → List TenantState → Line → Line → Type 0
+abbrev pub IsLookedAt : Whom → ℕ → Stage → List TenantState → List TenantState → Line → Line → Type 0
 IsLookedAt whom clock (Greets handshaken) old new l m = IsPassedBy old new l m
 IsLookedAt whom clock (BoundTo t None) old new l m = IsPassedBy old new l m
 IsLookedAt whom clock (BoundTo t (Some w)) old new l m = (IsPassedOver whom clock t w × IsPassedBy old new l m) ⊎ (IsLookedFor whom clock t w × IsLooked t clock old new l m)
 
--- the connections before a place were looked at, those behind it are as they were, and of those before it none waits unless some may
-pub record AreWaked (whom : Option ℕ) (old new : BrokerState) (i : ℕ) (may_wait : Bool) : Type 0 where
+-- the connections before a place were looked at, those behind it are as they were, and those before it wait at least until then
+pub record AreWaked (whom : Whom) (old new : BrokerState) (i : ℕ) (next_due : Option ℕ) : Type 0 where
   pub waked : Waked whom old new
   pub looked : AllByRecursion (λ (l : Line). IsUnready (IsLookedFor whom old.clock) new l.session.stage) (take i new.lines)
   pub rest : AreUnready (IsPassedOver whom old.clock) old → AllByRecursion (λ (l : Line). IsUnready AnyWait new l.session.stage) (take i new.lines)
   pub over : AreUnready (IsPassedOver whom old.clock) old → AreUnready (IsPassedOver whom old.clock) new
-  pub free : AreFree may_wait (take i new.lines)
+  pub waits : AreWaiting next_due (take i new.lines)
   pub work : work new.lines ≤ work old.lines

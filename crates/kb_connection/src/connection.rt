@@ -1,6 +1,6 @@
 //! One connection: its unread bytes, its untaken output, and how far it is.
 
-ghost use Rattle.std.specs.Prelude.{◌≡◌, ◌<◌, ◌≤◌, ◌^◌, ◌++◌, ℕ, ℤ, List, length, true, false, option_map, IfOk, IfSome, IfNone, OnOk, OnErr};
+ghost use Rattle.std.specs.Prelude.{◌≡◌, ◌<◌, ◌≤◌, ◌^◌, ◌++◌, ℕ, ℤ, List, length, true, false, option_map, IfOk, IfSome, IfNone, OnOk, OnErr, ◌⊎◌};
 ghost use Rattle.kb_api_group.specs.Frames.{front};
 ghost use Rattle.kb_tenant.specs.Hosted.{Kept};
 ghost use Rattle.kb_tenant.specs.Replies.{Reaction as Reacts, IsAnswer, framed, reply_size};
@@ -9,6 +9,7 @@ ghost use Rattle.kb_machine.specs.Session.{Session, Greets, BoundTo, fresh, room
 ghost use Rattle.kb_machine.specs.Greeting.{Setup, greeted, greeted_by};
 ghost use Rattle.kb_machine.specs.Machine.{answered, served, served_by, told};
 ghost use Rattle.kb_machine.specs.Calls.{without_output};
+ghost use Rattle.kb_machine.specs.Owners.{whose};
 ghost use Rattle.kb_connection.specs.TenantAnswers.{given, is_quiet, wait_for, parked};
 ghost use Rattle.kb_connection.specs.Fronts.{IsOwn, IsAsked, is_tenants, is_tenants_at, asked_at};
 ghost use Rattle.kb_connection.specs.View.{stage_of, wait_of, with_session, without_front, IsLimited};
@@ -38,6 +39,18 @@ pub enum Phase {
     Greets(bool),
     /// It is bound to a tenant, whose place this is.
     Bound(usize),
+}
+
+impl Phase {
+    /// The tenant that it is bound to.
+    pub fn tenant(self) -> Option<usize>
+        ensures { result ≡ whose (stage_of self) }
+    {
+        match self {
+            Phase::Greets(_) => None,
+            Phase::Bound(tenant) => Some(tenant),
+        }
+    }
 }
 
 /// A fetch that waits for its answer.
@@ -285,6 +298,7 @@ impl Connection {
         // whatever the answer is, also where a refusal spoiled it
         ensures number { self.new.number ≡ self.old.number }
         ensures stage { without_wait self.new.session.stage ≡ without_wait self.old.session.stage }
+        ensures waits { (self.new.session.stage ≡ self.old.session.stage) ⊎ (self.new.session.stage ≡ without_wait self.old.session.stage) }
         ensures same { is_quiet answer ≡ true → self.new ≡ self.old }
         ensures unread { length self.new.session.unread ≤ length self.old.session.unread }
     {

@@ -3,6 +3,7 @@ pub mod Laws
 pub mod Owned
 pub mod Owners
 pub mod Parts
+pub mod Quiet
 pub mod Ranges
 pub mod Runs
 pub mod Sets

@@ -6,28 +6,25 @@ use Rattle.std.proofs.lemmas.Bool.Decides.{nat_tests}
 use Rattle.kb_api_group.specs.Frames.{front}
 use Rattle.kb_wire.specs.Codec.{int}
 use Rattle.kb_world.specs.Steps.{IsCalm}
-use Rattle.kb_tenant.specs.Hosted.{Kept, world_at}
-use Rattle.std.specs.Prelude.{Option, Some, Result, Ok, Err}
-use Rattle.kb_wire.specs.Codec.{whole}
-use Rattle.kb_wire.specs.declared.fault.WireFault.{WireFault}
-use Rattle.kb_api_data.specs.Layouts.{fetch_request, fetch_reply}
-use Rattle.kb_api_data.specs.declared.fetch.FetchRequest.{FetchRequest}
-use Rattle.kb_api_data.specs.declared.fetch.FetchReply.{FetchReply}
-use Rattle.kb_tenant.specs.Fetch.{fetch_answer}
-use Rattle.kb_tenant.specs.Replies.{Replies, Silent}
-use Rattle.kb_tenant.specs.Serve.{looked, looked_at}
+use Rattle.kb_tenant.specs.Hosted as hosted
+use Rattle.kb_tenant.specs.Hosted.{Kept, TenantState, AreRetained, world_at}
+use Rattle.std.specs.Prelude.{Some}
+use Rattle.kb_tenant.specs.Replies.{Silent}
+use Rattle.kb_machine.proofs.Quiet.{still-silent}
 use Rattle.kb_tenant.proofs.Asked.{waits_at}
-use Rattle.kb_machine.specs.Tenant.{Wait, ready, retained}
+use Rattle.kb_machine.specs.Tenant.{Wait, ready}
 use Rattle.kb_machine.specs.Session.{Stage, Greets, BoundTo, fresh, can}
-use Rattle.kb_machine.specs.Greeting.{Setup}
+use Rattle.kb_machine.specs.Greeting.{Setup, User}
 use Rattle.kb_machine.specs.Machine.{Happening, Opens, Closes, Moment, Line, World, those, first_able, all_woken, turns, stepped}
 use Rattle.kb_machine.specs.Owners.{Owns, Fits, find_line, whose, heard, destiny, unborn}
-use Rattle.kb_machine.specs.Broker.{BrokerState, IsSound, IsUnready, AreUnready, AnyWait, kept_of, IsReady, IsStep, Rising, Mine, view_of}
+use Rattle.kb_machine.specs.Broker.{BrokerState, InRange, Grows, IsSound, IsUnready, AreUnready, AnyWait, kept_of, IsReady, IsStep, Rising, Mine, view_of}
 use Rattle.kb_machine.specs.Calls.{opened, closed, moved, other_than}
 use Rattle.kb_machine.proofs.Laws.{none-those, turns-none}
+use Rattle.kb_machine.specs.declared.whom.Whom.{Whom}
+use Rattle.kb_machine.specs.declared.whom.Whom.TheVariants as whoms
 use Rattle.kb_machine.specs.Turned.{Everybody, Turned, Waked, IsPassedOver}
 use Rattle.kb_machine.proofs.Owners.{IsMine, heard-still}
-use Rattle.kb_machine.proofs.Parts.{calm-right, calm-first, calm-then}
+use Rattle.kb_machine.proofs.Parts.{calm-right, calm-first, calm-then, grows-then, length-names}
 use Rattle.kb_machine.proofs.Turns.{going-then}
 use Rattle.kb_machine.proofs.Wakes.{unready-view}
 use Rattle.kb_machine.proofs.Sets.{IsAt, all-map, all-those, all-push, rising-above, tail-at, no-at}
@@ -214,56 +211,74 @@ find-other k n (l ∷ ls) ne = let rest = find-other k n ls ne in grind (arith, 
 pub sound-moved : (b : BrokerState) (now : ℕ) → IsSound b → max b.clock now ≤ 2 ^ 62 → IsSound (moved b now)
 sound-moved b now s le = record { rising = s.rising; in_range = s.in_range; users = s.users; clock = le }
 
--- so far nothing is dropped
-retained-same : (clock : ℕ) (kept : Kept) → retained clock kept ≡ kept
-unfolding retained
-retained-same clock kept = refl
+-- the clock has moved, and retention has left the tenants this
+abbrev pub begun : BrokerState → ℕ → List TenantState → BrokerState
+begun b now ts = record (moved b now) { tenants = ts }
+
+pub begun-grows : (b : BrokerState) (now clock : ℕ) (H : Type 0) (ts : List TenantState) → AreRetained clock H b.tenants ts → Grows b (begun b now ts)
+begun-grows b now clock H ts r = record { setup = refl; names = r.names; own = r.grows; unbound = omega arith }
+
+pub sound-begun : (b : BrokerState) (now clock : ℕ) (H : Type 0) (ts : List TenantState) → IsSound b → AreRetained clock H b.tenants ts → max b.clock now ≤ 2 ^ 62 → IsSound (begun b now ts)
+sound-begun b now clock H ts s r le =
+    let many = length-names b (begun b now ts) (begun-grows b now clock H ts r) in
+    record {
+      rising = s.rising;
+      in_range = subst (λ n. AllByRecursion (λ (l : Line). InRange n l.session.stage) b.lines) (sym many) s.in_range;
+      users = subst (λ n. AllByRecursion (λ (u : User). u.tenant < n) b.setup.users) (sym many) s.users;
+      clock = le;
+    }
 
 -- a fetch that was not ready is not before its deadline, as long as its tenant keeps the same
 later : (kept : Kept) (clock now : ℕ) (w : Wait) → ready kept clock w ≡ Silent → now < w.deadline → ready kept now w ≡ Silent
-unfolding ready looked
-later kept clock now w e early = by (whole fetch_request w.body) e
+unfolding ready
+later kept clock now w e early = still-silent (world_at kept clock) (world_at kept now) w.deadline w.body (λ r waits. (waits_at (world_at kept clock) r w.deadline waits now early).0) e
+
+-- so where nothing was dropped only those can be ready after the clock moved whose deadline has come
+pub due-unready : (b : BrokerState) (now : ℕ) (ts : List TenantState) → ((t : ℕ) → hosted.kept_of ts t ≡ kept_of b t) → AreUnready AnyWait b → AreUnready (IsPassedOver whoms.Due (max b.clock now)) (begun b now ts)
+due-unready b now ts same r = all-map (λ l. IsUnready AnyWait b l.session.stage) (λ l. IsUnready (IsPassedOver whoms.Due (max b.clock now)) (begun b now ts) l.session.stage) (λ l. one l.session.stage) b.lines r
   where
-    none : (o : Option FetchReply) → elim o [ Some reply ↦ Replies (fetch_reply.written reply) | None ↦ Silent ] ≡ Silent → o ≡ None
-    none (Some reply) h = absurd (cc)
-    none None h = refl
+    one : (st : Stage) → IsUnready AnyWait b st → IsUnready (IsPassedOver whoms.Due (max b.clock now)) (begun b now ts) st
+    one (Greets h) u = tt
+    one (BoundTo t None) u = tt
+    one (BoundTo t (Some w)) u = λ early. subst (λ k. ready k (max b.clock now) w ≡ Silent) (sym (same t)) (later (kept_of b t) b.clock (max b.clock now) w (u tt) (grind (arith, nat_tests, early)))
 
-    by : (r : Result FetchRequest WireFault) → looked_at (world_at kept clock) w.deadline r ≡ Silent → looked_at (world_at kept now) w.deadline r ≡ Silent
-    by (Ok r) h =
-        let waits = none (fetch_answer (world_at kept clock) r w.deadline) h in
-        let still = waits_at (world_at kept clock) r w.deadline waits now early in
-        ap (λ (o : Option FetchReply). elim o [ Some reply ↦ Replies (fetch_reply.written reply) | None ↦ Silent ]) still.0
-    by (Err fault) h = absurd (cc)
-
--- so after the clock moved only those can be ready whose deadline has come
-pub moved-unready : (b : BrokerState) (now : ℕ) → AreUnready AnyWait b → AreUnready (IsPassedOver None (max b.clock now)) (moved b now)
-moved-unready b now r = all-map (λ l. IsUnready AnyWait b l.session.stage) (λ l. IsUnready (IsPassedOver None (max b.clock now)) (moved b now) l.session.stage) (λ l. one b now l.session.stage) b.lines r
+-- where all are looked at none is passed over
+pub all-unready : (b : BrokerState) (clock : ℕ) → AreUnready (IsPassedOver whoms.All clock) b
+all-unready b clock = each b.lines
   where
-    one : (b : BrokerState) (now : ℕ) (st : Stage) → IsUnready AnyWait b st → IsUnready (IsPassedOver None (max b.clock now)) (moved b now) st
-    one b now (Greets h) u = tt
-    one b now (BoundTo t None) u = tt
-    one b now (BoundTo t (Some w)) u = λ early. later (kept_of b t) b.clock (max b.clock now) w (u tt) (grind (arith, nat_tests, early))
+    one : (st : Stage) → IsUnready (IsPassedOver whoms.All clock) b st
+    one (Greets h) = tt
+    one (BoundTo t None) = tt
+    one (BoundTo t (Some w)) = λ over. absurd (cc)
 
--- then the waiting fetches that are due are looked at, and then there are turns until none is left
-pub step-moment : (now : ℕ) (a b c : BrokerState) → IsReady a → Waked None (moved a now) b → AreUnready AnyWait b → Turned Everybody b c → first_able c.lines ≡ None → IsStep (Moment now) a c
-step-moment now a b c r q unready t none =
-    let start = moved a now in
+    each : (ls : List Line) → AllByRecursion (λ (l : Line). IsUnready (IsPassedOver whoms.All clock) b l.session.stage) ls
+    each [] = tt
+    each (l ∷ ls) = (one l.session.stage, each ls)
+
+-- then waiting fetches are looked at, and then there are turns until none is left
+pub step-moment : (now : ℕ) (whom : Whom) (a b c : BrokerState) (ts : List TenantState) → AreRetained (max a.clock now) (Unit {0}) a.tenants ts → Waked whom (begun a now ts) b → AreUnready AnyWait b → Turned Everybody b c → first_able c.lines ≡ None → IsStep (Moment now) a c
+step-moment now whom a b c ts r q unready t none =
+    let start = begun a now ts in
+    let f = begun-grows a now (max a.clock now) (Unit {0}) ts r in
     let g = q.going.grows in
     let h = t.going.grows in
     let w = going-then start b c q.going t.going in
+    let all = grows-then a start c f w.grows in
     record {
       last = let e = w.last in omega (arith, e);
-      grows = record { setup = w.grows.setup; names = w.grows.names; own = w.grows.own; unbound = w.grows.unbound };
+      grows = all;
       counted = t.counted ∙ q.unbound;
       mine = λ u mine es m calm. t.mine u mine es (q.mine u mine es (record { now = m.now; later = m.later })) (calm-right a.unbound_refusals b.unbound_refusals c.unbound_refusals g.unbound h.unbound calm);
       view = λ u mine es m calm.
-          let first = calm-first u start b c g h (record { own = calm.own; unbound = calm.unbound }) in
-          let then = calm-then u start b c g h (record { own = calm.own; unbound = calm.unbound }) in
+          let before = calm-first u a start c f w.grows calm in
+          let after = calm-then u a start c f w.grows calm in
+          let first = calm-first u start b c g h after in
+          let then = calm-then u start b c g h after in
           let at : Mine u mine es start = record { now = m.now; later = m.later } in
           let mb = q.mine u mine es at in
           let v = view_of u mine start in
           sym (settled-turns u mine c none)
           ∙ (t.view u mine es mb then
           ∙ (ap turns (sym (unready-view AnyWait b u mine es unready (λ w. tt) mb) ∙ q.view u mine es at first.own)
-          ∙ ap (λ k. turns (all_woken (record v { kept = k }))) (sym (retained-same (max a.clock now) v.kept))));
+          ∙ ap (λ k. turns (all_woken (record v { kept = k }))) (r.kept tt u before.own)));
     }

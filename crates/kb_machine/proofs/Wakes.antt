@@ -20,6 +20,8 @@ use Rattle.kb_machine.specs.Session.{Stage, Greets, BoundTo, Session, without_wa
 use Rattle.kb_machine.specs.Machine.{Happening, Line, told, woken_by, woken, each, on, those, all_woken, turns}
 use Rattle.kb_machine.specs.Owners.{whose}
 use Rattle.kb_machine.specs.Broker.{BrokerState, IsSound, IsUnready, AreUnready, AnyWait, Mine, view_of, kept_of, refusals_of}
+use Rattle.kb_machine.specs.declared.whom.Whom.{Whom}
+use Rattle.kb_machine.specs.declared.whom.Whom.TheVariants as whoms
 use Rattle.kb_machine.specs.Turned.{Scope, HasTenant, is_resting, Turned, Served, Concerns, Waked, IsLookedFor, IsPassedOver}
 use Rattle.kb_machine.proofs.Laws.{those-each}
 use Rattle.kb_machine.proofs.Owners.{IsBound, IsMine, mine-bound, bound-same}
@@ -60,7 +62,7 @@ woken-twice kept clock s = by kept clock s s.stage refl
 
 -- 2. Looks, one after another
 
-pub waked-same : (whom : Option ℕ) (b : BrokerState) → IsSound b → Waked whom b b
+pub waked-same : (whom : Whom) (b : BrokerState) → IsSound b → Waked whom b b
 waked-same whom b s = record {
   going = going-same b s;
   unbound = refl;
@@ -73,7 +75,7 @@ waked-same whom b s = record {
   view = λ t mine es m calm. refl;
 }
 
-pub waked-then : (whom : Option ℕ) (a b c : BrokerState) → Waked whom a b → Waked whom b c → Waked whom a c
+pub waked-then : (whom : Whom) (a b c : BrokerState) → Waked whom a b → Waked whom b c → Waked whom a c
 waked-then whom a b c p q =
     let g = p.going.grows in
     let h = q.going.grows in
@@ -94,7 +96,7 @@ waked-then whom a b c p q =
 -- 3. One look
 
 -- it is not about a tenant that is not concerned
-unconcerned : (whom : Option ℕ) (t u : ℕ) → Concerns whom u → (Concerns whom t → ⊥) → t ≢ u
+unconcerned : (whom : Whom) (t u : ℕ) → Concerns whom u → (Concerns whom t → ⊥) → t ≢ u
 unconcerned whom t u concerned never = λ e. never (subst (Concerns whom) (sym e) concerned)
 
 busy : (u : ℕ) (w : Wait) (s : Session) → s.stage ≡ BoundTo u (Some w) → is_resting (Some s) ≡ false
@@ -110,7 +112,7 @@ each-again kept clock n (l ∷ ls) = by (eqb l.number n) (each-again kept clock 
     by false rest = ap (λ xs. (let x : Line = record { number = l.number; session = woken kept clock l.session } in x) ∷ xs) rest
 
 -- a waiting connection of a concerned tenant was looked at
-pub waked-line : (whom : Option ℕ) (b : BrokerState) (i u : ℕ) (l m : Line) (w : Wait) (H : Type 0) (ts : List TenantState) → IsSound b → IsAt b.lines i l → l.session.stage ≡ BoundTo u (Some w) → Concerns whom u →
+pub waked-line : (whom : Whom) (b : BrokerState) (i u : ℕ) (l m : Line) (w : Wait) (H : Type 0) (ts : List TenantState) → IsSound b → IsAt b.lines i l → l.session.stage ≡ BoundTo u (Some w) → Concerns whom u →
     m.number ≡ l.number → without_wait m.session.stage ≡ without_wait l.session.stage → IsTurn u H b.tenants ts → H → ((t : ℕ) → hosted.kept_of ts t ≡ kept_of b t) →
     (IsCalm (count b.tenants u) (count ts u) → m.session ≡ woken (kept_of b u) b.clock l.session) →
     Waked whom b (changed b i m ts b.unbound_refusals)
@@ -195,7 +197,7 @@ unready-view P b t mine es unready passes m = ap (λ ls. record (view_of t mine 
 
 -- 5. A whole turn of a bound connection
 
-pub turned-served : (u : ℕ) (scope : Scope) (a b c : BrokerState) → Served u scope a b → Waked (Some u) b c → AreUnready (IsLookedFor (Some u) b.clock) c → (AreUnready (IsPassedOver (Some u) b.clock) b → AreUnready AnyWait c) → Turned scope a c
+pub turned-served : (u : ℕ) (scope : Scope) (a b c : BrokerState) → Served u scope a b → Waked (whoms.Tenant u) b c → AreUnready (IsLookedFor (whoms.Tenant u) b.clock) c → (AreUnready (IsPassedOver (whoms.Tenant u) b.clock) b → AreUnready AnyWait c) → Turned scope a c
 turned-served u scope a b c p q own rest =
     let g = p.going.grows in
     let h = q.going.grows in
@@ -206,17 +208,32 @@ turned-served u scope a b c p q own rest =
       still = q.still scope (λ t is. subst (HasTenant scope b) (sym is) p.tenants) p.still;
       counted = counted-then scope a b c p.going q.going p.counted (counted-tenant scope b c u tenant (λ t ne. q.counts t ne) q.unbound);
       untouched = untouched-then a b c p.untouched q.untouched;
-      unready = λ k. rest (unready-weaken (λ t w. t ≢ u) (IsPassedOver (Some u) b.clock) b (λ t w e. eqb_other u t (eqb-swap t u e)) (p.unready k));
+      unready = λ k. rest (unready-weaken (λ t w. t ≢ u) (IsPassedOver (whoms.Tenant u) b.clock) b (λ t w e. eqb_other u t (eqb-swap t u e)) (p.unready k));
       mine = λ t mine es m calm. q.mine t mine es (p.mine t mine es m);
       view = λ t mine es m calm. each-tenant (λ v. Mine v mine es a → IsCalm (refusals_of a v) (refusals_of c v) → turns (view_of v mine c) ≡ turns (view_of v mine a)) u t (eqb u t) refl
           (λ m' c'.
           let left = calm-left (refusals_of a u) (refusals_of b u) (refusals_of c u) (g.own u) (h.own u) c' in
           let right = calm-right (refusals_of a u) (refusals_of b u) (refusals_of c u) (g.own u) (h.own u) c' in
           let mb = p.mine u mine es m' in
-          ap turns (sym (unready-view (IsLookedFor (Some u) b.clock) c u mine es own (λ w. self) (q.mine u mine es mb)) ∙ q.view u mine es mb right) ∙ p.view mine es m' left)
+          ap turns (sym (unready-view (IsLookedFor (whoms.Tenant u) b.clock) c u mine es own (λ w. self) (q.mine u mine es mb)) ∙ q.view u mine es mb right) ∙ p.view mine es m' left)
           (λ ne m' c'. ap turns (q.others t mine es (p.mine t mine es m') ne ∙ p.others t mine es m' ne))
           m calm.own;
     }
   where
     eqb-swap : (t u : ℕ) → eqb t u ≡ false → eqb u t ≡ false
     eqb-swap t u e = grind (arith, nat_tests)
+
+-- the turn of a bound connection after which no fetch that waits is ready: none has to be looked at
+pub turned-quiet : (u : ℕ) (scope : Scope) (a c : BrokerState) → Served u scope a c → AreUnready AnyWait c → Turned scope a c
+turned-quiet u scope a c p unready = record {
+  going = p.going;
+  still = p.still;
+  counted = p.counted;
+  untouched = p.untouched;
+  unready = λ k. unready;
+  mine = λ t mine es m calm. p.mine t mine es m;
+  view = λ t mine es m calm. each-tenant (λ v. Mine v mine es a → IsCalm (refusals_of a v) (refusals_of c v) → turns (view_of v mine c) ≡ turns (view_of v mine a)) u t (eqb u t) refl
+      (λ m' c'. ap turns (sym (unready-view AnyWait c u mine es unready (λ w. tt) (p.mine u mine es m'))) ∙ p.view mine es m' c')
+      (λ ne m' c'. ap turns (p.others t mine es m' ne))
+      m calm.own;
+}

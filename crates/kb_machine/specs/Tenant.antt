@@ -26,7 +26,3 @@ answer node kept clock key body = (outcome node kept clock key body).reaction
 -- what a waiting fetch comes to now: a reply where it is ready, else silence
 unfoldable pub ready : Kept → ℕ → Wait → Reaction
 ready kept clock wait = looked (world_at kept clock) wait.deadline wait.body
-
--- what is kept after the tenant's own part of a moment: nothing is dropped so far
-unfoldable pub retained : ℕ → Kept → Kept
-retained clock kept = kept

@@ -6,6 +6,8 @@ use Rattle.kb_machine.specs.Session.{Session, can, is_free}
 use Rattle.kb_machine.specs.Machine.{Happening, Comes, Line, all_woken, turns, stepped}
 use Rattle.kb_machine.specs.Owners.{find_line, whose}
 use Rattle.kb_world.specs.Steps.{IsCalm}
+use Rattle.kb_machine.specs.declared.whom.Whom.{Whom}
+use Rattle.kb_machine.specs.declared.whom.Whom.TheVariants as whoms
 use Rattle.kb_machine.specs.Broker.{BrokerState, IsSound, AreUnready, AnyWait, Grows, IsCalmFor, Mine, view_of, kept_of, refusals_of, bound_to}
 
 -- 1. Whose event it is
@@ -97,14 +99,16 @@ pub record IsFed (n : ℕ) (piece : List ℕ) (old new : BrokerState) : Type 0 w
   pub mine : (t : ℕ) (mine : ℕ → Bool) (es : List Happening) → Mine t mine (Comes n piece ∷ es) old → IsCalm old.unbound_refusals new.unbound_refusals → Mine t mine es new
   pub view : (t : ℕ) (mine : ℕ → Bool) (es : List Happening) → Mine t mine (Comes n piece ∷ es) old → IsCalmFor t old new → turns (view_of t mine new) ≡ stepped (mine n) (Comes n piece) (view_of t mine old)
 
--- 3. Waiting fetches that are looked at again: those of one tenant, or of all
+-- 3. Waiting fetches that are looked at again
 
-abbrev pub Concerns : Option ℕ → ℕ → Type 0
-Concerns (Some u) t = t ≡ u
-Concerns None t = ⊤
+-- a look may be at a wait of the tenant
+abbrev pub Concerns : Whom → ℕ → Type 0
+Concerns (whoms.Tenant u) t = t ≡ u
+Concerns whoms.Due t = ⊤
+Concerns whoms.All t = ⊤
 
 -- some were looked at and answered where they were ready: what tenants keep stays, and nothing happens to a tenant that is not concerned
-pub record Waked (whom : Option ℕ) (old new : BrokerState) : Type 0 where
+pub record Waked (whom : Whom) (old new : BrokerState) : Type 0 where
   pub going : IsGoing old new
   pub unbound : new.unbound_refusals ≡ old.unbound_refusals
   pub untouched : AreUntouched old new
@@ -115,13 +119,14 @@ pub record Waked (whom : Option ℕ) (old new : BrokerState) : Type 0 where
   pub others : (t : ℕ) (mine : ℕ → Bool) (es : List Happening) → Mine t mine es old → (Concerns whom t → ⊥) → view_of t mine new ≡ view_of t mine old
   pub view : (t : ℕ) (mine : ℕ → Bool) (es : List Happening) → Mine t mine es old → IsCalm (refusals_of old t) (refusals_of new t) → all_woken (view_of t mine new) ≡ all_woken (view_of t mine old)
 
--- whether a wait is looked at: one of the tenant, or, of all, one whose deadline has come
-abbrev pub is_looked_for : Option ℕ → ℕ → ℕ → Wait → Bool
-is_looked_for (Some u) clock t w = t == u
-is_looked_for None clock t w = nat_le w.deadline clock
+-- whether a wait is looked at
+abbrev pub is_looked_for : Whom → ℕ → ℕ → Wait → Bool
+is_looked_for (whoms.Tenant u) clock t w = t == u
+is_looked_for whoms.Due clock t w = nat_le w.deadline clock
+is_looked_for whoms.All clock t w = true
 
-abbrev pub IsLookedFor : Option ℕ → ℕ → ℕ → Wait → Type 0
+abbrev pub IsLookedFor : Whom → ℕ → ℕ → Wait → Type 0
 IsLookedFor whom clock t w = is_looked_for whom clock t w ≡ true
 
-abbrev pub IsPassedOver : Option ℕ → ℕ → ℕ → Wait → Type 0
+abbrev pub IsPassedOver : Whom → ℕ → ℕ → Wait → Type 0
 IsPassedOver whom clock t w = is_looked_for whom clock t w ≡ false

@@ -1,4 +1,4 @@
-//! What the broker's headline speaks of: definitions and their laws, and no code.
+//! What the broker's headline speaks of: definitions and their laws, and no code but the word [`Whom`].
 //!
 //! `specs/Requests.antt` says what a connection's bytes ask, `specs/Session.antt` what a connection has,
 //! `specs/Greeting.antt` what the requests mean that need no tenant (Kafka protocol guide, "SASL Authentication
@@ -8,8 +8,10 @@
 #![tactic(auto)]
 
 mod promises;
+mod whom;
 
 pub use promises::{
     bound_for_good, first_event, nothing_before_login, one_tenants_in_order, owners_at_entry,
     room_is_kept, turns_end,
 };
+pub use whom::Whom;

@@ -11,6 +11,7 @@ loop-i-preserved c =
     let turned = c.turn.ensures.turned in
     record {
       sound = (turned v.still.0 v.still.1).going.sound;
+      unready = (turned v.still.0 v.still.1).unready v.unready;
       still = scoped-turned c.loop-i.self c.turn.new.self v.still turned;
       turned = λ scope still. let before = v.turned scope still in turned-then scope c.args.self.now c.loop-i.self c.turn.new.self before (turned scope before.still);
     }

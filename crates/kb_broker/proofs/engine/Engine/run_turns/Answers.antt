@@ -3,16 +3,8 @@ use Rattle.kb_machine.specs.Turned.{Of}
 use Rattle.kb_machine.proofs.Turns.{turned-then}
 use Rattle.kb_broker.specs.Places.{AreIdle, number_at}
 use Rattle.kb_broker.proofs.Placed.{at-read}
-use Rattle.kb_broker.proofs.Handled.{idle-still, idle-scoped, idle-turned, idle-settled, next-idle, none-waits, within-going, number-going}
+use Rattle.kb_broker.proofs.Handled.{idle-others, idle-still, idle-scoped, idle-settled, next-idle, scoped-turned, within-going, number-going}
 use Rattle.kb_broker.proofs.engine.Engine.run_turns.Goals as goal
-
-pub run_all_turns-requires-clause-still : goal.run_all_turns-requires-clause-still
-run_all_turns-requires-clause-still c = idle-scoped (number_at c.args.i c.loop-alloc.self) c.loop-alloc.self c.loop-alloc.invariant.idle
-
-pub returns-then-may_wait-clause-turned : goal.returns-then-may_wait-clause-turned
-returns-then-may_wait-clause-turned c = λ scope still.
-    let before = c.loop-alloc.invariant.turned scope still in
-    turned-then scope c.args.self.now c.loop-alloc.self c.run_all_turns.new.self before (c.run_all_turns.ensures.turned scope before.still)
 
 pub turn-requires-clause-next : goal.turn-requires-clause-next
 turn-requires-clause-next c =
@@ -24,6 +16,22 @@ turn-requires-clause-next c =
 pub turn-requires-clause-still : goal.turn-requires-clause-still
 turn-requires-clause-still c = idle-scoped (number_at c.args.i c.loop-alloc.self) c.loop-alloc.self c.loop-alloc.invariant.idle
 
+pub run_all_turns-requires : goal.run_all_turns-requires
+run_all_turns-requires c =
+    let b = c.loop-alloc.self in
+    let d = c.turn.new.self in
+    let v = c.loop-alloc.invariant in
+    let n = number_at c.args.i b in
+    let t = c.turn.ensures.turned (Of n) (idle-still n b v.idle) in
+    record { sound = t.going.sound; unready = t.unready v.unready; still = scoped-turned b d (idle-scoped n b v.idle) c.turn.ensures.turned }
+
+pub returns-then-turn-clause-turned : goal.returns-then-turn-clause-turned
+returns-then-turn-clause-turned c = λ scope still.
+    let before = c.loop-alloc.invariant.turned scope still in
+    let turned = c.turn.ensures.turned scope before.still in
+    let both = turned-then scope c.args.self.now c.loop-alloc.self c.turn.new.self before turned in
+    turned-then scope c.args.self.now c.turn.new.self c.run_all_turns.new.self both (c.run_all_turns.ensures.turned scope both.still)
+
 pub loop-alloc-preserved : goal.loop-alloc-preserved
 loop-alloc-preserved c =
     let b = c.loop-alloc.self in
@@ -33,11 +41,11 @@ loop-alloc-preserved c =
     let v = c.loop-alloc.invariant in
     let turned = c.turn.ensures.turned in
     let t = turned (Of n) (idle-still n b v.idle) in
-    let free = none-waits b.lines (c.may_wait.ensures c.if-may_wait.false) in
     record {
       sound = t.going.sound;
       within = within-going b d i t.going v.within;
-      idle = subst (λ k. AreIdle k d) (sym (number-going b d i t.going)) (idle-turned n b d t.going t.untouched free v.idle);
+      unready = t.unready v.unready;
+      idle = subst (λ k. AreIdle k d) (sym (number-going b d i t.going)) (idle-others n b d t.going.sound (c.turn.ensures.alone c.if-turn.false) v.idle);
       turned = λ scope still. let before = v.turned scope still in turned-then scope c.args.self.now b d before (turned scope before.still);
     }
 

@@ -1,0 +1,177 @@
+-- A request that touched no partition makes no waiting fetch ready.
+use Rattle.std.proofs.Common.{◌≡◌, eqb, ℕ, ℤ, List, [], pos, Bool, true, false, Option, Some, None, refl, sym, ◌∙◌, ap, subst, arith}
+use Rattle.std.specs.Prelude.{cond, Result, Ok, Err}
+use Rattle.std.specs.List.{Contains}
+use Rattle.std.specs.Ordering.{int_eq}
+use Rattle.kb_wire.specs.Codec.{whole}
+use Rattle.kb_wire.specs.declared.fault.WireFault.{WireFault}
+use Rattle.kb_api_group.specs.Frames.{Front, Whole, Partial, TooSmall, TooLarge, front}
+use Rattle.kb_api_data.specs.Layouts.{fetch_request, fetch_reply, produce_request, list_offsets_request, metadata_request, create_topics_request, delete_topics_request, init_producer_id_request, produce_reply}
+use Rattle.kb_api_data.specs.declared.fetch.FetchRequest.{FetchRequest}
+use Rattle.kb_api_data.specs.declared.fetch.FetchReply.{FetchReply}
+use Rattle.kb_world.specs.World.{World}
+use Rattle.kb_world.specs.declared.place.Place.{Place}
+use Rattle.kb_tenant.specs.Fetch.{deadline_of, fetch_answer, places_of}
+use Rattle.kb_tenant.specs.Produce.{produced, is_due}
+use Rattle.kb_tenant.specs.Hosted as hosted
+use Rattle.kb_tenant.specs.Hosted.{Kept, TenantState, IsTurn, kept_in, world_at}
+use Rattle.kb_tenant.specs.Replies.{Reaction, Replies, Waits, Silent, Shuts}
+use Rattle.kb_tenant.specs.Serve.{Outcome, stays, if_read, fetch_reaction, of_produce, of_fetch, of_list_offsets, of_metadata, of_create_topics, of_delete_topics, of_init_producer_id, served as request, looked, looked_at}
+use Rattle.kb_world.specs.Tied.{IsTied}
+use Rattle.kb_tenant.specs.declared.node.Node.{Node}
+use Rattle.kb_tenant.proofs.ServeMoves.{served_waits}
+use Rattle.kb_machine.specs.Tenant.{Wait, ready, kept_after, answer, outcome}
+use Rattle.kb_machine.specs.Greeting.{Setup}
+use Rattle.kb_machine.specs.Requests.{Asked, Versions, OtherVersions, Handshake, Authenticate, Another, Unread}
+use Rattle.kb_machine.specs.Requests as requests
+use Rattle.kb_machine.specs.Session.{Stage, Greets, BoundTo, Session, waiting, without_wait, is_free}
+use Rattle.kb_machine.specs.Broker.{BrokerState, AnyWait, AreUnready, IsUnready, kept_of}
+use Rattle.kb_machine.specs.Machine.{Line, answered, served_by, served_at, served, kept_by, kept_at, put}
+use Rattle.kb_machine.proofs.Parts.{each-tenant}
+use Rattle.kb_machine.proofs.Sets.{IsAt, all-map, all-set}
+use Rattle.kb_machine.proofs.Turns.{free-replied, free-without, changed}
+
+-- 1. What a look tells
+
+abbrev pub told_as : Option FetchReply → Reaction
+told_as o = elim o [ Some reply ↦ Replies (fetch_reply.written reply) | None ↦ Silent ]
+
+pub silent-none : (o : Option FetchReply) → told_as o ≡ Silent → o ≡ None
+silent-none (Some reply) h = absurd (cc)
+silent-none None h = refl
+
+-- a fetch that is not ready is not ready in another world, if it has no answer there either
+pub still-silent : (w v : World) (deadline : ℕ) (body : List ℕ) → ((r : FetchRequest) → fetch_answer w r deadline ≡ None → fetch_answer v r deadline ≡ None) → looked w deadline body ≡ Silent → looked v deadline body ≡ Silent
+unfolding looked
+still-silent w v deadline body none e = by (whole fetch_request body) e
+  where
+    by : (r : Result FetchRequest WireFault) → looked_at w deadline r ≡ Silent → looked_at v deadline r ≡ Silent
+    by (Ok r) h = ap told_as (none r (silent-none (fetch_answer w r deadline) h))
+    by (Err fault) h = absurd (cc)
+
+-- 2. Those that waited before
+
+nowhere : (place : Place) → Contains [] place → ⊥
+nowhere place c = let h = c.1 in omega (arith, h)
+
+-- after a request that touched no partition a fetch is as little ready as before
+pub quiet-ready : (node : Node) (k l : Kept) (clock : ℕ) (key : ℤ) (body : List ℕ) (w : Wait) → IsTied (world_at k clock) → world_at l clock ≡ (request node (world_at k clock) key body).world → (request node (world_at k clock) key body).touched ≡ [] →
+    ready k clock w ≡ Silent → ready l clock w ≡ Silent
+unfolding ready
+quiet-ready node k l clock key body w tied same none silent =
+    still-silent (world_at k clock) (world_at l clock) w.deadline w.body
+    (λ r waits. ap (λ x. fetch_answer x r w.deadline) same
+    ∙ (served_waits node (world_at k clock) key body r w.deadline tied waits (λ place asked touched. nowhere place (subst (λ ps. Contains ps place) none touched))).0)
+    silent
+
+-- 3. The one that begins to wait
+
+-- what a request that is to wait would be told at once
+abbrev Parks : List ℕ → ℕ → Outcome → Type 0
+Parks body clock o = (deadline : ℕ) (places : List Place) → o.reaction ≡ Waits deadline places → looked (world_at (kept_in o.world) clock) deadline body ≡ Silent
+
+parks-either : (body : List ℕ) (clock : ℕ) (b : Bool) (x y : Outcome) → Parks body clock x → Parks body clock y → Parks body clock (cond b x y)
+parks-either body clock true x y p q = p
+parks-either body clock false x y p q = q
+
+parks-read : {A : Type 0} (body : List ℕ) (clock : ℕ) (w : World) (r : Result A WireFault) (f : A → Outcome) → ((v : A) → r ≡ Ok v → Parks body clock (f v)) → Parks body clock (if_read w r f)
+parks-read body clock w (Ok v) f p = p v refl
+parks-read body clock w (Err fault) f p = λ deadline places e. absurd (cc)
+
+produce-parks : (body : List ℕ) (clock : ℕ) (w v : World) (touched : List Place) (reply : List ℕ) (b : Bool) → Parks body clock (record { world = v; touched = touched; reaction = cond b (Replies reply) Silent })
+produce-parks body clock w v touched reply true deadline places e = absurd (cc)
+produce-parks body clock w v touched reply false deadline places e = absurd (cc)
+
+fetch-parks : (k : Kept) (clock : ℕ) (body : List ℕ) (r : FetchRequest) → whole fetch_request body ≡ Ok r → Parks body clock (of_fetch (world_at k clock) r)
+unfolding looked
+fetch-parks k clock body r read = by (fetch_answer (world_at k clock) r (deadline_of (world_at k clock) r)) refl
+  where
+    by : (o : Option FetchReply) → fetch_answer (world_at k clock) r (deadline_of (world_at k clock) r) ≡ o → Parks body clock (stays (world_at k clock) (fetch_reaction (world_at k clock) r o))
+    by (Some reply) e deadline places f = absurd (cc)
+    by None e deadline places f =
+        let until : deadline_of (world_at k clock) r ≡ deadline = cc in
+        ap (looked_at (world_at k clock) deadline) read ∙ ap told_as (subst (λ d. fetch_answer (world_at k clock) r d ≡ None) until (subst (λ d. fetch_answer (world_at k clock) r d ≡ None) refl e))
+
+parks : (node : Node) (k : Kept) (clock : ℕ) (key : ℤ) (body : List ℕ) → Parks body clock (request node (world_at k clock) key body)
+unfolding request
+parks node k clock key body =
+    let w = world_at k clock in
+    let shut : Parks body clock (stays w Shuts) = λ deadline places e. absurd (cc) in
+    let from_22 = parks-either body clock (int_eq key (pos 22)) (if_read w (whole init_producer_id_request body) (of_init_producer_id w)) (stays w Shuts) (parks-read body clock w (whole init_producer_id_request body) (of_init_producer_id w) (λ r read deadline places e. absurd (cc))) shut in
+    let from_20 = parks-either body clock (int_eq key (pos 20)) (if_read w (whole delete_topics_request body) (of_delete_topics w)) _ (parks-read body clock w (whole delete_topics_request body) (of_delete_topics w) (λ r read deadline places e. absurd (cc))) from_22 in
+    let from_19 = parks-either body clock (int_eq key (pos 19)) (if_read w (whole create_topics_request body) (of_create_topics w)) _ (parks-read body clock w (whole create_topics_request body) (of_create_topics w) (λ r read deadline places e. absurd (cc))) from_20 in
+    let from_3 = parks-either body clock (int_eq key (pos 3)) (if_read w (whole metadata_request body) (of_metadata node w)) _ (parks-read body clock w (whole metadata_request body) (of_metadata node w) (λ r read deadline places e. absurd (cc))) from_19 in
+    let from_2 = parks-either body clock (int_eq key (pos 2)) (if_read w (whole list_offsets_request body) (of_list_offsets w)) _ (parks-read body clock w (whole list_offsets_request body) (of_list_offsets w) (λ r read deadline places e. absurd (cc))) from_3 in
+    let from_1 = parks-either body clock (int_eq key (pos 1)) (if_read w (whole fetch_request body) (of_fetch w)) _ (parks-read body clock w (whole fetch_request body) (of_fetch w) (λ r read. fetch-parks k clock body r read)) from_2 in
+    parks-either body clock (int_eq key (pos 0)) (if_read w (whole produce_request body) (of_produce w)) _
+    (parks-read body clock w (whole produce_request body) (of_produce w) (λ r read. produce-parks body clock w (produced w [] r).0.world (produced w [] r).0.touched (produce_reply.written (produced w [] r).1) (is_due r.acks))) from_1
+
+-- what waits at that stage is not ready
+abbrev pub IsIdle : ℕ → Kept → Stage → Type 0
+IsIdle clock kept st = (t : ℕ) (w : Wait) → st ≡ BoundTo t (Some w) → ready kept clock w ≡ Silent
+
+free-idle : (clock : ℕ) (kept : Kept) (st : Stage) → is_free st ≡ true → IsIdle clock kept st
+free-idle clock kept st free = λ t w e. let no : false ≡ true = sym (ap is_free e) ∙ free in absurd (cc)
+
+waiting-idle : (clock : ℕ) (kept : Kept) (x : Wait) (st : Stage) → ready kept clock x ≡ Silent → IsIdle clock kept (waiting x st)
+waiting-idle clock kept x (Greets h) silent = λ t w e. absurd (cc)
+waiting-idle clock kept x (BoundTo u earlier) silent = λ t w e. let same : x ≡ w = cc in subst (λ y. ready kept clock y ≡ Silent) same silent
+
+answered-idle : (clock : ℕ) (kept : Kept) (r : Reaction) (id : ℤ) (body : List ℕ) (s : Session) → is_free s.stage ≡ true
+    → ((deadline : ℕ) (places : List Place) → r ≡ Waits deadline places → ready kept clock (record { correlation_id = id; body = body; deadline = deadline }) ≡ Silent) → IsIdle clock kept (answered r id body s).stage
+answered-idle clock kept (Replies reply) id body s free silent = free-idle clock kept _ (free-replied id reply s free)
+answered-idle clock kept (Waits deadline places) id body s free silent = waiting-idle clock kept (record { correlation_id = id; body = body; deadline = deadline }) s.stage (silent deadline places refl)
+answered-idle clock kept Silent id body s free silent = free-idle clock kept s.stage free
+answered-idle clock kept Shuts id body s free silent = free-idle clock kept _ (free-without s.stage)
+
+by-idle : (setup : Setup) (kept : Kept) (clock : ℕ) (id : ℤ) (a : Asked) (s : Session) → is_free s.stage ≡ true → IsIdle clock (kept_by setup kept clock a) (served_by setup kept clock id a s).stage
+unfolding served_by ready kept_after answer
+by-idle setup kept clock id Versions s free = free-idle clock kept _ (free-replied id _ s free)
+by-idle setup kept clock id OtherVersions s free = free-idle clock kept _ (free-replied id _ s free)
+by-idle setup kept clock id (Handshake mechanism) s free = free-idle clock kept _ (free-replied id _ s free)
+by-idle setup kept clock id (Authenticate message) s free = free-idle clock kept _ (free-replied id _ s free)
+by-idle setup kept clock id (Another key version body) s free =
+    answered-idle clock (kept_after setup.node kept clock key body) (answer setup.node kept clock key body) id body s free
+    (λ deadline places e. parks setup.node kept clock key body deadline places e)
+by-idle setup kept clock id Unread s free = free-idle clock kept _ (free-without s.stage)
+
+at-idle : (setup : Setup) (kept : Kept) (clock : ℕ) (s : Session) (f : Front) → is_free s.stage ≡ true → IsIdle clock (kept_at setup kept clock f) (served_at setup kept clock s f).stage
+at-idle setup kept clock s (Whole frame rest) free = let r = requests.request frame in by-idle setup kept clock r.correlation_id r.asked (record s { unread = rest }) free
+at-idle setup kept clock s TooSmall free = free-idle clock kept _ (free-without s.stage)
+at-idle setup kept clock s TooLarge free = free-idle clock kept _ (free-without s.stage)
+at-idle setup kept clock s Partial free = free-idle clock kept s.stage free
+
+-- what a connection waits for after its turn is not ready
+pub served-idle : (setup : Setup) (kept : Kept) (clock : ℕ) (s : Session) → is_free s.stage ≡ true → IsIdle clock (put setup kept clock s.unread) (served setup kept clock s).stage
+unfolding served put
+served-idle setup kept clock s free = at-idle setup kept clock s (front s.unread) free
+
+-- 4. The turn of a bound connection that touched no partition
+
+module _ (b : BrokerState) (i u : ℕ) (l m : Line) (us : List TenantState) (H : Type 0) (turn : IsTurn u H b.tenants us) (honest : H) where
+  -- of each tenant a fetch that was not ready is not ready
+  kept-unready : ((w : Wait) → ready (kept_of b u) b.clock w ≡ Silent → ready (hosted.kept_of us u) b.clock w ≡ Silent) → (t : ℕ) (w : Wait) → ready (kept_of b t) b.clock w ≡ Silent → ready (hosted.kept_of us t) b.clock w ≡ Silent
+  kept-unready quiet t w silent = each-tenant (λ v. ready (kept_of b v) b.clock w ≡ Silent → ready (hosted.kept_of us v) b.clock w ≡ Silent) u t (eqb u t) refl
+      (λ e. quiet w e) (λ ne e. ap (λ k. ready k b.clock w) (turn.others honest t ne) ∙ e) silent
+
+  still-unready : ((t : ℕ) (w : Wait) → ready (kept_of b t) b.clock w ≡ Silent → ready (hosted.kept_of us t) b.clock w ≡ Silent) → (st : Stage) → IsUnready AnyWait b st → IsUnready AnyWait (changed b i m us b.unbound_refusals) st
+  still-unready kept (Greets h) e = tt
+  still-unready kept (BoundTo t None) e = tt
+  still-unready kept (BoundTo t (Some w)) e = λ any. kept t w (e tt)
+
+  own-unready : (st : Stage) → without_wait st ≡ BoundTo u None → IsIdle b.clock (hosted.kept_of us u) st → IsUnready AnyWait (changed b i m us b.unbound_refusals) st
+  own-unready (Greets h) same idle = tt
+  own-unready (BoundTo t None) same idle = tt
+  own-unready (BoundTo t (Some w)) same idle = λ any. let is : t ≡ u = cc in subst (λ v. ready (hosted.kept_of us v) b.clock w ≡ Silent) (sym is) (idle t w refl)
+
+  -- leaves nothing ready, where nothing was before
+  pub quiet-turn : AreUnready AnyWait b → IsAt b.lines i l → is_free l.session.stage ≡ true → without_wait l.session.stage ≡ BoundTo u None → without_wait m.session.stage ≡ without_wait l.session.stage
+      → m.session ≡ served b.setup (kept_of b u) b.clock l.session → hosted.kept_of us u ≡ put b.setup (kept_of b u) b.clock l.session.unread
+      → ((w : Wait) → ready (kept_of b u) b.clock w ≡ Silent → ready (hosted.kept_of us u) b.clock w ≡ Silent) → AreUnready AnyWait (changed b i m us b.unbound_refusals)
+  quiet-turn unready at free bound same is after quiet =
+      let c = changed b i m us b.unbound_refusals in
+      let idle : IsIdle b.clock (hosted.kept_of us u) m.session.stage = subst (λ (k : Kept). IsIdle b.clock k m.session.stage) (sym after)
+      (subst (λ (s : Session). IsIdle b.clock (put b.setup (kept_of b u) b.clock l.session.unread) s.stage) (sym is) (served-idle b.setup (kept_of b u) b.clock l.session free)) in
+      all-set (λ (k : Line). IsUnready AnyWait c k.session.stage) b.lines i m
+      (all-map (λ (k : Line). IsUnready AnyWait b k.session.stage) (λ (k : Line). IsUnready AnyWait c k.session.stage) (λ k. still-unready (kept-unready quiet) k.session.stage) b.lines unready)
+      (own-unready m.session.stage (same ∙ bound) idle)

@@ -22,6 +22,8 @@ mod playing;
 #[cfg(test)]
 mod producers;
 #[cfg(test)]
+mod retention;
+#[cfg(test)]
 mod running;
 #[cfg(test)]
 mod scripts;

@@ -10,12 +10,12 @@ use std::test::Fail;
 const APPENDED_AT_1: &str = "produced 0000 0000000000000001 ffffffffffffffff 00000000";
 
 /// InitProducerId, and id 0 of epoch 0.
-const INIT: &str = "00000010 0016 0000 0000001e ffff ffff 0000ea60";
+pub(crate) const INIT: &str = "00000010 0016 0000 0000001e ffff ffff 0000ea60";
 
-const ISSUED: &str = "00000014 0000001e 00000000 0000 0000000000000000 0000";
+pub(crate) const ISSUED: &str = "00000014 0000001e 00000000 0000 0000000000000000 0000";
 
-/// Produce of a batch of one record of that producer, with base sequence 0, 1 or 2.
-const SEQUENCE_0: &str =
+/// Produce of a batch of one record of that producer, with base sequence 0, 1, 2 or 4.
+pub(crate) const SEQUENCE_0: &str =
     "produce head a8a3e4c0 0000 00000000 times 0000000000000000 0000 00000000 00000001 value";
 
 const SEQUENCE_1: &str =
@@ -23,6 +23,9 @@ const SEQUENCE_1: &str =
 
 const SEQUENCE_2: &str =
     "produce head 00ad4e4c 0000 00000000 times 0000000000000000 0000 00000002 00000001 value";
+
+pub(crate) const SEQUENCE_4: &str =
+    "produce head fd52c729 0000 00000000 times 0000000000000000 0000 00000004 00000001 value";
 
 /// It is out of order.
 const OUT_OF_ORDER: &str = "produced 002d nowhere 00000000";
@@ -49,7 +52,7 @@ const SEQUENCES: [Step<'static>; 17] = [
     ),
     In(
         1,
-        "produce head fd52c729 0000 00000000 times 0000000000000000 0000 00000004 00000001 value",
+        SEQUENCE_4,
         "produced 0000 0000000000000004 ffffffffffffffff 00000000",
     ),
     In(

@@ -9,7 +9,8 @@ use Step::{At, Close, Gets, In, Open};
 use std::test::Fail;
 
 /// Fetch from 1 on, that waits for a byte for a second.
-const WAIT: &str = "00000036 0001 0004 00000016 ffff ffffffff 000003e8 00000001 00100000 00 t/0 \
+pub(crate) const WAIT: &str =
+    "00000036 0001 0004 00000016 ffff ffffffff 000003e8 00000001 00100000 00 t/0 \
     0000000000000001 00100000";
 
 /// The same, for 100 bytes.
@@ -37,7 +38,7 @@ const BOTH_CAME: &str =
     0000008c second/hi third/hi";
 
 /// It is answered with nothing.
-const NOTHING_CAME: &str =
+pub(crate) const NOTHING_CAME: &str =
     "00000031 00000016 00000000 t/0 0000 0000000000000001 0000000000000001 ffffffff 00000000";
 
 /// The same, and then the versions.
@@ -50,10 +51,10 @@ const TOPIC_IS_GONE: &str =
     "00000031 00000016 00000000 t/0 0003 ffffffffffffffff ffffffffffffffff ffffffff 00000000";
 
 /// The batch is appended at 1, or at 2.
-const APPENDED_SECOND: &str =
+pub(crate) const APPENDED_SECOND: &str =
     "00000029 00000014 t/0 0000 0000000000000001 ffffffffffffffff 00000000";
 
-const APPENDED_THIRD: &str =
+pub(crate) const APPENDED_THIRD: &str =
     "00000029 00000014 t/0 0000 0000000000000002 ffffffffffffffff 00000000";
 
 /// DeleteTopics of `t`.

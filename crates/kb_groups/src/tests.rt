@@ -4,6 +4,7 @@ ghost use Rattle.std.specs.Prelude.{◌≤◌};
 
 use super::*;
 use std::alloc::Global;
+use std::process::Abort;
 use std::test::Fail;
 
 /// An answer as numbers: a code, 2000 and an assignment's byte, or 3000 for a wait.
@@ -277,48 +278,91 @@ fn a_member_that_hangs_up(rt: HostRuntime) -> Result<(), Fail> {
     Ok(())
 }
 
+/// Checks the code that a first member gets at the session timeout.
+fn check_timeout(
+    rt: &impl Abort,
+    alloc: Global,
+    session_timeout: i32,
+    want: u64,
+) -> Result<(), Fail> {
+    let mut play = Play::new(alloc, session_timeout, 0);
+    let answer = play.join(alloc, 9, None, 0)?;
+    assert_eq!(rt; answer.first().copied(), Some(want), "{session_timeout}");
+    Ok(())
+}
+
 #[test]
 fn limits(rt: HostRuntime) -> Result<(), Fail> {
     for (session_timeout, want) in [(5_999, 26), (6_000, 0), (1_800_000, 0), (1_800_001, 26)] {
-        let mut play = Play::new(rt.alloc(), session_timeout, 0);
-        let answer = play.join(rt.alloc(), 9, None, 0)?;
-        assert_eq!(rt; answer.first().copied(), Some(want), "{session_timeout}");
+        check_timeout(&rt, rt.alloc(), session_timeout, want)?;
     }
+    Ok(())
+}
+
+/// Checks that a new member joins.
+fn check_new(rt: &impl Abort, alloc: Global, play: &mut Play, connection: u64) -> Result<(), Fail> {
+    let answer = play.join(alloc, connection, None, 0)?;
+    assert_eq!(rt; answer.first().copied(), Some(0), "{connection}");
+    Ok(())
+}
+
+/// Checks the answer to the 201st connection.
+fn check_last(
+    rt: &impl Abort,
+    alloc: Global,
+    play: &mut Play,
+    member: Option<u64>,
+    want: &[u64],
+) -> Result<(), Fail> {
+    let answer = play.join(alloc, 201, member, 0)?;
+    assert_eq!(rt; answer.as_slice(), want);
+    Ok(())
+}
+
+#[test]
+fn a_full_group(rt: HostRuntime) -> Result<(), Fail> {
     let mut play = Play::new(rt.alloc(), 6_000, 0);
     for connection in 1..201 {
-        let answer = play.join(rt.alloc(), connection, None, 0)?;
-        assert_eq!(rt; answer.first().copied(), Some(0), "{connection}");
+        check_new(&rt, rt.alloc(), &mut play, connection)?;
     }
-    assert_eq!(rt;
-        play.join(rt.alloc(), 201, None, 0)?.as_slice(),
-        [81].as_slice()
-    );
-    assert_eq!(rt;
-        play.join(rt.alloc(), 201, Some(200), 0)?.as_slice(),
-        [0, 200, 27, 0].as_slice()
-    );
+    check_last(&rt, rt.alloc(), &mut play, None, &[81])?;
+    check_last(&rt, rt.alloc(), &mut play, Some(200), &[0, 200, 27, 0])
+}
+
+/// Checks the answer to a join that lists the protocols.
+fn check_listed(
+    rt: &impl Abort,
+    alloc: Global,
+    play: &mut Play,
+    (connection, member): (u64, Option<u64>),
+    protocols: &[JoinProtocol<'_>],
+    want: &[u64],
+) -> Result<(), Fail> {
+    let answer = play.join_with(alloc, connection, member, protocols, 0)?;
+    assert_eq!(rt; answer.as_slice(), want);
     Ok(())
+}
+
+/// The first member joins, the second one does, and the first one joins again.
+fn check_three_joins(
+    rt: &impl Abort,
+    alloc: Global,
+    first: &[JoinProtocol<'_>],
+    second: &[JoinProtocol<'_>],
+) -> Result<(), Fail> {
+    let mut play = Play::new(alloc, 10000, 20000);
+    let alone = &[0, 1, 1001, 1, 1, 1, 2001];
+    check_listed(rt, alloc, &mut play, (1, None), first, alone)?;
+    check_listed(rt, alloc, &mut play, (2, None), second, &[0])?;
+    let both = &[0, 1, 1002, 1, 1, 1, 2002, 2, 2005, 2, 1002, 1, 2];
+    check_listed(rt, alloc, &mut play, (1, Some(1)), first, both)
 }
 
 #[test]
 fn names_that_repeat(rt: HostRuntime) -> Result<(), Fail> {
     let first = [offer("a", &[1]), offer("b", &[2]), offer("a", &[3])];
     let second = [offer("c", &[4]), offer("b", &[5]), offer("b", &[6])];
-    let mut play = Play::new(rt.alloc(), 10000, 20000);
-    assert_eq!(rt;
-        play.join_with(rt.alloc(), 1, None, &first, 0)?.as_slice(),
-        [0, 1, 1001, 1, 1, 1, 2001].as_slice()
-    );
-    assert_eq!(rt;
-        play.join_with(rt.alloc(), 2, None, &second, 0)?.as_slice(),
-        [0].as_slice()
-    );
-    assert_eq!(rt;
-        play.join_with(rt.alloc(), 1, Some(1), &first, 0)?
-            .as_slice(),
-        [0, 1, 1002, 1, 1, 1, 2002, 2, 2005, 2, 1002, 1, 2].as_slice()
-    );
-    Ok(())
+    check_three_joins(&rt, rt.alloc(), &first, &second)
 }
 
 #[test]

@@ -129,6 +129,7 @@ retained_from w place (Some start) = moved_to w place start (step w.known (start
 abbrev pub retain : World → Place → World × Bool
 retain w place = retained_from w place (due w place)
 
+-- the partition of that number of the topic of an instance
 abbrev pub numbered : ℕ → ℕ → Place
 numbered instance number = record { instance = instance; number = number }
 

@@ -1,6 +1,6 @@
 -- What the broker's steps leave of it.
 use Rattle.std.proofs.Common.{◌≡◌, ◌≢◌, ◌++◌, ◌+◌, ◌<◌, ℕ, List, [], ◌∷◌, length, get_or, set, eqb, Some, None, Result, Ok, Err, OnOk, OnErr, Bool, true, false, suc, inl, inr, refl, sym, ◌∙◌, ap, subst, arith}
-use Rattle.std.specs.Prelude.{map, max, ◌^◌, ◌≤◌, not, cond, nat_lt, Option}
+use Rattle.std.specs.Prelude.{max, ◌^◌, ◌≤◌, not, cond, nat_lt, Option}
 use Rattle.std.specs.List.{position, position_or_len}
 use Rattle.std.proofs.lemmas.List.Quantifiers.{position-Some}
 use Rattle.std.specs.Option.{is_some}
@@ -8,23 +8,23 @@ use Rattle.std.specs.Result.{is_err}
 use Rattle.std.specs.List.{AllByRecursion}
 use Rattle.std.proofs.lemmas.Bool.Decides.{nat_tests}
 use Rattle.std.proofs.lemmas.List.{get_or_default, length-map}
-use Rattle.kb_tenant.specs.Hosted.{TenantState, AreRetained}
+use Rattle.kb_tenant.specs.Hosted.{TenantState, IsTurn, AreRetained}
 use Rattle.kb_machine.specs.Session.{Stage, Greets, BoundTo, Session, fresh, shut_down, without_wait, is_free, fed, room, can}
 use Rattle.kb_machine.specs.Machine.{Comes, Moment, Line, first_able, work}
 use Rattle.kb_machine.specs.Owners.{find_line, whose}
 use Rattle.kb_machine.specs.Broker.{BrokerState, AreUnready, AnyWait, IsReady, IsSound, IsStep, IsUntaken, is_deaf}
 use Rattle.kb_machine.specs.declared.whom.Whom.{Whom}
-use Rattle.kb_machine.specs.Turned.{Scope, Of, Everybody, IsStill, AreStill, IsGoing, is_resting, AreUntouched, IsFed, SameOthers, Turned, Served, Waked, IsPassedOver}
+use Rattle.kb_machine.specs.Turned.{Scope, Of, Everybody, IsStill, AreStill, IsGoing, is_resting, IsFed, SameOthers, Turned, Served, Waked, IsPassedOver}
 use Rattle.kb_machine.proofs.Quiet.{quiet-turn}
 use Rattle.kb_machine.proofs.Sets.{IsAt, all-at, all-map, all-set, all-still, find-set_other, work-set, first-still, still-none}
 use Rattle.kb_machine.proofs.Parts.{count, turn-then, calm-right, eqb_same}
 use Rattle.kb_machine.proofs.Owned.{found as found-all}
 use Rattle.kb_machine.proofs.Steps.{begun, sound-begun, all-unready, due-unready, step-moment}
 use Rattle.kb_machine.proofs.Wakes.{turned-quiet}
-use Rattle.kb_machine.proofs.Turns.{going-then, turned-same, untouched-then, turned-greeting, served-bound, refused-greeting}
+use Rattle.kb_machine.proofs.Turns.{going-then, turned-same, untouched-then, turned-greeting, called-going, greeting-going, refused-going, served-bound, refused-greeting}
 use Rattle.kb_machine.proofs.Feeds.{still-settled, fed-kept, fed-refused, fed-bound, step-comes, step-nothing, step-shut}
 use Rattle.kb_connection.specs.View.{with_session}
-use Rattle.kb_broker.specs.Places.{numbers, number_at, waits_in, WaitsUntil, AreWaiting, Leaves, IsSpent, IsTakenAt, IsTurnAt, AreIdle, IsNext, IsScoped, IsCountedAt, IsServedAt, IsServedFor, IsQuietAt}
+use Rattle.kb_broker.specs.Places.{numbers, number_at, waits_in, WaitsUntil, AreWaiting, Leaves, IsSpent, IsTakenAt, IsTurnAt, AreIdle, IsNext, IsScoped, IsCountedAt, IsCountedFor, IsServedAt, IsServedFor, IsQuietAt}
 use Rattle.kb_broker.proofs.Placed.{IsFound, at-read, get-at, find-found, number_at-is}
 
 -- 1. A connection at a place changes
@@ -46,9 +46,9 @@ pub work-put : (b : BrokerState) (i : ℕ) (l m : Line) (ls : List Line) → IsA
 work-put b i l m ls at e lt = let h = work-set b.lines i l m at in let f = ap work e in omega (arith, h, f)
 
 -- the piece was taken
-pub fed-put : (a b : BrokerState) (i : ℕ) (l m : Line) (piece : List ℕ) → a ≡ b → IsReady b → IsAt b.lines i l → m ≡ with_session l (fed piece l.session) → IsFed (number_at i b) piece b (put_at a i m)
-fed-put a b i l m piece e ready at is =
-    let f = fed-kept b i l m piece ready at (ap (λ (x : Line). x.number) is) (ap (λ (x : Line). x.session) is) in
+pub fed-put : (a b : BrokerState) (i : ℕ) (l m : Line) (piece : List ℕ) → a ≡ b → IsSound b → first_able b.lines ≡ None → IsAt b.lines i l → m ≡ with_session l (fed piece l.session) → IsFed (number_at i b) piece b (put_at a i m)
+fed-put a b i l m piece e sound settled at is =
+    let f = fed-kept b i l m piece sound settled at (ap (λ (x : Line). x.number) is) (ap (λ (x : Line). x.session) is) in
     let g : IsFed (number_at i b) piece b (put_at b i m) = subst (λ n. IsFed n piece b (put_at b i m)) (sym (number_at-is b i l at)) f in
     subst (λ (x : BrokerState). IsFed (number_at i b) piece b (put_at x i m)) (sym e) g
 
@@ -59,13 +59,13 @@ abbrev pub put_with : BrokerState → ℕ → Line → List TenantState → Brok
 put_with b i m us = record b { lines = set b.lines i m; tenants = us }
 
 -- of the connection at a place and of the tenants, what its turn left in any case
-pub record IsTaken (b : BrokerState) (i : ℕ) (l m : Line) (us : List TenantState) : Type 0 where
+pub record IsTaken (H : Type 0) (b : BrokerState) (i : ℕ) (l m : Line) (us : List TenantState) : Type 0 where
   pub next : IsNext i b
   pub at : IsAt b.lines i l
   pub able : can l.session ≡ true
   pub number : m.number ≡ l.number
   pub spent : IsSpent l.session m.session
-  pub turn : IsTurnAt l.session.stage b.tenants us
+  pub turn : IsTurnAt H l.session.stage b.tenants us
 
 first-can : (ls : List Line) (l : Line) → first_able ls ≡ Some l → can l.session ≡ true
 first-can [] l e = absurd (cc)
@@ -82,8 +82,8 @@ pub next-can : (b : BrokerState) (i : ℕ) (l : Line) → IsNext i b → IsAt b.
 next-can b i l next at = first-can b.lines l (first-at b i l next at)
 
 -- the same, where a is what the broker's own fields are
-pub taken-at : (a b : BrokerState) (i : ℕ) (l m : Line) (us : List TenantState) → a ≡ b → IsNext i b → l ≡ get_or a.lines i l → m.number ≡ l.number → IsSpent l.session m.session → IsTurnAt l.session.stage a.tenants us → IsTaken b i l m us
-taken-at a b i l m us e next read n spent turn =
+pub taken-at : (H : Type 0) (a b : BrokerState) (i : ℕ) (l m : Line) (us : List TenantState) → a ≡ b → IsNext i b → l ≡ get_or a.lines i l → m.number ≡ l.number → IsSpent l.session m.session → IsTurnAt H l.session.stage a.tenants us → IsTaken H b i l m us
+taken-at H a b i l m us e next read n spent turn =
     let at = at-read a b i l e next.within read in
     record {
       next = next;
@@ -91,7 +91,7 @@ taken-at a b i l m us e next read n spent turn =
       able = next-can b i l next at;
       number = n;
       spent = spent;
-      turn = subst (λ (x : BrokerState). IsTurnAt l.session.stage x.tenants us) e turn;
+      turn = subst (λ (x : BrokerState). IsTurnAt H l.session.stage x.tenants us) e turn;
     }
 
 -- one that can take a turn does not wait
@@ -107,22 +107,28 @@ able-free s e = grind (arith, e)
 pub able-stage : (s : Session) → can s ≡ true → without_wait s.stage ≡ s.stage
 able-stage s e = free-stage s.stage (able-free s e)
 
+-- the connection and the tenants, whatever the store says
+pub taken-going : (H : Type 0) (b : BrokerState) (i : ℕ) (l m : Line) (us : List TenantState) (st : Stage) → IsTaken H b i l m us → l.session.stage ≡ st → IsTurnAt H st b.tenants us → IsTakenAt H b.setup b.clock st b.tenants us l.session m.session → IsGoing b (put_with b i m us)
+taken-going H b i l m us (Greets h) k s turn is = subst (λ ts. IsGoing b (put_with b i m ts)) (sym turn) (greeting-going b i l m h k.next.sound k.at s k.number is)
+taken-going H b i l m us (BoundTo t w) k s turn is = called-going b i t l m H us k.next.sound k.at (record { wait = w; is = s }) k.number (k.spent.stage t w s) turn
+
 -- nothing was refused to the connection
-pub served-taken : (scope : Scope) (b : BrokerState) (i : ℕ) (l m : Line) (us : List TenantState) (st : Stage) → AreStill scope b → IsTaken b i l m us → l.session.stage ≡ st → IsTurnAt st b.tenants us → IsTakenAt b.setup b.clock st b.tenants us l.session m.session →
+pub served-taken : (H : Type 0) → H → (scope : Scope) (b : BrokerState) (i : ℕ) (l m : Line) (us : List TenantState) (st : Stage) → AreStill scope b → IsTaken H b i l m us → l.session.stage ≡ st → IsTurnAt H st b.tenants us → IsTakenAt H b.setup b.clock st b.tenants us l.session m.session →
     IsServedAt st scope b (put_with b i m us)
-served-taken scope b i l m us (Greets h) still k s turn is = subst (λ ts. Turned scope b (put_with b i m ts)) (sym turn) (turned-greeting scope b i l m h k.next.sound still k.at (first-at b i l k.next k.at) k.able s k.number is)
-served-taken scope b i l m us (BoundTo t w) still k s turn is = served-bound scope b i t l m w (Unit {0}) us k.next.sound still k.at (first-at b i l k.next k.at) k.able s k.number (k.spent.stage t w s) turn tt (is tt)
+served-taken H honest scope b i l m us (Greets h) still k s turn is = subst (λ ts. Turned scope b (put_with b i m ts)) (sym turn) (turned-greeting scope b i l m h k.next.sound still k.at (first-at b i l k.next k.at) k.able s k.number is)
+served-taken H honest scope b i l m us (BoundTo t w) still k s turn is = served-bound scope b i t l m w H us k.next.sound still k.at (first-at b i l k.next k.at) k.able s k.number (k.spent.stage t w s) turn honest (is honest)
 
 -- it made no waiting fetch ready
-quiet-at : (scope : Scope) (b : BrokerState) (i : ℕ) (l m : Line) (us : List TenantState) (st : Stage) → AreUnready AnyWait b → IsTaken b i l m us → l.session.stage ≡ st → IsTurnAt st b.tenants us → IsServedAt st scope b (put_with b i m us) → IsQuietAt b.setup b.clock st b.tenants us l.session m.session → Turned scope b (put_with b i m us)
-quiet-at scope b i l m us (Greets h) unready k s turn served quiet = served
-quiet-at scope b i l m us (BoundTo t w) unready k s turn served quiet =
+quiet-at : (H : Type 0) → H → (scope : Scope) (b : BrokerState) (i : ℕ) (l m : Line) (us : List TenantState) (st : Stage) → AreUnready AnyWait b → IsTaken H b i l m us → l.session.stage ≡ st → IsTurnAt H st b.tenants us → IsServedAt st scope b (put_with b i m us) → IsQuietAt b.setup b.clock st b.tenants us l.session m.session →
+    Turned scope b (put_with b i m us)
+quiet-at H honest scope b i l m us (Greets h) unready k s turn served quiet = served
+quiet-at H honest scope b i l m us (BoundTo t w) unready k s turn served quiet =
     turned-quiet t scope b (put_with b i m us) served
-    (quiet-turn b i t l m us (Unit {0}) turn tt unready k.at (able-free l.session k.able) (ap without_wait s) (k.spent.stage t w s) quiet.session quiet.kept quiet.ready)
+    (quiet-turn b i t l m us H turn honest unready k.at (able-free l.session k.able) (ap without_wait s) (k.spent.stage t w s) quiet.session quiet.kept quiet.ready)
 
-pub served-quiet : (scope : Scope) (b : BrokerState) (i : ℕ) (l m : Line) (us : List TenantState) → AreStill scope b → AreUnready AnyWait b → IsTaken b i l m us → IsTakenAt b.setup b.clock l.session.stage b.tenants us l.session m.session →
+pub served-quiet : (H : Type 0) → H → (scope : Scope) (b : BrokerState) (i : ℕ) (l m : Line) (us : List TenantState) → AreStill scope b → AreUnready AnyWait b → IsTaken H b i l m us → IsTakenAt H b.setup b.clock l.session.stage b.tenants us l.session m.session →
     IsQuietAt b.setup b.clock l.session.stage b.tenants us l.session m.session → Turned scope b (put_with b i m us)
-served-quiet scope b i l m us still unready k is quiet = quiet-at scope b i l m us l.session.stage unready k refl k.turn (served-taken scope b i l m us l.session.stage still k refl k.turn is) quiet
+served-quiet H honest scope b i l m us still unready k is quiet = quiet-at H honest scope b i l m us l.session.stage unready k refl k.turn (served-taken H honest scope b i l m us l.session.stage still k refl k.turn is) quiet
 
 -- whose waiting fetches are then looked at
 pub served-for : (st : Stage) (scope : Scope) (b c : BrokerState) → IsServedAt st scope b c → IsServedFor (whose st) scope b c
@@ -133,8 +139,8 @@ served-for (BoundTo t w) scope b c s = s
 pub others-put : (b : BrokerState) (i : ℕ) (l m : Line) (ls : List Line) → IsAt b.lines i l → m.number ≡ l.number → ls ≡ set b.lines i m → (k : ℕ) → k ≢ number_at i b → find_line k ls ≡ find_line k b.lines
 others-put b i l m ls at n is k ne = ap (find_line k) is ∙ find-set_other k b.lines i l m at n (λ e. ne (e ∙ sym (number_at-is b i l at)))
 
-pub work-taken : (b : BrokerState) (i : ℕ) (l m : Line) (us : List TenantState) → IsTaken b i l m us → work (put_with b i m us).lines < work b.lines
-work-taken b i l m us h = work-put b i l m (set b.lines i m) h.at refl h.spent.less
+pub work-taken : (H : Type 0) (b : BrokerState) (i : ℕ) (l m : Line) (us : List TenantState) → IsTaken H b i l m us → work (put_with b i m us).lines < work b.lines
+work-taken H b i l m us h = work-put b i l m (set b.lines i m) h.at refl h.spent.less
 
 -- 3. A connection was shut at a place, with a count
 
@@ -160,15 +166,15 @@ pub lines-counted : (st : Stage) (b c : BrokerState) → IsCountedAt st b c → 
 lines-counted (Greets h) b c r = ap (λ (x : BrokerState). x.lines) r.is
 lines-counted (BoundTo t w) b c r = ap (λ (x : BrokerState). x.lines) r.is
 
-fed-counted : (b c : BrokerState) (i : ℕ) (l m : Line) (piece : List ℕ) (st : Stage) → IsReady b → IsAt b.lines i l → l.session.stage ≡ st → m.number ≡ l.number → m.session ≡ shut_down l.session → IsCountedAt st (put_at b i m) c → IsFed l.number piece b c
-fed-counted b c i l m piece (Greets h) ready at s n e r =
-    subst (λ x. IsFed l.number piece b x) (sym r.is) (fed-refused b i l m piece h c.unbound_refusals ready at s n e r.grows r.counted)
-fed-counted b c i l m piece (BoundTo t w) ready at s n e r =
-    subst (λ x. IsFed l.number piece b x) (sym r.is) (fed-bound b i t l m piece w (Unit {0}) c.tenants ready at s n e r.turn tt r.stays r.counted)
+fed-counted : (b c : BrokerState) (i : ℕ) (l m : Line) (piece : List ℕ) (st : Stage) → IsSound b → first_able b.lines ≡ None → IsAt b.lines i l → l.session.stage ≡ st → m.number ≡ l.number → m.session ≡ shut_down l.session → IsCountedAt st (put_at b i m) c → IsFed l.number piece b c
+fed-counted b c i l m piece (Greets h) sound settled at s n e r =
+    subst (λ x. IsFed l.number piece b x) (sym r.is) (fed-refused b i l m piece h c.unbound_refusals sound settled at s n e r.grows r.counted)
+fed-counted b c i l m piece (BoundTo t w) sound settled at s n e r =
+    subst (λ x. IsFed l.number piece b x) (sym r.is) (fed-bound b i t l m piece w (Unit {0}) c.tenants sound settled at s n e r.turn tt r.stays r.counted)
 
-pub fed-shut : (b c : BrokerState) (i : ℕ) (l m : Line) (piece : List ℕ) → IsReady b → IsShut b c i l m → IsFed (number_at i b) piece b c
-fed-shut b c i l m piece ready h =
-    subst (λ n. IsFed n piece b c) (sym (number_at-is b i l h.at)) (fed-counted b c i l m piece l.session.stage ready h.at refl (ap (λ (x : Line). x.number) h.is) (ap (λ (x : Line). x.session) h.is) h.counted)
+pub fed-shut : (b c : BrokerState) (i : ℕ) (l m : Line) (piece : List ℕ) → IsSound b → first_able b.lines ≡ None → IsShut b c i l m → IsFed (number_at i b) piece b c
+fed-shut b c i l m piece sound settled h =
+    subst (λ n. IsFed n piece b c) (sym (number_at-is b i l h.at)) (fed-counted b c i l m piece l.session.stage sound settled h.at refl (ap (λ (x : Line). x.number) h.is) (ap (λ (x : Line). x.session) h.is) h.counted)
 
 -- a piece leaves a wait as it is, or ends it
 until-fed : (due : Option ℕ) (piece : List ℕ) (s : Session) → WaitsUntil due s.stage → WaitsUntil due (fed piece s).stage
@@ -203,23 +209,33 @@ none-waiting None ls e all = all-map (λ (l : Line). WaitsUntil None l.session.s
 pub at-inside : (a b : BrokerState) (i : ℕ) (l : Line) → a ≡ b → IsAt b.lines i l → IsAt a.lines i l
 at-inside a b i l e at = subst (λ (x : BrokerState). IsAt x.lines i l) (sym e) at
 
+-- a call that asks nothing of the store
+pub turn-sure : (H : Type 0) (t : ℕ) (ts us : List TenantState) → IsTurn t (Unit {0}) ts us → IsTurn t H ts us
+turn-sure H t ts us turn = record { names = turn.names; grows = turn.grows; counts = turn.counts; others = λ honest. turn.others tt }
+
 -- a turn that was refused to the connection, and counted
-pub served-refused : (scope : Scope) (b c : BrokerState) (i : ℕ) (l m : Line) (us : List TenantState) (st : Stage) → AreStill scope b → IsTaken b i l m us → l.session.stage ≡ st → m.session ≡ shut_down l.session → IsTurnAt st b.tenants us → IsCountedAt st (put_with b i m us) c → IsServedAt st scope b c
-served-refused scope b c i l m us (Greets h) still k s e turn r =
+turn-refused : (H : Type 0) (t : ℕ) (b c : BrokerState) (i : ℕ) (m : Line) (us : List TenantState) → IsTurn t H b.tenants us → IsCountedFor t (put_with b i m us) c → IsTurn t H b.tenants c.tenants
+turn-refused H t b c i m us turn r = turn-then t H H b.tenants us c.tenants (λ u. u) turn (turn-sure H t us c.tenants r.turn)
+
+pub refused-taken : (H : Type 0) (b c : BrokerState) (i : ℕ) (l m : Line) (us : List TenantState) (st : Stage) → IsTaken H b i l m us → l.session.stage ≡ st → m.session ≡ shut_down l.session → IsTurnAt H st b.tenants us → IsCountedAt st (put_with b i m us) c → IsGoing b c
+refused-taken H b c i l m us (Greets h) k s e turn r =
+    let g = subst (λ ts. IsGoing b (record (put_with b i m ts) { unbound_refusals = c.unbound_refusals })) (sym turn) (refused-going b i l m h c.unbound_refusals k.next.sound k.at s k.number e r.grows) in
+    subst (λ x. IsGoing b x) (sym r.is) g
+refused-taken H b c i l m us (BoundTo t w) k s e turn r =
+    subst (λ x. IsGoing b x) (sym r.is) (called-going b i t l m H c.tenants k.next.sound k.at (record { wait = w; is = s }) k.number (k.spent.stage t w s) (turn-refused H t b c i m us turn r))
+
+pub served-refused : (H : Type 0) → H → (scope : Scope) (b c : BrokerState) (i : ℕ) (l m : Line) (us : List TenantState) (st : Stage) → AreStill scope b → IsTaken H b i l m us → l.session.stage ≡ st → m.session ≡ shut_down l.session → IsTurnAt H st b.tenants us → IsCountedAt st (put_with b i m us) c → IsServedAt st scope b c
+served-refused H honest scope b c i l m us (Greets h) still k s e turn r =
     let f = refused-greeting scope b i l m h c.unbound_refusals k.next.sound still k.at k.able s k.number e r.grows r.counted in
     let g = subst (λ ts. Turned scope b (record (put_with b i m ts) { unbound_refusals = c.unbound_refusals })) (sym turn) f in
     subst (λ x. Turned scope b x) (sym r.is) g
-served-refused scope b c i l m us (BoundTo t w) still k s e turn r =
-    let both = turn-then t (Unit {0}) (Unit {0}) b.tenants us c.tenants (λ u. u) turn r.turn in
-    let f = served-bound scope b i t l m w (Unit {0}) c.tenants k.next.sound still k.at (first-at b i l k.next k.at) k.able s k.number (k.spent.stage t w s) both tt
+served-refused H honest scope b c i l m us (BoundTo t w) still k s e turn r =
+    let f = served-bound scope b i t l m w H c.tenants k.next.sound still k.at (first-at b i l k.next k.at) k.able s k.number (k.spent.stage t w s) (turn-refused H t b c i m us turn r) honest
     (λ calm. absurd (r.counted (calm-right (count b.tenants t) (count us t) (count c.tenants t) (turn.grows t) (r.turn.grows t) calm))) in
     subst (λ x. Served t scope b x) (sym r.is) f
 
-pub work-refused : (b c : BrokerState) (i : ℕ) (l m : Line) (us : List TenantState) (st : Stage) → IsTaken b i l m us → IsCountedAt st (put_with b i m us) c → work c.lines < work b.lines
-work-refused b c i l m us st h r = work-put b i l m c.lines h.at (lines-counted st (put_with b i m us) c r) h.spent.less
-
-pub served-sound : (t : ℕ) (b c : BrokerState) → IsScoped b → ((scope : Scope) → AreStill scope b → IsServedFor (Some t) scope b c) → IsSound c
-served-sound t b c still served = (served still.0 still.1).going.sound
+pub work-refused : (H : Type 0) (b c : BrokerState) (i : ℕ) (l m : Line) (us : List TenantState) (st : Stage) → IsTaken H b i l m us → IsCountedAt st (put_with b i m us) c → work c.lines < work b.lines
+work-refused H b c i l m us st h r = work-put b i l m c.lines h.at (lines-counted st (put_with b i m us) c r) h.spent.less
 
 -- 4. Turns until none is left
 
@@ -266,8 +282,8 @@ pub idle-settled : (b : BrokerState) (i : ℕ) (l : Line) → IsSound b → IsAt
 idle-settled b i l sound at idle stuck = still-none 0 b.last b.lines i l sound.rising at (subst (λ n. AreIdle n b) (number_at-is b i l at) idle) stuck
 
 -- after a piece came, the connection that it came on alone can take a turn
-pub idle-fed : (n : ℕ) (piece : List ℕ) (a b : BrokerState) → IsReady a → IsFed n piece a b → AreIdle n b
-idle-fed n piece a b ready given = idle-others n a b given.going.sound given.others (all-map (λ (l : Line). can l.session ≡ false) (λ (l : Line). l.number ≢ n → can l.session ≡ false) (λ l still ne. still) a.lines (all-still a.lines ready.settled))
+pub idle-fed : (n : ℕ) (piece : List ℕ) (a b : BrokerState) → first_able a.lines ≡ None → IsFed n piece a b → AreIdle n b
+idle-fed n piece a b settled given = idle-others n a b given.going.sound given.others (all-map (λ (l : Line). can l.session ≡ false) (λ (l : Line). l.number ≢ n → can l.session ≡ false) (λ l still ne. still) a.lines (all-still a.lines settled))
 
 pub length-numbers : (a b : BrokerState) → numbers b ≡ numbers a → length b.lines ≡ length a.lines
 length-numbers a b e = sym (length-map b.lines (λ (x : Line). x.number)) ∙ (ap length e ∙ length-map a.lines (λ (x : Line). x.number))
@@ -369,79 +385,83 @@ others-taken a b c i n l piece ready f fed turned k ne free =
 -- 6. A moment
 
 -- the clock moved, and then retention left this
-pub record HasBegun (now : ℕ) (whom : Whom) (a s : BrokerState) : Type 0 where
+pub record HasBegun (H : Type 0) (now : ℕ) (whom : Whom) (a s : BrokerState) : Type 0 where
   pub is : s ≡ begun a now s.tenants
-  pub retained : AreRetained (max a.clock now) (Unit {0}) a.tenants s.tenants
-  pub leaves : Leaves whom a.tenants s.tenants
+  pub retained : AreRetained (max a.clock now) H a.tenants s.tenants
+  pub leaves : H → Leaves whom a.tenants s.tenants
 
-pub has-begun : (now clock : ℕ) (whom : Whom) (a b s : BrokerState) → a ≡ b → clock ≡ max a.clock now → AreRetained clock (Unit {0}) a.tenants s.tenants → s ≡ record a { clock = clock; tenants = s.tenants } → Leaves whom a.tenants s.tenants → HasBegun now whom b s
-has-begun now clock whom a b s e is retained rest leaves =
-    subst (λ (x : BrokerState). HasBegun now whom x s) e
+pub has-begun : (H : Type 0) (now clock : ℕ) (whom : Whom) (a b s : BrokerState) → a ≡ b → clock ≡ max a.clock now → AreRetained clock H a.tenants s.tenants → s ≡ record a { clock = clock; tenants = s.tenants } → (H → Leaves whom a.tenants s.tenants) → HasBegun H now whom b s
+has-begun H now clock whom a b s e is retained rest leaves =
+    subst (λ (x : BrokerState). HasBegun H now whom x s) e
     (record {
       is = rest ∙ ap (λ n. record a { clock = n; tenants = s.tenants }) is;
-      retained = subst (λ n. AreRetained n (Unit {0}) a.tenants s.tenants) is retained;
+      retained = subst (λ n. AreRetained n H a.tenants s.tenants) is retained;
       leaves = leaves;
     })
 
-pub in-time : (b : BrokerState) (now : ℕ) → IsReady b → now ≤ 2 ^ 62 → max b.clock now ≤ 2 ^ 62
-in-time b now ready le = let h = ready.sound.clock in grind (arith, h, le)
+pub in-time : (b : BrokerState) (now : ℕ) → IsSound b → now ≤ 2 ^ 62 → max b.clock now ≤ 2 ^ 62
+in-time b now sound le = let h = sound.clock in grind (arith, h, le)
 
-pub sound-after : (now : ℕ) (whom : Whom) (a s : BrokerState) → IsReady a → now ≤ 2 ^ 62 → HasBegun now whom a s → IsSound s
-sound-after now whom a s ready le h = subst IsSound (sym h.is) (sound-begun a now (max a.clock now) (Unit {0}) s.tenants ready.sound h.retained (in-time a now ready le))
+pub sound-after : (H : Type 0) (now : ℕ) (whom : Whom) (a s : BrokerState) → IsSound a → now ≤ 2 ^ 62 → HasBegun H now whom a s → IsSound s
+sound-after H now whom a s sound le h = subst IsSound (sym h.is) (sound-begun a now (max a.clock now) H s.tenants sound h.retained (in-time a now sound le))
 
 -- what can be ready after it is looked at
 begun-unready : (whom : Whom) (a : BrokerState) (now : ℕ) (ts : List TenantState) → AreUnready AnyWait a → Leaves whom a.tenants ts → AreUnready (IsPassedOver whom (max a.clock now)) (begun a now ts)
 begun-unready whom a now ts u (inl all) = subst (λ w. AreUnready (IsPassedOver w (max a.clock now)) (begun a now ts)) (sym all) (all-unready (begun a now ts) (max a.clock now))
 begun-unready whom a now ts u (inr due) = subst (λ w. AreUnready (IsPassedOver w (max a.clock now)) (begun a now ts)) (sym due.0) (due-unready a now ts due.1 u)
 
-pub unready-over : (now : ℕ) (whom : Whom) (a s : BrokerState) → IsReady a → HasBegun now whom a s → AreUnready (IsPassedOver whom s.clock) s
-unready-over now whom a s ready h = subst (λ (x : BrokerState). AreUnready (IsPassedOver whom x.clock) x) (sym h.is) (begun-unready whom a now s.tenants ready.unready h.leaves)
+pub unready-over : (H : Type 0) → H → (now : ℕ) (whom : Whom) (a s : BrokerState) → IsReady a → HasBegun H now whom a s → AreUnready (IsPassedOver whom s.clock) s
+unready-over H honest now whom a s ready h = subst (λ (x : BrokerState). AreUnready (IsPassedOver whom x.clock) x) (sym h.is) (begun-unready whom a now s.tenants ready.unready (h.leaves honest))
 
--- then waiting fetches were looked at, and then there were turns until none was left
-pub record IsMoved (now : ℕ) (whom : Whom) (a s b c : BrokerState) : Type 0 where
+pub idle-none : (H : Type 0) (now : ℕ) (whom : Whom) (a s b : BrokerState) → first_able a.lines ≡ None → HasBegun H now whom a s → b ≡ s → first_able b.lines ≡ None
+idle-none H now whom a s b settled h same = ap (λ (x : BrokerState). first_able x.lines) (same ∙ h.is) ∙ settled
+
+-- then waiting fetches were looked at, and then there were turns until none was left; an honest store is spoken of
+pub record IsMoved (H : Type 0) (now : ℕ) (whom : Whom) (a s b c : BrokerState) : Type 0 where
   pub ready : IsReady a
-  pub begun : HasBegun now whom a s
+  pub begun : HasBegun H now whom a s
   pub waked : Waked whom s b
   pub rest : AreUnready (IsPassedOver whom s.clock) s → AreUnready AnyWait b
   pub turned : (scope : Scope) → AreStill scope b → Turned scope b c
   pub none : first_able c.lines ≡ None
 
-module _ (now : ℕ) (whom : Whom) (a s b : BrokerState) (ready : IsReady a) (h : HasBegun now whom a s) (waked : Waked whom s b) where
-  waked-begun : Waked whom (begun a now s.tenants) b
-  waked-begun = subst (λ x. Waked whom x b) h.is waked
+module _ (H : Type 0) (now : ℕ) (whom : Whom) (a s b : BrokerState) (settled : first_able a.lines ≡ None) (h : HasBegun H now whom a s) where
+  waked-begun : Waked whom s b → Waked whom (begun a now s.tenants) b
+  waked-begun waked = subst (λ x. Waked whom x b) h.is waked
 
-  pub waked-still : AreStill Everybody b
-  waked-still = waked-begun.still Everybody (λ t h. tt) (still-settled Everybody (begun a now s.tenants) ready.settled)
+  pub waked-still : Waked whom s b → AreStill Everybody b
+  waked-still waked = (waked-begun waked).still Everybody (λ t h. tt) (still-settled Everybody (begun a now s.tenants) settled)
 
-module _ (now : ℕ) (whom : Whom) (a s b c : BrokerState) (m : IsMoved now whom a s b c) where
+  -- whatever the store says
+  pub moved-going : (c : BrokerState) → IsGoing s b → IsGoing b c → IsGoing (begun a now s.tenants) c
+  moved-going c first then = going-then (begun a now s.tenants) b c (subst (λ x. IsGoing x b) h.is first) then
+
+module _ (H : Type 0) (honest : H) (now : ℕ) (whom : Whom) (a s b c : BrokerState) (m : IsMoved H now whom a s b c) where
   waked : Waked whom (begun a now s.tenants) b
-  waked = waked-begun now whom a s b m.ready m.begun m.waked
+  waked = waked-begun H now whom a s b m.ready.settled m.begun m.waked
 
   turned : Turned Everybody b c
-  turned = m.turned Everybody (waked-still now whom a s b m.ready m.begun m.waked)
+  turned = m.turned Everybody (waked-still H now whom a s b m.ready.settled m.begun m.waked)
 
   unready : AreUnready AnyWait b
-  unready = m.rest (unready-over now whom a s m.ready m.begun)
-
-  pub moved-going : IsGoing (begun a now s.tenants) c
-  moved-going = going-then (begun a now s.tenants) b c waked.going turned.going
+  unready = m.rest (unready-over H honest now whom a s m.ready m.begun)
 
   pub moved-step : IsStep (Moment now) a c
-  moved-step = step-moment now whom a b c s.tenants m.begun.retained waked unready turned m.none
+  moved-step = step-moment now whom a b c s.tenants H honest m.begun.retained waked unready turned m.none
 
-  pub moved-ready : IsReady c
-  moved-ready = record { sound = moved-going.sound; settled = m.none; unready = turned.unready unready }
+  pub moved-unready : AreUnready AnyWait c
+  moved-unready = turned.unready unready
 
   pub moved-others : (k : ℕ) → waits_in (find_line k a.lines) ≡ false → find_line k c.lines ≡ find_line k a.lines
   moved-others k free = untouched-then (begun a now s.tenants) b c waked.untouched turned.untouched k (resting-free k a a m.ready free)
 
 -- where nothing was looked at there are no turns
-pub moved-idle : (now : ℕ) (whom : Whom) (a s b : BrokerState) → IsReady a → HasBegun now whom a s → Waked whom s b → (AreUnready (IsPassedOver whom s.clock) s → AreUnready AnyWait b) → b ≡ s → IsMoved now whom a s b b
-moved-idle now whom a s b ready h waked rest same = record {
+pub moved-idle : (H : Type 0) (now : ℕ) (whom : Whom) (a s b : BrokerState) → IsReady a → HasBegun H now whom a s → Waked whom s b → (AreUnready (IsPassedOver whom s.clock) s → AreUnready AnyWait b) → b ≡ s → IsMoved H now whom a s b b
+moved-idle H now whom a s b ready h waked rest same = record {
   ready = ready;
   begun = h;
   waked = waked;
   rest = rest;
   turned = λ scope still. turned-same scope b waked.going.sound still;
-  none = ap (λ (x : BrokerState). first_able x.lines) (same ∙ h.is) ∙ ready.settled;
+  none = idle-none H now whom a s b ready.settled h same;
 }

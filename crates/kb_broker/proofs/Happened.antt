@@ -1,31 +1,52 @@
--- What each call is to the broker: the engine's own state a is the one that clauses see, b.
-use Rattle.std.proofs.Common.{◌≡◌, ◌<◌, ℕ, Result, Ok, Err, OnOk, OnErr, sym, subst}
-use Rattle.kb_machine.specs.Machine.{Opens, Closes}
-use Rattle.kb_machine.specs.Broker.{BrokerState, IsReady, IsStep}
+-- What each call is to the broker on its store: the engine's own a is the one that clauses see, b.
+use Rattle.std.proofs.Common.{◌≡◌, ◌<◌, ℕ, None, Result, Ok, Err, OnOk, OnErr, sym, ◌∙◌, subst, ap}
+use Rattle.kb_store.specs.Disk.{Disk}
+use Rattle.kb_machine.specs.Machine.{Opens, Closes, first_able}
+use Rattle.kb_machine.specs.Broker.{BrokerState, AreUnready, AnyWait, IsSound, IsStep}
 use Rattle.kb_machine.specs.Calls.{IsRefused, opened, closed, taken}
-use Rattle.kb_machine.proofs.Steps.{ready-opened, step-opened, step-unopened, ready-closed, step-closed}
-use Rattle.kb_machine.proofs.Taken.{ready-taken}
+use Rattle.kb_machine.proofs.Steps.{sound-opened, settled-opened, unready-opened, step-opened, step-unopened, sound-closed, settled-closed, unready-closed, step-closed}
+use Rattle.kb_machine.proofs.Taken.{sound-taken, settled-taken, unready-taken}
+use Rattle.kb_broker.specs.Hosts.{OnStore, is_honest, IsReadyOn, StepsTo}
 
-ready-refused : (a c : BrokerState) → IsReady a → IsRefused a c → IsReady c
-ready-refused a c r h = subst IsReady (sym h.is) (record { sound = record { rising = r.sound.rising; in_range = r.sound.in_range; users = r.sound.users; clock = r.sound.clock }; settled = r.settled; unready = r.unready })
+-- another state on the same store
+module _ {S : Type 0} (disk : S → Disk) (a c : OnStore S) (same : c.store ≡ a.store) where
+  still-honest : is_honest disk c → is_honest disk a
+  still-honest honest = subst (λ s. (disk s).honest) same honest
 
-pub connected-ready : {A E : Type 0} (r : Result A E) (a b c : BrokerState) (n : ℕ) → a ≡ b → IsReady a → b.last < n → OnOk r (c ≡ opened a n) → OnErr r (IsRefused a c) → IsReady c
-connected-ready (Ok x) a b c n e ready lt ok err = let up : a.last < n = subst (λ (x : BrokerState). x.last < n) (sym e) lt in subst IsReady (sym ok) (ready-opened a n ready up)
-connected-ready (Err x) a b c n e ready lt ok err = ready-refused a c ready err
+  pub ready-on : (x : BrokerState) → c.state ≡ x → IsReadyOn disk a → IsSound x → first_able x.lines ≡ None → (AreUnready AnyWait a.state → AreUnready AnyWait x) → IsReadyOn disk c
+  ready-on x is ready sound settled unready = record {
+    sound = subst IsSound (sym is) sound;
+    settled = ap (λ (y : BrokerState). first_able y.lines) is ∙ settled;
+    unready = λ honest. subst (AreUnready AnyWait) (sym is) (unready (ready.unready (still-honest honest)));
+  }
 
-pub connected : {A E : Type 0} (r : Result A E) (a b c : BrokerState) (n : ℕ) → a ≡ b → IsReady a → b.last < n → OnOk r (c ≡ opened a n) → OnErr r (IsRefused a c) → IsStep (Opens n) b c
-connected (Ok x) a b c n e ready lt ok err =
-    let up : a.last < n = subst (λ (x : BrokerState). x.last < n) (sym e) lt in
-    subst (λ x. IsStep (Opens n) x c) e (subst (λ x. IsStep (Opens n) a x) (sym ok) (step-opened a n ready up))
-connected (Err x) a b c n e ready lt ok err =
-    let up : a.last < n = subst (λ (x : BrokerState). x.last < n) (sym e) lt in
-    subst (λ x. IsStep (Opens n) x c) e (subst (λ x. IsStep (Opens n) a x) (sym err.is) (step-unopened a n c.unbound_refusals ready up err.grows err.counted))
+sound-refused : (b c : BrokerState) → IsSound b → IsRefused b c → IsSound (record b { unbound_refusals = c.unbound_refusals })
+sound-refused b c s h = record { rising = s.rising; in_range = s.in_range; users = s.users; clock = s.clock }
 
-pub disconnected-ready : (a c : BrokerState) (n : ℕ) → IsReady a → c ≡ closed a n → IsReady c
-disconnected-ready a c n ready h = subst IsReady (sym h) (ready-closed a n ready)
+pub connected-ready : {S A E : Type 0} (disk : S → Disk) (r : Result A E) (a b c : OnStore S) (n : ℕ) → a ≡ b → IsReadyOn disk a → b.state.last < n → c.store ≡ a.store → OnOk r (c.state ≡ opened a.state n) → OnErr r (IsRefused a.state c.state) → IsReadyOn disk c
+connected-ready disk (Ok x) a b c n e ready lt same ok err =
+    let up : a.state.last < n = subst (λ (x : OnStore _). x.state.last < n) (sym e) lt in
+    ready-on disk a c same (opened a.state n) ok ready (sound-opened a.state n ready.sound up) (settled-opened a.state n ready.settled) (unready-opened a.state n)
+connected-ready disk (Err x) a b c n e ready lt same ok err =
+    ready-on disk a c same (record a.state { unbound_refusals = c.state.unbound_refusals }) err.is ready (sound-refused a.state c.state ready.sound err) ready.settled (λ u. u)
 
-pub disconnected : (a b c : BrokerState) (n : ℕ) → a ≡ b → c ≡ closed a n → IsStep (Closes n) b c
-disconnected a b c n e h = subst (λ x. IsStep (Closes n) x c) e (subst (λ x. IsStep (Closes n) a x) (sym h) (step-closed a n))
+connected-step : {A E : Type 0} (r : Result A E) (a c : BrokerState) (n : ℕ) → a.last < n → OnOk r (c ≡ opened a n) → OnErr r (IsRefused a c) → IsStep (Opens n) a c
+connected-step (Ok x) a c n lt ok err = subst (λ x. IsStep (Opens n) a x) (sym ok) (step-opened a n lt)
+connected-step (Err x) a c n lt ok err = subst (λ x. IsStep (Opens n) a x) (sym err.is) (step-unopened a n c.unbound_refusals lt err.grows err.counted)
 
-pub drained-ready : (a c : BrokerState) (n : ℕ) → IsReady a → c ≡ taken a n → IsReady c
-drained-ready a c n ready h = subst IsReady (sym h) (ready-taken a n ready)
+pub connected : {S A E : Type 0} (disk : S → Disk) (r : Result A E) (a b c : OnStore S) (n : ℕ) → a ≡ b → b.state.last < n → OnOk r (c.state ≡ opened a.state n) → OnErr r (IsRefused a.state c.state) → StepsTo disk (Opens n) b c
+connected disk r a b c n e lt ok err = λ honest.
+    let up : a.state.last < n = subst (λ (x : OnStore _). x.state.last < n) (sym e) lt in
+    subst (λ (x : OnStore _). IsStep (Opens n) x.state c.state) e (connected-step r a.state c.state n up ok err)
+
+pub disconnected-ready : {S : Type 0} (disk : S → Disk) (a c : OnStore S) (n : ℕ) → IsReadyOn disk a → c ≡ record a { state = closed a.state n } → IsReadyOn disk c
+disconnected-ready disk a c n ready h =
+    ready-on disk a c (ap (λ (x : OnStore _). x.store) h) (closed a.state n) (ap (λ (x : OnStore _). x.state) h) ready (sound-closed a.state n ready.sound) (settled-closed a.state n ready.settled) (unready-closed a.state n)
+
+pub disconnected : {S : Type 0} (disk : S → Disk) (a b c : OnStore S) (n : ℕ) → a ≡ b → c ≡ record a { state = closed a.state n } → StepsTo disk (Closes n) b c
+disconnected disk a b c n e h = λ honest.
+    subst (λ (x : OnStore _). IsStep (Closes n) x.state c.state) e (subst (λ x. IsStep (Closes n) a.state x) (sym (ap (λ (x : OnStore _). x.state) h)) (step-closed a.state n))
+
+pub drained-ready : {S : Type 0} (disk : S → Disk) (a c : OnStore S) (n : ℕ) → IsReadyOn disk a → c ≡ record a { state = taken a.state n } → IsReadyOn disk c
+drained-ready disk a c n ready h =
+    ready-on disk a c (ap (λ (x : OnStore _). x.store) h) (taken a.state n) (ap (λ (x : OnStore _). x.state) h) ready (sound-taken a.state n ready.sound) (settled-taken a.state n ready.settled) (unready-taken a.state n)

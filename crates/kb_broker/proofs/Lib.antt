@@ -1,3 +1,4 @@
+pub mod Honest
 pub mod Placed
 pub mod Handled
 pub mod Looked

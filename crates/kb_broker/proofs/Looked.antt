@@ -1,5 +1,5 @@
 -- Waiting fetches that are looked at again, one after another.
-use Rattle.std.proofs.Common.{◌≡◌, ◌≤◌, ℕ, zero, suc, List, [], ◌∷◌, length, take, set, Bool, true, false, Option, Some, None, refl, sym, ◌∙◌, ap, subst, arith, inl, inr}
+use Rattle.std.proofs.Common.{◌≡◌, ◌≤◌, ◌+◌, ℕ, zero, suc, List, [], ◌∷◌, length, take, set, true, false, Option, Some, None, refl, sym, ◌∙◌, ap, subst, arith, inl, inr}
 use Rattle.std.specs.Prelude.{◌⊎◌}
 use Rattle.std.specs.List.{AllByRecursion}
 use Rattle.std.proofs.lemmas.List.{set-get_or, take_all}
@@ -9,12 +9,12 @@ use Rattle.kb_machine.specs.Machine.{Line}
 use Rattle.kb_machine.specs.Broker.{BrokerState, IsSound, IsUnready, AreUnready, AnyWait, kept_of}
 use Rattle.kb_machine.specs.declared.whom.Whom.{Whom}
 use Rattle.kb_machine.specs.declared.whom.Whom.TheVariants as whoms
-use Rattle.kb_machine.specs.Turned.{Concerns, Waked, IsLookedFor, IsPassedOver}
+use Rattle.kb_machine.specs.Turned.{Concerns, IsGoing, Waked, IsLookedFor, IsPassedOver}
 use Rattle.kb_machine.proofs.Sets.{IsAt, all-at, all-set, all-map, tail-at, no-at, work-set}
 use Rattle.kb_machine.proofs.Wakes.{waked-same, waked-then, waked-line}
-use Rattle.kb_broker.specs.Places.{sooner, WaitsUntil, AreWaiting, IsPassed, ArePassed, IsPassedBy, IsLookedAt, AreWaked}
+use Rattle.kb_broker.specs.Places.{numbers, sooner, WaitsUntil, AreWaiting, IsPassed, ArePassed, IsPassedBy, IsLookedAt, AreWaked, IsOneMore}
 use Rattle.std.proofs.lemmas.Bool.Decides.{nat_tests}
-use Rattle.kb_machine.proofs.Turns.{unready-same, weaken}
+use Rattle.kb_machine.proofs.Turns.{unready-same, weaken, called-going}
 use Rattle.kb_machine.proofs.Parts.{eqb_same}
 use Rattle.kb_machine.specs.Tenant.{Wait}
 use Rattle.kb_broker.proofs.Handled.{put_with, length-numbers}
@@ -68,34 +68,34 @@ passed-same b i l m us at p = ap (λ x. put_with b i x us) p.1 ∙ (ap (put_with
 passed-waked : (whom : Whom) (b : BrokerState) (i : ℕ) (l m : Line) (us : List TenantState) → IsSound b → IsAt b.lines i l → IsPassedBy b.tenants us l m → Waked whom b (put_with b i m us)
 passed-waked whom b i l m us s at p = subst (Waked whom b) (sym (passed-same b i l m us at p)) (waked-same whom b s)
 
-pub looked-waked : (whom : Whom) (b : BrokerState) (i : ℕ) (l m : Line) (us : List TenantState) (st : Stage) → IsSound b → IsAt b.lines i l → l.session.stage ≡ st → IsLookedAt whom b.clock st b.tenants us l m → Waked whom b (put_with b i m us)
-looked-waked whom b i l m us (Greets h) s at e p = passed-waked whom b i l m us s at p
-looked-waked whom b i l m us (BoundTo t None) s at e p = passed-waked whom b i l m us s at p
-looked-waked whom b i l m us (BoundTo t (Some w)) s at e (inl p) = passed-waked whom b i l m us s at p.1
-looked-waked whom b i l m us (BoundTo t (Some w)) s at e (inr p) = let k = p.1 in waked-line whom b i t l m w (Unit {0}) us s at e (concerned whom b.clock t w p.0) k.number k.stage k.turn tt k.stays (λ calm. k.meets tt calm)
+pub looked-waked : (H : Type 0) → H → (whom : Whom) (b : BrokerState) (i : ℕ) (l m : Line) (us : List TenantState) (st : Stage) → IsSound b → IsAt b.lines i l → l.session.stage ≡ st → IsLookedAt H whom b.clock st b.tenants us l m → Waked whom b (put_with b i m us)
+looked-waked H honest whom b i l m us (Greets h) s at e p = passed-waked whom b i l m us s at p
+looked-waked H honest whom b i l m us (BoundTo t None) s at e p = passed-waked whom b i l m us s at p
+looked-waked H honest whom b i l m us (BoundTo t (Some w)) s at e (inl p) = passed-waked whom b i l m us s at p.1
+looked-waked H honest whom b i l m us (BoundTo t (Some w)) s at e (inr p) = let k = p.1 in waked-line whom b i t l m w H us s at e (concerned whom b.clock t w p.0) k.number k.stage k.turn honest (k.stays honest) (λ calm. k.meets honest calm)
 
 passed-stage : (l m : Line) (st : Stage) → l.session.stage ≡ st → m ≡ l → m.session.stage ≡ st
 passed-stage l m st e same = ap (λ (x : Line). x.session.stage) same ∙ e
 
 -- what is left of it is not ready, if it is looked for
-looked-unready : (whom : Whom) (b : BrokerState) (l m : Line) (us : List TenantState) (st : Stage) → l.session.stage ≡ st → IsLookedAt whom b.clock st b.tenants us l m → IsUnready (IsLookedFor whom b.clock) b m.session.stage
-looked-unready whom b l m us (Greets h) e p = subst (IsUnready (IsLookedFor whom b.clock) b) (sym (passed-stage l m (Greets h) e p.1)) tt
-looked-unready whom b l m us (BoundTo t None) e p = subst (IsUnready (IsLookedFor whom b.clock) b) (sym (passed-stage l m (BoundTo t None) e p.1)) tt
-looked-unready whom b l m us (BoundTo t (Some w)) e (inl p) = subst (IsUnready (IsLookedFor whom b.clock) b) (sym (passed-stage l m (BoundTo t (Some w)) e p.1.1)) (λ looked. let no : true ≡ false = sym looked ∙ p.0 in absurd (cc))
-looked-unready whom b l m us (BoundTo t (Some w)) e (inr p) = weaken AnyWait (IsLookedFor whom b.clock) b (λ u x h. tt) m.session.stage (p.1.unready b refl refl)
+looked-unready : (H : Type 0) → H → (whom : Whom) (b : BrokerState) (l m : Line) (us : List TenantState) (st : Stage) → l.session.stage ≡ st → IsLookedAt H whom b.clock st b.tenants us l m → IsUnready (IsLookedFor whom b.clock) b m.session.stage
+looked-unready H honest whom b l m us (Greets h) e p = subst (IsUnready (IsLookedFor whom b.clock) b) (sym (passed-stage l m (Greets h) e p.1)) tt
+looked-unready H honest whom b l m us (BoundTo t None) e p = subst (IsUnready (IsLookedFor whom b.clock) b) (sym (passed-stage l m (BoundTo t None) e p.1)) tt
+looked-unready H honest whom b l m us (BoundTo t (Some w)) e (inl p) = subst (IsUnready (IsLookedFor whom b.clock) b) (sym (passed-stage l m (BoundTo t (Some w)) e p.1.1)) (λ looked. let no : true ≡ false = sym looked ∙ p.0 in absurd (cc))
+looked-unready H honest whom b l m us (BoundTo t (Some w)) e (inr p) = weaken AnyWait (IsLookedFor whom b.clock) b (λ u x h. tt) m.session.stage (p.1.unready honest b refl refl)
 
 -- and where it was not ready if it is passed over, it is not ready in any case
-looked-rest : (whom : Whom) (b : BrokerState) (l m : Line) (us : List TenantState) (st : Stage) → l.session.stage ≡ st → IsLookedAt whom b.clock st b.tenants us l m → IsUnready (IsPassedOver whom b.clock) b l.session.stage → IsUnready AnyWait b m.session.stage
-looked-rest whom b l m us (Greets h) e p u = subst (IsUnready AnyWait b) (sym (passed-stage l m (Greets h) e p.1)) tt
-looked-rest whom b l m us (BoundTo t None) e p u = subst (IsUnready AnyWait b) (sym (passed-stage l m (BoundTo t None) e p.1)) tt
-looked-rest whom b l m us (BoundTo t (Some w)) e (inl p) u = subst (IsUnready AnyWait b) (sym (passed-stage l m (BoundTo t (Some w)) e p.1.1)) (λ any. subst (IsUnready (IsPassedOver whom b.clock) b) e u p.0)
-looked-rest whom b l m us (BoundTo t (Some w)) e (inr p) u = p.1.unready b refl refl
+looked-rest : (H : Type 0) → H → (whom : Whom) (b : BrokerState) (l m : Line) (us : List TenantState) (st : Stage) → l.session.stage ≡ st → IsLookedAt H whom b.clock st b.tenants us l m → IsUnready (IsPassedOver whom b.clock) b l.session.stage → IsUnready AnyWait b m.session.stage
+looked-rest H honest whom b l m us (Greets h) e p u = subst (IsUnready AnyWait b) (sym (passed-stage l m (Greets h) e p.1)) tt
+looked-rest H honest whom b l m us (BoundTo t None) e p u = subst (IsUnready AnyWait b) (sym (passed-stage l m (BoundTo t None) e p.1)) tt
+looked-rest H honest whom b l m us (BoundTo t (Some w)) e (inl p) u = subst (IsUnready AnyWait b) (sym (passed-stage l m (BoundTo t (Some w)) e p.1.1)) (λ any. subst (IsUnready (IsPassedOver whom b.clock) b) e u p.0)
+looked-rest H honest whom b l m us (BoundTo t (Some w)) e (inr p) u = p.1.unready honest b refl refl
 
-looked-unread : (whom : Whom) (clock : ℕ) (old new : List TenantState) (l m : Line) (st : Stage) → IsLookedAt whom clock st old new l m → length m.session.unread ≤ length l.session.unread
-looked-unread whom clock old new l m (Greets h) p = let e = ap (λ (x : Line). length x.session.unread) p.1 in omega (arith, e)
-looked-unread whom clock old new l m (BoundTo t None) p = let e = ap (λ (x : Line). length x.session.unread) p.1 in omega (arith, e)
-looked-unread whom clock old new l m (BoundTo t (Some w)) (inl p) = let e = ap (λ (x : Line). length x.session.unread) p.1.1 in omega (arith, e)
-looked-unread whom clock old new l m (BoundTo t (Some w)) (inr p) = p.1.unread
+looked-unread : (H : Type 0) (whom : Whom) (clock : ℕ) (old new : List TenantState) (l m : Line) (st : Stage) → IsLookedAt H whom clock st old new l m → length m.session.unread ≤ length l.session.unread
+looked-unread H whom clock old new l m (Greets h) p = let e = ap (λ (x : Line). length x.session.unread) p.1 in omega (arith, e)
+looked-unread H whom clock old new l m (BoundTo t None) p = let e = ap (λ (x : Line). length x.session.unread) p.1 in omega (arith, e)
+looked-unread H whom clock old new l m (BoundTo t (Some w)) (inl p) = let e = ap (λ (x : Line). length x.session.unread) p.1.1 in omega (arith, e)
+looked-unread H whom clock old new l m (BoundTo t (Some w)) (inr p) = p.1.unread
 
 -- 3. One after another
 
@@ -108,43 +108,61 @@ take-set P (k ∷ ls) (suc i) l m at h p = (h.0, take-set P ls i l m (tail-at k 
 all-same : (P : ℕ → Wait → Type 0) (b c : BrokerState) (ls : List Line) → c.clock ≡ b.clock → ((t : ℕ) → kept_of c t ≡ kept_of b t) → AllByRecursion (λ (l : Line). IsUnready P b l.session.stage) ls → AllByRecursion (λ (l : Line). IsUnready P c l.session.stage) ls
 all-same P b c ls clock kept h = all-map (λ (l : Line). IsUnready P b l.session.stage) (λ (l : Line). IsUnready P c l.session.stage) (λ l. unready-same P b c l.session.stage clock kept) ls h
 
-pub waked-more : (whom : Whom) (a b : BrokerState) (i : ℕ) (before due : Option ℕ) (l m : Line) (us : List TenantState) → AreWaked whom a b i before → IsAt b.lines i l → IsLookedAt whom b.clock l.session.stage b.tenants us l m →
-    WaitsUntil due m.session.stage → AreWaked whom a (put_with b i m us) (suc i) (sooner before due)
-waked-more whom a b i before due l m us v at is until =
+-- whatever the store says: numbers stay, and a bound connection stays bound
+looked-going : (H : Type 0) (whom : Whom) (b : BrokerState) (i : ℕ) (l m : Line) (us : List TenantState) (st : Stage) → IsSound b → IsAt b.lines i l → l.session.stage ≡ st → IsLookedAt H whom b.clock st b.tenants us l m → IsGoing b (put_with b i m us)
+looked-going H whom b i l m us (Greets h) s at e p = (passed-waked whom b i l m us s at p).going
+looked-going H whom b i l m us (BoundTo t None) s at e p = (passed-waked whom b i l m us s at p).going
+looked-going H whom b i l m us (BoundTo t (Some w)) s at e (inl p) = (passed-waked whom b i l m us s at p.1).going
+looked-going H whom b i l m us (BoundTo t (Some w)) s at e (inr p) = let k = p.1 in called-going b i t l m H us s at (record { wait = Some w; is = e }) k.number k.stage k.turn
+
+pub one-more : (H : Type 0) (whom : Whom) (b : BrokerState) (i : ℕ) (until : Option ℕ) (l m : Line) (us : List TenantState) → IsSound b → IsAt b.lines i l → IsLookedAt H whom b.clock l.session.stage b.tenants us l m → WaitsUntil until m.session.stage → IsOneMore i until b (put_with b i m us)
+one-more H whom b i until l m us s at is waits =
+    let less = looked-unread H whom b.clock b.tenants us l m l.session.stage is in
+    let sizes = work-set b.lines i l m at in
+    let one : suc i ≡ i + 1 = omega arith in
+    record {
+      going = looked-going H whom b i l m us l.session.stage s at refl is;
+      work = omega (arith, less, sizes);
+      waits = λ due all. subst (λ n. AreWaiting (sooner due until) (take n (set b.lines i m))) one
+          (take-set (λ (k : Line). WaitsUntil (sooner due until) k.session.stage) b.lines i l m at (waiting-sooner due until (take i b.lines) all) (until-other due until m.session.stage waits));
+    }
+
+pub waked-more : (H : Type 0) → H → (whom : Whom) (a b : BrokerState) (i : ℕ) (l m : Line) (us : List TenantState) → AreWaked whom a b i → IsAt b.lines i l → IsLookedAt H whom b.clock l.session.stage b.tenants us l m → AreWaked whom a (put_with b i m us) (suc i)
+waked-more H honest whom a b i l m us v at is =
     let c = put_with b i m us in
     let over : ℕ → Wait → Type 0 = IsPassedOver whom a.clock in
-    let q = looked-waked whom b i l m us l.session.stage v.waked.going.sound at refl is in
-    let less = looked-unread whom b.clock b.tenants us l m l.session.stage is in
-    let sizes = work-set b.lines i l m at in
+    let q = looked-waked H honest whom b i l m us l.session.stage v.waked.going.sound at refl is in
     let clock = v.waked.going.clock in
-    let left = λ (u : AreUnready over a). looked-rest whom b l m us l.session.stage refl is (subst (λ n. IsUnready (IsPassedOver whom n) b l.session.stage) (sym clock) (all-at (λ (k : Line). IsUnready over b k.session.stage) b.lines i l at (v.over u))) in
+    let left = λ (u : AreUnready over a). looked-rest H honest whom b l m us l.session.stage refl is (subst (λ n. IsUnready (IsPassedOver whom n) b l.session.stage) (sym clock) (all-at (λ (k : Line). IsUnready over b k.session.stage) b.lines i l at (v.over u))) in
     record {
       waked = waked-then whom a b c v.waked q;
       looked = take-set (λ (k : Line). IsUnready (IsLookedFor whom a.clock) c k.session.stage) b.lines i l m at
           (all-same (IsLookedFor whom a.clock) b c (take i b.lines) refl q.kept v.looked)
-          (unready-same (IsLookedFor whom a.clock) b c m.session.stage refl q.kept (subst (λ n. IsUnready (IsLookedFor whom n) b m.session.stage) clock (looked-unready whom b l m us l.session.stage refl is)));
+          (unready-same (IsLookedFor whom a.clock) b c m.session.stage refl q.kept (subst (λ n. IsUnready (IsLookedFor whom n) b m.session.stage) clock (looked-unready H honest whom b l m us l.session.stage refl is)));
       rest = λ u. take-set (λ (k : Line). IsUnready AnyWait c k.session.stage) b.lines i l m at
           (all-same AnyWait b c (take i b.lines) refl q.kept (v.rest u))
           (unready-same AnyWait b c m.session.stage refl q.kept (left u));
       over = λ u. all-set (λ (k : Line). IsUnready over c k.session.stage) b.lines i m (all-same over b c b.lines refl q.kept (v.over u)) (unready-same over b c m.session.stage refl q.kept (weaken AnyWait over b (λ t w h. tt) m.session.stage (left u)));
-      waits = take-set (λ (k : Line). WaitsUntil (sooner before due) k.session.stage) b.lines i l m at (waiting-sooner before due (take i b.lines) v.waits) (until-other before due m.session.stage until);
-      work = (let le = v.work in omega (arith, le, less, sizes));
     }
 
 -- all were looked at
-pub record AllWaked (whom : Whom) (a b : BrokerState) (due : Option ℕ) : Type 0 where
+pub record AllWaked (whom : Whom) (a b : BrokerState) : Type 0 where
   pub looked : AreUnready (IsLookedFor whom a.clock) b
   pub rest : AreUnready (IsPassedOver whom a.clock) a → AreUnready AnyWait b
-  pub waits : AreWaiting due b.lines
 
-pub waked-all : (whom : Whom) (a b : BrokerState) (i : ℕ) (due : Option ℕ) → AreWaked whom a b i due → length a.lines ≤ i → AllWaked whom a b due
-waked-all whom a b i due v le =
-    let all = take_all i b.lines (let n = length-numbers a b v.waked.going.numbers in omega (arith, n, le)) in
+all-lines : (a b : BrokerState) (i : ℕ) → numbers b ≡ numbers a → length a.lines ≤ i → take i b.lines ≡ b.lines
+all-lines a b i same le = take_all i b.lines (let n = length-numbers a b same in omega (arith, n, le))
+
+pub waked-all : (whom : Whom) (a b : BrokerState) (i : ℕ) → AreWaked whom a b i → length a.lines ≤ i → AllWaked whom a b
+waked-all whom a b i v le =
+    let all = all-lines a b i v.waked.going.numbers le in
     record {
       looked = subst (AllByRecursion (λ (l : Line). IsUnready (IsLookedFor whom a.clock) b l.session.stage)) all v.looked;
       rest = λ u. subst (AllByRecursion (λ (l : Line). IsUnready AnyWait b l.session.stage)) all (v.rest u);
-      waits = subst (AreWaiting due) all v.waits;
     }
+
+pub waiting-all : (a b : BrokerState) (i : ℕ) (due : Option ℕ) → numbers b ≡ numbers a → length a.lines ≤ i → AreWaiting due (take i b.lines) → AreWaiting due b.lines
+waiting-all a b i due same le waits = subst (AreWaiting due) (all-lines a b i same le) waits
 
 -- where no wait is looked for, none that is looked for is ready, and one that is not ready if it is passed over is not ready
 passed-looked : (whom : Whom) (b : BrokerState) (st : Stage) → IsPassed whom b.clock st → IsUnready (IsLookedFor whom b.clock) b st

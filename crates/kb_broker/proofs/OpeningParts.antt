@@ -12,11 +12,13 @@ use Rattle.kb_settings.specs.Settings.{is_host, is_within}
 use Rattle.kb_api_group.specs.Layouts.{api_version}
 use Rattle.kb_api_group.specs.declared.api_versions.ApiVersion.{ApiVersion}
 use Rattle.kb_tenant.specs.Hosted.{TenantState, new_tenant}
-use Rattle.kb_tenant.specs.declared.node.Node.{Node}
 use Rattle.kb_machine.specs.Greeting.{User as Login, Setup}
-use Rattle.kb_machine.specs.Broker.{BrokerState, IsReady}
+use Rattle.kb_machine.specs.Machine.{first_able}
+use Rattle.kb_machine.specs.Broker.{BrokerState, AreUnready, AnyWait, IsSound}
+use Rattle.kb_store.specs.Disk.{Disk}
+use Rattle.kb_broker.specs.Hosts.{OnStore, IsReadyOn}
 use Rattle.kb_settings.specs.Names.{place_of}
-use Rattle.kb_broker.specs.Opening.{tenant_of, tenants_of, login_of, listed, opening_listing}
+use Rattle.kb_broker.specs.Opening.{tenant_of, tenants_of, login_of, opening_listing, opening_setup}
 use Rattle.kb_broker.specs.declared.opening.Listing.{Listing}
 use Rattle.kb_settings.specs.declared.settings.User.{User}
 use Rattle.kb_settings.specs.declared.settings.Settings.{Settings}
@@ -44,23 +46,24 @@ all-map : {X Y : Type 0} (P : Y → Type 0) (f : X → Y) (xs : List X) → AllB
 all-map P f [] all = tt
 all-map P f (x ∷ xs) all = (all.0, all-map P f xs all.1)
 
--- the broker at its start is ready for an event
-pub opening-ready : (listing : Listing) (s : Settings) → IsReady (opening_listing listing s)
-opening-ready listing s =
+-- the broker at its start is ready for an event, on any store
+pub opening-ready : {S : Type 0} (disk : S → Disk) (listing : Listing) (s : Settings) (b : OnStore S) → b.state ≡ opening_listing listing s → IsReadyOn disk b
+opening-ready disk listing s b is =
     let users : List User = s.users.items in
     let names : List (List ℕ) = tenants_of users in
     let below : AllByRecursion (λ (u : User). place_of (tenant_of u) names < length (map new_tenant names)) users = recursion_from_All _ users (λ k d lt.
     subst (λ (n : ℕ). place_of (tenant_of (get_or users k d)) names < n) (sym (length-map names new_tenant))
     (place-below names (tenant_of (get_or users k d)) (rises-in_order (map tenant_of users)) (tenant-in users k (get_or users k d) lt (get_or_default users k d (get_or users k d) lt)))) in
+    let sound : IsSound (opening_listing listing s) = record {
+      rising = lit≤ tt;
+      in_range = tt;
+      users = all-map (λ (u : Login). u.tenant < length (map new_tenant names)) (login_of names) users below;
+      clock = lit≤ tt;
+    } in
     record {
-      sound = record {
-        rising = lit≤ tt;
-        in_range = tt;
-        users = all-map (λ (u : Login). u.tenant < length (map new_tenant names)) (login_of names) users below;
-        clock = lit≤ tt;
-      };
-      settled = refl;
-      unready = tt;
+      sound = subst IsSound (sym is) sound;
+      settled = ap (λ (x : BrokerState). first_able x.lines) is;
+      unready = λ honest. subst (AreUnready AnyWait) (sym is) tt;
     }
 
 map-twice : {X Y Z : Type 0} (f : X → Y) (g : Y → Z) (xs : List X) → map (λ x. g (f x)) xs ≡ map g (map f xs)
@@ -68,18 +71,11 @@ map-twice f g [] = refl
 map-twice f g (x ∷ xs) = ap (λ zs. g (f x) ∷ zs) (map-twice f g xs)
 
 -- a broker that is made of these parts is the one at its start
-pub opening-made : {X : Type 0} (listing : Listing) (f : X → List ℕ) (s : Settings) (users again : List User) (names : List X) (versions : List ApiVersion) (logins : List Login) (node : Node) (tenants : List TenantState) (setup : Setup) (b : BrokerState)
-    → users ≡ s.users.items → again ≡ s.users.items → map f names ≡ tenants_of users
-    → logins ≡ map (login_of (tenants_of again)) again → tenants ≡ map (λ n. new_tenant (f n)) names → versions ≡ listed listing
-    → node ≡ record { host = string_bytes s.host; port = s.port }
-    → setup ≡ record { versions = versions; users = logins; node = node }
+pub opening-made : {X : Type 0} (listing : Listing) (f : X → List ℕ) (s : Settings) (users : List User) (names : List X) (tenants : List TenantState) (setup : Setup) (b : BrokerState)
+    → users ≡ s.users.items → map f names ≡ tenants_of users → tenants ≡ map (λ n. new_tenant (f n)) names → setup ≡ opening_setup listing s
     → b ≡ record { setup = setup; tenants = tenants; unbound_refusals = 0; clock = 0; last = 0; lines = [] }
     → b ≡ opening_listing listing s
-opening-made listing f s users again names versions logins node tenants setup b u a n l p v told made is =
+opening-made listing f s users names tenants setup b u n p fixed is =
     let start : Setup → List TenantState → BrokerState = λ setup tenants. record { setup = setup; tenants = tenants; unbound_refusals = 0; clock = 0; last = 0; lines = [] } in
-    let with : List ApiVersion → List Login → Node → Setup = λ versions users node. record { versions = versions; users = users; node = node } in
     let named : tenants ≡ map new_tenant (tenants_of s.users.items) = p ∙ map-twice f new_tenant names ∙ ap (map new_tenant) (n ∙ ap tenants_of u) in
-    let logged : logins ≡ map (login_of (tenants_of s.users.items)) s.users.items = l ∙ ap (λ (us : List User). map (login_of (tenants_of us)) us) a in
-    let fixed : setup ≡ with (listed listing) (map (login_of (tenants_of s.users.items)) s.users.items) (record { host = string_bytes s.host; port = s.port }) =
-    made ∙ ap (λ vs. with vs logins node) v ∙ ap (λ us. with (listed listing) us node) logged ∙ ap (with (listed listing) (map (login_of (tenants_of s.users.items)) s.users.items)) told in
-    is ∙ ap (λ setup. start setup tenants) fixed ∙ ap (start (with (listed listing) (map (login_of (tenants_of s.users.items)) s.users.items) (record { host = string_bytes s.host; port = s.port }))) named
+    is ∙ ap (λ setup. start setup tenants) fixed ∙ ap (start (opening_setup listing s)) named

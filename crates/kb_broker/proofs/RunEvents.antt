@@ -1,13 +1,14 @@
 -- What one event leads to.
 use Rattle.std.proofs.Common.{◌≡◌, ℕ, ◌≤◌, List, [], ◌∷◌, eqb, Bool, true, false, Option, Some, None, refl, sym, ◌∙◌, ap, arith}
-use Rattle.std.specs.Prelude.{map, Result, Ok, Err, OnOk, OnErr}
+use Rattle.std.specs.Prelude.{map, Result, Ok, Err, OnErr}
 use Rattle.std.specs.Result.{is_err}
 use Rattle.std.proofs.lemmas.Bool.Decides.{nat_tests}
 use Rattle.kb_machine.specs.Session.{Session}
 use Rattle.kb_machine.specs.Machine.{Line, Sent, Closes, sent, those, leaving}
 use Rattle.kb_machine.specs.Owners.{find_line}
-use Rattle.kb_machine.specs.Broker.{BrokerState, IsReady, Rising}
+use Rattle.kb_machine.specs.Broker.{BrokerState, IsSound, Rising}
 use Rattle.kb_machine.specs.Calls.{is_open, is_shut, output_of, open_in, shut_in, output_in}
+use Rattle.kb_broker.specs.Hosts.{OnStore}
 
 -- 1. What a closing connection got
 
@@ -38,26 +39,33 @@ same_sent v w e f g =
     let q : a ≡ b = ap (λ n. let x : Sent = record { number = w.number; bytes = n; shut = v.shut } in x) f in
     p ∙ (q ∙ ap (λ n. let x : Sent = record { number = w.number; bytes = w.bytes; shut = n } in x) g)
 
-pub closes-open : (n : ℕ) (b : BrokerState) (w : Sent) → IsReady b → is_open n b ≡ true → w.number ≡ n → w.bytes ≡ output_of n b → w.shut ≡ is_shut n b → w ∷ [] ≡ leaving (Closes n) b.lines
-closes-open n b w r o e f g = by (find_line n b.lines) o f g ∙ sym (closes-found 0 b.last n b.lines r.sound.rising)
+pub closes-open : (n : ℕ) (b : BrokerState) (w : Sent) → IsSound b → is_open n b ≡ true → w.number ≡ n → w.bytes ≡ output_of n b → w.shut ≡ is_shut n b → w ∷ [] ≡ leaving (Closes n) b.lines
+closes-open n b w r o e f g = by (find_line n b.lines) o f g ∙ sym (closes-found 0 b.last n b.lines r.rising)
   where
     by : (x : Option Session) → open_in x ≡ true → w.bytes ≡ output_in x → w.shut ≡ shut_in x → w ∷ [] ≡ got_in n x
     by None o f g = absurd (cc)
     by (Some s) o f g = ap (λ x. x ∷ []) (same_sent w (record { number = n; bytes = s.output; shut = s.shut }) e f g)
 
-pub closes-closed : (n : ℕ) (b : BrokerState) → IsReady b → is_open n b ≡ false → leaving (Closes n) b.lines ≡ []
-closes-closed n b r o = closes-found 0 b.last n b.lines r.sound.rising ∙ by (find_line n b.lines) o
+pub closes-closed : (n : ℕ) (b : BrokerState) → IsSound b → is_open n b ≡ false → leaving (Closes n) b.lines ≡ []
+closes-closed n b r o = closes-found 0 b.last n b.lines r.rising ∙ by (find_line n b.lines) o
   where
     by : (x : Option Session) → open_in x ≡ false → got_in n x ≡ []
     by None o = refl
     by (Some s) o = absurd (cc)
 
--- 2. A connection that was kept, or not
-
-pub when_ok : {A E : Type 0} (r : Result A E) (P : Type 0) → is_err r ≡ false → OnOk r P → P
-when_ok (Ok a) P e h = h
-when_ok (Err x) P e h = absurd (cc)
+-- 2. A connection that was not kept
 
 pub when_err : {A E : Type 0} (r : Result A E) (P : Type 0) → is_err r ≡ true → OnErr r P → P
 when_err (Ok a) P e h = absurd (cc)
 when_err (Err x) P e h = h
+
+-- 3. A broker on its store whose state alone changes
+
+pub state-is : {S : Type 0} (old new : OnStore S) (b : BrokerState) → new ≡ record old { state = b } → new.state ≡ b
+state-is {S = S} old new b is = ap (λ (x : OnStore S). x.state) is
+
+pub store-is : {S : Type 0} (old new : OnStore S) (b : BrokerState) → new ≡ record old { state = b } → new.store ≡ old.store
+store-is {S = S} old new b is = ap (λ (x : OnStore S). x.store) is
+
+pub then-state : {S : Type 0} (first old new : OnStore S) (b d e : BrokerState) → old ≡ record first { state = b } → new ≡ record old { state = e } → e ≡ d → new ≡ record first { state = d }
+then-state {S = S} first old new b d e is next same = next ∙ (ap (λ (x : OnStore S). let y : OnStore S = record x { state = e } in y) is ∙ ap (λ (s : BrokerState). let y : OnStore S = record first { state = s } in y) same)

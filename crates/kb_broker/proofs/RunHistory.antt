@@ -16,7 +16,9 @@ use Rattle.kb_machine.proofs.Runs.{run-step, those_sent-append, those_sent-map}
 use Rattle.kb_machine.proofs.Parts.{grows-then, calm-first, calm-then}
 use Rattle.kb_broker.specs.declared.run.Event.{Event}
 use Rattle.kb_broker.specs.declared.run.Event.TheVariants as events
-use Rattle.kb_broker.specs.Runs.{happening_of, happenings, is_opening, numbers, opening, connections_of, Leads, emptied, Passes}
+use Rattle.kb_store.specs.Disk.{Disk}
+use Rattle.kb_broker.specs.Hosts.{OnStore, is_honest}
+use Rattle.kb_broker.specs.Runs.{happening_of, happenings, is_opening, numbers, opening, connections_of, Leads, emptied, IsPassed, Passes}
 use Rattle.kb_broker.proofs.RunOrder.{AreRising, numbered}
 
 -- 1. What a tenant's connections got
@@ -24,9 +26,9 @@ use Rattle.kb_broker.proofs.RunOrder.{AreRising, numbered}
 grows-emptied : (b : BrokerState) → Grows b (emptied b)
 grows-emptied b = record { setup = refl; names = refl; own = λ t. omega arith; unbound = omega arith }
 
-pub grows-passes : (es : List Happening) (old new : BrokerState) (got : List Sent) → Passes es old new got → Grows old new
-grows-passes [] old new got p = subst (Grows old) (sym p.0) (grows-emptied old)
-grows-passes (e ∷ es) old new got p = grows-then old p.0 new p.3.step.grows (grows-passes es p.0 new p.2 p.4)
+pub grows-passes : (honest : Type 0) (es : List Happening) (old new : BrokerState) (got : List Sent) → honest → Passes honest es old new got → Grows old new
+grows-passes honest [] old new got h p = subst (Grows old) (sym p.0) (grows-emptied old)
+grows-passes honest (e ∷ es) old new got h p = grows-then old p.0 new (p.3.step h).grows (grows-passes honest es p.0 new p.2 h p.4)
 
 -- where nothing is refused, what ends is what closes
 ended-leaving : (e : Happening) (old new : BrokerState) (ended : List Sent) → Leads e old new ended → IsCalm old.unbound_refusals new.unbound_refusals → ended ≡ leaving e old.lines
@@ -35,15 +37,15 @@ ended-leaving (Comes n piece) old new ended h q = h.1
 ended-leaving (Closes n) old new ended h q = h.1
 ended-leaving (Moment now) old new ended h q = h.1
 
-pub run-passes : (t : ℕ) (mine : ℕ → Bool) (es : List Happening) (old new : BrokerState) (got : List Sent) → Passes es old new got → Mine t mine es old → IsCalmFor t old new → those_sent mine got ≡ run (purge mine es) (view_of t mine old)
-run-passes t mine [] old new got p m q = ap (those_sent mine) p.1 ∙ those_sent-map mine old.lines
-run-passes t mine (e ∷ es) old new got p m q =
+pub run-passes : (honest : Type 0) (t : ℕ) (mine : ℕ → Bool) (es : List Happening) (old new : BrokerState) (got : List Sent) → honest → Passes honest es old new got → Mine t mine es old → IsCalmFor t old new → those_sent mine got ≡ run (purge mine es) (view_of t mine old)
+run-passes honest t mine [] old new got h p m q = ap (those_sent mine) p.1 ∙ those_sent-map mine old.lines
+run-passes honest t mine (e ∷ es) old new got h p m q =
     let next = p.0 in
-    let step = p.3.step in
-    let grows = grows-passes es next new p.2 p.4 in
+    let step = p.3.step h in
+    let grows = grows-passes honest es next new p.2 h p.4 in
     let left = calm-first t old next new step.grows grows q in
     let right = calm-then t old next new step.grows grows q in
-    let later = run-passes t mine es next new p.2 p.4 (step.mine t mine es m left.unbound) right in
+    let later = run-passes honest t mine es next new p.2 h p.4 (step.mine t mine es m left.unbound) right in
     ap (those_sent mine) p.5
     ∙ (those_sent-append mine p.1 p.2
     ∙ (ap (λ ss. those_sent mine ss ++ those_sent mine p.2) (ended-leaving e old next p.1 p.3.leads left.unbound)
@@ -86,13 +88,13 @@ numbers-leads (Closes n) es old new ended h =
 numbers-leads (Moment now) es old new ended h = same-permutation (connections_of es old) (numbered ended ++ connections_of es new) (
     ap (λ xs. xs ++ opening es) (sym h.0) ∙ ap (λ ss. numbered ss ++ connections_of es new) (sym h.1))
 
-pub numbers-passes : (es : List Happening) (old new : BrokerState) (got : List Sent) → Passes es old new got → IsPermutation (connections_of es old) (numbered got)
-numbers-passes [] old new got p = same-permutation (numbers old.lines ++ []) (numbered got) (append-nil (numbers old.lines) ∙ (sym (numbered-sent old.lines) ∙ ap numbered (sym p.1)))
-numbers-passes (e ∷ es) old new got p =
+pub numbers-passes : (honest : Type 0) (es : List Happening) (old new : BrokerState) (got : List Sent) → Passes honest es old new got → IsPermutation (connections_of es old) (numbered got)
+numbers-passes honest [] old new got p = same-permutation (numbers old.lines ++ []) (numbered got) (append-nil (numbers old.lines) ∙ (sym (numbered-sent old.lines) ∙ ap numbered (sym p.1)))
+numbers-passes honest (e ∷ es) old new got p =
     let next = p.0 in
     IsPermutation-trans (connections_of (e ∷ es) old) (numbered p.1 ++ connections_of es next) (numbered got) (numbers-leads e es old next p.1 p.3.leads)
     (subst (IsPermutation (numbered p.1 ++ connections_of es next)) (sym (ap numbered p.5 ∙ map-append (λ (s : Sent). s.number) p.1 p.2))
-    (IsPermutation-append_right (numbered p.1) (connections_of es next) (numbered p.2) (numbers-passes es next new p.2 p.4)))
+    (IsPermutation-append_right (numbered p.1) (connections_of es next) (numbered p.2) (numbers-passes honest es next new p.2 p.4)))
 
 -- their numbers rise
 
@@ -138,6 +140,25 @@ pub room-leads : (e : Happening) (es : List Happening) (old new : BrokerState) (
 room-leads e es old new ended h =
     let p = length_permutation (connections_of (e ∷ es) old) (numbered ended ++ connections_of es new) (numbers-leads e es old new ended h) in
     omega (arith, p, length-append (numbered ended) (connections_of es new), length-map ended (λ (s : Sent). s.number))
+
+-- 4. A history as it goes on
+
+-- with what ended so far, a history of the events that are left is one of all, whatever the store has been at its end
+abbrev pub Continues : {S : Type 0} → (S → Disk) → List Happening → List Happening → OnStore S → OnStore S → List Sent → Type 0
+Continues {S = S} disk all left first now ended =
+    (last : S) → ((disk last).honest → is_honest disk now) → (new : BrokerState) (got : List Sent)
+    → Passes (disk last).honest left now.state new got → Passes (disk last).honest all first.state new (ended ++ got)
+
+pub passed-weaker : (honest later : Type 0) (e : Happening) (old new : BrokerState) (ended : List Sent) → (later → honest) → IsPassed honest e old new ended → IsPassed later e old new ended
+passed-weaker honest later e old new ended h p = record { step = λ k. p.step (h k); leads = p.leads }
+
+pub continues-next : {S : Type 0} (disk : S → Disk) (all left : List Happening) (e : Happening) (first now next : OnStore S) (before ended after : List Sent)
+    → (is_honest disk next → is_honest disk now) → after ≡ before ++ ended → IsPassed (is_honest disk next) e now.state next.state ended
+    → Continues disk all (e ∷ left) first now before → Continues disk all left first next after
+continues-next disk all left e first now next before ended after later is passed c = λ last honest new got p.
+    let truthful = (disk last).honest in
+    let here : Passes truthful (e ∷ left) now.state new (ended ++ got) = (next.state, ended, got, passed-weaker (is_honest disk next) truthful e now.state next.state ended honest passed, p, refl) in
+    subst (Passes truthful all first.state new) (sym (ap (λ ss. ss ++ got) is ∙ append_assoc before ended got)) (c last (λ h. later (honest h)) new (ended ++ got) here)
 
 -- the events that are left, by the next of them
 pub happenings-next : (all : List Event) (i : ℕ) (e : Event) → i < length all → e ≡ get_or all i e → happenings (drop i all) ≡ happening_of e ∷ happenings (drop (suc i) all)

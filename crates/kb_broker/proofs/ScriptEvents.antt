@@ -7,7 +7,7 @@ use Rattle.kb_machine.specs.Broker.{BrokerState, IsReady, IsStep}
 use Rattle.kb_machine.specs.Owners.{find_line}
 use Rattle.kb_machine.specs.Calls.{opened, closed, taken, is_calm, is_shut, output_of}
 use Rattle.kb_machine.specs.Turned.{SameOthers}
-use Rattle.kb_machine.proofs.Steps.{ready-opened, step-opened, ready-closed, step-closed}
+use Rattle.kb_machine.proofs.Steps.{sound-opened, settled-opened, unready-opened, step-opened, sound-closed, settled-closed, unready-closed, step-closed}
 use Rattle.kb_broker.specs.declared.script.ScriptFault.{ScriptFault}
 use Rattle.kb_broker.specs.declared.script.ScriptFault.TheVariants as faults
 use Rattle.kb_broker.specs.Places.{numbers}
@@ -19,7 +19,7 @@ use Rattle.kb_broker.proofs.ScriptSaid.{words-since}
 pub opens-silently : (b new : BrokerState) (n : ℕ) → IsReady b → IsQuiet b → is_calm b ≡ true → b.last < n → new ≡ opened b n → HappensSilently (Opens n) b new
 opens-silently b new n ready quiet calm above is =
     subst (λ x. HappensSilently (Opens n) b x) (sym is) (record {
-      happens = record { step = step-opened b n ready above; ready = ready-opened b n ready above; calm = calm; stands = record { open_now = λ k. open-opened b n k; last = refl } };
+      happens = record { step = step-opened b n above; ready = record { sound = sound-opened b n ready.sound above; settled = settled-opened b n ready.settled; unready = unready-opened b n ready.unready }; calm = calm; stands = record { open_now = λ k. open-opened b n k; last = refl } };
       quiet = quiet-opened b n quiet;
       silent = silent-opened b n ready.sound.rising quiet;
     })
@@ -27,7 +27,7 @@ opens-silently b new n ready quiet calm above is =
 pub closes-silently : (b new : BrokerState) (n : ℕ) → IsReady b → IsQuiet b → is_calm b ≡ true → new ≡ closed b n → HappensSilently (Closes n) b new
 closes-silently b new n ready quiet calm is =
     subst (λ x. HappensSilently (Closes n) b x) (sym is) (record {
-      happens = record { step = step-closed b n; ready = ready-closed b n ready; calm = calm; stands = record { open_now = λ k. open-closed b n k; last = refl } };
+      happens = record { step = step-closed b n; ready = record { sound = sound-closed b n ready.sound; settled = settled-closed b n ready.settled; unready = unready-closed b n ready.unready }; calm = calm; stands = record { open_now = λ k. open-closed b n k; last = refl } };
       quiet = quiet-closed b n quiet;
       silent = silent-closed b n ready.sound.rising quiet;
     })

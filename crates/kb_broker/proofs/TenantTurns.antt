@@ -1,5 +1,5 @@
 -- What a tenant's call is to the connection that it is for.
-use Rattle.std.proofs.Common.{◌≡◌, ◌≤◌, [], false, Option, Some, inr, ℕ, ℤ, List, length, Bool, true, Result, Ok, Err, OnOk, OnErr, refl, sym, ap, subst, ◌∙◌, arith}
+use Rattle.std.proofs.Common.{◌≡◌, ◌≤◌, [], false, Some, inr, ℕ, ℤ, List, length, Bool, true, Result, Ok, Err, OnOk, OnErr, refl, sym, ap, subst, ◌∙◌, arith}
 use Rattle.kb_world.specs.Parts.{END}
 use Rattle.kb_world.specs.Steps.{IsCalm}
 use Rattle.kb_world.specs.declared.place.Place.{Place}
@@ -20,9 +20,12 @@ use Rattle.kb_connection.specs.View.{with_session, without_front}
 use Rattle.kb_log.specs.ListLog.{list_log}
 use Rattle.kb_tenants.proofs.Tied.{kept_tied}
 use Rattle.kb_machine.proofs.Quiet.{quiet-ready}
-use Rattle.kb_broker.specs.Hosts.{Hosts, AreHosted, memory, tenants_in}
+use Rattle.kb_store.specs.Disk.{Disk}
+use Rattle.kb_log.specs.declared.list.ListLog.{ListLog}
+use Rattle.kb_tenants.specs.declared.tenants.Tenants.{Tenants}
+use Rattle.kb_broker.specs.Hosts.{AreHosted, tenants_in}
 use Rattle.kb_broker.specs.Places.{IsQuiet, IsSpent, IsLookedAt}
-use Rattle.kb_broker.proofs.Handled.{from_ok}
+use Rattle.kb_broker.proofs.Handled.{from_ok, turn-sure}
 use Rattle.std.proofs.Common.{eqb}
 use Rattle.std.specs.Prelude.{nat_lt, ◌&&◌, ◌∷◌, not}
 use Rattle.std.specs.Result.{is_err}
@@ -62,12 +65,12 @@ none-by [] result empty e is down = refl
 none-by (x ∷ xs) result empty e is down = absurd (grind (arith, nat_tests, e, is, down))
 
 -- where nothing was refused and no partition was touched, no waiting fetch became ready
-pub quiet-now : (node : Node) (hosts : Hosts) (us : List TenantState) (clock t : ℕ) (id key : ℤ) (body : List ℕ) (touched : List Place) (r : Answer) → AreHosted hosts
-    → IsMet t (Unit {0}) (tenants_in hosts) us (λ k l. IsOutcome id (served node (world_at k clock) key body) (world_at l clock) touched r)
-    → IsCalm (refusals_of (tenants_in hosts) t) (refusals_of us t) → touched ≡ [] → IsQuiet t clock (tenants_in hosts) us
-quiet-now node hosts us clock t id key body touched r kept meets calm none =
-    let h = meets tt calm in
-    record { calm = calm; ready = λ w. quiet-ready node (kept_of (tenants_in hosts) t) (kept_of us t) clock key body w (kept_tied list_log memory hosts kept t clock) h.0 (sym h.1 ∙ none) }
+pub quiet-now : {S : Type 0} (disk : S → Disk) (H : Type 0) → H → (node : Node) (hosts : Tenants ListLog S) (us : List TenantState) (clock t : ℕ) (id key : ℤ) (body : List ℕ) (touched : List Place) (r : Answer) → AreHosted disk hosts
+    → IsMet t H (tenants_in disk hosts) us (λ k l. IsOutcome id (served node (world_at k clock) key body) (world_at l clock) touched r)
+    → IsCalm (refusals_of (tenants_in disk hosts) t) (refusals_of us t) → touched ≡ [] → IsQuiet t clock (tenants_in disk hosts) us
+quiet-now disk H honest node hosts us clock t id key body touched r kept meets calm none =
+    let h = meets honest calm in
+    record { calm = calm; ready = λ w. quiet-ready node (kept_of (tenants_in disk hosts) t) (kept_of us t) clock key body w (kept_tied list_log disk hosts kept t clock) h.0 (sym h.1 ∙ none) }
 
 -- 2. What a turn leaves of a connection in any case
 
@@ -102,34 +105,34 @@ spent-greeted (Ok x) setup h l new greets able ok err =
 spent-greeted (Err x) setup h l new greets able ok err = spent-shut l new able err
 
 -- a matter of the connection alone leaves what its tenant keeps
-pub met-own : {A E : Type 0} (result : Result A E) (setup : Setup) (clock t : ℕ) (ts : List TenantState) (l new : Line) → IsOwn l.session → ((kept : Kept) (clock : ℕ) → OnOk result (new ≡ with_session l (served_by_turn setup kept clock l.session)))
-    → OnOk result (IsMet t (Unit {0}) ts ts (λ k m. (new.session ≡ served_by_turn setup k clock l.session) × (m ≡ put setup k clock l.session.unread)))
-met-own (Ok x) setup clock t ts l new own ok = λ honest calm. (ap (λ (x : Line). x.session) (ok (kept_of ts t) clock), sym (own.put setup (kept_of ts t) clock))
-met-own (Err x) setup clock t ts l new own ok = tt
+pub met-own : {A E : Type 0} (H : Type 0) (result : Result A E) (setup : Setup) (clock t : ℕ) (ts : List TenantState) (l new : Line) → IsOwn l.session → ((kept : Kept) (clock : ℕ) → OnOk result (new ≡ with_session l (served_by_turn setup kept clock l.session)))
+    → OnOk result (IsMet t H ts ts (λ k m. (new.session ≡ served_by_turn setup k clock l.session) × (m ≡ put setup k clock l.session.unread)))
+met-own H (Ok x) setup clock t ts l new own ok = λ honest calm. (ap (λ (x : Line). x.session) (ok (kept_of ts t) clock), sym (own.put setup (kept_of ts t) clock))
+met-own H (Err x) setup clock t ts l new own ok = tt
 
 -- 3. A look at a waiting fetch
 
 -- what the tenant answers to it is what the machine tells
-met-looked : {A E : Type 0} (result : Result A E) (clock t : ℕ) (ts us : List TenantState) (l new : Line) (w : Wait) (r : Answer) → l.session.stage ≡ BoundTo t (Some w)
-    → IsMet t (Unit {0}) ts us (λ k m. (m ≡ k) × IsAnswer w.correlation_id (looked (world_at k clock) w.deadline w.body) r)
+met-looked : {A E : Type 0} (H : Type 0) → H → (result : Result A E) (clock t : ℕ) (ts us : List TenantState) (l new : Line) (w : Wait) (r : Answer) → l.session.stage ≡ BoundTo t (Some w)
+    → IsMet t H ts us (λ k m. (m ≡ k) × IsAnswer w.correlation_id (looked (world_at k clock) w.deadline w.body) r)
     → ((id : ℤ) (reaction : Reaction) → IsAnswer id reaction r → OnOk result (new ≡ with_session l (told reaction id l.session)))
     → IsCalm (refusals_of ts t) (refusals_of us t) → OnOk result (new.session ≡ woken (kept_of ts t) clock l.session)
 unfolding ready woken_by
-met-looked (Err x) clock t ts us l new w r stage meets ok calm = tt
-met-looked (Ok x) clock t ts us l new w r stage meets ok calm =
+met-looked H honest (Err x) clock t ts us l new w r stage meets ok calm = tt
+met-looked H honest (Ok x) clock t ts us l new w r stage meets ok calm =
     let k = kept_of ts t in
-    let done = meets tt calm in
+    let done = meets honest calm in
     let is = ok w.correlation_id (looked (world_at k clock) w.deadline w.body) done.1 in
     ap (λ (x : Line). x.session) is ∙ sym (ap (woken_by k clock l.session) stage)
 
 -- a look that was not refused is told by its answer, and one that was shuts the connection
-pub looked-ok : {A E : Type 0} (result : Result A E) (whom : Whom) (clock t : ℕ) (ts us : List TenantState) (l new : Line) (w : Wait) (r : Answer) → l.session.stage ≡ BoundTo t (Some w) → IsLookedFor whom clock t w → IsTurn t (Unit {0}) ts us
-    → ((u : ℕ) → kept_of us u ≡ kept_of ts u) → IsMet t (Unit {0}) ts us (λ k m. (m ≡ k) × IsAnswer w.correlation_id (looked (world_at k clock) w.deadline w.body) r) → ((IsCalm (refusals_of ts t) (refusals_of us t) → ⊥) → r ≡ answers.Shut)
+pub looked-ok : {A E : Type 0} (H : Type 0) (result : Result A E) (whom : Whom) (clock t : ℕ) (ts us : List TenantState) (l new : Line) (w : Wait) (r : Answer) → l.session.stage ≡ BoundTo t (Some w) → IsLookedFor whom clock t w → IsTurn t H ts us
+    → (H → (u : ℕ) → kept_of us u ≡ kept_of ts u) → IsMet t H ts us (λ k m. (m ≡ k) × IsAnswer w.correlation_id (looked (world_at k clock) w.deadline w.body) r) → ((IsCalm (refusals_of ts t) (refusals_of us t) → ⊥) → r ≡ answers.Shut)
     → ((id : ℤ) (reaction : Reaction) → IsAnswer id reaction r → OnOk result (new ≡ with_session l (told reaction id l.session)))
-    → new.number ≡ l.number → without_wait new.session.stage ≡ without_wait l.session.stage → length new.session.unread ≤ length l.session.unread → is_err result ≡ false → IsLookedAt whom clock l.session.stage ts us l new
-looked-ok result whom clock t ts us l new w r stage yours turn stays meets shut ok number same unread good =
-    let met = λ (honest : Unit {0}) (calm : IsCalm (refusals_of ts t) (refusals_of us t)). let h : OnOk result (new.session ≡ woken (kept_of ts t) clock l.session) = met-looked result clock t ts us l new w r stage meets ok calm in from_ok result false (new.session ≡ woken (kept_of ts t) clock l.session) (sym good) refl h in
-    subst (λ st. IsLookedAt whom clock st ts us l new) (sym stage)
+    → new.number ≡ l.number → without_wait new.session.stage ≡ without_wait l.session.stage → length new.session.unread ≤ length l.session.unread → is_err result ≡ false → IsLookedAt H whom clock l.session.stage ts us l new
+looked-ok H result whom clock t ts us l new w r stage yours turn stays meets shut ok number same unread good =
+    let met = λ (honest : H) (calm : IsCalm (refusals_of ts t) (refusals_of us t)). let h : OnOk result (new.session ≡ woken (kept_of ts t) clock l.session) = met-looked H honest result clock t ts us l new w r stage meets ok calm in from_ok result false (new.session ≡ woken (kept_of ts t) clock l.session) (sym good) refl h in
+    subst (λ st. IsLookedAt H whom clock st ts us l new) (sym stage)
     (inr (
       yours,
       record {
@@ -139,8 +142,8 @@ looked-ok result whom clock t ts us l new w r stage yours turn stays meets shut 
         turn = turn;
         stays = stays;
         meets = met;
-        unready = λ b is now. calm-or (refusals_of ts t) (refusals_of us t)
-            (λ calm. unready-met b t w l new stage (met tt calm ∙ (ap (λ k. woken k clock l.session) (ap (λ x. kept_of x t) (sym is)) ∙ ap (λ n. woken (kept_of b.tenants t) n l.session) (sym now))))
+        unready = λ honest b is now. calm-or (refusals_of ts t) (refusals_of us t)
+            (λ calm. unready-met b t w l new stage (met honest calm ∙ (ap (λ k. woken k clock l.session) (ap (λ x. kept_of x t) (sym is)) ∙ ap (λ n. woken (kept_of b.tenants t) n l.session) (sym now))))
             (λ loud. let is-shut = from_ok result false (new ≡ with_session l (shut_down l.session)) (sym good) refl (ok w.correlation_id Shuts (subst (IsAnswer w.correlation_id Shuts) (sym (shut loud)) tt)) in subst (λ (x : Line). IsUnready AnyWait b x.session.stage) (sym is-shut) (shut-unready AnyWait b l.session));
       },
     ))
@@ -156,20 +159,20 @@ looked-ok result whom clock t ts us l new w r stage yours turn stays meets shut 
     calm-or x y calm loud = by x y (eqb y x && nat_lt x END) refl calm loud
 
 -- the reply could not be kept: the connection is shut, and a refusal was counted
-pub looked-err : (whom : Whom) (clock t : ℕ) (ts us vs : List TenantState) (l new : Line) (w : Wait) → l.session.stage ≡ BoundTo t (Some w) → IsLookedFor whom clock t w → IsTurn t (Unit {0}) ts us → IsTurn t (Unit {0}) us vs
-    → ((u : ℕ) → kept_of us u ≡ kept_of ts u) → ((u : ℕ) → kept_of vs u ≡ kept_of us u) → (IsCalm (refusals_of us t) (refusals_of vs t) → ⊥) → new ≡ with_session l (shut_down l.session)
-    → new.number ≡ l.number → without_wait new.session.stage ≡ without_wait l.session.stage → length new.session.unread ≤ length l.session.unread → IsLookedAt whom clock l.session.stage ts vs l new
-looked-err whom clock t ts us vs l new w stage yours first then stays again counted is number same unread =
-    subst (λ st. IsLookedAt whom clock st ts vs l new) (sym stage)
+pub looked-err : (H : Type 0) (whom : Whom) (clock t : ℕ) (ts us vs : List TenantState) (l new : Line) (w : Wait) → l.session.stage ≡ BoundTo t (Some w) → IsLookedFor whom clock t w → IsTurn t H ts us → IsTurn t (Unit {0}) us vs
+    → (H → (u : ℕ) → kept_of us u ≡ kept_of ts u) → ((u : ℕ) → kept_of vs u ≡ kept_of us u) → (IsCalm (refusals_of us t) (refusals_of vs t) → ⊥) → new ≡ with_session l (shut_down l.session)
+    → new.number ≡ l.number → without_wait new.session.stage ≡ without_wait l.session.stage → length new.session.unread ≤ length l.session.unread → IsLookedAt H whom clock l.session.stage ts vs l new
+looked-err H whom clock t ts us vs l new w stage yours first then stays again counted is number same unread =
+    subst (λ st. IsLookedAt H whom clock st ts vs l new) (sym stage)
     (inr (
       yours,
       record {
         number = number;
         stage = same;
         unread = unread;
-        turn = turn-then t (Unit {0}) (Unit {0}) ts us vs (λ u. u) first then;
-        stays = λ u. again u ∙ stays u;
+        turn = turn-then t H H ts us vs (λ u. u) first (turn-sure H t us vs then);
+        stays = λ honest u. again u ∙ stays honest u;
         meets = λ honest calm. absurd (counted (calm-right (refusals_of ts t) (refusals_of us t) (refusals_of vs t) (first.grows t) (then.grows t) calm));
-        unready = λ b e now. subst (λ (x : Line). IsUnready AnyWait b x.session.stage) (sym is) (shut-unready AnyWait b l.session);
+        unready = λ honest b e now. subst (λ (x : Line). IsUnready AnyWait b x.session.stage) (sym is) (shut-unready AnyWait b l.session);
       },
     ))

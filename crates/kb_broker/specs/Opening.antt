@@ -1,16 +1,19 @@
 -- The broker that opens with settings.
-use Rattle.std.specs.Prelude.{ℕ, ℤ, pos, List, [], map, string_bytes, if◌then◌else◌}
+use Rattle.std.specs.Prelude.{◌≡◌, ℕ, ℤ, pos, List, [], map, string_bytes, if◌then◌else◌}
 use Rattle.std.specs.Ordering.{int_eq}
 use Rattle.kb_api_group.specs.declared.api_versions.ApiVersion.{ApiVersion}
 use Rattle.kb_machine.specs.Requests.{served_versions}
-use Rattle.kb_machine.specs.Greeting.{User as Login}
+use Rattle.kb_machine.specs.Greeting.{Setup, User as Login}
 use Rattle.kb_tenant.specs.Hosted.{new_tenant}
 use Rattle.kb_machine.specs.Broker.{BrokerState}
 use Rattle.kb_settings.specs.Names.{in_order, place_of}
 use Rattle.kb_settings.specs.declared.settings.User.{User}
 use Rattle.kb_settings.specs.declared.settings.Settings.{Settings}
+use Rattle.kb_store.specs.Disk.{Disk, Grew}
 use Rattle.kb_broker.specs.declared.opening.Listing.{Listing}
 use Rattle.kb_broker.specs.declared.opening.Listing.TheVariants as listings
+use Rattle.kb_broker.specs.declared.opening.OpenFault.{OpenFault}
+use Rattle.kb_broker.specs.declared.opening.OpenFault.TheVariants as faults
 
 abbrev pub tenant_of : User → List ℕ
 tenant_of u = string_bytes u.tenant
@@ -39,19 +42,29 @@ listed_as listing v = record {
 abbrev pub listed : Listing → List ApiVersion
 listed listing = map (listed_as listing) served_versions
 
+-- what is fixed
+abbrev pub opening_setup : Listing → Settings → Setup
+opening_setup listing s = record {
+  versions = listed listing;
+  users = map (login_of (tenants_of s.users.items)) s.users.items;
+  node = record { host = string_bytes s.host; port = s.port };
+}
+
 -- nobody is connected, and no time has passed
 abbrev pub opening_listing : Listing → Settings → BrokerState
-opening_listing listing s =
-    let names = tenants_of s.users.items in
-    record {
-      setup = record { versions = listed listing; users = map (login_of names) s.users.items; node = record { host = string_bytes s.host; port = s.port } };
-      tenants = map new_tenant names;
-      unbound_refusals = 0;
-      clock = 0;
-      last = 0;
-      lines = [];
-    }
+opening_listing listing s = record {
+  setup = opening_setup listing s;
+  tenants = map new_tenant (tenants_of s.users.items);
+  unbound_refusals = 0;
+  clock = 0;
+  last = 0;
+  lines = [];
+}
 
 -- what is listed is what is served
 abbrev pub opening : Settings → BrokerState
 opening = opening_listing listings.Served
+
+-- `Store` is answered only where the store's failures grew
+abbrev pub BlamesStore : Disk → OpenFault → Disk → Type 0
+BlamesStore old fault new = fault ≡ faults.Store → Grew old.failures new.failures

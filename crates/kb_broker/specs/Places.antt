@@ -1,5 +1,5 @@
 -- A connection's place in the broker, its turns there, and the count of a refusal.
-use Rattle.std.specs.Prelude.{◌≡◌, ◌≢◌, ℕ, ◌<◌, ◌≤◌, List, length, take, map, get_or, Option, Some, None, Bool, true, false, not, min, ◌⊎◌, ⊤}
+use Rattle.std.specs.Prelude.{◌≡◌, ◌≢◌, ℕ, ◌<◌, ◌≤◌, ◌+◌, List, length, take, map, get_or, Option, Some, None, Bool, false, not, min, ◌⊎◌, ⊤}
 use Rattle.std.specs.List.{AllByRecursion}
 use Rattle.kb_world.specs.Steps.{IsCalm}
 use Rattle.kb_tenant.specs.Hosted as hosted
@@ -13,7 +13,7 @@ use Rattle.kb_machine.specs.Broker.{BrokerState, IsSound, IsUnready, AreUnready,
 use Rattle.kb_machine.specs.Calls.{IsRefused}
 use Rattle.kb_machine.specs.declared.whom.Whom.{Whom}
 use Rattle.kb_machine.specs.declared.whom.Whom.TheVariants as whoms
-use Rattle.kb_machine.specs.Turned.{Scope, AreStill, Turned, Served, Waked, IsLookedFor, IsPassedOver}
+use Rattle.kb_machine.specs.Turned.{Scope, AreStill, IsGoing, Turned, Served, Waked, IsLookedFor, IsPassedOver}
 
 -- the numbers of the open connections, in order
 abbrev pub numbers : BrokerState → List ℕ
@@ -73,14 +73,14 @@ pub record IsNext (i : ℕ) (b : BrokerState) : Type 0 where
   pub first : (d : Line) → first_able b.lines ≡ Some (get_or b.lines i d)
 
 -- what the turn of a connection at that stage leaves of the tenants, also where it is refused
-abbrev pub IsTurnAt : Stage → List TenantState → List TenantState → Type 0
-IsTurnAt (Greets handshaken) old new = new ≡ old
-IsTurnAt (BoundTo tenant wait) old new = IsTurn tenant (Unit {0}) old new
+abbrev pub IsTurnAt : Type 0 → Stage → List TenantState → List TenantState → Type 0
+IsTurnAt honest (Greets handshaken) old new = new ≡ old
+IsTurnAt honest (BoundTo tenant wait) old new = IsTurn tenant honest old new
 
 -- the turn of a connection at that stage that was not refused: of its session s it leaves r
-abbrev pub IsTakenAt : Setup → ℕ → Stage → List TenantState → List TenantState → Session → Session → Type 0
-IsTakenAt setup clock (Greets handshaken) old new s r = r ≡ greeted setup handshaken s
-IsTakenAt setup clock (BoundTo tenant wait) old new s r = IsMet tenant (Unit {0}) old new (λ k l. (r ≡ served setup k clock s) × (l ≡ put setup k clock s.unread))
+abbrev pub IsTakenAt : Type 0 → Setup → ℕ → Stage → List TenantState → List TenantState → Session → Session → Type 0
+IsTakenAt honest setup clock (Greets handshaken) old new s r = r ≡ greeted setup handshaken s
+IsTakenAt honest setup clock (BoundTo tenant wait) old new s r = IsMet tenant honest old new (λ k l. (r ≡ served setup k clock s) × (l ≡ put setup k clock s.unread))
 
 -- nothing was refused to a tenant, and each of its fetches that was not ready is not ready
 pub record IsQuiet (t clock : ℕ) (old new : List TenantState) : Type 0 where
@@ -125,31 +125,35 @@ abbrev pub IsServedAt : Stage → Scope → BrokerState → BrokerState → Type
 IsServedAt (Greets handshaken) scope old new = Turned scope old new
 IsServedAt (BoundTo tenant wait) scope old new = Served tenant scope old new
 
--- a look at a waiting fetch of that tenant left this of the connection l and of the tenants: what they keep stays, and the fetch waits no longer, or is not ready
-pub record IsLooked (t clock : ℕ) (old new : List TenantState) (l m : Line) : Type 0 where
+-- a look at a waiting fetch of that tenant left this of the connection l and of the tenants; unless the store lied what they keep stays, and the fetch waits no longer, or is not ready
+pub record IsLooked (honest : Type 0) (t clock : ℕ) (old new : List TenantState) (l m : Line) : Type 0 where
   pub number : m.number ≡ l.number
   pub stage : without_wait m.session.stage ≡ without_wait l.session.stage
   pub unread : length m.session.unread ≤ length l.session.unread
-  pub turn : IsTurn t (Unit {0}) old new
-  pub stays : (u : ℕ) → hosted.kept_of new u ≡ hosted.kept_of old u
-  pub meets : IsMet t (Unit {0}) old new (λ k n. m.session ≡ woken k clock l.session)
-  pub unready : (b : BrokerState) → b.tenants ≡ old → b.clock ≡ clock → IsUnready AnyWait b m.session.stage
+  pub turn : IsTurn t honest old new
+  pub stays : honest → (u : ℕ) → hosted.kept_of new u ≡ hosted.kept_of old u
+  pub meets : IsMet t honest old new (λ k n. m.session ≡ woken k clock l.session)
+  pub unready : honest → (b : BrokerState) → b.tenants ≡ old → b.clock ≡ clock → IsUnready AnyWait b m.session.stage
 
 -- nothing was looked at
 abbrev pub IsPassedBy : List TenantState → List TenantState → Line → Line → Type 0
 IsPassedBy old new l m = (new ≡ old) × (m ≡ l)
 
 -- a connection at that stage was looked at, if it waits for a fetch that is looked for
-abbrev pub IsLookedAt : Whom → ℕ → Stage → List TenantState → List TenantState → Line → Line → Type 0
-IsLookedAt whom clock (Greets handshaken) old new l m = IsPassedBy old new l m
-IsLookedAt whom clock (BoundTo t None) old new l m = IsPassedBy old new l m
-IsLookedAt whom clock (BoundTo t (Some w)) old new l m = (IsPassedOver whom clock t w × IsPassedBy old new l m) ⊎ (IsLookedFor whom clock t w × IsLooked t clock old new l m)
+abbrev pub IsLookedAt : Type 0 → Whom → ℕ → Stage → List TenantState → List TenantState → Line → Line → Type 0
+IsLookedAt honest whom clock (Greets handshaken) old new l m = IsPassedBy old new l m
+IsLookedAt honest whom clock (BoundTo t None) old new l m = IsPassedBy old new l m
+IsLookedAt honest whom clock (BoundTo t (Some w)) old new l m = (IsPassedOver whom clock t w × IsPassedBy old new l m) ⊎ (IsLookedFor whom clock t w × IsLooked honest t clock old new l m)
 
--- the connections before a place were looked at, those behind it are as they were, and those before it wait at least until then
-pub record AreWaked (whom : Whom) (old new : BrokerState) (i : ℕ) (next_due : Option ℕ) : Type 0 where
+-- the connections before a place were looked at, and those behind it are as they were
+pub record AreWaked (whom : Whom) (old new : BrokerState) (i : ℕ) : Type 0 where
   pub waked : Waked whom old new
   pub looked : AllByRecursion (λ (l : Line). IsUnready (IsLookedFor whom old.clock) new l.session.stage) (take i new.lines)
   pub rest : AreUnready (IsPassedOver whom old.clock) old → AllByRecursion (λ (l : Line). IsUnready AnyWait new l.session.stage) (take i new.lines)
   pub over : AreUnready (IsPassedOver whom old.clock) old → AreUnready (IsPassedOver whom old.clock) new
-  pub waits : AreWaiting next_due (take i new.lines)
+
+-- what one look more leaves of the broker whatever the store says, where the connections before a place wait at least until then
+pub record IsOneMore (i : ℕ) (until : Option ℕ) (old new : BrokerState) : Type 0 where
+  pub going : IsGoing old new
   pub work : work new.lines ≤ work old.lines
+  pub waits : (due : Option ℕ) → AreWaiting due (take i old.lines) → AreWaiting (sooner due until) (take (i + 1) new.lines)

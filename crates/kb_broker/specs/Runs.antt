@@ -62,12 +62,12 @@ Leads (Moment now) old new ended = (numbers new.lines ≡ numbers old.lines) × 
 abbrev pub emptied : BrokerState → BrokerState
 emptied b = record b { lines = quieted_lines b.lines }
 
--- one event
-pub record IsPassed (e : Happening) (old new : BrokerState) (ended : List Sent) : Type 0 where
-  pub step : IsStep e old new
+-- one event: a step, unless the store lied
+pub record IsPassed (honest : Type 0) (e : Happening) (old new : BrokerState) (ended : List Sent) : Type 0 where
+  pub step : honest → IsStep e old new
   pub leads : Leads e old new ended
 
 -- events, one after another, and what each connection got: those that ended, in order, and then those that are still open, whose output is taken
-abbrev pub Passes : List Happening → BrokerState → BrokerState → List Sent → Type 0
-Passes [] old new got = (new ≡ emptied old) × (got ≡ map sent old.lines)
-Passes (e ∷ es) old new got = (next : BrokerState) × (ended later : List Sent) × IsPassed e old next ended × Passes es next new later × (got ≡ ended ++ later)
+abbrev pub Passes : Type 0 → List Happening → BrokerState → BrokerState → List Sent → Type 0
+Passes honest [] old new got = (new ≡ emptied old) × (got ≡ map sent old.lines)
+Passes honest (e ∷ es) old new got = (next : BrokerState) × (ended later : List Sent) × IsPassed honest e old next ended × Passes honest es next new later × (got ≡ ended ++ later)

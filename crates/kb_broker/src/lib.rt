@@ -3,7 +3,7 @@
 //! [`Broker`] takes events: a connection opens, bytes come on it, it closes, time passes. What it sends on each connection is
 //! taken from it. [`Broker::run`] takes a list of events and carries the isolation theorem; [`run_script`] reads the events
 //! from a text. A connection greets and logs in (Kafka protocol guide, "SASL Authentication Sequence"; RFC 4616); then it is
-//! served the requests of its tenant, over a store in memory.
+//! served the requests of its tenant, over any store.
 //!
 //! The definitions that the contracts speak of are those of `kb_machine`, seen through `specs/`.
 #![tactic(auto)]
@@ -18,6 +18,6 @@ mod serving;
 
 pub use broker::Broker;
 pub use kb_settings::{Settings, User};
-pub use opening::{Listing, names_in_order, places_of_names};
+pub use opening::{Listing, OpenFault, OpenRefused, Opened, names_in_order, places_of_names};
 pub use run::{Event, Written};
 pub use script::{ScriptFault, run_script};

@@ -1,25 +1,27 @@
 //! The broker at its start: what the settings fix, and nobody connected.
 
-ghost use Rattle.std.specs.Prelude.{◌≡◌, ◌<◌, ℕ, List, IfOk, map, length, get_or};
+ghost use Rattle.std.specs.Prelude.{◌≡◌, ◌<◌, ℕ, List, [], IfOk, IfErr, map, length, get_or};
 ghost use Rattle.std.specs.List.{Contains};
 ghost use Rattle.std.specs.List.Sorted.{IsStrictlySortedBy};
 ghost use Rattle.kb_wire.specs.Codec.{array};
 ghost use Rattle.kb_api_group.specs.Layouts.{api_version};
 ghost use Rattle.kb_settings.specs.Names.{byte_order, in_order, place_of};
+ghost use Rattle.kb_store.specs.Disk.{Keeps};
 ghost use Rattle.kb_tenant.specs.Hosted.{new_tenant};
 ghost use Rattle.kb_broker.specs.Hosts.{tenants_in, AreHosted};
-ghost use Rattle.kb_broker.specs.Opening.{least, listed, opening, opening_listing, tenants_of, login_of};
+ghost use Rattle.kb_broker.specs.Opening.{least, listed, opening, opening_listing, opening_setup, tenants_of, login_of, BlamesStore};
 
 use crate::broker::Broker;
 use crate::engine::Engine;
 use kb_api_group::ApiVersion;
 use kb_connection::{Login, Setup};
-use kb_log::{ListLog, Shelf};
+use kb_log::{ListLog, Shelf, ShelfRefused};
 use kb_settings::{Settings, User, tenant_names};
-use kb_store::MemoryStore;
+use kb_store::{Store, StoreFault};
 use kb_tenants::Tenants;
 use kb_wire::Array;
 use std::alloc::{AllocError, Global};
+use thiserror::Error;
 
 /// The APIs that are served, each at one version, by rising key: Produce, Fetch, ListOffsets, Metadata, OffsetCommit,
 /// OffsetFetch, FindCoordinator, JoinGroup, Heartbeat, LeaveGroup, SyncGroup, SaslHandshake, ApiVersions, CreateTopics,
@@ -70,39 +72,119 @@ impl Listing {
     }
 }
 
-impl Broker {
-    /// A broker to which nobody is connected, at moment 0: its users and their tenants are those of the settings, and no
-    /// tenant keeps anything. It lists what it serves.
-    pub fn empty(alloc: Global, settings: &Settings) -> Result<Broker, AllocError>
-        ensures { IfOk result (λ broker. broker ≡ opening settings.now) }
+/// A broker that has opened on its store.
+#[derive(Drop)]
+pub struct Opened<S: Store> {
+    pub broker: Broker<S>,
+    /// The numbers of the files that are nobody's, by rising number. Files are not read yet, so there are none.
+    pub strays: Vec<u64>,
+}
+
+/// Why a broker could not open.
+#[derive(Clone, Copy, Debug, PartialEq, Eq, Error)]
+pub enum OpenFault {
+    /// The store refused.
+    #[error("store fault")]
+    Store,
+    /// Memory was refused.
+    #[error("out of memory")]
+    Memory,
+}
+
+/// A broker that could not open. Its store comes back, with its files as they were.
+#[derive(Drop)]
+pub struct OpenRefused<S: Store> {
+    pub fault: OpenFault,
+    pub store: S,
+}
+
+impl<S: Store> OpenRefused<S> {
+    /// Memory was refused beside the store.
+    fn for_memory(store: S) -> Self
+        ensures { result ≡ record { fault = OpenFault.Memory; store = store } }
     {
-        Broker::empty_listing(alloc, settings, Listing::Served)
+        OpenRefused {
+            fault: OpenFault::Memory,
+            store,
+        }
     }
 
-    /// The same broker, which lists these versions.
-    pub fn empty_listing(
-        alloc: Global,
-        settings: &Settings,
-        listing: Listing,
-    ) -> Result<Broker, AllocError>
-        ensures { IfOk result (λ broker. broker ≡ opening_listing listing settings.now) }
+    /// The store refused to list its files.
+    fn for_shelf(refused: ShelfRefused<S>) -> Self
+        ensures store { result.store ≡ refused.store }
+        ensures fault { result.fault ≡ OpenFault.Store → refused.fault ≡ StoreFault.Device }
     {
-        let engine = new_engine(alloc, settings, listing)?;
-        Ok(Broker::new(engine))
+        OpenRefused {
+            fault: match refused.fault {
+                StoreFault::Device => OpenFault::Store,
+                StoreFault::Memory => OpenFault::Memory,
+            },
+            store: refused.store,
+        }
     }
 }
 
-/// The engine of that broker.
-fn new_engine(alloc: Global, settings: &Settings, listing: Listing) -> Result<Engine, AllocError>
-    ensures { IfOk result (λ engine. engine ≡ opening_listing listing settings.now) }
+impl<S: Store> Broker<S> {
+    /// A broker on a store, to which nobody is connected, at moment 0: its users and their tenants are those of the settings,
+    /// and no tenant keeps anything. It lists what it serves.
+    ///
+    /// Opening changes no file. `Store` is answered only where the store's failures grew.
+    pub fn open(alloc: Global, settings: &Settings, store: S) -> Result<Opened<S>, OpenRefused<S>>
+        ensures state { IfOk result (λ opened. opened.broker.state ≡ opening settings.now) }
+        ensures strays { IfOk result (λ opened. opened.strays.items ≡ []) }
+        ensures kept { IfOk result (λ opened. Keeps (S.disk store) (S.disk opened.broker.store)) }
+        ensures kept_err { IfErr result (λ refused. Keeps (S.disk store) (S.disk refused.store)) }
+        ensures cause { IfErr result (λ refused. BlamesStore (S.disk store) refused.fault (S.disk refused.store)) }
+    {
+        Broker::open_listing(alloc, settings, Listing::Served, store)
+    }
+
+    /// The same broker, which lists these versions.
+    pub fn open_listing(
+        alloc: Global,
+        settings: &Settings,
+        listing: Listing,
+        store: S,
+    ) -> Result<Opened<S>, OpenRefused<S>>
+        ensures state { IfOk result (λ opened. opened.broker.state ≡ opening_listing listing settings.now) }
+        ensures strays { IfOk result (λ opened. opened.strays.items ≡ []) }
+        ensures kept { IfOk result (λ opened. Keeps (S.disk store) (S.disk opened.broker.store)) }
+        ensures kept_err { IfErr result (λ refused. Keeps (S.disk store) (S.disk refused.store)) }
+        ensures cause { IfErr result (λ refused. BlamesStore (S.disk store) refused.fault (S.disk refused.store)) }
+    {
+        let Ok(names) = tenant_names(alloc, &settings.users) else {
+            return Err(OpenRefused::for_memory(store));
+        };
+        let Ok(setup) = new_setup(alloc, settings, listing, &names) else {
+            return Err(OpenRefused::for_memory(store));
+        };
+        let shelf = match Shelf::new(alloc, store, settings.cache_batches) {
+            Ok(shelf) => shelf,
+            Err(refused) => return Err(OpenRefused::for_shelf(refused)),
+        };
+        let tenants = new_tenants(alloc, settings, &names, shelf)?;
+        let engine = Engine::new(alloc, setup, tenants);
+        Ok(Opened {
+            broker: Broker::new(engine),
+            strays: Vec::new(alloc),
+        })
+    }
+}
+
+/// What is fixed for that broker, where the names are those of its tenants.
+fn new_setup(
+    alloc: Global,
+    settings: &Settings,
+    listing: Listing,
+    names: &[&str],
+) -> Result<Setup, AllocError>
+    requires { map (λ name. name.now) names.now ≡ tenants_of settings.now.users.items }
+    ensures { IfOk result (λ setup. setup ≡ opening_setup listing settings.now) }
 {
-    let names = tenant_names(alloc, &settings.users)?;
-    let logins = logins_of(alloc, &settings.users, &names)?;
-    let tenants = new_tenants(alloc, settings, &names)?;
+    let logins = logins_of(alloc, &settings.users, names)?;
     let versions = listed_versions(alloc, listing)?;
     let host = String::from_str(alloc, settings.host.as_str())?;
-    let setup = Setup::new(versions, logins, host, settings.port);
-    Ok(Engine::new(alloc, setup, tenants))
+    Ok(Setup::new(versions, logins, host, settings.port))
 }
 
 /// The versions that are listed. They fit a reply.
@@ -159,21 +241,24 @@ fn place_of<'a>(names: &[&'a str], name: &'a str) -> usize
     names.binary_search(&name).unwrap_or_else(|place| place)
 }
 
-/// A tenant for each name, on a new store in memory.
-fn new_tenants(
+/// A tenant for each name, on a shelf, which comes back as a store where memory is refused.
+fn new_tenants<S: Store>(
     alloc: Global,
     settings: &Settings,
     names: &[&str],
-) -> Result<Tenants<ListLog, MemoryStore>, AllocError>
-    ensures hosted { IfOk result AreHosted }
-    ensures new { IfOk result (λ tenants. tenants_in tenants ≡ map (λ name. new_tenant name.now) names.now) }
+    shelf: Shelf<S>,
+) -> Result<Tenants<ListLog, S>, OpenRefused<S>>
+    ensures hosted { IfOk result (λ tenants. AreHosted S.disk tenants) }
+    ensures new { IfOk result (λ tenants. tenants_in S.disk tenants ≡ map (λ name. new_tenant name.now) names.now) }
+    ensures store { IfOk result (λ tenants. tenants.shelf.store ≡ shelf.store) }
+    ensures err { IfErr result (λ refused. refused ≡ record { fault = OpenFault.Memory; store = shelf.store }) }
 {
-    let Ok(shelf) = Shelf::new(alloc, MemoryStore::new(alloc), settings.cache_batches) else {
-        return Err(AllocError);
-    };
     let mut tenants = Tenants::new(alloc, shelf);
     for name in names {
-        tenants.add(alloc, name, u64::from(settings.segment_bytes))?;
+        let added = tenants.add(alloc, name, u64::from(settings.segment_bytes));
+        if added.is_err() {
+            return Err(OpenRefused::for_memory(tenants.into_shelf().into_store()));
+        }
     }
     Ok(tenants)
 }

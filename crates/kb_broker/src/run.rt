@@ -5,10 +5,12 @@ ghost use Rattle.std.specs.Vec.{vec_len, vec_capacity};
 ghost use Rattle.kb_machine.specs.Machine.{Closes, Sent, those_sent, by_number, sent, leaving};
 ghost use Rattle.kb_machine.specs.Calls.{closed};
 ghost use Rattle.kb_world.specs.Steps.{IsCalm};
-ghost use Rattle.kb_machine.specs.Broker.{IsReady, IsStep, IsRun, IsCalmFor, IsUnowned, owned_by, alone, alone_unowned, only};
+ghost use Rattle.kb_machine.specs.Broker.{IsRun, IsCalmFor, IsUnowned, owned_by, alone, alone_unowned, only, last_after};
+ghost use Rattle.kb_broker.specs.Hosts.{is_honest, IsLater, IsReadyOn, StepsTo};
 ghost use Rattle.kb_broker.specs.Runs.{happening_of, happenings, sent_of, is_opening, connections_of, emptied, IsPassed, Passes};
 
 use crate::broker::Broker;
+use kb_store::Store;
 use std::alloc::{AllocError, Global};
 
 /// What may happen to a broker.
@@ -32,24 +34,26 @@ pub struct Written {
     pub shut: bool,
 }
 
-impl Broker {
+impl<S: Store> Broker<S> {
     /// A whole run: what each connection got, by rising number.
     ///
     /// To each tenant to which nothing was refused, and nothing to a connection that was not bound, what its connections got is
     /// what the machine of that tenant alone writes, given the tenant's events and the moments. A connection that is never
-    /// bound gets what a machine with nothing in it but that connection writes.
+    /// bound gets what a machine with nothing in it but that connection writes. Both hold where the store is honest to the
+    /// end.
     ///
     /// The entry of a connection that could not be kept is empty and shut. In the end the output of the open ones is taken.
     ///
     /// An `Err`, for want of memory, comes before the first event and changes nothing.
     pub fn run(&mut self, alloc: Global, events: &[Event]) -> Result<Vec<Written>, AllocError>
-        requires { IsRun self.old.last (happenings events.now) }
-        ensures headline { IfOk result (λ written. (t : ℕ) → IsCalmFor t self.old self.new →
-            those_sent (owned_by t (happenings events.now) self.old) (map sent_of written.items) ≡ by_number (alone t (happenings events.now) self.old)) }
-        ensures unowned { IfOk result (λ written. (n : ℕ) → IsUnowned n (happenings events.now) self.old → IsCalm self.old.unbound_refusals self.new.unbound_refusals →
-            those_sent (only n) (map sent_of written.items) ≡ by_number (alone_unowned n (happenings events.now) self.old)) }
-        ensures connections { IfOk result (λ written. map (λ (w : Written). w.conn) written.items ≡ connections_of (happenings events.now) self.old) }
-        ensures history { IfOk result (λ written. (got : List Sent) × (map sent_of written.items ≡ by_number got) × Passes (happenings events.now) self.old self.new got) }
+        requires { IsRun self.old.state.last (happenings events.now) }
+        ensures headline { IfOk result (λ written. is_honest S.disk self.new → (t : ℕ) → IsCalmFor t self.old.state self.new.state →
+            those_sent (owned_by t (happenings events.now) self.old.state) (map sent_of written.items) ≡ by_number (alone t (happenings events.now) self.old.state)) }
+        ensures unowned { IfOk result (λ written. is_honest S.disk self.new → (n : ℕ) → IsUnowned n (happenings events.now) self.old.state → IsCalm self.old.state.unbound_refusals self.new.state.unbound_refusals →
+            those_sent (only n) (map sent_of written.items) ≡ by_number (alone_unowned n (happenings events.now) self.old.state)) }
+        ensures connections { IfOk result (λ written. map (λ (w : Written). w.conn) written.items ≡ connections_of (happenings events.now) self.old.state) }
+        ensures history { IfOk result (λ written. (got : List Sent) × (map sent_of written.items ≡ by_number got) × Passes (is_honest S.disk self.new) (happenings events.now) self.old.state self.new.state got) }
+        ensures later { IsLater (S.disk self.old.store) (S.disk self.new.store) }
         ensures memory { OnErr result (self.new ≡ self.old) }
     {
         // an entry for each connection that is open or opens, so that no event is left half done for want of memory
@@ -66,11 +70,13 @@ impl Broker {
 
     /// One event. What a connection got that ends in it is added.
     fn happen(&mut self, alloc: Global, event: &Event, written: &mut Vec<Written>)
-        requires ready { IsReady self.old }
-        requires run { IsRun self.old.last (happening_of event.now ∷ []) }
-        requires room { vec_len written.old + length (connections_of (happening_of event.now ∷ []) self.old) ≤ vec_capacity written.old }
-        ensures ready { IsReady self.new }
-        ensures passed { (ended : List Sent) × (map sent_of written.new.items ≡ map sent_of written.old.items ++ ended) × IsPassed (happening_of event.now) self.old self.new ended }
+        requires ready { IsReadyOn S.disk self.old }
+        requires run { IsRun self.old.state.last (happening_of event.now ∷ []) }
+        requires room { vec_len written.old + length (connections_of (happening_of event.now ∷ []) self.old.state) ≤ vec_capacity written.old }
+        ensures ready { IsReadyOn S.disk self.new }
+        ensures later { IsLater (S.disk self.old.store) (S.disk self.new.store) }
+        ensures last { self.new.state.last ≤ last_after (happening_of event.now) self.old.state.last }
+        ensures passed { (ended : List Sent) × (map sent_of written.new.items ≡ map sent_of written.old.items ++ ended) × IsPassed (is_honest S.disk self.new) (happening_of event.now) self.old.state self.new.state ended }
         ensures capacity { vec_capacity written.new ≡ vec_capacity written.old }
     {
         match event {
@@ -91,11 +97,11 @@ impl Broker {
 
     /// Closes a connection, and adds what it got. On a number that is not open nothing changes.
     fn close(&mut self, alloc: Global, conn: u64, written: &mut Vec<Written>)
-        requires ready { IsReady self.old }
-        requires room { vec_len written.old + length self.old.lines ≤ vec_capacity written.old }
-        ensures step { IsStep (Closes conn) self.old self.new }
-        ensures state { self.new ≡ closed self.old conn }
-        ensures left { map sent_of written.new.items ≡ map sent_of written.old.items ++ leaving (Closes conn) self.old.lines }
+        requires ready { IsReadyOn S.disk self.old }
+        requires room { vec_len written.old + length self.old.state.lines ≤ vec_capacity written.old }
+        ensures step { StepsTo S.disk (Closes conn) self.old self.new }
+        ensures state { self.new ≡ record self.old { state = closed self.old.state conn } }
+        ensures left { map sent_of written.new.items ≡ map sent_of written.old.items ++ leaving (Closes conn) self.old.state.lines }
         ensures capacity { vec_capacity written.new ≡ vec_capacity written.old }
     {
         let open = self.is_open(conn);
@@ -108,10 +114,10 @@ impl Broker {
 
     /// Takes what the open connections have not taken yet.
     fn drain(&mut self, alloc: Global, written: &mut Vec<Written>)
-        requires ready { IsReady self.old }
-        requires room { vec_len written.old + length self.old.lines ≤ vec_capacity written.old }
-        ensures state { self.new ≡ emptied self.old }
-        ensures left { map sent_of written.new.items ≡ map sent_of written.old.items ++ map sent self.old.lines }
+        requires ready { IsReadyOn S.disk self.old }
+        requires room { vec_len written.old + length self.old.state.lines ≤ vec_capacity written.old }
+        ensures state { self.new ≡ record self.old { state = emptied self.old.state } }
+        ensures left { map sent_of written.new.items ≡ map sent_of written.old.items ++ map sent self.old.state.lines }
     {
         for i in 0..self.connections().len() {
             let connection = &self.connections()[i];

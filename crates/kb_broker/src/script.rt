@@ -17,6 +17,7 @@ mod saying;
 use crate::broker::Broker;
 use answer::{answer_of, write_all};
 use kb_settings::Settings;
+use kb_store::MemoryStore;
 use line::Line;
 use reading::next_line;
 use saying::{say, shut_places};
@@ -65,24 +66,24 @@ pub fn run_script<R: BufRead, W: Write>(
     ensures ok { OnOk result (IfSome (R.remaining reader.old) (λ text. IsPlayed (opening settings.now) (script (opening settings.now) text) (W.contents writer.old) (W.contents writer.new))) }
     ensures err { IfErr result (λ fault. IfSome (R.remaining reader.old) (λ text. IsEnded (opening settings.now) (script (opening settings.now) text) fault (W.contents writer.old) (W.contents writer.new))) }
 {
-    let Ok(mut broker) = Broker::empty(alloc, settings) else {
+    let Ok(mut opened) = Broker::open(alloc, settings, MemoryStore::new(alloc)) else {
         return Err(ScriptFault::Memory);
     };
-    play(alloc, &mut broker, reader, writer)
+    play(alloc, &mut opened.broker, reader, writer)
 }
 
 /// Plays a script on a broker, a line at a time.
 fn play<R: BufRead, W: Write>(
     alloc: Global,
-    broker: &mut Broker,
+    broker: &mut Broker<MemoryStore>,
     reader: &mut R,
     writer: &mut W,
 ) -> Result<(), ScriptFault>
-    requires calm { is_calm broker.old ≡ true }
-    requires quiet { IsQuiet broker.old }
-    requires ready { IsReady broker.old }
-    ensures ok { OnOk result (IfSome (R.remaining reader.old) (λ text. IsPlayed broker.old (script broker.old text) (W.contents writer.old) (W.contents writer.new))) }
-    ensures err { IfErr result (λ fault. IfSome (R.remaining reader.old) (λ text. IsEnded broker.old (script broker.old text) fault (W.contents writer.old) (W.contents writer.new))) }
+    requires calm { is_calm broker.old.state ≡ true }
+    requires quiet { IsQuiet broker.old.state }
+    requires ready { IsReady broker.old.state }
+    ensures ok { OnOk result (IfSome (R.remaining reader.old) (λ text. IsPlayed broker.old.state (script broker.old.state text) (W.contents writer.old) (W.contents writer.new))) }
+    ensures err { IfErr result (λ fault. IfSome (R.remaining reader.old) (λ text. IsEnded broker.old.state (script broker.old.state text) fault (W.contents writer.old) (W.contents writer.new))) }
 {
     let mut text = Vec::new(alloc);
     let mut room = SCRIPT_BYTES;
@@ -101,16 +102,16 @@ fn play<R: BufRead, W: Write>(
 /// Plays a line, with its line feed or without.
 fn play_line<W: Write>(
     alloc: Global,
-    broker: &mut Broker,
+    broker: &mut Broker<MemoryStore>,
     writer: &mut W,
     text: &[u8],
     number: u64,
 ) -> Result<(), ScriptFault>
-    requires calm { is_calm broker.old ≡ true }
-    requires quiet { IsQuiet broker.old }
-    requires ready { IsReady broker.old }
-    ensures ok { OnOk result (IsDone (course_of (here number broker.old) (told (strip_last 10 text.now))) broker.old broker.new (W.contents writer.old) (W.contents writer.new)) }
-    ensures err { IfErr result (λ fault. IsBroken (course_of (here number broker.old) (told (strip_last 10 text.now))) fault broker.old (W.contents writer.old) (W.contents writer.new)) }
+    requires calm { is_calm broker.old.state ≡ true }
+    requires quiet { IsQuiet broker.old.state }
+    requires ready { IsReady broker.old.state }
+    ensures ok { OnOk result (IsDone (course_of (here number broker.old.state) (told (strip_last 10 text.now))) broker.old.state broker.new.state (W.contents writer.old) (W.contents writer.new)) }
+    ensures err { IfErr result (λ fault. IsBroken (course_of (here number broker.old.state) (told (strip_last 10 text.now))) fault broker.old.state (W.contents writer.old) (W.contents writer.new)) }
 {
     let Ok(line) = Line::read(alloc, without_feed(text)) else {
         return Err(ScriptFault::Memory);
@@ -138,8 +139,8 @@ fn without_feed(line: &[u8]) -> &[u8]
 }
 
 /// Whether a line says nothing, or what may happen now.
-fn is_in_place(broker: &Broker, line: &Line) -> bool
-    ensures { result ≡ is_placed (here 0 broker.now) (told_of line.now) }
+fn is_in_place(broker: &Broker<MemoryStore>, line: &Line) -> bool
+    ensures { result ≡ is_placed (here 0 broker.now.state) (told_of line.now) }
 {
     match line {
         Line::Open(connection) => broker.last_connection() < *connection,
@@ -151,12 +152,12 @@ fn is_in_place(broker: &Broker, line: &Line) -> bool
 }
 
 /// A connection opens.
-fn open(alloc: Global, broker: &mut Broker, connection: u64) -> Result<(), ScriptFault>
-    requires calm { is_calm broker.old ≡ true }
-    requires quiet { IsQuiet broker.old }
-    requires ready { IsReady broker.old }
-    requires above { broker.old.last < connection }
-    ensures ok { OnOk result (HappensSilently (Opens connection) broker.old broker.new) }
+fn open(alloc: Global, broker: &mut Broker<MemoryStore>, connection: u64) -> Result<(), ScriptFault>
+    requires calm { is_calm broker.old.state ≡ true }
+    requires quiet { IsQuiet broker.old.state }
+    requires ready { IsReady broker.old.state }
+    requires above { broker.old.state.last < connection }
+    ensures ok { OnOk result (HappensSilently (Opens connection) broker.old.state broker.new.state) }
     ensures err { IfErr result (λ fault. fault ≡ ScriptFault.Memory) }
 {
     match broker.connect(alloc, connection) {
@@ -166,11 +167,15 @@ fn open(alloc: Global, broker: &mut Broker, connection: u64) -> Result<(), Scrip
 }
 
 /// A connection closes. It has no output.
-fn close(alloc: Global, broker: &mut Broker, connection: u64) -> Result<(), ScriptFault>
-    requires calm { is_calm broker.old ≡ true }
-    requires quiet { IsQuiet broker.old }
-    requires ready { IsReady broker.old }
-    ensures ok { OnOk result (HappensSilently (Closes connection) broker.old broker.new) }
+fn close(
+    alloc: Global,
+    broker: &mut Broker<MemoryStore>,
+    connection: u64,
+) -> Result<(), ScriptFault>
+    requires calm { is_calm broker.old.state ≡ true }
+    requires quiet { IsQuiet broker.old.state }
+    requires ready { IsReady broker.old.state }
+    ensures ok { OnOk result (HappensSilently (Closes connection) broker.old.state broker.new.state) }
     ensures err { IfErr result (λ fault. fault ≡ ScriptFault.Memory) }
 {
     broker.disconnect(alloc, connection);
@@ -180,16 +185,16 @@ fn close(alloc: Global, broker: &mut Broker, connection: u64) -> Result<(), Scri
 /// A moment passes, and what the broker says is written. Where nobody waits for a fetch it says nothing.
 fn pass<W: Write>(
     alloc: Global,
-    broker: &mut Broker,
+    broker: &mut Broker<MemoryStore>,
     writer: &mut W,
     now: u64,
 ) -> Result<(), ScriptFault>
-    requires calm { is_calm broker.old ≡ true }
-    requires quiet { IsQuiet broker.old }
-    requires ready { IsReady broker.old }
+    requires calm { is_calm broker.old.state ≡ true }
+    requires quiet { IsQuiet broker.old.state }
+    requires ready { IsReady broker.old.state }
     requires in_time { now ≤ 2 ^ 62 }
-    ensures ok { OnOk result (IsSpoken (Moment now) broker.old broker.new (W.contents writer.old) (W.contents writer.new)) }
-    ensures err { IfErr result (λ fault. IsBroken (Plays (Moment now)) fault broker.old (W.contents writer.old) (W.contents writer.new)) }
+    ensures ok { OnOk result (IsSpoken (Moment now) broker.old.state broker.new.state (W.contents writer.old) (W.contents writer.new)) }
+    ensures err { IfErr result (λ fault. IsBroken (Plays (Moment now)) fault broker.old.state (W.contents writer.old) (W.contents writer.new)) }
 {
     if broker.may_wait() {
         let Ok(were_shut) = shut_places(alloc, broker) else {
@@ -206,16 +211,16 @@ fn pass<W: Write>(
 /// Gives a piece to a connection, and writes what the broker says, to this connection and to those that wait for a fetch.
 fn give<W: Write>(
     alloc: Global,
-    broker: &mut Broker,
+    broker: &mut Broker<MemoryStore>,
     writer: &mut W,
     connection: u64,
     piece: &[u8],
 ) -> Result<(), ScriptFault>
-    requires calm { is_calm broker.old ≡ true }
-    requires quiet { IsQuiet broker.old }
-    requires ready { IsReady broker.old }
-    ensures ok { OnOk result (IsSpoken (Comes connection piece.now) broker.old broker.new (W.contents writer.old) (W.contents writer.new)) }
-    ensures err { IfErr result (λ fault. IsBroken (Plays (Comes connection piece.now)) fault broker.old (W.contents writer.old) (W.contents writer.new)) }
+    requires calm { is_calm broker.old.state ≡ true }
+    requires quiet { IsQuiet broker.old.state }
+    requires ready { IsReady broker.old.state }
+    ensures ok { OnOk result (IsSpoken (Comes connection piece.now) broker.old.state broker.new.state (W.contents writer.old) (W.contents writer.new)) }
+    ensures err { IfErr result (λ fault. IsBroken (Plays (Comes connection piece.now)) fault broker.old.state (W.contents writer.old) (W.contents writer.new)) }
 {
     if !broker.may_wait() {
         return give_alone(alloc, broker, writer, connection, piece);
@@ -231,17 +236,17 @@ fn give<W: Write>(
 /// Gives a piece to a connection where none waits for a fetch, and writes what the broker says: it says nothing to any other.
 fn give_alone<W: Write>(
     alloc: Global,
-    broker: &mut Broker,
+    broker: &mut Broker<MemoryStore>,
     writer: &mut W,
     connection: u64,
     piece: &[u8],
 ) -> Result<(), ScriptFault>
-    requires calm { is_calm broker.old ≡ true }
-    requires quiet { IsQuiet broker.old }
-    requires ready { IsReady broker.old }
-    requires alone { NoneWaits broker.old }
-    ensures ok { OnOk result (IsSpoken (Comes connection piece.now) broker.old broker.new (W.contents writer.old) (W.contents writer.new)) }
-    ensures err { IfErr result (λ fault. IsBroken (Plays (Comes connection piece.now)) fault broker.old (W.contents writer.old) (W.contents writer.new)) }
+    requires calm { is_calm broker.old.state ≡ true }
+    requires quiet { IsQuiet broker.old.state }
+    requires ready { IsReady broker.old.state }
+    requires alone { NoneWaits broker.old.state }
+    ensures ok { OnOk result (IsSpoken (Comes connection piece.now) broker.old.state broker.new.state (W.contents writer.old) (W.contents writer.new)) }
+    ensures err { IfErr result (λ fault. IsBroken (Plays (Comes connection piece.now)) fault broker.old.state (W.contents writer.old) (W.contents writer.new)) }
 {
     let was_shut = broker.shut(connection);
     broker.input(alloc, connection, piece);
@@ -255,15 +260,15 @@ fn give_alone<W: Write>(
 }
 
 /// Whether a connection is shut that was not.
-fn is_newly_shut(broker: &Broker, connection: u64, was_shut: bool) -> bool
-    ensures { result ≡ (is_shut connection broker.now && not was_shut) }
+fn is_newly_shut(broker: &Broker<MemoryStore>, connection: u64, was_shut: bool) -> bool
+    ensures { result ≡ (is_shut connection broker.now.state && not was_shut) }
 {
     broker.shut(connection) && !was_shut
 }
 
 /// An `Err` where a refusal has been counted.
-fn calm(broker: &Broker) -> Result<(), ScriptFault>
-    ensures ok { OnOk result (is_calm broker.now ≡ true) }
+fn calm(broker: &Broker<MemoryStore>) -> Result<(), ScriptFault>
+    ensures ok { OnOk result (is_calm broker.now.state ≡ true) }
     ensures err { IfErr result (λ fault. fault ≡ ScriptFault.Memory) }
 {
     if broker.is_calm() {

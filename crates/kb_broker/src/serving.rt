@@ -8,14 +8,15 @@ ghost use Rattle.kb_machine.specs.Broker.{InRange};
 ghost use Rattle.kb_tenant.specs.Replies.{IsAnswer};
 ghost use Rattle.kb_machine.specs.Tenant.{answer, kept_after};
 ghost use Rattle.kb_machine.specs.Turned.{is_looked_for};
+ghost use Rattle.kb_tenants.specs.Tenants.{is_honest};
 ghost use Rattle.kb_connection.specs.View.{wait_of, with_session};
-ghost use Rattle.kb_broker.specs.Hosts.{tenants_in, AreHosted};
+ghost use Rattle.kb_broker.specs.Hosts.{tenants_in, AreHosted, IsLater};
 ghost use Rattle.kb_broker.specs.Places.{IsQuiet, IsQuietAt, IsQuietTurn, IsSpent, IsTakenAt, IsTurnAt, IsLookedAt, WaitsUntil, sooner};
 
 use kb_connection::{Connection, Phase, Setup, Waiting};
 use kb_log::ListLog;
 use kb_machine::Whom;
-use kb_store::MemoryStore;
+use kb_store::Store;
 use kb_tenant::{Answer, Request, Served};
 use kb_tenants::Tenants;
 use std::alloc::{AllocError, Global};
@@ -24,22 +25,23 @@ use std::alloc::{AllocError, Global};
 /// Where memory is refused the connection is shut.
 ///
 /// The tenants change as by a call for the connection's tenant, or not where it still greets.
-pub fn take_turn(
+pub fn take_turn<S: Store>(
     alloc: Global,
     setup: &Setup,
-    tenants: &mut Tenants<ListLog, MemoryStore>,
+    tenants: &mut Tenants<ListLog, S>,
     clock: u64,
     connection: &mut Connection,
 ) -> Result<bool, AllocError>
-    requires hosted { AreHosted tenants.old }
-    requires tenant { InRange (length (tenants_in tenants.old)) connection.old.session.stage }
+    requires hosted { AreHosted S.disk tenants.old }
+    requires tenant { InRange (length (tenants_in S.disk tenants.old)) connection.old.session.stage }
     requires able { can connection.old.session ≡ true }
-    ensures hosted { AreHosted tenants.new }
-    ensures turn { IsTurnAt connection.old.session.stage (tenants_in tenants.old) (tenants_in tenants.new) }
+    ensures hosted { AreHosted S.disk tenants.new }
+    ensures later { IsLater (S.disk tenants.old.shelf.store) (S.disk tenants.new.shelf.store) }
+    ensures turn { IsTurnAt (is_honest S.disk tenants.new) connection.old.session.stage (tenants_in S.disk tenants.old) (tenants_in S.disk tenants.new) }
     ensures number { connection.new.number ≡ connection.old.number }
     ensures spent { IsSpent connection.old.session connection.new.session }
-    ensures ok { OnOk result (IsTakenAt setup.now clock connection.old.session.stage (tenants_in tenants.old) (tenants_in tenants.new) connection.old.session connection.new.session) }
-    ensures quiet { result ≡ Ok false → IsQuietAt setup.now clock connection.old.session.stage (tenants_in tenants.old) (tenants_in tenants.new) connection.old.session connection.new.session }
+    ensures ok { OnOk result (IsTakenAt (is_honest S.disk tenants.new) setup.now clock connection.old.session.stage (tenants_in S.disk tenants.old) (tenants_in S.disk tenants.new) connection.old.session connection.new.session) }
+    ensures quiet { result ≡ Ok false → is_honest S.disk tenants.new → IsQuietAt setup.now clock connection.old.session.stage (tenants_in S.disk tenants.old) (tenants_in S.disk tenants.new) connection.old.session connection.new.session }
     ensures err { OnErr result (connection.new ≡ with_session connection.old (shut_down connection.old.session)) }
 {
     match connection.phase() {
@@ -53,24 +55,25 @@ pub fn take_turn(
 
 /// Serves what stands in front of a connection that is bound to a tenant, and answers whether fetches that wait may be ready after
 /// it.
-fn serve_bound(
+fn serve_bound<S: Store>(
     alloc: Global,
     setup: &Setup,
-    tenants: &mut Tenants<ListLog, MemoryStore>,
+    tenants: &mut Tenants<ListLog, S>,
     clock: u64,
     tenant: usize,
     connection: &mut Connection,
 ) -> Result<bool, AllocError>
-    requires hosted { AreHosted tenants.old }
-    requires tenant { tenant < length (tenants_in tenants.old) }
+    requires hosted { AreHosted S.disk tenants.old }
+    requires tenant { tenant < length (tenants_in S.disk tenants.old) }
     requires able { can connection.old.session ≡ true }
-    ensures hosted { AreHosted tenants.new }
-    ensures turn { IsTurn tenant (Unit {0}) (tenants_in tenants.old) (tenants_in tenants.new) }
+    ensures hosted { AreHosted S.disk tenants.new }
+    ensures later { IsLater (S.disk tenants.old.shelf.store) (S.disk tenants.new.shelf.store) }
+    ensures turn { IsTurn tenant (is_honest S.disk tenants.new) (tenants_in S.disk tenants.old) (tenants_in S.disk tenants.new) }
     ensures number { connection.new.number ≡ connection.old.number }
     ensures spent { IsSpent connection.old.session connection.new.session }
-    ensures ok { OnOk result (IsMet tenant (Unit {0}) (tenants_in tenants.old) (tenants_in tenants.new)
+    ensures ok { OnOk result (IsMet tenant (is_honest S.disk tenants.new) (tenants_in S.disk tenants.old) (tenants_in S.disk tenants.new)
         (λ k l. (connection.new.session ≡ served setup.now k clock connection.old.session) × (l ≡ put setup.now k clock connection.old.session.unread))) }
-    ensures quiet { result ≡ Ok false → IsQuietTurn setup.now tenant clock (tenants_in tenants.old) (tenants_in tenants.new) connection.old.session connection.new.session }
+    ensures quiet { result ≡ Ok false → is_honest S.disk tenants.new → IsQuietTurn setup.now tenant clock (tenants_in S.disk tenants.old) (tenants_in S.disk tenants.new) connection.old.session connection.new.session }
     ensures err { OnErr result (connection.new ≡ with_session connection.old (shut_down connection.old.session)) }
 {
     let (answer, may_wake) = match connection.request(alloc) {
@@ -90,22 +93,23 @@ fn serve_bound(
 
 /// A tenant's answer to its request, and whether fetches that wait may be ready after it: where it touched a partition, or
 /// something was refused.
-fn ask(
+fn ask<S: Store>(
     alloc: Global,
     setup: &Setup,
-    tenants: &mut Tenants<ListLog, MemoryStore>,
+    tenants: &mut Tenants<ListLog, S>,
     clock: u64,
     tenant: usize,
     request: &Request<'_>,
 ) -> (Answer, bool)
-    requires hosted { AreHosted tenants.old }
-    requires tenant { tenant < length (tenants_in tenants.old) }
-    ensures hosted { AreHosted tenants.new }
-    ensures turn { IsTurn tenant (Unit {0}) (tenants_in tenants.old) (tenants_in tenants.new) }
-    ensures meets { IsMet tenant (Unit {0}) (tenants_in tenants.old) (tenants_in tenants.new)
+    requires hosted { AreHosted S.disk tenants.old }
+    requires tenant { tenant < length (tenants_in S.disk tenants.old) }
+    ensures hosted { AreHosted S.disk tenants.new }
+    ensures later { IsLater (S.disk tenants.old.shelf.store) (S.disk tenants.new.shelf.store) }
+    ensures turn { IsTurn tenant (is_honest S.disk tenants.new) (tenants_in S.disk tenants.old) (tenants_in S.disk tenants.new) }
+    ensures meets { IsMet tenant (is_honest S.disk tenants.new) (tenants_in S.disk tenants.old) (tenants_in S.disk tenants.new)
         (λ k l. (l ≡ kept_after setup.now.node k clock request.now.api_key request.now.body.now)
         × IsAnswer request.now.correlation_id (answer setup.now.node k clock request.now.api_key request.now.body.now) result.0) }
-    ensures quiet { result.1 ≡ false → IsQuiet tenant clock (tenants_in tenants.old) (tenants_in tenants.new) }
+    ensures quiet { result.1 ≡ false → is_honest S.disk tenants.new → IsQuiet tenant clock (tenants_in S.disk tenants.old) (tenants_in S.disk tenants.new) }
 {
     let before = tenants.refusals(tenant);
     let node = setup.node();
@@ -116,17 +120,18 @@ fn ask(
 
 /// Looks at a connection again, where it waits for a fetch that is looked for. One that is ready is answered. Where memory is
 /// refused the connection is shut, with a count.
-pub fn look_again(
+pub fn look_again<S: Store>(
     alloc: Global,
-    tenants: &mut Tenants<ListLog, MemoryStore>,
+    tenants: &mut Tenants<ListLog, S>,
     clock: u64,
     whom: Whom,
     connection: &mut Connection,
 )
-    requires hosted { AreHosted tenants.old }
-    requires tenant { InRange (length (tenants_in tenants.old)) connection.old.session.stage }
-    ensures hosted { AreHosted tenants.new }
-    ensures looked { IsLookedAt whom clock connection.old.session.stage (tenants_in tenants.old) (tenants_in tenants.new) connection.old connection.new }
+    requires hosted { AreHosted S.disk tenants.old }
+    requires tenant { InRange (length (tenants_in S.disk tenants.old)) connection.old.session.stage }
+    ensures hosted { AreHosted S.disk tenants.new }
+    ensures later { IsLater (S.disk tenants.old.shelf.store) (S.disk tenants.new.shelf.store) }
+    ensures looked { IsLookedAt (is_honest S.disk tenants.new) whom clock connection.old.session.stage (tenants_in S.disk tenants.old) (tenants_in S.disk tenants.new) connection.old connection.new }
     ensures until { (due : Option ℕ) → WaitsUntil due connection.old.session.stage → WaitsUntil due connection.new.session.stage }
 {
     let Some((tenant, waiting)) = connection.waiting() else {

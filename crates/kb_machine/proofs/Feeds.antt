@@ -12,7 +12,7 @@ use Rattle.kb_machine.specs.Session.{Stage, Greets, BoundTo, Session, fed, room,
 use Rattle.kb_machine.specs.Greeting.{Setup}
 use Rattle.kb_machine.specs.Machine.{Happening, Comes, Line, World, each, on, those, first_able, turns, stepped}
 use Rattle.kb_machine.specs.Owners.{Owns, Fits, whose, heard, destiny}
-use Rattle.kb_machine.specs.Broker.{BrokerState, IsUnready, AnyWait, kept_of, IsReady, IsStep, IsUntaken, Rising, Mine, view_of}
+use Rattle.kb_machine.specs.Broker.{BrokerState, IsUnready, AnyWait, kept_of, IsReady, IsSound, IsStep, IsUntaken, Rising, Mine, view_of}
 use Rattle.kb_machine.specs.Turned.{Scope, Of, IsStill, AreStill, Turned, IsFed}
 use Rattle.kb_machine.proofs.Laws.{none-those, turns-none, those-each}
 use Rattle.kb_machine.specs.Turned.{IsGoing}
@@ -95,37 +95,35 @@ unready-fed P b piece s u = by s.shut (nat_lt (room s) (length piece))
     by false false = u
 
 -- the piece was taken, or it was longer than the room and the connection is shut
-pub fed-kept : (b : BrokerState) (i : ℕ) (l m : Line) (piece : List ℕ) → IsReady b → IsAt b.lines i l → m.number ≡ l.number → m.session ≡ fed piece l.session → IsFed l.number piece b (changed b i m b.tenants b.unbound_refusals)
-fed-kept b i l m piece r at n e =
-    let s = r.sound in
+pub fed-kept : (b : BrokerState) (i : ℕ) (l m : Line) (piece : List ℕ) → IsSound b → first_able b.lines ≡ None → IsAt b.lines i l → m.number ≡ l.number → m.session ≡ fed piece l.session → IsFed l.number piece b (changed b i m b.tenants b.unbound_refusals)
+fed-kept b i l m piece s settled at n e =
     let same : without_wait m.session.stage ≡ without_wait l.session.stage = ap (λ (x : Session). without_wait x.stage) e ∙ stage-fed piece l.session in
     let owner : whose m.session.stage ≡ whose l.session.stage = whose-same l.session.stage m.session.stage same in
-    let still = all-at (λ x. can x.session ≡ false) b.lines i l at (all-still b.lines r.settled) in
+    let still = all-at (λ x. can x.session ≡ false) b.lines i l at (all-still b.lines settled) in
     let lines : set b.lines i m ≡ each (on l.number (fed piece)) b.lines = set-on 0 b.last (fed piece) b.lines i l m s.rising at n e in
     let going = changed-going b i l m b.tenants b.unbound_refusals s at n refl (range-same (length b.tenants) l.session.stage m.session.stage same (all-at _ b.lines i l at s.in_range))
     (record { setup = refl; names = refl; own = λ t. omega arith; unbound = omega arith }) (λ t f. owner ∙ f) in
     record {
       going = going;
-      still = fed-still b i l m b.tenants b.unbound_refusals r.settled n going;
+      still = fed-still b i l m b.tenants b.unbound_refusals settled n going;
       counted = counted-same (Of l.number) b (changed b i m b.tenants b.unbound_refusals) (λ t. refl) refl;
       unready = λ u. changed-unready AnyWait b i m b.tenants b.unbound_refusals (λ t. refl) u (subst (λ (x : Session). IsUnready AnyWait b x.stage) (sym e) (unready-fed AnyWait b piece l.session (all-at (λ x. IsUnready AnyWait b x.session.stage) b.lines i l at u)));
       others = λ k ne. find-set_other k b.lines i l m at n ne;
       mine = λ t mine es k calm. record { now = comes-set b.setup t 0 b.last mine piece es b.lines i l m s.rising at n (comes-fed b.setup t mine piece es l m still n e) k.now; later = k.later };
-      view = λ t mine es k calm. ap (λ x. turns (with_lines (view_of t mine b) (those mine x))) lines ∙ view-fed (view_of t mine b) mine l.number piece b.lines (mine l.number) refl refl r.settled;
+      view = λ t mine es k calm. ap (λ x. turns (with_lines (view_of t mine b) (those mine x))) lines ∙ view-fed (view_of t mine b) mine l.number piece b.lines (mine l.number) refl refl settled;
     }
 
 -- a greeting connection's piece could not be kept
-pub fed-refused : (b : BrokerState) (i : ℕ) (l m : Line) (piece : List ℕ) (h : Bool) (x : ℕ) → IsReady b → IsAt b.lines i l → l.session.stage ≡ Greets h → m.number ≡ l.number → m.session ≡ shut_down l.session → b.unbound_refusals ≤ x → (IsCalm b.unbound_refusals x → ⊥) →
+pub fed-refused : (b : BrokerState) (i : ℕ) (l m : Line) (piece : List ℕ) (h : Bool) (x : ℕ) → IsSound b → first_able b.lines ≡ None → IsAt b.lines i l → l.session.stage ≡ Greets h → m.number ≡ l.number → m.session ≡ shut_down l.session → b.unbound_refusals ≤ x → (IsCalm b.unbound_refusals x → ⊥) →
     IsFed l.number piece b (changed b i m b.tenants x)
-fed-refused b i l m piece h x r at g n e up rises =
-    let s = r.sound in
+fed-refused b i l m piece h x s settled at g n e up rises =
     let same : without_wait m.session.stage ≡ without_wait l.session.stage = ap (λ (x : Session). without_wait x.stage) e ∙ stage-shut l.session in
     let none : whose l.session.stage ≡ None = ap whose g in
     let going = changed-going b i l m b.tenants x s at n refl (range-same (length b.tenants) l.session.stage m.session.stage same (all-at _ b.lines i l at s.in_range))
     (record { setup = refl; names = refl; own = λ t. omega arith; unbound = up }) (λ t f. let k : None ≡ Some t = sym none ∙ f in absurd (cc)) in
     record {
       going = going;
-      still = fed-still b i l m b.tenants x r.settled n going;
+      still = fed-still b i l m b.tenants x settled n going;
       counted = counted-unbound (Of l.number) b i l m x s at (inl refl) none;
       unready = λ u. changed-unready AnyWait b i m b.tenants x (λ t. refl) u (subst (λ (y : Session). IsUnready AnyWait b y.stage) (sym e) (shut-unready AnyWait b l.session));
       others = λ k ne. find-set_other k b.lines i l m at n ne;
@@ -138,10 +136,9 @@ view-hidden w mine n f piece ls m e none =
     ap (λ x. turns (with_lines w x)) (those-on_other mine n f ls m ∙ sym e) ∙ (turns-none w (ap first_able e ∙ none-those mine ls none) ∙ sym (ap (λ y. stepped y (Comes n piece) w) m))
 
 -- a bound connection's piece could not be kept: a refusal is counted for its tenant
-pub fed-bound : (b : BrokerState) (i u : ℕ) (l m : Line) (piece : List ℕ) (w : Option Wait) (H : Type 0) (ts : List TenantState) → IsReady b → IsAt b.lines i l → l.session.stage ≡ BoundTo u w → m.number ≡ l.number → m.session ≡ shut_down l.session →
+pub fed-bound : (b : BrokerState) (i u : ℕ) (l m : Line) (piece : List ℕ) (w : Option Wait) (H : Type 0) (ts : List TenantState) → IsSound b → first_able b.lines ≡ None → IsAt b.lines i l → l.session.stage ≡ BoundTo u w → m.number ≡ l.number → m.session ≡ shut_down l.session →
     IsTurn u H b.tenants ts → H → ((t : ℕ) → hosted.kept_of ts t ≡ kept_of b t) → (IsCalm (count b.tenants u) (count ts u) → ⊥) → IsFed l.number piece b (changed b i m ts b.unbound_refusals)
-fed-bound b i u l m piece w H ts r at g n e turn honest stays loud =
-    let s = r.sound in
+fed-bound b i u l m piece w H ts s settled at g n e turn honest stays loud =
     let p : IsBound u l.session = record { wait = w; is = g } in
     let same : without_wait m.session.stage ≡ without_wait l.session.stage = ap (λ (x : Session). without_wait x.stage) e ∙ stage-shut l.session in
     let q : IsBound u m.session = bound-same u l.session m.session p same in
@@ -150,7 +147,7 @@ fed-bound b i u l m piece w H ts r at g n e turn honest stays loud =
     let going = called-going b i u l m H ts s at p n same turn in
     record {
       going = going;
-      still = fed-still b i l m ts b.unbound_refusals r.settled n going;
+      still = fed-still b i l m ts b.unbound_refusals settled n going;
       counted = counted-tenant (Of l.number) b new u (tenant-later (Of l.number) b new u going (scope-tenant (Of l.number) b i u l s at (inl refl) (ap whose g))) (λ t ne. turn.counts t ne) refl;
       unready = λ k. changed-unready AnyWait b i m ts b.unbound_refusals stays k (subst (λ (y : Session). IsUnready AnyWait b y.stage) (sym e) (shut-unready AnyWait b l.session));
       others = λ k ne. find-set_other k b.lines i l m at n ne;
@@ -162,7 +159,7 @@ fed-bound b i u l m piece w H ts r at g n e turn honest stays loud =
           let no : mine l.number ≡ false = is' ∙ grind (arith, nat_tests) in
           ap (λ z. turns (record (view_of t mine b) { kept = hosted.kept_of ts t; lines = those mine z })) lines
           ∙ (ap (λ z. turns (record (view_of t mine b) { kept = z; lines = those mine (each (on l.number (λ z. m.session)) b.lines) })) (turn.others honest t ne)
-          ∙ view-hidden (view_of t mine b) mine l.number (λ z. m.session) piece b.lines no refl r.settled))
+          ∙ view-hidden (view_of t mine b) mine l.number (λ z. m.session) piece b.lines no refl settled))
           k calm.own;
     }
 
@@ -218,7 +215,7 @@ fed-shut piece s e = grind (arith, e)
 -- a piece that leaves the connection as it was
 pub step-same : (b : BrokerState) (i : ℕ) (l : Line) (piece : List ℕ) → IsReady b → IsAt b.lines i l → fed piece l.session ≡ l.session → IsStep (Comes l.number piece) b b
 step-same b i l piece r at e =
-    let f = fed-kept b i l l piece r at refl (sym e) in
+    let f = fed-kept b i l l piece r.sound r.settled at refl (sym e) in
     let same : set b.lines i l ≡ b.lines = ap (set b.lines i) at.here ∙ set-get_or b.lines i l in
     record {
       last = omega arith;

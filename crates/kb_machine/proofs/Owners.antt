@@ -11,7 +11,7 @@ use Rattle.kb_machine.specs.Tenant.{Wait, answer}
 use Rattle.kb_machine.specs.Session.{Stage, Greets, BoundTo, Session, fed, shut_down, without_wait, waiting, can, is_turn, room, replied}
 use Rattle.kb_machine.specs.Greeting.{Setup, greeted}
 use Rattle.kb_machine.specs.Machine.{Happening, Opens, Comes, Closes, Moment, Line, World, answered, served_by, served_at, served, put, each, on, those, first_able, all_woken, turn_at, turn, turns, again}
-use Rattle.kb_machine.specs.Owners.{greet_turn, greet_turn_at, heard, destiny, is_for, whose, Fits, Owns, Keeps, Pairwise}
+use Rattle.kb_machine.specs.Owners.{greet_turn, greet_turn_at, heard, destiny, whose, Fits, Owns, Pairwise}
 use Rattle.kb_machine.proofs.Laws.{those-each, first-those, turn-some, turns-turn, greeted-less, greeted-still}
 
 -- 1. The greeting, as far as the bytes go
@@ -164,17 +164,6 @@ pub pairwise-same : (R : Line → Line → Type 0) → ((l : Line) → R l l) �
 pairwise-same R r [] = tt
 pairwise-same R r (l ∷ ls) = (r l, pairwise-same R r ls)
 
-pub pairwise-trans : (R : Line → Line → Type 0) → ((a b c : Line) → R a b → R b c → R a c) → (ls ms ns : List Line) → Pairwise R ls ms → Pairwise R ms ns → Pairwise R ls ns
-pairwise-trans R t [] [] [] p q = tt
-pairwise-trans R t [] [] (n ∷ ns) p q = absurd q
-pairwise-trans R t [] (m ∷ ms) ns p q = absurd p
-pairwise-trans R t (l ∷ ls) [] ns p q = absurd p
-pairwise-trans R t (l ∷ ls) (m ∷ ms) [] p q = absurd q
-pairwise-trans R t (l ∷ ls) (m ∷ ms) (n ∷ ns) p q = (t l m n p.0 q.0, pairwise-trans R t ls ms ns p.1 q.1)
-
-pub keeps-same : (u : ℕ) (l : Line) → Keeps u l l
-keeps-same u l = record { number = refl; stage = refl; other = λ _. refl }
-
 -- 4. Ownership is kept
 
 -- what is still to come leads the connection to the same tenant
@@ -184,19 +173,6 @@ pub record SameFate (setup : Setup) (l m : Line) : Type 0 where
 
 pub fate-same : (setup : Setup) (l : Line) → SameFate setup l l
 fate-same setup l = record { number = refl; fate = λ es. refl }
-
-fate-keeps_by : (setup : Setup) (u : ℕ) (l m : Line) (a : Stage) → l.session.stage ≡ a → Keeps u l m → SameFate setup l m
-fate-keeps_by setup u l m (Greets h) e k = record { number = k.number; fate = λ es. ap (λ s. destiny setup l.number (heard setup s) es) (k.other (ap (is_for u) e)) }
-fate-keeps_by setup u l m (BoundTo v w) e k =
-    let old : IsBound v l.session = record { wait = w; is = e } in
-    let new : IsBound v m.session = bound-same v l.session m.session old k.stage in
-    record {
-      number = k.number;
-      fate = λ es. fate-bound setup l.number m.session es v new ∙ sym (fate-bound setup l.number l.session es v old);
-    }
-
-pub fate-keeps : (setup : Setup) (u : ℕ) (l m : Line) → Keeps u l m → SameFate setup l m
-fate-keeps setup u l m k = fate-keeps_by setup u l m l.session.stage refl k
 
 pub fate-greeted : (setup : Setup) (h : Bool) (l m : Line) → l.session.stage ≡ Greets h → m.number ≡ l.number → m.session ≡ greeted setup h l.session → SameFate setup l m
 fate-greeted setup h l m e n g = record { number = n; fate = λ es. ap (λ x. destiny setup l.number x es) (ap (heard setup) (g ∙ greeted-turn setup h l.session e) ∙ heard-turn setup l.session) }

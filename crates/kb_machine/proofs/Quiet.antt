@@ -11,7 +11,7 @@ use Rattle.kb_api_data.specs.declared.fetch.FetchRequest.{FetchRequest}
 use Rattle.kb_api_data.specs.declared.fetch.FetchReply.{FetchReply}
 use Rattle.kb_world.specs.World.{World}
 use Rattle.kb_world.specs.declared.place.Place.{Place}
-use Rattle.kb_tenant.specs.Fetch.{deadline_of, fetch_answer, places_of}
+use Rattle.kb_tenant.specs.Fetch.{deadline_of, fetch_answer}
 use Rattle.kb_tenant.specs.Produce.{produced, is_due}
 use Rattle.kb_tenant.specs.Hosted as hosted
 use Rattle.kb_tenant.specs.Hosted.{Kept, TenantState, IsTurn, kept_in, world_at}
@@ -20,7 +20,7 @@ use Rattle.kb_tenant.specs.Serve.{Outcome, stays, if_read, fetch_reaction, of_pr
 use Rattle.kb_world.specs.Tied.{IsTied}
 use Rattle.kb_tenant.specs.declared.node.Node.{Node}
 use Rattle.kb_tenant.proofs.ServeMoves.{served_waits}
-use Rattle.kb_machine.specs.Tenant.{Wait, ready, kept_after, answer, outcome}
+use Rattle.kb_machine.specs.Tenant.{Wait, ready, kept_after, answer}
 use Rattle.kb_machine.specs.Greeting.{Setup}
 use Rattle.kb_machine.specs.Requests.{Asked, Versions, OtherVersions, Handshake, Authenticate, Another, Unread}
 use Rattle.kb_machine.specs.Requests as requests

@@ -55,11 +55,6 @@ pub rising-last : (low last : ℕ) (ls : List Line) → Rising low last ls → l
 rising-last low last [] r = r
 rising-last low last (k ∷ ls) r = omega (arith, r.0, rising-last k.number last ls r.1)
 
-pub rising-below : (low last : ℕ) (ls : List Line) (i : ℕ) (l : Line) → Rising low last ls → IsAt ls i l → l.number ≤ last
-rising-below low last [] i l r a = no-at i l a
-rising-below low last (k ∷ ls) zero l r a = let e = ap (λ (x : Line). x.number) a.here in let h = rising-last k.number last ls r.1 in omega (arith, e, h)
-rising-below low last (k ∷ ls) (suc i) l r a = rising-below k.number last ls i l r.1 (tail-at k ls i l a)
-
 pub rising-set : (low last : ℕ) (ls : List Line) (i : ℕ) (l m : Line) → Rising low last ls → IsAt ls i l → m.number ≡ l.number → Rising low last (set ls i m)
 rising-set low last [] i l m r a e = no-at i l a
 rising-set low last (k ∷ ls) zero l m r a e = let f : m.number ≡ k.number = e ∙ ap (λ (x : Line). x.number) a.here in rw f r

@@ -16,8 +16,8 @@ use Rattle.kb_machine.specs.Tenant.{Wait, ready}
 use Rattle.kb_machine.specs.Session.{Stage, Greets, BoundTo, fresh, can}
 use Rattle.kb_machine.specs.Greeting.{Setup, User}
 use Rattle.kb_machine.specs.Machine.{Happening, Opens, Closes, Moment, Line, World, those, first_able, all_woken, turns, stepped}
-use Rattle.kb_machine.specs.Owners.{Owns, Fits, find_line, whose, heard, destiny, unborn}
-use Rattle.kb_machine.specs.Broker.{BrokerState, InRange, Grows, IsSound, IsUnready, AreUnready, AnyWait, kept_of, IsReady, IsStep, Rising, Mine, view_of}
+use Rattle.kb_machine.specs.Owners.{Owns, Fits, whose, heard, destiny, unborn}
+use Rattle.kb_machine.specs.Broker.{BrokerState, InRange, Grows, IsSound, IsUnready, AreUnready, AnyWait, kept_of, IsStep, Rising, Mine, view_of}
 use Rattle.kb_machine.specs.Calls.{opened, closed, moved, other_than}
 use Rattle.kb_machine.proofs.Laws.{none-those, turns-none}
 use Rattle.kb_machine.specs.declared.whom.Whom.{Whom}
@@ -69,17 +69,19 @@ owns-opens setup t last n mine es ls h o =
           subst (Fits t (mine k)) (ap (λ (b : Bool). cond b (destiny setup k fresh es) (unborn setup k es)) ne) (o.later k (omega arith));
     }
 
-pub ready-opened : (b : BrokerState) (n : ℕ) → IsReady b → b.last < n → IsReady (opened b n)
-ready-opened b n r lt = record {
-  sound = record {
-    rising = rising-push 0 b.last n b.lines (record { number = n; session = fresh }) r.sound.rising lt refl;
-    in_range = all-push _ b.lines (record { number = n; session = fresh }) r.sound.in_range tt;
-    users = r.sound.users;
-    clock = r.sound.clock;
-  };
-  settled = first-push b.lines (record { number = n; session = fresh }) r.settled can-fresh;
-  unready = all-push (λ l. IsUnready AnyWait b l.session.stage) b.lines (record { number = n; session = fresh }) r.unready tt;
+pub sound-opened : (b : BrokerState) (n : ℕ) → IsSound b → b.last < n → IsSound (opened b n)
+sound-opened b n s lt = record {
+  rising = rising-push 0 b.last n b.lines (record { number = n; session = fresh }) s.rising lt refl;
+  in_range = all-push _ b.lines (record { number = n; session = fresh }) s.in_range tt;
+  users = s.users;
+  clock = s.clock;
 }
+
+pub settled-opened : (b : BrokerState) (n : ℕ) → first_able b.lines ≡ None → first_able (opened b n).lines ≡ None
+settled-opened b n settled = first-push b.lines (record { number = n; session = fresh }) settled can-fresh
+
+pub unready-opened : (b : BrokerState) (n : ℕ) → AreUnready AnyWait b → AreUnready AnyWait (opened b n)
+unready-opened b n unready = all-push (λ l. IsUnready AnyWait b l.session.stage) b.lines (record { number = n; session = fresh }) unready tt
 
 view-opened : (w : World) (n : ℕ) (mine : ℕ → Bool) (yes : Bool) → mine n ≡ yes → with_lines w (w.lines ++ those mine (record { number = n; session = fresh } ∷ [])) ≡ stepped yes (Opens n) w
 view-opened w n mine true e = ap (λ (x : List Line). with_lines w (w.lines ++ x)) (grind (arith, e))
@@ -87,8 +89,8 @@ view-opened w n mine false e =
     let none : those mine (record { number = n; session = fresh } ∷ []) ≡ [] = grind (arith, e) in
     ap (with_lines w) (ap (λ x. w.lines ++ x) none ∙ append-nil w.lines)
 
-pub step-opened : (b : BrokerState) (n : ℕ) → IsReady b → b.last < n → IsStep (Opens n) b (opened b n)
-step-opened b n r lt = record {
+pub step-opened : (b : BrokerState) (n : ℕ) → b.last < n → IsStep (Opens n) b (opened b n)
+step-opened b n lt = record {
   last = omega arith;
   grows = record { setup = refl; names = refl; own = λ t. omega arith; unbound = omega arith };
   counted = λ t. refl;
@@ -97,8 +99,8 @@ step-opened b n r lt = record {
 }
 
 -- a connection that could not be kept
-pub step-unopened : (b : BrokerState) (n x : ℕ) → IsReady b → b.last < n → b.unbound_refusals ≤ x → (IsCalm b.unbound_refusals x → ⊥) → IsStep (Opens n) b (record b { unbound_refusals = x })
-step-unopened b n x r lt up rises = record {
+pub step-unopened : (b : BrokerState) (n x : ℕ) → b.last < n → b.unbound_refusals ≤ x → (IsCalm b.unbound_refusals x → ⊥) → IsStep (Opens n) b (record b { unbound_refusals = x })
+step-unopened b n x lt up rises = record {
   last = omega arith;
   grows = record { setup = refl; names = refl; own = λ t. omega arith; unbound = up };
   counted = λ t. refl;
@@ -122,26 +124,6 @@ remove-those low last (k ∷ ls) (suc i) l r a =
     let lt : k.number < l.number = rising-above k.number last ls i l r.1 (tail-at k ls i l a) in
     let rest = remove-those k.number last ls i l r.1 (tail-at k ls i l a) in
     grind (arith, nat_tests, rest, lt)
-
-none-above : (low last n : ℕ) (ls : List Line) → Rising low last ls → n ≤ low → those (λ k. eqb k n) ls ≡ []
-none-above low last n [] r h = refl
-none-above low last n (l ∷ ls) r h = let lt = r.0 in let rest = none-above l.number last n ls r.1 (omega arith) in grind (arith, nat_tests, rest)
-
-pub those-one : (low last : ℕ) (ls : List Line) (i : ℕ) (l : Line) → Rising low last ls → IsAt ls i l → those (λ k. eqb k l.number) ls ≡ l ∷ []
-those-one low last [] i l r a = no-at i l a
-those-one low last (k ∷ ls) zero l r a =
-    let n : l.number ≡ k.number = ap (λ (x : Line). x.number) a.here in
-    let rest = none-above k.number last l.number ls r.1 (omega (arith, n)) in
-    let same : l ≡ k = a.here in
-    grind (arith, nat_tests, rest, n, same)
-those-one low last (k ∷ ls) (suc i) l r a =
-    let lt : k.number < l.number = rising-above k.number last ls i l r.1 (tail-at k ls i l a) in
-    let rest = those-one k.number last ls i l r.1 (tail-at k ls i l a) in
-    grind (arith, nat_tests, rest, lt)
-
-pub those-none : (n : ℕ) (ls : List Line) → AllByRecursion (λ l. l.number ≢ n) ls → those (λ k. eqb k n) ls ≡ []
-those-none n [] h = refl
-those-none n (l ∷ ls) h = let no = h.0 in let rest = those-none n ls h.1 in grind (arith, nat_tests, rest)
 
 pub those-all : (n : ℕ) (ls : List Line) → AllByRecursion (λ l. l.number ≢ n) ls → those (other_than n) ls ≡ ls
 those-all n [] h = refl
@@ -180,17 +162,19 @@ view-closed : (w : World) (n : ℕ) (mine : ℕ → Bool) (ls : List Line) (yes 
 view-closed w n mine ls true f e = ap (with_lines w) (those-those mine (other_than n) ls ∙ ap (those (other_than n)) (sym f))
 view-closed w n mine ls false f e = ap (with_lines w) (those-without mine n ls e ∙ sym f)
 
-pub ready-closed : (b : BrokerState) (n : ℕ) → IsReady b → IsReady (closed b n)
-ready-closed b n r = record {
-  sound = record {
-    rising = rising-those 0 b.last (other_than n) b.lines r.sound.rising;
-    in_range = all-those _ (other_than n) b.lines r.sound.in_range;
-    users = r.sound.users;
-    clock = r.sound.clock;
-  };
-  settled = none-those (other_than n) b.lines r.settled;
-  unready = all-those (λ l. IsUnready AnyWait b l.session.stage) (other_than n) b.lines r.unready;
+pub sound-closed : (b : BrokerState) (n : ℕ) → IsSound b → IsSound (closed b n)
+sound-closed b n s = record {
+  rising = rising-those 0 b.last (other_than n) b.lines s.rising;
+  in_range = all-those _ (other_than n) b.lines s.in_range;
+  users = s.users;
+  clock = s.clock;
 }
+
+pub settled-closed : (b : BrokerState) (n : ℕ) → first_able b.lines ≡ None → first_able (closed b n).lines ≡ None
+settled-closed b n settled = none-those (other_than n) b.lines settled
+
+pub unready-closed : (b : BrokerState) (n : ℕ) → AreUnready AnyWait b → AreUnready AnyWait (closed b n)
+unready-closed b n unready = all-those (λ l. IsUnready AnyWait b l.session.stage) (other_than n) b.lines unready
 
 pub step-closed : (b : BrokerState) (n : ℕ) → IsStep (Closes n) b (closed b n)
 step-closed b n = record {
@@ -201,15 +185,7 @@ step-closed b n = record {
   view = λ t mine es m q. view-closed (view_of t mine b) n mine b.lines (mine n) refl refl;
 }
 
-pub find-other : (k n : ℕ) (ls : List Line) → k ≢ n → find_line k (those (other_than n) ls) ≡ find_line k ls
-find-other k n [] ne = refl
-find-other k n (l ∷ ls) ne = let rest = find-other k n ls ne in grind (arith, nat_tests, rest)
-
 -- 3. A moment
-
--- the clock moves first
-pub sound-moved : (b : BrokerState) (now : ℕ) → IsSound b → max b.clock now ≤ 2 ^ 62 → IsSound (moved b now)
-sound-moved b now s le = record { rising = s.rising; in_range = s.in_range; users = s.users; clock = le }
 
 -- the clock has moved, and retention has left the tenants this
 abbrev pub begun : BrokerState → ℕ → List TenantState → BrokerState
@@ -256,10 +232,10 @@ all-unready b clock = each b.lines
     each (l ∷ ls) = (one l.session.stage, each ls)
 
 -- then waiting fetches are looked at, and then there are turns until none is left
-pub step-moment : (now : ℕ) (whom : Whom) (a b c : BrokerState) (ts : List TenantState) → AreRetained (max a.clock now) (Unit {0}) a.tenants ts → Waked whom (begun a now ts) b → AreUnready AnyWait b → Turned Everybody b c → first_able c.lines ≡ None → IsStep (Moment now) a c
-step-moment now whom a b c ts r q unready t none =
+pub step-moment : (now : ℕ) (whom : Whom) (a b c : BrokerState) (ts : List TenantState) (H : Type 0) → H → AreRetained (max a.clock now) H a.tenants ts → Waked whom (begun a now ts) b → AreUnready AnyWait b → Turned Everybody b c → first_able c.lines ≡ None → IsStep (Moment now) a c
+step-moment now whom a b c ts H honest r q unready t none =
     let start = begun a now ts in
-    let f = begun-grows a now (max a.clock now) (Unit {0}) ts r in
+    let f = begun-grows a now (max a.clock now) H ts r in
     let g = q.going.grows in
     let h = t.going.grows in
     let w = going-then start b c q.going t.going in
@@ -280,5 +256,5 @@ step-moment now whom a b c ts r q unready t none =
           sym (settled-turns u mine c none)
           ∙ (t.view u mine es mb then
           ∙ (ap turns (sym (unready-view AnyWait b u mine es unready (λ w. tt) mb) ∙ q.view u mine es at first.own)
-          ∙ ap (λ k. turns (all_woken (record v { kept = k }))) (r.kept tt u before.own)));
+          ∙ ap (λ k. turns (all_woken (record v { kept = k }))) (r.kept honest u before.own)));
     }

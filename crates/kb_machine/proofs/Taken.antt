@@ -1,12 +1,11 @@
 -- Output that is taken.
-use Rattle.std.proofs.Common.{◌≡◌, ℕ, List, [], ◌∷◌, length, eqb, Bool, true, false, refl, ◌∙◌, ap}
+use Rattle.std.proofs.Common.{◌≡◌, ℕ, List, [], ◌∷◌, length, eqb, Bool, true, false, None, refl, ◌∙◌}
 use Rattle.std.specs.Prelude.{cond}
 use Rattle.std.specs.List.{AllByRecursion}
 use Rattle.kb_machine.specs.Session.{Session, can}
-use Rattle.kb_machine.specs.Machine.{Line, each, on, those}
-use Rattle.kb_machine.specs.Broker.{BrokerState, IsUnready, AnyWait, IsReady, InRange, Rising, view_of}
+use Rattle.kb_machine.specs.Machine.{Line, each, on, first_able}
+use Rattle.kb_machine.specs.Broker.{BrokerState, IsSound, IsUnready, AreUnready, AnyWait, InRange, Rising}
 use Rattle.kb_machine.specs.Calls.{taken, without_output}
-use Rattle.kb_machine.proofs.Laws.{those-each}
 use Rattle.kb_machine.proofs.Sets.{all-still, none-able}
 
 can-taken : (s : Session) → can (without_output s) ≡ can s
@@ -33,21 +32,19 @@ range-taken n tenants (l ∷ ls) h = (by (eqb l.number n), range-taken n tenants
     by true = h.0
     by false = h.0
 
-unready-taken : (n : ℕ) (b : BrokerState) (ls : List Line) → AllByRecursion (λ l. IsUnready AnyWait b l.session.stage) ls → AllByRecursion (λ l. IsUnready AnyWait b l.session.stage) (each (on n without_output) ls)
-unready-taken n b [] h = tt
-unready-taken n b (l ∷ ls) h = (by (eqb l.number n), unready-taken n b ls h.1)
+each-unready : (n : ℕ) (b : BrokerState) (ls : List Line) → AllByRecursion (λ l. IsUnready AnyWait b l.session.stage) ls → AllByRecursion (λ l. IsUnready AnyWait b l.session.stage) (each (on n without_output) ls)
+each-unready n b [] h = tt
+each-unready n b (l ∷ ls) h = (by (eqb l.number n), each-unready n b ls h.1)
   where
     by : (c : Bool) → IsUnready AnyWait b (cond c (without_output l.session) l.session).stage
     by true = h.0
     by false = h.0
 
-pub ready-taken : (b : BrokerState) (n : ℕ) → IsReady b → IsReady (taken b n)
-ready-taken b n r = record {
-  sound = record { rising = rising-taken n 0 b.last b.lines r.sound.rising; in_range = range-taken n (length b.tenants) b.lines r.sound.in_range; users = r.sound.users; clock = r.sound.clock };
-  settled = none-able (each (on n without_output) b.lines) (first-taken n b.lines (all-still b.lines r.settled));
-  unready = unready-taken n b b.lines r.unready;
-}
+pub sound-taken : (b : BrokerState) (n : ℕ) → IsSound b → IsSound (taken b n)
+sound-taken b n s = record { rising = rising-taken n 0 b.last b.lines s.rising; in_range = range-taken n (length b.tenants) b.lines s.in_range; users = s.users; clock = s.clock }
 
--- the view of a tenant, its output taken too
-pub view-taken : (t : ℕ) (mine : ℕ → Bool) (b : BrokerState) (n : ℕ) → view_of t mine (taken b n) ≡ record (view_of t mine b) { lines = each (on n without_output) (those mine b.lines) }
-view-taken t mine b n = ap (λ x. record (view_of t mine b) { lines = x }) (those-each mine (on n without_output) b.lines)
+pub settled-taken : (b : BrokerState) (n : ℕ) → first_able b.lines ≡ None → first_able (taken b n).lines ≡ None
+settled-taken b n settled = none-able (each (on n without_output) b.lines) (first-taken n b.lines (all-still b.lines settled))
+
+pub unready-taken : (b : BrokerState) (n : ℕ) → AreUnready AnyWait b → AreUnready AnyWait (taken b n)
+unready-taken b n unready = each-unready n b b.lines unready

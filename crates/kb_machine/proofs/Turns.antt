@@ -246,15 +246,29 @@ counted-unbound Everybody b i l m x s at (inr h) none = let no : Some h.0 ≡ No
 
 -- 5. One turn
 
+greeting-stays : (l m : Line) (h : Bool) → l.session.stage ≡ Greets h → (t : ℕ) → whose l.session.stage ≡ Some t → whose m.session.stage ≡ Some t
+greeting-stays l m h g t f = let none : None ≡ Some t = sym (ap whose g) ∙ f in absurd (cc)
+
+-- a greeting connection takes a turn
+pub greeting-going : (b : BrokerState) (i : ℕ) (l m : Line) (h : Bool) → IsSound b → IsAt b.lines i l → l.session.stage ≡ Greets h → m.number ≡ l.number → m.session ≡ greeted b.setup h l.session → IsGoing b (changed b i m b.tenants b.unbound_refusals)
+greeting-going b i l m h s at g n e =
+    let in_range = subst (λ x. InRange (length b.tenants) x.stage) (sym e) (range-greeted (length b.tenants) b.setup h l.session s.users (all-at _ b.lines i l at s.in_range)) in
+    changed-going b i l m b.tenants b.unbound_refusals s at n refl in_range (record { setup = refl; names = refl; own = λ t. omega arith; unbound = omega arith }) (greeting-stays l m h g)
+
+-- and is shut, with a count, where its turn was refused
+pub refused-going : (b : BrokerState) (i : ℕ) (l m : Line) (h : Bool) (x : ℕ) → IsSound b → IsAt b.lines i l → l.session.stage ≡ Greets h → m.number ≡ l.number → m.session ≡ shut_down l.session → b.unbound_refusals ≤ x → IsGoing b (changed b i m b.tenants x)
+refused-going b i l m h x s at g n e up =
+    let in_range = subst (λ y. InRange (length b.tenants) y.stage) (sym e) (range-without (length b.tenants) l.session.stage (all-at _ b.lines i l at s.in_range)) in
+    changed-going b i l m b.tenants x s at n refl in_range (record { setup = refl; names = refl; own = λ t. omega arith; unbound = up }) (greeting-stays l m h g)
+
 -- the turn of a greeting connection
 pub turned-greeting : (scope : Scope) (b : BrokerState) (i : ℕ) (l m : Line) (h : Bool) → IsSound b → AreStill scope b → IsAt b.lines i l → first_able b.lines ≡ Some l → can l.session ≡ true →
     l.session.stage ≡ Greets h → m.number ≡ l.number → m.session ≡ greeted b.setup h l.session → Turned scope b (changed b i m b.tenants b.unbound_refusals)
 turned-greeting scope b i l m h s still at able c g n e =
     let none : whose l.session.stage ≡ None = ap whose g in
-    let in_range = subst (λ x. InRange (length b.tenants) x.stage) (sym e) (range-greeted (length b.tenants) b.setup h l.session s.users (all-at _ b.lines i l at s.in_range)) in
     let lines : set b.lines i m ≡ each (on l.number (greeted b.setup h)) b.lines = set-on 0 b.last (greeted b.setup h) b.lines i l m s.rising at n e in
-    let stays : (t : ℕ) → whose l.session.stage ≡ Some t → whose m.session.stage ≡ Some t = λ t f. (let k : None ≡ Some t = sym none ∙ f in absurd (cc)) in
-    let going = changed-going b i l m b.tenants b.unbound_refusals s at n refl in_range (record { setup = refl; names = refl; own = λ t. omega arith; unbound = omega arith }) stays in
+    let stays = greeting-stays l m h g in
+    let going = greeting-going b i l m h s at g n e in
     record {
       going = going;
       still = turned-still scope b i l m b.tenants b.unbound_refusals going still (all-at (IsStill scope b) b.lines i l at still c) n stays;
@@ -272,9 +286,8 @@ pub refused-greeting : (scope : Scope) (b : BrokerState) (i : ℕ) (l m : Line) 
     l.session.stage ≡ Greets h → m.number ≡ l.number → m.session ≡ shut_down l.session → b.unbound_refusals ≤ x → (IsCalm b.unbound_refusals x → ⊥) → Turned scope b (changed b i m b.tenants x)
 refused-greeting scope b i l m h x s still at c g n e up rises =
     let none : whose l.session.stage ≡ None = ap whose g in
-    let in_range = subst (λ y. InRange (length b.tenants) y.stage) (sym e) (range-without (length b.tenants) l.session.stage (all-at _ b.lines i l at s.in_range)) in
-    let stays : (t : ℕ) → whose l.session.stage ≡ Some t → whose m.session.stage ≡ Some t = λ t f. (let k : None ≡ Some t = sym none ∙ f in absurd (cc)) in
-    let going = changed-going b i l m b.tenants x s at n refl in_range (record { setup = refl; names = refl; own = λ t. omega arith; unbound = up }) stays in
+    let stays = greeting-stays l m h g in
+    let going = refused-going b i l m h x s at g n e up in
     let inside = all-at (IsStill scope b) b.lines i l at still c in
     record {
       going = going;

@@ -1,7 +1,7 @@
 -- Which connections are a tenant's: those that what they say binds to it.
 use Rattle.std.specs.Prelude.{◌≡◌, ℕ, ◌<◌, ◌==◌, List, [], ◌∷◌, length, filter, Bool, true, false, if◌then◌else◌, Option, Some, None, ⊤}
 use Rattle.std.specs.List.{AllByRecursion}
-use Rattle.kb_machine.specs.Session.{Stage, Greets, BoundTo, Session, fresh, fed, without_wait}
+use Rattle.kb_machine.specs.Session.{Stage, Greets, BoundTo, Session, fresh, fed}
 use Rattle.kb_machine.specs.Greeting.{Setup, greeted}
 use Rattle.kb_machine.specs.Machine.{Happening, Opens, Comes, Closes, Moment, Line, again}
 
@@ -60,10 +60,6 @@ is_owner t (Some u) = u == t
 unfoldable pub owned : Setup → List Line → List Happening → ℕ → ℕ → Bool
 owned setup lines es t n = is_owner t (owner setup lines es n)
 
-abbrev pub is_for : ℕ → Stage → Bool
-is_for t (Greets handshaken) = false
-is_for t (BoundTo u wait) = u == t
-
 -- 2. A tenant's events: the moments, and those of its connections
 
 abbrev pub concerns : (ℕ → Bool) → Happening → Bool
@@ -87,19 +83,9 @@ pub record Owns (setup : Setup) (t : ℕ) (mine : ℕ → Bool) (last : ℕ) (es
   pub now : AllByRecursion (λ l. Fits t (mine l.number) (destiny setup l.number (heard setup l.session) es)) lines
   pub later : (n : ℕ) → last < n → Fits t (mine n) (unborn setup n es)
 
--- what a step that is for the tenant u, refused or not, leaves of a connection
-pub record Keeps (u : ℕ) (old new : Line) : Type 0 where
-  pub number : new.number ≡ old.number
-  pub stage : without_wait new.session.stage ≡ without_wait old.session.stage
-  pub other : is_for u old.session.stage ≡ false → new.session ≡ old.session
-
 -- the relation holds of each two, in order
 abbrev pub Pairwise : (Line → Line → Type 0) → List Line → List Line → Type 0
 Pairwise R [] [] = ⊤
 Pairwise R [] (m ∷ ms) = ⊥
 Pairwise R (l ∷ ls) [] = ⊥
 Pairwise R (l ∷ ls) (m ∷ ms) = R l m × Pairwise R ls ms
-
--- no connection but the tenant's has changed
-abbrev pub SameBut : ℕ → List Line → List Line → Type 0
-SameBut u = Pairwise (Keeps u)

@@ -9,12 +9,13 @@ ghost use Rattle.kb_broker.specs.ScriptRun.{hushed, shut_marks, said_since, IsUn
 use super::ScriptFault;
 use super::answer::{answer_of, write_all};
 use crate::broker::Broker;
+use kb_store::MemoryStore;
 use std::alloc::{AllocError, Global};
 use std::io::Write;
 
 /// Whether each connection is shut, by place.
-pub fn shut_places(alloc: Global, broker: &Broker) -> Result<Vec<bool>, AllocError>
-    ensures { IfOk result (λ marks. marks.items ≡ shut_marks broker.now.lines) }
+pub fn shut_places(alloc: Global, broker: &Broker<MemoryStore>) -> Result<Vec<bool>, AllocError>
+    ensures { IfOk result (λ marks. marks.items ≡ shut_marks broker.now.state.lines) }
 {
     broker
         .connections()
@@ -26,15 +27,15 @@ pub fn shut_places(alloc: Global, broker: &Broker) -> Result<Vec<bool>, AllocErr
 /// Takes the output of all connections, and writes what each got and whether it is shut where it was not, by rising number.
 pub fn say<W: Write>(
     alloc: Global,
-    broker: &mut Broker,
+    broker: &mut Broker<MemoryStore>,
     writer: &mut W,
     were_shut: &[bool],
 ) -> Result<(), ScriptFault>
-    requires ready { IsReady broker.old }
-    requires places { length were_shut.now ≡ length broker.old.lines }
-    ensures state { OnOk result (broker.new ≡ hushed broker.old) }
-    ensures text { OnOk result (Appends (W.contents writer.old) (W.contents writer.new) (step_text (said_since were_shut.now broker.old.lines))) }
-    ensures err { IfErr result (λ fault. IsUnwritten fault (step_text (said_since were_shut.now broker.old.lines)) (W.contents writer.old) (W.contents writer.new)) }
+    requires ready { IsReady broker.old.state }
+    requires places { length were_shut.now ≡ length broker.old.state.lines }
+    ensures state { OnOk result (broker.new.state ≡ hushed broker.old.state) }
+    ensures text { OnOk result (Appends (W.contents writer.old) (W.contents writer.new) (step_text (said_since were_shut.now broker.old.state.lines))) }
+    ensures err { IfErr result (λ fault. IsUnwritten fault (step_text (said_since were_shut.now broker.old.state.lines)) (W.contents writer.old) (W.contents writer.new)) }
 {
     let Ok(text) = take_text(alloc, broker, were_shut) else {
         return Err(ScriptFault::Memory);
@@ -43,11 +44,15 @@ pub fn say<W: Write>(
 }
 
 /// Takes the output of all connections, and spells it.
-fn take_text(alloc: Global, broker: &mut Broker, were_shut: &[bool]) -> Result<Vec<u8>, AllocError>
-    requires ready { IsReady broker.old }
-    requires places { length were_shut.now ≡ length broker.old.lines }
-    ensures state { OnOk result (broker.new ≡ hushed broker.old) }
-    ensures text { IfOk result (λ text. text.items ≡ step_text (said_since were_shut.now broker.old.lines)) }
+fn take_text(
+    alloc: Global,
+    broker: &mut Broker<MemoryStore>,
+    were_shut: &[bool],
+) -> Result<Vec<u8>, AllocError>
+    requires ready { IsReady broker.old.state }
+    requires places { length were_shut.now ≡ length broker.old.state.lines }
+    ensures state { OnOk result (broker.new.state ≡ hushed broker.old.state) }
+    ensures text { IfOk result (λ text. text.items ≡ step_text (said_since were_shut.now broker.old.state.lines)) }
 {
     let mut text = Vec::new(alloc);
     for i in 0..broker.connections().len() {

@@ -4,4 +4,10 @@ use Rattle.kb_broker.specs.Hosts.{tenants_in, AreHosted}
 use Rattle.kb_broker.proofs.opening.new_tenants.Given as goal
 
 abbrev pub invariant-loop-name : goal.invariant-loop-name
-invariant-loop-name l = record { hosted : AreHosted l.tenants; new : tenants_in l.tenants ≡ map (λ name. new_tenant name.now) (take l.name-index l.names) }
+invariant-loop-name g l =
+    let disk = g.S.Store.disk in
+    record {
+      hosted : AreHosted disk l.tenants;
+      new : tenants_in disk l.tenants ≡ map (λ name. new_tenant name.now) (take l.name-index l.names);
+      store : l.tenants.shelf ≡ l.fn.shelf;
+    }

@@ -1,23 +1,27 @@
 use Rattle.std.proofs.Common.{◌≡◌, true, ◌∙◌}
 use Rattle.kb_machine.specs.Machine.{Comes}
+use Rattle.kb_machine.specs.Broker.{IsReady}
 use Rattle.kb_machine.specs.Calls.{is_calm}
+use Rattle.kb_broker.proofs.Honest.{ready-of}
 use Rattle.kb_broker.proofs.ScriptEvents.{comes, spoken, unspoken}
 use Rattle.kb_broker.proofs.script.give.Goals as goal
 
 pub returns-clause-ok : goal.returns-clause-ok
 returns-clause-ok g c =
-    let b = c.args.broker.now in
-    let new = c.input.new.self in
+    let b = c.args.broker.now.state in
+    let new = c.input.new.self.state in
+    let ready : IsReady new = ready-of _ c.input.new.self c.input.ensures.ready tt in
     let i = c.input.ensures in
     let calm : is_calm new ≡ true = c.in_ok-calm.ensures.ok in
-    let happens = comes b new c.args.connection c.args.piece.now i.step i.ready calm i.last i.numbers in
-    spoken c.say.result (Comes c.args.connection c.args.piece.now) b new c.say.new.broker c.deref.result.now _ _ c.requires.ready happens i.numbers (c.deref.ensures.value ∙ c.in-Ok.ensures) c.say.ensures.state c.say.ensures.text
+    let happens = comes b new c.args.connection c.args.piece.now (i.step tt) ready calm i.last i.numbers in
+    spoken c.say.result (Comes c.args.connection c.args.piece.now) b new c.say.new.broker.state c.deref.result.now _ _ c.requires.ready happens i.numbers (c.deref.ensures.value ∙ c.in-Ok.ensures) c.say.ensures.state c.say.ensures.text
 
 pub returns-clause-err : goal.returns-clause-err
 returns-clause-err g c =
-    let b = c.args.broker.now in
-    let new = c.input.new.self in
+    let b = c.args.broker.now.state in
+    let new = c.input.new.self.state in
+    let ready : IsReady new = ready-of _ c.input.new.self c.input.ensures.ready tt in
     let i = c.input.ensures in
     let calm : is_calm new ≡ true = c.in_ok-calm.ensures.ok in
-    let happens = comes b new c.args.connection c.args.piece.now i.step i.ready calm i.last i.numbers in
+    let happens = comes b new c.args.connection c.args.piece.now (i.step tt) ready calm i.last i.numbers in
     unspoken c.say.result (Comes c.args.connection c.args.piece.now) b new c.deref.result.now _ _ c.requires.ready happens i.numbers (c.deref.ensures.value ∙ c.in-Ok.ensures) c.say.ensures.err

@@ -12,47 +12,47 @@ loop-index-init g c = record {
   ready = c.requires.ready;
   quiet = c.requires.quiet;
   calm = c.requires.calm;
-  played = played-start c.args.broker.now (g.R.Read.remaining c.args.reader.now) (g.W.Write.contents c.args.writer.now);
+  played = played-start c.args.broker.now.state (g.R.Read.remaining c.args.reader.now) (g.W.Write.contents c.args.writer.now);
 }
 
 pub returns-in_err-next_line-clause-err : goal.returns-in_err-next_line-clause-err
 returns-in_err-next_line-clause-err g c =
-    let found = played-fault c.args.broker.now c.loop-index.broker (g.R.Read.remaining c.args.reader.now) (g.R.Read.remaining c.loop-index.reader) (g.W.Write.contents c.args.writer.now) (g.W.Write.contents c.loop-index.writer)
+    let found = played-fault c.args.broker.now.state c.loop-index.broker.state (g.R.Read.remaining c.args.reader.now) (g.R.Read.remaining c.loop-index.reader) (g.W.Write.contents c.args.writer.now) (g.W.Write.contents c.loop-index.writer)
     (c.loop-index.index + 1) c.loop-index.room c.in_err-next_line.field-0.0 c.requires.calm c.requires.ready.sound (omega arith) c.loop-index.invariant.played c.in_err-next_line.ensures.fault in
     let was : c.from_residual.result ≡ Err c.in_err-next_line.field-0.0 = search rules in
-    subst (λ r. IfErr r (λ fault. IfSome (g.R.Read.remaining c.args.reader.now) (λ text. IsEnded c.args.broker.now (script c.args.broker.now text) fault (g.W.Write.contents c.args.writer.now) (g.W.Write.contents c.loop-index.writer)))) (sym was) found
+    subst (λ r. IfErr r (λ fault. IfSome (g.R.Read.remaining c.args.reader.now) (λ text. IsEnded c.args.broker.now.state (script c.args.broker.now.state text) fault (g.W.Write.contents c.args.writer.now) (g.W.Write.contents c.loop-index.writer)))) (sym was) found
 
 pub returns-then-is_empty-clause-ok : goal.returns-then-is_empty-clause-ok
 returns-then-is_empty-clause-ok g c =
     let zero : length c.next_line.new.line.items ≡ 0 = search rules in
     let empty : c.next_line.new.line.items ≡ [] = nil_from_length _ zero in
-    played-end c.args.broker.now c.loop-index.broker (g.R.Read.remaining c.args.reader.now) (g.R.Read.remaining c.loop-index.reader) (g.W.Write.contents c.args.writer.now) (g.W.Write.contents c.loop-index.writer)
+    played-end c.args.broker.now.state c.loop-index.broker.state (g.R.Read.remaining c.args.reader.now) (g.R.Read.remaining c.loop-index.reader) (g.W.Write.contents c.args.writer.now) (g.W.Write.contents c.loop-index.writer)
     (c.loop-index.index + 1) c.loop-index.room c.requires.calm c.requires.ready.sound c.loop-index.invariant.played
     (subst (λ x. IfSome (g.R.Read.remaining c.loop-index.reader) (λ ys. x ≡ take_through 10 ys)) empty c.in_ok-next_line.ensures.text)
 
 pub returns-in_err-play_line-clause-err : goal.returns-in_err-play_line-clause-err
 returns-in_err-play_line-clause-err g c =
     let some : 0 < length c.next_line.new.line.items = search rules in
-    let broken = subst (λ l. IsBroken (course_of (here (c.loop-index.index + 1) c.loop-index.broker) (told (strip_last 10 l))) c.in_err-play_line.field-0.0 c.loop-index.broker (g.W.Write.contents c.loop-index.writer) (g.W.Write.contents c.play_line.new.writer)) c.deref.ensures.value c.in_err-play_line.ensures.err in
-    let found = played-broken c.args.broker.now c.loop-index.broker c.next_line.new.line.items (g.R.Read.remaining c.args.reader.now) (g.R.Read.remaining c.loop-index.reader) (g.W.Write.contents c.args.writer.now) (g.W.Write.contents c.loop-index.writer) (g.W.Write.contents c.play_line.new.writer)
+    let broken = subst (λ l. IsBroken (course_of (here (c.loop-index.index + 1) c.loop-index.broker.state) (told (strip_last 10 l))) c.in_err-play_line.field-0.0 c.loop-index.broker.state (g.W.Write.contents c.loop-index.writer) (g.W.Write.contents c.play_line.new.writer)) c.deref.ensures.value c.in_err-play_line.ensures.err in
+    let found = played-broken c.args.broker.now.state c.loop-index.broker.state c.next_line.new.line.items (g.R.Read.remaining c.args.reader.now) (g.R.Read.remaining c.loop-index.reader) (g.W.Write.contents c.args.writer.now) (g.W.Write.contents c.loop-index.writer) (g.W.Write.contents c.play_line.new.writer)
     (c.loop-index.index + 1) c.loop-index.room c.in_err-play_line.field-0.0 c.requires.calm c.requires.ready.sound (omega arith) c.in_ok-next_line.ensures.sized some c.loop-index.invariant.played c.in_ok-next_line.ensures.text broken in
     let was : c.from_residual-in_err-play_line.result ≡ Err c.in_err-play_line.field-0.0 = search rules in
-    subst (λ r. IfErr r (λ fault. IfSome (g.R.Read.remaining c.args.reader.now) (λ text. IsEnded c.args.broker.now (script c.args.broker.now text) fault (g.W.Write.contents c.args.writer.now) (g.W.Write.contents c.play_line.new.writer)))) (sym was) found
+    subst (λ r. IfErr r (λ fault. IfSome (g.R.Read.remaining c.args.reader.now) (λ text. IsEnded c.args.broker.now.state (script c.args.broker.now.state text) fault (g.W.Write.contents c.args.writer.now) (g.W.Write.contents c.play_line.new.writer)))) (sym was) found
 
 pub loop-index-preserved : goal.loop-index-preserved
 loop-index-preserved g c =
     let some : 0 < length c.next_line.new.line.items = search rules in
-    let done = subst (λ l. IsDone (course_of (here (c.loop-index.index + 1) c.loop-index.broker) (told (strip_last 10 l))) c.loop-index.broker c.play_line.new.broker (g.W.Write.contents c.loop-index.writer) (g.W.Write.contents c.play_line.new.writer)) c.deref.ensures.value c.in_ok-play_line.ensures.ok in
-    let rest = rest-done (course_of (here (c.loop-index.index + 1) c.loop-index.broker) (told (strip_last 10 c.next_line.new.line.items))) c.loop-index.broker c.play_line.new.broker (g.W.Write.contents c.loop-index.writer) (g.W.Write.contents c.play_line.new.writer)
+    let done = subst (λ l. IsDone (course_of (here (c.loop-index.index + 1) c.loop-index.broker.state) (told (strip_last 10 l))) c.loop-index.broker.state c.play_line.new.broker.state (g.W.Write.contents c.loop-index.writer) (g.W.Write.contents c.play_line.new.writer)) c.deref.ensures.value c.in_ok-play_line.ensures.ok in
+    let rest = rest-done (course_of (here (c.loop-index.index + 1) c.loop-index.broker.state) (told (strip_last 10 c.next_line.new.line.items))) c.loop-index.broker.state c.play_line.new.broker.state (g.W.Write.contents c.loop-index.writer) (g.W.Write.contents c.play_line.new.writer)
     (record { ready = c.loop-index.invariant.ready; quiet = c.loop-index.invariant.quiet; calm = c.loop-index.invariant.calm }) done in
-    let more = played-more c.args.broker.now c.loop-index.broker c.play_line.new.broker c.next_line.new.line.items (g.R.Read.remaining c.args.reader.now) (g.R.Read.remaining c.loop-index.reader) (g.R.Read.remaining c.next_line.new.reader) (g.W.Write.contents c.args.writer.now) (g.W.Write.contents c.loop-index.writer) (g.W.Write.contents c.play_line.new.writer)
+    let more = played-more c.args.broker.now.state c.loop-index.broker.state c.play_line.new.broker.state c.next_line.new.line.items (g.R.Read.remaining c.args.reader.now) (g.R.Read.remaining c.loop-index.reader) (g.R.Read.remaining c.next_line.new.reader) (g.W.Write.contents c.args.writer.now) (g.W.Write.contents c.loop-index.writer) (g.W.Write.contents c.play_line.new.writer)
     (c.loop-index.index + 1) c.loop-index.room (omega arith) c.in_ok-next_line.ensures.sized some c.loop-index.invariant.played c.in_ok-next_line.ensures.text c.in_ok-next_line.ensures.rest done in
     let size : length c.next_line.new.line.items ≡ c.len-room.result = search rules in
     record {
       ready = rest.ready;
       quiet = rest.quiet;
       calm = rest.calm;
-      played = subst (λ n. IfSome (g.R.Read.remaining c.args.reader.now) (λ xs. Played c.args.broker.now c.play_line.new.broker xs (g.R.Read.remaining c.next_line.new.reader) (g.W.Write.contents c.args.writer.now) (g.W.Write.contents c.play_line.new.writer) (c.loop-index.index + 1 + 1) (c.loop-index.room - n))) size more;
+      played = subst (λ n. IfSome (g.R.Read.remaining c.args.reader.now) (λ xs. Played c.args.broker.now.state c.play_line.new.broker.state xs (g.R.Read.remaining c.next_line.new.reader) (g.W.Write.contents c.args.writer.now) (g.W.Write.contents c.play_line.new.writer) (c.loop-index.index + 1 + 1) (c.loop-index.room - n))) size more;
     }
 
 pub returns-clause-ok : goal.returns-clause-ok
@@ -61,7 +61,7 @@ returns-clause-ok g c =
     (λ text sized.
     let none : length c.next_line-2.new.line.items ≤ 0 = fits-room _ 0 c.next_line-2.new.line.items sized in
     let empty : c.next_line-2.new.line.items ≡ [] = nil_from_length _ (omega (arith, none)) in
-    played-end c.args.broker.now c.loop-index.broker (g.R.Read.remaining c.args.reader.now) (g.R.Read.remaining c.loop-index.reader) (g.W.Write.contents c.args.writer.now) (g.W.Write.contents c.loop-index.writer)
+    played-end c.args.broker.now.state c.loop-index.broker.state (g.R.Read.remaining c.args.reader.now) (g.R.Read.remaining c.loop-index.reader) (g.W.Write.contents c.args.writer.now) (g.W.Write.contents c.loop-index.writer)
     (c.loop-index.index + 1) c.loop-index.room c.requires.calm c.requires.ready.sound c.loop-index.invariant.played
     (subst (λ x. IfSome (g.R.Read.remaining c.loop-index.reader) (λ ys. x ≡ take_through 10 ys)) empty text))
     c.next_line-2.ensures.text c.next_line-2.ensures.sized
@@ -69,8 +69,8 @@ returns-clause-ok g c =
 pub returns-clause-err : goal.returns-clause-err
 returns-clause-err g c =
     let last : c.loop-index.index ≡ 1000000 = omega arith in
-    let played = subst (λ n. IfSome (g.R.Read.remaining c.args.reader.now) (λ xs. Played c.args.broker.now c.loop-index.broker xs (g.R.Read.remaining c.loop-index.reader) (g.W.Write.contents c.args.writer.now) (g.W.Write.contents c.loop-index.writer) (n + 1) c.loop-index.room)) last c.loop-index.invariant.played in
+    let played = subst (λ n. IfSome (g.R.Read.remaining c.args.reader.now) (λ xs. Played c.args.broker.now.state c.loop-index.broker.state xs (g.R.Read.remaining c.loop-index.reader) (g.W.Write.contents c.args.writer.now) (g.W.Write.contents c.loop-index.writer) (n + 1) c.loop-index.room)) last c.loop-index.invariant.played in
     if-err c.next_line-2.result _ _
-    (λ fault f. played-past c.args.broker.now c.loop-index.broker (g.R.Read.remaining c.args.reader.now) (g.R.Read.remaining c.loop-index.reader) (g.W.Write.contents c.args.writer.now) (g.W.Write.contents c.loop-index.writer)
+    (λ fault f. played-past c.args.broker.now.state c.loop-index.broker.state (g.R.Read.remaining c.args.reader.now) (g.R.Read.remaining c.loop-index.reader) (g.W.Write.contents c.args.writer.now) (g.W.Write.contents c.loop-index.writer)
     1000001 c.loop-index.room fault c.requires.calm c.requires.ready.sound (omega arith) played f)
     c.next_line-2.ensures.fault

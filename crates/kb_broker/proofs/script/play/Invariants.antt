@@ -8,8 +8,8 @@ use Rattle.kb_broker.proofs.script.play.Given as goal
 
 abbrev pub invariant-loop-index : goal.invariant-loop-index
 invariant-loop-index g l = record {
-  ready : IsReady l.broker;
-  quiet : IsQuiet l.broker;
-  calm : is_calm l.broker ≡ true;
-  played : IfSome (g.R.Read.remaining l.initial.reader) (λ xs. Played l.initial.broker l.broker xs (g.R.Read.remaining l.reader) (g.W.Write.contents l.initial.writer) (g.W.Write.contents l.writer) (l.index + 1) l.room);
+  ready : IsReady l.broker.state;
+  quiet : IsQuiet l.broker.state;
+  calm : is_calm l.broker.state ≡ true;
+  played : IfSome (g.R.Read.remaining l.initial.reader) (λ xs. Played l.initial.broker.state l.broker.state xs (g.R.Read.remaining l.reader) (g.W.Write.contents l.initial.writer) (g.W.Write.contents l.writer) (l.index + 1) l.room);
 }

@@ -4,4 +4,4 @@ use Rattle.kb_broker.proofs.ScriptOpening.{calm-opening}
 use Rattle.kb_broker.proofs.script.run_script.Goals as goal
 
 pub play-requires-clause-calm : goal.play-requires-clause-calm
-play-requires-clause-calm g c = subst (λ b. is_calm b ≡ true) (sym c.in-Ok.ensures) (calm-opening c.args.settings.now)
+play-requires-clause-calm g c = subst (λ b. is_calm b ≡ true) (sym c.in-Ok.ensures.state) (calm-opening c.args.settings.now)

@@ -1,6 +1,7 @@
 use Rattle.std.proofs.Common.{◌≡◌, FitsSigned, of_z, rules, subst, sym, ◌∙◌, to_z, true, w32}
 use Rattle.std.proofs.lemmas.Int.{to_z-of_z}
-use Rattle.kb_tenant.specs.Hosted.{kept_of, world_at}
+use Rattle.kb_tenants.specs.Tenants.{is_honest}
+use Rattle.kb_tenant.specs.Hosted.{IsTurn, kept_of, world_at}
 use Rattle.kb_tenant.specs.Replies.{IsAnswer}
 use Rattle.kb_tenant.specs.Serve.{looked}
 use Rattle.kb_connection.specs.View.{wait_of}
@@ -10,27 +11,27 @@ use Rattle.kb_broker.proofs.TenantTurns.{looked-ok, looked-err}
 use Rattle.kb_broker.proofs.serving.look_again.Goals as goal
 
 pub returns-else-is_err-clause-looked : goal.returns-else-is_err-clause-looked
-returns-else-is_err-clause-looked c =
+returns-else-is_err-clause-looked g c =
     let a = c.args in
     let t = c.in-Some.tenant in
     let w = c.in-Some.waiting.now in
     let fits : FitsSigned w32 w.correlation_id = search rules in
     let passes : c.is_looked_for.result ≡ true = search rules in
     let l = c.look-answer.ensures in
-    looked-ok c.wake.result a.whom a.clock t (tenants_in a.tenants.now) (tenants_in c.look-answer.new.self) a.connection.now c.wake.new.self (wait_of w) c.look-answer.result c.in-Some.ensures.some (sym c.is_looked_for.ensures ∙ passes) l.turn (l.stays tt)
+    looked-ok (is_honest g.S.Store.disk c.look-answer.new.self) c.wake.result a.whom a.clock t (tenants_in g.S.Store.disk a.tenants.now) (tenants_in g.S.Store.disk c.look-answer.new.self) a.connection.now c.wake.new.self (wait_of w) c.look-answer.result c.in-Some.ensures.some (sym c.is_looked_for.ensures ∙ passes) l.turn l.stays
     (λ honest calm.
     let met = l.meets honest calm in
-    let k = kept_of (tenants_in a.tenants.now) t in
+    let k = kept_of (tenants_in g.S.Store.disk a.tenants.now) t in
     let same = subst (λ body. IsAnswer (to_z w32 (of_z w32 w.correlation_id)) (looked (world_at k a.clock) w.deadline body) c.look-answer.result) c.deref.ensures.value met.1 in
     (met.0, subst (λ z. IsAnswer z (looked (world_at k a.clock) w.deadline w.body.items) c.look-answer.result) (to_z-of_z w32 w.correlation_id fits) same))
     l.shut c.wake.ensures.ok c.wake.ensures.number c.wake.ensures.stage c.wake.ensures.unread (sym c.is_err.ensures.value ∙ c.if-is_err.false)
 
 pub returns-then-is_err-clause-looked : goal.returns-then-is_err-clause-looked
-returns-then-is_err-clause-looked c =
+returns-then-is_err-clause-looked g c =
     let a = c.args in
     let t = c.in-Some.tenant in
     let passes : c.is_looked_for.result ≡ true = search rules in
     let l = c.look-answer.ensures in
     let shut = from_err c.wake.result c.is_err.result _ c.is_err.ensures.value c.if-is_err.true c.wake.ensures.err in
-    looked-err a.whom a.clock t (tenants_in a.tenants.now) (tenants_in c.look-answer.new.self) (tenants_in c.refuse.new.self) a.connection.now c.wake.new.self (wait_of c.in-Some.waiting.now) c.in-Some.ensures.some (sym c.is_looked_for.ensures ∙ passes) l.turn c.refuse.ensures.turn (l.stays tt) c.refuse.ensures.stays c.refuse.ensures.counted shut
+    looked-err (is_honest g.S.Store.disk c.refuse.new.self) a.whom a.clock t (tenants_in g.S.Store.disk a.tenants.now) (tenants_in g.S.Store.disk c.look-answer.new.self) (tenants_in g.S.Store.disk c.refuse.new.self) a.connection.now c.wake.new.self (wait_of c.in-Some.waiting.now) c.in-Some.ensures.some (sym c.is_looked_for.ensures ∙ passes) (subst (λ shelf. IsTurn t (g.S.Store.disk shelf.store).honest (tenants_in g.S.Store.disk a.tenants.now) (tenants_in g.S.Store.disk c.look-answer.new.self)) (sym c.refuse.ensures.shelf) l.turn) c.refuse.ensures.turn (λ honest. l.stays (subst (λ shelf. (g.S.Store.disk shelf.store).honest) c.refuse.ensures.shelf honest)) c.refuse.ensures.stays c.refuse.ensures.counted shut
     c.wake.ensures.number c.wake.ensures.stage c.wake.ensures.unread

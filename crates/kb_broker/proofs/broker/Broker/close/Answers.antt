@@ -7,14 +7,14 @@ use Rattle.kb_broker.proofs.RunEvents.{closes-open, closes-closed}
 use Rattle.kb_broker.proofs.broker.Broker.close.Goals as goal
 
 pub returns-then-open-clause-left : goal.returns-then-open-clause-left
-returns-then-open-clause-left c =
+returns-then-open-clause-left g c =
     let w : Written = record { conn = c.args.conn; bytes = c.disconnect-bytes.result; shut = c.shut-shut.result } in
     let ws = c.args.written.now.items in
     ap (map sent_of) c.push_reserved.ensures.items
     ∙ (map_push sent_of ws w
-    ∙ ap (λ ss. map sent_of ws ++ ss) (closes-open c.args.conn c.args.self.now (sent_of w) c.requires.ready (sym c.is_open-open.ensures ∙ c.if-open.true) refl c.disconnect-bytes.ensures.output c.shut-shut.ensures))
+    ∙ ap (λ ss. map sent_of ws ++ ss) (closes-open c.args.conn c.args.self.now.state (sent_of w) c.requires.ready.sound (sym c.is_open-open.ensures ∙ c.if-open.true) refl c.disconnect-bytes.ensures.output c.shut-shut.ensures))
 
 pub returns-else-open-clause-left : goal.returns-else-open-clause-left
-returns-else-open-clause-left c =
+returns-else-open-clause-left g c =
     let ss = map sent_of c.args.written.now.items in
-    sym (ap (λ x. ss ++ x) (closes-closed c.args.conn c.args.self.now c.requires.ready (sym c.is_open-open.ensures ∙ c.if-open.false)) ∙ append-nil ss)
+    sym (ap (λ x. ss ++ x) (closes-closed c.args.conn c.args.self.now.state c.requires.ready.sound (sym c.is_open-open.ensures ∙ c.if-open.false)) ∙ append-nil ss)

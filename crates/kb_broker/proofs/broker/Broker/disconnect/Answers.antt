@@ -2,7 +2,7 @@ use Rattle.kb_broker.proofs.Happened.{disconnected-ready, disconnected}
 use Rattle.kb_broker.proofs.broker.Broker.disconnect.Goals as goal
 
 pub invariant_of-self : goal.invariant_of-self
-invariant_of-self c = disconnected-ready c.self.inside.engine c.disconnect.new.self c.args.number c.self.invariant c.disconnect.ensures.state
+invariant_of-self g c = disconnected-ready g.S.Store.disk c.self.inside.engine c.disconnect.new.self c.args.number c.self.invariant c.disconnect.ensures.state
 
 pub returns-clause-step : goal.returns-clause-step
-returns-clause-step c = disconnected c.self.inside.engine c.args.self.now c.disconnect.new.self c.args.number c.self.view_is c.disconnect.ensures.state
+returns-clause-step g c = disconnected g.S.Store.disk c.self.inside.engine c.args.self.now c.disconnect.new.self c.args.number c.self.view_is c.disconnect.ensures.state

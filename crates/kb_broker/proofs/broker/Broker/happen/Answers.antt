@@ -1,19 +1,20 @@
-use Rattle.std.proofs.Common.{◌≡◌, ◌++◌, ◌∷◌, [], refl, sym, ◌∙◌, ap, subst, inr}
+use Rattle.std.proofs.Common.{◌++◌, ◌∷◌, [], refl, sym, ◌∙◌, ap, subst, inr}
 use Rattle.std.specs.Prelude.{map, true}
 use Rattle.std.proofs.lemmas.List.{map_push, append-nil}
 use Rattle.kb_machine.specs.Machine.{Sent, Comes}
 use Rattle.kb_machine.specs.Broker.{IsStep}
-use Rattle.kb_machine.specs.Calls.{opened, IsRefused}
-use Rattle.kb_machine.proofs.Steps.{ready-opened, ready-closed}
+use Rattle.kb_machine.specs.Calls.{IsRefused}
+use Rattle.kb_broker.specs.Hosts.{is_honest, StepsTo}
 use Rattle.kb_broker.specs.Runs.{sent_of, unkept}
 use Rattle.kb_broker.specs.declared.run.Written.{Written}
-use Rattle.kb_broker.proofs.RunEvents.{when_ok, when_err}
+use Rattle.kb_broker.proofs.Happened.{disconnected-ready}
+use Rattle.kb_broker.proofs.RunEvents.{when_err}
 use Rattle.kb_broker.proofs.broker.Broker.happen.Goals as goal
 
 pub returns-then-is_err-clause-passed : goal.returns-then-is_err-clause-passed
-returns-then-is_err-clause-passed c =
-    let old = c.args.self.now in
-    let new = c.connect.new.self in
+returns-then-is_err-clause-passed g c =
+    let old = c.args.self.now.state in
+    let new = c.connect.new.self.state in
     let n = c.in-Open.number in
     let w : Written = record { conn = n; bytes = c.new.result; shut = true } in
     let ws = c.args.written.now.items in
@@ -21,22 +22,13 @@ returns-then-is_err-clause-passed c =
     let refused = when_err c.connect.result (IsRefused old new) (sym c.is_err.ensures.value ∙ c.if-is_err.true) c.connect.ensures.err in
     rw c.in-Open.is (unkept n ∷ [], added, record { step = c.connect.ensures.step; leads = inr (refused, refl) })
 
-pub returns-else-is_err-clause-ready : goal.returns-else-is_err-clause-ready
-returns-else-is_err-clause-ready c =
-    let old = c.args.self.now in
-    let new = c.connect.new.self in
-    let n = c.in-Open.number in
-    let kept = when_ok c.connect.result (new ≡ opened old n) (sym c.is_err.ensures.value ∙ c.if-is_err.false) c.connect.ensures.ok in
-    let run = rw c.in-Open.is at c.requires.run in
-    rw kept (ready-opened old n c.requires.ready run.0)
-
 pub returns-in-In-clause-passed : goal.returns-in-In-clause-passed
-returns-in-In-clause-passed c =
-    let old = c.args.self.now in
-    let new = c.input.new.self in
+returns-in-In-clause-passed g c =
+    let old = c.args.self.now.state in
+    let new = c.input.new.self.state in
     let n = c.in-In.number in
-    let step : IsStep (Comes n c.in-In.piece.items) old new = subst (λ p. IsStep (Comes n p) old new) c.deref.ensures.value c.input.ensures.step in
+    let step : is_honest g.S.Store.disk c.input.new.self → IsStep (Comes n c.in-In.piece.items) old new = subst (λ p. StepsTo g.S.Store.disk (Comes n p) c.args.self.now c.input.new.self) c.deref.ensures.value c.input.ensures.step in
     rw c.in-In.is ([], sym (append-nil (map sent_of c.args.written.now.items)), record { step = step; leads = (c.input.ensures.numbers, refl) })
 
 pub returns-in-Close-clause-ready : goal.returns-in-Close-clause-ready
-returns-in-Close-clause-ready c = rw c.close.ensures.state (ready-closed c.args.self.now c.in-Close.number c.requires.ready)
+returns-in-Close-clause-ready g c = disconnected-ready g.S.Store.disk c.args.self.now c.close.new.self c.in-Close.number c.requires.ready c.close.ensures.state

@@ -2,4 +2,4 @@ use Rattle.kb_broker.proofs.Happened.{drained-ready}
 use Rattle.kb_broker.proofs.broker.Broker.take_output.Goals as goal
 
 pub invariant_of-self : goal.invariant_of-self
-invariant_of-self c = drained-ready c.self.inside.engine c.take_output.new.self c.args.number c.self.invariant c.take_output.ensures.state
+invariant_of-self g c = drained-ready g.S.Store.disk c.self.inside.engine c.take_output.new.self c.args.number c.self.invariant c.take_output.ensures.state

@@ -3,22 +3,23 @@ use Rattle.kb_machine.specs.Calls.{room_in}
 use Rattle.kb_machine.proofs.Sets.{find-none}
 use Rattle.kb_connection.specs.View.{IsLimitedIn}
 use Rattle.kb_broker.proofs.Placed.{found, find-found}
+use Rattle.kb_broker.proofs.Honest.{state-is}
 use Rattle.kb_broker.proofs.engine.Engine.room.Goals as goal
 
 pub returns-in-Some-clause-room : goal.returns-in-Some-clause-room
-returns-in-Some-clause-room c =
-    let b = c.args.self.now in
+returns-in-Some-clause-room g c =
+    let b = c.args.self.now.state in
     let l = c.index.result.now in
-    c.room.ensures.room ∙ sym (ap room_in (find-found b c.in-Some.i c.args.number l c.requires (found _ b c.in-Some.i c.args.number l c.self.view_is c.in-Some.ensures.within c.in-Some.ensures.some c.index.ensures)))
+    c.room.ensures.room ∙ sym (ap room_in (find-found b c.in-Some.i c.args.number l c.requires (found _ b c.in-Some.i c.args.number l (state-is _ _ c.self.view_is) c.in-Some.ensures.within c.in-Some.ensures.some c.index.ensures)))
 
 pub returns-in-None-clause-room : goal.returns-in-None-clause-room
-returns-in-None-clause-room c = sym (ap room_in (find-none c.args.number c.args.self.now.lines c.in-None.ensures.none))
+returns-in-None-clause-room g c = sym (ap room_in (find-none c.args.number c.args.self.now.state.lines c.in-None.ensures.none))
 
 pub returns-in-Some-clause-limited : goal.returns-in-Some-clause-limited
-returns-in-Some-clause-limited c =
-    let b = c.args.self.now in
+returns-in-Some-clause-limited g c =
+    let b = c.args.self.now.state in
     let l = c.index.result.now in
-    subst IsLimitedIn (sym (find-found b c.in-Some.i c.args.number l c.requires (found _ b c.in-Some.i c.args.number l c.self.view_is c.in-Some.ensures.within c.in-Some.ensures.some c.index.ensures))) c.room.ensures.limited
+    subst IsLimitedIn (sym (find-found b c.in-Some.i c.args.number l c.requires (found _ b c.in-Some.i c.args.number l (state-is _ _ c.self.view_is) c.in-Some.ensures.within c.in-Some.ensures.some c.index.ensures))) c.room.ensures.limited
 
 pub returns-in-None-clause-limited : goal.returns-in-None-clause-limited
-returns-in-None-clause-limited c = subst IsLimitedIn (sym (find-none c.args.number c.args.self.now.lines c.in-None.ensures.none)) tt
+returns-in-None-clause-limited g c = subst IsLimitedIn (sym (find-none c.args.number c.args.self.now.state.lines c.in-None.ensures.none)) tt

@@ -1,25 +1,26 @@
-use Rattle.std.proofs.Common.{sym, ◌∙◌, ap}
+use Rattle.std.proofs.Common.{refl, sym, ◌∙◌, ap}
 use Rattle.kb_machine.specs.Calls.{output_in}
 use Rattle.kb_machine.proofs.Sets.{find-none}
 use Rattle.kb_broker.proofs.Placed.{found, find-found, taken-found, taken-none}
+use Rattle.kb_broker.proofs.Honest.{state-is, store-is, stands-on}
 use Rattle.kb_broker.proofs.engine.Engine.take_output.Goals as goal
 
 pub returns-in-Some-clause-state : goal.returns-in-Some-clause-state
-returns-in-Some-clause-state c =
-    let b = c.args.self.now in
+returns-in-Some-clause-state g c =
+    let b = c.args.self.now.state in
     let i = c.in-Some.i in
     let l = c.index_mut.result.now in
-    taken-found _ b i c.args.number l c.take_output.new.self c.self.view_is c.requires (found _ b i c.args.number l c.self.view_is c.in-Some.ensures.within c.in-Some.ensures.some c.index_mut.ensures.value) c.take_output.ensures.state
+    stands-on c.args.self.now _ _ _ (taken-found _ b i c.args.number l c.take_output.new.self (state-is _ _ c.self.view_is) c.requires (found _ b i c.args.number l (state-is _ _ c.self.view_is) c.in-Some.ensures.within c.in-Some.ensures.some c.index_mut.ensures.value) c.take_output.ensures.state) (store-is _ _ c.self.view_is)
 
 pub returns-in-Some-clause-output : goal.returns-in-Some-clause-output
-returns-in-Some-clause-output c =
-    let b = c.args.self.now in
+returns-in-Some-clause-output g c =
+    let b = c.args.self.now.state in
     let i = c.in-Some.i in
     let l = c.index_mut.result.now in
-    c.take_output.ensures.output ∙ sym (ap output_in (find-found b i c.args.number l c.requires (found _ b i c.args.number l c.self.view_is c.in-Some.ensures.within c.in-Some.ensures.some c.index_mut.ensures.value)))
+    c.take_output.ensures.output ∙ sym (ap output_in (find-found b i c.args.number l c.requires (found _ b i c.args.number l (state-is _ _ c.self.view_is) c.in-Some.ensures.within c.in-Some.ensures.some c.index_mut.ensures.value)))
 
 pub returns-in-None-clause-state : goal.returns-in-None-clause-state
-returns-in-None-clause-state c = taken-none c.args.self.now c.args.number c.in-None.ensures.none
+returns-in-None-clause-state g c = stands-on c.args.self.now _ _ _ (taken-none c.args.self.now.state c.args.number c.in-None.ensures.none) refl
 
 pub returns-in-None-clause-output : goal.returns-in-None-clause-output
-returns-in-None-clause-output c = c.new.ensures.items ∙ sym (ap output_in (find-none c.args.number c.args.self.now.lines c.in-None.ensures.none))
+returns-in-None-clause-output g c = c.new.ensures.items ∙ sym (ap output_in (find-none c.args.number c.args.self.now.state.lines c.in-None.ensures.none))

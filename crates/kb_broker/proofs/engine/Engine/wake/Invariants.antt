@@ -1,6 +1,18 @@
-use Rattle.std.proofs.Common.{◌≡◌, length}
-use Rattle.kb_broker.specs.Places.{AreWaked}
+use Rattle.std.proofs.Common.{◌≡◌, ◌≤◌, length, take}
+use Rattle.kb_machine.specs.Machine.{work}
+use Rattle.kb_machine.specs.Turned.{IsGoing}
+use Rattle.kb_broker.specs.Hosts.{is_honest, IsLater}
+use Rattle.kb_broker.specs.Places.{AreWaiting, AreWaked}
 use Rattle.kb_broker.proofs.engine.Engine.wake.Given as goal
 
 abbrev pub invariant-loop-i : goal.invariant-loop-i
-invariant-loop-i l = record { end : l.i-end ≡ length l.fn.self.lines; waked : AreWaked l.whom l.fn.self l.self l.i l.next_due }
+invariant-loop-i g l =
+    let disk = g.S.Store.disk in
+    record {
+      end : l.i-end ≡ length l.fn.self.state.lines;
+      going : IsGoing l.fn.self.state l.self.state;
+      later : IsLater (disk l.fn.self.store) (disk l.self.store);
+      work : work l.self.state.lines ≤ work l.fn.self.state.lines;
+      waits : AreWaiting l.next_due (take l.i l.self.state.lines);
+      waked : is_honest disk l.self → AreWaked l.whom l.fn.self.state l.self.state l.i;
+    }

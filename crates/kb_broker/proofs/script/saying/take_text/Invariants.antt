@@ -1,13 +1,13 @@
 use Rattle.std.proofs.Common.{◌≡◌, length, take}
 use Rattle.kb_broker.specs.Script.{step_text}
 use Rattle.kb_broker.specs.ScriptRun.{said_since}
-use Rattle.kb_broker.proofs.RunDrain.{quieted_to}
+use Rattle.kb_broker.proofs.RunDrain.{drained_to}
 use Rattle.kb_broker.proofs.script.saying.take_text.Given as goal
 
 -- the output of the first of them was taken, and is spelled
 abbrev pub invariant-loop-i : goal.invariant-loop-i
 invariant-loop-i l = record {
-  end : l.i-end ≡ length l.fn.broker.lines;
-  state : l.broker ≡ record l.fn.broker { lines = quieted_to l.i l.fn.broker.lines };
-  text : l.text.items ≡ step_text (said_since (take l.i l.were_shut) (take l.i l.fn.broker.lines));
+  end : l.i-end ≡ length l.fn.broker.state.lines;
+  state : l.broker.state ≡ drained_to l.i l.fn.broker.state;
+  text : l.text.items ≡ step_text (said_since (take l.i l.were_shut) (take l.i l.fn.broker.state.lines));
 }

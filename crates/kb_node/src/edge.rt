@@ -6,6 +6,7 @@ ghost use Rattle.kb_node.specs.declared.edge.TheConstants.{SOCKETS};
 use crate::socket::Socket;
 use crate::turn::Turn;
 use kb_broker::Broker;
+use kb_store::Store;
 use std::alloc::Global;
 use std::io;
 use std::io::ErrorKind;
@@ -32,11 +33,11 @@ pub enum BindFault {
 
 /// An edge that was not bound: its broker is handed back as it was.
 #[derive(Drop)]
-pub struct BindRefused {
+pub struct BindRefused<S: Store> {
     /// Why.
     pub fault: BindFault,
     /// The broker.
-    pub broker: Broker,
+    pub broker: Broker<S>,
 }
 
 /// A broker and the sockets of its connections, under a listener.
@@ -44,18 +45,23 @@ pub struct BindRefused {
 /// Each socket that is accepted is a new connection, of a number above all earlier ones. Its bytes are the connection's, in
 /// order, and the connection's output is what is written to it.
 #[derive(Drop)]
-pub struct Edge<R: Net> {
+pub struct Edge<R: Net, S: Store> {
     listener: R::Listener,
     port: u16,
-    broker: Broker,
+    broker: Broker<S>,
     sockets: Vec<Socket<R::Stream>>,
     buffer: Vec<u8>,
     ghost within: { vec_len sockets ≤ SOCKETS },
 }
 
-impl<R: Net> Edge<R> {
+impl<R: Net, S: Store> Edge<R, S> {
     /// Listens on an address, `HOST:PORT`; at port 0 the system chooses one.
-    pub fn bind(net: &R, alloc: Global, broker: Broker, address: &str) -> Result<Self, BindRefused>
+    pub fn bind(
+        net: &R,
+        alloc: Global,
+        broker: Broker<S>,
+        address: &str,
+    ) -> Result<Self, BindRefused<S>>
         ensures { IfErr result (λ refused. refused.broker ≡ broker) }
     {
         let Ok((listener, port)) = listen(net, address) else {

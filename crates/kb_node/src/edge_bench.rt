@@ -2,6 +2,7 @@
 
 use crate::{BindFault, Edge, Turn};
 use kb_broker::{Broker, Settings};
+use kb_store::MemoryStore;
 use std::alloc::{AllocError, Global};
 use std::io;
 use std::io::{ErrorKind, Read, Write};
@@ -24,9 +25,13 @@ pub(crate) fn bytes(rt: &impl Abort, alloc: Global, digits: &str) -> Result<Vec<
 }
 
 /// A broker of the standard settings.
-pub(crate) fn new_broker(alloc: Global) -> Result<Broker, AllocError> {
+pub(crate) fn new_broker(alloc: Global) -> Result<Broker<MemoryStore>, AllocError> {
     let settings = Settings::standard(alloc)?;
-    Broker::empty(alloc, &settings)
+    let store = MemoryStore::new(alloc);
+    match Broker::open(alloc, &settings, store) {
+        Ok(opened) => Ok(opened.broker),
+        Err(_) => Err(AllocError),
+    }
 }
 
 /// A client on the other side.
@@ -102,7 +107,7 @@ pub(crate) enum Move<'a> {
 /// An edge on a port of the system's choice, and its clients, under the name of what is tested.
 #[derive(Drop)]
 pub(crate) struct Bench {
-    pub(crate) edge: Edge<HostRuntime>,
+    pub(crate) edge: Edge<HostRuntime, MemoryStore>,
     clients: Vec<Client>,
     name: &'static str,
 }
@@ -112,7 +117,7 @@ impl Bench {
     pub(crate) fn new(
         net: &HostRuntime,
         alloc: Global,
-        broker: Broker,
+        broker: Broker<MemoryStore>,
         name: &'static str,
     ) -> Result<Bench, BindFault> {
         match Edge::bind(net, alloc, broker, "127.0.0.1:0") {

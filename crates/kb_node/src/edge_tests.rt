@@ -5,6 +5,7 @@ use crate::edge_crowd::Crowd;
 use crate::{BindFault, Edge, Turn};
 use Move::{Ask, Closed, Drip, Idle, Join, Leave, Send, Stays, Told, Turns};
 use kb_broker::Broker;
+use kb_store::MemoryStore;
 use std::alloc::{AllocError, Global};
 use std::io;
 use std::process::Abort;
@@ -188,7 +189,7 @@ fn plays(
     net: &HostRuntime,
     rt: &impl Abort,
     alloc: Global,
-    broker: Broker,
+    broker: Broker<MemoryStore>,
     name: &'static str,
     moves: &[Move<'_>],
 ) -> Result<(), Fail> {
@@ -309,7 +310,7 @@ fn a_client_that_does_not_read_holds_nobody_up(rt: HostRuntime) -> Result<(), Fa
 fn refused(
     net: &HostRuntime,
     alloc: Global,
-    broker: Broker,
+    broker: Broker<MemoryStore>,
     address: &str,
 ) -> Option<(BindFault, u64)> {
     match Edge::bind(net, alloc, broker, address) {
@@ -328,7 +329,7 @@ fn a_taken_port_is_refused(rt: HostRuntime) -> Result<(), Fail> {
 }
 
 /// What the first turns of an edge with 1,025 clients at its door do.
-fn first_turns(alloc: Global, broker: Broker) -> Result<[Turn; 3], BindFault> {
+fn first_turns(alloc: Global, broker: Broker<MemoryStore>) -> Result<[Turn; 3], BindFault> {
     let crowd = Crowd { waiting: 1025 };
     match Edge::bind(&crowd, alloc, broker, "127.0.0.1:9092") {
         Ok(mut edge) => Ok([

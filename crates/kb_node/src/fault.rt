@@ -1,8 +1,9 @@
 //! Why a program of the broker ends early.
 
 use crate::edge::{BindFault, BindRefused};
-use kb_broker::ScriptFault;
+use kb_broker::{OpenFault, ScriptFault};
 use kb_settings::SettingsFault;
+use kb_store::Store;
 use std::alloc::AllocError;
 use thiserror::Error;
 
@@ -40,6 +41,9 @@ pub enum StartFault {
     /// This key of the settings is wrong.
     #[error("kbroker: bad settings: {0}")]
     Field(String),
+    /// The store refused.
+    #[error("kbroker: store fault")]
+    Store,
     /// The address cannot be listened on.
     #[error("kbroker: cannot listen")]
     Listen,
@@ -74,13 +78,27 @@ impl From<SettingsFault> for StartFault {
     }
 }
 
-impl From<BindRefused> for StartFault {
+impl From<OpenFault> for StartFault {
+    ghost use Rattle.std.specs.Prelude.{◌≡◌};
+    ghost use Rattle.kb_node.specs.Start.{of_open};
+
+    ghost from_gives = { λ f e. e ≡ of_open f };
+
+    fn from(fault: OpenFault) -> StartFault {
+        match fault {
+            OpenFault::Store => StartFault::Store,
+            OpenFault::Memory => StartFault::Memory,
+        }
+    }
+}
+
+impl<S: Store + Drop> From<BindRefused<S>> for StartFault {
     ghost use Rattle.std.specs.Prelude.{◌≡◌};
     ghost use Rattle.kb_node.specs.Start.{of_bind};
 
     ghost from_gives = { λ r e. e ≡ of_bind r.fault };
 
-    fn from(refused: BindRefused) -> StartFault {
+    fn from(refused: BindRefused<S>) -> StartFault {
         match refused.fault {
             BindFault::Bind => StartFault::Listen,
             BindFault::Memory => StartFault::Memory,

@@ -4,14 +4,15 @@ ghost use Rattle.std.specs.Prelude.{◌≤◌, vec_len};
 
 use crate::turn::Turn;
 use kb_broker::Broker;
+use kb_store::Store;
 use std::alloc::Global;
 use std::io::{ErrorKind, Read, Write};
 
 /// A socket that never waits, and its connection.
 #[derive(Drop)]
-pub struct Socket<S> {
+pub struct Socket<T> {
     connection: u64,
-    stream: S,
+    stream: T,
     /// What the broker said last, of which the first `written` bytes have been written.
     output: Vec<u8>,
     written: usize,
@@ -20,9 +21,9 @@ pub struct Socket<S> {
     ghost within: { written ≤ vec_len output },
 }
 
-impl<S: Read + Write + Drop> Socket<S> {
+impl<T: Read + Write + Drop> Socket<T> {
     /// A socket whose connection is open.
-    pub fn new(alloc: Global, connection: u64, stream: S) -> Self {
+    pub fn new(alloc: Global, connection: u64, stream: T) -> Self {
         Socket {
             connection,
             stream,
@@ -34,10 +35,10 @@ impl<S: Read + Write + Drop> Socket<S> {
 
     /// Writes what the connection has to say, reads once where all is written, and writes what is said to that. Where it has
     /// ended, or is shut and all is written, the connection is closed.
-    pub fn serve(
+    pub fn serve<S: Store>(
         &mut self,
         alloc: Global,
-        broker: &mut Broker,
+        broker: &mut Broker<S>,
         buffer: &mut [u8],
         turn: &mut Turn,
     ) {
@@ -66,7 +67,7 @@ impl<S: Read + Write + Drop> Socket<S> {
     }
 
     /// Writes what the socket takes now of the output. New output is taken only once the earlier one is written.
-    fn write_output(&mut self, alloc: Global, broker: &mut Broker, turn: &mut Turn) {
+    fn write_output<S: Store>(&mut self, alloc: Global, broker: &mut Broker<S>, turn: &mut Turn) {
         if !self.has_unwritten() {
             self.written = 0;
             self.output = broker.take_output(alloc, self.connection);
@@ -98,10 +99,10 @@ impl<S: Read + Write + Drop> Socket<S> {
     }
 
     /// Reads once, no more than the connection takes, and gives it what came.
-    fn read_input(
+    fn read_input<S: Store>(
         &mut self,
         alloc: Global,
-        broker: &mut Broker,
+        broker: &mut Broker<S>,
         buffer: &mut [u8],
         turn: &mut Turn,
     ) {

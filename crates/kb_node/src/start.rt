@@ -8,6 +8,7 @@ ghost use Rattle.kb_node.specs.Start.{IsUnread, IsUnserved};
 
 use crate::fault::StartFault;
 use kb_broker::{Broker, Listing, Settings};
+use kb_store::MemoryStore;
 use std::alloc::Global;
 
 /// The settings of a TOML text.
@@ -24,13 +25,17 @@ pub fn serving_broker(
     alloc: Global,
     settings: &Settings,
     listing: Listing,
-) -> Result<Broker, StartFault>
+) -> Result<Broker<MemoryStore>, StartFault>
     ensures folder { IfOk result (λ broker. IsSome settings.now.folder) }
-    ensures broker { IfOk result (λ broker. broker ≡ opening_listing listing settings.now) }
+    ensures broker { IfOk result (λ broker. broker.state ≡ opening_listing listing settings.now) }
     ensures err { IfErr result (IsUnserved settings.now) }
 {
     if settings.folder.is_none() {
         return Err(StartFault::Field(String::from_str(alloc, "data")?));
     }
-    Ok(Broker::empty_listing(alloc, settings, listing)?)
+    let store = MemoryStore::new(alloc);
+    match Broker::open_listing(alloc, settings, listing, store) {
+        Ok(opened) => Ok(opened.broker),
+        Err(refused) => Err(StartFault::from(refused.fault)),
+    }
 }

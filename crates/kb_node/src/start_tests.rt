@@ -1,7 +1,8 @@
-use crate::edge_bench::bytes;
+use crate::edge_bench::{bytes, new_broker};
 use crate::{BindFault, BindRefused, Edge, Listing, StartFault, read_settings, serving_broker};
-use kb_broker::{Broker, Settings};
+use kb_broker::{Broker, OpenFault, Settings};
 use kb_settings::SettingsFault;
+use kb_store::MemoryStore;
 use std::alloc::{AllocError, Global};
 use std::process::Abort;
 use std::test::Fail;
@@ -16,7 +17,11 @@ const VERSIONS: &str = "0000000a0012000000000001ffff";
 const HANDSHAKE: usize = 14 + 11 * 6;
 
 /// What a new broker answers to ApiVersions.
-fn versions_of(rt: &impl Abort, alloc: Global, broker: &mut Broker) -> Result<Vec<u8>, AllocError> {
+fn versions_of(
+    rt: &impl Abort,
+    alloc: Global,
+    broker: &mut Broker<MemoryStore>,
+) -> Result<Vec<u8>, AllocError> {
     let request = bytes(rt, alloc, VERSIONS)?;
     assert_eq!(rt; broker.last_connection(), 0);
     broker.connect(alloc, 1)?;
@@ -86,7 +91,11 @@ fn texts_of_settings_are_read(rt: HostRuntime) -> Result<(), Fail> {
 }
 
 /// An edge for a broker of the settings.
-fn bound(net: &HostRuntime, alloc: Global, address: &str) -> Result<Edge<HostRuntime>, StartFault> {
+fn bound(
+    net: &HostRuntime,
+    alloc: Global,
+    address: &str,
+) -> Result<Edge<HostRuntime, MemoryStore>, StartFault> {
     let settings = read_settings(alloc, TEXT)?;
     let broker = serving_broker(alloc, &settings, Listing::Served)?;
     Ok(Edge::bind(net, alloc, broker, address)?)
@@ -109,7 +118,7 @@ fn faults_have_their_texts(rt: HostRuntime) -> Result<(), Fail> {
     let field = SettingsFault::Field(String::from_str(alloc, "port")?);
     let refused = BindRefused {
         fault: BindFault::Memory,
-        broker: Broker::empty(alloc, &Settings::standard(alloc)?)?,
+        broker: new_broker(alloc)?,
     };
     let faults = [
         (
@@ -119,6 +128,11 @@ fn faults_have_their_texts(rt: HostRuntime) -> Result<(), Fail> {
         (StartFault::from(field), "kbroker: bad settings: port"),
         (
             StartFault::from(SettingsFault::Memory),
+            "kbroker: out of memory",
+        ),
+        (StartFault::from(OpenFault::Store), "kbroker: store fault"),
+        (
+            StartFault::from(OpenFault::Memory),
             "kbroker: out of memory",
         ),
         (StartFault::Listen, "kbroker: cannot listen"),

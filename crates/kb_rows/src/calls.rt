@@ -4,6 +4,7 @@ use crate::running::{LAST_MOMENT, new_broker, opens};
 use crate::words::bytes_of;
 use Call::{Asks, Calm, Closes, Opens, Passes, Room, Shut, Stays, Unknown, Zeros};
 use kb_broker::Broker;
+use kb_store::MemoryStore;
 use std::alloc::{AllocError, Global};
 use std::process::Abort;
 use std::test::Fail;
@@ -118,7 +119,7 @@ fn makes(rt: &impl Abort, alloc: Global, calls: &[Call<'_>]) -> Result<(), Alloc
 fn make(
     rt: &impl Abort,
     alloc: Global,
-    broker: &mut Broker,
+    broker: &mut Broker<MemoryStore>,
     next: Call<'_>,
 ) -> Result<(), AllocError> {
     match next {
@@ -140,7 +141,7 @@ fn make(
 fn output_of(
     rt: &impl Abort,
     alloc: Global,
-    broker: &mut Broker,
+    broker: &mut Broker<MemoryStore>,
     number: u64,
     request: &str,
 ) -> Result<Vec<u8>, AllocError> {
@@ -153,7 +154,7 @@ fn output_of(
 fn asks(
     rt: &impl Abort,
     alloc: Global,
-    broker: &mut Broker,
+    broker: &mut Broker<MemoryStore>,
     number: u64,
     request: &str,
     reply: &str,
@@ -166,13 +167,13 @@ fn asks(
 }
 
 /// A moment passes.
-fn passes(rt: &impl Abort, alloc: Global, broker: &mut Broker, now: u64) {
+fn passes(rt: &impl Abort, alloc: Global, broker: &mut Broker<MemoryStore>, now: u64) {
     assert!(rt; now <= LAST_MOMENT);
     broker.moment(alloc, now);
 }
 
 /// A connection closes, with no output left.
-fn closes(rt: &impl Abort, alloc: Global, broker: &mut Broker, number: u64) {
+fn closes(rt: &impl Abort, alloc: Global, broker: &mut Broker<MemoryStore>, number: u64) {
     assert_eq!(rt; broker.disconnect(alloc, number).len(), 0);
     assert!(rt; !broker.is_open(number));
 }
@@ -202,7 +203,7 @@ fn what_shuts_without_an_answer(rt: HostRuntime) -> Result<(), Fail> {
 }
 
 /// Whether a connection is not shut. If it is, memory was refused: there is no output, and one refusal is counted.
-fn is_kept(rt: &impl Abort, broker: &Broker, output: &[u8]) -> bool {
+fn is_kept(rt: &impl Abort, broker: &Broker<MemoryStore>, output: &[u8]) -> bool {
     if !broker.shut(1) {
         assert!(rt; broker.is_calm());
         return true;
@@ -219,7 +220,7 @@ fn is_kept(rt: &impl Abort, broker: &Broker, output: &[u8]) -> bool {
 fn asks_or_is_refused(
     rt: &impl Abort,
     alloc: Global,
-    broker: &mut Broker,
+    broker: &mut Broker<MemoryStore>,
     request: &str,
     reply: &str,
 ) -> Result<bool, AllocError> {
@@ -235,7 +236,7 @@ fn asks_or_is_refused(
 fn logs_in_or_is_refused(
     rt: &impl Abort,
     alloc: Global,
-    broker: &mut Broker,
+    broker: &mut Broker<MemoryStore>,
 ) -> Result<(), AllocError> {
     let steps = [(HANDSHAKE, OFFERED), (LOGIN, WELCOME), (LOGIN, ILLEGAL)];
     for (request, reply) in steps {

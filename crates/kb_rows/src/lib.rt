@@ -28,6 +28,8 @@ mod running;
 #[cfg(test)]
 mod scripts;
 #[cfg(test)]
+mod stores;
+#[cfg(test)]
 mod tenants;
 #[cfg(test)]
 mod topics;

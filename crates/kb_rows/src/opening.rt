@@ -1,8 +1,9 @@
 //! Brokers that are opened for settings: which users they let in, and which versions they list.
 
-use crate::running::{new_broker, opens};
+use crate::running::{new_broker, opened, opens};
 use crate::words::bytes_of;
 use kb_broker::{Broker, Listing, Settings, User};
+use kb_store::MemoryStore;
 use std::alloc::{AllocError, Global};
 use std::process::Abort;
 use std::test::Fail;
@@ -80,7 +81,7 @@ const STOCK: [Visit; 2] = [
 fn are_visited(
     rt: &impl Abort,
     alloc: Global,
-    broker: &mut Broker,
+    broker: &mut Broker<MemoryStore>,
     visits: &[Visit],
 ) -> Result<(), AllocError> {
     for (pieces, reply, is_shut) in visits {
@@ -93,7 +94,11 @@ fn are_visited(
 }
 
 /// A new connection.
-fn come(rt: &impl Abort, alloc: Global, broker: &mut Broker) -> Result<u64, AllocError> {
+fn come(
+    rt: &impl Abort,
+    alloc: Global,
+    broker: &mut Broker<MemoryStore>,
+) -> Result<u64, AllocError> {
     let last = broker.last_connection();
     assert!(rt; last < u64::MAX);
     opens(rt, alloc, broker, last + 1)?;
@@ -104,7 +109,7 @@ fn come(rt: &impl Abort, alloc: Global, broker: &mut Broker) -> Result<u64, Allo
 fn sends(
     rt: &impl Abort,
     alloc: Global,
-    broker: &mut Broker,
+    broker: &mut Broker<MemoryStore>,
     number: u64,
     pieces: &[&str],
 ) -> Result<(), AllocError> {
@@ -118,7 +123,7 @@ fn sends(
 fn gets(
     rt: &impl Abort,
     alloc: Global,
-    broker: &mut Broker,
+    broker: &mut Broker<MemoryStore>,
     number: u64,
     reply: &str,
 ) -> Result<(), AllocError> {
@@ -164,7 +169,7 @@ fn a_broker_of_the_standard_settings(rt: HostRuntime) -> Result<(), Fail> {
 #[test]
 fn users_of_other_settings(rt: HostRuntime) -> Result<(), Fail> {
     let settings = settings_out_of_order(rt.alloc())?;
-    let mut broker = Broker::empty(rt.alloc(), &settings)?;
+    let mut broker = opened(rt.alloc(), &settings, Listing::Served)?;
     are_visited(&rt, rt.alloc(), &mut broker, &OUT_OF_ORDER)?;
     assert!(rt; broker.is_calm());
     Ok(())
@@ -173,6 +178,6 @@ fn users_of_other_settings(rt: HostRuntime) -> Result<(), Fail> {
 #[test]
 fn stock_clients(rt: HostRuntime) -> Result<(), Fail> {
     let settings = Settings::standard(rt.alloc())?;
-    let mut broker = Broker::empty_listing(rt.alloc(), &settings, Listing::StockClients)?;
+    let mut broker = opened(rt.alloc(), &settings, Listing::StockClients)?;
     Ok(are_visited(&rt, rt.alloc(), &mut broker, &STOCK)?)
 }

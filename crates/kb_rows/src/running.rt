@@ -5,7 +5,8 @@ ghost use Rattle.kb_machine.specs.Machine.{Happening};
 ghost use Rattle.kb_machine.specs.Broker.{IsRun};
 ghost use Rattle.kb_broker.specs.Runs.{happening_of, happenings};
 
-use kb_broker::{Broker, Event, Settings, Written};
+use kb_broker::{Broker, Event, Listing, Settings, Written};
+use kb_store::{MemoryStore, Store};
 use std::alloc::{AllocError, Global};
 use std::process::Abort;
 
@@ -24,16 +25,28 @@ pub(crate) struct Outcome {
 }
 
 /// A broker of the standard settings.
-pub(crate) fn new_broker(alloc: Global) -> Result<Broker, AllocError> {
+pub(crate) fn new_broker(alloc: Global) -> Result<Broker<MemoryStore>, AllocError> {
     let settings = Settings::standard(alloc)?;
-    Broker::empty(alloc, &settings)
+    opened(alloc, &settings, Listing::Served)
+}
+
+/// A broker on a new store in memory.
+pub(crate) fn opened(
+    alloc: Global,
+    settings: &Settings,
+    listing: Listing,
+) -> Result<Broker<MemoryStore>, AllocError> {
+    match Broker::open_listing(alloc, settings, listing, MemoryStore::new(alloc)) {
+        Ok(opened) => Ok(opened.broker),
+        Err(_) => Err(AllocError),
+    }
 }
 
 /// A connection opens.
-pub(crate) fn opens(
+pub(crate) fn opens<S: Store>(
     rt: &impl Abort,
     alloc: Global,
-    broker: &mut Broker,
+    broker: &mut Broker<S>,
     number: u64,
 ) -> Result<(), AllocError> {
     assert!(rt; broker.last_connection() < number);
@@ -56,10 +69,10 @@ pub(crate) fn outcome_of(
 }
 
 /// Runs a broker.
-fn run(
+pub(crate) fn run<S: Store>(
     rt: &impl Abort,
     alloc: Global,
-    broker: &mut Broker,
+    broker: &mut Broker<S>,
     events: &[Event],
 ) -> Result<Vec<Written>, AllocError> {
     assert!(rt; is_run(broker.last_connection(), events));
@@ -67,7 +80,7 @@ fn run(
 }
 
 /// The refusals that were counted for `a`, for `b`, and for connections that were not bound.
-fn refusals_of(broker: &Broker) -> [u64; 3] {
+pub(crate) fn refusals_of<S: Store>(broker: &Broker<S>) -> [u64; 3] {
     [
         broker.refusals("a"),
         broker.refusals("b"),

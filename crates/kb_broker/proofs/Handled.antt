@@ -3,7 +3,6 @@ use Rattle.std.proofs.Common.{◌≡◌, ◌≢◌, ◌++◌, ◌+◌, ◌<◌, 
 use Rattle.std.specs.Prelude.{max, ◌^◌, ◌≤◌, not, cond, nat_lt, Option}
 use Rattle.std.specs.List.{position, position_or_len}
 use Rattle.std.proofs.lemmas.List.Quantifiers.{position-Some}
-use Rattle.std.specs.Option.{is_some}
 use Rattle.std.specs.Result.{is_err}
 use Rattle.std.specs.List.{AllByRecursion}
 use Rattle.std.proofs.lemmas.Bool.Decides.{nat_tests}
@@ -194,16 +193,6 @@ pub waiting-fed : (due : Option ℕ) (ls : List Line) (i : ℕ) (l m : Line) (pi
 waiting-fed due ls i l m piece at all is =
     let until = until-fed due piece l.session (all-at (λ (k : Line). WaitsUntil due k.session.stage) ls i l at all) in
     all-set (λ (k : Line). WaitsUntil due k.session.stage) ls i m all (subst (λ (k : Line). WaitsUntil due k.session.stage) (sym is) until)
-
--- where there is no moment until which they wait, none waits
-pub none-waiting : (due : Option ℕ) (ls : List Line) → is_some due ≡ false → AreWaiting due ls → AllByRecursion (λ (l : Line). waits_in (Some l.session) ≡ false) ls
-none-waiting (Some t) ls e all = absurd (cc)
-none-waiting None ls e all = all-map (λ (l : Line). WaitsUntil None l.session.stage) (λ (l : Line). waits_in (Some l.session) ≡ false) (λ l. free l.session.stage) ls all
-  where
-    free : (st : Stage) → WaitsUntil None st → not (is_free st) ≡ false
-    free (Greets h) u = refl
-    free (BoundTo t None) u = refl
-    free (BoundTo t (Some w)) u = absurd u
 
 -- the connection is at its place among the broker's own
 pub at-inside : (a b : BrokerState) (i : ℕ) (l : Line) → a ≡ b → IsAt b.lines i l → IsAt a.lines i l

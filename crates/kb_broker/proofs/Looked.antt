@@ -1,10 +1,9 @@
 -- Waiting fetches that are looked at again, one after another.
 use Rattle.std.proofs.Common.{◌≡◌, ◌≤◌, ◌+◌, ℕ, zero, suc, List, [], ◌∷◌, length, take, set, true, false, Option, Some, None, refl, sym, ◌∙◌, ap, subst, arith, inl, inr}
-use Rattle.std.specs.Prelude.{◌⊎◌}
 use Rattle.std.specs.List.{AllByRecursion}
 use Rattle.std.proofs.lemmas.List.{set-get_or, take_all}
 use Rattle.kb_tenant.specs.Hosted.{TenantState}
-use Rattle.kb_machine.specs.Session.{Stage, Greets, BoundTo, without_wait}
+use Rattle.kb_machine.specs.Session.{Stage, Greets, BoundTo}
 use Rattle.kb_machine.specs.Machine.{Line}
 use Rattle.kb_machine.specs.Broker.{BrokerState, IsSound, IsUnready, AreUnready, AnyWait, kept_of}
 use Rattle.kb_machine.specs.declared.whom.Whom.{Whom}
@@ -37,15 +36,6 @@ until-other (Some x) (Some y) (BoundTo t (Some w)) u = grind (arith, nat_tests, 
 
 pub waiting-sooner : (x y : Option ℕ) (ls : List Line) → AreWaiting x ls → AreWaiting (sooner x y) ls
 waiting-sooner x y ls h = all-map (λ (l : Line). WaitsUntil x l.session.stage) (λ (l : Line). WaitsUntil (sooner x y) l.session.stage) (λ l. until-sooner x y l.session.stage) ls h
-
--- one that waits for the same, or for nothing any more
-pub until-after : (due : Option ℕ) (old new : Stage) → (new ≡ old) ⊎ (new ≡ without_wait old) → WaitsUntil due old → WaitsUntil due new
-until-after due old new (inl same) u = subst (WaitsUntil due) (sym same) u
-until-after due old new (inr ended) u = subst (WaitsUntil due) (sym ended) (by old)
-  where
-    by : (st : Stage) → WaitsUntil due (without_wait st)
-    by (Greets h) = tt
-    by (BoundTo t w) = tt
 
 pub waiting-after : (due : Option ℕ) (ls : List Line) (i : ℕ) (l m : Line) → IsAt ls i l → AreWaiting due ls → (WaitsUntil due l.session.stage → WaitsUntil due m.session.stage) → AreWaiting due (set ls i m)
 waiting-after due ls i l m at all until = all-set (λ (k : Line). WaitsUntil due k.session.stage) ls i m all (until (all-at (λ (k : Line). WaitsUntil due k.session.stage) ls i l at all))
@@ -160,9 +150,6 @@ waked-all whom a b i v le =
       looked = subst (AllByRecursion (λ (l : Line). IsUnready (IsLookedFor whom a.clock) b l.session.stage)) all v.looked;
       rest = λ u. subst (AllByRecursion (λ (l : Line). IsUnready AnyWait b l.session.stage)) all (v.rest u);
     }
-
-pub waiting-all : (a b : BrokerState) (i : ℕ) (due : Option ℕ) → numbers b ≡ numbers a → length a.lines ≤ i → AreWaiting due (take i b.lines) → AreWaiting due b.lines
-waiting-all a b i due same le waits = subst (AreWaiting due) (all-lines a b i same le) waits
 
 -- where no wait is looked for, none that is looked for is ready, and one that is not ready if it is passed over is not ready
 passed-looked : (whom : Whom) (b : BrokerState) (st : Stage) → IsPassed whom b.clock st → IsUnready (IsLookedFor whom b.clock) b st

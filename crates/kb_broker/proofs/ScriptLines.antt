@@ -1,13 +1,12 @@
 -- Lines of a script: words, numbers, and where a line ends.
-use Rattle.std.proofs.Common.{◌≡◌, ℕ, suc, ◌+◌, ◌*◌, ◌<◌, ◌≤◌, ◌^◌, ◌&&◌, Bool, not, true, false, cond, nat_lt, List, [], ◌∷◌, length, drop, get_or, refl, ap, arith, Some, None, Ok, drop-cons}
+use Rattle.std.proofs.Common.{◌≡◌, ℕ, suc, ◌+◌, ◌*◌, ◌<◌, ◌≤◌, ◌^◌, ◌&&◌, Bool, not, true, false, cond, nat_lt, List, [], ◌∷◌, length, drop, get_or, refl, ap, arith, Some, None, drop-cons}
 use Rattle.std.proofs.lemmas.List.Sums.{prefix_len-le-length}
 use Rattle.std.proofs.lemmas.Grind.{common_steps}
 use Rattle.std.specs.List.{position, position_or_len}
 use Rattle.std.specs.Str.{all_ascii_digits}
 use Rattle.std.specs.Str.Parse.{digits_value, digits_value_after}
 use Rattle.std.specs.Char.{digit_value}
-use Rattle.kb_broker.specs.Script.{number, piece_comes, Event}
-use Rattle.kb_machine.specs.Machine.{Comes}
+use Rattle.kb_broker.specs.Script.{number}
 
 at_some : (b : Bool) (n i : ℕ) → cond b (Some n) None ≡ Some i → n ≡ i
 at_some true n i e = cc
@@ -47,7 +46,3 @@ number-some text v some digits is fits =
     let a : nat_lt 0 (length text) ≡ true = grind (arith, common_steps) in
     let c : nat_lt (digits_value 10 text) (2 ^ 64) ≡ true = grind (arith, common_steps) in
     rw (a, digits, c, is) refl
-
-pub piece-some : (n : ℕ) (xs : List ℕ) → 0 < length xs → piece_comes n (Ok xs) ≡ Event (Comes n xs)
-piece-some n [] h = absurd (omega arith)
-piece-some n (x ∷ xs) h = refl

@@ -15,7 +15,7 @@ use Rattle.kb_machine.specs.Greeting.{Setup, greeted}
 use Rattle.kb_machine.specs.Machine.{Line, answered, told, woken, woken_by, served as served_by_turn, put}
 use Rattle.kb_machine.proofs.Laws.{can-turn, some-left, greeted-less, served-less}
 use Rattle.kb_machine.proofs.Owners.{stage-served, stage-shut}
-use Rattle.kb_connection.specs.Fronts.{IsOwn, IsAsked}
+use Rattle.kb_connection.specs.Fronts.{IsAsked}
 use Rattle.kb_connection.specs.View.{with_session, without_front}
 use Rattle.kb_log.specs.ListLog.{list_log}
 use Rattle.kb_tenants.proofs.Tied.{kept_tied}
@@ -74,10 +74,6 @@ quiet-now disk H honest node hosts us clock t id key body touched r kept meets c
 
 -- 2. What a turn leaves of a connection in any case
 
-pub number-left : {A E : Type 0} (result : Result A E) (l new : Line) (s r : Session) → OnOk result (new ≡ with_session l s) → OnErr result (new ≡ with_session l r) → new.number ≡ l.number
-number-left (Ok x) l new s r ok err = ap (λ (x : Line). x.number) ok
-number-left (Err x) l new s r ok err = ap (λ (x : Line). x.number) err
-
 -- the connection was shut
 pub spent-shut : (l new : Line) → can l.session ≡ true → new ≡ with_session l (shut_down l.session) → IsSpent l.session new.session
 spent-shut l new able is =
@@ -103,12 +99,6 @@ spent-greeted (Ok x) setup h l new greets able ok err =
     let left = ap (λ (x : Line). length x.session.unread) ok in
     record { less = omega (arith, less, left); stage = λ t w e. (let none : Greets h ≡ BoundTo t w = sym greets ∙ e in absurd (cc)) }
 spent-greeted (Err x) setup h l new greets able ok err = spent-shut l new able err
-
--- a matter of the connection alone leaves what its tenant keeps
-pub met-own : {A E : Type 0} (H : Type 0) (result : Result A E) (setup : Setup) (clock t : ℕ) (ts : List TenantState) (l new : Line) → IsOwn l.session → ((kept : Kept) (clock : ℕ) → OnOk result (new ≡ with_session l (served_by_turn setup kept clock l.session)))
-    → OnOk result (IsMet t H ts ts (λ k m. (new.session ≡ served_by_turn setup k clock l.session) × (m ≡ put setup k clock l.session.unread)))
-met-own H (Ok x) setup clock t ts l new own ok = λ honest calm. (ap (λ (x : Line). x.session) (ok (kept_of ts t) clock), sym (own.put setup (kept_of ts t) clock))
-met-own H (Err x) setup clock t ts l new own ok = tt
 
 -- 3. A look at a waiting fetch
 

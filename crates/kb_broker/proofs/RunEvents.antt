@@ -61,11 +61,5 @@ when_err (Err x) P e h = h
 
 -- 3. A broker on its store whose state alone changes
 
-pub state-is : {S : Type 0} (old new : OnStore S) (b : BrokerState) → new ≡ record old { state = b } → new.state ≡ b
-state-is {S = S} old new b is = ap (λ (x : OnStore S). x.state) is
-
-pub store-is : {S : Type 0} (old new : OnStore S) (b : BrokerState) → new ≡ record old { state = b } → new.store ≡ old.store
-store-is {S = S} old new b is = ap (λ (x : OnStore S). x.store) is
-
 pub then-state : {S : Type 0} (first old new : OnStore S) (b d e : BrokerState) → old ≡ record first { state = b } → new ≡ record old { state = e } → e ≡ d → new ≡ record first { state = d }
 then-state {S = S} first old new b d e is next same = next ∙ (ap (λ (x : OnStore S). let y : OnStore S = record x { state = e } in y) is ∙ ap (λ (s : BrokerState). let y : OnStore S = record first { state = s } in y) same)

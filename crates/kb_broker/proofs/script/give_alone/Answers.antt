@@ -2,9 +2,8 @@ use Rattle.std.proofs.Common.{◌≡◌, ◌&&◌, not, true, rules, ap, subst, 
 use Rattle.std.specs.Io.KnownBytes.{Appends}
 use Rattle.kb_machine.specs.Machine.{Comes}
 use Rattle.kb_machine.specs.Broker.{IsReady}
-use Rattle.kb_machine.specs.Calls.{is_calm, is_shut, taken}
-use Rattle.kb_broker.proofs.Honest.{ready-of}
-use Rattle.kb_broker.proofs.RunEvents.{state-is}
+use Rattle.kb_machine.specs.Calls.{is_calm, is_shut}
+use Rattle.kb_broker.proofs.Honest.{ready-of, state-is}
 use Rattle.kb_machine.specs.Turned.{SameOthers}
 use Rattle.kb_broker.specs.Script.{sent_text}
 use Rattle.kb_broker.proofs.ScriptWords.{none-waits}
@@ -20,7 +19,7 @@ returns-clause-ok g c =
     let happens = comes c.args.broker.now.state c.input.new.self.state c.args.connection c.args.piece.now (i.step tt) ready calm i.last i.numbers in
     let made : c.in-Ok.answer.items ≡ sent_text c.args.connection c.take_output-output.result.items c.is_newly_shut-is_shut.result = search rules in
     let text = text-is c.args.broker.now.state c.input.new.self.state c.args.connection c.in-Ok.answer.items c.take_output-output.result.items c.is_newly_shut-is_shut.result ready c.requires.quiet others made c.take_output-output.ensures.output (c.is_newly_shut-is_shut.ensures ∙ ap (λ b. is_shut c.args.connection c.input.new.self.state && not b) c.shut-was_shut.ensures) in
-    let final = final-is c.args.broker.now.state c.input.new.self.state c.take_output-output.new.self.state c.args.connection ready c.requires.quiet others (state-is c.input.new.self c.take_output-output.new.self (taken c.input.new.self.state c.args.connection) c.take_output-output.ensures.state) in
+    let final = final-is c.args.broker.now.state c.input.new.self.state c.take_output-output.new.self.state c.args.connection ready c.requires.quiet others (state-is _ _ c.take_output-output.ensures.state) in
     on-ok c.write_all.result _ _ (λ a. (c.input.new.self.state, happens, final, subst (Appends _ _) (c.deref-2.ensures.value ∙ text) a)) c.write_all.ensures.ok
 
 pub returns-clause-err : goal.returns-clause-err

@@ -6,7 +6,8 @@ use Rattle.kb_broker.specs.Runs.{sent_of}
 use Rattle.kb_broker.specs.declared.run.Written.{Written}
 use Rattle.kb_machine.specs.Calls.{taken}
 use Rattle.kb_broker.proofs.RunDrain.{drained_to, drained-at, drained-more, drained-sent}
-use Rattle.kb_broker.proofs.RunEvents.{state-is, then-state}
+use Rattle.kb_broker.proofs.Honest.{state-is}
+use Rattle.kb_broker.proofs.RunEvents.{then-state}
 use Rattle.kb_broker.proofs.broker.Broker.drain.Goals as goal
 
 pub loop-i-preserved : goal.loop-i-preserved
@@ -15,7 +16,7 @@ loop-i-preserved g c =
     let b = c.loop-i.self.state in
     let i = c.loop-i.i in
     let v = c.loop-i.invariant in
-    let state = state-is c.args.self.now c.loop-i.self (drained_to i old) v.state in
+    let state = state-is _ _ v.state in
     let rising = c.requires.ready.sound.rising in
     let l = c.index-connections-i.result in
     let w : Written = record { conn = c.number-conn.result; bytes = c.take_output-bytes.result; shut = c.is_shut-shut.result } in

@@ -11,9 +11,8 @@ use Rattle.kb_machine.proofs.Runs.{those-by_number}
 use Rattle.kb_machine.proofs.Owned.{owned-mine, run-after, run-first, unowned-mine, calm-nobody}
 use Rattle.kb_broker.specs.declared.run.Written.{Written}
 use Rattle.kb_broker.specs.Hosts.{is_honest, IsLater}
-use Rattle.kb_broker.specs.Runs.{happening_of, happenings, sent_of, connections_of, emptied, Passes}
-use Rattle.kb_broker.proofs.Honest.{later-same, later-then, later-is}
-use Rattle.kb_broker.proofs.RunEvents.{state-is, store-is}
+use Rattle.kb_broker.specs.Runs.{happening_of, happenings, sent_of, connections_of, Passes}
+use Rattle.kb_broker.proofs.Honest.{later-same, later-then, later-is, state-is, store-is}
 use Rattle.kb_broker.proofs.RunHistory.{happenings-next, length-connections, connections-first, room-leads, grows-passes, run-passes, numbers-passes, rising-connections, continues-next}
 use Rattle.kb_broker.proofs.RunOrder.{IsOrdered, ordered, up-sorted, AreUp, numbered}
 use Rattle.kb_broker.proofs.broker.Broker.run.Given as given
@@ -85,7 +84,7 @@ loop-event-preserved g c =
 
 -- the last output is taken of the store as it is
 drained-later : (g : given.Over) (c : goal.After-sort_unstable_by_key g) → IsLater (g.S.Store.disk c.loop-event.self.store) (g.S.Store.disk c.drain.new.self.store)
-drained-later g c = later-is g.S.Store.disk c.loop-event.self.store c.drain.new.self.store (store-is c.loop-event.self c.drain.new.self (emptied c.loop-event.self.state) c.drain.ensures.state)
+drained-later g c = later-is g.S.Store.disk c.loop-event.self.store c.drain.new.self.store (store-is _ _ c.drain.ensures.state)
 
 -- the whole history, and the order of its list
 whole : (g : given.Over) (c : goal.After-sort_unstable_by_key g) → Passes (is_honest g.S.Store.disk c.drain.new.self) (happenings c.args.events.now) c.args.self.now.state c.drain.new.self.state (map sent_of c.drain.new.written.items)
@@ -98,7 +97,7 @@ whole g c =
     let truthful = is_honest disk end in
     let all = c.args.events.now in
     let none : happenings (drop c.loop-event.event-index all) ≡ [] = ap happenings (drop_all c.loop-event.event-index all (omega arith)) in
-    let last : Passes truthful (happenings (drop c.loop-event.event-index all)) b new (map sent b.lines) = subst (λ es. Passes truthful es b new (map sent b.lines)) (sym none) (state-is here end (emptied b) c.drain.ensures.state, refl) in
+    let last : Passes truthful (happenings (drop c.loop-event.event-index all)) b new (map sent b.lines) = subst (λ es. Passes truthful es b new (map sent b.lines)) (sym none) (state-is _ _ c.drain.ensures.state, refl) in
     subst (Passes truthful (happenings all) c.args.self.now.state new) (sym c.drain.ensures.left) (c.loop-event.invariant.passes end.store (drained-later g c).honest new (map sent b.lines) last)
 
 in_order : (g : given.Over) (c : goal.After-sort_unstable_by_key g) → IsOrdered (connections_of (happenings c.args.events.now) c.args.self.now.state) (map sent_of c.drain.new.written.items) (map sent_of c.sort_unstable_by_key.new.self.items)

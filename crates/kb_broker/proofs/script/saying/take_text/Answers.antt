@@ -1,10 +1,9 @@
 use Rattle.std.proofs.Common.{◌≡◌, ◌+◌, ◌++◌, ◌&&◌, ◌<◌, not, false, length, take, get_or, sym, ◌∙◌, ap, arith, rules, add-one}
 use Rattle.kb_machine.specs.Machine.{Sent, sent}
-use Rattle.kb_machine.specs.Calls.{taken}
 use Rattle.kb_broker.specs.Script.{sent_text, step_text}
 use Rattle.kb_broker.specs.ScriptRun.{said_since}
 use Rattle.kb_broker.proofs.RunDrain.{drained-at, drained-more, drained-sent}
-use Rattle.kb_broker.proofs.RunEvents.{state-is}
+use Rattle.kb_broker.proofs.Honest.{state-is}
 use Rattle.kb_broker.proofs.ScriptSaid.{since-more, got-text}
 use Rattle.kb_broker.proofs.script.saying.take_text.Goals as goal
 use Rattle.kb_broker.proofs.script.saying.take_text.Goals.{then-is_shut, else-is_shut}
@@ -29,6 +28,6 @@ loop-i-preserved c =
     ap (λ t. before ++ t) (got-text w l (get_or marks i false) got) ∙ rw add-one (sym (since-more i marks old.lines l a (omega (arith, lt, c.requires.places)))) in
     record {
       end = v.end;
-      state = state-is c.loop-i.broker c.take_output-output.new.self (taken b c.number-number.result) c.take_output-output.ensures.state ∙ rw add-one (drained-more b old i c.number-number.result l rising a c.number-number.ensures v.state);
+      state = state-is _ _ c.take_output-output.ensures.state ∙ rw add-one (drained-more b old i c.number-number.result l rising a c.number-number.ensures v.state);
       text = c.in_ok-extend_from_slice.ensures.items ∙ (ap (λ t. t ++ c.deref-in-loop-i.result.now) v.text ∙ (ap (λ t. before ++ t) (c.deref-in-loop-i.ensures.value ∙ spelled) ∙ more));
     }

@@ -4,7 +4,7 @@ use Rattle.std.specs.Prelude.{◌||◌, ◌&&◌, IsSomeAnd, Contains, map, filt
 use Rattle.std.specs.Bool.{Decides}
 use Rattle.std.specs.BTreeMap.{is_at}
 use Rattle.std.specs.BTreeSet.{BTreeSet}
-use Rattle.std.specs.List.{list_any, IsDistinct, AllByRecursion}
+use Rattle.std.specs.List.{list_any, dedup, IsDistinct, AllByRecursion}
 use Rattle.std.specs.List.Sorted.{IsPermutation, IsSorted, IsStrictlySortedBy}
 use Rattle.std.specs.Ordering.{nat_cmp, is_eq}
 use Rattle.std.specs.declared.cmp.Ordering.TheVariants.{Less}
@@ -13,14 +13,17 @@ use Rattle.std.specs.FinMap as fin
 use Rattle.std.proofs.lemmas.Bool.{true≢false, false≢true, eqb-true}
 use Rattle.std.proofs.lemmas.List.{length-map}
 use Rattle.std.proofs.lemmas.Bool.Decides.{nat_tests}
+use Rattle.std.proofs.lemmas.List.Folds.{Any-from_list_any, list_any-from_Any}
+use Rattle.std.proofs.lemmas.List.Kept.{Contains-dedup_nat, Contains-from_dedup}
 use Rattle.std.proofs.lemmas.List.Sorted.{Contains-permutation, IsPermutation-sym, IsNonDecreasingBy-from_sort}
 use Rattle.std.proofs.lemmas.Map.Views.{Contains-from_any, list_any-from_Contains}
 use Rattle.std.proofs.lemmas.Map.Made.{length-le_from_is_member}
-use Rattle.std.proofs.lemmas.Map.Keys.{sorted_head, sorted_tail, IsDistinct-cons, IsDistinct-from_sorted, IsDistinct-IsPermutation, IsStrictlyIncreasing-from_distinct, IsStrictlyIncreasing-from_sorted, apart_from_distinct, IsDistinct-from_apart}
+use Rattle.std.proofs.lemmas.Map.Keys.{sorted_head, sorted_tail, IsDistinct-cons, IsDistinct-from_sorted, IsDistinct-IsPermutation, IsStrictlyIncreasing-from_distinct, IsStrictlyIncreasing-from_sorted, IsStrictlyIncreasing-dedup, apart_from_distinct, IsDistinct-from_apart}
 use Rattle.kb_waits.specs.Due.{by_deadline, due_of}
-use Rattle.kb_waits.specs.Queue.{Queue, Wait, AreParked, IsDue, IsUnder}
+use Rattle.kb_waits.specs.Queue.{Queue, Wait, AreParked, IsDue, IsUnder, IsUnderAny}
+use Rattle.kb_waits.specs.Waiters.{AreWaiting}
 use Rattle.kb_waits.specs.declared.waiters.Waiters.{Waiters}
-use Rattle.kb_waits.specs.Waits.{passes, ends_at, is_under, IsIndexed}
+use Rattle.kb_waits.specs.Waits.{passes, ends_at, is_under, is_under_any, IsIndexed}
 use Rattle.kb_waits.specs.declared.key.WaitKey.{WaitKey}
 use Rattle.kb_waits.proofs.Indexed.{dated_at, at_pair}
 use Rattle.kb_waits.proofs.Keys.{any_key-decides}
@@ -50,6 +53,13 @@ module _ (q : Queue) (t : Wait → Bool) (P : Wait → Type 0) (d : (w : Wait) �
   AreParked-sorted ys apart moved sorted = record {
     exactly = λ n. ((λ (k : Contains ys n). listed_parked n (Contains-permutation ys xs n (IsPermutation-sym xs ys moved) k)), (λ (k : IsSomeAnd (fin.get q n) P). Contains-permutation xs ys n moved (parked_listed n k)));
     ascending = IsStrictlyIncreasing-from_distinct ys (IsNonDecreasingBy-from_sort (λ x. x) ys sorted) (plainly ys (IsDistinct-IsPermutation tied (eq_by_cmp_equiv nat_cmp_total).symm xs ys moved apart));
+  }
+
+  -- the same, sorted, the repeats dropped
+  pub AreParked-deduped : (ys : List ℕ) → IsPermutation xs ys → IsSorted nat_cmp ys → AreParked q P (dedup eqb ys)
+  AreParked-deduped ys moved sorted = record {
+    exactly = λ n. ((λ (k : Contains (dedup eqb ys) n). listed_parked n (Contains-permutation ys xs n (IsPermutation-sym xs ys moved) (Contains-from_dedup eqb ys n k))), (λ (k : IsSomeAnd (fin.get q n) P). Contains-dedup_nat ys n (Contains-permutation xs ys n moved (parked_listed n k))));
+    ascending = IsStrictlyIncreasing-dedup ys sorted;
   }
 
   -- the same, in order
@@ -178,6 +188,24 @@ IsDistinct-due q set w clock i s = distinct_due clock set.keys s (λ n d e h k. 
 
 pub is_under-decides : (k : WaitKey) (w : Wait) → Decides (is_under k w) (IsUnder k w)
 is_under-decides k w = any_key-decides k w.keys
+
+pub is_under_any-decides : (ks : List WaitKey) (w : Wait) → Decides (is_under_any ks w) (IsUnderAny ks w)
+is_under_any-decides ks w = (
+  λ h. let found = Any-from_list_any (λ k. is_under k w) ks h in (found.0, found.1, found.2, found.3, (is_under-decides found.1 w).0 found.4),
+  λ found. list_any-from_Any (λ k. is_under k w) ks (found.0, found.1, found.2, found.3, (is_under-decides found.1 w).1 found.4),
+)
+
+no_keys : (ks : List WaitKey) → list_any (λ k. false) ks ≡ false
+no_keys [] = refl
+no_keys (k ∷ ks) = no_keys ks
+
+passes-any : (ks : List WaitKey) (o : Option Wait) → list_any (λ k. passes (is_under k) o) ks ≡ passes (is_under_any ks) o
+passes-any ks None = no_keys ks
+passes-any ks (Some w) = refl
+
+-- those who wait for one of the keys are those whose wait has one of them
+pub any-under : (q : Queue) (set : BTreeSet (ℕ × ℕ)) (w : Waiters) (ks : List WaitKey) (xs : List ℕ) → IsIndexed q set w → AreWaiting w ks xs → (n : ℕ) → list_any (tied n) xs ≡ passes (is_under_any ks) (fin.get q n)
+any-under q set w ks xs i waiting n = waiting n ∙ (λ j. list_any (λ k. i.keyed k n j) ks) ∙ passes-any ks (fin.get q n)
 
 some_parked : (t : Wait → Bool) (o : Option Wait) → passes t o ≡ true → is_some o ≡ true
 some_parked t None h = h

@@ -6,7 +6,7 @@ use Rattle.std.specs.Cmp.{eq_by_cmp_equiv, IsTotalOrder}
 use Rattle.std.specs.Cmp.Lexicographic.{bytes_decides}
 use Rattle.std.specs.List.{list_any}
 use Rattle.std.proofs.lemmas.Bool.{false≢true}
-use Rattle.std.proofs.lemmas.Bool.Decides.{Decides-like, Decides-and, Decides-eqb, Decides-int_eq, Decides-at}
+use Rattle.std.proofs.lemmas.Bool.Decides.{Decides-like, Decides-and, Decides-eqb, Decides-at}
 use Rattle.std.proofs.lemmas.Map.Made.{is_member-Decides}
 use Rattle.kb_waits.specs.Waiters.{same_key}
 use Rattle.kb_waits.specs.declared.key.WaitKey.{WaitKey}
@@ -21,7 +21,7 @@ decides (Partition t i p) (Partition u j q) =
     Decides-like {P = (t ≡ u) × ((i ≡ j) × (p ≡ q))} _
     (λ h. λ k. Partition (h.0 k) (h.1.0 k) (h.1.1 k))
     (λ e. (cc, (cc, cc)))
-    (Decides-and _ _ (Decides-eqb t u) (Decides-and _ _ (Decides-int_eq i j) (Decides-int_eq p q)))
+    (Decides-and _ _ (Decides-eqb t u) (Decides-and _ _ (Decides-eqb i j) (Decides-eqb p q)))
 decides (Partition t i p) (Group u g) = (λ e. absurd (false≢true e), λ e. cc)
 decides (Group t g) (Partition u j q) = (λ e. absurd (false≢true e), λ e. cc)
 decides (Group t g) (Group u h) =

@@ -1,5 +1,5 @@
 -- What the queue of waiting requests is: a finite map from connections to their waits.
-use Rattle.std.specs.Prelude.{ℕ, ◌≤◌, ◌↔◌, List, Contains, IsSomeAnd, refl}
+use Rattle.std.specs.Prelude.{ℕ, ◌≤◌, ◌↔◌, List, Any, Contains, IsSomeAnd, refl}
 use Rattle.std.specs.Coded.{Coded, code_by, coded×, coded_ℕ, coded_list}
 use Rattle.std.specs.FinMap.{FinMap, get, code}
 use Rattle.std.specs.List.Sorted.{IsStrictlyIncreasing}
@@ -23,6 +23,10 @@ IsDue clock wait = wait.deadline ≤ clock
 -- A wait is parked under this key.
 abbrev pub IsUnder : WaitKey → Wait → Type 0
 IsUnder key wait = Contains wait.keys key
+
+-- A wait is parked under one of these keys at least.
+abbrev pub IsUnderAny : List WaitKey → Wait → Type 0
+IsUnderAny keys wait = Any (λ key. IsUnder key wait) keys
 
 -- Exactly the connections that are parked with such a wait, each once, ascending.
 pub record AreParked (queue : Queue) (IsSuch : Wait → Type 0) (connections : List ℕ) : Type 0 where

@@ -21,6 +21,11 @@ set_has n (Some set) = sorted.contains nat_cmp set n
 abbrev pub has : Waiters → WaitKey → ℕ → Bool
 has waiters k n = set_has n (tree.get (key_ord.ghosts).cmp waiters.sets k)
 
+-- a list has the connections that wait for one of the keys at least, in any order
+abbrev pub AreWaiting : Waiters → List WaitKey → List ℕ → Type 0
+AreWaiting waiters keys found =
+    (n : ℕ) → list_any (eq_by_cmp nat_cmp n) found ≡ list_any (λ k. has waiters k n) keys
+
 -- whether k and n are this key and this connection
 abbrev pub is_one : WaitKey → ℕ → WaitKey → ℕ → Bool
 is_one key connection k n = same_key key k && eq_by_cmp nat_cmp connection n

@@ -1,5 +1,5 @@
 -- How the queue is kept.
-use Rattle.std.specs.Prelude.{◌≡◌, ℕ, ◌==◌, Bool, false, Option, Some, None}
+use Rattle.std.specs.Prelude.{◌≡◌, ℕ, ◌==◌, Bool, false, List, Option, Some, None}
 use Rattle.std.specs.BTreeSet.{BTreeSet, btree_set_len, contains}
 use Rattle.std.specs.FinMap.{get, len}
 use Rattle.std.specs.List.{list_any}
@@ -20,6 +20,10 @@ ends_at deadline w = w.deadline == deadline
 
 abbrev pub is_under : WaitKey → Wait → Bool
 is_under k w = list_any (λ a. same_key a k) w.keys
+
+-- whether a wait has one of these keys at least
+abbrev pub is_under_any : List WaitKey → Wait → Bool
+is_under_any ks w = list_any (λ k. is_under k w) ks
 
 -- the deadlines and the waiters are those of the queue
 pub record IsIndexed (queue : Queue) (deadlines : BTreeSet (ℕ × ℕ)) (waiters : Waiters) : Type 0 where

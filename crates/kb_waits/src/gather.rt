@@ -1,9 +1,12 @@
 //! The list that answers are put into.
-ghost use Rattle.std.specs.Prelude.{◌≡◌, ◌≤◌, ◌+◌, ◌++◌, OnOk, OnErr, IsOk, vec_len, vec_capacity, []};
+ghost use Rattle.std.specs.Prelude.{◌≡◌, ◌≤◌, ◌+◌, ◌++◌, OnOk, OnErr, IfOk, IsOk, vec_len, vec_capacity, []};
 ghost use Rattle.std.specs.BTreeSet.{btree_set_len, IsOrdered};
 ghost use Rattle.std.specs.Ordering.{nat_cmp};
 ghost use Rattle.kb_waits.specs.Due.{due_of};
+ghost use Rattle.kb_waits.specs.Waiters.{AreWaiting};
 
+use crate::key::WaitKey;
+use crate::waiters::Waiters;
 use std::alloc::AllocError;
 use std::collections::BTreeSet;
 
@@ -47,4 +50,18 @@ pub(crate) fn push_all(set: &BTreeSet<u64>, out: &mut Vec<u64>)
     for connection in set {
         out.push_reserved(*connection);
     }
+}
+
+/// The connections that wait for the keys, once for each key that they wait for.
+pub(crate) fn collect(waiters: &Waiters, keys: &[WaitKey]) -> Result<Vec<u64>, AllocError>
+    ensures { IfOk result (λ found. AreWaiting waiters.now keys.now found.items) }
+{
+    let mut found = Vec::new(waiters.alloc);
+    for key in keys {
+        if let Some(set) = waiters.sets.get(key) {
+            found.reserve(set.len())?;
+            push_all(set, &mut found);
+        }
+    }
+    Ok(found)
 }

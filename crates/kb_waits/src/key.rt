@@ -108,9 +108,9 @@ pub enum WaitKey {
         /// The tenant's number in byte order of the tenants' names.
         tenant: usize,
         /// The instance of the topic.
-        instance: i64,
+        instance: u64,
         /// The partition's index.
-        partition: i32,
+        partition: usize,
     },
     /// A consumer group.
     Group {

@@ -5,8 +5,9 @@
 //! [`Waits`] is the queue, and a [`WaitKey`] names a partition or a group of one tenant.
 //!
 //! The contracts see the queue as a finite map from connections to their waits, so a connection
-//! has at most one. `due` and `touched` give exactly the parked connections whose deadline has
-//! come, or which wait under a key, each once, ascending, and the queue stays as it is.
+//! has at most one. `due`, `touched` and `touched_any` give exactly the parked connections whose
+//! deadline has come, which wait under a key, or under one of several keys at least, each once,
+//! ascending, and the queue stays as it is.
 //!
 //! The entries stand in a slab. One set orders all of them by deadline, and each key has its
 //! ordered set of connections, so what a call costs is the logarithm of what is parked and what

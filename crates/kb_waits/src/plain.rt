@@ -55,4 +55,19 @@ impl PlainWaits {
         out.sort_unstable();
         Ok(())
     }
+
+    pub(crate) fn touched_any(
+        &self,
+        keys: &[WaitKey],
+        out: &mut Vec<u64>,
+    ) -> Result<(), AllocError> {
+        out.clear();
+        for p in &self.entries {
+            if keys.iter().any(|k| p.2.contains(k)) {
+                out.push(p.0)?;
+            }
+        }
+        out.sort_unstable();
+        Ok(())
+    }
 }

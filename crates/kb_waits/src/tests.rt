@@ -5,7 +5,7 @@ use std::alloc::{AllocError, Global};
 use std::process::Abort;
 use std::test::Fail;
 
-fn partition(tenant: usize, instance: i64, partition: i32) -> WaitKey {
+fn partition(tenant: usize, instance: u64, partition: usize) -> WaitKey {
     WaitKey::Partition {
         tenant,
         instance,
@@ -154,8 +154,8 @@ fn next(seed: u64) -> u64 {
 fn key_by(alloc: Global, number: u64) -> Result<WaitKey, AllocError> {
     let tenant = (number % 2) as usize;
     match number % 6 {
-        0 | 1 => Ok(partition(tenant, (number % 4) as i64, 0)),
-        2 | 3 => Ok(partition(tenant, 1, (number % 3) as i32)),
+        0 | 1 => Ok(partition(tenant, number % 4, 0)),
+        2 | 3 => Ok(partition(tenant, 1, (number % 3) as usize)),
         _ => group(alloc, tenant, if number % 5 < 2 { b"a" } else { b"b" }),
     }
 }
@@ -206,6 +206,21 @@ fn compare(
     check_touched(rt, waits, key, got, want.as_slice())
 }
 
+/// Checks what the queue finds under several keys by what the plain list finds.
+fn compare_any(
+    rt: &impl Abort,
+    waits: &Waits,
+    plain: &PlainWaits,
+    keys: &[WaitKey],
+    got: &mut Vec<u64>,
+    want: &mut Vec<u64>,
+) -> Result<(), AllocError> {
+    plain.touched_any(keys, want)?;
+    waits.touched_any(keys, got)?;
+    assert_eq!(rt; got.as_slice(), want.as_slice());
+    Ok(())
+}
+
 /// Changes both and compares them, a thousand times.
 fn play(
     rt: &impl Abort,
@@ -222,6 +237,9 @@ fn play(
         change(waits, plain, alloc, (seed >> 33) % 40, number)?;
         let key = key_by(alloc, number / 3)?;
         compare(rt, waits, plain, number % 60, &key, got, want)?;
+        let mut keys = keys_by(alloc, number / 5)?;
+        keys.truncate((number % 4) as usize);
+        compare_any(rt, waits, plain, &keys, got, want)?;
     }
     Ok(())
 }

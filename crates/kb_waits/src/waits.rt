@@ -2,11 +2,11 @@
 ghost use Rattle.std.specs.Prelude.{◌≡◌, ◌≢◌, ℕ, ◌≤◌, None, OnOk, OnErr, IsOk, vec_capacity};
 ghost use Rattle.std.specs.Bool.{OnFalse};
 ghost use Rattle.std.specs.FinMap as fin;
-ghost use Rattle.kb_waits.specs.Queue.{AreParked, IsDue, IsUnder};
+ghost use Rattle.kb_waits.specs.Queue.{AreParked, IsDue, IsUnder, IsUnderAny};
 
 use crate::entries::Entries;
 use crate::entry::Entry;
-use crate::gather::{clear_with_room, push_all, push_due};
+use crate::gather::{clear_with_room, collect, push_all, push_due};
 use crate::key::WaitKey;
 use crate::waiters::Waiters;
 use std::alloc::{AllocError, Global};
@@ -143,6 +143,25 @@ impl Waits {
         };
         clear_with_room(out, set.len())?;
         push_all(set, out);
+        Ok(())
+    }
+
+    /// Replaces what is in `out` by the connections that are parked under one of the keys at
+    /// least, each once, ascending.
+    ///
+    /// A connection is gone over once for each of the keys under which it is parked. After an
+    /// `Err`, which is want of memory, `out` has what it had.
+    pub fn touched_any(&self, keys: &[WaitKey], out: &mut Vec<u64>) -> Result<(), AllocError>
+        ensures touched { OnOk result (AreParked self.now (IsUnderAny keys.now) out.new.items) }
+        ensures refused { OnErr result (out.new.items ≡ out.old.items) }
+    {
+        if let [key] = keys {
+            return self.touched(key, out);
+        }
+        let mut found = collect(&self.waiters, keys)?;
+        found.sort_unstable();
+        found.dedup();
+        *out = found;
         Ok(())
     }
 }

@@ -1,26 +1,30 @@
--- A request that touched no partition makes no waiting fetch ready.
-use Rattle.std.proofs.Common.{◌≡◌, eqb, ℕ, ℤ, List, [], pos, Bool, true, false, Option, Some, None, refl, sym, ◌∙◌, ap, subst, arith}
+-- A request makes no fetch ready that waits for no partition that it touched, and a fetch that waits on asks for the same partitions.
+use Rattle.std.proofs.Common.{◌≡◌, ◌+◌, eqb, ℕ, ℤ, List, [], Bool, true, false, Option, Some, None, refl, sym, ◌∙◌, ap, subst, arith}
 use Rattle.std.specs.Prelude.{cond, Result, Ok, Err}
 use Rattle.std.specs.List.{Contains}
-use Rattle.std.specs.Ordering.{int_eq}
 use Rattle.kb_wire.specs.Codec.{whole}
 use Rattle.kb_wire.specs.declared.fault.WireFault.{WireFault}
 use Rattle.kb_api_group.specs.Frames.{Front, Whole, Partial, TooSmall, TooLarge, front}
-use Rattle.kb_api_data.specs.Layouts.{fetch_request, fetch_reply, produce_request, list_offsets_request, metadata_request, create_topics_request, delete_topics_request, init_producer_id_request, produce_reply}
+use Rattle.kb_api_data.specs.Layouts.{fetch_request, fetch_reply, produce_reply}
 use Rattle.kb_api_data.specs.declared.fetch.FetchRequest.{FetchRequest}
 use Rattle.kb_api_data.specs.declared.fetch.FetchReply.{FetchReply}
+use Rattle.kb_world.specs.Calls.{retain_all}
 use Rattle.kb_world.specs.World.{World}
 use Rattle.kb_world.specs.declared.place.Place.{Place}
-use Rattle.kb_tenant.specs.Fetch.{deadline_of, fetch_answer}
+use Rattle.kb_tenant.specs.Fetch.{deadline_of, fetch_answer, places_of}
 use Rattle.kb_tenant.specs.Produce.{produced, is_due}
 use Rattle.kb_tenant.specs.Hosted as hosted
-use Rattle.kb_tenant.specs.Hosted.{Kept, TenantState, IsTurn, kept_in, world_at}
+use Rattle.kb_tenant.specs.Hosted.{Kept, TenantState, IsTurn, kept_in, retained, world_at}
 use Rattle.kb_tenant.specs.Replies.{Reaction, Replies, Waits, Silent, Shuts}
-use Rattle.kb_tenant.specs.Serve.{Outcome, stays, if_read, fetch_reaction, of_produce, of_fetch, of_list_offsets, of_metadata, of_create_topics, of_delete_topics, of_init_producer_id, served as request, looked, looked_at}
+use Rattle.kb_tenant.specs.Serve.{Outcome, stays, fetch_reaction, of_fetch, served as request, looked, looked_at}
 use Rattle.kb_world.specs.Tied.{IsTied}
+use Rattle.kb_tenant.specs.Waiting.{AreApart, HasOwnNames}
 use Rattle.kb_tenant.specs.declared.node.Node.{Node}
+use Rattle.kb_tenant.proofs.Again.{retained_again, served_again}
+use Rattle.kb_tenant.proofs.Asked.{before_end, waits_at, waits_until}
+use Rattle.kb_tenant.proofs.ByRequest.{by_request}
 use Rattle.kb_tenant.proofs.ServeMoves.{served_waits}
-use Rattle.kb_machine.specs.Tenant.{Wait, ready, kept_after, answer}
+use Rattle.kb_machine.specs.Tenant.{Wait, ready, asked, asked_in, kept_after, answer}
 use Rattle.kb_machine.specs.Greeting.{Setup}
 use Rattle.kb_machine.specs.Requests.{Asked, Versions, OtherVersions, Handshake, Authenticate, Another, Unread}
 use Rattle.kb_machine.specs.Requests as requests
@@ -40,16 +44,43 @@ pub silent-none : (o : Option FetchReply) → told_as o ≡ Silent → o ≡ Non
 silent-none (Some reply) h = absurd (cc)
 silent-none None h = refl
 
--- a fetch that is not ready is not ready in another world, if it has no answer there either
-pub still-silent : (w v : World) (deadline : ℕ) (body : List ℕ) → ((r : FetchRequest) → fetch_answer w r deadline ≡ None → fetch_answer v r deadline ≡ None) → looked w deadline body ≡ Silent → looked v deadline body ≡ Silent
+-- a fetch that is not ready is not ready in another world, if what its body asks has no answer there either
+silent-there : (w v : World) (deadline : ℕ) (body : List ℕ) → ((r : FetchRequest) → whole fetch_request body ≡ Ok r → fetch_answer w r deadline ≡ None → fetch_answer v r deadline ≡ None) → looked w deadline body ≡ Silent → looked v deadline body ≡ Silent
 unfolding looked
-still-silent w v deadline body none e = by (whole fetch_request body) e
+silent-there w v deadline body none e = by (whole fetch_request body) refl e
   where
-    by : (r : Result FetchRequest WireFault) → looked_at w deadline r ≡ Silent → looked_at v deadline r ≡ Silent
-    by (Ok r) h = ap told_as (none r (silent-none (fetch_answer w r deadline) h))
-    by (Err fault) h = absurd (cc)
+    by : (r : Result FetchRequest WireFault) → whole fetch_request body ≡ r → looked_at w deadline r ≡ Silent → looked_at v deadline r ≡ Silent
+    by (Ok r) read h = ap told_as (none r read (silent-none (fetch_answer w r deadline) h))
+    by (Err fault) read h = absurd (cc)
+
+-- the same, if nothing that has no answer here has one there
+pub still-silent : (w v : World) (deadline : ℕ) (body : List ℕ) → ((r : FetchRequest) → fetch_answer w r deadline ≡ None → fetch_answer v r deadline ≡ None) → looked w deadline body ≡ Silent → looked v deadline body ≡ Silent
+still-silent w v deadline body none e = silent-there w v deadline body (λ r read. none r) e
 
 -- 2. Those that waited before
+
+-- what a fetch asks for, whatever the time
+pub asked-is : (k : Kept) (clock : ℕ) (w : Wait) (r : FetchRequest) → whole fetch_request w.body ≡ Ok r → asked k w ≡ places_of (world_at k clock) r
+unfolding asked
+asked-is k clock w r read = ap (asked_in (world_at k 0)) read
+
+-- a fetch that is not ready was not at the first moment
+pub first-silent : (k : Kept) (clock : ℕ) (w : Wait) → ready k clock w ≡ Silent → ready k 0 w ≡ Silent
+unfolding ready
+first-silent k clock w silent =
+    still-silent (world_at k clock) (world_at k 0) w.deadline w.body
+    (λ r waits. (waits_at (world_at k clock) r w.deadline waits 0 (let early = before_end (world_at k clock) r w.deadline waits in omega (arith, early))).0) silent
+
+-- after a request that touched no partition that it asks for a fetch is as little ready as before
+pub apart-ready : (node : Node) (k l : Kept) (clock : ℕ) (key : ℤ) (body : List ℕ) (w : Wait) → IsTied (world_at k clock) → world_at l clock ≡ (request node (world_at k clock) key body).world → AreApart (asked k w) (request node (world_at k clock) key body).touched →
+    ready k clock w ≡ Silent → ready l clock w ≡ Silent
+unfolding ready
+apart-ready node k l clock key body w tied same apart silent =
+    let touched : List Place = (request node (world_at k clock) key body).touched in
+    silent-there (world_at k clock) (world_at l clock) w.deadline w.body
+    (λ r read waits. ap (λ x. fetch_answer x r w.deadline) same
+    ∙ (served_waits node (world_at k clock) key body r w.deadline tied waits (subst (λ ps. AreApart ps touched) (asked-is k clock w r read) apart)).0)
+    silent
 
 nowhere : (place : Place) → Contains [] place → ⊥
 nowhere place c = let h = c.1 in omega (arith, h)
@@ -57,30 +88,44 @@ nowhere place c = let h = c.1 in omega (arith, h)
 -- after a request that touched no partition a fetch is as little ready as before
 pub quiet-ready : (node : Node) (k l : Kept) (clock : ℕ) (key : ℤ) (body : List ℕ) (w : Wait) → IsTied (world_at k clock) → world_at l clock ≡ (request node (world_at k clock) key body).world → (request node (world_at k clock) key body).touched ≡ [] →
     ready k clock w ≡ Silent → ready l clock w ≡ Silent
-unfolding ready
-quiet-ready node k l clock key body w tied same none silent =
-    still-silent (world_at k clock) (world_at l clock) w.deadline w.body
-    (λ r waits. ap (λ x. fetch_answer x r w.deadline) same
-    ∙ (served_waits node (world_at k clock) key body r w.deadline tied waits (λ place asked touched. nowhere place (subst (λ ps. Contains ps place) none touched))).0)
-    silent
+quiet-ready node k l clock key body w tied same none = apart-ready node k l clock key body w tied same (λ place asks touched. nowhere place (subst (λ ps. Contains ps place) none touched))
+
+-- a fetch that is ready neither before nor after a request asks for the same partitions, whatever was touched
+pub asked-again : (node : Node) (k l : Kept) (clock : ℕ) (key : ℤ) (body : List ℕ) (w : Wait) → IsTied (world_at k clock) → HasOwnNames (world_at k clock) → world_at l clock ≡ (request node (world_at k clock) key body).world →
+    ready k 0 w ≡ Silent → ready l 0 w ≡ Silent → asked l w ≡ asked k w
+unfolding ready looked asked
+asked-again node k l clock key body w tied own same before after = by (whole fetch_request w.body) before after
+  where
+    by : (r : Result FetchRequest WireFault) → looked_at (world_at k 0) w.deadline r ≡ Silent → looked_at (world_at l 0) w.deadline r ≡ Silent → asked_in (world_at l 0) r ≡ asked_in (world_at k 0) r
+    by (Ok r) p q =
+        let old : fetch_answer (world_at k clock) r (clock + 1) ≡ None = waits_until (world_at k 0) r w.deadline (silent-none (fetch_answer (world_at k 0) r w.deadline) p) clock (clock + 1) (omega arith) in
+        let new : fetch_answer (world_at l clock) r (clock + 1) ≡ None = waits_until (world_at l 0) r w.deadline (silent-none (fetch_answer (world_at l 0) r w.deadline) q) clock (clock + 1) (omega arith) in
+        ap (λ x. places_of x r) same
+        ∙ served_again node (world_at k clock) key body r (clock + 1) tied own old (subst (λ x. fetch_answer x r (clock + 1) ≡ None) same new)
+    by (Err fault) p q = absurd (cc)
+
+-- retention changes nothing of what a fetch asks for
+pub asked-retained : (clock : ℕ) (k : Kept) (w : Wait) → asked (retained clock k) w ≡ asked k w
+unfolding asked retained
+asked-retained clock k w = by (whole fetch_request w.body)
+  where
+    by : (r : Result FetchRequest WireFault) → asked_in (world_at (kept_in (retain_all (world_at k clock)).0) 0) r ≡ asked_in (world_at k 0) r
+    by (Ok r) = retained_again (world_at k clock) r
+    by (Err fault) = refl
 
 -- 3. The one that begins to wait
 
--- what a request that is to wait would be told at once
+-- a request that is to wait would be told nothing at once, and waits for what it asks for
+record IsParked (body : List ℕ) (clock : ℕ) (o : Outcome) (deadline : ℕ) (places : List Place) : Type 0 where
+  pub silent : looked (world_at (kept_in o.world) clock) deadline body ≡ Silent
+  pub asks : places ≡ asked_in o.world (whole fetch_request body)
+
 abbrev Parks : List ℕ → ℕ → Outcome → Type 0
-Parks body clock o = (deadline : ℕ) (places : List Place) → o.reaction ≡ Waits deadline places → looked (world_at (kept_in o.world) clock) deadline body ≡ Silent
+Parks body clock o = (deadline : ℕ) (places : List Place) → o.reaction ≡ Waits deadline places → IsParked body clock o deadline places
 
-parks-either : (body : List ℕ) (clock : ℕ) (b : Bool) (x y : Outcome) → Parks body clock x → Parks body clock y → Parks body clock (cond b x y)
-parks-either body clock true x y p q = p
-parks-either body clock false x y p q = q
-
-parks-read : {A : Type 0} (body : List ℕ) (clock : ℕ) (w : World) (r : Result A WireFault) (f : A → Outcome) → ((v : A) → r ≡ Ok v → Parks body clock (f v)) → Parks body clock (if_read w r f)
-parks-read body clock w (Ok v) f p = p v refl
-parks-read body clock w (Err fault) f p = λ deadline places e. absurd (cc)
-
-produce-parks : (body : List ℕ) (clock : ℕ) (w v : World) (touched : List Place) (reply : List ℕ) (b : Bool) → Parks body clock (record { world = v; touched = touched; reaction = cond b (Replies reply) Silent })
-produce-parks body clock w v touched reply true deadline places e = absurd (cc)
-produce-parks body clock w v touched reply false deadline places e = absurd (cc)
+produce-parks : (body : List ℕ) (clock : ℕ) (v : World) (touched : List Place) (reply : List ℕ) (b : Bool) → Parks body clock (record { world = v; touched = touched; reaction = cond b (Replies reply) Silent })
+produce-parks body clock v touched reply true deadline places e = absurd (cc)
+produce-parks body clock v touched reply false deadline places e = absurd (cc)
 
 fetch-parks : (k : Kept) (clock : ℕ) (body : List ℕ) (r : FetchRequest) → whole fetch_request body ≡ Ok r → Parks body clock (of_fetch (world_at k clock) r)
 unfolding looked
@@ -90,21 +135,35 @@ fetch-parks k clock body r read = by (fetch_answer (world_at k clock) r (deadlin
     by (Some reply) e deadline places f = absurd (cc)
     by None e deadline places f =
         let until : deadline_of (world_at k clock) r ≡ deadline = cc in
-        ap (looked_at (world_at k clock) deadline) read ∙ ap told_as (subst (λ d. fetch_answer (world_at k clock) r d ≡ None) until (subst (λ d. fetch_answer (world_at k clock) r d ≡ None) refl e))
+        let same : places_of (world_at k clock) r ≡ places = cc in
+        record {
+          silent = ap (looked_at (world_at k clock) deadline) read ∙ ap told_as (subst (λ d. fetch_answer (world_at k clock) r d ≡ None) until e);
+          asks = sym same ∙ sym (ap (asked_in (world_at k clock)) read);
+        }
 
 parks : (node : Node) (k : Kept) (clock : ℕ) (key : ℤ) (body : List ℕ) → Parks body clock (request node (world_at k clock) key body)
-unfolding request
 parks node k clock key body =
     let w = world_at k clock in
-    let shut : Parks body clock (stays w Shuts) = λ deadline places e. absurd (cc) in
-    let from_22 = parks-either body clock (int_eq key (pos 22)) (if_read w (whole init_producer_id_request body) (of_init_producer_id w)) (stays w Shuts) (parks-read body clock w (whole init_producer_id_request body) (of_init_producer_id w) (λ r read deadline places e. absurd (cc))) shut in
-    let from_20 = parks-either body clock (int_eq key (pos 20)) (if_read w (whole delete_topics_request body) (of_delete_topics w)) _ (parks-read body clock w (whole delete_topics_request body) (of_delete_topics w) (λ r read deadline places e. absurd (cc))) from_22 in
-    let from_19 = parks-either body clock (int_eq key (pos 19)) (if_read w (whole create_topics_request body) (of_create_topics w)) _ (parks-read body clock w (whole create_topics_request body) (of_create_topics w) (λ r read deadline places e. absurd (cc))) from_20 in
-    let from_3 = parks-either body clock (int_eq key (pos 3)) (if_read w (whole metadata_request body) (of_metadata node w)) _ (parks-read body clock w (whole metadata_request body) (of_metadata node w) (λ r read deadline places e. absurd (cc))) from_19 in
-    let from_2 = parks-either body clock (int_eq key (pos 2)) (if_read w (whole list_offsets_request body) (of_list_offsets w)) _ (parks-read body clock w (whole list_offsets_request body) (of_list_offsets w) (λ r read deadline places e. absurd (cc))) from_3 in
-    let from_1 = parks-either body clock (int_eq key (pos 1)) (if_read w (whole fetch_request body) (of_fetch w)) _ (parks-read body clock w (whole fetch_request body) (of_fetch w) (λ r read. fetch-parks k clock body r read)) from_2 in
-    parks-either body clock (int_eq key (pos 0)) (if_read w (whole produce_request body) (of_produce w)) _
-    (parks-read body clock w (whole produce_request body) (of_produce w) (λ r read. produce-parks body clock w (produced w [] r).0.world (produced w [] r).0.touched (produce_reply.written (produced w [] r).1) (is_due r.acks))) from_1
+    by_request (Parks body clock) node w key body (record {
+      produce = λ r read. produce-parks body clock (produced w [] r).0.world (produced w [] r).0.touched (produce_reply.written (produced w [] r).1) (is_due r.acks);
+      fetch = λ r read. fetch-parks k clock body r read;
+      list_offsets = λ r read deadline places e. absurd (cc);
+      metadata = λ r read deadline places e. absurd (cc);
+      create_topics = λ r read deadline places e. absurd (cc);
+      delete_topics = λ r read deadline places e. absurd (cc);
+      init_producer_id = λ r read deadline places e. absurd (cc);
+      shut = λ deadline places e. absurd (cc);
+    })
+
+-- the partitions that a fetch begins to wait for are those that it asks for
+pub asked-parks : (node : Node) (k : Kept) (clock : ℕ) (key : ℤ) (body : List ℕ) (deadline : ℕ) (places : List Place) (id : ℤ) → answer node k clock key body ≡ Waits deadline places →
+    places ≡ asked (kept_after node k clock key body) (record { correlation_id = id; body = body; deadline = deadline })
+unfolding answer kept_after asked
+asked-parks node k clock key body deadline places id e = (parks node k clock key body deadline places e).asks ∙ at (whole fetch_request body)
+  where
+    at : (r : Result FetchRequest WireFault) → asked_in (request node (world_at k clock) key body).world r ≡ asked_in (world_at (kept_in (request node (world_at k clock) key body).world) 0) r
+    at (Ok r) = refl
+    at (Err fault) = refl
 
 -- what waits at that stage is not ready
 abbrev pub IsIdle : ℕ → Kept → Stage → Type 0
@@ -132,7 +191,7 @@ by-idle setup kept clock id (Handshake mechanism) s free = free-idle clock kept 
 by-idle setup kept clock id (Authenticate message) s free = free-idle clock kept _ (free-replied id _ s free)
 by-idle setup kept clock id (Another key version body) s free =
     answered-idle clock (kept_after setup.node kept clock key body) (answer setup.node kept clock key body) id body s free
-    (λ deadline places e. parks setup.node kept clock key body deadline places e)
+    (λ deadline places e. (parks setup.node kept clock key body deadline places e).silent)
 by-idle setup kept clock id Unread s free = free-idle clock kept _ (free-without s.stage)
 
 at-idle : (setup : Setup) (kept : Kept) (clock : ℕ) (s : Session) (f : Front) → is_free s.stage ≡ true → IsIdle clock (kept_at setup kept clock f) (served_at setup kept clock s f).stage
@@ -146,7 +205,7 @@ pub served-idle : (setup : Setup) (kept : Kept) (clock : ℕ) (s : Session) → 
 unfolding served put
 served-idle setup kept clock s free = at-idle setup kept clock s (front s.unread) free
 
--- 4. The turn of a bound connection that touched no partition
+-- 4. The turn of a bound connection
 
 module _ (b : BrokerState) (i u : ℕ) (l m : Line) (us : List TenantState) (H : Type 0) (turn : IsTurn u H b.tenants us) (honest : H) where
   -- of each tenant a fetch that was not ready is not ready
@@ -159,19 +218,34 @@ module _ (b : BrokerState) (i u : ℕ) (l m : Line) (us : List TenantState) (H :
   still-unready kept (BoundTo t None) e = tt
   still-unready kept (BoundTo t (Some w)) e = λ any. kept t w (e tt)
 
-  own-unready : (st : Stage) → without_wait st ≡ BoundTo u None → IsIdle b.clock (hosted.kept_of us u) st → IsUnready AnyWait (changed b i m us b.unbound_refusals) st
+  -- a fetch that asks for none of the partitions that were touched
+  pub apart-unready : (touched : List Place) → ((w : Wait) → AreApart (asked (kept_of b u) w) touched → ready (kept_of b u) b.clock w ≡ Silent → ready (hosted.kept_of us u) b.clock w ≡ Silent) → (st : Stage) → IsUnready AnyWait b st
+      → ((w : Wait) → st ≡ BoundTo u (Some w) → AreApart (asked (kept_of b u) w) touched) → IsUnready AnyWait (changed b i m us b.unbound_refusals) st
+  apart-unready touched quiet (Greets h) e apart = tt
+  apart-unready touched quiet (BoundTo t None) e apart = tt
+  apart-unready touched quiet (BoundTo t (Some w)) e apart = λ any. each-tenant (λ v. v ≡ t → ready (kept_of b v) b.clock w ≡ Silent → ready (hosted.kept_of us v) b.clock w ≡ Silent) u t (eqb u t) refl
+      (λ same silent. quiet w (apart w (ap (λ v. BoundTo v (Some w)) (sym same))) silent) (λ ne same silent. ap (λ k. ready k b.clock w) (turn.others honest t ne) ∙ silent) refl (e tt)
+
+  pub own-unready : (st : Stage) → without_wait st ≡ BoundTo u None → IsIdle b.clock (hosted.kept_of us u) st → IsUnready AnyWait (changed b i m us b.unbound_refusals) st
   own-unready (Greets h) same idle = tt
   own-unready (BoundTo t None) same idle = tt
   own-unready (BoundTo t (Some w)) same idle = λ any. let is : t ≡ u = cc in subst (λ v. ready (hosted.kept_of us v) b.clock w ≡ Silent) (sym is) (idle t w refl)
 
-  -- leaves nothing ready, where nothing was before
+  -- what the connection itself waits for then is not ready
+  pub own-turn : IsAt b.lines i l → is_free l.session.stage ≡ true → without_wait l.session.stage ≡ BoundTo u None → without_wait m.session.stage ≡ without_wait l.session.stage
+      → m.session ≡ served b.setup (kept_of b u) b.clock l.session → hosted.kept_of us u ≡ put b.setup (kept_of b u) b.clock l.session.unread
+      → IsUnready AnyWait (changed b i m us b.unbound_refusals) m.session.stage
+  own-turn at free bound same is after =
+      let idle : IsIdle b.clock (hosted.kept_of us u) m.session.stage = subst (λ (k : Kept). IsIdle b.clock k m.session.stage) (sym after)
+      (subst (λ (s : Session). IsIdle b.clock (put b.setup (kept_of b u) b.clock l.session.unread) s.stage) (sym is) (served-idle b.setup (kept_of b u) b.clock l.session free)) in
+      own-unready m.session.stage (same ∙ bound) idle
+
+  -- a turn that touched no partition leaves nothing ready, where nothing was before
   pub quiet-turn : AreUnready AnyWait b → IsAt b.lines i l → is_free l.session.stage ≡ true → without_wait l.session.stage ≡ BoundTo u None → without_wait m.session.stage ≡ without_wait l.session.stage
       → m.session ≡ served b.setup (kept_of b u) b.clock l.session → hosted.kept_of us u ≡ put b.setup (kept_of b u) b.clock l.session.unread
       → ((w : Wait) → ready (kept_of b u) b.clock w ≡ Silent → ready (hosted.kept_of us u) b.clock w ≡ Silent) → AreUnready AnyWait (changed b i m us b.unbound_refusals)
   quiet-turn unready at free bound same is after quiet =
       let c = changed b i m us b.unbound_refusals in
-      let idle : IsIdle b.clock (hosted.kept_of us u) m.session.stage = subst (λ (k : Kept). IsIdle b.clock k m.session.stage) (sym after)
-      (subst (λ (s : Session). IsIdle b.clock (put b.setup (kept_of b u) b.clock l.session.unread) s.stage) (sym is) (served-idle b.setup (kept_of b u) b.clock l.session free)) in
       all-set (λ (k : Line). IsUnready AnyWait c k.session.stage) b.lines i m
       (all-map (λ (k : Line). IsUnready AnyWait b k.session.stage) (λ (k : Line). IsUnready AnyWait c k.session.stage) (λ k. still-unready (kept-unready quiet) k.session.stage) b.lines unready)
-      (own-unready m.session.stage (same ∙ bound) idle)
+      (own-turn at free bound same is after)

@@ -1,5 +1,12 @@
 -- What a tenant's own requests mean to its machine.
-use Rattle.std.specs.Prelude.{ℕ, ℤ, List}
+use Rattle.std.specs.Prelude.{ℕ, ℤ, List, [], Result, Ok, Err}
+use Rattle.kb_wire.specs.Codec.{whole}
+use Rattle.kb_wire.specs.declared.fault.WireFault.{WireFault}
+use Rattle.kb_api_data.specs.Layouts.{fetch_request}
+use Rattle.kb_api_data.specs.declared.fetch.FetchRequest.{FetchRequest}
+use Rattle.kb_world.specs.World.{World}
+use Rattle.kb_world.specs.declared.place.Place.{Place}
+use Rattle.kb_tenant.specs.Fetch.{places_of}
 use Rattle.kb_tenant.specs.Hosted.{Kept, world_at, kept_in}
 use Rattle.kb_tenant.specs.Replies.{Reaction}
 use Rattle.kb_tenant.specs.Serve.{Outcome, served, looked}
@@ -26,3 +33,12 @@ answer node kept clock key body = (outcome node kept clock key body).reaction
 -- what a waiting fetch comes to now: a reply where it is ready, else silence
 unfoldable pub ready : Kept → ℕ → Wait → Reaction
 ready kept clock wait = looked (world_at kept clock) wait.deadline wait.body
+
+-- the partitions that a fetch asks for, if it was read
+abbrev pub asked_in : World → Result FetchRequest WireFault → List Place
+asked_in w (Ok r) = places_of w r
+asked_in w (Err fault) = []
+
+-- the partitions that a waiting fetch asks for, which are the same at each time
+unfoldable pub asked : Kept → Wait → List Place
+asked kept wait = asked_in (world_at kept 0) (whole fetch_request wait.body)

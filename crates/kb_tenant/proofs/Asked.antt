@@ -61,7 +61,7 @@ pub record IsHeld (w : World) (name : List ℕ) (place : Place) (log : LogState)
   pub there : log_in w place ≡ Some log
 
 -- an entry of a fetch, and the log that it asks for
-record Finds (w : World) (name : List ℕ) (e : FetchPartition) : Type 0 where
+pub record Finds (w : World) (name : List ℕ) (e : FetchPartition) : Type 0 where
   pub place : Place
   pub log : LogState
   pub number : e.partition ≡ pos place.number
@@ -199,7 +199,7 @@ module _ (w : World) (r : FetchRequest) (deadline : ℕ) (waits : fetch_answer w
   unready : is_ready w r reply deadline ≡ false
   unready = no_answer (is_ready w r reply deadline) reply waits
 
-  all_found : AllByRecursion (λ t. AllByRecursion (λ e. Finds w t.topic e) t.partitions) r.topics
+  pub all_found : AllByRecursion (λ t. AllByRecursion (λ e. Finds w t.topic e) t.partitions) r.topics
   all_found =
       let is_bad = λ (p : FetchPartitionReply). is_error p.error_code in
       let good : list_any (λ (t : FetchTopicReply). list_any is_bad t.partitions) reply.topics ≡ false = second_false nothing_asked some_error has_bytes (nat_le deadline w.clock) unready in
@@ -212,21 +212,28 @@ module _ (w : World) (r : FetchRequest) (deadline : ℕ) (waits : fetch_answer w
   in_time : nat_le deadline w.clock ≡ false
   in_time = last_false nothing_asked some_error has_bytes (nat_le deadline w.clock) unready
 
-  -- the same reply at a clock before the deadline
-  still_unready : (v : World) → fetched v r ≡ fetched w r → nat_le deadline v.clock ≡ false → fetch_answer v r deadline ≡ None
-  still_unready v same early =
-      ap (λ (f : Given × FetchReply). (if is_ready v r f.1 deadline then Some f.1 else None)) same
-      ∙ ap (λ b. (if b then Some reply else None)) (last_changed nothing_asked some_error has_bytes (nat_le deadline w.clock) (nat_le deadline v.clock) unready early)
+  -- its deadline is still to come
+  pub before_end : w.clock < deadline
+  before_end = let early = in_time in grind (arith, nat_tests)
+
+  -- the same reply at a clock before a deadline
+  still_unready : (v : World) (later : ℕ) → fetched v r ≡ fetched w r → nat_le later v.clock ≡ false → fetch_answer v r later ≡ None
+  still_unready v later same early =
+      ap (λ (f : Given × FetchReply). (if is_ready v r f.1 later then Some f.1 else None)) same
+      ∙ ap (λ b. (if b then Some reply else None)) (last_changed nothing_asked some_error has_bytes (nat_le deadline w.clock) (nat_le later v.clock) unready early)
 
   -- It waits on in each world that holds what it asks for, at the same clock.
   pub waits_on : (v : World) (asked : Place → Type 0) → ((name : List ℕ) (place : Place) (log : LogState) → asked place → IsHeld w name place log → IsHeld v name place log)
       → v.clock ≡ w.clock → ((place : Place) → Contains (places_of w r) place → asked place) → StillWaits w v r deadline
   waits_on v asked keeps clock asks =
       let all = topics_alike w v asked keeps r.topics all_found asks in (
-        still_unready v (fetched_alike w v asked keeps r all) (ap (nat_le deadline) clock ∙ in_time),
+        still_unready v deadline (fetched_alike w v asked keeps r all) (ap (nat_le deadline) clock ∙ in_time),
         places_alike w v asked keeps r.topics all,
       )
 
-  -- and before its deadline at each other clock
+  -- and at each other clock before whatever deadline it then has
+  pub waits_until : (now later : ℕ) → now < later → fetch_answer (at_clock w now) r later ≡ None
+  waits_until now later early = still_unready (at_clock w now) later refl (grind (arith, nat_tests))
+
   pub waits_at : (now : ℕ) → now < deadline → StillWaits w (at_clock w now) r deadline
-  waits_at now early = (still_unready (at_clock w now) refl (grind (arith, nat_tests)), refl)
+  waits_at now early = (waits_until now deadline early, refl)

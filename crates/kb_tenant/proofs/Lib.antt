@@ -1,4 +1,6 @@
+pub mod Again
 pub mod Asked
+pub mod ByRequest
 pub mod CreateMoves
 pub mod Creating
 pub mod DeleteMoves
@@ -7,12 +9,15 @@ pub mod Described
 pub mod Entries
 pub mod Fetching
 pub mod Fitting
+pub mod Folding
 pub mod Framing
 pub mod Keys
 pub mod LogMoves
+pub mod Losing
 pub mod Moves
 pub mod Names
 pub mod Offsets
+pub mod OwnNames
 pub mod ProduceMoves
 pub mod Produced
 pub mod Ready

@@ -13,26 +13,33 @@ use Rattle.kb_world.specs.Calls.{due, moved_to, retain, retained_from}
 use Rattle.kb_world.specs.Tied.{counted, partition_count}
 use Rattle.kb_world.specs.World.{World, log_in}
 use Rattle.kb_world.specs.declared.place.Place.{Place}
+use Rattle.kb_tenant.specs.Waiting.{AreNamedApart}
 use Rattle.kb_tenant.proofs.Asked.{here_first}
 use Rattle.kb_tenant.proofs.Entries.{counted_set, none_set}
 use Rattle.kb_tenant.proofs.LogMoves.{log_elsewhere, same_counts}
 use Rattle.kb_tenant.proofs.Moves.{Moves, stays_told}
 use Rattle.kb_tenant.proofs.Names.{named_set}
+use Rattle.kb_tenant.proofs.OwnNames.{apart_put}
 
 -- what is known with another state of one partition
-record IsAlike (old new : Known) : Type 0 where
+pub record IsAlike (old new : Known) : Type 0 where
   pub creates : new.creates ≡ old.creates
   pub none : (i : ℕ) → topic_at i old.topics ≡ None → topic_at i new.topics ≡ None
   pub counts : counted partition_count new.topics ≡ counted partition_count old.topics
   pub names : (name : List ℕ) → named name new.topics ≡ named name old.topics
+  pub apart : AreNamedApart old.topics → AreNamedApart new.topics
+
+alike_same : (k : Known) → IsAlike k k
+alike_same k = record { creates = refl; none = λ i none. none; counts = refl; names = λ name. refl; apart = λ own. own }
 
 put_alike : (k : Known) (i p : ℕ) (part : PartitionState) (o : Option TopicState) → topic_at i k.topics ≡ o → IsAlike k (record k { topics = put_topic i p part k.topics o })
-put_alike k i p part None at = record { creates = refl; none = λ j none. none; counts = refl; names = λ name. refl }
+put_alike k i p part None at = alike_same k
 put_alike k i p part (Some t) at = record {
   creates = refl;
   none = λ j none. none_set (is_at (nat_cmp j)) (is_at (nat_cmp i)) k.topics (with_part p part t) none;
   counts = counted_set partition_count (is_at (nat_cmp i)) k.topics t (with_part p part t) at (length-set t.partitions p part);
   names = λ name. named_set k.topics i t (with_part p part t) name at refl;
+  apart = λ own. apart_put k.topics i p part (Some t) at own;
 }
 
 started_alike : (k new : Known) (i p : ℕ) (start : ℤ) (o : Option PartitionState)
@@ -91,3 +98,17 @@ due_moves w place (Some start) = stepped_moves w place start (step w.known (star
 
 pub retain_moves : (w : World) (place : Place) → Moves [] (place ∷ []) w (retain w place).0
 retain_moves w place = due_moves w place (due w place)
+
+-- ---- what is known
+
+stepped_alike : (w : World) (place : Place) (start : ℕ) (o : Option Known) → step w.known (start_command (pos place.instance) (pos place.number) (pos start)) ≡ o → IsAlike w.known (moved_to w place start o).0.known
+stepped_alike w place start None e = alike_same w.known
+stepped_alike w place start (Some k) e = step_alike w.known k place.instance place.number (pos start) e
+
+due_alike : (w : World) (place : Place) (o : Option ℕ) → IsAlike w.known (retained_from w place o).0.known
+due_alike w place None = alike_same w.known
+due_alike w place (Some start) = stepped_alike w place start (step w.known (start_command (pos place.instance) (pos place.number) (pos start))) refl
+
+-- It is as before, but for the state of one partition.
+pub retain_alike : (w : World) (place : Place) → IsAlike w.known (retain w place).0.known
+retain_alike w place = due_alike w place (due w place)

@@ -1,11 +1,6 @@
 -- What a request, by its key and its body, leaves of what fetches wait for.
-use Rattle.std.proofs.Common.{◌≡◌, ℕ, ℤ, Bool, true, false, List, [], ◌∷◌, get_or, Option, Some, None, refl, sym, subst, arith}
-use Rattle.std.specs.Prelude.{pos, Result, Ok, Err, if◌then◌else◌}
-use Rattle.std.specs.Ordering.{int_eq}
+use Rattle.std.proofs.Common.{◌≡◌, ℕ, ℤ, List, [], ◌∷◌, get_or, Option, Some, None, refl, sym, subst, arith}
 use Rattle.std.specs.List.{Contains}
-use Rattle.kb_wire.specs.Codec.{whole}
-use Rattle.kb_wire.specs.declared.fault.WireFault.{WireFault}
-use Rattle.kb_api_data.specs.Layouts.{produce_request, fetch_request, list_offsets_request, metadata_request, create_topics_request, delete_topics_request, init_producer_id_request}
 use Rattle.kb_api_data.specs.declared.init_producer_id.InitProducerIdReply.{InitProducerIdReply}
 use Rattle.kb_api_data.specs.declared.init_producer_id.InitProducerIdRequest.{InitProducerIdRequest}
 use Rattle.kb_api_data.specs.declared.fetch.FetchRequest.{FetchRequest}
@@ -19,10 +14,10 @@ use Rattle.kb_world.specs.World.{World}
 use Rattle.kb_world.specs.declared.place.Place.{Place}
 use Rattle.kb_tenant.specs.Fetch.{fetch_answer, places_of}
 use Rattle.kb_tenant.specs.InitProducerId.{id_given, id_refused, init_producer_id}
-use Rattle.kb_tenant.specs.Serve.{Outcome, if_read, of_produce, of_fetch, of_list_offsets, of_metadata, of_create_topics, of_delete_topics, of_init_producer_id, served, stays}
-use Rattle.kb_tenant.specs.Replies.{Shuts}
+use Rattle.kb_tenant.specs.Serve.{Outcome, served}
 use Rattle.kb_tenant.specs.Waiting.{AreApart, StillWaits}
 use Rattle.kb_tenant.specs.declared.node.Node.{Node}
+use Rattle.kb_tenant.proofs.ByRequest.{by_request}
 use Rattle.kb_tenant.proofs.CreateMoves.{create_moves}
 use Rattle.kb_tenant.proofs.DeleteMoves.{delete_moves}
 use Rattle.kb_tenant.proofs.Moves.{Moves, stays_same, waits_through}
@@ -49,8 +44,20 @@ given_moves : (w : World) (o : Option (List ℕ)) → Moves [] [] w (given_by w 
 given_moves w None = issued_moves w (issue_refusal w.known)
 given_moves w (Some id) = stays_same w []
 
-init_moves : (w : World) (r : InitProducerIdRequest) → Moves [] [] w (init_producer_id w r).0
+pub init_moves : (w : World) (r : InitProducerIdRequest) → Moves [] [] w (init_producer_id w r).0
 init_moves w r = given_moves w r.transactional_id
+
+-- It changes no topic.
+issued_topics : (w : World) (o : Option CatalogFault) → (issued_unless w o).0.known.topics ≡ w.known.topics
+issued_topics w (Some f) = refl
+issued_topics w None = refl
+
+given_topics : (w : World) (o : Option (List ℕ)) → (given_by w o).0.known.topics ≡ w.known.topics
+given_topics w None = issued_topics w (issue_refusal w.known)
+given_topics w (Some id) = refl
+
+pub init_topics : (w : World) (r : InitProducerIdRequest) → (init_producer_id w r).0.known.topics ≡ w.known.topics
+init_topics w r = given_topics w r.transactional_id
 
 -- ---- a request
 
@@ -58,38 +65,17 @@ init_moves w r = given_moves w r.transactional_id
 abbrev Leaves : World → Outcome → Type 0
 Leaves w o = Moves [] o.touched w o.world
 
-read_leaves : {A : Type 0} (w : World) (r : Result A WireFault) (f : A → Outcome) → ((a : A) → Leaves w (f a)) → Leaves w (if_read w r f)
-read_leaves w (Ok a) f each = each a
-read_leaves w (Err fault) f each = stays_same w []
-
-either : (w : World) (b : Bool) (o p : Outcome) → Leaves w o → Leaves w p → Leaves w (if b then o else p)
-either w true o p first second = first
-either w false o p first second = second
-
 pub serve_leaves : (node : Node) (w : World) (key : ℤ) (body : List ℕ) → Leaves w (served node w key body)
-unfolding served
-serve_leaves node w key body =
-    let shut : Outcome = stays w Shuts in
-    let inits : Outcome = if_read w (whole init_producer_id_request body) (of_init_producer_id w) in
-    let deletes : Outcome = if_read w (whole delete_topics_request body) (of_delete_topics w) in
-    let creates : Outcome = if_read w (whole create_topics_request body) (of_create_topics w) in
-    let tells : Outcome = if_read w (whole metadata_request body) (of_metadata node w) in
-    let lists : Outcome = if_read w (whole list_offsets_request body) (of_list_offsets w) in
-    let fetches : Outcome = if_read w (whole fetch_request body) (of_fetch w) in
-    let produces : Outcome = if_read w (whole produce_request body) (of_produce w) in
-    let from_22 : Outcome = if int_eq key (pos 22) then inits else shut in
-    let from_20 : Outcome = if int_eq key (pos 20) then deletes else from_22 in
-    let from_19 : Outcome = if int_eq key (pos 19) then creates else from_20 in
-    let from_3 : Outcome = if int_eq key (pos 3) then tells else from_19 in
-    let from_2 : Outcome = if int_eq key (pos 2) then lists else from_3 in
-    let from_1 : Outcome = if int_eq key (pos 1) then fetches else from_2 in
-    either w (int_eq key (pos 0)) produces from_1 (read_leaves w (whole produce_request body) (of_produce w) (λ r. produce_moves w r))
-    (either w (int_eq key (pos 1)) fetches from_2 (read_leaves w (whole fetch_request body) (of_fetch w) (λ r. stays_same w []))
-    (either w (int_eq key (pos 2)) lists from_3 (read_leaves w (whole list_offsets_request body) (of_list_offsets w) (λ r. stays_same w []))
-    (either w (int_eq key (pos 3)) tells from_19 (read_leaves w (whole metadata_request body) (of_metadata node w) (λ r. stays_same w []))
-    (either w (int_eq key (pos 19)) creates from_20 (read_leaves w (whole create_topics_request body) (of_create_topics w) (λ r. create_moves w r))
-    (either w (int_eq key (pos 20)) deletes from_22 (read_leaves w (whole delete_topics_request body) (of_delete_topics w) (λ r. delete_moves w r))
-    (either w (int_eq key (pos 22)) inits shut (read_leaves w (whole init_producer_id_request body) (of_init_producer_id w) (λ r. init_moves w r)) (stays_same w [])))))))
+serve_leaves node w key body = by_request (Leaves w) node w key body (record {
+  produce = λ r read. produce_moves w r;
+  fetch = λ r read. stays_same w [];
+  list_offsets = λ r read. stays_same w [];
+  metadata = λ r read. stays_same w [];
+  create_topics = λ r read. create_moves w r;
+  delete_topics = λ r read. delete_moves w r;
+  init_producer_id = λ r read. init_moves w r;
+  shut = stays_same w [];
+})
 
 -- ---- the laws
 

@@ -1,7 +1,8 @@
 -- When a fetch that waits need not be looked at again: what its reply depends on stays.
-use Rattle.std.specs.Prelude.{ℕ, ◌≡◌, List, None}
+use Rattle.std.specs.Prelude.{ℕ, ◌≡◌, List, [], ◌∷◌, None, ⊤}
 use Rattle.std.specs.List.{Contains}
 use Rattle.kb_api_data.specs.declared.fetch.FetchRequest.{FetchRequest}
+use Rattle.kb_topics.specs.Known.{TopicState, named}
 use Rattle.kb_tenant.specs.Fetch.{fetch_answer, places_of}
 use Rattle.kb_world.specs.World.{World}
 use Rattle.kb_world.specs.declared.place.Place.{Place}
@@ -13,3 +14,12 @@ AreApart xs ys = (place : Place) → Contains xs place → Contains ys place →
 -- In the other world a fetch still has no answer, and waits for the same places.
 abbrev pub StillWaits : World → World → FetchRequest → ℕ → Type 0
 StillWaits w v r deadline = (fetch_answer v r deadline ≡ None) × (places_of v r ≡ places_of w r)
+
+-- no two of these topics have one name
+abbrev pub AreNamedApart : List (ℕ × TopicState) → Type 0
+AreNamedApart [] = ⊤
+AreNamedApart (e ∷ ts) = (named e.1.name ts ≡ None) × AreNamedApart ts
+
+-- No two topics of a world have one name.
+abbrev pub HasOwnNames : World → Type 0
+HasOwnNames w = AreNamedApart w.known.topics

@@ -18,7 +18,10 @@ mod request;
 pub use answer::Answer;
 pub use dispatch::{Served, look, serve};
 pub use node::Node;
-pub use promises::{before_deadline, requests_elsewhere, retention_elsewhere, worlds_stay_tied};
+pub use promises::{
+    before_deadline, names_stay_apart, requests_again, requests_elsewhere, retention_again,
+    retention_elsewhere, worlds_stay_tied,
+};
 pub use request::Request;
 
 #[cfg(test)]

@@ -4,11 +4,11 @@ ghost use Rattle.std.specs.List.{Contains};
 ghost use Rattle.kb_api_data.specs.declared.fetch.FetchRequest.{FetchRequest};
 ghost use Rattle.kb_world.specs.Tied.{IsTied};
 ghost use Rattle.kb_world.specs.World.{World, new_world};
-ghost use Rattle.kb_world.specs.Calls.{at_clock, retain};
+ghost use Rattle.kb_world.specs.Calls.{at_clock, retain, retain_all};
 ghost use Rattle.kb_world.specs.declared.place.Place.{Place};
 ghost use Rattle.kb_tenant.specs.Fetch.{fetch_answer, places_of};
 ghost use Rattle.kb_tenant.specs.Serve.{served};
-ghost use Rattle.kb_tenant.specs.Waiting.{AreApart, StillWaits};
+ghost use Rattle.kb_tenant.specs.Waiting.{AreApart, HasOwnNames, StillWaits};
 ghost use Rattle.kb_tenant.specs.declared.node.Node.{Node};
 
 /// The topics of a world are tied to its logs from the start on, whatever is asked, dropped by retention, or the time.
@@ -17,6 +17,14 @@ pub fn worlds_stay_tied()
     ensures served { (node : Node) (w : World) (key : ℤ) (body : List ℕ) → IsTied w → IsTied (served node w key body).world }
     ensures retained { (w : World) (place : Place) → IsTied w → IsTied (retain w place).0 }
     ensures clocked { (w : World) (now : ℕ) → IsTied w → IsTied (at_clock w now) }
+{}
+
+/// No two topics of a world have one name, from the start on, whatever is asked, dropped by retention, or the time.
+pub fn names_stay_apart()
+    ensures begun { (clock : ℕ) → HasOwnNames (at_clock new_world clock) }
+    ensures served { (node : Node) (w : World) (key : ℤ) (body : List ℕ) → HasOwnNames w → HasOwnNames (served node w key body).world }
+    ensures retained { (w : World) (place : Place) → HasOwnNames w → HasOwnNames (retain w place).0 }
+    ensures clocked { (w : World) (now : ℕ) → HasOwnNames w → HasOwnNames (at_clock w now) }
 {}
 
 /// A fetch that waits has no answer after a request that touches none of the places that it waits for, and waits for the
@@ -36,4 +44,16 @@ pub fn retention_elsewhere()
 /// The same at each time before its deadline.
 pub fn before_deadline()
     ensures { (w : World) (r : FetchRequest) (deadline now : ℕ) → fetch_answer w r deadline ≡ None → now < deadline → StillWaits w (at_clock w now) r deadline }
+{}
+
+/// A fetch that has no answer before and after a request waits for the same places, whatever the request touched.
+pub fn requests_again()
+    ensures { (node : Node) (w : World) (key : ℤ) (body : List ℕ) (r : FetchRequest) (deadline : ℕ) → IsTied w → HasOwnNames w
+        → fetch_answer w r deadline ≡ None → fetch_answer (served node w key body).world r deadline ≡ None
+        → places_of (served node w key body).world r ≡ places_of w r }
+{}
+
+/// Retention changes no place that a fetch asks for.
+pub fn retention_again()
+    ensures { (w : World) (r : FetchRequest) → places_of (retain_all w).0 r ≡ places_of w r }
 {}

@@ -1,0 +1,113 @@
+-- A fetch that has no answer before and after a change waits for the same places.
+use Rattle.std.proofs.Common.{◌≡◌, ◌∙◌, ℕ, ℤ, List, [], ◌∷◌, ◌++◌, Some, None, refl, sym, subst, ap, arith}
+use Rattle.std.specs.List.{AllByRecursion, Contains, flat_map}
+use Rattle.kb_api_data.specs.declared.fetch.FetchPartition.{FetchPartition}
+use Rattle.kb_api_data.specs.declared.fetch.FetchTopic.{FetchTopic}
+use Rattle.kb_api_data.specs.declared.fetch.FetchRequest.{FetchRequest}
+use Rattle.kb_topics.specs.Known.{named}
+use Rattle.kb_world.specs.Calls.{all_places, at_clock, retain, retain_all, retain_each}
+use Rattle.kb_world.specs.Tied.{IsTied}
+use Rattle.kb_world.specs.World.{World, new_world}
+use Rattle.kb_world.specs.declared.place.Place.{Place}
+use Rattle.kb_tenant.specs.Fetch.{fetch_answer, places_in, places_of}
+use Rattle.kb_tenant.specs.Serve.{Outcome, of_produce, of_create_topics, of_delete_topics, of_init_producer_id, served}
+use Rattle.kb_tenant.specs.Waiting.{AreNamedApart, HasOwnNames}
+use Rattle.kb_tenant.specs.declared.node.Node.{Node}
+use Rattle.kb_tenant.proofs.Asked.{Finds, all_found}
+use Rattle.kb_tenant.proofs.ByRequest.{by_request}
+use Rattle.kb_tenant.proofs.CreateMoves.{create_moves}
+use Rattle.kb_tenant.proofs.Losing.{create_apart, delete_loses, produce_loses}
+use Rattle.kb_tenant.proofs.Moves.{Moves, waits_through}
+use Rattle.kb_tenant.proofs.RetainMoves.{retain_alike}
+use Rattle.kb_tenant.proofs.ServeMoves.{init_moves, init_topics}
+
+-- ---- places are found by name
+
+-- the places that a topic's entries ask for, in a world
+abbrev places_for : World → FetchTopic → List Place
+places_for w t = places_in (named t.topic w.known.topics) t.partitions
+
+topics_same : (w v : World) (ts : List FetchTopic) → AllByRecursion (λ t. places_for v t ≡ places_for w t) ts → flat_map (places_for v) ts ≡ flat_map (places_for w) ts
+topics_same w v [] all = refl
+topics_same w v (t ∷ ts) all = ap (λ ps. ps ++ flat_map (places_for v) ts) all.0 ∙ ap (λ ps. places_for w t ++ ps) (topics_same w v ts all.1)
+
+module _ (w v : World) where
+  -- where each name leads to the same topic
+  named_same : ((name : List ℕ) → named name v.known.topics ≡ named name w.known.topics) → (ts : List FetchTopic) → AllByRecursion (λ t. places_for v t ≡ places_for w t) ts
+  named_same same [] = tt
+  named_same same (t ∷ ts) = (ap (λ o. places_in o t.partitions) (same t.topic), named_same same ts)
+
+  pub same_places : ((name : List ℕ) → named name v.known.topics ≡ named name w.known.topics) → (r : FetchRequest) → places_of v r ≡ places_of w r
+  same_places same r = topics_same w v r.topics (named_same same r.topics)
+
+  module _ (before : (name : List ℕ) (i : ℕ) → named name v.known.topics ≡ Some i → named name w.known.topics ≡ Some i) where
+    -- the entries of a topic, each of which is found
+    entries_same : (name : List ℕ) (es : List FetchPartition) → AllByRecursion (λ e. Finds v name e) es → places_in (named name v.known.topics) es ≡ places_in (named name w.known.topics) es
+    entries_same name [] all = refl
+    entries_same name (e ∷ es) all =
+        let there = all.0.held.topic in
+        ap (λ o. places_in o (e ∷ es)) (there ∙ sym (before name all.0.place.instance there))
+
+    found_same : (ts : List FetchTopic) → AllByRecursion (λ t. AllByRecursion (λ e. Finds v t.topic e) t.partitions) ts → AllByRecursion (λ t. places_for v t ≡ places_for w t) ts
+    found_same [] all = tt
+    found_same (t ∷ ts) all = (entries_same t.topic t.partitions all.0, found_same ts all.1)
+
+    -- a fetch that has no answer finds all that it asks for, and found it there before
+    pub places_back : (r : FetchRequest) (deadline : ℕ) → fetch_answer v r deadline ≡ None → places_of v r ≡ places_of w r
+    places_back r deadline waits = topics_same w v r.topics (found_same r.topics (all_found v r deadline waits))
+
+-- ---- a request
+
+-- a change that tells no place
+untold : (w v : World) → Moves [] [] w v → IsTied w → (r : FetchRequest) (deadline : ℕ) → fetch_answer w r deadline ≡ None → places_of v r ≡ places_of w r
+untold w v moves tied r deadline waits = (waits_through [] w v moves tied r deadline waits (λ place asked none. nowhere place none)).1
+  where
+    nowhere : (place : Place) → Contains [] place → ⊥
+    nowhere place c = omega (arith, c.1)
+
+pub served_again : (node : Node) (w : World) (key : ℤ) (body : List ℕ) (r : FetchRequest) (deadline : ℕ) → IsTied w → HasOwnNames w → fetch_answer w r deadline ≡ None
+    → fetch_answer (served node w key body).world r deadline ≡ None → places_of (served node w key body).world r ≡ places_of w r
+served_again node w key body r deadline tied own waits =
+    by_request (λ (o : Outcome). fetch_answer o.world r deadline ≡ None → places_of o.world r ≡ places_of w r) node w key body (record {
+      produce = λ q read after. places_back w (of_produce w q).world ((produce_loses w q).before own) r deadline after;
+      fetch = λ q read after. refl;
+      list_offsets = λ q read after. refl;
+      metadata = λ q read after. refl;
+      create_topics = λ q read after. untold w (of_create_topics w q).world (create_moves w q) tied r deadline waits;
+      delete_topics = λ q read after. places_back w (of_delete_topics w q).world ((delete_loses w q).before own) r deadline after;
+      init_producer_id = λ q read after. untold w (of_init_producer_id w q).world (init_moves w q) tied r deadline waits;
+      shut = λ after. refl;
+    })
+
+-- the names of topics stay apart
+pub served_names : (node : Node) (w : World) (key : ℤ) (body : List ℕ) → HasOwnNames w → HasOwnNames (served node w key body).world
+served_names node w key body own = by_request (λ (o : Outcome). HasOwnNames o.world) node w key body (record {
+  produce = λ q read. (produce_loses w q).apart own;
+  fetch = λ q read. own;
+  list_offsets = λ q read. own;
+  metadata = λ q read. own;
+  create_topics = λ q read. create_apart w q own;
+  delete_topics = λ q read. (delete_loses w q).apart own;
+  init_producer_id = λ q read. subst AreNamedApart (sym (init_topics w q)) own;
+  shut = own;
+})
+
+-- ---- retention
+
+pub retained_names : (w : World) (place : Place) → HasOwnNames w → HasOwnNames (retain w place).0
+retained_names w place = (retain_alike w place).apart
+
+each_again : (places : List Place) (w : World) (r : FetchRequest) → places_of (retain_each places w).0 r ≡ places_of w r
+each_again [] w r = refl
+each_again (place ∷ places) w r = each_again places (retain w place).0 r ∙ same_places w (retain w place).0 (retain_alike w place).names r
+
+pub retained_again : (w : World) (r : FetchRequest) → places_of (retain_all w).0 r ≡ places_of w r
+retained_again w r = each_again (all_places w) w r
+
+-- ---- the first world, and each at another time
+
+pub new_names : (clock : ℕ) → HasOwnNames (at_clock new_world clock)
+new_names clock = tt
+
+pub clock_names : (w : World) (now : ℕ) → HasOwnNames w → HasOwnNames (at_clock w now)
+clock_names w now own = own

@@ -1,0 +1,62 @@
+-- What holds of a request, if it does for each API.
+use Rattle.std.proofs.Common.{◌≡◌, ℕ, ℤ, Bool, true, false, List, refl}
+use Rattle.std.specs.Prelude.{pos, Result, Ok, Err, if◌then◌else◌}
+use Rattle.std.specs.Ordering.{int_eq}
+use Rattle.kb_wire.specs.Codec.{whole}
+use Rattle.kb_wire.specs.declared.fault.WireFault.{WireFault}
+use Rattle.kb_api_data.specs.Layouts.{produce_request, fetch_request, list_offsets_request, metadata_request, create_topics_request, delete_topics_request, init_producer_id_request}
+use Rattle.kb_api_data.specs.declared.create_topics.CreateTopicsRequest.{CreateTopicsRequest}
+use Rattle.kb_api_data.specs.declared.delete_topics.DeleteTopicsRequest.{DeleteTopicsRequest}
+use Rattle.kb_api_data.specs.declared.fetch.FetchRequest.{FetchRequest}
+use Rattle.kb_api_data.specs.declared.init_producer_id.InitProducerIdRequest.{InitProducerIdRequest}
+use Rattle.kb_api_data.specs.declared.list_offsets.ListOffsetsRequest.{ListOffsetsRequest}
+use Rattle.kb_api_data.specs.declared.metadata.MetadataRequest.{MetadataRequest}
+use Rattle.kb_api_data.specs.declared.produce.ProduceRequest.{ProduceRequest}
+use Rattle.kb_world.specs.World.{World}
+use Rattle.kb_tenant.specs.Replies.{Shuts}
+use Rattle.kb_tenant.specs.Serve.{Outcome, if_read, of_produce, of_fetch, of_list_offsets, of_metadata, of_create_topics, of_delete_topics, of_init_producer_id, served, stays}
+use Rattle.kb_tenant.specs.declared.node.Node.{Node}
+
+-- It holds of what each API's request comes to, where the body is one, and of a connection that is shut.
+pub record Cases (P : Outcome → Type 0) (node : Node) (w : World) (body : List ℕ) : Type 0 where
+  pub produce : (r : ProduceRequest) → whole produce_request body ≡ Ok r → P (of_produce w r)
+  pub fetch : (r : FetchRequest) → whole fetch_request body ≡ Ok r → P (of_fetch w r)
+  pub list_offsets : (r : ListOffsetsRequest) → whole list_offsets_request body ≡ Ok r → P (of_list_offsets w r)
+  pub metadata : (r : MetadataRequest) → whole metadata_request body ≡ Ok r → P (of_metadata node w r)
+  pub create_topics : (r : CreateTopicsRequest) → whole create_topics_request body ≡ Ok r → P (of_create_topics w r)
+  pub delete_topics : (r : DeleteTopicsRequest) → whole delete_topics_request body ≡ Ok r → P (of_delete_topics w r)
+  pub init_producer_id : (r : InitProducerIdRequest) → whole init_producer_id_request body ≡ Ok r → P (of_init_producer_id w r)
+  pub shut : P (stays w Shuts)
+
+read_by : {A : Type 0} (P : Outcome → Type 0) (w : World) (r : Result A WireFault) (f : A → Outcome) → ((a : A) → r ≡ Ok a → P (f a)) → P (stays w Shuts) → P (if_read w r f)
+read_by P w (Ok a) f each shut = each a refl
+read_by P w (Err fault) f each shut = shut
+
+either : (P : Outcome → Type 0) (b : Bool) (o p : Outcome) → P o → P p → P (if b then o else p)
+either P true o p first second = first
+either P false o p first second = second
+
+pub by_request : (P : Outcome → Type 0) (node : Node) (w : World) (key : ℤ) (body : List ℕ) → Cases P node w body → P (served node w key body)
+unfolding served
+by_request P node w key body c =
+    let shut : Outcome = stays w Shuts in
+    let inits : Outcome = if_read w (whole init_producer_id_request body) (of_init_producer_id w) in
+    let deletes : Outcome = if_read w (whole delete_topics_request body) (of_delete_topics w) in
+    let creates : Outcome = if_read w (whole create_topics_request body) (of_create_topics w) in
+    let tells : Outcome = if_read w (whole metadata_request body) (of_metadata node w) in
+    let lists : Outcome = if_read w (whole list_offsets_request body) (of_list_offsets w) in
+    let fetches : Outcome = if_read w (whole fetch_request body) (of_fetch w) in
+    let produces : Outcome = if_read w (whole produce_request body) (of_produce w) in
+    let from_22 : Outcome = if int_eq key (pos 22) then inits else shut in
+    let from_20 : Outcome = if int_eq key (pos 20) then deletes else from_22 in
+    let from_19 : Outcome = if int_eq key (pos 19) then creates else from_20 in
+    let from_3 : Outcome = if int_eq key (pos 3) then tells else from_19 in
+    let from_2 : Outcome = if int_eq key (pos 2) then lists else from_3 in
+    let from_1 : Outcome = if int_eq key (pos 1) then fetches else from_2 in
+    either P (int_eq key (pos 0)) produces from_1 (read_by P w (whole produce_request body) (of_produce w) c.produce c.shut)
+    (either P (int_eq key (pos 1)) fetches from_2 (read_by P w (whole fetch_request body) (of_fetch w) c.fetch c.shut)
+    (either P (int_eq key (pos 2)) lists from_3 (read_by P w (whole list_offsets_request body) (of_list_offsets w) c.list_offsets c.shut)
+    (either P (int_eq key (pos 3)) tells from_19 (read_by P w (whole metadata_request body) (of_metadata node w) c.metadata c.shut)
+    (either P (int_eq key (pos 19)) creates from_20 (read_by P w (whole create_topics_request body) (of_create_topics w) c.create_topics c.shut)
+    (either P (int_eq key (pos 20)) deletes from_22 (read_by P w (whole delete_topics_request body) (of_delete_topics w) c.delete_topics c.shut)
+    (either P (int_eq key (pos 22)) inits shut (read_by P w (whole init_producer_id_request body) (of_init_producer_id w) c.init_producer_id c.shut) c.shut))))))

@@ -19,6 +19,13 @@ is_quiet (answers.Wait deadline keys) = true
 is_quiet answers.NoReply = true
 is_quiet answers.Shut = false
 
+-- it says that the connection is to wait
+abbrev pub is_wait : Answer → Bool
+is_wait (answers.Reply reply) = false
+is_wait (answers.Wait deadline keys) = true
+is_wait answers.NoReply = false
+is_wait answers.Shut = false
+
 -- the wait for the answer to a request of that correlation id, key and body
 abbrev pub wait_for : ℕ → ℤ × ℤ × List ℕ → Wait
 wait_for deadline asked = record { correlation_id = asked.0; body = asked.2; deadline = deadline }

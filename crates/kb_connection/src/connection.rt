@@ -10,7 +10,7 @@ ghost use Rattle.kb_machine.specs.Greeting.{Setup, greeted, greeted_by};
 ghost use Rattle.kb_machine.specs.Machine.{answered, served, served_by, told};
 ghost use Rattle.kb_machine.specs.Calls.{without_output};
 ghost use Rattle.kb_machine.specs.Owners.{whose};
-ghost use Rattle.kb_connection.specs.TenantAnswers.{given, is_quiet, wait_for, parked};
+ghost use Rattle.kb_connection.specs.TenantAnswers.{given, is_quiet, is_wait, wait_for, parked};
 ghost use Rattle.kb_connection.specs.Fronts.{IsOwn, IsAsked, is_tenants, is_tenants_at, asked_at};
 ghost use Rattle.kb_connection.specs.View.{stage_of, wait_of, with_session, without_front, IsLimited};
 ghost use Rattle.kb_connection.specs.Reactions.{reacted, IfReacts};
@@ -271,7 +271,7 @@ impl Connection {
 
     /// Leaves the tenant's request in front behind, and gives the tenant's answer to it. Where the answer is to wait, the
     /// request is kept until `wake` ends the wait. Where memory is refused it is shut.
-    #[tactic(auto, using(crate::proofs::Answering::gives, crate::proofs::Answering::less_given, crate::proofs::Answering::less_parked))]
+    #[tactic(auto, using(crate::proofs::Answering::gives, crate::proofs::Answering::less_given, crate::proofs::Answering::less_parked, crate::proofs::Answering::free_given))]
     pub fn answer(&mut self, alloc: Global, answer: Answer) -> Result<(), AllocError>
         ensures ok { (key id : ℤ) (body : List ℕ) (reaction : Reacts) → IsAsked self.old.session key id body → IsAnswer id reaction answer → OnOk result (self.new ≡ with_session self.old (answered reaction id body (without_front self.old.session))) }
         ensures err { OnErr result (self.new ≡ with_session self.old (shut_down self.old.session)) }
@@ -279,6 +279,7 @@ impl Connection {
         ensures number { self.new.number ≡ self.old.number }
         ensures stage { without_wait self.new.session.stage ≡ without_wait self.old.session.stage }
         ensures less { is_tenants_at (front self.old.session.unread) ≡ true → length self.new.session.unread < length self.old.session.unread }
+        ensures free { is_wait answer ≡ false → is_free self.old.session.stage ≡ true → is_free self.new.session.stage ≡ true }
     {
         match answer {
             Answer::Wait { deadline, .. } => self.park(alloc, deadline),

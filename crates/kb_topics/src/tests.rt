@@ -1,15 +1,17 @@
 //! Worked exchanges of a catalog over a log in memory. The bytes were written by a program in another language.
-ghost use Rattle.kb_log.specs.ListLog.{IsListed};
-ghost use Rattle.kb_topics.specs.Catalog.{meta_log};
 ghost use Rattle.kb_topics.specs.Layouts.{command_codec};
 
+mod steps;
+
 use super::*;
-use kb_log::{ListLog, PartitionLog, Shelf};
-use kb_store::MemoryStore;
+use Step::{
+    Commit, Committed, Counts, Create, Delete, End, Issue, Named, Start, StartOf, Topic, Topics,
+};
 use kb_wire::{Layout, Text};
 use std::alloc::{AllocError, Global};
 use std::process::Abort;
 use std::test::Fail;
+use steps::{Kept, Step, plays};
 
 /// The meta log of the creation of `t` and of `u`, the deletion of `u`, the producer ids 0, 1 and 2, the start of partition 0 of
 /// `t` moved to 1, and the commit of offset 1 there by `g` with metadata `m`: each batch in hexadecimal.
@@ -32,6 +34,25 @@ ffffffffffffffffff000000011e000000011203000000000000000200",
 ffffffffffffffffff0000000136000000012a05000000000000000000000000000000000000000100",
     b"000000000000000700000053000000000235a91e5000000000000000000000000000000000000000000000ffffffffff\
 ffffffffffffffffff0000000142000000013604000167000000000000000000000000000000000000000100016d00",
+];
+
+/// The calls that it records, and what is seen of them.
+const CALLS: [Step<'static>; 15] = [
+    Create("t", 1, STANDARD, Ok(0)),
+    Create("u", 3, SMALL, Ok(1)),
+    Topic(1, "u", 3, SMALL),
+    Named("u", Some(1)),
+    Delete("u", Ok(())),
+    Named("u", None),
+    Issue(Ok(0)),
+    Issue(Ok(1)),
+    Issue(Ok(2)),
+    Start(0, 0, 1, Ok(())),
+    Commit("g", 0, 0, 1, "m", Ok(())),
+    Committed("g", 0, 0, Some((1, "m"))),
+    StartOf(0, 0, 1),
+    Topic(0, "t", 1, STANDARD),
+    Counts(1, 2, 3),
 ];
 
 /// The batch of the creation of `t`, before a log keeps it.
@@ -81,19 +102,11 @@ const STANDARD: TopicConfig = TopicConfig {
     retention_bytes: -1,
 };
 
-fn empty_shelf(alloc: Global) -> Result<Shelf<MemoryStore>, Fail> {
-    Ok(
-        Shelf::new(alloc, MemoryStore::new(alloc), 0)
-            .ok()
-            .ok_or("a shelf")?,
-    )
-}
-
-fn empty_catalog(alloc: Global) -> Catalog<ListLog>
-    ensures { IsListed (meta_log result) }
-{
-    Catalog::new(alloc, String::new(alloc), 1_048_576)
-}
+/// Any time, and 1000 bytes.
+const SMALL: TopicConfig = TopicConfig {
+    retention_ms: -1,
+    retention_bytes: 1000,
+};
 
 /// The bytes that hexadecimal digits are.
 fn bytes(rt: &impl Abort, alloc: Global, digits: &[u8]) -> Result<Vec<u8>, Fail> {
@@ -146,158 +159,116 @@ fn each_kind(rt: HostRuntime) -> Result<(), Fail> {
     is_recorded(&rt, rt.alloc(), &Command::Delete(Text::new("t")), DELETED)
 }
 
+/// Whether a command is that commit.
+fn is_commit(command: &Command<'_>) -> bool {
+    match command {
+        Command::Commit(commit) => commit.group.as_str() == "g"
+            && commit.metadata.as_str() == "m"
+            && commit.instance == 0
+            && commit.partition == 2
+            && commit.offset == 3,
+        _ => false,
+    }
+}
+
 #[test]
 fn each_kind_is_read(rt: HostRuntime) -> Result<(), Fail> {
     let commit = bytes(&rt, rt.alloc(), COMMIT)?;
-    match Command::read(rt.alloc(), &commit)? {
-        Command::Commit(commit) => {
-            assert_eq!(rt;
-                (commit.group.as_str(), commit.metadata.as_str()),
-                ("g", "m")
-            );
-            assert_eq!(rt;
-                (commit.instance, commit.partition, commit.offset),
-                (0, 2, 3)
-            );
-        }
-        _ => panic!(rt; "a commit"),
-    }
+    let command = Command::read(rt.alloc(), &commit)?;
+    assert!(rt; is_commit(&command));
     Ok(())
+}
+
+/// The bytes of some batches, one after another.
+fn joined(rt: &impl Abort, alloc: Global, batches: &[&[u8]]) -> Result<Vec<u8>, Fail> {
+    let mut joined = Vec::new(alloc);
+    for batch in batches {
+        joined.extend_from_slice(&bytes(rt, alloc, batch)?)?;
+    }
+    Ok(joined)
+}
+
+/// The bytes of the meta log after some steps.
+fn recorded_after(rt: &impl Abort, alloc: Global, steps: &[Step<'_>]) -> Result<Vec<u8>, Fail> {
+    let mut kept = Kept::new(alloc)?;
+    kept.take_all(rt, steps);
+    kept.recorded(alloc)
 }
 
 #[test]
 fn each_call(rt: HostRuntime) -> Result<(), Fail> {
-    let mut shelf = empty_shelf(rt.alloc())?;
-    let mut catalog = empty_catalog(rt.alloc());
-    let small = TopicConfig {
-        retention_ms: -1,
-        retention_bytes: 1000,
-    };
-    assert_eq!(rt; catalog.create(&mut shelf, "t", 1, STANDARD), Ok(0));
-    assert_eq!(rt; catalog.create(&mut shelf, "u", 3, small), Ok(1));
-    assert_eq!(rt; catalog.topic(1).map(|topic| topic.config()), Some(small));
-    assert_eq!(rt; catalog.instance_of("u"), Some(1));
-    assert_eq!(rt; catalog.delete(&mut shelf, "u"), Ok(()));
-    assert_eq!(rt; catalog.instance_of("u"), None);
-    assert_eq!(rt; catalog.issue(&mut shelf), Ok(0));
-    assert_eq!(rt; catalog.issue(&mut shelf), Ok(1));
-    assert_eq!(rt; catalog.issue(&mut shelf), Ok(2));
-    assert_eq!(rt; catalog.moved_start(&mut shelf, 0, 0, 1), Ok(()));
-    assert_eq!(rt; catalog.commit(&mut shelf, "g", 0, 0, 1, "m"), Ok(()));
-    assert_eq!(rt;
-        catalog
-            .committed("g", 0, 0)
-            .map(|committed| (committed.offset(), committed.metadata())),
-        Some((1, "m"))
-    );
-    assert_eq!(rt;
-        catalog.partition(0, 0).map(|partition| partition.start()),
-        Some(1)
-    );
-    assert_eq!(rt;
-        catalog.topic(0).map(|topic| topic.partitions().len()),
-        Some(1)
-    );
-    assert_eq!(rt; catalog.topic(0).map(|topic| topic.name()), Some("t"));
-    assert_eq!(rt;
-        (
-            catalog.len(),
-            catalog.next_instance(),
-            catalog.next_producer_id()
-        ),
-        (1, 2, 3)
-    );
-    let mut recorded = Vec::new(rt.alloc());
-    for batch in FOLDED {
-        recorded.extend_from_slice(&bytes(&rt, rt.alloc(), batch)?)?;
-    }
-    let mut fetched = Vec::new(rt.alloc());
-    catalog
-        .log
-        .fetch(&mut shelf, 0, 10_000, true, &mut fetched)?;
-    assert_eq!(rt; fetched.as_slice(), recorded.as_slice());
+    let recorded = recorded_after(&rt, rt.alloc(), &CALLS)?;
+    let want = joined(&rt, rt.alloc(), &FOLDED)?;
+    assert!(rt; recorded == want);
     Ok(())
 }
 
 #[test]
 fn in_byte_order(rt: HostRuntime) -> Result<(), Fail> {
-    let mut shelf = empty_shelf(rt.alloc())?;
-    let mut catalog = empty_catalog(rt.alloc());
-    assert_eq!(rt; catalog.create(&mut shelf, "b", 1, STANDARD), Ok(0));
-    assert_eq!(rt; catalog.create(&mut shelf, "a.", 1, STANDARD), Ok(1));
-    assert_eq!(rt; catalog.create(&mut shelf, "B", 1, STANDARD), Ok(2));
-    assert_eq!(rt; catalog.create(&mut shelf, "a", 1, STANDARD), Ok(3));
-    let mut topics = catalog.topics();
-    for (instance, name) in [(2, "B"), (3, "a"), (1, "a."), (0, "b")] {
-        assert_eq!(rt;
-            topics
-                .next()
-                .map(|(instance, topic)| (instance, topic.name())),
-            Some((instance, name))
-        );
-    }
-    assert!(rt; topics.next().is_none());
-    Ok(())
+    let steps = [
+        Create("b", 1, STANDARD, Ok(0)),
+        Create("a.", 1, STANDARD, Ok(1)),
+        Create("B", 1, STANDARD, Ok(2)),
+        Create("a", 1, STANDARD, Ok(3)),
+        Topics(&[(2, "B"), (3, "a"), (1, "a."), (0, "b")]),
+    ];
+    plays(&rt, rt.alloc(), &steps)
 }
 
 #[test]
 fn a_thousand_topics(rt: HostRuntime) -> Result<(), Fail> {
-    let mut shelf = empty_shelf(rt.alloc())?;
-    let mut catalog = empty_catalog(rt.alloc());
+    let mut kept = Kept::new(rt.alloc())?;
     for number in 0..1000 {
         let name = format!(in rt.alloc(); "t{number}")?;
-        assert_eq!(rt; catalog.create(&mut shelf, &name, 1, STANDARD), Ok(number));
+        assert!(rt; kept.take(&Create(&name, 1, STANDARD, Ok(number))));
     }
-    assert_eq!(rt;
-        catalog.create(&mut shelf, "u", 1, STANDARD),
-        Err(CatalogFault::TooMany)
-    );
-    assert_eq!(rt; catalog.delete(&mut shelf, "t7"), Ok(()));
-    assert_eq!(rt; catalog.create(&mut shelf, "u", 1, STANDARD), Ok(1000));
+    let steps = [
+        Create("u", 1, STANDARD, Err(CatalogFault::TooMany)),
+        Delete("t7", Ok(())),
+        Create("u", 1, STANDARD, Ok(1000)),
+    ];
+    kept.take_all(&rt, &steps);
     Ok(())
 }
+
+/// Calls that memory refuses, each with what is seen behind it: nothing has changed, and the call is made when it is tried again.
+const REFUSED: [(Step<'static>, [Step<'static>; 3]); 5] = [
+    (
+        Create("t", 2, STANDARD, Err(CatalogFault::Memory)),
+        [Counts(0, 0, 0), End(0), Create("t", 2, STANDARD, Ok(0))],
+    ),
+    (
+        Issue(Err(CatalogFault::Memory)),
+        [Counts(1, 1, 0), End(1), Issue(Ok(0))],
+    ),
+    (
+        Start(0, 1, 5, Err(CatalogFault::Memory)),
+        [StartOf(0, 1, 0), End(2), Start(0, 1, 5, Ok(()))],
+    ),
+    (
+        Commit("g", 0, 1, 7, "m", Err(CatalogFault::Memory)),
+        [
+            Committed("g", 0, 1, None),
+            End(3),
+            Commit("g", 0, 1, 7, "m", Ok(())),
+        ],
+    ),
+    (
+        Delete("t", Err(CatalogFault::Memory)),
+        [Named("t", Some(0)), End(4), Delete("t", Ok(()))],
+    ),
+];
 
 /// Also where any one allocation is refused, a call is made whole or not at all, and then it is made when it is tried again.
 #[test]
 fn a_refused_growth_changes_nothing(rt: HostRuntime) -> Result<(), Fail> {
-    let mut shelf = empty_shelf(rt.alloc())?;
-    let mut catalog = empty_catalog(rt.alloc());
-    if catalog.create(&mut shelf, "t", 2, STANDARD) == Err(CatalogFault::Memory) {
-        assert_eq!(rt;
-            (catalog.len(), catalog.next_instance(), catalog.log.end()),
-            (0, 0, 0)
-        );
-        assert_eq!(rt; catalog.create(&mut shelf, "t", 2, STANDARD), Ok(0));
+    let mut kept = Kept::new(rt.alloc())?;
+    for (refused, again) in &REFUSED {
+        if kept.take(refused) {
+            kept.take_all(&rt, again);
+        }
     }
-    if catalog.issue(&mut shelf) == Err(CatalogFault::Memory) {
-        assert_eq!(rt; (catalog.next_producer_id(), catalog.log.end()), (0, 1));
-        assert_eq!(rt; catalog.issue(&mut shelf), Ok(0));
-    }
-    if catalog.moved_start(&mut shelf, 0, 1, 5) == Err(CatalogFault::Memory) {
-        assert_eq!(rt;
-            catalog.partition(0, 1).map(|partition| partition.start()),
-            Some(0)
-        );
-        assert_eq!(rt; catalog.moved_start(&mut shelf, 0, 1, 5), Ok(()));
-    }
-    if catalog.commit(&mut shelf, "g", 0, 1, 7, "m") == Err(CatalogFault::Memory) {
-        assert!(rt; catalog.committed("g", 0, 1).is_none());
-        assert_eq!(rt; catalog.log.end(), 3);
-        assert_eq!(rt; catalog.commit(&mut shelf, "g", 0, 1, 7, "m"), Ok(()));
-    }
-    if catalog.delete(&mut shelf, "t") == Err(CatalogFault::Memory) {
-        assert_eq!(rt; (catalog.instance_of("t"), catalog.log.end()), (Some(0), 4));
-        assert_eq!(rt; catalog.delete(&mut shelf, "t"), Ok(()));
-    }
-    assert_eq!(rt;
-        (
-            catalog.len(),
-            catalog.next_instance(),
-            catalog.next_producer_id(),
-            catalog.log.end()
-        ),
-        (0, 1, 1, 5)
-    );
+    kept.take_all(&rt, &[Counts(0, 1, 1), End(5)]);
     Ok(())
 }
 
@@ -323,128 +294,133 @@ fn codes(rt: HostRuntime) {
 
 #[test]
 fn names(rt: HostRuntime) {
-    for name in ["t", "a.b", "...", "_", "-", "AZaz09", LONGEST] {
-        assert!(rt; is_legal_name(name), "{name}");
-    }
-    for name in [
-        "", ".", "..", "a b", "a/b", "a:b", "\u{e4}", "a\n", TOO_LONG,
-    ] {
-        assert!(rt; !is_legal_name(name), "{name}");
+    let rows = [
+        ("t", true),
+        ("a.b", true),
+        ("...", true),
+        ("_", true),
+        ("-", true),
+        ("AZaz09", true),
+        (LONGEST, true),
+        ("", false),
+        (".", false),
+        ("..", false),
+        ("a b", false),
+        ("a/b", false),
+        ("a:b", false),
+        ("\u{e4}", false),
+        ("a\n", false),
+        (TOO_LONG, false),
+    ];
+    for (name, is_legal) in rows {
+        assert!(rt; is_legal_name(name) == is_legal, "{name}");
     }
 }
 
 #[test]
 fn refusals(rt: HostRuntime) -> Result<(), Fail> {
-    let mut shelf = empty_shelf(rt.alloc())?;
-    let mut catalog = empty_catalog(rt.alloc());
-    assert_eq!(rt;
-        catalog.create(&mut shelf, "..", 1, STANDARD),
-        Err(CatalogFault::Name)
-    );
-    assert_eq!(rt;
-        catalog.create(&mut shelf, "t", 65, STANDARD),
-        Err(CatalogFault::Partitions)
-    );
-    assert_eq!(rt; catalog.create(&mut shelf, "t", 64, STANDARD), Ok(0));
-    assert_eq!(rt;
-        catalog.create(&mut shelf, "t", 1, STANDARD),
-        Err(CatalogFault::Exists)
-    );
-    assert_eq!(rt; catalog.delete(&mut shelf, "u"), Err(CatalogFault::Unknown));
-    assert_eq!(rt;
-        catalog.moved_start(&mut shelf, 0, 64, 1),
-        Err(CatalogFault::Unknown)
-    );
-    assert_eq!(rt;
-        catalog.moved_start(&mut shelf, 0, 63, -1),
-        Err(CatalogFault::Back)
-    );
-    assert_eq!(rt; catalog.delete(&mut shelf, "t"), Ok(()));
-    assert_eq!(rt; catalog.create(&mut shelf, "t", 1, STANDARD), Ok(1));
-    Ok(())
+    let steps = [
+        Create("..", 1, STANDARD, Err(CatalogFault::Name)),
+        Create("t", 65, STANDARD, Err(CatalogFault::Partitions)),
+        Create("t", 64, STANDARD, Ok(0)),
+        Create("t", 1, STANDARD, Err(CatalogFault::Exists)),
+        Delete("u", Err(CatalogFault::Unknown)),
+        Start(0, 64, 1, Err(CatalogFault::Unknown)),
+        Start(0, 63, -1, Err(CatalogFault::Back)),
+        Delete("t", Ok(())),
+        Create("t", 1, STANDARD, Ok(1)),
+    ];
+    plays(&rt, rt.alloc(), &steps)
 }
 
 #[test]
 fn commits(rt: HostRuntime) -> Result<(), Fail> {
-    let mut shelf = empty_shelf(rt.alloc())?;
-    let mut catalog = empty_catalog(rt.alloc());
-    assert_eq!(rt; catalog.create(&mut shelf, "t", 1, STANDARD), Ok(0));
-    assert_eq!(rt; catalog.commit(&mut shelf, "g", 0, 0, 7, "m"), Ok(()));
-    assert_eq!(rt; catalog.commit(&mut shelf, "g", 0, 0, 5, ""), Ok(()));
-    assert_eq!(rt;
-        catalog.commit(&mut shelf, "g", 0, 1, 9, ""),
-        Err(CatalogFault::Unknown)
-    );
-    assert_eq!(rt;
-        catalog
-            .committed("g", 0, 0)
-            .map(|committed| committed.offset()),
-        Some(5)
-    );
-    assert!(rt; catalog.committed("h", 0, 0).is_none());
-    Ok(())
+    let steps = [
+        Create("t", 1, STANDARD, Ok(0)),
+        Commit("g", 0, 0, 7, "m", Ok(())),
+        Commit("g", 0, 0, 5, "", Ok(())),
+        Commit("g", 0, 1, 9, "", Err(CatalogFault::Unknown)),
+        Committed("g", 0, 0, Some((5, ""))),
+        Committed("h", 0, 0, None),
+    ];
+    plays(&rt, rt.alloc(), &steps)
+}
+
+/// The settings that some entries come to, each with whether it is read; none where one is read that is not to be, or not read.
+fn settings_of(entries: &[(&str, &str, bool)]) -> Option<TopicConfig> {
+    let mut reader = ConfigReader::new();
+    for (name, value, is_read) in entries {
+        if reader.read(name, Some(value)) != *is_read {
+            return None;
+        }
+    }
+    Some(reader.config())
 }
 
 #[test]
-fn settings(rt: HostRuntime) -> Result<(), Fail> {
-    let mut reader = ConfigReader::new();
-    assert!(rt; reader.read("retention.ms", Some("0000")));
-    assert!(rt; !reader.read("retention.ms", Some("1")));
-    assert!(rt; !reader.read("retention.bytes", Some("9223372036854775808")));
-    assert!(rt; reader.read("retention.bytes", Some("9223372036854775807")));
-    assert!(rt; reader.read("cleanup.policy", Some("delete")));
-    assert!(rt; !reader.read("cleanup.policy", Some("delete")));
-    assert_eq!(rt;
-        reader.config(),
-        TopicConfig {
-            retention_ms: 0,
-            retention_bytes: i64::MAX
-        }
-    );
-    assert_eq!(rt; ConfigReader::new().config(), STANDARD);
-    Ok(())
+fn settings(rt: HostRuntime) {
+    let entries = [
+        ("retention.ms", "0000", true),
+        ("retention.ms", "1", false),
+        ("retention.bytes", "9223372036854775808", false),
+        ("retention.bytes", "9223372036854775807", true),
+        ("cleanup.policy", "delete", true),
+        ("cleanup.policy", "delete", false),
+    ];
+    let want = TopicConfig {
+        retention_ms: 0,
+        retention_bytes: i64::MAX,
+    };
+    assert!(rt; settings_of(&entries) == Some(want));
+    assert!(rt; settings_of(&[]) == Some(STANDARD));
+}
+
+/// Whether a text is that limit, of time and of bytes; none where it is no limit.
+fn is_limit(text: &str, limit: Option<i64>) -> bool {
+    config_entry("retention.ms", Some(text)) == limit.map(|limit| ConfigEntry::RetentionMs(limit))
+        && config_entry("retention.bytes", Some(text))
+            == limit.map(|limit| ConfigEntry::RetentionBytes(limit))
 }
 
 #[test]
 fn limits(rt: HostRuntime) {
-    for (text, limit) in [
-        ("-1", -1),
-        ("0", 0),
-        ("0000", 0),
-        ("604800000", 604_800_000),
-        ("0000000000000000001", 1),
-        ("9223372036854775807", i64::MAX),
-    ] {
-        assert_eq!(rt;
-            config_entry("retention.ms", Some(text)),
-            Some(ConfigEntry::RetentionMs(limit))
-        );
-        assert_eq!(rt;
-            config_entry("retention.bytes", Some(text)),
-            Some(ConfigEntry::RetentionBytes(limit))
-        );
+    let rows = [
+        ("-1", Some(-1)),
+        ("0", Some(0)),
+        ("0000", Some(0)),
+        ("604800000", Some(604_800_000)),
+        ("0000000000000000001", Some(1)),
+        ("9223372036854775807", Some(i64::MAX)),
+        ("", None),
+        ("-0", None),
+        ("-2", None),
+        ("+1", None),
+        ("-", None),
+        (" 1", None),
+        ("1 ", None),
+        ("1e3", None),
+        ("0x1", None),
+        ("9223372036854775808", None),
+        ("00000000000000000001", None),
+    ];
+    for (text, limit) in rows {
+        assert!(rt; is_limit(text, limit), "{text}");
     }
-    for text in [
-        "",
-        "-0",
-        "-2",
-        "+1",
-        "-",
-        " 1",
-        "1 ",
-        "1e3",
-        "0x1",
-        "9223372036854775808",
-        "00000000000000000001",
-    ] {
-        assert_eq!(rt; config_entry("retention.ms", Some(text)), None);
-        assert_eq!(rt; config_entry("retention.bytes", Some(text)), None);
+}
+
+#[test]
+fn entries(rt: HostRuntime) {
+    let rows = [
+        ("retention.ms", None, None),
+        ("Retention.ms", Some("1"), None),
+        (
+            "cleanup.policy",
+            Some("delete"),
+            Some(ConfigEntry::CleanupPolicy),
+        ),
+        ("cleanup.policy", Some("compact"), None),
+    ];
+    for (name, value, want) in rows {
+        assert!(rt; config_entry(name, value) == want, "{name}");
     }
-    assert_eq!(rt; config_entry("retention.ms", None), None);
-    assert_eq!(rt; config_entry("Retention.ms", Some("1")), None);
-    assert_eq!(rt;
-        config_entry("cleanup.policy", Some("delete")),
-        Some(ConfigEntry::CleanupPolicy)
-    );
-    assert_eq!(rt; config_entry("cleanup.policy", Some("compact")), None);
 }

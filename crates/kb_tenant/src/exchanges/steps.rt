@@ -204,7 +204,35 @@ impl Tenant {
         self.parts.retain(&mut self.shelf, place)
     }
 
-    /// Takes a request, and answers whether it is served as a step says.
+    /// Serves the request of a text.
+    fn ask(&mut self, rt: &impl Abort, alloc: Global, text: &str) -> Result<Served, Fail>
+        requires { (scene list_log (λ s. memory_disk s.files.entries) self.old.parts self.old.shelf).sound }
+        ensures { (scene list_log (λ s. memory_disk s.files.entries) self.new.parts self.new.shelf).sound }
+    {
+        let bytes = frame(rt, alloc, text)?;
+        let request = request(rt, &bytes)?;
+        Ok(self.serve(alloc, &request))
+    }
+
+    /// Takes a look at a fetch that waits, and sees that it has that reply.
+    fn is_seen(
+        &mut self,
+        rt: &impl Abort,
+        alloc: Global,
+        text: &str,
+        deadline: u64,
+        reply: &str,
+    ) -> Result<(), Fail>
+        requires { (scene list_log (λ s. memory_disk s.files.entries) self.old.parts self.old.shelf).sound }
+        ensures { (scene list_log (λ s. memory_disk s.files.entries) self.new.parts self.new.shelf).sound }
+    {
+        let bytes = frame(rt, alloc, text)?;
+        let request = request(rt, &bytes)?;
+        let answer = self.look(alloc, &request, deadline);
+        is_answer(rt, alloc, &answer, reply, text)
+    }
+
+    /// Takes a request, and sees that it is served as a step says.
     fn is_served(
         &mut self,
         rt: &impl Abort,
@@ -216,8 +244,7 @@ impl Tenant {
         requires { (scene list_log (λ s. memory_disk s.files.entries) self.old.parts self.old.shelf).sound }
         ensures { (scene list_log (λ s. memory_disk s.files.entries) self.new.parts self.new.shelf).sound }
     {
-        let bytes = frame(rt, alloc, text)?;
-        let served = self.serve(alloc, &request(rt, &bytes)?);
+        let served = self.ask(rt, alloc, text)?;
         assert_eq!(rt; served.touched.as_slice(), touched, "{text}");
         is_answer(rt, alloc, &served.answer, reply, text)
     }
@@ -263,20 +290,14 @@ impl Tenant {
             Step::Ask(text, reply) => self.is_served(rt, alloc, text, reply, &[])?,
             Step::Change(text, reply, touched) => self.is_served(rt, alloc, text, reply, touched)?,
             Step::Shut(text) => {
-                let bytes = frame(rt, alloc, text)?;
-                let served = self.serve(alloc, &request(rt, &bytes)?);
+                let served = self.ask(rt, alloc, text)?;
                 assert!(rt; matches!(served.answer, Answer::Shut), "{text}");
             }
             Step::Wait(text, place, until) => {
-                let bytes = frame(rt, alloc, text)?;
-                let served = self.serve(alloc, &request(rt, &bytes)?);
+                let served = self.ask(rt, alloc, text)?;
                 assert!(rt; is_wait(&served.answer, *place, *until), "{text}");
             }
-            Step::Look(text, deadline, reply) => {
-                let bytes = frame(rt, alloc, text)?;
-                let answer = self.look(alloc, &request(rt, &bytes)?, *deadline);
-                is_answer(rt, alloc, &answer, reply, text)?;
-            }
+            Step::Look(text, deadline, reply) => self.is_seen(rt, alloc, text, *deadline, reply)?,
             Step::At(now) => self.move_clock(*now),
             Step::Retain(place, dropped) => assert_eq!(rt; self.retain(rt, *place), *dropped),
         }

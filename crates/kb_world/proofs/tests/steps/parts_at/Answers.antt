@@ -2,7 +2,7 @@ use Rattle.std.proofs.Common.{subst, sym}
 use Rattle.kb_log.specs.ListLog.{list_log}
 use Rattle.kb_world.specs.Parts.{IsSound}
 use Rattle.kb_world.proofs.Lifted.{clocked}
-use Rattle.kb_world.proofs.tests.tenant_at.Goals as goal
+use Rattle.kb_world.proofs.tests.steps.parts_at.Goals as goal
 
 pub returns : goal.returns
 returns c = λ table next.

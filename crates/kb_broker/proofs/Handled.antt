@@ -1,6 +1,6 @@
 -- What the broker's steps leave of it.
 use Rattle.std.proofs.Common.{◌≡◌, ◌≢◌, ◌++◌, ◌+◌, ◌<◌, ℕ, List, [], ◌∷◌, length, get_or, set, eqb, Some, None, Result, Ok, Err, OnOk, OnErr, Bool, true, false, suc, inl, inr, refl, sym, ◌∙◌, ap, subst, arith}
-use Rattle.std.specs.Prelude.{max, ◌^◌, ◌≤◌, not, cond, nat_lt, Option}
+use Rattle.std.specs.Prelude.{max, ◌^◌, ◌≤◌, ◌⊎◌, None, not, cond, nat_lt, Option}
 use Rattle.std.specs.List.{position, position_or_len}
 use Rattle.std.proofs.lemmas.List.Quantifiers.{position-Some}
 use Rattle.std.specs.Result.{is_err}
@@ -10,12 +10,12 @@ use Rattle.std.proofs.lemmas.List.{get_or_default, length-map}
 use Rattle.kb_tenant.specs.Hosted.{TenantState, IsTurn, AreRetained}
 use Rattle.kb_machine.specs.Session.{Stage, Greets, BoundTo, Session, fresh, shut_down, without_wait, is_free, fed, room, can}
 use Rattle.kb_machine.specs.Machine.{Comes, Moment, Line, first_able, work}
-use Rattle.kb_machine.specs.Owners.{find_line, whose}
+use Rattle.kb_machine.specs.Owners.{find_line}
 use Rattle.kb_machine.specs.Broker.{BrokerState, AreUnready, AnyWait, IsReady, IsSound, IsStep, IsUntaken, is_deaf}
 use Rattle.kb_machine.specs.declared.whom.Whom.{Whom}
 use Rattle.kb_machine.specs.Turned.{Scope, Of, Everybody, IsStill, AreStill, IsGoing, is_resting, IsFed, SameOthers, Turned, Served, Waked, IsPassedOver}
 use Rattle.kb_machine.proofs.Quiet.{quiet-turn}
-use Rattle.kb_machine.proofs.Sets.{IsAt, all-at, all-map, all-set, all-still, find-set_other, work-set, first-still, still-none}
+use Rattle.kb_machine.proofs.Sets.{IsAt, all-map, all-still, find-set_other, work-set, first-still, still-none}
 use Rattle.kb_machine.proofs.Parts.{count, turn-then, calm-right, eqb_same}
 use Rattle.kb_machine.proofs.Owned.{found as found-all}
 use Rattle.kb_machine.proofs.Steps.{begun, sound-begun, all-unready, due-unready, step-moment}
@@ -23,7 +23,10 @@ use Rattle.kb_machine.proofs.Wakes.{turned-quiet}
 use Rattle.kb_machine.proofs.Turns.{going-then, turned-same, untouched-then, turned-greeting, called-going, greeting-going, refused-going, served-bound, refused-greeting}
 use Rattle.kb_machine.proofs.Feeds.{still-settled, fed-kept, fed-refused, fed-bound, step-comes, step-nothing, step-shut}
 use Rattle.kb_connection.specs.View.{with_session}
-use Rattle.kb_broker.specs.Places.{numbers, number_at, waits_in, WaitsUntil, AreWaiting, Leaves, IsSpent, IsTakenAt, IsTurnAt, AreIdle, IsNext, IsScoped, IsCountedAt, IsCountedFor, IsServedAt, IsServedFor, IsQuietAt}
+use Rattle.kb_broker.specs.Places.{numbers, number_at, waits_in, Leaves, IsSpent, IsTakenAt, IsTurnAt, AreIdle, IsNext, IsScoped, IsCountedAt, IsCountedFor, IsServedAt, IsQuietAt}
+use Rattle.kb_broker.specs.Parked.{deadline_at, IsServedFor, IsWhose, IsAllOf}
+use Rattle.kb_broker.specs.declared.serving.Concerned.{Concerned}
+use Rattle.kb_broker.specs.declared.serving.Concerned.TheVariants as concerned
 use Rattle.kb_broker.proofs.Placed.{IsFound, at-read, get-at, find-found, number_at-is}
 
 -- 1. A connection at a place changes
@@ -130,9 +133,19 @@ pub served-quiet : (H : Type 0) → H → (scope : Scope) (b : BrokerState) (i :
 served-quiet H honest scope b i l m us still unready k is quiet = quiet-at H honest scope b i l m us l.session.stage unready k refl k.turn (served-taken H honest scope b i l m us l.session.stage still k refl k.turn is) quiet
 
 -- whose waiting fetches are then looked at
-pub served-for : (st : Stage) (scope : Scope) (b c : BrokerState) → IsServedAt st scope b c → IsServedFor (whose st) scope b c
-served-for (Greets h) scope b c s = s
-served-for (BoundTo t w) scope b c s = s
+pub served-for : (c : Concerned) (st : Stage) (scope : Scope) (b d : BrokerState) → (c ≡ concerned.Nobody → ⊥) → IsWhose c st → IsServedAt st scope b d → IsServedFor c scope b d
+served-for concerned.Nobody st scope b d some who s = absurd (some refl)
+served-for (concerned.These t ns) (Greets h) scope b d some who s = absurd (cc)
+served-for (concerned.These t ns) (BoundTo u w) scope b d some who s = let is : u ≡ t = cc in subst (λ v. Served v scope b d) is s
+served-for (concerned.All t) (Greets h) scope b d some who s = absurd (cc)
+served-for (concerned.All t) (BoundTo u w) scope b d some who s = let is : u ≡ t = cc in subst (λ v. Served v scope b d) is s
+
+pub refused-for : (c : Concerned) (st : Stage) (scope : Scope) (b d : BrokerState) → IsAllOf c st → IsServedAt st scope b d → IsServedFor c scope b d
+refused-for concerned.Nobody (Greets h) scope b d all s = s
+refused-for concerned.Nobody (BoundTo u w) scope b d all s = absurd (cc)
+refused-for (concerned.These t ns) st scope b d all s = absurd all
+refused-for (concerned.All t) (Greets h) scope b d all s = absurd (cc)
+refused-for (concerned.All t) (BoundTo u w) scope b d all s = let is : u ≡ t = cc in subst (λ v. Served v scope b d) is s
 
 -- no other connection has changed
 pub others-put : (b : BrokerState) (i : ℕ) (l m : Line) (ls : List Line) → IsAt b.lines i l → m.number ≡ l.number → ls ≡ set b.lines i m → (k : ℕ) → k ≢ number_at i b → find_line k ls ≡ find_line k b.lines
@@ -176,23 +189,18 @@ fed-shut b c i l m piece sound settled h =
     subst (λ n. IsFed n piece b c) (sym (number_at-is b i l h.at)) (fed-counted b c i l m piece l.session.stage sound settled h.at refl (ap (λ (x : Line). x.number) h.is) (ap (λ (x : Line). x.session) h.is) h.counted)
 
 -- a piece leaves a wait as it is, or ends it
-until-fed : (due : Option ℕ) (piece : List ℕ) (s : Session) → WaitsUntil due s.stage → WaitsUntil due (fed piece s).stage
+pub fed-stage : (piece : List ℕ) (s : Session) → ((fed piece s).stage ≡ s.stage) ⊎ (deadline_at (fed piece s).stage ≡ None)
 unfolding fed
-until-fed due piece s until = by s.shut (nat_lt (room s) (length piece))
+fed-stage piece s = by s.shut (nat_lt (room s) (length piece))
   where
-    ended : (st : Stage) → WaitsUntil due (without_wait st)
-    ended (Greets h) = tt
-    ended (BoundTo t w) = tt
+    ended : (st : Stage) → deadline_at (without_wait st) ≡ None
+    ended (Greets h) = refl
+    ended (BoundTo t w) = refl
 
-    by : (a b : Bool) → WaitsUntil due (let x : Session = cond a s (cond b (shut_down s) (record s { unread = s.unread ++ piece })) in x).stage
-    by true b = until
-    by false true = ended s.stage
-    by false false = until
-
-pub waiting-fed : (due : Option ℕ) (ls : List Line) (i : ℕ) (l m : Line) (piece : List ℕ) → IsAt ls i l → AreWaiting due ls → m ≡ with_session l (fed piece l.session) → AreWaiting due (set ls i m)
-waiting-fed due ls i l m piece at all is =
-    let until = until-fed due piece l.session (all-at (λ (k : Line). WaitsUntil due k.session.stage) ls i l at all) in
-    all-set (λ (k : Line). WaitsUntil due k.session.stage) ls i m all (subst (λ (k : Line). WaitsUntil due k.session.stage) (sym is) until)
+    by : (a b : Bool) → let x : Session = cond a s (cond b (shut_down s) (record s { unread = s.unread ++ piece })) in (x.stage ≡ s.stage) ⊎ (deadline_at x.stage ≡ None)
+    by true b = inl refl
+    by false true = inr (ended s.stage)
+    by false false = inl refl
 
 -- the connection is at its place among the broker's own
 pub at-inside : (a b : BrokerState) (i : ℕ) (l : Line) → a ≡ b → IsAt b.lines i l → IsAt a.lines i l

@@ -2,6 +2,10 @@ pub mod Honest
 pub mod Placed
 pub mod Handled
 pub mod Looked
+pub mod Parked
+pub mod Fields
+pub mod Going
+pub mod Served
 pub mod Happened
 pub mod OpeningParts
 pub mod RunDrain

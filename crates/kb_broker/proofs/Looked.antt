@@ -1,5 +1,5 @@
 -- Waiting fetches that are looked at again, one after another.
-use Rattle.std.proofs.Common.{◌≡◌, ◌≤◌, ◌+◌, ℕ, zero, suc, List, [], ◌∷◌, length, take, set, true, false, Option, Some, None, refl, sym, ◌∙◌, ap, subst, arith, inl, inr}
+use Rattle.std.proofs.Common.{◌≡◌, ◌≤◌, ℕ, zero, suc, List, [], ◌∷◌, length, take, set, true, false, Some, None, refl, sym, ◌∙◌, ap, subst, arith, inl, inr}
 use Rattle.std.specs.List.{AllByRecursion}
 use Rattle.std.proofs.lemmas.List.{set-get_or, take_all}
 use Rattle.kb_tenant.specs.Hosted.{TenantState}
@@ -11,40 +11,13 @@ use Rattle.kb_machine.specs.declared.whom.Whom.TheVariants as whoms
 use Rattle.kb_machine.specs.Turned.{Concerns, IsGoing, Waked, IsLookedFor, IsPassedOver}
 use Rattle.kb_machine.proofs.Sets.{IsAt, all-at, all-set, all-map, tail-at, no-at, work-set}
 use Rattle.kb_machine.proofs.Wakes.{waked-same, waked-then, waked-line}
-use Rattle.kb_broker.specs.Places.{numbers, sooner, WaitsUntil, AreWaiting, IsPassed, ArePassed, IsPassedBy, IsLookedAt, AreWaked, IsOneMore}
-use Rattle.std.proofs.lemmas.Bool.Decides.{nat_tests}
+use Rattle.kb_broker.specs.Places.{numbers, IsPassed, ArePassed, IsPassedBy, IsLookedAt, AreWaked, IsOneMore}
 use Rattle.kb_machine.proofs.Turns.{unready-same, weaken, called-going}
 use Rattle.kb_machine.proofs.Parts.{eqb_same}
 use Rattle.kb_machine.specs.Tenant.{Wait}
-use Rattle.kb_broker.proofs.Handled.{put_with, length-numbers}
+use Rattle.kb_broker.proofs.Handled.{put_with, length-numbers, others-put}
 
--- 1. Until when connections wait
-
-until-sooner : (x y : Option ℕ) (st : Stage) → WaitsUntil x st → WaitsUntil (sooner x y) st
-until-sooner x y (Greets h) u = tt
-until-sooner x y (BoundTo t None) u = tt
-until-sooner None y (BoundTo t (Some w)) u = absurd u
-until-sooner (Some x) None (BoundTo t (Some w)) u = u
-until-sooner (Some x) (Some y) (BoundTo t (Some w)) u = grind (arith, nat_tests, u)
-
-pub until-other : (x y : Option ℕ) (st : Stage) → WaitsUntil y st → WaitsUntil (sooner x y) st
-until-other x y (Greets h) u = tt
-until-other x y (BoundTo t None) u = tt
-until-other x None (BoundTo t (Some w)) u = absurd u
-until-other None (Some y) (BoundTo t (Some w)) u = u
-until-other (Some x) (Some y) (BoundTo t (Some w)) u = grind (arith, nat_tests, u)
-
-pub waiting-sooner : (x y : Option ℕ) (ls : List Line) → AreWaiting x ls → AreWaiting (sooner x y) ls
-waiting-sooner x y ls h = all-map (λ (l : Line). WaitsUntil x l.session.stage) (λ (l : Line). WaitsUntil (sooner x y) l.session.stage) (λ l. until-sooner x y l.session.stage) ls h
-
-pub waiting-after : (due : Option ℕ) (ls : List Line) (i : ℕ) (l m : Line) → IsAt ls i l → AreWaiting due ls → (WaitsUntil due l.session.stage → WaitsUntil due m.session.stage) → AreWaiting due (set ls i m)
-waiting-after due ls i l m at all until = all-set (λ (k : Line). WaitsUntil due k.session.stage) ls i m all (until (all-at (λ (k : Line). WaitsUntil due k.session.stage) ls i l at all))
-
--- the connection at a place has taken a turn
-pub waiting-served : (x y : Option ℕ) (ls : List Line) (i : ℕ) (m : Line) → AreWaiting x ls → WaitsUntil y m.session.stage → AreWaiting (sooner x y) (set ls i m)
-waiting-served x y ls i m all until = all-set (λ (k : Line). WaitsUntil (sooner x y) k.session.stage) ls i m (waiting-sooner x y ls all) (until-other x y m.session.stage until)
-
--- 2. One look
+-- 1. One look
 
 -- whose waits are looked for is concerned
 concerned : (whom : Whom) (clock t : ℕ) (w : Wait) → IsLookedFor whom clock t w → Concerns whom t
@@ -87,7 +60,7 @@ looked-unread H whom clock old new l m (BoundTo t None) p = let e = ap (λ (x : 
 looked-unread H whom clock old new l m (BoundTo t (Some w)) (inl p) = let e = ap (λ (x : Line). length x.session.unread) p.1.1 in omega (arith, e)
 looked-unread H whom clock old new l m (BoundTo t (Some w)) (inr p) = p.1.unread
 
--- 3. One after another
+-- 2. One after another
 
 take-set : (P : Line → Type 0) (ls : List Line) (i : ℕ) (l m : Line) → IsAt ls i l → AllByRecursion P (take i ls) → P m → AllByRecursion P (take (suc i) (set ls i m))
 take-set P [] i l m at h p = no-at i l at
@@ -105,16 +78,20 @@ looked-going H whom b i l m us (BoundTo t None) s at e p = (passed-waked whom b 
 looked-going H whom b i l m us (BoundTo t (Some w)) s at e (inl p) = (passed-waked whom b i l m us s at p.1).going
 looked-going H whom b i l m us (BoundTo t (Some w)) s at e (inr p) = let k = p.1 in called-going b i t l m H us s at (record { wait = Some w; is = e }) k.number k.stage k.turn
 
-pub one-more : (H : Type 0) (whom : Whom) (b : BrokerState) (i : ℕ) (until : Option ℕ) (l m : Line) (us : List TenantState) → IsSound b → IsAt b.lines i l → IsLookedAt H whom b.clock l.session.stage b.tenants us l m → WaitsUntil until m.session.stage → IsOneMore i until b (put_with b i m us)
-one-more H whom b i until l m us s at is waits =
+pub looked-number : (H : Type 0) (whom : Whom) (clock : ℕ) (old new : List TenantState) (l m : Line) (st : Stage) → IsLookedAt H whom clock st old new l m → m.number ≡ l.number
+looked-number H whom clock old new l m (Greets h) p = ap (λ (x : Line). x.number) p.1
+looked-number H whom clock old new l m (BoundTo t None) p = ap (λ (x : Line). x.number) p.1
+looked-number H whom clock old new l m (BoundTo t (Some w)) (inl p) = ap (λ (x : Line). x.number) p.1.1
+looked-number H whom clock old new l m (BoundTo t (Some w)) (inr p) = p.1.number
+
+pub one-more : (H : Type 0) (whom : Whom) (b : BrokerState) (i : ℕ) (l m : Line) (us : List TenantState) → IsSound b → IsAt b.lines i l → IsLookedAt H whom b.clock l.session.stage b.tenants us l m → IsOneMore i b (put_with b i m us)
+one-more H whom b i l m us s at is =
     let less = looked-unread H whom b.clock b.tenants us l m l.session.stage is in
     let sizes = work-set b.lines i l m at in
-    let one : suc i ≡ i + 1 = omega arith in
     record {
       going = looked-going H whom b i l m us l.session.stage s at refl is;
       work = omega (arith, less, sizes);
-      waits = λ due all. subst (λ n. AreWaiting (sooner due until) (take n (set b.lines i m))) one
-          (take-set (λ (k : Line). WaitsUntil (sooner due until) k.session.stage) b.lines i l m at (waiting-sooner due until (take i b.lines) all) (until-other due until m.session.stage waits));
+      others = others-put b i l m (set b.lines i m) at (looked-number H whom b.clock b.tenants us l m l.session.stage is) refl;
     }
 
 pub waked-more : (H : Type 0) → H → (whom : Whom) (a b : BrokerState) (i : ℕ) (l m : Line) (us : List TenantState) → AreWaked whom a b i → IsAt b.lines i l → IsLookedAt H whom b.clock l.session.stage b.tenants us l m → AreWaked whom a (put_with b i m us) (suc i)

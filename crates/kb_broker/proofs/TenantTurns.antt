@@ -1,5 +1,5 @@
 -- What a tenant's call is to the connection that it is for.
-use Rattle.std.proofs.Common.{◌≡◌, ◌≤◌, [], false, Some, inr, ℕ, ℤ, List, length, Bool, true, Result, Ok, Err, OnOk, OnErr, refl, sym, ap, subst, ◌∙◌, arith}
+use Rattle.std.proofs.Common.{◌≡◌, ◌≤◌, false, Some, inr, ℕ, ℤ, List, length, Bool, true, Result, Ok, Err, OnOk, OnErr, refl, sym, ap, subst, ◌∙◌, arith}
 use Rattle.kb_world.specs.Parts.{END}
 use Rattle.kb_world.specs.Steps.{IsCalm}
 use Rattle.kb_world.specs.declared.place.Place.{Place}
@@ -9,7 +9,7 @@ use Rattle.kb_tenant.specs.Serve.{IsOutcome, served, looked}
 use Rattle.kb_tenant.specs.declared.answer.Answer.{Answer}
 use Rattle.kb_tenant.specs.declared.answer.Answer.TheVariants as answers
 use Rattle.kb_tenant.specs.declared.node.Node.{Node}
-use Rattle.kb_machine.specs.Tenant.{Wait, answer, ready, kept_after}
+use Rattle.kb_machine.specs.Tenant.{Wait, answer, asked, ready, kept_after}
 use Rattle.kb_machine.specs.Session.{Greets, BoundTo, Session, can, shut_down, without_wait}
 use Rattle.kb_machine.specs.Greeting.{Setup, greeted}
 use Rattle.kb_machine.specs.Machine.{Line, answered, told, woken, woken_by, served as served_by_turn, put}
@@ -18,16 +18,19 @@ use Rattle.kb_machine.proofs.Owners.{stage-served, stage-shut}
 use Rattle.kb_connection.specs.Fronts.{IsAsked}
 use Rattle.kb_connection.specs.View.{with_session, without_front}
 use Rattle.kb_log.specs.ListLog.{list_log}
-use Rattle.kb_tenants.proofs.Tied.{kept_tied}
-use Rattle.kb_machine.proofs.Quiet.{quiet-ready}
+use Rattle.kb_tenants.proofs.Tied.{kept_names, kept_tied}
+use Rattle.kb_tenants.specs.Tenants.{is_honest}
+use Rattle.kb_machine.proofs.Quiet.{apart-ready, asked-again}
+use Rattle.kb_tenant.specs.Waiting.{AreApart}
+use Rattle.kb_broker.specs.Parked.{IsTouched, IsAskedOn}
 use Rattle.kb_store.specs.Disk.{Disk}
 use Rattle.kb_log.specs.declared.list.ListLog.{ListLog}
 use Rattle.kb_tenants.specs.declared.tenants.Tenants.{Tenants}
 use Rattle.kb_broker.specs.Hosts.{AreHosted, tenants_in}
-use Rattle.kb_broker.specs.Places.{IsQuiet, IsSpent, IsLookedAt}
+use Rattle.kb_broker.specs.Places.{IsSpent, IsLookedAt}
 use Rattle.kb_broker.proofs.Handled.{from_ok, turn-sure}
 use Rattle.std.proofs.Common.{eqb}
-use Rattle.std.specs.Prelude.{nat_lt, ◌&&◌, ◌∷◌, not}
+use Rattle.std.specs.Prelude.{nat_lt, ◌<◌, ◌&&◌}
 use Rattle.std.specs.Result.{is_err}
 use Rattle.kb_machine.specs.declared.whom.Whom.{Whom}
 use Rattle.kb_machine.specs.Turned.{IsLookedFor}
@@ -54,23 +57,28 @@ asked-now setup clock k m l new key id body r asked kept told ok =
     (ap (λ (x : Line). x.session) is ∙ sym (asked.served setup k clock), kept ∙ sym (asked.put setup k clock))
 
 -- the code's word for it
-pub calm-of : (x y before after : ℕ) (calm : Bool) → before ≡ x → after ≡ y → after ≡ before → calm ≡ nat_lt before END → calm ≡ true → IsCalm x y
-calm-of x y before after calm p q same is up = record { same = sym q ∙ (same ∙ p); below = (let lt : nat_lt before END ≡ true = sym is ∙ up in grind (arith, nat_tests, lt, p)) }
+pub calm-of : (x y before after : ℕ) → before ≡ x → after ≡ y → after ≡ before → before < END → IsCalm x y
+calm-of x y before after p q same up = record { same = sym q ∙ (same ∙ p); below = subst (λ n. n < END) p up }
 
-pub same-by : (before after : ℕ) (calm : Bool) → calm ≡ eqb after before → calm ≡ true → after ≡ before
-same-by before after calm is up = let same : eqb after before ≡ true = sym is ∙ up in grind (arith, nat_tests, same)
-
-pub none-by : {A : Type 0} (xs : List A) (result empty : Bool) → result ≡ not empty → empty ≡ eqb (length xs) 0 → result ≡ false → xs ≡ []
-none-by [] result empty e is down = refl
-none-by (x ∷ xs) result empty e is down = absurd (grind (arith, nat_tests, e, is, down))
-
--- where nothing was refused and no partition was touched, no waiting fetch became ready
-pub quiet-now : {S : Type 0} (disk : S → Disk) (H : Type 0) → H → (node : Node) (hosts : Tenants ListLog S) (us : List TenantState) (clock t : ℕ) (id key : ℤ) (body : List ℕ) (touched : List Place) (r : Answer) → AreHosted disk hosts
+-- where nothing was refused, only a fetch that asks a touched partition may have become ready
+pub touched-now : {S : Type 0} (disk : S → Disk) (H : Type 0) → H → (node : Node) (hosts : Tenants ListLog S) (us : List TenantState) (clock t : ℕ) (id key : ℤ) (body : List ℕ) (touched : List Place) (r : Answer) → AreHosted disk hosts
     → IsMet t H (tenants_in disk hosts) us (λ k l. IsOutcome id (served node (world_at k clock) key body) (world_at l clock) touched r)
-    → IsCalm (refusals_of (tenants_in disk hosts) t) (refusals_of us t) → touched ≡ [] → IsQuiet t clock (tenants_in disk hosts) us
-quiet-now disk H honest node hosts us clock t id key body touched r kept meets calm none =
+    → IsCalm (refusals_of (tenants_in disk hosts) t) (refusals_of us t) → IsTouched t clock (tenants_in disk hosts) us touched
+touched-now disk H honest node hosts us clock t id key body touched r kept meets calm =
     let h = meets honest calm in
-    record { calm = calm; ready = λ w. quiet-ready node (kept_of (tenants_in disk hosts) t) (kept_of us t) clock key body w (kept_tied list_log disk hosts kept t clock) h.0 (sym h.1 ∙ none) }
+    record { calm = calm; ready = λ w apart. apart-ready node (kept_of (tenants_in disk hosts) t) (kept_of us t) clock key body w (kept_tied list_log disk hosts kept t clock) h.0 (subst (AreApart (asked (kept_of (tenants_in disk hosts) t) w)) h.1 apart) }
+
+-- where nothing was ever refused to the tenant, a fetch that still waits asks for the same
+pub asked-on : {S : Type 0} (disk : S → Disk) (H : Type 0) → H → (hosts : Tenants ListLog S) → is_honest disk hosts → (node : Node) (us : List TenantState) (clock t : ℕ) (id key : ℤ) (body : List ℕ) (touched : List Place) (r : Answer) → AreHosted disk hosts
+    → IsTurn t H (tenants_in disk hosts) us
+    → IsMet t H (tenants_in disk hosts) us (λ k l. IsOutcome id (served node (world_at k clock) key body) (world_at l clock) touched r)
+    → IsAskedOn t (tenants_in disk hosts) us
+asked-on disk H honest hosts before-honest node us clock t id key body touched r kept turn meets calm =
+    let ts = tenants_in disk hosts in
+    let up = turn.grows t in
+    let before : refusals_of ts t ≡ 0 = omega (arith, calm, up) in
+    let h = meets honest (record { same = calm ∙ sym before; below = grind (arith, nat_tests, before) }) in
+    λ w old new. asked-again node (kept_of ts t) (kept_of us t) clock key body w (kept_tied list_log disk hosts kept t clock) (kept_names list_log disk hosts kept before-honest t clock) h.0 old new
 
 -- 2. What a turn leaves of a connection in any case
 

@@ -1,5 +1,6 @@
 pub mod Hosts
 pub mod Opening
+pub mod Parked
 pub mod Places
 pub mod Runs
 pub mod Script

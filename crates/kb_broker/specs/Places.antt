@@ -1,5 +1,5 @@
 -- A connection's place in the broker, its turns there, and the count of a refusal.
-use Rattle.std.specs.Prelude.{◌≡◌, ◌≢◌, ℕ, ◌<◌, ◌≤◌, ◌+◌, List, length, take, map, get_or, Option, Some, None, Bool, false, not, min, ◌⊎◌, ⊤}
+use Rattle.std.specs.Prelude.{◌≡◌, ◌≢◌, ℕ, ◌<◌, ◌≤◌, List, length, take, map, get_or, Option, Some, None, Bool, false, not, ◌⊎◌, ⊤}
 use Rattle.std.specs.List.{AllByRecursion}
 use Rattle.kb_world.specs.Steps.{IsCalm}
 use Rattle.kb_tenant.specs.Hosted as hosted
@@ -13,7 +13,7 @@ use Rattle.kb_machine.specs.Broker.{BrokerState, IsSound, IsUnready, AreUnready,
 use Rattle.kb_machine.specs.Calls.{IsRefused}
 use Rattle.kb_machine.specs.declared.whom.Whom.{Whom}
 use Rattle.kb_machine.specs.declared.whom.Whom.TheVariants as whoms
-use Rattle.kb_machine.specs.Turned.{Scope, AreStill, IsGoing, Turned, Served, Waked, IsLookedFor, IsPassedOver}
+use Rattle.kb_machine.specs.Turned.{Scope, AreStill, IsGoing, SameOthers, Turned, Served, Waked, IsLookedFor, IsPassedOver}
 
 -- the numbers of the open connections, in order
 abbrev pub numbers : BrokerState → List ℕ
@@ -27,23 +27,6 @@ number_at i b = get_or (numbers b) i 0
 abbrev pub waits_in : Option Session → Bool
 waits_in None = false
 waits_in (Some s) = not (is_free s.stage)
-
--- a connection at that stage waits for nothing, or at least until then
-abbrev pub WaitsUntil : Option ℕ → Stage → Type 0
-WaitsUntil due (Greets handshaken) = ⊤
-WaitsUntil due (BoundTo tenant None) = ⊤
-WaitsUntil None (BoundTo tenant (Some wait)) = ⊥
-WaitsUntil (Some due) (BoundTo tenant (Some wait)) = due ≤ wait.deadline
-
--- each of these connections that waits does so at least until then; where there is no such moment none waits
-abbrev pub AreWaiting : Option ℕ → List Line → Type 0
-AreWaiting due lines = AllByRecursion (λ (l : Line). WaitsUntil due l.session.stage) lines
-
--- the sooner of two moments, where there are any
-abbrev pub sooner : Option ℕ → Option ℕ → Option ℕ
-sooner (Some x) (Some y) = Some (min x y)
-sooner (Some x) None = Some x
-sooner None due = due
 
 -- a connection at that stage waits for nothing that is looked for
 abbrev pub IsPassed : Whom → ℕ → Stage → Type 0
@@ -82,11 +65,6 @@ abbrev pub IsTakenAt : Type 0 → Setup → ℕ → Stage → List TenantState �
 IsTakenAt honest setup clock (Greets handshaken) old new s r = r ≡ greeted setup handshaken s
 IsTakenAt honest setup clock (BoundTo tenant wait) old new s r = IsMet tenant honest old new (λ k l. (r ≡ served setup k clock s) × (l ≡ put setup k clock s.unread))
 
--- nothing was refused to a tenant, and each of its fetches that was not ready is not ready
-pub record IsQuiet (t clock : ℕ) (old new : List TenantState) : Type 0 where
-  pub calm : IsCalm (hosted.refusals_of old t) (hosted.refusals_of new t)
-  pub ready : (w : Wait) → ready (hosted.kept_of old t) clock w ≡ Silent → ready (hosted.kept_of new t) clock w ≡ Silent
-
 -- the turn of a connection bound to that tenant, of whose session s it leaves r, was not refused, and makes no waiting fetch ready
 pub record IsQuietTurn (setup : Setup) (t clock : ℕ) (old new : List TenantState) (s r : Session) : Type 0 where
   pub session : r ≡ served setup (hosted.kept_of old t) clock s
@@ -114,11 +92,6 @@ pub record IsCountedFor (t : ℕ) (old new : BrokerState) : Type 0 where
 abbrev pub IsCountedAt : Stage → BrokerState → BrokerState → Type 0
 IsCountedAt (Greets handshaken) old new = IsRefused old new
 IsCountedAt (BoundTo tenant wait) old new = IsCountedFor tenant old new
-
--- a turn after which nobody's waiting fetches have to be looked at again, or before those of a tenant are
-abbrev pub IsServedFor : Option ℕ → Scope → BrokerState → BrokerState → Type 0
-IsServedFor None scope old new = Turned scope old new
-IsServedFor (Some tenant) scope old new = Served tenant scope old new
 
 -- the turn of a connection at that stage, before its tenant's waiting fetches are looked at again
 abbrev pub IsServedAt : Stage → Scope → BrokerState → BrokerState → Type 0
@@ -152,8 +125,8 @@ pub record AreWaked (whom : Whom) (old new : BrokerState) (i : ℕ) : Type 0 whe
   pub rest : AreUnready (IsPassedOver whom old.clock) old → AllByRecursion (λ (l : Line). IsUnready AnyWait new l.session.stage) (take i new.lines)
   pub over : AreUnready (IsPassedOver whom old.clock) old → AreUnready (IsPassedOver whom old.clock) new
 
--- what one look more leaves of the broker whatever the store says, where the connections before a place wait at least until then
-pub record IsOneMore (i : ℕ) (until : Option ℕ) (old new : BrokerState) : Type 0 where
+-- what one look more leaves of the broker whatever the store says
+pub record IsOneMore (i : ℕ) (old new : BrokerState) : Type 0 where
   pub going : IsGoing old new
   pub work : work new.lines ≤ work old.lines
-  pub waits : (due : Option ℕ) → AreWaiting due (take i old.lines) → AreWaiting (sooner due until) (take (i + 1) new.lines)
+  pub others : SameOthers (number_at i old) old new

@@ -12,6 +12,7 @@ mod broker;
 mod count;
 mod engine;
 mod opening;
+mod parking;
 mod run;
 mod script;
 mod serving;

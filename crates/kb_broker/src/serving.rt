@@ -1,98 +1,216 @@
 //! The turn of one connection, beside the tenants.
 
-ghost use Rattle.std.specs.Prelude.{◌≡◌, ◌<◌, ℕ, Option, length, OnOk, OnErr, Ok, true, false};
+ghost use Rattle.std.specs.Prelude.{◌≡◌, ◌≢◌, ◌<◌, ◌⊎◌, ℕ, ℤ, List, Option, length, Contains, IsSomeAnd, OnOk, OnErr, IfOk, IfSome, Ok, None, true, false};
+ghost use Rattle.std.specs.FinMap as fin;
+ghost use Rattle.kb_api_group.specs.Frames.{front};
+ghost use Rattle.kb_waits.specs.Queue.{IsUnder};
 ghost use Rattle.kb_tenant.specs.Hosted.{IsTurn, IsMet};
-ghost use Rattle.kb_machine.specs.Session.{shut_down, can};
-ghost use Rattle.kb_machine.specs.Machine.{served, put};
+ghost use Rattle.kb_tenant.specs.Replies.{Reaction, IsAnswer};
+ghost use Rattle.kb_machine.specs.Session.{BoundTo, shut_down, can};
+ghost use Rattle.kb_machine.specs.Machine.{answered, served, put};
 ghost use Rattle.kb_machine.specs.Broker.{InRange};
-ghost use Rattle.kb_tenant.specs.Replies.{IsAnswer};
 ghost use Rattle.kb_machine.specs.Tenant.{answer, kept_after};
 ghost use Rattle.kb_machine.specs.Turned.{is_looked_for};
 ghost use Rattle.kb_tenants.specs.Tenants.{is_honest};
-ghost use Rattle.kb_connection.specs.View.{wait_of, with_session};
+ghost use Rattle.kb_connection.specs.Fronts.{is_tenants_at, IsAsked};
+ghost use Rattle.kb_connection.specs.View.{wait_of, with_session, without_front};
 ghost use Rattle.kb_broker.specs.Hosts.{tenants_in, AreHosted, IsLater};
-ghost use Rattle.kb_broker.specs.Places.{IsQuiet, IsQuietAt, IsQuietTurn, IsSpent, IsTakenAt, IsTurnAt, IsLookedAt, WaitsUntil, sooner};
+ghost use Rattle.kb_broker.specs.Places.{IsSpent, IsTakenAt, IsTurnAt, IsLookedAt};
+ghost use Rattle.kb_broker.specs.Parked.{key_of, parked_for, until_of, deadline_at, IsKeyedAt, IsAskedOn, IsAskedOnAt, IsTouched, IsTouchedTurn, IsConcern, IsLeftBy, IsOwnTo, IsWhose};
 
+use crate::parking::Parking;
 use kb_connection::{Connection, Phase, Setup, Waiting};
 use kb_log::ListLog;
 use kb_machine::Whom;
 use kb_store::Store;
 use kb_tenant::{Answer, Request, Served};
 use kb_tenants::Tenants;
+use kb_world::Place;
 use std::alloc::{AllocError, Global};
 
-/// Serves what stands in front of a connection that can take a turn, and answers whether fetches that wait may be ready after it.
-/// Where memory is refused the connection is shut.
+/// Whose waiting fetches may be ready after a turn, and are to be looked at again.
+#[derive(Drop)]
+pub enum Concerned {
+    /// Nobody's: no other connection has changed.
+    Nobody,
+    /// Of a tenant those of these connections. The one that took the turn stands among them.
+    These(usize, Vec<u64>),
+    /// All of a tenant.
+    All(usize),
+}
+
+/// Serves what stands in front of a connection that can take a turn, and answers whose waiting fetches may be ready after it. If it
+/// waits then, it is parked. Where memory is refused the connection is shut.
 ///
 /// The tenants change as by a call for the connection's tenant, or not where it still greets.
 pub fn take_turn<S: Store>(
     alloc: Global,
     setup: &Setup,
     tenants: &mut Tenants<ListLog, S>,
+    parking: &mut Parking,
     clock: u64,
     connection: &mut Connection,
-) -> Result<bool, AllocError>
+) -> Result<Concerned, AllocError>
     requires hosted { AreHosted S.disk tenants.old }
     requires tenant { InRange (length (tenants_in S.disk tenants.old)) connection.old.session.stage }
     requires able { can connection.old.session ≡ true }
+    requires free { fin.get parking.old connection.old.number ≡ None }
     ensures hosted { AreHosted S.disk tenants.new }
     ensures later { IsLater (S.disk tenants.old.shelf.store) (S.disk tenants.new.shelf.store) }
     ensures turn { IsTurnAt (is_honest S.disk tenants.new) connection.old.session.stage (tenants_in S.disk tenants.old) (tenants_in S.disk tenants.new) }
     ensures number { connection.new.number ≡ connection.old.number }
     ensures spent { IsSpent connection.old.session connection.new.session }
+    ensures parked { (k : ℕ) → k ≢ connection.old.number → fin.get parking.new k ≡ fin.get parking.old k }
+    ensures dated { until_of (fin.get parking.new connection.old.number) ≡ deadline_at connection.new.session.stage }
+    ensures keyed { is_honest S.disk tenants.new → IsKeyedAt (tenants_in S.disk tenants.new) connection.new.session.stage (fin.get parking.new connection.old.number) }
+    ensures asked { is_honest S.disk tenants.new → IsAskedOnAt connection.old.session.stage (tenants_in S.disk tenants.old) (tenants_in S.disk tenants.new) }
     ensures ok { OnOk result (IsTakenAt (is_honest S.disk tenants.new) setup.now clock connection.old.session.stage (tenants_in S.disk tenants.old) (tenants_in S.disk tenants.new) connection.old.session connection.new.session) }
-    ensures quiet { result ≡ Ok false → is_honest S.disk tenants.new → IsQuietAt setup.now clock connection.old.session.stage (tenants_in S.disk tenants.old) (tenants_in S.disk tenants.new) connection.old.session connection.new.session }
+    ensures whose { IfOk result (λ c. IsWhose c connection.old.session.stage) }
+    ensures own { IfOk result (λ c. IsOwnTo c connection.old.number) }
+    ensures left { is_honest S.disk tenants.new → IfOk result (λ c. IsLeftBy c setup.now clock connection.old.session.stage connection.old.number parking.old (tenants_in S.disk tenants.old) (tenants_in S.disk tenants.new) connection.old.session connection.new.session) }
     ensures err { OnErr result (connection.new ≡ with_session connection.old (shut_down connection.old.session)) }
 {
     match connection.phase() {
         Phase::Greets(handshaken) => {
             connection.greet(alloc, setup, handshaken)?;
-            Ok(false)
+            Ok(Concerned::Nobody)
         }
-        Phase::Bound(tenant) => serve_bound(alloc, setup, tenants, clock, tenant, connection),
+        Phase::Bound(tenant) => {
+            let touched = serve_bound(alloc, setup, tenants, parking, clock, tenant, connection)?;
+            let number = connection.number();
+            Ok(whom_it_concerns(alloc, tenants, parking, tenant, number, touched))
+        }
     }
 }
 
-/// Serves what stands in front of a connection that is bound to a tenant, and answers whether fetches that wait may be ready after
-/// it.
+/// Whose waiting fetches may be ready after a turn of a tenant that touched these partitions, or to which something was refused.
+///
+/// As long as nothing was ever refused to the tenant the queue has each fetch under what it asks; where the list of those cannot be
+/// kept, all of the tenant are looked at.
+fn whom_it_concerns<S: Store>(
+    alloc: Global,
+    tenants: &Tenants<ListLog, S>,
+    parking: &Parking,
+    tenant: usize,
+    number: u64,
+    touched: Option<Vec<Place>>,
+) -> Concerned
+    requires { tenant < length (tenants_in S.disk tenants.now) }
+    ensures { IsConcern result tenant number (tenants_in S.disk tenants.now) parking.now touched }
+{
+    let Some(places) = touched else {
+        return Concerned::All(tenant);
+    };
+    if places.is_empty() {
+        return Concerned::Nobody;
+    }
+    if tenants.refusals(tenant) > 0 {
+        return Concerned::All(tenant);
+    }
+    match with_touched(alloc, parking, tenant, number, &places) {
+        Ok(numbers) => Concerned::These(tenant, numbers),
+        Err(_) => Concerned::All(tenant),
+    }
+}
+
+/// The connections that wait for one of these partitions of the tenant, and that of the number behind them.
+fn with_touched(
+    alloc: Global,
+    parking: &Parking,
+    tenant: usize,
+    number: u64,
+    places: &[Place],
+) -> Result<Vec<u64>, AllocError>
+    ensures own { IfOk result (λ ns. Contains ns.items number) }
+    ensures under { IfOk result (λ ns. (k : ℕ) (place : Place) → Contains places.now place → IsSomeAnd (fin.get parking.now k) (IsUnder (key_of tenant place)) → Contains ns.items k) }
+{
+    let mut numbers = parking.touched(alloc, tenant, places)?;
+    numbers.push(number)?;
+    Ok(numbers)
+}
+
+/// Serves what stands in front of a connection that is bound to a tenant, and answers which partitions were touched; `None`:
+/// something was refused to the tenant. If it waits then, it is parked.
 fn serve_bound<S: Store>(
     alloc: Global,
     setup: &Setup,
     tenants: &mut Tenants<ListLog, S>,
+    parking: &mut Parking,
     clock: u64,
     tenant: usize,
     connection: &mut Connection,
-) -> Result<bool, AllocError>
+) -> Result<Option<Vec<Place>>, AllocError>
     requires hosted { AreHosted S.disk tenants.old }
     requires tenant { tenant < length (tenants_in S.disk tenants.old) }
+    requires bound { connection.old.session.stage ≡ BoundTo tenant None }
     requires able { can connection.old.session ≡ true }
+    requires free { fin.get parking.old connection.old.number ≡ None }
     ensures hosted { AreHosted S.disk tenants.new }
     ensures later { IsLater (S.disk tenants.old.shelf.store) (S.disk tenants.new.shelf.store) }
     ensures turn { IsTurn tenant (is_honest S.disk tenants.new) (tenants_in S.disk tenants.old) (tenants_in S.disk tenants.new) }
     ensures number { connection.new.number ≡ connection.old.number }
     ensures spent { IsSpent connection.old.session connection.new.session }
+    ensures parked { (k : ℕ) → k ≢ connection.old.number → fin.get parking.new k ≡ fin.get parking.old k }
+    ensures dated { until_of (fin.get parking.new connection.old.number) ≡ deadline_at connection.new.session.stage }
+    ensures keyed { is_honest S.disk tenants.new → IsKeyedAt (tenants_in S.disk tenants.new) connection.new.session.stage (fin.get parking.new connection.old.number) }
+    ensures asked { is_honest S.disk tenants.new → IsAskedOn tenant (tenants_in S.disk tenants.old) (tenants_in S.disk tenants.new) }
     ensures ok { OnOk result (IsMet tenant (is_honest S.disk tenants.new) (tenants_in S.disk tenants.old) (tenants_in S.disk tenants.new)
         (λ k l. (connection.new.session ≡ served setup.now k clock connection.old.session) × (l ≡ put setup.now k clock connection.old.session.unread))) }
-    ensures quiet { result ≡ Ok false → is_honest S.disk tenants.new → IsQuietTurn setup.now tenant clock (tenants_in S.disk tenants.old) (tenants_in S.disk tenants.new) connection.old.session connection.new.session }
+    ensures touched { IfOk result (λ found. IfSome found (λ places. is_honest S.disk tenants.new → IsTouchedTurn setup.now tenant clock (tenants_in S.disk tenants.old) (tenants_in S.disk tenants.new) connection.old.session connection.new.session places.items)) }
     ensures err { OnErr result (connection.new ≡ with_session connection.old (shut_down connection.old.session)) }
 {
-    let (answer, may_wake) = match connection.request(alloc) {
+    let (answer, touched) = match connection.request(alloc) {
         Ok(Some(request)) => ask(alloc, setup, tenants, clock, tenant, &request),
         Ok(None) => {
             connection.serve(alloc, setup)?;
-            return Ok(false);
+            return Ok(Some(Vec::new(alloc)));
         }
         Err(e) => {
             connection.shut_down();
             return Err(e);
         }
     };
-    connection.answer(alloc, answer)?;
-    Ok(may_wake)
+    hand_over(alloc, parking, tenant, connection, answer)?;
+    Ok(touched)
 }
 
-/// A tenant's answer to its request, and whether fetches that wait may be ready after it: where it touched a partition, or
-/// something was refused.
+/// Gives a tenant's answer to the connection that asked, and parks it where it is to wait. Where memory is refused it is shut.
+fn hand_over(
+    alloc: Global,
+    parking: &mut Parking,
+    tenant: usize,
+    connection: &mut Connection,
+    answer: Answer,
+) -> Result<(), AllocError>
+    requires bound { connection.old.session.stage ≡ BoundTo tenant None }
+    requires asks { is_tenants_at (front connection.old.session.unread) ≡ true }
+    requires free { fin.get parking.old connection.old.number ≡ None }
+    ensures number { connection.new.number ≡ connection.old.number }
+    ensures spent { IsSpent connection.old.session connection.new.session }
+    ensures parked { (k : ℕ) → k ≢ connection.old.number → fin.get parking.new k ≡ fin.get parking.old k }
+    ensures ok { (key id : ℤ) (body : List ℕ) (reaction : Reaction) → IsAsked connection.old.session key id body → IsAnswer id reaction answer → OnOk result (connection.new ≡ with_session connection.old (answered reaction id body (without_front connection.old.session))) }
+    ensures dated { (key id : ℤ) (body : List ℕ) → IsAsked connection.old.session key id body → until_of (fin.get parking.new connection.old.number) ≡ deadline_at connection.new.session.stage }
+    ensures keyed { OnOk result (fin.get parking.new connection.old.number ≡ parked_for tenant answer) }
+    ensures err { OnErr result (connection.new ≡ with_session connection.old (shut_down connection.old.session)) }
+{
+    let number = connection.number();
+    if let Answer::Wait { deadline, keys } = &answer {
+        if parking
+            .park(alloc, number, tenant, *deadline, keys)
+            .is_err()
+        {
+            connection.shut_down();
+            return Err(AllocError);
+        }
+    }
+    let given = connection.answer(alloc, answer);
+    if given.is_err() {
+        parking.forget(number);
+    }
+    given
+}
+
+/// A tenant's answer to its request, and which partitions it touched; `None`: something was refused to the tenant.
 fn ask<S: Store>(
     alloc: Global,
     setup: &Setup,
@@ -100,7 +218,7 @@ fn ask<S: Store>(
     clock: u64,
     tenant: usize,
     request: &Request<'_>,
-) -> (Answer, bool)
+) -> (Answer, Option<Vec<Place>>)
     requires hosted { AreHosted S.disk tenants.old }
     requires tenant { tenant < length (tenants_in S.disk tenants.old) }
     ensures hosted { AreHosted S.disk tenants.new }
@@ -109,13 +227,17 @@ fn ask<S: Store>(
     ensures meets { IsMet tenant (is_honest S.disk tenants.new) (tenants_in S.disk tenants.old) (tenants_in S.disk tenants.new)
         (λ k l. (l ≡ kept_after setup.now.node k clock request.now.api_key request.now.body.now)
         × IsAnswer request.now.correlation_id (answer setup.now.node k clock request.now.api_key request.now.body.now) result.0) }
-    ensures quiet { result.1 ≡ false → is_honest S.disk tenants.new → IsQuiet tenant clock (tenants_in S.disk tenants.old) (tenants_in S.disk tenants.new) }
+    ensures asked { is_honest S.disk tenants.new → IsAskedOn tenant (tenants_in S.disk tenants.old) (tenants_in S.disk tenants.new) }
+    ensures touched { IfSome result.1 (λ places. is_honest S.disk tenants.new → IsTouched tenant clock (tenants_in S.disk tenants.old) (tenants_in S.disk tenants.new) places.items) }
 {
     let before = tenants.refusals(tenant);
     let node = setup.node();
     let Served { answer, touched } = tenants.serve(alloc, tenant, clock, &node, request);
-    let calm = tenants.refusals(tenant) == before && before < u64::MAX;
-    (answer, !calm || !touched.is_empty())
+    if tenants.refusals(tenant) == before && before < u64::MAX {
+        (answer, Some(touched))
+    } else {
+        (answer, None)
+    }
 }
 
 /// Looks at a connection again, where it waits for a fetch that is looked for. One that is ready is answered. Where memory is
@@ -132,7 +254,7 @@ pub fn look_again<S: Store>(
     ensures hosted { AreHosted S.disk tenants.new }
     ensures later { IsLater (S.disk tenants.old.shelf.store) (S.disk tenants.new.shelf.store) }
     ensures looked { IsLookedAt (is_honest S.disk tenants.new) whom clock connection.old.session.stage (tenants_in S.disk tenants.old) (tenants_in S.disk tenants.new) connection.old connection.new }
-    ensures until { (due : Option ℕ) → WaitsUntil due connection.old.session.stage → WaitsUntil due connection.new.session.stage }
+    ensures waits { (connection.new.session.stage ≡ connection.old.session.stage) ⊎ (deadline_at connection.new.session.stage ≡ None) }
 {
     let Some((tenant, waiting)) = connection.waiting() else {
         return;
@@ -161,24 +283,5 @@ fn is_looked_for(whom: Whom, clock: u64, tenant: usize, waiting: &Waiting) -> bo
         Whom::Tenant(concerned) => tenant == concerned,
         Whom::Due => waiting.deadline <= clock,
         Whom::All => true,
-    }
-}
-
-/// Until when a connection waits for a fetch, where it does.
-pub fn deadline_of(connection: &Connection) -> Option<u64>
-    ensures { WaitsUntil result connection.now.session.stage }
-{
-    let (_, waiting) = connection.waiting()?;
-    Some(waiting.deadline)
-}
-
-/// The sooner of two times, where there are any.
-pub fn sooner(first: Option<u64>, second: Option<u64>) -> Option<u64>
-    ensures { result ≡ sooner first second }
-{
-    match (first, second) {
-        (Some(one), Some(other)) => Some(one.min(other)),
-        (Some(one), None) => Some(one),
-        (None, other) => other,
     }
 }

@@ -116,7 +116,7 @@ free-greeted_by setup false id (Authenticate message) s free = free-replied id _
 free-greeted_by setup h id (Another key version body) s free = free-without s.stage
 free-greeted_by setup h id Unread s free = free-without s.stage
 
-free-greeted : (setup : Setup) (h : Bool) (s : Session) → is_free s.stage ≡ true → is_free (greeted setup h s).stage ≡ true
+pub free-greeted : (setup : Setup) (h : Bool) (s : Session) → is_free s.stage ≡ true → is_free (greeted setup h s).stage ≡ true
 unfolding greeted
 free-greeted setup h s free = by (front s.unread)
   where

@@ -5,14 +5,15 @@ use std::alloc::{AllocError, Global};
 use std::process::Abort;
 
 /// The words that stand for others, one a line, each with a space and the digits that it gives: `versions` is the table of the
-/// APIs that are served, `t/0` partition 0 of the topic `t`, alone in a request or a reply, `hi` and `yo` the batches of one
-/// record with timestamp 5 and that value, `kept/hi` and `kept/yo` the same as a log keeps them at its start, `second/hi` and
+/// APIs that are served, `t/0` and `u/0` partition 0 of the topics `t` and `u`, alone in a request or a reply, `hi` and `yo` the
+/// batches of one record with timestamp 5 and that value, `kept/hi` and `kept/yo` the same as a log keeps them at its start, `second/hi` and
 /// `third/hi` as it keeps them at the offsets 1 and 2, `abc` a batch of three such records from its magic on, and the others
 /// fronts and parts of batches, requests and replies.
 const MEANINGS: &str = "\
     versions 000000030003000100040004000200010001000300010001000800020002000900010001000a00000000000b00010001000c000\
     00000000d00000000000e00000000001100010001001200000000001300000000001400000000001600000000002400000000\n\
     t/0 000000010001740000000100000000\n\
+    u/0 000000010001750000000100000000\n\
     head 00000000000000000000003affffffff02\n\
     times 00000000000000050000000000000005\n\
     nobody ffffffffffffffffffffffffffff\n\

@@ -1,10 +1,14 @@
-use Rattle.std.proofs.Common.{◌≡◌, IfSome, false, ap, subst}
+use Rattle.std.proofs.Common.{ap, subst}
+use Rattle.std.specs.Prelude.{IfNone, IfSome}
+use Rattle.std.specs.FinMap as fin
 use Rattle.kb_tenant.specs.Hosted.{kept_of, nothing}
 use Rattle.kb_tenant.specs.declared.request.Request.{Request}
 use Rattle.kb_machine.specs.Machine.{Line}
-use Rattle.kb_connection.specs.Fronts.{IsAsked}
+use Rattle.kb_connection.specs.Fronts.{IsAsked, IsOwn}
+use Rattle.kb_tenants.specs.Tenants.{is_honest}
 use Rattle.kb_broker.specs.Hosts.{tenants_in}
 use Rattle.kb_broker.proofs.TenantTurns.{spent-shut, spent-served, asked-now}
+use Rattle.kb_broker.proofs.Served.{dated-none, keyed-answered, keyed-none, own-free, own-touched, turned-touched}
 use Rattle.kb_broker.proofs.serving.serve_bound.Goals as goal
 
 pub returns-in_err-serve-in-Ok-None-clause-spent : goal.returns-in_err-serve-in-Ok-None-clause-spent
@@ -16,6 +20,24 @@ returns-in-Ok-None-clause-number g c = ap (λ (x : Line). x.number) (c.in_ok-ser
 pub returns-in-Ok-None-clause-spent : goal.returns-in-Ok-None-clause-spent
 returns-in-Ok-None-clause-spent g c = spent-served c.serve.result c.args.setup.now c.args.connection.now c.serve.new.self c.requires.able c.serve.ensures.ok c.serve.ensures.err
 
+pub returns-in-Ok-None-clause-dated : goal.returns-in-Ok-None-clause-dated
+returns-in-Ok-None-clause-dated g c =
+    let a = c.args in
+    let own = subst (λ found. IfNone found (IsOwn a.connection.now.session)) c.in-Ok-None.field-0-is c.in-Ok-None.ensures.own in
+    dated-none (fin.get a.parking.now a.connection.now.number) c.serve.new.self.session.stage c.requires.free (own-free a.setup.now a.tenant a.connection.now c.serve.new.self c.requires.bound own c.in_ok-serve-in-Ok-None.ensures.ok)
+
+pub returns-in-Ok-None-clause-keyed : goal.returns-in-Ok-None-clause-keyed
+returns-in-Ok-None-clause-keyed g c = λ honest.
+    let a = c.args in
+    let own = subst (λ found. IfNone found (IsOwn a.connection.now.session)) c.in-Ok-None.field-0-is c.in-Ok-None.ensures.own in
+    keyed-none (tenants_in g.S.Store.disk a.tenants.now) c.serve.new.self.session.stage (fin.get a.parking.now a.connection.now.number) (own-free a.setup.now a.tenant a.connection.now c.serve.new.self c.requires.bound own c.in_ok-serve-in-Ok-None.ensures.ok)
+
+pub returns-in-Ok-None-clause-touched : goal.returns-in-Ok-None-clause-touched
+returns-in-Ok-None-clause-touched g c = λ honest.
+    let a = c.args in
+    let own = subst (λ found. IfNone found (IsOwn a.connection.now.session)) c.in-Ok-None.field-0-is c.in-Ok-None.ensures.own in
+    own-touched a.setup.now a.tenant a.clock (tenants_in g.S.Store.disk a.tenants.now) a.connection.now c.serve.new.self c.new.result.items own c.in_ok-serve-in-Ok-None.ensures.ok
+
 pub returns-in-Err-clause-spent : goal.returns-in-Err-clause-spent
 returns-in-Err-clause-spent g c = spent-shut c.args.connection.now c.shut_down.new.self c.requires.able c.shut_down.ensures
 
@@ -26,16 +48,17 @@ returns-clause-ok g c = λ honest calm.
     let s = a.connection.now.session in
     let asked = subst (λ found. IfSome found (λ (r : Request). IsAsked s r.api_key r.correlation_id r.body.now)) c.in-Ok-Some.field-0-is c.in-Ok-Some.ensures.asked in
     let done = c.ask.ensures.meets honest calm in
-    asked-now a.setup.now a.clock (kept_of (tenants_in g.S.Store.disk a.tenants.now) a.tenant) (kept_of (tenants_in g.S.Store.disk c.ask.new.tenants) a.tenant) a.connection.now c.answer.new.self q.api_key q.correlation_id q.body.now c.ask.result.0 asked done.0 done.1 c.in_ok-answer.ensures.ok
+    asked-now a.setup.now a.clock (kept_of (tenants_in g.S.Store.disk a.tenants.now) a.tenant) (kept_of (tenants_in g.S.Store.disk c.ask.new.tenants) a.tenant) a.connection.now c.hand_over.new.connection q.api_key q.correlation_id q.body.now c.ask.result.0 asked done.0 done.1 c.in_ok-hand_over.ensures.ok
 
-pub returns-clause-quiet : goal.returns-clause-quiet
-returns-clause-quiet g c = λ quiet honest.
+pub returns-clause-keyed : goal.returns-clause-keyed
+returns-clause-keyed g c = λ honest.
     let a = c.args in
     let q = c.in-Ok-Some.request in
     let s = a.connection.now.session in
-    let no : c.ask.result.1 ≡ false = cc in
     let asked = subst (λ found. IfSome found (λ (r : Request). IsAsked s r.api_key r.correlation_id r.body.now)) c.in-Ok-Some.field-0-is c.in-Ok-Some.ensures.asked in
-    let still = c.ask.ensures.quiet no honest in
-    let done = c.ask.ensures.meets honest still.calm in
-    let both = asked-now a.setup.now a.clock (kept_of (tenants_in g.S.Store.disk a.tenants.now) a.tenant) (kept_of (tenants_in g.S.Store.disk c.ask.new.tenants) a.tenant) a.connection.now c.answer.new.self q.api_key q.correlation_id q.body.now c.ask.result.0 asked done.0 done.1 c.in_ok-answer.ensures.ok in
-    record { session = both.0; kept = both.1; ready = still.ready }
+    keyed-answered (is_honest g.S.Store.disk c.ask.new.tenants) honest a.setup.now a.tenant a.clock (tenants_in g.S.Store.disk a.tenants.now) (tenants_in g.S.Store.disk c.ask.new.tenants) a.connection.now c.hand_over.new.connection q.api_key q.correlation_id q.body.now c.ask.result.0 (fin.get c.hand_over.new.parking a.connection.now.number) c.requires.bound c.hand_over.ensures.spent asked c.ask.ensures.turn c.ask.ensures.meets c.in_ok-hand_over.ensures.ok c.in_ok-hand_over.ensures.keyed
+
+pub returns-clause-touched : goal.returns-clause-touched
+returns-clause-touched g c =
+    let a = c.args in
+    turned-touched (is_honest g.S.Store.disk c.ask.new.tenants) a.setup.now a.tenant a.clock (tenants_in g.S.Store.disk a.tenants.now) (tenants_in g.S.Store.disk c.ask.new.tenants) a.connection.now.session c.hand_over.new.connection.session c.ask.result.1 c.ask.ensures.touched (returns-clause-ok g c)

@@ -1,5 +1,10 @@
-use Rattle.std.proofs.Common.{sym, ◌∙◌}
+use Rattle.std.proofs.Common.{subst, sym, ◌∙◌}
+use Rattle.std.specs.FinMap as fin
+use Rattle.kb_tenants.specs.Tenants.{is_honest}
+use Rattle.kb_broker.specs.Hosts.{tenants_in}
 use Rattle.kb_broker.proofs.Handled.{able-stage}
+use Rattle.kb_broker.specs.Parked.{IsConcern}
+use Rattle.kb_broker.proofs.Served.{dated-none, greeted-free, keyed-none, left-by}
 use Rattle.kb_broker.proofs.TenantTurns.{spent-greeted, spent-shut}
 use Rattle.kb_broker.proofs.serving.take_turn.Goals as goal
 
@@ -9,3 +14,29 @@ returns-in_err-greet-in-Greets-clause-spent g c = spent-shut c.args.connection.n
 pub returns-in_ok-greet-in-Greets-clause-spent : goal.returns-in_ok-greet-in-Greets-clause-spent
 returns-in_ok-greet-in-Greets-clause-spent g c =
     spent-greeted c.greet.result c.args.setup.now c.in-Greets.handshaken c.args.connection.now c.greet.new.self (sym (able-stage c.args.connection.now.session c.requires.able) ∙ sym c.in-Greets.ensures) c.requires.able c.greet.ensures.ok c.greet.ensures.err
+
+pub serve_bound-requires-clause-bound : goal.serve_bound-requires-clause-bound
+serve_bound-requires-clause-bound g c = sym (able-stage c.args.connection.now.session c.requires.able) ∙ sym c.in-Bound.ensures
+
+pub returns-in_ok-greet-in-Greets-clause-dated : goal.returns-in_ok-greet-in-Greets-clause-dated
+returns-in_ok-greet-in-Greets-clause-dated g c =
+    let a = c.args in
+    let greets = sym (able-stage a.connection.now.session c.requires.able) ∙ sym c.in-Greets.ensures in
+    dated-none (fin.get a.parking.now a.connection.now.number) c.greet.new.self.session.stage c.requires.free (greeted-free a.setup.now c.in-Greets.handshaken a.connection.now c.greet.new.self greets c.in_ok-greet-in-Greets.ensures.ok)
+
+pub returns-in_ok-greet-in-Greets-clause-keyed : goal.returns-in_ok-greet-in-Greets-clause-keyed
+returns-in_ok-greet-in-Greets-clause-keyed g c = λ honest.
+    let a = c.args in
+    let greets = sym (able-stage a.connection.now.session c.requires.able) ∙ sym c.in-Greets.ensures in
+    keyed-none (tenants_in g.S.Store.disk a.tenants.now) c.greet.new.self.session.stage (fin.get a.parking.now a.connection.now.number) (greeted-free a.setup.now c.in-Greets.handshaken a.connection.now c.greet.new.self greets c.in_ok-greet-in-Greets.ensures.ok)
+
+pub returns-in_ok-touched-in-Bound-clause-left : goal.returns-in_ok-touched-in-Bound-clause-left
+returns-in_ok-touched-in-Bound-clause-left g c = λ honest.
+    let a = c.args in
+    let t = c.in-Bound.tenant in
+    let us = tenants_in g.S.Store.disk c.serve_bound.new.tenants in
+    let p = c.serve_bound.new.parking in
+    let touched = c.in_ok-touched-in-Bound.touched in
+    let bound = sym (able-stage a.connection.now.session c.requires.able) ∙ sym c.in-Bound.ensures in
+    let concern = subst (λ n. IsConcern c.whom_it_concerns.result t n us p touched) (c.number-number.ensures ∙ c.serve_bound.ensures.number) c.whom_it_concerns.ensures in
+    left-by (is_honest g.S.Store.disk c.serve_bound.new.tenants) honest c.whom_it_concerns.result a.setup.now t a.clock a.connection.now.number a.parking.now p (tenants_in g.S.Store.disk a.tenants.now) us a.connection.now.session c.serve_bound.new.connection.session a.connection.now.session.stage touched bound c.serve_bound.ensures.parked concern c.in_ok-touched-in-Bound.ensures.touched

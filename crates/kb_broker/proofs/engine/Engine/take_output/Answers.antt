@@ -1,7 +1,13 @@
 use Rattle.std.proofs.Common.{refl, sym, ◌∙◌, ap}
+use Rattle.kb_machine.specs.Machine.{Line}
 use Rattle.kb_machine.specs.Calls.{output_in}
 use Rattle.kb_machine.proofs.Sets.{find-none}
-use Rattle.kb_broker.proofs.Placed.{found, find-found, taken-found, taken-none}
+use Rattle.kb_broker.proofs.Placed.{at-read, found, find-found, taken-found, taken-none}
+use Rattle.kb_tenants.specs.Tenants.{is_honest}
+use Rattle.kb_broker.specs.Hosts.{tenants_in}
+use Rattle.kb_broker.proofs.Fields.{carried-on, rising-inside}
+use Rattle.kb_broker.proofs.Handled.{at-inside}
+use Rattle.kb_broker.proofs.Parked.{queue-kept}
 use Rattle.kb_broker.proofs.Honest.{state-is, store-is, stands-on}
 use Rattle.kb_broker.proofs.engine.Engine.take_output.Goals as goal
 
@@ -24,3 +30,21 @@ returns-in-None-clause-state g c = stands-on c.args.self.now _ _ _ (taken-none c
 
 pub returns-in-None-clause-output : goal.returns-in-None-clause-output
 returns-in-None-clause-output g c = c.new.ensures.items ∙ sym (ap output_in (find-none c.args.number c.args.self.now.state.lines c.in-None.ensures.none))
+
+pub invariant_of-self : goal.invariant_of-self
+invariant_of-self g c =
+    let disk = g.S.Store.disk in
+    let b = c.args.self.now.state in
+    let i = c.in-Some.i in
+    let l = c.index_mut.result.now in
+    let m = c.take_output.new.self in
+    let q = c.self.inside.parking in
+    let H = is_honest disk c.self.inside.tenants in
+    let ts = tenants_in disk c.self.inside.tenants in
+    let ls = c.self.inside.connections.items in
+    let at = at-inside _ b i l (state-is _ _ c.self.view_is) (at-read _ b i l (state-is _ _ c.self.view_is) c.in-Some.ensures.within c.index_mut.ensures.value) in (
+      c.self.invariant.0,
+      queue-kept H H q ts ts 0 b.last ls i l m c.self.invariant.1
+          (rising-inside _ b (state-is _ _ c.self.view_is) c.requires) at
+          (ap (λ (x : Line). x.number) c.take_output.ensures.state) (λ honest. honest) (ap (λ (x : Line). x.session.stage) c.take_output.ensures.state) (λ honest. carried-on ts ls q),
+    )

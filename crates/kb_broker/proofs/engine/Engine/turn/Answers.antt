@@ -1,20 +1,69 @@
-use Rattle.std.proofs.Common.{subst}
+use Rattle.std.proofs.Common.{arith, subst, sym}
+use Rattle.kb_machine.specs.declared.whom.Whom.TheVariants as whoms
 use Rattle.kb_machine.proofs.Turns.{going-then}
 use Rattle.kb_machine.proofs.Wakes.{turned-served}
-use Rattle.kb_broker.specs.Places.{IsServedFor}
+use Rattle.kb_broker.specs.Places.{number_at}
+use Rattle.kb_broker.specs.Parked.{AreMinded, IsConfined, IsLeftTo, IsOwnTo, IsServedFor, SameBut}
+use Rattle.kb_broker.proofs.Going.{confined-these, turned-these}
 use Rattle.kb_broker.proofs.Honest.{later-then}
 use Rattle.kb_broker.proofs.engine.Engine.turn.Goals as goal
 
-pub returns-in-Some-clause-going : goal.returns-in-Some-clause-going
-returns-in-Some-clause-going g c = going-then c.args.self.now.state c.serve.new.self.state c.wake.new.self.state c.serve.ensures.going c.wake.ensures.going
+pub serve-concerned-requires : goal.serve-concerned-requires
+serve-concerned-requires g c = c.requires
 
-pub returns-in-Some-clause-later : goal.returns-in-Some-clause-later
-returns-in-Some-clause-later g c = later-then _ _ _ c.serve.ensures.later c.wake.ensures.later
+pub wake_each-requires : goal.wake_each-requires
+wake_each-requires g c = c.serve-concerned.ensures.going.sound
 
-pub returns-in-Some-clause-turned : goal.returns-in-Some-clause-turned
-returns-in-Some-clause-turned g c = λ honest scope still.
+pub wake_all-requires : goal.wake_all-requires
+wake_all-requires g c = c.serve-concerned.ensures.going.sound
+
+pub returns-in-Nobody : goal.returns-in-Nobody
+returns-in-Nobody g c =
     let a = c.args.self.now.state in
-    let b = c.serve.new.self.state in
-    turned-served c.in-Some.tenant scope a b c.wake.new.self.state
-    (subst (λ r. IsServedFor r scope a b) c.in-Some.is (c.serve.ensures.served (c.wake.ensures.later.honest honest) scope still))
-    (c.wake.ensures.waked honest) (c.wake.ensures.looked honest) (c.wake.ensures.rest honest)
+    let b = c.serve-concerned.new.self.state in
+    let s = c.serve-concerned.ensures in
+    record {
+      going = s.going;
+      later = s.later;
+      turned = λ honest scope still. subst (λ r. IsServedFor r scope a b) c.in-Nobody.is (s.served honest scope still);
+      confined = subst (λ r. IsConfined r (number_at c.args.i a) a b) (sym c.in-Nobody.is) s.others;
+      less = s.less;
+    }
+
+pub returns-in-These : goal.returns-in-These
+returns-in-These g c =
+    let a = c.args.self.now.state in
+    let b = c.serve-concerned.new.self.state in
+    let d = c.wake_each.new.self.state in
+    let s = c.serve-concerned.ensures in
+    let w = c.wake_each.ensures in
+    let t = c.in-These.tenant in
+    let ns = c.in-These.numbers.items in
+    let n = number_at c.args.i a in
+    let own = subst (λ r. IsOwnTo r n) c.in-These.is s.own in
+    let same : SameBut ns b d = subst (λ ks. SameBut ks b d) c.deref.ensures.value w.same in
+    record {
+      going = going-then a b d s.going w.going;
+      later = later-then _ _ _ s.later w.later;
+      turned = λ honest scope still.
+          let before = w.later.honest honest in
+          turned-these t ns scope a b d (subst (λ r. IsServedFor r scope a b) c.in-These.is (s.served before scope still))
+          (subst (AreMinded (whoms.Tenant t) b d) c.deref.ensures.value (w.minded honest)) (subst (λ r. IsLeftTo r b) c.in-These.is (s.left before));
+      confined = subst (λ r. IsConfined r n a d) (sym c.in-These.is) (own, confined-these ns n a b d own s.others same);
+      less = (let first = s.less in let then = w.work in omega (arith, first, then));
+    }
+
+pub returns-in-All : goal.returns-in-All
+returns-in-All g c =
+    let a = c.args.self.now.state in
+    let b = c.serve-concerned.new.self.state in
+    let d = c.wake_all.new.self.state in
+    let s = c.serve-concerned.ensures in
+    let w = c.wake_all.ensures in
+    record {
+      going = going-then a b d s.going w.going;
+      later = later-then _ _ _ s.later w.later;
+      turned = λ honest scope still. turned-served c.in-All.tenant scope a b d (subst (λ r. IsServedFor r scope a b) c.in-All.is (s.served (w.later.honest honest) scope still)) (w.waked honest) (w.looked honest) (w.rest honest);
+      confined = subst (λ r. IsConfined r (number_at c.args.i a) a d) (sym c.in-All.is) tt;
+      less = (let first = s.less in let then = w.work in omega (arith, first, then));
+    }

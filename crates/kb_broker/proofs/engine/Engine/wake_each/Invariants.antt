@@ -2,17 +2,17 @@ use Rattle.std.proofs.Common.{◌≡◌, ◌≤◌, length, take}
 use Rattle.kb_machine.specs.Machine.{work}
 use Rattle.kb_machine.specs.Turned.{IsGoing}
 use Rattle.kb_broker.specs.Hosts.{is_honest, IsLater}
-use Rattle.kb_broker.specs.Places.{AreWaiting, AreWaked}
-use Rattle.kb_broker.proofs.engine.Engine.wake.Given as goal
+use Rattle.kb_broker.specs.Parked.{AreMinded, SameBut}
+use Rattle.kb_broker.proofs.engine.Engine.wake_each.Given as goal
 
-abbrev pub invariant-loop-i : goal.invariant-loop-i
-invariant-loop-i g l =
+abbrev pub invariant-loop-number : goal.invariant-loop-number
+invariant-loop-number g l =
     let disk = g.S.Store.disk in
     record {
-      end : l.i-end ≡ length l.fn.self.state.lines;
+      end : l.number-index-end ≡ length l.numbers;
       going : IsGoing l.fn.self.state l.self.state;
       later : IsLater (disk l.fn.self.store) (disk l.self.store);
+      minded : is_honest disk l.self → AreMinded l.whom l.fn.self.state l.self.state (take l.number-index l.numbers);
+      same : SameBut l.numbers l.fn.self.state l.self.state;
       work : work l.self.state.lines ≤ work l.fn.self.state.lines;
-      waits : AreWaiting l.next_due (take l.i l.self.state.lines);
-      waked : is_honest disk l.self → AreWaked l.whom l.fn.self.state l.self.state l.i;
     }

@@ -1,0 +1,236 @@
+-- What the engine's calls on its own fields, and its looks, leave of the queue and of the broker.
+use Rattle.std.proofs.Common.{◌≡◌, ◌≢◌, ◌++◌, ◌+◌, ◌<◌, ℕ, List, [], ◌∷◌, length, get_or, take, eqb, nat_cmp, Option, Some, None, Result, Ok, Err, OnOk, OnErr, Bool, true, false, suc, inl, inr, refl, sym, ◌∙◌, ap, subst, arith}
+use Rattle.std.specs.Prelude.{not, ◌⊎◌, IfSome, IfNone, Contains}
+use Rattle.std.specs.Option.{is_some}
+use Rattle.std.specs.FinMap as fin
+use Rattle.std.specs.List.{AllByRecursion, remove}
+use Rattle.std.proofs.Math.Seq.{take-suc}
+use Rattle.std.proofs.lemmas.Bool.Decides.{nat_tests}
+use Rattle.kb_waits.specs.Queue.{AreParked, IsDue, Queue}
+use Rattle.kb_tenant.specs.Hosted.{TenantState}
+use Rattle.kb_machine.specs.Tenant.{Wait}
+use Rattle.kb_machine.specs.Session.{Stage, Greets, BoundTo, Session, fresh, is_free, fed, without_wait, shut_down}
+use Rattle.kb_machine.specs.Machine.{Line, those}
+use Rattle.kb_machine.specs.Calls.{other_than}
+use Rattle.kb_machine.specs.Owners.{find_line}
+use Rattle.kb_machine.specs.Broker.{BrokerState, IsSound, IsUnready, AreUnready, AnyWait, Rising}
+use Rattle.kb_machine.specs.declared.whom.Whom.{Whom}
+use Rattle.kb_machine.specs.declared.whom.Whom.TheVariants as whoms
+use Rattle.kb_machine.specs.Turned.{IsPassedOver, SameOthers, Waked}
+use Rattle.kb_machine.proofs.Sets.{IsAt, all-map, find-at, rising-set, set-at}
+use Rattle.kb_machine.proofs.Parts.{eqb_same, eqb_other}
+use Rattle.kb_machine.proofs.Steps.{remove-those}
+use Rattle.kb_machine.proofs.Turns.{unready-same}
+use Rattle.kb_connection.specs.View.{with_session}
+use Rattle.kb_broker.specs.Places.{number_at, waits_in, IsPassed, ArePassed, AreWaked, IsLookedAt, IsOneMore}
+use Rattle.kb_broker.specs.Parked.{deadline_at, deadline_in, until_of, IsKeyedIn, IsQueueOf, IsUnreadyIn, IsUnreadyAt, IsSoughtAt, IsSoughtIn, SameBut, AreMinded}
+use Rattle.kb_broker.proofs.Placed.{get-at, number_at-is}
+use Rattle.kb_broker.proofs.Handled.{put_with, fed-stage}
+use Rattle.kb_broker.proofs.Looked.{looked-number, looked-waked, one-more, waked-more}
+use Rattle.kb_broker.proofs.Parked.{IsCarried, IsMindedOne, carried-same, due-minded, each-find, minded-all, minded-more, nobody-waits}
+
+-- 1. Nobody waits
+
+empty-none : (q : Queue) (n : ℕ) → fin.len q ≡ 0 → fin.get q n ≡ None
+empty-none q n e = ap (λ x. fin.get x n) (fin.empty_of_len q e) ∙ fin.get-empty nat_cmp n
+
+pub unsaid : (b : Bool) → not b ≡ false → b ≡ true
+unsaid true e = refl
+unsaid false e = absurd (cc)
+
+dateless : (o : Option Session) → deadline_in o ≡ None → waits_in o ≡ false
+dateless None e = refl
+dateless (Some s) e = at s.stage e
+  where
+    at : (st : Stage) → deadline_at st ≡ None → not (is_free st) ≡ false
+    at (Greets h) e = refl
+    at (BoundTo t None) e = refl
+    at (BoundTo t (Some w)) e = absurd (cc)
+
+-- where the queue is empty no connection waits
+pub none-waits : (H : Type 0) (q : Queue) (a b : BrokerState) → a ≡ b → IsQueueOf H q a.tenants a.lines → Rising 0 b.last b.lines → fin.len q ≡ 0 → AllByRecursion (λ (l : Line). waits_in (Some l.session) ≡ false) b.lines
+none-waits H q a b e v rising empty =
+    each-find (λ o. waits_in o ≡ false) 0 b.last b.lines rising (λ n.
+    dateless (find_line n b.lines) (ap (λ (x : BrokerState). deadline_in (find_line n x.lines)) (sym e) ∙ nobody-waits H q a.tenants n a.lines v (empty-none q n empty)))
+
+-- and no wait is looked for
+pub none-passed : (whom : Whom) (b : BrokerState) → AllByRecursion (λ (l : Line). waits_in (Some l.session) ≡ false) b.lines → ArePassed whom b
+none-passed whom b h = all-map (λ (l : Line). waits_in (Some l.session) ≡ false) (λ (l : Line). IsPassed whom b.clock l.session.stage) (λ l. at l.session.stage) b.lines h
+  where
+    at : (st : Stage) → not (is_free st) ≡ false → IsPassed whom b.clock st
+    at (Greets h) e = tt
+    at (BoundTo t None) e = tt
+    at (BoundTo t (Some w)) e = absurd (cc)
+
+-- 2. A connection is closed
+
+find-closed_other : (m n : ℕ) (ls : List Line) → n ≢ m → find_line n (those (other_than m) ls) ≡ find_line n ls
+find-closed_other m n [] ne = refl
+find-closed_other m n (l ∷ ls) ne = let rest = find-closed_other m n ls ne in grind (arith, nat_tests, rest, ne)
+
+find-closed_own : (m : ℕ) (ls : List Line) → find_line m (those (other_than m) ls) ≡ None
+find-closed_own m [] = refl
+find-closed_own m (l ∷ ls) = let rest = find-closed_own m ls in grind (arith, nat_tests, rest)
+
+-- in a list without the connection of a number
+find-closed : (P : Option Session → Type 0) (m n : ℕ) (ls : List Line) → (n ≢ m → P (find_line n ls)) → (n ≡ m → P None) → P (find_line n (those (other_than m) ls))
+find-closed P m n ls other own = by (eqb m n) refl
+  where
+    by : (b : Bool) → eqb m n ≡ b → P (find_line n (those (other_than m) ls))
+    by true e = let is = eqb_same m n e in subst (λ k. P (find_line k (those (other_than m) ls))) is (subst P (sym (find-closed_own m ls)) (own (sym is)))
+    by false e = let ne = eqb_other m n e in subst P (sym (find-closed_other m n ls ne)) (other ne)
+
+-- the connection at a place is closed, and stands in the queue no longer
+pub queue-closed : (H : Type 0) (q p : Queue) (ts : List TenantState) (low last : ℕ) (ls : List Line) (i : ℕ) (l : Line) → IsQueueOf H q ts ls → Rising low last ls → IsAt ls i l
+    → ((k : ℕ) → k ≢ l.number → fin.get p k ≡ fin.get q k) → fin.get p l.number ≡ None → IsQueueOf H p ts (remove ls i)
+queue-closed H q p ts low last ls i l v rising at others gone =
+    subst (IsQueueOf H p ts) (sym (remove-those low last ls i l rising at))
+    (record {
+      dated = λ n. find-closed (λ o. until_of (fin.get p n) ≡ deadline_in o) l.number n ls (λ ne. ap until_of (others n ne) ∙ v.dated n) (λ is. ap until_of (ap (fin.get p) is ∙ gone));
+      keyed = λ honest n. find-closed (λ o. IsKeyedIn ts o (fin.get p n)) l.number n ls (λ ne. subst (IsKeyedIn ts (find_line n ls)) (sym (others n ne)) (v.keyed honest n)) (λ is. tt);
+    })
+
+-- 3. What a connection waits for
+
+pub carried-on : (ts : List TenantState) (ls : List Line) (q : Queue) → IsCarried ts ts ls q
+carried-on ts ls q = carried-same ts ts ls q (λ t. omega arith) (λ t. refl)
+
+-- numbers rise among the broker's own connections
+pub rising-inside : (a b : BrokerState) → a ≡ b → Rising 0 b.last b.lines → Rising 0 b.last a.lines
+rising-inside a b e rising = subst (λ (x : BrokerState). Rising 0 b.last x.lines) (sym e) rising
+
+-- by the code's tests whether there is a value
+pub from_none : {A : Type 0} (o : Option A) (b : Bool) (P : Type 0) → is_some o ≡ not b → b ≡ true → IfNone o P → P
+from_none None b P e t h = h
+from_none (Some x) b P e t h = let no : true ≡ false = e ∙ ap not t in absurd (cc)
+
+pub from_some : {A : Type 0} (o : Option A) (b : Bool) (P : Type 0) (Q : A → Type 0) → ((x : A) → Q x → P) → is_some o ≡ not b → b ≡ false → IfSome o Q → P
+from_some None b P Q f e t h = let no : false ≡ true = e ∙ ap not t in absurd (cc)
+from_some (Some x) b P Q f e t h = f x h
+
+pub deadline-some : (st : Stage) (t : ℕ) (w : Wait) → st ≡ BoundTo t (Some w) → deadline_at st ≡ None → ⊥
+deadline-some st t w e none = let no : Some w.deadline ≡ None = sym (ap deadline_at e) ∙ none in cc
+
+-- the wait is as it was, where there is one
+pub stage-kept : (old new : Stage) → (new ≡ old) ⊎ (deadline_at new ≡ None) → (deadline_at new ≡ None → ⊥) → new ≡ old
+stage-kept old new (inl same) waits = same
+stage-kept old new (inr none) waits = absurd (waits none)
+
+-- a piece leaves a wait as it is, or ends it, also where it could not be kept
+pub stage-fed : {A E : Type 0} (result : Result A E) (piece : List ℕ) (l m : Line) → OnOk result (m ≡ with_session l (fed piece l.session)) → OnErr result (m ≡ with_session l (shut_down l.session))
+    → (m.session.stage ≡ l.session.stage) ⊎ (deadline_at m.session.stage ≡ None)
+stage-fed (Ok x) piece l m ok err = subst (λ (k : Line). (k.session.stage ≡ l.session.stage) ⊎ (deadline_at k.session.stage ≡ None)) (sym ok) (fed-stage piece l.session)
+stage-fed (Err x) piece l m ok err = inr (ap (λ (k : Line). deadline_at k.session.stage) err ∙ at l.session.stage)
+  where
+    at : (st : Stage) → deadline_at (without_wait st) ≡ None
+    at (Greets h) = refl
+    at (BoundTo t w) = refl
+
+pub number-fed : {A E : Type 0} (result : Result A E) (piece : List ℕ) (l m : Line) → OnOk result (m ≡ with_session l (fed piece l.session)) → OnErr result (m ≡ with_session l (shut_down l.session)) → m.number ≡ l.number
+number-fed (Ok x) piece l m ok err = ap (λ (k : Line). k.number) ok
+number-fed (Err x) piece l m ok err = ap (λ (k : Line). k.number) err
+
+-- 4. One look
+
+-- what tenants keep stays
+pub looked-carried : (H : Type 0) → H → (whom : Whom) (clock : ℕ) (ts us : List TenantState) (l m : Line) (st : Stage) (ls : List Line) (q : Queue) → IsLookedAt H whom clock st ts us l m → IsCarried ts us ls q
+looked-carried H honest whom clock ts us l m (Greets h) ls q p = subst (λ x. IsCarried ts x ls q) (sym p.0) (carried-on ts ls q)
+looked-carried H honest whom clock ts us l m (BoundTo t None) ls q p = subst (λ x. IsCarried ts x ls q) (sym p.0) (carried-on ts ls q)
+looked-carried H honest whom clock ts us l m (BoundTo t (Some w)) ls q (inl p) = subst (λ x. IsCarried ts x ls q) (sym p.1.0) (carried-on ts ls q)
+looked-carried H honest whom clock ts us l m (BoundTo t (Some w)) ls q (inr p) = carried-same ts us ls q p.1.turn.grows (p.1.stays honest)
+
+-- the connection waits for nothing that is ready then, or nothing was looked at
+looked-either : (H : Type 0) → H → (whom : Whom) (b : BrokerState) (l m : Line) (us : List TenantState) (st : Stage) → IsLookedAt H whom b.clock st b.tenants us l m → IsUnready AnyWait b m.session.stage ⊎ ((m ≡ l) × (IsSoughtAt whom b.clock st → IsUnready AnyWait b st))
+looked-either H honest whom b l m us (Greets h) p = inr (p.1, λ s. tt)
+looked-either H honest whom b l m us (BoundTo t None) p = inr (p.1, λ s. tt)
+looked-either H honest whom b l m us (BoundTo t (Some w)) (inl p) = inr (p.1.1, λ s. (let no : true ≡ false = sym s ∙ p.0 in absurd (cc)))
+looked-either H honest whom b l m us (BoundTo t (Some w)) (inr p) = inl (p.1.unready honest b refl refl)
+
+minded-one : (H : Type 0) → H → (whom : Whom) (b : BrokerState) (i : ℕ) (l m : Line) (us : List TenantState) → IsSound b → IsAt b.lines i l → IsLookedAt H whom b.clock l.session.stage b.tenants us l m → IsMindedOne whom (number_at i b) b (put_with b i m us)
+minded-one H honest whom b i l m us sound at is = record {
+  waked = waked;
+  others = (one-more H whom b i l m us sound at is).others;
+  rest = λ u. unready (left (subst (IsUnreadyIn b) before u));
+  done = λ s. unready (looked (subst (IsSoughtIn whom b.clock) before s));
+  todo = todo (looked-either H honest whom b l m us l.session.stage is);
+}
+  where
+    c : BrokerState
+    c = put_with b i m us
+
+    waked : Waked whom b c
+    waked = looked-waked H honest whom b i l m us l.session.stage sound at refl is
+
+    number : number_at i b ≡ l.number
+    number = number_at-is b i l at
+
+    same : m.number ≡ l.number
+    same = looked-number H whom b.clock b.tenants us l m l.session.stage is
+
+    before : find_line (number_at i b) b.lines ≡ Some l.session
+    before = ap (λ n. find_line n b.lines) number ∙ find-at 0 b.last b.lines i l sound.rising at
+
+    after : find_line (number_at i b) c.lines ≡ Some m.session
+    after = ap (λ n. find_line n c.lines) (number ∙ sym same) ∙ find-at 0 b.last c.lines i m (rising-set 0 b.last b.lines i l m sound.rising at same) (set-at b.lines i l m at)
+
+    unready : IsUnready AnyWait b m.session.stage → IsUnreadyAt (number_at i b) c
+    unready u = subst (IsUnreadyIn c) (sym after) (unready-same AnyWait b c m.session.stage refl waked.kept u)
+
+    left : IsUnready AnyWait b l.session.stage → IsUnready AnyWait b m.session.stage
+    left u = by (looked-either H honest whom b l m us l.session.stage is)
+      where
+        by : IsUnready AnyWait b m.session.stage ⊎ ((m ≡ l) × (IsSoughtAt whom b.clock l.session.stage → IsUnready AnyWait b l.session.stage)) → IsUnready AnyWait b m.session.stage
+        by (inl v) = v
+        by (inr p) = subst (λ (x : Line). IsUnready AnyWait b x.session.stage) (sym p.0) u
+
+    looked : IsSoughtAt whom b.clock l.session.stage → IsUnready AnyWait b m.session.stage
+    looked s = by (looked-either H honest whom b l m us l.session.stage is)
+      where
+        by : IsUnready AnyWait b m.session.stage ⊎ ((m ≡ l) × (IsSoughtAt whom b.clock l.session.stage → IsUnready AnyWait b l.session.stage)) → IsUnready AnyWait b m.session.stage
+        by (inl v) = v
+        by (inr p) = left (p.1 s)
+
+    todo : IsUnready AnyWait b m.session.stage ⊎ ((m ≡ l) × (IsSoughtAt whom b.clock l.session.stage → IsUnready AnyWait b l.session.stage)) → IsUnreadyAt (number_at i b) c ⊎ (find_line (number_at i b) c.lines ≡ find_line (number_at i b) b.lines)
+    todo (inl u) = inl (unready u)
+    todo (inr p) = inr (after ∙ (ap (λ (x : Line). Some x.session) p.0 ∙ sym before))
+
+-- the same, where a is what the broker's own fields are
+looked-in : (H : Type 0) (whom : Whom) (a b : BrokerState) (l m : Line) (us : List TenantState) → a ≡ b → IsLookedAt H whom a.clock l.session.stage a.tenants us l m → IsLookedAt H whom b.clock l.session.stage b.tenants us l m
+looked-in H whom a b l m us e is = subst (λ (x : BrokerState). IsLookedAt H whom x.clock l.session.stage x.tenants us l m) e is
+
+pub one-more_in : (H : Type 0) (whom : Whom) (a b : BrokerState) (i : ℕ) (l m : Line) (us : List TenantState) → a ≡ b → IsSound b → IsAt b.lines i l → IsLookedAt H whom a.clock l.session.stage a.tenants us l m → IsOneMore i b (put_with a i m us)
+one-more_in H whom a b i l m us e sound at is = subst (λ (x : BrokerState). IsOneMore i b (put_with x i m us)) (sym e) (one-more H whom b i l m us sound at (looked-in H whom a b l m us e is))
+
+pub waked-more_in : (H : Type 0) → H → (whom : Whom) (first a b : BrokerState) (i : ℕ) (l m : Line) (us : List TenantState) → a ≡ b → IsAt b.lines i l → IsLookedAt H whom a.clock l.session.stage a.tenants us l m → AreWaked whom first b i → AreWaked whom first (put_with a i m us) (i + 1)
+waked-more_in H honest whom first a b i l m us e at is v =
+    let one : suc i ≡ i + 1 = omega arith in
+    subst (λ (x : BrokerState). AreWaked whom first (put_with x i m us) (i + 1)) (sym e) (subst (AreWaked whom first (put_with b i m us)) one (waked-more H honest whom first b i l m us v at (looked-in H whom a b l m us e is)))
+
+pub minded-more_in : (H : Type 0) → H → (whom : Whom) (first a b : BrokerState) (ns : List ℕ) (i : ℕ) (l m : Line) (us : List TenantState) → a ≡ b → IsSound b → IsAt b.lines i l → IsLookedAt H whom a.clock l.session.stage a.tenants us l m → AreMinded whom first b ns → AreMinded whom first (put_with a i m us) (ns ++ number_at i b ∷ [])
+minded-more_in H honest whom first a b ns i l m us e sound at is v =
+    subst (λ (x : BrokerState). AreMinded whom first (put_with x i m us) (ns ++ number_at i b ∷ [])) (sym e)
+    (minded-more whom first b (put_with b i m us) (number_at i b) ns v (minded-one H honest whom b i l m us sound at (looked-in H whom a b l m us e is)))
+
+-- 5. Looks, one after another
+
+pub number-some : (b : BrokerState) (i n : ℕ) → i < length b.lines → ((d : Line) → (get_or b.lines i d).number ≡ n) → number_at i b ≡ n
+number-some b i n lt some =
+    let d : Line = record { number = 0; session = fresh } in
+    number_at-is b i (get_or b.lines i d) (get-at b.lines i d lt) ∙ some d
+
+pub minded-take : (whom : Whom) (a b : BrokerState) (ns : List ℕ) (j n : ℕ) → j < length ns → n ≡ get_or ns j 0 → AreMinded whom a b (take j ns ++ n ∷ []) → AreMinded whom a b (take (j + 1) ns)
+minded-take whom a b ns j n lt is v =
+    let one : suc j ≡ j + 1 = omega arith in
+    let more : take j ns ++ n ∷ [] ≡ take (j + 1) ns = ap (λ x. take j ns ++ x ∷ []) is ∙ (sym (take-suc ns j 0 lt) ∙ ap (λ x. take x ns) one) in
+    subst (AreMinded whom a b) more v
+
+-- one of those has changed
+pub same-more : (ns : List ℕ) (n : ℕ) (a b c : BrokerState) → Contains ns n → SameBut ns a b → SameOthers n b c → SameBut ns a c
+same-more ns n a b c in' same others = λ k apart. others k (λ e. apart (subst (Contains ns) (sym e) in')) ∙ same k apart
+
+-- the due ones were looked at, and the others were not ready: none is ready then
+pub due-looked : (H : Type 0) (q : Queue) (whom : Whom) (a b c : BrokerState) (ns ms : List ℕ) → a ≡ b → whom ≡ whoms.Due → IsQueueOf H q a.tenants a.lines → AreParked q (IsDue a.clock) ns → ms ≡ ns → AreMinded whom a c ms → AreUnready (IsPassedOver whom b.clock) b → AreUnready AnyWait c
+due-looked H q whom a b c ns ms e is v parked same minded unready =
+    let looked : AreMinded whoms.Due a c ns = subst (λ w. AreMinded w a c ns) is (subst (AreMinded whom a c) same minded) in
+    let over : AreUnready (IsPassedOver whoms.Due a.clock) a = subst (λ w. AreUnready (IsPassedOver w a.clock) a) is (subst (λ (x : BrokerState). AreUnready (IsPassedOver whom x.clock) x) (sym e) unready) in
+    minded-all whoms.Due a c ns looked (due-minded H q a ns v parked over)

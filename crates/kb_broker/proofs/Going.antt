@@ -1,0 +1,410 @@
+-- Turns that go on: among which connections, and what they leave of the broker on its store.
+use Rattle.std.proofs.Common.{Ordering, Less, Equal, Greater, ◌≡◌, ◌≢◌, ◌<◌, ◌≤◌, ◌+◌, ℕ, zero, suc, List, [], ◌∷◌, length, get_or, set, take, eqb, nat_cmp, Option, Some, None, Result, Ok, Err, OnOk, Bool, true, false, inl, inr, IfSome, refl, sym, ◌∙◌, ap, subst, arith}
+use Rattle.std.specs.Prelude.{Contains, ◌⊎◌, ◌↔◌, IsSome, cond, max}
+use Rattle.std.specs.Result.{is_ok}
+use Rattle.std.specs.FinMap as fin
+use Rattle.std.specs.BTreeSet.{insert_key}
+use Rattle.std.specs.List.{All, AllByRecursion, slice_get}
+use Rattle.std.specs.Ordering.{match_ordering, is_gt}
+use Rattle.std.specs.declared.alloc.Global.{Global}
+use Rattle.std.specs.declared.vec.Vec.{Vec}
+use Rattle.std.proofs.lemmas.Bool.Decides.{nat_tests}
+use Rattle.std.proofs.lemmas.Cmp.{ranked}
+use Rattle.std.proofs.lemmas.List.{get_or_default, take_more}
+use Rattle.std.proofs.lemmas.List.Elements.{All-contains, Contains-push_cases}
+use Rattle.kb_waits.specs.Queue as queue
+use Rattle.kb_waits.specs.Queue.{Queue}
+use Rattle.kb_store.specs.Disk.{Disk}
+use Rattle.kb_world.specs.declared.place.Place.{Place}
+use Rattle.kb_tenant.specs.Hosted as hosted
+use Rattle.kb_tenant.specs.Hosted.{TenantState, IsTurn}
+use Rattle.kb_tenant.specs.Replies.{Silent}
+use Rattle.kb_machine.specs.Tenant.{Wait, ready}
+use Rattle.kb_machine.specs.Session.{Stage, Greets, BoundTo, Session, can, fresh, is_free, without_wait}
+use Rattle.kb_machine.specs.Machine.{Line, Moment, first_able}
+use Rattle.kb_machine.specs.Owners.{find_line, whose}
+use Rattle.kb_machine.specs.Broker.{BrokerState, IsSound, IsUnready, AreUnready, AnyWait}
+use Rattle.kb_machine.specs.declared.whom.Whom.{Whom}
+use Rattle.kb_machine.specs.declared.whom.Whom.TheVariants as whoms
+use Rattle.kb_machine.specs.Turned.{Scope, Everybody, AreStill, IsGoing, IsLookedFor, IsPassedOver, SameOthers, Served, Turned, Waked}
+use Rattle.kb_machine.proofs.Sets.{IsAt, all-map, none-able, find-at}
+use Rattle.kb_machine.proofs.Parts.{eqb_same, eqb_other}
+use Rattle.kb_machine.proofs.Owned.{found as found-all}
+use Rattle.kb_machine.proofs.Quiet.{first-silent, own-turn}
+use Rattle.kb_machine.proofs.Turns.{going-same, going-then, turned-same, turned-then, unready-weaken}
+use Rattle.kb_machine.proofs.Wakes.{turned-served}
+use Rattle.kb_broker.specs.Hosts.{OnStore, is_honest, IsLater, IsReadyOn, NoneReady, StepsTo}
+use Rattle.kb_broker.specs.Places.{numbers, number_at, waits_in, AreIdle, IsNext, IsScoped, IsTakenAt, IsTurnAt}
+use Rattle.kb_broker.specs.Parked.{deadline_at, deadline_in, until_of, IsKeyedAt, IsKeyedIn, IsQueueOf, IsAskedOnAt, IsPassedOn, IsConcern, IsWhose, IsLeftBy, IsUnreadyIn, IsSoughtAt, IsSoughtIn, IsMinded, AreMinded, SameBut, IsServedFor, IsOwnTo, IsAllOf, IsLeftTo, can_in, AreAmong}
+use Rattle.kb_broker.specs.declared.serving.Concerned.{Concerned}
+use Rattle.kb_broker.specs.declared.serving.Concerned.TheVariants as concerned
+use Rattle.kb_broker.proofs.Honest.{later-same, later-then, ready-of}
+use Rattle.kb_broker.proofs.Placed.{get-at, number_at-is}
+use Rattle.kb_broker.proofs.Handled.{HasBegun, IsMoved, IsTaken, idle-none, moved-going, moved-others, moved-step, moved-unready, put_with, unready-over, waked-still, next-can, scoped-turned, served-for, served-quiet, served-taken}
+use Rattle.kb_broker.proofs.Parked.{IsCarried, among, among-same, among-settled, carried-same, carried-turn, deadline-free, each-find, find-set, first-least, minded-all, queue-put, unready-at, waiting-on}
+
+-- 1. Numbers in a set
+
+contains-more : (y : ℕ) (xs : List ℕ) (k : ℕ) → Contains xs k → Contains (y ∷ xs) k
+contains-more y xs k c = (suc c.0, (let h = c.1 in omega (arith, h)), c.2)
+
+contains-first : (k : ℕ) (xs : List ℕ) → Contains (k ∷ xs) k
+contains-first k xs = (0, omega arith, refl)
+
+pub contains-cases : (y : ℕ) (xs : List ℕ) (k : ℕ) → Contains (y ∷ xs) k → (y ≡ k) ⊎ Contains xs k
+contains-cases y xs k c = at c.0 c.1 c.2
+  where
+    at : (i : ℕ) → i < suc (length xs) → get_or (y ∷ xs) i k ≡ k → (y ≡ k) ⊎ Contains xs k
+    at zero lt is = inl is
+    at (suc i) lt is = inr (i, omega (arith, lt), is)
+
+-- one more is put into the set
+pub insert-keeps : (n : ℕ) (xs : List ℕ) (k : ℕ) → Contains xs k → Contains (insert_key nat_cmp xs n) k
+insert-keeps n [] k c = absurd (let h = c.1 in omega (arith, h))
+insert-keeps n (x ∷ xs) k c = by (nat_cmp n x) (insert-keeps n xs k)
+  where
+    further : (Contains xs k → Contains (insert_key nat_cmp xs n) k) → (x ≡ k) ⊎ Contains xs k → Contains (x ∷ insert_key nat_cmp xs n) k
+    further rest (inl e) = subst (λ j. Contains (j ∷ insert_key nat_cmp xs n) k) (sym e) (contains-first k (insert_key nat_cmp xs n))
+    further rest (inr h) = contains-more x (insert_key nat_cmp xs n) k (rest h)
+
+    by : (o : Ordering) → (Contains xs k → Contains (insert_key nat_cmp xs n) k) → Contains (match_ordering o (n ∷ x ∷ xs) (x ∷ xs) (x ∷ insert_key nat_cmp xs n)) k
+    by Less rest = contains-more n (x ∷ xs) k c
+    by Equal rest = c
+    by Greater rest = further rest (contains-cases x xs k c)
+
+pub insert-has : (n : ℕ) (xs : List ℕ) → Contains (insert_key nat_cmp xs n) n
+insert-has n [] = contains-first n []
+insert-has n (x ∷ xs) = by (nat_cmp n x) refl (insert-has n xs)
+  where
+    by : (o : Ordering) → nat_cmp n x ≡ o → Contains (insert_key nat_cmp xs n) n → Contains (match_ordering o (n ∷ x ∷ xs) (x ∷ xs) (x ∷ insert_key nat_cmp xs n)) n
+    by Less e rest = contains-first n (x ∷ xs)
+    by Equal e rest = let same : n ≡ x = ranked n x Equal (sym e) in subst (λ j. Contains (j ∷ xs) n) same (contains-first n xs)
+    by Greater e rest = contains-more x (insert_key nat_cmp xs n) n rest
+
+-- and the numbers up to a place were put into it before
+pub insert-more : (i : ℕ) (ns ks : List ℕ) (d : ℕ) → i < length ns → ((k : ℕ) → Contains (take i ns) k → Contains ks k) → (k : ℕ) → Contains (take (i + 1) ns) k → Contains (insert_key nat_cmp ks (get_or ns i d)) k
+insert-more i ns ks d lt added k c = by (Contains-push_cases (take i ns) (get_or ns i d) k (subst (λ xs. Contains xs k) (take_more ns i d lt) c))
+  where
+    by : Contains (take i ns) k ⊎ (get_or ns i d ≡ k) → Contains (insert_key nat_cmp ks (get_or ns i d)) k
+    by (inl c) = insert-keeps (get_or ns i d) ks k (added k c)
+    by (inr e) = subst (Contains (insert_key nat_cmp ks (get_or ns i d))) e (insert-has (get_or ns i d) ks)
+
+-- 2. The least number of those that can take a turn
+
+-- of the numbers in a set, the one that stands first is the least
+pub record IsLeast (n : ℕ) (ns : List ℕ) : Type 0 where
+  pub first : slice_get ns 0 ≡ Some n
+  pub least : All (λ k. is_gt (nat_cmp n k) ≡ false) ns
+
+least-upto : (n : ℕ) (ns : List ℕ) (k : ℕ) → IsLeast n ns → Contains ns k → n ≤ k
+least-upto n ns k h c = by (nat_cmp n k) refl (All-contains (λ j. is_gt (nat_cmp n j) ≡ false) ns k h.least c)
+  where
+    by : (o : Ordering) → nat_cmp n k ≡ o → is_gt o ≡ false → n ≤ k
+    by Less e g = let lt : n < k = ranked n k Less (sym e) in omega (arith, lt)
+    by Equal e g = let same : n ≡ k = ranked n k Equal (sym e) in omega (arith, same)
+    by Greater e g = absurd (let no : true ≡ false = g in cc)
+
+-- it can take a turn, and all that can are in the set: it is the next
+pub next-least : (b : BrokerState) (i : ℕ) (l : Line) (ns : List ℕ) → IsSound b → IsAt b.lines i l → IsLeast l.number ns → AreAmong ns b → can l.session ≡ true → IsNext i b
+next-least b i l ns sound at least among able = record {
+  sound = sound;
+  within = at.within;
+  first = λ d. first-least 0 b.last b.lines i l sound.rising at
+      (all-map (λ (k : Line). find_line k.number b.lines ≡ Some k.session) (λ (k : Line). k.number < l.number → can k.session ≡ false) (λ k found lt. stuck k found lt (can k.session) refl) b.lines (found-all 0 b.last b.lines sound.rising))
+      able
+      ∙ ap Some (at.here ∙ get_or_default b.lines i l d at.within);
+}
+  where
+    stuck : (k : Line) → find_line k.number b.lines ≡ Some k.session → k.number < l.number → (c : Bool) → can k.session ≡ c → can k.session ≡ false
+    stuck k found lt true e = let up = least-upto l.number ns k.number least (among k.number (ap can_in found ∙ e)) in absurd (omega (arith, lt, up))
+    stuck k found lt false e = e
+
+-- nobody can take a turn where the set of those that can is empty
+pub none-among : (b : BrokerState) (ns : List ℕ) → IsSound b → ns ≡ [] → AreAmong ns b → first_able b.lines ≡ None
+none-among b ns sound none among = none-able b.lines (each-find (λ o. can_in o ≡ false) 0 b.last b.lines sound.rising (λ n. by n (can_in (find_line n b.lines)) refl))
+  where
+    by : (n : ℕ) (c : Bool) → can_in (find_line n b.lines) ≡ c → can_in (find_line n b.lines) ≡ false
+    by n true e = let c = subst (λ ks. Contains ks n) none (among n e) in absurd (let h = c.1 in omega (arith, h))
+    by n false e = e
+
+-- the first leaves the set, where it cannot take a turn
+pub among-popped : (b : BrokerState) (n : ℕ) (ns ms : List ℕ) → AreAmong ns b → ns ≡ n ∷ ms → can_in (find_line n b.lines) ≡ false → AreAmong ms b
+among-popped b n ns ms among is stuck k able = by (contains-cases n ms k (subst (λ ks. Contains ks k) is (among k able)))
+  where
+    by : (n ≡ k) ⊎ Contains ms k → Contains ms k
+    by (inl e) = let no : false ≡ true = sym stuck ∙ (ap (λ j. can_in (find_line j b.lines)) e ∙ able) in absurd (cc)
+    by (inr c) = c
+
+-- what left the set is what stood first in it
+pub popped-first : (r : Option ℕ) (n : ℕ) (ns ms : List ℕ) → (IsSome r ↔ (0 < length ns)) → IfSome r (λ k. ns ≡ k ∷ ms) → slice_get ns 0 ≡ Some n → ns ≡ n ∷ ms
+popped-first (Some k) n ns ms some is first = let same : k ≡ n = (let both : Some k ≡ Some n = ap (λ xs. slice_get xs 0) (sym is) ∙ first in cc) in is ∙ ap (λ j. j ∷ ms) same
+popped-first None n [] ms some is first = absurd (cc)
+popped-first None n (k ∷ ns) ms some is first = absurd (let no : false ≡ true = some.1 (omega arith) in cc)
+
+-- nothing stands first in it
+pub nothing-first : {X : Type 0} (r : Option X) (ns : List ℕ) → (IsSome r ↔ (0 < length ns)) → ((x : X) → r ≡ Some x → ⊥) → ns ≡ []
+nothing-first r [] some none = refl
+nothing-first (Some x) (n ∷ ns) some none = absurd (none x refl)
+nothing-first None (n ∷ ns) some none = absurd (let no : false ≡ true = some.1 (omega arith) in cc)
+
+-- after the turn of the connection of that number, of those that can take a turn, and looks at no other
+pub among-nobody : (a b : BrokerState) (i : ℕ) (ns : List ℕ) → IsNext i a → SameOthers (number_at i a) a b → AreAmong ns a → AreAmong ns b
+among-nobody a b i ns next same among k able = by (eqb (number_at i a) k) refl
+  where
+    d : Line
+    d = record { number = 0; session = fresh }
+
+    l : Line
+    l = get_or a.lines i d
+
+    at : IsAt a.lines i l
+    at = get-at a.lines i d next.within
+
+    own : Contains ns (number_at i a)
+    own = subst (Contains ns) (sym (number_at-is a i l at)) (among l.number (ap can_in (find-at 0 a.last a.lines i l next.sound.rising at) ∙ next-can a i l next at))
+
+    by : (c : Bool) → eqb (number_at i a) k ≡ c → Contains ns k
+    by true e = subst (Contains ns) (eqb_same (number_at i a) k e) own
+    by false e = among k (sym (ap can_in (same k (eqb_other (number_at i a) k e))) ∙ able)
+
+-- where the numbers of those that were looked at came into the set
+pub among-joined : (ns ms ks : List ℕ) (a b : BrokerState) → SameBut ns a b → AreAmong ms a → ((k : ℕ) → Contains ms k ⊎ Contains ns k → Contains ks k) → AreAmong ks b
+among-joined ns ms ks a b same among joined k able = joined k (among-same ns ms a b same among k able)
+
+pub from_is_ok : {A E : Type 0} (r : Result A E) (b : Bool) (P : Type 0) → b ≡ is_ok r → b ≡ true → OnOk r P → P
+from_is_ok (Ok x) b P e t h = h
+from_is_ok (Err x) b P e t h = let no : false ≡ true = sym e ∙ t in absurd (cc)
+
+-- the connection that alone can take a turn
+idle-able : (n k : ℕ) (ls : List Line) → AllByRecursion (λ (l : Line). l.number ≢ n → can l.session ≡ false) ls → k ≢ n → can_in (find_line k ls) ≡ true → ⊥
+idle-able n k [] idle ne able = let no : false ≡ true = able in absurd (cc)
+idle-able n k (l ∷ ls) idle ne able = by (eqb l.number k) refl (idle-able n k ls idle.1 ne) able
+  where
+    by : (c : Bool) → eqb l.number k ≡ c → (can_in (find_line k ls) ≡ true → ⊥) → can_in (cond c (Some l.session) (find_line k ls)) ≡ true → ⊥
+    by true e rest h = let no : false ≡ true = sym (idle.0 (λ same. ne (sym (eqb_same l.number k e) ∙ same))) ∙ h in absurd (cc)
+    by false e rest h = rest h
+
+-- after its turn, and looks
+pub among-idle : (n : ℕ) (ns : List ℕ) (a b : BrokerState) → AreIdle n a → Contains ns n → SameBut ns a b → AreAmong ns b
+among-idle n ns a b idle own same k able = by (among k ns)
+  where
+    by : Contains ns k ⊎ (Contains ns k → ⊥) → Contains ns k
+    by (inl c) = c
+    by (inr apart) = absurd (idle-able n k a.lines idle (λ e. apart (subst (Contains ns) (sym e) own)) (sym (ap can_in (same k apart)) ∙ able))
+
+-- 3. Turns that were taken
+
+-- connections took some turns from a on, and all that stands between turns holds
+pub record HasGone {S : Type 0} (disk : S → Disk) (a b : OnStore S) : Type 0 where
+  pub going : IsGoing a.state b.state
+  pub later : IsLater (disk a.store) (disk b.store)
+  pub unready : NoneReady disk b
+  pub still : is_honest disk b → IsScoped b.state
+  pub turned : is_honest disk b → (scope : Scope) → AreStill scope a.state → Turned scope a.state b.state
+
+pub gone-same : {S : Type 0} (disk : S → Disk) (a : OnStore S) → IsSound a.state → NoneReady disk a → (is_honest disk a → IsScoped a.state) → HasGone disk a a
+gone-same disk a sound unready still = record {
+  going = going-same a.state sound;
+  later = later-same (disk a.store);
+  unready = unready;
+  still = still;
+  turned = λ honest scope s. turned-same scope a.state sound s;
+}
+
+-- and then some more
+pub gone-then : {S : Type 0} (disk : S → Disk) (a b c : OnStore S) → HasGone disk a b → IsGoing b.state c.state → IsLater (disk b.store) (disk c.store) → (is_honest disk c → (scope : Scope) → AreStill scope b.state → Turned scope b.state c.state) → HasGone disk a c
+gone-then disk a b c h going later turned = record {
+  going = going-then a.state b.state c.state h.going going;
+  later = later-then (disk a.store) (disk b.store) (disk c.store) h.later later;
+  unready = λ honest. let before = later.honest honest in let scoped = h.still before in (turned honest scoped.0 scoped.1).unready (h.unready before);
+  still = λ honest. scoped-turned b.state c.state (h.still (later.honest honest)) (turned honest);
+  turned = λ honest scope s. let before = h.turned (later.honest honest) scope s in turned-then scope a.state b.state c.state before (turned honest scope before.still);
+}
+
+-- 4. One turn
+
+able-free : (s : Session) → can s ≡ true → is_free s.stage ≡ true
+unfolding can
+able-free s e = grind (arith, e)
+
+-- a connection that can take a turn does not stand in the queue
+pub not-parked : (H : Type 0) (q : Queue) (a b : BrokerState) (i : ℕ) (l : Line) → a ≡ b → IsQueueOf H q a.tenants a.lines → IsSound b → IsAt b.lines i l → can l.session ≡ true → fin.get q l.number ≡ None
+not-parked H q a b i l e v sound at able =
+    none (fin.get q l.number)
+    (v.dated l.number
+    ∙ (ap (λ (x : BrokerState). deadline_in (find_line l.number x.lines)) e
+    ∙ (ap deadline_in (find-at 0 b.last b.lines i l sound.rising at)
+    ∙ deadline-free l.session.stage (able-free l.session able))))
+  where
+    none : (o : Option queue.Wait) → until_of o ≡ None → o ≡ None
+    none (Some w) h = absurd (cc)
+    none None h = refl
+
+-- what the tenants keep after a turn at that stage, for those that stand in the queue
+carried-at : (H : Type 0) → H → (st : Stage) (b : BrokerState) (us : List TenantState) (q : Queue) → AreUnready AnyWait b → IsTurnAt H st b.tenants us → IsAskedOnAt st b.tenants us → IsCarried b.tenants us b.lines q
+carried-at H honest (Greets h) b us q unready turn asked = subst (λ ts. IsCarried b.tenants ts b.lines q) (sym turn) (carried-same b.tenants b.tenants b.lines q (λ t. omega arith) (λ t. refl))
+carried-at H honest (BoundTo t w) b us q unready turn asked = carried-turn H honest t b.tenants us b.lines q turn asked (waiting-on b unready)
+
+queue-taken : (H G : Type 0) (q p : Queue) (b : BrokerState) (i : ℕ) (l m : Line) (us : List TenantState) → IsQueueOf H q b.tenants b.lines → IsTaken G b i l m us → (G → H) → (H → AreUnready AnyWait b) → (G → IsAskedOnAt l.session.stage b.tenants us)
+    → ((k : ℕ) → k ≢ l.number → fin.get p k ≡ fin.get q k) → until_of (fin.get p l.number) ≡ deadline_at m.session.stage → (G → IsKeyedAt us m.session.stage (fin.get p l.number)) → IsQueueOf G p us (set b.lines i m)
+queue-taken H G q p b i l m us v k back unready asked parked dated keyed =
+    queue-put H G q p b.tenants us 0 b.last b.lines i l m v k.next.sound.rising k.at k.number back parked dated
+    (λ honest. carried-at G honest l.session.stage b us q (unready (back honest)) k.turn (asked honest)) keyed
+
+-- the queue after a turn, where a is what the broker's own fields are
+pub queue-turn : (H G : Type 0) (q p : Queue) (a b : BrokerState) (i : ℕ) (l m : Line) (us : List TenantState) → a ≡ b → IsQueueOf H q a.tenants a.lines → IsTaken G b i l m us → (G → H) → (H → AreUnready AnyWait b) → (G → IsAskedOnAt l.session.stage a.tenants us)
+    → ((k : ℕ) → k ≢ l.number → fin.get p k ≡ fin.get q k) → until_of (fin.get p l.number) ≡ deadline_at m.session.stage → (G → IsKeyedAt us m.session.stage (fin.get p l.number)) → IsQueueOf G p us (set a.lines i m)
+queue-turn H G q p a b i l m us e v k back unready asked parked dated keyed =
+    subst (λ (x : BrokerState). IsQueueOf H q x.tenants x.lines → (G → IsAskedOnAt l.session.stage x.tenants us) → IsQueueOf G p us (set x.lines i m)) (sym e)
+    (λ v' asked'. queue-taken H G q p b i l m us v' k back unready asked' parked dated keyed) v asked
+
+-- whose waiting fetches are to be looked at after it
+pub served-by : (H : Type 0) → H → (c : Concerned) (scope : Scope) (b : BrokerState) (i : ℕ) (l m : Line) (us : List TenantState) (q : Queue) → AreStill scope b → AreUnready AnyWait b → IsTaken H b i l m us → IsTakenAt H b.setup b.clock l.session.stage b.tenants us l.session m.session
+    → IsWhose c l.session.stage → IsLeftBy c b.setup b.clock l.session.stage l.number q b.tenants us l.session m.session → IsServedFor c scope b (put_with b i m us)
+served-by H honest concerned.Nobody scope b i l m us q still unready k is who left = served-quiet H honest scope b i l m us still unready k is left
+served-by H honest (concerned.These t ns) scope b i l m us q still unready k is who left = served-for (concerned.These t ns) l.session.stage scope b (put_with b i m us) (λ e. absurd (cc)) who (served-taken H honest scope b i l m us l.session.stage still k refl k.turn is)
+served-by H honest (concerned.All t) scope b i l m us q still unready k is who left = served-for (concerned.All t) l.session.stage scope b (put_with b i m us) (λ e. absurd (cc)) who (served-taken H honest scope b i l m us l.session.stage still k refl k.turn is)
+
+-- and that no other may be ready
+left-these : (H : Type 0) → H → (G : Type 0) → G → (t : ℕ) (ns : List ℕ) (b : BrokerState) (i : ℕ) (l m : Line) (us : List TenantState) (q : Queue) (st : Stage) → AreUnready AnyWait b → IsTaken H b i l m us → l.session.stage ≡ st → whose st ≡ Some t → IsQueueOf G q b.tenants b.lines
+    → IsTurnAt H st b.tenants us → IsPassedOn b.setup t b.clock l.number q b.tenants us l.session m.session ns → (k : ℕ) → IsMinded (whoms.Tenant t) ns (put_with b i m us) k
+left-these H honest G true-so t ns b i l m us q (Greets h) unready taken s who v turn p k = absurd (cc)
+left-these H honest G true-so t ns b i l m us q (BoundTo u x) unready taken s who v turn' p k =
+    find-set (λ o. IsUnreadyIn d o ⊎ (Contains ns k × IsSoughtIn (whoms.Tenant t) d.clock o)) 0 b.last k b.lines i l m taken.next.sound.rising taken.at taken.number
+    (λ ne. other (find_line k b.lines) refl ne) (λ e. inl (own-turn b i t l m us H turn honest taken.at (able-free l.session taken.able) (ap without_wait bound) (taken.spent.stage t x bound) p.session p.kept))
+  where
+    d : BrokerState
+    d = put_with b i m us
+
+    same : u ≡ t
+    same = cc
+
+    bound : l.session.stage ≡ BoundTo t x
+    bound = s ∙ ap (λ n. BoundTo n x) same
+
+    turn : IsTurn t H b.tenants us
+    turn = subst (λ n. IsTurn n H b.tenants us) same turn'
+
+    calm : hosted.refusals_of b.tenants t ≡ 0
+    calm = let up = turn.grows t in let end = p.calm in omega (arith, up, end)
+
+    apart : k ≢ l.number → (y : Session) (w : Wait) → find_line k b.lines ≡ Some y → y.stage ≡ BoundTo t (Some w) → ready (hosted.kept_of b.tenants t) b.clock w ≡ Silent → (Contains ns k → ⊥) → ready (hosted.kept_of us t) b.clock w ≡ Silent
+    apart ne y w e f silent not-in =
+        let keyed : IsKeyedAt b.tenants (BoundTo t (Some w)) (fin.get q k) = subst (λ st. IsKeyedAt b.tenants st (fin.get q k)) f (subst (λ o. IsKeyedIn b.tenants o (fin.get q k)) e (v.keyed true-so k)) in
+        p.others k w ne not-in (keyed calm (first-silent (hosted.kept_of b.tenants t) b.clock w silent)) silent
+
+    mine : k ≢ l.number → (y : Session) (w : Wait) → find_line k b.lines ≡ Some y → y.stage ≡ BoundTo t (Some w) → ready (hosted.kept_of b.tenants t) b.clock w ≡ Silent → Contains ns k ⊎ (Contains ns k → ⊥) → (ready (hosted.kept_of us t) b.clock w ≡ Silent) ⊎ Contains ns k
+    mine ne y w e f silent (inl c) = inr c
+    mine ne y w e f silent (inr not-in) = inl (apart ne y w e f silent not-in)
+
+    asked-here : (w : Wait) → (ready (hosted.kept_of us t) b.clock w ≡ Silent) ⊎ Contains ns k → IsUnready AnyWait d (BoundTo t (Some w)) ⊎ (Contains ns k × IsSoughtAt (whoms.Tenant t) d.clock (BoundTo t (Some w)))
+    asked-here w (inl silent) = inl (λ any. silent)
+    asked-here w (inr c) = inr (c, grind (arith, nat_tests))
+
+    waits : k ≢ l.number → (y : Session) (r : Stage) → find_line k b.lines ≡ Some y → y.stage ≡ r → IsUnready AnyWait b r → IsUnready AnyWait d r ⊎ (Contains ns k × IsSoughtAt (whoms.Tenant t) d.clock r)
+    waits ne y (Greets h) e f unready' = inl tt
+    waits ne y (BoundTo n None) e f unready' = inl tt
+    waits ne y (BoundTo n (Some w)) e f unready' = by (eqb t n) refl
+      where
+        by : (c : Bool) → eqb t n ≡ c → IsUnready AnyWait d (BoundTo n (Some w)) ⊎ (Contains ns k × IsSoughtAt (whoms.Tenant t) d.clock (BoundTo n (Some w)))
+        by true g =
+            let is : t ≡ n = eqb_same t n g in
+            subst (λ j. IsUnready AnyWait d (BoundTo j (Some w)) ⊎ (Contains ns k × IsSoughtAt (whoms.Tenant t) d.clock (BoundTo j (Some w)))) is
+            (asked-here w (mine ne y w e (f ∙ ap (λ j. BoundTo j (Some w)) (sym is)) (subst (λ j. ready (hosted.kept_of b.tenants j) b.clock w ≡ Silent) (sym is) (unready' tt)) (among k ns)))
+        by false g = inl (λ any. ap (λ x. ready x b.clock w) (turn.others honest n (eqb_other t n g)) ∙ unready' tt)
+
+    other : (o : Option Session) → find_line k b.lines ≡ o → k ≢ l.number → IsUnreadyIn d (find_line k b.lines) ⊎ (Contains ns k × IsSoughtIn (whoms.Tenant t) d.clock (find_line k b.lines))
+    other None e ne = inl (subst (IsUnreadyIn d) (sym e) tt)
+    other (Some y) e ne = subst (λ o. IsUnreadyIn d o ⊎ (Contains ns k × IsSoughtIn (whoms.Tenant t) d.clock o)) (sym e) (waits ne y y.stage e refl (subst (IsUnreadyIn b) e (unready-at b unready k)))
+
+pub left-by : (H : Type 0) → H → (G : Type 0) → G → (c : Concerned) (b : BrokerState) (i : ℕ) (l m : Line) (us : List TenantState) (q : Queue) → AreUnready AnyWait b → IsTaken H b i l m us → IsWhose c l.session.stage → IsQueueOf G q b.tenants b.lines
+    → IsLeftBy c b.setup b.clock l.session.stage l.number q b.tenants us l.session m.session → IsLeftTo c (put_with b i m us)
+left-by H honest G true-so concerned.Nobody b i l m us q unready k who v left = tt
+left-by H honest G true-so (concerned.These t ns) b i l m us q unready k who v left = left-these H honest G true-so t ns.items b i l m us q l.session.stage unready k refl who v k.turn left
+left-by H honest G true-so (concerned.All t) b i l m us q unready k who v left = tt
+
+-- where memory was refused all of the tenant are looked at
+pub refused-left : (c : Concerned) (st : Stage) (b : BrokerState) → IsAllOf c st → IsLeftTo c b
+refused-left concerned.Nobody st b all = tt
+refused-left (concerned.These t ns) st b all = absurd all
+refused-left (concerned.All t) st b all = tt
+
+pub refused-own : (c : Concerned) (st : Stage) (n : ℕ) → IsAllOf c st → IsOwnTo c n
+refused-own concerned.Nobody st n all = tt
+refused-own (concerned.These t ns) st n all = absurd all
+refused-own (concerned.All t) st n all = tt
+
+-- whose turn it was stands among those that partitions concern
+pub own-concern : (c : Concerned) (t n : ℕ) (ts : List TenantState) (q : Queue) (touched : Option (Vec Place Global)) → IsConcern c t n ts q touched → IsOwnTo c n
+own-concern concerned.Nobody t n ts q touched is = tt
+own-concern (concerned.These u ns) t n ts q None is = absurd is
+own-concern (concerned.These u ns) t n ts q (Some places) is = is.1.own
+own-concern (concerned.All u) t n ts q touched is = tt
+
+-- those were looked at again
+pub turned-these : (t : ℕ) (ns : List ℕ) (scope : Scope) (a b c : BrokerState) → Served t scope a b → AreMinded (whoms.Tenant t) b c ns → ((k : ℕ) → IsMinded (whoms.Tenant t) ns b k) → Turned scope a c
+turned-these t ns scope a b c served minded left =
+    let unready : AreUnready AnyWait c = minded-all (whoms.Tenant t) b c ns minded left in
+    turned-served t scope a b c served minded.waked (unready-weaken AnyWait (IsLookedFor (whoms.Tenant t) b.clock) c (λ u w h. tt) unready) (λ u. unready)
+
+pub confined-these : (ns : List ℕ) (n : ℕ) (a b c : BrokerState) → Contains ns n → SameOthers n a b → SameBut ns b c → SameBut ns a c
+confined-these ns n a b c own first then k apart = then k apart ∙ first k (λ e. apart (subst (Contains ns) (sym e) own))
+
+-- 5. A moment
+
+-- what retention, and then looks, left of the broker on its store, before the turns
+pub record IsAwake {S : Type 0} (disk : S → Disk) (now : ℕ) (whom : Whom) (a s b : OnStore S) : Type 0 where
+  pub ready : IsReadyOn disk a
+  pub first : IsLater (disk a.store) (disk s.store)
+  pub begun : HasBegun (is_honest disk s) now whom a.state s.state
+  pub going : IsGoing s.state b.state
+  pub later : IsLater (disk s.store) (disk b.store)
+  pub waked : is_honest disk b → Waked whom s.state b.state
+  pub rest : is_honest disk b → AreUnready (IsPassedOver whom s.state.clock) s.state → AreUnready AnyWait b.state
+
+pub awake-unready : {S : Type 0} (disk : S → Disk) (now : ℕ) (whom : Whom) (a s b : OnStore S) → IsAwake disk now whom a s b → NoneReady disk b
+awake-unready disk now whom a s b h = λ honest.
+    let then = h.later.honest honest in
+    h.rest honest (unready-over (is_honest disk s) then now whom a.state s.state (ready-of disk a h.ready (h.first.honest then)) h.begun)
+
+pub awake-still : {S : Type 0} (disk : S → Disk) (now : ℕ) (whom : Whom) (a s b : OnStore S) → IsAwake disk now whom a s b → is_honest disk b → IsScoped b.state
+awake-still disk now whom a s b h = λ honest. (Everybody, waked-still (is_honest disk s) now whom a.state s.state b.state h.ready.settled h.begun (h.waked honest))
+
+-- those that were looked at are all that can take a turn
+pub awake-among : {S : Type 0} (disk : S → Disk) (now : ℕ) (whom : Whom) (a s b : OnStore S) (ns : List ℕ) → IsAwake disk now whom a s b → SameBut ns s.state b.state → AreAmong ns b.state
+awake-among disk now whom a s b ns h same = among-settled ns s.state b.state (idle-none (is_honest disk s) now whom a.state s.state s.state h.ready.settled h.begun refl) same
+
+-- what a moment leaves
+pub record IsMovedOn {S : Type 0} (disk : S → Disk) (now : ℕ) (a d : OnStore S) : Type 0 where
+  pub ready : IsReadyOn disk d
+  pub later : IsLater (disk a.store) (disk d.store)
+  pub step : StepsTo disk (Moment now) a d
+  pub clock : d.state.clock ≡ max a.state.clock now
+  pub last : d.state.last ≡ a.state.last
+  pub numbers : numbers d.state ≡ numbers a.state
+  pub others : is_honest disk d → (k : ℕ) → waits_in (find_line k a.state.lines) ≡ false → find_line k d.state.lines ≡ find_line k a.state.lines
+
+pub moved-on : {S : Type 0} (disk : S → Disk) (now : ℕ) (whom : Whom) (a s b d : OnStore S) → IsAwake disk now whom a s b → IsGoing b.state d.state → IsLater (disk b.store) (disk d.store)
+    → (is_honest disk d → (scope : Scope) → AreStill scope b.state → Turned scope b.state d.state) → first_able d.state.lines ≡ None → IsMovedOn disk now a d
+moved-on disk now whom a s b d h going later turned settled =
+    let H = is_honest disk s in
+    let after = later-then (disk s.store) (disk b.store) (disk d.store) h.later later in
+    let whole = later-then (disk a.store) (disk s.store) (disk d.store) h.first after in
+    let gone = moved-going H now whom a.state s.state b.state h.ready.settled h.begun d.state h.going going in
+    let moved : is_honest disk d → IsMoved H now whom a.state s.state b.state d.state = λ honest. record {
+      ready = ready-of disk a h.ready (whole.honest honest);
+      begun = h.begun;
+      waked = h.waked (later.honest honest);
+      rest = h.rest (later.honest honest);
+      turned = turned honest;
+      none = settled;
+    } in
+    record {
+      ready = record { sound = gone.sound; settled = settled; unready = λ honest. moved-unready H (after.honest honest) now whom a.state s.state b.state d.state (moved honest) };
+      later = whole;
+      step = λ honest. moved-step H (after.honest honest) now whom a.state s.state b.state d.state (moved honest);
+      clock = gone.clock;
+      last = gone.last;
+      numbers = gone.numbers;
+      others = λ honest. moved-others H (after.honest honest) now whom a.state s.state b.state d.state (moved honest);
+    }

@@ -1,0 +1,358 @@
+-- The queue of the connections that wait, as the broker changes; and what is told by the numbers of connections.
+use Rattle.std.proofs.Common.{◌≡◌, ◌≢◌, ◌++◌, ◌<◌, ◌≤◌, ℕ, List, [], ◌∷◌, length, get_or, set, eqb, nat_cmp, Option, Some, None, Bool, true, false, zero, suc, inl, inr, refl, sym, ◌∙◌, ap, subst, arith}
+use Rattle.std.specs.Prelude.{cond, Contains, IsSomeAnd, ◌⊎◌, nat_le}
+use Rattle.std.specs.FinMap as fin
+use Rattle.std.specs.List.{AllByRecursion}
+use Rattle.std.proofs.lemmas.Bool.Decides.{nat_tests}
+use Rattle.std.proofs.lemmas.List.Elements.{Contains-push_cases}
+use Rattle.kb_waits.specs.Queue as queue
+use Rattle.kb_waits.specs.Queue.{Queue, AreParked, IsDue, IsUnder}
+use Rattle.kb_world.specs.Steps.{IsCalm}
+use Rattle.kb_tenant.specs.Hosted as hosted
+use Rattle.kb_tenant.specs.Hosted.{TenantState, IsTurn, AreRetained, retained}
+use Rattle.kb_tenant.specs.Replies.{Silent}
+use Rattle.kb_machine.specs.Tenant.{ready, asked}
+use Rattle.kb_machine.specs.Session.{Stage, Greets, BoundTo, Session, is_free, can}
+use Rattle.kb_machine.specs.Machine.{Line, first_able}
+use Rattle.kb_machine.specs.Owners.{find_line}
+use Rattle.kb_machine.specs.Broker.{BrokerState, IsSound, IsUnready, AreUnready, AnyWait, Rising, kept_of}
+use Rattle.kb_machine.specs.declared.whom.Whom.{Whom}
+use Rattle.kb_machine.specs.declared.whom.Whom.TheVariants as whoms
+use Rattle.kb_machine.specs.Turned.{Waked, IsPassedOver, SameOthers}
+use Rattle.kb_machine.proofs.Sets.{IsAt, all-map, all-still, find-at, find-set_other, rising-set, rising-above, set-at, tail-at, no-at}
+use Rattle.kb_machine.proofs.Parts.{each-tenant, eqb_same, eqb_other}
+use Rattle.kb_machine.proofs.Owned.{found as found-all}
+use Rattle.kb_machine.proofs.Quiet.{first-silent, asked-retained}
+use Rattle.kb_machine.proofs.Turns.{unready-same}
+use Rattle.kb_machine.proofs.Wakes.{waked-same, waked-then}
+use Rattle.kb_broker.specs.Parked.{keys_of, deadline_at, deadline_in, until_of, IsKeyedAt, IsKeyedIn, IsQueueOf, IsAskedOn, IsWaitingOnAt, AreWaitingOn, IsUnreadyIn, IsUnreadyAt, IsSoughtAt, IsSoughtIn, IsMinded, AreMinded, SameBut, can_in, AreAmong}
+
+-- 1. The connection of a number
+
+-- in a list with one more at its end
+pub find-push : (P : Option Session → Type 0) (n : ℕ) (ls : List Line) (l : Line) → P (find_line n ls) → (find_line n ls ≡ None → P (Some l.session)) → P (find_line n (ls ++ l ∷ []))
+find-push P n [] l old new = by (eqb l.number n)
+  where
+    by : (b : Bool) → P (cond b (Some l.session) None)
+    by true = new refl
+    by false = old
+find-push P n (k ∷ ls) l old new = by (eqb k.number n) (find-push P n ls l) old new
+  where
+    by : (b : Bool) → (P (find_line n ls) → (find_line n ls ≡ None → P (Some l.session)) → P (find_line n (ls ++ l ∷ []))) → P (cond b (Some k.session) (find_line n ls)) → (cond b (Some k.session) (find_line n ls) ≡ None → P (Some l.session)) → P (cond b (Some k.session) (find_line n (ls ++ l ∷ [])))
+    by true rest old new = old
+    by false rest old new = rest old new
+
+-- in a list with another at a place
+pub find-set : (P : Option Session → Type 0) (low last n : ℕ) (ls : List Line) (i : ℕ) (l m : Line) → Rising low last ls → IsAt ls i l → m.number ≡ l.number → (n ≢ l.number → P (find_line n ls)) → (n ≡ l.number → P (Some m.session)) → P (find_line n (set ls i m))
+find-set P low last n ls i l m rising at same other own = by (eqb l.number n) refl
+  where
+    by : (b : Bool) → eqb l.number n ≡ b → P (find_line n (set ls i m))
+    by true e =
+        let is : l.number ≡ n = eqb_same l.number n e in
+        let here : find_line n (set ls i m) ≡ Some m.session = ap (λ k. find_line k (set ls i m)) (sym (same ∙ is)) ∙ find-at low last (set ls i m) i m (rising-set low last ls i l m rising at same) (set-at ls i l m at) in
+        subst P (sym here) (own (sym is))
+    by false e = let ne : n ≢ l.number = eqb_other l.number n e in subst P (sym (find-set_other n ls i l m at same ne)) (other ne)
+
+-- of the connection of a number holds what holds of each
+pub find-each : (P : Session → Type 0) (n : ℕ) (s : Session) (ls : List Line) → AllByRecursion (λ (l : Line). P l.session) ls → find_line n ls ≡ Some s → P s
+find-each P n s [] h e = absurd (cc)
+find-each P n s (l ∷ ls) h e = by (eqb l.number n) (find-each P n s ls h.1) e
+  where
+    by : (b : Bool) → (find_line n ls ≡ Some s → P s) → cond b (Some l.session) (find_line n ls) ≡ Some s → P s
+    by true rest g = let is : l.session ≡ s = cc in subst P is h.0
+    by false rest g = rest g
+
+-- and of each holds what holds of the connection of each number
+pub each-find : (P : Option Session → Type 0) (low last : ℕ) (ls : List Line) → Rising low last ls → ((n : ℕ) → P (find_line n ls)) → AllByRecursion (λ (l : Line). P (Some l.session)) ls
+each-find P low last ls rising h = all-map (λ (l : Line). find_line l.number ls ≡ Some l.session) (λ (l : Line). P (Some l.session)) (λ l is. subst P is (h l.number)) ls (found-all low last ls rising)
+
+-- 2. The queue
+
+keyed-free : (ts : List TenantState) (st : Stage) (o : Option queue.Wait) → deadline_at st ≡ None → IsKeyedAt ts st o
+keyed-free ts (Greets h) o e = tt
+keyed-free ts (BoundTo t None) o e = tt
+keyed-free ts (BoundTo t (Some w)) o e = absurd (cc)
+
+pub deadline-free : (st : Stage) → is_free st ≡ true → deadline_at st ≡ None
+deadline-free (Greets h) e = refl
+deadline-free (BoundTo t None) e = refl
+deadline-free (BoundTo t (Some w)) e = let no : false ≡ true = e in absurd (cc)
+
+-- of nobody
+pub queue-none : (H : Type 0) (ts : List TenantState) → IsQueueOf H fin.empty ts []
+queue-none H ts = record { dated = λ n. ap until_of (fin.get-empty nat_cmp n); keyed = λ honest n. tt }
+
+-- one more is connected
+pub queue-opened : (H : Type 0) (q : Queue) (ts : List TenantState) (ls : List Line) (l : Line) → IsQueueOf H q ts ls → deadline_at l.session.stage ≡ None → IsQueueOf H q ts (ls ++ l ∷ [])
+queue-opened H q ts ls l v free = record {
+  dated = λ n. find-push (λ o. until_of (fin.get q n) ≡ deadline_in o) n ls l (v.dated n) (λ none. v.dated n ∙ (ap deadline_in none ∙ sym free));
+  keyed = λ honest n. find-push (λ o. IsKeyedIn ts o (fin.get q n)) n ls l (v.keyed honest n) (λ none. keyed-free ts l.session.stage (fin.get q n) free);
+}
+
+-- what holds of the tenants then
+pub record IsCarried (ts us : List TenantState) (ls : List Line) (q : Queue) : Type 0 where
+  pub keyed : (k : ℕ) (s : Session) → find_line k ls ≡ Some s → IsKeyedAt ts s.stage (fin.get q k) → IsKeyedAt us s.stage (fin.get q k)
+
+carried-in : (ts us : List TenantState) (ls : List Line) (q : Queue) (k : ℕ) → IsCarried ts us ls q → IsKeyedIn ts (find_line k ls) (fin.get q k) → IsKeyedIn us (find_line k ls) (fin.get q k)
+carried-in ts us ls q k c h = by (find_line k ls) refl h
+  where
+    by : (o : Option Session) → find_line k ls ≡ o → IsKeyedIn ts o (fin.get q k) → IsKeyedIn us o (fin.get q k)
+    by None e h = tt
+    by (Some s) e h = c.keyed k s e h
+
+-- the tenants have changed
+pub queue-tenants : (H G : Type 0) (q : Queue) (ts us : List TenantState) (ls : List Line) → IsQueueOf H q ts ls → (G → H) → (G → IsCarried ts us ls q) → IsQueueOf G q us ls
+queue-tenants H G q ts us ls v back carried = record {
+  dated = v.dated;
+  keyed = λ honest n. carried-in ts us ls q n (carried honest) (v.keyed (back honest) n);
+}
+
+-- the connection at a place has changed, and what stands in the queue of it
+pub queue-put : (H G : Type 0) (q p : Queue) (ts us : List TenantState) (low last : ℕ) (ls : List Line) (i : ℕ) (l m : Line) → IsQueueOf H q ts ls → Rising low last ls → IsAt ls i l → m.number ≡ l.number → (G → H)
+    → ((k : ℕ) → k ≢ l.number → fin.get p k ≡ fin.get q k) → until_of (fin.get p l.number) ≡ deadline_at m.session.stage
+    → (G → IsCarried ts us ls q) → (G → IsKeyedAt us m.session.stage (fin.get p l.number)) → IsQueueOf G p us (set ls i m)
+queue-put H G q p ts us low last ls i l m v rising at same back others dated carried keyed = record {
+  dated = λ n. find-set (λ o. until_of (fin.get p n) ≡ deadline_in o) low last n ls i l m rising at same (λ ne. ap until_of (others n ne) ∙ v.dated n) (λ e. subst (λ k. until_of (fin.get p k) ≡ deadline_at m.session.stage) (sym e) dated);
+  keyed = λ honest n. find-set (λ o. IsKeyedIn us o (fin.get p n)) low last n ls i l m rising at same
+      (λ ne. subst (IsKeyedIn us (find_line n ls)) (sym (others n ne)) (carried-in ts us ls q n (carried honest) (v.keyed (back honest) n)))
+      (λ e. subst (λ k. IsKeyedAt us m.session.stage (fin.get p k)) (sym e) (keyed honest));
+}
+
+-- the same, where it waits for nothing then and stands in the queue no longer
+pub queue-left : (H G : Type 0) (q p : Queue) (ts us : List TenantState) (low last : ℕ) (ls : List Line) (i : ℕ) (l m : Line) → IsQueueOf H q ts ls → Rising low last ls → IsAt ls i l → m.number ≡ l.number → (G → H)
+    → ((k : ℕ) → k ≢ l.number → fin.get p k ≡ fin.get q k) → fin.get p l.number ≡ None → deadline_at m.session.stage ≡ None
+    → (G → IsCarried ts us ls q) → IsQueueOf G p us (set ls i m)
+queue-left H G q p ts us low last ls i l m v rising at same back others gone free carried =
+    queue-put H G q p ts us low last ls i l m v rising at same back others (ap until_of gone ∙ sym free) carried (λ honest. keyed-free us m.session.stage (fin.get p l.number) free)
+
+-- the same, where it waits as before
+pub queue-kept : (H G : Type 0) (q : Queue) (ts us : List TenantState) (low last : ℕ) (ls : List Line) (i : ℕ) (l m : Line) → IsQueueOf H q ts ls → Rising low last ls → IsAt ls i l → m.number ≡ l.number → (G → H)
+    → m.session.stage ≡ l.session.stage → (G → IsCarried ts us ls q) → IsQueueOf G q us (set ls i m)
+queue-kept H G q ts us low last ls i l m v rising at same back stage carried =
+    let here : find_line l.number ls ≡ Some l.session = find-at low last ls i l rising at in
+    queue-put H G q q ts us low last ls i l m v rising at same back (λ k ne. refl) (v.dated l.number ∙ (ap deadline_in here ∙ ap deadline_at (sym stage))) carried
+    (λ honest. subst (λ st. IsKeyedAt us st (fin.get q l.number)) (sym stage) ((carried honest).keyed l.number l.session here (subst (λ o. IsKeyedIn ts o (fin.get q l.number)) here (v.keyed (back honest) l.number))))
+
+-- nobody waits where the queue is empty
+pub nobody-waits : (H : Type 0) (q : Queue) (ts : List TenantState) (n : ℕ) (ls : List Line) → IsQueueOf H q ts ls → fin.get q n ≡ None → deadline_in (find_line n ls) ≡ None
+nobody-waits H q ts n ls v none = sym (v.dated n) ∙ ap until_of none
+
+-- 3. What tenants keep
+
+-- counts have only risen, and what is kept is the same
+pub carried-same : (ts us : List TenantState) (ls : List Line) (q : Queue) → ((t : ℕ) → hosted.refusals_of ts t ≤ hosted.refusals_of us t) → ((t : ℕ) → hosted.kept_of us t ≡ hosted.kept_of ts t) → IsCarried ts us ls q
+carried-same ts us ls q grows kept = record { keyed = λ k s e h. at s.stage (fin.get q k) h }
+  where
+    before : (t : ℕ) → hosted.refusals_of us t ≡ 0 → hosted.refusals_of ts t ≡ 0
+    before t calm = let up = grows t in omega (arith, calm, up)
+
+    at : (st : Stage) (o : Option queue.Wait) → IsKeyedAt ts st o → IsKeyedAt us st o
+    at (Greets h) o k = tt
+    at (BoundTo t None) o k = tt
+    at (BoundTo t (Some w)) o k = λ calm silent.
+        k (before t calm) (subst (λ x. ready x 0 w ≡ Silent) (kept t) silent) ∙ ap (λ x. Some (keys_of t (asked x w))) (sym (kept t))
+
+waiting-find : (ts : List TenantState) (k : ℕ) (s : Session) (ls : List Line) → AllByRecursion (λ (l : Line). IsWaitingOnAt ts l.session.stage) ls → find_line k ls ≡ Some s → IsWaitingOnAt ts s.stage
+waiting-find ts k s ls h e = find-each (λ (x : Session). IsWaitingOnAt ts x.stage) k s ls h e
+
+-- a call for a tenant, after which a fetch that still waits asks the same
+pub carried-turn : (H : Type 0) → H → (u : ℕ) (ts us : List TenantState) (ls : List Line) (q : Queue) → IsTurn u H ts us → IsAskedOn u ts us → AllByRecursion (λ (l : Line). IsWaitingOnAt ts l.session.stage) ls → IsCarried ts us ls q
+carried-turn H honest u ts us ls q turn still waiting = record { keyed = λ k s e h. at s.stage (fin.get q k) (waiting-find ts k s ls waiting e) h }
+  where
+    before : (t : ℕ) → hosted.refusals_of us t ≡ 0 → hosted.refusals_of ts t ≡ 0
+    before t calm = let up = turn.grows t in omega (arith, calm, up)
+
+    at : (st : Stage) (o : Option queue.Wait) → IsWaitingOnAt ts st → IsKeyedAt ts st o → IsKeyedAt us st o
+    at (Greets h) o w k = tt
+    at (BoundTo t None) o w k = tt
+    at (BoundTo t (Some w)) o waits k = λ calm silent.
+        let same = each-tenant (λ v. hosted.refusals_of us v ≡ 0 → ready (hosted.kept_of ts v) 0 w ≡ Silent → ready (hosted.kept_of us v) 0 w ≡ Silent → asked (hosted.kept_of us v) w ≡ asked (hosted.kept_of ts v) w) u t (eqb u t) refl
+        (λ c. still c w) (λ ne c a b. ap (λ x. asked x w) (turn.others honest t ne)) calm waits silent in
+        k (before t calm) waits ∙ ap (λ ps. Some (keys_of t ps)) (sym same)
+
+-- retention
+pub carried-retained : (H : Type 0) → H → (clock : ℕ) (ts us : List TenantState) (ls : List Line) (q : Queue) → AreRetained clock H ts us → AllByRecursion (λ (l : Line). IsWaitingOnAt ts l.session.stage) ls → IsCarried ts us ls q
+carried-retained H honest clock ts us ls q kept waiting = record { keyed = λ k s e h. at s.stage (fin.get q k) (waiting-find ts k s ls waiting e) h }
+  where
+    before : (t : ℕ) → hosted.refusals_of us t ≡ 0 → hosted.refusals_of ts t ≡ 0
+    before t calm = let up = kept.grows t in omega (arith, calm, up)
+
+    quiet : (t : ℕ) → hosted.refusals_of us t ≡ 0 → IsCalm (hosted.refusals_of ts t) (hosted.refusals_of us t)
+    quiet t calm = let none = before t calm in record { same = calm ∙ sym none; below = grind (arith, nat_tests, none) }
+
+    at : (st : Stage) (o : Option queue.Wait) → IsWaitingOnAt ts st → IsKeyedAt ts st o → IsKeyedAt us st o
+    at (Greets h) o w k = tt
+    at (BoundTo t None) o w k = tt
+    at (BoundTo t (Some w)) o waits k = λ calm silent.
+        k (before t calm) waits ∙ ap (λ ps. Some (keys_of t ps)) (sym (ap (λ x. asked x w) (kept.kept honest t (quiet t calm)) ∙ asked-retained clock (hosted.kept_of ts t) w))
+
+-- where no fetch that waits is ready, each would wait at the first moment too
+pub waiting-on : (b : BrokerState) → AreUnready AnyWait b → AreWaitingOn b
+waiting-on b u = all-map (λ (l : Line). IsUnready AnyWait b l.session.stage) (λ (l : Line). IsWaitingOnAt b.tenants l.session.stage) (λ l. at l.session.stage) b.lines u
+  where
+    at : (st : Stage) → IsUnready AnyWait b st → IsWaitingOnAt b.tenants st
+    at (Greets h) u = tt
+    at (BoundTo t None) u = tt
+    at (BoundTo t (Some w)) u = first-silent (kept_of b t) b.clock w (u tt)
+
+-- 4. Unready, by number
+
+pub unready-at : (b : BrokerState) → AreUnready AnyWait b → (k : ℕ) → IsUnreadyAt k b
+unready-at b u k = by (find_line k b.lines) refl
+  where
+    by : (o : Option Session) → find_line k b.lines ≡ o → IsUnreadyIn b o
+    by None e = tt
+    by (Some s) e = find-each (λ (x : Session). IsUnready AnyWait b x.stage) k s b.lines u e
+
+pub at-unready : (b : BrokerState) → IsSound b → ((k : ℕ) → IsUnreadyAt k b) → AreUnready AnyWait b
+at-unready b sound h = each-find (IsUnreadyIn b) 0 b.last b.lines sound.rising h
+
+unready-in : (a b : BrokerState) (o : Option Session) → b.clock ≡ a.clock → ((t : ℕ) → kept_of b t ≡ kept_of a t) → IsUnreadyIn a o → IsUnreadyIn b o
+unready-in a b None clock kept u = tt
+unready-in a b (Some s) clock kept u = unready-same AnyWait a b s.stage clock kept u
+
+-- a connection that is the same at a later moment, in which tenants keep the same
+pub unready-later : (a b : BrokerState) (k : ℕ) → b.clock ≡ a.clock → ((t : ℕ) → kept_of b t ≡ kept_of a t) → find_line k b.lines ≡ find_line k a.lines → IsUnreadyAt k a → IsUnreadyAt k b
+unready-later a b k clock kept same u = subst (IsUnreadyIn b) (sym same) (unready-in a b (find_line k a.lines) clock kept u)
+
+-- 5. Looks by number
+
+pub minded-none : (whom : Whom) (b : BrokerState) → IsSound b → AreMinded whom b b []
+minded-none whom b sound = record { waked = waked-same whom b sound; rest = λ k u. u; done = λ k c s. absurd (let h = c.1 in omega (arith, h)); todo = λ k. inr refl }
+
+-- a number under which nobody is connected
+pub minded-absent : (whom : Whom) (a b : BrokerState) (n : ℕ) (ns : List ℕ) → AreMinded whom a b ns → find_line n b.lines ≡ None → AreMinded whom a b (ns ++ n ∷ [])
+minded-absent whom a b n ns v none = record { waked = v.waked; rest = v.rest; done = λ k c s. by k s (Contains-push_cases ns n k c); todo = v.todo }
+  where
+    by : (k : ℕ) → IsSoughtIn whom a.clock (find_line k a.lines) → Contains ns k ⊎ (n ≡ k) → IsUnreadyAt k b
+    by k s (inl c) = v.done k c s
+    by k s (inr e) = subst (IsUnreadyIn b) (sym (ap (λ j. find_line j b.lines) (sym e) ∙ none)) tt
+
+-- one look more: what it leaves of the connection of that number
+pub record IsMindedOne (whom : Whom) (n : ℕ) (b c : BrokerState) : Type 0 where
+  pub waked : Waked whom b c
+  pub others : SameOthers n b c
+  pub rest : IsUnreadyAt n b → IsUnreadyAt n c
+  pub done : IsSoughtIn whom b.clock (find_line n b.lines) → IsUnreadyAt n c
+  pub todo : IsUnreadyAt n c ⊎ (find_line n c.lines ≡ find_line n b.lines)
+
+pub minded-more : (whom : Whom) (a b c : BrokerState) (n : ℕ) (ns : List ℕ) → AreMinded whom a b ns → IsMindedOne whom n b c → AreMinded whom a c (ns ++ n ∷ [])
+minded-more whom a b c n ns v one = record {
+  waked = waked-then whom a b c v.waked one.waked;
+  rest = λ k u. later k (v.rest k u);
+  done = λ k in' s. by k s (Contains-push_cases ns n k in');
+  todo = λ k. left k (eqb n k) refl (v.todo k);
+}
+  where
+    clock : c.clock ≡ b.clock
+    clock = one.waked.going.clock
+
+    other : (k : ℕ) → k ≢ n → IsUnreadyAt k b → IsUnreadyAt k c
+    other k ne u = unready-later b c k clock one.waked.kept (one.others k ne) u
+
+    later : (k : ℕ) → IsUnreadyAt k b → IsUnreadyAt k c
+    later k u = each-tenant (λ j. IsUnreadyAt j b → IsUnreadyAt j c) n k (eqb n k) refl one.rest (other k) u
+
+    sought : IsSoughtIn whom a.clock (find_line n a.lines) → IsUnreadyAt n b ⊎ (find_line n b.lines ≡ find_line n a.lines) → IsUnreadyAt n c
+    sought s (inl u) = one.rest u
+    sought s (inr same) = one.done (subst (λ x. IsSoughtIn whom x (find_line n b.lines)) (sym v.waked.going.clock) (subst (IsSoughtIn whom a.clock) (sym same) s))
+
+    by : (k : ℕ) → IsSoughtIn whom a.clock (find_line k a.lines) → Contains ns k ⊎ (n ≡ k) → IsUnreadyAt k c
+    by k s (inl in') = later k (v.done k in' s)
+    by k s (inr e) = subst (λ j. IsUnreadyAt j c) e (sought (subst (λ j. IsSoughtIn whom a.clock (find_line j a.lines)) (sym e) s) (v.todo n))
+
+    left-own : IsUnreadyAt n b ⊎ (find_line n b.lines ≡ find_line n a.lines) → IsUnreadyAt n c ⊎ (find_line n c.lines ≡ find_line n b.lines) → IsUnreadyAt n c ⊎ (find_line n c.lines ≡ find_line n a.lines)
+    left-own before (inl u) = inl u
+    left-own (inl u) (inr same) = inl (one.rest u)
+    left-own (inr first) (inr same) = inr (same ∙ first)
+
+    left-other : (k : ℕ) → k ≢ n → IsUnreadyAt k b ⊎ (find_line k b.lines ≡ find_line k a.lines) → IsUnreadyAt k c ⊎ (find_line k c.lines ≡ find_line k a.lines)
+    left-other k ne (inl u) = inl (other k ne u)
+    left-other k ne (inr same) = inr (one.others k ne ∙ same)
+
+    left : (k : ℕ) (b' : Bool) → eqb n k ≡ b' → IsUnreadyAt k b ⊎ (find_line k b.lines ≡ find_line k a.lines) → IsUnreadyAt k c ⊎ (find_line k c.lines ≡ find_line k a.lines)
+    left k true e before = let is = eqb_same n k e in subst (λ j. IsUnreadyAt j c ⊎ (find_line j c.lines ≡ find_line j a.lines)) is (left-own (subst (λ j. IsUnreadyAt j b ⊎ (find_line j b.lines ≡ find_line j a.lines)) (sym is) before) one.todo)
+    left k false e before = left-other k (eqb_other n k e) before
+
+-- where each is unready, or is looked at, none is ready then
+pub minded-all : (whom : Whom) (a b : BrokerState) (ns : List ℕ) → AreMinded whom a b ns → ((k : ℕ) → IsMinded whom ns a k) → AreUnready AnyWait b
+minded-all whom a b ns v all = at-unready b v.waked.going.sound (λ k. by k (all k))
+  where
+    by : (k : ℕ) → IsMinded whom ns a k → IsUnreadyAt k b
+    by k (inl u) = v.rest k u
+    by k (inr p) = v.done k p.0 p.1
+
+-- 6. What a turn leaves to be looked at
+
+-- a number is in a list or is not
+pub among : (k : ℕ) (ns : List ℕ) → Contains ns k ⊎ (Contains ns k → ⊥)
+among k [] = inr (λ c. let h = c.1 in omega (arith, h))
+among k (n ∷ ns) = by (eqb n k) refl (among k ns)
+  where
+    by : (b : Bool) → eqb n k ≡ b → Contains ns k ⊎ (Contains ns k → ⊥) → Contains (n ∷ ns) k ⊎ (Contains (n ∷ ns) k → ⊥)
+    by true e rest = inl (0, omega arith, eqb_same n k e)
+    by false e (inl c) = inl (suc c.0, (let h = c.1 in omega (arith, h)), c.2)
+    by false e (inr not-in) = inr (λ c. at c.0 c.1 c.2)
+      where
+        at : (i : ℕ) → i < suc (length ns) → get_or (n ∷ ns) i k ≡ k → ⊥
+        at zero lt is = eqb_other n k e (sym is)
+        at (suc i) lt is = not-in (i, omega (arith, lt), is)
+
+-- the due ones are looked at, where the others are not ready
+pub due-minded : (H : Type 0) (q : Queue) (b : BrokerState) (ns : List ℕ) → IsQueueOf H q b.tenants b.lines → AreParked q (IsDue b.clock) ns → AreUnready (IsPassedOver whoms.Due b.clock) b → (k : ℕ) → IsMinded whoms.Due ns b k
+due-minded H q b ns v parked unready k = by (find_line k b.lines) refl
+  where
+    due : (o : Option queue.Wait) (d : ℕ) → until_of o ≡ Some d → d ≤ b.clock → IsSomeAnd o (IsDue b.clock)
+    due None d e le = absurd (cc)
+    due (Some x) d e le = let is : x.deadline ≡ d = cc in omega (arith, is, le)
+
+    waits : (s : Session) (st : Stage) → s.stage ≡ st → find_line k b.lines ≡ Some s → IsUnready (IsPassedOver whoms.Due b.clock) b st → IsUnready AnyWait b st ⊎ (Contains ns k × IsSoughtAt whoms.Due b.clock st)
+    waits s (Greets h) is e u = inl tt
+    waits s (BoundTo t None) is e u = inl tt
+    waits s (BoundTo t (Some w)) is e u = when (nat_le w.deadline b.clock) refl
+      where
+        until : until_of (fin.get q k) ≡ Some w.deadline
+        until = v.dated k ∙ (ap deadline_in e ∙ ap deadline_at is)
+
+        when : (c : Bool) → nat_le w.deadline b.clock ≡ c → IsUnready AnyWait b (BoundTo t (Some w)) ⊎ (Contains ns k × IsSoughtAt whoms.Due b.clock (BoundTo t (Some w)))
+        when true c = inr ((parked.exactly k).1 (due (fin.get q k) w.deadline until (grind (arith, nat_tests, c))), c)
+        when false c = inl (λ any. u c)
+
+    by : (o : Option Session) → find_line k b.lines ≡ o → IsMinded whoms.Due ns b k
+    by None e = inl (subst (IsUnreadyIn b) (sym e) tt)
+    by (Some s) e = subst (λ o. IsUnreadyIn b o ⊎ (Contains ns k × IsSoughtIn whoms.Due b.clock o)) (sym e) (waits s s.stage refl e (find-each (λ (x : Session). IsUnready (IsPassedOver whoms.Due b.clock) b x.stage) k s b.lines unready e))
+
+-- 7. Who may go on
+
+able-in : (o : Option Session) → can_in o ≡ true → o ≡ None → ⊥
+able-in o able none = let no : false ≡ true = sym (ap can_in none) ∙ able in cc
+
+-- where no other has changed but those, each that can take a turn is among those or was before
+pub among-same : (ns ms : List ℕ) (a b : BrokerState) → SameBut ns a b → AreAmong ms a → (k : ℕ) → can_in (find_line k b.lines) ≡ true → Contains ms k ⊎ Contains ns k
+among-same ns ms a b same before k able = by (among k ns)
+  where
+    by : Contains ns k ⊎ (Contains ns k → ⊥) → Contains ms k ⊎ Contains ns k
+    by (inl c) = inr c
+    by (inr apart) = inl (before k (sym (ap can_in (same k apart)) ∙ able))
+
+-- nobody can take a turn where nobody could
+pub among-settled : (ns : List ℕ) (a b : BrokerState) → first_able a.lines ≡ None → SameBut ns a b → AreAmong ns b
+among-settled ns a b settled same k able = by (among k ns)
+  where
+    still : (o : Option Session) → find_line k a.lines ≡ o → can_in o ≡ true → ⊥
+    still None e c = cc
+    still (Some s) e c = let no : can s ≡ false = find-each (λ (x : Session). can x ≡ false) k s a.lines (all-still a.lines settled) e in let bad : false ≡ true = sym no ∙ c in cc
+
+    by : Contains ns k ⊎ (Contains ns k → ⊥) → Contains ns k
+    by (inl c) = c
+    by (inr apart) = absurd (still (find_line k a.lines) refl (ap can_in (sym (same k apart)) ∙ able))
+
+-- the first that can take a turn, where none before it can
+pub first-least : (low last : ℕ) (ls : List Line) (i : ℕ) (l : Line) → Rising low last ls → IsAt ls i l → AllByRecursion (λ (k : Line). k.number < l.number → can k.session ≡ false) ls → can l.session ≡ true → first_able ls ≡ Some l
+first-least low last [] i l r a s c = no-at i l a
+first-least low last (k ∷ ls) zero l r a s c = let e = a.here in grind (arith, e, c)
+first-least low last (k ∷ ls) (suc i) l r a s c =
+    let lt : k.number < l.number = rising-above k.number last ls i l r.1 (tail-at k ls i l a) in
+    let no : can k.session ≡ false = s.0 lt in
+    let rest = first-least k.number last ls i l r.1 (tail-at k ls i l a) s.1 c in
+    grind (arith, no, rest)

@@ -1,0 +1,235 @@
+-- What a turn leaves of the connection that took it and of its place in the queue, and whom it concerns.
+use Rattle.std.proofs.Common.{◌≡◌, ◌≢◌, ◌<◌, ℕ, ℤ, List, [], ◌∷◌, length, get_or, Option, Some, None, Result, Ok, Err, OnOk, Bool, true, false, zero, suc, refl, sym, ◌∙◌, ap, subst, arith}
+use Rattle.std.specs.Prelude.{Contains, IsSomeAnd, IfSome, cond}
+use Rattle.std.specs.Result.{is_err}
+use Rattle.std.specs.FinMap as fin
+use Rattle.std.specs.Cmp.{nat_cmp_total}
+use Rattle.std.specs.declared.alloc.Global.{Global}
+use Rattle.std.specs.declared.vec.Vec.{Vec}
+use Rattle.std.proofs.lemmas.Bool.Decides.{nat_tests}
+use Rattle.kb_api_group.specs.Frames.{Front, Whole, Partial, TooSmall, TooLarge, front}
+use Rattle.kb_waits.specs.Queue as queue
+use Rattle.kb_waits.specs.Queue.{Queue, IsUnder}
+use Rattle.kb_waits.proofs.Queues.{get-insert_other, tied-itself}
+use Rattle.kb_world.specs.declared.place.Place.{Place}
+use Rattle.kb_tenant.specs.Hosted.{Kept, TenantState, IsTurn, IsMet, kept_of, refusals_of, nothing}
+use Rattle.kb_tenant.specs.Replies.{Reaction, Replies, Waits, Silent, Shuts, IsAnswer}
+use Rattle.kb_tenant.specs.declared.answer.Answer.{Answer}
+use Rattle.kb_tenant.specs.declared.answer.Answer.TheVariants as answers
+use Rattle.kb_tenant.specs.declared.node.Node.{Node}
+use Rattle.kb_machine.specs.Tenant.{answer, asked, kept_after}
+use Rattle.kb_machine.specs.Requests as requests
+use Rattle.kb_machine.specs.Requests.{Asked, Versions, OtherVersions, Handshake, Authenticate, Another, Unread}
+use Rattle.kb_machine.specs.Session.{Stage, Greets, BoundTo, Session, shut_down, without_wait, is_free}
+use Rattle.kb_machine.specs.Greeting.{Setup, greeted}
+use Rattle.kb_machine.specs.Machine.{Line, answered, served, served_by, served_at, put}
+use Rattle.kb_machine.proofs.Owners.{stage-shut}
+use Rattle.kb_machine.proofs.Quiet.{asked-parks}
+use Rattle.kb_machine.proofs.Turns.{free-greeted, free-replied, free-without}
+use Rattle.kb_connection.specs.Fronts.{IsOwn, IsAsked, is_tenants, is_tenants_at}
+use Rattle.kb_connection.specs.TenantAnswers.{is_wait}
+use Rattle.kb_connection.specs.View.{with_session, without_front}
+use Rattle.kb_connection.proofs.Fronts.{fewer-behind}
+use Rattle.kb_broker.specs.Places.{IsSpent}
+use Rattle.kb_broker.specs.Parked.{key_of, keys_of, deadline_at, until_of, places_of, parked_for, IsKeyedAt, IsTouched, IsTouchedTurn, IsConcern, IsLeftBy, IsPassedOn}
+use Rattle.kb_broker.specs.declared.serving.Concerned.{Concerned}
+use Rattle.kb_broker.specs.declared.serving.Concerned.TheVariants as concerned
+use Rattle.kb_broker.proofs.Handled.{from_ok}
+use Rattle.kb_broker.proofs.Parked.{deadline-free}
+
+-- 1. A connection that waits for nothing
+
+pub keyed-none : (ts : List TenantState) (st : Stage) (o : Option queue.Wait) → is_free st ≡ true → IsKeyedAt ts st o
+keyed-none ts (Greets h) o e = tt
+keyed-none ts (BoundTo t None) o e = tt
+keyed-none ts (BoundTo t (Some w)) o e = let no : false ≡ true = e in absurd (cc)
+
+-- nobody stands in the queue under its number
+pub dated-none : (o : Option queue.Wait) (st : Stage) → o ≡ None → is_free st ≡ true → until_of o ≡ deadline_at st
+dated-none o st none free = ap until_of none ∙ sym (deadline-free st free)
+
+own_by : (setup : Setup) (kept : Kept) (clock : ℕ) (id : ℤ) (a : Asked) (s : Session) → is_tenants a ≡ false → is_free s.stage ≡ true → is_free (served_by setup kept clock id a s).stage ≡ true
+unfolding served_by
+own_by setup kept clock id Versions s own free = free-replied id _ s free
+own_by setup kept clock id OtherVersions s own free = free-replied id _ s free
+own_by setup kept clock id (Handshake mechanism) s own free = free-replied id _ s free
+own_by setup kept clock id (Authenticate message) s own free = free-replied id _ s free
+own_by setup kept clock id (Another key version body) s own free = let no : true ≡ false = own in absurd (cc)
+own_by setup kept clock id Unread s own free = free-without s.stage
+
+own_at : (setup : Setup) (kept : Kept) (clock : ℕ) (s : Session) (f : Front) → is_tenants_at f ≡ false → is_free s.stage ≡ true → is_free (served_at setup kept clock s f).stage ≡ true
+own_at setup kept clock s (Whole frame rest) own free = let r = requests.request frame in own_by setup kept clock r.correlation_id r.asked (record s { unread = rest }) own free
+own_at setup kept clock s TooSmall own free = free-without s.stage
+own_at setup kept clock s TooLarge own free = free-without s.stage
+own_at setup kept clock s Partial own free = free
+
+-- a turn that is a matter of the connection alone waits for nothing
+free-own : (setup : Setup) (kept : Kept) (clock : ℕ) (s : Session) → IsOwn s → is_free s.stage ≡ true → is_free (served setup kept clock s).stage ≡ true
+unfolding served
+free-own setup kept clock s own free = own_at setup kept clock s (front s.unread) own.own free
+
+pub own-free : (setup : Setup) (t : ℕ) (l new : Line) → l.session.stage ≡ BoundTo t None → IsOwn l.session → ((kept : Kept) (clock : ℕ) → new ≡ with_session l (served setup kept clock l.session)) → is_free new.session.stage ≡ true
+own-free setup t l new bound own is = ap (λ (x : Line). is_free x.session.stage) (is nothing 0) ∙ free-own setup nothing 0 l.session own (ap is_free bound)
+
+-- it touches nothing of the tenant's
+pub own-touched : (setup : Setup) (t clock : ℕ) (ts : List TenantState) (l new : Line) (places : List Place) → IsOwn l.session → ((kept : Kept) (clock : ℕ) → new ≡ with_session l (served setup kept clock l.session))
+    → IsTouchedTurn setup t clock ts ts l.session new.session places
+own-touched setup t clock ts l new places own is = record {
+  session = ap (λ (x : Line). x.session) (is (kept_of ts t) clock);
+  kept = sym (own.put setup (kept_of ts t) clock);
+  ready = λ w apart silent. silent;
+}
+
+-- a greeting
+pub greeted-free : (setup : Setup) (h : Bool) (l new : Line) → l.session.stage ≡ Greets h → new ≡ with_session l (greeted setup h l.session) → is_free new.session.stage ≡ true
+greeted-free setup h l new greets is = ap (λ (x : Line). is_free x.session.stage) is ∙ free-greeted setup h l.session (ap is_free greets)
+
+-- 2. A tenant's answer
+
+-- the connection was shut before the answer was given
+pub spent-refused : (l new : Line) → is_tenants_at (front l.session.unread) ≡ true → new ≡ with_session l (shut_down l.session) → IsSpent l.session new.session
+spent-refused l new asks is =
+    let some = fewer-behind l.session.unread asks in
+    let left = ap (λ (x : Line). length x.session.unread) is in
+    record { less = omega (arith, some, left); stage = λ t w e. ap (λ (x : Line). without_wait x.session.stage) is ∙ stage-shut l.session }
+
+-- in the queue that number alone has changed, to what the answer says
+pub record IsParkedBy (q p : Queue) (t n : ℕ) (r : Answer) : Type 0 where
+  pub others : (k : ℕ) → k ≢ n → fin.get p k ≡ fin.get q k
+  pub own : fin.get p n ≡ parked_for t r
+
+get-insert_own : (q : Queue) (n : ℕ) (w : queue.Wait) → fin.get (fin.insert q n w) n ≡ Some w
+get-insert_own q n w = fin.get-insert nat_cmp_total q n w n ∙ ap (λ b. cond b (Some w) (fin.get q n)) (tied-itself n)
+
+pub parked-by : {A E : Type 0} (result : Result A E) (q x p : Queue) (t m n deadline : ℕ) (at : List Place) (places : Vec Place Global) (r : Answer) → r ≡ answers.Wait deadline places → m ≡ n → at ≡ places.items → p ≡ x
+    → OnOk result (x ≡ fin.insert q m (record { deadline = deadline; keys = keys_of t at })) → is_err result ≡ false → IsParkedBy q p t n r
+parked-by result q x p t m n deadline at places r wait number same stays ok good =
+    let w : queue.Wait = record { deadline = deadline; keys = keys_of t at } in
+    let is : p ≡ fin.insert q n w = stays ∙ from_ok result false (x ≡ fin.insert q m w) (sym good) refl ok ∙ ap (λ k. fin.insert q k w) number in
+    record {
+      others = λ k ne. ap (λ y. fin.get y k) is ∙ get-insert_other q n k w ne;
+      own = ap (λ y. fin.get y n) is ∙ (get-insert_own q n w ∙ (ap (λ ps. Some (let y : queue.Wait = record { deadline = deadline; keys = keys_of t ps } in y)) same ∙ ap (parked_for t) (sym wait)));
+    }
+
+not-parked : (t : ℕ) (r : Answer) → ((deadline : ℕ) (places : Vec Place Global) → r ≡ answers.Wait deadline places → ⊥) → parked_for t r ≡ None
+not-parked t (answers.Reply reply) never = refl
+not-parked t (answers.Wait deadline places) never = absurd (never deadline places refl)
+not-parked t answers.NoReply never = refl
+not-parked t answers.Shut never = refl
+
+pub parked-not : (q p : Queue) (t n : ℕ) (r : Answer) → p ≡ q → fin.get q n ≡ None → ((deadline : ℕ) (places : Vec Place Global) → r ≡ answers.Wait deadline places → ⊥) → IsParkedBy q p t n r
+parked-not q p t n r same none never = record { others = λ k ne. ap (λ x. fin.get x k) same; own = ap (λ x. fin.get x n) same ∙ (none ∙ sym (not-parked t r never)) }
+
+-- it is taken out again
+pub parked-gone : (q p x : Queue) (t m n : ℕ) (r : Answer) → IsParkedBy q p t n r → m ≡ n → ((k : ℕ) → k ≢ m → fin.get x k ≡ fin.get p k) → (k : ℕ) → k ≢ n → fin.get x k ≡ fin.get q k
+parked-gone q p x t m n r parked number gone k ne = gone k (λ e. ne (e ∙ number)) ∙ parked.others k ne
+
+-- where the connection stands in the queue, it waits until then
+pub dated-answered : {A E : Type 0} (result : Result A E) (q p : Queue) (t n : ℕ) (l new : Line) (r : Answer) (key id : ℤ) (body : List ℕ) → IsParkedBy q p t n r → l.session.stage ≡ BoundTo t None → IsAsked l.session key id body
+    → ((key id : ℤ) (body : List ℕ) (reaction : Reaction) → IsAsked l.session key id body → IsAnswer id reaction r → OnOk result (new ≡ with_session l (answered reaction id body (without_front l.session))))
+    → (is_wait r ≡ false → is_free l.session.stage ≡ true → is_free new.session.stage ≡ true) → is_err result ≡ false → until_of (fin.get p n) ≡ deadline_at new.session.stage
+dated-answered result q p t n l new r key id body parked bound asks ok free good = ap until_of parked.own ∙ by r ok free
+  where
+    by : (r : Answer) → ((key id : ℤ) (body : List ℕ) (reaction : Reaction) → IsAsked l.session key id body → IsAnswer id reaction r → OnOk result (new ≡ with_session l (answered reaction id body (without_front l.session))))
+        → (is_wait r ≡ false → is_free l.session.stage ≡ true → is_free new.session.stage ≡ true) → until_of (parked_for t r) ≡ deadline_at new.session.stage
+    by (answers.Reply reply) ok free = sym (deadline-free new.session.stage (free refl (ap is_free bound)))
+    by (answers.Wait deadline places) ok free =
+        let is = from_ok result false (new ≡ with_session l (answered (Waits deadline places.items) id body (without_front l.session))) (sym good) refl (ok key id body (Waits deadline places.items) asks (refl, refl)) in
+        sym (ap (λ (x : Line). deadline_at x.session.stage) is ∙ waits l.session.stage bound)
+      where
+        waits : (st : Stage) → st ≡ BoundTo t None → deadline_at (answered (Waits deadline places.items) id body (record l.session { stage = st })).stage ≡ Some deadline
+        waits st e = ap (λ x. deadline_at (answered (Waits deadline places.items) id body (record l.session { stage = x })).stage) e
+    by answers.NoReply ok free = sym (deadline-free new.session.stage (free refl (ap is_free bound)))
+    by answers.Shut ok free = sym (deadline-free new.session.stage (free refl (ap is_free bound)))
+
+pub on-ok : {A E : Type 0} (result : Result A E) (P : Type 0) → P → OnOk result P
+on-ok (Ok x) P h = h
+on-ok (Err x) P h = tt
+
+-- 3. What it then waits for
+
+-- only where nothing was ever refused to the tenant there is something to show
+keyed-calm : (us : List TenantState) (t : ℕ) (st : Stage) (o : Option queue.Wait) → without_wait st ≡ BoundTo t None → (refusals_of us t ≡ 0 → IsKeyedAt us st o) → IsKeyedAt us st o
+keyed-calm us t (Greets h) o e k = tt
+keyed-calm us t (BoundTo u None) o e k = tt
+keyed-calm us t (BoundTo u (Some w)) o e k = λ calm silent. let is : u ≡ t = cc in k (ap (refusals_of us) (sym is) ∙ calm) calm silent
+
+-- it stands under what it asks
+keyed-by : (node : Node) (us : List TenantState) (t clock : ℕ) (k : Kept) (key id : ℤ) (body : List ℕ) (s : Session) (is : Reaction) (r : Answer) → answer node k clock key body ≡ is → kept_of us t ≡ kept_after node k clock key body → s.stage ≡ BoundTo t None
+    → IsAnswer id is r → IsKeyedAt us (answered is id body s).stage (parked_for t r)
+keyed-by node us t clock k key id body s (Replies reply) r e kept bound told = keyed-none us _ (parked_for t r) (free-replied id reply s (ap is_free bound))
+keyed-by node us t clock k key id body s (Waits deadline places) (answers.Reply reply) e kept bound told = absurd told
+keyed-by node us t clock k key id body s (Waits deadline places) (answers.Wait until parts) e kept bound told =
+    subst (λ st. IsKeyedAt us (answered (Waits deadline places) id body (record s { stage = st })).stage (parked_for t (answers.Wait until parts))) (sym bound)
+    (λ calm silent. ap (λ ps. Some (keys_of t ps)) (told.1 ∙ (asked-parks node k clock key body deadline places id e ∙ ap (λ x. asked x (record { correlation_id = id; body = body; deadline = deadline })) (sym kept))))
+keyed-by node us t clock k key id body s (Waits deadline places) answers.NoReply e kept bound told = absurd told
+keyed-by node us t clock k key id body s (Waits deadline places) answers.Shut e kept bound told = absurd told
+keyed-by node us t clock k key id body s Silent r e kept bound told = keyed-none us _ (parked_for t r) (ap is_free bound)
+keyed-by node us t clock k key id body s Shuts r e kept bound told = keyed-none us _ (parked_for t r) (free-without s.stage)
+
+-- the connection that was answered stands in the queue under what it asks
+pub keyed-answered : (H : Type 0) → H → (setup : Setup) (t clock : ℕ) (ts us : List TenantState) (l new : Line) (key id : ℤ) (body : List ℕ) (r : Answer) (o : Option queue.Wait) → l.session.stage ≡ BoundTo t None → IsSpent l.session new.session → IsAsked l.session key id body → IsTurn t H ts us
+    → IsMet t H ts us (λ k m. (m ≡ kept_after setup.node k clock key body) × IsAnswer id (answer setup.node k clock key body) r)
+    → ((key id : ℤ) (body : List ℕ) (reaction : Reaction) → IsAsked l.session key id body → IsAnswer id reaction r → new ≡ with_session l (answered reaction id body (without_front l.session)))
+    → o ≡ parked_for t r → IsKeyedAt us new.session.stage o
+keyed-answered H honest setup t clock ts us l new key id body r o bound spent asks turn meets ok parked =
+    keyed-calm us t new.session.stage o (spent.stage t None bound ∙ ap without_wait bound)
+    (λ none.
+    let up = turn.grows t in
+    let before : refusals_of ts t ≡ 0 = omega (arith, none, up) in
+    let done = meets honest (record { same = none ∙ sym before; below = grind (arith, nat_tests, before) }) in
+    let is = ok key id body (answer setup.node (kept_of ts t) clock key body) asks done.1 in
+    subst (IsKeyedAt us new.session.stage) (sym parked)
+    (subst (λ (x : Line). IsKeyedAt us x.session.stage (parked_for t r)) (sym is) (keyed-by setup.node us t clock (kept_of ts t) key id body (without_front l.session) (answer setup.node (kept_of ts t) clock key body) r refl done.0 bound done.1)))
+
+-- 4. Whom a turn concerns
+
+-- what the tenant was asked is the turn
+pub turned-touched : (H : Type 0) (setup : Setup) (t clock : ℕ) (ts us : List TenantState) (s r : Session) (touched : Option (Vec Place Global)) → IfSome touched (λ places. H → IsTouched t clock ts us places.items)
+    → IsMet t H ts us (λ k l. (r ≡ served setup k clock s) × (l ≡ put setup k clock s.unread)) → IfSome touched (λ places. H → IsTouchedTurn setup t clock ts us s r places.items)
+turned-touched H setup t clock ts us s r None touched meets = tt
+turned-touched H setup t clock ts us s r (Some places) touched meets = λ honest.
+    let h = touched honest in
+    let both = meets honest h.calm in
+    record { session = both.0; kept = both.1; ready = h.ready }
+
+contains-key : (t : ℕ) (places : List Place) (place : Place) → Contains places place → Contains (keys_of t places) (key_of t place)
+contains-key t [] place c = absurd (let h = c.1 in omega (arith, h))
+contains-key t (x ∷ xs) place c = at c.0 (contains-key t xs place) c.1 c.2
+  where
+    at : (i : ℕ) → (Contains xs place → Contains (keys_of t xs) (key_of t place)) → i < suc (length xs) → get_or (x ∷ xs) i place ≡ place → Contains (keys_of t (x ∷ xs)) (key_of t place)
+    at zero rest lt is = (0, omega arith, ap (key_of t) is)
+    at (suc i) rest lt is = let there = rest (i, omega (arith, lt), is) in (suc there.0, (let h = there.1 in omega (arith, h)), there.2)
+
+under-key : (t : ℕ) (places : List Place) (place : Place) (o : Option queue.Wait) → places_of o ≡ Some (keys_of t places) → Contains places place → IsSomeAnd o (IsUnder (key_of t place))
+under-key t places place None e c = absurd (cc)
+under-key t places place (Some w) e c = let is : w.keys ≡ keys_of t places = cc in subst (λ keys. Contains keys (key_of t place)) (sym is) (contains-key t places place c)
+
+nowhere : (place : Place) → Contains [] place → ⊥
+nowhere place c = let h = c.1 in omega (arith, h)
+
+-- what is left to be looked at after it
+pub left-by : (H : Type 0) → H → (c : Concerned) (setup : Setup) (t clock n : ℕ) (q p : Queue) (ts us : List TenantState) (s r : Session) (st : Stage) (touched : Option (Vec Place Global)) → st ≡ BoundTo t None → ((k : ℕ) → k ≢ n → fin.get p k ≡ fin.get q k)
+    → IsConcern c t n us p touched → IfSome touched (λ places. H → IsTouchedTurn setup t clock ts us s r places.items) → IsLeftBy c setup clock st n q ts us s r
+left-by H honest c setup t clock n q p ts us s r st touched bound others concern turn = subst (λ x. IsLeftBy c setup clock x n q ts us s r) (sym bound) (by c touched concern turn)
+  where
+    by : (c : Concerned) (touched : Option (Vec Place Global)) → IsConcern c t n us p touched → IfSome touched (λ places. H → IsTouchedTurn setup t clock ts us s r places.items) → IsLeftBy c setup clock (BoundTo t None) n q ts us s r
+    by concerned.Nobody None concern turn = absurd concern
+    by concerned.Nobody (Some places) none turn =
+        let h = turn honest in
+        record { session = h.session; kept = h.kept; ready = λ w silent. h.ready w (λ place asks touches. nowhere place (subst (λ ps. Contains ps place) none touches)) silent }
+    by (concerned.These u ns) None concern turn = absurd concern
+    by (concerned.These u ns) (Some places) concern turn =
+        let h = turn honest in
+        let c = concern.1 in
+        let passed : IsPassedOn setup t clock n q ts us s r ns.items = record {
+          session = h.session;
+          kept = h.kept;
+          calm = c.calm;
+          own = c.own;
+          others = λ k w ne apart parked silent. h.ready w
+              (λ place asks touches. apart (c.under k place touches (under-key t (asked (kept_of ts t) w) place (fin.get p k) (ap places_of (others k ne) ∙ parked) asks)))
+              silent;
+        } in
+        subst (λ x. IsPassedOn setup x clock n q ts us s r ns.items) (sym concern.0) passed
+    by (concerned.All u) touched concern turn = tt

@@ -1,0 +1,37 @@
+use Rattle.std.proofs.Common.{◌≤◌, arith, length, rules}
+use Rattle.kb_machine.proofs.Turns.{going-then}
+use Rattle.kb_broker.proofs.Fields.{none-passed}
+use Rattle.kb_broker.proofs.Honest.{later-then}
+use Rattle.kb_broker.proofs.Looked.{passed-looked-all, passed-rest-all, waked-all}
+use Rattle.kb_broker.proofs.engine.Engine.wake_all.Goals as goal
+
+pub loop-i-preserved : goal.loop-i-preserved
+loop-i-preserved g c =
+    let v = c.loop-i.invariant in
+    let t = c.look_at.ensures in
+    let old = c.loop-i.self.state in
+    let new = c.look_at.new.self.state in
+    let size = t.more.work in
+    record {
+      end = v.end;
+      going = going-then c.args.self.now.state old new v.going t.more.going;
+      later = later-then _ _ _ v.later t.later;
+      work = (let before = v.work in omega (arith, before, size));
+      waked = λ honest. t.waked honest c.args.self.now.state (v.waked (t.later.honest honest));
+    }
+
+pub returns-then-not-may_wait-clause-looked : goal.returns-then-not-may_wait-clause-looked
+returns-then-not-may_wait-clause-looked g c = λ honest. passed-looked-all c.args.whom c.args.self.now.state (none-passed c.args.whom c.args.self.now.state (c.may_wait.ensures c.if-not-may_wait.true))
+
+pub returns-then-not-may_wait-clause-rest : goal.returns-then-not-may_wait-clause-rest
+returns-then-not-may_wait-clause-rest g c = λ honest. passed-rest-all c.args.whom c.args.self.now.state (none-passed c.args.whom c.args.self.now.state (c.may_wait.ensures c.if-not-may_wait.true))
+
+pub returns-clause-looked : goal.returns-clause-looked
+returns-clause-looked g c = λ honest.
+    let end : length c.args.self.now.state.lines ≤ c.loop-i.i = search rules in
+    (waked-all c.args.whom c.args.self.now.state c.loop-i.self.state c.loop-i.i (c.loop-i.invariant.waked honest) end).looked
+
+pub returns-clause-rest : goal.returns-clause-rest
+returns-clause-rest g c = λ honest.
+    let end : length c.args.self.now.state.lines ≤ c.loop-i.i = search rules in
+    (waked-all c.args.whom c.args.self.now.state c.loop-i.self.state c.loop-i.i (c.loop-i.invariant.waked honest) end).rest

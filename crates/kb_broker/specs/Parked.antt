@@ -1,0 +1,223 @@
+-- The queue of the connections that wait, beside the broker: what stands in it, and what it is good for.
+use Rattle.std.specs.Prelude.{◌≡◌, ◌≢◌, ℕ, List, map, Option, Some, None, option_map, [], Bool, true, false, Contains, IsSomeAnd, ◌⊎◌, ⊤}
+use Rattle.std.specs.FinMap.{get}
+use Rattle.std.specs.declared.alloc.Global.{Global}
+use Rattle.std.specs.declared.vec.Vec.{Vec}
+use Rattle.kb_waits.specs.Queue as queue
+use Rattle.kb_waits.specs.Queue.{Queue}
+use Rattle.kb_waits.specs.declared.key.WaitKey.{WaitKey}
+use Rattle.kb_waits.specs.declared.key.WaitKey.TheVariants as keys
+use Rattle.kb_world.specs.declared.place.Place.{Place}
+use Rattle.kb_tenant.specs.Hosted as hosted
+use Rattle.kb_tenant.specs.Hosted.{TenantState}
+use Rattle.kb_tenant.specs.Replies.{Silent}
+use Rattle.kb_tenant.specs.Waiting.{AreApart}
+use Rattle.kb_world.specs.Steps.{IsCalm}
+use Rattle.kb_tenant.specs.declared.answer.Answer.{Answer}
+use Rattle.kb_tenant.specs.declared.answer.Answer.TheVariants as answers
+use Rattle.kb_machine.specs.Tenant.{Wait, ready, asked}
+use Rattle.kb_machine.specs.Session.{Stage, Greets, BoundTo, Session, can}
+use Rattle.kb_machine.specs.Greeting.{Setup}
+use Rattle.kb_machine.specs.Machine.{Line, served, put}
+use Rattle.kb_machine.specs.Owners.{find_line, whose}
+use Rattle.kb_machine.specs.Broker.{BrokerState, IsUnready, AnyWait}
+use Rattle.kb_machine.specs.declared.whom.Whom.{Whom}
+use Rattle.kb_machine.specs.declared.whom.Whom.TheVariants as whoms
+use Rattle.kb_machine.specs.Turned.{Scope, SameOthers, Turned, Served, Waked, IsLookedFor}
+use Rattle.std.specs.List.{AllByRecursion}
+use Rattle.kb_broker.specs.Places.{IsQuietAt}
+use Rattle.kb_broker.specs.declared.serving.Concerned.{Concerned}
+use Rattle.kb_broker.specs.declared.serving.Concerned.TheVariants as concerned
+
+-- 1. The queue
+
+-- the key of a tenant's partition
+abbrev pub key_of : ℕ → Place → WaitKey
+key_of t place = keys.Partition t place.instance place.number
+
+abbrev pub keys_of : ℕ → List Place → List WaitKey
+keys_of t places = map (key_of t) places
+
+-- until when a connection at that stage waits, where it does
+abbrev pub deadline_at : Stage → Option ℕ
+deadline_at (Greets handshaken) = None
+deadline_at (BoundTo tenant None) = None
+deadline_at (BoundTo tenant (Some wait)) = Some wait.deadline
+
+abbrev pub deadline_in : Option Session → Option ℕ
+deadline_in None = None
+deadline_in (Some s) = deadline_at s.stage
+
+abbrev pub until_of : Option queue.Wait → Option ℕ
+until_of o = option_map (λ (w : queue.Wait). w.deadline) o
+
+abbrev pub places_of : Option queue.Wait → Option (List WaitKey)
+places_of o = option_map (λ (w : queue.Wait). w.keys) o
+
+-- as long as nothing was refused to its tenant, a connection that waits at that stage for a fetch that is not ready stands under
+-- exactly the partitions that the fetch asks
+abbrev pub IsKeyedAt : List TenantState → Stage → Option queue.Wait → Type 0
+IsKeyedAt ts (Greets handshaken) o = ⊤
+IsKeyedAt ts (BoundTo t None) o = ⊤
+IsKeyedAt ts (BoundTo t (Some w)) o = hosted.refusals_of ts t ≡ 0 → ready (hosted.kept_of ts t) 0 w ≡ Silent → places_of o ≡ Some (keys_of t (asked (hosted.kept_of ts t) w))
+
+abbrev pub IsKeyedIn : List TenantState → Option Session → Option queue.Wait → Type 0
+IsKeyedIn ts None o = ⊤
+IsKeyedIn ts (Some s) o = IsKeyedAt ts s.stage o
+
+-- the queue holds exactly the connections that wait, each until its deadline, and, unless the store lied, under what its fetch asks
+pub record IsQueueOf (honest : Type 0) (q : Queue) (ts : List TenantState) (lines : List Line) : Type 0 where
+  pub dated : (n : ℕ) → until_of (get q n) ≡ deadline_in (find_line n lines)
+  pub keyed : honest → (n : ℕ) → IsKeyedIn ts (find_line n lines) (get q n)
+
+-- 2. A turn
+
+-- what a tenant's answer puts into the queue
+abbrev pub parked_for : ℕ → Answer → Option queue.Wait
+parked_for t (answers.Reply reply) = None
+parked_for t (answers.Wait deadline places) = Some (record { deadline = deadline; keys = keys_of t places.items })
+parked_for t answers.NoReply = None
+parked_for t answers.Shut = None
+
+-- a fetch of the tenant that is not ready before nor after asks for the same partitions
+abbrev pub AreAskedStill : ℕ → List TenantState → List TenantState → Type 0
+AreAskedStill t old new = (w : Wait) → ready (hosted.kept_of old t) 0 w ≡ Silent → ready (hosted.kept_of new t) 0 w ≡ Silent → asked (hosted.kept_of new t) w ≡ asked (hosted.kept_of old t) w
+
+-- where nothing was ever refused to the tenant
+abbrev pub IsAskedOn : ℕ → List TenantState → List TenantState → Type 0
+IsAskedOn t old new = hosted.refusals_of new t ≡ 0 → AreAskedStill t old new
+
+abbrev pub IsAskedOnAt : Stage → List TenantState → List TenantState → Type 0
+IsAskedOnAt (Greets handshaken) old new = ⊤
+IsAskedOnAt (BoundTo t wait) old new = IsAskedOn t old new
+
+-- after the turn of a connection with that number and session s, which is r then, of a tenant to which nothing was ever refused:
+-- a fetch that was not ready is not ready, if the queue has it under what it asks and its connection is not among those
+pub record IsPassedOn (setup : Setup) (t clock n : ℕ) (q : Queue) (old new : List TenantState) (s r : Session) (ns : List ℕ) : Type 0 where
+  pub session : r ≡ served setup (hosted.kept_of old t) clock s
+  pub kept : hosted.kept_of new t ≡ put setup (hosted.kept_of old t) clock s.unread
+  pub calm : hosted.refusals_of new t ≡ 0
+  pub own : Contains ns n
+  pub others : (k : ℕ) (w : Wait) → k ≢ n → (Contains ns k → ⊥) → places_of (get q k) ≡ Some (keys_of t (asked (hosted.kept_of old t) w)) → ready (hosted.kept_of old t) clock w ≡ Silent → ready (hosted.kept_of new t) clock w ≡ Silent
+
+-- nothing was refused to a tenant, and a fetch that was not ready is not ready, if it asks none of those partitions
+pub record IsTouched (t clock : ℕ) (old new : List TenantState) (places : List Place) : Type 0 where
+  pub calm : IsCalm (hosted.refusals_of old t) (hosted.refusals_of new t)
+  pub ready : (w : Wait) → AreApart (asked (hosted.kept_of old t) w) places → ready (hosted.kept_of old t) clock w ≡ Silent → ready (hosted.kept_of new t) clock w ≡ Silent
+
+-- the turn of a connection bound to that tenant, of whose session s it leaves r, was not refused, and a fetch that was not ready is
+-- not ready, if it asks none of those partitions
+pub record IsTouchedTurn (setup : Setup) (t clock : ℕ) (old new : List TenantState) (s r : Session) (places : List Place) : Type 0 where
+  pub session : r ≡ served setup (hosted.kept_of old t) clock s
+  pub kept : hosted.kept_of new t ≡ put setup (hosted.kept_of old t) clock s.unread
+  pub ready : (w : Wait) → AreApart (asked (hosted.kept_of old t) w) places → ready (hosted.kept_of old t) clock w ≡ Silent → ready (hosted.kept_of new t) clock w ≡ Silent
+
+-- those connections are the one of that number, and all that stand in the queue under one of those partitions
+pub record AreUnder (t n : ℕ) (ts : List TenantState) (q : Queue) (places : List Place) (ns : List ℕ) : Type 0 where
+  pub calm : hosted.refusals_of ts t ≡ 0
+  pub own : Contains ns n
+  pub under : (k : ℕ) (place : Place) → Contains places place → IsSomeAnd (get q k) (queue.IsUnder (key_of t place)) → Contains ns k
+
+-- whose waits partitions of a tenant concern that were touched; all of the tenant's, where that is not known
+abbrev pub IsConcern : Concerned → ℕ → ℕ → List TenantState → Queue → Option (Vec Place Global) → Type 0
+IsConcern concerned.Nobody t n ts q None = ⊥
+IsConcern concerned.Nobody t n ts q (Some places) = places.items ≡ []
+IsConcern (concerned.These u ns) t n ts q None = ⊥
+IsConcern (concerned.These u ns) t n ts q (Some places) = (u ≡ t) × AreUnder t n ts q places.items ns.items
+IsConcern (concerned.All u) t n ts q touched = u ≡ t
+
+-- whose waits a turn at that stage concerns
+abbrev pub IsWhose : Concerned → Stage → Type 0
+IsWhose concerned.Nobody st = ⊤
+IsWhose (concerned.These t ns) st = whose st ≡ Some t
+IsWhose (concerned.All t) st = whose st ≡ Some t
+
+-- what a turn leaves ready: nothing, or nothing but what those connections wait for
+abbrev pub IsLeftBy : Concerned → Setup → ℕ → Stage → ℕ → Queue → List TenantState → List TenantState → Session → Session → Type 0
+IsLeftBy concerned.Nobody setup clock st n q old new s r = IsQuietAt setup clock st old new s r
+IsLeftBy (concerned.These t ns) setup clock st n q old new s r = IsPassedOn setup t clock n q old new s r ns.items
+IsLeftBy (concerned.All t) setup clock st n q old new s r = ⊤
+
+-- 3. Looks by number
+
+-- a connection of that number waits for nothing that is ready
+abbrev pub IsUnreadyIn : BrokerState → Option Session → Type 0
+IsUnreadyIn b None = ⊤
+IsUnreadyIn b (Some s) = IsUnready AnyWait b s.stage
+
+abbrev pub IsUnreadyAt : ℕ → BrokerState → Type 0
+IsUnreadyAt k b = IsUnreadyIn b (find_line k b.lines)
+
+-- what a connection waits for is looked for, if it waits
+abbrev pub IsSoughtAt : Whom → ℕ → Stage → Type 0
+IsSoughtAt whom clock (Greets handshaken) = ⊤
+IsSoughtAt whom clock (BoundTo t None) = ⊤
+IsSoughtAt whom clock (BoundTo t (Some w)) = IsLookedFor whom clock t w
+
+abbrev pub IsSoughtIn : Whom → ℕ → Option Session → Type 0
+IsSoughtIn whom clock None = ⊤
+IsSoughtIn whom clock (Some s) = IsSoughtAt whom clock s.stage
+
+-- a connection waits for nothing that is ready, or is among those that are looked at
+abbrev pub IsMinded : Whom → List ℕ → BrokerState → ℕ → Type 0
+IsMinded whom ns b k = IsUnreadyAt k b ⊎ (Contains ns k × IsSoughtIn whom b.clock (find_line k b.lines))
+
+-- the connections of those numbers were looked at, and the others are as they were
+pub record AreMinded (whom : Whom) (old new : BrokerState) (ns : List ℕ) : Type 0 where
+  pub waked : Waked whom old new
+  pub rest : (k : ℕ) → IsUnreadyAt k old → IsUnreadyAt k new
+  pub done : (k : ℕ) → Contains ns k → IsSoughtIn whom old.clock (find_line k old.lines) → IsUnreadyAt k new
+  pub todo : (k : ℕ) → IsUnreadyAt k new ⊎ (find_line k new.lines ≡ find_line k old.lines)
+
+-- no connection but those has changed
+abbrev pub SameBut : List ℕ → BrokerState → BrokerState → Type 0
+SameBut ns old new = (k : ℕ) → (Contains ns k → ⊥) → find_line k new.lines ≡ find_line k old.lines
+
+-- after the turn of the connection of that number, and looks, no other has changed but those that are concerned
+abbrev pub IsConfined : Concerned → ℕ → BrokerState → BrokerState → Type 0
+IsConfined concerned.Nobody n old new = SameOthers n old new
+IsConfined (concerned.These t ns) n old new = Contains ns.items n × SameBut ns.items old new
+IsConfined (concerned.All t) n old new = ⊤
+
+-- a turn after which nobody's waiting fetches have to be looked at again, or before those of a tenant are
+abbrev pub IsServedFor : Concerned → Scope → BrokerState → BrokerState → Type 0
+IsServedFor concerned.Nobody scope old new = Turned scope old new
+IsServedFor (concerned.These t ns) scope old new = Served t scope old new
+IsServedFor (concerned.All t) scope old new = Served t scope old new
+
+-- the connection that took the turn is among those that are concerned
+abbrev pub IsOwnTo : Concerned → ℕ → Type 0
+IsOwnTo concerned.Nobody n = ⊤
+IsOwnTo (concerned.These t ns) n = Contains ns.items n
+IsOwnTo (concerned.All t) n = ⊤
+
+-- all of the tenant's that a connection at that stage is bound to
+abbrev pub IsAllOf : Concerned → Stage → Type 0
+IsAllOf concerned.Nobody st = whose st ≡ None
+IsAllOf (concerned.These t ns) st = ⊥
+IsAllOf (concerned.All t) st = whose st ≡ Some t
+
+-- a fetch that waits would do so at the first moment too
+abbrev pub IsWaitingOnAt : List TenantState → Stage → Type 0
+IsWaitingOnAt ts (Greets handshaken) = ⊤
+IsWaitingOnAt ts (BoundTo t None) = ⊤
+IsWaitingOnAt ts (BoundTo t (Some w)) = ready (hosted.kept_of ts t) 0 w ≡ Silent
+
+abbrev pub AreWaitingOn : BrokerState → Type 0
+AreWaitingOn b = AllByRecursion (λ (l : Line). IsWaitingOnAt b.tenants l.session.stage) b.lines
+
+-- what is left to be looked at after a turn: all that may be ready of a tenant's waits stand among those
+abbrev pub IsLeftTo : Concerned → BrokerState → Type 0
+IsLeftTo concerned.Nobody b = ⊤
+IsLeftTo (concerned.These t ns) b = (k : ℕ) → IsMinded (whoms.Tenant t) ns.items b k
+IsLeftTo (concerned.All t) b = ⊤
+
+-- 4. Who may go on
+
+abbrev pub can_in : Option Session → Bool
+can_in None = false
+can_in (Some s) = can s
+
+-- each connection that can take a turn is among those
+abbrev pub AreAmong : List ℕ → BrokerState → Type 0
+AreAmong ns b = (k : ℕ) → can_in (find_line k b.lines) ≡ true → Contains ns k

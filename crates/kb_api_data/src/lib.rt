@@ -37,6 +37,3 @@ pub use produce::{
     ProducePartition, ProducePartitionReply, ProduceReply, ProduceRequest, ProduceTopic,
     ProduceTopicReply,
 };
-
-#[cfg(test)]
-mod tests;

@@ -45,6 +45,3 @@ pub use plain::{PlainLogin, read_plain};
 pub use sasl_authenticate::{SaslAuthenticateReply, SaslAuthenticateRequest};
 pub use sasl_handshake::{SaslHandshakeReply, SaslHandshakeRequest};
 pub use sync_group::{SyncAssignment, SyncGroupReply, SyncGroupRequest};
-
-#[cfg(test)]
-mod tests;

@@ -43,6 +43,3 @@ pub use members::Members;
 pub use protocol::{Protocol, Protocols};
 pub use reply::{Joined, Listed, Listing, Release, Reply, SyncAnswer};
 pub use state::{Phase, State};
-
-#[cfg(test)]
-mod tests;

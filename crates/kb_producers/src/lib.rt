@@ -16,6 +16,3 @@ mod verdict;
 pub use kept::Kept;
 pub use table::ProducerTable;
 pub use verdict::Verdict;
-
-#[cfg(test)]
-mod tests;

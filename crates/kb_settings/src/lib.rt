@@ -16,6 +16,3 @@ mod users;
 pub use fault::SettingsFault;
 pub use names::tenant_names;
 pub use settings::{Settings, User};
-
-#[cfg(test)]
-mod tests;

@@ -20,6 +20,3 @@ pub use fused::{Fuse, FusedStore};
 pub use memory::MemoryStore;
 pub use read::read_file;
 pub use store::Store;
-
-#[cfg(test)]
-mod tests;

@@ -18,10 +18,6 @@ mod entries;
 mod entry;
 mod gather;
 mod key;
-#[cfg(test)]
-mod plain;
-#[cfg(test)]
-mod tests;
 mod waiters;
 mod waits;
 

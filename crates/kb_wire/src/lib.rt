@@ -23,6 +23,3 @@ pub use layout::{Layout, faults_stand, one_value, written_is_spelled};
 pub use sink::Sink;
 pub use text::{Blob, Text};
 pub use varint::{number_faults_stand, one_number, shortest_is_written};
-
-#[cfg(test)]
-mod tests;

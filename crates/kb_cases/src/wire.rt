@@ -1,4 +1,6 @@
-use super::*;
+//! Values, written and read.
+
+use kb_wire::{Array, Cursor, Layout, ReadFault, Sink, Text, WireFault};
 use std::test::*;
 
 #[test]
@@ -30,7 +32,7 @@ const SPELLED: [u8; 59] = [
 ];
 
 #[test]
-#[tactic(auto, unfolding(crate::specs::Codec::sized, crate::specs::Codec::nullable, crate::specs::Codec::counted, crate::specs::Codec::nullable_counted, crate::specs::Codec::int, crate::specs::Codec::utf8, crate::specs::Codec::octets))]
+#[tactic(auto, unfolding(kb_wire::specs::Codec::sized, kb_wire::specs::Codec::nullable, kb_wire::specs::Codec::counted, kb_wire::specs::Codec::nullable_counted, kb_wire::specs::Codec::int, kb_wire::specs::Codec::utf8, kb_wire::specs::Codec::octets))]
 fn written(rt: HostRuntime) -> Result<(), Fail> {
     let mut sink = Sink::new(rt.alloc());
     sink.put_i8(-128)?;
@@ -111,7 +113,7 @@ fn arrays(rt: HostRuntime) -> Result<(), Fail> {
 }
 
 #[test]
-#[tactic(auto, unfolding(crate::specs::Codec::nullable, crate::specs::Codec::nullable_counted, crate::specs::Codec::int, crate::specs::Codec::items))]
+#[tactic(auto, unfolding(kb_wire::specs::Codec::nullable, kb_wire::specs::Codec::nullable_counted, kb_wire::specs::Codec::int, kb_wire::specs::Codec::items))]
 fn sinks(rt: HostRuntime) -> Result<(), Fail> {
     let mut sink = Sink::from_vec(Vec::new(rt.alloc()));
     assert!(rt; sink.is_empty());

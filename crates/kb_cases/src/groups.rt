@@ -2,7 +2,10 @@
 
 ghost use Rattle.std.specs.Prelude.{◌≤◌};
 
-use super::*;
+use kb_groups::{
+    Blob, Code, Group, Join, JoinProtocol, Joined, Release, Reply, SyncAnswer, SyncAssignment,
+    Text, member_id, member_number,
+};
 use std::alloc::Global;
 use std::process::Abort;
 use std::test::Fail;

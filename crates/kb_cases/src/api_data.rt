@@ -1,7 +1,13 @@
 //! Bodies as Kafka's own clients and brokers spell them.
 ghost use Rattle.std.specs.Prelude.{◌<◌, length};
 
-use super::*;
+use kb_api_data::{
+    CreateTopic, CreateTopicsReply, CreateTopicsRequest, DeleteTopicsReply, DeleteTopicsRequest,
+    FetchPartition, FetchPartitionFront, FetchPartitionReply, FetchReply, FetchRequest,
+    InitProducerIdReply, InitProducerIdRequest, ListOffsetsPartitionReply, ListOffsetsReply,
+    ListOffsetsRequest, MetadataPartition, MetadataReply, MetadataRequest, ProducePartitionReply,
+    ProduceReply, ProduceRequest, count_records,
+};
 use kb_wire::{Layout, ReadFault, Sink, WireFault};
 use std::alloc::Global;
 use std::test::*;

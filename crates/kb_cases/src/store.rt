@@ -1,12 +1,13 @@
+//! A store whose files come back, and one that refuses as a failing disk would.
 ghost use Rattle.std.specs.Prelude.{◌≡◌, None};
 ghost use Rattle.std.specs.FinMap as map;
 
-use crate::{Fuse, FusedStore, MemoryStore, Store, StoreFault, read_file};
+use kb_store::{Fuse, FusedStore, MemoryStore, Store, StoreFault, read_file};
 use std::alloc::Global;
 use std::test::Fail;
 
 /// Makes a file, adds two pieces, cuts it to seven bytes, and answers what it then has.
-#[tactic(auto, using(crate::proofs::Disks::is_there_put, crate::proofs::Disks::len_of_put))]
+#[tactic(auto, using(kb_store::proofs::Disks::is_there_put, kb_store::proofs::Disks::len_of_put))]
 fn make_and_cut<S: Store>(alloc: Global, store: &mut S, file: u64) -> Result<Vec<u8>, StoreFault>
     requires { map.get (S.disk store.old).table file ≡ None }
 {
@@ -18,7 +19,7 @@ fn make_and_cut<S: Store>(alloc: Global, store: &mut S, file: u64) -> Result<Vec
 }
 
 #[test]
-#[tactic(auto, using(crate::proofs::Disks::none_in_empty))]
+#[tactic(auto, using(kb_store::proofs::Disks::none_in_empty))]
 fn files_come_back(rt: HostRuntime) -> Result<(), Fail> {
     let mut store = MemoryStore::new(rt.alloc());
     let bytes = make_and_cut(rt.alloc(), &mut store, 7)?;
@@ -29,7 +30,7 @@ fn files_come_back(rt: HostRuntime) -> Result<(), Fail> {
 }
 
 /// Makes a file and adds a piece; whether that was refused, and the length of the file then.
-#[tactic(auto, using(crate::proofs::Disks::is_there_put, crate::proofs::Disks::is_there_grown))]
+#[tactic(auto, using(kb_store::proofs::Disks::is_there_put, kb_store::proofs::Disks::is_there_grown))]
 fn make_and_append<S: Store>(store: &mut S, file: u64) -> Result<(bool, u64), StoreFault>
     requires { map.get (S.disk store.old).table file ≡ None }
 {
@@ -40,7 +41,7 @@ fn make_and_append<S: Store>(store: &mut S, file: u64) -> Result<(bool, u64), St
 }
 
 #[test]
-#[tactic(auto, using(crate::proofs::Disks::none_in_empty))]
+#[tactic(auto, using(kb_store::proofs::Disks::none_in_empty))]
 fn a_fuse_refuses(rt: HostRuntime) -> Result<(), Fail> {
     for (keep, len) in [(0u64, 0u64), (4, 4), (99, 6)] {
         let mut store = FusedStore::new(MemoryStore::new(rt.alloc()), Fuse::Once(2), keep);

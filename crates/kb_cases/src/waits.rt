@@ -1,6 +1,9 @@
-use crate::key::{GroupId, WaitKey};
-use crate::plain::PlainWaits;
-use crate::waits::Waits;
+//! Waits that are parked, found and taken out, and the queue beside a plain list.
+
+mod plain;
+
+use kb_waits::{GroupId, WaitKey, Waits};
+use plain::PlainWaits;
 use std::alloc::{AllocError, Global};
 use std::process::Abort;
 use std::test::Fail;

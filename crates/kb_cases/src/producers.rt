@@ -1,6 +1,6 @@
 //! A producer's batches in a row, as brokers of Kafka answer them.
-use crate::{ProducerTable, Verdict};
 use kb_batch::{BatchView, crc32c};
+use kb_producers::{ProducerTable, Verdict};
 use std::test::*;
 
 /// One record, `hi` at 5 ms, of no producer.

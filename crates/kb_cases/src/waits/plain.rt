@@ -1,6 +1,6 @@
 //! The queue as a plain list, searched from end to end: what the tests compare the queue with.
 
-use crate::key::WaitKey;
+use kb_waits::WaitKey;
 use std::alloc::{AllocError, Global};
 
 /// Each connection with its deadline and its keys, in the order of parking.

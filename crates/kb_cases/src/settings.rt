@@ -1,4 +1,6 @@
-use crate::{Settings, SettingsFault};
+//! Texts of settings: what is taken, what is refused, and which wrong key is named.
+
+use kb_settings::{Settings, SettingsFault};
 use std::alloc::Global;
 use std::process::Abort;
 use std::test::Fail;

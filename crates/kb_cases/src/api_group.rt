@@ -1,4 +1,13 @@
-use super::*;
+//! Requests, from their frames on, and replies, each read and written back.
+
+use kb_api_group::{
+    ApiVersionsReply, ApiVersionsRequest, ErrorCode, FindCoordinatorReply, FindCoordinatorRequest,
+    FrameFeed, HeartbeatReply, HeartbeatRequest, JoinGroupReply, JoinGroupRequest, LeaveGroupReply,
+    LeaveGroupRequest, Next, OffsetCommitReply, OffsetCommitRequest, OffsetFetchReply,
+    OffsetFetchRequest, RequestHeader, RequestStart, SaslAuthenticateReply,
+    SaslAuthenticateRequest, SaslHandshakeReply, SaslHandshakeRequest, SyncGroupReply,
+    SyncGroupRequest, read_plain,
+};
 use kb_wire::{Layout, Sink};
 use std::alloc::Global;
 use std::process::Abort;

@@ -6,8 +6,6 @@ use Rattle.std.specs.FinMap as fin
 use Rattle.std.specs.BTreeSet.{insert_key}
 use Rattle.std.specs.List.{All, AllByRecursion, slice_get}
 use Rattle.std.specs.Ordering.{match_ordering, is_gt}
-use Rattle.std.specs.declared.alloc.Global.{Global}
-use Rattle.std.specs.declared.vec.Vec.{Vec}
 use Rattle.std.proofs.lemmas.Bool.Decides.{nat_tests}
 use Rattle.std.proofs.lemmas.Cmp.{ranked}
 use Rattle.std.proofs.lemmas.List.{get_or_default, take_more}
@@ -15,7 +13,6 @@ use Rattle.std.proofs.lemmas.List.Elements.{All-contains, Contains-push_cases}
 use Rattle.kb_waits.specs.Queue as queue
 use Rattle.kb_waits.specs.Queue.{Queue}
 use Rattle.kb_store.specs.Disk.{Disk}
-use Rattle.kb_world.specs.declared.place.Place.{Place}
 use Rattle.kb_tenant.specs.Hosted as hosted
 use Rattle.kb_tenant.specs.Hosted.{TenantState, IsTurn}
 use Rattle.kb_tenant.specs.Replies.{Silent}
@@ -35,7 +32,7 @@ use Rattle.kb_machine.proofs.Turns.{going-same, going-then, turned-same, turned-
 use Rattle.kb_machine.proofs.Wakes.{turned-served}
 use Rattle.kb_broker.specs.Hosts.{OnStore, is_honest, IsLater, IsReadyOn, NoneReady, StepsTo}
 use Rattle.kb_broker.specs.Places.{numbers, number_at, waits_in, AreIdle, IsNext, IsScoped, IsTakenAt, IsTurnAt}
-use Rattle.kb_broker.specs.Parked.{deadline_at, deadline_in, until_of, IsKeyedAt, IsKeyedIn, IsQueueOf, IsAskedOnAt, IsPassedOn, IsConcern, IsWhose, IsLeftBy, IsUnreadyIn, IsSoughtAt, IsSoughtIn, IsMinded, AreMinded, SameBut, IsServedFor, IsOwnTo, IsAllOf, IsLeftTo, can_in, AreAmong}
+use Rattle.kb_broker.specs.Parked.{deadline_at, deadline_in, until_of, IsKeyedAt, IsKeyedIn, IsQueueOf, IsAskedOnAt, IsPassedOn, IsWhose, IsLeftBy, IsUnreadyIn, IsSoughtAt, IsSoughtIn, IsMinded, AreMinded, SameBut, IsServedFor, IsOwnTo, IsAllOf, IsLeftTo, can_in, AreAmong}
 use Rattle.kb_broker.specs.declared.serving.Concerned.{Concerned}
 use Rattle.kb_broker.specs.declared.serving.Concerned.TheVariants as concerned
 use Rattle.kb_broker.proofs.Honest.{later-same, later-then, ready-of}
@@ -192,6 +189,13 @@ among-idle n ns a b idle own same k able = by (among k ns)
     by (inl c) = c
     by (inr apart) = absurd (idle-able n k a.lines idle (λ e. apart (subst (Contains ns) (sym e) own)) (sym (ap can_in (same k apart)) ∙ able))
 
+-- where it alone stands there, no other has changed
+pub one-same : (n : ℕ) (ns : List ℕ) (a b : BrokerState) → Contains ns n → length ns ≤ 1 → SameBut ns a b → SameOthers n a b
+one-same n ns a b own one same k ne = same k (λ c. ne (sym c.2 ∙ (first k c.0 c.1 ∙ (get_or_default ns 0 k n (let h = own.1 in omega (arith, h)) ∙ (sym (first n own.0 own.1) ∙ own.2)))))
+  where
+    first : (d i : ℕ) → i < length ns → get_or ns i d ≡ get_or ns 0 d
+    first d i lt = ap (λ j. get_or ns j d) (let zero : i ≡ 0 = omega (arith, lt, one) in zero)
+
 -- 3. Turns that were taken
 
 -- connections took some turns from a on, and all that stands between turns holds
@@ -333,13 +337,6 @@ pub refused-own : (c : Concerned) (st : Stage) (n : ℕ) → IsAllOf c st → Is
 refused-own concerned.Nobody st n all = tt
 refused-own (concerned.These t ns) st n all = absurd all
 refused-own (concerned.All t) st n all = tt
-
--- whose turn it was stands among those that partitions concern
-pub own-concern : (c : Concerned) (t n : ℕ) (ts : List TenantState) (q : Queue) (touched : Option (Vec Place Global)) → IsConcern c t n ts q touched → IsOwnTo c n
-own-concern concerned.Nobody t n ts q touched is = tt
-own-concern (concerned.These u ns) t n ts q None is = absurd is
-own-concern (concerned.These u ns) t n ts q (Some places) is = is.1.own
-own-concern (concerned.All u) t n ts q touched is = tt
 
 -- those were looked at again
 pub turned-these : (t : ℕ) (ns : List ℕ) (scope : Scope) (a b c : BrokerState) → Served t scope a b → AreMinded (whoms.Tenant t) b c ns → ((k : ℕ) → IsMinded (whoms.Tenant t) ns b k) → Turned scope a c

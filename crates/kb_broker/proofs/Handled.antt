@@ -20,7 +20,7 @@ use Rattle.kb_machine.proofs.Parts.{count, turn-then, calm-right, eqb_same}
 use Rattle.kb_machine.proofs.Owned.{found as found-all}
 use Rattle.kb_machine.proofs.Steps.{begun, sound-begun, all-unready, due-unready, step-moment}
 use Rattle.kb_machine.proofs.Wakes.{turned-quiet}
-use Rattle.kb_machine.proofs.Turns.{going-then, turned-same, untouched-then, turned-greeting, called-going, greeting-going, refused-going, served-bound, refused-greeting}
+use Rattle.kb_machine.proofs.Turns.{going-then, untouched-then, turned-greeting, called-going, greeting-going, refused-going, served-bound, refused-greeting}
 use Rattle.kb_machine.proofs.Feeds.{still-settled, fed-kept, fed-refused, fed-bound, step-comes, step-nothing, step-shut}
 use Rattle.kb_connection.specs.View.{with_session}
 use Rattle.kb_broker.specs.Places.{numbers, number_at, waits_in, Leaves, IsSpent, IsTakenAt, IsTurnAt, AreIdle, IsNext, IsScoped, IsCountedAt, IsCountedFor, IsServedAt, IsQuietAt}
@@ -451,14 +451,3 @@ module _ (H : Type 0) (honest : H) (now : ℕ) (whom : Whom) (a s b c : BrokerSt
 
   pub moved-others : (k : ℕ) → waits_in (find_line k a.lines) ≡ false → find_line k c.lines ≡ find_line k a.lines
   moved-others k free = untouched-then (begun a now s.tenants) b c waked.untouched turned.untouched k (resting-free k a a m.ready free)
-
--- where nothing was looked at there are no turns
-pub moved-idle : (H : Type 0) (now : ℕ) (whom : Whom) (a s b : BrokerState) → IsReady a → HasBegun H now whom a s → Waked whom s b → (AreUnready (IsPassedOver whom s.clock) s → AreUnready AnyWait b) → b ≡ s → IsMoved H now whom a s b b
-moved-idle H now whom a s b ready h waked rest same = record {
-  ready = ready;
-  begun = h;
-  waked = waked;
-  rest = rest;
-  turned = λ scope still. turned-same scope b waked.going.sound still;
-  none = idle-none H now whom a s b ready.settled h same;
-}

@@ -24,7 +24,7 @@ use Rattle.kb_machine.proofs.Parts.{each-tenant, eqb_same, eqb_other}
 use Rattle.kb_machine.proofs.Owned.{found as found-all}
 use Rattle.kb_machine.proofs.Quiet.{first-silent, asked-retained}
 use Rattle.kb_machine.proofs.Turns.{unready-same}
-use Rattle.kb_machine.proofs.Wakes.{waked-same, waked-then}
+use Rattle.kb_machine.proofs.Wakes.{waked-then}
 use Rattle.kb_broker.specs.Parked.{keys_of, deadline_at, deadline_in, until_of, IsKeyedAt, IsKeyedIn, IsQueueOf, IsAskedOn, IsWaitingOnAt, AreWaitingOn, IsUnreadyIn, IsUnreadyAt, IsSoughtAt, IsSoughtIn, IsMinded, AreMinded, SameBut, can_in, AreAmong}
 
 -- 1. The connection of a number
@@ -217,9 +217,6 @@ unready-later a b k clock kept same u = subst (IsUnreadyIn b) (sym same) (unread
 
 -- 5. Looks by number
 
-pub minded-none : (whom : Whom) (b : BrokerState) → IsSound b → AreMinded whom b b []
-minded-none whom b sound = record { waked = waked-same whom b sound; rest = λ k u. u; done = λ k c s. absurd (let h = c.1 in omega (arith, h)); todo = λ k. inr refl }
-
 -- a number under which nobody is connected
 pub minded-absent : (whom : Whom) (a b : BrokerState) (n : ℕ) (ns : List ℕ) → AreMinded whom a b ns → find_line n b.lines ≡ None → AreMinded whom a b (ns ++ n ∷ [])
 minded-absent whom a b n ns v none = record { waked = v.waked; rest = v.rest; done = λ k c s. by k s (Contains-push_cases ns n k c); todo = v.todo }
@@ -323,9 +320,6 @@ due-minded H q b ns v parked unready k = by (find_line k b.lines) refl
     by (Some s) e = subst (λ o. IsUnreadyIn b o ⊎ (Contains ns k × IsSoughtIn whoms.Due b.clock o)) (sym e) (waits s s.stage refl e (find-each (λ (x : Session). IsUnready (IsPassedOver whoms.Due b.clock) b x.stage) k s b.lines unready e))
 
 -- 7. Who may go on
-
-able-in : (o : Option Session) → can_in o ≡ true → o ≡ None → ⊥
-able-in o able none = let no : false ≡ true = sym (ap can_in none) ∙ able in cc
 
 -- where no other has changed but those, each that can take a turn is among those or was before
 pub among-same : (ns ms : List ℕ) (a b : BrokerState) → SameBut ns a b → AreAmong ms a → (k : ℕ) → can_in (find_line k b.lines) ≡ true → Contains ms k ⊎ Contains ns k

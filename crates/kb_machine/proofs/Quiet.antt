@@ -1,7 +1,6 @@
 -- A request makes no fetch ready that waits for no partition that it touched, and a fetch that waits on asks for the same partitions.
 use Rattle.std.proofs.Common.{◌≡◌, ◌+◌, eqb, ℕ, ℤ, List, [], Bool, true, false, Option, Some, None, refl, sym, ◌∙◌, ap, subst, arith}
 use Rattle.std.specs.Prelude.{cond, Result, Ok, Err}
-use Rattle.std.specs.List.{Contains}
 use Rattle.kb_wire.specs.Codec.{whole}
 use Rattle.kb_wire.specs.declared.fault.WireFault.{WireFault}
 use Rattle.kb_api_group.specs.Frames.{Front, Whole, Partial, TooSmall, TooLarge, front}
@@ -81,14 +80,6 @@ apart-ready node k l clock key body w tied same apart silent =
     (λ r read waits. ap (λ x. fetch_answer x r w.deadline) same
     ∙ (served_waits node (world_at k clock) key body r w.deadline tied waits (subst (λ ps. AreApart ps touched) (asked-is k clock w r read) apart)).0)
     silent
-
-nowhere : (place : Place) → Contains [] place → ⊥
-nowhere place c = let h = c.1 in omega (arith, h)
-
--- after a request that touched no partition a fetch is as little ready as before
-pub quiet-ready : (node : Node) (k l : Kept) (clock : ℕ) (key : ℤ) (body : List ℕ) (w : Wait) → IsTied (world_at k clock) → world_at l clock ≡ (request node (world_at k clock) key body).world → (request node (world_at k clock) key body).touched ≡ [] →
-    ready k clock w ≡ Silent → ready l clock w ≡ Silent
-quiet-ready node k l clock key body w tied same none = apart-ready node k l clock key body w tied same (λ place asks touched. nowhere place (subst (λ ps. Contains ps place) none touched))
 
 -- a fetch that is ready neither before nor after a request asks for the same partitions, whatever was touched
 pub asked-again : (node : Node) (k l : Kept) (clock : ℕ) (key : ℤ) (body : List ℕ) (w : Wait) → IsTied (world_at k clock) → HasOwnNames (world_at k clock) → world_at l clock ≡ (request node (world_at k clock) key body).world →
@@ -217,14 +208,6 @@ module _ (b : BrokerState) (i u : ℕ) (l m : Line) (us : List TenantState) (H :
   still-unready kept (Greets h) e = tt
   still-unready kept (BoundTo t None) e = tt
   still-unready kept (BoundTo t (Some w)) e = λ any. kept t w (e tt)
-
-  -- a fetch that asks for none of the partitions that were touched
-  pub apart-unready : (touched : List Place) → ((w : Wait) → AreApart (asked (kept_of b u) w) touched → ready (kept_of b u) b.clock w ≡ Silent → ready (hosted.kept_of us u) b.clock w ≡ Silent) → (st : Stage) → IsUnready AnyWait b st
-      → ((w : Wait) → st ≡ BoundTo u (Some w) → AreApart (asked (kept_of b u) w) touched) → IsUnready AnyWait (changed b i m us b.unbound_refusals) st
-  apart-unready touched quiet (Greets h) e apart = tt
-  apart-unready touched quiet (BoundTo t None) e apart = tt
-  apart-unready touched quiet (BoundTo t (Some w)) e apart = λ any. each-tenant (λ v. v ≡ t → ready (kept_of b v) b.clock w ≡ Silent → ready (hosted.kept_of us v) b.clock w ≡ Silent) u t (eqb u t) refl
-      (λ same silent. quiet w (apart w (ap (λ v. BoundTo v (Some w)) (sym same))) silent) (λ ne same silent. ap (λ k. ready k b.clock w) (turn.others honest t ne) ∙ silent) refl (e tt)
 
   pub own-unready : (st : Stage) → without_wait st ≡ BoundTo u None → IsIdle b.clock (hosted.kept_of us u) st → IsUnready AnyWait (changed b i m us b.unbound_refusals) st
   own-unready (Greets h) same idle = tt

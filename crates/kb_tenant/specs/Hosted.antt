@@ -1,9 +1,11 @@
 -- A tenant among the others of a broker: what it keeps, and what a call for one of them leaves of all.
-use Rattle.std.specs.Prelude.{◌≡◌, ◌≤◌, ◌==◌, ◌&&◌, ℕ, List, [], ◌∷◌, map, get_or, Bool, true, if◌then◌else◌}
+use Rattle.std.specs.Prelude.{◌≡◌, ◌≤◌, ◌+◌, ◌⊎◌, ◌==◌, ◌&&◌, ℕ, List, [], ◌∷◌, map, get_or, Bool, true, if◌then◌else◌}
+use Rattle.std.specs.List.{sum_by}
 use Rattle.std.specs.Str.{bytes_eq}
 use Rattle.kb_topics.specs.Known.{Known, empty}
 use Rattle.kb_partitions.specs.Logs.{Logs}
 use Rattle.kb_world.specs.Calls.{retain_all}
+use Rattle.kb_world.specs.Parts.{END}
 use Rattle.kb_world.specs.World.{World}
 use Rattle.kb_world.specs.Steps.{IsCalm}
 
@@ -70,6 +72,19 @@ pub record AreRetained (clock : ℕ) (honest : Type 0) (old new : List TenantSta
   pub kept : honest → (u : ℕ) → IsCalm (refusals_of old u) (refusals_of new u) → kept_of new u ≡ retained clock (kept_of old u)
 
 -- ---- counts
+
+-- the counts of all tenants together
+abbrev pub total : List TenantState → ℕ
+total ts = sum_by (λ (x : TenantState). x.refusals) ts
+
+-- the count of some tenant has come to its end
+abbrev pub HasEnded : List TenantState → Type 0
+HasEnded ts = (t : ℕ) × (END ≤ refusals_of ts t)
+
+-- What the store refused was counted: the counts together have risen by at least as much as the store's failures, unless one has
+-- come to its end.
+abbrev pub IsAccounted : (old new : List TenantState) (failures later : ℕ) → Type 0
+IsAccounted old new failures later = (total old + later ≤ total new + failures) ⊎ HasEnded new
 
 -- the count of the first tenant of that name, or 0
 abbrev pub count_named : List ℕ → List TenantState → ℕ

@@ -1,6 +1,6 @@
 -- What a call for one tenant is to those who see each tenant's name, what it keeps and its count.
-use Rattle.std.proofs.Common.{◌≡◌, ◌∙◌, ◌≤◌, ◌<◌, ◌≤ℤ◌, ⊎_elim, ℕ, ℤ, pos, zero, suc, Bool, true, false, eqb, List, [], ◌∷◌, Some, length, get_or, sym, ap, refl, subst, arith}
-use Rattle.std.specs.Prelude.{map, slice_get, slice_set, option_map, unwrap_or, string_bytes, ◌&&◌}
+use Rattle.std.proofs.Common.{◌≡◌, ◌∙◌, ◌≤◌, ◌<◌, ◌+◌, ◌≤ℤ◌, ⊎_elim, ℕ, ℤ, pos, zero, suc, Bool, true, false, eqb, List, [], ◌∷◌, Some, length, get_or, sym, ap, refl, subst, arith}
+use Rattle.std.specs.Prelude.{map, min, slice_get, slice_set, option_map, unwrap_or, string_bytes, ◌&&◌}
 use Rattle.std.specs.Bool.{MatchBool}
 use Rattle.std.specs.List.{AllWithin, HoldsAt, list_all}
 use Rattle.std.specs.Vec.{with_item}
@@ -12,19 +12,21 @@ use Rattle.std.proofs.Math.Seq.{map-set_same}
 use Rattle.kb_store.specs.Disk.{Disk, Files}
 use Rattle.kb_log.specs.OnShelf.{Log, IsLawfulLog}
 use Rattle.kb_log.specs.Shelf.{Shelved}
-use Rattle.kb_world.specs.Parts.{Agrees, IsSound, scene, world_of, entries, refused}
+use Rattle.kb_world.specs.Parts.{Agrees, IsSound, END, scene, world_of, entries, raised, refused}
 use Rattle.kb_world.specs.Steps.{IsStep, IsCalm, Meets, step_same, step_then}
 use Rattle.kb_world.specs.World.{World}
 use Rattle.kb_world.specs.declared.parts.Parts.{Parts}
-use Rattle.kb_world.proofs.Lifted.{clocked, recast, loud, refused_step}
-use Rattle.kb_tenant.specs.Hosted.{TenantState, Kept, IsTurn, IsMet, nothing, kept_in, kept_of, refusals_of, names_of, retained, world_at, all_calm}
+use Rattle.kb_world.proofs.Lifted.{clocked, recast, loud, raised_meets, raised_step, refused_step}
+use Rattle.kb_tenant.specs.Hosted.{TenantState, Kept, IsAccounted, IsTurn, IsMet, nothing, kept_in, kept_of, refusals_of, names_of, retained, world_at, all_calm}
 use Rattle.kb_tenant.proofs.LogMoves.{same_or_not}
 use Rattle.kb_tenants.specs.Tenants.{AreKept, IsIdleUntil, hosted, parts_of, state_of}
 use Rattle.kb_tenants.specs.Turns.{IsShelfTurn, seen_at}
 use Rattle.kb_tenants.specs.declared.tenants.Tenant.{Tenant}
 use Rattle.kb_tenants.specs.declared.tenants.Tenants.{Tenants}
+use Rattle.kb_tenants.proofs.Accounted.{accounted_rises, accounted_turn}
 use Rattle.kb_tenants.proofs.Idle.{IsQuiet, idle_stays, idle_turn, quiet_kept}
 use Rattle.kb_tenants.proofs.Others.{found, turn}
+use Rattle.kb_tenants.proofs.Retained.{length_named}
 
 -- ---- lists
 
@@ -244,6 +246,11 @@ module _ {L S : Type 0} (log : L → Log) (disk : S → Disk) (law : (l : L) →
       loud x.parts.refusals x.parts (omega arith)
       (subst (λ (v : Parts L). IsCalm x.parts.refusals v.refusals) counted (calm_here log disk law old t x p old.shelf lt read kept refused_at calm))
 
+  pub accounted_refused : IsAccounted (hosted log disk old) (hosted log disk (after old t x p old.shelf)) (disk old.shelf.store).failures (disk old.shelf.store).failures
+  accounted_refused =
+      accounted_rises (hosted log disk old) (hosted log disk (after old t x p old.shelf)) (disk old.shelf.store).failures
+      (length_named (hosted log disk old) (hosted log disk (after old t x p old.shelf)) turn_refused.names) turn_refused.grows
+
 -- ---- counts
 
 abbrev pub uncounted : {L : Type 0} → Tenant L → Bool
@@ -261,7 +268,7 @@ module _ {L : Type 0} (log : L → Log) (files : Files) where
   calm_cases [] false h = absurd (omega (arith, h.1))
   calm_cases (x ∷ ts) false h = sym (list_all_at (λ (x : Tenant L). uncounted x) (x ∷ ts) h.0 x h.1 (h.2 x)) ∙ calm_list (x ∷ ts)
 
--- ---- the clock is set first
+-- ---- the clock is set first, and what the store refused is counted last
 
 module _ {L S : Type 0} (log : L → Log) (disk : S → Disk) (law : (l : L) → IsLawfulLog (log l)) (old : Tenants L S) (t : ℕ) (x : Tenant L) (q : Parts L) (clock : ℕ)
     (lt : t < length (hosted log disk old)) (read : x ≡ get_or old.tenants.items t x) (kept : AreKept log disk old) (set : q ≡ record x.parts { clock = clock }) where
@@ -282,9 +289,18 @@ module _ {L S : Type 0} (log : L → Log) (disk : S → Disk) (law : (l : L) →
   agrees_at : Agrees log x.parts (disk old.shelf.store).files → Agrees log (record x.parts { clock = clock }) (disk old.shelf.store).files
   agrees_at agree = record { catalog = agree.catalog; fold = agree.fold; logs = agree.logs; until = agree.until }
 
-  module _ (p : Parts L) (shelf : Shelved S) (step : IsStep (scene log disk q old.shelf) (scene log disk p shelf)) where
+  module _ (mid p : Parts L) (n : ℕ) (shelf : Shelved S) (counted : p ≡ raised mid n) (step : IsStep (scene log disk q old.shelf) (scene log disk mid shelf)) where
+    counted_at : IsStep (scene log disk q old.shelf) (scene log disk p shelf)
+    counted_at = subst (λ (v : Parts L). IsStep (scene log disk q old.shelf) (scene log disk v shelf)) (sym counted) (raised_step log (scene log disk q old.shelf) mid n (disk shelf.store) shelf.next step)
+
     step_at : IsStep (scene log disk x.parts old.shelf) (scene log disk p shelf)
-    step_at = step_then (scene log disk x.parts old.shelf) (scene log disk q old.shelf) (scene log disk p shelf) set_step step
+    step_at = step_then (scene log disk x.parts old.shelf) (scene log disk q old.shelf) (scene log disk p shelf) set_step counted_at
+
+    same_world : world_of log p (disk shelf.store).files ≡ world_of log mid (disk shelf.store).files
+    same_world = ap (λ (v : Parts L). world_of log v (disk shelf.store).files) counted
+
+    meets_counted : (P : Type 0) → Meets (scene log disk q old.shelf) (scene log disk mid shelf) P → Meets (scene log disk q old.shelf) (scene log disk p shelf) P
+    meets_counted P meets = subst (λ (v : Parts L). Meets (scene log disk q old.shelf) (scene log disk v shelf) P) (sym counted) (raised_meets log (scene log disk q old.shelf) mid n (disk shelf.store) shelf.next P step meets)
 
     -- where the tenant is looked at
     pub kept_at : (until : ℤ) → until ≤ℤ old.kept_until → IsQuiet log p until → AreKept log disk (record (after old t x p shelf) { kept_until = until })
@@ -295,20 +311,22 @@ module _ {L S : Type 0} (log : L → Log) (disk : S → Disk) (law : (l : L) →
 
     -- what is met at that clock is what is seen
     pub met_at : (P : World → World → Type 0) (Q : Kept → Kept → Type 0)
-        → (P (world_at (kept_in (world_of log x.parts (disk old.shelf.store).files)) clock) (world_of log p (disk shelf.store).files) → Q (kept_in (world_of log x.parts (disk old.shelf.store).files)) (kept_in (world_of log p (disk shelf.store).files)))
-        → Meets (scene log disk q old.shelf) (scene log disk p shelf) (P (world_of log q (disk old.shelf.store).files) (world_of log p (disk shelf.store).files))
+        → (P (world_at (kept_in (world_of log x.parts (disk old.shelf.store).files)) clock) (world_of log mid (disk shelf.store).files) → Q (kept_in (world_of log x.parts (disk old.shelf.store).files)) (kept_in (world_of log mid (disk shelf.store).files)))
+        → Meets (scene log disk q old.shelf) (scene log disk mid shelf) (P (world_of log q (disk old.shelf.store).files) (world_of log mid (disk shelf.store).files))
         → IsMet t (disk shelf.store).honest (hosted log disk old) (hosted log disk (after old t x p shelf)) Q
     met_at P Q so meets = met_after log disk law old t x p shelf lt read kept step_at Q (λ honest agree calm.
-        so (subst (λ (v : Parts L). Meets (scene log disk v old.shelf) (scene log disk p shelf) (P (world_of log v (disk old.shelf.store).files) (world_of log p (disk shelf.store).files))) set meets honest (agrees_at agree) calm))
+        let all = meets_counted (P (world_of log q (disk old.shelf.store).files) (world_of log mid (disk shelf.store).files)) meets in
+        subst (λ w. Q (kept_in (world_of log x.parts (disk old.shelf.store).files)) (kept_in w)) (sym same_world)
+        (so (subst (λ (v : Parts L). Meets (scene log disk v old.shelf) (scene log disk p shelf) (P (world_of log v (disk old.shelf.store).files) (world_of log mid (disk shelf.store).files))) set all honest (agrees_at agree) calm)))
 
     -- where the world at that clock stays, all keep what they kept
-    pub stays_at : ((disk shelf.store).honest → Agrees log q (disk old.shelf.store).files → world_of log p (disk shelf.store).files ≡ world_of log q (disk old.shelf.store).files)
+    pub stays_at : ((disk shelf.store).honest → Agrees log q (disk old.shelf.store).files → world_of log mid (disk shelf.store).files ≡ world_of log q (disk old.shelf.store).files)
         → (disk shelf.store).honest → (u : ℕ) → kept_of (hosted log disk (after old t x p shelf)) u ≡ kept_of (hosted log disk old) u
     stays_at same = stays_after log disk law old t x p shelf lt read kept step_at (λ honest agree.
-        ap kept_in (same honest (subst (λ (v : Parts L). Agrees log v (disk old.shelf.store).files) (sym set) (agrees_at agree)))
+        ap kept_in (same_world ∙ same honest (subst (λ (v : Parts L). Agrees log v (disk old.shelf.store).files) (sym set) (agrees_at agree)))
         ∙ ap (λ (v : Parts L). kept_in (world_of log v (disk old.shelf.store).files)) set)
 
-    pub kept_stay_at : ((disk shelf.store).honest → Agrees log q (disk old.shelf.store).files → world_of log p (disk shelf.store).files ≡ world_of log q (disk old.shelf.store).files) → AreKept log disk (after old t x p shelf)
+    pub kept_stay_at : ((disk shelf.store).honest → Agrees log q (disk old.shelf.store).files → world_of log mid (disk shelf.store).files ≡ world_of log q (disk old.shelf.store).files) → AreKept log disk (after old t x p shelf)
     kept_stay_at same = kept_same log disk law old t x p shelf lt read kept step_at (stays_at same)
 
     -- what is calm at that clock is seen to be calm
@@ -318,3 +336,16 @@ module _ {L S : Type 0} (log : L → Log) (disk : S → Disk) (law : (l : L) →
     -- and the other way round
     pub calm_from : IsCalm (refusals_of (hosted log disk old) t) (refusals_of (hosted log disk (after old t x p shelf)) t) → IsCalm q.refusals p.refusals
     calm_from calm = subst (λ (v : Parts L). IsCalm v.refusals p.refusals) (sym set) (calm_here log disk law old t x p shelf lt read kept step_at calm)
+
+    -- what the store refused meanwhile was counted
+    pub accounted_at : (m : ℕ) → n ≡ min (q.refusals + m) END → (disk shelf.store).failures ≡ (disk old.shelf.store).failures + m
+        → IsAccounted (hosted log disk old) (hosted log disk (after old t x p shelf)) (disk old.shelf.store).failures (disk shelf.store).failures
+    accounted_at m count sum =
+        let at = there log disk law old t x p shelf lt read kept step_at in
+        let was = refusals_here log (disk old.shelf.store).files old.tenants.items t x at in
+        let is = refusals_here log (disk shelf.store).files (after old t x p shelf).tenants.items t (record x { parts = p }) (there_after log disk law old t x p shelf lt read kept step_at) in
+        let same = ap (λ (v : Parts L). v.refusals) set in
+        let more = ap (λ (v : Parts L). v.refusals) counted in
+        subst (λ f. IsAccounted (hosted log disk old) (hosted log disk (after old t x p shelf)) (disk old.shelf.store).failures f) (sym sum)
+        (accounted_turn (hosted log disk old) (hosted log disk (after old t x p shelf)) t (disk old.shelf.store).failures m lt
+        (length_named (hosted log disk old) (hosted log disk (after old t x p shelf)) turn_at.names) turn_at.grows (omega (arith, count, more, was, is, same)))

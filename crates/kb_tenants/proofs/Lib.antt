@@ -1,3 +1,4 @@
+pub mod Accounted
 pub mod Added
 pub mod Hosted
 pub mod Idle

@@ -19,8 +19,8 @@ use Rattle.kb_topics.specs.declared.fault.CatalogFault.{CatalogFault}
 use Rattle.kb_topics.specs.declared.fault.CatalogFault.TheVariants as catalog
 use Rattle.kb_world.specs.Parts as parts
 use Rattle.kb_world.specs.KeptUntil.{AreAllKept}
-use Rattle.kb_world.specs.Parts.{IsSound, Agrees, Seen, meta, entries, world_of, END, refused, counted_for, counted_for_catalog}
-use Rattle.kb_world.specs.Steps.{IsStep, IsCalm}
+use Rattle.kb_world.specs.Parts.{IsSound, Agrees, Seen, meta, entries, world_of, END, raised, refused, counted_for, counted_for_catalog}
+use Rattle.kb_world.specs.Steps.{IsStep, IsCalm, Meets, calm_then}
 use Rattle.kb_world.specs.Tied.{counted, partition_count}
 use Rattle.kb_world.specs.declared.parts.Parts.{Parts}
 use Rattle.kb_world.proofs.StillKept.{as_before, kept_by}
@@ -178,6 +178,15 @@ loud n p le calm = by (nat_lt p.refusals END) refl calm
     by : (t : Bool) → nat_lt p.refusals END ≡ t → IsCalm n (cond t (p.refusals + 1) p.refusals) → ⊥
     by true e c = omega (arith, le, c.same)
     by false e c = let lt : p.refusals < END = subst (λ m. m < END) (sym c.same) c.below in absurd (grind (arith, nat_tests))
+
+-- a step, and the count of refusals is raised
+pub raised_step : {L : Type 0} (log : L → Log) (a : Scene Seen) (p : Parts L) (n : ℕ) (d : Disk) (next : ℕ) → IsStep a (parts.scene_on log p d next) → IsStep a (parts.scene_on log (raised p n) d next)
+raised_step log a p n d next step = recast log a p (raised p n) d next refl refl refl (omega (arith, step.grows)) step
+
+-- what was met is met also where the count is raised behind it
+pub raised_meets : {L : Type 0} (log : L → Log) (a : Scene Seen) (p : Parts L) (n : ℕ) (d : Disk) (next : ℕ) (P : Type 0) → IsStep a (parts.scene_on log p d next)
+    → Meets a (parts.scene_on log p d next) P → Meets a (parts.scene_on log (raised p n) d next) P
+raised_meets log a p n d next P step meets honest agree calm = meets honest agree (calm_then a.state.refusals p.refusals (raised p n).refusals step.grows (omega arith) calm).0
 
 -- a step, and then another clock up to which no partition has anything to drop
 pub kept_step : {L : Type 0} (log : L → Log) (a : Scene Seen) (p : Parts L) (u : ℤ) (d : Disk) (next : ℕ) → (d.honest → Agrees log p d.files → AreAllKept u (world_of log p d.files))

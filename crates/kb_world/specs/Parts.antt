@@ -1,5 +1,5 @@
 -- The parts of a tenant on a shelf: its catalog over a meta log, and its partitions.
-use Rattle.std.specs.Prelude.{◌≡◌, ◌≤◌, ◌<◌, ◌+◌, ◌-◌, ◌^◌, ◌⊎◌, ℕ, Some, nat_lt, if◌then◌else◌}
+use Rattle.std.specs.Prelude.{◌≡◌, ◌≤◌, ◌<◌, ◌+◌, ◌-◌, ◌^◌, ◌⊎◌, ℕ, Some, nat_lt, if◌then◌else◌, max}
 use Rattle.std.specs.Ordering.{nat_cmp}
 use Rattle.std.specs.Map.{lookup}
 use Rattle.std.specs.BTreeMap.{is_at}
@@ -79,6 +79,10 @@ END = 2 ^ 64 - 1
 -- one refusal more is counted
 abbrev pub refused : {L : Type 0} → Parts L → Parts L
 refused p = record p { refusals = if nat_lt p.refusals END then p.refusals + 1 else p.refusals }
+
+-- the count of refusals is at least that
+abbrev pub raised : {L : Type 0} → Parts L → ℕ → Parts L
+raised p count = record p { refusals = max p.refusals count }
 
 -- after a partition's fault: one that memory or the store has is counted
 abbrev pub counted_for : {L : Type 0} → PartitionFault → Parts L → Parts L

@@ -6,7 +6,7 @@ ghost use Rattle.kb_topics.specs.ByName.{by_name};
 ghost use Rattle.kb_topics.specs.Catalog.{known};
 ghost use Rattle.kb_topics.specs.Known.{named, topic_at};
 ghost use Rattle.kb_world.specs.Calls.{start_of, end_of, judged, at_clock, retain_all};
-ghost use Rattle.kb_world.specs.Parts.{Agrees, IsSound, Owns, refused, world_of};
+ghost use Rattle.kb_world.specs.Parts.{Agrees, IsSound, Owns, raised, refused, world_of};
 ghost use Rattle.kb_world.specs.World.{new_world};
 
 use crate::place::Place;
@@ -87,6 +87,13 @@ impl<L: PartitionLog> Parts<L> {
         ensures { self.new ≡ refused self.old }
     {
         self.refusals = self.refusals.saturating_add(1);
+    }
+
+    /// Raises the count of refusals to at least `count`.
+    pub fn raise_refusals(&mut self, count: u64)
+        ensures { self.new ≡ raised self.old count }
+    {
+        self.refusals = self.refusals.max(count);
     }
 
     /// The instance of the topic of that name.

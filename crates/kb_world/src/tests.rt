@@ -76,6 +76,8 @@ fn clock(rt: HostRuntime) -> Result<(), Fail> {
     parts.set_clock(1007);
     parts.refuse();
     assert_eq!(rt; (before, parts.clock(), parts.refusals()), (1006, 1007, 1));
+    parts.raise_refusals(3);
+    assert_eq!(rt; parts.refusals(), 3);
     Ok(())
 }
 

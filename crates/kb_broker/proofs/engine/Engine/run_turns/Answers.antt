@@ -1,10 +1,10 @@
-use Rattle.std.proofs.Common.{sym, ◌∙◌, subst}
+use Rattle.std.proofs.Common.{◌≤◌, length, rules, sym, ◌∙◌, subst}
 use Rattle.kb_broker.specs.Places.{AreIdle, number_at}
 use Rattle.kb_broker.specs.Parked.{AreAmong, IsConfined}
 use Rattle.kb_broker.proofs.Honest.{state-is}
 use Rattle.kb_broker.proofs.Placed.{at-read}
 use Rattle.kb_broker.proofs.Handled.{idle-others, idle-scoped, idle-settled, next-idle, within-going, number-going}
-use Rattle.kb_broker.proofs.Going.{among-idle, gone-same, gone-then}
+use Rattle.kb_broker.proofs.Going.{among-idle, gone-same, gone-then, one-same}
 use Rattle.kb_broker.proofs.engine.Engine.run_turns.Goals as goal
 
 pub loop-alloc-init : goal.loop-alloc-init
@@ -23,8 +23,8 @@ turn-requires-clause-next g c =
     let l = c.index.result.now in
     next-idle b c.args.i l v.gone.going.sound (at-read _ b c.args.i l (state-is _ _ c.self.view_is) v.within c.index.ensures) v.idle (sym c.can_turn.ensures ∙ c.loop-alloc-test.true)
 
-pub loop-alloc-preserved : goal.loop-alloc-preserved
-loop-alloc-preserved g c =
+pub loop-alloc-preserved-in-Nobody : goal.loop-alloc-preserved-in-Nobody
+loop-alloc-preserved-in-Nobody g c =
     let b = c.loop-alloc.self.state in
     let d = c.turn.new.self.state in
     let i = c.args.i in
@@ -35,6 +35,23 @@ loop-alloc-preserved g c =
       gone = gone-then g.S.Store.disk c.args.self.now c.loop-alloc.self c.turn.new.self v.gone t.going t.later t.turned;
       within = within-going b d i t.going v.within;
       idle = subst (λ k. AreIdle k d) (sym (number-going b d i t.going)) (idle-others n b d t.going.sound (subst (λ r. IsConfined r n b d) c.in-Nobody.is t.confined) v.idle);
+    }
+
+pub loop-alloc-preserved : goal.loop-alloc-preserved
+loop-alloc-preserved g c =
+    let b = c.loop-alloc.self.state in
+    let d = c.turn.new.self.state in
+    let i = c.args.i in
+    let n = number_at i b in
+    let ns = c.in-These.numbers.items in
+    let v = c.loop-alloc.invariant in
+    let t = c.turn.ensures in
+    let confined = subst (λ r. IsConfined r n b d) c.in-These.is t.confined in
+    let one : length ns ≤ 1 = search rules in
+    record {
+      gone = gone-then g.S.Store.disk c.args.self.now c.loop-alloc.self c.turn.new.self v.gone t.going t.later t.turned;
+      within = within-going b d i t.going v.within;
+      idle = subst (λ k. AreIdle k d) (sym (number-going b d i t.going)) (idle-others n b d t.going.sound (one-same n ns b d confined.0 one confined.1) v.idle);
     }
 
 pub run_among-requires : goal.run_among-requires
@@ -59,8 +76,8 @@ run_all_turns-requires g c =
     let gone = gone-then g.S.Store.disk c.args.self.now c.loop-alloc.self c.turn.new.self c.loop-alloc.invariant.gone t.going t.later t.turned in
     record { sound = gone.going.sound; unready = gone.unready; still = gone.still }
 
-pub returns-in-These : goal.returns-in-These
-returns-in-These g c =
+pub returns-then-len-gt1 : goal.returns-then-len-gt1
+returns-then-len-gt1 g c =
     let disk = g.S.Store.disk in
     let a = c.args.self.now in
     let t = c.turn.ensures in

@@ -1,10 +1,11 @@
-use Rattle.std.proofs.Common.{ap, subst, ◌∙◌, arith, to_z, of_z, w64}
+use Rattle.std.proofs.Common.{◌+◌, ◌-◌, ap, subst, ◌∙◌, arith, to_z, of_z, w64}
 use Rattle.std.proofs.lemmas.Int.{ints}
-use Rattle.kb_world.specs.Parts.{world_of}
+use Rattle.std.specs.Prelude.{min}
+use Rattle.kb_world.specs.Parts.{END, world_of}
 use Rattle.kb_tenant.specs.Hosted.{kept_in, world_at}
 use Rattle.kb_tenant.specs.Serve.{served, IsOutcome}
 use Rattle.kb_tenant.proofs.ServeMoves.{serve_leaves}
-use Rattle.kb_tenants.proofs.Hosted.{sound_at, kept_at, turn_at, met_at}
+use Rattle.kb_tenants.proofs.Hosted.{accounted_at, sound_at, kept_at, turn_at, met_at}
 use Rattle.kb_tenants.proofs.tenants.Tenants.serve.Goals as goal
 
 pub serve-served-requires-clause-sound : goal.serve-served-requires-clause-sound
@@ -15,14 +16,14 @@ serve-served-requires-clause-sound g c =
 pub returns-clause-kept : goal.returns-clause-kept
 returns-clause-kept g c =
     kept_at g.L.PartitionLog.log g.S.Store.disk g.met.L.PartitionLog.lawful c.args.self.now c.args.tenant c.index_mut.result.now c.set_clock.new.self c.args.clock
-    c.requires.tenant c.index_mut.ensures.value c.requires.kept c.set_clock.ensures.parts c.serve-served.new.parts c.serve-served.new.shelf c.serve-served.ensures.step
+    c.requires.tenant c.index_mut.ensures.value c.requires.kept c.set_clock.ensures.parts c.serve-served.new.parts c.count_failures.new.parts (min (c.refusals-refusals.result + (c.failures.result - c.failures-failures.result)) END) c.serve-served.new.shelf c.count_failures.ensures c.serve-served.ensures.step
     (to_z w64 (of_z w64 c.min-self.result)) (omega (arith, ints, c.min-self.ensures.self_bound))
     (λ files agrees clock le. c.kept_until.ensures files agrees clock (omega (arith, ints, le, c.min-self.ensures.other_bound)))
 
 pub returns-clause-turn : goal.returns-clause-turn
 returns-clause-turn g c =
     turn_at g.L.PartitionLog.log g.S.Store.disk g.met.L.PartitionLog.lawful c.args.self.now c.args.tenant c.index_mut.result.now c.set_clock.new.self c.args.clock
-    c.requires.tenant c.index_mut.ensures.value c.requires.kept c.set_clock.ensures.parts c.serve-served.new.parts c.serve-served.new.shelf c.serve-served.ensures.step
+    c.requires.tenant c.index_mut.ensures.value c.requires.kept c.set_clock.ensures.parts c.serve-served.new.parts c.count_failures.new.parts (min (c.refusals-refusals.result + (c.failures.result - c.failures-failures.result)) END) c.serve-served.new.shelf c.count_failures.ensures c.serve-served.ensures.step
 
 pub returns-clause-meets : goal.returns-clause-meets
 returns-clause-meets g c =
@@ -33,9 +34,16 @@ returns-clause-meets g c =
     let w = world_of log c.serve-served.new.parts (g.S.Store.disk c.serve-served.new.shelf.store).files in
     let o = served node (world_at k c.args.clock) r.api_key r.body.now in
     met_at log g.S.Store.disk g.met.L.PartitionLog.lawful c.args.self.now c.args.tenant c.index_mut.result.now c.set_clock.new.self c.args.clock
-    c.requires.tenant c.index_mut.ensures.value c.requires.kept c.set_clock.ensures.parts c.serve-served.new.parts c.serve-served.new.shelf c.serve-served.ensures.step
+    c.requires.tenant c.index_mut.ensures.value c.requires.kept c.set_clock.ensures.parts c.serve-served.new.parts c.count_failures.new.parts (min (c.refusals-refusals.result + (c.failures.result - c.failures-failures.result)) END) c.serve-served.new.shelf c.count_failures.ensures c.serve-served.ensures.step
     (λ v u. IsOutcome r.correlation_id (served node v r.api_key r.body.now) u c.serve-served.result.touched.items c.serve-served.result.answer)
     (λ v u. IsOutcome r.correlation_id (served node (world_at v c.args.clock) r.api_key r.body.now) (world_at u c.args.clock) c.serve-served.result.touched.items c.serve-served.result.answer)
     (λ done. subst (λ n. IsOutcome r.correlation_id o (world_at (kept_in w) n) c.serve-served.result.touched.items c.serve-served.result.answer)
     (ap (λ v. v.clock) done.0 ∙ (serve_leaves node (world_at k c.args.clock) r.api_key r.body.now).clock) done)
     c.serve-served.ensures.meets
+
+pub returns-clause-accounted : goal.returns-clause-accounted
+returns-clause-accounted g c =
+    accounted_at g.L.PartitionLog.log g.S.Store.disk g.met.L.PartitionLog.lawful c.args.self.now c.args.tenant c.index_mut.result.now c.set_clock.new.self c.args.clock
+    c.requires.tenant c.index_mut.ensures.value c.requires.kept c.set_clock.ensures.parts c.serve-served.new.parts c.count_failures.new.parts (min (c.refusals-refusals.result + (c.failures.result - c.failures-failures.result)) END) c.serve-served.new.shelf c.count_failures.ensures c.serve-served.ensures.step
+    (c.failures.result - c.failures-failures.result) (ap (λ k. min (k + (c.failures.result - c.failures-failures.result)) END) c.refusals-refusals.ensures)
+    (omega (arith, c.failures.ensures, c.failures-failures.ensures, c.serve-served.ensures.step.frame.failures))

@@ -7,9 +7,10 @@ use Rattle.kb_api_group.specs.Frames.{front, behind}
 use Rattle.kb_tenant.specs.Replies.{Reaction, Replies, Waits, Silent, Shuts, IsAnswer, reply_size}
 use Rattle.kb_tenant.specs.declared.answer.Answer.{Answer}
 use Rattle.kb_tenant.specs.declared.answer.Answer.TheVariants as answers
-use Rattle.kb_machine.specs.Session.{Stage, Greets, BoundTo, Session, shut_down, replied, without_wait, is_free}
+use Rattle.kb_machine.specs.Session.{Session, shut_down, replied, without_wait, is_free}
 use Rattle.kb_machine.specs.Machine.{Line, answered, told}
 use Rattle.kb_machine.proofs.Owners.{stage-shut}
+use Rattle.kb_machine.proofs.Turns.{free-without}
 use Rattle.kb_connection.specs.Fronts.{is_tenants_at}
 use Rattle.kb_connection.specs.TenantAnswers.{given, parked}
 use Rattle.kb_connection.specs.View.{with_session, without_front}
@@ -88,20 +89,16 @@ less_given (Err fault) l m new answer left ok err asks = less l new asks (omega 
 
 -- 4. What is no wait leaves it waiting for nothing
 
-free_without : (st : Stage) → is_free (without_wait st) ≡ true
-free_without (Greets h) = refl
-free_without (BoundTo t w) = refl
-
 free_after : (answer : Answer) (s : Session) → is_free s.stage ≡ true → is_free (given answer s).stage ≡ true
 free_after (answers.Reply reply) s free = free
 free_after (answers.Wait deadline keys) s free = free
 free_after answers.NoReply s free = free
-free_after answers.Shut s free = free_without s.stage
+free_after answers.Shut s free = free-without s.stage
 
 pub free_given : {E : Type 0} (result : Result (Unit {0}) E) (l m new : Line) (answer : Answer) → m ≡ with_session l (without_front l.session) → OnOk result (new ≡ with_session m (given answer m.session))
     → OnErr result (new ≡ with_session m (shut_down m.session)) → is_free l.session.stage ≡ true → is_free new.session.stage ≡ true
 free_given (Ok u) l m new answer left ok err free = ap (λ (x : Line). is_free x.session.stage) ok ∙ free_after answer m.session (ap (λ (x : Line). is_free x.session.stage) left ∙ free)
-free_given (Err fault) l m new answer left ok err free = ap (λ (x : Line). is_free x.session.stage) err ∙ free_without m.session.stage
+free_given (Err fault) l m new answer left ok err free = ap (λ (x : Line). is_free x.session.stage) err ∙ free-without m.session.stage
 
 -- 5. To a fetch that waits
 

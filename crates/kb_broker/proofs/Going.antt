@@ -201,7 +201,7 @@ one-same n ns a b own one same k ne = same k (λ c. ne (sym c.2 ∙ (first k c.0
 -- connections took some turns from a on, and all that stands between turns holds
 pub record HasGone {S : Type 0} (disk : S → Disk) (a b : OnStore S) : Type 0 where
   pub going : IsGoing a.state b.state
-  pub later : IsLater (disk a.store) (disk b.store)
+  pub later : IsLater disk a b
   pub unready : NoneReady disk b
   pub still : is_honest disk b → IsScoped b.state
   pub turned : is_honest disk b → (scope : Scope) → AreStill scope a.state → Turned scope a.state b.state
@@ -209,17 +209,17 @@ pub record HasGone {S : Type 0} (disk : S → Disk) (a b : OnStore S) : Type 0 w
 pub gone-same : {S : Type 0} (disk : S → Disk) (a : OnStore S) → IsSound a.state → NoneReady disk a → (is_honest disk a → IsScoped a.state) → HasGone disk a a
 gone-same disk a sound unready still = record {
   going = going-same a.state sound;
-  later = later-same (disk a.store);
+  later = later-same disk a;
   unready = unready;
   still = still;
   turned = λ honest scope s. turned-same scope a.state sound s;
 }
 
 -- and then some more
-pub gone-then : {S : Type 0} (disk : S → Disk) (a b c : OnStore S) → HasGone disk a b → IsGoing b.state c.state → IsLater (disk b.store) (disk c.store) → (is_honest disk c → (scope : Scope) → AreStill scope b.state → Turned scope b.state c.state) → HasGone disk a c
+pub gone-then : {S : Type 0} (disk : S → Disk) (a b c : OnStore S) → HasGone disk a b → IsGoing b.state c.state → IsLater disk b c → (is_honest disk c → (scope : Scope) → AreStill scope b.state → Turned scope b.state c.state) → HasGone disk a c
 gone-then disk a b c h going later turned = record {
   going = going-then a.state b.state c.state h.going going;
-  later = later-then (disk a.store) (disk b.store) (disk c.store) h.later later;
+  later = later-then disk a b c h.later later;
   unready = λ honest. let before = later.honest honest in let scoped = h.still before in (turned honest scoped.0 scoped.1).unready (h.unready before);
   still = λ honest. scoped-turned b.state c.state (h.still (later.honest honest)) (turned honest);
   turned = λ honest scope s. let before = h.turned (later.honest honest) scope s in turned-then scope a.state b.state c.state before (turned honest scope before.still);
@@ -352,10 +352,10 @@ confined-these ns n a b c own first then k apart = then k apart ∙ first k (λ 
 -- what retention, and then looks, left of the broker on its store, before the turns
 pub record IsAwake {S : Type 0} (disk : S → Disk) (now : ℕ) (whom : Whom) (a s b : OnStore S) : Type 0 where
   pub ready : IsReadyOn disk a
-  pub first : IsLater (disk a.store) (disk s.store)
+  pub first : IsLater disk a s
   pub begun : HasBegun (is_honest disk s) now whom a.state s.state
   pub going : IsGoing s.state b.state
-  pub later : IsLater (disk s.store) (disk b.store)
+  pub later : IsLater disk s b
   pub waked : is_honest disk b → Waked whom s.state b.state
   pub rest : is_honest disk b → AreUnready (IsPassedOver whom s.state.clock) s.state → AreUnready AnyWait b.state
 
@@ -374,19 +374,19 @@ awake-among disk now whom a s b ns h same = among-settled ns s.state b.state (id
 -- what a moment leaves
 pub record IsMovedOn {S : Type 0} (disk : S → Disk) (now : ℕ) (a d : OnStore S) : Type 0 where
   pub ready : IsReadyOn disk d
-  pub later : IsLater (disk a.store) (disk d.store)
+  pub later : IsLater disk a d
   pub step : StepsTo disk (Moment now) a d
   pub clock : d.state.clock ≡ max a.state.clock now
   pub last : d.state.last ≡ a.state.last
   pub numbers : numbers d.state ≡ numbers a.state
   pub others : is_honest disk d → (k : ℕ) → waits_in (find_line k a.state.lines) ≡ false → find_line k d.state.lines ≡ find_line k a.state.lines
 
-pub moved-on : {S : Type 0} (disk : S → Disk) (now : ℕ) (whom : Whom) (a s b d : OnStore S) → IsAwake disk now whom a s b → IsGoing b.state d.state → IsLater (disk b.store) (disk d.store)
+pub moved-on : {S : Type 0} (disk : S → Disk) (now : ℕ) (whom : Whom) (a s b d : OnStore S) → IsAwake disk now whom a s b → IsGoing b.state d.state → IsLater disk b d
     → (is_honest disk d → (scope : Scope) → AreStill scope b.state → Turned scope b.state d.state) → first_able d.state.lines ≡ None → IsMovedOn disk now a d
 moved-on disk now whom a s b d h going later turned settled =
     let H = is_honest disk s in
-    let after = later-then (disk s.store) (disk b.store) (disk d.store) h.later later in
-    let whole = later-then (disk a.store) (disk s.store) (disk d.store) h.first after in
+    let after = later-then disk s b d h.later later in
+    let whole = later-then disk a s d h.first after in
     let gone = moved-going H now whom a.state s.state b.state h.ready.settled h.begun d.state h.going going in
     let moved : is_honest disk d → IsMoved H now whom a.state s.state b.state d.state = λ honest. record {
       ready = ready-of disk a h.ready (whole.honest honest);

@@ -7,7 +7,7 @@ use Rattle.std.specs.Result.{is_err}
 use Rattle.std.specs.List.{AllByRecursion}
 use Rattle.std.proofs.lemmas.Bool.Decides.{nat_tests}
 use Rattle.std.proofs.lemmas.List.{get_or_default, length-map}
-use Rattle.kb_tenant.specs.Hosted.{TenantState, IsTurn, AreRetained}
+use Rattle.kb_tenant.specs.Hosted.{TenantState, IsTurn, AreRetained, names_of, refusals_of}
 use Rattle.kb_machine.specs.Session.{Stage, Greets, BoundTo, Session, fresh, shut_down, without_wait, is_free, fed, room, can}
 use Rattle.kb_machine.specs.Machine.{Comes, Moment, Line, first_able, work}
 use Rattle.kb_machine.specs.Owners.{find_line}
@@ -177,6 +177,14 @@ shut-at a b c i k l m st e lt read at s is counted =
 pub lines-counted : (st : Stage) (b c : BrokerState) → IsCountedAt st b c → c.lines ≡ b.lines
 lines-counted (Greets h) b c r = ap (λ (x : BrokerState). x.lines) r.is
 lines-counted (BoundTo t w) b c r = ap (λ (x : BrokerState). x.lines) r.is
+
+pub names-counted : (st : Stage) (b c : BrokerState) → IsCountedAt st b c → names_of c.tenants ≡ names_of b.tenants
+names-counted (Greets h) b c r = ap (λ (x : BrokerState). names_of x.tenants) r.is
+names-counted (BoundTo t w) b c r = r.turn.names
+
+pub counts-counted : (st : Stage) (b c : BrokerState) → IsCountedAt st b c → (u : ℕ) → refusals_of b.tenants u ≤ refusals_of c.tenants u
+counts-counted (Greets h) b c r u = let same = ap (λ (x : BrokerState). refusals_of x.tenants u) r.is in omega (arith, same)
+counts-counted (BoundTo t w) b c r u = r.turn.grows u
 
 fed-counted : (b c : BrokerState) (i : ℕ) (l m : Line) (piece : List ℕ) (st : Stage) → IsSound b → first_able b.lines ≡ None → IsAt b.lines i l → l.session.stage ≡ st → m.number ≡ l.number → m.session ≡ shut_down l.session → IsCountedAt st (put_at b i m) c → IsFed l.number piece b c
 fed-counted b c i l m piece (Greets h) sound settled at s n e r =

@@ -6,7 +6,8 @@ use Rattle.kb_machine.specs.Broker.{BrokerState, AreUnready, AnyWait, IsSound, I
 use Rattle.kb_machine.specs.Calls.{IsRefused, opened, closed, taken}
 use Rattle.kb_machine.proofs.Steps.{sound-opened, settled-opened, unready-opened, step-opened, step-unopened, sound-closed, settled-closed, unready-closed, step-closed}
 use Rattle.kb_machine.proofs.Taken.{sound-taken, settled-taken, unready-taken}
-use Rattle.kb_broker.specs.Hosts.{OnStore, is_honest, IsReadyOn, StepsTo}
+use Rattle.kb_broker.specs.Hosts.{OnStore, is_honest, IsLater, IsReadyOn, StepsTo}
+use Rattle.kb_broker.proofs.Honest.{later-is}
 
 -- another state on the same store
 module _ {S : Type 0} (disk : S → Disk) (a c : OnStore S) (same : c.store ≡ a.store) where
@@ -50,3 +51,11 @@ disconnected disk a b c n e h = λ honest.
 pub drained-ready : {S : Type 0} (disk : S → Disk) (a c : OnStore S) (n : ℕ) → IsReadyOn disk a → c ≡ record a { state = taken a.state n } → IsReadyOn disk c
 drained-ready disk a c n ready h =
     ready-on disk a c (ap (λ (x : OnStore _). x.store) h) (taken a.state n) (ap (λ (x : OnStore _). x.state) h) ready (sound-taken a.state n ready.sound) (settled-taken a.state n ready.settled) (unready-taken a.state n)
+
+-- a connection that opens, or cannot be kept, or closes, leaves the store and the tenants' counts as they are
+pub connected-later : {S A E : Type 0} (disk : S → Disk) (r : Result A E) (a c : OnStore S) (n : ℕ) → c.store ≡ a.store → OnOk r (c.state ≡ opened a.state n) → OnErr r (IsRefused a.state c.state) → IsLater disk a c
+connected-later disk (Ok x) a c n same ok err = later-is disk a c same (ap (λ (b : BrokerState). b.tenants) ok)
+connected-later disk (Err x) a c n same ok err = later-is disk a c same (ap (λ (b : BrokerState). b.tenants) err.is)
+
+pub disconnected-later : {S : Type 0} (disk : S → Disk) (a c : OnStore S) (n : ℕ) → c ≡ record a { state = closed a.state n } → IsLater disk a c
+disconnected-later disk a c n h = later-is disk a c (ap (λ (x : OnStore _). x.store) h) (ap (λ (x : OnStore _). x.state.tenants) h)

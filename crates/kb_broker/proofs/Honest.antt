@@ -1,22 +1,46 @@
 -- What may be said where a store has told the truth.
-use Rattle.std.proofs.Common.{◌≡◌, ◌∙◌, ap, sym, subst, arith}
+use Rattle.std.proofs.Common.{◌≡◌, ◌≤◌, ◌∙◌, ℕ, List, ap, sym, subst, arith}
 use Rattle.kb_store.specs.Disk.{Disk}
+use Rattle.kb_tenant.specs.Hosted.{TenantState, names_of, refusals_of}
+use Rattle.kb_tenants.proofs.Accounted.{accounted_rises, accounted_same, accounted_then}
+use Rattle.kb_tenants.proofs.Retained.{length_named}
 use Rattle.kb_machine.specs.Broker.{BrokerState, IsReady}
-use Rattle.kb_broker.specs.Hosts.{OnStore, is_honest, IsLater, IsReadyOn}
+use Rattle.kb_broker.specs.Hosts.{OnStore, is_honest, IsLater, IsLaterWith, IsReadyOn}
 
 -- a broker that is ready on its store is ready
 pub ready-of : {S : Type 0} (disk : S → Disk) (b : OnStore S) → IsReadyOn disk b → is_honest disk b → IsReady b.state
 ready-of disk b r honest = record { sound = r.sound; settled = r.settled; unready = r.unready honest }
 
-pub later-same : (d : Disk) → IsLater d d
-later-same d = record { honest = λ h. h; failures = omega arith }
+-- nothing was asked of the store
+pub later-none : (d : Disk) (ts : List TenantState) → IsLaterWith d d ts ts
+later-none d ts = record { honest = λ h. h; failures = omega arith; counts = λ t. omega arith; accounted = accounted_same ts d.failures }
 
-pub later-then : (a b c : Disk) → IsLater a b → IsLater b c → IsLater a c
-later-then a b c p q = record { honest = λ h. p.honest (q.honest h); failures = let f = p.failures in let g = q.failures in omega arith }
+-- and refusals were counted
+pub later-counted : (d : Disk) (ts us : List TenantState) → names_of us ≡ names_of ts → ((t : ℕ) → refusals_of ts t ≤ refusals_of us t) → IsLaterWith d d ts us
+later-counted d ts us names counts = record { honest = λ h. h; failures = omega arith; counts = counts; accounted = accounted_rises ts us d.failures (length_named ts us names) counts }
 
--- the store is the same
-pub later-is : {S : Type 0} (disk : S → Disk) (old new : S) → new ≡ old → IsLater (disk old) (disk new)
-later-is disk old new e = subst (λ s. IsLater (disk old) (disk s)) (sym e) (later-same (disk old))
+pub later-by : (d e f : Disk) (ps qs rs : List TenantState) → IsLaterWith d e ps qs → IsLaterWith e f qs rs → IsLaterWith d f ps rs
+later-by d e f ps qs rs p q = record {
+  honest = λ h. p.honest (q.honest h);
+  failures = (let first = p.failures in let then = q.failures in omega (arith, first, then));
+  counts = λ t. (let first = p.counts t in let then = q.counts t in omega (arith, first, then));
+  accounted = accounted_then ps qs rs d.failures e.failures f.failures q.counts p.accounted q.accounted;
+}
+
+-- the store is the same, and refusals were counted
+pub later-on : {S : Type 0} (disk : S → Disk) (s t : S) (ts us : List TenantState) → t ≡ s → names_of us ≡ names_of ts → ((t : ℕ) → refusals_of ts t ≤ refusals_of us t) → IsLaterWith (disk s) (disk t) ts us
+later-on disk s t ts us e names counts = subst (λ x. IsLaterWith (disk s) (disk x) ts us) (sym e) (later-counted (disk s) ts us names counts)
+
+pub later-same : {S : Type 0} (disk : S → Disk) (a : OnStore S) → IsLater disk a a
+later-same disk a = later-none (disk a.store) a.state.tenants
+
+pub later-then : {S : Type 0} (disk : S → Disk) (a b c : OnStore S) → IsLater disk a b → IsLater disk b c → IsLater disk a c
+later-then disk a b c p q = later-by (disk a.store) (disk b.store) (disk c.store) a.state.tenants b.state.tenants c.state.tenants p q
+
+-- the store is the same, and no count has changed
+pub later-is : {S : Type 0} (disk : S → Disk) (a b : OnStore S) → b.store ≡ a.store → b.state.tenants ≡ a.state.tenants → IsLater disk a b
+later-is disk a b store tenants =
+    subst (λ s. IsLaterWith (disk a.store) (disk s) a.state.tenants b.state.tenants) (sym store) (subst (IsLaterWith (disk a.store) (disk a.store) a.state.tenants) (sym tenants) (later-same disk a))
 
 pub state-is : {S : Type 0} (a b : OnStore S) → a ≡ b → a.state ≡ b.state
 state-is a b e = ap (λ (x : OnStore _). x.state) e

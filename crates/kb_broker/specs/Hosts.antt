@@ -1,9 +1,9 @@
 -- A broker on its store, and its tenants there.
-use Rattle.std.specs.Prelude.{◌≡◌, ◌≤◌, List, None}
+use Rattle.std.specs.Prelude.{◌≡◌, ◌≤◌, ℕ, List, None}
 use Rattle.kb_store.specs.Disk.{Disk}
 use Rattle.kb_log.specs.ListLog.{list_log}
 use Rattle.kb_log.specs.declared.list.ListLog.{ListLog}
-use Rattle.kb_tenant.specs.Hosted.{TenantState}
+use Rattle.kb_tenant.specs.Hosted.{TenantState, IsAccounted, refusals_of}
 use Rattle.kb_tenants.specs.Tenants.{AreKept, hosted}
 use Rattle.kb_tenants.specs.declared.tenants.Tenants.{Tenants}
 use Rattle.kb_machine.specs.Machine.{Happening, first_able}
@@ -19,6 +19,17 @@ tenants_in disk hosts = hosted list_log disk hosts
 abbrev pub AreHosted : {S : Type 0} → (S → Disk) → Tenants ListLog S → Type 0
 AreHosted disk hosts = AreKept list_log disk hosts
 
+-- At a later moment the store has told the truth only if it had before, and its failures are no fewer. No tenant's count of
+-- refusals is smaller, and the counts together have risen by at least as much as the failures, unless one has come to its end.
+pub record IsLaterWith (old new : Disk) (ts us : List TenantState) : Type 0 where
+  pub honest : new.honest → old.honest
+  pub failures : old.failures ≤ new.failures
+  pub counts : (t : ℕ) → refusals_of ts t ≤ refusals_of us t
+  pub accounted : IsAccounted ts us old.failures new.failures
+
+abbrev pub AreLater : {S : Type 0} → (S → Disk) → Tenants ListLog S → Tenants ListLog S → Type 0
+AreLater disk old new = IsLaterWith (disk old.shelf.store) (disk new.shelf.store) (tenants_in disk old) (tenants_in disk new)
+
 -- 2. The broker
 
 -- a broker, and the store on which it stands
@@ -30,10 +41,9 @@ pub record OnStore (S : Type 0) : Type 0 where
 abbrev pub is_honest : {S : Type 0} → (S → Disk) → OnStore S → Type 0
 is_honest disk b = (disk b.store).honest
 
--- at a later moment the store has told the truth only if it had before, and its failures are no fewer
-pub record IsLater (old new : Disk) : Type 0 where
-  pub honest : new.honest → old.honest
-  pub failures : old.failures ≤ new.failures
+-- a broker at a later moment
+abbrev pub IsLater : {S : Type 0} → (S → Disk) → OnStore S → OnStore S → Type 0
+IsLater disk old new = IsLaterWith (disk old.store) (disk new.store) old.state.tenants new.state.tenants
 
 -- an event is a step, unless the store lied
 abbrev pub StepsTo : {S : Type 0} → (S → Disk) → Happening → OnStore S → OnStore S → Type 0

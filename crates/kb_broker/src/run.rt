@@ -53,7 +53,7 @@ impl<S: Store> Broker<S> {
             those_sent (only n) (map sent_of written.items) ≡ by_number (alone_unowned n (happenings events.now) self.old.state)) }
         ensures connections { IfOk result (λ written. map (λ (w : Written). w.conn) written.items ≡ connections_of (happenings events.now) self.old.state) }
         ensures history { IfOk result (λ written. (got : List Sent) × (map sent_of written.items ≡ by_number got) × Passes (is_honest S.disk self.new) (happenings events.now) self.old.state self.new.state got) }
-        ensures later { IsLater (S.disk self.old.store) (S.disk self.new.store) }
+        ensures later { IsLater S.disk self.old self.new }
         ensures memory { OnErr result (self.new ≡ self.old) }
     {
         // an entry for each connection that is open or opens, so that no event is left half done for want of memory
@@ -74,7 +74,7 @@ impl<S: Store> Broker<S> {
         requires run { IsRun self.old.state.last (happening_of event.now ∷ []) }
         requires room { vec_len written.old + length (connections_of (happening_of event.now ∷ []) self.old.state) ≤ vec_capacity written.old }
         ensures ready { IsReadyOn S.disk self.new }
-        ensures later { IsLater (S.disk self.old.store) (S.disk self.new.store) }
+        ensures later { IsLater S.disk self.old self.new }
         ensures last { self.new.state.last ≤ last_after (happening_of event.now) self.old.state.last }
         ensures passed { (ended : List Sent) × (map sent_of written.new.items ≡ map sent_of written.old.items ++ ended) × IsPassed (is_honest S.disk self.new) (happening_of event.now) self.old.state self.new.state ended }
         ensures capacity { vec_capacity written.new ≡ vec_capacity written.old }

@@ -14,7 +14,7 @@ ghost use Rattle.kb_machine.specs.Turned.{is_looked_for};
 ghost use Rattle.kb_tenants.specs.Tenants.{is_honest};
 ghost use Rattle.kb_connection.specs.Fronts.{is_tenants_at, IsAsked};
 ghost use Rattle.kb_connection.specs.View.{wait_of, with_session, without_front};
-ghost use Rattle.kb_broker.specs.Hosts.{tenants_in, AreHosted, IsLater};
+ghost use Rattle.kb_broker.specs.Hosts.{tenants_in, AreHosted, AreLater};
 ghost use Rattle.kb_broker.specs.Places.{IsSpent, IsTakenAt, IsTurnAt, IsLookedAt};
 ghost use Rattle.kb_broker.specs.Parked.{key_of, parked_for, until_of, deadline_at, IsKeyedAt, IsAskedOn, IsAskedOnAt, IsTouched, IsTouchedTurn, IsConcern, IsLeftBy, IsOwnTo, IsWhose};
 
@@ -56,7 +56,7 @@ pub fn take_turn<S: Store>(
     requires able { can connection.old.session ≡ true }
     requires free { fin.get parking.old connection.old.number ≡ None }
     ensures hosted { AreHosted S.disk tenants.new }
-    ensures later { IsLater (S.disk tenants.old.shelf.store) (S.disk tenants.new.shelf.store) }
+    ensures later { AreLater S.disk tenants.old tenants.new }
     ensures turn { IsTurnAt (is_honest S.disk tenants.new) connection.old.session.stage (tenants_in S.disk tenants.old) (tenants_in S.disk tenants.new) }
     ensures number { connection.new.number ≡ connection.old.number }
     ensures spent { IsSpent connection.old.session connection.new.session }
@@ -146,7 +146,7 @@ fn serve_bound<S: Store>(
     requires able { can connection.old.session ≡ true }
     requires free { fin.get parking.old connection.old.number ≡ None }
     ensures hosted { AreHosted S.disk tenants.new }
-    ensures later { IsLater (S.disk tenants.old.shelf.store) (S.disk tenants.new.shelf.store) }
+    ensures later { AreLater S.disk tenants.old tenants.new }
     ensures turn { IsTurn tenant (is_honest S.disk tenants.new) (tenants_in S.disk tenants.old) (tenants_in S.disk tenants.new) }
     ensures number { connection.new.number ≡ connection.old.number }
     ensures spent { IsSpent connection.old.session connection.new.session }
@@ -222,7 +222,7 @@ fn ask<S: Store>(
     requires hosted { AreHosted S.disk tenants.old }
     requires tenant { tenant < length (tenants_in S.disk tenants.old) }
     ensures hosted { AreHosted S.disk tenants.new }
-    ensures later { IsLater (S.disk tenants.old.shelf.store) (S.disk tenants.new.shelf.store) }
+    ensures later { AreLater S.disk tenants.old tenants.new }
     ensures turn { IsTurn tenant (is_honest S.disk tenants.new) (tenants_in S.disk tenants.old) (tenants_in S.disk tenants.new) }
     ensures meets { IsMet tenant (is_honest S.disk tenants.new) (tenants_in S.disk tenants.old) (tenants_in S.disk tenants.new)
         (λ k l. (l ≡ kept_after setup.now.node k clock request.now.api_key request.now.body.now)
@@ -252,7 +252,7 @@ pub fn look_again<S: Store>(
     requires hosted { AreHosted S.disk tenants.old }
     requires tenant { InRange (length (tenants_in S.disk tenants.old)) connection.old.session.stage }
     ensures hosted { AreHosted S.disk tenants.new }
-    ensures later { IsLater (S.disk tenants.old.shelf.store) (S.disk tenants.new.shelf.store) }
+    ensures later { AreLater S.disk tenants.old tenants.new }
     ensures looked { IsLookedAt (is_honest S.disk tenants.new) whom clock connection.old.session.stage (tenants_in S.disk tenants.old) (tenants_in S.disk tenants.new) connection.old connection.new }
     ensures waits { (connection.new.session.stage ≡ connection.old.session.stage) ⊎ (deadline_at connection.new.session.stage ≡ None) }
 {

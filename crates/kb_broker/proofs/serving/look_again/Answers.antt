@@ -5,8 +5,9 @@ use Rattle.kb_tenant.specs.Hosted.{IsTurn, kept_of, world_at}
 use Rattle.kb_tenant.specs.Replies.{IsAnswer}
 use Rattle.kb_tenant.specs.Serve.{looked}
 use Rattle.kb_connection.specs.View.{wait_of}
-use Rattle.kb_broker.specs.Hosts.{tenants_in}
+use Rattle.kb_broker.specs.Hosts.{tenants_in, IsLaterWith}
 use Rattle.kb_broker.proofs.Handled.{from_err}
+use Rattle.kb_broker.proofs.Honest.{later-by, later-counted}
 use Rattle.kb_broker.proofs.TenantTurns.{looked-ok, looked-err}
 use Rattle.kb_broker.proofs.serving.look_again.Goals as goal
 
@@ -35,3 +36,16 @@ returns-then-is_err-clause-looked g c =
     let shut = from_err c.wake.result c.is_err.result _ c.is_err.ensures.value c.if-is_err.true c.wake.ensures.err in
     looked-err (is_honest g.S.Store.disk c.refuse.new.self) a.whom a.clock t (tenants_in g.S.Store.disk a.tenants.now) (tenants_in g.S.Store.disk c.look-answer.new.self) (tenants_in g.S.Store.disk c.refuse.new.self) a.connection.now c.wake.new.self (wait_of c.in-Some.waiting.now) c.in-Some.ensures.some (sym c.is_looked_for.ensures ∙ passes) (subst (λ shelf. IsTurn t (g.S.Store.disk shelf.store).honest (tenants_in g.S.Store.disk a.tenants.now) (tenants_in g.S.Store.disk c.look-answer.new.self)) (sym c.refuse.ensures.shelf) l.turn) c.refuse.ensures.turn (λ honest. l.stays (subst (λ shelf. (g.S.Store.disk shelf.store).honest) c.refuse.ensures.shelf honest)) c.refuse.ensures.stays c.refuse.ensures.counted shut
     c.wake.ensures.number c.wake.ensures.stage c.wake.ensures.unread
+
+pub returns-then-is_err-clause-later : goal.returns-then-is_err-clause-later
+returns-then-is_err-clause-later g c =
+    let disk = g.S.Store.disk in
+    let before = c.args.tenants.now in
+    let after = c.look-answer.new.self in
+    let end = c.refuse.new.self in
+    let l = c.look-answer.ensures in
+    let r = c.refuse.ensures in
+    let counted = later-counted (disk after.shelf.store) (tenants_in disk after) (tenants_in disk end) r.turn.names r.turn.grows in
+    later-by (disk before.shelf.store) (disk after.shelf.store) (disk end.shelf.store) (tenants_in disk before) (tenants_in disk after) (tenants_in disk end)
+    (record { honest = l.honest; failures = l.failures; counts = l.turn.grows; accounted = l.accounted })
+    (subst (λ shelf. IsLaterWith (disk after.shelf.store) (disk shelf.store) (tenants_in disk after) (tenants_in disk end)) (sym r.shelf) counted)

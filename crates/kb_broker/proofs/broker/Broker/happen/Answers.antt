@@ -7,7 +7,7 @@ use Rattle.kb_machine.specs.Calls.{IsRefused}
 use Rattle.kb_broker.specs.Hosts.{is_honest, StepsTo}
 use Rattle.kb_broker.specs.Runs.{sent_of, unkept}
 use Rattle.kb_broker.specs.declared.run.Written.{Written}
-use Rattle.kb_broker.proofs.Happened.{disconnected-ready}
+use Rattle.kb_broker.proofs.Happened.{connected-later, disconnected-later, disconnected-ready}
 use Rattle.kb_broker.proofs.RunEvents.{when_err}
 use Rattle.kb_broker.proofs.broker.Broker.happen.Goals as goal
 
@@ -32,3 +32,12 @@ returns-in-In-clause-passed g c =
 
 pub returns-in-Close-clause-ready : goal.returns-in-Close-clause-ready
 returns-in-Close-clause-ready g c = disconnected-ready g.S.Store.disk c.args.self.now c.close.new.self c.in-Close.number c.requires.ready c.close.ensures.state
+
+pub returns-then-is_err-clause-later : goal.returns-then-is_err-clause-later
+returns-then-is_err-clause-later g c = connected-later g.S.Store.disk c.connect.result c.args.self.now c.connect.new.self c.in-Open.number c.connect.ensures.store c.connect.ensures.ok c.connect.ensures.err
+
+pub returns-else-is_err-clause-later : goal.returns-else-is_err-clause-later
+returns-else-is_err-clause-later g c = connected-later g.S.Store.disk c.connect.result c.args.self.now c.connect.new.self c.in-Open.number c.connect.ensures.store c.connect.ensures.ok c.connect.ensures.err
+
+pub returns-in-Close-clause-later : goal.returns-in-Close-clause-later
+returns-in-Close-clause-later g c = disconnected-later g.S.Store.disk c.args.self.now c.close.new.self c.in-Close.number c.close.ensures.state

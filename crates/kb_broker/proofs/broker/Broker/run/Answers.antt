@@ -6,7 +6,7 @@ use Rattle.std.proofs.lemmas.List.{drop_all, length-map}
 use Rattle.std.proofs.lemmas.Simd.{map-map}
 use Rattle.std.proofs.lemmas.List.Sorted.{IsPermutation-map, IsNonDecreasingBy-from_sort_by_key}
 use Rattle.kb_machine.specs.Machine.{Sent, sent, those_sent, by_number}
-use Rattle.kb_machine.specs.Broker.{owned_by, only}
+use Rattle.kb_machine.specs.Broker.{BrokerState, owned_by, only}
 use Rattle.kb_machine.proofs.Runs.{those-by_number}
 use Rattle.kb_machine.proofs.Owned.{owned-mine, run-after, run-first, unowned-mine, calm-nobody}
 use Rattle.kb_broker.specs.declared.run.Written.{Written}
@@ -26,7 +26,7 @@ loop-event-init g c =
     let sum = subst (λ o. SomeIff o (length c.connections-open.result.now + c.openings.result < 2 ^ 64) (length c.connections-open.result.now + c.openings.result)) c.in_ok-room.ensures.ok_part c.checked_add.ensures in
     record {
       ready = c.connections-open.ensures.ready;
-      later = later-same (g.S.Store.disk c.args.self.now.store);
+      later = later-same g.S.Store.disk c.args.self.now;
       rises = c.requires;
       room = omega (arith, lines, sum, c.openings.ensures, length-connections es b, c.in_ok-written.ensures.len, c.in_ok-written.ensures.capacity);
       passes = λ last honest new got p. rw c.in_ok-written.ensures.items p;
@@ -76,15 +76,15 @@ loop-event-preserved g c =
     sym (length-map vs.items sent_of) ∙ (ap length added ∙ (length-append (map sent_of ws.items) ended ∙ ap (λ n. n + length ended) (length-map ws.items sent_of))) in
     record {
       ready = c.happen.ensures.ready;
-      later = later-then (disk c.args.self.now.store) (disk before.store) (disk after.store) v.later c.happen.ensures.later;
+      later = later-then disk c.args.self.now before after v.later c.happen.ensures.later;
       rises = rw add-one (run-after d.last b.last e hs c.happen.ensures.last (rw next at v.rises));
       room = rw add-one (omega (arith, v.room, ap (λ es. length (connections_of es b)) next, room-leads e hs b d ended passed.leads, longer, ws.ok.0, vs.ok.0, c.happen.ensures.capacity));
       passes = rw add-one (continues-next disk (happenings all) hs e c.args.self.now before after (map sent_of ws.items) ended (map sent_of vs.items) c.happen.ensures.later.honest added passed (rw next at v.passes));
     }
 
 -- the last output is taken of the store as it is
-drained-later : (g : given.Over) (c : goal.After-sort_unstable_by_key g) → IsLater (g.S.Store.disk c.loop-event.self.store) (g.S.Store.disk c.drain.new.self.store)
-drained-later g c = later-is g.S.Store.disk c.loop-event.self.store c.drain.new.self.store (store-is _ _ c.drain.ensures.state)
+drained-later : (g : given.Over) (c : goal.After-sort_unstable_by_key g) → IsLater g.S.Store.disk c.loop-event.self c.drain.new.self
+drained-later g c = later-is g.S.Store.disk c.loop-event.self c.drain.new.self (store-is _ _ c.drain.ensures.state) (ap (λ (x : BrokerState). x.tenants) (state-is _ _ c.drain.ensures.state))
 
 -- the whole history, and the order of its list
 whole : (g : given.Over) (c : goal.After-sort_unstable_by_key g) → Passes (is_honest g.S.Store.disk c.drain.new.self) (happenings c.args.events.now) c.args.self.now.state c.drain.new.self.state (map sent_of c.drain.new.written.items)
@@ -137,4 +137,4 @@ pub returns-clause-history : goal.returns-clause-history
 returns-clause-history g c = (map sent_of c.drain.new.written.items, (in_order g c).ordered, whole g c)
 
 pub returns-clause-later : goal.returns-clause-later
-returns-clause-later g c = later-then (g.S.Store.disk c.args.self.now.store) (g.S.Store.disk c.loop-event.self.store) (g.S.Store.disk c.drain.new.self.store) c.loop-event.invariant.later (drained-later g c)
+returns-clause-later g c = later-then g.S.Store.disk c.args.self.now c.loop-event.self c.drain.new.self c.loop-event.invariant.later (drained-later g c)

@@ -9,7 +9,7 @@ use Rattle.kb_broker.proofs.broker.Broker.run.Given as goal
 abbrev pub invariant-loop-event : goal.invariant-loop-event
 invariant-loop-event g l = record {
   ready : IsReadyOn g.S.Store.disk l.self;
-  later : IsLater (g.S.Store.disk l.fn.self.store) (g.S.Store.disk l.self.store);
+  later : IsLater g.S.Store.disk l.fn.self l.self;
   rises : IsRun l.self.state.last (happenings (drop l.event-index l.events));
   room : vec_len l.written + length (connections_of (happenings (drop l.event-index l.events)) l.self.state) ≤ vec_capacity l.written;
   passes : Continues g.S.Store.disk (happenings l.events) (happenings (drop l.event-index l.events)) l.fn.self l.self (map sent_of l.written.items);

@@ -4,7 +4,7 @@ use Rattle.kb_machine.proofs.Turns.{going-then}
 use Rattle.kb_broker.specs.Hosts.{is_honest}
 use Rattle.kb_broker.specs.Places.{AreIdle, number_at}
 use Rattle.kb_machine.proofs.Feeds.{step-not_open}
-use Rattle.kb_broker.proofs.Honest.{later-is, later-then, ready-of, state-is}
+use Rattle.kb_broker.proofs.Honest.{later-on, later-then, ready-of, state-is}
 use Rattle.kb_broker.proofs.Placed.{found}
 use Rattle.kb_broker.proofs.Handled.{empty-is, full-is, idle-fed, number-going, others-taken, step-empty, step-deaf, step-taken}
 use Rattle.kb_broker.proofs.engine.Engine.input.Goals as goal
@@ -26,7 +26,7 @@ returns-then-is_empty-clause-step g c = λ honest.
     ]
 
 pub run_turns-requires-clause-unready : goal.run_turns-requires-clause-unready
-run_turns-requires-clause-unready g c = λ honest. c.take_piece.ensures.fed.unready (c.requires.unready ((later-is g.S.Store.disk _ _ c.take_piece.ensures.store).honest honest))
+run_turns-requires-clause-unready g c = λ honest. c.take_piece.ensures.fed.unready (c.requires.unready (subst (λ s. (g.S.Store.disk s).honest) c.take_piece.ensures.store honest))
 
 pub run_turns-requires-clause-idle : goal.run_turns-requires-clause-idle
 run_turns-requires-clause-idle g c =
@@ -49,11 +49,11 @@ returns g c =
     let given = c.take_piece.ensures.fed in
     let turned = c.run_turns.ensures.turned in
     let going = going-then a b d given.going c.run_turns.ensures.going in
-    let kept = later-is disk _ _ c.take_piece.ensures.store in
+    let kept = later-on disk c.args.self.now.store c.take_piece.new.self.store a.tenants b.tenants c.take_piece.ensures.store given.going.grows.names given.going.grows.own in
     let before : is_honest disk c.run_turns.new.self → is_honest disk c.args.self.now = λ honest. kept.honest (c.run_turns.ensures.later.honest honest) in
     record {
       ready = record { sound = going.sound; settled = c.run_turns.ensures.settled; unready = λ honest. (turned honest (Of (number_at i a)) given.still).unready (given.unready (c.requires.unready (before honest))) };
-      later = later-then _ _ _ kept c.run_turns.ensures.later;
+      later = later-then disk c.args.self.now c.take_piece.new.self c.run_turns.new.self kept c.run_turns.ensures.later;
       step = λ honest. step-taken a b d i n l c.args.piece.now (ready-of disk c.args.self.now c.requires (before honest)) f given (turned honest) c.run_turns.ensures.settled (full-is c.args.piece.now c.is_empty.result c.is_empty.ensures c.if-is_empty.false) (sym c.is_shut.ensures ∙ c.if-is_shut.false);
       last = going.last;
       numbers = going.numbers;

@@ -4,13 +4,13 @@ use Rattle.kb_machine.specs.Broker.{BrokerState}
 use Rattle.kb_machine.specs.Turned.{IsGoing}
 use Rattle.kb_connection.specs.View.{stage_of}
 use Rattle.kb_tenants.specs.Tenants.{is_honest}
-use Rattle.kb_broker.specs.Hosts.{tenants_in, IsLater}
+use Rattle.kb_broker.specs.Hosts.{OnStore, tenants_in, IsLaterWith}
 use Rattle.kb_broker.specs.Places.{IsCountedAt, IsTakenAt}
 use Rattle.kb_broker.specs.Parked.{IsAllOf, IsLeftBy, IsLeftTo, IsOwnTo, IsQueueOf, IsServedFor}
 use Rattle.kb_broker.proofs.Placed.{at-read, number_at-is}
-use Rattle.kb_broker.proofs.Handled.{IsTaken, put_with, next-can, able-stage, taken-at, lines-counted, others-put, refused-for, refused-taken, taken-going, served-refused, work-taken, work-refused}
+use Rattle.kb_broker.proofs.Handled.{IsTaken, put_with, next-can, able-stage, taken-at, counts-counted, lines-counted, names-counted, others-put, refused-for, refused-taken, taken-going, served-refused, work-taken, work-refused}
 use Rattle.kb_broker.proofs.Going.{left-by, not-parked, queue-turn, refused-left, refused-own, served-by}
-use Rattle.kb_broker.proofs.Honest.{later-is, later-then, state-is, store-is}
+use Rattle.kb_broker.proofs.Honest.{later-by, later-on, state-is, store-is}
 use Rattle.kb_broker.proofs.engine.Engine.serve.Given as given
 use Rattle.kb_broker.proofs.engine.Engine.serve.Goals as goal
 
@@ -68,7 +68,7 @@ returns-in-Ok g c =
     let q = c.self.inside.parking in
     let who = c.in-Ok.concerned in
     let here = state-is _ _ c.self.view_is in
-    let earlier = subst (λ s. IsLater (disk s) (disk c.take_turn-taken.new.tenants.shelf.store)) (store-is _ _ c.self.view_is) t.later in
+    let earlier = subst (λ (x : OnStore g.row.S.Denot). IsLaterWith (disk x.store) (disk c.take_turn-taken.new.tenants.shelf.store) x.state.tenants us) c.self.view_is t.later in
     let taken = taken-ok g c in
     let is : IsTakenAt H b.setup b.clock l.session.stage b.tenants us l.session m.session =
     subst (λ (x : BrokerState). IsTakenAt H x.setup x.clock l.session.stage x.tenants us l.session m.session) here c.in-Ok.ensures.ok in
@@ -98,15 +98,17 @@ returns-in-Err g c =
     let here = state-is _ _ c.self.view_is in
     let end = c.refuse.new.self.state in
     let who = c.all_of.result in
-    let same = later-is disk _ _ c.refuse.ensures.store in
     let taken = taken-at H _ b i l m us here c.requires.next c.index_mut-connection.ensures.value t.number t.spent t.turn in
     let phase : stage_of c.phase-phase.result ≡ l.session.stage = c.phase-phase.ensures ∙ able-stage l.session taken.able in
     let all : IsAllOf who l.session.stage = subst (IsAllOf who) phase c.all_of.ensures in
     let counted : IsCountedAt l.session.stage (put_with b i m us) end = subst (λ st. IsCountedAt st (put_with b i m us) end) phase (subst (λ (x : BrokerState). IsCountedAt (stage_of c.phase-phase.result) (put_with x i m us) end) here c.refuse.ensures.counted) in
     let shut = ap (λ (x : Line). x.session) c.in-Err.ensures.err in
+    let store = c.take_turn-taken.new.tenants.shelf.store in
+    let earlier = subst (λ (x : OnStore g.row.S.Denot). IsLaterWith (disk x.store) (disk store) x.state.tenants us) c.self.view_is t.later in
+    let same = later-on disk store c.refuse.new.self.store us end.tenants c.refuse.ensures.store (names-counted l.session.stage (put_with b i m us) end counted) (counts-counted l.session.stage (put_with b i m us) end counted) in
     record {
       going = refused-taken H b end i l m us l.session.stage taken refl shut taken.turn counted;
-      later = later-then _ _ _ (subst (λ s. IsLater (disk s) (disk c.take_turn-taken.new.tenants.shelf.store)) (store-is _ _ c.self.view_is) t.later) same;
+      later = later-by (disk c.args.self.now.store) (disk store) (disk c.refuse.new.self.store) b.tenants us end.tenants earlier same;
       served = λ honest scope still. refused-for who l.session.stage scope b end all (served-refused H (same.honest honest) scope b end i l m us l.session.stage still taken refl shut taken.turn counted);
       left = λ honest. refused-left who l.session.stage end all;
       own = refused-own who l.session.stage _ all;

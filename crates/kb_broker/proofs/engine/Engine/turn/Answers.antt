@@ -44,7 +44,7 @@ returns-in-These g c =
     let same : SameBut ns b d = subst (λ ks. SameBut ks b d) c.deref.ensures.value w.same in
     record {
       going = going-then a b d s.going w.going;
-      later = later-then _ _ _ s.later w.later;
+      later = later-then g.S.Store.disk c.args.self.now c.serve-concerned.new.self c.wake_each.new.self s.later w.later;
       turned = λ honest scope still.
           let before = w.later.honest honest in
           turned-these t ns scope a b d (subst (λ r. IsServedFor r scope a b) c.in-These.is (s.served before scope still))
@@ -62,7 +62,7 @@ returns-in-All g c =
     let w = c.wake_all.ensures in
     record {
       going = going-then a b d s.going w.going;
-      later = later-then _ _ _ s.later w.later;
+      later = later-then g.S.Store.disk c.args.self.now c.serve-concerned.new.self c.wake_all.new.self s.later w.later;
       turned = λ honest scope still. turned-served c.in-All.tenant scope a b d (subst (λ r. IsServedFor r scope a b) c.in-All.is (s.served (w.later.honest honest) scope still)) (w.waked honest) (w.looked honest) (w.rest honest);
       confined = subst (λ r. IsConfined r (number_at c.args.i a) a d) (sym c.in-All.is) tt;
       less = (let first = s.less in let then = w.work in omega (arith, first, then));

@@ -15,7 +15,7 @@ loop-i-preserved g c =
     record {
       end = v.end;
       going = going-then c.args.self.now.state old new v.going t.more.going;
-      later = later-then _ _ _ v.later t.later;
+      later = later-then g.S.Store.disk c.args.self.now c.loop-i.self c.look_at.new.self v.later t.later;
       work = (let before = v.work in omega (arith, before, size));
       waked = λ honest. t.waked honest c.args.self.now.state (v.waked (t.later.honest honest));
     }

@@ -11,7 +11,7 @@ invariant-loop-i g l =
     record {
       end : l.i-end ≡ length l.fn.self.state.lines;
       going : IsGoing l.fn.self.state l.self.state;
-      later : IsLater (disk l.fn.self.store) (disk l.self.store);
+      later : IsLater disk l.fn.self l.self;
       work : work l.self.state.lines ≤ work l.fn.self.state.lines;
       waked : is_honest disk l.self → AreWaked l.whom l.fn.self.state l.self.state l.i;
     }

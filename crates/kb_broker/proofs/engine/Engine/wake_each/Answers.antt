@@ -27,7 +27,7 @@ loop-number-preserved g c =
     let Then : OnStore g.row.S.Denot → Type 0 = λ x. record {
       end : length ns ≡ length ns;
       going : IsGoing a.state x.state;
-      later : IsLater (disk a.store) (disk x.store);
+      later : IsLater disk a x;
       minded : is_honest disk x → AreMinded whom a.state x.state (take (j + 1) ns);
       same : SameBut ns a.state x.state;
       work : work x.state.lines ≤ work a.state.lines;
@@ -44,7 +44,7 @@ loop-number-preserved g c =
           (record {
             end = refl;
             going = going-then a.state old.state new.state v.going t.more.going;
-            later = later-then _ _ _ v.later t.later;
+            later = later-then disk a old new v.later t.later;
             minded = λ honest. minded-take whom a.state new.state ns j (number_at i old.state) lt at (t.minded honest a.state (take j ns) (v.minded (t.later.honest honest)));
             same = same-more ns n a.state old.state new.state (Contains-get_or ns j 0 lt) v.same (subst (λ m. SameOthers m old.state new.state) at t.more.others);
             work = omega (arith, size, before);

@@ -11,7 +11,7 @@ invariant-loop-number g l =
     record {
       end : l.number-index-end ≡ length l.numbers;
       going : IsGoing l.fn.self.state l.self.state;
-      later : IsLater (disk l.fn.self.store) (disk l.self.store);
+      later : IsLater disk l.fn.self l.self;
       minded : is_honest disk l.self → AreMinded l.whom l.fn.self.state l.self.state (take l.number-index l.numbers);
       same : SameBut l.numbers l.fn.self.state l.self.state;
       work : work l.self.state.lines ≤ work l.fn.self.state.lines;

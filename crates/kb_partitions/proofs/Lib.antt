@@ -2,7 +2,6 @@ pub mod Calls
 pub mod Changed
 pub mod Discarded
 pub mod Dropping
-pub mod Empty
 pub mod Made
 pub mod Placed
 pub mod Put

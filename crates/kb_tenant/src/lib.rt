@@ -23,6 +23,3 @@ pub use promises::{
     retention_elsewhere, worlds_stay_tied,
 };
 pub use request::Request;
-
-#[cfg(test)]
-mod exchanges;

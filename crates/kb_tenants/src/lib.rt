@@ -5,6 +5,3 @@
 mod tenants;
 
 pub use tenants::Tenants;
-
-#[cfg(test)]
-mod tests;

@@ -1,17 +1,13 @@
-//! Worked exchanges of a catalog over a log in memory. The bytes were written by a program in another language.
-ghost use Rattle.kb_topics.specs.Layouts.{command_codec};
+//! Worked exchanges of a catalog that look into its meta log, in memory. The bytes were written by a program in another language.
 
 mod steps;
 
-use super::*;
-use Step::{
-    Commit, Committed, Counts, Create, Delete, End, Issue, Named, Start, StartOf, Topic, Topics,
-};
-use kb_wire::{Layout, Text};
+use crate::{CatalogFault, TopicConfig};
+use Step::{Commit, Committed, Counts, Create, Delete, End, Issue, Named, Start, StartOf, Topic};
 use std::alloc::{AllocError, Global};
 use std::process::Abort;
 use std::test::Fail;
-use steps::{Kept, Step, plays};
+use steps::{Kept, Step};
 
 /// The meta log of the creation of `t` and of `u`, the deletion of `u`, the producer ids 0, 1 and 2, the start of partition 0 of
 /// `t` moved to 1, and the commit of offset 1 there by `g` with metadata `m`: each batch in hexadecimal.
@@ -55,48 +51,6 @@ const CALLS: [Step<'static>; 15] = [
     Counts(1, 2, 3),
 ];
 
-/// The batch of the creation of `t`, before a log keeps it.
-const CREATED: &[u8] =
-    b"000000000000000000000058ffffffff021b94e8c500000000000000000000000000000000000000000000ffffffffff\
-ffffffffffffffffff000000014c00000001400100017400000000000000000000000100000000240c8400ffffffffff\
-ffffff00";
-
-/// The batch of the commit of offset 3 with metadata `m` by group `g`, at partition 2 of instance 0.
-const COMMITTED: &[u8] =
-    b"000000000000000000000053ffffffff02242fb1c200000000000000000000000000000000000000000000ffffffffff\
-ffffffffffffffffff0000000142000000013604000167000000000000000000000002000000000000000300016d00";
-
-/// The batch of the start of partition 0 of instance 0 moved to 1.
-const STARTED: &[u8] =
-    b"00000000000000000000004dffffffff028aed839a00000000000000000000000000000000000000000000ffffffffff\
-ffffffffffffffffff0000000136000000012a05000000000000000000000000000000000000000100";
-
-/// The batch of the producer id 0.
-const ISSUED: &[u8] =
-    b"000000000000000000000041ffffffff02d5fa0eaf00000000000000000000000000000000000000000000ffffffffff\
-ffffffffffffffffff000000011e000000011203000000000000000000";
-
-/// The batch of the deletion of `t`.
-const DELETED: &[u8] =
-    b"00000000000000000000003cffffffff02b4676e4000000000000000000000000000000000000000000000ffffffffff\
-ffffffffffffffffff000000011400000001080200017400";
-
-/// That commit by itself.
-const COMMIT: &[u8] = b"04000167000000000000000000000002000000000000000300016d";
-
-/// A name of 249 bytes.
-const LONGEST: &str =
-    "aaaaaaaaaaaaaaaaaaaaaaaaaaaaaaaaaaaaaaaaaaaaaaaaaaaaaaaaaaaaaaaaaaaaaaaaaaaaaaaaaaa\
-aaaaaaaaaaaaaaaaaaaaaaaaaaaaaaaaaaaaaaaaaaaaaaaaaaaaaaaaaaaaaaaaaaaaaaaaaaaaaaaaaaa\
-aaaaaaaaaaaaaaaaaaaaaaaaaaaaaaaaaaaaaaaaaaaaaaaaaaaaaaaaaaaaaaaaaaaaaaaaaaaaaaaaaaa";
-
-/// A name of 250 bytes.
-const TOO_LONG: &str =
-    "aaaaaaaaaaaaaaaaaaaaaaaaaaaaaaaaaaaaaaaaaaaaaaaaaaaaaaaaaaaaaaaaaaaaaaaaaaaaaaaaaaa\
-aaaaaaaaaaaaaaaaaaaaaaaaaaaaaaaaaaaaaaaaaaaaaaaaaaaaaaaaaaaaaaaaaaaaaaaaaaaaaaaaaaa\
-aaaaaaaaaaaaaaaaaaaaaaaaaaaaaaaaaaaaaaaaaaaaaaaaaaaaaaaaaaaaaaaaaaaaaaaaaaaaaaaaaaa\
-a";
-
 const STANDARD: TopicConfig = TopicConfig {
     retention_ms: 604_800_000,
     retention_bytes: -1,
@@ -115,68 +69,6 @@ fn bytes(rt: &impl Abort, alloc: Global, digits: &[u8]) -> Result<Vec<u8>, Fail>
         Err(hex::FromHexError::OutOfMemory) => Err(AllocError)?,
         Err(_) => panic!(rt; "the digits are hexadecimal"),
     }
-}
-
-/// The batch of a command is these bytes.
-fn is_recorded(
-    rt: &impl Abort,
-    alloc: Global,
-    command: &Command<'_>,
-    digits: &[u8],
-) -> Result<(), Fail>
-    requires { command_codec.Fits command.now }
-{
-    let batch = bytes(rt, alloc, digits)?;
-    assert_eq!(rt; meta_batch(alloc, command)?.as_slice(), batch.as_slice());
-    Ok(())
-}
-
-#[test]
-fn each_kind(rt: HostRuntime) -> Result<(), Fail> {
-    let create = Command::Create(CreateTopic {
-        name: Text::new("t"),
-        instance: 0,
-        partitions: 1,
-        retention_ms: 604_800_000,
-        retention_bytes: -1,
-    });
-    is_recorded(&rt, rt.alloc(), &create, CREATED)?;
-    let commit = Command::Commit(CommitOffset {
-        group: Text::new("g"),
-        instance: 0,
-        partition: 2,
-        offset: 3,
-        metadata: Text::new("m"),
-    });
-    is_recorded(&rt, rt.alloc(), &commit, COMMITTED)?;
-    let start = Command::Start(MoveStart {
-        instance: 0,
-        partition: 0,
-        offset: 1,
-    });
-    is_recorded(&rt, rt.alloc(), &start, STARTED)?;
-    is_recorded(&rt, rt.alloc(), &Command::Issue(0), ISSUED)?;
-    is_recorded(&rt, rt.alloc(), &Command::Delete(Text::new("t")), DELETED)
-}
-
-/// Whether a command is that commit.
-fn is_commit(command: &Command<'_>) -> bool {
-    match command {
-        Command::Commit(commit) => commit.group.as_str() == "g"
-            && commit.metadata.as_str() == "m"
-            && commit.instance == 0
-            && commit.partition == 2
-            && commit.offset == 3,
-        _ => false,
-    }
-}
-
-#[test]
-fn each_kind_is_read(rt: HostRuntime) -> Result<(), Fail> {
-    let commit = bytes(&rt, rt.alloc(), COMMIT)?;
-    let command = Command::read(rt.alloc(), &commit)?;
-    assert!(rt; is_commit(&command));
-    Ok(())
 }
 
 /// The bytes of some batches, one after another.
@@ -200,34 +92,6 @@ fn each_call(rt: HostRuntime) -> Result<(), Fail> {
     let recorded = recorded_after(&rt, rt.alloc(), &CALLS)?;
     let want = joined(&rt, rt.alloc(), &FOLDED)?;
     assert!(rt; recorded == want);
-    Ok(())
-}
-
-#[test]
-fn in_byte_order(rt: HostRuntime) -> Result<(), Fail> {
-    let steps = [
-        Create("b", 1, STANDARD, Ok(0)),
-        Create("a.", 1, STANDARD, Ok(1)),
-        Create("B", 1, STANDARD, Ok(2)),
-        Create("a", 1, STANDARD, Ok(3)),
-        Topics(&[(2, "B"), (3, "a"), (1, "a."), (0, "b")]),
-    ];
-    plays(&rt, rt.alloc(), &steps)
-}
-
-#[test]
-fn a_thousand_topics(rt: HostRuntime) -> Result<(), Fail> {
-    let mut kept = Kept::new(rt.alloc())?;
-    for number in 0..1000 {
-        let name = format!(in rt.alloc(); "t{number}")?;
-        assert!(rt; kept.take(&Create(&name, 1, STANDARD, Ok(number))));
-    }
-    let steps = [
-        Create("u", 1, STANDARD, Err(CatalogFault::TooMany)),
-        Delete("t7", Ok(())),
-        Create("u", 1, STANDARD, Ok(1000)),
-    ];
-    kept.take_all(&rt, &steps);
     Ok(())
 }
 
@@ -270,157 +134,4 @@ fn a_refused_growth_changes_nothing(rt: HostRuntime) -> Result<(), Fail> {
     }
     kept.take_all(&rt, &[Counts(0, 1, 1), End(5)]);
     Ok(())
-}
-
-#[test]
-fn codes(rt: HostRuntime) {
-    for (fault, code) in [
-        (CatalogFault::Name, 17),
-        (CatalogFault::Exists, 36),
-        (CatalogFault::Partitions, 37),
-        (CatalogFault::Limit, 40),
-        (CatalogFault::TooMany, 44),
-        (CatalogFault::Unknown, 3),
-        (CatalogFault::Metadata, 12),
-        (CatalogFault::Back, 1),
-        (CatalogFault::UsedUp, -1),
-        (CatalogFault::Full, 56),
-        (CatalogFault::Store, 56),
-        (CatalogFault::Memory, -1),
-    ] {
-        assert_eq!(rt; fault.code(), code);
-    }
-}
-
-#[test]
-fn names(rt: HostRuntime) {
-    let rows = [
-        ("t", true),
-        ("a.b", true),
-        ("...", true),
-        ("_", true),
-        ("-", true),
-        ("AZaz09", true),
-        (LONGEST, true),
-        ("", false),
-        (".", false),
-        ("..", false),
-        ("a b", false),
-        ("a/b", false),
-        ("a:b", false),
-        ("\u{e4}", false),
-        ("a\n", false),
-        (TOO_LONG, false),
-    ];
-    for (name, is_legal) in rows {
-        assert!(rt; is_legal_name(name) == is_legal, "{name}");
-    }
-}
-
-#[test]
-fn refusals(rt: HostRuntime) -> Result<(), Fail> {
-    let steps = [
-        Create("..", 1, STANDARD, Err(CatalogFault::Name)),
-        Create("t", 65, STANDARD, Err(CatalogFault::Partitions)),
-        Create("t", 64, STANDARD, Ok(0)),
-        Create("t", 1, STANDARD, Err(CatalogFault::Exists)),
-        Delete("u", Err(CatalogFault::Unknown)),
-        Start(0, 64, 1, Err(CatalogFault::Unknown)),
-        Start(0, 63, -1, Err(CatalogFault::Back)),
-        Delete("t", Ok(())),
-        Create("t", 1, STANDARD, Ok(1)),
-    ];
-    plays(&rt, rt.alloc(), &steps)
-}
-
-#[test]
-fn commits(rt: HostRuntime) -> Result<(), Fail> {
-    let steps = [
-        Create("t", 1, STANDARD, Ok(0)),
-        Commit("g", 0, 0, 7, "m", Ok(())),
-        Commit("g", 0, 0, 5, "", Ok(())),
-        Commit("g", 0, 1, 9, "", Err(CatalogFault::Unknown)),
-        Committed("g", 0, 0, Some((5, ""))),
-        Committed("h", 0, 0, None),
-    ];
-    plays(&rt, rt.alloc(), &steps)
-}
-
-/// The settings that some entries come to, each with whether it is read; none where one is read that is not to be, or not read.
-fn settings_of(entries: &[(&str, &str, bool)]) -> Option<TopicConfig> {
-    let mut reader = ConfigReader::new();
-    for (name, value, is_read) in entries {
-        if reader.read(name, Some(value)) != *is_read {
-            return None;
-        }
-    }
-    Some(reader.config())
-}
-
-#[test]
-fn settings(rt: HostRuntime) {
-    let entries = [
-        ("retention.ms", "0000", true),
-        ("retention.ms", "1", false),
-        ("retention.bytes", "9223372036854775808", false),
-        ("retention.bytes", "9223372036854775807", true),
-        ("cleanup.policy", "delete", true),
-        ("cleanup.policy", "delete", false),
-    ];
-    let want = TopicConfig {
-        retention_ms: 0,
-        retention_bytes: i64::MAX,
-    };
-    assert!(rt; settings_of(&entries) == Some(want));
-    assert!(rt; settings_of(&[]) == Some(STANDARD));
-}
-
-/// Whether a text is that limit, of time and of bytes; none where it is no limit.
-fn is_limit(text: &str, limit: Option<i64>) -> bool {
-    config_entry("retention.ms", Some(text)) == limit.map(|limit| ConfigEntry::RetentionMs(limit))
-        && config_entry("retention.bytes", Some(text))
-            == limit.map(|limit| ConfigEntry::RetentionBytes(limit))
-}
-
-#[test]
-fn limits(rt: HostRuntime) {
-    let rows = [
-        ("-1", Some(-1)),
-        ("0", Some(0)),
-        ("0000", Some(0)),
-        ("604800000", Some(604_800_000)),
-        ("0000000000000000001", Some(1)),
-        ("9223372036854775807", Some(i64::MAX)),
-        ("", None),
-        ("-0", None),
-        ("-2", None),
-        ("+1", None),
-        ("-", None),
-        (" 1", None),
-        ("1 ", None),
-        ("1e3", None),
-        ("0x1", None),
-        ("9223372036854775808", None),
-        ("00000000000000000001", None),
-    ];
-    for (text, limit) in rows {
-        assert!(rt; is_limit(text, limit), "{text}");
-    }
-}
-
-#[test]
-fn entries(rt: HostRuntime) {
-    let rows = [
-        ("retention.ms", None, None),
-        ("Retention.ms", Some("1"), None),
-        (
-            "cleanup.policy",
-            Some("delete"),
-            Some(ConfigEntry::CleanupPolicy),
-        ),
-        ("cleanup.policy", Some("compact"), None),
-    ];
-    for (name, value, want) in rows {
-        assert!(rt; config_entry(name, value) == want, "{name}");
-    }
 }

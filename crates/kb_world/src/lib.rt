@@ -15,6 +15,3 @@ mod topics;
 
 pub use parts::Parts;
 pub use place::Place;
-
-#[cfg(test)]
-mod tests;

@@ -31,8 +31,6 @@ pub(super) enum Step<'a> {
     Named(&'a str, Option<u64>),
     /// The name, the number of partitions and the settings of the topic of an instance.
     Topic(u64, &'a str, usize, TopicConfig),
-    /// All topics, by name.
-    Topics(&'a [(u64, &'a str)]),
     /// How many topics there are, the next instance and the next producer id.
     Counts(usize, u64, u64),
     /// The end of the meta log.
@@ -99,18 +97,6 @@ impl Kept {
         }
     }
 
-    /// Whether the topics are these, by name.
-    fn has_topics(&self, want: &[(u64, &str)]) -> bool {
-        let mut topics = self.catalog.topics();
-        for (instance, name) in want {
-            match topics.next() {
-                Some((found, topic)) if found == *instance && topic.name() == *name => {}
-                _ => return false,
-            }
-        }
-        topics.next().is_none()
-    }
-
     /// Whether a step that changes nothing has the answer that is wanted.
     fn shows(&self, step: &Step<'_>) -> bool {
         let catalog = &self.catalog;
@@ -126,7 +112,6 @@ impl Kept {
             Step::Topic(instance, name, count, config) => self.has_topic(
                 *instance, name, *count, *config,
             ),
-            Step::Topics(want) => self.has_topics(want),
             Step::Counts(topics, instance, producer_id) => catalog.len() == *topics
                 && catalog.next_instance() == *instance
                 && catalog.next_producer_id() == *producer_id,
@@ -164,10 +149,4 @@ impl Kept {
             assert!(rt; self.take(step), "step {number}");
         }
     }
-}
-
-/// Takes some steps from a catalog without topics on.
-pub(super) fn plays(rt: &impl Abort, alloc: Global, steps: &[Step<'_>]) -> Result<(), Fail> {
-    Kept::new(alloc)?.take_all(rt, steps);
-    Ok(())
 }

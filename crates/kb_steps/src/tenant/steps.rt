@@ -1,0 +1,349 @@
+//! The steps of an exchange with a tenant, over logs and files in memory.
+//!
+//! A frame is written as words of hexadecimal digits, from its size on. A word behind `'` stands for its own letters. The
+//! other words are those of `meaning`, and `crc`: the CRC-32C of all that stands behind it.
+ghost use Rattle.std.specs.Prelude.{IfOk};
+ghost use Rattle.kb_store.specs.Memory.{memory_disk};
+ghost use Rattle.kb_log.specs.ListLog.{list_log};
+ghost use Rattle.kb_world.specs.Parts.{scene};
+
+use Step::{Ask, At, Change, Look, Retain, Shut, Wait};
+use kb_batch::crc32c;
+use kb_log::{ListLog, Shelf};
+use kb_store::MemoryStore;
+use kb_tenant::{Answer, Node, Request, Served, look, serve};
+use kb_wire::{Cursor, Text};
+use kb_world::{Parts, Place};
+use std::alloc::{AllocError, Global};
+use std::process::Abort;
+use std::test::Fail;
+
+/// A step of an exchange.
+#[derive(Clone, Copy)]
+pub(super) enum Step<'a> {
+    /// A request that changes no partition, and its reply; there is none where it is empty.
+    Ask(&'a str, &'a str),
+    /// A request, its reply, and the partitions that it changes.
+    Change(&'a str, &'a str, &'a [Place]),
+    /// A request that shuts the connection.
+    Shut(&'a str),
+    /// A fetch that waits for a partition until that time at most.
+    Wait(&'a str, Place, u64),
+    /// A look at a fetch that waits until that time at most, and its reply; where it is empty the fetch still waits.
+    Look(&'a str, u64, &'a str),
+    /// The clock is moved.
+    At(u64),
+    /// Retention of a partition, and whether it dropped a batch.
+    Retain(Place, bool),
+}
+
+/// Partition 0 of the first topic.
+pub(super) const FIRST: Place = Place {
+    instance: 0,
+    number: 0,
+};
+
+/// Partition 1 of the first topic.
+pub(super) const BESIDE: Place = Place {
+    instance: 0,
+    number: 1,
+};
+
+/// Partition 0 of the second topic.
+pub(super) const SECOND: Place = Place {
+    instance: 1,
+    number: 0,
+};
+
+/// Partition 1 of the second topic.
+pub(super) const BESIDE_SECOND: Place = Place {
+    instance: 1,
+    number: 1,
+};
+
+/// What some words stand for: `t/0` partition 0 of `t`, the only one of a request or a reply, `hi` the batch of one record
+/// with timestamp 5 and value `hi`, `abc` one of three records from its magic on, and the fronts and parts of others.
+fn meaning<'a>(word: &'a str) -> &'a str {
+    match word {
+        "t/0" => "000000010001740000000100000000",
+        "produce" =>
+            "0000006b0000000300000014ffffffff0001000003e800000001000174000000010000000000000046",
+        "silently" =>
+            "0000006b0000000300000014ffffffff0000000003e800000001000174000000010000000000000046",
+        "produced" => "0000002900000014000000010001740000000100000000",
+        "list" => "000000250002000100000028ffffffffffff000000010001740000000100000000",
+        "listed" => "0000002500000028000000010001740000000100000000",
+        "nowhere" => "ffffffffffffffffffffffffffffffff",
+        "head" => "00000000000000000000003affffffff02",
+        "times" => "00000000000000050000000000000005",
+        "nobody" => "ffffffffffffffffffffffffffff",
+        "value" => "100000000104686900",
+        "hi" => "00000000000000000000003affffffff0271a3af2c0000000000000000000000000005\
+             0000000000000005ffffffffffffffffffffffffffff00000001100000000104686900",
+        "abc" =>
+            "02aa99226000000000000200000000000000050000000000000005ffffffffffffffffffffffffffff\
+             000000030e000000010261000e000002010262000e00000401026300",
+        _ => word,
+    }
+}
+
+/// Adds the bytes of a word.
+fn put_word(rt: &impl Abort, alloc: Global, bytes: &mut Vec<u8>, word: &str) -> Result<(), Fail> {
+    if let Some(letters) = word.strip_prefix('\'') {
+        bytes.extend_from_slice(letters.as_bytes())?;
+        return Ok(());
+    }
+    match hex::decode(alloc, meaning(word).as_bytes()) {
+        Ok(decoded) => Ok(bytes.extend_from_slice(&decoded)?),
+        Err(hex::FromHexError::OutOfMemory) => Err(AllocError)?,
+        Err(_) => panic!(rt; "{word} is not hexadecimal"),
+    }
+}
+
+/// The bytes of a text, the checksum by what stands behind it.
+fn frame(rt: &impl Abort, alloc: Global, text: &str) -> Result<Vec<u8>, Fail> {
+    let mut bytes = Vec::new(alloc);
+    let mut sealed = None;
+    for word in text.split(' ') {
+        if word == "crc" {
+            sealed = Some(bytes.len());
+            bytes.extend_from_slice(&[0; 4])?;
+        } else {
+            put_word(rt, alloc, &mut bytes, word)?;
+        }
+    }
+    if let Some(place) = sealed {
+        seal(rt, &mut bytes, place);
+    }
+    Ok(bytes)
+}
+
+/// Writes the checksum of what stands behind it to a place.
+fn seal(rt: &impl Abort, bytes: &mut [u8], place: usize) {
+    assert!(rt; bytes.len() >= 4 && place <= bytes.len() - 4);
+    let crc = crc32c(&bytes[place + 4..]);
+    bytes[place..place + 4].copy_from_slice(&crc.to_be_bytes());
+}
+
+/// The request in a frame without a client id.
+fn request<'a>(rt: &impl Abort, frame: &'a [u8]) -> Result<Request<'a>, Fail> {
+    let mut cursor = Cursor::new(frame);
+    let size = cursor.i32()?;
+    assert_eq!(rt; usize::try_from(size).ok(), frame.len().checked_sub(4));
+    let api_key = cursor.i16()?;
+    let _version = cursor.i16()?;
+    let correlation_id = cursor.i32()?;
+    assert_eq!(rt; cursor.i16()?, -1);
+    Ok(Request {
+        api_key,
+        correlation_id,
+        body: cursor.rest(),
+    })
+}
+
+/// A tenant and its files.
+#[derive(Drop)]
+pub(super) struct Tenant {
+    parts: Parts<ListLog>,
+    shelf: Shelf<MemoryStore>,
+}
+
+impl Tenant {
+    /// A tenant without topics.
+    pub(super) fn new(alloc: Global) -> Result<Tenant, Fail>
+        ensures { IfOk result (λ t. (scene list_log (λ s. memory_disk s.files.entries) t.parts t.shelf).sound) }
+    {
+        let shelf = Shelf::new(alloc, MemoryStore::new(alloc), 0)
+            .ok()
+            .ok_or("a shelf")?;
+        let parts = Parts::new(alloc, String::new(alloc), String::new(alloc), 1_048_576);
+        Ok(Tenant { parts, shelf })
+    }
+
+    /// Serves a request.
+    fn serve(&mut self, alloc: Global, request: &Request<'_>) -> Served
+        requires { (scene list_log (λ s. memory_disk s.files.entries) self.old.parts self.old.shelf).sound }
+        ensures { (scene list_log (λ s. memory_disk s.files.entries) self.new.parts self.new.shelf).sound }
+    {
+        let node = Node {
+            host: Text::new("localhost"),
+            port: 9092,
+        };
+        serve(alloc, &mut self.parts, &mut self.shelf, &node, request)
+    }
+
+    /// Looks at a fetch that waits.
+    fn look(&mut self, alloc: Global, request: &Request<'_>, deadline: u64) -> Answer
+        requires { (scene list_log (λ s. memory_disk s.files.entries) self.old.parts self.old.shelf).sound }
+        ensures { (scene list_log (λ s. memory_disk s.files.entries) self.new.parts self.new.shelf).sound }
+    {
+        look(
+            alloc,
+            &mut self.parts,
+            &mut self.shelf,
+            request.correlation_id,
+            request.body,
+            deadline,
+        )
+    }
+
+    /// Moves the clock.
+    fn move_clock(&mut self, now: u64)
+        requires { (scene list_log (λ s. memory_disk s.files.entries) self.old.parts self.old.shelf).sound }
+        ensures { (scene list_log (λ s. memory_disk s.files.entries) self.new.parts self.new.shelf).sound }
+    {
+        self.parts.set_clock(self.parts.clock().max(now));
+    }
+
+    /// Drops what a partition's settings keep no longer.
+    fn retain(&mut self, rt: &impl Abort, place: Place) -> bool
+        requires { (scene list_log (λ s. memory_disk s.files.entries) self.old.parts self.old.shelf).sound }
+        ensures { (scene list_log (λ s. memory_disk s.files.entries) self.new.parts self.new.shelf).sound }
+    {
+        assert!(rt; self.parts.clock() <= i64::MAX as u64);
+        self.parts.retain(&mut self.shelf, place)
+    }
+
+    /// Serves the request of a text.
+    fn ask(&mut self, rt: &impl Abort, alloc: Global, text: &str) -> Result<Served, Fail>
+        requires { (scene list_log (λ s. memory_disk s.files.entries) self.old.parts self.old.shelf).sound }
+        ensures { (scene list_log (λ s. memory_disk s.files.entries) self.new.parts self.new.shelf).sound }
+    {
+        let bytes = frame(rt, alloc, text)?;
+        let request = request(rt, &bytes)?;
+        Ok(self.serve(alloc, &request))
+    }
+
+    /// Takes a look at a fetch that waits, and sees that it has that reply.
+    fn is_seen(
+        &mut self,
+        rt: &impl Abort,
+        alloc: Global,
+        text: &str,
+        deadline: u64,
+        reply: &str,
+    ) -> Result<(), Fail>
+        requires { (scene list_log (λ s. memory_disk s.files.entries) self.old.parts self.old.shelf).sound }
+        ensures { (scene list_log (λ s. memory_disk s.files.entries) self.new.parts self.new.shelf).sound }
+    {
+        let bytes = frame(rt, alloc, text)?;
+        let request = request(rt, &bytes)?;
+        let answer = self.look(alloc, &request, deadline);
+        is_answer(rt, alloc, &answer, reply, text)
+    }
+
+    /// Takes a request, and sees that it is served as a step says.
+    fn is_served(
+        &mut self,
+        rt: &impl Abort,
+        alloc: Global,
+        text: &str,
+        reply: &str,
+        touched: &[Place],
+    ) -> Result<(), Fail>
+        requires { (scene list_log (λ s. memory_disk s.files.entries) self.old.parts self.old.shelf).sound }
+        ensures { (scene list_log (λ s. memory_disk s.files.entries) self.new.parts self.new.shelf).sound }
+    {
+        let served = self.ask(rt, alloc, text)?;
+        assert_eq!(rt; served.touched.as_slice(), touched, "{text}");
+        is_answer(rt, alloc, &served.answer, reply, text)
+    }
+
+    /// Whether a request is served. Else one refusal is counted: the answer says so, and the request is served when it comes
+    /// again; or the connection is shut.
+    pub(super) fn is_served_or_refused(
+        &mut self,
+        rt: &impl Abort,
+        alloc: Global,
+        text: &str,
+        reply: &str,
+        refused: &str,
+    ) -> Result<bool, Fail>
+        requires { (scene list_log (λ s. memory_disk s.files.entries) self.old.parts self.old.shelf).sound }
+        ensures { (scene list_log (λ s. memory_disk s.files.entries) self.new.parts self.new.shelf).sound }
+    {
+        let bytes = frame(rt, alloc, text)?;
+        let request = request(rt, &bytes)?;
+        let reply = frame(rt, alloc, reply)?;
+        let refused = frame(rt, alloc, refused)?;
+        let served = self.serve(alloc, &request);
+        if is_reply(&served.answer, &reply) {
+            assert_eq!(rt; self.parts.refusals(), 0);
+            return Ok(true);
+        }
+        assert_eq!(rt; self.parts.refusals(), 1);
+        if is_reply(&served.answer, &refused) {
+            let again = self.serve(alloc, &request);
+            assert!(rt; is_reply(&again.answer, &reply), "{text}");
+            return Ok(false);
+        }
+        assert!(rt; matches!(served.answer, Answer::Shut), "{text}");
+        Ok(false)
+    }
+
+    /// Takes a step.
+    fn take(&mut self, rt: &impl Abort, alloc: Global, step: &Step<'_>) -> Result<(), Fail>
+        requires { (scene list_log (λ s. memory_disk s.files.entries) self.old.parts self.old.shelf).sound }
+        ensures { (scene list_log (λ s. memory_disk s.files.entries) self.new.parts self.new.shelf).sound }
+    {
+        match step {
+            Step::Ask(text, reply) => self.is_served(rt, alloc, text, reply, &[])?,
+            Step::Change(text, reply, touched) => self.is_served(rt, alloc, text, reply, touched)?,
+            Step::Shut(text) => {
+                let served = self.ask(rt, alloc, text)?;
+                assert!(rt; matches!(served.answer, Answer::Shut), "{text}");
+            }
+            Step::Wait(text, place, until) => {
+                let served = self.ask(rt, alloc, text)?;
+                assert!(rt; is_wait(&served.answer, *place, *until), "{text}");
+            }
+            Step::Look(text, deadline, reply) => self.is_seen(rt, alloc, text, *deadline, reply)?,
+            Step::At(now) => self.move_clock(*now),
+            Step::Retain(place, dropped) => assert_eq!(rt; self.retain(rt, *place), *dropped),
+        }
+        Ok(())
+    }
+}
+
+/// Whether an answer is that reply.
+fn is_reply(answer: &Answer, reply: &[u8]) -> bool {
+    match answer {
+        Answer::Reply(bytes) => bytes.as_slice() == reply,
+        _ => false,
+    }
+}
+
+/// Whether an answer is a wait for one partition until that time at most.
+fn is_wait(answer: &Answer, place: Place, until: u64) -> bool {
+    match answer {
+        Answer::Wait { deadline, keys } => *deadline == until
+            && keys.as_slice() == [place].as_slice(),
+        _ => false,
+    }
+}
+
+/// A request is answered by a reply, or by none where it is empty.
+fn is_answer(
+    rt: &impl Abort,
+    alloc: Global,
+    answer: &Answer,
+    reply: &str,
+    text: &str,
+) -> Result<(), Fail> {
+    match answer {
+        Answer::Reply(bytes) => assert_eq!(rt; *bytes, frame(rt, alloc, reply)?, "{text}"),
+        Answer::NoReply => assert!(rt; reply.is_empty(), "{text}"),
+        _ => panic!(rt; "{text} is not answered"),
+    }
+    Ok(())
+}
+
+/// Takes some steps, and sees that no refusal is counted.
+pub(super) fn plays(rt: &impl Abort, alloc: Global, steps: &[Step<'_>]) -> Result<(), Fail> {
+    let mut tenant = Tenant::new(alloc)?;
+    for step in steps {
+        tenant.take(rt, alloc, step)?;
+    }
+    assert_eq!(rt; tenant.parts.refusals(), 0);
+    Ok(())
+}

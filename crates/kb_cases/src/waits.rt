@@ -224,6 +224,20 @@ fn compare_any(
     Ok(())
 }
 
+/// Checks all that the queue has by what the plain list has.
+fn compare_all(
+    rt: &impl Abort,
+    waits: &Waits,
+    plain: &PlainWaits,
+    got: &mut Vec<u64>,
+    want: &mut Vec<u64>,
+) -> Result<(), AllocError> {
+    plain.due(u64::MAX, want)?;
+    waits.all(got)?;
+    assert_eq!(rt; got.as_slice(), want.as_slice());
+    Ok(())
+}
+
 /// Changes both and compares them, a thousand times.
 fn play(
     rt: &impl Abort,
@@ -243,6 +257,7 @@ fn play(
         let mut keys = keys_by(alloc, number / 5)?;
         keys.truncate((number % 4) as usize);
         compare_any(rt, waits, plain, &keys, got, want)?;
+        compare_all(rt, waits, plain, got, want)?;
     }
     Ok(())
 }

@@ -10,6 +10,7 @@ use Rattle.std.specs.Ordering.{nat_cmp, is_eq}
 use Rattle.std.specs.declared.cmp.Ordering.TheVariants.{Less}
 use Rattle.std.specs.Cmp.{nat_cmp_total, unsigned_ties, unsigned_tied, eq_by_cmp_equiv, both_ways}
 use Rattle.std.specs.FinMap as fin
+use Rattle.std.specs.Map.{keys_of}
 use Rattle.std.proofs.lemmas.Bool.{true≢false, false≢true, eqb-true}
 use Rattle.std.proofs.lemmas.List.{length-map}
 use Rattle.std.proofs.lemmas.Bool.Decides.{nat_tests}
@@ -17,17 +18,20 @@ use Rattle.std.proofs.lemmas.List.Folds.{Any-from_list_any, list_any-from_Any}
 use Rattle.std.proofs.lemmas.List.Kept.{Contains-dedup_nat, Contains-from_dedup}
 use Rattle.std.proofs.lemmas.List.Sorted.{Contains-permutation, IsPermutation-sym, IsNonDecreasingBy-from_sort}
 use Rattle.std.proofs.lemmas.Map.Views.{Contains-from_any, list_any-from_Contains}
-use Rattle.std.proofs.lemmas.Map.Made.{length-le_from_is_member}
+use Rattle.std.proofs.lemmas.Map.Made.{length-le_from_is_member, is_some-lookup}
 use Rattle.std.proofs.lemmas.Map.Keys.{sorted_head, sorted_tail, IsDistinct-cons, IsDistinct-from_sorted, IsDistinct-IsPermutation, IsStrictlyIncreasing-from_distinct, IsStrictlyIncreasing-from_sorted, IsStrictlyIncreasing-dedup, apart_from_distinct, IsDistinct-from_apart}
+use Rattle.slab.specs.Slab.{Slab}
 use Rattle.kb_waits.specs.Due.{by_deadline, due_of}
-use Rattle.kb_waits.specs.Queue.{Queue, Wait, AreParked, IsDue, IsUnder, IsUnderAny}
+use Rattle.kb_waits.specs.Entries.{wait_at, queue_at}
+use Rattle.kb_waits.specs.Queue.{Queue, Wait, AreParked, IsAny, IsDue, IsUnder, IsUnderAny}
 use Rattle.kb_waits.specs.Waiters.{AreWaiting}
 use Rattle.kb_waits.specs.declared.waiters.Waiters.{Waiters}
 use Rattle.kb_waits.specs.Waits.{passes, ends_at, is_under, is_under_any, IsIndexed}
+use Rattle.kb_waits.specs.declared.entry.Entry.{Entry}
 use Rattle.kb_waits.specs.declared.key.WaitKey.{WaitKey}
 use Rattle.kb_waits.proofs.Indexed.{dated_at, at_pair}
 use Rattle.kb_waits.proofs.Keys.{any_key-decides}
-use Rattle.kb_waits.proofs.Queues.{tied, tied_same, tied-itself}
+use Rattle.kb_waits.proofs.Queues.{tied, tied_same, tied-itself, contains-queue_by}
 
 passes-true : (t : Wait → Bool) (P : Wait → Type 0) → ((w : Wait) → Decides (t w) (P w)) → (o : Option Wait) → passes t o ≡ true → IsSomeAnd o P
 passes-true t P d None h = absurd (true≢false (sym h))
@@ -65,6 +69,17 @@ module _ (q : Queue) (t : Wait → Bool) (P : Wait → Type 0) (d : (w : Wait) �
   -- the same, in order
   pub AreParked-ordered : IsStrictlySortedBy nat_cmp xs → AreParked q P xs
   AreParked-ordered ordered = record { exactly = λ n. (listed_parked n, parked_listed n); ascending = IsStrictlyIncreasing-from_sorted xs ordered }
+
+there : (o : Option Wait) → is_some o ≡ passes (λ w. true) o
+there None = refl
+there (Some w) = refl
+
+-- the connections with a slot are all that are parked
+pub AreParked-all : (slab : Slab Entry) (ps : List (ℕ × ℕ)) → IsStrictlySortedBy nat_cmp (keys_of ps) → AreParked (queue_at slab ps) IsAny (keys_of ps)
+AreParked-all slab ps ordered =
+    AreParked-ordered (queue_at slab ps) (λ w. true) IsAny (λ w. ((λ h. tt), (λ h. refl))) (keys_of ps)
+    (λ n. sym (is_some-lookup (tied n) ps) ∙ sym (contains-queue_by (wait_at slab) ps n) ∙ there (fin.get (queue_at slab ps) n))
+    ordered
 
 -- whether a wait is due
 abbrev pub is_due : ℕ → Wait → Bool

@@ -10,7 +10,7 @@ use Rattle.std.proofs.lemmas.Bool.Decides.{Decides-like, Decides-and, Decides-eq
 use Rattle.std.proofs.lemmas.Map.Made.{is_member-Decides}
 use Rattle.kb_waits.specs.Waiters.{same_key}
 use Rattle.kb_waits.specs.declared.key.WaitKey.{WaitKey}
-use Rattle.kb_waits.specs.declared.key.WaitKey.TheVariants.{Partition, Group}
+use Rattle.kb_waits.specs.declared.key.WaitKey.TheVariants.{Partition, Group, Tenant}
 use Rattle.kb_waits.specs.contracts.key.WaitKeyPartialEq.TheImpl as key_eq
 use Rattle.kb_waits.specs.contracts.key.WaitKeyOrd.TheImpl as key_ord
 use Rattle.kb_waits.specs.contracts.key.WaitKeyOrd.TheImpl.Laws.{total-law, matches_eq-law}
@@ -23,12 +23,17 @@ decides (Partition t i p) (Partition u j q) =
     (λ e. (cc, (cc, cc)))
     (Decides-and _ _ (Decides-eqb t u) (Decides-and _ _ (Decides-eqb i j) (Decides-eqb p q)))
 decides (Partition t i p) (Group u g) = (λ e. absurd (false≢true e), λ e. cc)
+decides (Partition t i p) (Tenant u) = (λ e. absurd (false≢true e), λ e. cc)
 decides (Group t g) (Partition u j q) = (λ e. absurd (false≢true e), λ e. cc)
 decides (Group t g) (Group u h) =
     Decides-like {P = (t ≡ u) × (g ≡ h)} _
     (λ k. λ i. Group (k.0 i) (k.1 i))
     (λ e. (cc, cc))
     (Decides-and _ _ (Decides-eqb t u) (bytes_decides g h))
+decides (Group t g) (Tenant u) = (λ e. absurd (false≢true e), λ e. cc)
+decides (Tenant t) (Partition u j q) = (λ e. absurd (false≢true e), λ e. cc)
+decides (Tenant t) (Group u h) = (λ e. absurd (false≢true e), λ e. cc)
+decides (Tenant t) (Tenant u) = Decides-like {P = t ≡ u} _ (λ h. λ k. Tenant (h k)) (λ e. cc) (Decides-eqb t u)
 
 pub same_key-decides : (a b : WaitKey) → Decides (same_key a b) (a ≡ b)
 same_key-decides a b = Decides-at _ _ (sym (matches_eq-law a b)) (decides a b)

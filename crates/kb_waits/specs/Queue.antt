@@ -1,5 +1,5 @@
 -- What the queue of waiting requests is: a finite map from connections to their waits.
-use Rattle.std.specs.Prelude.{ℕ, ◌≤◌, ◌↔◌, List, Any, Contains, IsSomeAnd, refl}
+use Rattle.std.specs.Prelude.{ℕ, ⊤, ◌≤◌, ◌↔◌, List, Any, Contains, IsSomeAnd, refl}
 use Rattle.std.specs.Coded.{Coded, code_by, coded×, coded_ℕ, coded_list}
 use Rattle.std.specs.FinMap.{FinMap, get, code}
 use Rattle.std.specs.List.Sorted.{IsStrictlyIncreasing}
@@ -15,6 +15,10 @@ pub record Wait : Type 0 where
 -- The parked connections, each with its one wait.
 abbrev pub Queue : Type 0
 Queue = FinMap nat_cmp Wait
+
+-- Any wait.
+abbrev pub IsAny : Wait → Type 0
+IsAny wait = ⊤
 
 -- The deadline of a wait has come: it is the clock or earlier.
 abbrev pub IsDue : ℕ → Wait → Type 0

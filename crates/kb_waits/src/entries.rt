@@ -1,8 +1,9 @@
 //! The parked connections and their entries.
-ghost use Rattle.std.specs.Prelude.{◌≡◌, None, OnOk, OnErr, IfErr};
+ghost use Rattle.std.specs.Prelude.{◌≡◌, ◌≤◌, None, OnOk, OnErr, IfErr, vec_capacity, []};
 ghost use Rattle.std.specs.Option.{option_map};
 ghost use Rattle.std.specs.FinMap as map;
 ghost use Rattle.kb_waits.specs.Entry.{wait_of};
+ghost use Rattle.kb_waits.specs.Queue.{AreParked, IsAny};
 
 use crate::entry::Entry;
 use slab::Slab;
@@ -53,6 +54,18 @@ impl Entries {
         ensures { result ≡ map.contains_key self.now connection }
     {
         self.slots.contains_key(&connection)
+    }
+
+    /// Puts all connections into `out`, ascending. It is empty, and has room.
+    pub(crate) fn push_numbers(&self, out: &mut Vec<u64>)
+        requires empty { out.old.items ≡ [] }
+        requires room { map.len self.now ≤ vec_capacity out.old }
+        ensures pushed { AreParked self.now IsAny out.new.items }
+        ensures capacity { vec_capacity out.new ≡ vec_capacity out.old }
+    {
+        for (connection, _) in &self.slots {
+            out.push_reserved(*connection);
+        }
     }
 
     /// Adds the entry of a connection that has none. A refusal gives it back.

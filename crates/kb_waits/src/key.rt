@@ -98,9 +98,9 @@ impl Ord for GroupId {
     }
 }
 
-/// What a request waits for: a change of one partition, or of one group.
+/// What a request waits for: a change of one partition, of one group, or of anything of one tenant.
 ///
-/// A partition's key takes no memory; a group's key owns its id's bytes.
+/// A group's key owns its id's bytes; the others take no memory.
 #[derive(PartialEq, Eq, PartialOrd, Ord, Debug, Drop)]
 pub enum WaitKey {
     /// A partition of a topic.
@@ -118,6 +118,11 @@ pub enum WaitKey {
         tenant: usize,
         /// The group's id.
         group: GroupId,
+    },
+    /// Anything of a tenant.
+    Tenant {
+        /// The tenant's number in byte order of the tenants' names.
+        tenant: usize,
     },
 }
 
@@ -141,6 +146,7 @@ impl Clone for WaitKey {
                 tenant: *tenant,
                 group: group.clone()?,
             }),
+            WaitKey::Tenant { tenant } => Ok(WaitKey::Tenant { tenant: *tenant }),
         }
     }
 }

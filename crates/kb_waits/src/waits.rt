@@ -2,7 +2,7 @@
 ghost use Rattle.std.specs.Prelude.{◌≡◌, ◌≢◌, ℕ, ◌≤◌, None, OnOk, OnErr, IsOk, vec_capacity};
 ghost use Rattle.std.specs.Bool.{OnFalse};
 ghost use Rattle.std.specs.FinMap as fin;
-ghost use Rattle.kb_waits.specs.Queue.{AreParked, IsDue, IsUnder, IsUnderAny};
+ghost use Rattle.kb_waits.specs.Queue.{AreParked, IsAny, IsDue, IsUnder, IsUnderAny};
 
 use crate::entries::Entries;
 use crate::entry::Entry;
@@ -123,6 +123,21 @@ impl Waits {
         clear_with_room(out, self.deadlines.len())?;
         push_due(&self.deadlines, clock, out);
         out.sort_unstable();
+        Ok(())
+    }
+
+    /// Replaces what is in `out` by all parked connections, each once, ascending.
+    ///
+    /// Where `out` has room for `parked()` numbers this takes no memory and succeeds. After an
+    /// `Err`, which is want of memory, `out` has what it had.
+    pub fn all(&self, out: &mut Vec<u64>) -> Result<(), AllocError>
+        ensures all { OnOk result (AreParked self.now IsAny out.new.items) }
+        ensures room { vec_capacity out.old ≤ vec_capacity out.new }
+        ensures succeeds { fin.len self.now ≤ vec_capacity out.old → IsOk result }
+        ensures refused { OnErr result (out.new.items ≡ out.old.items) }
+    {
+        clear_with_room(out, self.parked())?;
+        self.entries.push_numbers(out);
         Ok(())
     }
 

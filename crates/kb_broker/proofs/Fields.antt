@@ -6,7 +6,7 @@ use Rattle.std.specs.FinMap as fin
 use Rattle.std.specs.List.{AllByRecursion, remove}
 use Rattle.std.proofs.Math.Seq.{take-suc}
 use Rattle.std.proofs.lemmas.Bool.Decides.{nat_tests}
-use Rattle.kb_waits.specs.Queue.{AreParked, IsDue, Queue}
+use Rattle.kb_waits.specs.Queue.{AreParked, Queue}
 use Rattle.kb_tenant.specs.Hosted.{TenantState}
 use Rattle.kb_machine.specs.Tenant.{Wait}
 use Rattle.kb_machine.specs.Session.{Stage, Greets, BoundTo, Session, fresh, is_free, fed, without_wait, shut_down}
@@ -15,7 +15,6 @@ use Rattle.kb_machine.specs.Calls.{other_than}
 use Rattle.kb_machine.specs.Owners.{find_line}
 use Rattle.kb_machine.specs.Broker.{BrokerState, IsSound, IsUnready, AreUnready, AnyWait, Rising}
 use Rattle.kb_machine.specs.declared.whom.Whom.{Whom}
-use Rattle.kb_machine.specs.declared.whom.Whom.TheVariants as whoms
 use Rattle.kb_machine.specs.Turned.{IsPassedOver, SameOthers, Waked}
 use Rattle.kb_machine.proofs.Sets.{IsAt, all-map, find-at, rising-set, set-at}
 use Rattle.kb_machine.proofs.Parts.{eqb_same, eqb_other}
@@ -23,11 +22,11 @@ use Rattle.kb_machine.proofs.Steps.{remove-those}
 use Rattle.kb_machine.proofs.Turns.{unready-same}
 use Rattle.kb_connection.specs.View.{with_session}
 use Rattle.kb_broker.specs.Places.{number_at, waits_in, IsPassed, ArePassed, AreWaked, IsLookedAt, IsOneMore}
-use Rattle.kb_broker.specs.Parked.{deadline_at, deadline_in, until_of, IsKeyedIn, IsQueueOf, IsUnreadyIn, IsUnreadyAt, IsSoughtAt, IsSoughtIn, SameBut, AreMinded}
+use Rattle.kb_broker.specs.Parked.{deadline_at, deadline_in, until_of, IsKeyedIn, IsOwnedIn, IsQueueOf, IsUnreadyIn, IsUnreadyAt, IsAmong, IsSoughtAt, IsSoughtIn, SameBut, AreMinded}
 use Rattle.kb_broker.proofs.Placed.{get-at, number_at-is}
 use Rattle.kb_broker.proofs.Handled.{put_with, fed-stage}
 use Rattle.kb_broker.proofs.Looked.{looked-number, looked-waked, one-more, waked-more}
-use Rattle.kb_broker.proofs.Parked.{IsCarried, IsMindedOne, carried-same, due-minded, each-find, minded-all, minded-more, nobody-waits}
+use Rattle.kb_broker.proofs.Parked.{IsCarried, IsMindedOne, carried-same, each-find, minded-all, minded-more, nobody-waits, sought-minded}
 
 -- 1. Nobody waits
 
@@ -87,6 +86,7 @@ queue-closed H q p ts low last ls i l v rising at others gone =
     subst (IsQueueOf H p ts) (sym (remove-those low last ls i l rising at))
     (record {
       dated = λ n. find-closed (λ o. until_of (fin.get p n) ≡ deadline_in o) l.number n ls (λ ne. ap until_of (others n ne) ∙ v.dated n) (λ is. ap until_of (ap (fin.get p) is ∙ gone));
+      owned = λ n. find-closed (λ o. IsOwnedIn o (fin.get p n)) l.number n ls (λ ne. subst (IsOwnedIn (find_line n ls)) (sym (others n ne)) (v.owned n)) (λ is. tt);
       keyed = λ honest n. find-closed (λ o. IsKeyedIn ts o (fin.get p n)) l.number n ls (λ ne. subst (IsKeyedIn ts (find_line n ls)) (sym (others n ne)) (v.keyed honest n)) (λ is. tt);
     })
 
@@ -228,9 +228,8 @@ minded-take whom a b ns j n lt is v =
 pub same-more : (ns : List ℕ) (n : ℕ) (a b c : BrokerState) → Contains ns n → SameBut ns a b → SameOthers n b c → SameBut ns a c
 same-more ns n a b c in' same others = λ k apart. others k (λ e. apart (subst (Contains ns) (sym e) in')) ∙ same k apart
 
--- the due ones were looked at, and the others were not ready: none is ready then
-pub due-looked : (H : Type 0) (q : Queue) (whom : Whom) (a b c : BrokerState) (ns ms : List ℕ) → a ≡ b → whom ≡ whoms.Due → IsQueueOf H q a.tenants a.lines → AreParked q (IsDue a.clock) ns → ms ≡ ns → AreMinded whom a c ms → AreUnready (IsPassedOver whom b.clock) b → AreUnready AnyWait c
-due-looked H q whom a b c ns ms e is v parked same minded unready =
-    let looked : AreMinded whoms.Due a c ns = subst (λ w. AreMinded w a c ns) is (subst (AreMinded whom a c) same minded) in
-    let over : AreUnready (IsPassedOver whoms.Due a.clock) a = subst (λ w. AreUnready (IsPassedOver w a.clock) a) is (subst (λ (x : BrokerState). AreUnready (IsPassedOver whom x.clock) x) (sym e) unready) in
-    minded-all whoms.Due a c ns looked (due-minded H q a ns v parked over)
+-- those that are looked for were looked at, and the others were not ready: none is ready then
+pub sought-looked : (H : Type 0) (q : Queue) (whom : Whom) (a b c : BrokerState) (ns ms : List ℕ) → a ≡ b → IsQueueOf H q a.tenants a.lines → AreParked q (IsAmong whom a.clock) ns → ms ≡ ns → AreMinded whom a c ms → AreUnready (IsPassedOver whom b.clock) b → AreUnready AnyWait c
+sought-looked H q whom a b c ns ms e v parked same minded unready =
+    let over : AreUnready (IsPassedOver whom a.clock) a = subst (λ (x : BrokerState). AreUnready (IsPassedOver whom x.clock) x) (sym e) unready in
+    minded-all whom a c ns (subst (AreMinded whom a c) same minded) (sought-minded H q whom a ns v parked over)

@@ -32,7 +32,7 @@ use Rattle.kb_machine.proofs.Turns.{going-same, going-then, turned-same, turned-
 use Rattle.kb_machine.proofs.Wakes.{turned-served}
 use Rattle.kb_broker.specs.Hosts.{OnStore, is_honest, IsLater, IsReadyOn, NoneReady, StepsTo}
 use Rattle.kb_broker.specs.Places.{numbers, number_at, waits_in, AreIdle, IsNext, IsScoped, IsTakenAt, IsTurnAt}
-use Rattle.kb_broker.specs.Parked.{deadline_at, deadline_in, until_of, IsKeyedAt, IsKeyedIn, IsQueueOf, IsAskedOnAt, IsPassedOn, IsWhose, IsLeftBy, IsUnreadyIn, IsSoughtAt, IsSoughtIn, IsMinded, AreMinded, SameBut, IsServedFor, IsOwnTo, IsAllOf, IsLeftTo, can_in, AreAmong}
+use Rattle.kb_broker.specs.Parked.{deadline_at, deadline_in, until_of, AreAllOf, IsKeyedAt, IsKeyedIn, IsOwnedAt, IsOwnedIn, IsQueueOf, IsAskedOnAt, IsPassedOn, IsWhose, IsLeftBy, IsUnreadyIn, IsSoughtAt, IsSoughtIn, IsMinded, AreMinded, SameBut, IsServedFor, IsOwnTo, IsAllOf, IsLeftTo, can_in, AreAmong}
 use Rattle.kb_broker.specs.declared.serving.Concerned.{Concerned}
 use Rattle.kb_broker.specs.declared.serving.Concerned.TheVariants as concerned
 use Rattle.kb_broker.proofs.Honest.{later-same, later-then, ready-of}
@@ -250,17 +250,17 @@ carried-at H honest (Greets h) b us q unready turn asked = subst (λ ts. IsCarri
 carried-at H honest (BoundTo t w) b us q unready turn asked = carried-turn H honest t b.tenants us b.lines q turn asked (waiting-on b unready)
 
 queue-taken : (H G : Type 0) (q p : Queue) (b : BrokerState) (i : ℕ) (l m : Line) (us : List TenantState) → IsQueueOf H q b.tenants b.lines → IsTaken G b i l m us → (G → H) → (H → AreUnready AnyWait b) → (G → IsAskedOnAt l.session.stage b.tenants us)
-    → ((k : ℕ) → k ≢ l.number → fin.get p k ≡ fin.get q k) → until_of (fin.get p l.number) ≡ deadline_at m.session.stage → (G → IsKeyedAt us m.session.stage (fin.get p l.number)) → IsQueueOf G p us (set b.lines i m)
-queue-taken H G q p b i l m us v k back unready asked parked dated keyed =
-    queue-put H G q p b.tenants us 0 b.last b.lines i l m v k.next.sound.rising k.at k.number back parked dated
+    → ((k : ℕ) → k ≢ l.number → fin.get p k ≡ fin.get q k) → until_of (fin.get p l.number) ≡ deadline_at m.session.stage → IsOwnedAt m.session.stage (fin.get p l.number) → (G → IsKeyedAt us m.session.stage (fin.get p l.number)) → IsQueueOf G p us (set b.lines i m)
+queue-taken H G q p b i l m us v k back unready asked parked dated owned keyed =
+    queue-put H G q p b.tenants us 0 b.last b.lines i l m v k.next.sound.rising k.at k.number back parked dated owned
     (λ honest. carried-at G honest l.session.stage b us q (unready (back honest)) k.turn (asked honest)) keyed
 
 -- the queue after a turn, where a is what the broker's own fields are
 pub queue-turn : (H G : Type 0) (q p : Queue) (a b : BrokerState) (i : ℕ) (l m : Line) (us : List TenantState) → a ≡ b → IsQueueOf H q a.tenants a.lines → IsTaken G b i l m us → (G → H) → (H → AreUnready AnyWait b) → (G → IsAskedOnAt l.session.stage a.tenants us)
-    → ((k : ℕ) → k ≢ l.number → fin.get p k ≡ fin.get q k) → until_of (fin.get p l.number) ≡ deadline_at m.session.stage → (G → IsKeyedAt us m.session.stage (fin.get p l.number)) → IsQueueOf G p us (set a.lines i m)
-queue-turn H G q p a b i l m us e v k back unready asked parked dated keyed =
+    → ((k : ℕ) → k ≢ l.number → fin.get p k ≡ fin.get q k) → until_of (fin.get p l.number) ≡ deadline_at m.session.stage → IsOwnedAt m.session.stage (fin.get p l.number) → (G → IsKeyedAt us m.session.stage (fin.get p l.number)) → IsQueueOf G p us (set a.lines i m)
+queue-turn H G q p a b i l m us e v k back unready asked parked dated owned keyed =
     subst (λ (x : BrokerState). IsQueueOf H q x.tenants x.lines → (G → IsAskedOnAt l.session.stage x.tenants us) → IsQueueOf G p us (set x.lines i m)) (sym e)
-    (λ v' asked'. queue-taken H G q p b i l m us v' k back unready asked' parked dated keyed) v asked
+    (λ v' asked'. queue-taken H G q p b i l m us v' k back unready asked' parked dated owned keyed) v asked
 
 -- whose waiting fetches are to be looked at after it
 pub served-by : (H : Type 0) → H → (c : Concerned) (scope : Scope) (b : BrokerState) (i : ℕ) (l m : Line) (us : List TenantState) (q : Queue) → AreStill scope b → AreUnready AnyWait b → IsTaken H b i l m us → IsTakenAt H b.setup b.clock l.session.stage b.tenants us l.session m.session
@@ -269,37 +269,54 @@ served-by H honest concerned.Nobody scope b i l m us q still unready k is who le
 served-by H honest (concerned.These t ns) scope b i l m us q still unready k is who left = served-for (concerned.These t ns) l.session.stage scope b (put_with b i m us) (λ e. absurd (cc)) who (served-taken H honest scope b i l m us l.session.stage still k refl k.turn is)
 served-by H honest (concerned.All t) scope b i l m us q still unready k is who left = served-for (concerned.All t) l.session.stage scope b (put_with b i m us) (λ e. absurd (cc)) who (served-taken H honest scope b i l m us l.session.stage still k refl k.turn is)
 
--- and that no other may be ready
-left-these : (H : Type 0) → H → (G : Type 0) → G → (t : ℕ) (ns : List ℕ) (b : BrokerState) (i : ℕ) (l m : Line) (us : List TenantState) (q : Queue) (st : Stage) → AreUnready AnyWait b → IsTaken H b i l m us → l.session.stage ≡ st → whose st ≡ Some t → IsQueueOf G q b.tenants b.lines
-    → IsTurnAt H st b.tenants us → IsPassedOn b.setup t b.clock l.number q b.tenants us l.session m.session ns → (k : ℕ) → IsMinded (whoms.Tenant t) ns (put_with b i m us) k
-left-these H honest G true-so t ns b i l m us q (Greets h) unready taken s who v turn p k = absurd (cc)
-left-these H honest G true-so t ns b i l m us q (BoundTo u x) unready taken s who v turn' p k =
-    find-set (λ o. IsUnreadyIn d o ⊎ (Contains ns k × IsSoughtIn (whoms.Tenant t) d.clock o)) 0 b.last k b.lines i l m taken.next.sound.rising taken.at taken.number
-    (λ ne. other (find_line k b.lines) refl ne) (λ e. inl (own-turn b i t l m us H turn honest taken.at (able-free l.session taken.able) (ap without_wait bound) (taken.spent.stage t x bound) p.session p.kept))
+-- the turn of a connection bound to a tenant leaves no wait of the tenant ready but among those
+record IsSpared (t : ℕ) (ns : List ℕ) (b : BrokerState) (l m : Line) (us : List TenantState) (d : BrokerState) : Type 0 where
+  own : IsUnready AnyWait d m.session.stage ⊎ (Contains ns l.number × IsSoughtAt (whoms.Tenant t) d.clock m.session.stage)
+  others : (k : ℕ) (y : Session) (w : Wait) → k ≢ l.number → find_line k b.lines ≡ Some y → y.stage ≡ BoundTo t (Some w) → ready (hosted.kept_of b.tenants t) b.clock w ≡ Silent → (ready (hosted.kept_of us t) b.clock w ≡ Silent) ⊎ Contains ns k
+
+-- where the queue has each fetch under what it asks
+spared-passed : (H : Type 0) → H → (G : Type 0) → G → (t : ℕ) (x : Option Wait) (ns : List ℕ) (b : BrokerState) (i : ℕ) (l m : Line) (us : List TenantState) (q : Queue) → IsTaken H b i l m us → l.session.stage ≡ BoundTo t x → IsQueueOf G q b.tenants b.lines
+    → IsTurn t H b.tenants us → IsPassedOn b.setup t b.clock l.number q b.tenants us l.session m.session ns → IsSpared t ns b l m us (put_with b i m us)
+spared-passed H honest G true-so t x ns b i l m us q taken bound v turn p = record {
+  own = inl (own-turn b i t l m us H turn honest taken.at (able-free l.session taken.able) (ap without_wait bound) (taken.spent.stage t x bound) p.session p.kept);
+  others = λ k y w ne e f silent. mine k y w ne e f silent (among k ns);
+}
   where
-    d : BrokerState
-    d = put_with b i m us
-
-    same : u ≡ t
-    same = cc
-
-    bound : l.session.stage ≡ BoundTo t x
-    bound = s ∙ ap (λ n. BoundTo n x) same
-
-    turn : IsTurn t H b.tenants us
-    turn = subst (λ n. IsTurn n H b.tenants us) same turn'
-
     calm : hosted.refusals_of b.tenants t ≡ 0
     calm = let up = turn.grows t in let end = p.calm in omega (arith, up, end)
 
-    apart : k ≢ l.number → (y : Session) (w : Wait) → find_line k b.lines ≡ Some y → y.stage ≡ BoundTo t (Some w) → ready (hosted.kept_of b.tenants t) b.clock w ≡ Silent → (Contains ns k → ⊥) → ready (hosted.kept_of us t) b.clock w ≡ Silent
-    apart ne y w e f silent not-in =
+    apart : (k : ℕ) (y : Session) (w : Wait) → k ≢ l.number → find_line k b.lines ≡ Some y → y.stage ≡ BoundTo t (Some w) → ready (hosted.kept_of b.tenants t) b.clock w ≡ Silent → (Contains ns k → ⊥) → ready (hosted.kept_of us t) b.clock w ≡ Silent
+    apart k y w ne e f silent not-in =
         let keyed : IsKeyedAt b.tenants (BoundTo t (Some w)) (fin.get q k) = subst (λ st. IsKeyedAt b.tenants st (fin.get q k)) f (subst (λ o. IsKeyedIn b.tenants o (fin.get q k)) e (v.keyed true-so k)) in
         p.others k w ne not-in (keyed calm (first-silent (hosted.kept_of b.tenants t) b.clock w silent)) silent
 
-    mine : k ≢ l.number → (y : Session) (w : Wait) → find_line k b.lines ≡ Some y → y.stage ≡ BoundTo t (Some w) → ready (hosted.kept_of b.tenants t) b.clock w ≡ Silent → Contains ns k ⊎ (Contains ns k → ⊥) → (ready (hosted.kept_of us t) b.clock w ≡ Silent) ⊎ Contains ns k
-    mine ne y w e f silent (inl c) = inr c
-    mine ne y w e f silent (inr not-in) = inl (apart ne y w e f silent not-in)
+    mine : (k : ℕ) (y : Session) (w : Wait) → k ≢ l.number → find_line k b.lines ≡ Some y → y.stage ≡ BoundTo t (Some w) → ready (hosted.kept_of b.tenants t) b.clock w ≡ Silent → Contains ns k ⊎ (Contains ns k → ⊥) → (ready (hosted.kept_of us t) b.clock w ≡ Silent) ⊎ Contains ns k
+    mine k y w ne e f silent (inl c) = inr c
+    mine k y w ne e f silent (inr not-in) = inl (apart k y w ne e f silent not-in)
+
+-- a connection bound to a tenant waits for what is looked for as the tenant's
+sought-own : (t clock : ℕ) (st : Stage) → without_wait st ≡ BoundTo t None → IsSoughtAt (whoms.Tenant t) clock st
+sought-own t clock (Greets h) e = tt
+sought-own t clock (BoundTo u None) e = tt
+sought-own t clock (BoundTo u (Some w)) e = let is : u ≡ t = cc in grind (arith, nat_tests, is)
+
+-- where all of the tenant's are among those
+spared-all : (H G : Type 0) (t : ℕ) (x : Option Wait) (ns : List ℕ) (b : BrokerState) (i : ℕ) (l m : Line) (us : List TenantState) (q : Queue) → IsTaken H b i l m us → l.session.stage ≡ BoundTo t x → IsQueueOf G q b.tenants b.lines
+    → AreAllOf t l.number q ns → IsSpared t ns b l m us (put_with b i m us)
+spared-all H G t x ns b i l m us q taken bound v all = record {
+  own = inr (all.own, sought-own t b.clock m.session.stage (taken.spent.stage t x bound ∙ ap without_wait bound));
+  others = λ k y w ne e f silent. inr (all.others k ne (subst (λ st. IsOwnedAt st (fin.get q k)) f (subst (λ o. IsOwnedIn o (fin.get q k)) e (v.owned k))));
+}
+
+-- and that no other may be ready
+left-spared : (H : Type 0) → H → (t : ℕ) (ns : List ℕ) (b : BrokerState) (i : ℕ) (l m : Line) (us : List TenantState) → AreUnready AnyWait b → IsTaken H b i l m us
+    → IsTurn t H b.tenants us → IsSpared t ns b l m us (put_with b i m us) → (k : ℕ) → IsMinded (whoms.Tenant t) ns (put_with b i m us) k
+left-spared H honest t ns b i l m us unready taken turn p k =
+    find-set (λ o. IsUnreadyIn d o ⊎ (Contains ns k × IsSoughtIn (whoms.Tenant t) d.clock o)) 0 b.last k b.lines i l m taken.next.sound.rising taken.at taken.number
+    (λ ne. other (find_line k b.lines) refl ne) (λ e. subst (λ j. IsUnready AnyWait d m.session.stage ⊎ (Contains ns j × IsSoughtAt (whoms.Tenant t) d.clock m.session.stage)) (sym e) p.own)
+  where
+    d : BrokerState
+    d = put_with b i m us
 
     asked-here : (w : Wait) → (ready (hosted.kept_of us t) b.clock w ≡ Silent) ⊎ Contains ns k → IsUnready AnyWait d (BoundTo t (Some w)) ⊎ (Contains ns k × IsSoughtAt (whoms.Tenant t) d.clock (BoundTo t (Some w)))
     asked-here w (inl silent) = inl (λ any. silent)
@@ -314,12 +331,30 @@ left-these H honest G true-so t ns b i l m us q (BoundTo u x) unready taken s wh
         by true g =
             let is : t ≡ n = eqb_same t n g in
             subst (λ j. IsUnready AnyWait d (BoundTo j (Some w)) ⊎ (Contains ns k × IsSoughtAt (whoms.Tenant t) d.clock (BoundTo j (Some w)))) is
-            (asked-here w (mine ne y w e (f ∙ ap (λ j. BoundTo j (Some w)) (sym is)) (subst (λ j. ready (hosted.kept_of b.tenants j) b.clock w ≡ Silent) (sym is) (unready' tt)) (among k ns)))
+            (asked-here w (p.others k y w ne e (f ∙ ap (λ j. BoundTo j (Some w)) (sym is)) (subst (λ j. ready (hosted.kept_of b.tenants j) b.clock w ≡ Silent) (sym is) (unready' tt))))
         by false g = inl (λ any. ap (λ x. ready x b.clock w) (turn.others honest n (eqb_other t n g)) ∙ unready' tt)
 
     other : (o : Option Session) → find_line k b.lines ≡ o → k ≢ l.number → IsUnreadyIn d (find_line k b.lines) ⊎ (Contains ns k × IsSoughtIn (whoms.Tenant t) d.clock (find_line k b.lines))
     other None e ne = inl (subst (IsUnreadyIn d) (sym e) tt)
     other (Some y) e ne = subst (λ o. IsUnreadyIn d o ⊎ (Contains ns k × IsSoughtIn (whoms.Tenant t) d.clock o)) (sym e) (waits ne y y.stage e refl (subst (IsUnreadyIn b) e (unready-at b unready k)))
+
+left-these : (H : Type 0) → H → (G : Type 0) → G → (t : ℕ) (ns : List ℕ) (b : BrokerState) (i : ℕ) (l m : Line) (us : List TenantState) (q : Queue) (st : Stage) → AreUnready AnyWait b → IsTaken H b i l m us → l.session.stage ≡ st → whose st ≡ Some t → IsQueueOf G q b.tenants b.lines
+    → IsTurnAt H st b.tenants us → IsPassedOn b.setup t b.clock l.number q b.tenants us l.session m.session ns ⊎ AreAllOf t l.number q ns → (k : ℕ) → IsMinded (whoms.Tenant t) ns (put_with b i m us) k
+left-these H honest G true-so t ns b i l m us q (Greets h) unready taken s who v turn p = absurd (cc)
+left-these H honest G true-so t ns b i l m us q (BoundTo u x) unready taken s who v turn' p = left-spared H honest t ns b i l m us unready taken turn (by p)
+  where
+    same : u ≡ t
+    same = cc
+
+    bound : l.session.stage ≡ BoundTo t x
+    bound = s ∙ ap (λ n. BoundTo n x) same
+
+    turn : IsTurn t H b.tenants us
+    turn = subst (λ n. IsTurn n H b.tenants us) same turn'
+
+    by : IsPassedOn b.setup t b.clock l.number q b.tenants us l.session m.session ns ⊎ AreAllOf t l.number q ns → IsSpared t ns b l m us (put_with b i m us)
+    by (inl passed) = spared-passed H honest G true-so t x ns b i l m us q taken bound v turn passed
+    by (inr all) = spared-all H G t x ns b i l m us q taken bound v all
 
 pub left-by : (H : Type 0) → H → (G : Type 0) → G → (c : Concerned) (b : BrokerState) (i : ℕ) (l m : Line) (us : List TenantState) (q : Queue) → AreUnready AnyWait b → IsTaken H b i l m us → IsWhose c l.session.stage → IsQueueOf G q b.tenants b.lines
     → IsLeftBy c b.setup b.clock l.session.stage l.number q b.tenants us l.session m.session → IsLeftTo c (put_with b i m us)

@@ -1,31 +1,31 @@
 -- The queue of the connections that wait, as the broker changes; and what is told by the numbers of connections.
 use Rattle.std.proofs.Common.{◌≡◌, ◌≢◌, ◌++◌, ◌<◌, ◌≤◌, ℕ, List, [], ◌∷◌, length, get_or, set, eqb, nat_cmp, Option, Some, None, Bool, true, false, zero, suc, inl, inr, refl, sym, ◌∙◌, ap, subst, arith}
-use Rattle.std.specs.Prelude.{cond, Contains, IsSomeAnd, ◌⊎◌, nat_le}
+use Rattle.std.specs.Prelude.{cond, Contains, IsSomeAnd, ◌⊎◌}
 use Rattle.std.specs.FinMap as fin
 use Rattle.std.specs.List.{AllByRecursion}
 use Rattle.std.proofs.lemmas.Bool.Decides.{nat_tests}
 use Rattle.std.proofs.lemmas.List.Elements.{Contains-push_cases}
 use Rattle.kb_waits.specs.Queue as queue
-use Rattle.kb_waits.specs.Queue.{Queue, AreParked, IsDue, IsUnder}
+use Rattle.kb_waits.specs.Queue.{Queue, AreParked, IsUnder}
 use Rattle.kb_world.specs.Steps.{IsCalm}
 use Rattle.kb_tenant.specs.Hosted as hosted
 use Rattle.kb_tenant.specs.Hosted.{TenantState, IsTurn, AreRetained, retained}
 use Rattle.kb_tenant.specs.Replies.{Silent}
-use Rattle.kb_machine.specs.Tenant.{ready, asked}
+use Rattle.kb_machine.specs.Tenant.{Wait, ready, asked}
 use Rattle.kb_machine.specs.Session.{Stage, Greets, BoundTo, Session, is_free, can}
 use Rattle.kb_machine.specs.Machine.{Line, first_able}
 use Rattle.kb_machine.specs.Owners.{find_line}
 use Rattle.kb_machine.specs.Broker.{BrokerState, IsSound, IsUnready, AreUnready, AnyWait, Rising, kept_of}
 use Rattle.kb_machine.specs.declared.whom.Whom.{Whom}
 use Rattle.kb_machine.specs.declared.whom.Whom.TheVariants as whoms
-use Rattle.kb_machine.specs.Turned.{Waked, IsPassedOver, SameOthers}
+use Rattle.kb_machine.specs.Turned.{Waked, IsPassedOver, SameOthers, is_looked_for}
 use Rattle.kb_machine.proofs.Sets.{IsAt, all-map, all-still, find-at, find-set_other, rising-set, rising-above, set-at, tail-at, no-at}
 use Rattle.kb_machine.proofs.Parts.{each-tenant, eqb_same, eqb_other}
 use Rattle.kb_machine.proofs.Owned.{found as found-all}
 use Rattle.kb_machine.proofs.Quiet.{first-silent, asked-retained}
 use Rattle.kb_machine.proofs.Turns.{unready-same}
 use Rattle.kb_machine.proofs.Wakes.{waked-then}
-use Rattle.kb_broker.specs.Parked.{keys_of, deadline_at, deadline_in, until_of, IsKeyedAt, IsKeyedIn, IsQueueOf, IsAskedOn, IsWaitingOnAt, AreWaitingOn, IsUnreadyIn, IsUnreadyAt, IsSoughtAt, IsSoughtIn, IsMinded, AreMinded, SameBut, can_in, AreAmong}
+use Rattle.kb_broker.specs.Parked.{keys_for, deadline_at, deadline_in, until_of, IsKeyedAt, IsKeyedIn, IsOwnedAt, IsOwnedIn, IsQueueOf, IsAskedOn, IsWaitingOnAt, AreWaitingOn, IsUnreadyIn, IsUnreadyAt, IsAmong, IsSoughtAt, IsSoughtIn, IsMinded, AreMinded, SameBut, can_in, AreAmong}
 
 -- 1. The connection of a number
 
@@ -73,6 +73,11 @@ keyed-free ts (Greets h) o e = tt
 keyed-free ts (BoundTo t None) o e = tt
 keyed-free ts (BoundTo t (Some w)) o e = absurd (cc)
 
+owned-free : (st : Stage) (o : Option queue.Wait) → deadline_at st ≡ None → IsOwnedAt st o
+owned-free (Greets h) o e = tt
+owned-free (BoundTo t None) o e = tt
+owned-free (BoundTo t (Some w)) o e = absurd (cc)
+
 pub deadline-free : (st : Stage) → is_free st ≡ true → deadline_at st ≡ None
 deadline-free (Greets h) e = refl
 deadline-free (BoundTo t None) e = refl
@@ -80,12 +85,13 @@ deadline-free (BoundTo t (Some w)) e = let no : false ≡ true = e in absurd (cc
 
 -- of nobody
 pub queue-none : (H : Type 0) (ts : List TenantState) → IsQueueOf H fin.empty ts []
-queue-none H ts = record { dated = λ n. ap until_of (fin.get-empty nat_cmp n); keyed = λ honest n. tt }
+queue-none H ts = record { dated = λ n. ap until_of (fin.get-empty nat_cmp n); owned = λ n. tt; keyed = λ honest n. tt }
 
 -- one more is connected
 pub queue-opened : (H : Type 0) (q : Queue) (ts : List TenantState) (ls : List Line) (l : Line) → IsQueueOf H q ts ls → deadline_at l.session.stage ≡ None → IsQueueOf H q ts (ls ++ l ∷ [])
 queue-opened H q ts ls l v free = record {
   dated = λ n. find-push (λ o. until_of (fin.get q n) ≡ deadline_in o) n ls l (v.dated n) (λ none. v.dated n ∙ (ap deadline_in none ∙ sym free));
+  owned = λ n. find-push (λ o. IsOwnedIn o (fin.get q n)) n ls l (v.owned n) (λ none. owned-free l.session.stage (fin.get q n) free);
   keyed = λ honest n. find-push (λ o. IsKeyedIn ts o (fin.get q n)) n ls l (v.keyed honest n) (λ none. keyed-free ts l.session.stage (fin.get q n) free);
 }
 
@@ -104,15 +110,17 @@ carried-in ts us ls q k c h = by (find_line k ls) refl h
 pub queue-tenants : (H G : Type 0) (q : Queue) (ts us : List TenantState) (ls : List Line) → IsQueueOf H q ts ls → (G → H) → (G → IsCarried ts us ls q) → IsQueueOf G q us ls
 queue-tenants H G q ts us ls v back carried = record {
   dated = v.dated;
+  owned = v.owned;
   keyed = λ honest n. carried-in ts us ls q n (carried honest) (v.keyed (back honest) n);
 }
 
 -- the connection at a place has changed, and what stands in the queue of it
 pub queue-put : (H G : Type 0) (q p : Queue) (ts us : List TenantState) (low last : ℕ) (ls : List Line) (i : ℕ) (l m : Line) → IsQueueOf H q ts ls → Rising low last ls → IsAt ls i l → m.number ≡ l.number → (G → H)
-    → ((k : ℕ) → k ≢ l.number → fin.get p k ≡ fin.get q k) → until_of (fin.get p l.number) ≡ deadline_at m.session.stage
+    → ((k : ℕ) → k ≢ l.number → fin.get p k ≡ fin.get q k) → until_of (fin.get p l.number) ≡ deadline_at m.session.stage → IsOwnedAt m.session.stage (fin.get p l.number)
     → (G → IsCarried ts us ls q) → (G → IsKeyedAt us m.session.stage (fin.get p l.number)) → IsQueueOf G p us (set ls i m)
-queue-put H G q p ts us low last ls i l m v rising at same back others dated carried keyed = record {
+queue-put H G q p ts us low last ls i l m v rising at same back others dated owned carried keyed = record {
   dated = λ n. find-set (λ o. until_of (fin.get p n) ≡ deadline_in o) low last n ls i l m rising at same (λ ne. ap until_of (others n ne) ∙ v.dated n) (λ e. subst (λ k. until_of (fin.get p k) ≡ deadline_at m.session.stage) (sym e) dated);
+  owned = λ n. find-set (λ o. IsOwnedIn o (fin.get p n)) low last n ls i l m rising at same (λ ne. subst (IsOwnedIn (find_line n ls)) (sym (others n ne)) (v.owned n)) (λ e. subst (λ k. IsOwnedAt m.session.stage (fin.get p k)) (sym e) owned);
   keyed = λ honest n. find-set (λ o. IsKeyedIn us o (fin.get p n)) low last n ls i l m rising at same
       (λ ne. subst (IsKeyedIn us (find_line n ls)) (sym (others n ne)) (carried-in ts us ls q n (carried honest) (v.keyed (back honest) n)))
       (λ e. subst (λ k. IsKeyedAt us m.session.stage (fin.get p k)) (sym e) (keyed honest));
@@ -123,14 +131,15 @@ pub queue-left : (H G : Type 0) (q p : Queue) (ts us : List TenantState) (low la
     → ((k : ℕ) → k ≢ l.number → fin.get p k ≡ fin.get q k) → fin.get p l.number ≡ None → deadline_at m.session.stage ≡ None
     → (G → IsCarried ts us ls q) → IsQueueOf G p us (set ls i m)
 queue-left H G q p ts us low last ls i l m v rising at same back others gone free carried =
-    queue-put H G q p ts us low last ls i l m v rising at same back others (ap until_of gone ∙ sym free) carried (λ honest. keyed-free us m.session.stage (fin.get p l.number) free)
+    queue-put H G q p ts us low last ls i l m v rising at same back others (ap until_of gone ∙ sym free) (owned-free m.session.stage (fin.get p l.number) free) carried (λ honest. keyed-free us m.session.stage (fin.get p l.number) free)
 
 -- the same, where it waits as before
 pub queue-kept : (H G : Type 0) (q : Queue) (ts us : List TenantState) (low last : ℕ) (ls : List Line) (i : ℕ) (l m : Line) → IsQueueOf H q ts ls → Rising low last ls → IsAt ls i l → m.number ≡ l.number → (G → H)
     → m.session.stage ≡ l.session.stage → (G → IsCarried ts us ls q) → IsQueueOf G q us (set ls i m)
 queue-kept H G q ts us low last ls i l m v rising at same back stage carried =
     let here : find_line l.number ls ≡ Some l.session = find-at low last ls i l rising at in
-    queue-put H G q q ts us low last ls i l m v rising at same back (λ k ne. refl) (v.dated l.number ∙ (ap deadline_in here ∙ ap deadline_at (sym stage))) carried
+    queue-put H G q q ts us low last ls i l m v rising at same back (λ k ne. refl) (v.dated l.number ∙ (ap deadline_in here ∙ ap deadline_at (sym stage)))
+    (subst (λ st. IsOwnedAt st (fin.get q l.number)) (sym stage) (subst (λ o. IsOwnedIn o (fin.get q l.number)) here (v.owned l.number))) carried
     (λ honest. subst (λ st. IsKeyedAt us st (fin.get q l.number)) (sym stage) ((carried honest).keyed l.number l.session here (subst (λ o. IsKeyedIn ts o (fin.get q l.number)) here (v.keyed (back honest) l.number))))
 
 -- nobody waits where the queue is empty
@@ -150,7 +159,7 @@ carried-same ts us ls q grows kept = record { keyed = λ k s e h. at s.stage (fi
     at (Greets h) o k = tt
     at (BoundTo t None) o k = tt
     at (BoundTo t (Some w)) o k = λ calm silent.
-        k (before t calm) (subst (λ x. ready x 0 w ≡ Silent) (kept t) silent) ∙ ap (λ x. Some (keys_of t (asked x w))) (sym (kept t))
+        k (before t calm) (subst (λ x. ready x 0 w ≡ Silent) (kept t) silent) ∙ ap (λ x. Some (keys_for t (asked x w))) (sym (kept t))
 
 waiting-find : (ts : List TenantState) (k : ℕ) (s : Session) (ls : List Line) → AllByRecursion (λ (l : Line). IsWaitingOnAt ts l.session.stage) ls → find_line k ls ≡ Some s → IsWaitingOnAt ts s.stage
 waiting-find ts k s ls h e = find-each (λ (x : Session). IsWaitingOnAt ts x.stage) k s ls h e
@@ -168,7 +177,7 @@ carried-turn H honest u ts us ls q turn still waiting = record { keyed = λ k s 
     at (BoundTo t (Some w)) o waits k = λ calm silent.
         let same = each-tenant (λ v. hosted.refusals_of us v ≡ 0 → ready (hosted.kept_of ts v) 0 w ≡ Silent → ready (hosted.kept_of us v) 0 w ≡ Silent → asked (hosted.kept_of us v) w ≡ asked (hosted.kept_of ts v) w) u t (eqb u t) refl
         (λ c. still c w) (λ ne c a b. ap (λ x. asked x w) (turn.others honest t ne)) calm waits silent in
-        k (before t calm) waits ∙ ap (λ ps. Some (keys_of t ps)) (sym same)
+        k (before t calm) waits ∙ ap (λ ps. Some (keys_for t ps)) (sym same)
 
 -- retention
 pub carried-retained : (H : Type 0) → H → (clock : ℕ) (ts us : List TenantState) (ls : List Line) (q : Queue) → AreRetained clock H ts us → AllByRecursion (λ (l : Line). IsWaitingOnAt ts l.session.stage) ls → IsCarried ts us ls q
@@ -184,7 +193,7 @@ carried-retained H honest clock ts us ls q kept waiting = record { keyed = λ k 
     at (Greets h) o w k = tt
     at (BoundTo t None) o w k = tt
     at (BoundTo t (Some w)) o waits k = λ calm silent.
-        k (before t calm) waits ∙ ap (λ ps. Some (keys_of t ps)) (sym (ap (λ x. asked x w) (kept.kept honest t (quiet t calm)) ∙ asked-retained clock (hosted.kept_of ts t) w))
+        k (before t calm) waits ∙ ap (λ ps. Some (keys_for t ps)) (sym (ap (λ x. asked x w) (kept.kept honest t (quiet t calm)) ∙ asked-retained clock (hosted.kept_of ts t) w))
 
 -- where no fetch that waits is ready, each would wait at the first moment too
 pub waiting-on : (b : BrokerState) → AreUnready AnyWait b → AreWaitingOn b
@@ -295,29 +304,32 @@ among k (n ∷ ns) = by (eqb n k) refl (among k ns)
         at zero lt is = eqb_other n k e (sym is)
         at (suc i) lt is = not-in (i, omega (arith, lt), is)
 
--- the due ones are looked at, where the others are not ready
-pub due-minded : (H : Type 0) (q : Queue) (b : BrokerState) (ns : List ℕ) → IsQueueOf H q b.tenants b.lines → AreParked q (IsDue b.clock) ns → AreUnready (IsPassedOver whoms.Due b.clock) b → (k : ℕ) → IsMinded whoms.Due ns b k
-due-minded H q b ns v parked unready k = by (find_line k b.lines) refl
-  where
-    due : (o : Option queue.Wait) (d : ℕ) → until_of o ≡ Some d → d ≤ b.clock → IsSomeAnd o (IsDue b.clock)
-    due None d e le = absurd (cc)
-    due (Some x) d e le = let is : x.deadline ≡ d = cc in omega (arith, is, le)
+-- a wait that is looked for stands among those that are looked at
+sought-there : (whom : Whom) (clock t : ℕ) (w : Wait) (o : Option queue.Wait) → until_of o ≡ Some w.deadline → is_looked_for whom clock t w ≡ true → IsSomeAnd o (IsAmong whom clock)
+sought-there whom clock t w None e h = absurd (cc)
+sought-there whoms.Due clock t w (Some x) e h = let is : x.deadline ≡ w.deadline = cc in let come : w.deadline ≤ clock = grind (arith, nat_tests, h) in omega (arith, is, come)
+sought-there whoms.All clock t w (Some x) e h = tt
+sought-there (whoms.Tenant u) clock t w (Some x) e h = tt
 
-    waits : (s : Session) (st : Stage) → s.stage ≡ st → find_line k b.lines ≡ Some s → IsUnready (IsPassedOver whoms.Due b.clock) b st → IsUnready AnyWait b st ⊎ (Contains ns k × IsSoughtAt whoms.Due b.clock st)
+-- those that are looked for are looked at, where the others are not ready
+pub sought-minded : (H : Type 0) (q : Queue) (whom : Whom) (b : BrokerState) (ns : List ℕ) → IsQueueOf H q b.tenants b.lines → AreParked q (IsAmong whom b.clock) ns → AreUnready (IsPassedOver whom b.clock) b → (k : ℕ) → IsMinded whom ns b k
+sought-minded H q whom b ns v parked unready k = by (find_line k b.lines) refl
+  where
+    waits : (s : Session) (st : Stage) → s.stage ≡ st → find_line k b.lines ≡ Some s → IsUnready (IsPassedOver whom b.clock) b st → IsUnready AnyWait b st ⊎ (Contains ns k × IsSoughtAt whom b.clock st)
     waits s (Greets h) is e u = inl tt
     waits s (BoundTo t None) is e u = inl tt
-    waits s (BoundTo t (Some w)) is e u = when (nat_le w.deadline b.clock) refl
+    waits s (BoundTo t (Some w)) is e u = when (is_looked_for whom b.clock t w) refl
       where
         until : until_of (fin.get q k) ≡ Some w.deadline
         until = v.dated k ∙ (ap deadline_in e ∙ ap deadline_at is)
 
-        when : (c : Bool) → nat_le w.deadline b.clock ≡ c → IsUnready AnyWait b (BoundTo t (Some w)) ⊎ (Contains ns k × IsSoughtAt whoms.Due b.clock (BoundTo t (Some w)))
-        when true c = inr ((parked.exactly k).1 (due (fin.get q k) w.deadline until (grind (arith, nat_tests, c))), c)
+        when : (c : Bool) → is_looked_for whom b.clock t w ≡ c → IsUnready AnyWait b (BoundTo t (Some w)) ⊎ (Contains ns k × IsSoughtAt whom b.clock (BoundTo t (Some w)))
+        when true c = inr ((parked.exactly k).1 (sought-there whom b.clock t w (fin.get q k) until c), c)
         when false c = inl (λ any. u c)
 
-    by : (o : Option Session) → find_line k b.lines ≡ o → IsMinded whoms.Due ns b k
+    by : (o : Option Session) → find_line k b.lines ≡ o → IsMinded whom ns b k
     by None e = inl (subst (IsUnreadyIn b) (sym e) tt)
-    by (Some s) e = subst (λ o. IsUnreadyIn b o ⊎ (Contains ns k × IsSoughtIn whoms.Due b.clock o)) (sym e) (waits s s.stage refl e (find-each (λ (x : Session). IsUnready (IsPassedOver whoms.Due b.clock) b x.stage) k s b.lines unready e))
+    by (Some s) e = subst (λ o. IsUnreadyIn b o ⊎ (Contains ns k × IsSoughtIn whom b.clock o)) (sym e) (waits s s.stage refl e (find-each (λ (x : Session). IsUnready (IsPassedOver whom b.clock) b x.stage) k s b.lines unready e))
 
 -- 7. Who may go on
 

@@ -1,6 +1,7 @@
 -- What a turn leaves of the connection that took it and of its place in the queue, and whom it concerns.
-use Rattle.std.proofs.Common.{◌≡◌, ◌≢◌, ◌<◌, ℕ, ℤ, List, [], ◌∷◌, length, get_or, Option, Some, None, Result, Ok, Err, OnOk, Bool, true, false, zero, suc, refl, sym, ◌∙◌, ap, subst, arith}
-use Rattle.std.specs.Prelude.{Contains, IsSomeAnd, IfSome, cond}
+use Rattle.std.proofs.Common.{◌≡◌, ◌≢◌, ◌<◌, ℕ, ℤ, List, [], ◌∷◌, length, get_or, Option, Some, None, Result, Ok, Err, OnOk, Bool, true, false, zero, suc, inl, inr, refl, sym, ◌∙◌, ap, subst, arith}
+use Rattle.std.proofs.lemmas.List.Elements.{Contains-append_left, Contains-push, Contains-push_cases}
+use Rattle.std.specs.Prelude.{◌++◌, ◌⊎◌, Contains, IsSomeAnd, IfSome, cond}
 use Rattle.std.specs.Result.{is_err}
 use Rattle.std.specs.FinMap as fin
 use Rattle.std.specs.Cmp.{nat_cmp_total}
@@ -9,7 +10,7 @@ use Rattle.std.specs.declared.vec.Vec.{Vec}
 use Rattle.std.proofs.lemmas.Bool.Decides.{nat_tests}
 use Rattle.kb_api_group.specs.Frames.{Front, Whole, Partial, TooSmall, TooLarge, front}
 use Rattle.kb_waits.specs.Queue as queue
-use Rattle.kb_waits.specs.Queue.{Queue, IsUnder}
+use Rattle.kb_waits.specs.Queue.{Queue, AreParked, IsUnder, IsUnderAny}
 use Rattle.kb_waits.proofs.Queues.{get-insert_other, tied-itself}
 use Rattle.kb_world.specs.declared.place.Place.{Place}
 use Rattle.kb_tenant.specs.Hosted.{Kept, TenantState, IsTurn, IsMet, kept_of, refusals_of, nothing}
@@ -31,7 +32,7 @@ use Rattle.kb_connection.specs.TenantAnswers.{is_wait}
 use Rattle.kb_connection.specs.View.{with_session, without_front}
 use Rattle.kb_connection.proofs.Fronts.{fewer-behind}
 use Rattle.kb_broker.specs.Places.{IsSpent}
-use Rattle.kb_broker.specs.Parked.{key_of, keys_of, deadline_at, until_of, places_of, parked_for, IsKeyedAt, IsTouched, IsTouchedTurn, IsConcern, IsLeftBy, IsPassedOn}
+use Rattle.kb_broker.specs.Parked.{key_of, keys_for, keys_of, tenant_key, deadline_at, until_of, places_of, parked_for, AreAllOf, AreConcerned, AreTheTenants, IsKeyedAt, IsOwnedAt, IsTouched, IsTouchedTurn, IsUnderTenant, IsConcern, IsLeftBy, IsPassedOn}
 use Rattle.kb_broker.specs.declared.serving.Concerned.{Concerned}
 use Rattle.kb_broker.specs.declared.serving.Concerned.TheVariants as concerned
 use Rattle.kb_broker.proofs.Handled.{from_ok}
@@ -43,6 +44,14 @@ pub keyed-none : (ts : List TenantState) (st : Stage) (o : Option queue.Wait) �
 keyed-none ts (Greets h) o e = tt
 keyed-none ts (BoundTo t None) o e = tt
 keyed-none ts (BoundTo t (Some w)) o e = let no : false ≡ true = e in absurd (cc)
+
+pub owned-none : (st : Stage) (o : Option queue.Wait) → is_free st ≡ true → IsOwnedAt st o
+owned-none (Greets h) o e = tt
+owned-none (BoundTo t None) o e = tt
+owned-none (BoundTo t (Some w)) o e = let no : false ≡ true = e in absurd (cc)
+
+pub owned-shut : (l new : Line) (o : Option queue.Wait) → new ≡ with_session l (shut_down l.session) → IsOwnedAt new.session.stage o
+owned-shut l new o is = owned-none new.session.stage o (ap (λ (x : Line). is_free x.session.stage) is ∙ free-without l.session.stage)
 
 -- nobody stands in the queue under its number
 pub dated-none : (o : Option queue.Wait) (st : Stage) → o ≡ None → is_free st ≡ true → until_of o ≡ deadline_at st
@@ -102,13 +111,13 @@ get-insert_own : (q : Queue) (n : ℕ) (w : queue.Wait) → fin.get (fin.insert 
 get-insert_own q n w = fin.get-insert nat_cmp_total q n w n ∙ ap (λ b. cond b (Some w) (fin.get q n)) (tied-itself n)
 
 pub parked-by : {A E : Type 0} (result : Result A E) (q x p : Queue) (t m n deadline : ℕ) (at : List Place) (places : Vec Place Global) (r : Answer) → r ≡ answers.Wait deadline places → m ≡ n → at ≡ places.items → p ≡ x
-    → OnOk result (x ≡ fin.insert q m (record { deadline = deadline; keys = keys_of t at })) → is_err result ≡ false → IsParkedBy q p t n r
+    → OnOk result (x ≡ fin.insert q m (record { deadline = deadline; keys = keys_for t at })) → is_err result ≡ false → IsParkedBy q p t n r
 parked-by result q x p t m n deadline at places r wait number same stays ok good =
-    let w : queue.Wait = record { deadline = deadline; keys = keys_of t at } in
+    let w : queue.Wait = record { deadline = deadline; keys = keys_for t at } in
     let is : p ≡ fin.insert q n w = stays ∙ from_ok result false (x ≡ fin.insert q m w) (sym good) refl ok ∙ ap (λ k. fin.insert q k w) number in
     record {
       others = λ k ne. ap (λ y. fin.get y k) is ∙ get-insert_other q n k w ne;
-      own = ap (λ y. fin.get y n) is ∙ (get-insert_own q n w ∙ (ap (λ ps. Some (let y : queue.Wait = record { deadline = deadline; keys = keys_of t ps } in y)) same ∙ ap (parked_for t) (sym wait)));
+      own = ap (λ y. fin.get y n) is ∙ (get-insert_own q n w ∙ (ap (λ ps. Some (let y : queue.Wait = record { deadline = deadline; keys = keys_for t ps } in y)) same ∙ ap (parked_for t) (sym wait)));
     }
 
 not-parked : (t : ℕ) (r : Answer) → ((deadline : ℕ) (places : Vec Place Global) → r ≡ answers.Wait deadline places → ⊥) → parked_for t r ≡ None
@@ -142,6 +151,20 @@ dated-answered result q p t n l new r key id body parked bound asks ok free good
     by answers.NoReply ok free = sym (deadline-free new.session.stage (free refl (ap is_free bound)))
     by answers.Shut ok free = sym (deadline-free new.session.stage (free refl (ap is_free bound)))
 
+-- and it stands there under its tenant
+pub owned-answered : (t : ℕ) (st : Stage) (r : Answer) (o : Option queue.Wait) → o ≡ parked_for t r → without_wait st ≡ BoundTo t None → (is_wait r ≡ false → is_free st ≡ true) → IsOwnedAt st o
+owned-answered t st (answers.Reply reply) o parked bound free = owned-none st o (free refl)
+owned-answered t st (answers.Wait deadline places) o parked bound free = by st bound
+  where
+    by : (st : Stage) → without_wait st ≡ BoundTo t None → IsOwnedAt st o
+    by (Greets h) e = tt
+    by (BoundTo u None) e = tt
+    by (BoundTo u (Some w)) e =
+        let is : u ≡ t = cc in
+        subst (λ v. IsUnderTenant v o) (sym is) (subst (IsUnderTenant t) (sym parked) (0, omega arith, refl))
+owned-answered t st answers.NoReply o parked bound free = owned-none st o (free refl)
+owned-answered t st answers.Shut o parked bound free = owned-none st o (free refl)
+
 pub on-ok : {A E : Type 0} (result : Result A E) (P : Type 0) → P → OnOk result P
 on-ok (Ok x) P h = h
 on-ok (Err x) P h = tt
@@ -161,7 +184,7 @@ keyed-by node us t clock k key id body s (Replies reply) r e kept bound told = k
 keyed-by node us t clock k key id body s (Waits deadline places) (answers.Reply reply) e kept bound told = absurd told
 keyed-by node us t clock k key id body s (Waits deadline places) (answers.Wait until parts) e kept bound told =
     subst (λ st. IsKeyedAt us (answered (Waits deadline places) id body (record s { stage = st })).stage (parked_for t (answers.Wait until parts))) (sym bound)
-    (λ calm silent. ap (λ ps. Some (keys_of t ps)) (told.1 ∙ (asked-parks node k clock key body deadline places id e ∙ ap (λ x. asked x (record { correlation_id = id; body = body; deadline = deadline })) (sym kept))))
+    (λ calm silent. ap (λ ps. Some (keys_for t ps)) (told.1 ∙ (asked-parks node k clock key body deadline places id e ∙ ap (λ x. asked x (record { correlation_id = id; body = body; deadline = deadline })) (sym kept))))
 keyed-by node us t clock k key id body s (Waits deadline places) answers.NoReply e kept bound told = absurd told
 keyed-by node us t clock k key id body s (Waits deadline places) answers.Shut e kept bound told = absurd told
 keyed-by node us t clock k key id body s Silent r e kept bound told = keyed-none us _ (parked_for t r) (ap is_free bound)
@@ -201,12 +224,53 @@ contains-key t (x ∷ xs) place c = at c.0 (contains-key t xs place) c.1 c.2
     at zero rest lt is = (0, omega arith, ap (key_of t) is)
     at (suc i) rest lt is = let there = rest (i, omega (arith, lt), is) in (suc there.0, (let h = there.1 in omega (arith, h)), there.2)
 
-under-key : (t : ℕ) (places : List Place) (place : Place) (o : Option queue.Wait) → places_of o ≡ Some (keys_of t places) → Contains places place → IsSomeAnd o (IsUnder (key_of t place))
+under-key : (t : ℕ) (places : List Place) (place : Place) (o : Option queue.Wait) → places_of o ≡ Some (keys_for t places) → Contains places place → IsSomeAnd o (IsUnder (key_of t place))
 under-key t places place None e c = absurd (cc)
-under-key t places place (Some w) e c = let is : w.keys ≡ keys_of t places = cc in subst (λ keys. Contains keys (key_of t place)) (sym is) (contains-key t places place c)
+under-key t places place (Some w) e c =
+    let is : w.keys ≡ keys_for t places = cc in
+    let there = contains-key t places place c in
+    subst (λ keys. Contains keys (key_of t place)) (sym is) (suc there.0, (let h = there.1 in omega (arith, h)), there.2)
 
 nowhere : (place : Place) → Contains [] place → ⊥
 nowhere place c = let h = c.1 in omega (arith, h)
+
+-- those that stand under the partitions, and the one of that number
+pub concerned-touched : (t n : ℕ) (ts : List TenantState) (q : Queue) (places : Vec Place Global) (ns ms : List ℕ) → refusals_of ts t ≡ 0 → AreParked q (IsUnderAny (keys_of t places.items)) ns → ms ≡ ns ++ n ∷ [] → AreConcerned t n ts q (Some places) ms
+concerned-touched t n ts q places ns ms calm parked is = inl (record {
+  calm = calm;
+  own = subst (λ ks. Contains ks n) (sym is) (Contains-push ns n);
+  under = λ k place touches under. subst (λ ks. Contains ks k) (sym is) (Contains-append_left ns (n ∷ []) k ((parked.exactly k).1 (any-key (fin.get q k) place touches under)));
+})
+  where
+    any-key : (o : Option queue.Wait) (place : Place) → Contains places.items place → IsSomeAnd o (IsUnder (key_of t place)) → IsSomeAnd o (IsUnderAny (keys_of t places.items))
+    any-key None place touches under = absurd under
+    any-key (Some w) place touches under = let there = contains-key t places.items place touches in (there.0, key_of t place, there.1, there.2, under)
+
+-- those that stand under the tenant, and the one of that number
+pub concerned-all : (t n : ℕ) (ts : List TenantState) (q : Queue) (touched : Option (Vec Place Global)) (ns ms : List ℕ) → AreParked q (IsUnder (tenant_key t)) ns → ms ≡ ns ++ n ∷ [] → AreConcerned t n ts q touched ms
+concerned-all t n ts q touched ns ms parked is = by touched
+  where
+    into : (k : ℕ) → Contains ns k ⊎ (n ≡ k) → IsUnderTenant t (fin.get q k) ⊎ (n ≡ k)
+    into k (inl there) = inl ((parked.exactly k).0 there)
+    into k (inr e) = inr e
+
+    back : (k : ℕ) → IsUnderTenant t (fin.get q k) ⊎ (n ≡ k) → Contains (ns ++ n ∷ []) k
+    back k (inl under) = Contains-append_left ns (n ∷ []) k ((parked.exactly k).1 under)
+    back k (inr e) = subst (Contains (ns ++ n ∷ [])) e (Contains-push ns n)
+
+    all : AreTheTenants t n q ms
+    all = subst (AreTheTenants t n q) (sym is) (λ k. (λ c. into k (Contains-push_cases ns n k c), back k))
+
+    by : (touched : Option (Vec Place Global)) → AreConcerned t n ts q touched ms
+    by None = all
+    by (Some places) = inr all
+
+-- before the turn the others stood there too
+all-of : (t n : ℕ) (q p : Queue) (ns : List ℕ) → ((k : ℕ) → k ≢ n → fin.get p k ≡ fin.get q k) → AreTheTenants t n p ns → AreAllOf t n q ns
+all-of t n q p ns others h = record {
+  own = (h n).1 (inr refl);
+  others = λ k ne under. (h k).1 (inl (subst (IsUnderTenant t) (sym (others k ne)) under));
+}
 
 -- what is left to be looked at after it
 pub left-by : (H : Type 0) → H → (c : Concerned) (setup : Setup) (t clock n : ℕ) (q p : Queue) (ts us : List TenantState) (s r : Session) (st : Stage) (touched : Option (Vec Place Global)) → st ≡ BoundTo t None → ((k : ℕ) → k ≢ n → fin.get p k ≡ fin.get q k)
@@ -218,11 +282,11 @@ left-by H honest c setup t clock n q p ts us s r st touched bound others concern
     by concerned.Nobody (Some places) none turn =
         let h = turn honest in
         record { session = h.session; kept = h.kept; ready = λ w silent. h.ready w (λ place asks touches. nowhere place (subst (λ ps. Contains ps place) none touches)) silent }
-    by (concerned.These u ns) None concern turn = absurd concern
-    by (concerned.These u ns) (Some places) concern turn =
-        let h = turn honest in
-        let c = concern.1 in
-        let passed : IsPassedOn setup t clock n q ts us s r ns.items = record {
+    by (concerned.These u ns) None concern turn = subst (λ x. IsLeftBy (concerned.These x ns) setup clock (BoundTo t None) n q ts us s r) (sym concern.0) (inr (all-of t n q p ns.items others concern.1))
+    by (concerned.These u ns) (Some places) concern turn = subst (λ x. IsLeftBy (concerned.These x ns) setup clock (BoundTo t None) n q ts us s r) (sym concern.0) (these (turn honest) concern.1)
+      where
+        these : IsTouchedTurn setup t clock ts us s r places.items → AreConcerned t n us p (Some places) ns.items → IsPassedOn setup t clock n q ts us s r ns.items ⊎ AreAllOf t n q ns.items
+        these h (inl c) = inl (record {
           session = h.session;
           kept = h.kept;
           calm = c.calm;
@@ -230,6 +294,6 @@ left-by H honest c setup t clock n q p ts us s r st touched bound others concern
           others = λ k w ne apart parked silent. h.ready w
               (λ place asks touches. apart (c.under k place touches (under-key t (asked (kept_of ts t) w) place (fin.get p k) (ap places_of (others k ne) ∙ parked) asks)))
               silent;
-        } in
-        subst (λ x. IsPassedOn setup x clock n q ts us s r ns.items) (sym concern.0) passed
+        })
+        these h (inr c) = inr (all-of t n q p ns.items others c)
     by (concerned.All u) touched concern turn = tt

@@ -1,5 +1,5 @@
 -- The queue of the connections that wait, beside the broker: what stands in it, and what it is good for.
-use Rattle.std.specs.Prelude.{◌≡◌, ◌≢◌, ℕ, List, map, Option, Some, None, option_map, [], Bool, true, false, Contains, IsSomeAnd, ◌⊎◌, ⊤}
+use Rattle.std.specs.Prelude.{◌≡◌, ◌≢◌, ◌↔◌, ℕ, List, map, Option, Some, None, option_map, [], ◌∷◌, Bool, true, false, Contains, IsSomeAnd, ◌⊎◌, ⊤}
 use Rattle.std.specs.FinMap.{get}
 use Rattle.std.specs.declared.alloc.Global.{Global}
 use Rattle.std.specs.declared.vec.Vec.{Vec}
@@ -38,6 +38,14 @@ key_of t place = keys.Partition t place.instance place.number
 abbrev pub keys_of : ℕ → List Place → List WaitKey
 keys_of t places = map (key_of t) places
 
+-- the key of all that a tenant's connections wait for
+abbrev pub tenant_key : ℕ → WaitKey
+tenant_key t = keys.Tenant t
+
+-- under what a connection of a tenant stands that waits for those partitions
+abbrev pub keys_for : ℕ → List Place → List WaitKey
+keys_for t places = tenant_key t ∷ keys_of t places
+
 -- until when a connection at that stage waits, where it does
 abbrev pub deadline_at : Stage → Option ℕ
 deadline_at (Greets handshaken) = None
@@ -55,19 +63,34 @@ abbrev pub places_of : Option queue.Wait → Option (List WaitKey)
 places_of o = option_map (λ (w : queue.Wait). w.keys) o
 
 -- as long as nothing was refused to its tenant, a connection that waits at that stage for a fetch that is not ready stands under
--- exactly the partitions that the fetch asks
+-- its tenant and exactly the partitions that the fetch asks
 abbrev pub IsKeyedAt : List TenantState → Stage → Option queue.Wait → Type 0
 IsKeyedAt ts (Greets handshaken) o = ⊤
 IsKeyedAt ts (BoundTo t None) o = ⊤
-IsKeyedAt ts (BoundTo t (Some w)) o = hosted.refusals_of ts t ≡ 0 → ready (hosted.kept_of ts t) 0 w ≡ Silent → places_of o ≡ Some (keys_of t (asked (hosted.kept_of ts t) w))
+IsKeyedAt ts (BoundTo t (Some w)) o = hosted.refusals_of ts t ≡ 0 → ready (hosted.kept_of ts t) 0 w ≡ Silent → places_of o ≡ Some (keys_for t (asked (hosted.kept_of ts t) w))
 
 abbrev pub IsKeyedIn : List TenantState → Option Session → Option queue.Wait → Type 0
 IsKeyedIn ts None o = ⊤
 IsKeyedIn ts (Some s) o = IsKeyedAt ts s.stage o
 
--- the queue holds exactly the connections that wait, each until its deadline, and, unless the store lied, under what its fetch asks
+-- whatever was refused, a connection that waits at that stage stands under its tenant
+abbrev pub IsUnderTenant : ℕ → Option queue.Wait → Type 0
+IsUnderTenant t o = IsSomeAnd o (queue.IsUnder (tenant_key t))
+
+abbrev pub IsOwnedAt : Stage → Option queue.Wait → Type 0
+IsOwnedAt (Greets handshaken) o = ⊤
+IsOwnedAt (BoundTo t None) o = ⊤
+IsOwnedAt (BoundTo t (Some w)) o = IsUnderTenant t o
+
+abbrev pub IsOwnedIn : Option Session → Option queue.Wait → Type 0
+IsOwnedIn None o = ⊤
+IsOwnedIn (Some s) o = IsOwnedAt s.stage o
+
+-- the queue holds exactly the connections that wait, each until its deadline, under its tenant, and, unless the store lied, under
+-- what its fetch asks
 pub record IsQueueOf (honest : Type 0) (q : Queue) (ts : List TenantState) (lines : List Line) : Type 0 where
   pub dated : (n : ℕ) → until_of (get q n) ≡ deadline_in (find_line n lines)
+  pub owned : (n : ℕ) → IsOwnedIn (find_line n lines) (get q n)
   pub keyed : honest → (n : ℕ) → IsKeyedIn ts (find_line n lines) (get q n)
 
 -- 2. A turn
@@ -75,7 +98,7 @@ pub record IsQueueOf (honest : Type 0) (q : Queue) (ts : List TenantState) (line
 -- what a tenant's answer puts into the queue
 abbrev pub parked_for : ℕ → Answer → Option queue.Wait
 parked_for t (answers.Reply reply) = None
-parked_for t (answers.Wait deadline places) = Some (record { deadline = deadline; keys = keys_of t places.items })
+parked_for t (answers.Wait deadline places) = Some (record { deadline = deadline; keys = keys_for t places.items })
 parked_for t answers.NoReply = None
 parked_for t answers.Shut = None
 
@@ -98,7 +121,12 @@ pub record IsPassedOn (setup : Setup) (t clock n : ℕ) (q : Queue) (old new : L
   pub kept : hosted.kept_of new t ≡ put setup (hosted.kept_of old t) clock s.unread
   pub calm : hosted.refusals_of new t ≡ 0
   pub own : Contains ns n
-  pub others : (k : ℕ) (w : Wait) → k ≢ n → (Contains ns k → ⊥) → places_of (get q k) ≡ Some (keys_of t (asked (hosted.kept_of old t) w)) → ready (hosted.kept_of old t) clock w ≡ Silent → ready (hosted.kept_of new t) clock w ≡ Silent
+  pub others : (k : ℕ) (w : Wait) → k ≢ n → (Contains ns k → ⊥) → places_of (get q k) ≡ Some (keys_for t (asked (hosted.kept_of old t) w)) → ready (hosted.kept_of old t) clock w ≡ Silent → ready (hosted.kept_of new t) clock w ≡ Silent
+
+-- the connection of that number is among those, and all others that stand in the queue under the tenant
+pub record AreAllOf (t n : ℕ) (q : Queue) (ns : List ℕ) : Type 0 where
+  pub own : Contains ns n
+  pub others : (k : ℕ) → k ≢ n → IsUnderTenant t (get q k) → Contains ns k
 
 -- nothing was refused to a tenant, and a fetch that was not ready is not ready, if it asks none of those partitions
 pub record IsTouched (t clock : ℕ) (old new : List TenantState) (places : List Place) : Type 0 where
@@ -118,12 +146,19 @@ pub record AreUnder (t n : ℕ) (ts : List TenantState) (q : Queue) (places : Li
   pub own : Contains ns n
   pub under : (k : ℕ) (place : Place) → Contains places place → IsSomeAnd (get q k) (queue.IsUnder (key_of t place)) → Contains ns k
 
--- whose waits partitions of a tenant concern that were touched; all of the tenant's, where that is not known
+-- those connections are exactly the one of that number, and all that stand in the queue under the tenant
+abbrev pub AreTheTenants : ℕ → ℕ → Queue → List ℕ → Type 0
+AreTheTenants t n q ns = (k : ℕ) → Contains ns k ↔ (IsUnderTenant t (get q k) ⊎ (n ≡ k))
+
+-- whose waits partitions of a tenant concern that were touched; where that is not known, or what the waits ask, all of the tenant's
+abbrev pub AreConcerned : ℕ → ℕ → List TenantState → Queue → Option (Vec Place Global) → List ℕ → Type 0
+AreConcerned t n ts q None ns = AreTheTenants t n q ns
+AreConcerned t n ts q (Some places) ns = AreUnder t n ts q places.items ns ⊎ AreTheTenants t n q ns
+
 abbrev pub IsConcern : Concerned → ℕ → ℕ → List TenantState → Queue → Option (Vec Place Global) → Type 0
 IsConcern concerned.Nobody t n ts q None = ⊥
 IsConcern concerned.Nobody t n ts q (Some places) = places.items ≡ []
-IsConcern (concerned.These u ns) t n ts q None = ⊥
-IsConcern (concerned.These u ns) t n ts q (Some places) = (u ≡ t) × AreUnder t n ts q places.items ns.items
+IsConcern (concerned.These u ns) t n ts q touched = (u ≡ t) × AreConcerned t n ts q touched ns.items
 IsConcern (concerned.All u) t n ts q touched = u ≡ t
 
 -- whose waits a turn at that stage concerns
@@ -132,10 +167,10 @@ IsWhose concerned.Nobody st = ⊤
 IsWhose (concerned.These t ns) st = whose st ≡ Some t
 IsWhose (concerned.All t) st = whose st ≡ Some t
 
--- what a turn leaves ready: nothing, or nothing but what those connections wait for
+-- what a turn leaves ready: nothing, or nothing but what those connections wait for, which may be all of the tenant's
 abbrev pub IsLeftBy : Concerned → Setup → ℕ → Stage → ℕ → Queue → List TenantState → List TenantState → Session → Session → Type 0
 IsLeftBy concerned.Nobody setup clock st n q old new s r = IsQuietAt setup clock st old new s r
-IsLeftBy (concerned.These t ns) setup clock st n q old new s r = IsPassedOn setup t clock n q old new s r ns.items
+IsLeftBy (concerned.These t ns) setup clock st n q old new s r = IsPassedOn setup t clock n q old new s r ns.items ⊎ AreAllOf t n q ns.items
 IsLeftBy (concerned.All t) setup clock st n q old new s r = ⊤
 
 -- 3. Looks by number
@@ -157,6 +192,12 @@ IsSoughtAt whom clock (BoundTo t (Some w)) = IsLookedFor whom clock t w
 abbrev pub IsSoughtIn : Whom → ℕ → Option Session → Type 0
 IsSoughtIn whom clock None = ⊤
 IsSoughtIn whom clock (Some s) = IsSoughtAt whom clock s.stage
+
+-- a wait stands among those that are looked at: those whose deadline has come, or all
+abbrev pub IsAmong : Whom → ℕ → queue.Wait → Type 0
+IsAmong whoms.Due clock wait = queue.IsDue clock wait
+IsAmong whoms.All clock wait = queue.IsAny wait
+IsAmong (whoms.Tenant t) clock wait = queue.IsAny wait
 
 -- a connection waits for nothing that is ready, or is among those that are looked at
 abbrev pub IsMinded : Whom → List ℕ → BrokerState → ℕ → Type 0

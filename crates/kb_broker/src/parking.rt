@@ -1,18 +1,19 @@
 //! The connections that wait for a fetch.
 
-ghost use Rattle.std.specs.Prelude.{◌≡◌, ◌≢◌, ◌==◌, ℕ, None, OnOk, OnErr, IfOk};
+ghost use Rattle.std.specs.Prelude.{◌≡◌, ◌≢◌, ◌==◌, ◌++◌, ℕ, None, OnOk, OnErr, IfOk};
 ghost use Rattle.std.specs.FinMap as fin;
-ghost use Rattle.kb_waits.specs.Queue.{AreParked, IsDue, IsUnderAny};
-ghost use Rattle.kb_broker.specs.Parked.{keys_of};
+ghost use Rattle.kb_waits.specs.Queue.{AreParked, IsUnder, IsUnderAny};
+ghost use Rattle.kb_broker.specs.Parked.{keys_for, keys_of, tenant_key, IsAmong};
 
+use kb_machine::Whom;
 use kb_waits::{WaitKey, Waits};
 use kb_world::Place;
 use std::alloc::{AllocError, Global};
 use std::marker::Model;
 use std::mem;
 
-/// The queue of the connections that wait for a fetch, by number: each until its deadline, under the partitions that its fetch
-/// asks. A clause sees the queue.
+/// The queue of the connections that wait for a fetch, by number: each until its deadline, under its tenant and the partitions that
+/// its fetch asks. A clause sees the queue.
 #[derive(Drop)]
 pub struct Parking {
     waits: Waits,
@@ -48,8 +49,8 @@ impl Parking {
         self.waits.parked() == 0
     }
 
-    /// Parks a connection that is not parked until a deadline, under some partitions of its tenant. After an `Err` nothing has
-    /// changed.
+    /// Parks a connection that is not parked until a deadline, under its tenant and some partitions of it. After an `Err` nothing
+    /// has changed.
     pub fn park(
         &mut self,
         alloc: Global,
@@ -59,11 +60,11 @@ impl Parking {
         places: &[Place],
     ) -> Result<(), AllocError>
         requires { fin.get self.old number ≡ None }
-        ensures parked { OnOk result (self.new ≡ fin.insert self.old number (record { deadline = deadline; keys = keys_of tenant places.now })) }
+        ensures parked { OnOk result (self.new ≡ fin.insert self.old number (record { deadline = deadline; keys = keys_for tenant places.now })) }
         ensures refused { OnErr result (self.new ≡ self.old) }
     {
-        let keys = keys_of(alloc, tenant, places)?;
-        // so that the due ones are found without memory
+        let keys = keys_for(alloc, tenant, places)?;
+        // so that those that are looked at in a moment are found without memory
         self.room.reserve(self.waits.parked().saturating_add(1))?;
         self.waits.park(number, deadline, keys)
     }
@@ -77,22 +78,27 @@ impl Parking {
         self.waits.forget(number);
     }
 
-    /// The connections whose deadline has come, ascending. The list is to be given back by `give_back`.
-    pub fn due(&mut self, alloc: Global, clock: u64) -> Result<Vec<u64>, AllocError>
-        ensures due { IfOk result (λ ns. AreParked self.old (IsDue clock) ns.items) }
+    /// The connections that are looked at after retention, ascending: those whose deadline has come, or all. The list is to be given
+    /// back by `give_back`.
+    pub fn sought(&mut self, alloc: Global, whom: Whom, clock: u64) -> Result<Vec<u64>, AllocError>
+        ensures sought { IfOk result (λ ns. AreParked self.old (IsAmong whom clock) ns.items) }
         ensures queue { self.new ≡ self.old }
     {
-        let mut due = mem::replace(&mut self.room, Vec::new(alloc));
-        match self.waits.due(clock, &mut due) {
-            Ok(()) => Ok(due),
+        let mut numbers = mem::replace(&mut self.room, Vec::new(alloc));
+        let found = match whom {
+            Whom::Due => self.waits.due(clock, &mut numbers),
+            Whom::All | Whom::Tenant(_) => self.waits.all(&mut numbers),
+        };
+        match found {
+            Ok(()) => Ok(numbers),
             Err(e) => {
-                self.room = due;
+                self.room = numbers;
                 Err(e)
             }
         }
     }
 
-    /// Takes the list back that `due` gave, for its room.
+    /// Takes the list back that `sought` gave, for its room.
     pub fn give_back(&mut self, mut room: Vec<u64>)
         ensures { self.new ≡ self.old }
     {
@@ -116,6 +122,26 @@ impl Parking {
         self.waits.touched_any(&keys, &mut numbers)?;
         Ok(numbers)
     }
+
+    /// The connections of the tenant that wait, ascending.
+    pub fn of_tenant(&self, alloc: Global, tenant: usize) -> Result<Vec<u64>, AllocError>
+        ensures { IfOk result (λ ns. AreParked self.now (IsUnder (tenant_key tenant)) ns.items) }
+    {
+        let mut numbers = Vec::new(alloc);
+        self.waits
+            .touched(&WaitKey::Tenant { tenant }, &mut numbers)?;
+        Ok(numbers)
+    }
+}
+
+/// The keys of a connection of a tenant that waits for some partitions.
+fn keys_for(alloc: Global, tenant: usize, places: &[Place]) -> Result<Vec<WaitKey>, AllocError>
+    ensures { IfOk result (λ keys. keys.items ≡ keys_for tenant places.now) }
+{
+    let mut keys = Vec::with_capacity(alloc, places.len().saturating_add(1))?;
+    keys.push(WaitKey::Tenant { tenant })?;
+    push_keys(&mut keys, tenant, places)?;
+    Ok(keys)
 }
 
 /// The keys of some partitions of a tenant.
@@ -123,6 +149,14 @@ fn keys_of(alloc: Global, tenant: usize, places: &[Place]) -> Result<Vec<WaitKey
     ensures { IfOk result (λ keys. keys.items ≡ keys_of tenant places.now) }
 {
     let mut keys = Vec::with_capacity(alloc, places.len())?;
+    push_keys(&mut keys, tenant, places)?;
+    Ok(keys)
+}
+
+/// Puts the keys of some partitions of a tenant behind what is in `keys`. After an `Err`, which is want of memory, some may be missing.
+fn push_keys(keys: &mut Vec<WaitKey>, tenant: usize, places: &[Place]) -> Result<(), AllocError>
+    ensures { OnOk result (keys.new.items ≡ keys.old.items ++ keys_of tenant places.now) }
+{
     for place in places {
         keys.push(WaitKey::Partition {
             tenant,
@@ -130,5 +164,5 @@ fn keys_of(alloc: Global, tenant: usize, places: &[Place]) -> Result<Vec<WaitKey
             partition: place.number,
         })?;
     }
-    Ok(keys)
+    Ok(())
 }

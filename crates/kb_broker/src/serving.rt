@@ -1,9 +1,8 @@
 //! The turn of one connection, beside the tenants.
 
-ghost use Rattle.std.specs.Prelude.{◌≡◌, ◌≢◌, ◌<◌, ◌⊎◌, ℕ, ℤ, List, Option, length, Contains, IsSomeAnd, OnOk, OnErr, IfOk, IfSome, Ok, None, true, false};
+ghost use Rattle.std.specs.Prelude.{◌≡◌, ◌≢◌, ◌<◌, ◌⊎◌, ℕ, ℤ, List, Option, length, OnOk, OnErr, IfOk, IfSome, Ok, None, true, false};
 ghost use Rattle.std.specs.FinMap as fin;
 ghost use Rattle.kb_api_group.specs.Frames.{front};
-ghost use Rattle.kb_waits.specs.Queue.{IsUnder};
 ghost use Rattle.kb_tenant.specs.Hosted.{IsTurn, IsMet};
 ghost use Rattle.kb_tenant.specs.Replies.{Reaction, IsAnswer};
 ghost use Rattle.kb_machine.specs.Session.{BoundTo, shut_down, can};
@@ -16,7 +15,7 @@ ghost use Rattle.kb_connection.specs.Fronts.{is_tenants_at, IsAsked};
 ghost use Rattle.kb_connection.specs.View.{wait_of, with_session, without_front};
 ghost use Rattle.kb_broker.specs.Hosts.{tenants_in, AreHosted, AreLater};
 ghost use Rattle.kb_broker.specs.Places.{IsSpent, IsTakenAt, IsTurnAt, IsLookedAt};
-ghost use Rattle.kb_broker.specs.Parked.{key_of, parked_for, until_of, deadline_at, IsKeyedAt, IsAskedOn, IsAskedOnAt, IsTouched, IsTouchedTurn, IsConcern, IsLeftBy, IsOwnTo, IsWhose};
+ghost use Rattle.kb_broker.specs.Parked.{parked_for, until_of, deadline_at, IsKeyedAt, IsOwnedAt, IsAskedOn, IsAskedOnAt, IsTouched, IsTouchedTurn, AreConcerned, IsConcern, IsLeftBy, IsOwnTo, IsWhose};
 
 use crate::parking::Parking;
 use kb_connection::{Connection, Phase, Setup, Waiting};
@@ -62,6 +61,7 @@ pub fn take_turn<S: Store>(
     ensures spent { IsSpent connection.old.session connection.new.session }
     ensures parked { (k : ℕ) → k ≢ connection.old.number → fin.get parking.new k ≡ fin.get parking.old k }
     ensures dated { until_of (fin.get parking.new connection.old.number) ≡ deadline_at connection.new.session.stage }
+    ensures owned { IsOwnedAt connection.new.session.stage (fin.get parking.new connection.old.number) }
     ensures keyed { is_honest S.disk tenants.new → IsKeyedAt (tenants_in S.disk tenants.new) connection.new.session.stage (fin.get parking.new connection.old.number) }
     ensures asked { is_honest S.disk tenants.new → IsAskedOnAt connection.old.session.stage (tenants_in S.disk tenants.old) (tenants_in S.disk tenants.new) }
     ensures ok { OnOk result (IsTakenAt (is_honest S.disk tenants.new) setup.now clock connection.old.session.stage (tenants_in S.disk tenants.old) (tenants_in S.disk tenants.new) connection.old.session connection.new.session) }
@@ -85,8 +85,7 @@ pub fn take_turn<S: Store>(
 
 /// Whose waiting fetches may be ready after a turn of a tenant that touched these partitions, or to which something was refused.
 ///
-/// As long as nothing was ever refused to the tenant the queue has each fetch under what it asks; where the list of those cannot be
-/// kept, all of the tenant are looked at.
+/// Where the list of those cannot be kept, all of the tenant are looked at.
 fn whom_it_concerns<S: Store>(
     alloc: Global,
     tenants: &Tenants<ListLog, S>,
@@ -98,33 +97,36 @@ fn whom_it_concerns<S: Store>(
     requires { tenant < length (tenants_in S.disk tenants.now) }
     ensures { IsConcern result tenant number (tenants_in S.disk tenants.now) parking.now touched }
 {
-    let Some(places) = touched else {
-        return Concerned::All(tenant);
-    };
-    if places.is_empty() {
-        return Concerned::Nobody;
+    if let Some(places) = &touched {
+        if places.is_empty() {
+            return Concerned::Nobody;
+        }
     }
-    if tenants.refusals(tenant) > 0 {
-        return Concerned::All(tenant);
-    }
-    match with_touched(alloc, parking, tenant, number, &places) {
+    match numbers_concerned(alloc, tenants, parking, tenant, number, &touched) {
         Ok(numbers) => Concerned::These(tenant, numbers),
         Err(_) => Concerned::All(tenant),
     }
 }
 
 /// The connections that wait for one of these partitions of the tenant, and that of the number behind them.
-fn with_touched(
+///
+/// As long as nothing was ever refused to the tenant the queue has each fetch under what it asks; else all of the tenant that wait
+/// stand in the list.
+fn numbers_concerned<S: Store>(
     alloc: Global,
+    tenants: &Tenants<ListLog, S>,
     parking: &Parking,
     tenant: usize,
     number: u64,
-    places: &[Place],
+    touched: &Option<Vec<Place>>,
 ) -> Result<Vec<u64>, AllocError>
-    ensures own { IfOk result (λ ns. Contains ns.items number) }
-    ensures under { IfOk result (λ ns. (k : ℕ) (place : Place) → Contains places.now place → IsSomeAnd (fin.get parking.now k) (IsUnder (key_of tenant place)) → Contains ns.items k) }
+    requires { tenant < length (tenants_in S.disk tenants.now) }
+    ensures { IfOk result (λ ns. AreConcerned tenant number (tenants_in S.disk tenants.now) parking.now touched.now ns.items) }
 {
-    let mut numbers = parking.touched(alloc, tenant, places)?;
+    let mut numbers = match touched {
+        Some(places) if tenants.refusals(tenant) == 0 => { parking.touched(alloc, tenant, places)? }
+        _ => parking.of_tenant(alloc, tenant)?,
+    };
     numbers.push(number)?;
     Ok(numbers)
 }
@@ -152,6 +154,7 @@ fn serve_bound<S: Store>(
     ensures spent { IsSpent connection.old.session connection.new.session }
     ensures parked { (k : ℕ) → k ≢ connection.old.number → fin.get parking.new k ≡ fin.get parking.old k }
     ensures dated { until_of (fin.get parking.new connection.old.number) ≡ deadline_at connection.new.session.stage }
+    ensures owned { IsOwnedAt connection.new.session.stage (fin.get parking.new connection.old.number) }
     ensures keyed { is_honest S.disk tenants.new → IsKeyedAt (tenants_in S.disk tenants.new) connection.new.session.stage (fin.get parking.new connection.old.number) }
     ensures asked { is_honest S.disk tenants.new → IsAskedOn tenant (tenants_in S.disk tenants.old) (tenants_in S.disk tenants.new) }
     ensures ok { OnOk result (IsMet tenant (is_honest S.disk tenants.new) (tenants_in S.disk tenants.old) (tenants_in S.disk tenants.new)
@@ -190,6 +193,7 @@ fn hand_over(
     ensures parked { (k : ℕ) → k ≢ connection.old.number → fin.get parking.new k ≡ fin.get parking.old k }
     ensures ok { (key id : ℤ) (body : List ℕ) (reaction : Reaction) → IsAsked connection.old.session key id body → IsAnswer id reaction answer → OnOk result (connection.new ≡ with_session connection.old (answered reaction id body (without_front connection.old.session))) }
     ensures dated { (key id : ℤ) (body : List ℕ) → IsAsked connection.old.session key id body → until_of (fin.get parking.new connection.old.number) ≡ deadline_at connection.new.session.stage }
+    ensures owned { IsOwnedAt connection.new.session.stage (fin.get parking.new connection.old.number) }
     ensures keyed { OnOk result (fin.get parking.new connection.old.number ≡ parked_for tenant answer) }
     ensures err { OnErr result (connection.new ≡ with_session connection.old (shut_down connection.old.session)) }
 {

@@ -8,7 +8,7 @@ use Rattle.kb_connection.specs.Fronts.{IsAsked, IsOwn}
 use Rattle.kb_tenants.specs.Tenants.{is_honest}
 use Rattle.kb_broker.specs.Hosts.{tenants_in}
 use Rattle.kb_broker.proofs.TenantTurns.{spent-shut, spent-served, asked-now}
-use Rattle.kb_broker.proofs.Served.{dated-none, keyed-answered, keyed-none, own-free, own-touched, turned-touched}
+use Rattle.kb_broker.proofs.Served.{dated-none, keyed-answered, keyed-none, owned-none, owned-shut, own-free, own-touched, turned-touched}
 use Rattle.kb_broker.proofs.serving.serve_bound.Goals as goal
 
 pub returns-in_err-serve-in-Ok-None-clause-spent : goal.returns-in_err-serve-in-Ok-None-clause-spent
@@ -25,6 +25,18 @@ returns-in-Ok-None-clause-dated g c =
     let a = c.args in
     let own = subst (λ found. IfNone found (IsOwn a.connection.now.session)) c.in-Ok-None.field-0-is c.in-Ok-None.ensures.own in
     dated-none (fin.get a.parking.now a.connection.now.number) c.serve.new.self.session.stage c.requires.free (own-free a.setup.now a.tenant a.connection.now c.serve.new.self c.requires.bound own c.in_ok-serve-in-Ok-None.ensures.ok)
+
+pub returns-in_err-serve-in-Ok-None-clause-owned : goal.returns-in_err-serve-in-Ok-None-clause-owned
+returns-in_err-serve-in-Ok-None-clause-owned g c = owned-shut c.args.connection.now c.serve.new.self (fin.get c.args.parking.now c.args.connection.now.number) c.in_err-serve-in-Ok-None.ensures.err
+
+pub returns-in-Ok-None-clause-owned : goal.returns-in-Ok-None-clause-owned
+returns-in-Ok-None-clause-owned g c =
+    let a = c.args in
+    let own = subst (λ found. IfNone found (IsOwn a.connection.now.session)) c.in-Ok-None.field-0-is c.in-Ok-None.ensures.own in
+    owned-none c.serve.new.self.session.stage (fin.get a.parking.now a.connection.now.number) (own-free a.setup.now a.tenant a.connection.now c.serve.new.self c.requires.bound own c.in_ok-serve-in-Ok-None.ensures.ok)
+
+pub returns-in-Err-clause-owned : goal.returns-in-Err-clause-owned
+returns-in-Err-clause-owned g c = owned-shut c.args.connection.now c.shut_down.new.self (fin.get c.args.parking.now c.args.connection.now.number) c.shut_down.ensures
 
 pub returns-in-Ok-None-clause-keyed : goal.returns-in-Ok-None-clause-keyed
 returns-in-Ok-None-clause-keyed g c = λ honest.

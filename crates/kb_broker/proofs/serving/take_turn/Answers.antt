@@ -4,7 +4,7 @@ use Rattle.kb_tenants.specs.Tenants.{is_honest}
 use Rattle.kb_broker.specs.Hosts.{tenants_in}
 use Rattle.kb_broker.proofs.Handled.{able-stage}
 use Rattle.kb_broker.specs.Parked.{IsConcern}
-use Rattle.kb_broker.proofs.Served.{dated-none, greeted-free, keyed-none, left-by}
+use Rattle.kb_broker.proofs.Served.{dated-none, greeted-free, keyed-none, left-by, owned-none, owned-shut}
 use Rattle.kb_broker.proofs.TenantTurns.{spent-greeted, spent-shut}
 use Rattle.kb_broker.proofs.serving.take_turn.Goals as goal
 
@@ -23,6 +23,15 @@ returns-in_ok-greet-in-Greets-clause-dated g c =
     let a = c.args in
     let greets = sym (able-stage a.connection.now.session c.requires.able) ∙ sym c.in-Greets.ensures in
     dated-none (fin.get a.parking.now a.connection.now.number) c.greet.new.self.session.stage c.requires.free (greeted-free a.setup.now c.in-Greets.handshaken a.connection.now c.greet.new.self greets c.in_ok-greet-in-Greets.ensures.ok)
+
+pub returns-in_err-greet-in-Greets-clause-owned : goal.returns-in_err-greet-in-Greets-clause-owned
+returns-in_err-greet-in-Greets-clause-owned g c = owned-shut c.args.connection.now c.greet.new.self (fin.get c.args.parking.now c.args.connection.now.number) c.in_err-greet-in-Greets.ensures.err
+
+pub returns-in_ok-greet-in-Greets-clause-owned : goal.returns-in_ok-greet-in-Greets-clause-owned
+returns-in_ok-greet-in-Greets-clause-owned g c =
+    let a = c.args in
+    let greets = sym (able-stage a.connection.now.session c.requires.able) ∙ sym c.in-Greets.ensures in
+    owned-none c.greet.new.self.session.stage (fin.get a.parking.now a.connection.now.number) (greeted-free a.setup.now c.in-Greets.handshaken a.connection.now c.greet.new.self greets c.in_ok-greet-in-Greets.ensures.ok)
 
 pub returns-in_ok-greet-in-Greets-clause-keyed : goal.returns-in_ok-greet-in-Greets-clause-keyed
 returns-in_ok-greet-in-Greets-clause-keyed g c = λ honest.

@@ -41,7 +41,7 @@ invariant_of-self g c =
     let new = c.take_turn-taken.new in (
       t.hosted,
       queue-turn (is_honest disk c.self.inside.tenants) (is_honest disk new.tenants) c.self.inside.parking new.parking _ c.args.self.now.state c.args.i c.index_mut-connection.result.now new.connection (tenants_in disk new.tenants)
-          (state-is _ _ c.self.view_is) c.self.invariant.1 (taken-ok g c) t.later.honest (λ honest. c.requires.unready (subst (λ s. (disk s).honest) (store-is _ _ c.self.view_is) honest)) t.asked t.parked t.dated t.keyed,
+          (state-is _ _ c.self.view_is) c.self.invariant.1 (taken-ok g c) t.later.honest (λ honest. c.requires.unready (subst (λ s. (disk s).honest) (store-is _ _ c.self.view_is) honest)) t.asked t.parked t.dated t.owned t.keyed,
     )
 
 pub invariant_of-self-in-Err : goal.invariant_of-self-in-Err
@@ -51,7 +51,7 @@ invariant_of-self-in-Err g c =
     let new = c.take_turn-taken.new in (
       t.hosted,
       queue-turn (is_honest disk c.self.inside.tenants) (is_honest disk new.tenants) c.self.inside.parking new.parking _ c.args.self.now.state c.args.i c.index_mut-connection.result.now new.connection (tenants_in disk new.tenants)
-          (state-is _ _ c.self.view_is) c.self.invariant.1 (taken-at (is_honest disk new.tenants) _ c.args.self.now.state c.args.i c.index_mut-connection.result.now new.connection (tenants_in disk new.tenants) (state-is _ _ c.self.view_is) c.requires.next c.index_mut-connection.ensures.value t.number t.spent t.turn) t.later.honest (λ honest. c.requires.unready (subst (λ s. (disk s).honest) (store-is _ _ c.self.view_is) honest)) t.asked t.parked t.dated t.keyed,
+          (state-is _ _ c.self.view_is) c.self.invariant.1 (taken-at (is_honest disk new.tenants) _ c.args.self.now.state c.args.i c.index_mut-connection.result.now new.connection (tenants_in disk new.tenants) (state-is _ _ c.self.view_is) c.requires.next c.index_mut-connection.ensures.value t.number t.spent t.turn) t.later.honest (λ honest. c.requires.unready (subst (λ s. (disk s).honest) (store-is _ _ c.self.view_is) honest)) t.asked t.parked t.dated t.owned t.keyed,
     )
 
 pub returns-in-Ok : goal.returns-in-Ok

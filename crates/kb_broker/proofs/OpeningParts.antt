@@ -1,8 +1,8 @@
 -- The parts of the broker at its start.
-use Rattle.std.proofs.Common.{◌≡◌, ◌<◌, ◌^◌, ℕ, List, [], ◌∷◌, map, length, get_or, refl, sym, ap, subst, ◌∙◌, lit≤, string_bytes, arith}
+use Rattle.std.proofs.Common.{◌≡◌, ◌<◌, ◌+◌, ◌++◌, ◌^◌, take, ℕ, List, [], ◌∷◌, map, length, get_or, refl, sym, ap, subst, ◌∙◌, lit≤, string_bytes, arith}
 use Rattle.std.proofs.Math.ListN.{get_or-map, length-map}
 use Rattle.std.specs.List.{AllByRecursion, Contains}
-use Rattle.std.proofs.lemmas.List.{get_or_default}
+use Rattle.std.proofs.lemmas.List.{get_or_default, map-append, take_more}
 use Rattle.std.proofs.lemmas.List.Elements.{recursion_from_All}
 use Rattle.std.specs.Prelude.{IsTrue}
 use Rattle.std.proofs.lemmas.Bool.Decides.{nat_tests}
@@ -79,3 +79,8 @@ opening-made listing f s users names tenants setup b u n p fixed is =
     let start : Setup → List TenantState → BrokerState = λ setup tenants. record { setup = setup; tenants = tenants; unbound_refusals = 0; clock = 0; last = 0; lines = [] } in
     let named : tenants ≡ map new_tenant (tenants_of s.users.items) = p ∙ map-twice f new_tenant names ∙ ap (map new_tenant) (n ∙ ap tenants_of u) in
     is ∙ ap (λ setup. start setup tenants) fixed ∙ ap (start (opening_setup listing s)) named
+
+-- a list made of the items so far, and then of the next one too
+pub mapped-more : {A B : Type 0} (f : A → B) (xs : List A) (i : ℕ) (d : A) (ys zs : List B) → i < length xs → ys ≡ map f (take i xs) → zs ≡ ys ++ f (get_or xs i d) ∷ [] → zs ≡ map f (take (i + 1) xs)
+mapped-more f xs i d ys zs within so-far more =
+    more ∙ (ap (λ l. l ++ f (get_or xs i d) ∷ []) so-far ∙ sym (ap (map f) (take_more xs i d within) ∙ map-append f (take i xs) (get_or xs i d ∷ [])))

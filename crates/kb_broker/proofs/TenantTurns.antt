@@ -17,14 +17,13 @@ use Rattle.kb_machine.proofs.Laws.{can-turn, some-left, greeted-less, served-les
 use Rattle.kb_machine.proofs.Owners.{stage-served, stage-shut}
 use Rattle.kb_connection.specs.Fronts.{IsAsked}
 use Rattle.kb_connection.specs.View.{with_session, without_front}
-use Rattle.kb_log.specs.ListLog.{list_log}
 use Rattle.kb_tenants.proofs.Tied.{kept_names, kept_tied}
 use Rattle.kb_tenants.specs.Tenants.{is_honest}
 use Rattle.kb_machine.proofs.Quiet.{apart-ready, asked-again}
 use Rattle.kb_tenant.specs.Waiting.{AreApart}
 use Rattle.kb_broker.specs.Parked.{IsTouched, IsAskedOn}
 use Rattle.kb_store.specs.Disk.{Disk}
-use Rattle.kb_log.specs.declared.list.ListLog.{ListLog}
+use Rattle.kb_log.specs.OnShelf.{Log}
 use Rattle.kb_tenants.specs.declared.tenants.Tenants.{Tenants}
 use Rattle.kb_broker.specs.Hosts.{AreHosted, tenants_in}
 use Rattle.kb_broker.specs.Places.{IsSpent, IsLookedAt}
@@ -61,24 +60,24 @@ pub calm-of : (x y before after : ℕ) → before ≡ x → after ≡ y → afte
 calm-of x y before after p q same up = record { same = sym q ∙ (same ∙ p); below = subst (λ n. n < END) p up }
 
 -- where nothing was refused, only a fetch that asks a touched partition may have become ready
-pub touched-now : {S : Type 0} (disk : S → Disk) (H : Type 0) → H → (node : Node) (hosts : Tenants ListLog S) (us : List TenantState) (clock t : ℕ) (id key : ℤ) (body : List ℕ) (touched : List Place) (r : Answer) → AreHosted disk hosts
-    → IsMet t H (tenants_in disk hosts) us (λ k l. IsOutcome id (served node (world_at k clock) key body) (world_at l clock) touched r)
-    → IsCalm (refusals_of (tenants_in disk hosts) t) (refusals_of us t) → IsTouched t clock (tenants_in disk hosts) us touched
-touched-now disk H honest node hosts us clock t id key body touched r kept meets calm =
+pub touched-now : {L S : Type 0} (log : L → Log) (disk : S → Disk) (H : Type 0) → H → (node : Node) (hosts : Tenants L S) (us : List TenantState) (clock t : ℕ) (id key : ℤ) (body : List ℕ) (touched : List Place) (r : Answer) → AreHosted log disk hosts
+    → IsMet t H (tenants_in log disk hosts) us (λ k l. IsOutcome id (served node (world_at k clock) key body) (world_at l clock) touched r)
+    → IsCalm (refusals_of (tenants_in log disk hosts) t) (refusals_of us t) → IsTouched t clock (tenants_in log disk hosts) us touched
+touched-now log disk H honest node hosts us clock t id key body touched r kept meets calm =
     let h = meets honest calm in
-    record { calm = calm; ready = λ w apart. apart-ready node (kept_of (tenants_in disk hosts) t) (kept_of us t) clock key body w (kept_tied list_log disk hosts kept t clock) h.0 (subst (AreApart (asked (kept_of (tenants_in disk hosts) t) w)) h.1 apart) }
+    record { calm = calm; ready = λ w apart. apart-ready node (kept_of (tenants_in log disk hosts) t) (kept_of us t) clock key body w (kept_tied log disk hosts kept t clock) h.0 (subst (AreApart (asked (kept_of (tenants_in log disk hosts) t) w)) h.1 apart) }
 
 -- where nothing was ever refused to the tenant, a fetch that still waits asks for the same
-pub asked-on : {S : Type 0} (disk : S → Disk) (H : Type 0) → H → (hosts : Tenants ListLog S) → is_honest disk hosts → (node : Node) (us : List TenantState) (clock t : ℕ) (id key : ℤ) (body : List ℕ) (touched : List Place) (r : Answer) → AreHosted disk hosts
-    → IsTurn t H (tenants_in disk hosts) us
-    → IsMet t H (tenants_in disk hosts) us (λ k l. IsOutcome id (served node (world_at k clock) key body) (world_at l clock) touched r)
-    → IsAskedOn t (tenants_in disk hosts) us
-asked-on disk H honest hosts before-honest node us clock t id key body touched r kept turn meets calm =
-    let ts = tenants_in disk hosts in
+pub asked-on : {L S : Type 0} (log : L → Log) (disk : S → Disk) (H : Type 0) → H → (hosts : Tenants L S) → is_honest disk hosts → (node : Node) (us : List TenantState) (clock t : ℕ) (id key : ℤ) (body : List ℕ) (touched : List Place) (r : Answer) → AreHosted log disk hosts
+    → IsTurn t H (tenants_in log disk hosts) us
+    → IsMet t H (tenants_in log disk hosts) us (λ k l. IsOutcome id (served node (world_at k clock) key body) (world_at l clock) touched r)
+    → IsAskedOn t (tenants_in log disk hosts) us
+asked-on log disk H honest hosts before-honest node us clock t id key body touched r kept turn meets calm =
+    let ts = tenants_in log disk hosts in
     let up = turn.grows t in
     let before : refusals_of ts t ≡ 0 = omega (arith, calm, up) in
     let h = meets honest (record { same = calm ∙ sym before; below = grind (arith, nat_tests, before) }) in
-    λ w old new. asked-again node (kept_of ts t) (kept_of us t) clock key body w (kept_tied list_log disk hosts kept t clock) (kept_names list_log disk hosts kept before-honest t clock) h.0 old new
+    λ w old new. asked-again node (kept_of ts t) (kept_of us t) clock key body w (kept_tied log disk hosts kept t clock) (kept_names log disk hosts kept before-honest t clock) h.0 old new
 
 -- 2. What a turn leaves of a connection in any case
 

@@ -1,8 +1,7 @@
 -- A broker on its store, and its tenants there.
 use Rattle.std.specs.Prelude.{◌≡◌, ◌≤◌, ℕ, List, None}
 use Rattle.kb_store.specs.Disk.{Disk}
-use Rattle.kb_log.specs.ListLog.{list_log}
-use Rattle.kb_log.specs.declared.list.ListLog.{ListLog}
+use Rattle.kb_log.specs.OnShelf.{Log}
 use Rattle.kb_tenant.specs.Hosted.{TenantState, IsAccounted, refusals_of}
 use Rattle.kb_tenants.specs.Tenants.{AreKept, hosted}
 use Rattle.kb_tenants.specs.declared.tenants.Tenants.{Tenants}
@@ -12,12 +11,12 @@ use Rattle.kb_machine.specs.Broker.{BrokerState, AreUnready, AnyWait, IsSound, I
 -- 1. The tenants
 
 -- by place
-abbrev pub tenants_in : {S : Type 0} → (S → Disk) → Tenants ListLog S → List TenantState
-tenants_in disk hosts = hosted list_log disk hosts
+abbrev pub tenants_in : {L S : Type 0} → (L → Log) → (S → Disk) → Tenants L S → List TenantState
+tenants_in log disk hosts = hosted log disk hosts
 
 -- what holds of them between two calls
-abbrev pub AreHosted : {S : Type 0} → (S → Disk) → Tenants ListLog S → Type 0
-AreHosted disk hosts = AreKept list_log disk hosts
+abbrev pub AreHosted : {L S : Type 0} → (L → Log) → (S → Disk) → Tenants L S → Type 0
+AreHosted log disk hosts = AreKept log disk hosts
 
 -- At a later moment the store has told the truth only if it had before, and its failures are no fewer. No tenant's count of
 -- refusals is smaller, and the counts together have risen by at least as much as the failures, unless one has come to its end.
@@ -27,8 +26,8 @@ pub record IsLaterWith (old new : Disk) (ts us : List TenantState) : Type 0 wher
   pub counts : (t : ℕ) → refusals_of ts t ≤ refusals_of us t
   pub accounted : IsAccounted ts us old.failures new.failures
 
-abbrev pub AreLater : {S : Type 0} → (S → Disk) → Tenants ListLog S → Tenants ListLog S → Type 0
-AreLater disk old new = IsLaterWith (disk old.shelf.store) (disk new.shelf.store) (tenants_in disk old) (tenants_in disk new)
+abbrev pub AreLater : {L S : Type 0} → (L → Log) → (S → Disk) → Tenants L S → Tenants L S → Type 0
+AreLater log disk old new = IsLaterWith (disk old.shelf.store) (disk new.shelf.store) (tenants_in log disk old) (tenants_in log disk new)
 
 -- 2. The broker
 

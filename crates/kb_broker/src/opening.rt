@@ -15,7 +15,7 @@ use crate::broker::Broker;
 use crate::engine::Engine;
 use kb_api_group::ApiVersion;
 use kb_connection::{Login, Setup};
-use kb_log::{ListLog, Shelf, ShelfRefused};
+use kb_log::{ListLog, PartitionLog, Shelf, ShelfRefused};
 use kb_settings::{Settings, User, tenant_names};
 use kb_store::{Store, StoreFault};
 use kb_tenants::Tenants;
@@ -74,8 +74,8 @@ impl Listing {
 
 /// A broker that has opened on its store.
 #[derive(Drop)]
-pub struct Opened<S: Store> {
-    pub broker: Broker<S>,
+pub struct Opened<S: Store, L: PartitionLog = ListLog> {
+    pub broker: Broker<S, L>,
     /// The numbers of the files that are nobody's, by rising number. Files are not read yet, so there are none.
     pub strays: Vec<u64>,
 }
@@ -124,12 +124,16 @@ impl<S: Store> OpenRefused<S> {
     }
 }
 
-impl<S: Store> Broker<S> {
+impl<S: Store, L: PartitionLog + Drop> Broker<S, L> {
     /// A broker on a store, to which nobody is connected, at moment 0: its users and their tenants are those of the settings,
     /// and no tenant keeps anything. It lists what it serves.
     ///
     /// Opening changes no file. `Store` is answered only where the store's failures grew.
-    pub fn open(alloc: Global, settings: &Settings, store: S) -> Result<Opened<S>, OpenRefused<S>>
+    pub fn open(
+        alloc: Global,
+        settings: &Settings,
+        store: S,
+    ) -> Result<Opened<S, L>, OpenRefused<S>>
         ensures state { IfOk result (λ opened. opened.broker.state ≡ opening settings.now) }
         ensures strays { IfOk result (λ opened. opened.strays.items ≡ []) }
         ensures kept { IfOk result (λ opened. Keeps (S.disk store) (S.disk opened.broker.store)) }
@@ -145,7 +149,7 @@ impl<S: Store> Broker<S> {
         settings: &Settings,
         listing: Listing,
         store: S,
-    ) -> Result<Opened<S>, OpenRefused<S>>
+    ) -> Result<Opened<S, L>, OpenRefused<S>>
         ensures state { IfOk result (λ opened. opened.broker.state ≡ opening_listing listing settings.now) }
         ensures strays { IfOk result (λ opened. opened.strays.items ≡ []) }
         ensures kept { IfOk result (λ opened. Keeps (S.disk store) (S.disk opened.broker.store)) }
@@ -242,14 +246,14 @@ fn place_of<'a>(names: &[&'a str], name: &'a str) -> usize
 }
 
 /// A tenant for each name, on a shelf, which comes back as a store where memory is refused.
-fn new_tenants<S: Store>(
+fn new_tenants<L: PartitionLog + Drop, S: Store>(
     alloc: Global,
     settings: &Settings,
     names: &[&str],
     shelf: Shelf<S>,
-) -> Result<Tenants<ListLog, S>, OpenRefused<S>>
-    ensures hosted { IfOk result (λ tenants. AreHosted S.disk tenants) }
-    ensures new { IfOk result (λ tenants. tenants_in S.disk tenants ≡ map (λ name. new_tenant name.now) names.now) }
+) -> Result<Tenants<L, S>, OpenRefused<S>>
+    ensures hosted { IfOk result (λ tenants. AreHosted L.log S.disk tenants) }
+    ensures new { IfOk result (λ tenants. tenants_in L.log S.disk tenants ≡ map (λ name. new_tenant name.now) names.now) }
     ensures store { IfOk result (λ tenants. tenants.shelf.store ≡ shelf.store) }
     ensures err { IfErr result (λ refused. refused ≡ record { fault = OpenFault.Memory; store = shelf.store }) }
 {

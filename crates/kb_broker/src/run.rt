@@ -10,6 +10,7 @@ ghost use Rattle.kb_broker.specs.Hosts.{is_honest, IsLater, IsReadyOn, StepsTo};
 ghost use Rattle.kb_broker.specs.Runs.{happening_of, happenings, sent_of, is_opening, connections_of, emptied, IsPassed, Passes};
 
 use crate::broker::Broker;
+use kb_log::PartitionLog;
 use kb_store::Store;
 use std::alloc::{AllocError, Global};
 
@@ -34,7 +35,7 @@ pub struct Written {
     pub shut: bool,
 }
 
-impl<S: Store> Broker<S> {
+impl<S: Store, L: PartitionLog + Drop> Broker<S, L> {
     /// A whole run: what each connection got, by rising number.
     ///
     /// To each tenant to which nothing was refused, and nothing to a connection that was not bound, what its connections got is

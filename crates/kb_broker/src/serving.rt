@@ -19,7 +19,7 @@ ghost use Rattle.kb_broker.specs.Parked.{parked_for, until_of, deadline_at, IsKe
 
 use crate::parking::Parking;
 use kb_connection::{Connection, Phase, Setup, Waiting};
-use kb_log::ListLog;
+use kb_log::PartitionLog;
 use kb_machine::Whom;
 use kb_store::Store;
 use kb_tenant::{Answer, Request, Served};
@@ -42,32 +42,32 @@ pub enum Concerned {
 /// waits then, it is parked. Where memory is refused the connection is shut.
 ///
 /// The tenants change as by a call for the connection's tenant, or not where it still greets.
-pub fn take_turn<S: Store>(
+pub fn take_turn<L: PartitionLog + Drop, S: Store>(
     alloc: Global,
     setup: &Setup,
-    tenants: &mut Tenants<ListLog, S>,
+    tenants: &mut Tenants<L, S>,
     parking: &mut Parking,
     clock: u64,
     connection: &mut Connection,
 ) -> Result<Concerned, AllocError>
-    requires hosted { AreHosted S.disk tenants.old }
-    requires tenant { InRange (length (tenants_in S.disk tenants.old)) connection.old.session.stage }
+    requires hosted { AreHosted L.log S.disk tenants.old }
+    requires tenant { InRange (length (tenants_in L.log S.disk tenants.old)) connection.old.session.stage }
     requires able { can connection.old.session ≡ true }
     requires free { fin.get parking.old connection.old.number ≡ None }
-    ensures hosted { AreHosted S.disk tenants.new }
-    ensures later { AreLater S.disk tenants.old tenants.new }
-    ensures turn { IsTurnAt (is_honest S.disk tenants.new) connection.old.session.stage (tenants_in S.disk tenants.old) (tenants_in S.disk tenants.new) }
+    ensures hosted { AreHosted L.log S.disk tenants.new }
+    ensures later { AreLater L.log S.disk tenants.old tenants.new }
+    ensures turn { IsTurnAt (is_honest S.disk tenants.new) connection.old.session.stage (tenants_in L.log S.disk tenants.old) (tenants_in L.log S.disk tenants.new) }
     ensures number { connection.new.number ≡ connection.old.number }
     ensures spent { IsSpent connection.old.session connection.new.session }
     ensures parked { (k : ℕ) → k ≢ connection.old.number → fin.get parking.new k ≡ fin.get parking.old k }
     ensures dated { until_of (fin.get parking.new connection.old.number) ≡ deadline_at connection.new.session.stage }
     ensures owned { IsOwnedAt connection.new.session.stage (fin.get parking.new connection.old.number) }
-    ensures keyed { is_honest S.disk tenants.new → IsKeyedAt (tenants_in S.disk tenants.new) connection.new.session.stage (fin.get parking.new connection.old.number) }
-    ensures asked { is_honest S.disk tenants.new → IsAskedOnAt connection.old.session.stage (tenants_in S.disk tenants.old) (tenants_in S.disk tenants.new) }
-    ensures ok { OnOk result (IsTakenAt (is_honest S.disk tenants.new) setup.now clock connection.old.session.stage (tenants_in S.disk tenants.old) (tenants_in S.disk tenants.new) connection.old.session connection.new.session) }
+    ensures keyed { is_honest S.disk tenants.new → IsKeyedAt (tenants_in L.log S.disk tenants.new) connection.new.session.stage (fin.get parking.new connection.old.number) }
+    ensures asked { is_honest S.disk tenants.new → IsAskedOnAt connection.old.session.stage (tenants_in L.log S.disk tenants.old) (tenants_in L.log S.disk tenants.new) }
+    ensures ok { OnOk result (IsTakenAt (is_honest S.disk tenants.new) setup.now clock connection.old.session.stage (tenants_in L.log S.disk tenants.old) (tenants_in L.log S.disk tenants.new) connection.old.session connection.new.session) }
     ensures whose { IfOk result (λ c. IsWhose c connection.old.session.stage) }
     ensures own { IfOk result (λ c. IsOwnTo c connection.old.number) }
-    ensures left { is_honest S.disk tenants.new → IfOk result (λ c. IsLeftBy c setup.now clock connection.old.session.stage connection.old.number parking.old (tenants_in S.disk tenants.old) (tenants_in S.disk tenants.new) connection.old.session connection.new.session) }
+    ensures left { is_honest S.disk tenants.new → IfOk result (λ c. IsLeftBy c setup.now clock connection.old.session.stage connection.old.number parking.old (tenants_in L.log S.disk tenants.old) (tenants_in L.log S.disk tenants.new) connection.old.session connection.new.session) }
     ensures err { OnErr result (connection.new ≡ with_session connection.old (shut_down connection.old.session)) }
 {
     match connection.phase() {
@@ -86,16 +86,16 @@ pub fn take_turn<S: Store>(
 /// Whose waiting fetches may be ready after a turn of a tenant that touched these partitions, or to which something was refused.
 ///
 /// Where the list of those cannot be kept, all of the tenant are looked at.
-fn whom_it_concerns<S: Store>(
+fn whom_it_concerns<L: PartitionLog + Drop, S: Store>(
     alloc: Global,
-    tenants: &Tenants<ListLog, S>,
+    tenants: &Tenants<L, S>,
     parking: &Parking,
     tenant: usize,
     number: u64,
     touched: Option<Vec<Place>>,
 ) -> Concerned
-    requires { tenant < length (tenants_in S.disk tenants.now) }
-    ensures { IsConcern result tenant number (tenants_in S.disk tenants.now) parking.now touched }
+    requires { tenant < length (tenants_in L.log S.disk tenants.now) }
+    ensures { IsConcern result tenant number (tenants_in L.log S.disk tenants.now) parking.now touched }
 {
     if let Some(places) = &touched {
         if places.is_empty() {
@@ -112,16 +112,16 @@ fn whom_it_concerns<S: Store>(
 ///
 /// As long as nothing was ever refused to the tenant the queue has each fetch under what it asks; else all of the tenant that wait
 /// stand in the list.
-fn numbers_concerned<S: Store>(
+fn numbers_concerned<L: PartitionLog + Drop, S: Store>(
     alloc: Global,
-    tenants: &Tenants<ListLog, S>,
+    tenants: &Tenants<L, S>,
     parking: &Parking,
     tenant: usize,
     number: u64,
     touched: &Option<Vec<Place>>,
 ) -> Result<Vec<u64>, AllocError>
-    requires { tenant < length (tenants_in S.disk tenants.now) }
-    ensures { IfOk result (λ ns. AreConcerned tenant number (tenants_in S.disk tenants.now) parking.now touched.now ns.items) }
+    requires { tenant < length (tenants_in L.log S.disk tenants.now) }
+    ensures { IfOk result (λ ns. AreConcerned tenant number (tenants_in L.log S.disk tenants.now) parking.now touched.now ns.items) }
 {
     let mut numbers = match touched {
         Some(places) if tenants.refusals(tenant) == 0 => { parking.touched(alloc, tenant, places)? }
@@ -133,33 +133,33 @@ fn numbers_concerned<S: Store>(
 
 /// Serves what stands in front of a connection that is bound to a tenant, and answers which partitions were touched; `None`:
 /// something was refused to the tenant. If it waits then, it is parked.
-fn serve_bound<S: Store>(
+fn serve_bound<L: PartitionLog + Drop, S: Store>(
     alloc: Global,
     setup: &Setup,
-    tenants: &mut Tenants<ListLog, S>,
+    tenants: &mut Tenants<L, S>,
     parking: &mut Parking,
     clock: u64,
     tenant: usize,
     connection: &mut Connection,
 ) -> Result<Option<Vec<Place>>, AllocError>
-    requires hosted { AreHosted S.disk tenants.old }
-    requires tenant { tenant < length (tenants_in S.disk tenants.old) }
+    requires hosted { AreHosted L.log S.disk tenants.old }
+    requires tenant { tenant < length (tenants_in L.log S.disk tenants.old) }
     requires bound { connection.old.session.stage ≡ BoundTo tenant None }
     requires able { can connection.old.session ≡ true }
     requires free { fin.get parking.old connection.old.number ≡ None }
-    ensures hosted { AreHosted S.disk tenants.new }
-    ensures later { AreLater S.disk tenants.old tenants.new }
-    ensures turn { IsTurn tenant (is_honest S.disk tenants.new) (tenants_in S.disk tenants.old) (tenants_in S.disk tenants.new) }
+    ensures hosted { AreHosted L.log S.disk tenants.new }
+    ensures later { AreLater L.log S.disk tenants.old tenants.new }
+    ensures turn { IsTurn tenant (is_honest S.disk tenants.new) (tenants_in L.log S.disk tenants.old) (tenants_in L.log S.disk tenants.new) }
     ensures number { connection.new.number ≡ connection.old.number }
     ensures spent { IsSpent connection.old.session connection.new.session }
     ensures parked { (k : ℕ) → k ≢ connection.old.number → fin.get parking.new k ≡ fin.get parking.old k }
     ensures dated { until_of (fin.get parking.new connection.old.number) ≡ deadline_at connection.new.session.stage }
     ensures owned { IsOwnedAt connection.new.session.stage (fin.get parking.new connection.old.number) }
-    ensures keyed { is_honest S.disk tenants.new → IsKeyedAt (tenants_in S.disk tenants.new) connection.new.session.stage (fin.get parking.new connection.old.number) }
-    ensures asked { is_honest S.disk tenants.new → IsAskedOn tenant (tenants_in S.disk tenants.old) (tenants_in S.disk tenants.new) }
-    ensures ok { OnOk result (IsMet tenant (is_honest S.disk tenants.new) (tenants_in S.disk tenants.old) (tenants_in S.disk tenants.new)
+    ensures keyed { is_honest S.disk tenants.new → IsKeyedAt (tenants_in L.log S.disk tenants.new) connection.new.session.stage (fin.get parking.new connection.old.number) }
+    ensures asked { is_honest S.disk tenants.new → IsAskedOn tenant (tenants_in L.log S.disk tenants.old) (tenants_in L.log S.disk tenants.new) }
+    ensures ok { OnOk result (IsMet tenant (is_honest S.disk tenants.new) (tenants_in L.log S.disk tenants.old) (tenants_in L.log S.disk tenants.new)
         (λ k l. (connection.new.session ≡ served setup.now k clock connection.old.session) × (l ≡ put setup.now k clock connection.old.session.unread))) }
-    ensures touched { IfOk result (λ found. IfSome found (λ places. is_honest S.disk tenants.new → IsTouchedTurn setup.now tenant clock (tenants_in S.disk tenants.old) (tenants_in S.disk tenants.new) connection.old.session connection.new.session places.items)) }
+    ensures touched { IfOk result (λ found. IfSome found (λ places. is_honest S.disk tenants.new → IsTouchedTurn setup.now tenant clock (tenants_in L.log S.disk tenants.old) (tenants_in L.log S.disk tenants.new) connection.old.session connection.new.session places.items)) }
     ensures err { OnErr result (connection.new ≡ with_session connection.old (shut_down connection.old.session)) }
 {
     let (answer, touched) = match connection.request(alloc) {
@@ -215,24 +215,24 @@ fn hand_over(
 }
 
 /// A tenant's answer to its request, and which partitions it touched; `None`: something was refused to the tenant.
-fn ask<S: Store>(
+fn ask<L: PartitionLog + Drop, S: Store>(
     alloc: Global,
     setup: &Setup,
-    tenants: &mut Tenants<ListLog, S>,
+    tenants: &mut Tenants<L, S>,
     clock: u64,
     tenant: usize,
     request: &Request<'_>,
 ) -> (Answer, Option<Vec<Place>>)
-    requires hosted { AreHosted S.disk tenants.old }
-    requires tenant { tenant < length (tenants_in S.disk tenants.old) }
-    ensures hosted { AreHosted S.disk tenants.new }
-    ensures later { AreLater S.disk tenants.old tenants.new }
-    ensures turn { IsTurn tenant (is_honest S.disk tenants.new) (tenants_in S.disk tenants.old) (tenants_in S.disk tenants.new) }
-    ensures meets { IsMet tenant (is_honest S.disk tenants.new) (tenants_in S.disk tenants.old) (tenants_in S.disk tenants.new)
+    requires hosted { AreHosted L.log S.disk tenants.old }
+    requires tenant { tenant < length (tenants_in L.log S.disk tenants.old) }
+    ensures hosted { AreHosted L.log S.disk tenants.new }
+    ensures later { AreLater L.log S.disk tenants.old tenants.new }
+    ensures turn { IsTurn tenant (is_honest S.disk tenants.new) (tenants_in L.log S.disk tenants.old) (tenants_in L.log S.disk tenants.new) }
+    ensures meets { IsMet tenant (is_honest S.disk tenants.new) (tenants_in L.log S.disk tenants.old) (tenants_in L.log S.disk tenants.new)
         (λ k l. (l ≡ kept_after setup.now.node k clock request.now.api_key request.now.body.now)
         × IsAnswer request.now.correlation_id (answer setup.now.node k clock request.now.api_key request.now.body.now) result.0) }
-    ensures asked { is_honest S.disk tenants.new → IsAskedOn tenant (tenants_in S.disk tenants.old) (tenants_in S.disk tenants.new) }
-    ensures touched { IfSome result.1 (λ places. is_honest S.disk tenants.new → IsTouched tenant clock (tenants_in S.disk tenants.old) (tenants_in S.disk tenants.new) places.items) }
+    ensures asked { is_honest S.disk tenants.new → IsAskedOn tenant (tenants_in L.log S.disk tenants.old) (tenants_in L.log S.disk tenants.new) }
+    ensures touched { IfSome result.1 (λ places. is_honest S.disk tenants.new → IsTouched tenant clock (tenants_in L.log S.disk tenants.old) (tenants_in L.log S.disk tenants.new) places.items) }
 {
     let before = tenants.refusals(tenant);
     let node = setup.node();
@@ -246,18 +246,18 @@ fn ask<S: Store>(
 
 /// Looks at a connection again, where it waits for a fetch that is looked for. One that is ready is answered. Where memory is
 /// refused the connection is shut, with a count.
-pub fn look_again<S: Store>(
+pub fn look_again<L: PartitionLog + Drop, S: Store>(
     alloc: Global,
-    tenants: &mut Tenants<ListLog, S>,
+    tenants: &mut Tenants<L, S>,
     clock: u64,
     whom: Whom,
     connection: &mut Connection,
 )
-    requires hosted { AreHosted S.disk tenants.old }
-    requires tenant { InRange (length (tenants_in S.disk tenants.old)) connection.old.session.stage }
-    ensures hosted { AreHosted S.disk tenants.new }
-    ensures later { AreLater S.disk tenants.old tenants.new }
-    ensures looked { IsLookedAt (is_honest S.disk tenants.new) whom clock connection.old.session.stage (tenants_in S.disk tenants.old) (tenants_in S.disk tenants.new) connection.old connection.new }
+    requires hosted { AreHosted L.log S.disk tenants.old }
+    requires tenant { InRange (length (tenants_in L.log S.disk tenants.old)) connection.old.session.stage }
+    ensures hosted { AreHosted L.log S.disk tenants.new }
+    ensures later { AreLater L.log S.disk tenants.old tenants.new }
+    ensures looked { IsLookedAt (is_honest S.disk tenants.new) whom clock connection.old.session.stage (tenants_in L.log S.disk tenants.old) (tenants_in L.log S.disk tenants.new) connection.old connection.new }
     ensures waits { (connection.new.session.stage ≡ connection.old.session.stage) ⊎ (deadline_at connection.new.session.stage ≡ None) }
 {
     let Some((tenant, waiting)) = connection.waiting() else {

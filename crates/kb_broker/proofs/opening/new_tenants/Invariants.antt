@@ -7,7 +7,7 @@ abbrev pub invariant-loop-name : goal.invariant-loop-name
 invariant-loop-name g l =
     let disk = g.S.Store.disk in
     record {
-      hosted : AreHosted disk l.tenants;
-      new : tenants_in disk l.tenants ≡ map (λ name. new_tenant name.now) (take l.name-index l.names);
+      hosted : AreHosted g.L.PartitionLog.log disk l.tenants;
+      new : tenants_in g.L.PartitionLog.log disk l.tenants ≡ map (λ name. new_tenant name.now) (take l.name-index l.names);
       store : l.tenants.shelf ≡ l.fn.shelf;
     }

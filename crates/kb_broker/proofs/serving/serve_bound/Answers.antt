@@ -42,13 +42,13 @@ pub returns-in-Ok-None-clause-keyed : goal.returns-in-Ok-None-clause-keyed
 returns-in-Ok-None-clause-keyed g c = λ honest.
     let a = c.args in
     let own = subst (λ found. IfNone found (IsOwn a.connection.now.session)) c.in-Ok-None.field-0-is c.in-Ok-None.ensures.own in
-    keyed-none (tenants_in g.S.Store.disk a.tenants.now) c.serve.new.self.session.stage (fin.get a.parking.now a.connection.now.number) (own-free a.setup.now a.tenant a.connection.now c.serve.new.self c.requires.bound own c.in_ok-serve-in-Ok-None.ensures.ok)
+    keyed-none (tenants_in g.L.PartitionLog.log g.S.Store.disk a.tenants.now) c.serve.new.self.session.stage (fin.get a.parking.now a.connection.now.number) (own-free a.setup.now a.tenant a.connection.now c.serve.new.self c.requires.bound own c.in_ok-serve-in-Ok-None.ensures.ok)
 
 pub returns-in-Ok-None-clause-touched : goal.returns-in-Ok-None-clause-touched
 returns-in-Ok-None-clause-touched g c = λ honest.
     let a = c.args in
     let own = subst (λ found. IfNone found (IsOwn a.connection.now.session)) c.in-Ok-None.field-0-is c.in-Ok-None.ensures.own in
-    own-touched a.setup.now a.tenant a.clock (tenants_in g.S.Store.disk a.tenants.now) a.connection.now c.serve.new.self c.new.result.items own c.in_ok-serve-in-Ok-None.ensures.ok
+    own-touched a.setup.now a.tenant a.clock (tenants_in g.L.PartitionLog.log g.S.Store.disk a.tenants.now) a.connection.now c.serve.new.self c.new.result.items own c.in_ok-serve-in-Ok-None.ensures.ok
 
 pub returns-in-Err-clause-spent : goal.returns-in-Err-clause-spent
 returns-in-Err-clause-spent g c = spent-shut c.args.connection.now c.shut_down.new.self c.requires.able c.shut_down.ensures
@@ -60,7 +60,7 @@ returns-clause-ok g c = λ honest calm.
     let s = a.connection.now.session in
     let asked = subst (λ found. IfSome found (λ (r : Request). IsAsked s r.api_key r.correlation_id r.body.now)) c.in-Ok-Some.field-0-is c.in-Ok-Some.ensures.asked in
     let done = c.ask.ensures.meets honest calm in
-    asked-now a.setup.now a.clock (kept_of (tenants_in g.S.Store.disk a.tenants.now) a.tenant) (kept_of (tenants_in g.S.Store.disk c.ask.new.tenants) a.tenant) a.connection.now c.hand_over.new.connection q.api_key q.correlation_id q.body.now c.ask.result.0 asked done.0 done.1 c.in_ok-hand_over.ensures.ok
+    asked-now a.setup.now a.clock (kept_of (tenants_in g.L.PartitionLog.log g.S.Store.disk a.tenants.now) a.tenant) (kept_of (tenants_in g.L.PartitionLog.log g.S.Store.disk c.ask.new.tenants) a.tenant) a.connection.now c.hand_over.new.connection q.api_key q.correlation_id q.body.now c.ask.result.0 asked done.0 done.1 c.in_ok-hand_over.ensures.ok
 
 pub returns-clause-keyed : goal.returns-clause-keyed
 returns-clause-keyed g c = λ honest.
@@ -68,9 +68,9 @@ returns-clause-keyed g c = λ honest.
     let q = c.in-Ok-Some.request in
     let s = a.connection.now.session in
     let asked = subst (λ found. IfSome found (λ (r : Request). IsAsked s r.api_key r.correlation_id r.body.now)) c.in-Ok-Some.field-0-is c.in-Ok-Some.ensures.asked in
-    keyed-answered (is_honest g.S.Store.disk c.ask.new.tenants) honest a.setup.now a.tenant a.clock (tenants_in g.S.Store.disk a.tenants.now) (tenants_in g.S.Store.disk c.ask.new.tenants) a.connection.now c.hand_over.new.connection q.api_key q.correlation_id q.body.now c.ask.result.0 (fin.get c.hand_over.new.parking a.connection.now.number) c.requires.bound c.hand_over.ensures.spent asked c.ask.ensures.turn c.ask.ensures.meets c.in_ok-hand_over.ensures.ok c.in_ok-hand_over.ensures.keyed
+    keyed-answered (is_honest g.S.Store.disk c.ask.new.tenants) honest a.setup.now a.tenant a.clock (tenants_in g.L.PartitionLog.log g.S.Store.disk a.tenants.now) (tenants_in g.L.PartitionLog.log g.S.Store.disk c.ask.new.tenants) a.connection.now c.hand_over.new.connection q.api_key q.correlation_id q.body.now c.ask.result.0 (fin.get c.hand_over.new.parking a.connection.now.number) c.requires.bound c.hand_over.ensures.spent asked c.ask.ensures.turn c.ask.ensures.meets c.in_ok-hand_over.ensures.ok c.in_ok-hand_over.ensures.keyed
 
 pub returns-clause-touched : goal.returns-clause-touched
 returns-clause-touched g c =
     let a = c.args in
-    turned-touched (is_honest g.S.Store.disk c.ask.new.tenants) a.setup.now a.tenant a.clock (tenants_in g.S.Store.disk a.tenants.now) (tenants_in g.S.Store.disk c.ask.new.tenants) a.connection.now.session c.hand_over.new.connection.session c.ask.result.1 c.ask.ensures.touched (returns-clause-ok g c)
+    turned-touched (is_honest g.S.Store.disk c.ask.new.tenants) a.setup.now a.tenant a.clock (tenants_in g.L.PartitionLog.log g.S.Store.disk a.tenants.now) (tenants_in g.L.PartitionLog.log g.S.Store.disk c.ask.new.tenants) a.connection.now.session c.hand_over.new.connection.session c.ask.result.1 c.ask.ensures.touched (returns-clause-ok g c)

@@ -37,15 +37,15 @@ pub returns-in_ok-greet-in-Greets-clause-keyed : goal.returns-in_ok-greet-in-Gre
 returns-in_ok-greet-in-Greets-clause-keyed g c = λ honest.
     let a = c.args in
     let greets = sym (able-stage a.connection.now.session c.requires.able) ∙ sym c.in-Greets.ensures in
-    keyed-none (tenants_in g.S.Store.disk a.tenants.now) c.greet.new.self.session.stage (fin.get a.parking.now a.connection.now.number) (greeted-free a.setup.now c.in-Greets.handshaken a.connection.now c.greet.new.self greets c.in_ok-greet-in-Greets.ensures.ok)
+    keyed-none (tenants_in g.L.PartitionLog.log g.S.Store.disk a.tenants.now) c.greet.new.self.session.stage (fin.get a.parking.now a.connection.now.number) (greeted-free a.setup.now c.in-Greets.handshaken a.connection.now c.greet.new.self greets c.in_ok-greet-in-Greets.ensures.ok)
 
 pub returns-in_ok-touched-in-Bound-clause-left : goal.returns-in_ok-touched-in-Bound-clause-left
 returns-in_ok-touched-in-Bound-clause-left g c = λ honest.
     let a = c.args in
     let t = c.in-Bound.tenant in
-    let us = tenants_in g.S.Store.disk c.serve_bound.new.tenants in
+    let us = tenants_in g.L.PartitionLog.log g.S.Store.disk c.serve_bound.new.tenants in
     let p = c.serve_bound.new.parking in
     let touched = c.in_ok-touched-in-Bound.touched in
     let bound = sym (able-stage a.connection.now.session c.requires.able) ∙ sym c.in-Bound.ensures in
     let concern = subst (λ n. IsConcern c.whom_it_concerns.result t n us p touched) (c.number-number.ensures ∙ c.serve_bound.ensures.number) c.whom_it_concerns.ensures in
-    left-by (is_honest g.S.Store.disk c.serve_bound.new.tenants) honest c.whom_it_concerns.result a.setup.now t a.clock a.connection.now.number a.parking.now p (tenants_in g.S.Store.disk a.tenants.now) us a.connection.now.session c.serve_bound.new.connection.session a.connection.now.session.stage touched bound c.serve_bound.ensures.parked concern c.in_ok-touched-in-Bound.ensures.touched
+    left-by (is_honest g.S.Store.disk c.serve_bound.new.tenants) honest c.whom_it_concerns.result a.setup.now t a.clock a.connection.now.number a.parking.now p (tenants_in g.L.PartitionLog.log g.S.Store.disk a.tenants.now) us a.connection.now.session c.serve_bound.new.connection.session a.connection.now.session.stage touched bound c.serve_bound.ensures.parked concern c.in_ok-touched-in-Bound.ensures.touched

@@ -40,7 +40,7 @@ invariant_of-self g c =
     let l = c.remove.result in
     let q = c.self.inside.parking in
     let p = c.forget.new.self in
-    let ts = tenants_in disk c.self.inside.tenants in
+    let ts = tenants_in g.L.PartitionLog.log disk c.self.inside.tenants in
     let f = found _ b i n l (state-is _ _ c.self.view_is) c.in-Some.ensures.within c.in-Some.ensures.some c.remove.ensures.value in
     let a = at-inside _ b i l (state-is _ _ c.self.view_is) f.at in (
       c.self.invariant.0,

@@ -29,10 +29,10 @@ take_turn-taken-requires-clause-free g c =
     not-parked (is_honest g.S.Store.disk c.self.inside.tenants) c.self.inside.parking _ b c.args.i l here c.self.invariant.1 c.requires.next.sound at (next-can b c.args.i l c.requires.next at)
 
 -- the turn, where it was not refused
-taken-ok : (g : given.Over) (c : goal.In-Ok g) → IsTaken (is_honest g.S.Store.disk c.take_turn-taken.new.tenants) c.args.self.now.state c.args.i c.index_mut-connection.result.now c.take_turn-taken.new.connection (tenants_in g.S.Store.disk c.take_turn-taken.new.tenants)
+taken-ok : (g : given.Over) (c : goal.In-Ok g) → IsTaken (is_honest g.S.Store.disk c.take_turn-taken.new.tenants) c.args.self.now.state c.args.i c.index_mut-connection.result.now c.take_turn-taken.new.connection (tenants_in g.L.PartitionLog.log g.S.Store.disk c.take_turn-taken.new.tenants)
 taken-ok g c =
     let t = c.take_turn-taken.ensures in
-    taken-at (is_honest g.S.Store.disk c.take_turn-taken.new.tenants) _ c.args.self.now.state c.args.i c.index_mut-connection.result.now c.take_turn-taken.new.connection (tenants_in g.S.Store.disk c.take_turn-taken.new.tenants) (state-is _ _ c.self.view_is) c.requires.next c.index_mut-connection.ensures.value t.number t.spent t.turn
+    taken-at (is_honest g.S.Store.disk c.take_turn-taken.new.tenants) _ c.args.self.now.state c.args.i c.index_mut-connection.result.now c.take_turn-taken.new.connection (tenants_in g.L.PartitionLog.log g.S.Store.disk c.take_turn-taken.new.tenants) (state-is _ _ c.self.view_is) c.requires.next c.index_mut-connection.ensures.value t.number t.spent t.turn
 
 pub invariant_of-self : goal.invariant_of-self
 invariant_of-self g c =
@@ -40,7 +40,7 @@ invariant_of-self g c =
     let t = c.take_turn-taken.ensures in
     let new = c.take_turn-taken.new in (
       t.hosted,
-      queue-turn (is_honest disk c.self.inside.tenants) (is_honest disk new.tenants) c.self.inside.parking new.parking _ c.args.self.now.state c.args.i c.index_mut-connection.result.now new.connection (tenants_in disk new.tenants)
+      queue-turn (is_honest disk c.self.inside.tenants) (is_honest disk new.tenants) c.self.inside.parking new.parking _ c.args.self.now.state c.args.i c.index_mut-connection.result.now new.connection (tenants_in g.L.PartitionLog.log disk new.tenants)
           (state-is _ _ c.self.view_is) c.self.invariant.1 (taken-ok g c) t.later.honest (λ honest. c.requires.unready (subst (λ s. (disk s).honest) (store-is _ _ c.self.view_is) honest)) t.asked t.parked t.dated t.owned t.keyed,
     )
 
@@ -50,8 +50,8 @@ invariant_of-self-in-Err g c =
     let t = c.take_turn-taken.ensures in
     let new = c.take_turn-taken.new in (
       t.hosted,
-      queue-turn (is_honest disk c.self.inside.tenants) (is_honest disk new.tenants) c.self.inside.parking new.parking _ c.args.self.now.state c.args.i c.index_mut-connection.result.now new.connection (tenants_in disk new.tenants)
-          (state-is _ _ c.self.view_is) c.self.invariant.1 (taken-at (is_honest disk new.tenants) _ c.args.self.now.state c.args.i c.index_mut-connection.result.now new.connection (tenants_in disk new.tenants) (state-is _ _ c.self.view_is) c.requires.next c.index_mut-connection.ensures.value t.number t.spent t.turn) t.later.honest (λ honest. c.requires.unready (subst (λ s. (disk s).honest) (store-is _ _ c.self.view_is) honest)) t.asked t.parked t.dated t.owned t.keyed,
+      queue-turn (is_honest disk c.self.inside.tenants) (is_honest disk new.tenants) c.self.inside.parking new.parking _ c.args.self.now.state c.args.i c.index_mut-connection.result.now new.connection (tenants_in g.L.PartitionLog.log disk new.tenants)
+          (state-is _ _ c.self.view_is) c.self.invariant.1 (taken-at (is_honest disk new.tenants) _ c.args.self.now.state c.args.i c.index_mut-connection.result.now new.connection (tenants_in g.L.PartitionLog.log disk new.tenants) (state-is _ _ c.self.view_is) c.requires.next c.index_mut-connection.ensures.value t.number t.spent t.turn) t.later.honest (λ honest. c.requires.unready (subst (λ s. (disk s).honest) (store-is _ _ c.self.view_is) honest)) t.asked t.parked t.dated t.owned t.keyed,
     )
 
 pub returns-in-Ok : goal.returns-in-Ok
@@ -62,7 +62,7 @@ returns-in-Ok g c =
     let l = c.index_mut-connection.result.now in
     let t = c.take_turn-taken.ensures in
     let m = c.take_turn-taken.new.connection in
-    let us = tenants_in disk c.take_turn-taken.new.tenants in
+    let us = tenants_in g.L.PartitionLog.log disk c.take_turn-taken.new.tenants in
     let H = is_honest disk c.take_turn-taken.new.tenants in
     let G = is_honest disk c.self.inside.tenants in
     let q = c.self.inside.parking in
@@ -93,7 +93,7 @@ returns-in-Err g c =
     let l = c.index_mut-connection.result.now in
     let t = c.take_turn-taken.ensures in
     let m = c.take_turn-taken.new.connection in
-    let us = tenants_in disk c.take_turn-taken.new.tenants in
+    let us = tenants_in g.L.PartitionLog.log disk c.take_turn-taken.new.tenants in
     let H = is_honest disk c.take_turn-taken.new.tenants in
     let here = state-is _ _ c.self.view_is in
     let end = c.refuse.new.self.state in

@@ -40,7 +40,7 @@ invariant_of-self g c =
     let m = c.take_output.new.self in
     let q = c.self.inside.parking in
     let H = is_honest disk c.self.inside.tenants in
-    let ts = tenants_in disk c.self.inside.tenants in
+    let ts = tenants_in g.L.PartitionLog.log disk c.self.inside.tenants in
     let ls = c.self.inside.connections.items in
     let at = at-inside _ b i l (state-is _ _ c.self.view_is) (at-read _ b i l (state-is _ _ c.self.view_is) c.in-Some.ensures.within c.index_mut.ensures.value) in (
       c.self.invariant.0,

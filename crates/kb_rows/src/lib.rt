@@ -22,6 +22,8 @@ mod playing;
 #[cfg(test)]
 mod producers;
 #[cfg(test)]
+mod refusing;
+#[cfg(test)]
 mod retention;
 #[cfg(test)]
 mod running;
@@ -37,3 +39,5 @@ mod topics;
 mod waits;
 #[cfg(test)]
 mod words;
+#[cfg(test)]
+mod written;

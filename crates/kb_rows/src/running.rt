@@ -6,6 +6,7 @@ ghost use Rattle.kb_machine.specs.Broker.{IsRun};
 ghost use Rattle.kb_broker.specs.Runs.{happening_of, happenings};
 
 use kb_broker::{Broker, Event, Listing, Settings, Written};
+use kb_log::PartitionLog;
 use kb_store::{MemoryStore, Store};
 use std::alloc::{AllocError, Global};
 use std::process::Abort;
@@ -69,10 +70,10 @@ pub(crate) fn outcome_of(
 }
 
 /// Runs a broker.
-pub(crate) fn run<S: Store>(
+pub(crate) fn run<S: Store, L: PartitionLog + Drop>(
     rt: &impl Abort,
     alloc: Global,
-    broker: &mut Broker<S>,
+    broker: &mut Broker<S, L>,
     events: &[Event],
 ) -> Result<Vec<Written>, AllocError> {
     assert!(rt; is_run(broker.last_connection(), events));
@@ -80,7 +81,7 @@ pub(crate) fn run<S: Store>(
 }
 
 /// The refusals that were counted for `a`, for `b`, and for connections that were not bound.
-pub(crate) fn refusals_of<S: Store>(broker: &Broker<S>) -> [u64; 3] {
+pub(crate) fn refusals_of<S: Store, L: PartitionLog + Drop>(broker: &Broker<S, L>) -> [u64; 3] {
     [
         broker.refusals("a"),
         broker.refusals("b"),

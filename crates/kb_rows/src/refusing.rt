@@ -1,0 +1,116 @@
+//! Brokers whose logs write to a store that refuses: a refusal is its tenant's own.
+
+use crate::batches::{APPEND, APPENDED, FETCH, FETCHED};
+use crate::playing::{ANN, BOB, HANDSHAKE, OFFERED, Step, WELCOME, events_of, wanted_of};
+use crate::running::{are_told, is_told, refusals_of, run};
+use crate::tenants::{ALTERNATING, APPEND_YO, FETCHED_YO};
+use crate::topics::{CREATE, CREATED};
+use crate::written::WrittenLog;
+use Step::{In, Open};
+use kb_broker::{Broker, Event, Settings, Written};
+use kb_store::{Fuse, FusedStore, MemoryStore, Store};
+use std::alloc::{AllocError, Global};
+use std::process::Abort;
+use std::test::Fail;
+
+/// A broker whose logs write to a store in memory with a fuse.
+type Fused = Broker<FusedStore<MemoryStore>, WrittenLog>;
+
+/// The store refused the batch, which got no offset.
+const REFUSED: &str = "00000029 00000014 t/0 0038 ffffffffffffffff ffffffffffffffff 00000000";
+
+/// Two tenants make a topic of one name. The batch of the first is refused, and taken when it comes again.
+const REFUSED_ONCE: [Step<'static>; 14] = [
+    Open(1),
+    Open(2),
+    In(1, HANDSHAKE, OFFERED),
+    In(2, HANDSHAKE, OFFERED),
+    In(1, ANN, WELCOME),
+    In(2, BOB, WELCOME),
+    In(1, CREATE, CREATED),
+    In(2, CREATE, CREATED),
+    In(1, APPEND, REFUSED),
+    In(2, APPEND_YO, APPENDED),
+    In(2, FETCH, FETCHED_YO),
+    In(1, APPEND, APPENDED),
+    In(1, FETCH, FETCHED),
+    In(2, FETCH, FETCHED_YO),
+];
+
+/// Each call of the exchange of two tenants after the list of files, and one more: two calls make each topic, and two take each
+/// batch. Beside it are the refusals that are counted for the tenants and for nobody where it alone is refused.
+const CALLS: [(u64, [u64; 3]); 9] = [
+    (2, [1, 0, 0]),
+    (3, [1, 0, 0]),
+    (4, [0, 1, 0]),
+    (5, [0, 1, 0]),
+    (6, [1, 0, 0]),
+    (7, [1, 0, 0]),
+    (8, [0, 1, 0]),
+    (9, [0, 1, 0]),
+    (10, [0, 0, 0]),
+];
+
+/// Opens a broker of the standard settings. Of a refused append the first two bytes are left.
+fn opened(alloc: Global, fuse: Fuse) -> Result<Fused, AllocError> {
+    let settings = Settings::standard(alloc)?;
+    let store = FusedStore::new(MemoryStore::new(alloc), fuse, 2);
+    match Broker::open(alloc, &settings, store) {
+        Ok(opened) => Ok(opened.broker),
+        Err(_) => Err(AllocError),
+    }
+}
+
+/// Plays the exchange of two tenants on a store that refuses, and answers the counts. A tenant whose count is 0 gets what it
+/// gets of a store that refuses nothing, and each refused call is counted once, for a tenant.
+fn counts_of(
+    rt: &impl Abort,
+    alloc: Global,
+    fuse: Fuse,
+    events: &[Event],
+    wanted: &[Written],
+) -> Result<[u64; 3], AllocError> {
+    let mut broker = opened(alloc, fuse)?;
+    let written = run(rt, alloc, &mut broker, events)?;
+    assert_eq!(rt; written.len(), wanted.len());
+    let counts = refusals_of(&broker);
+    for (count, (got, wanted)) in counts.iter().zip(written.iter().zip(wanted)) {
+        if *count == 0 {
+            is_told(rt, "beside a tenant that is refused", got, wanted);
+        }
+    }
+    let [first, second, unbound] = counts;
+    assert_eq!(rt; unbound, 0);
+    assert_eq!(rt;
+        first.checked_add(second),
+        Some(broker.into_store().failures())
+    );
+    Ok(counts)
+}
+
+/// A refused append answers its tenant an error and no offset, is counted for that tenant alone, and leaves the offset to the
+/// next batch. The other tenant sees nothing of it.
+#[test]
+fn a_refused_append_is_its_tenants_own(rt: HostRuntime) -> Result<(), Fail> {
+    let mut broker = opened(rt.alloc(), Fuse::Once(7))?;
+    let events = events_of(&rt, rt.alloc(), &REFUSED_ONCE, usize::MAX)?;
+    let written = run(&rt, rt.alloc(), &mut broker, &events)?;
+    let wanted = wanted_of(&rt, rt.alloc(), &REFUSED_ONCE)?;
+    are_told(&rt, "a refused append", &written, &wanted);
+    assert_eq!(rt; refusals_of(&broker), [1, 0, 0]);
+    assert_eq!(rt; broker.into_store().failures(), 1);
+    Ok(())
+}
+
+/// Whichever call is refused, alone or with all that follow.
+#[test]
+fn each_refused_call_is_its_tenants_own(rt: HostRuntime) -> Result<(), Fail> {
+    let events = events_of(&rt, rt.alloc(), &ALTERNATING, usize::MAX)?;
+    let wanted = wanted_of(&rt, rt.alloc(), &ALTERNATING)?;
+    for (call, counts) in CALLS {
+        let once = counts_of(&rt, rt.alloc(), Fuse::Once(call), &events, &wanted)?;
+        assert_eq!(rt; once, counts);
+        counts_of(&rt, rt.alloc(), Fuse::From(call), &events, &wanted)?;
+    }
+    Ok(())
+}

@@ -1,5 +1,6 @@
 pub mod Again
 pub mod Asked
+pub mod Batches
 pub mod ByRequest
 pub mod CreateMoves
 pub mod Creating

@@ -1,3 +1,4 @@
+pub mod Batches
 pub mod CreateTopics
 pub mod DeleteTopics
 pub mod Fetch

@@ -1,13 +1,17 @@
 //! Laws about the definitions, each as the contract of a function with an empty body.
-ghost use Rattle.std.specs.Prelude.{◌≡◌, ◌<◌, ℕ, ℤ, List, None};
+ghost use Rattle.std.specs.Prelude.{◌≡◌, ◌<◌, ℕ, ℤ, pos, List, Ok, None};
 ghost use Rattle.std.specs.List.{Contains};
+ghost use Rattle.kb_wire.specs.Codec.{whole};
+ghost use Rattle.kb_api_data.specs.Layouts.{fetch_request};
 ghost use Rattle.kb_api_data.specs.declared.fetch.FetchRequest.{FetchRequest};
 ghost use Rattle.kb_world.specs.Tied.{IsTied};
 ghost use Rattle.kb_world.specs.World.{World, new_world};
 ghost use Rattle.kb_world.specs.Calls.{at_clock, retain, retain_all};
 ghost use Rattle.kb_world.specs.declared.place.Place.{Place};
+ghost use Rattle.kb_tenant.specs.Batches.{HoldsBatches};
 ghost use Rattle.kb_tenant.specs.Fetch.{fetch_answer, places_of};
-ghost use Rattle.kb_tenant.specs.Serve.{served};
+ghost use Rattle.kb_tenant.specs.Replies.{Replies};
+ghost use Rattle.kb_tenant.specs.Serve.{served, looked};
 ghost use Rattle.kb_tenant.specs.Waiting.{AreApart, HasOwnNames, StillWaits};
 ghost use Rattle.kb_tenant.specs.declared.node.Node.{Node};
 
@@ -56,4 +60,13 @@ pub fn requests_again()
 /// Retention changes no place that a fetch asks for.
 pub fn retention_again()
     ensures { (w : World) (r : FetchRequest) → places_of (retain_all w).0 r ≡ places_of w r }
+{}
+
+/// What a fetch is answered, at once (its key is 1) or after a wait: each partition without an error gives whole batches of its
+/// log as it is at that moment, one after the other, from the one that holds the asked offset.
+pub fn fetches_give_whole_batches()
+    ensures served { (node : Node) (w : World) (body bytes : List ℕ) (r : FetchRequest) → whole fetch_request body ≡ Ok r
+        → (served node w (pos 1) body).reaction ≡ Replies bytes → HoldsBatches w r bytes }
+    ensures looked { (w : World) (deadline : ℕ) (body bytes : List ℕ) (r : FetchRequest) → whole fetch_request body ≡ Ok r
+        → looked w deadline body ≡ Replies bytes → HoldsBatches w r bytes }
 {}

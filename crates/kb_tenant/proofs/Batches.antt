@@ -1,0 +1,169 @@
+-- What a fetch gives is whole batches of the partition's list, from the one that holds the asked offset.
+use Rattle.std.proofs.Common.{◌≡◌, ◌∙◌, ◌≤ℤ◌, ◌<ℤ◌, ◌<◌, ◌-◌, ◌++◌, ◌||◌, ℕ, ℤ, pos, negsuc, Bool, true, false, List, [], ◌∷◌, Option, Some, None, Ok, Err, length, refl, sym, subst, ap, arith, append-nil}
+use Rattle.std.specs.Prelude.{nat_le, int_lt, option_map, if◌then◌else◌}
+use Rattle.std.specs.List.{concat}
+use Rattle.std.proofs.lemmas.Bool.Decides.{nat_tests}
+use Rattle.kb_wire.specs.Codec.{whole}
+use Rattle.kb_batch.specs.Batch.{natural}
+use Rattle.kb_log.specs.Log.{base_of, next_of, holds, from_holding, fitting, fetched as fetched_of}
+use Rattle.kb_api_data.specs.Layouts.{fetch_request, fetch_reply}
+use Rattle.kb_api_data.specs.declared.fetch.FetchPartition.{FetchPartition}
+use Rattle.kb_api_data.specs.declared.fetch.FetchTopic.{FetchTopic}
+use Rattle.kb_api_data.specs.declared.fetch.FetchRequest.{FetchRequest}
+use Rattle.kb_api_data.specs.declared.fetch.FetchReply.{FetchReply}
+use Rattle.kb_topics.specs.Known.{named}
+use Rattle.kb_partitions.specs.Logs.{LogState}
+use Rattle.kb_partitions.specs.declared.fault.PartitionFault.TheVariants as ranges
+use Rattle.kb_world.specs.Calls.{fetched_from}
+use Rattle.kb_world.specs.World.{World, log_in, place_in}
+use Rattle.kb_world.specs.declared.place.Place.{Place}
+use Rattle.kb_tenant.specs.Batches.{BeginAt, GivesBatches, EachAnswered, IsPartitionAnswered, IsTopicAnswered, HoldsBatches}
+use Rattle.kb_tenant.specs.Fetch.{answered, answered_at, answered_by, answered_topic, begun, fetch_answer, fetched, is_ready, limit_of, deadline_of}
+use Rattle.kb_tenant.specs.Replies.{Replies, Silent}
+use Rattle.kb_tenant.specs.Serve.{served, looked, looked_at, of_fetch, if_read, fetch_reaction}
+use Rattle.kb_tenant.specs.Turns.{in_turn}
+use Rattle.kb_tenant.specs.declared.fetch.given.Given.{Given}
+use Rattle.kb_tenant.specs.declared.node.Node.{Node}
+
+-- ---- one list
+
+-- what fits is whole batches in front
+record Fits (limit : ℕ) (first : Bool) (bs : List (List ℕ)) : Type 0 where
+  these : List (List ℕ)
+  rest : List (List ℕ)
+  split : bs ≡ these ++ rest
+  joined : fitting limit first bs ≡ concat these
+
+fits : (limit : ℕ) (first : Bool) (bs : List (List ℕ)) → Fits limit first bs
+fits limit first [] = record { these = []; rest = []; split = refl; joined = refl }
+fits limit first (b ∷ bs) = by (nat_le (length b) limit) refl first (fits (limit - length b) false bs)
+  where
+    by : (t : Bool) → nat_le (length b) limit ≡ t → (f : Bool) → Fits (limit - length b) false bs → Fits limit f (b ∷ bs)
+    by true e f more = record { these = b ∷ more.these; rest = more.rest; split = ap (λ xs. b ∷ xs) more.split; joined = ap (λ t. if t then b ++ fitting (limit - length b) false bs else (if f then b else [])) e ∙ ap (λ xs. b ++ xs) more.joined }
+    by false e true more = record { these = b ∷ []; rest = bs; split = refl; joined = ap (λ t. if t then b ++ fitting (limit - length b) false bs else b) e ∙ sym (append-nil b) }
+    by false e false more = record { these = []; rest = b ∷ bs; split = refl; joined = ap (λ t. if t then b ++ fitting (limit - length b) false bs else []) e }
+
+-- the batches from the one that holds an offset on are the last ones of the list
+record Holding (offset : ℕ) (bs : List (List ℕ)) : Type 0 where
+  skipped : List (List ℕ)
+  split : bs ≡ skipped ++ from_holding offset bs
+  begins : BeginAt (pos offset) (from_holding offset bs)
+
+within : (offset : ℕ) (b : List ℕ) → holds offset b ≡ true → (pos (base_of b) ≤ℤ pos offset) × (pos offset <ℤ pos (next_of b))
+within offset b e = (grind (arith, nat_tests, e), grind (arith, nat_tests, e))
+
+holding : (offset : ℕ) (bs : List (List ℕ)) → Holding offset bs
+holding offset [] = record { skipped = []; split = refl; begins = tt }
+holding offset (b ∷ bs) = by (holds offset b) refl (holding offset bs)
+  where
+    by : (t : Bool) → holds offset b ≡ t → Holding offset bs → Holding offset (b ∷ bs)
+    by true e more =
+        let is : from_holding offset (b ∷ bs) ≡ b ∷ bs = ap (λ t. if t then b ∷ bs else from_holding offset bs) e in
+        record { skipped = []; split = sym is; begins = subst (BeginAt (pos offset)) (sym is) (within offset b e) }
+    by false e more =
+        let is : from_holding offset (b ∷ bs) ≡ from_holding offset bs = ap (λ t. if t then b ∷ bs else from_holding offset bs) e in
+        record { skipped = b ∷ more.skipped; split = ap (λ xs. b ∷ xs) more.split ∙ ap (λ xs. b ∷ more.skipped ++ xs) (sym is); begins = subst (BeginAt (pos offset)) (sym is) more.begins }
+
+-- what begins with a batch of the offset still does where only some in front are taken
+begins-front : (offset : ℤ) (xs ys : List (List ℕ)) → BeginAt offset (xs ++ ys) → BeginAt offset xs
+begins-front offset [] ys h = tt
+begins-front offset (x ∷ xs) ys h = h
+
+-- ---- one partition
+
+gives : (w : World) (topic : Option ℕ) (asked : FetchPartition) (place : Place) (l : LogState) (n limit : ℕ) (first : Bool) → place_in topic asked.partition ≡ Some place → log_in w place ≡ Some l → asked.fetch_offset ≡ pos n
+    → GivesBatches w topic asked (Some (fetched_of n limit first l.batches))
+gives w topic asked place l n limit first there kept natural-offset =
+    let from = holding n l.batches in
+    let taken = fits limit first (from_holding n l.batches) in
+    record {
+      place = place;
+      log = l;
+      batches = taken.these;
+      there = there;
+      kept = kept;
+      consecutive = record { before = from.skipped; after = taken.rest; split = from.split ∙ ap (λ xs. from.skipped ++ xs) taken.split };
+      begins = begins-front asked.fetch_offset taken.these taken.rest (subst (λ xs. BeginAt asked.fetch_offset xs) taken.split (subst (λ z. BeginAt z (from_holding n l.batches)) (sym natural-offset) from.begins));
+      whole = ap Some taken.joined;
+    }
+
+no-error : (w : World) (topic : Option ℕ) (asked : FetchPartition) (records : Option (List ℕ)) (n : ℕ) → 0 < n → pos n ≡ pos 0 → GivesBatches w topic asked records
+no-error w topic asked records n up e = absurd (grind (arith, up, e))
+
+module _ (w : World) (topic : Option ℕ) (g : Given) (asked : FetchPartition) where
+  by-offset : (place : Place) (l : LogState) → place_in topic asked.partition ≡ Some place → log_in w place ≡ Some l → (o : ℤ) → asked.fetch_offset ≡ o → (out : Bool) → (int_lt o (pos l.start) || int_lt (pos l.end) o) ≡ out
+      → IsPartitionAnswered w topic asked (answered_by g asked.partition (Some (pos l.end)) (if out then Err ranges.Range else Ok (fetched_of (natural o) (limit_of g asked) g.first l.batches))).1
+  by-offset place l there kept o is true e = (refl, λ h. no-error w topic asked _ 1 (omega arith) h)
+  by-offset place l there kept (pos n) is false e = (refl, λ h. gives w topic asked place l n (limit_of g asked) g.first there kept is)
+  by-offset place l there kept (negsuc n) is false e = absurd (cc)
+
+  by-log : (place : Place) → place_in topic asked.partition ≡ Some place → (o : Option LogState) → log_in w place ≡ o
+      → IsPartitionAnswered w topic asked (answered_by g asked.partition (option_map (λ (l : LogState). pos l.end) o) (fetched_from asked.fetch_offset (limit_of g asked) g.first o)).1
+  by-log place there None kept = (refl, λ h. no-error w topic asked _ 3 (omega arith) h)
+  by-log place there (Some l) kept = by-offset place l there kept asked.fetch_offset refl (int_lt asked.fetch_offset (pos l.start) || int_lt (pos l.end) asked.fetch_offset) refl
+
+  by-place : (o : Option Place) → place_in topic asked.partition ≡ o → IsPartitionAnswered w topic asked (answered_at w g asked o).1
+  by-place None there = (refl, λ h. no-error w topic asked _ 3 (omega arith) h)
+  by-place (Some place) there = by-log place there (log_in w place) refl
+
+  partition-answered : IsPartitionAnswered w topic asked (answered w topic g asked).1
+  partition-answered = by-place (place_in topic asked.partition) refl
+
+-- ---- all of them
+
+each : {S E A : Type 0} (f : S → E → S × A) (P : E → A → Type 0) → ((s : S) (e : E) → P e (f s e).1) → (s : S) (es : List E) → EachAnswered P es (in_turn f s es).1
+each f P one s [] = tt
+each f P one s (e ∷ es) = (one s e, each f P one (f s e).0 es)
+
+topic-answered : (w : World) (g : Given) (asked : FetchTopic) → IsTopicAnswered w asked (answered_topic w g asked).1
+topic-answered w g asked =
+    let topic = named asked.topic w.known.topics in
+    (refl, each (answered w topic) (IsPartitionAnswered w topic) (λ s e. partition-answered w topic s e) g asked.partitions)
+
+all-answered : (w : World) (r : FetchRequest) → EachAnswered (IsTopicAnswered w) r.topics (fetched w r).1.topics
+all-answered w r = each (answered_topic w) (IsTopicAnswered w) (λ s t. topic-answered w s t) (begun r) r.topics
+
+-- a fetch that has an answer has that one
+answer-is : (w : World) (r : FetchRequest) (deadline : ℕ) (reply : FetchReply) → fetch_answer w r deadline ≡ Some reply → reply ≡ (fetched w r).1
+answer-is w r deadline reply e = by (is_ready w r (fetched w r).1 deadline) refl
+  where
+    same : {x y : FetchReply} → Some x ≡ Some y → x ≡ y
+    same h = cc
+
+    none : {P : Type 0} {x : FetchReply} → None ≡ Some x → P
+    none h = absurd (cc)
+
+    by : (t : Bool) → is_ready w r (fetched w r).1 deadline ≡ t → reply ≡ (fetched w r).1
+    by true ready = sym (same (sym (ap (λ t. if t then Some (fetched w r).1 else None) ready) ∙ e))
+    by false ready = none (sym (ap (λ t. if t then Some (fetched w r).1 else None) ready) ∙ e)
+
+written-holds : (w : World) (r : FetchRequest) (deadline : ℕ) (reply : FetchReply) (bytes : List ℕ) → fetch_answer w r deadline ≡ Some reply → bytes ≡ fetch_reply.written reply → HoldsBatches w r bytes
+written-holds w r deadline reply bytes e is = record {
+  reply = reply;
+  written = is;
+  answered = subst (λ (x : FetchReply). EachAnswered (IsTopicAnswered w) r.topics x.topics) (sym (answer-is w r deadline reply e)) (all-answered w r);
+}
+
+-- ---- at once, and after a wait
+
+reaction-holds : (w : World) (r : FetchRequest) (bytes : List ℕ) (answer : Option FetchReply) → fetch_answer w r (deadline_of w r) ≡ answer → fetch_reaction w r answer ≡ Replies bytes → HoldsBatches w r bytes
+reaction-holds w r bytes None e is = absurd (cc)
+reaction-holds w r bytes (Some reply) e is = written-holds w r (deadline_of w r) reply bytes e (sym (replied-is is))
+  where
+    replied-is : {x y : List ℕ} → Replies x ≡ Replies y → x ≡ y
+    replied-is h = cc
+
+pub served-holds : (node : Node) (w : World) (body bytes : List ℕ) (r : FetchRequest) → whole fetch_request body ≡ Ok r → (served node w (pos 1) body).reaction ≡ Replies bytes → HoldsBatches w r bytes
+unfolding served
+served-holds node w body bytes r read replies = reaction-holds w r bytes (fetch_answer w r (deadline_of w r)) refl (sym (ap (λ x. (if_read w x (of_fetch w)).reaction) read) ∙ replies)
+
+look-holds : (w : World) (deadline : ℕ) (r : FetchRequest) (bytes : List ℕ) (answer : Option FetchReply) → fetch_answer w r deadline ≡ answer → (elim answer [ Some reply ↦ Replies (fetch_reply.written reply) | None ↦ Silent ]) ≡ Replies bytes → HoldsBatches w r bytes
+look-holds w deadline r bytes None e is = absurd (cc)
+look-holds w deadline r bytes (Some reply) e is = written-holds w r deadline reply bytes e (sym (replied-is is))
+  where
+    replied-is : {x y : List ℕ} → Replies x ≡ Replies y → x ≡ y
+    replied-is h = cc
+
+pub looked-holds : (w : World) (deadline : ℕ) (body bytes : List ℕ) (r : FetchRequest) → whole fetch_request body ≡ Ok r → looked w deadline body ≡ Replies bytes → HoldsBatches w r bytes
+unfolding looked
+looked-holds w deadline body bytes r read replies = look-holds w deadline r bytes (fetch_answer w r deadline) refl (sym (ap (looked_at w deadline) read) ∙ replies)

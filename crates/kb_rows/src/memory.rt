@@ -1,21 +1,39 @@
-//! An exchange of two tenants while memory may be refused.
+//! Exchanges of two tenants while memory may be refused.
 
-use crate::playing::{events_of, wanted_of};
+use crate::playing::{Step, events_of, wanted_of};
 use crate::running::{Outcome, is_told, outcome_of};
 use crate::tenants::ALTERNATING;
+use crate::waits::FOR_A_BATCH;
 use kb_broker::Written;
+use std::alloc::Global;
 use std::process::Abort;
 use std::test::Fail;
 
-/// Also where any one allocation is refused, at most one refusal is counted; and where it is another's, a connection gets
-/// every byte.
+/// Two tenants make topics, append and fetch. Also where any one allocation is refused, at most one refusal is counted; and
+/// where it is another's, a connection gets every byte.
 #[test]
 fn a_refusal_is_felt_by_its_own_tenant_alone(rt: HostRuntime) -> Result<(), Fail> {
-    let events = events_of(&rt, rt.alloc(), &ALTERNATING, 64)?;
-    let wanted = wanted_of(&rt, rt.alloc(), &ALTERNATING)?;
-    let outcome = outcome_of(&rt, rt.alloc(), &events)?;
-    has_at_most_one(&rt, outcome.refusals);
-    are_told_where_spared(&rt, &outcome, &wanted);
+    spares(&rt, rt.alloc(), &ALTERNATING, &[0, 1])
+}
+
+/// The same where a fetch waits, while the other tenant appends, until one of its own comes.
+#[test]
+fn a_refusal_ends_no_wait_of_another(rt: HostRuntime) -> Result<(), Fail> {
+    spares(&rt, rt.alloc(), &FOR_A_BATCH, &[0, 1, 0])
+}
+
+/// Plays an exchange whose connections belong to these tenants: 0 is `a`, 1 is `b`.
+fn spares(
+    rt: &impl Abort,
+    alloc: Global,
+    steps: &[Step<'_>],
+    tenants: &[usize],
+) -> Result<(), Fail> {
+    let events = events_of(rt, alloc, steps, 64)?;
+    let wanted = wanted_of(rt, alloc, steps)?;
+    let outcome = outcome_of(rt, alloc, &events)?;
+    has_at_most_one(rt, outcome.refusals);
+    are_told_where_spared(rt, &outcome, &wanted, tenants);
     Ok(())
 }
 
@@ -26,18 +44,23 @@ fn has_at_most_one(rt: &impl Abort, refusals: [u64; 3]) {
 }
 
 /// Each connection got every byte where nothing was refused to its tenant, nor to a connection that was not bound.
-fn are_told_where_spared(rt: &impl Abort, outcome: &Outcome, wanted: &[Written]) {
+fn are_told_where_spared(
+    rt: &impl Abort,
+    outcome: &Outcome,
+    wanted: &[Written],
+    tenants: &[usize],
+) {
     assert_eq!(rt; outcome.written.len(), wanted.len());
-    for (place, (got, wanted)) in outcome.written.iter().zip(wanted).enumerate() {
+    for ((got, wanted), tenant) in outcome.written.iter().zip(wanted).zip(tenants) {
         assert_eq!(rt; got.conn, wanted.conn);
-        if is_spared(outcome.refusals, place) {
-            is_told(rt, "alternating", got, wanted);
+        if is_spared(outcome.refusals, *tenant) {
+            is_told(rt, "while memory is refused", got, wanted);
         }
     }
 }
 
-/// Whether neither the tenant at a place was refused anything, nor a connection that was not bound.
-fn is_spared(refusals: [u64; 3], place: usize) -> bool {
+/// Whether neither a tenant was refused anything, nor a connection that was not bound.
+fn is_spared(refusals: [u64; 3], tenant: usize) -> bool {
     let [_, _, unbound] = refusals;
-    unbound == 0 && refusals.get(place) == Some(&0)
+    unbound == 0 && refusals.get(tenant) == Some(&0)
 }

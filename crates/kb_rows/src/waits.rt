@@ -69,7 +69,7 @@ const EMPTY: &str = "listed 0000 ffffffffffffffff 0000000000000000";
 
 /// A fetch waits, and so does what stands behind it. A batch of another tenant's topic of that name is nothing to it; one of
 /// its own topic ends the wait, in the same step.
-const FOR_A_BATCH: [Step<'static>; 18] = [
+pub(crate) const FOR_A_BATCH: [Step<'static>; 18] = [
     Open(1),
     In(1, HANDSHAKE, OFFERED),
     In(1, ANN, WELCOME),

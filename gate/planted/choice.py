@@ -10,7 +10,10 @@ from planted.prover import LIB
 # A line for each crate: its name, the sum of its texts, how many edits were refused, and the processor seconds that they took.
 TRIED = "gate/tried"
 # What the chosen edits may take, in processor seconds.
-ROOM = 20 * 60
+ROOM = 15 * 60
+# What a line of a crate takes to prove, and what an edit takes where none was tried yet, in processor seconds.
+A_LINE = 0.06
+AN_EDIT = 15.0
 
 
 class Tried(NamedTuple):
@@ -50,10 +53,17 @@ def known() -> Dict[str, Tried]:
     return {name: Tried(sum, int(edits), float(seconds)) for name, sum, edits, seconds in rows}
 
 
-def cost(name: str, edits: int) -> float:
-    """What trying a crate's edits is likely to take, from nothing."""
-    was = known().get(name)
-    return was.seconds * max(edits, 1) / max(was.edits, 1) if was else 60.0 + 15.0 * edits
+def start(crate) -> float:
+    """What the first check of a crate takes, which proves all that earlier checks have not kept."""
+    if os.path.isdir(f"{crate.folder}/out/incremental"):
+        return 20.0
+    return 20.0 + A_LINE * sum(LIB.text_of(it).count("\n") for it in LIB.files_of(crate.folder))
+
+
+def each(crate) -> float:
+    """What a further edit of the crate takes."""
+    was = known().get(crate.name)
+    return was.seconds / was.edits if was and was.edits else AN_EDIT
 
 
 def turn() -> int:
@@ -62,31 +72,35 @@ def turn() -> int:
     return int(ran.stdout) if ran.returncode == 0 else 0
 
 
-def chosen(crates, edits) -> List[str]:
-    """The crates that have changed since their edits were tried, and one more by turns, as far as there is room; says which."""
-    was, names = known(), [it for it in crates if edits[it]]
+def chosen(crates, edits) -> Dict[str, List[str]]:
+    """The edits of the crates that have changed since theirs were tried, and of others by turns, as far as there is room; says which."""
+    was, names, number = known(), [it for it in crates if edits[it]], turn()
     changed = [it for it in names if it not in was or was[it].sum != sum_of(crates[it].folder)]
-    others, at = [it for it in names if it not in changed], turn()
-    by_turns = others[at % len(others) :] + others[: at % len(others)] if others else []
-    taken, left, room = [], [], ROOM
-    for name in sorted(changed, key=lambda it: cost(it, len(edits[it]))):
-        needs = cost(name, len(edits[name]))
-        (taken if needs <= room else left).append(name)
-        room -= needs if needs <= room else 0
-    extra = next((it for it in by_turns if cost(it, len(edits[it])) <= room), None)
-    print(f"wrong bodies: changed since {TRIED} and tried now: {', '.join(taken) or 'none'}")
+    others = [it for it in names if it not in changed]
+    shift = lambda given: given[number % len(given) :] + given[: number % len(given)] if given else []
+    taken, room = {}, ROOM
+    for name in [*shift(changed), *shift(others)]:
+        fit = int((room - start(crates[name])) / each(crates[name]))
+        if name in others and (fit < 1 or not set(taken) <= set(changed)):
+            continue
+        if fit > 0:
+            # (where not all fit, those that stand next by the same number)
+            taken[name] = shift(edits[name])[:fit] if fit < len(edits[name]) else edits[name]
+            room -= start(crates[name]) + each(crates[name]) * len(taken[name])
+    for name, picked in taken.items():
+        why = f"changed since {TRIED}" if name in changed else f"by turns, at number {number}"
+        print(f"wrong bodies: {name} ({why}): {len(picked)} of its {len(edits[name])} edits")
+    left = [it for it in changed if len(taken.get(it, ())) < len(edits[it])]
     if left:
-        print(f"wrong bodies: changed and NOT tried here, for want of room: {', '.join(left)}; try them by gate/wrong_bodies {' '.join(left)} --record")
-    if extra:
-        print(f"wrong bodies: tried by turns, at number {at}: {extra}")
-    return taken + ([extra] if extra else [])
+        print(f"wrong bodies: for want of room not all were tried of: {', '.join(left)}; gate/wrong_bodies --record {' '.join(left)} does")
+    return taken
 
 
 def record(crates, edits, done):
     """Writes down what was tried, of the crates each of whose edits was refused."""
     was = known()
     for it in done:
-        if it and all(plan.status == "refused" for plan in it.plans):
+        if it and it.plans and all(plan.status == "refused" for plan in it.plans):
             was[it.name] = Tried(sum_of(crates[it.name].folder), len(edits[it.name]), round(it.room.seconds, 1))
     with open(TRIED, "w", encoding="utf-8") as out:
         out.write("# Written by gate/wrong_bodies --record: crate, sum of its texts and edits, how many edits were refused, processor seconds\n")

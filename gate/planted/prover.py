@@ -67,7 +67,7 @@ def verdict(name: str, said: str, errors) -> Verdict:
     if said.startswith("could not tell"):
         return Verdict("unknown", said, names)
     if "did not prove" in said:
-        goals = re.findall(r"`([^`]+)`", said.partition("did not prove")[2])
+        goals = re.findall(r"`([^`]+)`", said.partition("did not prove")[2].partition("; it calls")[0])
         return Verdict("own", "no proof of " + ", ".join(goals), names)
     own = own_errors(name, errors)
     of_goals = [it for it in own if not NAMES.search(it)]

@@ -139,25 +139,29 @@ class Crate:
             self.unexplained += [f"{name}: {it.text}" for name, it in report.functions.items() if it.kind == "own" and not of_an_edit(name)]
 
     def judge(self, plan: Plan, report: Report, plans: List[Plan]):
-        if plan.is_alone:
+        if not plan.change.functions:
             self.judge_alone(plan, report)
             return
         own = {name: it for name, it in report.functions.items() if plan.owns(self.name, name)}
         kinds = {it.kind: f"{name}: {it.text}" for name, it in reversed([*own.items()])}
-        if "own" in kinds:
+        helpers = [name for name, it in report.functions.items() if it.kind != "proved" and plan.wrote(self.name, name)]
+        if helpers:
+            plan.judge(HELPER, ", ".join(helpers))
+        elif "own" in kinds:
             plan.judge(REFUSED, kinds["own"])
         elif "misfit" in kinds:
             plan.judge(MISFIT, kinds["misfit"])
         elif "fell" in kinds:
+            # (else another edit of the round hides it, and it waits for a round without that)
             if not any(self.reaches(plan, it) for it in plans if it is not plan):
-                helped = any(plan.wrote(self.name, call) for it in own.values() for call in it.calls)
-                plan.judge(HELPER if helped else CALLER, kinds["fell"])
+                plan.judge(CALLER, kinds["fell"])
         elif "unknown" in kinds:
             plan.judge(UNKNOWN, kinds["unknown"])
         elif "helpless" in kinds or not own:
             plan.judge(NO_GOAL, kinds.get("helpless", "the prover names no function that it changes"))
         else:
-            plan.judge(NOT_REFUSED, ", ".join(own))
+            fallen = [name for name, it in report.functions.items() if it.kind != "proved"] if plan.is_alone else []
+            plan.judge(CALLER if fallen else NOT_REFUSED, ", ".join(fallen or own))
 
     def judge_alone(self, plan: Plan, report: Report):
         """An edit of what is no function's own is refused by whoever has a goal that is not proved."""

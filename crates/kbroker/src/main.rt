@@ -1,9 +1,12 @@
 //! The broker's program.
 //!
 //! `kbroker script` runs a script of events from standard input and writes what each connection gets to standard output.
-//! `kbroker serve` listens on the address of its settings and serves sockets until it is stopped. Status 0 is done, 1 a fault
-//! with one line on standard error, 2 a fault of the command line with its usage.
+//! `kbroker serve` listens on the address of its settings and serves sockets until it is stopped. `kbroker check` says what
+//! settings come to. Status 0 is done, 1 a fault with one line on standard error, 2 a fault of the command line with its usage.
 #![tactic(auto)]
+
+mod check;
+mod words;
 
 ghost use Rattle.std.specs.Prelude.{◌≤◌, ◌^◌};
 
@@ -17,7 +20,7 @@ use std::alloc::{AllocError, Global};
 use std::io::{BufReader, BufWriter};
 use std::process::ExitCode;
 use std::time::{Duration, SystemTime};
-use std::{env, fs, io, thread};
+use std::{fs, io, thread};
 use thiserror::Error;
 
 /// How often the edge is turned at most.
@@ -82,11 +85,15 @@ fn command<'a>(alloc: Global) -> Result<Command<'a>, AllocError> {
         .about("Serves sockets on the settings' host and port")
         .arg(config(alloc).required(true))?
         .arg(stock_clients)?;
+    let check = Command::new(alloc, "check")
+        .about("Says what settings come to, or which key is wrong")
+        .arg(config(alloc).required(true))?;
     Command::new(alloc, "kbroker")
         .about("A message broker for many tenants that speaks the Kafka protocol")
         .subcommand_required(true)
         .subcommand(script)?
-        .subcommand(serve)
+        .subcommand(serve)?
+        .subcommand(check)
 }
 
 /// The file of the settings.
@@ -100,13 +107,11 @@ fn config<'a>(alloc: Global) -> Arg<'a> {
 
 fn run(rt: &HostRuntime) -> Result<(), Fault> {
     let alloc = rt.alloc();
-    let Ok(args) = env::args(rt) else {
-        return Err(Fault::Node(NodeFault::Memory));
-    };
-    let words: Vec<String> = args.collect(alloc)?;
+    let words = words::words(rt)?;
     let matches = command(alloc)?.try_get_matches_from(words.as_slice())?;
     match matches.subcommand() {
         Some(("serve", found)) => serve(rt, found),
+        Some(("check", found)) => check::check(rt, found),
         Some((_, found)) => script(rt, found.get_str("config")),
         // A subcommand is asked for: no other line is taken.
         None => Ok(()),

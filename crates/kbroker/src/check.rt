@@ -1,0 +1,60 @@
+//! `kbroker check`: what a file of settings comes to.
+
+use crate::{Fault, settings_of};
+use clap::ArgMatches;
+use kb_node::{NodeFault, Settings, StartFault};
+use std::alloc::{AllocError, Global};
+use std::io;
+use std::io::{BufWriter, Write};
+
+/// Says what the settings of a file come to, judged as `serve` judges them: they name a data folder.
+pub fn check(rt: &HostRuntime, found: &ArgMatches<'_>) -> Result<(), Fault> {
+    let alloc = rt.alloc();
+    let settings = settings_of(rt, found.get_str("config").unwrap_or(""))?;
+    let Some(folder) = &settings.folder else {
+        let key = String::from_str(alloc, "data")?;
+        return Err(Fault::Start(StartFault::Field(key)));
+    };
+    let tenants = count_tenants(alloc, &settings)?;
+    let Ok(mut writer) = BufWriter::new(alloc, io::writer(rt)) else {
+        return Err(Fault::Node(NodeFault::Memory));
+    };
+    match write_settings(&settings, folder, tenants, &mut writer) {
+        Ok(()) => Ok(()),
+        Err(_) => Err(Fault::Node(NodeFault::Write)),
+    }
+}
+
+/// How many different tenants the users name.
+fn count_tenants(alloc: Global, settings: &Settings) -> Result<usize, AllocError> {
+    let mut names = Vec::with_capacity(alloc, settings.users.len())?;
+    for user in &settings.users {
+        names.push(user.tenant.as_str())?;
+    }
+    names.sort_unstable();
+    names.dedup();
+    Ok(names.len())
+}
+
+/// Writes a line for each key and for each user, in the order of the file and without passwords, and then the counts.
+fn write_settings<W: Write>(
+    settings: &Settings,
+    folder: &str,
+    tenants: usize,
+    writer: &mut W,
+) -> io::Result<()> {
+    writeln!(writer, "host = {:?}", settings.host)?;
+    writeln!(writer, "port = {}", settings.port)?;
+    writeln!(writer, "segment_bytes = {}", settings.segment_bytes)?;
+    writeln!(writer, "cache_batches = {}", settings.cache_batches)?;
+    writeln!(writer, "data = {folder:?}")?;
+    for user in &settings.users {
+        writeln!(writer, "user {:?} of tenant {:?}", user.name, user.tenant)?;
+    }
+    writeln!(
+        writer,
+        "users: {}, tenants: {tenants}",
+        settings.users.len()
+    )?;
+    writer.flush()
+}

@@ -7,6 +7,7 @@ ghost use Rattle.kb_wire.specs.Reads.{Answers};
 
 use crate::fault::WireFault;
 
+#[inline]
 #[tactic(auto, unfolding(crate::specs::Codec::int))]
 pub(crate) fn i8_at(bytes: &[u8]) -> Result<(i8, &[u8]), WireFault>
     ensures { Answers (λ x. (x.0, x.1.now)) result ((int w8).read bytes.now) }
@@ -110,6 +111,7 @@ pub(crate) fn nullable_count_at(bytes: &[u8]) -> Result<(Option<u32>, &[u8]), Wi
     Ok((Some(count as u32), rest))
 }
 
+#[inline]
 #[tactic(auto, unfolding(crate::specs::Codec::octets))]
 pub(crate) fn octets_at(n: usize, bytes: &[u8]) -> Result<(&[u8], &[u8]), WireFault>
     ensures { Answers (λ x. (x.0.now, x.1.now)) result (octets.read n bytes.now) }

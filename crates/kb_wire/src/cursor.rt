@@ -31,6 +31,7 @@ impl<'a> Model for Cursor<'a> {
 
 impl<'a> Cursor<'a> {
     /// Stands before the first byte.
+    #[inline]
     pub fn new(bytes: &'a [u8]) -> Cursor<'a>
         ensures { result ≡ bytes.now }
     {
@@ -38,6 +39,7 @@ impl<'a> Cursor<'a> {
     }
 
     /// Whether nothing is left.
+    #[inline]
     pub fn at_end(&self) -> bool
         ensures { IsTrue result ↔ (self.now ≡ []) }
     {
@@ -45,6 +47,7 @@ impl<'a> Cursor<'a> {
     }
 
     /// What is left. The cursor stays.
+    #[inline]
     pub fn rest(&self) -> &'a [u8]
         ensures { result.now ≡ self.now }
     {
@@ -52,6 +55,7 @@ impl<'a> Cursor<'a> {
     }
 
     /// INT8: one byte, two's complement.
+    #[inline]
     pub fn i8(&mut self) -> Result<i8, WireFault>
         ensures { Gives ((int w8).read self.old) self.old result self.new }
     {
@@ -115,6 +119,7 @@ impl<'a> Cursor<'a> {
     }
 
     /// The next `n` bytes as they are.
+    #[inline]
     pub fn take(&mut self, n: usize) -> Result<Blob<'a>, WireFault>
         ensures { Gives (octets.read n self.old) self.old result self.new }
     {
@@ -186,6 +191,7 @@ impl<'a> Cursor<'a> {
 
     /// VARINT: at most 5 bytes of seven bits, the low ones first, the top bit set where more follow, and zigzag. A longer spelling than
     /// need be is read. A number past 32 bits or a sixth byte is `Bad`.
+    #[inline]
     pub fn varint(&mut self) -> Result<i32, WireFault>
         ensures { Gives (varint.read self.old) self.old result self.new }
     {
@@ -195,6 +201,7 @@ impl<'a> Cursor<'a> {
     }
 
     /// VARLONG: the same with at most 10 bytes and 64 bits.
+    #[inline]
     pub fn varlong(&mut self) -> Result<i64, WireFault>
         ensures { Gives (varlong.read self.old) self.old result self.new }
     {

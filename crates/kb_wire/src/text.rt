@@ -50,6 +50,7 @@ impl<'a> Model for Blob<'a> {
 
 impl<'a> Blob<'a> {
     /// The bytes, borrowed.
+    #[inline]
     pub fn new(bytes: &'a [u8]) -> Blob<'a>
         ensures { result ≡ bytes.now }
     {

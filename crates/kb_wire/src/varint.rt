@@ -30,6 +30,7 @@ fn groups_at(limit: u32, bytes: &[u8]) -> Result<(u128, &[u8]), WireFault>
     }
 }
 
+#[inline(always)]
 #[tactic(auto, unfolding(crate::specs::Varint::from_zigzag))]
 fn from_zigzag_32(n: u32) -> i32
     ensures { result ≡ from_zigzag n }
@@ -38,6 +39,7 @@ fn from_zigzag_32(n: u32) -> i32
     if n % 2 == 0 { half } else { -half - 1 }
 }
 
+#[inline(always)]
 #[tactic(auto, unfolding(crate::specs::Varint::from_zigzag))]
 fn from_zigzag_64(n: u64) -> i64
     ensures { result ≡ from_zigzag n }
@@ -68,8 +70,26 @@ pub(crate) fn to_zigzag_64(value: i64) -> u64
     }
 }
 
-#[tactic(auto, unfolding(crate::specs::Varint::zigzag, crate::specs::Codec::refined))]
+/// The number at the front. Most have one byte or two.
+#[inline(always)]
+#[tactic(auto, unfolding(crate::specs::Varint::zigzag, crate::specs::Varint::groups, crate::specs::Varint::groups_at, crate::specs::Codec::refined))]
 pub(crate) fn varint_at(bytes: &[u8]) -> Result<(i32, &[u8]), WireFault>
+    ensures { Answers (λ x. (x.0, x.1.now)) result (varint.read bytes.now) }
+{
+    match bytes {
+        [b, rest @ ..] if *b < 128 => Ok((from_zigzag_32(*b as u32), rest)),
+        [b, high, rest @ ..] if *high < 128 => {
+            let number = (*b % 128) as u32 + 128 * *high as u32;
+            Ok((from_zigzag_32(number), rest))
+        }
+        _ => long_varint_at(bytes),
+    }
+}
+
+/// The number at the front, of however many bytes.
+#[inline(never)]
+#[tactic(auto, unfolding(crate::specs::Varint::zigzag, crate::specs::Codec::refined))]
+fn long_varint_at(bytes: &[u8]) -> Result<(i32, &[u8]), WireFault>
     ensures { Answers (λ x. (x.0, x.1.now)) result (varint.read bytes.now) }
 {
     let (number, rest) = groups_at(5, bytes)?;
@@ -80,8 +100,26 @@ pub(crate) fn varint_at(bytes: &[u8]) -> Result<(i32, &[u8]), WireFault>
     }
 }
 
-#[tactic(auto, unfolding(crate::specs::Varint::zigzag, crate::specs::Codec::refined))]
+/// The number at the front. Most have one byte or two.
+#[inline(always)]
+#[tactic(auto, unfolding(crate::specs::Varint::zigzag, crate::specs::Varint::groups, crate::specs::Varint::groups_at, crate::specs::Codec::refined))]
 pub(crate) fn varlong_at(bytes: &[u8]) -> Result<(i64, &[u8]), WireFault>
+    ensures { Answers (λ x. (x.0, x.1.now)) result (varlong.read bytes.now) }
+{
+    match bytes {
+        [b, rest @ ..] if *b < 128 => Ok((from_zigzag_64(*b as u64), rest)),
+        [b, high, rest @ ..] if *high < 128 => {
+            let number = (*b % 128) as u64 + 128 * *high as u64;
+            Ok((from_zigzag_64(number), rest))
+        }
+        _ => long_varlong_at(bytes),
+    }
+}
+
+/// The number at the front, of however many bytes.
+#[inline(never)]
+#[tactic(auto, unfolding(crate::specs::Varint::zigzag, crate::specs::Codec::refined))]
+fn long_varlong_at(bytes: &[u8]) -> Result<(i64, &[u8]), WireFault>
     ensures { Answers (λ x. (x.0, x.1.now)) result (varlong.read bytes.now) }
 {
     let (number, rest) = groups_at(10, bytes)?;

@@ -17,13 +17,14 @@ use Rattle.kb_partitions.specs.declared.fault.PartitionFault.TheVariants as rang
 use Rattle.kb_world.specs.Calls.{fetched_from}
 use Rattle.kb_world.specs.World.{World, log_in, place_in}
 use Rattle.kb_world.specs.declared.place.Place.{Place}
-use Rattle.kb_tenant.specs.Batches.{BeginAt, GivesBatches, EachAnswered, IsPartitionAnswered, IsTopicAnswered, HoldsBatches}
+use Rattle.kb_tenant.specs.Batches.{BeginAt, GivesBatches, EachAnswered, IsPartitionAnswered, IsTopicAnswered, HasSmallLogs, HoldsBatches}
 use Rattle.kb_tenant.specs.Fetch.{answered, answered_at, answered_by, answered_topic, begun, fetch_answer, fetched, is_ready, limit_of, deadline_of}
 use Rattle.kb_tenant.specs.Replies.{Replies, Silent}
 use Rattle.kb_tenant.specs.Serve.{served, looked, looked_at, of_fetch, if_read, fetch_reaction}
 use Rattle.kb_tenant.specs.Turns.{in_turn}
 use Rattle.kb_tenant.specs.declared.fetch.given.Given.{Given}
 use Rattle.kb_tenant.specs.declared.node.Node.{Node}
+use Rattle.kb_tenant.proofs.Spelled.{reply_spelled}
 
 -- ---- one list
 
@@ -137,33 +138,37 @@ answer-is w r deadline reply e = by (is_ready w r (fetched w r).1 deadline) refl
     by true ready = sym (same (sym (ap (λ t. if t then Some (fetched w r).1 else None) ready) ∙ e))
     by false ready = none (sym (ap (λ t. if t then Some (fetched w r).1 else None) ready) ∙ e)
 
-written-holds : (w : World) (r : FetchRequest) (deadline : ℕ) (reply : FetchReply) (bytes : List ℕ) → fetch_answer w r deadline ≡ Some reply → bytes ≡ fetch_reply.written reply → HoldsBatches w r bytes
-written-holds w r deadline reply bytes e is = record {
-  reply = reply;
-  written = is;
-  answered = subst (λ (x : FetchReply). EachAnswered (IsTopicAnswered w) r.topics x.topics) (sym (answer-is w r deadline reply e)) (all-answered w r);
+-- what is written of a fetch's reply
+abbrev Spelled : World → FetchRequest → Type 0
+Spelled w r = fetch_reply.Spells (fetch_reply.written (fetched w r).1) (fetched w r).1
+
+written-holds : (w : World) (r : FetchRequest) (deadline : ℕ) (reply : FetchReply) (bytes : List ℕ) → Spelled w r → fetch_answer w r deadline ≡ Some reply → bytes ≡ fetch_reply.written reply → HoldsBatches w r bytes
+written-holds w r deadline reply bytes spelled e is = record {
+  reply = (fetched w r).1;
+  spelled = subst (λ s. fetch_reply.Spells s (fetched w r).1) (sym (is ∙ ap (λ (x : FetchReply). fetch_reply.written x) (answer-is w r deadline reply e))) spelled;
+  answered = all-answered w r;
 }
 
 -- ---- at once, and after a wait
 
-reaction-holds : (w : World) (r : FetchRequest) (bytes : List ℕ) (answer : Option FetchReply) → fetch_answer w r (deadline_of w r) ≡ answer → fetch_reaction w r answer ≡ Replies bytes → HoldsBatches w r bytes
-reaction-holds w r bytes None e is = absurd (cc)
-reaction-holds w r bytes (Some reply) e is = written-holds w r (deadline_of w r) reply bytes e (sym (replied-is is))
+reaction-holds : (w : World) (r : FetchRequest) (bytes : List ℕ) (answer : Option FetchReply) → Spelled w r → fetch_answer w r (deadline_of w r) ≡ answer → fetch_reaction w r answer ≡ Replies bytes → HoldsBatches w r bytes
+reaction-holds w r bytes None spelled e is = absurd (cc)
+reaction-holds w r bytes (Some reply) spelled e is = written-holds w r (deadline_of w r) reply bytes spelled e (sym (replied-is is))
   where
     replied-is : {x y : List ℕ} → Replies x ≡ Replies y → x ≡ y
     replied-is h = cc
 
-pub served-holds : (node : Node) (w : World) (body bytes : List ℕ) (r : FetchRequest) → whole fetch_request body ≡ Ok r → (served node w (pos 1) body).reaction ≡ Replies bytes → HoldsBatches w r bytes
+pub served-holds : (node : Node) (w : World) (body bytes : List ℕ) (r : FetchRequest) → HasSmallLogs w → whole fetch_request body ≡ Ok r → (served node w (pos 1) body).reaction ≡ Replies bytes → HoldsBatches w r bytes
 unfolding served
-served-holds node w body bytes r read replies = reaction-holds w r bytes (fetch_answer w r (deadline_of w r)) refl (sym (ap (λ x. (if_read w x (of_fetch w)).reaction) read) ∙ replies)
+served-holds node w body bytes r small read replies = reaction-holds w r bytes (fetch_answer w r (deadline_of w r)) (reply_spelled w body r small read) refl (sym (ap (λ x. (if_read w x (of_fetch w)).reaction) read) ∙ replies)
 
-look-holds : (w : World) (deadline : ℕ) (r : FetchRequest) (bytes : List ℕ) (answer : Option FetchReply) → fetch_answer w r deadline ≡ answer → (elim answer [ Some reply ↦ Replies (fetch_reply.written reply) | None ↦ Silent ]) ≡ Replies bytes → HoldsBatches w r bytes
-look-holds w deadline r bytes None e is = absurd (cc)
-look-holds w deadline r bytes (Some reply) e is = written-holds w r deadline reply bytes e (sym (replied-is is))
+look-holds : (w : World) (deadline : ℕ) (r : FetchRequest) (bytes : List ℕ) (answer : Option FetchReply) → Spelled w r → fetch_answer w r deadline ≡ answer → (elim answer [ Some reply ↦ Replies (fetch_reply.written reply) | None ↦ Silent ]) ≡ Replies bytes → HoldsBatches w r bytes
+look-holds w deadline r bytes None spelled e is = absurd (cc)
+look-holds w deadline r bytes (Some reply) spelled e is = written-holds w r deadline reply bytes spelled e (sym (replied-is is))
   where
     replied-is : {x y : List ℕ} → Replies x ≡ Replies y → x ≡ y
     replied-is h = cc
 
-pub looked-holds : (w : World) (deadline : ℕ) (body bytes : List ℕ) (r : FetchRequest) → whole fetch_request body ≡ Ok r → looked w deadline body ≡ Replies bytes → HoldsBatches w r bytes
+pub looked-holds : (w : World) (deadline : ℕ) (body bytes : List ℕ) (r : FetchRequest) → HasSmallLogs w → whole fetch_request body ≡ Ok r → looked w deadline body ≡ Replies bytes → HoldsBatches w r bytes
 unfolding looked
-looked-holds w deadline body bytes r read replies = look-holds w deadline r bytes (fetch_answer w r deadline) refl (sym (ap (looked_at w deadline) read) ∙ replies)
+looked-holds w deadline body bytes r small read replies = look-holds w deadline r bytes (fetch_answer w r deadline) (reply_spelled w body r small read) refl (sym (ap (looked_at w deadline) read) ∙ replies)

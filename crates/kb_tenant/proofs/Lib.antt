@@ -29,6 +29,8 @@ pub mod Replies
 pub mod RetainMoves
 pub mod ServeMoves
 pub mod Serving
+pub mod Small
+pub mod Spelled
 pub mod Tied
 pub mod Turning
 pub mod Waiting

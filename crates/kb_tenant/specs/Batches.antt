@@ -1,6 +1,6 @@
 -- What a fetch gives: whole batches of the partition's list, from the one that holds the asked offset (Kafka protocol guide, "The
 -- Messages: Fetch").
-use Rattle.std.specs.Prelude.{ℕ, ℤ, pos, ◌≡◌, ◌≤ℤ◌, ◌<ℤ◌, ◌++◌, List, [], ◌∷◌, Option, Some, ⊤}
+use Rattle.std.specs.Prelude.{ℕ, ℤ, pos, ◌≡◌, ◌≤ℤ◌, ◌<ℤ◌, ◌≤◌, ◌<◌, ◌^◌, ◌++◌, List, [], ◌∷◌, length, Option, Some, All, ⊤}
 use Rattle.std.specs.List.{concat}
 use Rattle.kb_log.specs.Log.{base_of, next_of}
 use Rattle.kb_api_data.specs.Layouts.{fetch_reply}
@@ -50,8 +50,19 @@ IsPartitionAnswered w topic asked p = (p.partition ≡ asked.partition) × (p.er
 abbrev pub IsTopicAnswered : World → FetchTopic → FetchTopicReply → Type 0
 IsTopicAnswered w asked t = (t.topic ≡ asked.topic) × EachAnswered (IsPartitionAnswered w (named asked.topic w.known.topics)) asked.partitions t.partitions
 
--- These bytes are a reply in which each partition without an error gives whole batches of its log.
+-- These bytes spell a reply in which each partition without an error gives whole batches of its log. No bytes spell two replies.
 pub record HoldsBatches (w : World) (r : FetchRequest) (bytes : List ℕ) : Type 0 where
   pub reply : FetchReply
-  pub written : bytes ≡ fetch_reply.written reply
+  pub spelled : fetch_reply.Spells bytes reply
   pub answered : EachAnswered (IsTopicAnswered w) r.topics reply.topics
+
+-- ---- the logs that a reply can tell
+
+-- a log whose end is an INT64, with batches of the size that is accepted
+pub record IsSmall (l : LogState) : Type 0 where
+  pub end : l.end < 2 ^ 63
+  pub batches : All (λ b. length b ≤ 1048588) l.batches
+
+-- Each log of a world is such a log.
+abbrev pub HasSmallLogs : World → Type 0
+HasSmallLogs w = All (λ e. All IsSmall e.1) w.logs

@@ -19,7 +19,7 @@ pub use answer::Answer;
 pub use dispatch::{Served, look, serve};
 pub use node::Node;
 pub use promises::{
-    before_deadline, fetches_give_whole_batches, names_stay_apart, requests_again,
+    before_deadline, fetches_give_whole_batches, logs_stay_small, names_stay_apart, requests_again,
     requests_elsewhere, retention_again, retention_elsewhere, worlds_stay_tied,
 };
 pub use request::Request;

@@ -8,7 +8,7 @@ ghost use Rattle.kb_world.specs.Tied.{IsTied};
 ghost use Rattle.kb_world.specs.World.{World, new_world};
 ghost use Rattle.kb_world.specs.Calls.{at_clock, retain, retain_all};
 ghost use Rattle.kb_world.specs.declared.place.Place.{Place};
-ghost use Rattle.kb_tenant.specs.Batches.{HoldsBatches};
+ghost use Rattle.kb_tenant.specs.Batches.{HasSmallLogs, HoldsBatches};
 ghost use Rattle.kb_tenant.specs.Fetch.{fetch_answer, places_of};
 ghost use Rattle.kb_tenant.specs.Replies.{Replies};
 ghost use Rattle.kb_tenant.specs.Serve.{served, looked};
@@ -62,11 +62,21 @@ pub fn retention_again()
     ensures { (w : World) (r : FetchRequest) → places_of (retain_all w).0 r ≡ places_of w r }
 {}
 
-/// What a fetch is answered, at once (its key is 1) or after a wait: each partition without an error gives whole batches of its
-/// log as it is at that moment, one after the other, from the one that holds the asked offset.
+/// The ends and the batches of a world's logs are within their limits from the start on, whatever is asked, dropped by
+/// retention, or the time.
+pub fn logs_stay_small()
+    ensures begun { (clock : ℕ) → HasSmallLogs (at_clock new_world clock) }
+    ensures served { (node : Node) (w : World) (key : ℤ) (body : List ℕ) → HasSmallLogs w → HasSmallLogs (served node w key body).world }
+    ensures retained { (w : World) (place : Place) → HasSmallLogs w → HasSmallLogs (retain w place).0 }
+    ensures clocked { (w : World) (now : ℕ) → HasSmallLogs w → HasSmallLogs (at_clock w now) }
+{}
+
+/// What a fetch is answered, at once (its key is 1) or after a wait: the one reply that the bytes spell, in which each partition
+/// without an error gives whole batches of its log as it is at that moment, one after the other, from the one that holds the
+/// asked offset.
 pub fn fetches_give_whole_batches()
-    ensures served { (node : Node) (w : World) (body bytes : List ℕ) (r : FetchRequest) → whole fetch_request body ≡ Ok r
+    ensures served { (node : Node) (w : World) (body bytes : List ℕ) (r : FetchRequest) → HasSmallLogs w → whole fetch_request body ≡ Ok r
         → (served node w (pos 1) body).reaction ≡ Replies bytes → HoldsBatches w r bytes }
-    ensures looked { (w : World) (deadline : ℕ) (body bytes : List ℕ) (r : FetchRequest) → whole fetch_request body ≡ Ok r
+    ensures looked { (w : World) (deadline : ℕ) (body bytes : List ℕ) (r : FetchRequest) → HasSmallLogs w → whole fetch_request body ≡ Ok r
         → looked w deadline body ≡ Replies bytes → HoldsBatches w r bytes }
 {}

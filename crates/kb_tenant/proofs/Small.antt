@@ -1,0 +1,286 @@
+-- Logs stay small through requests and retention.
+use Rattle.std.proofs.Common.{◌≡◌, ◌≤◌, ◌<◌, ◌^◌, ◌+◌, ℕ, ℤ, zero, suc, Bool, true, false, cond, List, [], ◌∷◌, ◌++◌, length, Option, Some, None, Result, Ok, Err, refl, sym, subst, arith}
+use Rattle.std.specs.Prelude.{All, nat_le, pos, is_some, replicate, slice_get, slice_set}
+use Rattle.std.specs.List.{AllByRecursion}
+use Rattle.std.specs.Option.{option_and_then}
+use Rattle.std.specs.Ordering.{nat_cmp, match_ordering}
+use Rattle.std.specs.declared.cmp.Ordering.{Ordering}
+use Rattle.std.specs.declared.cmp.Ordering.TheVariants.{Less, Equal, Greater}
+use Rattle.std.specs.Map.{lookup, remove_entry, set_value}
+use Rattle.std.specs.BTreeMap.{insert_entry, is_at}
+use Rattle.std.proofs.lemmas.Bool.Decides.{nat_tests}
+use Rattle.std.proofs.lemmas.List.Elements.{All-from_recursion, All-nil, All-push, All-replicate, All-set, recursion_from_All}
+use Rattle.kb_batch.specs.Batch.{IsBatch, count_of, first_fault, natural, stamped}
+use Rattle.kb_batch.specs.BatchLaws.{accepted_is, batch_long, batch_small, length-stamped}
+use Rattle.kb_batch.specs.declared.fault.BatchFault.{BatchFault}
+use Rattle.kb_log.specs.Log.{next_of, starting}
+use Rattle.kb_api_data.specs.declared.create_topics.CreateTopic.{CreateTopic}
+use Rattle.kb_api_data.specs.declared.create_topics.CreateTopicsRequest.{CreateTopicsRequest}
+use Rattle.kb_api_data.specs.declared.delete_topics.DeleteTopicsRequest.{DeleteTopicsRequest}
+use Rattle.kb_api_data.specs.declared.init_producer_id.InitProducerIdRequest.{InitProducerIdRequest}
+use Rattle.kb_api_data.specs.declared.produce.ProducePartition.{ProducePartition}
+use Rattle.kb_api_data.specs.declared.produce.ProduceTopic.{ProduceTopic}
+use Rattle.kb_api_data.specs.declared.produce.ProduceRequest.{ProduceRequest}
+use Rattle.kb_api_data.specs.declared.init_producer_id.InitProducerIdReply.{InitProducerIdReply}
+use Rattle.kb_api_group.specs.ErrorCode.{code_of as code}
+use Rattle.kb_api_group.specs.declared.error_code.ErrorCode.{ErrorCode}
+use Rattle.kb_api_group.specs.declared.error_code.ErrorCode.TheVariants as codes
+use Rattle.kb_producers.specs.declared.verdict.Verdict.{Verdict}
+use Rattle.kb_producers.specs.declared.verdict.Verdict.TheVariants.{Append, Repeat, Refuse}
+use Rattle.kb_topics.specs.Known.{Known, named, step}
+use Rattle.kb_topics.specs.Catalog.{start_command}
+use Rattle.kb_topics.specs.Refusals.{create_refusal, issue_refusal}
+use Rattle.kb_topics.specs.declared.config.TopicConfig.{TopicConfig}
+use Rattle.kb_topics.specs.declared.fault.CatalogFault.{CatalogFault}
+use Rattle.kb_partitions.specs.Logs.{LogState, Logs, appended, dropped, log_at, no_log, put_log, with_log, without_below}
+use Rattle.kb_partitions.specs.declared.fault.PartitionFault.TheVariants as partition
+use Rattle.kb_world.specs.Calls.{appended_to, at_clock, created_unless, deleted_at, due, issue, issued_unless, moved_to, retain, retained_from, with_log_at}
+use Rattle.kb_world.specs.World.{World, log_in, new_world, place_in}
+use Rattle.kb_world.specs.declared.place.Place.{Place}
+use Rattle.kb_tenant.specs.Batches.{HasSmallLogs, IsSmall}
+use Rattle.kb_tenant.specs.CreateTopics.{created_all, created_topic, made_unless, made_with, refusal, settings_in, stands_twice}
+use Rattle.kb_tenant.specs.DeleteTopics.{deleted_all, deleted_topic}
+use Rattle.kb_tenant.specs.InitProducerId.{id_given, id_refused, init_producer_id}
+use Rattle.kb_tenant.specs.Produce.{Progress, appended_at, batch_in, decided, known_place, offered_unless, produced, progress, read_unless, refusal_of, served, served_topic, tried, verdict_on}
+use Rattle.kb_tenant.specs.Serve.{Outcome, served as served_by_key}
+use Rattle.kb_tenant.specs.Turns.{in_turn}
+use Rattle.kb_tenant.specs.declared.node.Node.{Node}
+use Rattle.kb_tenant.proofs.ByRequest.{by_request}
+
+-- ---- entries under keys
+
+module _ {A : Type 0} (P : A → Type 0) where
+  abbrev Each : List (ℕ × A) → Type 0
+  Each es = AllByRecursion (λ (e : ℕ × A). P e.1) es
+
+  each_found : (test : ℕ → Bool) (es : List (ℕ × A)) (a : A) → lookup test es ≡ Some a → Each es → P a
+  each_found test [] a there all = absurd cc
+  each_found test (e ∷ es) a there all = by (test e.0) there (λ found. each_found test es a found all.1)
+    where
+      by : (b : Bool) → cond b (Some e.1) (lookup test es) ≡ Some a → (lookup test es ≡ Some a → P a) → P a
+      by true found rest = let same : e.1 ≡ a = cc in subst P same all.0
+      by false found rest = rest found
+
+  each_set : (test : ℕ → Bool) (es : List (ℕ × A)) (a : A) → P a → Each es → Each (set_value test es a)
+  each_set test [] a one all = tt
+  each_set test (e ∷ es) a one all = by (test e.0) (each_set test es a one all.1)
+    where
+      by : (b : Bool) → Each (set_value test es a) → Each (cond {A = List (ℕ × A)} b ((e.0, a) ∷ es) (e ∷ set_value test es a))
+      by true rest = (one, all.1)
+      by false rest = (all.0, rest)
+
+  each_removed : (test : ℕ → Bool) (es : List (ℕ × A)) → Each es → Each (remove_entry test es)
+  each_removed test [] all = tt
+  each_removed test (e ∷ es) all = by (test e.0) (each_removed test es all.1)
+    where
+      by : (b : Bool) → Each (remove_entry test es) → Each (cond {A = List (ℕ × A)} b es (e ∷ remove_entry test es))
+      by true rest = all.1
+      by false rest = (all.0, rest)
+
+  each_inserted : (es : List (ℕ × A)) (i : ℕ) (a : A) → P a → Each es → Each (insert_entry nat_cmp es i a)
+  each_inserted [] i a one all = (one, tt)
+  each_inserted (e ∷ es) i a one all = by (nat_cmp i e.0) (each_inserted es i a one all.1)
+    where
+      by : (o : Ordering) → Each (insert_entry nat_cmp es i a) → Each (match_ordering {X = List (ℕ × A)} o ((i, a) ∷ e ∷ es) ((e.0, a) ∷ es) (e ∷ insert_entry nat_cmp es i a))
+      by Less rest = (one, all)
+      by Equal rest = (one, all.1)
+      by Greater rest = (all.0, rest)
+
+-- ---- one log
+
+abbrev AreSmall : List LogState → Type 0
+AreSmall ls = All IsSmall ls
+
+abbrev AreAllSmall : Logs → Type 0
+AreAllSmall ls = Each AreSmall ls
+
+by_number : (ls : List LogState) (p : ℕ) (l : LogState) → slice_get ls p ≡ Some l → AllByRecursion IsSmall ls → IsSmall l
+by_number [] p l there all = absurd cc
+by_number (x ∷ xs) zero l there all = let same : x ≡ l = cc in subst IsSmall same all.0
+by_number (x ∷ xs) (suc p) l there all = by_number xs p l there all.1
+
+in_topic : (o : Option (List LogState)) (p : ℕ) (l : LogState) → ((t : List LogState) → o ≡ Some t → AreSmall t) → option_and_then (λ (t : List LogState). slice_get t p) o ≡ Some l → IsSmall l
+in_topic None p l each there = absurd cc
+in_topic (Some t) p l each there = by_number t p l there (recursion_from_All IsSmall t (each t refl))
+
+-- a log that is found is small
+pub small_at : (ls : Logs) (i p : ℕ) (l : LogState) → AreAllSmall ls → log_at i p ls ≡ Some l → IsSmall l
+small_at ls i p l all there = in_topic (lookup (is_at (nat_cmp i)) ls) p l (λ t at. each_found AreSmall (is_at (nat_cmp i)) ls t at all) there
+
+put_small : (ls : Logs) (i p : ℕ) (l : LogState) → IsSmall l → AreAllSmall ls → AreAllSmall (with_log i p l ls)
+put_small ls i p l small all = by (lookup (is_at (nat_cmp i)) ls) refl
+  where
+    by : (o : Option (List LogState)) → lookup (is_at (nat_cmp i)) ls ≡ o → AreAllSmall (put_log i p l ls o)
+    by None at = all
+    by (Some t) at =
+        each_set AreSmall (is_at (nat_cmp i)) ls (slice_set t p l) (All-set IsSmall t p l small (each_found AreSmall (is_at (nat_cmp i)) ls t at all)) all
+
+appended_small : (batch : List ℕ) (l : LogState) → IsBatch batch → l.end + count_of batch < 2 ^ 63 → IsSmall l → IsSmall (appended batch l)
+appended_small batch l is lt small =
+    let long = batch_long batch is in
+    let same = length-stamped (pos l.end) batch (omega (arith, long)) in
+    record {
+      end = lt;
+      batches = All-push (λ (b : List ℕ). length b ≤ 1048588) l.batches (stamped (pos l.end) batch) small.batches (omega (arith, same, batch_small batch is));
+    }
+
+starting_small : (start : ℕ) (bs : List (List ℕ)) → AllByRecursion (λ (b : List ℕ). length b ≤ 1048588) bs → AllByRecursion (λ (b : List ℕ). length b ≤ 1048588) (starting start bs)
+starting_small start [] all = tt
+starting_small start (b ∷ bs) all = by (nat_le (next_of b) start) (starting_small start bs all.1)
+  where
+    by : (t : Bool) → AllByRecursion (λ (x : List ℕ). length x ≤ 1048588) (starting start bs) → AllByRecursion (λ (x : List ℕ). length x ≤ 1048588) (cond {A = List (List ℕ)} t (starting start bs) (b ∷ bs))
+    by true rest = rest
+    by false rest = all
+
+dropped_small : (start : ℤ) (l : LogState) → IsSmall l → IsSmall (dropped start l)
+dropped_small start l small =
+    let P = λ (b : List ℕ). length b ≤ 1048588 in
+    record { end = small.end; batches = All-from_recursion P (starting (natural start) l.batches) (starting_small (natural start) l.batches (recursion_from_All P l.batches small.batches)) }
+
+no_log_small : IsSmall no_log
+no_log_small = record { end = omega arith; batches = All-nil (λ (b : List ℕ). length b ≤ 1048588) }
+
+-- ---- worlds
+
+abbrev Has : World → Type 0
+Has w = AreAllSmall w.logs
+
+abbrev Keeps : World → World → Type 0
+Keeps w v = Has w → Has v
+
+module _ {S E A : Type 0} (world : S → World) (f : S → E → S × A) (each : (s : S) (e : E) → Keeps (world s) (world (f s e).0)) where
+  turns_keep : (s : S) (es : List E) → Keeps (world s) (world (in_turn f s es).0)
+  turns_keep s [] all = all
+  turns_keep s (e ∷ es) all = turns_keep (f s e).0 es (each s e all)
+
+-- ---- Produce
+
+append_keeps : (p : Progress) (place : Place) (batch : List ℕ) → IsBatch batch → (o : Option LogState) → log_in p.world place ≡ o → Keeps p.world (appended_at p place (appended_to p.world place batch o)).0.world
+append_keeps p place batch is None at all = all
+append_keeps p place batch is (Some l) at all = by (nat_le (2 ^ 63) (l.end + count_of batch)) refl
+  where
+    by : (b : Bool) → nat_le (2 ^ 63) (l.end + count_of batch) ≡ b → Has (appended_at p place (cond b (p.world, Err partition.Full) (with_log_at p.world place (appended batch l), Ok (pos l.end)))).0.world
+    by true e = all
+    by false e =
+        put_small p.world.logs place.instance place.number (appended batch l)
+        (appended_small batch l is (grind (arith, nat_tests, e)) (small_at p.world.logs place.instance place.number l all at)) all
+
+decided_keeps : (p : Progress) (place : Place) (batch : List ℕ) → IsBatch batch → (v : Option Verdict) → Keeps p.world (decided p place batch v).0.world
+decided_keeps p place batch is None all = all
+decided_keeps p place batch is (Some Append) all = append_keeps p place batch is (log_in p.world place) refl all
+decided_keeps p place batch is (Some (Repeat base)) all = all
+decided_keeps p place batch is (Some (Refuse code)) all = all
+
+tried_keeps : (p : Progress) (o : Option Place) (records : Option (List ℕ)) → Keeps p.world (tried p o records).0.world
+tried_keeps p None records all = all
+tried_keeps p (Some place) None all = all
+tried_keeps p (Some place) (Some bytes) all = by (first_fault bytes) refl
+  where
+    by : (o : Option BatchFault) → first_fault bytes ≡ o → Has (offered_unless p place (read_unless bytes o)).0.world
+    by None e = decided_keeps p place bytes (accepted_is bytes e) (verdict_on p.world place bytes) all
+    by (Some f) e = all
+
+entry_keeps : (refusal : Option ℤ) (topic : Option ℕ) (p : Progress) (e : ProducePartition) → Keeps p.world (served refusal topic p e).0.world
+entry_keeps (Some code) topic p e all = all
+entry_keeps None topic p e all = tried_keeps p (known_place p.world (place_in topic e.index)) e.records all
+
+topic_keeps : (refusal : Option ℤ) (p : Progress) (t : ProduceTopic) → Keeps p.world (served_topic refusal p t).0.world
+topic_keeps refusal p t =
+    let topic = named t.name p.world.known.topics in
+    turns_keep (λ (s : Progress). s.world) (served refusal topic) (entry_keeps refusal topic) p t.partitions
+
+produce_keeps : (w : World) (r : ProduceRequest) → Keeps w (produced w [] r).0.world
+produce_keeps w r =
+    let refusal = refusal_of r.transactional_id r.acks in
+    turns_keep (λ (s : Progress). s.world) (served_topic refusal) (topic_keeps refusal) (progress w []) r.topics
+
+-- ---- CreateTopics, DeleteTopics and InitProducerId
+
+made_keeps : (w : World) (name : List ℕ) (partitions : ℤ) (config : TopicConfig) (o : Option CatalogFault) → Keeps w (created_unless w name partitions config o).0
+made_keeps w name partitions config (Some f) all = all
+made_keeps w name partitions config None all =
+    each_inserted AreSmall w.logs w.known.creates (replicate (natural partitions) no_log) (All-replicate IsSmall (natural partitions) no_log no_log_small) all
+
+settled_keeps : (w : World) (t : CreateTopic) (o : Option TopicConfig) → Keeps w (made_with w t o).0
+settled_keeps w t None all = all
+settled_keeps w t (Some config) all = made_keeps w t.name t.num_partitions config (create_refusal w.known t.name t.num_partitions config) all
+
+unless_keeps : (w : World) (t : CreateTopic) (o : Option ErrorCode) → Keeps w (made_unless w t o).0
+unless_keeps w t (Some e) all = all
+unless_keeps w t None all = settled_keeps w t (settings_in t.configs) all
+
+create_keeps : (w : World) (r : CreateTopicsRequest) → Keeps w (created_all w r).0
+create_keeps w r =
+    turns_keep (λ (s : World). s) (created_topic r.topics)
+    (λ s t. unless_keeps s t (refusal (stands_twice t.name r.topics) (is_some (named t.name s.known.topics)) t)) w r.topics
+
+gone_keeps : (w : World) (o : Option ℕ) → Keeps w (deleted_at w o).0
+gone_keeps w None all = all
+gone_keeps w (Some i) all = each_removed AreSmall (is_at (nat_cmp i)) w.logs all
+
+delete_keeps : (w : World) (r : DeleteTopicsRequest) → Keeps w (deleted_all (w, []) r).0.0
+delete_keeps w r =
+    turns_keep (λ (s : World × List Place). s.0) deleted_topic (λ s name. gone_keeps s.0 (named name s.0.known.topics)) (w, []) r.names
+
+issued_keeps : (w : World) (o : Option CatalogFault) → Keeps w (issued_unless w o).0
+issued_keeps w (Some f) all = all
+issued_keeps w None all = all
+
+-- what is answered by whether an id for transactions is asked for
+abbrev given_by : World → Option (List ℕ) → World × InitProducerIdReply
+given_by w None = id_given (issue w)
+given_by w (Some id) = (w, id_refused (code codes.InvalidRequest))
+
+given_keeps : (w : World) (o : Option (List ℕ)) → Keeps w (given_by w o).0
+given_keeps w None all = issued_keeps w (issue_refusal w.known) all
+given_keeps w (Some id) all = all
+
+init_keeps : (w : World) (r : InitProducerIdRequest) → Keeps w (init_producer_id w r).0
+init_keeps w r = given_keeps w r.transactional_id
+
+-- ---- retention
+
+below_small : (i p : ℕ) (start : ℤ) (ls : Logs) (o : Option LogState) → log_at i p ls ≡ o → AreAllSmall ls → AreAllSmall (without_below i p start o ls)
+below_small i p start ls None at all = all
+below_small i p start ls (Some l) at all = put_small ls i p (dropped start l) (dropped_small start l (small_at ls i p l all at)) all
+
+moved_keeps : (w : World) (place : Place) (start : ℕ) (o : Option Known) → Keeps w (moved_to w place start o).0
+moved_keeps w place start None all = all
+moved_keeps w place start (Some k) all = below_small place.instance place.number (pos start) w.logs (log_in w place) refl all
+
+due_keeps : (w : World) (place : Place) (o : Option ℕ) → Keeps w (retained_from w place o).0
+due_keeps w place None all = all
+due_keeps w place (Some start) all = moved_keeps w place start (step w.known (start_command (pos place.instance) (pos place.number) (pos start))) all
+
+-- ---- the laws
+
+into : (w : World) → HasSmallLogs w → Has w
+into w small = recursion_from_All (λ (e : ℕ × List LogState). AreSmall e.1) w.logs small
+
+out_of : (w : World) → Has w → HasSmallLogs w
+out_of w small = All-from_recursion (λ (e : ℕ × List LogState). AreSmall e.1) w.logs small
+
+-- a log of such a world
+pub small_in : (w : World) (place : Place) (l : LogState) → HasSmallLogs w → log_in w place ≡ Some l → IsSmall l
+small_in w place l small at = small_at w.logs place.instance place.number l (into w small) at
+
+pub new_small : (clock : ℕ) → HasSmallLogs (at_clock new_world clock)
+new_small clock = out_of (at_clock new_world clock) tt
+
+pub clock_small : (w : World) (now : ℕ) → HasSmallLogs w → HasSmallLogs (at_clock w now)
+clock_small w now small = small
+
+pub retained_small : (w : World) (place : Place) → HasSmallLogs w → HasSmallLogs (retain w place).0
+retained_small w place small = out_of (retain w place).0 (due_keeps w place (due w place) (into w small))
+
+pub served_small : (node : Node) (w : World) (key : ℤ) (body : List ℕ) → HasSmallLogs w → HasSmallLogs (served_by_key node w key body).world
+served_small node w key body small = out_of (served_by_key node w key body).world (by_request (λ (o : Outcome). Keeps w o.world) node w key body (record {
+  produce = λ r read. produce_keeps w r;
+  fetch = λ r read all. all;
+  list_offsets = λ r read all. all;
+  metadata = λ r read all. all;
+  create_topics = λ r read. create_keeps w r;
+  delete_topics = λ r read. delete_keeps w r;
+  init_producer_id = λ r read. init_keeps w r;
+  shut = λ all. all;
+}) (into w small))

@@ -3,6 +3,8 @@ pub mod Laws
 pub mod Owned
 pub mod Owners
 pub mod Parts
+pub mod Greetings
+pub mod Isolation
 pub mod Quiet
 pub mod Ranges
 pub mod Runs

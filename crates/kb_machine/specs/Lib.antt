@@ -8,3 +8,5 @@ pub mod Tenant
 pub mod Turned
 pub mod Calls
 pub mod Told
+pub mod Isolation
+pub mod Greetings

@@ -1,12 +1,31 @@
 //! Laws about the definitions, each as the contract of a function with an empty body.
-ghost use Rattle.std.specs.Prelude.{◌≡◌, ◌≤◌, ◌++◌, ◌∷◌, ℕ, ℤ, List, Bool, true, length, Some, None};
+ghost use Rattle.std.specs.Prelude.{◌≡◌, ◌≤◌, ◌++◌, ◌∷◌, ℕ, ℤ, List, [], Bool, true, length, Some, None};
 ghost use Rattle.kb_machine.specs.Session.{Session, Stage, BoundTo, LIMIT, fed, shut_down};
 ghost use Rattle.kb_machine.specs.Requests.{Another, Authenticate};
 ghost use Rattle.kb_tenant.specs.Hosted.{Kept};
 ghost use Rattle.kb_machine.specs.Greeting.{Setup, greeted_by, login};
 ghost use Rattle.kb_machine.specs.Machine.{World, Line, Happening, Sent, first_able, turns, those, those_sent, served, stepped, leaving, run, by_number};
 ghost use Rattle.kb_machine.specs.Owners.{whose, concerns, purge};
-ghost use Rattle.kb_machine.specs.Broker.{BrokerState, Mine, Rising, owned_by};
+ghost use Rattle.kb_machine.specs.Broker.{BrokerState, IsReady, IsRun, IsUnowned, Mine, Rising, alone_unowned, owned_by};
+ghost use Rattle.kb_machine.specs.Greetings.{greeted_alone};
+ghost use Rattle.kb_machine.specs.Isolation.{IsIsolated, StartsAlike, AreAlike, own_sent};
+
+/// Isolation, as a tenant sees it: two runs in which its own events and the moments are the same, in the same order, give its
+/// connections the same bytes, and shut the same of them, whatever the others do in either. The tenant has the same before both
+/// runs, as on two brokers that were opened with the same settings and that nobody has used, and in neither anything is refused
+/// to it or to a connection that is not bound.
+pub fn others_change_nothing()
+    ensures same { (t : ℕ) (es fs : List Happening) (a after_a b after_b : BrokerState) (got others : List Sent)
+        → IsIsolated es a after_a got → IsIsolated fs b after_b others → AreAlike t es fs a after_a b after_b
+        → own_sent t fs b others ≡ own_sent t es a got }
+    ensures unused { (t : ℕ) (es fs : List Happening) (b : BrokerState) → b.lines ≡ [] → StartsAlike t es fs b b }
+{}
+
+/// A connection that is never bound gets what the greeting answers to its own pieces, and changes no world.
+pub fn strangers_are_greeted()
+    ensures { (n : ℕ) (es : List Happening) (b : BrokerState) → IsReady b → IsRun b.last es → IsUnowned n es b
+        → by_number (alone_unowned n es b) ≡ greeted_alone n es b }
+{}
 
 /// A connection never has more unread bytes than its limit, and one that was shut takes no piece.
 pub fn room_is_kept()

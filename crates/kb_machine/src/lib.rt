@@ -12,6 +12,6 @@ mod whom;
 
 pub use promises::{
     bound_for_good, first_event, nothing_before_login, one_tenants_in_order, others_change_nothing,
-    owners_at_entry, room_is_kept, strangers_are_greeted, turns_end,
+    owners_at_entry, room_is_kept, runs_go_on, strangers_are_greeted, turns_end,
 };
 pub use whom::Whom;

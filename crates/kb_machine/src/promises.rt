@@ -6,9 +6,10 @@ ghost use Rattle.kb_tenant.specs.Hosted.{Kept};
 ghost use Rattle.kb_machine.specs.Greeting.{Setup, greeted_by, login};
 ghost use Rattle.kb_machine.specs.Machine.{World, Line, Happening, Sent, first_able, turns, those, those_sent, served, stepped, leaving, run, by_number};
 ghost use Rattle.kb_machine.specs.Owners.{whose, concerns, purge};
-ghost use Rattle.kb_machine.specs.Broker.{BrokerState, IsReady, IsRun, IsUnowned, Mine, Rising, alone_unowned, owned_by};
+ghost use Rattle.kb_machine.specs.Broker.{BrokerState, IsCalmFor, IsReady, IsRun, IsUnowned, Mine, Rising, alone_unowned, owned_by, view_of};
 ghost use Rattle.kb_machine.specs.Greetings.{greeted_alone};
-ghost use Rattle.kb_machine.specs.Isolation.{IsIsolated, StartsAlike, AreAlike, own_sent};
+ghost use Rattle.kb_machine.specs.Isolation.{IsIsolated, StartsAlike, AreAlike, own_sent, last_world, LeavesWorlds};
+ghost use Rattle.kb_machine.specs.Told.{quieted};
 
 /// Isolation, as a tenant sees it: two runs in which its own events and the moments are the same, in the same order, give its
 /// connections the same bytes, and shut the same of them, whatever the others do in either. The tenant has the same before both
@@ -19,6 +20,15 @@ pub fn others_change_nothing()
         → IsIsolated es a after_a got → IsIsolated fs b after_b others → AreAlike t es fs a after_a b after_b
         → own_sent t fs b others ≡ own_sent t es a got }
     ensures unused { (t : ℕ) (es fs : List Happening) (b : BrokerState) → b.lines ≡ [] → StartsAlike t es fs b b }
+{}
+
+/// A run after a run goes on, for a tenant to which nothing is refused in either, where the first left its machine: the output
+/// that was taken is gone, and nothing else.
+pub fn runs_go_on()
+    ensures { (t : ℕ) (mine : ℕ → Bool) (es fs later : List Happening) (a b c : BrokerState) (got more : List Sent)
+        → LeavesWorlds es a b got → LeavesWorlds fs b c more → Mine t mine (es ++ (fs ++ later)) a → IsCalmFor t a b → IsCalmFor t b c
+        → (those_sent mine more ≡ by_number (run (purge mine fs) (quieted (last_world (purge mine es) (view_of t mine a)))))
+        × (view_of t mine c ≡ quieted (last_world (purge mine fs) (quieted (last_world (purge mine es) (view_of t mine a))))) }
 {}
 
 /// A connection that is never bound gets what the greeting answers to its own pieces, and changes no world.

@@ -93,7 +93,7 @@ impl Model for Connection {
 
     ghost view = { λ c. record { number = c.number; session = record { stage = stage_with_wait c.stage; unread = c.unread; output = c.output.items; shut = c.shut } } };
 
-    ghost invariant = { λ c. IsLimited c.unread c.shut };
+    ghost invariant = { λ c. IsLimited c.unread (stage_with_wait c.stage) c.shut };
 }
 
 impl Connection {
@@ -148,7 +148,7 @@ impl Connection {
     /// How many more bytes it takes.
     pub fn room(&self) -> usize
         ensures room { result ≡ room self.now.session }
-        ensures limited { IsLimited self.now.session.unread self.now.session.shut }
+        ensures limited { IsLimited self.now.session.unread self.now.session.stage self.now.session.shut }
     {
         UNREAD_LIMIT.saturating_sub(self.unread.unread())
     }
@@ -251,6 +251,8 @@ impl Connection {
     pub fn request(&self, alloc: Global) -> Result<Option<kb_tenant::Request<'_>>, AllocError>
         ensures own { IfOk result (λ found. IfNone found (IsOwn self.now.session)) }
         ensures asked { IfOk result (λ found. IfSome found (λ asked. IsAsked self.now.session asked.api_key asked.correlation_id asked.body.now)) }
+        // none stands in front of one that was shut
+        ensures unshut { IfOk result (λ found. IfSome found (λ asked. self.now.session.shut ≡ false)) }
     {
         let Next::Frame(frame) = self.unread.next() else {
             return Ok(None);
@@ -332,7 +334,8 @@ impl Connection {
 
     /// The request of its tenant that stands in front, to wait for its answer until the deadline.
     fn fetch_in_front(&self, alloc: Global, deadline: u64) -> Result<Option<Waiting>, AllocError>
-        ensures { IfOk result (λ found. option_map wait_of found ≡ option_map (wait_for deadline) (asked_at (front self.now.session.unread))) }
+        ensures found { IfOk result (λ found. option_map wait_of found ≡ option_map (wait_for deadline) (asked_at (front self.now.session.unread))) }
+        ensures unshut { IfOk result (λ found. IfSome found (λ fetch. self.now.session.shut ≡ false)) }
     {
         let Some(request) = self.request(alloc)? else {
             return Ok(None);
@@ -344,8 +347,9 @@ impl Connection {
         }))
     }
 
-    /// Waits for the answer to a fetch. One that greets has none.
+    /// Waits for the answer to a fetch. One that greets has none, and one that was shut waits for nothing.
     fn wait_for(&mut self, fetch: Waiting)
+        requires { self.old.session.shut ≡ false }
         ensures { self.new ≡ with_session self.old (record self.old.session { stage = waiting (wait_of fetch) self.old.session.stage }) }
     {
         if let Phase::Bound(tenant) = self.phase() {

@@ -8,3 +8,6 @@ pub mod Tenant
 pub mod Turned
 pub mod Calls
 pub mod Told
+pub mod Isolation
+pub mod Greetings
+pub mod Fetches

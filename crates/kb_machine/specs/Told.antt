@@ -1,5 +1,6 @@
 -- What a machine says event by event, where its output is taken after each.
-use Rattle.std.specs.Prelude.{◌≡◌, ℕ, List, [], ◌∷◌, map, not, ◌&&◌, length, Bool}
+use Rattle.std.specs.Prelude.{◌≡◌, ℕ, ◌<◌, List, [], ◌∷◌, map, not, ◌&&◌, length, Bool, ⊤}
+use Rattle.std.specs.List.{AllByRecursion}
 use Rattle.kb_machine.specs.Machine.{Happening, Line, World, Sent, each, stepped, those_sent}
 use Rattle.kb_machine.specs.Owners.{find_line, concerns}
 use Rattle.kb_machine.specs.Broker.{BrokerState, view_of, owned_by, only, IsUnowned}
@@ -21,8 +22,15 @@ abbrev pub tell : (ℕ → Bool) → List Happening → World → List (List Sen
 tell mine [] w = []
 tell mine (e ∷ es) w = let next = stepped (concerns mine e) e w in said w.lines next.lines ∷ tell mine es (quieted next)
 
+-- the numbers of the connections rise from above that number
+abbrev pub RisesAbove : ℕ → List Sent → Type 0
+RisesAbove low [] = ⊤
+RisesAbove low (s ∷ ss) = (low < s.number) × RisesAbove s.number ss
+
 -- what was said at each event is what the machine of each tenant says there to the tenant's connections, and to a connection
--- without owner what a machine with nothing in it but that connection says
+-- without owner what a machine with nothing in it but that connection says; and at each event the connections, whosever they are, come
+-- by rising number
 pub record Tells (b : BrokerState) (es : List Happening) (steps : List (List Sent)) : Type 0 where
   pub owned : (t : ℕ) → map (those_sent (owned_by t es b)) steps ≡ tell (owned_by t es b) es (view_of t (owned_by t es b) b)
   pub unowned : (n : ℕ) → IsUnowned n es b → map (those_sent (only n)) steps ≡ tell (only n) es (view_of (length b.tenants) (only n) b)
+  pub in_order : AllByRecursion (λ step. RisesAbove 0 step) steps

@@ -1,12 +1,59 @@
 //! Laws about the definitions, each as the contract of a function with an empty body.
-ghost use Rattle.std.specs.Prelude.{◌≡◌, ◌≤◌, ◌++◌, ◌∷◌, ℕ, ℤ, List, Bool, true, length, Some, None};
-ghost use Rattle.kb_machine.specs.Session.{Session, Stage, BoundTo, LIMIT, fed, shut_down};
-ghost use Rattle.kb_machine.specs.Requests.{Another, Authenticate};
-ghost use Rattle.kb_tenant.specs.Hosted.{Kept};
+ghost use Rattle.std.specs.Prelude.{◌≡◌, ◌≤◌, ◌++◌, ◌∷◌, ℕ, ℤ, List, [], Bool, true, length, pos, Ok, Some, None};
+ghost use Rattle.kb_machine.specs.Session.{Session, Stage, BoundTo, LIMIT, fed, shut_down, without_wait};
+ghost use Rattle.kb_wire.specs.Codec.{whole};
+ghost use Rattle.kb_api_group.specs.Frames.{Whole, front};
+ghost use Rattle.kb_api_data.specs.Layouts.{fetch_request};
+ghost use Rattle.kb_api_data.specs.declared.fetch.FetchRequest.{FetchRequest};
+ghost use Rattle.kb_machine.specs.Requests.{Another, Authenticate, request};
+ghost use Rattle.kb_machine.specs.Tenant.{Wait};
+ghost use Rattle.kb_machine.specs.Fetches.{GetsBatches};
+ghost use Rattle.kb_tenant.specs.Hosted.{Kept, world_at};
 ghost use Rattle.kb_machine.specs.Greeting.{Setup, greeted_by, login};
-ghost use Rattle.kb_machine.specs.Machine.{World, Line, Happening, Sent, first_able, turns, those, those_sent, served, stepped, leaving, run, by_number};
+ghost use Rattle.kb_machine.specs.Machine.{World, Line, Happening, Sent, first_able, turns, those, those_sent, served, stepped, leaving, run, by_number, woken};
 ghost use Rattle.kb_machine.specs.Owners.{whose, concerns, purge};
-ghost use Rattle.kb_machine.specs.Broker.{BrokerState, Mine, Rising, owned_by};
+ghost use Rattle.kb_machine.specs.Broker.{BrokerState, IsCalmFor, IsReady, IsRun, IsUnowned, Mine, Rising, alone_unowned, owned_by, view_of};
+ghost use Rattle.kb_machine.specs.Greetings.{greeted_alone};
+ghost use Rattle.kb_machine.specs.Isolation.{IsIsolated, StartsAlike, AreAlike, own_sent, last_world, LeavesWorlds};
+ghost use Rattle.kb_machine.specs.Told.{quieted};
+
+/// Isolation, as a tenant sees it: two runs in which its own events and the moments are the same, in the same order, give its
+/// connections the same bytes, and shut the same of them, whatever the others do in either. The tenant has the same before both
+/// runs, as on two brokers that were opened with the same settings and that nobody has used, and in neither anything is refused
+/// to it or to a connection that is not bound.
+pub fn others_change_nothing()
+    ensures same { (t : ℕ) (es fs : List Happening) (a after_a b after_b : BrokerState) (got others : List Sent)
+        → IsIsolated es a after_a got → IsIsolated fs b after_b others → AreAlike t es fs a after_a b after_b
+        → own_sent t fs b others ≡ own_sent t es a got }
+    ensures unused { (t : ℕ) (es fs : List Happening) (b : BrokerState) → b.lines ≡ [] → StartsAlike t es fs b b }
+{}
+
+/// A run after a run goes on, for a tenant to which nothing is refused in either, where the first left its machine: the output
+/// that was taken is gone, and nothing else.
+pub fn runs_go_on()
+    ensures { (t : ℕ) (mine : ℕ → Bool) (es fs later : List Happening) (a b c : BrokerState) (got more : List Sent)
+        → LeavesWorlds es a b got → LeavesWorlds fs b c more → Mine t mine (es ++ (fs ++ later)) a → IsCalmFor t a b → IsCalmFor t b c
+        → (those_sent mine more ≡ by_number (run (purge mine fs) (quieted (last_world (purge mine es) (view_of t mine a)))))
+        × (view_of t mine c ≡ quieted (last_world (purge mine fs) (quieted (last_world (purge mine es) (view_of t mine a))))) }
+{}
+
+/// A connection that is never bound gets what the greeting answers to its own pieces, and changes no world.
+pub fn strangers_are_greeted()
+    ensures { (n : ℕ) (es : List Happening) (b : BrokerState) → IsReady b → IsRun b.last es → IsUnowned n es b
+        → by_number (alone_unowned n es b) ≡ greeted_alone n es b }
+{}
+
+/// What a machine answers to a fetch, where its connection takes a turn and where it has waited, holds whole batches of the
+/// tenant's partitions as they are at that moment, one after the other, from the one that holds the asked offset; or the
+/// connection gets no reply.
+pub fn fetches_get_whole_batches()
+    ensures at_once { (setup : Setup) (kept : Kept) (clock : ℕ) (s : Session) (frame rest : List ℕ) (version : ℤ) (body : List ℕ) (fetch : FetchRequest)
+        → front s.unread ≡ Whole frame rest → (request frame).asked ≡ Another (pos 1) version body → whole fetch_request body ≡ Ok fetch
+        → GetsBatches (world_at kept clock) fetch (request frame).correlation_id (record s { unread = rest }) (served setup kept clock s) }
+    ensures after_a_wait { (kept : Kept) (clock tenant : ℕ) (s : Session) (wait : Wait) (fetch : FetchRequest)
+        → s.stage ≡ BoundTo tenant (Some wait) → whole fetch_request wait.body ≡ Ok fetch
+        → GetsBatches (world_at kept clock) fetch wait.correlation_id (record s { stage = without_wait s.stage }) (woken kept clock s) }
+{}
 
 /// A connection never has more unread bytes than its limit, and one that was shut takes no piece.
 pub fn room_is_kept()

@@ -1,5 +1,4 @@
 pub mod Bodies
-pub mod Served
 pub mod Answering
 pub mod Appended
 pub mod Reacting

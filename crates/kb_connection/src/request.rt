@@ -109,29 +109,31 @@ fn read_body(alloc: Global, key: i16, version: i16, body: &[u8]) -> Result<Asked
     Ok(asked)
 }
 
+/// The keys that are served, each with its version, by rising key.
+const SERVED: [(i16, i16); 17] = [
+    (0, 3),
+    (1, 4),
+    (2, 1),
+    (3, 1),
+    (8, 2),
+    (9, 1),
+    (10, 0),
+    (11, 1),
+    (12, 0),
+    (13, 0),
+    (14, 0),
+    (SASL_HANDSHAKE, 1),
+    (API_VERSIONS, 0),
+    (19, 0),
+    (20, 0),
+    (22, 0),
+    (SASL_AUTHENTICATE, 0),
+];
+
 /// Whether a key is served at a version.
 #[tactic(auto, unfolding(kb_machine::specs::Requests::is_served))]
 fn is_served(key: i16, version: i16) -> bool
     ensures { result ≡ is_served key version }
 {
-    match key {
-        0 => version == 3,
-        1 => version == 4,
-        2 => version == 1,
-        3 => version == 1,
-        8 => version == 2,
-        9 => version == 1,
-        10 => version == 0,
-        11 => version == 1,
-        12 => version == 0,
-        13 => version == 0,
-        14 => version == 0,
-        SASL_HANDSHAKE => version == 1,
-        API_VERSIONS => version == 0,
-        19 => version == 0,
-        20 => version == 0,
-        22 => version == 0,
-        SASL_AUTHENTICATE => version == 0,
-        _ => false,
-    }
+    SERVED.contains(&(key, version))
 }

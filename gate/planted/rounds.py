@@ -4,7 +4,7 @@ import re
 from typing import Dict, List
 
 from planted import source
-from planted.prover import Report, Room
+from planted.prover import NAMES, Report, Room
 
 REFUSED = "refused"
 NOT_REFUSED = "NOT REFUSED"
@@ -167,6 +167,10 @@ class Crate:
         """An edit of what is no function's own is refused by whoever has a goal that is not proved."""
         failed = {**report.items, **report.functions}
         kinds = {it.kind: f"{name}: {it.text}" for name, it in reversed([*failed.items()])}
+        # (what a derive writes is no function's own, so a lemma may be what it makes false)
+        lemmas = [f"{file}: {text[:150]}" for file, _, text, is_error in report.errors if is_error and file.startswith("proofs/") and not NAMES.search(text)]
+        if lemmas:
+            kinds.setdefault("own", lemmas[0])
         for kind, status in (("own", REFUSED), ("misfit", MISFIT), ("helpless", NO_GOAL), ("unknown", UNKNOWN), ("fell", CALLER)):
             if kind in kinds:
                 plan.judge(status, kinds[kind])

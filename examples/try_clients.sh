@@ -1,0 +1,71 @@
+#!/bin/sh
+# A session of stock clients with a broker of three tenants: try_clients.sh [KBROKER]
+#
+# It serves tenants.toml at localhost:19092 with the proved program (crates/kbroker/out/kbroker, or the one that is named), lets a
+# producer and a consumer in Python and kcat speak to it, compares what they print, and ends the broker. It needs Python's
+# confluent_kafka (Debian: python3-confluent-kafka) and kcat.
+set -u
+kbroker=$(realpath "${1:-$(dirname "$0")/../crates/kbroker/out/kbroker}")
+cd "$(dirname "$0")" || exit 1
+faults=0
+
+for python in "${PYTHON:-python3}" /usr/bin/python3 none; do
+    "$python" -c 'import confluent_kafka' 2>/dev/null && break
+done
+if [ "$python" = none ] || ! command -v kcat >/dev/null; then
+    echo "try_clients: python3 with confluent_kafka, and kcat, are needed" >&2
+    exit 2
+fi
+
+# Each with USER PASSWORD first.
+make() { timeout 60 "$python" create_topic.py localhost 19092 "$1" "$2" orders; }
+write() { printf "$3" | timeout 60 "$python" producer.py localhost:19092 "$1" "$2" orders; }
+read_all() { timeout 60 "$python" consumer.py localhost:19092 "$1" "$2" orders; }
+with_kcat() {
+    user=$1 password=$2
+    shift 2
+    timeout 60 kcat -q -b localhost:19092 -X security.protocol=SASL_PLAINTEXT -X sasl.mechanisms=PLAIN \
+        -X sasl.username="$user" -X sasl.password="$password" -X broker.address.family=v4 "$@"
+}
+write_with_kcat() { echo "$3" | with_kcat "$1" "$2" -P -t orders; }
+
+# expect WHAT LINES COMMAND..: the command prints these lines, and nothing else.
+expect() {
+    what=$1 lines=$(printf "$2")
+    shift 2
+    printed=$("$@" 2>&1)
+    if [ "$printed" = "$lines" ]; then
+        echo "ok: $what"
+    else
+        echo "NOT AS EXPECTED: $what"
+        echo "$printed"
+        faults=$((faults + 1))
+    fi
+}
+
+said=$(mktemp)
+"$kbroker" serve --config tenants.toml --stock-clients >"$said" &
+broker=$!
+trap 'kill $broker; rm -f "$said"' EXIT
+for _ in 1 2 3 4 5 6 7 8 9 10; do
+    grep -q listening "$said" && break
+    sleep 0.5
+done
+
+expect "the broker listens" "listening on localhost:19092" cat "$said"
+expect "ann makes a topic" "made orders, partitions: 1" make ann pw1
+expect "amir of the same tenant cannot make it again" "create_topic: TOPIC_ALREADY_EXISTS" make amir pw2
+expect "bob of another tenant makes his own" "made orders, partitions: 1" make bob pw3
+expect "ann writes" "3 sent" write ann pw1 'one\ntwo\nthree\n'
+expect "bob writes" "1 sent" write bob pw3 'uno\n'
+expect "amir reads what ann wrote" '0 one\n1 two\n2 three' read_all amir pw2
+expect "bob reads what he wrote" "0 uno" read_all bob pw3
+expect "cleo of the third tenant has no such topic" "consumer: Broker: Unknown topic or partition" read_all cleo pw4
+expect "kcat writes as ann" "" write_with_kcat ann pw1 four
+expect "kcat reads all of it" 'one\ntwo\nthree\nfour' with_kcat ann pw1 -C -t orders -o beginning -e
+
+if [ "$faults" -ne 0 ]; then
+    echo "$faults not as expected"
+    exit 1
+fi
+echo "all as expected"

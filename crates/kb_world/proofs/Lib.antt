@@ -9,4 +9,5 @@ pub mod Retained
 pub mod RetainedAll
 pub mod Spared
 pub mod StillKept
+pub mod Telling
 pub mod Tied

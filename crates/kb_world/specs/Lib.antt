@@ -4,4 +4,5 @@ pub mod KeptUntil
 pub mod Parts
 pub mod Steps
 pub mod Tied
+pub mod Told
 pub mod World

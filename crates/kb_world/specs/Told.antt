@@ -1,0 +1,58 @@
+-- What each call answers, whatever memory and the store refuse: what is defined, or else a fault that names what refused it.
+use Rattle.std.specs.Prelude.{◌≡◌, ◌≤◌, ◌+◌, ◌^◌, ◌⊎◌, ℕ, nat_lt, Result, Ok, Err, if◌then◌else◌}
+use Rattle.kb_store.specs.Disk.{Grew}
+use Rattle.kb_topics.specs.declared.fault.CatalogFault.{CatalogFault}
+use Rattle.kb_topics.specs.declared.fault.CatalogFault.TheVariants as catalog
+use Rattle.kb_partitions.specs.Scene.{Scene, WhereHonest}
+use Rattle.kb_partitions.specs.declared.fault.PartitionFault.{PartitionFault}
+use Rattle.kb_partitions.specs.declared.fault.PartitionFault.TheVariants as partition
+use Rattle.kb_world.specs.Parts.{END, Seen}
+
+-- one refusal more, short of the end
+abbrev pub counted_once : ℕ → ℕ
+counted_once n = if nat_lt n END then n + 1 else n
+
+-- It did what is defined, and no refusal was counted.
+pub record IsDone (a b : Scene Seen) (P : Type 0) : Type 0 where
+  pub counted : b.state.refusals ≡ a.state.refusals
+  pub met : WhereHonest a b P
+
+-- It was refused for a want that there was. That was counted once, and the tenant's world is as it was.
+pub record IsRefused (a b : Scene Seen) (Want : Type 0) : Type 0 where
+  pub want : Want
+  pub counted : b.state.refusals ≡ counted_once a.state.refusals
+  pub stays : WhereHonest a b (b.state.world ≡ a.state.world)
+
+-- the store's failures grew, or no file number is left
+abbrev pub Failed : Scene Seen → Scene Seen → Type 0
+Failed a b = WhereHonest a b (Grew a.disk.failures b.disk.failures ⊎ (2 ^ 64 ≤ a.next))
+
+-- It did what is defined, but the removal of a file was refused, which was counted once.
+pub record IsLeft (a b : Scene Seen) (P : Type 0) : Type 0 where
+  pub counted : b.state.refusals ≡ counted_once a.state.refusals
+  pub met : WhereHonest a b P
+
+-- what a fault names
+abbrev pub IsWant : Scene Seen → Scene Seen → PartitionFault → Type 0
+IsWant a b partition.Unknown = ⊥
+IsWant a b partition.Range = ⊥
+IsWant a b partition.Full = ⊥
+IsWant a b partition.Store = Failed a b
+IsWant a b partition.Memory = Unit {0}
+
+-- the same of the catalog, whose log ends there: it is full where the log has no room for a batch, or each instance was given out
+abbrev pub IsCatalogWant : ℕ → Scene Seen → Scene Seen → CatalogFault → Type 0
+IsCatalogWant end a b catalog.Full = (2 ^ 63 ≤ end + 1) ⊎ (2 ^ 63 ≤ a.state.world.known.creates + 1)
+IsCatalogWant end a b catalog.Store = Failed a b
+IsCatalogWant end a b catalog.Memory = Unit {0}
+IsCatalogWant end a b _ = ⊥
+
+-- An accepted call did what is defined. A refused one is refused by the definition, or for the want that its fault names.
+abbrev pub Tells : {T F : Type 0} → Scene Seen → Scene Seen → Type 0 → (F → Type 0) → Result T F → Type 0
+Tells a b P want (Ok x) = IsDone a b P
+Tells a b P want (Err f) = IsDone a b P ⊎ IsRefused a b (want f)
+
+-- The same of a deletion, which is accepted also where the removal of a file is refused.
+abbrev pub Deletes : {T F : Type 0} → Scene Seen → Scene Seen → Type 0 → (F → Type 0) → Result T F → Type 0
+Deletes a b P want (Ok x) = IsDone a b P ⊎ IsLeft a b P
+Deletes a b P want (Err f) = IsDone a b P ⊎ IsRefused a b (want f)

@@ -11,6 +11,7 @@ pub mod OpeningParts
 pub mod RunDrain
 pub mod RunEvents
 pub mod RunHistory
+pub mod RunLast
 pub mod RunOrder
 pub mod TenantTurns
 pub mod ScriptLines

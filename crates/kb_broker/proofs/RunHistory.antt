@@ -31,7 +31,7 @@ grows-passes honest [] old new got h p = subst (Grows old) (sym p.0) (grows-empt
 grows-passes honest (e ∷ es) old new got h p = grows-then old p.0 new (p.3.step h).grows (grows-passes honest es p.0 new p.2 h p.4)
 
 -- where nothing is refused, what ends is what closes
-ended-leaving : (e : Happening) (old new : BrokerState) (ended : List Sent) → Leads e old new ended → IsCalm old.unbound_refusals new.unbound_refusals → ended ≡ leaving e old.lines
+pub ended-leaving : (e : Happening) (old new : BrokerState) (ended : List Sent) → Leads e old new ended → IsCalm old.unbound_refusals new.unbound_refusals → ended ≡ leaving e old.lines
 ended-leaving (Opens n) old new ended h q = elim h [ inl k ↦ k.1 | inr k ↦ absurd (k.0.counted q) ]
 ended-leaving (Comes n piece) old new ended h q = h.1
 ended-leaving (Closes n) old new ended h q = h.1

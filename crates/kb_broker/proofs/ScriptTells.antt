@@ -1,14 +1,15 @@
 -- What a broker says in a run is what the machines of its tenants say.
 use Rattle.std.proofs.Common.{◌≡◌, ℕ, zero, suc, ◌&&◌, Bool, true, false, not, cond, eqb, List, [], ◌∷◌, ◌++◌, length, map, refl, sym, ap, subst, ◌∙◌, arith, lit<, Some, append_assoc, append-nil}
+use Rattle.std.specs.List.{AllByRecursion}
 use Rattle.std.proofs.lemmas.Bool.Decides.{nat_tests}
 use Rattle.kb_machine.specs.Machine.{Happening, Line, Sent, World, those, those_sent, stepped}
 use Rattle.kb_machine.specs.Owners.{find_line, concerns}
 use Rattle.kb_world.specs.Steps.{IsCalm}
 use Rattle.kb_tenant.specs.Hosted as hosted
 use Rattle.kb_tenant.specs.Hosted.{TenantState, all_calm}
-use Rattle.kb_machine.specs.Broker.{BrokerState, IsSound, IsCalmFor, Mine, view_of, refusals_of, owned_by, only}
+use Rattle.kb_machine.specs.Broker.{BrokerState, IsSound, IsCalmFor, Mine, Rising, view_of, refusals_of, owned_by, only}
 use Rattle.kb_machine.specs.Calls.{is_calm, without_output, shut_in}
-use Rattle.kb_machine.specs.Told.{said, quieted, tell, Tells}
+use Rattle.kb_machine.specs.Told.{said, quieted, tell, RisesAbove, Tells}
 use Rattle.kb_machine.proofs.Laws.{those-each}
 use Rattle.kb_machine.proofs.Owned.{owned-mine, unowned-mine}
 use Rattle.kb_broker.specs.Script.{step_text, script_text}
@@ -105,9 +106,21 @@ tells t mine b c (e ∷ es) (s ∷ ss) r calm m =
     tells t mine (hushed new) c es ss r.3 happens.calm (mine-hushed t mine es new owns) ∙ ap (tell mine es) (view-hushed t mine new ∙ ap quieted view) in
     ap (λ x. x ∷ map (those_sent mine) ss) head ∙ ap (λ x. said (view_of t mine b).lines (stepped (concerns mine e) e (view_of t mine b)).lines ∷ x) tail
 
+-- at each event the connections come by rising number
+rises-said : (low last : ℕ) (old ls : List Line) → Rising low last ls → RisesAbove low (said old ls)
+rises-said low last old [] r = tt
+rises-said low last old (l ∷ ls) r = (r.0, rises-said l.number last old ls r.1)
+
+rises-runs : (b c : BrokerState) (es : List Happening) (steps : List (List Sent)) → Runs b es steps c → AllByRecursion (λ step. RisesAbove 0 step) steps
+rises-runs b c [] [] r = tt
+rises-runs b c [] (s ∷ ss) r = absurd r
+rises-runs b c (e ∷ es) [] r = absurd r
+rises-runs b c (e ∷ es) (s ∷ ss) r = (subst (RisesAbove 0) (sym r.2) (rises-said 0 r.0.last b.lines r.0.lines r.1.ready.sound.rising), rises-runs (hushed r.0) c es ss r.3)
+
 -- to each tenant, and to each connection without owner, the broker said what their machine says
 pub runs-tell : (b c : BrokerState) (es : List Happening) (steps : List (List Sent)) → Runs b es steps c → is_calm b ≡ true → IsSound b → Tells b es steps
 runs-tell b c es steps r calm sound = record {
   owned = λ t. tells t (owned_by t es b) b c es steps r calm (owned-mine t es b sound.rising);
   unowned = λ n none. tells (length b.tenants) (only n) b c es steps r calm (unowned-mine n es b sound none);
+  in_order = rises-runs b c es steps r;
 }

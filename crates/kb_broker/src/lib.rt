@@ -20,5 +20,5 @@ mod serving;
 pub use broker::Broker;
 pub use kb_settings::{Settings, User};
 pub use opening::{Listing, OpenFault, OpenRefused, Opened, names_in_order, places_of_names};
-pub use run::{Event, Written};
+pub use run::{Event, Written, run_both};
 pub use script::{ScriptFault, run_script};

@@ -5,7 +5,9 @@ ghost use Rattle.std.specs.Vec.{vec_len, vec_capacity};
 ghost use Rattle.kb_machine.specs.Machine.{Closes, Sent, those_sent, by_number, sent, leaving};
 ghost use Rattle.kb_machine.specs.Calls.{closed};
 ghost use Rattle.kb_world.specs.Steps.{IsCalm};
-ghost use Rattle.kb_machine.specs.Broker.{IsRun, IsCalmFor, IsUnowned, owned_by, alone, alone_unowned, only, last_after};
+ghost use Rattle.kb_machine.specs.Broker.{IsRun, IsUnowned, alone_unowned, only, last_after};
+ghost use Rattle.kb_machine.specs.Isolation.{IsIsolated, LeavesWorlds, AreAlike, own_sent};
+ghost use Rattle.kb_machine.specs.Greetings.{greeted_alone};
 ghost use Rattle.kb_broker.specs.Hosts.{is_honest, IsLater, IsReadyOn, StepsTo};
 ghost use Rattle.kb_broker.specs.Runs.{happening_of, happenings, sent_of, is_opening, connections_of, emptied, IsPassed, Passes};
 
@@ -40,18 +42,21 @@ impl<S: Store, L: PartitionLog + Drop> Broker<S, L> {
     ///
     /// To each tenant to which nothing was refused, and nothing to a connection that was not bound, what its connections got is
     /// what the machine of that tenant alone writes, given the tenant's events and the moments. A connection that is never
-    /// bound gets what a machine with nothing in it but that connection writes. Both hold where the store is honest to the
-    /// end.
+    /// bound gets what a machine with nothing in it but that connection writes: the greeting's answers to its own pieces. Both
+    /// hold where the store is honest to the end, and there each such tenant then has what its machine has in the end, so that a
+    /// further run goes on from there.
     ///
     /// The entry of a connection that could not be kept is empty and shut. In the end the output of the open ones is taken.
     ///
     /// An `Err`, for want of memory, comes before the first event and changes nothing.
     pub fn run(&mut self, alloc: Global, events: &[Event]) -> Result<Vec<Written>, AllocError>
         requires { IsRun self.old.state.last (happenings events.now) }
-        ensures headline { IfOk result (λ written. is_honest S.disk self.new → (t : ℕ) → IsCalmFor t self.old.state self.new.state →
-            those_sent (owned_by t (happenings events.now) self.old.state) (map sent_of written.items) ≡ by_number (alone t (happenings events.now) self.old.state)) }
+        ensures headline { IfOk result (λ written. is_honest S.disk self.new → IsIsolated (happenings events.now) self.old.state self.new.state (map sent_of written.items)) }
         ensures unowned { IfOk result (λ written. is_honest S.disk self.new → (n : ℕ) → IsUnowned n (happenings events.now) self.old.state → IsCalm self.old.state.unbound_refusals self.new.state.unbound_refusals →
             those_sent (only n) (map sent_of written.items) ≡ by_number (alone_unowned n (happenings events.now) self.old.state)) }
+        ensures greeted { IfOk result (λ written. is_honest S.disk self.new → (n : ℕ) → IsUnowned n (happenings events.now) self.old.state → IsCalm self.old.state.unbound_refusals self.new.state.unbound_refusals →
+            those_sent (only n) (map sent_of written.items) ≡ greeted_alone n (happenings events.now) self.old.state) }
+        ensures left { IfOk result (λ written. is_honest S.disk self.new → LeavesWorlds (happenings events.now) self.old.state self.new.state (map sent_of written.items)) }
         ensures connections { IfOk result (λ written. map (λ (w : Written). w.conn) written.items ≡ connections_of (happenings events.now) self.old.state) }
         ensures history { IfOk result (λ written. (got : List Sent) × (map sent_of written.items ≡ by_number got) × Passes (is_honest S.disk self.new) (happenings events.now) self.old.state self.new.state got) }
         ensures later { IsLater S.disk self.old self.new }
@@ -138,4 +143,28 @@ fn openings(events: &[Event]) -> usize
         .iter()
         .filter(|event| matches!(event, Event::Open(_)))
         .count()
+}
+
+/// Two runs, each on a broker of its own: what each connection got in the first, and in the second.
+///
+/// To a tenant that has the same before both, and whose own events and the moments are the same in both, in the same order, they
+/// are the same: its connections got the same bytes, and the same of them were shut, whatever others did in either. This holds
+/// where nothing was refused to the tenant, nor to a connection that was not bound, and the stores are honest to the end.
+///
+/// An `Err`, for want of memory, comes before the first event of a run, and may come after the first run.
+pub fn run_both<S: Store, L: PartitionLog + Drop>(
+    alloc: Global,
+    first: &mut Broker<S, L>,
+    second: &mut Broker<S, L>,
+    events: &[Event],
+    others: &[Event],
+) -> Result<(Vec<Written>, Vec<Written>), AllocError>
+    requires first { IsRun first.old.state.last (happenings events.now) }
+    requires second { IsRun second.old.state.last (happenings others.now) }
+    ensures alike { IfOk result (λ both. is_honest S.disk first.new → is_honest S.disk second.new → (t : ℕ) → AreAlike t (happenings events.now) (happenings others.now) first.old.state first.new.state second.old.state second.new.state →
+        own_sent t (happenings others.now) second.old.state (map sent_of both.1.items) ≡ own_sent t (happenings events.now) first.old.state (map sent_of both.0.items)) }
+{
+    let got = first.run(alloc, events)?;
+    let others_got = second.run(alloc, others)?;
+    Ok((got, others_got))
 }

@@ -4,7 +4,7 @@ use Rattle.kb_wire.specs.declared.fault.ReadFault.{ReadFault}
 use Rattle.kb_wire.specs.declared.fault.ReadFault.TheVariants as faults
 use Rattle.kb_machine.specs.Tenant.{Wait}
 use Rattle.kb_machine.specs.Requests.{Asked, Versions, OtherVersions, Handshake, Authenticate, Another, Unread, Request}
-use Rattle.kb_machine.specs.Session.{Stage, Greets, BoundTo, Session, LIMIT}
+use Rattle.kb_machine.specs.Session.{Stage, Greets, BoundTo, Session, LIMIT, is_free}
 use Rattle.kb_machine.specs.Machine.{Line}
 use Rattle.kb_api_group.specs.Frames.{front, behind}
 use Rattle.kb_connection.specs.declared.request.Asked.TheVariants as asked
@@ -57,11 +57,11 @@ with_session l s = record { number = l.number; session = s }
 abbrev pub without_front : Session → Session
 without_front s = record s { unread = behind (front s.unread) s.unread }
 
--- a connection has at most so many unread bytes, and one that was shut has none
-abbrev pub IsLimited : List ℕ → Bool → Type 0
-IsLimited unread shut = (length unread ≤ LIMIT) × (shut ≡ true → unread ≡ [])
+-- a connection has at most so many unread bytes, and one that was shut has none and waits for nothing
+abbrev pub IsLimited : List ℕ → Stage → Bool → Type 0
+IsLimited unread stage shut = (length unread ≤ LIMIT) × (shut ≡ true → unread ≡ []) × (shut ≡ true → is_free stage ≡ true)
 
 -- and so has each open connection of that number
 abbrev pub IsLimitedIn : Option Session → Type 0
 IsLimitedIn None = Unit {0}
-IsLimitedIn (Some s) = IsLimited s.unread s.shut
+IsLimitedIn (Some s) = IsLimited s.unread s.stage s.shut

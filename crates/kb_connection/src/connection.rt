@@ -93,7 +93,7 @@ impl Model for Connection {
 
     ghost view = { λ c. record { number = c.number; session = record { stage = stage_with_wait c.stage; unread = c.unread; output = c.output.items; shut = c.shut } } };
 
-    ghost invariant = { λ c. IsLimited c.unread c.shut };
+    ghost invariant = { λ c. IsLimited c.unread (stage_with_wait c.stage) c.shut };
 }
 
 impl Connection {
@@ -148,7 +148,7 @@ impl Connection {
     /// How many more bytes it takes.
     pub fn room(&self) -> usize
         ensures room { result ≡ room self.now.session }
-        ensures limited { IsLimited self.now.session.unread self.now.session.shut }
+        ensures limited { IsLimited self.now.session.unread self.now.session.stage self.now.session.shut }
     {
         UNREAD_LIMIT.saturating_sub(self.unread.unread())
     }
@@ -344,8 +344,9 @@ impl Connection {
         }))
     }
 
-    /// Waits for the answer to a fetch. One that greets has none.
+    /// Waits for the answer to a fetch. One that greets has none, and one that was shut waits for nothing.
     fn wait_for(&mut self, fetch: Waiting)
+        requires { self.old.session.shut ≡ false }
         ensures { self.new ≡ with_session self.old (record self.old.session { stage = waiting (wait_of fetch) self.old.session.stage }) }
     {
         if let Phase::Bound(tenant) = self.phase() {

@@ -12,7 +12,9 @@ use Rattle.kb_machine.proofs.Owned.{owned-mine, run-after, run-first, unowned-mi
 use Rattle.kb_broker.specs.declared.run.Written.{Written}
 use Rattle.kb_broker.specs.Hosts.{is_honest, IsLater}
 use Rattle.kb_broker.specs.Runs.{happening_of, happenings, sent_of, connections_of, Passes}
-use Rattle.kb_broker.proofs.Honest.{later-same, later-then, later-is, state-is, store-is}
+use Rattle.kb_broker.proofs.Honest.{later-same, later-then, later-is, ready-of, state-is, store-is}
+use Rattle.kb_machine.proofs.Greetings.{unowned-greets}
+use Rattle.kb_broker.proofs.RunLast.{told-passes}
 use Rattle.kb_broker.proofs.RunHistory.{happenings-next, length-connections, connections-first, room-leads, grows-passes, run-passes, numbers-passes, rising-connections, continues-next}
 use Rattle.kb_broker.proofs.RunOrder.{IsOrdered, ordered, up-sorted, AreUp, numbered}
 use Rattle.kb_broker.proofs.broker.Broker.run.Given as given
@@ -128,6 +130,25 @@ returns-clause-unowned g c = λ honest n h q.
     let got = map sent_of c.drain.new.written.items in
     let calm = calm-nobody a new (grows-passes truthful hs a new got honest (whole g c)) q in
     ap (those_sent (only n)) (in_order g c).ordered ∙ (those-by_number (only n) got ∙ ap by_number (run-passes truthful (length a.tenants) (only n) hs a new got honest (whole g c) (unowned-mine n hs a c.connections-open.ensures.ready.sound h) calm))
+
+pub returns-clause-greeted : goal.returns-clause-greeted
+returns-clause-greeted g c = λ honest n h q.
+    let disk = g.S.Store.disk in
+    let ready = c.connections-open.ensures.ready in
+    let before = (later-then disk c.args.self.now c.loop-event.self c.drain.new.self c.loop-event.invariant.later (drained-later g c)).honest honest in
+    returns-clause-unowned g c honest n h q ∙ unowned-greets n (happenings c.args.events.now) c.args.self.now.state (ready-of disk c.args.self.now ready before) c.requires h
+
+pub returns-clause-left : goal.returns-clause-left
+returns-clause-left g c = λ honest t mine later m q.
+    let a = c.args.self.now.state in
+    let hs = happenings c.args.events.now in
+    let got = map sent_of c.drain.new.written.items in
+    let told = told-passes (is_honest g.S.Store.disk c.drain.new.self) t mine hs later a c.drain.new.self.state got honest (whole g c) m q in
+    record {
+      sent = ap (those_sent mine) (in_order g c).ordered ∙ (those-by_number mine got ∙ ap by_number told.sent);
+      world = told.world;
+      owns = told.owns;
+    }
 
 pub returns-clause-connections : goal.returns-clause-connections
 returns-clause-connections g c =

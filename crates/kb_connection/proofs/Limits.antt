@@ -1,10 +1,10 @@
 -- A connection's limits.
-use Rattle.std.proofs.Common.{◌≡◌, ◌∙◌, ℕ, ℤ, List, [], length, Bool, true, false, None, Option, Some, refl, sym, ap, arith}
+use Rattle.std.proofs.Common.{◌≡◌, ◌∙◌, ℕ, List, [], length, Bool, true, false, refl, ap, arith}
 use Rattle.kb_wire.specs.Codec.{int}
-use Rattle.kb_api_group.specs.Frames.{Front, Whole, Partial, TooSmall, TooLarge, front, behind}
+use Rattle.kb_api_group.specs.Frames.{Front, Whole, Partial, TooSmall, TooLarge, front, behind, answer}
+use Rattle.kb_api_group.specs.declared.frames.Next.TheVariants as answers
 use Rattle.kb_machine.proofs.Laws.{front-rest}
 use Rattle.kb_machine.specs.Session.{Stage, Greets, BoundTo, is_free, without_wait}
-use Rattle.kb_connection.specs.Fronts.{asked_at}
 use Rattle.kb_connection.specs.View.{IsLimited}
 
 -- the request in front was left behind
@@ -25,11 +25,11 @@ pub free-without : (st : Stage) → is_free (without_wait st) ≡ true
 free-without (Greets h) = refl
 free-without (BoundTo t w) = refl
 
-none-asked : asked_at (front []) ≡ None
+none-front : front [] ≡ Partial
 unfolding front int
-none-asked = refl
+none-front = refl
 
--- a connection in front of which a request of its tenant stands was not shut
-pub asked-open : (unread : List ℕ) (stage : Stage) (shut : Bool) (asked : ℤ × ℤ × List ℕ) → IsLimited unread stage shut → asked_at (front unread) ≡ Some asked → shut ≡ false
-asked-open unread stage false asked h e = refl
-asked-open unread stage true asked h e = let none : None ≡ Some asked = sym none-asked ∙ (sym (ap (λ u. asked_at (front u)) (h.1 refl)) ∙ e) in absurd (cc)
+-- a connection in front of which a frame stands was not shut
+pub framed-open : (unread bytes : List ℕ) (stage : Stage) (shut : Bool) → IsLimited unread stage shut → answers.Frame bytes ≡ answer (front unread) → shut ≡ false
+framed-open unread bytes stage false h e = refl
+framed-open unread bytes stage true h e = let none : answers.Frame bytes ≡ answer Partial = e ∙ (ap (λ u. answer (front u)) (h.1 refl) ∙ ap answer none-front) in absurd (cc)

@@ -251,6 +251,8 @@ impl Connection {
     pub fn request(&self, alloc: Global) -> Result<Option<kb_tenant::Request<'_>>, AllocError>
         ensures own { IfOk result (λ found. IfNone found (IsOwn self.now.session)) }
         ensures asked { IfOk result (λ found. IfSome found (λ asked. IsAsked self.now.session asked.api_key asked.correlation_id asked.body.now)) }
+        // none stands in front of one that was shut
+        ensures unshut { IfOk result (λ found. IfSome found (λ asked. self.now.session.shut ≡ false)) }
     {
         let Next::Frame(frame) = self.unread.next() else {
             return Ok(None);
@@ -332,7 +334,8 @@ impl Connection {
 
     /// The request of its tenant that stands in front, to wait for its answer until the deadline.
     fn fetch_in_front(&self, alloc: Global, deadline: u64) -> Result<Option<Waiting>, AllocError>
-        ensures { IfOk result (λ found. option_map wait_of found ≡ option_map (wait_for deadline) (asked_at (front self.now.session.unread))) }
+        ensures found { IfOk result (λ found. option_map wait_of found ≡ option_map (wait_for deadline) (asked_at (front self.now.session.unread))) }
+        ensures unshut { IfOk result (λ found. IfSome found (λ fetch. self.now.session.shut ≡ false)) }
     {
         let Some(request) = self.request(alloc)? else {
             return Ok(None);

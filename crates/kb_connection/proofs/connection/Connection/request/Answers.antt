@@ -1,13 +1,16 @@
-use Rattle.std.proofs.Common.{ap, w16, w32, rules, FitsSigned}
+use Rattle.std.proofs.Common.{sym, ◌∙◌, ap, w16, w32, rules, FitsSigned}
 use Rattle.std.proofs.lemmas.Int.{to_z-of_z}
 use Rattle.kb_machine.specs.Machine.{Line}
 use Rattle.kb_connection.proofs.Fronts.{own_unless_frame, own_unless_another, is_handed}
+use Rattle.kb_connection.specs.View.{stage_with_wait}
+use Rattle.kb_connection.proofs.Limits.{framed-open}
 use Rattle.kb_connection.proofs.connection.Connection.request.Goals as goal
 
 pub returns-in_default : goal.returns-in_default
 returns-in_default c = record {
   own = own_unless_frame _ _ _ (ap (λ (l : Line). l.session.unread) c.self.view_is) c.next.ensures c.in_default.not-Frame;
   asked = tt;
+  unshut = tt;
 }
 
 pub returns-in-Another-clause-asked : goal.returns-in-Another-clause-asked
@@ -20,4 +23,10 @@ pub returns-in_default-asked : goal.returns-in_default-asked
 returns-in_default-asked c = record {
   own = own_unless_another _ _ _ _ _ (ap (λ (l : Line). l.session.unread) c.self.view_is) c.in-Frame.ensures c.as_slice.ensures c.in_ok-correlation_id.ensures c.in_default-asked.not-Another;
   asked = tt;
+  unshut = tt;
 }
+
+pub returns-in-Another-clause-unshut : goal.returns-in-Another-clause-unshut
+returns-in-Another-clause-unshut c =
+    ap (λ (l : Line). l.session.shut) (sym c.self.view_is)
+    ∙ framed-open c.self.inside.unread c.in-Frame.frame (stage_with_wait c.self.inside.stage) c.self.inside.shut c.self.invariant c.in-Frame.ensures

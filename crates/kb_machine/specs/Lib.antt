@@ -10,3 +10,4 @@ pub mod Calls
 pub mod Told
 pub mod Isolation
 pub mod Greetings
+pub mod Fetches

@@ -1,10 +1,16 @@
 //! Laws about the definitions, each as the contract of a function with an empty body.
-ghost use Rattle.std.specs.Prelude.{◌≡◌, ◌≤◌, ◌++◌, ◌∷◌, ℕ, ℤ, List, [], Bool, true, length, Some, None};
-ghost use Rattle.kb_machine.specs.Session.{Session, Stage, BoundTo, LIMIT, fed, shut_down};
-ghost use Rattle.kb_machine.specs.Requests.{Another, Authenticate};
-ghost use Rattle.kb_tenant.specs.Hosted.{Kept};
+ghost use Rattle.std.specs.Prelude.{◌≡◌, ◌≤◌, ◌++◌, ◌∷◌, ℕ, ℤ, List, [], Bool, true, length, pos, Ok, Some, None};
+ghost use Rattle.kb_machine.specs.Session.{Session, Stage, BoundTo, LIMIT, fed, shut_down, without_wait};
+ghost use Rattle.kb_wire.specs.Codec.{whole};
+ghost use Rattle.kb_api_group.specs.Frames.{Whole, front};
+ghost use Rattle.kb_api_data.specs.Layouts.{fetch_request};
+ghost use Rattle.kb_api_data.specs.declared.fetch.FetchRequest.{FetchRequest};
+ghost use Rattle.kb_machine.specs.Requests.{Another, Authenticate, request};
+ghost use Rattle.kb_machine.specs.Tenant.{Wait};
+ghost use Rattle.kb_machine.specs.Fetches.{GetsBatches};
+ghost use Rattle.kb_tenant.specs.Hosted.{Kept, world_at};
 ghost use Rattle.kb_machine.specs.Greeting.{Setup, greeted_by, login};
-ghost use Rattle.kb_machine.specs.Machine.{World, Line, Happening, Sent, first_able, turns, those, those_sent, served, stepped, leaving, run, by_number};
+ghost use Rattle.kb_machine.specs.Machine.{World, Line, Happening, Sent, first_able, turns, those, those_sent, served, stepped, leaving, run, by_number, woken};
 ghost use Rattle.kb_machine.specs.Owners.{whose, concerns, purge};
 ghost use Rattle.kb_machine.specs.Broker.{BrokerState, IsCalmFor, IsReady, IsRun, IsUnowned, Mine, Rising, alone_unowned, owned_by, view_of};
 ghost use Rattle.kb_machine.specs.Greetings.{greeted_alone};
@@ -35,6 +41,18 @@ pub fn runs_go_on()
 pub fn strangers_are_greeted()
     ensures { (n : ℕ) (es : List Happening) (b : BrokerState) → IsReady b → IsRun b.last es → IsUnowned n es b
         → by_number (alone_unowned n es b) ≡ greeted_alone n es b }
+{}
+
+/// What a machine answers to a fetch, where its connection takes a turn and where it has waited, holds whole batches of the
+/// tenant's partitions as they are at that moment, one after the other, from the one that holds the asked offset; or the
+/// connection gets no reply.
+pub fn fetches_get_whole_batches()
+    ensures at_once { (setup : Setup) (kept : Kept) (clock : ℕ) (s : Session) (frame rest : List ℕ) (version : ℤ) (body : List ℕ) (fetch : FetchRequest)
+        → front s.unread ≡ Whole frame rest → (request frame).asked ≡ Another (pos 1) version body → whole fetch_request body ≡ Ok fetch
+        → GetsBatches (world_at kept clock) fetch (request frame).correlation_id (record s { unread = rest }) (served setup kept clock s) }
+    ensures after_a_wait { (kept : Kept) (clock tenant : ℕ) (s : Session) (wait : Wait) (fetch : FetchRequest)
+        → s.stage ≡ BoundTo tenant (Some wait) → whole fetch_request wait.body ≡ Ok fetch
+        → GetsBatches (world_at kept clock) fetch wait.correlation_id (record s { stage = without_wait s.stage }) (woken kept clock s) }
 {}
 
 /// A connection never has more unread bytes than its limit, and one that was shut takes no piece.

@@ -46,8 +46,7 @@ pub left-then : (t : ℕ) (mine : ℕ → Bool) (es fs later : List Happening) (
     × (view_of t mine c ≡ quieted (last_world (purge mine fs) (quieted (last_world (purge mine es) (view_of t mine a)))))
 left-then t mine es fs later a b c got more p q m first second =
     let left = p t mine (fs ++ later) m first in
-    let then = q t mine later left.owns second in
-    (
+    let then = q t mine later left.owns second in (
       then.sent ∙ ap (λ w. by_number (run (purge mine fs) w)) left.world,
       then.world ∙ ap (λ w. quieted (last_world (purge mine fs) w)) left.world,
     )

@@ -1,0 +1,7 @@
+//! Worked cases of segment files: their headers as bytes.
+//!
+//! There is nothing here but tests.
+#![tactic(auto)]
+
+#[cfg(test)]
+mod headers;

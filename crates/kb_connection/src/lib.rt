@@ -16,6 +16,3 @@ mod setup;
 
 pub use connection::{Connection, Phase, Waiting};
 pub use setup::{Login, Setup};
-
-#[cfg(test)]
-mod tests;

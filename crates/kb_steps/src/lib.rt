@@ -4,6 +4,8 @@
 #![tactic(auto)]
 
 #[cfg(test)]
+mod connection;
+#[cfg(test)]
 mod log;
 #[cfg(test)]
 mod partitions;
@@ -13,5 +15,7 @@ mod tenant;
 mod tenants;
 #[cfg(test)]
 mod topics;
+#[cfg(test)]
+mod words;
 #[cfg(test)]
 mod world;

@@ -1,6 +1,6 @@
 //! Worked exchanges of a tenant: whole requests and the replies to them.
 //!
-//! How a frame is written is said in `steps.rt`.
+//! How a frame is written is said in `words.rt`.
 
 mod steps;
 

@@ -1,47 +1,43 @@
 //! Worked exchanges of a catalog over a log in memory. The bytes were written by a program in another language.
 ghost use Rattle.kb_topics.specs.Layouts.{command_codec};
 
+mod recorded;
 mod steps;
 
+use crate::words::bytes;
 use Step::{Commit, Committed, Create, Delete, Start, Topics};
 use kb_topics::{
     CatalogFault, Command, CommitOffset, ConfigEntry, ConfigReader, CreateTopic, MoveStart,
     TopicConfig, config_entry, is_legal_name, meta_batch,
 };
 use kb_wire::{Layout, Text};
-use std::alloc::{AllocError, Global};
+use std::alloc::Global;
 use std::process::Abort;
 use std::test::Fail;
 use steps::{Kept, Step, plays};
 
-/// The batch of the creation of `t`, before a log keeps it.
-const CREATED: &[u8] =
-    b"000000000000000000000058ffffffff021b94e8c500000000000000000000000000000000000000000000ffffffffff\
-ffffffffffffffffff000000014c00000001400100017400000000000000000000000100000000240c8400ffffffffff\
-ffffff00";
+/// The batch of the creation of `t`, before a log keeps it: its offset, length, epoch, magic and checksum, its front and its
+/// record.
+const CREATED: &str =
+    "0000000000000000 00000058 ffffffff 02 1b94e8c5 front 4c00000001400100017400000000000000000000000100000000240c8400ffffffffffffffff00";
 
 /// The batch of the commit of offset 3 with metadata `m` by group `g`, at partition 2 of instance 0.
-const COMMITTED: &[u8] =
-    b"000000000000000000000053ffffffff02242fb1c200000000000000000000000000000000000000000000ffffffffff\
-ffffffffffffffffff0000000142000000013604000167000000000000000000000002000000000000000300016d00";
+const COMMITTED: &str =
+    "0000000000000000 00000053 ffffffff 02 242fb1c2 front 42000000013604000167000000000000000000000002000000000000000300016d00";
 
 /// The batch of the start of partition 0 of instance 0 moved to 1.
-const STARTED: &[u8] =
-    b"00000000000000000000004dffffffff028aed839a00000000000000000000000000000000000000000000ffffffffff\
-ffffffffffffffffff0000000136000000012a05000000000000000000000000000000000000000100";
+const STARTED: &str =
+    "0000000000000000 0000004d ffffffff 02 8aed839a front 36000000012a05000000000000000000000000000000000000000100";
 
 /// The batch of the producer id 0.
-const ISSUED: &[u8] =
-    b"000000000000000000000041ffffffff02d5fa0eaf00000000000000000000000000000000000000000000ffffffffff\
-ffffffffffffffffff000000011e000000011203000000000000000000";
+const ISSUED: &str =
+    "0000000000000000 00000041 ffffffff 02 d5fa0eaf front 1e000000011203000000000000000000";
 
 /// The batch of the deletion of `t`.
-const DELETED: &[u8] =
-    b"00000000000000000000003cffffffff02b4676e4000000000000000000000000000000000000000000000ffffffffff\
-ffffffffffffffffff000000011400000001080200017400";
+const DELETED: &str = "0000000000000000 0000003c ffffffff 02 b4676e40 front 1400000001080200017400";
 
 /// That commit by itself.
-const COMMIT: &[u8] = b"04000167000000000000000000000002000000000000000300016d";
+const COMMIT: &str = "04000167000000000000000000000002000000000000000300016d";
 
 /// A name of 249 bytes.
 const LONGEST: &str =
@@ -61,25 +57,16 @@ const STANDARD: TopicConfig = TopicConfig {
     retention_bytes: -1,
 };
 
-/// The bytes that hexadecimal digits are.
-fn bytes(rt: &impl Abort, alloc: Global, digits: &[u8]) -> Result<Vec<u8>, Fail> {
-    match hex::decode(alloc, digits) {
-        Ok(bytes) => Ok(bytes),
-        Err(hex::FromHexError::OutOfMemory) => Err(AllocError)?,
-        Err(_) => panic!(rt; "the digits are hexadecimal"),
-    }
-}
-
 /// The batch of a command is these bytes.
 fn is_recorded(
     rt: &impl Abort,
     alloc: Global,
     command: &Command<'_>,
-    digits: &[u8],
+    text: &str,
 ) -> Result<(), Fail>
     requires { command_codec.Fits command.now }
 {
-    let batch = bytes(rt, alloc, digits)?;
+    let batch = bytes(rt, alloc, text)?;
     assert_eq!(rt; meta_batch(alloc, command)?.as_slice(), batch.as_slice());
     Ok(())
 }
@@ -162,7 +149,7 @@ fn a_thousand_topics(rt: HostRuntime) -> Result<(), Fail> {
 
 #[test]
 fn codes(rt: HostRuntime) {
-    for (fault, code) in [
+    let rows = [
         (CatalogFault::Name, 17),
         (CatalogFault::Exists, 36),
         (CatalogFault::Partitions, 37),
@@ -175,8 +162,9 @@ fn codes(rt: HostRuntime) {
         (CatalogFault::Full, 56),
         (CatalogFault::Store, 56),
         (CatalogFault::Memory, -1),
-    ] {
-        assert_eq!(rt; fault.code(), code);
+    ];
+    for (fault, code) in &rows {
+        assert_eq!(rt; fault.code(), *code);
     }
 }
 
@@ -200,8 +188,8 @@ fn names(rt: HostRuntime) {
         ("a\n", false),
         (TOO_LONG, false),
     ];
-    for (name, is_legal) in rows {
-        assert!(rt; is_legal_name(name) == is_legal, "{name}");
+    for (name, is_legal) in &rows {
+        assert!(rt; is_legal_name(name) == *is_legal, "{name}");
     }
 }
 
@@ -291,8 +279,8 @@ fn limits(rt: HostRuntime) {
         ("9223372036854775808", None),
         ("00000000000000000001", None),
     ];
-    for (text, limit) in rows {
-        assert!(rt; is_limit(text, limit), "{text}");
+    for (text, limit) in &rows {
+        assert!(rt; is_limit(text, *limit), "{text}");
     }
 }
 
@@ -308,7 +296,7 @@ fn entries(rt: HostRuntime) {
         ),
         ("cleanup.policy", Some("compact"), None),
     ];
-    for (name, value, want) in rows {
-        assert!(rt; config_entry(name, value) == want, "{name}");
+    for (name, value, want) in &rows {
+        assert!(rt; config_entry(name, *value) == *want, "{name}");
     }
 }

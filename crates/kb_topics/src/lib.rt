@@ -28,6 +28,3 @@ pub use config::{ConfigEntry, ConfigReader, TopicConfig, config_entry};
 pub use fault::CatalogFault;
 pub use name::is_legal_name;
 pub use topic::{Committed, Partition, Topic};
-
-#[cfg(test)]
-mod tests;

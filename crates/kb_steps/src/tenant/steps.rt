@@ -1,20 +1,19 @@
 //! The steps of an exchange with a tenant, over logs and files in memory.
 //!
-//! A frame is written as words of hexadecimal digits, from its size on. A word behind `'` stands for its own letters. The
-//! other words are those of `meaning`, and `crc`: the CRC-32C of all that stands behind it.
+//! A frame is written in the words of `words.rt`, from its size on.
 ghost use Rattle.std.specs.Prelude.{IfOk};
 ghost use Rattle.kb_store.specs.Memory.{memory_disk};
 ghost use Rattle.kb_log.specs.ListLog.{list_log};
 ghost use Rattle.kb_world.specs.Parts.{scene};
 
+use crate::words::bytes;
 use Step::{Ask, At, Change, Look, Retain, Shut, Wait};
-use kb_batch::crc32c;
 use kb_log::{ListLog, Shelf};
 use kb_store::MemoryStore;
 use kb_tenant::{Answer, Node, Request, Served, look, serve};
 use kb_wire::{Cursor, Text};
 use kb_world::{Parts, Place};
-use std::alloc::{AllocError, Global};
+use std::alloc::Global;
 use std::process::Abort;
 use std::test::Fail;
 
@@ -60,70 +59,6 @@ pub(super) const BESIDE_SECOND: Place = Place {
     instance: 1,
     number: 1,
 };
-
-/// What some words stand for: `t/0` partition 0 of `t`, the only one of a request or a reply, `hi` the batch of one record
-/// with timestamp 5 and value `hi`, `abc` one of three records from its magic on, and the fronts and parts of others.
-fn meaning<'a>(word: &'a str) -> &'a str {
-    match word {
-        "t/0" => "000000010001740000000100000000",
-        "produce" =>
-            "0000006b0000000300000014ffffffff0001000003e800000001000174000000010000000000000046",
-        "silently" =>
-            "0000006b0000000300000014ffffffff0000000003e800000001000174000000010000000000000046",
-        "produced" => "0000002900000014000000010001740000000100000000",
-        "list" => "000000250002000100000028ffffffffffff000000010001740000000100000000",
-        "listed" => "0000002500000028000000010001740000000100000000",
-        "nowhere" => "ffffffffffffffffffffffffffffffff",
-        "head" => "00000000000000000000003affffffff02",
-        "times" => "00000000000000050000000000000005",
-        "nobody" => "ffffffffffffffffffffffffffff",
-        "value" => "100000000104686900",
-        "hi" => "00000000000000000000003affffffff0271a3af2c0000000000000000000000000005\
-             0000000000000005ffffffffffffffffffffffffffff00000001100000000104686900",
-        "abc" =>
-            "02aa99226000000000000200000000000000050000000000000005ffffffffffffffffffffffffffff\
-             000000030e000000010261000e000002010262000e00000401026300",
-        _ => word,
-    }
-}
-
-/// Adds the bytes of a word.
-fn put_word(rt: &impl Abort, alloc: Global, bytes: &mut Vec<u8>, word: &str) -> Result<(), Fail> {
-    if let Some(letters) = word.strip_prefix('\'') {
-        bytes.extend_from_slice(letters.as_bytes())?;
-        return Ok(());
-    }
-    match hex::decode(alloc, meaning(word).as_bytes()) {
-        Ok(decoded) => Ok(bytes.extend_from_slice(&decoded)?),
-        Err(hex::FromHexError::OutOfMemory) => Err(AllocError)?,
-        Err(_) => panic!(rt; "{word} is not hexadecimal"),
-    }
-}
-
-/// The bytes of a text, the checksum by what stands behind it.
-fn frame(rt: &impl Abort, alloc: Global, text: &str) -> Result<Vec<u8>, Fail> {
-    let mut bytes = Vec::new(alloc);
-    let mut sealed = None;
-    for word in text.split(' ') {
-        if word == "crc" {
-            sealed = Some(bytes.len());
-            bytes.extend_from_slice(&[0; 4])?;
-        } else {
-            put_word(rt, alloc, &mut bytes, word)?;
-        }
-    }
-    if let Some(place) = sealed {
-        seal(rt, &mut bytes, place);
-    }
-    Ok(bytes)
-}
-
-/// Writes the checksum of what stands behind it to a place.
-fn seal(rt: &impl Abort, bytes: &mut [u8], place: usize) {
-    assert!(rt; bytes.len() >= 4 && place <= bytes.len() - 4);
-    let crc = crc32c(&bytes[place + 4..]);
-    bytes[place..place + 4].copy_from_slice(&crc.to_be_bytes());
-}
 
 /// The request in a frame without a client id.
 fn request<'a>(rt: &impl Abort, frame: &'a [u8]) -> Result<Request<'a>, Fail> {
@@ -209,8 +144,8 @@ impl Tenant {
         requires { (scene list_log (λ s. memory_disk s.files.entries) self.old.parts self.old.shelf).sound }
         ensures { (scene list_log (λ s. memory_disk s.files.entries) self.new.parts self.new.shelf).sound }
     {
-        let bytes = frame(rt, alloc, text)?;
-        let request = request(rt, &bytes)?;
+        let frame = bytes(rt, alloc, text)?;
+        let request = request(rt, &frame)?;
         Ok(self.serve(alloc, &request))
     }
 
@@ -226,8 +161,8 @@ impl Tenant {
         requires { (scene list_log (λ s. memory_disk s.files.entries) self.old.parts self.old.shelf).sound }
         ensures { (scene list_log (λ s. memory_disk s.files.entries) self.new.parts self.new.shelf).sound }
     {
-        let bytes = frame(rt, alloc, text)?;
-        let request = request(rt, &bytes)?;
+        let frame = bytes(rt, alloc, text)?;
+        let request = request(rt, &frame)?;
         let answer = self.look(alloc, &request, deadline);
         is_answer(rt, alloc, &answer, reply, text)
     }
@@ -262,10 +197,10 @@ impl Tenant {
         requires { (scene list_log (λ s. memory_disk s.files.entries) self.old.parts self.old.shelf).sound }
         ensures { (scene list_log (λ s. memory_disk s.files.entries) self.new.parts self.new.shelf).sound }
     {
-        let bytes = frame(rt, alloc, text)?;
-        let request = request(rt, &bytes)?;
-        let reply = frame(rt, alloc, reply)?;
-        let refused = frame(rt, alloc, refused)?;
+        let frame = bytes(rt, alloc, text)?;
+        let request = request(rt, &frame)?;
+        let reply = bytes(rt, alloc, reply)?;
+        let refused = bytes(rt, alloc, refused)?;
         let served = self.serve(alloc, &request);
         if is_reply(&served.answer, &reply) {
             assert_eq!(rt; self.parts.refusals(), 0);
@@ -331,7 +266,7 @@ fn is_answer(
     text: &str,
 ) -> Result<(), Fail> {
     match answer {
-        Answer::Reply(bytes) => assert_eq!(rt; *bytes, frame(rt, alloc, reply)?, "{text}"),
+        Answer::Reply(given) => assert_eq!(rt; *given, bytes(rt, alloc, reply)?, "{text}"),
         Answer::NoReply => assert!(rt; reply.is_empty(), "{text}"),
         _ => panic!(rt; "{text} is not answered"),
     }

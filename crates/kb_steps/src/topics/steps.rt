@@ -3,7 +3,7 @@ ghost use Rattle.std.specs.Prelude.{IfOk};
 ghost use Rattle.kb_log.specs.ListLog.{IsListed};
 ghost use Rattle.kb_topics.specs.Catalog.{meta_log};
 
-use kb_log::{ListLog, Shelf};
+use kb_log::{ListLog, PartitionLog, Shelf};
 use kb_store::MemoryStore;
 use kb_topics::{Catalog, CatalogFault, TopicConfig};
 use std::alloc::Global;
@@ -17,14 +17,26 @@ pub(super) enum Step<'a> {
     Create(&'a str, i32, TopicConfig, Result<i64, CatalogFault>),
     /// The topic of that name is deleted.
     Delete(&'a str, Result<(), CatalogFault>),
+    /// A producer id is given out.
+    Issue(Result<i64, CatalogFault>),
     /// The start of a partition is moved to an offset.
     Start(i64, i32, i64, Result<(), CatalogFault>),
     /// A group commits an offset in a partition, with metadata.
     Commit(&'a str, i64, i32, i64, &'a str, Result<(), CatalogFault>),
     /// The offset and the metadata that a group committed in a partition.
     Committed(&'a str, u64, usize, Option<(i64, &'a str)>),
+    /// The start of a partition.
+    StartOf(u64, usize, i64),
+    /// The instance of the topic of that name.
+    Named(&'a str, Option<u64>),
+    /// The name, the number of partitions and the settings of the topic of an instance.
+    Topic(u64, &'a str, usize, TopicConfig),
     /// All topics, by name.
     Topics(&'a [(u64, &'a str)]),
+    /// How many topics there are, the next instance and the next producer id.
+    Counts(usize, u64, u64),
+    /// The end of the meta log.
+    End(i64),
 }
 
 fn empty_catalog(alloc: Global) -> Catalog<ListLog>
@@ -54,6 +66,16 @@ impl Kept {
         })
     }
 
+    /// The bytes of the meta log.
+    pub(super) fn recorded(&mut self, alloc: Global) -> Result<Vec<u8>, Fail>
+        requires { IsListed (meta_log self.old.catalog) }
+    {
+        let mut recorded = Vec::new(alloc);
+        let log = self.catalog.log();
+        log.fetch(&mut self.shelf, 0, 10_000, true, &mut recorded)?;
+        Ok(recorded)
+    }
+
     /// Whether a group committed this in a partition.
     fn has_committed(
         &self,
@@ -64,6 +86,16 @@ impl Kept {
     ) -> bool {
         let committed = self.catalog.committed(group, instance, number);
         committed.map(|committed| (committed.offset(), committed.metadata())) == want
+    }
+
+    /// Whether a topic has this name, this number of partitions and these settings.
+    fn has_topic(&self, instance: u64, name: &str, count: usize, config: TopicConfig) -> bool {
+        match self.catalog.topic(instance) {
+            Some(topic) => topic.name() == name
+                && topic.partitions().len() == count
+                && topic.config() == config,
+            None => false,
+        }
     }
 
     /// Whether the topics are these, by name.
@@ -80,11 +112,24 @@ impl Kept {
 
     /// Whether a step that changes nothing has the answer that is wanted.
     fn shows(&self, step: &Step<'_>) -> bool {
+        let catalog = &self.catalog;
         match step {
             Step::Committed(group, instance, number, want) => self.has_committed(
                 group, *instance, *number, *want,
             ),
+            Step::StartOf(instance, number, start) => catalog
+                .partition(*instance, *number)
+                .map(|partition| partition.start())
+                == Some(*start),
+            Step::Named(name, want) => catalog.instance_of(name) == *want,
+            Step::Topic(instance, name, count, config) => self.has_topic(
+                *instance, name, *count, *config,
+            ),
             Step::Topics(want) => self.has_topics(want),
+            Step::Counts(topics, instance, producer_id) => catalog.len() == *topics
+                && catalog.next_instance() == *instance
+                && catalog.next_producer_id() == *producer_id,
+            Step::End(end) => catalog.log().end() == *end,
             _ => false,
         }
     }
@@ -99,6 +144,7 @@ impl Kept {
             Step::Create(name, count, config, want) => catalog.create(shelf, name, *count, *config)
                 == *want,
             Step::Delete(name, want) => name.len() < 300 && catalog.delete(shelf, name) == *want,
+            Step::Issue(want) => catalog.issue(shelf) == *want,
             Step::Start(instance, number, offset, want) => catalog.moved_start(
                 shelf, *instance, *number, *offset,
             ) == *want,

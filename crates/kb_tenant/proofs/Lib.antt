@@ -31,6 +31,7 @@ pub mod ServeMoves
 pub mod Serving
 pub mod Small
 pub mod Spelled
+pub mod Telling
 pub mod Tied
 pub mod Turning
 pub mod Waiting

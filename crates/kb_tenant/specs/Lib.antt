@@ -10,5 +10,6 @@ pub mod Produce
 pub mod Repeated
 pub mod Replies
 pub mod Serve
+pub mod Told
 pub mod Turns
 pub mod Waiting

@@ -19,14 +19,3 @@ pub use kb_broker::{Listing, Settings};
 pub use script::{play_script, play_script_with};
 pub use start::{read_settings, serving_broker};
 pub use turn::Turn;
-
-#[cfg(test)]
-mod edge_bench;
-#[cfg(test)]
-mod edge_crowd;
-#[cfg(test)]
-mod edge_tests;
-#[cfg(test)]
-mod start_tests;
-#[cfg(test)]
-mod tests;

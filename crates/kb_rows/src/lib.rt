@@ -1,42 +1,41 @@
-//! Worked exchanges with a whole broker, as runs, as scripts and call by call: what happens to it, and every byte that each
-//! connection gets.
+//! A broker's calls one by one, its openings, its runs where memory or a store refuses, two tenants' events mixed, and a broker on
+//! a network.
 //!
 //! There is nothing here but tests. The bytes are those of the Kafka protocol guide's layouts, written down beforehand; the
-//! checksums of the record batches are CRC-32C by another program.
+//! checksums of the record batches are CRC-32C by another program. Exchanges that need nothing of this stand as data in
+//! `kb_exchanges`.
 #![tactic(auto)]
 
 #[cfg(test)]
-mod batches;
+mod bench;
 #[cfg(test)]
 mod calls;
 #[cfg(test)]
-mod greeting;
+mod crowd;
+#[cfg(test)]
+mod exchanges;
+#[cfg(test)]
+mod faults;
 #[cfg(test)]
 mod memory;
+#[cfg(test)]
+mod mixes;
 #[cfg(test)]
 mod mixing;
 #[cfg(test)]
 mod opening;
 #[cfg(test)]
-mod playing;
-#[cfg(test)]
-mod producers;
-#[cfg(test)]
 mod refusing;
-#[cfg(test)]
-mod retention;
 #[cfg(test)]
 mod running;
 #[cfg(test)]
 mod scripts;
 #[cfg(test)]
+mod sockets;
+#[cfg(test)]
+mod starting;
+#[cfg(test)]
 mod stores;
-#[cfg(test)]
-mod tenants;
-#[cfg(test)]
-mod topics;
-#[cfg(test)]
-mod waits;
 #[cfg(test)]
 mod words;
 #[cfg(test)]

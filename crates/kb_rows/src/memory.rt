@@ -1,9 +1,7 @@
 //! Exchanges of two tenants while memory may be refused.
 
-use crate::playing::{Step, events_of, wanted_of};
+use crate::exchanges::{ALTERNATING, FOR_A_BATCH, Step, events_of, wanted_of};
 use crate::running::{Outcome, is_told, outcome_of};
-use crate::tenants::ALTERNATING;
-use crate::waits::FOR_A_BATCH;
 use kb_broker::Written;
 use std::alloc::Global;
 use std::process::Abort;

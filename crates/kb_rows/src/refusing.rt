@@ -1,12 +1,8 @@
 //! Brokers whose logs write to a store that refuses: a refusal is its tenant's own.
 
-use crate::batches::{APPEND, APPENDED, FETCH, FETCHED};
-use crate::playing::{ANN, BOB, HANDSHAKE, OFFERED, Step, WELCOME, events_of, wanted_of};
+use crate::exchanges::{ALTERNATING, REFUSED_ONCE, events_of, wanted_of};
 use crate::running::{are_told, is_told, refusals_of, run};
-use crate::tenants::{ALTERNATING, APPEND_YO, FETCHED_YO};
-use crate::topics::{CREATE, CREATED};
 use crate::written::WrittenLog;
-use Step::{In, Open};
 use kb_broker::{Broker, Event, Settings, Written};
 use kb_store::{Fuse, FusedStore, MemoryStore, Store};
 use std::alloc::{AllocError, Global};
@@ -15,27 +11,6 @@ use std::test::Fail;
 
 /// A broker whose logs write to a store in memory with a fuse.
 type Fused = Broker<FusedStore<MemoryStore>, WrittenLog>;
-
-/// The store refused the batch, which got no offset.
-const REFUSED: &str = "00000029 00000014 t/0 0038 ffffffffffffffff ffffffffffffffff 00000000";
-
-/// Two tenants make a topic of one name. The batch of the first is refused, and taken when it comes again.
-const REFUSED_ONCE: [Step<'static>; 14] = [
-    Open(1),
-    Open(2),
-    In(1, HANDSHAKE, OFFERED),
-    In(2, HANDSHAKE, OFFERED),
-    In(1, ANN, WELCOME),
-    In(2, BOB, WELCOME),
-    In(1, CREATE, CREATED),
-    In(2, CREATE, CREATED),
-    In(1, APPEND, REFUSED),
-    In(2, APPEND_YO, APPENDED),
-    In(2, FETCH, FETCHED_YO),
-    In(1, APPEND, APPENDED),
-    In(1, FETCH, FETCHED),
-    In(2, FETCH, FETCHED_YO),
-];
 
 /// Each call of the exchange of two tenants after the list of files, and one more: two calls make each topic, and two take each
 /// batch. Beside it are the refusals that are counted for the tenants and for nobody where it alone is refused.

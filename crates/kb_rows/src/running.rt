@@ -21,8 +21,6 @@ pub(crate) struct Outcome {
     pub(crate) written: Vec<Written>,
     /// The refusals that were counted for `a`, for `b`, and for connections that were not bound.
     pub(crate) refusals: [u64; 3],
-    /// Whether connection 1 is open in the end.
-    pub(crate) is_first_open: bool,
 }
 
 /// A broker of the standard settings.
@@ -65,7 +63,6 @@ pub(crate) fn outcome_of(
     Ok(Outcome {
         written,
         refusals: refusals_of(&broker),
-        is_first_open: broker.is_open(1),
     })
 }
 

@@ -1,8 +1,7 @@
 //! Brokers on stores of several kinds: what opening leaves of a store, and what comes back in the end.
 
-use crate::playing::{events_of, wanted_of};
+use crate::exchanges::{ALTERNATING, events_of, wanted_of};
 use crate::running::{is_told, refusals_of, run};
-use crate::tenants::ALTERNATING;
 use kb_broker::{Broker, OpenFault, OpenRefused, Opened, Settings};
 use kb_store::{Fuse, FusedStore, MemoryStore, Store, StoreFault};
 use std::alloc::{AllocError, Global};

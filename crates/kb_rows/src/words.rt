@@ -1,49 +1,63 @@
-//! How the bytes of an exchange are written: words of hexadecimal digits with a space between. A word behind `'` stands for
-//! its own letters, and those of `MEANINGS` for the digits that it gives.
+//! How the bytes of messages are written: words of hexadecimal digits with a space between, of which those of `MESSAGES` stand for
+//! the digits that it gives.
 
 use std::alloc::{AllocError, Global};
 use std::process::Abort;
 
-/// The words that stand for others, one a line, each with a space and the digits that it gives: `versions` is the table of the
-/// APIs that are served, `t/0` and `u/0` partition 0 of the topics `t` and `u`, alone in a request or a reply, `hi` and `yo` the
-/// batches of one record with timestamp 5 and that value, `kept/hi` and `kept/yo` the same as a log keeps them at its start, `second/hi` and
-/// `third/hi` as it keeps them at the offsets 1 and 2, `abc` a batch of three such records from its magic on, and the others
-/// fronts and parts of batches, requests and replies.
-const MEANINGS: &str = "\
-    versions 000000030003000100040004000200010001000300010001000800020002000900010001000a00000000000b00010001000c000\
-    00000000d00000000000e00000000001100010001001200000000001300000000001400000000001600000000002400000000\n\
-    t/0 000000010001740000000100000000\n\
-    u/0 000000010001750000000100000000\n\
-    head 00000000000000000000003affffffff02\n\
-    times 00000000000000050000000000000005\n\
-    nobody ffffffffffffffffffffffffffff\n\
-    nowhere ffffffffffffffffffffffffffffffff\n\
-    value 100000000104686900\n\
-    hi 00000000000000000000003affffffff0271a3af2c00000000000000000000000000050000000000000005fffffffffffffffffffffff\
-    fffff00000001100000000104686900\n\
-    kept/hi 00000000000000000000003a000000000271a3af2c00000000000000000000000000050000000000000005ffffffffffffffffff\
-    ffffffffff00000001100000000104686900\n\
-    second/hi 00000000000000010000003a000000000271a3af2c00000000000000000000000000050000000000000005ffffffffffffffff\
-    ffffffffffff00000001100000000104686900\n\
-    third/hi 00000000000000020000003a000000000271a3af2c00000000000000000000000000050000000000000005fffffffffffffffff\
-    fffffffffff00000001100000000104686900\n\
-    yo 00000000000000000000003affffffff02cd8f11ea00000000000000000000000000050000000000000005fffffffffffffffffffffff\
-    fffff00000001100000000104796f00\n\
-    kept/yo 00000000000000000000003a0000000002cd8f11ea00000000000000000000000000050000000000000005ffffffffffffffffff\
-    ffffffffff00000001100000000104796f00\n\
-    abc 02aa99226000000000000200000000000000050000000000000005ffffffffffffffffffffffffffff000000030e000000010261000e\
-    000002010262000e00000401026300\n\
-    produce 0000006b0000000300000014ffffffff0001000003e800000001000174000000010000000000000046\n\
-    silently 0000006b0000000300000014ffffffff0000000003e800000001000174000000010000000000000046\n\
-    produced 0000002900000014000000010001740000000100000000\n\
-    list 000000250002000100000028ffffffffffff000000010001740000000100000000\n\
-    listed 0000002500000028000000010001740000000100000000\n\
+/// Requests and replies, one a line, each with a space and its digits: SaslHandshake of `PLAIN`, the logins of `ann` of tenant `a`
+/// and of `bob` of tenant `b`, a mechanism that is not known, a second login, one with a wrong password, ApiVersions, CreateTopics of `t` twice, Metadata of all topics, Produce to `t` of a batch of one
+/// record with value `hi` or `yo`, Fetch of `t` from 0 on, and one that waits for a second for what comes at 1. Behind them stand
+/// their replies.
+const MESSAGES: &str = "\
+    handshake 000000110011000100000002ffff0005504c41494e\n\
+    offered 00000011000000020000000000010005504c41494e\n\
+    ann 000000160024000000000003ffff0000000800616e6e00707731\n\
+    gssapi 000000120011000100000001ffff0006475353415049\n\
+    gssapi-refused 00000011000000010021000000010005504c41494e\n\
+    ann-again 000000160024000000000004ffff0000000800616e6e00707731\n\
+    illegal 0000001e0000000400220012696c6c6567616c205341534c20737461746500000000\n\
+    ann-wrong 000000160024000000000003ffff0000000800616e6e00707732\n\
+    denied 0000002100000003003a001561757468656e7469636174696f6e206661696c656400000000\n\
+    bob 000000160024000000000003ffff0000000800626f6200707732\n\
+    welcome 0000000c000000030000ffff00000000\n\
+    versions 0000000a0012000000000001ffff\n\
+    served 0000007000000001000000000011000000030003000100040004000200010001000300010001000800020002000900010001000a00000\
+    000000b00010001000c00000000000d00000000000e0000000000110001000100120000000000130000000000140000000000160000000000240\
+    0000000\n\
+    create 00000023001300000000000affff00000001000174000000010001000000000000000000001388\n\
+    created 0000000d0000000a000000010001740000\n\
+    create-again 00000023001300000000000bffff00000001000174000000010001000000000000000000001388\n\
+    exists 0000000d0000000b000000010001740024\n\
+    metadata 0000000e000300010000000cffffffffffff\n\
+    described 000000490000000c000000010000000000096c6f63616c686f737400002384ffff0000000000000001000000017400000000010000\
+    000000000000000000000001000000000000000100000000\n\
+    nothing-described 000000250000000c000000010000000000096c6f63616c686f737400002384ffff0000000000000000\n\
+    append-hi 0000006b0000000300000014ffffffff0001000003e80000000100017400000001000000000000004600000000000000000000003a\
+    ffffffff0271a3af2c00000000000000000000000000050000000000000005ffffffffffffffffffffffffffff00000001100000000104686900\n\
+    append-yo 0000006b0000000300000014ffffffff0001000003e80000000100017400000001000000000000004600000000000000000000003a\
+    ffffffff02cd8f11ea00000000000000000000000000050000000000000005ffffffffffffffffffffffffffff00000001100000000104796f00\n\
+    appended-0 000000290000001400000001000174000000010000000000000000000000000000ffffffffffffffff00000000\n\
+    appended-1 000000290000001400000001000174000000010000000000000000000000000001ffffffffffffffff00000000\n\
+    refused 00000029000000140000000100017400000001000000000038ffffffffffffffffffffffffffffffff00000000\n\
+    fetch 000000360001000400000015ffffffffffff00000000000000010010000000000000010001740000000100000000000000000000000000\
+    100000\n\
+    fetched-hi 000000770000001500000000000000010001740000000100000000000000000000000000010000000000000001ffffffff0000004\
+    600000000000000000000003a000000000271a3af2c00000000000000000000000000050000000000000005ffffffffffffffffffffffffffff0\
+    0000001100000000104686900\n\
+    fetched-yo 000000770000001500000000000000010001740000000100000000000000000000000000010000000000000001ffffffff0000004\
+    600000000000000000000003a0000000002cd8f11ea00000000000000000000000000050000000000000005ffffffffffffffffffffffffffff0\
+    0000001100000000104796f00\n\
+    wait 000000360001000400000016ffffffffffff000003e80000000100100000000000000100017400000001000000000000000000000001001\
+    00000\n\
+    came 000000770000001600000000000000010001740000000100000000000000000000000000020000000000000002ffffffff0000004600000\
+    000000000010000003a000000000271a3af2c00000000000000000000000000050000000000000005ffffffffffffffffffffffffffff0000000\
+    1100000000104686900\n\
 ";
 
-/// What a word stands for: itself, where it stands for no other.
+/// What a word stands for: itself, where it stands for no message.
 fn meaning<'a>(word: &'a str) -> &'a str {
-    for row in MEANINGS.lines() {
-        if let Some((name, digits)) = row.split_once(' ') {
+    for message in MESSAGES.lines() {
+        if let Some((name, digits)) = message.split_once(' ') {
             if name == word {
                 return digits;
             }
@@ -52,29 +66,15 @@ fn meaning<'a>(word: &'a str) -> &'a str {
     word
 }
 
-/// Adds the bytes of a word.
-fn put_word(
-    rt: &impl Abort,
-    alloc: Global,
-    bytes: &mut Vec<u8>,
-    word: &str,
-) -> Result<(), AllocError> {
-    if let Some(letters) = word.strip_prefix('\'') {
-        bytes.extend_from_slice(letters.as_bytes())?;
-        return Ok(());
-    }
-    match hex::decode(alloc, meaning(word).as_bytes()) {
-        Ok(decoded) => Ok(bytes.extend_from_slice(&decoded)?),
-        Err(hex::FromHexError::OutOfMemory) => Err(AllocError),
-        Err(_) => panic!(rt; "{word} is not hexadecimal"),
-    }
-}
-
 /// The bytes of a text: none of an empty one.
 pub(crate) fn bytes_of(rt: &impl Abort, alloc: Global, text: &str) -> Result<Vec<u8>, AllocError> {
     let mut bytes = Vec::new(alloc);
     for word in text.split(' ') {
-        put_word(rt, alloc, &mut bytes, word)?;
+        match hex::decode(alloc, meaning(word).as_bytes()) {
+            Ok(decoded) => bytes.extend_from_slice(&decoded)?,
+            Err(hex::FromHexError::OutOfMemory) => return Err(AllocError),
+            Err(_) => panic!(rt; "{word} is not hexadecimal"),
+        }
     }
     Ok(bytes)
 }

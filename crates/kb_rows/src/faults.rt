@@ -1,5 +1,7 @@
-use crate::{NodeFault, play_script};
+//! A script whose output cannot be handed on, and the texts of the faults that end one.
+
 use kb_broker::ScriptFault;
+use kb_node::{NodeFault, play_script};
 use std::io;
 use std::io::{Error, ErrorKind, Write};
 use std::test::Fail;
@@ -22,26 +24,6 @@ impl Write for Held {
     fn flush(&mut self) -> io::Result<()> {
         Err(Error::from(ErrorKind::Other))
     }
-}
-
-#[test]
-fn scripts_are_played(rt: HostRuntime) -> Result<(), Fail> {
-    let bad_line = Err(NodeFault::Script(ScriptFault::BadLine(3)));
-    let scripts: [(&[u8], Result<(), NodeFault>); 2] = [
-        (SHUT, Ok(())),
-        (
-            b"open 1\nin 1 00000007\nopen 1\nopen 2\nin 2 00000007\n",
-            bad_line,
-        ),
-    ];
-    for (script, outcome) in scripts {
-        let mut reader = script;
-        let mut writer: Vec<u8> = Vec::new(rt.alloc());
-        let played = play_script(rt.alloc(), &mut reader, &mut writer);
-        assert_eq!(rt; played, outcome);
-        assert_eq!(rt; writer.as_slice(), b"shut 1\n".as_slice());
-    }
-    Ok(())
 }
 
 #[test]

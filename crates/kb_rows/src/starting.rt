@@ -1,6 +1,9 @@
-use crate::edge_bench::{bytes, new_broker};
-use crate::{BindFault, BindRefused, Edge, Listing, StartFault, read_settings, serving_broker};
+//! What a program of the broker needs before it starts, and why it does not start.
+
+use crate::running::new_broker;
+use crate::words::bytes_of;
 use kb_broker::{Broker, OpenFault, Settings};
+use kb_node::{BindFault, BindRefused, Edge, Listing, StartFault, read_settings, serving_broker};
 use kb_settings::SettingsFault;
 use kb_store::MemoryStore;
 use std::alloc::{AllocError, Global};
@@ -11,9 +14,7 @@ use std::test::Fail;
 const TEXT: &str =
     "host = \"127.0.0.1\"\ndata = \"d\"\n[[user]]\nname = \"ann\"\npassword = \"pw1\"\ntenant = \"a\"\n";
 
-/// ApiVersions of version 0, and where SaslHandshake stands in the reply.
-const VERSIONS: &str = "0000000a0012000000000001ffff";
-
+/// Where SaslHandshake stands in the reply to ApiVersions.
 const HANDSHAKE: usize = 14 + 11 * 6;
 
 /// What a new broker answers to ApiVersions.
@@ -22,7 +23,7 @@ fn versions_of(
     alloc: Global,
     broker: &mut Broker<MemoryStore>,
 ) -> Result<Vec<u8>, AllocError> {
-    let request = bytes(rt, alloc, VERSIONS)?;
+    let request = bytes_of(rt, alloc, "versions")?;
     assert_eq!(rt; broker.last_connection(), 0);
     broker.connect(alloc, 1)?;
     broker.input(alloc, 1, &request);
@@ -39,7 +40,7 @@ fn lists(
 ) -> Result<(), StartFault> {
     let mut broker = serving_broker(alloc, settings, listing)?;
     let reply = versions_of(rt, alloc, &mut broker)?;
-    let listed = bytes(rt, alloc, listed)?;
+    let listed = bytes_of(rt, alloc, listed)?;
     assert_eq!(rt;
         reply.get(HANDSHAKE..HANDSHAKE + 6),
         Some(listed.as_slice())

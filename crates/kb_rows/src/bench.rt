@@ -1,9 +1,10 @@
-//! An edge on the loopback with its clients, which turn it themselves. Bytes are written as hexadecimal digits.
+//! An edge on the loopback with its clients, which turn it themselves. Bytes are written as `words` says.
 
-use crate::{BindFault, Edge, Turn};
-use kb_broker::{Broker, Settings};
+use crate::words::bytes_of;
+use kb_broker::Broker;
+use kb_node::{BindFault, Edge, Turn};
 use kb_store::MemoryStore;
-use std::alloc::{AllocError, Global};
+use std::alloc::Global;
 use std::io;
 use std::io::{ErrorKind, Read, Write};
 use std::net::TcpStream;
@@ -14,25 +15,6 @@ const LOOKS: usize = 10_000;
 
 /// How many turns an edge gets to see that a client has gone.
 const TURNS: usize = 100;
-
-/// The bytes of some digits.
-pub(crate) fn bytes(rt: &impl Abort, alloc: Global, digits: &str) -> Result<Vec<u8>, AllocError> {
-    match hex::decode(alloc, digits.as_bytes()) {
-        Ok(bytes) => Ok(bytes),
-        Err(hex::FromHexError::OutOfMemory) => Err(AllocError),
-        Err(_) => panic!(rt; "the digits are hexadecimal"),
-    }
-}
-
-/// A broker of the standard settings.
-pub(crate) fn new_broker(alloc: Global) -> Result<Broker<MemoryStore>, AllocError> {
-    let settings = Settings::standard(alloc)?;
-    let store = MemoryStore::new(alloc);
-    match Broker::open(alloc, &settings, store) {
-        Ok(opened) => Ok(opened.broker),
-        Err(_) => Err(AllocError),
-    }
-}
 
 /// A client on the other side.
 #[derive(Drop)]
@@ -186,7 +168,7 @@ impl Bench {
         place: usize,
         digits: &str,
     ) -> io::Result<()> {
-        let request = bytes(rt, alloc, digits)?;
+        let request = bytes_of(rt, alloc, digits)?;
         self.client(rt, place).stream.write_all(&request)?;
         self.turn(alloc);
         Ok(())
@@ -200,7 +182,7 @@ impl Bench {
         place: usize,
         digits: &str,
     ) -> io::Result<()> {
-        let request = bytes(rt, alloc, digits)?;
+        let request = bytes_of(rt, alloc, digits)?;
         for byte in request.iter() {
             self.client(rt, place).stream.write_all(&[*byte])?;
             self.turn(alloc);
@@ -217,7 +199,7 @@ impl Bench {
         digits: &str,
         reply: &str,
     ) -> io::Result<()> {
-        let request = bytes(rt, alloc, digits)?;
+        let request = bytes_of(rt, alloc, digits)?;
         self.client(rt, place).stream.write_all(&request)?;
         self.told(rt, alloc, place, reply)
     }
@@ -230,7 +212,7 @@ impl Bench {
         place: usize,
         digits: &str,
     ) -> io::Result<()> {
-        let reply = bytes(rt, alloc, digits)?;
+        let reply = bytes_of(rt, alloc, digits)?;
         self.await_bytes(rt, alloc, place, reply.len())?;
         let name = self.name;
         assert_eq!(rt; self.client(rt, place).got, reply, "{name}");

@@ -1,89 +1,17 @@
 //! Edges on the loopback, and one on a network of no system.
 
-use crate::edge_bench::{Bench, Move, bytes, new_broker};
-use crate::edge_crowd::Crowd;
-use crate::{BindFault, Edge, Turn};
+use crate::bench::{Bench, Move};
+use crate::crowd::Crowd;
+use crate::running::new_broker;
+use crate::words::bytes_of;
 use Move::{Ask, Closed, Drip, Idle, Join, Leave, Send, Stays, Told, Turns};
 use kb_broker::Broker;
+use kb_node::{BindFault, Edge, Turn};
 use kb_store::MemoryStore;
 use std::alloc::{AllocError, Global};
 use std::io;
 use std::process::Abort;
 use std::test::Fail;
-
-/// ApiVersions of version 0, and its reply (Kafka protocol guide, key 18).
-const VERSIONS: &str = "0000000a0012000000000001ffff";
-
-const LISTED: &str =
-    "00000070000000010000000000110000000300030001000400040002000100010003000100010008000200020009\
-    00010001000a00000000000b00010001000c00000000000d00000000000e00000000001100010001001200000000\
-    001300000000001400000000001600000000002400000000";
-
-/// A mechanism that is not known, which is refused.
-const UNKNOWN: &str = "000000120011000100000001ffff0006475353415049";
-
-const REFUSED: &str = "00000011000000010021000000010005504c41494e";
-
-/// PLAIN, which is accepted.
-const PLAIN: &str = "000000110011000100000002ffff0005504c41494e";
-
-const ACCEPTED: &str = "00000011000000020000000000010005504c41494e";
-
-/// The login of `ann`, who is let in.
-const ANN: &str = "000000160024000000000003ffff0000000800616e6e00707731";
-
-const WELCOME: &str = "0000000c000000030000ffff00000000";
-
-/// A second login, which comes at no time.
-const ANN_AGAIN: &str = "000000160024000000000004ffff0000000800616e6e00707731";
-
-const ILLEGAL: &str = "0000001e0000000400220012696c6c6567616c205341534c20737461746500000000";
-
-/// A login with a wrong password, which is denied.
-const WRONG: &str = "000000160024000000000003ffff0000000800616e6e00707732";
-
-const DENIED: &str = "0000002100000003003a001561757468656e7469636174696f6e206661696c656400000000";
-
-/// A topic `t` with one partition is made.
-const CREATE: &str =
-    "00000023001300000000000affff00000001000174000000010001000000000000000000001388";
-
-const CREATED: &str = "0000000d0000000a000000010001740000";
-
-/// It is made again.
-const CREATE_AGAIN: &str =
-    "00000023001300000000000bffff00000001000174000000010001000000000000000000001388";
-
-const EXISTS: &str = "0000000d0000000b000000010001740024";
-
-/// All topics are listed.
-const METADATA: &str = "0000000e000300010000000cffffffffffff";
-
-const DESCRIBED: &str =
-    "000000490000000c000000010000000000096c6f63616c686f737400002384ffff00000000000000010000000174\
-    00000000010000000000000000000000000001000000000000000100000000";
-
-/// A batch of one record `hi` is produced to `t`.
-const APPEND: &str =
-    "0000006b0000000300000014ffffffff0001000003e8000000010001740000000100000000000000460000000000\
-    0000000000003affffffff0271a3af2c00000000000000000000000000050000000000000005ffffffffffffffff\
-    ffffffffffff00000001100000000104686900";
-
-const APPENDED: &str =
-    "000000290000001400000001000174000000010000000000000000000000000000ffffffffffffffff00000000";
-
-/// It is fetched from 0 on.
-const FETCH: &str =
-    "000000360001000400000015ffffffffffff00000000000000010010000000000000010001740000000100000000\
-    000000000000000000100000";
-
-const FETCHED: &str =
-    "000000770000001500000000000000010001740000000100000000000000000000000000010000000000000001ff\
-    ffffff0000004600000000000000000000003a000000000271a3af2c000000000000000000000000000500000000\
-    00000005ffffffffffffffffffffffffffff00000001100000000104686900";
-
-/// Metadata before a login.
-const TOO_EARLY: &str = "0000000e0003000100000001ffffffffffff";
 
 /// What happens to an edge of the standard settings, under its name.
 type Scene = (&'static str, &'static [Move<'static>]);
@@ -107,51 +35,51 @@ const ONE_TURNED_AWAY: Turn = Turn {
 const VERSIONS_ARE_ANSWERED: [Move<'static>; 4] = [
     Join,
     Turns(ONE_ACCEPTED),
-    Ask(0, VERSIONS, LISTED),
+    Ask(0, "versions", "served"),
     Idle,
 ];
 
 const USERS_LOG_IN: [Move<'static>; 10] = [
     Join,
     Join,
-    Ask(0, UNKNOWN, REFUSED),
-    Ask(0, PLAIN, ACCEPTED),
-    Ask(0, ANN, WELCOME),
-    Ask(0, ANN_AGAIN, ILLEGAL),
-    Ask(1, PLAIN, ACCEPTED),
-    Ask(1, WRONG, DENIED),
+    Ask(0, "gssapi", "gssapi-refused"),
+    Ask(0, "handshake", "offered"),
+    Ask(0, "ann", "welcome"),
+    Ask(0, "ann-again", "illegal"),
+    Ask(1, "handshake", "offered"),
+    Ask(1, "ann-wrong", "denied"),
     Closed(1),
     Stays(0),
 ];
 
 const A_REQUEST_BEFORE_THE_LOGIN_IS_SHUT: [Move<'static>; 3] = [
     Join,
-    Ask(0, TOO_EARLY, ""),
+    Ask(0, "metadata", ""),
     Closed(0),
 ];
 
 const A_TOPIC_IS_MADE_ONCE_AND_LISTED: [Move<'static>; 6] = [
     Join,
-    Ask(0, PLAIN, ACCEPTED),
-    Ask(0, ANN, WELCOME),
-    Ask(0, CREATE, CREATED),
-    Ask(0, CREATE_AGAIN, EXISTS),
-    Ask(0, METADATA, DESCRIBED),
+    Ask(0, "handshake", "offered"),
+    Ask(0, "ann", "welcome"),
+    Ask(0, "create", "created"),
+    Ask(0, "create-again", "exists"),
+    Ask(0, "metadata", "described"),
 ];
 
 const A_BATCH_COMES_BACK: [Move<'static>; 6] = [
     Join,
-    Ask(0, PLAIN, ACCEPTED),
-    Ask(0, ANN, WELCOME),
-    Ask(0, CREATE, CREATED),
-    Ask(0, APPEND, APPENDED),
-    Ask(0, FETCH, FETCHED),
+    Ask(0, "handshake", "offered"),
+    Ask(0, "ann", "welcome"),
+    Ask(0, "create", "created"),
+    Ask(0, "append-hi", "appended-0"),
+    Ask(0, "fetch", "fetched-hi"),
 ];
 
 const A_CLIENT_MAY_SEND_BYTE_BY_BYTE: [Move<'static>; 3] = [
     Join,
-    Drip(0, VERSIONS),
-    Told(0, LISTED),
+    Drip(0, "versions"),
+    Told(0, "served"),
 ];
 
 const A_CLIENT_MAY_CLOSE_IN_THE_MIDDLE: [Move<'static>; 5] = [
@@ -159,7 +87,7 @@ const A_CLIENT_MAY_CLOSE_IN_THE_MIDDLE: [Move<'static>; 5] = [
     Join,
     Send(1, "0000000a001200"),
     Leave,
-    Ask(0, VERSIONS, LISTED),
+    Ask(0, "versions", "served"),
 ];
 
 const SCENES: [Scene; 7] = [
@@ -211,7 +139,7 @@ fn scenes_are_played(rt: HostRuntime) -> Result<(), Fail> {
 /// The last number is given to one client, and none is left for the next.
 const LAST: [Move<'static>; 5] = [
     Join,
-    Ask(0, VERSIONS, LISTED),
+    Ask(0, "versions", "served"),
     Join,
     Turns(ONE_TURNED_AWAY),
     Closed(1),
@@ -235,7 +163,7 @@ const LOOKS: usize = 1_000_000;
 
 /// Requests of 14 bytes in a row.
 fn many_requests(rt: &impl Abort, alloc: Global) -> Result<Vec<u8>, AllocError> {
-    let request = bytes(rt, alloc, VERSIONS)?;
+    let request = bytes_of(rt, alloc, "versions")?;
     let mut requests = Vec::new(alloc);
     for _ in 0..REQUESTS {
         requests.extend_from_slice(&request)?;
@@ -299,7 +227,7 @@ fn a_client_that_does_not_read_holds_nobody_up(rt: HostRuntime) -> Result<(), Fa
         written < replies as u64,
         "{written} of {replies} for {sent}"
     );
-    bench.happen(&rt, &rt, alloc, Ask(1, VERSIONS, LISTED))?;
+    bench.happen(&rt, &rt, alloc, Ask(1, "versions", "served"))?;
     // Once it reads it gets every reply.
     assert_eq!(rt; read_all(&rt, alloc, &mut bench)?, replies);
     Ok(())

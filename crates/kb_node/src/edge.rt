@@ -1,23 +1,38 @@
-//! A broker on a network, turned by hand: no call here waits for a peer.
+//! A broker on a network. A turn waits for no peer.
 
 ghost use Rattle.std.specs.Prelude.{◌≡◌, ◌≤◌, ◌^◌, IfErr, vec_len};
 ghost use Rattle.kb_node.specs.declared.edge.TheConstants.{SOCKETS};
 
-use crate::socket::Socket;
+use crate::socket::{Next, Socket};
 use crate::turn::Turn;
+use crate::watch::Watch;
 use kb_broker::Broker;
 use kb_store::Store;
-use std::alloc::Global;
-use std::io;
+use mio::event::Event;
+use std::alloc::{AllocError, Global};
 use std::io::ErrorKind;
 use std::net::{Net, OpenListener, OpenStream, TcpListener};
+use std::os::fd::AsRawFd;
+use std::time::Duration;
+use std::{io, mem};
 
 /// The most sockets at a time: more are closed at once.
 pub const SOCKETS: usize = 1024;
 
-/// How many sockets a turn looks at while nothing happens, the listener among them, so that a client that pauses briefly is
-/// answered in the same turn. All of them are looked at once in any case.
-const VISITS: usize = 200;
+/// How often a turn serves a socket at most: the sockets that can go on are served in turn, a request each.
+const ROUNDS: usize = 16;
+
+/// How many bytes of output are kept until they are written, above which nothing more is handed on to the broker. A reply that
+/// was asked for below it may go past it.
+const OUTPUT: usize = 268_435_456;
+
+/// How long is waited where a fetch may be due, and where nothing is, in milliseconds.
+const SHORT_WAIT: u64 = 5;
+
+const LONG_WAIT: u64 = 100;
+
+/// The number under which the listener is watched, which no connection has.
+const DOOR: u64 = 0;
 
 /// The most bytes that are read from a socket at once.
 const PIECE: usize = 65_536;
@@ -43,19 +58,34 @@ pub struct BindRefused<S: Store> {
 /// A broker and the sockets of its connections, under a listener.
 ///
 /// Each socket that is accepted is a new connection, of a number above all earlier ones. Its bytes are the connection's, in
-/// order, and the connection's output is what is written to it.
+/// order, and the connection's output is what is written to it. They are handed on a request at a time, in turn among the
+/// connections, and only while the connection has no output to be written and waits for no fetch: so a connection that asks and
+/// never reads has one reply kept.
 #[derive(Drop)]
 pub struct Edge<R: Net, S: Store> {
     listener: R::Listener,
     port: u16,
     broker: Broker<S>,
+    /// By rising number of their connections.
     sockets: Vec<Socket<R::Stream>>,
     buffer: Vec<u8>,
+    /// Which sockets are ready. With none all are looked at in each turn.
+    watch: Option<Watch>,
+    /// Whether an accept may find a socket.
+    can_accept: bool,
+    /// The connections whose sockets can go on, each once.
+    ready: Vec<u64>,
+    /// Those that wait for a fetch, each once.
+    waiting: Vec<u64>,
+    /// An empty list, to be filled while another is gone through.
+    spare: Vec<u64>,
+    /// How many bytes are taken from the broker and not written.
+    output: usize,
     ghost within: { vec_len sockets ≤ SOCKETS },
 }
 
 impl<R: Net, S: Store> Edge<R, S> {
-    /// Listens on an address, `HOST:PORT`; at port 0 the system chooses one.
+    /// Listens on an address, `HOST:PORT`; at port 0 the system chooses one. Each turn looks at all sockets.
     pub fn bind(
         net: &R,
         alloc: Global,
@@ -64,13 +94,44 @@ impl<R: Net, S: Store> Edge<R, S> {
     ) -> Result<Self, BindRefused<S>>
         ensures { IfErr result (λ refused. refused.broker ≡ broker) }
     {
-        let Ok((listener, port)) = listen(net, address) else {
+        Edge::open(net, alloc, broker, address, None)
+    }
+
+    /// The same, where a turn serves the sockets that [`Edge::wait`] found to be ready. The sockets have to be the system's.
+    pub fn watching(
+        net: &R,
+        alloc: Global,
+        broker: Broker<S>,
+        address: &str,
+    ) -> Result<Self, BindRefused<S>>
+        ensures { IfErr result (λ refused. refused.broker ≡ broker) }
+    {
+        match Watch::new(net, alloc) {
+            Ok(watch) => Edge::open(net, alloc, broker, address, Some(watch)),
+            Err(_) => Err(BindRefused {
+                fault: BindFault::Bind,
+                broker,
+            }),
+        }
+    }
+
+    /// Listens on an address.
+    fn open(
+        net: &R,
+        alloc: Global,
+        broker: Broker<S>,
+        address: &str,
+        watch: Option<Watch>,
+    ) -> Result<Self, BindRefused<S>>
+        ensures { IfErr result (λ refused. refused.broker ≡ broker) }
+    {
+        let Ok((listener, port)) = listen(net, address, &watch) else {
             return Err(BindRefused {
                 fault: BindFault::Bind,
                 broker,
             });
         };
-        let Ok(buffer) = vec![in alloc; 0u8; PIECE] else {
+        let Ok((buffer, ready, waiting, spare)) = buffers(alloc) else {
             return Err(BindRefused {
                 fault: BindFault::Memory,
                 broker,
@@ -82,6 +143,12 @@ impl<R: Net, S: Store> Edge<R, S> {
             broker,
             sockets: Vec::new(alloc),
             buffer,
+            watch,
+            can_accept: true,
+            ready,
+            waiting,
+            spare,
+            output: 0,
         })
     }
 
@@ -90,28 +157,93 @@ impl<R: Net, S: Store> Edge<R, S> {
         self.port
     }
 
+    /// Waits until a socket becomes ready or a new one is there: 5 ms at most while a fetch waits, which may be due then, and
+    /// else 100 ms; and no time where a socket can go on as it is. An edge that was bound without a watch does not wait.
+    pub fn wait(&mut self) {
+        let longest = self.longest_wait();
+        let Some(mut watch) = self.watch.take() else {
+            return;
+        };
+        watch.wait(longest);
+        for event in watch.events() {
+            self.hear(event);
+        }
+        self.watch = Some(watch);
+    }
+
+    /// How long may be waited.
+    fn longest_wait(&self) -> Duration {
+        let millis = if !self.ready.is_empty() && self.may_ask() {
+            0
+        } else if self.ready.is_empty() && self.waiting.is_empty() && !self.can_accept {
+            LONG_WAIT
+        } else {
+            SHORT_WAIT
+        };
+        Duration::from_millis(millis)
+    }
+
+    /// Whether so little output is kept that more may be asked for.
+    fn may_ask(&self) -> bool {
+        self.output < OUTPUT
+    }
+
+    /// What the system tells of a socket or of the listener.
+    fn hear(&mut self, event: &Event) {
+        let number = event.token().0 as u64;
+        if number == DOOR {
+            self.can_accept = true;
+            return;
+        }
+        if let Some(place) = self.place_of(number)
+            && let Some(socket) = self.sockets.get_mut(place)
+        {
+            socket.hear(event);
+            self.queue(place);
+        }
+    }
+
     /// One moment, in milliseconds and at most 2^62, and then whatever the sockets take and give now.
-    ///
-    /// Nothing is read from a socket that has output to be written, nor more than its connection has room for.
     pub fn turn(&mut self, alloc: Global, now: u64) -> Turn
         requires { now ≤ 2 ^ 62 }
     {
         let mut turn = Turn::default();
         self.broker.moment(alloc, now);
-        let looks = (VISITS / (self.sockets.len() + 1)).max(1);
-        for _ in 0..looks {
-            self.accept(alloc, &mut turn);
-            self.serve(alloc, &mut turn);
-            if !turn.is_idle() {
+        self.look_at_waiting(alloc);
+        if self.watch.is_none() {
+            self.hear_all();
+        }
+        self.accept(alloc, &mut turn);
+        for _ in 0..ROUNDS {
+            if self.ready.is_empty() {
                 break;
             }
+            self.serve(alloc, &mut turn);
+            self.look_at_waiting(alloc);
+        }
+        if turn.closed > 0 {
+            self.sockets.retain(|socket| !socket.is_ended());
         }
         turn
+    }
+
+    /// Every socket may be ready.
+    fn hear_all(&mut self) {
+        self.can_accept = true;
+        for place in 0..self.sockets.len() {
+            if let Some(socket) = self.sockets.get_mut(place) {
+                socket.hear_any();
+            }
+            self.queue(place);
+        }
     }
 
     /// Accepts the sockets that wait, at most as many as there may be.
     fn accept(&mut self, alloc: Global, turn: &mut Turn) {
         for _ in 0..SOCKETS {
+            if !self.can_accept {
+                return;
+            }
             match self.listener.accept() {
                 Ok((stream, _)) => {
                     turn.count_accepted();
@@ -119,11 +251,11 @@ impl<R: Net, S: Store> Edge<R, S> {
                         turn.count_closed();
                     }
                 }
-                Err(e) => {
-                    if e.kind() != ErrorKind::Interrupted {
-                        return;
-                    }
-                }
+                Err(e) => match e.kind() {
+                    ErrorKind::Interrupted => {}
+                    ErrorKind::WouldBlock => self.can_accept = false,
+                    _ => return,
+                },
             }
         }
     }
@@ -138,25 +270,125 @@ impl<R: Net, S: Store> Edge<R, S> {
         }
         stream.set_nonblocking(true)?;
         stream.set_nodelay(true)?;
+        if let Some(watch) = &self.watch {
+            watch.add(stream.as_raw_fd(), connection)?;
+        }
         self.sockets.reserve(1)?;
         self.broker.connect(alloc, connection)?;
+        let place = self.sockets.len();
         self.sockets.push(Socket::new(alloc, connection, stream))?;
+        self.queue(place);
         Ok(())
     }
 
-    /// Each socket writes and reads what it can now; those that have ended are closed.
-    fn serve(&mut self, alloc: Global, turn: &mut Turn) {
-        for socket in self.sockets.iter_mut() {
-            socket.serve(alloc, &mut self.broker, &mut self.buffer, turn);
+    /// The place of a connection's socket.
+    fn place_of(&self, number: u64) -> Option<usize> {
+        self.sockets
+            .binary_search_by_key(&number, |socket| socket.connection())
+            .ok()
+    }
+
+    /// The socket at a place can go on.
+    fn queue(&mut self, place: usize) {
+        let Some(socket) = self.sockets.get_mut(place) else {
+            return;
+        };
+        // there is room for each socket once
+        if !socket.is_queued && self.ready.push(socket.connection()).is_ok() {
+            socket.is_queued = true;
         }
-        self.sockets.retain(|socket| !socket.is_ended());
+    }
+
+    /// Each socket that can go on is served once.
+    fn serve(&mut self, alloc: Global, turn: &mut Turn) {
+        let spare = mem::replace(&mut self.spare, Vec::new(alloc));
+        let mut round = mem::replace(&mut self.ready, spare);
+        for number in &round {
+            self.serve_one(alloc, *number, turn);
+        }
+        round.clear();
+        self.spare = round;
+    }
+
+    /// Serves the socket of a connection once.
+    fn serve_one(&mut self, alloc: Global, number: u64, turn: &mut Turn) {
+        let may_ask = self.may_ask();
+        let Some(place) = self.place_of(number) else {
+            return;
+        };
+        let Some(socket) = self.sockets.get_mut(place) else {
+            return;
+        };
+        socket.is_queued = false;
+        let before = socket.unwritten();
+        let next = socket.serve(alloc, &mut self.broker, &mut self.buffer, may_ask, turn);
+        let after = socket.unwritten();
+        self.output = self.output.saturating_sub(before).saturating_add(after);
+        match next {
+            Next::Turn => self.queue(place),
+            Next::Answer => self.await_answer(place),
+            Next::System | Next::End => {}
+        }
+    }
+
+    /// The connection of the socket at a place waits for a fetch.
+    fn await_answer(&mut self, place: usize) {
+        let Some(socket) = self.sockets.get_mut(place) else {
+            return;
+        };
+        // there is room for each socket once
+        if !socket.is_waiting && self.waiting.push(socket.connection()).is_ok() {
+            socket.is_waiting = true;
+        }
+    }
+
+    /// Those that waited for a fetch, and do so no longer, can go on.
+    fn look_at_waiting(&mut self, alloc: Global) {
+        if self.waiting.is_empty() {
+            return;
+        }
+        let spare = mem::replace(&mut self.spare, Vec::new(alloc));
+        let mut waiting = mem::replace(&mut self.waiting, spare);
+        for number in &waiting {
+            self.look_at(*number);
+        }
+        waiting.clear();
+        self.spare = waiting;
+    }
+
+    /// A connection that waited for a fetch waits on, or its socket can go on.
+    fn look_at(&mut self, number: u64) {
+        let Some(place) = self.place_of(number) else {
+            return;
+        };
+        let Some(socket) = self.sockets.get_mut(place) else {
+            return;
+        };
+        socket.is_waiting = false;
+        if self.broker.waits(number) {
+            self.await_answer(place);
+        } else {
+            self.queue(place);
+        }
     }
 }
 
+/// What is read into, and three empty lists with room for all connections.
+fn buffers(alloc: Global) -> Result<(Vec<u8>, Vec<u64>, Vec<u64>, Vec<u64>), AllocError> {
+    let buffer = vec![in alloc; 0u8; PIECE]?;
+    let ready = Vec::with_capacity(alloc, SOCKETS)?;
+    let waiting = Vec::with_capacity(alloc, SOCKETS)?;
+    let spare = Vec::with_capacity(alloc, SOCKETS)?;
+    Ok((buffer, ready, waiting, spare))
+}
+
 /// A listener that never waits, and its port.
-fn listen<R: Net>(net: &R, address: &str) -> io::Result<(R::Listener, u16)> {
+fn listen<R: Net>(net: &R, address: &str, watch: &Option<Watch>) -> io::Result<(R::Listener, u16)> {
     let listener = TcpListener::bind(net, address)?;
     listener.set_nonblocking(true)?;
     let port = listener.local_addr()?.port();
+    if let Some(watch) = watch {
+        watch.add(listener.as_raw_fd(), DOOR)?;
+    }
     Ok((listener, port))
 }

@@ -8,10 +8,12 @@
 
 mod edge;
 mod fault;
+mod input;
 mod script;
 mod socket;
 mod start;
 mod turn;
+mod watch;
 
 pub use edge::{BindFault, BindRefused, Edge};
 pub use fault::{NodeFault, StartFault};

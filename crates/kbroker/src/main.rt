@@ -19,8 +19,8 @@ use kb_node::{
 use std::alloc::{AllocError, Global};
 use std::io::{BufReader, BufWriter};
 use std::process::ExitCode;
-use std::time::{Duration, SystemTime};
-use std::{fs, io, thread};
+use std::time::SystemTime;
+use std::{fs, io};
 use thiserror::Error;
 
 /// How often the edge is turned at most.
@@ -28,9 +28,6 @@ const TURNS: u64 = 9_223_372_036_854_775_807;
 
 /// The last moment, in milliseconds.
 const LAST_MOMENT: u64 = 4_611_686_018_427_387_904;
-
-/// How long an idle turn is followed by a sleep, in milliseconds.
-const PAUSE: u64 = 5;
 
 /// Why the program ends early.
 #[derive(Debug, Drop, Error)]
@@ -157,14 +154,13 @@ fn serve(rt: &HostRuntime, found: &ArgMatches<'_>) -> Result<(), Fault> {
     };
     let broker = serving_broker(alloc, &settings, listing)?;
     let address = format!(in alloc; "{}:{}", settings.host, settings.port)?;
-    let mut edge = Edge::bind(rt, alloc, broker, &address).map_err(StartFault::from)?;
+    let mut edge = Edge::watching(rt, alloc, broker, &address).map_err(StartFault::from)?;
     if println!(rt; "listening on {}:{}", settings.host, edge.port()).is_err() {
         return Err(Fault::Node(NodeFault::Write));
     }
     for _ in 0..TURNS {
-        if edge.turn(alloc, now(rt)).is_idle() {
-            thread::sleep(rt, Duration::from_millis(PAUSE));
-        }
+        edge.wait();
+        edge.turn(alloc, now(rt));
     }
     Ok(())
 }

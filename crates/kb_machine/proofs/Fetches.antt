@@ -5,7 +5,7 @@ use Rattle.kb_wire.specs.Codec.{whole}
 use Rattle.kb_api_group.specs.Frames.{Front, Whole, front}
 use Rattle.kb_api_data.specs.Layouts.{fetch_request}
 use Rattle.kb_api_data.specs.declared.fetch.FetchRequest.{FetchRequest}
-use Rattle.kb_tenant.specs.Batches.{HoldsBatches}
+use Rattle.kb_tenant.specs.Batches.{HasSmallLogs, HoldsBatches}
 use Rattle.kb_tenant.specs.Hosted.{Kept, world_at}
 use Rattle.kb_tenant.specs.Replies.{Reaction, Replies, Waits, Silent, Shuts}
 use Rattle.kb_tenant.proofs.Batches.{looked-holds, served-holds}
@@ -16,43 +16,43 @@ use Rattle.kb_machine.specs.Greeting.{Setup}
 use Rattle.kb_machine.specs.Machine.{answered, served_by, served_at, served, told, woken_by, woken}
 use Rattle.kb_machine.specs.Fetches.{GetsBatches}
 
-answer-holds : (setup : Setup) (kept : Kept) (clock : ℕ) (body reply : List ℕ) (r : FetchRequest) → whole fetch_request body ≡ Ok r → answer setup.node kept clock (pos 1) body ≡ Replies reply → HoldsBatches (world_at kept clock) r reply
+answer-holds : (setup : Setup) (kept : Kept) (clock : ℕ) (body reply : List ℕ) (r : FetchRequest) → HasSmallLogs (world_at kept clock) → whole fetch_request body ≡ Ok r → answer setup.node kept clock (pos 1) body ≡ Replies reply → HoldsBatches (world_at kept clock) r reply
 unfolding answer
-answer-holds setup kept clock body reply r read e = served-holds setup.node (world_at kept clock) body reply r read e
+answer-holds setup kept clock body reply r small read e = served-holds setup.node (world_at kept clock) body reply r small read e
 
-ready-holds : (kept : Kept) (clock : ℕ) (wait : Wait) (reply : List ℕ) (r : FetchRequest) → whole fetch_request wait.body ≡ Ok r → ready kept clock wait ≡ Replies reply → HoldsBatches (world_at kept clock) r reply
+ready-holds : (kept : Kept) (clock : ℕ) (wait : Wait) (reply : List ℕ) (r : FetchRequest) → HasSmallLogs (world_at kept clock) → whole fetch_request wait.body ≡ Ok r → ready kept clock wait ≡ Replies reply → HoldsBatches (world_at kept clock) r reply
 unfolding ready
-ready-holds kept clock wait reply r read e = looked-holds (world_at kept clock) wait.deadline wait.body reply r read e
+ready-holds kept clock wait reply r small read e = looked-holds (world_at kept clock) wait.deadline wait.body reply r small read e
 
-answered_by : (setup : Setup) (kept : Kept) (clock : ℕ) (id : ℤ) (body : List ℕ) (s : Session) (r : FetchRequest) → whole fetch_request body ≡ Ok r → (x : Reaction) → answer setup.node kept clock (pos 1) body ≡ x → GetsBatches (world_at kept clock) r id s (answered x id body s)
-answered_by setup kept clock id body s r read (Replies reply) e = inl (reply, answer-holds setup kept clock body reply r read e, refl)
-answered_by setup kept clock id body s r read (Waits deadline places) e = inr refl
-answered_by setup kept clock id body s r read Silent e = inr refl
-answered_by setup kept clock id body s r read Shuts e = inr refl
+answered_by : (setup : Setup) (kept : Kept) (clock : ℕ) (id : ℤ) (body : List ℕ) (s : Session) (r : FetchRequest) → HasSmallLogs (world_at kept clock) → whole fetch_request body ≡ Ok r → (x : Reaction) → answer setup.node kept clock (pos 1) body ≡ x → GetsBatches (world_at kept clock) r id s (answered x id body s)
+answered_by setup kept clock id body s r small read (Replies reply) e = inl (reply, answer-holds setup kept clock body reply r small read e, refl)
+answered_by setup kept clock id body s r small read (Waits deadline places) e = inr refl
+answered_by setup kept clock id body s r small read Silent e = inr refl
+answered_by setup kept clock id body s r small read Shuts e = inr refl
 
 -- a fetch that takes its turn
-pub served-batches : (setup : Setup) (kept : Kept) (clock : ℕ) (s : Session) (frame rest : List ℕ) (version : ℤ) (body : List ℕ) (r : FetchRequest) → front s.unread ≡ Whole frame rest → (request frame).asked ≡ Another (pos 1) version body → whole fetch_request body ≡ Ok r
+pub served-batches : (setup : Setup) (kept : Kept) (clock : ℕ) (s : Session) (frame rest : List ℕ) (version : ℤ) (body : List ℕ) (r : FetchRequest) → HasSmallLogs (world_at kept clock) → front s.unread ≡ Whole frame rest → (request frame).asked ≡ Another (pos 1) version body → whole fetch_request body ≡ Ok r
     → GetsBatches (world_at kept clock) r (request frame).correlation_id (record s { unread = rest }) (served setup kept clock s)
 unfolding served served_by
-served-batches setup kept clock s frame rest version body r at asks read =
+served-batches setup kept clock s frame rest version body r small at asks read =
     let id = (request frame).correlation_id in
     let from : Session = record s { unread = rest } in
     let is : served_at setup kept clock s (front s.unread) ≡ answered (answer setup.node kept clock (pos 1) body) id body from =
     ap (served_at setup kept clock s) at ∙ ap (λ a. served_by setup kept clock id a from) asks in
-    subst (GetsBatches (world_at kept clock) r id from) (sym is) (answered_by setup kept clock id body from r read (answer setup.node kept clock (pos 1) body) refl)
+    subst (GetsBatches (world_at kept clock) r id from) (sym is) (answered_by setup kept clock id body from r small read (answer setup.node kept clock (pos 1) body) refl)
 
-told_by : (kept : Kept) (clock : ℕ) (wait : Wait) (s : Session) (r : FetchRequest) → whole fetch_request wait.body ≡ Ok r → (x : Reaction) → ready kept clock wait ≡ x
+told_by : (kept : Kept) (clock : ℕ) (wait : Wait) (s : Session) (r : FetchRequest) → HasSmallLogs (world_at kept clock) → whole fetch_request wait.body ≡ Ok r → (x : Reaction) → ready kept clock wait ≡ x
     → GetsBatches (world_at kept clock) r wait.correlation_id (record s { stage = without_wait s.stage }) (told x wait.correlation_id s)
-told_by kept clock wait s r read (Replies reply) e = inl (reply, ready-holds kept clock wait reply r read e, refl)
-told_by kept clock wait s r read (Waits deadline places) e = inr refl
-told_by kept clock wait s r read Silent e = inr refl
-told_by kept clock wait s r read Shuts e = inr refl
+told_by kept clock wait s r small read (Replies reply) e = inl (reply, ready-holds kept clock wait reply r small read e, refl)
+told_by kept clock wait s r small read (Waits deadline places) e = inr refl
+told_by kept clock wait s r small read Silent e = inr refl
+told_by kept clock wait s r small read Shuts e = inr refl
 
 -- a fetch that waited
-pub woken-batches : (kept : Kept) (clock tenant : ℕ) (s : Session) (wait : Wait) (r : FetchRequest) → s.stage ≡ BoundTo tenant (Some wait) → whole fetch_request wait.body ≡ Ok r
+pub woken-batches : (kept : Kept) (clock tenant : ℕ) (s : Session) (wait : Wait) (r : FetchRequest) → HasSmallLogs (world_at kept clock) → s.stage ≡ BoundTo tenant (Some wait) → whole fetch_request wait.body ≡ Ok r
     → GetsBatches (world_at kept clock) r wait.correlation_id (record s { stage = without_wait s.stage }) (woken kept clock s)
 unfolding woken_by
-woken-batches kept clock tenant s wait r waits read =
+woken-batches kept clock tenant s wait r small waits read =
     let from : Session = record s { stage = without_wait s.stage } in
     let is : woken kept clock s ≡ told (ready kept clock wait) wait.correlation_id s = ap (woken_by kept clock s) waits in
-    subst (GetsBatches (world_at kept clock) r wait.correlation_id from) (sym is) (told_by kept clock wait s r read (ready kept clock wait) refl)
+    subst (GetsBatches (world_at kept clock) r wait.correlation_id from) (sym is) (told_by kept clock wait s r small read (ready kept clock wait) refl)

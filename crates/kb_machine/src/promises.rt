@@ -8,6 +8,7 @@ ghost use Rattle.kb_api_data.specs.declared.fetch.FetchRequest.{FetchRequest};
 ghost use Rattle.kb_machine.specs.Requests.{Another, Authenticate, request};
 ghost use Rattle.kb_machine.specs.Tenant.{Wait};
 ghost use Rattle.kb_machine.specs.Fetches.{GetsBatches};
+ghost use Rattle.kb_tenant.specs.Batches.{HasSmallLogs};
 ghost use Rattle.kb_tenant.specs.Hosted.{Kept, world_at};
 ghost use Rattle.kb_machine.specs.Greeting.{Setup, greeted_by, login};
 ghost use Rattle.kb_machine.specs.Machine.{World, Line, Happening, Sent, first_able, turns, those, those_sent, served, stepped, leaving, run, by_number, woken};
@@ -45,13 +46,14 @@ pub fn strangers_are_greeted()
 
 /// What a machine answers to a fetch, where its connection takes a turn and where it has waited, holds whole batches of the
 /// tenant's partitions as they are at that moment, one after the other, from the one that holds the asked offset; or the
-/// connection gets no reply.
+/// connection gets no reply. The tenant's logs are within their limits, as `logs_stay_small` (`kb_tenant`) says of each that there is.
 pub fn fetches_get_whole_batches()
     ensures at_once { (setup : Setup) (kept : Kept) (clock : ℕ) (s : Session) (frame rest : List ℕ) (version : ℤ) (body : List ℕ) (fetch : FetchRequest)
-        → front s.unread ≡ Whole frame rest → (request frame).asked ≡ Another (pos 1) version body → whole fetch_request body ≡ Ok fetch
+        → HasSmallLogs (world_at kept clock) → front s.unread ≡ Whole frame rest
+        → (request frame).asked ≡ Another (pos 1) version body → whole fetch_request body ≡ Ok fetch
         → GetsBatches (world_at kept clock) fetch (request frame).correlation_id (record s { unread = rest }) (served setup kept clock s) }
     ensures after_a_wait { (kept : Kept) (clock tenant : ℕ) (s : Session) (wait : Wait) (fetch : FetchRequest)
-        → s.stage ≡ BoundTo tenant (Some wait) → whole fetch_request wait.body ≡ Ok fetch
+        → HasSmallLogs (world_at kept clock) → s.stage ≡ BoundTo tenant (Some wait) → whole fetch_request wait.body ≡ Ok fetch
         → GetsBatches (world_at kept clock) fetch wait.correlation_id (record s { stage = without_wait s.stage }) (woken kept clock s) }
 {}
 

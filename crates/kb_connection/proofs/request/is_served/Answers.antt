@@ -8,4 +8,4 @@ pub returns : goal.returns
 unfolding is_served
 returns c =
     subst (λ key. c.contains.result ≡ is_served key c.args.version) (to_z-of_z c.ranges.key)
-        (subst (λ version. c.contains.result ≡ is_served (to_z w16 (of_z w16 c.args.key)) version) (to_z-of_z c.ranges.version) c.contains.ensures.value)
+    (subst (λ version. c.contains.result ≡ is_served (to_z w16 (of_z w16 c.args.key)) version) (to_z-of_z c.ranges.version) c.contains.ensures.value)

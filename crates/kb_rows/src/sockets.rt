@@ -156,10 +156,14 @@ fn the_last_number_is_given_once(rt: HostRuntime) -> Result<(), Fail> {
 /// How many requests are sent at once, at the most.
 const REQUESTS: usize = 4096;
 
-/// How often a client sends what can be sent, and looks for what comes.
-const SENDS: usize = 64;
+/// How many bytes are sent at most, beside those of one sending: their replies are more than the system keeps for a client.
+const SENT: usize = 840_000;
 
-const LOOKS: usize = 1_000_000;
+/// How often a client sends what can be sent.
+const SENDS: usize = 20_000;
+
+/// How often it looks for what comes.
+const LOOKS: usize = 200_000;
 
 /// Requests of 14 bytes in a row.
 fn many_requests(rt: &impl Abort, alloc: Global) -> Result<Vec<u8>, AllocError> {
@@ -191,25 +195,27 @@ fn send_unread(
     let mut sent = 0usize;
     let mut written = 0u64;
     for _ in 0..SENDS {
-        sent = sent.saturating_add(send_on(bench, rt, &requests, sent));
+        if sent < SENT {
+            sent = sent.saturating_add(send_on(bench, rt, &requests, sent));
+        }
         let turn = bench.turn(alloc);
-        if turn.written == 0 {
+        written = written.saturating_add(turn.written);
+        if turn.written == 0 && sent >= SENT {
             break;
         }
-        written = written.saturating_add(turn.written);
     }
     Ok((sent, written))
 }
 
-/// How many bytes the first client gets once it reads.
-fn read_all(rt: &impl Abort, alloc: Global, bench: &mut Bench) -> io::Result<usize> {
+/// How many bytes the first client gets once it reads, until it has so many.
+fn read_all(rt: &impl Abort, alloc: Global, bench: &mut Bench, wanted: usize) -> io::Result<usize> {
     let mut got = 0usize;
     for _ in 0..LOOKS {
-        let count = bench.client(rt, 0).pass_over()?;
-        got = got.saturating_add(count);
-        if count == 0 && bench.turn(alloc).is_idle() {
+        got = got.saturating_add(bench.client(rt, 0).pass_over()?);
+        if got >= wanted {
             break;
         }
+        bench.turn(alloc);
     }
     Ok(got)
 }
@@ -229,7 +235,8 @@ fn a_client_that_does_not_read_holds_nobody_up(rt: HostRuntime) -> Result<(), Fa
     );
     bench.happen(&rt, &rt, alloc, Ask(1, "versions", "served"))?;
     // Once it reads it gets every reply.
-    assert_eq!(rt; read_all(&rt, alloc, &mut bench)?, replies);
+    let got = read_all(&rt, alloc, &mut bench, replies)?;
+    assert_eq!(rt; got, replies);
     Ok(())
 }
 

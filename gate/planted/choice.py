@@ -73,16 +73,21 @@ def turn() -> int:
 
 
 def chosen(crates, edits) -> Dict[str, List[str]]:
-    """The edits of the crates that have changed since theirs were tried, and of others by turns, as far as there is room; says which."""
-    was, names, number = known(), [it for it in crates if edits[it]], turn()
-    changed = [it for it in names if it not in was or was[it].sum != sum_of(crates[it].folder)]
+    """The edits of the crates that have changed since theirs were tried, and of others by turns, as far as there is room; says which.
+
+    A crate whose edits were never all refused has some that show nothing of its contracts, so it waits for a person's trial.
+    """
+    was, number = known(), turn()
+    names = [it for it in crates if edits[it] and it in was]
+    untried = [it for it in crates if edits[it] and it not in was]
+    if untried:
+        print(f"wrong bodies: not in {TRIED}, so not chosen: {', '.join(untried)}; gate/wrong_bodies --record tries them")
+    changed = [it for it in names if was[it].sum != sum_of(crates[it].folder)]
     others = [it for it in names if it not in changed]
     shift = lambda given: given[number % len(given) :] + given[: number % len(given)] if given else []
     taken, room = {}, ROOM
     for name in [*shift(changed), *shift(others)]:
         fit = int((room - start(crates[name])) / each(crates[name]))
-        if name in others and (fit < 1 or not set(taken) <= set(changed)):
-            continue
         if fit > 0:
             # (where not all fit, those that stand next by the same number)
             taken[name] = shift(edits[name])[:fit] if fit < len(edits[name]) else edits[name]

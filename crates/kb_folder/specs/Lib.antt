@@ -1,0 +1,3 @@
+pub mod Folder
+pub mod Names
+pub mod Store

@@ -1,0 +1,22 @@
+//! A store over a folder of files.
+//!
+//! [`Folder`] is what is asked of a folder: its names, and of one file a length, a write at its end, a read at a place, a cut
+//! and its removal. [`HostFolder`] is one of the system's, [`MemoryFolder`] one in memory. [`FolderStore`] is a store over any
+//! folder: it knows each file's length, so that a call costs one call of the folder, and counts what the folder refuses.
+//!
+//! The contract: over a folder that is honest, that is, one that gives back what was written and that nobody else writes, the
+//! store is what `Store` says. Of the system's own folder nothing is claimed. Files with other names are left alone.
+#![tactic(auto)]
+
+mod folder;
+mod host;
+mod memory;
+mod name;
+mod store;
+
+pub use folder::{Folder, FolderFault};
+pub use host::HostFolder;
+pub use memory::MemoryFolder;
+pub use name::{file_name, file_number};
+pub use store::FolderStore;
+

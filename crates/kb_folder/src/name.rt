@@ -1,0 +1,70 @@
+//! The names of files.
+
+ghost use Rattle.std.specs.Prelude.{◌≡◌, ◌<◌, ◌≤◌, IfOk, Some, true, length, string_bytes};
+ghost use Rattle.std.specs.List.{list_all};
+ghost use Rattle.kb_folder.specs.Names.{is_digit, spelled, number_of, number_named};
+
+use std::alloc::{AllocError, Global};
+
+/// How many digits a name begins with.
+const DIGITS: usize = 20;
+
+/// What a name ends with.
+const SUFFIX: &str = ".seg";
+
+/// The 20 decimal digits of a number.
+fn digits_of(number: u64) -> [u8; DIGITS]
+    ensures digits { list_all is_digit result ≡ true }
+    ensures number { spelled 0 result ≡ number }
+    ensures length { length result ≡ 20 }
+{
+    let mut digits = [b'0'; DIGITS];
+    let mut rest = number;
+    let mut place = DIGITS;
+    while place > 0 {
+        place -= 1;
+        digits[place] = b'0' + (rest % 10) as u8;
+        rest /= 10;
+    }
+    digits
+}
+
+/// The name of a file: its number in 20 decimal digits, and `.seg`.
+pub fn file_name(alloc: Global, number: u64) -> Result<String, AllocError>
+    ensures { IfOk result (λ name. number_named (string_bytes name) ≡ Some number) }
+{
+    let digits = digits_of(number);
+    let Ok(text) = str::from_utf8(&digits) else {
+        unreachable!()
+    };
+    let mut name = String::from_str(alloc, text)?;
+    name.push_str(SUFFIX)?;
+    Ok(name)
+}
+
+/// The number that digits spell, if it is one of 64 bits.
+fn number_of(digits: &[u8]) -> Option<u64>
+    ensures { result ≡ number_of digits.now }
+{
+    let mut number = 0u64;
+    for digit in digits {
+        if !digit.is_ascii_digit() {
+            return None;
+        }
+        number = number
+            .checked_mul(10)?
+            .checked_add(u64::from(*digit - b'0'))?;
+    }
+    Some(number)
+}
+
+/// The number of the file of a name; none where the name is not that of a file with a number.
+pub fn file_number(name: &str) -> Option<u64>
+    ensures { result ≡ number_named name.now }
+{
+    let bytes = name.as_bytes();
+    if bytes.len() != DIGITS + SUFFIX.len() || &bytes[DIGITS..] != SUFFIX.as_bytes() {
+        return None;
+    }
+    number_of(&bytes[..DIGITS])
+}

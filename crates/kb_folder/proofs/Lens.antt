@@ -152,3 +152,7 @@ module _ (c c' : Contents) (es es' : List (ℕ × ℕ)) (k n taken : ℕ) (bytes
       (λ h. lengths_put (table_of es) c.files k (n + taken) (bytes_in c k ++ take taken bytes) (are h)
           (omega (arith, (held c es k n (are h) e (omega (arith, small))).1, length-append (bytes_in c k) (take taken bytes), length-take-le taken bytes le)))
       (table_put c c' es es' k (n + taken) (n + taken) u small refl) t
+
+-- no length is kept
+pub empty_table : (es : List (ℕ × ℕ)) → es ≡ [] → (q : ℕ) → get (table_of es) q ≡ None
+empty_table es e q = ap (λ x. get (table_of x) q) e ∙ get_seen fitted [] q

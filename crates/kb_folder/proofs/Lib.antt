@@ -1,1 +1,2 @@
 pub mod Lens
+pub mod Listing

@@ -1,2 +1,4 @@
 pub mod Lens
 pub mod Listing
+pub mod Names
+pub mod Held

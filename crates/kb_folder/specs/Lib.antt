@@ -1,3 +1,4 @@
 pub mod Folder
+pub mod Memory
 pub mod Names
 pub mod Store

@@ -1,8 +1,8 @@
 //! The names of files.
 
-ghost use Rattle.std.specs.Prelude.{◌≡◌, ◌<◌, ◌≤◌, IfOk, Some, true, length, string_bytes};
+ghost use Rattle.std.specs.Prelude.{◌≡◌, ◌<◌, ◌≤◌, IfOk, Some, true, length, bytes_eq, string_bytes};
 ghost use Rattle.std.specs.List.{list_all};
-ghost use Rattle.kb_folder.specs.Names.{is_digit, spelled, number_of, number_named};
+ghost use Rattle.kb_folder.specs.Names.{is_digit, spelled, suffix, number_of, number_named};
 
 use std::alloc::{AllocError, Global};
 
@@ -51,11 +51,20 @@ fn number_of(digits: &[u8]) -> Option<u64>
         if !digit.is_ascii_digit() {
             return None;
         }
-        number = number
-            .checked_mul(10)?
-            .checked_add(u64::from(*digit - b'0'))?;
+        let value = u64::from(*digit - b'0');
+        if number > (u64::MAX - value) / 10 {
+            return None;
+        }
+        number = 10 * number + value;
     }
     Some(number)
+}
+
+/// Whether some bytes are what a name ends with.
+fn is_suffix(bytes: &[u8]) -> bool
+    ensures { result ≡ bytes_eq bytes.now suffix }
+{
+    bytes == SUFFIX.as_bytes()
 }
 
 /// The number of the file of a name; none where the name is not that of a file with a number.
@@ -63,7 +72,10 @@ pub fn file_number(name: &str) -> Option<u64>
     ensures { result ≡ number_named name.now }
 {
     let bytes = name.as_bytes();
-    if bytes.len() != DIGITS + SUFFIX.len() || &bytes[DIGITS..] != SUFFIX.as_bytes() {
+    if bytes.len() != DIGITS + SUFFIX.len() {
+        return None;
+    }
+    if !is_suffix(&bytes[DIGITS..]) {
         return None;
     }
     number_of(&bytes[..DIGITS])

@@ -9,4 +9,4 @@ unreachable-requires c = is_not_gone c.args.self.now.files.entries c.args.file (
 pub returns-clause-bytes : goal.returns-clause-bytes
 returns-clause-bytes c = λ h.
     subst (λ (x : List ℕ). ReadsWhole x c.args.at c.args.buffer.now c.copy_within.result c.copy_within.new.buffer) (sym (bytes_held c.args.self.now.files.entries c.args.file c.in-Some.kept.now (sym c.in-Some.ensures.value)))
-    c.copy_within.ensures
+    (subst (λ (x : List ℕ). ReadsWhole x c.args.at c.args.buffer.now c.copy_within.result c.copy_within.new.buffer) c.deref.ensures.value c.copy_within.ensures)

@@ -46,7 +46,7 @@ pub lengths_put : (t : Table) (files : Files) (k n : ℕ) (s : List ℕ) → Are
 lengths_put t files k n s are e q =
     ⊎_elim
     (λ (same : q ≡ k). subst (λ x. get (insert t k n) x ≡ option_map length (get (insert files k s) x)) (sym same)
-        (get_inserted t k n ∙ ap Some e ∙ sym (ap (option_map length) (get_inserted files k s))))
+    (get_inserted t k n ∙ ap Some e ∙ sym (ap (option_map length) (get_inserted files k s))))
     (λ (ne : q ≢ k). get_other t k n q ne ∙ are q ∙ sym (ap (option_map length) (get_other files k s q ne)))
     (cases_eq q k)
 
@@ -54,7 +54,7 @@ pub lengths_removed : (t : Table) (files : Files) (k : ℕ) → AreLengths t fil
 lengths_removed t files k are q =
     ⊎_elim
     (λ (same : q ≡ k). subst (λ x. get (remove t k) x ≡ option_map length (get (remove files k) x)) (sym same)
-        (get_removed t k ∙ sym (ap (option_map length) (get_removed files k))))
+    (get_removed t k ∙ sym (ap (option_map length) (get_removed files k))))
     (λ (ne : q ≢ k). get_kept t k q ne ∙ are q ∙ sym (ap (option_map length) (get_kept files k q ne)))
     (cases_eq q k)
 
@@ -129,15 +129,18 @@ some_is (Some x) d s = refl
 pub grows_none : (c c' : Contents) (es : List (ℕ × ℕ)) (f f' k n : ℕ) (bytes : List ℕ) → (c.honest → AreLengths (table_of es) c.files) → lookup (is_at (nat_cmp k)) es ≡ Some n → n < 18446744073709551616 → Stays c c' → AppendsSome (folder_disk c es f) k bytes (folder_disk c' es f')
 grows_none c c' es f f' k n bytes are e small t =
     let fits : fitted n ≡ n = omega (arith, small) in
-    let len : len_of (folder_disk c es f) k + 0 ≡ n = omega (arith, len_kept c es f k n e small) in
-    (0, omega arith, record {
-      table = same_put (table_of es) k (len_of (folder_disk c es f) k + 0) (get_seen fitted es k ∙ ap (option_map fitted) e ∙ ap Some (fits ∙ sym len));
-      honest = λ h. let hc = t.honest h.0 in (hc, are hc);
-      files = λ h.
-          let hc = t.honest h.0 in
-          let had = held c es k n (are hc) e small in
-          t.files h.0 ∙ same_put c.files k (bytes_in c k ++ []) (some_is (get c.files k) [] had.0 ∙ ap Some (sym (append-nil (bytes_in c k))));
-    })
+    let len : len_of (folder_disk c es f) k + 0 ≡ n = omega (arith, len_kept c es f k n e small) in (
+      0,
+      omega arith,
+      record {
+        table = same_put (table_of es) k (len_of (folder_disk c es f) k + 0) (get_seen fitted es k ∙ ap (option_map fitted) e ∙ ap Some (fits ∙ sym len));
+        honest = λ h. let hc = t.honest h.0 in (hc, are hc);
+        files = λ h.
+            let hc = t.honest h.0 in
+            let had = held c es k n (are hc) e small in
+            t.files h.0 ∙ same_put c.files k (bytes_in c k ++ []) (some_is (get c.files k) [] had.0 ∙ ap Some (sym (append-nil (bytes_in c k))));
+      },
+    )
 
 module _ (c c' : Contents) (es es' : List (ℕ × ℕ)) (k n taken : ℕ) (bytes : List ℕ) where
   -- the first bytes were taken
@@ -150,7 +153,7 @@ module _ (c c' : Contents) (es es' : List (ℕ × ℕ)) (k n taken : ℕ) (bytes
   grown_lengths are e small le u t =
       lengths_after c c' es es' k (insert c.files k (bytes_in c k ++ take taken bytes)) (insert (table_of es) k (n + taken))
       (λ h. lengths_put (table_of es) c.files k (n + taken) (bytes_in c k ++ take taken bytes) (are h)
-          (omega (arith, (held c es k n (are h) e (omega (arith, small))).1, length-append (bytes_in c k) (take taken bytes), length-take-le taken bytes le)))
+      (omega (arith, (held c es k n (are h) e (omega (arith, small))).1, length-append (bytes_in c k) (take taken bytes), length-take-le taken bytes le)))
       (table_put c c' es es' k (n + taken) (n + taken) u small refl) t
 
 -- no length is kept

@@ -1,5 +1,5 @@
 -- The lengths of the files of some numbers, one after another.
-use Rattle.std.proofs.Common.{◌≡◌, ◌≢◌, ◌∙◌, ◌≤◌, ◌<◌, ◌+◌, ℕ, zero, suc, List, [], ◌∷◌, length, ap, sym, subst, refl, arith, Option, Some, None, IsSome, ⊎_elim}
+use Rattle.std.proofs.Common.{◌≡◌, ◌≢◌, ◌∙◌, ◌<◌, ◌+◌, ℕ, zero, suc, List, [], ◌∷◌, length, ap, sym, subst, refl, arith, Option, Some, None, IsSome, ⊎_elim}
 use Rattle.std.specs.Prelude.{option_map, unwrap_or}
 use Rattle.std.specs.List.{slice_index_or}
 use Rattle.std.specs.FinMap.{get, insert}

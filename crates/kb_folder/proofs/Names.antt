@@ -1,9 +1,9 @@
 -- What the digits of a name spell.
-use Rattle.std.proofs.Common.{◌≡◌, ◌∙◌, ◌≤◌, ◌<◌, ◌+◌, ◌-◌, ◌*◌, ◌&&◌, ◌++◌, ℕ, Bool, true, false, cond, List, [], ◌∷◌, length, take, drop, get_or, zero, suc, nat_eq, lit<, ap, sym, subst, refl, arith, Option, Some, None, drop-cons, add-one, eq-eqb}
+use Rattle.std.proofs.Common.{◌≡◌, ◌∙◌, ◌≤◌, ◌<◌, ◌+◌, ◌-◌, ◌*◌, ◌&&◌, ◌++◌, ℕ, Bool, true, false, cond, List, [], ◌∷◌, length, take, drop, get_or, zero, suc, nat_eq, lit<, ap, sym, refl, arith, Option, Some, None, drop-cons, add-one}
 use Rattle.std.specs.Prelude.{nat_lt, bytes_eq, slice_index}
 use Rattle.std.specs.List.{list_all}
 use Rattle.std.specs.Str.{IsAscii}
-use Rattle.std.proofs.lemmas.Bool.{lt-ltb, le-ltb, ltb-true, ltb-false}
+use Rattle.std.proofs.lemmas.Bool.{lt-ltb, le-ltb}
 use Rattle.std.proofs.lemmas.List.{take_at, drop_at, length-append, nil_from_length, length-drop}
 use Rattle.kb_folder.specs.Names.{is_digit, spelled, suffix, number_of, number_named}
 

@@ -4,12 +4,11 @@ use crate::name::{file_name, file_number};
 use crate::{Folder, FolderFault};
 use lru::LruCache;
 use std::alloc::Global;
-use std::fs;
 use std::fs::{File, OpenOptions};
-use std::io;
 use std::num::NonZeroUsize;
 use std::os::unix::fs::FileExt;
 use std::rt::Files;
+use std::{fs, io};
 
 /// How many files are kept open between calls.
 const MOST_OPEN: usize = 256;

@@ -19,4 +19,3 @@ pub use host::HostFolder;
 pub use memory::MemoryFolder;
 pub use name::{file_name, file_number};
 pub use store::FolderStore;
-

@@ -94,10 +94,12 @@ fn numbers_in(alloc: Global, lens: &BTreeMap<u64, u64>) -> Result<Vec<u64>, Allo
 fn numbers_of(alloc: Global, names: &[String]) -> Result<Vec<u64>, FolderFault>
     ensures { IfOk result (λ numbers. numbers.items ≡ numbers_named names.now) }
 {
-    Ok(names
-        .iter()
-        .filter_map(|name| file_number(name.as_str()))
-        .collect(alloc)?)
+    Ok(
+        names
+            .iter()
+            .filter_map(|name| file_number(name.as_str()))
+            .collect(alloc)?,
+    )
 }
 
 /// The lengths of a folder's files.

@@ -1,4 +1,4 @@
-use Rattle.std.proofs.Common.{◌≡◌, ◌≤◌, ◌<◌, ◌+◌, ◌-◌, ◌*◌, get_or, length, sym, arith, rules}
+use Rattle.std.proofs.Common.{◌≤◌, ◌<◌, ◌+◌, ◌-◌, ◌*◌, get_or, sym, arith, rules}
 use Rattle.kb_folder.proofs.Names.{too_many, all_read}
 use Rattle.kb_folder.proofs.name.number_of.Goals as goal
 

@@ -1,12 +1,11 @@
-use Rattle.std.proofs.Common.{◌≡◌, ◌∙◌, ◌<◌, ℕ, List, Some, None, length, ap, sym, subst, refl, rules, arith, ◌+◌, []}
-use Rattle.std.specs.Prelude.{option_map, unwrap_or}
+use Rattle.std.proofs.Common.{◌≡◌, ◌∙◌, ◌<◌, length, ap, sym, subst, refl, rules, arith, ◌+◌, []}
+use Rattle.std.specs.Prelude.{unwrap_or}
 use Rattle.std.specs.List.{slice_index_or}
-use Rattle.std.specs.FinMap.{get, insert}
+use Rattle.std.specs.FinMap.{get}
 use Rattle.std.specs.Prelude.{IsSome}
 use Rattle.kb_store.specs.Disk.{Table, Files}
-use Rattle.kb_store.proofs.Seen.{get_seen}
-use Rattle.kb_folder.specs.Store.{fitted, table_of}
-use Rattle.kb_folder.proofs.Listing.{Lists, lists_none, lists_next, lists_all, is_there, of_length}
+use Rattle.kb_folder.specs.Store.{table_of}
+use Rattle.kb_folder.proofs.Listing.{Lists, lists_none, lists_next, is_there, of_length}
 use Rattle.kb_folder.proofs.Lens.{table_put, empty_table}
 use Rattle.kb_folder.proofs.store.lens_in.Goals as goal
 
@@ -38,7 +37,6 @@ loop-number-preserved g c =
       files = λ h. t.files h ∙ i.files (t.honest h);
       lists = λ h.
           let before = t.honest h in
-
           let is : len ≡ length (unwrap_or (get had.files n) []) = c.in_ok-len.ensures.len h ∙ ap (λ (files : Files). length (unwrap_or (get files n) [])) (i.files before) in
           subst (λ (x : Table). Lists numbers (c.loop-number.number-index + 1) had.files x) (sym table) (lists_next numbers c.loop-number.number-index len had.files (table_of c.loop-number.lens.entries) (i.lists before) (of_length (get had.files n) len (is_there numbers had.files c.loop-number.number-index (c.requires (i.honest before)) (omega (arith, c.loop-number-test.true))) is));
     }

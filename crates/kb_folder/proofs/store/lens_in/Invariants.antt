@@ -1,5 +1,4 @@
-use Rattle.std.proofs.Common.{◌≡◌, ◌≤◌, length}
-use Rattle.kb_folder.specs.Folder.{AreNumbersOf}
+use Rattle.std.proofs.Common.{◌≡◌}
 use Rattle.kb_folder.specs.Store.{table_of}
 use Rattle.kb_folder.proofs.Listing.{Lists}
 use Rattle.kb_folder.proofs.store.lens_in.Given as goal

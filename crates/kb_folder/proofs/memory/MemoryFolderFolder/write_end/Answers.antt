@@ -1,4 +1,4 @@
-use Rattle.std.proofs.Common.{◌≡◌, ◌∙◌, ◌++◌, ◌≤◌, sym, ap, take, length, arith}
+use Rattle.std.proofs.Common.{◌≡◌, ◌∙◌, ◌++◌, sym, ap, take, length, arith}
 use Rattle.std.proofs.lemmas.List.{take_all}
 use Rattle.kb_store.proofs.Seen.{on_err}
 use Rattle.kb_folder.specs.Folder.{bytes_in}

@@ -1,4 +1,4 @@
-use Rattle.std.proofs.Common.{◌≡◌, ◌∙◌, ◌≤◌, ◌<◌, ◌+◌, ◌++◌, List, ℕ, ap, sym, subst, refl, take, length, arith, rules}
+use Rattle.std.proofs.Common.{◌≡◌, ◌<◌, ◌+◌, List, ℕ, sym, subst, refl, take, rules}
 use Rattle.std.proofs.lemmas.List.{take_all}
 use Rattle.kb_store.specs.Disk.{IsThere, Appends, AppendsSome}
 use Rattle.kb_folder.specs.Store.{disk_over, folder_disk}
@@ -58,4 +58,4 @@ returns-else-taken-bytes-clause-appended g c =
     let all : take c.in-Ok.taken c.args.bytes.now ≡ c.args.bytes.now = take_all c.in-Ok.taken c.args.bytes.now (search rules) in
     subst (λ v. Appends (disk_over g.F.Folder.contents v) c.args.file c.args.bytes.now (folder_disk has c.set_len.new.lens.entries c.self.inside.failures)) c.self.view_is
     (subst (λ (x : List ℕ). Appends (folder_disk had c.self.inside.lens.entries c.self.inside.failures) c.args.file x (folder_disk has c.set_len.new.lens.entries c.self.inside.failures)) all
-        (grown had has c.self.inside.lens.entries c.set_len.new.lens.entries c.args.file c.kept_len-end.result c.in-Ok.taken c.args.bytes.now c.self.inside.failures c.self.inside.failures c.self.invariant c.kept_len-end.ensures small c.in-Ok.ensures.count c.set_len.ensures c.in-Ok.ensures.written))
+    (grown had has c.self.inside.lens.entries c.set_len.new.lens.entries c.args.file c.kept_len-end.result c.in-Ok.taken c.args.bytes.now c.self.inside.failures c.self.inside.failures c.self.invariant c.kept_len-end.ensures small c.in-Ok.ensures.count c.set_len.ensures c.in-Ok.ensures.written))

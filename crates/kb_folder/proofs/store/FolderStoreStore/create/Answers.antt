@@ -1,8 +1,8 @@
-use Rattle.std.proofs.Common.{subst, sym, refl, [], inl, ◌≡◌, ◌∙◌, None, ap, arith, lit<}
+use Rattle.std.proofs.Common.{subst, sym, refl, [], inl, ◌≡◌, None, lit<}
 use Rattle.std.specs.FinMap.{insert, get}
-use Rattle.kb_store.specs.Disk.{Creates, Keeps, MayCreate, Table}
+use Rattle.kb_store.specs.Disk.{Creates, Keeps}
 use Rattle.kb_folder.specs.Store.{disk_over, folder_disk, table_of}
-use Rattle.kb_folder.proofs.Lens.{lengths_after, lengths_put, table_put, table_back, becomes, stays}
+use Rattle.kb_folder.proofs.Lens.{lengths_after, lengths_put, table_put, table_back, becomes}
 use Rattle.kb_folder.proofs.store.FolderStoreStore.create.Goals as goal
 
 pub invariant_of-self-in-Ok : goal.invariant_of-self-in-Ok

@@ -1,4 +1,4 @@
-use Rattle.std.proofs.Common.{◌≡◌, ◌∙◌, ◌≤◌, ◌<◌, ap, sym, subst, take, length, arith, rules}
+use Rattle.std.proofs.Common.{◌≤◌, ◌<◌, sym, subst, take, arith, rules}
 use Rattle.std.specs.FinMap.{insert}
 use Rattle.std.proofs.lemmas.List.{length-take-le}
 use Rattle.kb_store.specs.Disk.{IsThere, Cuts, len_of}
@@ -21,7 +21,7 @@ invariant_of-self g c =
     let within : c.args.len ≤ len_of (disk_over g.F.Folder.contents c.args.self.now) k = c.requires.within in
     lengths_after had has es es' k (insert had.files k (take c.args.len (bytes_in had k))) (insert (table_of es) k c.args.len)
     (λ h. lengths_put (table_of es) had.files k c.args.len (take c.args.len (bytes_in had k)) (c.self.invariant h)
-        (sym (length-take-le c.args.len (bytes_in had k) (cut_within had es c.self.inside.failures k c.args.len (c.self.invariant h) (subst (λ v. c.args.len ≤ len_of (disk_over g.F.Folder.contents v) k) (sym c.self.view_is) within)))))
+    (sym (length-take-le c.args.len (bytes_in had k) (cut_within had es c.self.inside.failures k c.args.len (c.self.invariant h) (subst (λ v. c.args.len ≤ len_of (disk_over g.F.Folder.contents v) k) (sym c.self.view_is) within)))))
     (table_put had has es es' k c.args.len c.args.len c.set_len.ensures small (omega arith)) c.in-Ok.ensures.cut
 
 pub returns-in-Ok-clause-cut : goal.returns-in-Ok-clause-cut

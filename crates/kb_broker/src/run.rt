@@ -5,8 +5,11 @@ ghost use Rattle.std.specs.Vec.{vec_len, vec_capacity};
 ghost use Rattle.kb_machine.specs.Machine.{Closes, Sent, those_sent, by_number, sent, leaving};
 ghost use Rattle.kb_machine.specs.Calls.{closed};
 ghost use Rattle.kb_world.specs.Steps.{IsCalm};
-ghost use Rattle.kb_machine.specs.Broker.{IsRun, IsUnowned, alone_unowned, only, last_after};
-ghost use Rattle.kb_machine.specs.Isolation.{IsIsolated, LeavesWorlds, AreAlike, own_sent};
+ghost use Rattle.kb_machine.specs.Broker.{IsRun, IsUnowned, alone_unowned, kept_of, last_after, only, owned_by, view_of};
+ghost use Rattle.kb_tenant.specs.Batches.{HasSmallLogs};
+ghost use Rattle.kb_tenant.specs.Hosted.{world_at};
+ghost use Rattle.kb_machine.specs.Fetches.{FetchesGetBatches};
+ghost use Rattle.kb_machine.specs.Isolation.{IsIsolated, LeavesWorlds, AreAlike, own_events, own_sent};
 ghost use Rattle.kb_machine.specs.Greetings.{greeted_alone};
 ghost use Rattle.kb_broker.specs.Hosts.{is_honest, IsLater, IsReadyOn, StepsTo};
 ghost use Rattle.kb_broker.specs.Runs.{happening_of, happenings, sent_of, is_opening, connections_of, emptied, IsPassed, Passes};
@@ -46,6 +49,10 @@ impl<S: Store, L: PartitionLog + Drop> Broker<S, L> {
     /// hold where the store is honest to the end, and there each such tenant then has what its machine has in the end, so that a
     /// further run goes on from there.
     ///
+    /// In that machine's run each reply to a fetch, at once or after a wait, holds whole batches of each partition that it answers
+    /// without an error, as the partition is at that moment, one after the other, from the one that holds the asked offset. The
+    /// tenant's logs are within their limits before the run, as they are when a broker opens, and then they are so after it.
+    ///
     /// The entry of a connection that could not be kept is empty and shut. In the end the output of the open ones is taken.
     ///
     /// An `Err`, for want of memory, comes before the first event and changes nothing.
@@ -56,6 +63,8 @@ impl<S: Store, L: PartitionLog + Drop> Broker<S, L> {
             those_sent (only n) (map sent_of written.items) ≡ by_number (alone_unowned n (happenings events.now) self.old.state)) }
         ensures greeted { IfOk result (λ written. is_honest S.disk self.new → (n : ℕ) → IsUnowned n (happenings events.now) self.old.state → IsCalm self.old.state.unbound_refusals self.new.state.unbound_refusals →
             those_sent (only n) (map sent_of written.items) ≡ greeted_alone n (happenings events.now) self.old.state) }
+        ensures fetches { (t : ℕ) → HasSmallLogs (world_at (kept_of self.old.state t) self.old.state.clock) →
+            FetchesGetBatches (own_events t (happenings events.now) self.old.state) (view_of t (owned_by t (happenings events.now) self.old.state) self.old.state) }
         ensures left { IfOk result (λ written. is_honest S.disk self.new → LeavesWorlds (happenings events.now) self.old.state self.new.state (map sent_of written.items)) }
         ensures connections { IfOk result (λ written. map (λ (w : Written). w.conn) written.items ≡ connections_of (happenings events.now) self.old.state) }
         ensures history { IfOk result (λ written. (got : List Sent) × (map sent_of written.items ≡ by_number got) × Passes (is_honest S.disk self.new) (happenings events.now) self.old.state self.new.state got) }

@@ -1,8 +1,7 @@
 -- A fetch is answered with whole batches, at once and after a wait.
-use Rattle.std.proofs.Common.{◌≡◌, ℕ, ℤ, pos, List, Some, Result, Ok, refl, sym, ◌∙◌, ap, subst, inl, inr}
-use Rattle.std.specs.Prelude.{◌⊎◌}
+use Rattle.std.proofs.Common.{◌≡◌, ℕ, ℤ, pos, List, Some, Ok, refl, sym, ◌∙◌, ap, subst, inl, inr}
 use Rattle.kb_wire.specs.Codec.{whole}
-use Rattle.kb_api_group.specs.Frames.{Front, Whole, front}
+use Rattle.kb_api_group.specs.Frames.{Whole, front}
 use Rattle.kb_api_data.specs.Layouts.{fetch_request}
 use Rattle.kb_api_data.specs.declared.fetch.FetchRequest.{FetchRequest}
 use Rattle.kb_tenant.specs.Batches.{HasSmallLogs, HoldsBatches}
@@ -11,7 +10,7 @@ use Rattle.kb_tenant.specs.Replies.{Reaction, Replies, Waits, Silent, Shuts}
 use Rattle.kb_tenant.proofs.Batches.{looked-holds, served-holds}
 use Rattle.kb_machine.specs.Requests.{Another, request}
 use Rattle.kb_machine.specs.Tenant.{Wait, answer, ready}
-use Rattle.kb_machine.specs.Session.{Stage, BoundTo, Session, without_wait}
+use Rattle.kb_machine.specs.Session.{BoundTo, Session, without_wait}
 use Rattle.kb_machine.specs.Greeting.{Setup}
 use Rattle.kb_machine.specs.Machine.{answered, served_by, served_at, served, told, woken_by, woken}
 use Rattle.kb_machine.specs.Fetches.{GetsBatches}

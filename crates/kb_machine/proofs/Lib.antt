@@ -3,6 +3,7 @@ pub mod Laws
 pub mod Owned
 pub mod Owners
 pub mod Parts
+pub mod FetchRuns
 pub mod Fetches
 pub mod Greetings
 pub mod Isolation

@@ -1,10 +1,75 @@
 -- What a connection gets for a fetch: whole batches of its tenant's partitions, as they are at the moment of answering.
-use Rattle.std.specs.Prelude.{◌≡◌, ◌⊎◌, ℕ, ℤ, List}
+use Rattle.std.specs.Prelude.{◌≡◌, ◌⊎◌, ℕ, zero, suc, ℤ, pos, max, List, [], ◌∷◌, Option, Some, None, Ok, ⊤}
+use Rattle.std.specs.List.{AllByRecursion}
+use Rattle.kb_wire.specs.Codec.{whole}
+use Rattle.kb_api_group.specs.Frames.{Whole, front}
+use Rattle.kb_api_data.specs.Layouts.{fetch_request}
 use Rattle.kb_api_data.specs.declared.fetch.FetchRequest.{FetchRequest}
 use Rattle.kb_world.specs.World as tenants
 use Rattle.kb_tenant.specs.Batches.{HoldsBatches}
-use Rattle.kb_machine.specs.Session.{Session, replied}
+use Rattle.kb_tenant.specs.Hosted.{retained, world_at}
+use Rattle.kb_machine.specs.Requests.{Another, request}
+use Rattle.kb_machine.specs.Tenant.{Wait}
+use Rattle.kb_machine.specs.Session.{Stage, Greets, BoundTo, Session, fed, replied, without_wait}
+use Rattle.kb_machine.specs.Machine.{Happening, Opens, Comes, Closes, Moment, Line, World, served, put, woken, each, on, first_able, all_woken, turn, work, step}
 
 -- it got a reply that holds such batches, or no reply
 abbrev pub GetsBatches : tenants.World → FetchRequest → ℤ → Session → Session → Type 0
 GetsBatches world fetch id old new = ((reply : List ℕ) × HoldsBatches world fetch reply × (new ≡ replied id reply old)) ⊎ (new.output ≡ old.output)
+
+-- 1. One answer
+
+-- where a fetch stands in front of a connection that takes its turn, the connection gets such batches
+abbrev pub ServesBatches : World → Session → Type 0
+ServesBatches w s = (frame rest : List ℕ) (version : ℤ) (body : List ℕ) (fetch : FetchRequest)
+    → front s.unread ≡ Whole frame rest → (request frame).asked ≡ Another (pos 1) version body → whole fetch_request body ≡ Ok fetch
+    → GetsBatches (world_at w.kept w.clock) fetch (request frame).correlation_id (record s { unread = rest }) (served w.setup w.kept w.clock s)
+
+-- where a connection waits for a fetch that is looked at, it gets such batches
+abbrev pub WakesWithBatches : World → Session → Type 0
+WakesWithBatches w s = (tenant : ℕ) (wait : Wait) (fetch : FetchRequest)
+    → s.stage ≡ BoundTo tenant (Some wait) → whole fetch_request wait.body ≡ Ok fetch
+    → GetsBatches (world_at w.kept w.clock) fetch wait.correlation_id (record s { stage = without_wait s.stage }) (woken w.kept w.clock s)
+
+-- so does each that waits
+abbrev pub AllWakeWithBatches : World → Type 0
+AllWakeWithBatches w = AllByRecursion (λ (l : Line). WakesWithBatches w l.session) w.lines
+
+-- 2. A whole run
+
+-- the world after the request of a bound connection, when those that wait are looked at
+abbrev pub after_request : World → Line → World
+after_request w l = record w { kept = put w.setup w.kept w.clock l.session.unread; lines = each (on l.number (served w.setup w.kept w.clock)) w.lines }
+
+-- a turn: its own connection, and then those that wait
+abbrev pub TurnGivesBatches : World → Line → Stage → Type 0
+TurnGivesBatches w l (Greets handshaken) = ⊤
+TurnGivesBatches w l (BoundTo tenant wait) = ServesBatches w l.session × AllWakeWithBatches (after_request w l)
+
+abbrev pub NextGivesBatches : World → Option Line → Type 0
+NextGivesBatches w None = ⊤
+NextGivesBatches w (Some l) = TurnGivesBatches w l l.session.stage
+
+-- so many turns
+abbrev pub TurnsGiveBatches : ℕ → World → Type 0
+TurnsGiveBatches zero w = ⊤
+TurnsGiveBatches (suc n) w = NextGivesBatches w (first_able w.lines) × TurnsGiveBatches n (turn w)
+
+-- all turns that there are
+abbrev pub AllTurnsGiveBatches : World → Type 0
+AllTurnsGiveBatches w = TurnsGiveBatches (work w.lines) w
+
+abbrev pub EventGivesBatches : Happening → World → Type 0
+EventGivesBatches (Opens n) w = ⊤
+EventGivesBatches (Comes n piece) w = AllTurnsGiveBatches (record w { lines = each (on n (fed piece)) w.lines })
+EventGivesBatches (Closes n) w = ⊤
+EventGivesBatches (Moment now) w =
+    let clock = max w.clock now in
+    let after = record w { kept = retained clock w.kept; clock = clock } in
+    AllWakeWithBatches after × AllTurnsGiveBatches (all_woken after)
+
+-- In a run of the machine by these events each reply to a fetch, at once or after a wait, holds whole batches of each partition that it
+-- answers without an error, as the partition is at that moment: one after the other, from the one that holds the asked offset.
+abbrev pub FetchesGetBatches : List Happening → World → Type 0
+FetchesGetBatches [] w = ⊤
+FetchesGetBatches (e ∷ es) w = EventGivesBatches e w × FetchesGetBatches es (step e w)

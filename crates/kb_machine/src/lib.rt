@@ -11,8 +11,8 @@ mod promises;
 mod whom;
 
 pub use promises::{
-    bound_for_good, fetches_get_whole_batches, first_event, nothing_before_login,
-    one_tenants_in_order, others_change_nothing, owners_at_entry, room_is_kept, runs_go_on,
-    strangers_are_greeted, turns_end,
+    bound_for_good, fetches_get_batches_in_runs, fetches_get_whole_batches, first_event,
+    nothing_before_login, one_tenants_in_order, others_change_nothing, owners_at_entry,
+    room_is_kept, runs_go_on, strangers_are_greeted, turns_end,
 };
 pub use whom::Whom;

@@ -7,7 +7,7 @@ ghost use Rattle.kb_api_data.specs.Layouts.{fetch_request};
 ghost use Rattle.kb_api_data.specs.declared.fetch.FetchRequest.{FetchRequest};
 ghost use Rattle.kb_machine.specs.Requests.{Another, Authenticate, request};
 ghost use Rattle.kb_machine.specs.Tenant.{Wait};
-ghost use Rattle.kb_machine.specs.Fetches.{GetsBatches};
+ghost use Rattle.kb_machine.specs.Fetches.{FetchesGetBatches, GetsBatches};
 ghost use Rattle.kb_tenant.specs.Batches.{HasSmallLogs};
 ghost use Rattle.kb_tenant.specs.Hosted.{Kept, world_at};
 ghost use Rattle.kb_machine.specs.Greeting.{Setup, greeted_by, login};
@@ -55,6 +55,14 @@ pub fn fetches_get_whole_batches()
     ensures after_a_wait { (kept : Kept) (clock tenant : ℕ) (s : Session) (wait : Wait) (fetch : FetchRequest)
         → HasSmallLogs (world_at kept clock) → s.stage ≡ BoundTo tenant (Some wait) → whole fetch_request wait.body ≡ Ok fetch
         → GetsBatches (world_at kept clock) fetch wait.correlation_id (record s { stage = without_wait s.stage }) (woken kept clock s) }
+{}
+
+/// In a whole run of a machine each reply to a fetch, at once or after a wait, holds whole batches of each partition that it answers
+/// without an error, as the partition is at that moment, one after the other, from the one that holds the asked offset. The logs of
+/// what the tenant keeps are within their limits before the run, and then after it too.
+pub fn fetches_get_batches_in_runs()
+    ensures run { (es : List Happening) (w : World) → HasSmallLogs (world_at w.kept w.clock) → FetchesGetBatches es w }
+    ensures later { (es : List Happening) (w : World) → HasSmallLogs (world_at w.kept w.clock) → HasSmallLogs (world_at (last_world es w).kept (last_world es w).clock) }
 {}
 
 /// A connection never has more unread bytes than its limit, and one that was shut takes no piece.

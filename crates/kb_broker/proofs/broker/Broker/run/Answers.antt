@@ -6,7 +6,9 @@ use Rattle.std.proofs.lemmas.List.{drop_all, length-map}
 use Rattle.std.proofs.lemmas.Simd.{map-map}
 use Rattle.std.proofs.lemmas.List.Sorted.{IsPermutation-map, IsNonDecreasingBy-from_sort_by_key}
 use Rattle.kb_machine.specs.Machine.{Sent, sent, those_sent, by_number}
-use Rattle.kb_machine.specs.Broker.{BrokerState, owned_by, only}
+use Rattle.kb_machine.specs.Broker.{BrokerState, owned_by, only, view_of}
+use Rattle.kb_machine.specs.Isolation.{own_events}
+use Rattle.kb_machine.proofs.FetchRuns.{run-gives}
 use Rattle.kb_machine.proofs.Runs.{those-by_number}
 use Rattle.kb_machine.proofs.Owned.{owned-mine, run-after, run-first, unowned-mine, calm-nobody}
 use Rattle.kb_broker.specs.declared.run.Written.{Written}
@@ -159,3 +161,15 @@ returns-clause-history g c = (map sent_of c.drain.new.written.items, (in_order g
 
 pub returns-clause-later : goal.returns-clause-later
 returns-clause-later g c = later-then g.S.Store.disk c.args.self.now c.loop-event.self c.drain.new.self c.loop-event.invariant.later (drained-later g c)
+
+pub returns-in_err-written-clause-fetches : goal.returns-in_err-written-clause-fetches
+returns-in_err-written-clause-fetches g c =
+    let es = happenings c.args.events.now in
+    let b = c.args.self.now.state in
+    λ t small. run-gives (own_events t es b) (view_of t (owned_by t es b) b) small
+
+pub returns-clause-fetches : goal.returns-clause-fetches
+returns-clause-fetches g c =
+    let es = happenings c.args.events.now in
+    let b = c.args.self.now.state in
+    λ t small. run-gives (own_events t es b) (view_of t (owned_by t es b) b) small

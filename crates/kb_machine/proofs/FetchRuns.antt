@@ -1,0 +1,125 @@
+-- In a whole run of a machine each fetch is answered with whole batches.
+use Rattle.std.proofs.Common.{ℕ, zero, suc, max, List, [], ◌∷◌, Option, Some, None}
+use Rattle.std.specs.List.{AllByRecursion}
+use Rattle.kb_api_group.specs.Frames.{Front, Whole, Partial, TooSmall, TooLarge, front}
+use Rattle.kb_world.specs.World as tenants
+use Rattle.kb_world.specs.Calls.{all_places, retain, retain_each}
+use Rattle.kb_world.specs.declared.place.Place.{Place}
+use Rattle.kb_tenant.specs.Batches.{HasSmallLogs}
+use Rattle.kb_tenant.specs.Hosted.{Kept, retained, world_at}
+use Rattle.kb_tenant.proofs.Small.{retained_small, served_small}
+use Rattle.kb_machine.specs.Requests.{Asked, Versions, OtherVersions, Handshake, Authenticate, Another, Unread, request}
+use Rattle.kb_machine.specs.Tenant.{kept_after}
+use Rattle.kb_machine.specs.Session.{Stage, Greets, BoundTo, Session, fed}
+use Rattle.kb_machine.specs.Greeting.{Setup}
+use Rattle.kb_machine.specs.Machine.{Happening, Opens, Comes, Closes, Moment, Line, World, put, kept_by, kept_at, each, on, first_able, all_woken, turn_at, turn_of, turn, again, work, turns, step}
+use Rattle.kb_machine.specs.Isolation.{last_world}
+use Rattle.kb_machine.specs.Fetches.{ServesBatches, WakesWithBatches, AllWakeWithBatches, after_request, TurnGivesBatches, NextGivesBatches, TurnsGiveBatches, EventGivesBatches, FetchesGetBatches}
+use Rattle.kb_machine.proofs.Fetches.{served-batches, woken-batches}
+
+-- the logs of what the tenant keeps are within their limits
+abbrev IsSmall : World → Type 0
+IsSmall w = HasSmallLogs (world_at w.kept w.clock)
+
+-- 1. Logs stay within their limits
+
+each-small : (places : List Place) (w : tenants.World) → HasSmallLogs w → HasSmallLogs (retain_each places w).0
+each-small [] w small = small
+each-small (place ∷ places) w small = each-small places (retain w place).0 (retained_small w place small)
+
+small-retained : (clock : ℕ) (kept : Kept) → HasSmallLogs (world_at kept clock) → HasSmallLogs (world_at (retained clock kept) clock)
+unfolding retained
+small-retained clock kept small = each-small (all_places (world_at kept clock)) (world_at kept clock) small
+
+small-by : (setup : Setup) (kept : Kept) (clock : ℕ) (a : Asked) → HasSmallLogs (world_at kept clock) → HasSmallLogs (world_at (kept_by setup kept clock a) clock)
+unfolding kept_after
+small-by setup kept clock Versions small = small
+small-by setup kept clock OtherVersions small = small
+small-by setup kept clock (Handshake mechanism) small = small
+small-by setup kept clock (Authenticate message) small = small
+small-by setup kept clock (Another key version body) small = served_small setup.node (world_at kept clock) key body small
+small-by setup kept clock Unread small = small
+
+small-at : (setup : Setup) (kept : Kept) (clock : ℕ) (f : Front) → HasSmallLogs (world_at kept clock) → HasSmallLogs (world_at (kept_at setup kept clock f) clock)
+small-at setup kept clock (Whole frame rest) small = small-by setup kept clock (request frame).asked small
+small-at setup kept clock TooSmall small = small
+small-at setup kept clock TooLarge small = small
+small-at setup kept clock Partial small = small
+
+small-put : (setup : Setup) (kept : Kept) (clock : ℕ) (unread : List ℕ) → HasSmallLogs (world_at kept clock) → HasSmallLogs (world_at (put setup kept clock unread) clock)
+unfolding put
+small-put setup kept clock unread small = small-at setup kept clock (front unread) small
+
+small-turn_at : (w : World) (n : ℕ) (unread : List ℕ) (stage : Stage) → IsSmall w → IsSmall (turn_at w n unread stage)
+small-turn_at w n unread (Greets handshaken) small = small
+small-turn_at w n unread (BoundTo tenant wait) small = small-put w.setup w.kept w.clock unread small
+
+small-turn_of : (w : World) (o : Option Line) → IsSmall w → IsSmall (turn_of w o)
+small-turn_of w None small = small
+small-turn_of w (Some l) small = small-turn_at w l.number l.session.unread l.session.stage small
+
+small-turn : (w : World) → IsSmall w → IsSmall (turn w)
+unfolding turn
+small-turn w small = small-turn_of w (first_able w.lines) small
+
+small-again : (n : ℕ) (w : World) → IsSmall w → IsSmall (again turn n w)
+small-again zero w small = small
+small-again (suc n) w small = small-again n (turn w) (small-turn w small)
+
+small-turns : (w : World) → IsSmall w → IsSmall (turns w)
+unfolding turns
+small-turns w small = small-again (work w.lines) w small
+
+small-step : (e : Happening) (w : World) → IsSmall w → IsSmall (step e w)
+small-step (Opens n) w small = small
+small-step (Comes n piece) w small = small-turns (record w { lines = each (on n (fed piece)) w.lines }) small
+small-step (Closes n) w small = small
+small-step (Moment now) w small =
+    let clock = max w.clock now in
+    small-turns (all_woken (record w { kept = retained clock w.kept; clock = clock })) (small-retained clock w.kept small)
+
+pub small-last : (es : List Happening) (w : World) → IsSmall w → IsSmall (last_world es w)
+small-last [] w small = small
+small-last (e ∷ es) w small = small-last es (step e w) (small-step e w small)
+
+-- 2. Answers
+
+serves : (w : World) (s : Session) → IsSmall w → ServesBatches w s
+serves w s small frame rest version body fetch at asks read = served-batches w.setup w.kept w.clock s frame rest version body fetch small at asks read
+
+wakes : (w : World) (s : Session) → IsSmall w → WakesWithBatches w s
+wakes w s small tenant wait fetch waits read = woken-batches w.kept w.clock tenant s wait fetch small waits read
+
+each-line : (P : Line → Type 0) → ((l : Line) → P l) → (ls : List Line) → AllByRecursion P ls
+each-line P all [] = tt
+each-line P all (l ∷ ls) = (all l, each-line P all ls)
+
+all-wake : (w : World) → IsSmall w → AllWakeWithBatches w
+all-wake w small = each-line (λ (l : Line). WakesWithBatches w l.session) (λ l. wakes w l.session small) w.lines
+
+turn-gives : (w : World) (l : Line) (stage : Stage) → IsSmall w → TurnGivesBatches w l stage
+turn-gives w l (Greets handshaken) small = tt
+turn-gives w l (BoundTo tenant wait) small = (serves w l.session small, all-wake (after_request w l) (small-put w.setup w.kept w.clock l.session.unread small))
+
+next-gives : (w : World) (o : Option Line) → IsSmall w → NextGivesBatches w o
+next-gives w None small = tt
+next-gives w (Some l) small = turn-gives w l l.session.stage small
+
+turns-give : (n : ℕ) (w : World) → IsSmall w → TurnsGiveBatches n w
+turns-give zero w small = tt
+turns-give (suc n) w small = (next-gives w (first_able w.lines) small, turns-give n (turn w) (small-turn w small))
+
+event-gives : (e : Happening) (w : World) → IsSmall w → EventGivesBatches e w
+event-gives (Opens n) w small = tt
+event-gives (Comes n piece) w small = let next = record w { lines = each (on n (fed piece)) w.lines } in turns-give (work next.lines) next small
+event-gives (Closes n) w small = tt
+event-gives (Moment now) w small =
+    let clock = max w.clock now in
+    let after = record w { kept = retained clock w.kept; clock = clock } in
+    let kept = small-retained clock w.kept small in
+    (all-wake after kept, turns-give (work (all_woken after).lines) (all_woken after) kept)
+
+-- a whole run
+pub run-gives : (es : List Happening) (w : World) → IsSmall w → FetchesGetBatches es w
+run-gives [] w small = tt
+run-gives (e ∷ es) w small = (event-gives e w small, run-gives es (step e w) (small-step e w small))

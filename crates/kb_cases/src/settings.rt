@@ -108,6 +108,7 @@ fn keys_and_their_limits(rt: HostRuntime) -> Result<(), Fail> {
         ("port", "1", "65535", "0", "65536"),
         ("segment_bytes", "4096", "1073741824", "4095", "1073741825"),
         ("cache_batches", "1", "65536", "0", "65537"),
+        ("connections", "1", "1000000", "0", "1000001"),
     ];
     for (key, low, high, below, above) in numbers {
         for right in [low, high] {

@@ -13,6 +13,7 @@ pub record Values : Type 0 where
   pub port : ℕ
   pub segment_bytes : ℕ
   pub cache_batches : ℕ
+  pub connections : ℕ
   pub folder : Option (List ℕ)
   pub users : List Account
 
@@ -25,6 +26,7 @@ values_of s = record {
   port = s.port;
   segment_bytes = s.segment_bytes;
   cache_batches = s.cache_batches;
+  connections = s.connections;
   folder = option_map string_bytes s.folder;
   users = map account_of s.users.items;
 }
@@ -37,7 +39,7 @@ bob = record { name = codes "bob"; password = codes "pw2"; tenant = codes "b" }
 
 -- the standard settings
 abbrev pub standard : Values
-standard = record { host = codes "localhost"; port = 9092; segment_bytes = 16777216; cache_batches = 1024; folder = None; users = ann ∷ bob ∷ [] }
+standard = record { host = codes "localhost"; port = 9092; segment_bytes = 16777216; cache_batches = 1024; connections = 1024; folder = None; users = ann ∷ bob ∷ [] }
 
 -- a text that names their two users
 abbrev pub standard_text : List ℕ

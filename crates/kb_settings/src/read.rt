@@ -14,18 +14,19 @@ use std::alloc::{AllocError, Global};
 use toml::Table;
 
 /// The keys that there are.
-const KEYS: [&str; 6] = [
+const KEYS: [&str; 7] = [
     "host",
     "port",
     "segment_bytes",
     "cache_batches",
+    "connections",
     "data",
     "user",
 ];
 
 impl Settings {
-    /// The settings of a TOML text: `host`, `port`, `segment_bytes`, `cache_batches` and `data`, each as in
-    /// [`Settings::standard`] where it is missing, and an array of tables `user` with `name`, `password` and `tenant`.
+    /// The settings of a TOML text: `host`, `port`, `segment_bytes`, `cache_batches`, `connections` and `data`, each
+    /// as in [`Settings::standard`] where it is missing, and an array of tables `user` with `name`, `password` and `tenant`.
     ///
     /// `Text` comes only where the text is no TOML document. `Field` names the first key that is wrong, in this order; keys
     /// that there are not come last, in byte order. Anything wrong with a user, or with the users together, is wrong with
@@ -60,6 +61,9 @@ fn in_document(alloc: Global, document: &Table) -> Result<Settings, SettingsFaul
     let Some(cache_batches) = number(document, "cache_batches", 1024, 1, 65_536) else {
         return Err(wrong(alloc, "cache_batches"));
     };
+    let Some(connections) = number(document, "connections", 1024, 1, 1_000_000) else {
+        return Err(wrong(alloc, "connections"));
+    };
     let Some(folder) = folder(document) else {
         return Err(wrong(alloc, "data"));
     };
@@ -74,6 +78,7 @@ fn in_document(alloc: Global, document: &Table) -> Result<Settings, SettingsFaul
         port: port as u16,
         segment_bytes,
         cache_batches,
+        connections,
         folder: copied(alloc, folder)?,
         users,
     })

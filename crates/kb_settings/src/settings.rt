@@ -49,6 +49,8 @@ pub struct Settings {
     pub segment_bytes: u32,
     /// How many read batches are kept in memory: 1 to 65,536.
     pub cache_batches: u32,
+    /// How many clients are connected at most: 1 to 1,000,000.
+    pub connections: u32,
     /// The data folder, where there is one.
     pub folder: Option<String>,
     /// 1 to 1,000 users, no two of one name, of at most 256 different tenants.
@@ -57,6 +59,7 @@ pub struct Settings {
     pub ghost port_fits: { 1 ≤ port },
     pub ghost segment_bytes_fit: { (4096 ≤ segment_bytes) × (segment_bytes ≤ 1073741824) },
     pub ghost cache_batches_fit: { (1 ≤ cache_batches) × (cache_batches ≤ 65536) },
+    pub ghost connections_fit: { (1 ≤ connections) × (connections ≤ 1000000) },
     pub ghost users_fit: { (1 ≤ length users.items) × (length users.items ≤ 1000) },
     pub ghost names_differ: { IsTrue (are_different (map (λ u. string_bytes u.name) users.items)) },
     pub ghost tenants_fit: { length (in_order (map (λ u. string_bytes u.tenant) users.items)) ≤ 256 },
@@ -69,7 +72,7 @@ impl Settings {
 
     /// The settings of a text that names two users alone: `ann` with password `pw1` of tenant `a`, and `bob` with password
     /// `pw2` of tenant `b`. The host is `localhost`, the port 9092, a file has 16,777,216 bytes, 1,024 read batches are kept,
-    /// and there is no folder.
+    /// 1,024 clients are connected at most, and there is no folder.
     pub fn standard(alloc: Global) -> Result<Settings, AllocError>
         ensures value { IfOk result (λ settings. values_of settings ≡ standard) }
         ensures text { IfOk result (λ settings. settings_of standard_text ≡ Some (Ok (values_of settings))) }
@@ -82,6 +85,7 @@ impl Settings {
             port: 9092,
             segment_bytes: 16_777_216,
             cache_batches: 1024,
+            connections: 1024,
             folder: None,
             users,
         })

@@ -10,7 +10,7 @@ from planted.prover import LIB
 # A line for each crate: its name, the sum of its texts, how many edits were refused, and the processor seconds that they took.
 TRIED = "gate/tried"
 # What the chosen edits may take, in processor seconds.
-ROOM = 13 * 60
+ROOM = 8 * 60
 # What a line of a crate takes to prove, and what an edit takes where none was tried yet, in processor seconds.
 A_LINE = 0.06
 AN_EDIT = 15.0

@@ -1,18 +1,13 @@
-//! The worked cases of the crates below the tenants, each through its public contract.
+//! What is tested of the crates below the tenants and cannot be said as data, each through its public contract.
 //!
-//! There is nothing here but tests, a module for each crate under the crate's own name.
+//! There is nothing here but tests, a module for each crate under the crate's own name. Worked cases of codecs and values are data,
+//! in `kb_bodies`.
 #![tactic(auto)]
 
 #[cfg(test)]
 mod api_data;
 #[cfg(test)]
 mod api_group;
-#[cfg(test)]
-mod batch;
-#[cfg(test)]
-mod groups;
-#[cfg(test)]
-mod producers;
 #[cfg(test)]
 mod settings;
 #[cfg(test)]

@@ -1,0 +1,287 @@
+//! Requests and replies about topics and records, and what stands in them.
+ghost use Rattle.std.specs.Prelude.{◌<◌, length};
+
+use crate::bodies::{Describe, read_back};
+use crate::said::Field::{Count, Number, Numbers, Text};
+use crate::said::Said;
+use kb_api_data::{
+    CreateAssignment, CreateConfig, CreateTopic, CreateTopicsReply, CreateTopicsRequest,
+    DeleteTopicsReply, DeleteTopicsRequest, FetchPartition, FetchPartitionFront,
+    FetchPartitionReply, FetchReply, FetchRequest, InitProducerIdReply, InitProducerIdRequest,
+    ListOffsetsPartitionReply, ListOffsetsReply, ListOffsetsRequest, MetadataPartition,
+    MetadataReply, MetadataRequest, ProducePartitionReply, ProduceReply, ProduceRequest,
+};
+use std::alloc::{AllocError, Global};
+
+/// Requests. Whether the kind is one.
+pub fn read_request(
+    alloc: Global,
+    kind: &str,
+    longer: &[u8],
+    said: &mut Said,
+) -> Result<bool, AllocError>
+    requires { 0 < length longer.now }
+{
+    match kind {
+        "ProduceRequest" => read_back::<ProduceRequest>(alloc, longer, said),
+        "FetchRequest" => read_back::<FetchRequest>(alloc, longer, said),
+        "ListOffsetsRequest" => read_back::<ListOffsetsRequest>(alloc, longer, said),
+        "MetadataRequest" => read_back::<MetadataRequest>(alloc, longer, said),
+        "CreateTopicsRequest" => read_back::<CreateTopicsRequest>(alloc, longer, said),
+        "DeleteTopicsRequest" => read_back::<DeleteTopicsRequest>(alloc, longer, said),
+        "InitProducerIdRequest" => read_back::<InitProducerIdRequest>(alloc, longer, said),
+        _ => Ok(false),
+    }
+}
+
+/// Replies. Whether the kind is one.
+pub fn read_reply(
+    alloc: Global,
+    kind: &str,
+    longer: &[u8],
+    said: &mut Said,
+) -> Result<bool, AllocError>
+    requires { 0 < length longer.now }
+{
+    match kind {
+        "ProduceReply" => read_back::<ProduceReply>(alloc, longer, said),
+        "FetchReply" => read_back::<FetchReply>(alloc, longer, said),
+        "ListOffsetsReply" => read_back::<ListOffsetsReply>(alloc, longer, said),
+        "MetadataReply" => read_back::<MetadataReply>(alloc, longer, said),
+        "CreateTopicsReply" => read_back::<CreateTopicsReply>(alloc, longer, said),
+        "DeleteTopicsReply" => read_back::<DeleteTopicsReply>(alloc, longer, said),
+        "InitProducerIdReply" => read_back::<InitProducerIdReply>(alloc, longer, said),
+        _ => Ok(false),
+    }
+}
+
+/// What stands in them. Whether the kind is one.
+pub fn read_within(
+    alloc: Global,
+    kind: &str,
+    longer: &[u8],
+    said: &mut Said,
+) -> Result<bool, AllocError>
+    requires { 0 < length longer.now }
+{
+    match kind {
+        "ProducePartitionReply" => read_back::<ProducePartitionReply>(alloc, longer, said),
+        "FetchPartition" => read_back::<FetchPartition>(alloc, longer, said),
+        "FetchPartitionReply" => read_back::<FetchPartitionReply>(alloc, longer, said),
+        "ListOffsetsPartitionReply" => read_back::<ListOffsetsPartitionReply>(alloc, longer, said),
+        "MetadataPartition" => read_back::<MetadataPartition>(alloc, longer, said),
+        "CreateTopic" => read_back::<CreateTopic>(alloc, longer, said),
+        _ => Ok(false),
+    }
+}
+
+impl Describe for ProduceRequest<'_> {
+    fn describe(&self, said: &mut Said) -> Result<(), AllocError> {
+        said.fields(&[
+            ("acks", Number(self.acks as i64)),
+            ("timeout_ms", Number(self.timeout_ms as i64)),
+            ("topics", Count(self.topics.len())),
+        ])
+    }
+}
+
+impl Describe for ProduceReply<'_> {
+    fn describe(&self, said: &mut Said) -> Result<(), AllocError> {
+        said.fields(&[
+            ("topics", Count(self.topics.len())),
+            ("throttle_time_ms", Number(self.throttle_time_ms as i64)),
+        ])
+    }
+}
+
+impl Describe for ProducePartitionReply {
+    fn describe(&self, said: &mut Said) -> Result<(), AllocError> {
+        said.fields(&[
+            ("index", Number(self.index as i64)),
+            ("error_code", Number(self.error_code as i64)),
+            ("base_offset", Number(self.base_offset as i64)),
+            ("log_append_time_ms", Number(self.log_append_time_ms as i64)),
+        ])
+    }
+}
+
+impl Describe for FetchRequest<'_> {
+    fn describe(&self, said: &mut Said) -> Result<(), AllocError> {
+        said.fields(&[
+            ("replica_id", Number(self.replica_id as i64)),
+            ("max_wait_ms", Number(self.max_wait_ms as i64)),
+            ("min_bytes", Number(self.min_bytes as i64)),
+            ("max_bytes", Number(self.max_bytes as i64)),
+            ("isolation_level", Number(self.isolation_level as i64)),
+            ("topics", Count(self.topics.len())),
+        ])
+    }
+}
+
+impl Describe for FetchPartition {
+    fn describe(&self, said: &mut Said) -> Result<(), AllocError> {
+        said.fields(&[
+            ("partition", Number(self.partition as i64)),
+            ("fetch_offset", Number(self.fetch_offset as i64)),
+            (
+                "partition_max_bytes",
+                Number(self.partition_max_bytes as i64),
+            ),
+        ])
+    }
+}
+
+impl Describe for FetchReply<'_> {
+    fn describe(&self, said: &mut Said) -> Result<(), AllocError> {
+        said.fields(&[
+            ("throttle_time_ms", Number(self.throttle_time_ms as i64)),
+            ("topics", Count(self.topics.len())),
+        ])
+    }
+}
+
+impl Describe for FetchPartitionReply<'_> {
+    fn describe(&self, said: &mut Said) -> Result<(), AllocError> {
+        said.fields(&[
+            ("partition", Number(self.partition as i64)),
+            ("error_code", Number(self.error_code as i64)),
+            ("high_watermark", Number(self.high_watermark as i64)),
+            ("last_stable_offset", Number(self.last_stable_offset as i64)),
+        ])
+    }
+}
+
+impl Describe for ListOffsetsRequest<'_> {
+    fn describe(&self, said: &mut Said) -> Result<(), AllocError> {
+        said.fields(&[
+            ("replica_id", Number(self.replica_id as i64)),
+            ("topics", Count(self.topics.len())),
+        ])
+    }
+}
+
+impl Describe for ListOffsetsReply<'_> {
+    fn describe(&self, said: &mut Said) -> Result<(), AllocError> {
+        said.fields(&[("topics", Count(self.topics.len()))])
+    }
+}
+
+impl Describe for ListOffsetsPartitionReply {
+    fn describe(&self, said: &mut Said) -> Result<(), AllocError> {
+        said.fields(&[
+            ("partition", Number(self.partition as i64)),
+            ("error_code", Number(self.error_code as i64)),
+            ("timestamp", Number(self.timestamp as i64)),
+            ("offset", Number(self.offset as i64)),
+        ])
+    }
+}
+
+impl Describe for MetadataRequest<'_> {}
+
+impl Describe for MetadataReply<'_> {
+    fn describe(&self, said: &mut Said) -> Result<(), AllocError> {
+        said.fields(&[
+            ("brokers", Count(self.brokers.len())),
+            ("controller_id", Number(self.controller_id as i64)),
+            ("topics", Count(self.topics.len())),
+        ])
+    }
+}
+
+impl Describe for MetadataPartition {
+    fn describe(&self, said: &mut Said) -> Result<(), AllocError> {
+        said.fields(&[
+            ("error_code", Number(self.error_code as i64)),
+            ("partition", Number(self.partition as i64)),
+            ("leader", Number(self.leader as i64)),
+            ("replicas", Numbers(self.replicas.as_slice())),
+            ("isr", Numbers(self.isr.as_slice())),
+        ])
+    }
+}
+
+impl Describe for CreateTopicsReply<'_> {
+    fn describe(&self, said: &mut Said) -> Result<(), AllocError> {
+        said.fields(&[("topics", Count(self.topics.len()))])
+    }
+}
+
+impl Describe for DeleteTopicsRequest<'_> {
+    fn describe(&self, said: &mut Said) -> Result<(), AllocError> {
+        said.fields(&[
+            ("names", Count(self.names.len())),
+            ("timeout_ms", Number(self.timeout_ms as i64)),
+        ])
+    }
+}
+
+impl Describe for DeleteTopicsReply<'_> {
+    fn describe(&self, said: &mut Said) -> Result<(), AllocError> {
+        said.fields(&[("topics", Count(self.topics.len()))])
+    }
+}
+
+impl Describe for InitProducerIdRequest<'_> {
+    fn describe(&self, said: &mut Said) -> Result<(), AllocError> {
+        said.fields(&[(
+            "transaction_timeout_ms",
+            Number(self.transaction_timeout_ms as i64),
+        )])
+    }
+}
+
+impl Describe for InitProducerIdReply {
+    fn describe(&self, said: &mut Said) -> Result<(), AllocError> {
+        said.fields(&[
+            ("throttle_time_ms", Number(self.throttle_time_ms as i64)),
+            ("error_code", Number(self.error_code as i64)),
+            ("producer_id", Number(self.producer_id as i64)),
+            ("producer_epoch", Number(self.producer_epoch as i64)),
+        ])
+    }
+}
+
+impl Describe for CreateTopicsRequest<'_> {
+    /// Each topic, too.
+    fn describe(&self, said: &mut Said) -> Result<(), AllocError> {
+        said.fields(&[("timeout_ms", Number(self.timeout_ms as i64))])?;
+        for topic in self.topics.as_slice() {
+            topic.describe(said)?;
+        }
+        Ok(())
+    }
+}
+
+impl Describe for CreateTopic<'_> {
+    /// Each assignment and each setting, too.
+    fn describe(&self, said: &mut Said) -> Result<(), AllocError> {
+        said.fields(&[
+            ("num_partitions", Number(self.num_partitions as i64)),
+            ("replication_factor", Number(self.replication_factor as i64)),
+        ])?;
+        describe_assignments(self.assignments.as_slice(), said)?;
+        describe_configs(self.configs.as_slice(), said)
+    }
+}
+
+fn describe_assignments(
+    assignments: &[CreateAssignment],
+    said: &mut Said,
+) -> Result<(), AllocError> {
+    for assignment in assignments {
+        said.fields(&[
+            ("partition", Number(assignment.partition as i64)),
+            ("brokers", Numbers(assignment.brokers.as_slice())),
+        ])?;
+    }
+    Ok(())
+}
+
+fn describe_configs(configs: &[CreateConfig<'_>], said: &mut Said) -> Result<(), AllocError> {
+    for config in configs {
+        said.fields(&[("name", Text(config.name.as_str()))])?;
+        config.value.describe(said)?;
+    }
+    Ok(())
+}

@@ -1,0 +1,47 @@
+-- The groups of a tenant.
+use Rattle.std.specs.Prelude.{ℕ, zero, suc, List, [], ◌∷◌, Option, Some, None, bytes_eq, if◌then◌else◌}
+use Rattle.std.specs.Option.{option_map}
+use Rattle.std.specs.Ordering.{is_lt, nat_cmp}
+use Rattle.std.specs.Cmp.Lexicographic.{slice_cmp}
+use Rattle.std.specs.List.{insert}
+use Rattle.kb_groups.specs.declared.state.State.{State}
+use Rattle.kb_groups.specs.declared.reply.Release.{Release}
+use Rattle.kb_coordinator.specs.declared.groups.Entry.{Entry}
+
+-- The groups by id in byte order, how many member numbers were given out, and the replies that the last request or moment gave to
+-- requests that waited, by group and then by connection number.
+pub record Groups : Type 0 where
+  pub groups : List Entry
+  pub members : ℕ
+  pub released : List Release
+
+abbrev pub none : Groups
+none = record { groups = []; members = 0; released = [] }
+
+-- Nobody who waited is answered.
+abbrev pub silent : Groups → Groups
+silent gs = record gs { released = [] }
+
+-- The group of that id.
+unfoldable pub found : List ℕ → List Entry → Option State
+found id [] = None
+found id (e ∷ es) = if bytes_eq e.id id then Some e.group else found id es
+
+-- The groups with that one changed, if it is there.
+unfoldable pub changed : List ℕ → (State → State) → List Entry → List Entry
+changed id f [] = []
+changed id f (e ∷ es) = if bytes_eq e.id id then record { id = e.id; group = f e.group } ∷ es else e ∷ changed id f es
+
+-- The place of the group of that id.
+unfoldable pub place_of : List ℕ → List Entry → Option ℕ
+place_of id [] = None
+place_of id (e ∷ es) = if bytes_eq e.id id then Some 0 else option_map suc (place_of id es)
+
+-- The place of the first group whose id is above that one, in byte order.
+unfoldable pub first_above : List ℕ → List Entry → ℕ
+first_above id [] = 0
+first_above id (e ∷ es) = if is_lt (slice_cmp nat_cmp id e.id) then 0 else suc (first_above id es)
+
+-- The groups with a new one in its place.
+abbrev pub with_new : List ℕ → State → List Entry → List Entry
+with_new id g es = insert es (first_above id es) (record { id = id; group = g })

@@ -1,0 +1,4 @@
+pub mod Calls
+pub mod Groups
+pub mod Replies
+pub mod Requests

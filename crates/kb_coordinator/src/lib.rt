@@ -1,0 +1,18 @@
+//! All consumer groups of one tenant: what each request to them is answered, and which requests that waited are answered with it.
+//!
+//! [`Coordinator`] keeps the groups by their ids in byte order, how many member numbers were given out, and the replies that its last
+//! request or moment gave to requests that waited. Contracts see it as `Groups`. Each call of it does to the groups, and answers, what
+//! the definition of its API says (`specs/Calls`), of which the group that it names is the only one that changes.
+//! The replies' bodies are written by [`put_join_refusal`], [`put_sync`] and [`put_reply`].
+//!
+//! Kafka protocol guide: JoinGroup, SyncGroup, Heartbeat, LeaveGroup, and the check of OffsetCommit's member.
+#![tactic(auto)]
+
+mod convert;
+mod coordinator;
+mod groups;
+mod replies;
+
+pub use coordinator::Coordinator;
+pub use groups::Entry;
+pub use replies::{put_join_refusal, put_reply, put_sync};

@@ -85,6 +85,7 @@ changed_at id f (x ∷ es) i e p at = by (bytes_eq x.id id) (place_of id es) p (
   where
     one : Entry → Entry
     one y = record { id = y.id; group = f y.group }
+
     by : (b : Bool) (o : Option ℕ) → (if b then Some 0 else option_map suc o) ≡ Some i → ((j : ℕ) → o ≡ Some j → slice_get es j ≡ Some e → changed id f es ≡ slice_set es j (one e)) → (if b then one x ∷ es else x ∷ changed id f es) ≡ slice_set (x ∷ es) i (one e)
     by true o q rest =
         let head : slice_get (x ∷ es) 0 ≡ Some e = subst (λ k. slice_get (x ∷ es) k ≡ Some e) (sym (same_Some _ _ q)) at in

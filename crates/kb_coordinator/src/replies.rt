@@ -106,11 +106,7 @@ fn put_joined(alloc: Global, joined: &Joined, sink: &mut Sink) -> Result<(), All
 
 /// Writes the reply of SyncGroup.
 #[tactic(auto, unfolding(kb_api_group::specs::Layouts::sync_group_reply))]
-fn put_sync_reply(
-    error_code: i16,
-    assignment: &[u8],
-    sink: &mut Sink,
-) -> Result<(), AllocError>
+fn put_sync_reply(error_code: i16, assignment: &[u8], sink: &mut Sink) -> Result<(), AllocError>
     ensures { OnOk result (sink.new.bytes ≡ sink.old.bytes ++ sync_reply error_code assignment.now) }
 {
     sink.put_i16(error_code)?;

@@ -102,7 +102,7 @@ impl Bench {
         broker: Broker<MemoryStore>,
         name: &'static str,
     ) -> Result<Bench, BindFault> {
-        match Edge::bind(net, alloc, broker, "127.0.0.1:0") {
+        match Edge::bind(net, alloc, broker, "127.0.0.1:0", 1024) {
             Ok(edge) => Ok(Bench {
                 edge,
                 clients: Vec::new(alloc),

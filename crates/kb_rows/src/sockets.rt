@@ -22,14 +22,28 @@ const ONE_ACCEPTED: Turn = Turn {
     read: 0,
     written: 0,
     closed: 0,
+    turned_away: 0,
+    denied: 0,
 };
 
 /// A turn that accepts one client, and closes it at once.
+const ONE_CLOSED: Turn = Turn {
+    accepted: 1,
+    read: 0,
+    written: 0,
+    closed: 1,
+    turned_away: 0,
+    denied: 0,
+};
+
+/// The same, since as many are open as may be.
 const ONE_TURNED_AWAY: Turn = Turn {
     accepted: 1,
     read: 0,
     written: 0,
     closed: 1,
+    turned_away: 1,
+    denied: 0,
 };
 
 const VERSIONS_ARE_ANSWERED: [Move<'static>; 4] = [
@@ -141,7 +155,7 @@ const LAST: [Move<'static>; 5] = [
     Join,
     Ask(0, "versions", "served"),
     Join,
-    Turns(ONE_TURNED_AWAY),
+    Turns(ONE_CLOSED),
     Closed(1),
 ];
 
@@ -248,7 +262,7 @@ fn refused(
     broker: Broker<MemoryStore>,
     address: &str,
 ) -> Option<(BindFault, u64)> {
-    match Edge::bind(net, alloc, broker, address) {
+    match Edge::bind(net, alloc, broker, address, 1024) {
         Ok(_) => None,
         Err(refused) => Some((refused.fault, refused.broker.last_connection())),
     }
@@ -266,7 +280,7 @@ fn a_taken_port_is_refused(rt: HostRuntime) -> Result<(), Fail> {
 /// What the first turns of an edge with 1,025 clients at its door do.
 fn first_turns(alloc: Global, broker: Broker<MemoryStore>) -> Result<[Turn; 3], BindFault> {
     let crowd = Crowd { waiting: 1025 };
-    match Edge::bind(&crowd, alloc, broker, "127.0.0.1:9092") {
+    match Edge::bind(&crowd, alloc, broker, "127.0.0.1:9092", 1024) {
         Ok(mut edge) => Ok([
             edge.turn(alloc, 0),
             edge.turn(alloc, 0),
@@ -285,7 +299,9 @@ fn one_too_many_is_closed(rt: HostRuntime) -> Result<(), Fail> {
             accepted: 1024,
             read: 1024 * 14,
             written: 1024 * 116,
-            closed: 0
+            closed: 0,
+            turned_away: 0,
+            denied: 0
         }
     );
     assert_eq!(rt; next, ONE_TURNED_AWAY);

@@ -3,8 +3,9 @@
 ghost use Rattle.std.specs.Prelude.{◌≤◌, ◌^◌};
 
 use kb_journal::{Pace, Tally, time_text};
-use kb_node::{Edge, MemoryStore, Settings, Turn, tenant_names};
+use kb_node::{Edge, Settings, Store, Turn, tenant_names};
 use std::alloc::{AllocError, Global};
+use std::net::Net;
 
 /// A tenant, and how many of its refusals were told.
 #[derive(Drop)]
@@ -59,10 +60,10 @@ impl Journal {
     }
 
     /// What happened in a turn at a moment: logins that failed at once, and counts at most once a second.
-    pub fn tell(
+    pub fn tell<R: Net, S: Store>(
         &mut self,
         rt: &HostRuntime,
-        edge: &Edge<HostRuntime, MemoryStore>,
+        edge: &Edge<R, S>,
         turn: &Turn,
         now: u64,
     )
@@ -95,7 +96,7 @@ impl Journal {
     }
 
     /// How many requests were refused since the last line, by tenant.
-    fn tell_refusals(&mut self, rt: &HostRuntime, edge: &Edge<HostRuntime, MemoryStore>, now: u64) {
+    fn tell_refusals<R: Net, S: Store>(&mut self, rt: &HostRuntime, edge: &Edge<R, S>, now: u64) {
         if edge.broker().is_calm() {
             return;
         }
@@ -110,10 +111,10 @@ impl Journal {
     }
 
     /// The tenants with refusals since the last line, and how many.
-    fn refusals(
+    fn refusals<R: Net, S: Store>(
         &mut self,
         alloc: Global,
-        edge: &Edge<HostRuntime, MemoryStore>,
+        edge: &Edge<R, S>,
     ) -> Result<String, AllocError> {
         let mut counts = String::new(alloc);
         for tenant in &mut self.tenants {
@@ -140,7 +141,7 @@ fn tenants_of(alloc: Global, settings: &Settings) -> Result<Vec<Tenant>, AllocEr
 }
 
 /// The logins of a turn that failed.
-fn tell_denied(rt: &HostRuntime, edge: &Edge<HostRuntime, MemoryStore>, denied: u64, now: u64) {
+fn tell_denied<R: Net, S: Store>(rt: &HostRuntime, edge: &Edge<R, S>, denied: u64, now: u64) {
     let time = time_of(rt, now);
     for address in edge.denied() {
         let _ = eprintln!(rt; "{time} login failed from {address}");

@@ -6,7 +6,8 @@ use crate::journal::Journal;
 use crate::{Fault, settings_of};
 use clap::ArgMatches;
 use kb_journal::moment_of;
-use kb_node::{Edge, Listing, NodeFault, StartFault, serving_broker};
+use kb_node::{Edge, Listing, NodeFault, StartFault, Store, serving_broker};
+use std::net::Net;
 use std::time::SystemTime;
 
 /// How often the edge is turned at most.
@@ -31,14 +32,19 @@ pub fn serve(rt: &HostRuntime, found: &ArgMatches<'_>) -> Result<(), Fault> {
         return Err(Fault::Node(NodeFault::Write));
     }
     journal.tell_start(rt, now(rt));
+    turn_on(rt, &mut edge, &mut journal);
+    journal.tell_stop(rt, now(rt));
+    Ok(())
+}
+
+/// Turns an edge until the turns are used up.
+fn turn_on<R: Net, S: Store>(rt: &HostRuntime, edge: &mut Edge<R, S>, journal: &mut Journal) {
     for _ in 0..TURNS {
         edge.wait();
         let now = now(rt);
-        let turn = edge.turn(alloc, now);
-        journal.tell(rt, &edge, &turn, now);
+        let turn = edge.turn(rt.alloc(), now);
+        journal.tell(rt, edge, &turn, now);
     }
-    journal.tell_stop(rt, now(rt));
-    Ok(())
 }
 
 /// The time since 1970 in milliseconds, at least 0 and at most 2^62.

@@ -1,7 +1,6 @@
 //! A broker on a network. A turn waits for no peer.
 
-ghost use Rattle.std.specs.Prelude.{◌≡◌, ◌≤◌, ◌^◌, IfErr, vec_len};
-ghost use Rattle.kb_node.specs.declared.edge.TheConstants.{SOCKETS};
+ghost use Rattle.std.specs.Prelude.{◌≡◌, ◌≤◌, ◌<◌, ◌^◌, IfErr, vec_len};
 
 use crate::socket::{Next, Socket};
 use crate::turn::Turn;
@@ -11,13 +10,16 @@ use kb_store::Store;
 use mio::event::Event;
 use std::alloc::{AllocError, Global};
 use std::io::ErrorKind;
-use std::net::{Net, OpenListener, OpenStream, TcpListener};
+use std::net::{Net, OpenListener, OpenStream, SocketAddr, TcpListener};
 use std::os::fd::AsRawFd;
 use std::time::Duration;
 use std::{io, mem};
 
-/// The most sockets at a time: more are closed at once.
-pub const SOCKETS: usize = 1024;
+/// The most sockets that a turn accepts.
+const ACCEPTS: usize = 1024;
+
+/// How many addresses of failed logins a turn keeps.
+const DENIED: usize = 16;
 
 /// How often a turn serves a socket at most: the sockets that can go on are served in turn, a request each.
 const ROUNDS: usize = 16;
@@ -65,6 +67,8 @@ pub struct BindRefused<S: Store> {
 pub struct Edge<R: Net, S: Store> {
     listener: R::Listener,
     port: u16,
+    /// The most sockets at a time: more are closed at once.
+    limit: usize,
     broker: Broker<S>,
     /// By rising number of their connections.
     sockets: Vec<Socket<R::Stream>>,
@@ -81,20 +85,24 @@ pub struct Edge<R: Net, S: Store> {
     spare: Vec<u64>,
     /// How many bytes are taken from the broker and not written.
     output: usize,
-    ghost within: { vec_len sockets ≤ SOCKETS },
+    /// From where the logins of this turn came that failed, the first ones.
+    denied: Vec<SocketAddr>,
+    ghost within: { vec_len sockets ≤ limit },
 }
 
 impl<R: Net, S: Store> Edge<R, S> {
-    /// Listens on an address, `HOST:PORT`; at port 0 the system chooses one. Each turn looks at all sockets.
+    /// Listens on an address, `HOST:PORT`; at port 0 the system chooses one. At most `limit` sockets are open at a time. Each
+    /// turn looks at all of them.
     pub fn bind(
         net: &R,
         alloc: Global,
         broker: Broker<S>,
         address: &str,
+        limit: u32,
     ) -> Result<Self, BindRefused<S>>
         ensures { IfErr result (λ refused. refused.broker ≡ broker) }
     {
-        Edge::open(net, alloc, broker, address, None)
+        Edge::open(net, alloc, broker, address, limit, None)
     }
 
     /// The same, where a turn serves the sockets that [`Edge::wait`] found to be ready. The sockets have to be the system's.
@@ -103,11 +111,12 @@ impl<R: Net, S: Store> Edge<R, S> {
         alloc: Global,
         broker: Broker<S>,
         address: &str,
+        limit: u32,
     ) -> Result<Self, BindRefused<S>>
         ensures { IfErr result (λ refused. refused.broker ≡ broker) }
     {
         match Watch::new(net, alloc) {
-            Ok(watch) => Edge::open(net, alloc, broker, address, Some(watch)),
+            Ok(watch) => Edge::open(net, alloc, broker, address, limit, Some(watch)),
             Err(_) => Err(BindRefused {
                 fault: BindFault::Bind,
                 broker,
@@ -121,6 +130,7 @@ impl<R: Net, S: Store> Edge<R, S> {
         alloc: Global,
         broker: Broker<S>,
         address: &str,
+        limit: u32,
         watch: Option<Watch>,
     ) -> Result<Self, BindRefused<S>>
         ensures { IfErr result (λ refused. refused.broker ≡ broker) }
@@ -131,7 +141,7 @@ impl<R: Net, S: Store> Edge<R, S> {
                 broker,
             });
         };
-        let Ok((buffer, ready, waiting, spare)) = buffers(alloc) else {
+        let Ok((buffer, ready, waiting, spare, denied)) = buffers(alloc, limit as usize) else {
             return Err(BindRefused {
                 fault: BindFault::Memory,
                 broker,
@@ -140,6 +150,7 @@ impl<R: Net, S: Store> Edge<R, S> {
         Ok(Edge {
             listener,
             port,
+            limit: limit as usize,
             broker,
             sockets: Vec::new(alloc),
             buffer,
@@ -149,12 +160,25 @@ impl<R: Net, S: Store> Edge<R, S> {
             waiting,
             spare,
             output: 0,
+            denied,
         })
     }
 
     /// The port that is listened on.
     pub fn port(&self) -> u16 {
         self.port
+    }
+
+    /// The broker.
+    pub fn broker(&self) -> &Broker<S>
+        ensures { result.now ≡ self.now.broker }
+    {
+        &self.broker
+    }
+
+    /// From where the logins of the last turn came that failed: at most 16 of them.
+    pub fn denied(&self) -> &[SocketAddr] {
+        &self.denied
     }
 
     /// Waits until a socket becomes ready or a new one is there: 5 ms at most while a fetch waits, which may be due then, and
@@ -208,6 +232,7 @@ impl<R: Net, S: Store> Edge<R, S> {
         requires { now ≤ 2 ^ 62 }
     {
         let mut turn = Turn::default();
+        self.denied.clear();
         self.broker.moment(alloc, now);
         self.look_at_waiting(alloc);
         if self.watch.is_none() {
@@ -240,14 +265,17 @@ impl<R: Net, S: Store> Edge<R, S> {
 
     /// Accepts the sockets that wait, at most as many as there may be.
     fn accept(&mut self, alloc: Global, turn: &mut Turn) {
-        for _ in 0..SOCKETS {
+        for _ in 0..ACCEPTS {
             if !self.can_accept {
                 return;
             }
             match self.listener.accept() {
-                Ok((stream, _)) => {
+                Ok((stream, peer)) => {
                     turn.count_accepted();
-                    if self.take_in(alloc, stream).is_err() {
+                    if self.sockets.len() >= self.limit {
+                        turn.count_turned_away();
+                        turn.count_closed();
+                    } else if self.take_in(alloc, stream, peer).is_err() {
                         turn.count_closed();
                     }
                 }
@@ -260,14 +288,13 @@ impl<R: Net, S: Store> Edge<R, S> {
         }
     }
 
-    /// Opens a connection for a socket. An `Err` closes the socket: there are too many, no number is left, or it was refused.
-    fn take_in(&mut self, alloc: Global, stream: R::Stream) -> io::Result<()> {
+    /// Opens a connection for a socket, below the limit. An `Err` closes the socket: no number is left, or it was refused.
+    fn take_in(&mut self, alloc: Global, stream: R::Stream, peer: SocketAddr) -> io::Result<()>
+        requires { vec_len self.now.sockets < self.now.limit }
+    {
         let Some(connection) = self.broker.last_connection().checked_add(1) else {
             return Err(io::Error::from(ErrorKind::QuotaExceeded));
         };
-        if self.sockets.len() >= SOCKETS {
-            return Err(io::Error::from(ErrorKind::QuotaExceeded));
-        }
         stream.set_nonblocking(true)?;
         stream.set_nodelay(true)?;
         if let Some(watch) = &self.watch {
@@ -276,7 +303,8 @@ impl<R: Net, S: Store> Edge<R, S> {
         self.sockets.reserve(1)?;
         self.broker.connect(alloc, connection)?;
         let place = self.sockets.len();
-        self.sockets.push(Socket::new(alloc, connection, stream))?;
+        self.sockets
+            .push(Socket::new(alloc, connection, peer, stream))?;
         self.queue(place);
         Ok(())
     }
@@ -319,10 +347,18 @@ impl<R: Net, S: Store> Edge<R, S> {
         let Some(socket) = self.sockets.get_mut(place) else {
             return;
         };
+        if socket.is_ended() {
+            return;
+        }
         socket.is_queued = false;
         let before = socket.unwritten();
+        let denied = turn.denied;
         let next = socket.serve(alloc, &mut self.broker, &mut self.buffer, may_ask, turn);
         let after = socket.unwritten();
+        if turn.denied > denied && self.denied.len() < DENIED {
+            // there is room for so many
+            let _ = self.denied.push(socket.peer());
+        }
         self.output = self.output.saturating_sub(before).saturating_add(after);
         match next {
             Next::Turn => self.queue(place),
@@ -373,13 +409,16 @@ impl<R: Net, S: Store> Edge<R, S> {
     }
 }
 
-/// What is read into, and three empty lists with room for all connections.
-fn buffers(alloc: Global) -> Result<(Vec<u8>, Vec<u64>, Vec<u64>, Vec<u64>), AllocError> {
+type Buffers = (Vec<u8>, Vec<u64>, Vec<u64>, Vec<u64>, Vec<SocketAddr>);
+
+/// What is read into, three empty lists with room for all connections, and one for addresses.
+fn buffers(alloc: Global, limit: usize) -> Result<Buffers, AllocError> {
     let buffer = vec![in alloc; 0u8; PIECE]?;
-    let ready = Vec::with_capacity(alloc, SOCKETS)?;
-    let waiting = Vec::with_capacity(alloc, SOCKETS)?;
-    let spare = Vec::with_capacity(alloc, SOCKETS)?;
-    Ok((buffer, ready, waiting, spare))
+    let ready = Vec::with_capacity(alloc, limit)?;
+    let waiting = Vec::with_capacity(alloc, limit)?;
+    let spare = Vec::with_capacity(alloc, limit)?;
+    let denied = Vec::with_capacity(alloc, DENIED)?;
+    Ok((buffer, ready, waiting, spare, denied))
 }
 
 /// A listener that never waits, and its port.

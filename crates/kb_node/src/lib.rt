@@ -18,6 +18,8 @@ mod watch;
 pub use edge::{BindFault, BindRefused, Edge};
 pub use fault::{NodeFault, StartFault};
 pub use kb_broker::{Listing, Settings};
+pub use kb_settings::tenant_names;
+pub use kb_store::Store;
 pub use script::{play_script, play_script_with};
 pub use start::{read_settings, serving_broker};
 pub use turn::Turn;

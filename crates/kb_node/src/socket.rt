@@ -1,6 +1,10 @@
 //! A socket and the connection that it carries.
 
-ghost use Rattle.std.specs.Prelude.{◌≡◌, ◌≤◌, length, vec_len};
+ghost use Rattle.std.specs.Prelude.{◌≡◌, ◌≢◌, ◌≤◌, ◌<◌, ◌+◌, ◌-◌, true, false, length, vec_len, IfOk};
+ghost use Rattle.kb_machine.specs.Calls.{is_open, room_of};
+ghost use Rattle.kb_broker.specs.Places.{numbers};
+ghost use Rattle.kb_node.specs.Sockets.{can_ask, is_done};
+ghost use Rattle.kb_node.specs.declared.socket.Next.TheVariants.{End};
 
 use crate::input::Input;
 use crate::turn::Turn;
@@ -8,7 +12,9 @@ use kb_broker::Broker;
 use kb_store::Store;
 use mio::event::Event;
 use std::alloc::Global;
+use std::io;
 use std::io::{ErrorKind, Read, Write};
+use std::net::SocketAddr;
 
 /// What a socket waits for.
 #[derive(Clone, Copy, Debug, PartialEq, Eq)]
@@ -27,6 +33,7 @@ pub enum Next {
 #[derive(Drop)]
 pub struct Socket<T> {
     connection: u64,
+    peer: SocketAddr,
     stream: T,
     input: Input,
     /// What the broker said last, of which the first `written` bytes have been written.
@@ -48,9 +55,13 @@ pub struct Socket<T> {
 
 impl<T: Read + Write + Drop> Socket<T> {
     /// A socket whose connection is open.
-    pub fn new(alloc: Global, connection: u64, stream: T) -> Self {
+    pub fn new(alloc: Global, connection: u64, peer: SocketAddr, stream: T) -> Self
+        ensures connection { result.connection ≡ connection }
+        ensures open { result.is_ended ≡ false }
+    {
         Socket {
             connection,
+            peer,
             stream,
             input: Input::new(alloc),
             output: Vec::new(alloc),
@@ -65,8 +76,15 @@ impl<T: Read + Write + Drop> Socket<T> {
     }
 
     /// The number of its connection.
-    pub fn connection(&self) -> u64 {
+    pub fn connection(&self) -> u64
+        ensures { result ≡ self.now.connection }
+    {
         self.connection
+    }
+
+    /// Its other side.
+    pub fn peer(&self) -> SocketAddr {
+        self.peer
     }
 
     /// Whether its connection is closed.
@@ -77,7 +95,9 @@ impl<T: Read + Write + Drop> Socket<T> {
     }
 
     /// How many bytes are still to be written.
-    pub fn unwritten(&self) -> usize {
+    pub fn unwritten(&self) -> usize
+        ensures { result ≡ vec_len self.now.output - self.now.written }
+    {
         self.output.len() - self.written
     }
 
@@ -103,7 +123,8 @@ impl<T: Read + Write + Drop> Socket<T> {
     /// Writes what the connection has to say, hands on a request where all is written and nothing is waited for, and writes what
     /// is said to that. With `may_ask` false nothing is handed on.
     ///
-    /// Where the peer is gone, or the connection is shut and all is written, the connection is closed.
+    /// Where the peer is gone, or the connection is shut and all is written, the connection is closed. One that was answered
+    /// and shut had a login that failed.
     pub fn serve<S: Store>(
         &mut self,
         alloc: Global,
@@ -111,14 +132,23 @@ impl<T: Read + Write + Drop> Socket<T> {
         buffer: &mut [u8],
         may_ask: bool,
         turn: &mut Turn,
-    ) -> Next {
-        if self.is_ended {
-            return Next::End;
-        }
+    ) -> Next
+        requires { self.now.is_ended ≡ false }
+        ensures connection { self.new.connection ≡ self.old.connection }
+        // Where it has ended the broker was told, and its connection is not open.
+        ensures ended { self.new.is_ended ≡ true → is_open self.old.connection broker.new.state ≡ false }
+        ensures over { result ≡ End → self.new.is_ended ≡ true }
+        // Else its connection and all others are open as before, and there is no cause to close it.
+        ensures open { result ≢ End → numbers broker.new.state ≡ numbers broker.old.state }
+        ensures stays { result ≢ End → is_done self.new.is_over self.new.is_half_closed (vec_len self.new.output - self.new.written) self.new.connection broker.new.state ≡ false }
+    {
         self.write_output(alloc, broker, turn);
         if may_ask && self.can_ask(broker) {
             self.ask(alloc, broker, buffer, turn);
             self.write_output(alloc, broker, turn);
+            if !self.output.is_empty() && broker.shut(self.connection) {
+                turn.count_denied();
+            }
         }
         if self.is_done(broker) {
             self.end(alloc, broker, turn);
@@ -128,7 +158,9 @@ impl<T: Read + Write + Drop> Socket<T> {
     }
 
     /// Whether a request may be handed on.
-    fn can_ask<S: Store>(&self, broker: &Broker<S>) -> bool {
+    fn can_ask<S: Store>(&self, broker: &Broker<S>) -> bool
+        ensures { result ≡ can_ask self.now.is_over (vec_len self.now.output - self.now.written) self.now.connection broker.now.state }
+    {
         !self.is_over
             && self.unwritten() == 0
             && !broker.shut(self.connection)
@@ -136,14 +168,22 @@ impl<T: Read + Write + Drop> Socket<T> {
     }
 
     /// Whether its connection is to be closed.
-    fn is_done<S: Store>(&self, broker: &Broker<S>) -> bool {
+    fn is_done<S: Store>(&self, broker: &Broker<S>) -> bool
+        ensures { result ≡ is_done self.now.is_over self.now.is_half_closed (vec_len self.now.output - self.now.written) self.now.connection broker.now.state }
+    {
         self.is_over
             || self.unwritten() == 0 && broker.shut(self.connection)
             || self.is_half_closed && broker.waits(self.connection)
     }
 
     /// Closes its connection, and forgets what is not written.
-    fn end<S: Store>(&mut self, alloc: Global, broker: &mut Broker<S>, turn: &mut Turn) {
+    #[tactic(auto, using(crate::proofs::Closing::is_closed))]
+    fn end<S: Store>(&mut self, alloc: Global, broker: &mut Broker<S>, turn: &mut Turn)
+        requires { is_done self.now.is_over self.now.is_half_closed (vec_len self.now.output - self.now.written) self.now.connection broker.now.state ≡ true }
+        ensures connection { self.new.connection ≡ self.old.connection }
+        ensures ended { self.new.is_ended ≡ true }
+        ensures closed { is_open self.old.connection broker.new.state ≡ false }
+    {
         self.is_ended = true;
         self.output = Vec::new(alloc);
         self.written = 0;
@@ -153,7 +193,9 @@ impl<T: Read + Write + Drop> Socket<T> {
     }
 
     /// What it waits for, where its connection is open.
-    fn next<S: Store>(&self, broker: &Broker<S>) -> Next {
+    fn next<S: Store>(&self, broker: &Broker<S>) -> Next
+        ensures { result ≢ End }
+    {
         if self.unwritten() > 0 {
             Next::System
         } else if broker.waits(self.connection) {
@@ -166,45 +208,67 @@ impl<T: Read + Write + Drop> Socket<T> {
     }
 
     /// Writes what the socket takes now of the output. New output is taken only once the earlier one is written.
-    fn write_output<S: Store>(&mut self, alloc: Global, broker: &mut Broker<S>, turn: &mut Turn) {
+    fn write_output<S: Store>(&mut self, alloc: Global, broker: &mut Broker<S>, turn: &mut Turn)
+        ensures connection { self.new.connection ≡ self.old.connection }
+        ensures ended { self.new.is_ended ≡ self.old.is_ended }
+        ensures numbers { numbers broker.new.state ≡ numbers broker.old.state }
+        ensures read { turn.new.read ≡ turn.old.read }
+        ensures kept { self.old.written < vec_len self.old.output → broker.new ≡ broker.old }
+    {
         if self.unwritten() == 0 {
-            self.written = 0;
-            self.output = broker.take_output(alloc, self.connection);
+            self.take_output(alloc, broker);
         }
-        for _ in 0..u64::MAX {
-            let rest = &self.output[self.written..];
-            if rest.is_empty() {
-                return;
+        self.write_on(turn);
+    }
+
+    /// Takes what the connection has to say, once all is written that it said before.
+    #[tactic(auto, using(crate::proofs::Closing::numbers_taken))]
+    fn take_output<S: Store>(&mut self, alloc: Global, broker: &mut Broker<S>)
+        requires { self.now.written ≡ vec_len self.now.output }
+        ensures connection { self.new.connection ≡ self.old.connection }
+        ensures ended { self.new.is_ended ≡ self.old.is_ended }
+        ensures unwritten { self.new.written ≡ 0 }
+        ensures numbers { numbers broker.new.state ≡ numbers broker.old.state }
+    {
+        self.written = 0;
+        self.output = broker.take_output(alloc, self.connection);
+    }
+
+    /// Writes what the socket takes now of what was said.
+    fn write_on(&mut self, turn: &mut Turn)
+        ensures connection { self.new.connection ≡ self.old.connection }
+        ensures ended { self.new.is_ended ≡ self.old.is_ended }
+        ensures read { turn.new.read ≡ turn.old.read }
+    {
+        let rest = &self.output[self.written..];
+        if rest.is_empty() {
+            return;
+        }
+        match write_to(&mut self.stream, rest) {
+            Ok(0) => self.is_over = true,
+            Ok(n) => {
+                self.written += n;
+                turn.count_written(n);
             }
-            match self.stream.write(rest) {
-                Ok(0) => {
-                    self.is_over = true;
-                    return;
-                }
-                Ok(n) => {
-                    self.written += n;
-                    turn.count_written(n);
-                }
-                Err(e) => match e.kind() {
-                    ErrorKind::Interrupted => {}
-                    ErrorKind::WouldBlock => return,
-                    _ => {
-                        self.is_over = true;
-                        return;
-                    }
-                },
-            }
+            Err(e) if e.kind() == ErrorKind::WouldBlock => {}
+            Err(_) => self.is_over = true,
         }
     }
 
-    /// Hands on what is there of the request in front, and reads before that where nothing is.
+    /// Hands on what is there of the request in front, and reads before that where nothing is: no more than there is room for.
     fn ask<S: Store>(
         &mut self,
         alloc: Global,
         broker: &mut Broker<S>,
         buffer: &mut [u8],
         turn: &mut Turn,
-    ) {
+    )
+        requires { can_ask self.now.is_over (vec_len self.now.output - self.now.written) self.now.connection broker.now.state ≡ true }
+        ensures connection { self.new.connection ≡ self.old.connection }
+        ensures ended { self.new.is_ended ≡ self.old.is_ended }
+        ensures numbers { numbers broker.new.state ≡ numbers broker.old.state }
+        ensures fits { turn.new.read ≤ turn.old.read + room_of self.old.connection broker.old.state }
+    {
         let room = broker.room(self.connection);
         if !self.input.is_short() {
             broker.input(alloc, self.connection, self.input.next(room));
@@ -227,34 +291,49 @@ impl<T: Read + Write + Drop> Socket<T> {
 
     /// Reads once: how many bytes came.
     fn read_piece(&mut self, piece: &mut [u8], turn: &mut Turn) -> usize
-        ensures { result ≤ length piece.old }
+        ensures within { result ≤ length piece.old }
+        ensures connection { self.new.connection ≡ self.old.connection }
+        ensures ended { self.new.is_ended ≡ self.old.is_ended }
+        ensures read { turn.new.read ≤ turn.old.read + length piece.old }
     {
         if !self.can_read || piece.is_empty() {
             return 0;
         }
-        for _ in 0..u64::MAX {
-            match self.stream.read(piece) {
-                Ok(0) => {
-                    self.is_over = true;
-                    return 0;
-                }
-                Ok(n) => {
-                    turn.count_read(n);
-                    return n;
-                }
-                Err(e) => match e.kind() {
-                    ErrorKind::Interrupted => {}
-                    ErrorKind::WouldBlock => {
-                        self.can_read = false;
-                        return 0;
-                    }
-                    _ => {
-                        self.is_over = true;
-                        return 0;
-                    }
-                },
+        match read_from(&mut self.stream, piece) {
+            Ok(0) => self.is_over = true,
+            Ok(n) => {
+                turn.count_read(n);
+                return n;
             }
+            Err(e) if e.kind() == ErrorKind::WouldBlock => self.can_read = false,
+            Err(_) => self.is_over = true,
         }
         0
     }
+}
+
+/// One read that is not interrupted.
+fn read_from<T: Read>(stream: &mut T, piece: &mut [u8]) -> io::Result<usize>
+    ensures { IfOk result (λ n. n ≤ length piece.old) }
+{
+    for _ in 0..u64::MAX {
+        match stream.read(piece) {
+            Err(e) if e.kind() == ErrorKind::Interrupted => {}
+            read => return read,
+        }
+    }
+    Err(io::Error::from(ErrorKind::WouldBlock))
+}
+
+/// One write that is not interrupted.
+fn write_to<T: Write>(stream: &mut T, bytes: &[u8]) -> io::Result<usize>
+    ensures { IfOk result (λ n. n ≤ length bytes.now) }
+{
+    for _ in 0..u64::MAX {
+        match stream.write(bytes) {
+            Err(e) if e.kind() == ErrorKind::Interrupted => {}
+            written => return written,
+        }
+    }
+    Err(io::Error::from(ErrorKind::WouldBlock))
 }

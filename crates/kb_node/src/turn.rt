@@ -1,6 +1,6 @@
 //! What a turn of the edge came to.
 
-ghost use Rattle.std.specs.Prelude.{◌≡◌, ◌↔◌, IsTrue};
+ghost use Rattle.std.specs.Prelude.{◌≡◌, ◌↔◌, ◌+◌, ◌-◌, ◌^◌, min, IsTrue};
 
 /// What a turn did.
 #[derive(Clone, Copy, Debug, Default, PartialEq, Eq)]
@@ -13,12 +13,16 @@ pub struct Turn {
     pub written: u64,
     /// The sockets that were closed.
     pub closed: u64,
+    /// Those of the accepted ones that were closed at once, since as many were open as may be.
+    pub turned_away: u64,
+    /// The logins that failed.
+    pub denied: u64,
 }
 
 impl Turn {
     /// Whether nothing happened.
     pub fn is_idle(&self) -> bool
-        ensures { IsTrue result ↔ (self.now ≡ record { accepted = 0; read = 0; written = 0; closed = 0 }) }
+        ensures { IsTrue result ↔ (self.now ≡ record { accepted = 0; read = 0; written = 0; closed = 0; turned_away = 0; denied = 0 }) }
     {
         *self == Turn::default()
     }
@@ -29,17 +33,35 @@ impl Turn {
     }
 
     /// More bytes were read.
-    pub(crate) fn count_read(&mut self, bytes: usize) {
+    pub(crate) fn count_read(&mut self, bytes: usize)
+        ensures { self.new ≡ record self.old { read = min (self.old.read + bytes) (2 ^ 64 - 1) } }
+    {
         self.read = self.read.saturating_add(bytes as u64);
     }
 
     /// More bytes were written.
-    pub(crate) fn count_written(&mut self, bytes: usize) {
+    pub(crate) fn count_written(&mut self, bytes: usize)
+        ensures { self.new.read ≡ self.old.read }
+    {
         self.written = self.written.saturating_add(bytes as u64);
     }
 
     /// One more socket was closed.
-    pub(crate) fn count_closed(&mut self) {
+    pub(crate) fn count_closed(&mut self)
+        ensures { self.new.read ≡ self.old.read }
+    {
         self.closed = self.closed.saturating_add(1);
+    }
+
+    /// One more socket was turned away.
+    pub(crate) fn count_turned_away(&mut self) {
+        self.turned_away = self.turned_away.saturating_add(1);
+    }
+
+    /// One more login failed.
+    pub(crate) fn count_denied(&mut self)
+        ensures { self.new.read ≡ self.old.read }
+    {
+        self.denied = self.denied.saturating_add(1);
     }
 }

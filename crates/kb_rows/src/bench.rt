@@ -7,7 +7,7 @@ use kb_store::MemoryStore;
 use std::alloc::Global;
 use std::io;
 use std::io::{ErrorKind, Read, Write};
-use std::net::TcpStream;
+use std::net::{Shutdown, TcpStream};
 use std::process::Abort;
 
 /// How often a client looks for an answer.
@@ -15,6 +15,25 @@ const LOOKS: usize = 10_000;
 
 /// How many turns an edge gets to see that a client has gone.
 const TURNS: usize = 100;
+
+/// What the clients see of an edge. The drivers below take any, which keeps their proofs short.
+pub(crate) trait Server {
+    /// The port that is listened on.
+    fn port(&self) -> u16;
+
+    /// A turn at a moment.
+    fn turn(&mut self, alloc: Global, now: u32) -> Turn;
+}
+
+impl Server for Edge<HostRuntime, MemoryStore> {
+    fn port(&self) -> u16 {
+        Edge::port(self)
+    }
+
+    fn turn(&mut self, alloc: Global, now: u32) -> Turn {
+        Edge::turn(self, alloc, u64::from(now))
+    }
+}
 
 /// A client on the other side.
 #[derive(Drop)]
@@ -66,18 +85,20 @@ impl Client {
 pub(crate) enum Move<'a> {
     /// A client connects.
     Join,
+    /// It is that moment from here on.
+    At(u32),
     /// A turn does exactly this.
     Turns(Turn),
     /// Nothing happens in a turn.
     Idle,
-    /// A client sends bytes, and the edge turns once.
-    Send(usize, &'a str),
-    /// The same byte by byte, with a turn after each.
-    Drip(usize, &'a str),
+    /// A client sends bytes, so many at a time, and the edge turns after each.
+    Send(usize, &'a str, usize),
     /// A client is told bytes.
     Told(usize, &'a str),
     /// A client sends bytes, and is told others.
     Ask(usize, &'a str, &'a str),
+    /// A client sends no more.
+    Ends(usize),
     /// The last client goes: just one socket is closed.
     Leave,
     /// A client's connection is closed with no more bytes.
@@ -86,176 +107,158 @@ pub(crate) enum Move<'a> {
     Stays(usize),
 }
 
-/// An edge on a port of the system's choice, and its clients, under the name of what is tested.
-#[derive(Drop)]
-pub(crate) struct Bench {
-    pub(crate) edge: Edge<HostRuntime, MemoryStore>,
-    clients: Vec<Client>,
-    name: &'static str,
+/// A client sends bytes, so many at a time, and the edge turns after each.
+fn send<E: Server>(
+    edge: &mut E,
+    client: &mut Client,
+    alloc: Global,
+    now: u32,
+    bytes: &[u8],
+    size: usize,
+) -> io::Result<()> {
+    for piece in bytes.chunks(size.max(1)) {
+        client.stream.write_all(piece)?;
+        edge.turn(alloc, now);
+    }
+    Ok(())
 }
 
-impl Bench {
-    /// An edge for a broker, with no client.
-    pub(crate) fn new(
-        net: &HostRuntime,
-        alloc: Global,
-        broker: Broker<MemoryStore>,
-        name: &'static str,
-    ) -> Result<Bench, BindFault> {
-        match Edge::bind(net, alloc, broker, "127.0.0.1:0") {
-            Ok(edge) => Ok(Bench {
-                edge,
-                clients: Vec::new(alloc),
-                name,
-            }),
-            Err(refused) => Err(refused.fault),
+/// Turns the edge until that many bytes have come to a client, or its connection is over.
+fn hear<E: Server>(
+    edge: &mut E,
+    client: &mut Client,
+    alloc: Global,
+    now: u32,
+    count: usize,
+) -> io::Result<()> {
+    client.got.clear();
+    for _ in 0..LOOKS {
+        if client.got.len() >= count || client.is_over {
+            break;
         }
+        edge.turn(alloc, now);
+        client.look()?;
     }
+    Ok(())
+}
 
-    /// One thing happens.
-    pub(crate) fn happen(
-        &mut self,
-        net: &HostRuntime,
-        rt: &impl Abort,
-        alloc: Global,
-        next: Move<'_>,
-    ) -> io::Result<()> {
-        match next {
-            Move::Join => self.join(net, alloc),
-            Move::Turns(turn) => {
-                assert_eq!(rt; self.turn(alloc), turn);
-                Ok(())
+/// How many sockets are closed in the turns that follow.
+fn count_closed<E: Server>(edge: &mut E, alloc: Global, now: u32) -> u64 {
+    let mut closed = 0u64;
+    for _ in 0..TURNS {
+        closed = closed.saturating_add(edge.turn(alloc, now).closed);
+    }
+    closed
+}
+
+/// The client at a place.
+pub(crate) fn client_at<'a>(
+    rt: &impl Abort,
+    clients: &'a mut [Client],
+    place: usize,
+) -> &'a mut Client {
+    assert!(rt; place < clients.len());
+    &mut clients[place]
+}
+
+/// What happens to one client.
+fn happen_to<E: Server>(
+    rt: &impl Abort,
+    alloc: Global,
+    edge: &mut E,
+    client: &mut Client,
+    now: u32,
+    next: Move<'_>,
+) -> io::Result<()> {
+    if let Move::Send(_, digits, size) = next {
+        return send(
+            edge,
+            client,
+            alloc,
+            now,
+            &bytes_of(rt, alloc, digits)?,
+            size,
+        );
+    }
+    if let Move::Ask(_, digits, _) = next {
+        client.stream.write_all(&bytes_of(rt, alloc, digits)?)?;
+    }
+    match next {
+        Move::Ends(_) => client.stream.shutdown(Shutdown::Write)?,
+        Move::Stays(_) => assert!(rt; !client.is_over),
+        Move::Closed(_) => {
+            hear(edge, client, alloc, now, 1)?;
+            assert!(rt; client.is_over && client.got.is_empty());
+        }
+        Move::Told(_, digits) | Move::Ask(_, _, digits) => {
+            let reply = bytes_of(rt, alloc, digits)?;
+            hear(edge, client, alloc, now, reply.len())?;
+            assert_eq!(rt; client.got, reply);
+        }
+        _ => {}
+    }
+    Ok(())
+}
+
+/// An edge for a broker, on a port of the system's choice, for 1,024 clients.
+pub(crate) fn edge_for(
+    net: &HostRuntime,
+    alloc: Global,
+    broker: Broker<MemoryStore>,
+) -> Result<Edge<HostRuntime, MemoryStore>, BindFault> {
+    match Edge::bind(net, alloc, broker, "127.0.0.1:0", 1024) {
+        Ok(edge) => Ok(edge),
+        Err(refused) => Err(refused.fault),
+    }
+}
+
+/// A client connects.
+pub(crate) fn join<E: Server>(
+    net: &HostRuntime,
+    alloc: Global,
+    edge: &E,
+    clients: &mut Vec<Client>,
+) -> io::Result<()> {
+    let client = Client::connect(net, alloc, edge.port())?;
+    Ok(clients.push(client)?)
+}
+
+/// The client that a move is about.
+fn place_of(next: Move<'_>) -> Option<usize> {
+    match next {
+        Move::Send(place, _, _) | Move::Told(place, _) | Move::Ask(place, _, _) => Some(place),
+        Move::Ends(place) | Move::Closed(place) | Move::Stays(place) => Some(place),
+        _ => None,
+    }
+}
+
+/// Moves are made one after another, under a name.
+pub(crate) fn play<E: Server>(
+    net: &HostRuntime,
+    rt: &impl Abort,
+    alloc: Global,
+    edge: &mut E,
+    clients: &mut Vec<Client>,
+    name: &str,
+    moves: &[Move<'_>],
+) -> io::Result<()> {
+    let mut now = 0u32;
+    for next in moves {
+        if let Some(place) = place_of(*next) {
+            let client = client_at(rt, clients, place);
+            happen_to(rt, alloc, edge, client, now, *next)?;
+            continue;
+        }
+        match *next {
+            Move::Join => join(net, alloc, edge, clients)?,
+            Move::At(moment) => now = moment,
+            Move::Turns(turn) => assert_eq!(rt; edge.turn(alloc, now), turn, "{name}"),
+            Move::Leave => {
+                drop(clients.pop());
+                assert_eq!(rt; count_closed(edge, alloc, now), 1, "{name}");
             }
-            Move::Idle => {
-                assert!(rt; self.turn(alloc).is_idle());
-                Ok(())
-            }
-            Move::Send(place, digits) => self.send(rt, alloc, place, digits),
-            Move::Drip(place, digits) => self.drip(rt, alloc, place, digits),
-            Move::Told(place, digits) => self.told(rt, alloc, place, digits),
-            Move::Ask(place, digits, reply) => self.ask(rt, alloc, place, digits, reply),
-            Move::Leave => self.leave(rt, alloc),
-            Move::Closed(place) => self.closed(rt, alloc, place),
-            Move::Stays(place) => {
-                assert!(rt; !self.client(rt, place).is_over);
-                Ok(())
-            }
+            _ => assert!(rt; edge.turn(alloc, now).is_idle(), "{name}"),
         }
     }
-
-    /// A turn.
-    pub(crate) fn turn(&mut self, alloc: Global) -> Turn {
-        self.edge.turn(alloc, 0)
-    }
-
-    /// The client at a place.
-    pub(crate) fn client(&mut self, rt: &impl Abort, place: usize) -> &mut Client {
-        assert!(rt; place < self.clients.len());
-        &mut self.clients[place]
-    }
-
-    /// A client connects.
-    fn join(&mut self, net: &HostRuntime, alloc: Global) -> io::Result<()> {
-        let client = Client::connect(net, alloc, self.edge.port())?;
-        Ok(self.clients.push(client)?)
-    }
-
-    /// A client sends bytes, and the edge turns once.
-    fn send(
-        &mut self,
-        rt: &impl Abort,
-        alloc: Global,
-        place: usize,
-        digits: &str,
-    ) -> io::Result<()> {
-        let request = bytes_of(rt, alloc, digits)?;
-        self.client(rt, place).stream.write_all(&request)?;
-        self.turn(alloc);
-        Ok(())
-    }
-
-    /// A client sends bytes one by one, and the edge turns after each.
-    fn drip(
-        &mut self,
-        rt: &impl Abort,
-        alloc: Global,
-        place: usize,
-        digits: &str,
-    ) -> io::Result<()> {
-        let request = bytes_of(rt, alloc, digits)?;
-        for byte in request.iter() {
-            self.client(rt, place).stream.write_all(&[*byte])?;
-            self.turn(alloc);
-        }
-        Ok(())
-    }
-
-    /// A client sends bytes, and is told others.
-    fn ask(
-        &mut self,
-        rt: &impl Abort,
-        alloc: Global,
-        place: usize,
-        digits: &str,
-        reply: &str,
-    ) -> io::Result<()> {
-        let request = bytes_of(rt, alloc, digits)?;
-        self.client(rt, place).stream.write_all(&request)?;
-        self.told(rt, alloc, place, reply)
-    }
-
-    /// A client is told bytes.
-    fn told(
-        &mut self,
-        rt: &impl Abort,
-        alloc: Global,
-        place: usize,
-        digits: &str,
-    ) -> io::Result<()> {
-        let reply = bytes_of(rt, alloc, digits)?;
-        self.await_bytes(rt, alloc, place, reply.len())?;
-        let name = self.name;
-        assert_eq!(rt; self.client(rt, place).got, reply, "{name}");
-        Ok(())
-    }
-
-    /// A client's connection is closed with no more bytes.
-    fn closed(&mut self, rt: &impl Abort, alloc: Global, place: usize) -> io::Result<()> {
-        self.await_bytes(rt, alloc, place, 1)?;
-        let name = self.name;
-        let client = self.client(rt, place);
-        assert!(rt; client.is_over && client.got.is_empty(), "{name}");
-        Ok(())
-    }
-
-    /// Turns the edge until that many bytes have come to a client, or its connection is over.
-    fn await_bytes(
-        &mut self,
-        rt: &impl Abort,
-        alloc: Global,
-        place: usize,
-        count: usize,
-    ) -> io::Result<()> {
-        self.client(rt, place).got.clear();
-        for _ in 0..LOOKS {
-            let client = self.client(rt, place);
-            if client.got.len() >= count || client.is_over {
-                break;
-            }
-            self.turn(alloc);
-            self.client(rt, place).look()?;
-        }
-        Ok(())
-    }
-
-    /// The last client goes, and just one socket is closed.
-    fn leave(&mut self, rt: &impl Abort, alloc: Global) -> io::Result<()> {
-        drop(self.clients.pop());
-        let mut closed = 0u64;
-        for _ in 0..TURNS {
-            closed = closed.saturating_add(self.turn(alloc).closed);
-        }
-        assert_eq!(rt; closed, 1);
-        Ok(())
-    }
+    Ok(())
 }

@@ -1,10 +1,10 @@
 //! Edges on the loopback, and one on a network of no system.
 
-use crate::bench::{Bench, Move};
+use crate::bench::{Client, Move, Server, client_at, edge_for, join, play};
 use crate::crowd::Crowd;
 use crate::running::new_broker;
 use crate::words::bytes_of;
-use Move::{Ask, Closed, Drip, Idle, Join, Leave, Send, Stays, Told, Turns};
+use Move::{Ask, At, Closed, Ends, Idle, Join, Leave, Send, Stays, Told, Turns};
 use kb_broker::Broker;
 use kb_node::{BindFault, Edge, Turn};
 use kb_store::MemoryStore;
@@ -22,14 +22,28 @@ const ONE_ACCEPTED: Turn = Turn {
     read: 0,
     written: 0,
     closed: 0,
+    turned_away: 0,
+    denied: 0,
 };
 
 /// A turn that accepts one client, and closes it at once.
+const ONE_CLOSED: Turn = Turn {
+    accepted: 1,
+    read: 0,
+    written: 0,
+    closed: 1,
+    turned_away: 0,
+    denied: 0,
+};
+
+/// The same, since as many are open as may be.
 const ONE_TURNED_AWAY: Turn = Turn {
     accepted: 1,
     read: 0,
     written: 0,
     closed: 1,
+    turned_away: 1,
+    denied: 0,
 };
 
 const VERSIONS_ARE_ANSWERED: [Move<'static>; 4] = [
@@ -78,19 +92,77 @@ const A_BATCH_COMES_BACK: [Move<'static>; 6] = [
 
 const A_CLIENT_MAY_SEND_BYTE_BY_BYTE: [Move<'static>; 3] = [
     Join,
-    Drip(0, "versions"),
+    Send(0, "versions", 1),
     Told(0, "served"),
 ];
 
 const A_CLIENT_MAY_CLOSE_IN_THE_MIDDLE: [Move<'static>; 5] = [
     Join,
     Join,
-    Send(1, "0000000a001200"),
+    Send(1, "0000000a001200", 7),
     Leave,
     Ask(0, "versions", "served"),
 ];
 
-const SCENES: [Scene; 7] = [
+/// What a shut connection sends is not read, and what is behind a wrong login is not answered.
+const WHAT_IS_BEHIND_A_WRONG_LOGIN_IS_NOT_READ: [Move<'static>; 4] = [
+    Join,
+    Ask(0, "handshake", "offered"),
+    Ask(0, "ann-wrong versions versions", "denied"),
+    Closed(0),
+];
+
+/// A client that sends no more is gone: what it sent before is answered.
+const A_CLIENT_MAY_SEND_NO_MORE: [Move<'static>; 5] = [
+    Join,
+    Join,
+    Ask(1, "versions", "served"),
+    Ends(1),
+    Closed(1),
+];
+
+/// A client goes that has not read its answer, so that the system resets the connection.
+const A_CLIENT_MAY_RESET: [Move<'static>; 5] = [
+    Join,
+    Join,
+    Send(1, "versions", 14),
+    Leave,
+    Ask(0, "versions", "served"),
+];
+
+/// A fetch waits until another client's batch comes.
+const A_WAIT_ENDS_BY_ANOTHER: [Move<'static>; 12] = [
+    Join,
+    Join,
+    Ask(0, "handshake", "offered"),
+    Ask(0, "ann", "welcome"),
+    Ask(0, "create", "created"),
+    Ask(0, "append-hi", "appended-0"),
+    Send(0, "wait", 58),
+    Idle,
+    Ask(1, "handshake", "offered"),
+    Ask(1, "ann", "welcome"),
+    Ask(1, "append-hi", "appended-1"),
+    Told(0, "came"),
+];
+
+/// A fetch waits a second, and not less.
+const A_WAIT_ENDS_BY_ITS_DEADLINE: [Move<'static>; 12] = [
+    Join,
+    Ask(0, "handshake", "offered"),
+    Ask(0, "ann", "welcome"),
+    Ask(0, "create", "created"),
+    Ask(0, "append-hi", "appended-0"),
+    At(5000),
+    Send(0, "wait", 58),
+    At(5999),
+    Idle,
+    Idle,
+    At(6000),
+    Told(0, "nothing-came"),
+];
+
+const SCENES: [Scene; 12] = [
     ("versions are answered", &VERSIONS_ARE_ANSWERED),
     ("users log in", &USERS_LOG_IN),
     (
@@ -110,6 +182,14 @@ const SCENES: [Scene; 7] = [
         "a client may close in the middle",
         &A_CLIENT_MAY_CLOSE_IN_THE_MIDDLE,
     ),
+    (
+        "what is behind a wrong login is not read",
+        &WHAT_IS_BEHIND_A_WRONG_LOGIN_IS_NOT_READ,
+    ),
+    ("a client may send no more", &A_CLIENT_MAY_SEND_NO_MORE),
+    ("a client may reset", &A_CLIENT_MAY_RESET),
+    ("a wait ends by another", &A_WAIT_ENDS_BY_ANOTHER),
+    ("a wait ends by its deadline", &A_WAIT_ENDS_BY_ITS_DEADLINE),
 ];
 
 /// A scene is played on an edge for a broker.
@@ -121,11 +201,9 @@ fn plays(
     name: &'static str,
     moves: &[Move<'_>],
 ) -> Result<(), Fail> {
-    let mut bench = Bench::new(net, alloc, broker, name)?;
-    for next in moves {
-        bench.happen(net, rt, alloc, *next)?;
-    }
-    Ok(())
+    let mut edge = edge_for(net, alloc, broker)?;
+    let mut clients = Vec::new(alloc);
+    Ok(play(net, rt, alloc, &mut edge, &mut clients, name, moves)?)
 }
 
 #[test]
@@ -141,7 +219,7 @@ const LAST: [Move<'static>; 5] = [
     Join,
     Ask(0, "versions", "served"),
     Join,
-    Turns(ONE_TURNED_AWAY),
+    Turns(ONE_CLOSED),
     Closed(1),
 ];
 
@@ -175,69 +253,79 @@ fn many_requests(rt: &impl Abort, alloc: Global) -> Result<Vec<u8>, AllocError> 
     Ok(requests)
 }
 
-/// What is sent of requests behind what was sent before.
-fn send_on(bench: &mut Bench, rt: &impl Abort, requests: &[u8], sent: usize) -> usize {
-    match requests.get(sent % 14..) {
-        Some(rest) => bench.client(rt, 0).send_some(rest),
-        None => 0,
-    }
-}
-
-/// The first client sends requests and reads nothing, until what it is told can no longer be written: what waits there holds
-/// up the reading of more. How many bytes were sent, and how many written.
-fn send_unread(
-    rt: &impl Abort,
+/// A client sends requests and reads nothing, until what it is told can no longer be written: what waits there holds up the
+/// reading of more. How many bytes were sent, and how many written.
+fn send_unread<E: Server>(
+    edge: &mut E,
+    client: &mut Client,
     alloc: Global,
-    bench: &mut Bench,
-) -> Result<(usize, u64), AllocError> {
-    let requests = many_requests(rt, alloc)?;
-    assert!(rt; requests.len() == 57_344);
+    requests: &[u8],
+) -> (usize, u64) {
     let mut sent = 0usize;
     let mut written = 0u64;
     for _ in 0..SENDS {
-        if sent < SENT {
-            sent = sent.saturating_add(send_on(bench, rt, &requests, sent));
+        if sent < SENT
+            && let Some(rest) = requests.get(sent % 14..)
+        {
+            sent = sent.saturating_add(client.send_some(rest));
         }
-        let turn = bench.turn(alloc);
+        let turn = edge.turn(alloc, 0);
         written = written.saturating_add(turn.written);
         if turn.written == 0 && sent >= SENT {
             break;
         }
     }
-    Ok((sent, written))
+    (sent, written)
 }
 
-/// How many bytes the first client gets once it reads, until it has so many.
-fn read_all(rt: &impl Abort, alloc: Global, bench: &mut Bench, wanted: usize) -> io::Result<usize> {
+/// How many bytes a client gets once it reads, until it has so many.
+fn read_all<E: Server>(
+    edge: &mut E,
+    client: &mut Client,
+    alloc: Global,
+    wanted: usize,
+) -> io::Result<usize> {
     let mut got = 0usize;
     for _ in 0..LOOKS {
-        got = got.saturating_add(bench.client(rt, 0).pass_over()?);
+        got = got.saturating_add(client.pass_over()?);
         if got >= wanted {
             break;
         }
-        bench.turn(alloc);
+        edge.turn(alloc, 0);
     }
     Ok(got)
 }
 
-/// Two clients, of which the first does not read.
-#[test]
-fn a_client_that_does_not_read_holds_nobody_up(rt: HostRuntime) -> Result<(), Fail> {
-    let alloc = rt.alloc();
-    let mut bench = Bench::new(&rt, alloc, new_broker(alloc)?, "a client does not read")?;
-    bench.happen(&rt, &rt, alloc, Join)?;
-    bench.happen(&rt, &rt, alloc, Join)?;
-    let (sent, written) = send_unread(&rt, alloc, &mut bench)?;
+/// Two clients, of which the first does not read: the second is served, and once the first reads it gets every reply.
+fn first_reads_late<E: Server>(
+    net: &HostRuntime,
+    rt: &impl Abort,
+    alloc: Global,
+    edge: &mut E,
+) -> io::Result<()> {
+    let name = "a client does not read";
+    let requests = many_requests(rt, alloc)?;
+    let mut clients = Vec::new(alloc);
+    join(net, alloc, edge, &mut clients)?;
+    join(net, alloc, edge, &mut clients)?;
+    let first = client_at(rt, &mut clients, 0);
+    let (sent, written) = send_unread(edge, first, alloc, &requests);
     let replies = (sent / 14).saturating_mul(116);
     assert!(rt;
         written < replies as u64,
         "{written} of {replies} for {sent}"
     );
-    bench.happen(&rt, &rt, alloc, Ask(1, "versions", "served"))?;
-    // Once it reads it gets every reply.
-    let got = read_all(&rt, alloc, &mut bench, replies)?;
-    assert_eq!(rt; got, replies);
+    let other = [Ask(1, "versions", "served")];
+    play(net, rt, alloc, edge, &mut clients, name, &other)?;
+    let first = client_at(rt, &mut clients, 0);
+    assert_eq!(rt; read_all(edge, first, alloc, replies)?, replies);
     Ok(())
+}
+
+#[test]
+fn a_client_that_does_not_read_holds_nobody_up(rt: HostRuntime) -> Result<(), Fail> {
+    let mut edge = edge_for(&rt, rt.alloc(), new_broker(rt.alloc())?)?;
+    Ok(first_reads_late(&rt, &rt, rt.alloc(), &mut edge)?)
 }
 
 /// Why an edge for a broker is not bound to an address, and the last connection of the broker that comes back. With none it is
@@ -248,7 +336,7 @@ fn refused(
     broker: Broker<MemoryStore>,
     address: &str,
 ) -> Option<(BindFault, u64)> {
-    match Edge::bind(net, alloc, broker, address) {
+    match Edge::bind(net, alloc, broker, address, 1024) {
         Ok(_) => None,
         Err(refused) => Some((refused.fault, refused.broker.last_connection())),
     }
@@ -256,8 +344,8 @@ fn refused(
 
 #[test]
 fn a_taken_port_is_refused(rt: HostRuntime) -> Result<(), Fail> {
-    let bench = Bench::new(&rt, rt.alloc(), new_broker(rt.alloc())?, "a taken port")?;
-    let address = format!(in rt.alloc(); "127.0.0.1:{}", bench.edge.port())?;
+    let edge = edge_for(&rt, rt.alloc(), new_broker(rt.alloc())?)?;
+    let address = format!(in rt.alloc(); "127.0.0.1:{}", edge.port())?;
     let found = refused(&rt, rt.alloc(), new_broker(rt.alloc())?, &address);
     assert_eq!(rt; found, Some((BindFault::Bind, 0)));
     Ok(())
@@ -266,7 +354,7 @@ fn a_taken_port_is_refused(rt: HostRuntime) -> Result<(), Fail> {
 /// What the first turns of an edge with 1,025 clients at its door do.
 fn first_turns(alloc: Global, broker: Broker<MemoryStore>) -> Result<[Turn; 3], BindFault> {
     let crowd = Crowd { waiting: 1025 };
-    match Edge::bind(&crowd, alloc, broker, "127.0.0.1:9092") {
+    match Edge::bind(&crowd, alloc, broker, "127.0.0.1:9092", 1024) {
         Ok(mut edge) => Ok([
             edge.turn(alloc, 0),
             edge.turn(alloc, 0),
@@ -285,7 +373,9 @@ fn one_too_many_is_closed(rt: HostRuntime) -> Result<(), Fail> {
             accepted: 1024,
             read: 1024 * 14,
             written: 1024 * 116,
-            closed: 0
+            closed: 0,
+            turned_away: 0,
+            denied: 0
         }
     );
     assert_eq!(rt; next, ONE_TURNED_AWAY);

@@ -99,7 +99,7 @@ fn bound(
 ) -> Result<Edge<HostRuntime, MemoryStore>, StartFault> {
     let settings = read_settings(alloc, TEXT)?;
     let broker = serving_broker(alloc, &settings, Listing::Served)?;
-    Ok(Edge::bind(net, alloc, broker, address)?)
+    Ok(Edge::bind(net, alloc, broker, address, 1024)?)
 }
 
 #[test]

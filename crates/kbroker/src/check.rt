@@ -2,8 +2,7 @@
 
 use crate::{Fault, settings_of};
 use clap::ArgMatches;
-use kb_node::{NodeFault, Settings, StartFault};
-use std::alloc::{AllocError, Global};
+use kb_node::{NodeFault, Settings, StartFault, tenant_names};
 use std::io;
 use std::io::{BufWriter, Write};
 
@@ -15,7 +14,7 @@ pub fn check(rt: &HostRuntime, found: &ArgMatches<'_>) -> Result<(), Fault> {
         let key = String::from_str(alloc, "data")?;
         return Err(Fault::Start(StartFault::Field(key)));
     };
-    let tenants = count_tenants(alloc, &settings)?;
+    let tenants = tenant_names(alloc, &settings.users)?.len();
     let Ok(mut writer) = BufWriter::new(alloc, io::writer(rt)) else {
         return Err(Fault::Node(NodeFault::Memory));
     };
@@ -23,17 +22,6 @@ pub fn check(rt: &HostRuntime, found: &ArgMatches<'_>) -> Result<(), Fault> {
         Ok(()) => Ok(()),
         Err(_) => Err(Fault::Node(NodeFault::Write)),
     }
-}
-
-/// How many different tenants the users name.
-fn count_tenants(alloc: Global, settings: &Settings) -> Result<usize, AllocError> {
-    let mut names = Vec::with_capacity(alloc, settings.users.len())?;
-    for user in &settings.users {
-        names.push(user.tenant.as_str())?;
-    }
-    names.sort_unstable();
-    names.dedup();
-    Ok(names.len())
 }
 
 /// Writes a line for each key and for each user, in the order of the file and without passwords, and then the counts.
@@ -47,6 +35,7 @@ fn write_settings<W: Write>(
     writeln!(writer, "port = {}", settings.port)?;
     writeln!(writer, "segment_bytes = {}", settings.segment_bytes)?;
     writeln!(writer, "cache_batches = {}", settings.cache_batches)?;
+    writeln!(writer, "connections = {}", settings.connections)?;
     writeln!(writer, "data = {folder:?}")?;
     for user in &settings.users {
         writeln!(writer, "user {:?} of tenant {:?}", user.name, user.tenant)?;

@@ -6,28 +6,18 @@
 #![tactic(auto)]
 
 mod check;
+mod journal;
+mod serve;
 mod words;
-
-ghost use Rattle.std.specs.Prelude.{◌≤◌, ◌^◌};
 
 use clap::error::ErrorKind;
 use clap::{Arg, ArgAction, ArgMatches, Command};
-use kb_node::{
-    Edge, Listing, NodeFault, Settings, StartFault, play_script, play_script_with, read_settings,
-    serving_broker,
-};
+use kb_node::{NodeFault, Settings, StartFault, play_script, play_script_with, read_settings};
 use std::alloc::{AllocError, Global};
 use std::io::{BufReader, BufWriter};
 use std::process::ExitCode;
-use std::time::SystemTime;
 use std::{fs, io};
 use thiserror::Error;
-
-/// How often the edge is turned at most.
-const TURNS: u64 = 9_223_372_036_854_775_807;
-
-/// The last moment, in milliseconds.
-const LAST_MOMENT: u64 = 4_611_686_018_427_387_904;
 
 /// Why the program ends early.
 #[derive(Debug, Drop, Error)]
@@ -78,10 +68,15 @@ fn command<'a>(alloc: Global) -> Result<Command<'a>, AllocError> {
         .long("stock-clients")
         .help("Lists SaslHandshake from version 0 on, which librdkafka asks for")
         .action(ArgAction::SetTrue);
+    let quiet = Arg::new(alloc, "quiet")
+        .long("quiet")
+        .help("Tells nothing on standard error while it serves")
+        .action(ArgAction::SetTrue);
     let serve = Command::new(alloc, "serve")
         .about("Serves sockets on the settings' host and port")
         .arg(config(alloc).required(true))?
-        .arg(stock_clients)?;
+        .arg(stock_clients)?
+        .arg(quiet)?;
     let check = Command::new(alloc, "check")
         .about("Says what settings come to, or which key is wrong")
         .arg(config(alloc).required(true))?;
@@ -107,7 +102,7 @@ fn run(rt: &HostRuntime) -> Result<(), Fault> {
     let words = words::words(rt)?;
     let matches = command(alloc)?.try_get_matches_from(words.as_slice())?;
     match matches.subcommand() {
-        Some(("serve", found)) => serve(rt, found),
+        Some(("serve", found)) => serve::serve(rt, found),
         Some(("check", found)) => check::check(rt, found),
         Some((_, found)) => script(rt, found.get_str("config")),
         // A subcommand is asked for: no other line is taken.
@@ -141,43 +136,6 @@ fn script(rt: &HostRuntime, config: Option<&str>) -> Result<(), Fault> {
         None => play_script(rt.alloc(), &mut reader, &mut writer)?,
     }
     Ok(())
-}
-
-/// Serves sockets until the process is stopped, or the turns are used up.
-fn serve(rt: &HostRuntime, found: &ArgMatches<'_>) -> Result<(), Fault> {
-    let alloc = rt.alloc();
-    let settings = settings_of(rt, found.get_str("config").unwrap_or(""))?;
-    let listing = if found.get_flag("stock-clients") {
-        Listing::StockClients
-    } else {
-        Listing::Served
-    };
-    let broker = serving_broker(alloc, &settings, listing)?;
-    let address = format!(in alloc; "{}:{}", settings.host, settings.port)?;
-    let mut edge = Edge::watching(rt, alloc, broker, &address).map_err(StartFault::from)?;
-    if println!(rt; "listening on {}:{}", settings.host, edge.port()).is_err() {
-        return Err(Fault::Node(NodeFault::Write));
-    }
-    for _ in 0..TURNS {
-        edge.wait();
-        edge.turn(alloc, now(rt));
-    }
-    Ok(())
-}
-
-/// The time since 1970 in milliseconds, at least 0 and at most the last moment.
-fn now(rt: &HostRuntime) -> u64
-    ensures { result ≤ 2 ^ 62 }
-{
-    let Ok(time) = SystemTime::now(rt) else {
-        return 0;
-    };
-    match time.duration_since(SystemTime::UNIX_EPOCH) {
-        Ok(since) => u64::try_from(since.as_millis())
-            .unwrap_or(LAST_MOMENT)
-            .min(LAST_MOMENT),
-        Err(_) => 0,
-    }
 }
 
 fn main(rt: HostRuntime) -> ExitCode {

@@ -1,0 +1,35 @@
+//! The clock.
+
+ghost use Rattle.std.specs.Prelude.{◌≡◌, ◌≤◌, ◌/◌, ◌^◌, min};
+ghost use Rattle.std.specs.Duration.{as_nanos};
+
+use jiff::Timestamp;
+use std::alloc::{AllocError, Global};
+use std::time::Duration;
+
+/// The last moment, in milliseconds.
+const LAST_MOMENT: u64 = 4_611_686_018_427_387_904;
+
+/// The moment so long after the beginning of 1970: in whole milliseconds, and at most 2^62.
+pub fn moment_of(since: Duration) -> u64
+    ensures { result ≡ min (as_nanos since / 1000000) (2 ^ 62) }
+{
+    u64::try_from(since.as_millis())
+        .unwrap_or(LAST_MOMENT)
+        .min(LAST_MOMENT)
+}
+
+/// A moment as text, in UTC, as `2026-11-24T21:10:42.5Z` (ISO 8601). One after the year 9999 has no text but `-`.
+pub fn time_text(alloc: Global, moment: u64) -> Result<String, AllocError> {
+    match i64::try_from(moment) {
+        Ok(millis) => millis_text(alloc, millis),
+        Err(_) => String::from_str(alloc, "-"),
+    }
+}
+
+fn millis_text(alloc: Global, millis: i64) -> Result<String, AllocError> {
+    match Timestamp::from_millisecond(millis) {
+        Ok(time) => format!(in alloc; "{time}"),
+        Err(_) => String::from_str(alloc, "-"),
+    }
+}

@@ -1,0 +1,158 @@
+//! What `kbroker serve` tells on standard error: a line each, with the time.
+
+ghost use Rattle.std.specs.Prelude.{◌≤◌, ◌^◌};
+
+use kb_journal::{Pace, Tally, time_text};
+use kb_node::{Edge, Settings, Store, Turn, tenant_names};
+use std::alloc::{AllocError, Global};
+use std::net::Net;
+
+/// A tenant, and how many of its refusals were told.
+#[derive(Drop)]
+struct Tenant {
+    name: String,
+    refusals: Tally,
+}
+
+/// What was told so far. A line that cannot be written is passed over.
+#[derive(Drop)]
+pub struct Journal {
+    is_quiet: bool,
+    connections: u32,
+    tenants: Vec<Tenant>,
+    /// Refusals that were counted for no tenant.
+    unbound: Tally,
+    /// The sockets that were closed at once and are not told of.
+    turned_away: u64,
+    pace: Pace,
+}
+
+impl Journal {
+    /// Nothing is told yet, and with `is_quiet` nothing will be.
+    pub fn new(alloc: Global, settings: &Settings, is_quiet: bool) -> Result<Journal, AllocError> {
+        Ok(Journal {
+            is_quiet,
+            connections: settings.connections,
+            tenants: tenants_of(alloc, settings)?,
+            unbound: Tally::default(),
+            turned_away: 0,
+            pace: Pace::default(),
+        })
+    }
+
+    /// The broker serves.
+    pub fn tell_start(&self, rt: &HostRuntime, now: u64) {
+        if !self.is_quiet {
+            let (tenants, connections) = (self.tenants.len(), self.connections);
+            let time = time_of(rt, now);
+            let _ = eprintln!(rt;
+                "{time} start: tenants {tenants}, connections at most {connections}"
+            );
+        }
+    }
+
+    /// The broker serves no longer.
+    pub fn tell_stop(&self, rt: &HostRuntime, now: u64) {
+        if !self.is_quiet {
+            let time = time_of(rt, now);
+            let _ = eprintln!(rt; "{time} stop");
+        }
+    }
+
+    /// What happened in a turn at a moment: logins that failed at once, and counts at most once a second.
+    pub fn tell<R: Net, S: Store>(
+        &mut self,
+        rt: &HostRuntime,
+        edge: &Edge<R, S>,
+        turn: &Turn,
+        now: u64,
+    )
+        requires { now ≤ 2 ^ 62 }
+    {
+        if self.is_quiet {
+            return;
+        }
+        if turn.denied > 0 {
+            tell_denied(rt, edge, turn.denied, now);
+        }
+        self.turned_away = self.turned_away.saturating_add(turn.turned_away);
+        if self.pace.is_due(now) {
+            self.tell_turned_away(rt, now);
+            self.tell_refusals(rt, edge, now);
+        }
+    }
+
+    /// How many connections were closed at once since the last line.
+    fn tell_turned_away(&mut self, rt: &HostRuntime, now: u64) {
+        if self.turned_away == 0 {
+            return;
+        }
+        let (count, connections) = (self.turned_away, self.connections);
+        let time = time_of(rt, now);
+        let _ = eprintln!(rt;
+            "{time} connections closed at once: {count}, since {connections} are open"
+        );
+        self.turned_away = 0;
+    }
+
+    /// How many requests were refused since the last line, by tenant.
+    fn tell_refusals<R: Net, S: Store>(&mut self, rt: &HostRuntime, edge: &Edge<R, S>, now: u64) {
+        if edge.broker().is_calm() {
+            return;
+        }
+        let unbound = self.unbound.grown(edge.broker().refusals_unbound());
+        let Ok(counts) = self.refusals(rt.alloc(), edge) else {
+            return;
+        };
+        if unbound > 0 || !counts.is_empty() {
+            let time = time_of(rt, now);
+            let _ = eprintln!(rt; "{time} refusals: before a login {unbound}{counts}");
+        }
+    }
+
+    /// The tenants with refusals since the last line, and how many.
+    fn refusals<R: Net, S: Store>(
+        &mut self,
+        alloc: Global,
+        edge: &Edge<R, S>,
+    ) -> Result<String, AllocError> {
+        let mut counts = String::new(alloc);
+        for tenant in &mut self.tenants {
+            let grown = tenant.refusals.grown(edge.broker().refusals(&tenant.name));
+            if grown > 0 {
+                let name = tenant.name.as_str();
+                counts.push_str(&format!(in alloc; ", tenant {name} {grown}")?)?;
+            }
+        }
+        Ok(counts)
+    }
+}
+
+/// The users' tenants, in byte order, each once.
+fn tenants_of(alloc: Global, settings: &Settings) -> Result<Vec<Tenant>, AllocError> {
+    let mut tenants = Vec::new(alloc);
+    for name in tenant_names(alloc, &settings.users)? {
+        tenants.push(Tenant {
+            name: String::from_str(alloc, name)?,
+            refusals: Tally::default(),
+        })?;
+    }
+    Ok(tenants)
+}
+
+/// The logins of a turn that failed.
+fn tell_denied<R: Net, S: Store>(rt: &HostRuntime, edge: &Edge<R, S>, denied: u64, now: u64) {
+    let time = time_of(rt, now);
+    for address in edge.denied() {
+        let _ = eprintln!(rt; "{time} login failed from {address}");
+    }
+    let more = denied.saturating_sub(edge.denied().len() as u64);
+    if more > 0 {
+        let _ = eprintln!(rt; "{time} login failed from others: {more}");
+    }
+}
+
+/// The text of a moment, which is empty where there is no memory for it.
+fn time_of(rt: &HostRuntime, now: u64) -> String {
+    time_text(rt.alloc(), now).unwrap_or(String::new(rt.alloc()))
+}

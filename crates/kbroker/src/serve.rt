@@ -1,0 +1,61 @@
+//! `kbroker serve`: serves sockets, and tells of it.
+
+ghost use Rattle.std.specs.Prelude.{◌≤◌, ◌^◌};
+
+use crate::journal::Journal;
+use crate::{Fault, settings_of};
+use clap::ArgMatches;
+use kb_journal::moment_of;
+use kb_node::{Edge, Listing, NodeFault, StartFault, Store, serving_broker};
+use std::net::Net;
+use std::time::SystemTime;
+
+/// How often the edge is turned at most.
+const TURNS: u64 = 9_223_372_036_854_775_807;
+
+/// Serves sockets until the process is stopped, or the turns are used up.
+pub fn serve(rt: &HostRuntime, found: &ArgMatches<'_>) -> Result<(), Fault> {
+    let alloc = rt.alloc();
+    let settings = settings_of(rt, found.get_str("config").unwrap_or(""))?;
+    let listing = if found.get_flag("stock-clients") {
+        Listing::StockClients
+    } else {
+        Listing::Served
+    };
+    let broker = serving_broker(alloc, &settings, listing)?;
+    let address = format!(in alloc; "{}:{}", settings.host, settings.port)?;
+    let mut edge = Edge::watching(rt, alloc, broker, &address, settings.connections).map_err(
+        StartFault::from,
+    )?;
+    let mut journal = Journal::new(alloc, &settings, found.get_flag("quiet"))?;
+    if println!(rt; "listening on {}:{}", settings.host, edge.port()).is_err() {
+        return Err(Fault::Node(NodeFault::Write));
+    }
+    journal.tell_start(rt, now(rt));
+    turn_on(rt, &mut edge, &mut journal);
+    journal.tell_stop(rt, now(rt));
+    Ok(())
+}
+
+/// Turns an edge until the turns are used up.
+fn turn_on<R: Net, S: Store>(rt: &HostRuntime, edge: &mut Edge<R, S>, journal: &mut Journal) {
+    for _ in 0..TURNS {
+        edge.wait();
+        let now = now(rt);
+        let turn = edge.turn(rt.alloc(), now);
+        journal.tell(rt, edge, &turn, now);
+    }
+}
+
+/// The time since 1970 in milliseconds, at least 0 and at most 2^62.
+fn now(rt: &HostRuntime) -> u64
+    ensures { result ≤ 2 ^ 62 }
+{
+    let Ok(time) = SystemTime::now(rt) else {
+        return 0;
+    };
+    match time.duration_since(SystemTime::UNIX_EPOCH) {
+        Ok(since) => moment_of(since),
+        Err(_) => 0,
+    }
+}

@@ -6,7 +6,8 @@ ghost use Rattle.std.specs.Ordering.{nat_cmp};
 ghost use Rattle.std.specs.BTreeMap.{is_at};
 ghost use Rattle.std.specs.Map.{lookup};
 ghost use Rattle.std.specs.List.{filter_map};
-ghost use Rattle.kb_store.specs.declared.fault.StoreFault.TheVariants.{Device};
+ghost use Rattle.kb_store.specs.declared.fault.StoreFault.TheVariants.{Device, Memory};
+ghost use Rattle.kb_folder.specs.declared.folder.FolderFault.TheVariants as faults;
 ghost use Rattle.kb_folder.specs.Folder.{AreNumbersOf, Has, Stays};
 ghost use Rattle.kb_folder.specs.Names.{numbers_named};
 ghost use Rattle.kb_folder.specs.Store.{Foldered, counted, disk_over, folder_disk, table_of, AreLengths};
@@ -40,7 +41,9 @@ impl<F: Folder> Model for FolderStore<F> {
 
 /// The fault that a folder's fault is to a store's callers. What the folder refused is counted.
 fn fault_of(failures: &mut u64, fault: FolderFault) -> StoreFault
-    ensures { failures.new ≡ counted {T = ℕ} failures.old (Err result) }
+    ensures failures { failures.new ≡ counted {T = ℕ} failures.old (Err result) }
+    ensures memory { fault ≡ faults.Memory → result ≡ Memory }
+    ensures device { fault ≡ faults.Refused → result ≡ Device }
 {
     match fault {
         FolderFault::Refused => refused(failures),

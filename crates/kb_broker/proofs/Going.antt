@@ -263,7 +263,7 @@ queue-turn H G q p a b i l m us e v k back unready asked parked dated owned keye
     (λ v' asked'. queue-taken H G q p b i l m us v' k back unready asked' parked dated owned keyed) v asked
 
 -- whose waiting fetches are to be looked at after it
-pub served-by : (H : Type 0) → H → (c : Concerned) (scope : Scope) (b : BrokerState) (i : ℕ) (l m : Line) (us : List TenantState) (q : Queue) → AreStill scope b → AreUnready AnyWait b → IsTaken H b i l m us → IsTakenAt H b.setup b.clock l.session.stage b.tenants us l.session m.session
+pub served-by : (H : Type 0) → H → (c : Concerned) (scope : Scope) (b : BrokerState) (i : ℕ) (l m : Line) (us : List TenantState) (q : Queue) → AreStill scope b → AreUnready AnyWait b → IsTaken H b i l m us → IsTakenAt H b.setup b.clock l.number l.session.stage b.tenants us l.session m.session
     → IsWhose c l.session.stage → IsLeftBy c b.setup b.clock l.session.stage l.number q b.tenants us l.session m.session → IsServedFor c scope b (put_with b i m us)
 served-by H honest concerned.Nobody scope b i l m us q still unready k is who left = served-quiet H honest scope b i l m us still unready k is left
 served-by H honest (concerned.These t ns) scope b i l m us q still unready k is who left = served-for (concerned.These t ns) l.session.stage scope b (put_with b i m us) (λ e. absurd (cc)) who (served-taken H honest scope b i l m us l.session.stage still k refl k.turn is)

@@ -110,26 +110,26 @@ pub able-stage : (s : Session) → can s ≡ true → without_wait s.stage ≡ s
 able-stage s e = free-stage s.stage (able-free s e)
 
 -- the connection and the tenants, whatever the store says
-pub taken-going : (H : Type 0) (b : BrokerState) (i : ℕ) (l m : Line) (us : List TenantState) (st : Stage) → IsTaken H b i l m us → l.session.stage ≡ st → IsTurnAt H st b.tenants us → IsTakenAt H b.setup b.clock st b.tenants us l.session m.session → IsGoing b (put_with b i m us)
+pub taken-going : (H : Type 0) (b : BrokerState) (i : ℕ) (l m : Line) (us : List TenantState) (st : Stage) → IsTaken H b i l m us → l.session.stage ≡ st → IsTurnAt H st b.tenants us → IsTakenAt H b.setup b.clock l.number st b.tenants us l.session m.session → IsGoing b (put_with b i m us)
 taken-going H b i l m us (Greets h) k s turn is = subst (λ ts. IsGoing b (put_with b i m ts)) (sym turn) (greeting-going b i l m h k.next.sound k.at s k.number is)
 taken-going H b i l m us (BoundTo t w) k s turn is = called-going b i t l m H us k.next.sound k.at (record { wait = w; is = s }) k.number (k.spent.stage t w s) turn
 
 -- nothing was refused to the connection
-pub served-taken : (H : Type 0) → H → (scope : Scope) (b : BrokerState) (i : ℕ) (l m : Line) (us : List TenantState) (st : Stage) → AreStill scope b → IsTaken H b i l m us → l.session.stage ≡ st → IsTurnAt H st b.tenants us → IsTakenAt H b.setup b.clock st b.tenants us l.session m.session →
+pub served-taken : (H : Type 0) → H → (scope : Scope) (b : BrokerState) (i : ℕ) (l m : Line) (us : List TenantState) (st : Stage) → AreStill scope b → IsTaken H b i l m us → l.session.stage ≡ st → IsTurnAt H st b.tenants us → IsTakenAt H b.setup b.clock l.number st b.tenants us l.session m.session →
     IsServedAt st scope b (put_with b i m us)
 served-taken H honest scope b i l m us (Greets h) still k s turn is = subst (λ ts. Turned scope b (put_with b i m ts)) (sym turn) (turned-greeting scope b i l m h k.next.sound still k.at (first-at b i l k.next k.at) k.able s k.number is)
 served-taken H honest scope b i l m us (BoundTo t w) still k s turn is = served-bound scope b i t l m w H us k.next.sound still k.at (first-at b i l k.next k.at) k.able s k.number (k.spent.stage t w s) turn honest (is honest)
 
 -- it made no waiting fetch ready
-quiet-at : (H : Type 0) → H → (scope : Scope) (b : BrokerState) (i : ℕ) (l m : Line) (us : List TenantState) (st : Stage) → AreUnready AnyWait b → IsTaken H b i l m us → l.session.stage ≡ st → IsTurnAt H st b.tenants us → IsServedAt st scope b (put_with b i m us) → IsQuietAt b.setup b.clock st b.tenants us l.session m.session →
+quiet-at : (H : Type 0) → H → (scope : Scope) (b : BrokerState) (i : ℕ) (l m : Line) (us : List TenantState) (st : Stage) → AreUnready AnyWait b → IsTaken H b i l m us → l.session.stage ≡ st → IsTurnAt H st b.tenants us → IsServedAt st scope b (put_with b i m us) → IsQuietAt b.setup b.clock l.number st b.tenants us l.session m.session →
     Turned scope b (put_with b i m us)
 quiet-at H honest scope b i l m us (Greets h) unready k s turn served quiet = served
 quiet-at H honest scope b i l m us (BoundTo t w) unready k s turn served quiet =
     turned-quiet t scope b (put_with b i m us) served
     (quiet-turn b i t l m us H turn honest unready k.at (able-free l.session k.able) (ap without_wait s) (k.spent.stage t w s) quiet.session quiet.kept quiet.ready)
 
-pub served-quiet : (H : Type 0) → H → (scope : Scope) (b : BrokerState) (i : ℕ) (l m : Line) (us : List TenantState) → AreStill scope b → AreUnready AnyWait b → IsTaken H b i l m us → IsTakenAt H b.setup b.clock l.session.stage b.tenants us l.session m.session →
-    IsQuietAt b.setup b.clock l.session.stage b.tenants us l.session m.session → Turned scope b (put_with b i m us)
+pub served-quiet : (H : Type 0) → H → (scope : Scope) (b : BrokerState) (i : ℕ) (l m : Line) (us : List TenantState) → AreStill scope b → AreUnready AnyWait b → IsTaken H b i l m us → IsTakenAt H b.setup b.clock l.number l.session.stage b.tenants us l.session m.session →
+    IsQuietAt b.setup b.clock l.number l.session.stage b.tenants us l.session m.session → Turned scope b (put_with b i m us)
 served-quiet H honest scope b i l m us still unready k is quiet = quiet-at H honest scope b i l m us l.session.stage unready k refl k.turn (served-taken H honest scope b i l m us l.session.stage still k refl k.turn is) quiet
 
 -- whose waiting fetches are then looked at

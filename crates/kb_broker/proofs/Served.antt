@@ -57,35 +57,35 @@ owned-shut l new o is = owned-none new.session.stage o (ap (λ (x : Line). is_fr
 pub dated-none : (o : Option queue.Wait) (st : Stage) → o ≡ None → is_free st ≡ true → until_of o ≡ deadline_at st
 dated-none o st none free = ap until_of none ∙ sym (deadline-free st free)
 
-own_by : (setup : Setup) (kept : Kept) (clock : ℕ) (id : ℤ) (a : Asked) (s : Session) → is_tenants a ≡ false → is_free s.stage ≡ true → is_free (served_by setup kept clock id a s).stage ≡ true
+own_by : (setup : Setup) (kept : Kept) (clock n : ℕ) (id : ℤ) (a : Asked) (s : Session) → is_tenants a ≡ false → is_free s.stage ≡ true → is_free (served_by setup kept clock n id a s).stage ≡ true
 unfolding served_by
-own_by setup kept clock id Versions s own free = free-replied id _ s free
-own_by setup kept clock id OtherVersions s own free = free-replied id _ s free
-own_by setup kept clock id (Handshake mechanism) s own free = free-replied id _ s free
-own_by setup kept clock id (Authenticate message) s own free = free-replied id _ s free
-own_by setup kept clock id (Another key version body) s own free = let no : true ≡ false = own in absurd (cc)
-own_by setup kept clock id Unread s own free = free-without s.stage
+own_by setup kept clock n id Versions s own free = free-replied id _ s free
+own_by setup kept clock n id OtherVersions s own free = free-replied id _ s free
+own_by setup kept clock n id (Handshake mechanism) s own free = free-replied id _ s free
+own_by setup kept clock n id (Authenticate message) s own free = free-replied id _ s free
+own_by setup kept clock n id (Another key version body) s own free = let no : true ≡ false = own in absurd (cc)
+own_by setup kept clock n id Unread s own free = free-without s.stage
 
-own_at : (setup : Setup) (kept : Kept) (clock : ℕ) (s : Session) (f : Front) → is_tenants_at f ≡ false → is_free s.stage ≡ true → is_free (served_at setup kept clock s f).stage ≡ true
-own_at setup kept clock s (Whole frame rest) own free = let r = requests.request frame in own_by setup kept clock r.correlation_id r.asked (record s { unread = rest }) own free
-own_at setup kept clock s TooSmall own free = free-without s.stage
-own_at setup kept clock s TooLarge own free = free-without s.stage
-own_at setup kept clock s Partial own free = free
+own_at : (setup : Setup) (kept : Kept) (clock n : ℕ) (s : Session) (f : Front) → is_tenants_at f ≡ false → is_free s.stage ≡ true → is_free (served_at setup kept clock n s f).stage ≡ true
+own_at setup kept clock n s (Whole frame rest) own free = let r = requests.request frame in own_by setup kept clock n r.correlation_id r.asked (record s { unread = rest }) own free
+own_at setup kept clock n s TooSmall own free = free-without s.stage
+own_at setup kept clock n s TooLarge own free = free-without s.stage
+own_at setup kept clock n s Partial own free = free
 
 -- a turn that is a matter of the connection alone waits for nothing
-free-own : (setup : Setup) (kept : Kept) (clock : ℕ) (s : Session) → IsOwn s → is_free s.stage ≡ true → is_free (served setup kept clock s).stage ≡ true
+free-own : (setup : Setup) (kept : Kept) (clock n : ℕ) (s : Session) → IsOwn s → is_free s.stage ≡ true → is_free (served setup kept clock n s).stage ≡ true
 unfolding served
-free-own setup kept clock s own free = own_at setup kept clock s (front s.unread) own.own free
+free-own setup kept clock n s own free = own_at setup kept clock n s (front s.unread) own.own free
 
-pub own-free : (setup : Setup) (t : ℕ) (l new : Line) → l.session.stage ≡ BoundTo t None → IsOwn l.session → ((kept : Kept) (clock : ℕ) → new ≡ with_session l (served setup kept clock l.session)) → is_free new.session.stage ≡ true
-own-free setup t l new bound own is = ap (λ (x : Line). is_free x.session.stage) (is nothing 0) ∙ free-own setup nothing 0 l.session own (ap is_free bound)
+pub own-free : (setup : Setup) (t : ℕ) (l new : Line) → l.session.stage ≡ BoundTo t None → IsOwn l.session → ((kept : Kept) (clock n : ℕ) → new ≡ with_session l (served setup kept clock n l.session)) → is_free new.session.stage ≡ true
+own-free setup t l new bound own is = ap (λ (x : Line). is_free x.session.stage) (is nothing 0 0) ∙ free-own setup nothing 0 0 l.session own (ap is_free bound)
 
 -- it touches nothing of the tenant's
-pub own-touched : (setup : Setup) (t clock : ℕ) (ts : List TenantState) (l new : Line) (places : List Place) → IsOwn l.session → ((kept : Kept) (clock : ℕ) → new ≡ with_session l (served setup kept clock l.session))
-    → IsTouchedTurn setup t clock ts ts l.session new.session places
-own-touched setup t clock ts l new places own is = record {
-  session = ap (λ (x : Line). x.session) (is (kept_of ts t) clock);
-  kept = sym (own.put setup (kept_of ts t) clock);
+pub own-touched : (setup : Setup) (t clock n : ℕ) (ts : List TenantState) (l new : Line) (places : List Place) → IsOwn l.session → ((kept : Kept) (clock n : ℕ) → new ≡ with_session l (served setup kept clock n l.session))
+    → IsTouchedTurn setup t clock n ts ts l.session new.session places
+own-touched setup t clock n ts l new places own is = record {
+  session = ap (λ (x : Line). x.session) (is (kept_of ts t) clock n);
+  kept = sym (own.put setup (kept_of ts t) clock n);
   ready = λ w apart silent. silent;
 }
 
@@ -134,20 +134,20 @@ pub parked-gone : (q p x : Queue) (t m n : ℕ) (r : Answer) → IsParkedBy q p 
 parked-gone q p x t m n r parked number gone k ne = gone k (λ e. ne (e ∙ number)) ∙ parked.others k ne
 
 -- where the connection stands in the queue, it waits until then
-pub dated-answered : {A E : Type 0} (result : Result A E) (q p : Queue) (t n : ℕ) (l new : Line) (r : Answer) (key id : ℤ) (body : List ℕ) → IsParkedBy q p t n r → l.session.stage ≡ BoundTo t None → IsAsked l.session key id body
-    → ((key id : ℤ) (body : List ℕ) (reaction : Reaction) → IsAsked l.session key id body → IsAnswer id reaction r → OnOk result (new ≡ with_session l (answered reaction id body (without_front l.session))))
+pub dated-answered : {A E : Type 0} (result : Result A E) (q p : Queue) (t n : ℕ) (l new : Line) (r : Answer) (key version id : ℤ) (body : List ℕ) → IsParkedBy q p t n r → l.session.stage ≡ BoundTo t None → IsAsked l.session key version id body
+    → ((key version id : ℤ) (body : List ℕ) (reaction : Reaction) → IsAsked l.session key version id body → IsAnswer id reaction r → OnOk result (new ≡ with_session l (answered reaction id version body (without_front l.session))))
     → (is_wait r ≡ false → is_free l.session.stage ≡ true → is_free new.session.stage ≡ true) → is_err result ≡ false → until_of (fin.get p n) ≡ deadline_at new.session.stage
-dated-answered result q p t n l new r key id body parked bound asks ok free good = ap until_of parked.own ∙ by r ok free
+dated-answered result q p t n l new r key version id body parked bound asks ok free good = ap until_of parked.own ∙ by r ok free
   where
-    by : (r : Answer) → ((key id : ℤ) (body : List ℕ) (reaction : Reaction) → IsAsked l.session key id body → IsAnswer id reaction r → OnOk result (new ≡ with_session l (answered reaction id body (without_front l.session))))
+    by : (r : Answer) → ((key version id : ℤ) (body : List ℕ) (reaction : Reaction) → IsAsked l.session key version id body → IsAnswer id reaction r → OnOk result (new ≡ with_session l (answered reaction id version body (without_front l.session))))
         → (is_wait r ≡ false → is_free l.session.stage ≡ true → is_free new.session.stage ≡ true) → until_of (parked_for t r) ≡ deadline_at new.session.stage
     by (answers.Reply reply) ok free = sym (deadline-free new.session.stage (free refl (ap is_free bound)))
     by (answers.Wait deadline places) ok free =
-        let is = from_ok result false (new ≡ with_session l (answered (Waits deadline places.items) id body (without_front l.session))) (sym good) refl (ok key id body (Waits deadline places.items) asks (refl, refl)) in
+        let is = from_ok result false (new ≡ with_session l (answered (Waits deadline places.items) id version body (without_front l.session))) (sym good) refl (ok key version id body (Waits deadline places.items) asks (refl, refl)) in
         sym (ap (λ (x : Line). deadline_at x.session.stage) is ∙ waits l.session.stage bound)
       where
-        waits : (st : Stage) → st ≡ BoundTo t None → deadline_at (answered (Waits deadline places.items) id body (record l.session { stage = st })).stage ≡ Some deadline
-        waits st e = ap (λ x. deadline_at (answered (Waits deadline places.items) id body (record l.session { stage = x })).stage) e
+        waits : (st : Stage) → st ≡ BoundTo t None → deadline_at (answered (Waits deadline places.items) id version body (record l.session { stage = st })).stage ≡ Some deadline
+        waits st e = ap (λ x. deadline_at (answered (Waits deadline places.items) id version body (record l.session { stage = x })).stage) e
     by answers.NoReply ok free = sym (deadline-free new.session.stage (free refl (ap is_free bound)))
     by answers.Shut ok free = sym (deadline-free new.session.stage (free refl (ap is_free bound)))
 
@@ -178,40 +178,40 @@ keyed-calm us t (BoundTo u None) o e k = tt
 keyed-calm us t (BoundTo u (Some w)) o e k = λ calm silent. let is : u ≡ t = cc in k (ap (refusals_of us) (sym is) ∙ calm) calm silent
 
 -- it stands under what it asks
-keyed-by : (node : Node) (us : List TenantState) (t clock : ℕ) (k : Kept) (key id : ℤ) (body : List ℕ) (s : Session) (is : Reaction) (r : Answer) → answer node k clock key body ≡ is → kept_of us t ≡ kept_after node k clock key body → s.stage ≡ BoundTo t None
-    → IsAnswer id is r → IsKeyedAt us (answered is id body s).stage (parked_for t r)
-keyed-by node us t clock k key id body s (Replies reply) r e kept bound told = keyed-none us _ (parked_for t r) (free-replied id reply s (ap is_free bound))
-keyed-by node us t clock k key id body s (Waits deadline places) (answers.Reply reply) e kept bound told = absurd told
-keyed-by node us t clock k key id body s (Waits deadline places) (answers.Wait until parts) e kept bound told =
-    subst (λ st. IsKeyedAt us (answered (Waits deadline places) id body (record s { stage = st })).stage (parked_for t (answers.Wait until parts))) (sym bound)
-    (λ calm silent. ap (λ ps. Some (keys_for t ps)) (told.1 ∙ (asked-parks node k clock key body deadline places id e ∙ ap (λ x. asked x (record { correlation_id = id; body = body; deadline = deadline })) (sym kept))))
-keyed-by node us t clock k key id body s (Waits deadline places) answers.NoReply e kept bound told = absurd told
-keyed-by node us t clock k key id body s (Waits deadline places) answers.Shut e kept bound told = absurd told
-keyed-by node us t clock k key id body s Silent r e kept bound told = keyed-none us _ (parked_for t r) (ap is_free bound)
-keyed-by node us t clock k key id body s Shuts r e kept bound told = keyed-none us _ (parked_for t r) (free-without s.stage)
+keyed-by : (node : Node) (us : List TenantState) (t clock n : ℕ) (k : Kept) (key version id : ℤ) (body : List ℕ) (s : Session) (is : Reaction) (r : Answer) → answer node k clock n key version body ≡ is → kept_of us t ≡ kept_after node k clock n key version body → s.stage ≡ BoundTo t None
+    → IsAnswer id is r → IsKeyedAt us (answered is id version body s).stage (parked_for t r)
+keyed-by node us t clock n k key version id body s (Replies reply) r e kept bound told = keyed-none us _ (parked_for t r) (free-replied id reply s (ap is_free bound))
+keyed-by node us t clock n k key version id body s (Waits deadline places) (answers.Reply reply) e kept bound told = absurd told
+keyed-by node us t clock n k key version id body s (Waits deadline places) (answers.Wait until parts) e kept bound told =
+    subst (λ st. IsKeyedAt us (answered (Waits deadline places) id version body (record s { stage = st })).stage (parked_for t (answers.Wait until parts))) (sym bound)
+    (λ calm silent. ap (λ ps. Some (keys_for t ps)) (told.1 ∙ (asked-parks node k clock n key version body deadline places id e ∙ ap (λ x. asked x (record { correlation_id = id; version = version; body = body; deadline = deadline })) (sym kept))))
+keyed-by node us t clock n k key version id body s (Waits deadline places) answers.NoReply e kept bound told = absurd told
+keyed-by node us t clock n k key version id body s (Waits deadline places) answers.Shut e kept bound told = absurd told
+keyed-by node us t clock n k key version id body s Silent r e kept bound told = keyed-none us _ (parked_for t r) (ap is_free bound)
+keyed-by node us t clock n k key version id body s Shuts r e kept bound told = keyed-none us _ (parked_for t r) (free-without s.stage)
 
 -- the connection that was answered stands in the queue under what it asks
-pub keyed-answered : (H : Type 0) → H → (setup : Setup) (t clock : ℕ) (ts us : List TenantState) (l new : Line) (key id : ℤ) (body : List ℕ) (r : Answer) (o : Option queue.Wait) → l.session.stage ≡ BoundTo t None → IsSpent l.session new.session → IsAsked l.session key id body → IsTurn t H ts us
-    → IsMet t H ts us (λ k m. (m ≡ kept_after setup.node k clock key body) × IsAnswer id (answer setup.node k clock key body) r)
-    → ((key id : ℤ) (body : List ℕ) (reaction : Reaction) → IsAsked l.session key id body → IsAnswer id reaction r → new ≡ with_session l (answered reaction id body (without_front l.session)))
+pub keyed-answered : (H : Type 0) → H → (setup : Setup) (t clock n : ℕ) (ts us : List TenantState) (l new : Line) (key version id : ℤ) (body : List ℕ) (r : Answer) (o : Option queue.Wait) → l.session.stage ≡ BoundTo t None → IsSpent l.session new.session → IsAsked l.session key version id body → IsTurn t H ts us
+    → IsMet t H ts us (λ k m. (m ≡ kept_after setup.node k clock n key version body) × IsAnswer id (answer setup.node k clock n key version body) r)
+    → ((key version id : ℤ) (body : List ℕ) (reaction : Reaction) → IsAsked l.session key version id body → IsAnswer id reaction r → new ≡ with_session l (answered reaction id version body (without_front l.session)))
     → o ≡ parked_for t r → IsKeyedAt us new.session.stage o
-keyed-answered H honest setup t clock ts us l new key id body r o bound spent asks turn meets ok parked =
+keyed-answered H honest setup t clock n ts us l new key version id body r o bound spent asks turn meets ok parked =
     keyed-calm us t new.session.stage o (spent.stage t None bound ∙ ap without_wait bound)
     (λ none.
     let up = turn.grows t in
     let before : refusals_of ts t ≡ 0 = omega (arith, none, up) in
     let done = meets honest (record { same = none ∙ sym before; below = grind (arith, nat_tests, before) }) in
-    let is = ok key id body (answer setup.node (kept_of ts t) clock key body) asks done.1 in
+    let is = ok key version id body (answer setup.node (kept_of ts t) clock n key version body) asks done.1 in
     subst (IsKeyedAt us new.session.stage) (sym parked)
-    (subst (λ (x : Line). IsKeyedAt us x.session.stage (parked_for t r)) (sym is) (keyed-by setup.node us t clock (kept_of ts t) key id body (without_front l.session) (answer setup.node (kept_of ts t) clock key body) r refl done.0 bound done.1)))
+    (subst (λ (x : Line). IsKeyedAt us x.session.stage (parked_for t r)) (sym is) (keyed-by setup.node us t clock n (kept_of ts t) key version id body (without_front l.session) (answer setup.node (kept_of ts t) clock n key version body) r refl done.0 bound done.1)))
 
 -- 4. Whom a turn concerns
 
 -- what the tenant was asked is the turn
-pub turned-touched : (H : Type 0) (setup : Setup) (t clock : ℕ) (ts us : List TenantState) (s r : Session) (touched : Option (Vec Place Global)) → IfSome touched (λ places. H → IsTouched t clock ts us places.items)
-    → IsMet t H ts us (λ k l. (r ≡ served setup k clock s) × (l ≡ put setup k clock s.unread)) → IfSome touched (λ places. H → IsTouchedTurn setup t clock ts us s r places.items)
-turned-touched H setup t clock ts us s r None touched meets = tt
-turned-touched H setup t clock ts us s r (Some places) touched meets = λ honest.
+pub turned-touched : (H : Type 0) (setup : Setup) (t clock n : ℕ) (ts us : List TenantState) (s r : Session) (touched : Option (Vec Place Global)) → IfSome touched (λ places. H → IsTouched t clock ts us places.items)
+    → IsMet t H ts us (λ k l. (r ≡ served setup k clock n s) × (l ≡ put setup k clock n s.unread)) → IfSome touched (λ places. H → IsTouchedTurn setup t clock n ts us s r places.items)
+turned-touched H setup t clock n ts us s r None touched meets = tt
+turned-touched H setup t clock n ts us s r (Some places) touched meets = λ honest.
     let h = touched honest in
     let both = meets honest h.calm in
     record { session = both.0; kept = both.1; ready = h.ready }
@@ -274,10 +274,10 @@ all-of t n q p ns others h = record {
 
 -- what is left to be looked at after it
 pub left-by : (H : Type 0) → H → (c : Concerned) (setup : Setup) (t clock n : ℕ) (q p : Queue) (ts us : List TenantState) (s r : Session) (st : Stage) (touched : Option (Vec Place Global)) → st ≡ BoundTo t None → ((k : ℕ) → k ≢ n → fin.get p k ≡ fin.get q k)
-    → IsConcern c t n us p touched → IfSome touched (λ places. H → IsTouchedTurn setup t clock ts us s r places.items) → IsLeftBy c setup clock st n q ts us s r
+    → IsConcern c t n us p touched → IfSome touched (λ places. H → IsTouchedTurn setup t clock n ts us s r places.items) → IsLeftBy c setup clock st n q ts us s r
 left-by H honest c setup t clock n q p ts us s r st touched bound others concern turn = subst (λ x. IsLeftBy c setup clock x n q ts us s r) (sym bound) (by c touched concern turn)
   where
-    by : (c : Concerned) (touched : Option (Vec Place Global)) → IsConcern c t n us p touched → IfSome touched (λ places. H → IsTouchedTurn setup t clock ts us s r places.items) → IsLeftBy c setup clock (BoundTo t None) n q ts us s r
+    by : (c : Concerned) (touched : Option (Vec Place Global)) → IsConcern c t n us p touched → IfSome touched (λ places. H → IsTouchedTurn setup t clock n ts us s r places.items) → IsLeftBy c setup clock (BoundTo t None) n q ts us s r
     by concerned.Nobody None concern turn = absurd concern
     by concerned.Nobody (Some places) none turn =
         let h = turn honest in
@@ -285,7 +285,7 @@ left-by H honest c setup t clock n q p ts us s r st touched bound others concern
     by (concerned.These u ns) None concern turn = subst (λ x. IsLeftBy (concerned.These x ns) setup clock (BoundTo t None) n q ts us s r) (sym concern.0) (inr (all-of t n q p ns.items others concern.1))
     by (concerned.These u ns) (Some places) concern turn = subst (λ x. IsLeftBy (concerned.These x ns) setup clock (BoundTo t None) n q ts us s r) (sym concern.0) (these (turn honest) concern.1)
       where
-        these : IsTouchedTurn setup t clock ts us s r places.items → AreConcerned t n us p (Some places) ns.items → IsPassedOn setup t clock n q ts us s r ns.items ⊎ AreAllOf t n q ns.items
+        these : IsTouchedTurn setup t clock n ts us s r places.items → AreConcerned t n us p (Some places) ns.items → IsPassedOn setup t clock n q ts us s r ns.items ⊎ AreAllOf t n q ns.items
         these h (inl c) = inl (record {
           session = h.session;
           kept = h.kept;

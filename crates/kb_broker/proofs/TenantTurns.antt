@@ -42,42 +42,42 @@ use Rattle.kb_machine.proofs.Parts.{turn-then, calm-right}
 -- 1. A request of the tenant
 
 -- what is answered, and kept
-pub answered-now : (node : Node) (k l : Kept) (clock : ℕ) (id key : ℤ) (body : List ℕ) (touched : List Place) (r : Answer) → IsOutcome id (served node (world_at k clock) key body) (world_at l clock) touched r
-    → (l ≡ kept_after node k clock key body) × IsAnswer id (answer node k clock key body) r
+pub answered-now : (node : Node) (k l : Kept) (clock n : ℕ) (id key version : ℤ) (body : List ℕ) (touched : List Place) (r : Answer) → IsOutcome id (served node (world_at k clock) n key version body) (world_at l clock) touched r
+    → (l ≡ kept_after node k clock n key version body) × IsAnswer id (answer node k clock n key version body) r
 unfolding answer kept_after
-answered-now node k l clock id key body touched r h = (ap kept_in h.0, h.2)
+answered-now node k l clock n id key version body touched r h = (ap kept_in h.0, h.2)
 
 -- what stands in front was asked, and answered so: the connection is the machine's
-pub asked-now : (setup : Setup) (clock : ℕ) (k m : Kept) (l new : Line) (key id : ℤ) (body : List ℕ) (r : Answer) → IsAsked l.session key id body → m ≡ kept_after setup.node k clock key body → IsAnswer id (answer setup.node k clock key body) r
-    → ((key' id' : ℤ) (body' : List ℕ) (reaction : Reaction) → IsAsked l.session key' id' body' → IsAnswer id' reaction r → new ≡ with_session l (answered reaction id' body' (without_front l.session)))
-    → (new.session ≡ served_by_turn setup k clock l.session) × (m ≡ put setup k clock l.session.unread)
-asked-now setup clock k m l new key id body r asked kept told ok =
-    let is = ok key id body (answer setup.node k clock key body) asked told in
-    (ap (λ (x : Line). x.session) is ∙ sym (asked.served setup k clock), kept ∙ sym (asked.put setup k clock))
+pub asked-now : (setup : Setup) (clock n : ℕ) (k m : Kept) (l new : Line) (key version id : ℤ) (body : List ℕ) (r : Answer) → IsAsked l.session key version id body → m ≡ kept_after setup.node k clock n key version body → IsAnswer id (answer setup.node k clock n key version body) r
+    → ((key' version' id' : ℤ) (body' : List ℕ) (reaction : Reaction) → IsAsked l.session key' version' id' body' → IsAnswer id' reaction r → new ≡ with_session l (answered reaction id' version' body' (without_front l.session)))
+    → (new.session ≡ served_by_turn setup k clock n l.session) × (m ≡ put setup k clock n l.session.unread)
+asked-now setup clock n k m l new key version id body r asked kept told ok =
+    let is = ok key version id body (answer setup.node k clock n key version body) asked told in
+    (ap (λ (x : Line). x.session) is ∙ sym (asked.served setup k clock n), kept ∙ sym (asked.put setup k clock n))
 
 -- the code's word for it
 pub calm-of : (x y before after : ℕ) → before ≡ x → after ≡ y → after ≡ before → before < END → IsCalm x y
 calm-of x y before after p q same up = record { same = sym q ∙ (same ∙ p); below = subst (λ n. n < END) p up }
 
 -- where nothing was refused, only a fetch that asks a touched partition may have become ready
-pub touched-now : {L S : Type 0} (log : L → Log) (disk : S → Disk) (H : Type 0) → H → (node : Node) (hosts : Tenants L S) (us : List TenantState) (clock t : ℕ) (id key : ℤ) (body : List ℕ) (touched : List Place) (r : Answer) → AreHosted log disk hosts
-    → IsMet t H (tenants_in log disk hosts) us (λ k l. IsOutcome id (served node (world_at k clock) key body) (world_at l clock) touched r)
+pub touched-now : {L S : Type 0} (log : L → Log) (disk : S → Disk) (H : Type 0) → H → (node : Node) (hosts : Tenants L S) (us : List TenantState) (clock t n : ℕ) (id key version : ℤ) (body : List ℕ) (touched : List Place) (r : Answer) → AreHosted log disk hosts
+    → IsMet t H (tenants_in log disk hosts) us (λ k l. IsOutcome id (served node (world_at k clock) n key version body) (world_at l clock) touched r)
     → IsCalm (refusals_of (tenants_in log disk hosts) t) (refusals_of us t) → IsTouched t clock (tenants_in log disk hosts) us touched
-touched-now log disk H honest node hosts us clock t id key body touched r kept meets calm =
+touched-now log disk H honest node hosts us clock t n id key version body touched r kept meets calm =
     let h = meets honest calm in
-    record { calm = calm; ready = λ w apart. apart-ready node (kept_of (tenants_in log disk hosts) t) (kept_of us t) clock key body w (kept_tied log disk hosts kept t clock) h.0 (subst (AreApart (asked (kept_of (tenants_in log disk hosts) t) w)) h.1 apart) }
+    record { calm = calm; ready = λ w apart. apart-ready node (kept_of (tenants_in log disk hosts) t) (kept_of us t) clock n key version body w (kept_tied log disk hosts kept t clock) h.0 (subst (AreApart (asked (kept_of (tenants_in log disk hosts) t) w)) h.1 apart) }
 
 -- where nothing was ever refused to the tenant, a fetch that still waits asks for the same
-pub asked-on : {L S : Type 0} (log : L → Log) (disk : S → Disk) (H : Type 0) → H → (hosts : Tenants L S) → is_honest disk hosts → (node : Node) (us : List TenantState) (clock t : ℕ) (id key : ℤ) (body : List ℕ) (touched : List Place) (r : Answer) → AreHosted log disk hosts
+pub asked-on : {L S : Type 0} (log : L → Log) (disk : S → Disk) (H : Type 0) → H → (hosts : Tenants L S) → is_honest disk hosts → (node : Node) (us : List TenantState) (clock t n : ℕ) (id key version : ℤ) (body : List ℕ) (touched : List Place) (r : Answer) → AreHosted log disk hosts
     → IsTurn t H (tenants_in log disk hosts) us
-    → IsMet t H (tenants_in log disk hosts) us (λ k l. IsOutcome id (served node (world_at k clock) key body) (world_at l clock) touched r)
+    → IsMet t H (tenants_in log disk hosts) us (λ k l. IsOutcome id (served node (world_at k clock) n key version body) (world_at l clock) touched r)
     → IsAskedOn t (tenants_in log disk hosts) us
-asked-on log disk H honest hosts before-honest node us clock t id key body touched r kept turn meets calm =
+asked-on log disk H honest hosts before-honest node us clock t n id key version body touched r kept turn meets calm =
     let ts = tenants_in log disk hosts in
     let up = turn.grows t in
     let before : refusals_of ts t ≡ 0 = omega (arith, calm, up) in
     let h = meets honest (record { same = calm ∙ sym before; below = grind (arith, nat_tests, before) }) in
-    λ w old new. asked-again node (kept_of ts t) (kept_of us t) clock key body w (kept_tied log disk hosts kept t clock) (kept_names log disk hosts kept before-honest t clock) h.0 old new
+    λ w old new. asked-again node (kept_of ts t) (kept_of us t) clock n key version body w (kept_tied log disk hosts kept t clock) (kept_names log disk hosts kept before-honest t clock) h.0 old new
 
 -- 2. What a turn leaves of a connection in any case
 
@@ -89,13 +89,13 @@ spent-shut l new able is =
     record { less = omega (arith, some, left); stage = λ t w e. ap (λ (x : Line). without_wait x.session.stage) is ∙ stage-shut l.session }
 
 -- a matter of the connection alone
-pub spent-served : {A E : Type 0} (result : Result A E) (setup : Setup) (l new : Line) → can l.session ≡ true → ((kept : Kept) (clock : ℕ) → OnOk result (new ≡ with_session l (served_by_turn setup kept clock l.session)))
+pub spent-served : {A E : Type 0} (result : Result A E) (setup : Setup) (l new : Line) → can l.session ≡ true → ((kept : Kept) (clock n : ℕ) → OnOk result (new ≡ with_session l (served_by_turn setup kept clock n l.session)))
     → OnErr result (new ≡ with_session l (shut_down l.session)) → IsSpent l.session new.session
 spent-served (Ok x) setup l new able ok err =
-    let is = ok nothing 0 in
-    let less = served-less setup nothing 0 l.session (can-turn l.session able) in
+    let is = ok nothing 0 0 in
+    let less = served-less setup nothing 0 0 l.session (can-turn l.session able) in
     let left = ap (λ (x : Line). length x.session.unread) is in
-    record { less = omega (arith, less, left); stage = λ t w e. ap (λ (x : Line). without_wait x.session.stage) is ∙ stage-served setup nothing 0 l.session }
+    record { less = omega (arith, less, left); stage = λ t w e. ap (λ (x : Line). without_wait x.session.stage) is ∙ stage-served setup nothing 0 0 l.session }
 spent-served (Err x) setup l new able ok err = spent-shut l new able err
 
 -- a greeting
@@ -111,7 +111,7 @@ spent-greeted (Err x) setup h l new greets able ok err = spent-shut l new able e
 
 -- what the tenant answers to it is what the machine tells
 met-looked : {A E : Type 0} (H : Type 0) → H → (result : Result A E) (clock t : ℕ) (ts us : List TenantState) (l new : Line) (w : Wait) (r : Answer) → l.session.stage ≡ BoundTo t (Some w)
-    → IsMet t H ts us (λ k m. (m ≡ k) × IsAnswer w.correlation_id (looked (world_at k clock) w.deadline w.body) r)
+    → IsMet t H ts us (λ k m. (m ≡ k) × IsAnswer w.correlation_id (looked (world_at k clock) w.deadline w.version w.body) r)
     → ((id : ℤ) (reaction : Reaction) → IsAnswer id reaction r → OnOk result (new ≡ with_session l (told reaction id l.session)))
     → IsCalm (refusals_of ts t) (refusals_of us t) → OnOk result (new.session ≡ woken (kept_of ts t) clock l.session)
 unfolding ready woken_by
@@ -119,12 +119,12 @@ met-looked H honest (Err x) clock t ts us l new w r stage meets ok calm = tt
 met-looked H honest (Ok x) clock t ts us l new w r stage meets ok calm =
     let k = kept_of ts t in
     let done = meets honest calm in
-    let is = ok w.correlation_id (looked (world_at k clock) w.deadline w.body) done.1 in
+    let is = ok w.correlation_id (looked (world_at k clock) w.deadline w.version w.body) done.1 in
     ap (λ (x : Line). x.session) is ∙ sym (ap (woken_by k clock l.session) stage)
 
 -- a look that was not refused is told by its answer, and one that was shuts the connection
 pub looked-ok : {A E : Type 0} (H : Type 0) (result : Result A E) (whom : Whom) (clock t : ℕ) (ts us : List TenantState) (l new : Line) (w : Wait) (r : Answer) → l.session.stage ≡ BoundTo t (Some w) → IsLookedFor whom clock t w → IsTurn t H ts us
-    → (H → (u : ℕ) → kept_of us u ≡ kept_of ts u) → IsMet t H ts us (λ k m. (m ≡ k) × IsAnswer w.correlation_id (looked (world_at k clock) w.deadline w.body) r) → ((IsCalm (refusals_of ts t) (refusals_of us t) → ⊥) → r ≡ answers.Shut)
+    → (H → (u : ℕ) → kept_of us u ≡ kept_of ts u) → IsMet t H ts us (λ k m. (m ≡ k) × IsAnswer w.correlation_id (looked (world_at k clock) w.deadline w.version w.body) r) → ((IsCalm (refusals_of ts t) (refusals_of us t) → ⊥) → r ≡ answers.Shut)
     → ((id : ℤ) (reaction : Reaction) → IsAnswer id reaction r → OnOk result (new ≡ with_session l (told reaction id l.session)))
     → new.number ≡ l.number → without_wait new.session.stage ≡ without_wait l.session.stage → length new.session.unread ≤ length l.session.unread → is_err result ≡ false → IsLookedAt H whom clock l.session.stage ts us l new
 looked-ok H result whom clock t ts us l new w r stage yours turn stays meets shut ok number same unread good =

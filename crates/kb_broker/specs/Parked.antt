@@ -117,8 +117,8 @@ IsAskedOnAt (BoundTo t wait) old new = IsAskedOn t old new
 -- after the turn of a connection with that number and session s, which is r then, of a tenant to which nothing was ever refused:
 -- a fetch that was not ready is not ready, if the queue has it under what it asks and its connection is not among those
 pub record IsPassedOn (setup : Setup) (t clock n : ℕ) (q : Queue) (old new : List TenantState) (s r : Session) (ns : List ℕ) : Type 0 where
-  pub session : r ≡ served setup (hosted.kept_of old t) clock s
-  pub kept : hosted.kept_of new t ≡ put setup (hosted.kept_of old t) clock s.unread
+  pub session : r ≡ served setup (hosted.kept_of old t) clock n s
+  pub kept : hosted.kept_of new t ≡ put setup (hosted.kept_of old t) clock n s.unread
   pub calm : hosted.refusals_of new t ≡ 0
   pub own : Contains ns n
   pub others : (k : ℕ) (w : Wait) → k ≢ n → (Contains ns k → ⊥) → places_of (get q k) ≡ Some (keys_for t (asked (hosted.kept_of old t) w)) → ready (hosted.kept_of old t) clock w ≡ Silent → ready (hosted.kept_of new t) clock w ≡ Silent
@@ -133,11 +133,11 @@ pub record IsTouched (t clock : ℕ) (old new : List TenantState) (places : List
   pub calm : IsCalm (hosted.refusals_of old t) (hosted.refusals_of new t)
   pub ready : (w : Wait) → AreApart (asked (hosted.kept_of old t) w) places → ready (hosted.kept_of old t) clock w ≡ Silent → ready (hosted.kept_of new t) clock w ≡ Silent
 
--- the turn of a connection bound to that tenant, of whose session s it leaves r, was not refused, and a fetch that was not ready is
+-- the turn of a connection of number n bound to that tenant, of whose session s it leaves r, was not refused, and a fetch that was not ready is
 -- not ready, if it asks none of those partitions
-pub record IsTouchedTurn (setup : Setup) (t clock : ℕ) (old new : List TenantState) (s r : Session) (places : List Place) : Type 0 where
-  pub session : r ≡ served setup (hosted.kept_of old t) clock s
-  pub kept : hosted.kept_of new t ≡ put setup (hosted.kept_of old t) clock s.unread
+pub record IsTouchedTurn (setup : Setup) (t clock n : ℕ) (old new : List TenantState) (s r : Session) (places : List Place) : Type 0 where
+  pub session : r ≡ served setup (hosted.kept_of old t) clock n s
+  pub kept : hosted.kept_of new t ≡ put setup (hosted.kept_of old t) clock n s.unread
   pub ready : (w : Wait) → AreApart (asked (hosted.kept_of old t) w) places → ready (hosted.kept_of old t) clock w ≡ Silent → ready (hosted.kept_of new t) clock w ≡ Silent
 
 -- those connections are the one of that number, and all that stand in the queue under one of those partitions
@@ -169,7 +169,7 @@ IsWhose (concerned.All t) st = whose st ≡ Some t
 
 -- what a turn leaves ready: nothing, or nothing but what those connections wait for, which may be all of the tenant's
 abbrev pub IsLeftBy : Concerned → Setup → ℕ → Stage → ℕ → Queue → List TenantState → List TenantState → Session → Session → Type 0
-IsLeftBy concerned.Nobody setup clock st n q old new s r = IsQuietAt setup clock st old new s r
+IsLeftBy concerned.Nobody setup clock st n q old new s r = IsQuietAt setup clock n st old new s r
 IsLeftBy (concerned.These t ns) setup clock st n q old new s r = IsPassedOn setup t clock n q old new s r ns.items ⊎ AreAllOf t n q ns.items
 IsLeftBy (concerned.All t) setup clock st n q old new s r = ⊤
 

@@ -60,21 +60,21 @@ abbrev pub IsTurnAt : Type 0 → Stage → List TenantState → List TenantState
 IsTurnAt honest (Greets handshaken) old new = new ≡ old
 IsTurnAt honest (BoundTo tenant wait) old new = IsTurn tenant honest old new
 
--- the turn of a connection at that stage that was not refused: of its session s it leaves r
-abbrev pub IsTakenAt : Type 0 → Setup → ℕ → Stage → List TenantState → List TenantState → Session → Session → Type 0
-IsTakenAt honest setup clock (Greets handshaken) old new s r = r ≡ greeted setup handshaken s
-IsTakenAt honest setup clock (BoundTo tenant wait) old new s r = IsMet tenant honest old new (λ k l. (r ≡ served setup k clock s) × (l ≡ put setup k clock s.unread))
+-- the turn of a connection of number n at that stage that was not refused: of its session s it leaves r
+abbrev pub IsTakenAt : Type 0 → Setup → ℕ → ℕ → Stage → List TenantState → List TenantState → Session → Session → Type 0
+IsTakenAt honest setup clock n (Greets handshaken) old new s r = r ≡ greeted setup handshaken s
+IsTakenAt honest setup clock n (BoundTo tenant wait) old new s r = IsMet tenant honest old new (λ k l. (r ≡ served setup k clock n s) × (l ≡ put setup k clock n s.unread))
 
--- the turn of a connection bound to that tenant, of whose session s it leaves r, was not refused, and makes no waiting fetch ready
-pub record IsQuietTurn (setup : Setup) (t clock : ℕ) (old new : List TenantState) (s r : Session) : Type 0 where
-  pub session : r ≡ served setup (hosted.kept_of old t) clock s
-  pub kept : hosted.kept_of new t ≡ put setup (hosted.kept_of old t) clock s.unread
+-- the turn of a connection of number n bound to that tenant, of whose session s it leaves r, was not refused, and makes no waiting fetch ready
+pub record IsQuietTurn (setup : Setup) (t clock n : ℕ) (old new : List TenantState) (s r : Session) : Type 0 where
+  pub session : r ≡ served setup (hosted.kept_of old t) clock n s
+  pub kept : hosted.kept_of new t ≡ put setup (hosted.kept_of old t) clock n s.unread
   pub ready : (w : Wait) → ready (hosted.kept_of old t) clock w ≡ Silent → ready (hosted.kept_of new t) clock w ≡ Silent
 
 -- the same at any stage: a greeting one changes nothing that a tenant keeps
-abbrev pub IsQuietAt : Setup → ℕ → Stage → List TenantState → List TenantState → Session → Session → Type 0
-IsQuietAt setup clock (Greets handshaken) old new s r = ⊤
-IsQuietAt setup clock (BoundTo tenant wait) old new s r = IsQuietTurn setup tenant clock old new s r
+abbrev pub IsQuietAt : Setup → ℕ → ℕ → Stage → List TenantState → List TenantState → Session → Session → Type 0
+IsQuietAt setup clock n (Greets handshaken) old new s r = ⊤
+IsQuietAt setup clock n (BoundTo tenant wait) old new s r = IsQuietTurn setup tenant clock n old new s r
 
 -- what a turn leaves of a session s in any case: fewer unread bytes, and a bound connection stays bound
 pub record IsSpent (s r : Session) : Type 0 where

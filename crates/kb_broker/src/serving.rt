@@ -22,7 +22,7 @@ use kb_connection::{Connection, Phase, Setup, Waiting};
 use kb_log::PartitionLog;
 use kb_machine::Whom;
 use kb_store::Store;
-use kb_tenant::{Answer, Request, Served};
+use kb_tenant::{Answer, Request, Served, Wait};
 use kb_tenants::Tenants;
 use kb_world::Place;
 use std::alloc::{AllocError, Global};
@@ -64,7 +64,7 @@ pub fn take_turn<L: PartitionLog + Drop, S: Store>(
     ensures owned { IsOwnedAt connection.new.session.stage (fin.get parking.new connection.old.number) }
     ensures keyed { is_honest S.disk tenants.new → IsKeyedAt (tenants_in L.log S.disk tenants.new) connection.new.session.stage (fin.get parking.new connection.old.number) }
     ensures asked { is_honest S.disk tenants.new → IsAskedOnAt connection.old.session.stage (tenants_in L.log S.disk tenants.old) (tenants_in L.log S.disk tenants.new) }
-    ensures ok { OnOk result (IsTakenAt (is_honest S.disk tenants.new) setup.now clock connection.old.session.stage (tenants_in L.log S.disk tenants.old) (tenants_in L.log S.disk tenants.new) connection.old.session connection.new.session) }
+    ensures ok { OnOk result (IsTakenAt (is_honest S.disk tenants.new) setup.now clock connection.old.number connection.old.session.stage (tenants_in L.log S.disk tenants.old) (tenants_in L.log S.disk tenants.new) connection.old.session connection.new.session) }
     ensures whose { IfOk result (λ c. IsWhose c connection.old.session.stage) }
     ensures own { IfOk result (λ c. IsOwnTo c connection.old.number) }
     ensures left { is_honest S.disk tenants.new → IfOk result (λ c. IsLeftBy c setup.now clock connection.old.session.stage connection.old.number parking.old (tenants_in L.log S.disk tenants.old) (tenants_in L.log S.disk tenants.new) connection.old.session connection.new.session) }
@@ -158,8 +158,8 @@ fn serve_bound<L: PartitionLog + Drop, S: Store>(
     ensures keyed { is_honest S.disk tenants.new → IsKeyedAt (tenants_in L.log S.disk tenants.new) connection.new.session.stage (fin.get parking.new connection.old.number) }
     ensures asked { is_honest S.disk tenants.new → IsAskedOn tenant (tenants_in L.log S.disk tenants.old) (tenants_in L.log S.disk tenants.new) }
     ensures ok { OnOk result (IsMet tenant (is_honest S.disk tenants.new) (tenants_in L.log S.disk tenants.old) (tenants_in L.log S.disk tenants.new)
-        (λ k l. (connection.new.session ≡ served setup.now k clock connection.old.session) × (l ≡ put setup.now k clock connection.old.session.unread))) }
-    ensures touched { IfOk result (λ found. IfSome found (λ places. is_honest S.disk tenants.new → IsTouchedTurn setup.now tenant clock (tenants_in L.log S.disk tenants.old) (tenants_in L.log S.disk tenants.new) connection.old.session connection.new.session places.items)) }
+        (λ k l. (connection.new.session ≡ served setup.now k clock connection.old.number connection.old.session) × (l ≡ put setup.now k clock connection.old.number connection.old.session.unread))) }
+    ensures touched { IfOk result (λ found. IfSome found (λ places. is_honest S.disk tenants.new → IsTouchedTurn setup.now tenant clock connection.old.number (tenants_in L.log S.disk tenants.old) (tenants_in L.log S.disk tenants.new) connection.old.session connection.new.session places.items)) }
     ensures err { OnErr result (connection.new ≡ with_session connection.old (shut_down connection.old.session)) }
 {
     let (answer, touched) = match connection.request(alloc) {
@@ -191,8 +191,8 @@ fn hand_over(
     ensures number { connection.new.number ≡ connection.old.number }
     ensures spent { IsSpent connection.old.session connection.new.session }
     ensures parked { (k : ℕ) → k ≢ connection.old.number → fin.get parking.new k ≡ fin.get parking.old k }
-    ensures ok { (key id : ℤ) (body : List ℕ) (reaction : Reaction) → IsAsked connection.old.session key id body → IsAnswer id reaction answer → OnOk result (connection.new ≡ with_session connection.old (answered reaction id body (without_front connection.old.session))) }
-    ensures dated { (key id : ℤ) (body : List ℕ) → IsAsked connection.old.session key id body → until_of (fin.get parking.new connection.old.number) ≡ deadline_at connection.new.session.stage }
+    ensures ok { (key version id : ℤ) (body : List ℕ) (reaction : Reaction) → IsAsked connection.old.session key version id body → IsAnswer id reaction answer → OnOk result (connection.new ≡ with_session connection.old (answered reaction id version body (without_front connection.old.session))) }
+    ensures dated { (key version id : ℤ) (body : List ℕ) → IsAsked connection.old.session key version id body → until_of (fin.get parking.new connection.old.number) ≡ deadline_at connection.new.session.stage }
     ensures owned { IsOwnedAt connection.new.session.stage (fin.get parking.new connection.old.number) }
     ensures keyed { OnOk result (fin.get parking.new connection.old.number ≡ parked_for tenant answer) }
     ensures err { OnErr result (connection.new ≡ with_session connection.old (shut_down connection.old.session)) }
@@ -229,8 +229,8 @@ fn ask<L: PartitionLog + Drop, S: Store>(
     ensures later { AreLater L.log S.disk tenants.old tenants.new }
     ensures turn { IsTurn tenant (is_honest S.disk tenants.new) (tenants_in L.log S.disk tenants.old) (tenants_in L.log S.disk tenants.new) }
     ensures meets { IsMet tenant (is_honest S.disk tenants.new) (tenants_in L.log S.disk tenants.old) (tenants_in L.log S.disk tenants.new)
-        (λ k l. (l ≡ kept_after setup.now.node k clock request.now.api_key request.now.body.now)
-        × IsAnswer request.now.correlation_id (answer setup.now.node k clock request.now.api_key request.now.body.now) result.0) }
+        (λ k l. (l ≡ kept_after setup.now.node k clock request.now.connection request.now.api_key request.now.api_version request.now.body.now)
+        × IsAnswer request.now.correlation_id (answer setup.now.node k clock request.now.connection request.now.api_key request.now.api_version request.now.body.now) result.0) }
     ensures asked { is_honest S.disk tenants.new → IsAskedOn tenant (tenants_in L.log S.disk tenants.old) (tenants_in L.log S.disk tenants.new) }
     ensures touched { IfSome result.1 (λ places. is_honest S.disk tenants.new → IsTouched tenant clock (tenants_in L.log S.disk tenants.old) (tenants_in L.log S.disk tenants.new) places.items) }
 {
@@ -266,14 +266,13 @@ pub fn look_again<L: PartitionLog + Drop, S: Store>(
     if !is_looked_for(whom, clock, tenant, waiting) {
         return;
     }
-    let answer = tenants.look(
-        alloc,
-        tenant,
-        clock,
-        waiting.correlation_id,
-        &waiting.body,
-        waiting.deadline,
-    );
+    let wait = Wait {
+        correlation_id: waiting.correlation_id,
+        api_version: waiting.api_version,
+        body: &waiting.body,
+        deadline: waiting.deadline,
+    };
+    let answer = tenants.look(alloc, tenant, clock, &wait);
     if connection.wake(answer).is_err() {
         tenants.refuse(tenant);
     }

@@ -37,40 +37,40 @@ long_is id body s h =
 abbrev pub IsNoWait : Answer → Type 0
 IsNoWait answer = (deadline : ℕ) (keys : Vec Place Global) → answer ≡ answers.Wait deadline keys → ⊥
 
-answer_is : (id : ℤ) (body : List ℕ) (reaction : Reaction) (answer : Answer) (s : Session) → IsNoWait answer → IsAnswer id reaction answer → given answer s ≡ answered reaction id body s
-answer_is id body (Replies reply) (answers.Reply r) s no_wait h = reply_is id reply r s h
-answer_is id body (Replies reply) (answers.Wait d k) s no_wait h = absurd h
-answer_is id body (Replies reply) answers.NoReply s no_wait h = absurd h
-answer_is id body (Replies reply) answers.Shut s no_wait h = long_is id reply s h
-answer_is id body (Waits until places) (answers.Reply r) s no_wait h = absurd h
-answer_is id body (Waits until places) (answers.Wait d k) s no_wait h = absurd (no_wait d k refl)
-answer_is id body (Waits until places) answers.NoReply s no_wait h = absurd h
-answer_is id body (Waits until places) answers.Shut s no_wait h = absurd h
-answer_is id body Silent (answers.Reply r) s no_wait h = absurd h
-answer_is id body Silent (answers.Wait d k) s no_wait h = absurd h
-answer_is id body Silent answers.NoReply s no_wait h = refl
-answer_is id body Silent answers.Shut s no_wait h = absurd h
-answer_is id body Shuts (answers.Reply r) s no_wait h = absurd h
-answer_is id body Shuts (answers.Wait d k) s no_wait h = absurd h
-answer_is id body Shuts answers.NoReply s no_wait h = absurd h
-answer_is id body Shuts answers.Shut s no_wait h = refl
+answer_is : (id version : ℤ) (body : List ℕ) (reaction : Reaction) (answer : Answer) (s : Session) → IsNoWait answer → IsAnswer id reaction answer → given answer s ≡ answered reaction id version body s
+answer_is id version body (Replies reply) (answers.Reply r) s no_wait h = reply_is id reply r s h
+answer_is id version body (Replies reply) (answers.Wait d k) s no_wait h = absurd h
+answer_is id version body (Replies reply) answers.NoReply s no_wait h = absurd h
+answer_is id version body (Replies reply) answers.Shut s no_wait h = long_is id reply s h
+answer_is id version body (Waits until places) (answers.Reply r) s no_wait h = absurd h
+answer_is id version body (Waits until places) (answers.Wait d k) s no_wait h = absurd (no_wait d k refl)
+answer_is id version body (Waits until places) answers.NoReply s no_wait h = absurd h
+answer_is id version body (Waits until places) answers.Shut s no_wait h = absurd h
+answer_is id version body Silent (answers.Reply r) s no_wait h = absurd h
+answer_is id version body Silent (answers.Wait d k) s no_wait h = absurd h
+answer_is id version body Silent answers.NoReply s no_wait h = refl
+answer_is id version body Silent answers.Shut s no_wait h = absurd h
+answer_is id version body Shuts (answers.Reply r) s no_wait h = absurd h
+answer_is id version body Shuts (answers.Wait d k) s no_wait h = absurd h
+answer_is id version body Shuts answers.NoReply s no_wait h = absurd h
+answer_is id version body Shuts answers.Shut s no_wait h = refl
 
-pub gives : {E : Type 0} (result : Result (Unit {0}) E) (l m new : Line) (id : ℤ) (body : List ℕ) (reaction : Reaction) (answer : Answer) → IsNoWait answer → m ≡ with_session l (without_front l.session)
-    → OnOk result (new ≡ with_session m (given answer m.session)) → IsAnswer id reaction answer → OnOk result (new ≡ with_session l (answered reaction id body (without_front l.session)))
-gives (Ok u) l m new id body reaction answer no_wait left done h =
-    done ∙ ap (λ (x : Line). with_session x (given answer x.session)) left ∙ ap (with_session l) (answer_is id body reaction answer (without_front l.session) no_wait h)
-gives (Err fault) l m new id body reaction answer no_wait left done h = tt
+pub gives : {E : Type 0} (result : Result (Unit {0}) E) (l m new : Line) (id version : ℤ) (body : List ℕ) (reaction : Reaction) (answer : Answer) → IsNoWait answer → m ≡ with_session l (without_front l.session)
+    → OnOk result (new ≡ with_session m (given answer m.session)) → IsAnswer id reaction answer → OnOk result (new ≡ with_session l (answered reaction id version body (without_front l.session)))
+gives (Ok u) l m new id version body reaction answer no_wait left done h =
+    done ∙ ap (λ (x : Line). with_session x (given answer x.session)) left ∙ ap (with_session l) (answer_is id version body reaction answer (without_front l.session) no_wait h)
+gives (Err fault) l m new id version body reaction answer no_wait left done h = tt
 
 -- 3. The request's bytes are gone
 
 less : (l new : Line) → is_tenants_at (front l.session.unread) ≡ true → length new.session.unread ≤ length (behind (front l.session.unread) l.session.unread) → length new.session.unread < length l.session.unread
 less l new asks few = let fewer = fewer-behind l.session.unread asks in omega arith
 
-unread_parked : (deadline : ℕ) (asked : Option (ℤ × ℤ × List ℕ)) (s : Session) → (parked deadline asked s).unread ≡ s.unread
+unread_parked : (deadline : ℕ) (asked : Option (ℤ × ℤ × ℤ × List ℕ)) (s : Session) → (parked deadline asked s).unread ≡ s.unread
 unread_parked deadline None s = refl
 unread_parked deadline (Some a) s = refl
 
-pub less_parked : {E : Type 0} (result : Result (Unit {0}) E) (l new : Line) (deadline : ℕ) (asked : Option (ℤ × ℤ × List ℕ)) → OnOk result (new ≡ with_session l (parked deadline asked (without_front l.session)))
+pub less_parked : {E : Type 0} (result : Result (Unit {0}) E) (l new : Line) (deadline : ℕ) (asked : Option (ℤ × ℤ × ℤ × List ℕ)) → OnOk result (new ≡ with_session l (parked deadline asked (without_front l.session)))
     → OnErr result (new ≡ with_session l (shut_down l.session)) → is_tenants_at (front l.session.unread) ≡ true → length new.session.unread < length l.session.unread
 less_parked (Ok u) l new deadline asked ok err asks = less l new asks (omega (arith, ap (λ (x : Line). length x.session.unread) ok, ap length (unread_parked deadline asked (without_front l.session))))
 less_parked (Err fault) l new deadline asked ok err asks = less l new asks (omega (arith, ap (λ (x : Line). length x.session.unread) err))

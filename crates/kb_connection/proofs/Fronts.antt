@@ -17,23 +17,23 @@ use Rattle.kb_connection.specs.Fronts.{IsOwn, IsAsked, is_tenants, is_tenants_at
 
 -- 1. A matter of the connection alone
 
-kept_own : (setup : Setup) (kept : Kept) (clock : ℕ) (a : Asked) → is_tenants a ≡ false → kept_by setup kept clock a ≡ kept
-kept_own setup kept clock Versions h = refl
-kept_own setup kept clock OtherVersions h = refl
-kept_own setup kept clock (Handshake mechanism) h = refl
-kept_own setup kept clock (Authenticate message) h = refl
-kept_own setup kept clock (Another key version body) h = cc
-kept_own setup kept clock Unread h = refl
+kept_own : (setup : Setup) (kept : Kept) (clock n : ℕ) (a : Asked) → is_tenants a ≡ false → kept_by setup kept clock n a ≡ kept
+kept_own setup kept clock n Versions h = refl
+kept_own setup kept clock n OtherVersions h = refl
+kept_own setup kept clock n (Handshake mechanism) h = refl
+kept_own setup kept clock n (Authenticate message) h = refl
+kept_own setup kept clock n (Another key version body) h = cc
+kept_own setup kept clock n Unread h = refl
 
-kept_own_at : (setup : Setup) (kept : Kept) (clock : ℕ) (f : Front) → is_tenants_at f ≡ false → kept_at setup kept clock f ≡ kept
-kept_own_at setup kept clock (Whole frame rest) h = kept_own setup kept clock (request frame).asked h
-kept_own_at setup kept clock Partial h = refl
-kept_own_at setup kept clock TooSmall h = refl
-kept_own_at setup kept clock TooLarge h = refl
+kept_own_at : (setup : Setup) (kept : Kept) (clock n : ℕ) (f : Front) → is_tenants_at f ≡ false → kept_at setup kept clock n f ≡ kept
+kept_own_at setup kept clock n (Whole frame rest) h = kept_own setup kept clock n (request frame).asked h
+kept_own_at setup kept clock n Partial h = refl
+kept_own_at setup kept clock n TooSmall h = refl
+kept_own_at setup kept clock n TooLarge h = refl
 
 is_own : (s : Session) → is_tenants_at (front s.unread) ≡ false → IsOwn s
 unfolding put
-is_own s h = record { own = h; put = λ setup kept clock. kept_own_at setup kept clock (front s.unread) h }
+is_own s h = record { own = h; put = λ setup kept clock n. kept_own_at setup kept clock n (front s.unread) h }
 
 -- no whole frame stands in front
 unless_frame : (next : Next) (f : Front) → next ≡ answer f → ((frame : List ℕ) → next ≡ answers.Frame frame → ⊥) → is_tenants_at f ≡ false
@@ -72,17 +72,17 @@ own_frame s unread frame bytes same e read own = sym (at_frame bytes (request by
 
 -- 2. A request of the tenant
 
-served_whole : (setup : Setup) (kept : Kept) (clock : ℕ) (s : Session) (bytes : List ℕ) (f : Front) → answers.Frame bytes ≡ answer f → served_at setup kept clock s f ≡ served_by setup kept clock (request bytes).correlation_id (request bytes).asked (record s { unread = behind f s.unread })
-served_whole setup kept clock s bytes (Whole frame rest) e = let same : frame ≡ bytes = cc in ap (λ x. served_by setup kept clock (request x).correlation_id (request x).asked (record s { unread = rest })) same
-served_whole setup kept clock s bytes Partial e = cc
-served_whole setup kept clock s bytes TooSmall e = cc
-served_whole setup kept clock s bytes TooLarge e = cc
+served_whole : (setup : Setup) (kept : Kept) (clock n : ℕ) (s : Session) (bytes : List ℕ) (f : Front) → answers.Frame bytes ≡ answer f → served_at setup kept clock n s f ≡ served_by setup kept clock n (request bytes).correlation_id (request bytes).asked (record s { unread = behind f s.unread })
+served_whole setup kept clock n s bytes (Whole frame rest) e = let same : frame ≡ bytes = cc in ap (λ x. served_by setup kept clock n (request x).correlation_id (request x).asked (record s { unread = rest })) same
+served_whole setup kept clock n s bytes Partial e = cc
+served_whole setup kept clock n s bytes TooSmall e = cc
+served_whole setup kept clock n s bytes TooLarge e = cc
 
-kept_whole : (setup : Setup) (kept : Kept) (clock : ℕ) (bytes : List ℕ) (f : Front) → answers.Frame bytes ≡ answer f → kept_at setup kept clock f ≡ kept_by setup kept clock (request bytes).asked
-kept_whole setup kept clock bytes (Whole frame rest) e = let same : frame ≡ bytes = cc in ap (λ x. kept_by setup kept clock (request x).asked) same
-kept_whole setup kept clock bytes Partial e = cc
-kept_whole setup kept clock bytes TooSmall e = cc
-kept_whole setup kept clock bytes TooLarge e = cc
+kept_whole : (setup : Setup) (kept : Kept) (clock n : ℕ) (bytes : List ℕ) (f : Front) → answers.Frame bytes ≡ answer f → kept_at setup kept clock n f ≡ kept_by setup kept clock n (request bytes).asked
+kept_whole setup kept clock n bytes (Whole frame rest) e = let same : frame ≡ bytes = cc in ap (λ x. kept_by setup kept clock n (request x).asked) same
+kept_whole setup kept clock n bytes Partial e = cc
+kept_whole setup kept clock n bytes TooSmall e = cc
+kept_whole setup kept clock n bytes TooLarge e = cc
 
 asked_whole : (bytes : List ℕ) (f : Front) → answers.Frame bytes ≡ answer f → asked_at f ≡ asked_under (request bytes).correlation_id (request bytes).asked
 asked_whole bytes (Whole frame rest) e = let same : frame ≡ bytes = cc in ap (λ x. asked_under (request x).correlation_id (request x).asked) same
@@ -90,22 +90,22 @@ asked_whole bytes Partial e = cc
 asked_whole bytes TooSmall e = cc
 asked_whole bytes TooLarge e = cc
 
-is_asked : (s : Session) (bytes : List ℕ) (key version id : ℤ) (body : List ℕ) → answers.Frame bytes ≡ answer (front s.unread) → request bytes ≡ record { correlation_id = id; asked = Another key version body } → IsAsked s key id body
+is_asked : (s : Session) (bytes : List ℕ) (key version id : ℤ) (body : List ℕ) → answers.Frame bytes ≡ answer (front s.unread) → request bytes ≡ record { correlation_id = id; asked = Another key version body } → IsAsked s key version id body
 unfolding served served_by put
 is_asked s bytes key version id body e is = record {
   tenants = at_frame bytes (Another key version body) (front s.unread) e (ap (λ (q : Request). q.asked) is);
   asked = asked_whole bytes (front s.unread) e ∙ ap (λ (q : Request). asked_under q.correlation_id q.asked) is;
-  served = λ setup kept clock. served_whole setup kept clock s bytes (front s.unread) e ∙ ap (λ (q : Request). served_by setup kept clock q.correlation_id q.asked (without_front s)) is;
-  put = λ setup kept clock. kept_whole setup kept clock bytes (front s.unread) e ∙ ap (λ (q : Request). kept_by setup kept clock q.asked) is;
+  served = λ setup kept clock n. served_whole setup kept clock n s bytes (front s.unread) e ∙ ap (λ (q : Request). served_by setup kept clock n q.correlation_id q.asked (without_front s)) is;
+  put = λ setup kept clock n. kept_whole setup kept clock n bytes (front s.unread) e ∙ ap (λ (q : Request). kept_by setup kept clock n q.asked) is;
 }
 
 -- the frame in front asks something of the tenant, and this is handed out
-pub is_handed : (s : Session) (unread frame bytes : List ℕ) (r : ReadRequest) (key version key_out id_out : ℤ) (body body_out : List ℕ) → unread ≡ s.unread → answers.Frame frame ≡ answer (front unread) → bytes ≡ frame → request_of r ≡ request bytes → r.asked ≡ asked.Another key version body → key_out ≡ key → id_out ≡ r.correlation_id → body_out ≡ body → IsAsked s key_out id_out body_out
-is_handed s unread frame bytes r key version key_out id_out body body_out same e read is another k i b =
+pub is_handed : (s : Session) (unread frame bytes : List ℕ) (r : ReadRequest) (key version key_out version_out id_out : ℤ) (body body_out : List ℕ) → unread ≡ s.unread → answers.Frame frame ≡ answer (front unread) → bytes ≡ frame → request_of r ≡ request bytes → r.asked ≡ asked.Another key version body → key_out ≡ key → version_out ≡ version → id_out ≡ r.correlation_id → body_out ≡ body → IsAsked s key_out version_out id_out body_out
+is_handed s unread frame bytes r key version key_out version_out id_out body body_out same e read is another k v i b =
     let in_front : answers.Frame bytes ≡ answer (front s.unread) = ap answers.Frame read ∙ e ∙ ap (λ x. answer (front x)) same in
-    let asks : asked_of r.asked ≡ Another key_out version body_out = ap asked_of another ∙ ap (λ x. Another x version body) (sym k) ∙ ap (λ x. Another key_out version x) (sym b) in
+    let asks : asked_of r.asked ≡ Another key_out version_out body_out = ap asked_of another ∙ ap (λ x. Another x version body) (sym k) ∙ ap (λ x. Another key_out x body) (sym v) ∙ ap (λ x. Another key_out version_out x) (sym b) in
     let first : request bytes ≡ record { correlation_id = id_out; asked = asked_of r.asked } = sym is ∙ ap (λ x. record { correlation_id = x; asked = asked_of r.asked }) (sym i) in
-    is_asked s bytes key_out version id_out body_out in_front (first ∙ ap (λ x. record { correlation_id = id_out; asked = x }) asks)
+    is_asked s bytes key_out version_out id_out body_out in_front (first ∙ ap (λ x. record { correlation_id = id_out; asked = x }) asks)
 
 -- 3. A request of the tenant takes bytes when it is left behind
 

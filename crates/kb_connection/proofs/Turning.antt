@@ -21,19 +21,19 @@ greeted_more setup handshaken s Partial e = refl
 greeted_more setup handshaken s TooSmall e = cc
 greeted_more setup handshaken s TooLarge e = cc
 
-served_more : (setup : Setup) (kept : Kept) (clock : ℕ) (s : Session) (f : Front) → answers.More ≡ answer f → s ≡ served_at setup kept clock s f
-served_more setup kept clock s (Whole frame rest) e = cc
-served_more setup kept clock s Partial e = refl
-served_more setup kept clock s TooSmall e = cc
-served_more setup kept clock s TooLarge e = cc
+served_more : (setup : Setup) (kept : Kept) (clock n : ℕ) (s : Session) (f : Front) → answers.More ≡ answer f → s ≡ served_at setup kept clock n s f
+served_more setup kept clock n s (Whole frame rest) e = cc
+served_more setup kept clock n s Partial e = refl
+served_more setup kept clock n s TooSmall e = cc
+served_more setup kept clock n s TooLarge e = cc
 
 pub greet_more : (setup : Setup) (handshaken : Bool) (l : Line) (unread : List ℕ) → unread ≡ l.session.unread → answers.More ≡ answer (front unread) → l ≡ with_session l (greeted setup handshaken l.session)
 unfolding greeted
 greet_more setup handshaken l unread same e = ap (with_session l) (greeted_more setup handshaken l.session (front l.session.unread) (e ∙ ap (λ bytes. answer (front bytes)) same))
 
-pub serve_more : (setup : Setup) (kept : Kept) (clock : ℕ) (l : Line) (unread : List ℕ) → unread ≡ l.session.unread → answers.More ≡ answer (front unread) → l ≡ with_session l (served setup kept clock l.session)
+pub serve_more : (setup : Setup) (kept : Kept) (clock n : ℕ) (l : Line) (unread : List ℕ) → unread ≡ l.session.unread → answers.More ≡ answer (front unread) → l ≡ with_session l (served setup kept clock n l.session)
 unfolding served
-serve_more setup kept clock l unread same e = ap (with_session l) (served_more setup kept clock l.session (front l.session.unread) (e ∙ ap (λ bytes. answer (front bytes)) same))
+serve_more setup kept clock n l unread same e = ap (with_session l) (served_more setup kept clock n l.session (front l.session.unread) (e ∙ ap (λ bytes. answer (front bytes)) same))
 
 -- 2. A bad size: the connection is shut
 
@@ -48,13 +48,13 @@ greeted_bad setup handshaken s Partial (inr e) = cc
 greeted_bad setup handshaken s TooSmall e = refl
 greeted_bad setup handshaken s TooLarge e = refl
 
-served_bad : (setup : Setup) (kept : Kept) (clock : ℕ) (s : Session) (f : Front) → IsBad (answer f) → shut_down s ≡ served_at setup kept clock s f
-served_bad setup kept clock s (Whole frame rest) (inl e) = cc
-served_bad setup kept clock s (Whole frame rest) (inr e) = cc
-served_bad setup kept clock s Partial (inl e) = cc
-served_bad setup kept clock s Partial (inr e) = cc
-served_bad setup kept clock s TooSmall e = refl
-served_bad setup kept clock s TooLarge e = refl
+served_bad : (setup : Setup) (kept : Kept) (clock n : ℕ) (s : Session) (f : Front) → IsBad (answer f) → shut_down s ≡ served_at setup kept clock n s f
+served_bad setup kept clock n s (Whole frame rest) (inl e) = cc
+served_bad setup kept clock n s (Whole frame rest) (inr e) = cc
+served_bad setup kept clock n s Partial (inl e) = cc
+served_bad setup kept clock n s Partial (inr e) = cc
+served_bad setup kept clock n s TooSmall e = refl
+served_bad setup kept clock n s TooLarge e = refl
 
 bad_front : (next : Next) (unread bytes : List ℕ) → unread ≡ bytes → next ≡ answer (front unread) → IsBad next → IsBad (answer (front bytes))
 bad_front next unread bytes same e (inl is) = inl (sym (e ∙ ap (λ b. answer (front b)) same) ∙ is)
@@ -64,9 +64,9 @@ pub greet_bad : (setup : Setup) (handshaken : Bool) (l new : Line) (next : Next)
 unfolding greeted
 greet_bad setup handshaken l new next unread same e bad is = is ∙ ap (with_session l) (greeted_bad setup handshaken l.session (front l.session.unread) (bad_front next unread l.session.unread same e bad))
 
-pub serve_bad : (setup : Setup) (kept : Kept) (clock : ℕ) (l new : Line) (next : Next) (unread : List ℕ) → unread ≡ l.session.unread → next ≡ answer (front unread) → IsBad next → new ≡ with_session l (shut_down l.session) → new ≡ with_session l (served setup kept clock l.session)
+pub serve_bad : (setup : Setup) (kept : Kept) (clock n : ℕ) (l new : Line) (next : Next) (unread : List ℕ) → unread ≡ l.session.unread → next ≡ answer (front unread) → IsBad next → new ≡ with_session l (shut_down l.session) → new ≡ with_session l (served setup kept clock n l.session)
 unfolding served
-serve_bad setup kept clock l new next unread same e bad is = is ∙ ap (with_session l) (served_bad setup kept clock l.session (front l.session.unread) (bad_front next unread l.session.unread same e bad))
+serve_bad setup kept clock n l new next unread same e bad is = is ∙ ap (with_session l) (served_bad setup kept clock n l.session (front l.session.unread) (bad_front next unread l.session.unread same e bad))
 
 -- 3. A whole frame: its request is served
 
@@ -76,11 +76,11 @@ greeted_frame setup handshaken s frame Partial e = cc
 greeted_frame setup handshaken s frame TooSmall e = cc
 greeted_frame setup handshaken s frame TooLarge e = cc
 
-served_frame : (setup : Setup) (kept : Kept) (clock : ℕ) (s : Session) (frame : List ℕ) (f : Front) → answers.Frame frame ≡ answer f → served_by setup kept clock (request frame).correlation_id (request frame).asked (record s { unread = behind f s.unread }) ≡ served_at setup kept clock s f
-served_frame setup kept clock s frame (Whole front rest) e = let same : frame ≡ front = cc in ap (λ x. served_by setup kept clock (request x).correlation_id (request x).asked (record s { unread = rest })) same
-served_frame setup kept clock s frame Partial e = cc
-served_frame setup kept clock s frame TooSmall e = cc
-served_frame setup kept clock s frame TooLarge e = cc
+served_frame : (setup : Setup) (kept : Kept) (clock n : ℕ) (s : Session) (frame : List ℕ) (f : Front) → answers.Frame frame ≡ answer f → served_by setup kept clock n (request frame).correlation_id (request frame).asked (record s { unread = behind f s.unread }) ≡ served_at setup kept clock n s f
+served_frame setup kept clock n s frame (Whole front rest) e = let same : frame ≡ front = cc in ap (λ x. served_by setup kept clock n (request x).correlation_id (request x).asked (record s { unread = rest })) same
+served_frame setup kept clock n s frame Partial e = cc
+served_frame setup kept clock n s frame TooSmall e = cc
+served_frame setup kept clock n s frame TooLarge e = cc
 
 -- what a worked out reaction comes to
 reacts : {E : Type 0} (setup : Setup) (l new : Line) (result : Result (Unit {0}) E) (reaction : Result (ℤ × Reaction) AllocError) (g : Session → Session) (s : Session) → IfOk reaction (λ done. (s : Session) → reacted setup done.1 done.0 s ≡ g s) → g (without_front l.session) ≡ s → OnOk result (IfReacts reaction (λ id what. new ≡ with_session l (reacted setup what id (without_front l.session)))) → OnOk result (new ≡ with_session l s)
@@ -94,12 +94,12 @@ greet_frame setup handshaken l new result reaction unread frame bytes same e rea
     let in_front : answers.Frame bytes ≡ answer (front l.session.unread) = ap answers.Frame read ∙ e ∙ ap (λ b. answer (front b)) same in
     reacts setup l new result reaction (greeted_by setup handshaken (request bytes).correlation_id (request bytes).asked) (greeted_at setup handshaken l.session (front l.session.unread)) is (greeted_frame setup handshaken l.session bytes (front l.session.unread) in_front) h
 
-pub serve_frame : {E : Type 0} (setup : Setup) (kept : Kept) (clock : ℕ) (l new : Line) (result : Result (Unit {0}) E) (reaction : Result (ℤ × Reaction) AllocError) (unread frame bytes : List ℕ) → unread ≡ l.session.unread → answers.Frame frame ≡ answer (front unread) → bytes ≡ frame → IfOk reaction (λ done. (setup : Setup) (kept : Kept) (clock : ℕ) (s : Session) → reacted setup done.1 done.0 s ≡ served_by setup kept clock (request bytes).correlation_id (request bytes).asked s) → OnOk result (IfReacts reaction (λ id what. new ≡ with_session l (reacted setup what id (without_front l.session)))) → OnOk result (new ≡ with_session l (served setup kept clock l.session))
+pub serve_frame : {E : Type 0} (setup : Setup) (kept : Kept) (clock n : ℕ) (l new : Line) (result : Result (Unit {0}) E) (reaction : Result (ℤ × Reaction) AllocError) (unread frame bytes : List ℕ) → unread ≡ l.session.unread → answers.Frame frame ≡ answer (front unread) → bytes ≡ frame → IfOk reaction (λ done. (setup : Setup) (kept : Kept) (clock n : ℕ) (s : Session) → reacted setup done.1 done.0 s ≡ served_by setup kept clock n (request bytes).correlation_id (request bytes).asked s) → OnOk result (IfReacts reaction (λ id what. new ≡ with_session l (reacted setup what id (without_front l.session)))) → OnOk result (new ≡ with_session l (served setup kept clock n l.session))
 unfolding served
-serve_frame setup kept clock l new result reaction unread frame bytes same e read is h =
+serve_frame setup kept clock n l new result reaction unread frame bytes same e read is h =
     let in_front : answers.Frame bytes ≡ answer (front l.session.unread) = ap answers.Frame read ∙ e ∙ ap (λ b. answer (front b)) same in
-    reacts setup l new result reaction (served_by setup kept clock (request bytes).correlation_id (request bytes).asked) (served_at setup kept clock l.session (front l.session.unread)) (for_this reaction is) (served_frame setup kept clock l.session bytes (front l.session.unread) in_front) h
+    reacts setup l new result reaction (served_by setup kept clock n (request bytes).correlation_id (request bytes).asked) (served_at setup kept clock n l.session (front l.session.unread)) (for_this reaction is) (served_frame setup kept clock n l.session bytes (front l.session.unread) in_front) h
   where
-    for_this : (r : Result (ℤ × Reaction) AllocError) → IfOk r (λ done. (setup : Setup) (kept : Kept) (clock : ℕ) (s : Session) → reacted setup done.1 done.0 s ≡ served_by setup kept clock (request bytes).correlation_id (request bytes).asked s) → IfOk r (λ done. (s : Session) → reacted setup done.1 done.0 s ≡ served_by setup kept clock (request bytes).correlation_id (request bytes).asked s)
-    for_this (Ok done) each = each setup kept clock
+    for_this : (r : Result (ℤ × Reaction) AllocError) → IfOk r (λ done. (setup : Setup) (kept : Kept) (clock n : ℕ) (s : Session) → reacted setup done.1 done.0 s ≡ served_by setup kept clock n (request bytes).correlation_id (request bytes).asked s) → IfOk r (λ done. (s : Session) → reacted setup done.1 done.0 s ≡ served_by setup kept clock n (request bytes).correlation_id (request bytes).asked s)
+    for_this (Ok done) each = each setup kept clock n
     for_this (Err fault) each = tt

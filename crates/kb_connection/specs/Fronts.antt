@@ -23,17 +23,17 @@ is_tenants_at Partial = false
 is_tenants_at TooSmall = false
 is_tenants_at TooLarge = false
 
--- a request of the tenant: its correlation id, its key and its body
-abbrev pub asked_under : ℤ → Asked → Option (ℤ × ℤ × List ℕ)
+-- a request of the tenant: its correlation id, its key, its version and its body
+abbrev pub asked_under : ℤ → Asked → Option (ℤ × ℤ × ℤ × List ℕ)
 asked_under id Versions = None
 asked_under id OtherVersions = None
 asked_under id (Handshake mechanism) = None
 asked_under id (Authenticate message) = None
-asked_under id (Another key version body) = Some (id, key, body)
+asked_under id (Another key version body) = Some (id, key, version, body)
 asked_under id Unread = None
 
 -- the request of the tenant that stands in front
-abbrev pub asked_at : Front → Option (ℤ × ℤ × List ℕ)
+abbrev pub asked_at : Front → Option (ℤ × ℤ × ℤ × List ℕ)
 asked_at (Whole frame rest) = let r = request frame in asked_under r.correlation_id r.asked
 asked_at Partial = None
 asked_at TooSmall = None
@@ -42,11 +42,11 @@ asked_at TooLarge = None
 -- no request of the tenant stands in front: what the tenant keeps stays
 pub record IsOwn (s : Session) : Type 0 where
   pub own : is_tenants_at (front s.unread) ≡ false
-  pub put : (setup : Setup) (kept : Kept) (clock : ℕ) → put setup kept clock s.unread ≡ kept
+  pub put : (setup : Setup) (kept : Kept) (clock n : ℕ) → put setup kept clock n s.unread ≡ kept
 
 -- this request of the tenant stands in front
-pub record IsAsked (s : Session) (key id : ℤ) (body : List ℕ) : Type 0 where
+pub record IsAsked (s : Session) (key version id : ℤ) (body : List ℕ) : Type 0 where
   pub tenants : is_tenants_at (front s.unread) ≡ true
-  pub asked : asked_at (front s.unread) ≡ Some (id, key, body)
-  pub served : (setup : Setup) (kept : Kept) (clock : ℕ) → served setup kept clock s ≡ answered (answer setup.node kept clock key body) id body (without_front s)
-  pub put : (setup : Setup) (kept : Kept) (clock : ℕ) → put setup kept clock s.unread ≡ kept_after setup.node kept clock key body
+  pub asked : asked_at (front s.unread) ≡ Some (id, key, version, body)
+  pub served : (setup : Setup) (kept : Kept) (clock n : ℕ) → served setup kept clock n s ≡ answered (answer setup.node kept clock n key version body) id version body (without_front s)
+  pub put : (setup : Setup) (kept : Kept) (clock n : ℕ) → put setup kept clock n s.unread ≡ kept_after setup.node kept clock n key version body

@@ -26,11 +26,11 @@ is_wait (answers.Wait deadline keys) = true
 is_wait answers.NoReply = false
 is_wait answers.Shut = false
 
--- the wait for the answer to a request of that correlation id, key and body
-abbrev pub wait_for : ℕ → ℤ × ℤ × List ℕ → Wait
-wait_for deadline asked = record { correlation_id = asked.0; body = asked.2; deadline = deadline }
+-- the wait for the answer to a request of that correlation id, key, version and body
+abbrev pub wait_for : ℕ → ℤ × ℤ × ℤ × List ℕ → Wait
+wait_for deadline asked = record { correlation_id = asked.0; version = asked.2; body = asked.3; deadline = deadline }
 
 -- the connection waits for the answer to a request of its tenant, if there is one
-abbrev pub parked : ℕ → Option (ℤ × ℤ × List ℕ) → Session → Session
+abbrev pub parked : ℕ → Option (ℤ × ℤ × ℤ × List ℕ) → Session → Session
 parked deadline None s = s
 parked deadline (Some asked) s = record s { stage = waiting (wait_for deadline asked) s.stage }

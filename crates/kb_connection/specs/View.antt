@@ -36,7 +36,7 @@ request_of r = record { correlation_id = r.correlation_id; asked = asked_of r.as
 
 -- a fetch that waits for its answer
 abbrev pub wait_of : Waiting → Wait
-wait_of w = record { correlation_id = w.correlation_id; body = w.body.items; deadline = w.deadline }
+wait_of w = record { correlation_id = w.correlation_id; version = w.api_version; body = w.body.items; deadline = w.deadline }
 
 -- the stage of a connection, but for its wait
 abbrev pub stage_of : Phase → Stage

@@ -58,6 +58,8 @@ impl Phase {
 pub struct Waiting {
     /// The correlation id of its request.
     pub correlation_id: i32,
+    /// The version of its request.
+    pub api_version: i16,
     /// The body of its request.
     pub body: Vec<u8>,
     /// The moment after which it waits no longer.
@@ -250,7 +252,8 @@ impl Connection {
     /// connection alone.
     pub fn request(&self, alloc: Global) -> Result<Option<kb_tenant::Request<'_>>, AllocError>
         ensures own { IfOk result (λ found. IfNone found (IsOwn self.now.session)) }
-        ensures asked { IfOk result (λ found. IfSome found (λ asked. IsAsked self.now.session asked.api_key asked.correlation_id asked.body.now)) }
+        ensures asked { IfOk result (λ found. IfSome found (λ asked. IsAsked self.now.session asked.api_key asked.api_version asked.correlation_id asked.body.now)) }
+        ensures number { IfOk result (λ found. IfSome found (λ asked. asked.connection ≡ self.now.number)) }
         // none stands in front of one that was shut
         ensures unshut { IfOk result (λ found. IfSome found (λ asked. self.now.session.shut ≡ false)) }
     {
@@ -262,8 +265,10 @@ impl Connection {
             asked,
         } = Request::read(alloc, frame.as_slice())?;
         match asked {
-            Asked::Another { key, body, .. } => Ok(Some(kb_tenant::Request {
+            Asked::Another { key, version, body } => Ok(Some(kb_tenant::Request {
+                connection: self.number,
                 api_key: key,
+                api_version: version,
                 correlation_id,
                 body: body.as_slice(),
             })),
@@ -275,7 +280,7 @@ impl Connection {
     /// request is kept until `wake` ends the wait. Where memory is refused it is shut.
     #[tactic(auto, using(crate::proofs::Answering::gives, crate::proofs::Answering::less_given, crate::proofs::Answering::less_parked, crate::proofs::Answering::free_given))]
     pub fn answer(&mut self, alloc: Global, answer: Answer) -> Result<(), AllocError>
-        ensures ok { (key id : ℤ) (body : List ℕ) (reaction : Reacts) → IsAsked self.old.session key id body → IsAnswer id reaction answer → OnOk result (self.new ≡ with_session self.old (answered reaction id body (without_front self.old.session))) }
+        ensures ok { (key version id : ℤ) (body : List ℕ) (reaction : Reacts) → IsAsked self.old.session key version id body → IsAnswer id reaction answer → OnOk result (self.new ≡ with_session self.old (answered reaction id version body (without_front self.old.session))) }
         ensures err { OnErr result (self.new ≡ with_session self.old (shut_down self.old.session)) }
         // whatever the answer is, also where a refusal spoiled it
         ensures number { self.new.number ≡ self.old.number }
@@ -342,6 +347,7 @@ impl Connection {
         };
         Ok(Some(Waiting {
             correlation_id: request.correlation_id,
+            api_version: request.api_version,
             body: Vec::from_slice(alloc, request.body)?,
             deadline,
         }))
@@ -395,7 +401,7 @@ impl Connection {
     /// it is shut.
     pub fn serve(&mut self, alloc: Global, setup: &Setup) -> Result<(), AllocError>
         requires { IsOwn self.old.session }
-        ensures ok { (kept : Kept) (clock : ℕ) → OnOk result (self.new ≡ with_session self.old (served setup.now kept clock self.old.session)) }
+        ensures ok { (kept : Kept) (clock n : ℕ) → OnOk result (self.new ≡ with_session self.old (served setup.now kept clock n self.old.session)) }
         ensures err { OnErr result (self.new ≡ with_session self.old (shut_down self.old.session)) }
     {
         match self.unread.next() {
@@ -520,7 +526,7 @@ fn greeting_reaction(
 
 /// What a bound connection's request comes to that is no request of its tenant, under its correlation id.
 fn bound_reaction(alloc: Global, frame: &[u8]) -> Result<(i32, Reaction), AllocError>
-    ensures { let r = request frame.now in is_tenants r.asked ≡ false → IfOk result (λ done. (setup : Setup) (kept : Kept) (clock : ℕ) (s : Session) → reacted setup done.1 done.0 s ≡ served_by setup kept clock r.correlation_id r.asked s) }
+    ensures { let r = request frame.now in is_tenants r.asked ≡ false → IfOk result (λ done. (setup : Setup) (kept : Kept) (clock n : ℕ) (s : Session) → reacted setup done.1 done.0 s ≡ served_by setup kept clock n r.correlation_id r.asked s) }
 {
     let request = Request::read(alloc, frame)?;
     Ok((request.correlation_id, Reaction::bound(&request.asked)))

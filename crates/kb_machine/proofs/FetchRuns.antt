@@ -31,28 +31,28 @@ small-retained : (clock : ℕ) (kept : Kept) → HasSmallLogs (world_at kept clo
 unfolding retained
 small-retained clock kept small = each-small (all_places (world_at kept clock)) (world_at kept clock) small
 
-small-by : (setup : Setup) (kept : Kept) (clock : ℕ) (a : Asked) → HasSmallLogs (world_at kept clock) → HasSmallLogs (world_at (kept_by setup kept clock a) clock)
+small-by : (setup : Setup) (kept : Kept) (clock n : ℕ) (a : Asked) → HasSmallLogs (world_at kept clock) → HasSmallLogs (world_at (kept_by setup kept clock n a) clock)
 unfolding kept_after
-small-by setup kept clock Versions small = small
-small-by setup kept clock OtherVersions small = small
-small-by setup kept clock (Handshake mechanism) small = small
-small-by setup kept clock (Authenticate message) small = small
-small-by setup kept clock (Another key version body) small = served_small setup.node (world_at kept clock) key body small
-small-by setup kept clock Unread small = small
+small-by setup kept clock n Versions small = small
+small-by setup kept clock n OtherVersions small = small
+small-by setup kept clock n (Handshake mechanism) small = small
+small-by setup kept clock n (Authenticate message) small = small
+small-by setup kept clock n (Another key version body) small = served_small setup.node (world_at kept clock) n key version body small
+small-by setup kept clock n Unread small = small
 
-small-at : (setup : Setup) (kept : Kept) (clock : ℕ) (f : Front) → HasSmallLogs (world_at kept clock) → HasSmallLogs (world_at (kept_at setup kept clock f) clock)
-small-at setup kept clock (Whole frame rest) small = small-by setup kept clock (request frame).asked small
-small-at setup kept clock TooSmall small = small
-small-at setup kept clock TooLarge small = small
-small-at setup kept clock Partial small = small
+small-at : (setup : Setup) (kept : Kept) (clock n : ℕ) (f : Front) → HasSmallLogs (world_at kept clock) → HasSmallLogs (world_at (kept_at setup kept clock n f) clock)
+small-at setup kept clock n (Whole frame rest) small = small-by setup kept clock n (request frame).asked small
+small-at setup kept clock n TooSmall small = small
+small-at setup kept clock n TooLarge small = small
+small-at setup kept clock n Partial small = small
 
-small-put : (setup : Setup) (kept : Kept) (clock : ℕ) (unread : List ℕ) → HasSmallLogs (world_at kept clock) → HasSmallLogs (world_at (put setup kept clock unread) clock)
+small-put : (setup : Setup) (kept : Kept) (clock n : ℕ) (unread : List ℕ) → HasSmallLogs (world_at kept clock) → HasSmallLogs (world_at (put setup kept clock n unread) clock)
 unfolding put
-small-put setup kept clock unread small = small-at setup kept clock (front unread) small
+small-put setup kept clock n unread small = small-at setup kept clock n (front unread) small
 
 small-turn_at : (w : World) (n : ℕ) (unread : List ℕ) (stage : Stage) → IsSmall w → IsSmall (turn_at w n unread stage)
 small-turn_at w n unread (Greets handshaken) small = small
-small-turn_at w n unread (BoundTo tenant wait) small = small-put w.setup w.kept w.clock unread small
+small-turn_at w n unread (BoundTo tenant wait) small = small-put w.setup w.kept w.clock n unread small
 
 small-turn_of : (w : World) (o : Option Line) → IsSmall w → IsSmall (turn_of w o)
 small-turn_of w None small = small
@@ -84,8 +84,8 @@ small-last (e ∷ es) w small = small-last es (step e w) (small-step e w small)
 
 -- 2. Answers
 
-serves : (w : World) (s : Session) → IsSmall w → ServesBatches w s
-serves w s small frame rest version body fetch at asks read = served-batches w.setup w.kept w.clock s frame rest version body fetch small at asks read
+serves : (w : World) (n : ℕ) (s : Session) → IsSmall w → ServesBatches w n s
+serves w n s small frame rest version body fetch at asks read = served-batches w.setup w.kept w.clock n s frame rest version body fetch small at asks read
 
 wakes : (w : World) (s : Session) → IsSmall w → WakesWithBatches w s
 wakes w s small tenant wait fetch waits read = woken-batches w.kept w.clock tenant s wait fetch small waits read
@@ -99,7 +99,7 @@ all-wake w small = each-line (λ (l : Line). WakesWithBatches w l.session) (λ l
 
 turn-gives : (w : World) (l : Line) (stage : Stage) → IsSmall w → TurnGivesBatches w l stage
 turn-gives w l (Greets handshaken) small = tt
-turn-gives w l (BoundTo tenant wait) small = (serves w l.session small, all-wake (after_request w l) (small-put w.setup w.kept w.clock l.session.unread small))
+turn-gives w l (BoundTo tenant wait) small = (serves w l.number l.session small, all-wake (after_request w l) (small-put w.setup w.kept w.clock l.number l.session.unread small))
 
 next-gives : (w : World) (o : Option Line) → IsSmall w → NextGivesBatches w o
 next-gives w None small = tt

@@ -15,30 +15,30 @@ use Rattle.kb_machine.specs.Greeting.{Setup}
 use Rattle.kb_machine.specs.Machine.{answered, served_by, served_at, served, told, woken_by, woken}
 use Rattle.kb_machine.specs.Fetches.{GetsBatches}
 
-answer-holds : (setup : Setup) (kept : Kept) (clock : ℕ) (body reply : List ℕ) (r : FetchRequest) → HasSmallLogs (world_at kept clock) → whole fetch_request body ≡ Ok r → answer setup.node kept clock (pos 1) body ≡ Replies reply → HoldsBatches (world_at kept clock) r reply
+answer-holds : (setup : Setup) (kept : Kept) (clock n : ℕ) (version : ℤ) (body reply : List ℕ) (r : FetchRequest) → HasSmallLogs (world_at kept clock) → whole fetch_request body ≡ Ok r → answer setup.node kept clock n (pos 1) version body ≡ Replies reply → HoldsBatches (world_at kept clock) r reply
 unfolding answer
-answer-holds setup kept clock body reply r small read e = served-holds setup.node (world_at kept clock) body reply r small read e
+answer-holds setup kept clock n version body reply r small read e = served-holds setup.node (world_at kept clock) n version body reply r small read e
 
 ready-holds : (kept : Kept) (clock : ℕ) (wait : Wait) (reply : List ℕ) (r : FetchRequest) → HasSmallLogs (world_at kept clock) → whole fetch_request wait.body ≡ Ok r → ready kept clock wait ≡ Replies reply → HoldsBatches (world_at kept clock) r reply
 unfolding ready
-ready-holds kept clock wait reply r small read e = looked-holds (world_at kept clock) wait.deadline wait.body reply r small read e
+ready-holds kept clock wait reply r small read e = looked-holds (world_at kept clock) wait.deadline wait.version wait.body reply r small read e
 
-answered_by : (setup : Setup) (kept : Kept) (clock : ℕ) (id : ℤ) (body : List ℕ) (s : Session) (r : FetchRequest) → HasSmallLogs (world_at kept clock) → whole fetch_request body ≡ Ok r → (x : Reaction) → answer setup.node kept clock (pos 1) body ≡ x → GetsBatches (world_at kept clock) r id s (answered x id body s)
-answered_by setup kept clock id body s r small read (Replies reply) e = inl (reply, answer-holds setup kept clock body reply r small read e, refl)
-answered_by setup kept clock id body s r small read (Waits deadline places) e = inr refl
-answered_by setup kept clock id body s r small read Silent e = inr refl
-answered_by setup kept clock id body s r small read Shuts e = inr refl
+answered_by : (setup : Setup) (kept : Kept) (clock n : ℕ) (id version : ℤ) (body : List ℕ) (s : Session) (r : FetchRequest) → HasSmallLogs (world_at kept clock) → whole fetch_request body ≡ Ok r → (x : Reaction) → answer setup.node kept clock n (pos 1) version body ≡ x → GetsBatches (world_at kept clock) r id s (answered x id version body s)
+answered_by setup kept clock n id version body s r small read (Replies reply) e = inl (reply, answer-holds setup kept clock n version body reply r small read e, refl)
+answered_by setup kept clock n id version body s r small read (Waits deadline places) e = inr refl
+answered_by setup kept clock n id version body s r small read Silent e = inr refl
+answered_by setup kept clock n id version body s r small read Shuts e = inr refl
 
 -- a fetch that takes its turn
-pub served-batches : (setup : Setup) (kept : Kept) (clock : ℕ) (s : Session) (frame rest : List ℕ) (version : ℤ) (body : List ℕ) (r : FetchRequest) → HasSmallLogs (world_at kept clock) → front s.unread ≡ Whole frame rest → (request frame).asked ≡ Another (pos 1) version body → whole fetch_request body ≡ Ok r
-    → GetsBatches (world_at kept clock) r (request frame).correlation_id (record s { unread = rest }) (served setup kept clock s)
+pub served-batches : (setup : Setup) (kept : Kept) (clock n : ℕ) (s : Session) (frame rest : List ℕ) (version : ℤ) (body : List ℕ) (r : FetchRequest) → HasSmallLogs (world_at kept clock) → front s.unread ≡ Whole frame rest → (request frame).asked ≡ Another (pos 1) version body → whole fetch_request body ≡ Ok r
+    → GetsBatches (world_at kept clock) r (request frame).correlation_id (record s { unread = rest }) (served setup kept clock n s)
 unfolding served served_by
-served-batches setup kept clock s frame rest version body r small at asks read =
+served-batches setup kept clock n s frame rest version body r small at asks read =
     let id = (request frame).correlation_id in
     let from : Session = record s { unread = rest } in
-    let is : served_at setup kept clock s (front s.unread) ≡ answered (answer setup.node kept clock (pos 1) body) id body from =
-    ap (served_at setup kept clock s) at ∙ ap (λ a. served_by setup kept clock id a from) asks in
-    subst (GetsBatches (world_at kept clock) r id from) (sym is) (answered_by setup kept clock id body from r small read (answer setup.node kept clock (pos 1) body) refl)
+    let is : served_at setup kept clock n s (front s.unread) ≡ answered (answer setup.node kept clock n (pos 1) version body) id version body from =
+    ap (served_at setup kept clock n s) at ∙ ap (λ a. served_by setup kept clock n id a from) asks in
+    subst (GetsBatches (world_at kept clock) r id from) (sym is) (answered_by setup kept clock n id version body from r small read (answer setup.node kept clock n (pos 1) version body) refl)
 
 told_by : (kept : Kept) (clock : ℕ) (wait : Wait) (s : Session) (r : FetchRequest) → HasSmallLogs (world_at kept clock) → whole fetch_request wait.body ≡ Ok r → (x : Reaction) → ready kept clock wait ≡ x
     → GetsBatches (world_at kept clock) r wait.correlation_id (record s { stage = without_wait s.stage }) (told x wait.correlation_id s)

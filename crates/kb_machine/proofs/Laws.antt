@@ -92,20 +92,20 @@ greeted_by-le setup h id (Authenticate m) s = authenticated-le setup h id m s
 greeted_by-le setup h id (Another k v b) s = omega arith
 greeted_by-le setup h id Unread s = omega arith
 
-answered-le : (r : Reaction) (id : ℤ) (body : List ℕ) (s : Session) → length (answered r id body s).unread ≤ length s.unread
-answered-le (Replies reply) id body s = replied-le id reply s
-answered-le (Waits deadline places) id body s = omega arith
-answered-le Silent id body s = omega arith
-answered-le Shuts id body s = omega arith
+answered-le : (r : Reaction) (id version : ℤ) (body : List ℕ) (s : Session) → length (answered r id version body s).unread ≤ length s.unread
+answered-le (Replies reply) id version body s = replied-le id reply s
+answered-le (Waits deadline places) id version body s = omega arith
+answered-le Silent id version body s = omega arith
+answered-le Shuts id version body s = omega arith
 
-pub served_by-le : (setup : Setup) (kept : Kept) (clock : ℕ) (id : ℤ) (a : Asked) (s : Session) → length (served_by setup kept clock id a s).unread ≤ length s.unread
+pub served_by-le : (setup : Setup) (kept : Kept) (clock n : ℕ) (id : ℤ) (a : Asked) (s : Session) → length (served_by setup kept clock n id a s).unread ≤ length s.unread
 unfolding served_by
-served_by-le setup kept clock id Versions s = replied-le id _ s
-served_by-le setup kept clock id OtherVersions s = replied-le id _ s
-served_by-le setup kept clock id (Handshake m) s = replied-le id _ s
-served_by-le setup kept clock id (Authenticate m) s = replied-le id _ s
-served_by-le setup kept clock id (Another k v b) s = answered-le (answer setup.node kept clock k b) id b s
-served_by-le setup kept clock id Unread s = omega arith
+served_by-le setup kept clock n id Versions s = replied-le id _ s
+served_by-le setup kept clock n id OtherVersions s = replied-le id _ s
+served_by-le setup kept clock n id (Handshake m) s = replied-le id _ s
+served_by-le setup kept clock n id (Authenticate m) s = replied-le id _ s
+served_by-le setup kept clock n id (Another k v b) s = answered-le (answer setup.node kept clock n k v b) id v b s
+served_by-le setup kept clock n id Unread s = omega arith
 
 greeted_at-less : (setup : Setup) (h : Bool) (s : Session) (f : Front) → front s.unread ≡ f → is_turn f ≡ true → length (greeted_at setup h s f).unread < length s.unread
 greeted_at-less setup h s (Whole frame rest) e t =
@@ -133,30 +133,30 @@ pub greeted-still : (setup : Setup) (h : Bool) (s : Session) → is_turn (front 
 unfolding greeted
 greeted-still setup h s t = greeted_at-still setup h s (front s.unread) t
 
-served_at-less : (setup : Setup) (kept : Kept) (clock : ℕ) (s : Session) (f : Front) → front s.unread ≡ f → is_turn f ≡ true → length (served_at setup kept clock s f).unread < length s.unread
-served_at-less setup kept clock s (Whole frame rest) e t =
+served_at-less : (setup : Setup) (kept : Kept) (clock n : ℕ) (s : Session) (f : Front) → front s.unread ≡ f → is_turn f ≡ true → length (served_at setup kept clock n s f).unread < length s.unread
+served_at-less setup kept clock n s (Whole frame rest) e t =
     let r = request frame in
-    let le = served_by-le setup kept clock r.correlation_id r.asked (record s { unread = rest }) in
+    let le = served_by-le setup kept clock n r.correlation_id r.asked (record s { unread = rest }) in
     let lt = front-rest s.unread frame rest e in
     omega arith
-served_at-less setup kept clock s TooSmall e t = some-left s.unread (ap is_turn e)
-served_at-less setup kept clock s TooLarge e t = some-left s.unread (ap is_turn e)
-served_at-less setup kept clock s Partial e t = cc
+served_at-less setup kept clock n s TooSmall e t = some-left s.unread (ap is_turn e)
+served_at-less setup kept clock n s TooLarge e t = some-left s.unread (ap is_turn e)
+served_at-less setup kept clock n s Partial e t = cc
 
 -- a bound connection's turn takes bytes
-pub served-less : (setup : Setup) (kept : Kept) (clock : ℕ) (s : Session) → is_turn (front s.unread) ≡ true → length (served setup kept clock s).unread < length s.unread
+pub served-less : (setup : Setup) (kept : Kept) (clock n : ℕ) (s : Session) → is_turn (front s.unread) ≡ true → length (served setup kept clock n s).unread < length s.unread
 unfolding served
-served-less setup kept clock s t = served_at-less setup kept clock s (front s.unread) refl t
+served-less setup kept clock n s t = served_at-less setup kept clock n s (front s.unread) refl t
 
-served_at-still : (setup : Setup) (kept : Kept) (clock : ℕ) (s : Session) (f : Front) → is_turn f ≡ false → served_at setup kept clock s f ≡ s
-served_at-still setup kept clock s (Whole frame rest) t = cc
-served_at-still setup kept clock s TooSmall t = cc
-served_at-still setup kept clock s TooLarge t = cc
-served_at-still setup kept clock s Partial t = refl
+served_at-still : (setup : Setup) (kept : Kept) (clock n : ℕ) (s : Session) (f : Front) → is_turn f ≡ false → served_at setup kept clock n s f ≡ s
+served_at-still setup kept clock n s (Whole frame rest) t = cc
+served_at-still setup kept clock n s TooSmall t = cc
+served_at-still setup kept clock n s TooLarge t = cc
+served_at-still setup kept clock n s Partial t = refl
 
-served-still : (setup : Setup) (kept : Kept) (clock : ℕ) (s : Session) → is_turn (front s.unread) ≡ false → served setup kept clock s ≡ s
+served-still : (setup : Setup) (kept : Kept) (clock n : ℕ) (s : Session) → is_turn (front s.unread) ≡ false → served setup kept clock n s ≡ s
 unfolding served
-served-still setup kept clock s t = served_at-still setup kept clock s (front s.unread) t
+served-still setup kept clock n s t = served_at-still setup kept clock n s (front s.unread) t
 
 pub can-turn : (s : Session) → can s ≡ true → is_turn (front s.unread) ≡ true
 unfolding can
@@ -177,10 +177,10 @@ greeted-takes setup h = record {
   less = λ s c. greeted-less setup h s (can-turn s c);
 }
 
-pub served-takes : (setup : Setup) (kept : Kept) (clock : ℕ) → Takes (served setup kept clock)
-served-takes setup kept clock = record {
-  le = λ s. le_by (is_turn (front s.unread)) (served setup kept clock s) s (served-less setup kept clock s) (served-still setup kept clock s);
-  less = λ s c. served-less setup kept clock s (can-turn s c);
+pub served-takes : (setup : Setup) (kept : Kept) (clock n : ℕ) → Takes (served setup kept clock n)
+served-takes setup kept clock n = record {
+  le = λ s. le_by (is_turn (front s.unread)) (served setup kept clock n s) s (served-less setup kept clock n s) (served-still setup kept clock n s);
+  less = λ s c. served-less setup kept clock n s (can-turn s c);
 }
 
 le-on : (n : ℕ) (f : Session → Session) (t : Takes f) (l : Line) → length (on n f l.number l.session).unread ≤ length l.session.unread
@@ -218,8 +218,8 @@ work-woken kept clock (l ∷ ls) = let h = woken_by-le kept clock l.session l.se
 work-turn_at : (w : World) (l : Line) (st : Stage) → first_able w.lines ≡ Some l → work (turn_at w l.number l.session.unread st).lines < work w.lines
 work-turn_at w l (Greets h) f = work-on l.number (greeted w.setup h) (greeted-takes w.setup h) w.lines l f refl
 work-turn_at w l (BoundTo u wait) f =
-    let e = work-woken (put w.setup w.kept w.clock l.session.unread) w.clock (each (on l.number (served w.setup w.kept w.clock)) w.lines) in
-    let lt = work-on l.number (served w.setup w.kept w.clock) (served-takes w.setup w.kept w.clock) w.lines l f refl in
+    let e = work-woken (put w.setup w.kept w.clock l.number l.session.unread) w.clock (each (on l.number (served w.setup w.kept w.clock l.number)) w.lines) in
+    let lt = work-on l.number (served w.setup w.kept w.clock l.number) (served-takes w.setup w.kept w.clock l.number) w.lines l f refl in
     omega (arith, e, lt)
 
 -- 3. The turn of a world

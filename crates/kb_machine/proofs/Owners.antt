@@ -117,28 +117,28 @@ stage-waiting : (wait : Wait) (st : Stage) → without_wait (waiting wait st) �
 stage-waiting wait (Greets h) = refl
 stage-waiting wait (BoundTo u w) = refl
 
-pub stage-answered : (r : Reaction) (id : ℤ) (body : List ℕ) (s : Session) → without_wait (answered r id body s).stage ≡ without_wait s.stage
-stage-answered (Replies reply) id body s = stage-replied id reply s
-stage-answered (Waits deadline places) id body s = stage-waiting (record { correlation_id = id; body = body; deadline = deadline }) s.stage
-stage-answered Silent id body s = refl
-stage-answered Shuts id body s = stage-shut s
+pub stage-answered : (r : Reaction) (id version : ℤ) (body : List ℕ) (s : Session) → without_wait (answered r id version body s).stage ≡ without_wait s.stage
+stage-answered (Replies reply) id version body s = stage-replied id reply s
+stage-answered (Waits deadline places) id version body s = stage-waiting (record { correlation_id = id; version = version; body = body; deadline = deadline }) s.stage
+stage-answered Silent id version body s = refl
+stage-answered Shuts id version body s = stage-shut s
 
-stage-served_by : (setup : Setup) (kept : Kept) (clock : ℕ) (id : ℤ) (a : Asked) (s : Session) → without_wait (served_by setup kept clock id a s).stage ≡ without_wait s.stage
+stage-served_by : (setup : Setup) (kept : Kept) (clock n : ℕ) (id : ℤ) (a : Asked) (s : Session) → without_wait (served_by setup kept clock n id a s).stage ≡ without_wait s.stage
 unfolding served_by
-stage-served_by setup kept clock id Versions s = stage-replied id _ s
-stage-served_by setup kept clock id OtherVersions s = stage-replied id _ s
-stage-served_by setup kept clock id (Handshake m) s = stage-replied id _ s
-stage-served_by setup kept clock id (Authenticate m) s = stage-replied id _ s
-stage-served_by setup kept clock id (Another k v b) s = stage-answered (answer setup.node kept clock k b) id b s
-stage-served_by setup kept clock id Unread s = stage-shut s
+stage-served_by setup kept clock n id Versions s = stage-replied id _ s
+stage-served_by setup kept clock n id OtherVersions s = stage-replied id _ s
+stage-served_by setup kept clock n id (Handshake m) s = stage-replied id _ s
+stage-served_by setup kept clock n id (Authenticate m) s = stage-replied id _ s
+stage-served_by setup kept clock n id (Another k v b) s = stage-answered (answer setup.node kept clock n k v b) id v b s
+stage-served_by setup kept clock n id Unread s = stage-shut s
 
 -- a bound connection's turn leaves it bound
-pub stage-served : (setup : Setup) (kept : Kept) (clock : ℕ) (s : Session) → without_wait (served setup kept clock s).stage ≡ without_wait s.stage
+pub stage-served : (setup : Setup) (kept : Kept) (clock n : ℕ) (s : Session) → without_wait (served setup kept clock n s).stage ≡ without_wait s.stage
 unfolding served
-stage-served setup kept clock s = by (front s.unread)
+stage-served setup kept clock n s = by (front s.unread)
   where
-    by : (f : Front) → without_wait (served_at setup kept clock s f).stage ≡ without_wait s.stage
-    by (Whole frame rest) = stage-served_by setup kept clock (request frame).correlation_id (request frame).asked (record s { unread = rest })
+    by : (f : Front) → without_wait (served_at setup kept clock n s f).stage ≡ without_wait s.stage
+    by (Whole frame rest) = stage-served_by setup kept clock n (request frame).correlation_id (request frame).asked (record s { unread = rest })
     by TooSmall = stage-shut s
     by TooLarge = stage-shut s
     by Partial = refl
@@ -218,9 +218,9 @@ view-greeting mine w all l h true m f g e =
 
 -- a turn for the tenant itself is the machine's turn
 pub view-served : (mine : ℕ → Bool) (w : World) (all : List Line) (l : Line) (t : ℕ) (wait : Option Wait) → first_able all ≡ Some l → l.session.stage ≡ BoundTo t wait → w.lines ≡ those mine all → mine l.number ≡ true →
-    turns (all_woken (record w { kept = put w.setup w.kept w.clock l.session.unread; lines = those mine (each (on l.number (served w.setup w.kept w.clock)) all) })) ≡ turns w
+    turns (all_woken (record w { kept = put w.setup w.kept w.clock l.number l.session.unread; lines = those mine (each (on l.number (served w.setup w.kept w.clock l.number)) all) })) ≡ turns w
 view-served mine w all l t wait f g e m =
     let able : first_able w.lines ≡ Some l = ap first_able e ∙ first-those mine all l f m in
-    let lines : those mine (each (on l.number (served w.setup w.kept w.clock)) all) ≡ each (on l.number (served w.setup w.kept w.clock)) w.lines = those-each mine (on l.number (served w.setup w.kept w.clock)) all ∙ ap (each (on l.number (served w.setup w.kept w.clock))) (sym e) in
+    let lines : those mine (each (on l.number (served w.setup w.kept w.clock l.number)) all) ≡ each (on l.number (served w.setup w.kept w.clock l.number)) w.lines = those-each mine (on l.number (served w.setup w.kept w.clock l.number)) all ∙ ap (each (on l.number (served w.setup w.kept w.clock l.number))) (sym e) in
     let taken : turn w ≡ turn_at w l.number l.session.unread (BoundTo t wait) = turn-some w l able ∙ ap (turn_at w l.number l.session.unread) g in
-    ap (λ ls. turns (all_woken (record w { kept = put w.setup w.kept w.clock l.session.unread; lines = ls }))) lines ∙ (ap turns (sym taken) ∙ turns-turn w)
+    ap (λ ls. turns (all_woken (record w { kept = put w.setup w.kept w.clock l.number l.session.unread; lines = ls }))) lines ∙ (ap turns (sym taken) ∙ turns-turn w)

@@ -36,8 +36,8 @@ whose-without_wait : (st : Stage) → whose (without_wait st) ≡ whose st
 whose-without_wait (Greets h) = refl
 whose-without_wait (BoundTo t w) = refl
 
-pub whose-served : (setup : Setup) (kept : Kept) (clock tenant : ℕ) (s : Session) → whose s.stage ≡ Some tenant → whose (served setup kept clock s).stage ≡ Some tenant
-whose-served setup kept clock tenant s e = sym (whose-without_wait (served setup kept clock s).stage) ∙ ap whose (stage-served setup kept clock s) ∙ whose-without_wait s.stage ∙ e
+pub whose-served : (setup : Setup) (kept : Kept) (clock n tenant : ℕ) (s : Session) → whose s.stage ≡ Some tenant → whose (served setup kept clock n s).stage ≡ Some tenant
+whose-served setup kept clock n tenant s e = sym (whose-without_wait (served setup kept clock n s).stage) ∙ ap whose (stage-served setup kept clock n s) ∙ whose-without_wait s.stage ∙ e
 
 settled_by : (n : ℕ) (w : World) (o : Option Line) → first_able w.lines ≡ o → work w.lines ≤ n → first_able (again turn n w).lines ≡ None
 settled_by n w None h p = ap (λ (v : World). first_able v.lines) (again-none n w h) ∙ h

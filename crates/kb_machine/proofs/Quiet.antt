@@ -44,17 +44,17 @@ silent-none (Some reply) h = absurd (cc)
 silent-none None h = refl
 
 -- a fetch that is not ready is not ready in another world, if what its body asks has no answer there either
-silent-there : (w v : World) (deadline : ℕ) (body : List ℕ) → ((r : FetchRequest) → whole fetch_request body ≡ Ok r → fetch_answer w r deadline ≡ None → fetch_answer v r deadline ≡ None) → looked w deadline body ≡ Silent → looked v deadline body ≡ Silent
+silent-there : (w v : World) (deadline : ℕ) (version : ℤ) (body : List ℕ) → ((r : FetchRequest) → whole fetch_request body ≡ Ok r → fetch_answer w r deadline ≡ None → fetch_answer v r deadline ≡ None) → looked w deadline version body ≡ Silent → looked v deadline version body ≡ Silent
 unfolding looked
-silent-there w v deadline body none e = by (whole fetch_request body) refl e
+silent-there w v deadline version body none e = by (whole fetch_request body) refl e
   where
     by : (r : Result FetchRequest WireFault) → whole fetch_request body ≡ r → looked_at w deadline r ≡ Silent → looked_at v deadline r ≡ Silent
     by (Ok r) read h = ap told_as (none r read (silent-none (fetch_answer w r deadline) h))
     by (Err fault) read h = absurd (cc)
 
 -- the same, if nothing that has no answer here has one there
-pub still-silent : (w v : World) (deadline : ℕ) (body : List ℕ) → ((r : FetchRequest) → fetch_answer w r deadline ≡ None → fetch_answer v r deadline ≡ None) → looked w deadline body ≡ Silent → looked v deadline body ≡ Silent
-still-silent w v deadline body none e = silent-there w v deadline body (λ r read. none r) e
+pub still-silent : (w v : World) (deadline : ℕ) (version : ℤ) (body : List ℕ) → ((r : FetchRequest) → fetch_answer w r deadline ≡ None → fetch_answer v r deadline ≡ None) → looked w deadline version body ≡ Silent → looked v deadline version body ≡ Silent
+still-silent w v deadline version body none e = silent-there w v deadline version body (λ r read. none r) e
 
 -- 2. Those that waited before
 
@@ -67,32 +67,32 @@ asked-is k clock w r read = ap (asked_in (world_at k 0)) read
 pub first-silent : (k : Kept) (clock : ℕ) (w : Wait) → ready k clock w ≡ Silent → ready k 0 w ≡ Silent
 unfolding ready
 first-silent k clock w silent =
-    still-silent (world_at k clock) (world_at k 0) w.deadline w.body
+    still-silent (world_at k clock) (world_at k 0) w.deadline w.version w.body
     (λ r waits. (waits_at (world_at k clock) r w.deadline waits 0 (let early = before_end (world_at k clock) r w.deadline waits in omega (arith, early))).0) silent
 
 -- after a request that touched no partition that it asks for a fetch is as little ready as before
-pub apart-ready : (node : Node) (k l : Kept) (clock : ℕ) (key : ℤ) (body : List ℕ) (w : Wait) → IsTied (world_at k clock) → world_at l clock ≡ (request node (world_at k clock) key body).world → AreApart (asked k w) (request node (world_at k clock) key body).touched →
+pub apart-ready : (node : Node) (k l : Kept) (clock n : ℕ) (key version : ℤ) (body : List ℕ) (w : Wait) → IsTied (world_at k clock) → world_at l clock ≡ (request node (world_at k clock) n key version body).world → AreApart (asked k w) (request node (world_at k clock) n key version body).touched →
     ready k clock w ≡ Silent → ready l clock w ≡ Silent
 unfolding ready
-apart-ready node k l clock key body w tied same apart silent =
-    let touched : List Place = (request node (world_at k clock) key body).touched in
-    silent-there (world_at k clock) (world_at l clock) w.deadline w.body
+apart-ready node k l clock n key version body w tied same apart silent =
+    let touched : List Place = (request node (world_at k clock) n key version body).touched in
+    silent-there (world_at k clock) (world_at l clock) w.deadline w.version w.body
     (λ r read waits. ap (λ x. fetch_answer x r w.deadline) same
-    ∙ (served_waits node (world_at k clock) key body r w.deadline tied waits (subst (λ ps. AreApart ps touched) (asked-is k clock w r read) apart)).0)
+    ∙ (served_waits node (world_at k clock) n key version body r w.deadline tied waits (subst (λ ps. AreApart ps touched) (asked-is k clock w r read) apart)).0)
     silent
 
 -- a fetch that is ready neither before nor after a request asks for the same partitions, whatever was touched
-pub asked-again : (node : Node) (k l : Kept) (clock : ℕ) (key : ℤ) (body : List ℕ) (w : Wait) → IsTied (world_at k clock) → HasOwnNames (world_at k clock) → world_at l clock ≡ (request node (world_at k clock) key body).world →
+pub asked-again : (node : Node) (k l : Kept) (clock n : ℕ) (key version : ℤ) (body : List ℕ) (w : Wait) → IsTied (world_at k clock) → HasOwnNames (world_at k clock) → world_at l clock ≡ (request node (world_at k clock) n key version body).world →
     ready k 0 w ≡ Silent → ready l 0 w ≡ Silent → asked l w ≡ asked k w
 unfolding ready looked asked
-asked-again node k l clock key body w tied own same before after = by (whole fetch_request w.body) before after
+asked-again node k l clock n key version body w tied own same before after = by (whole fetch_request w.body) before after
   where
     by : (r : Result FetchRequest WireFault) → looked_at (world_at k 0) w.deadline r ≡ Silent → looked_at (world_at l 0) w.deadline r ≡ Silent → asked_in (world_at l 0) r ≡ asked_in (world_at k 0) r
     by (Ok r) p q =
         let old : fetch_answer (world_at k clock) r (clock + 1) ≡ None = waits_until (world_at k 0) r w.deadline (silent-none (fetch_answer (world_at k 0) r w.deadline) p) clock (clock + 1) (omega arith) in
         let new : fetch_answer (world_at l clock) r (clock + 1) ≡ None = waits_until (world_at l 0) r w.deadline (silent-none (fetch_answer (world_at l 0) r w.deadline) q) clock (clock + 1) (omega arith) in
         ap (λ x. places_of x r) same
-        ∙ served_again node (world_at k clock) key body r (clock + 1) tied own old (subst (λ x. fetch_answer x r (clock + 1) ≡ None) same new)
+        ∙ served_again node (world_at k clock) n key version body r (clock + 1) tied own old (subst (λ x. fetch_answer x r (clock + 1) ≡ None) same new)
     by (Err fault) p q = absurd (cc)
 
 -- retention changes nothing of what a fetch asks for
@@ -107,22 +107,22 @@ asked-retained clock k w = by (whole fetch_request w.body)
 -- 3. The one that begins to wait
 
 -- a request that is to wait would be told nothing at once, and waits for what it asks for
-record IsParked (body : List ℕ) (clock : ℕ) (o : Outcome) (deadline : ℕ) (places : List Place) : Type 0 where
-  pub silent : looked (world_at (kept_in o.world) clock) deadline body ≡ Silent
+record IsParked (version : ℤ) (body : List ℕ) (clock : ℕ) (o : Outcome) (deadline : ℕ) (places : List Place) : Type 0 where
+  pub silent : looked (world_at (kept_in o.world) clock) deadline version body ≡ Silent
   pub asks : places ≡ asked_in o.world (whole fetch_request body)
 
-abbrev Parks : List ℕ → ℕ → Outcome → Type 0
-Parks body clock o = (deadline : ℕ) (places : List Place) → o.reaction ≡ Waits deadline places → IsParked body clock o deadline places
+abbrev Parks : ℤ → List ℕ → ℕ → Outcome → Type 0
+Parks version body clock o = (deadline : ℕ) (places : List Place) → o.reaction ≡ Waits deadline places → IsParked version body clock o deadline places
 
-produce-parks : (body : List ℕ) (clock : ℕ) (v : World) (touched : List Place) (reply : List ℕ) (b : Bool) → Parks body clock (record { world = v; touched = touched; reaction = cond b (Replies reply) Silent })
-produce-parks body clock v touched reply true deadline places e = absurd (cc)
-produce-parks body clock v touched reply false deadline places e = absurd (cc)
+produce-parks : (version : ℤ) (body : List ℕ) (clock : ℕ) (v : World) (touched : List Place) (reply : List ℕ) (b : Bool) → Parks version body clock (record { world = v; touched = touched; reaction = cond b (Replies reply) Silent })
+produce-parks version body clock v touched reply true deadline places e = absurd (cc)
+produce-parks version body clock v touched reply false deadline places e = absurd (cc)
 
-fetch-parks : (k : Kept) (clock : ℕ) (body : List ℕ) (r : FetchRequest) → whole fetch_request body ≡ Ok r → Parks body clock (of_fetch (world_at k clock) r)
+fetch-parks : (k : Kept) (clock : ℕ) (version : ℤ) (body : List ℕ) (r : FetchRequest) → whole fetch_request body ≡ Ok r → Parks version body clock (of_fetch (world_at k clock) r)
 unfolding looked
-fetch-parks k clock body r read = by (fetch_answer (world_at k clock) r (deadline_of (world_at k clock) r)) refl
+fetch-parks k clock version body r read = by (fetch_answer (world_at k clock) r (deadline_of (world_at k clock) r)) refl
   where
-    by : (o : Option FetchReply) → fetch_answer (world_at k clock) r (deadline_of (world_at k clock) r) ≡ o → Parks body clock (stays (world_at k clock) (fetch_reaction (world_at k clock) r o))
+    by : (o : Option FetchReply) → fetch_answer (world_at k clock) r (deadline_of (world_at k clock) r) ≡ o → Parks version body clock (stays (world_at k clock) (fetch_reaction (world_at k clock) r o))
     by (Some reply) e deadline places f = absurd (cc)
     by None e deadline places f =
         let until : deadline_of (world_at k clock) r ≡ deadline = cc in
@@ -132,14 +132,17 @@ fetch-parks k clock body r read = by (fetch_answer (world_at k clock) r (deadlin
           asks = sym same ∙ sym (ap (asked_in (world_at k clock)) read);
         }
 
-parks : (node : Node) (k : Kept) (clock : ℕ) (key : ℤ) (body : List ℕ) → Parks body clock (request node (world_at k clock) key body)
-parks node k clock key body =
+parks : (node : Node) (k : Kept) (clock n : ℕ) (key version : ℤ) (body : List ℕ) → Parks version body clock (request node (world_at k clock) n key version body)
+parks node k clock n key version body =
     let w = world_at k clock in
-    by_request (Parks body clock) node w key body (record {
-      produce = λ r read. produce-parks body clock (produced w [] r).0.world (produced w [] r).0.touched (produce_reply.written (produced w [] r).1) (is_due r.acks);
-      fetch = λ r read. fetch-parks k clock body r read;
+    by_request (Parks version body clock) node w n key version body (record {
+      produce = λ r read. produce-parks version body clock (produced w [] r).0.world (produced w [] r).0.touched (produce_reply.written (produced w [] r).1) (is_due r.acks);
+      fetch = λ r read. fetch-parks k clock version body r read;
       list_offsets = λ r read deadline places e. absurd (cc);
       metadata = λ r read deadline places e. absurd (cc);
+      offset_commit = λ r read deadline places e. absurd (cc);
+      offset_fetch = λ r read deadline places e. absurd (cc);
+      find_coordinator = λ r read deadline places e. absurd (cc);
       create_topics = λ r read deadline places e. absurd (cc);
       delete_topics = λ r read deadline places e. absurd (cc);
       init_producer_id = λ r read deadline places e. absurd (cc);
@@ -147,12 +150,12 @@ parks node k clock key body =
     })
 
 -- the partitions that a fetch begins to wait for are those that it asks for
-pub asked-parks : (node : Node) (k : Kept) (clock : ℕ) (key : ℤ) (body : List ℕ) (deadline : ℕ) (places : List Place) (id : ℤ) → answer node k clock key body ≡ Waits deadline places →
-    places ≡ asked (kept_after node k clock key body) (record { correlation_id = id; body = body; deadline = deadline })
+pub asked-parks : (node : Node) (k : Kept) (clock n : ℕ) (key version : ℤ) (body : List ℕ) (deadline : ℕ) (places : List Place) (id : ℤ) → answer node k clock n key version body ≡ Waits deadline places →
+    places ≡ asked (kept_after node k clock n key version body) (record { correlation_id = id; version = version; body = body; deadline = deadline })
 unfolding answer kept_after asked
-asked-parks node k clock key body deadline places id e = (parks node k clock key body deadline places e).asks ∙ at (whole fetch_request body)
+asked-parks node k clock n key version body deadline places id e = (parks node k clock n key version body deadline places e).asks ∙ at (whole fetch_request body)
   where
-    at : (r : Result FetchRequest WireFault) → asked_in (request node (world_at k clock) key body).world r ≡ asked_in (world_at (kept_in (request node (world_at k clock) key body).world) 0) r
+    at : (r : Result FetchRequest WireFault) → asked_in (request node (world_at k clock) n key version body).world r ≡ asked_in (world_at (kept_in (request node (world_at k clock) n key version body).world) 0) r
     at (Ok r) = refl
     at (Err fault) = refl
 
@@ -167,34 +170,34 @@ waiting-idle : (clock : ℕ) (kept : Kept) (x : Wait) (st : Stage) → ready kep
 waiting-idle clock kept x (Greets h) silent = λ t w e. absurd (cc)
 waiting-idle clock kept x (BoundTo u earlier) silent = λ t w e. let same : x ≡ w = cc in subst (λ y. ready kept clock y ≡ Silent) same silent
 
-answered-idle : (clock : ℕ) (kept : Kept) (r : Reaction) (id : ℤ) (body : List ℕ) (s : Session) → is_free s.stage ≡ true
-    → ((deadline : ℕ) (places : List Place) → r ≡ Waits deadline places → ready kept clock (record { correlation_id = id; body = body; deadline = deadline }) ≡ Silent) → IsIdle clock kept (answered r id body s).stage
-answered-idle clock kept (Replies reply) id body s free silent = free-idle clock kept _ (free-replied id reply s free)
-answered-idle clock kept (Waits deadline places) id body s free silent = waiting-idle clock kept (record { correlation_id = id; body = body; deadline = deadline }) s.stage (silent deadline places refl)
-answered-idle clock kept Silent id body s free silent = free-idle clock kept s.stage free
-answered-idle clock kept Shuts id body s free silent = free-idle clock kept _ (free-without s.stage)
+answered-idle : (clock : ℕ) (kept : Kept) (r : Reaction) (id version : ℤ) (body : List ℕ) (s : Session) → is_free s.stage ≡ true
+    → ((deadline : ℕ) (places : List Place) → r ≡ Waits deadline places → ready kept clock (record { correlation_id = id; version = version; body = body; deadline = deadline }) ≡ Silent) → IsIdle clock kept (answered r id version body s).stage
+answered-idle clock kept (Replies reply) id version body s free silent = free-idle clock kept _ (free-replied id reply s free)
+answered-idle clock kept (Waits deadline places) id version body s free silent = waiting-idle clock kept (record { correlation_id = id; version = version; body = body; deadline = deadline }) s.stage (silent deadline places refl)
+answered-idle clock kept Silent id version body s free silent = free-idle clock kept s.stage free
+answered-idle clock kept Shuts id version body s free silent = free-idle clock kept _ (free-without s.stage)
 
-by-idle : (setup : Setup) (kept : Kept) (clock : ℕ) (id : ℤ) (a : Asked) (s : Session) → is_free s.stage ≡ true → IsIdle clock (kept_by setup kept clock a) (served_by setup kept clock id a s).stage
+by-idle : (setup : Setup) (kept : Kept) (clock n : ℕ) (id : ℤ) (a : Asked) (s : Session) → is_free s.stage ≡ true → IsIdle clock (kept_by setup kept clock n a) (served_by setup kept clock n id a s).stage
 unfolding served_by ready kept_after answer
-by-idle setup kept clock id Versions s free = free-idle clock kept _ (free-replied id _ s free)
-by-idle setup kept clock id OtherVersions s free = free-idle clock kept _ (free-replied id _ s free)
-by-idle setup kept clock id (Handshake mechanism) s free = free-idle clock kept _ (free-replied id _ s free)
-by-idle setup kept clock id (Authenticate message) s free = free-idle clock kept _ (free-replied id _ s free)
-by-idle setup kept clock id (Another key version body) s free =
-    answered-idle clock (kept_after setup.node kept clock key body) (answer setup.node kept clock key body) id body s free
-    (λ deadline places e. (parks setup.node kept clock key body deadline places e).silent)
-by-idle setup kept clock id Unread s free = free-idle clock kept _ (free-without s.stage)
+by-idle setup kept clock n id Versions s free = free-idle clock kept _ (free-replied id _ s free)
+by-idle setup kept clock n id OtherVersions s free = free-idle clock kept _ (free-replied id _ s free)
+by-idle setup kept clock n id (Handshake mechanism) s free = free-idle clock kept _ (free-replied id _ s free)
+by-idle setup kept clock n id (Authenticate message) s free = free-idle clock kept _ (free-replied id _ s free)
+by-idle setup kept clock n id (Another key version body) s free =
+    answered-idle clock (kept_after setup.node kept clock n key version body) (answer setup.node kept clock n key version body) id version body s free
+    (λ deadline places e. (parks setup.node kept clock n key version body deadline places e).silent)
+by-idle setup kept clock n id Unread s free = free-idle clock kept _ (free-without s.stage)
 
-at-idle : (setup : Setup) (kept : Kept) (clock : ℕ) (s : Session) (f : Front) → is_free s.stage ≡ true → IsIdle clock (kept_at setup kept clock f) (served_at setup kept clock s f).stage
-at-idle setup kept clock s (Whole frame rest) free = let r = requests.request frame in by-idle setup kept clock r.correlation_id r.asked (record s { unread = rest }) free
-at-idle setup kept clock s TooSmall free = free-idle clock kept _ (free-without s.stage)
-at-idle setup kept clock s TooLarge free = free-idle clock kept _ (free-without s.stage)
-at-idle setup kept clock s Partial free = free-idle clock kept s.stage free
+at-idle : (setup : Setup) (kept : Kept) (clock n : ℕ) (s : Session) (f : Front) → is_free s.stage ≡ true → IsIdle clock (kept_at setup kept clock n f) (served_at setup kept clock n s f).stage
+at-idle setup kept clock n s (Whole frame rest) free = let r = requests.request frame in by-idle setup kept clock n r.correlation_id r.asked (record s { unread = rest }) free
+at-idle setup kept clock n s TooSmall free = free-idle clock kept _ (free-without s.stage)
+at-idle setup kept clock n s TooLarge free = free-idle clock kept _ (free-without s.stage)
+at-idle setup kept clock n s Partial free = free-idle clock kept s.stage free
 
 -- what a connection waits for after its turn is not ready
-pub served-idle : (setup : Setup) (kept : Kept) (clock : ℕ) (s : Session) → is_free s.stage ≡ true → IsIdle clock (put setup kept clock s.unread) (served setup kept clock s).stage
+pub served-idle : (setup : Setup) (kept : Kept) (clock n : ℕ) (s : Session) → is_free s.stage ≡ true → IsIdle clock (put setup kept clock n s.unread) (served setup kept clock n s).stage
 unfolding served put
-served-idle setup kept clock s free = at-idle setup kept clock s (front s.unread) free
+served-idle setup kept clock n s free = at-idle setup kept clock n s (front s.unread) free
 
 -- 4. The turn of a bound connection
 
@@ -216,16 +219,16 @@ module _ (b : BrokerState) (i u : ℕ) (l m : Line) (us : List TenantState) (H :
 
   -- what the connection itself waits for then is not ready
   pub own-turn : IsAt b.lines i l → is_free l.session.stage ≡ true → without_wait l.session.stage ≡ BoundTo u None → without_wait m.session.stage ≡ without_wait l.session.stage
-      → m.session ≡ served b.setup (kept_of b u) b.clock l.session → hosted.kept_of us u ≡ put b.setup (kept_of b u) b.clock l.session.unread
+      → m.session ≡ served b.setup (kept_of b u) b.clock l.number l.session → hosted.kept_of us u ≡ put b.setup (kept_of b u) b.clock l.number l.session.unread
       → IsUnready AnyWait (changed b i m us b.unbound_refusals) m.session.stage
   own-turn at free bound same is after =
       let idle : IsIdle b.clock (hosted.kept_of us u) m.session.stage = subst (λ (k : Kept). IsIdle b.clock k m.session.stage) (sym after)
-      (subst (λ (s : Session). IsIdle b.clock (put b.setup (kept_of b u) b.clock l.session.unread) s.stage) (sym is) (served-idle b.setup (kept_of b u) b.clock l.session free)) in
+      (subst (λ (s : Session). IsIdle b.clock (put b.setup (kept_of b u) b.clock l.number l.session.unread) s.stage) (sym is) (served-idle b.setup (kept_of b u) b.clock l.number l.session free)) in
       own-unready m.session.stage (same ∙ bound) idle
 
   -- a turn that touched no partition leaves nothing ready, where nothing was before
   pub quiet-turn : AreUnready AnyWait b → IsAt b.lines i l → is_free l.session.stage ≡ true → without_wait l.session.stage ≡ BoundTo u None → without_wait m.session.stage ≡ without_wait l.session.stage
-      → m.session ≡ served b.setup (kept_of b u) b.clock l.session → hosted.kept_of us u ≡ put b.setup (kept_of b u) b.clock l.session.unread
+      → m.session ≡ served b.setup (kept_of b u) b.clock l.number l.session → hosted.kept_of us u ≡ put b.setup (kept_of b u) b.clock l.number l.session.unread
       → ((w : Wait) → ready (kept_of b u) b.clock w ≡ Silent → ready (hosted.kept_of us u) b.clock w ≡ Silent) → AreUnready AnyWait (changed b i m us b.unbound_refusals)
   quiet-turn unready at free bound same is after quiet =
       let c = changed b i m us b.unbound_refusals in

@@ -207,7 +207,7 @@ sound-begun b now clock H ts s r le =
 -- a fetch that was not ready is not before its deadline, as long as its tenant keeps the same
 later : (kept : Kept) (clock now : ℕ) (w : Wait) → ready kept clock w ≡ Silent → now < w.deadline → ready kept now w ≡ Silent
 unfolding ready
-later kept clock now w e early = still-silent (world_at kept clock) (world_at kept now) w.deadline w.body (λ r waits. (waits_at (world_at kept clock) r w.deadline waits now early).0) e
+later kept clock now w e early = still-silent (world_at kept clock) (world_at kept now) w.deadline w.version w.body (λ r waits. (waits_at (world_at kept clock) r w.deadline waits now early).0) e
 
 -- so where nothing was dropped only those can be ready after the clock moved whose deadline has come
 pub due-unready : (b : BrokerState) (now : ℕ) (ts : List TenantState) → ((t : ℕ) → hosted.kept_of ts t ≡ kept_of b t) → AreUnready AnyWait b → AreUnready (IsPassedOver whoms.Due (max b.clock now)) (begun b now ts)

@@ -356,7 +356,7 @@ served-unready b i u m H ts turn honest q k =
 -- the turn of a bound connection, which is a call for its tenant: where nothing was refused to the tenant, it is the machine's
 pub served-bound : (scope : Scope) (b : BrokerState) (i u : ℕ) (l m : Line) (w : Option Wait) (H : Type 0) (ts : List TenantState) → IsSound b → AreStill scope b → IsAt b.lines i l → first_able b.lines ≡ Some l → can l.session ≡ true →
     l.session.stage ≡ BoundTo u w → m.number ≡ l.number → without_wait m.session.stage ≡ without_wait l.session.stage → IsTurn u H b.tenants ts → H →
-    (IsCalm (count b.tenants u) (count ts u) → (m.session ≡ served b.setup (kept_of b u) b.clock l.session) × (hosted.kept_of ts u ≡ put b.setup (kept_of b u) b.clock l.session.unread)) →
+    (IsCalm (count b.tenants u) (count ts u) → (m.session ≡ served b.setup (kept_of b u) b.clock l.number l.session) × (hosted.kept_of ts u ≡ put b.setup (kept_of b u) b.clock l.number l.session.unread)) →
     Served u scope b (changed b i m ts b.unbound_refusals)
 served-bound scope b i u l m w H ts s still at able c g n same turn honest meets =
     let p : IsBound u l.session = record { wait = w; is = g } in
@@ -377,8 +377,8 @@ served-bound scope b i u l m w H ts s still at able c g n same turn honest meets
       view = λ mine es k calm.
           let done = meets calm in
           let x = view_of u mine b in
-          let lines : set b.lines i m ≡ each (on l.number (served b.setup (kept_of b u) b.clock)) b.lines = set-on 0 b.last (served b.setup (kept_of b u) b.clock) b.lines i l m s.rising at n done.0 in
+          let lines : set b.lines i m ≡ each (on l.number (served b.setup (kept_of b u) b.clock l.number)) b.lines = set-on 0 b.last (served b.setup (kept_of b u) b.clock l.number) b.lines i l m s.rising at n done.0 in
           ap (λ z. turns (all_woken (record x { kept = hosted.kept_of ts u; lines = those mine z }))) lines
-          ∙ (ap (λ z. turns (all_woken (record x { kept = z; lines = those mine (each (on l.number (served x.setup x.kept x.clock)) b.lines) }))) done.1
+          ∙ (ap (λ z. turns (all_woken (record x { kept = z; lines = those mine (each (on l.number (served x.setup x.kept x.clock l.number)) b.lines) }))) done.1
           ∙ view-served mine x b.lines l u w able g refl (shown b i u l at p mine es k));
     }

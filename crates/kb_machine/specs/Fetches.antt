@@ -19,11 +19,11 @@ GetsBatches world fetch id old new = ((reply : List ℕ) × HoldsBatches world f
 
 -- 1. One answer
 
--- where a fetch stands in front of a connection that takes its turn, the connection gets such batches
-abbrev pub ServesBatches : World → Session → Type 0
-ServesBatches w s = (frame rest : List ℕ) (version : ℤ) (body : List ℕ) (fetch : FetchRequest)
+-- where a fetch stands in front of a connection, of number n, that takes its turn, the connection gets such batches
+abbrev pub ServesBatches : World → ℕ → Session → Type 0
+ServesBatches w n s = (frame rest : List ℕ) (version : ℤ) (body : List ℕ) (fetch : FetchRequest)
     → front s.unread ≡ Whole frame rest → (request frame).asked ≡ Another (pos 1) version body → whole fetch_request body ≡ Ok fetch
-    → GetsBatches (world_at w.kept w.clock) fetch (request frame).correlation_id (record s { unread = rest }) (served w.setup w.kept w.clock s)
+    → GetsBatches (world_at w.kept w.clock) fetch (request frame).correlation_id (record s { unread = rest }) (served w.setup w.kept w.clock n s)
 
 -- where a connection waits for a fetch that is looked at, it gets such batches
 abbrev pub WakesWithBatches : World → Session → Type 0
@@ -39,12 +39,12 @@ AllWakeWithBatches w = AllByRecursion (λ (l : Line). WakesWithBatches w l.sessi
 
 -- the world after the request of a bound connection, when those that wait are looked at
 abbrev pub after_request : World → Line → World
-after_request w l = record w { kept = put w.setup w.kept w.clock l.session.unread; lines = each (on l.number (served w.setup w.kept w.clock)) w.lines }
+after_request w l = record w { kept = put w.setup w.kept w.clock l.number l.session.unread; lines = each (on l.number (served w.setup w.kept w.clock l.number)) w.lines }
 
 -- a turn: its own connection, and then those that wait
 abbrev pub TurnGivesBatches : World → Line → Stage → Type 0
 TurnGivesBatches w l (Greets handshaken) = ⊤
-TurnGivesBatches w l (BoundTo tenant wait) = ServesBatches w l.session × AllWakeWithBatches (after_request w l)
+TurnGivesBatches w l (BoundTo tenant wait) = ServesBatches w l.number l.session × AllWakeWithBatches (after_request w l)
 
 abbrev pub NextGivesBatches : World → Option Line → Type 0
 NextGivesBatches w None = ⊤

@@ -30,49 +30,49 @@ pub data Happening : Type 0 where
 
 -- 1. Requests of a bound connection
 
--- what a request of that body comes to
-abbrev pub answered : Reaction → ℤ → List ℕ → Session → Session
-answered (Replies reply) id body s = replied id reply s
-answered (Waits deadline places) id body s = record s { stage = waiting (record { correlation_id = id; body = body; deadline = deadline }) s.stage }
-answered Silent id body s = s
-answered Shuts id body s = shut_down s
+-- what a request of that version and body comes to
+abbrev pub answered : Reaction → ℤ → ℤ → List ℕ → Session → Session
+answered (Replies reply) id version body s = replied id reply s
+answered (Waits deadline places) id version body s = record s { stage = waiting (record { correlation_id = id; version = version; body = body; deadline = deadline }) s.stage }
+answered Silent id version body s = s
+answered Shuts id version body s = shut_down s
 
--- what a request of a bound connection does to it; s is the connection without the request
-unfoldable pub served_by : Setup → Kept → ℕ → ℤ → Asked → Session → Session
-served_by setup kept clock id Versions s = replied id (versions_reply setup.versions errors.None) s
-served_by setup kept clock id OtherVersions s = replied id (versions_reply setup.versions errors.UnsupportedVersion) s
-served_by setup kept clock id (Handshake mechanism) s = replied id (handshake_reply errors.IllegalSaslState) s
-served_by setup kept clock id (Authenticate message) s = replied id illegal_state s
-served_by setup kept clock id (Another key version body) s = answered (answer setup.node kept clock key body) id body s
-served_by setup kept clock id Unread s = shut_down s
+-- what a request of a bound connection, of number n, does to it; s is the connection without the request
+unfoldable pub served_by : Setup → Kept → ℕ → ℕ → ℤ → Asked → Session → Session
+served_by setup kept clock n id Versions s = replied id (versions_reply setup.versions errors.None) s
+served_by setup kept clock n id OtherVersions s = replied id (versions_reply setup.versions errors.UnsupportedVersion) s
+served_by setup kept clock n id (Handshake mechanism) s = replied id (handshake_reply errors.IllegalSaslState) s
+served_by setup kept clock n id (Authenticate message) s = replied id illegal_state s
+served_by setup kept clock n id (Another key version body) s = answered (answer setup.node kept clock n key version body) id version body s
+served_by setup kept clock n id Unread s = shut_down s
 
-abbrev pub served_at : Setup → Kept → ℕ → Session → Front → Session
-served_at setup kept clock s (Whole frame rest) = let r = request frame in served_by setup kept clock r.correlation_id r.asked (record s { unread = rest })
-served_at setup kept clock s TooSmall = shut_down s
-served_at setup kept clock s TooLarge = shut_down s
-served_at setup kept clock s Partial = s
+abbrev pub served_at : Setup → Kept → ℕ → ℕ → Session → Front → Session
+served_at setup kept clock n s (Whole frame rest) = let r = request frame in served_by setup kept clock n r.correlation_id r.asked (record s { unread = rest })
+served_at setup kept clock n s TooSmall = shut_down s
+served_at setup kept clock n s TooLarge = shut_down s
+served_at setup kept clock n s Partial = s
 
 -- the turn of a bound connection
-unfoldable pub served : Setup → Kept → ℕ → Session → Session
-served setup kept clock s = served_at setup kept clock s (front s.unread)
+unfoldable pub served : Setup → Kept → ℕ → ℕ → Session → Session
+served setup kept clock n s = served_at setup kept clock n s (front s.unread)
 
-abbrev pub kept_by : Setup → Kept → ℕ → Asked → Kept
-kept_by setup kept clock Versions = kept
-kept_by setup kept clock OtherVersions = kept
-kept_by setup kept clock (Handshake mechanism) = kept
-kept_by setup kept clock (Authenticate message) = kept
-kept_by setup kept clock (Another key version body) = kept_after setup.node kept clock key body
-kept_by setup kept clock Unread = kept
+abbrev pub kept_by : Setup → Kept → ℕ → ℕ → Asked → Kept
+kept_by setup kept clock n Versions = kept
+kept_by setup kept clock n OtherVersions = kept
+kept_by setup kept clock n (Handshake mechanism) = kept
+kept_by setup kept clock n (Authenticate message) = kept
+kept_by setup kept clock n (Another key version body) = kept_after setup.node kept clock n key version body
+kept_by setup kept clock n Unread = kept
 
-abbrev pub kept_at : Setup → Kept → ℕ → Front → Kept
-kept_at setup kept clock (Whole frame rest) = kept_by setup kept clock (request frame).asked
-kept_at setup kept clock TooSmall = kept
-kept_at setup kept clock TooLarge = kept
-kept_at setup kept clock Partial = kept
+abbrev pub kept_at : Setup → Kept → ℕ → ℕ → Front → Kept
+kept_at setup kept clock n (Whole frame rest) = kept_by setup kept clock n (request frame).asked
+kept_at setup kept clock n TooSmall = kept
+kept_at setup kept clock n TooLarge = kept
+kept_at setup kept clock n Partial = kept
 
 -- what the turn of a bound connection leaves of what is kept
-unfoldable pub put : Setup → Kept → ℕ → List ℕ → Kept
-put setup kept clock unread = kept_at setup kept clock (front unread)
+unfoldable pub put : Setup → Kept → ℕ → ℕ → List ℕ → Kept
+put setup kept clock n unread = kept_at setup kept clock n (front unread)
 
 -- 2. Waits
 
@@ -119,7 +119,7 @@ all_woken w = record w { lines = each (λ k s. woken w.kept w.clock s) w.lines }
 -- a bound connection's request: what is kept changes, then all waits that became ready are answered
 abbrev pub turn_at : World → ℕ → List ℕ → Stage → World
 turn_at w n unread (Greets handshaken) = record w { lines = each (on n (greeted w.setup handshaken)) w.lines }
-turn_at w n unread (BoundTo tenant wait) = all_woken (record w { kept = put w.setup w.kept w.clock unread; lines = each (on n (served w.setup w.kept w.clock)) w.lines })
+turn_at w n unread (BoundTo tenant wait) = all_woken (record w { kept = put w.setup w.kept w.clock n unread; lines = each (on n (served w.setup w.kept w.clock n)) w.lines })
 
 abbrev pub turn_of : World → Option Line → World
 turn_of w None = w

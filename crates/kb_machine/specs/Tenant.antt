@@ -12,27 +12,28 @@ use Rattle.kb_tenant.specs.Replies.{Reaction}
 use Rattle.kb_tenant.specs.Serve.{Outcome, served, looked}
 use Rattle.kb_tenant.specs.declared.node.Node.{Node}
 
--- a fetch that waits for its answer: its correlation id and its body, and the moment after which it waits no longer
+-- a fetch that waits for its answer: its correlation id, its version and its body, and the moment after which it waits no longer
 pub record Wait : Type 0 where
   pub correlation_id : ℤ
+  pub version : ℤ
   pub body : List ℕ
   pub deadline : ℕ
 
--- what a request makes of the tenant's world, and comes to
-abbrev pub outcome : Node → Kept → ℕ → ℤ → List ℕ → Outcome
-outcome node kept clock key body = served node (world_at kept clock) key body
+-- what a request on the connection of number n makes of the tenant's world, and comes to
+abbrev pub outcome : Node → Kept → ℕ → ℕ → ℤ → ℤ → List ℕ → Outcome
+outcome node kept clock n key version body = served node (world_at kept clock) n key version body
 
 -- what is kept after a request
-unfoldable pub kept_after : Node → Kept → ℕ → ℤ → List ℕ → Kept
-kept_after node kept clock key body = kept_in (outcome node kept clock key body).world
+unfoldable pub kept_after : Node → Kept → ℕ → ℕ → ℤ → ℤ → List ℕ → Kept
+kept_after node kept clock n key version body = kept_in (outcome node kept clock n key version body).world
 
 -- what a request comes to for its connection
-unfoldable pub answer : Node → Kept → ℕ → ℤ → List ℕ → Reaction
-answer node kept clock key body = (outcome node kept clock key body).reaction
+unfoldable pub answer : Node → Kept → ℕ → ℕ → ℤ → ℤ → List ℕ → Reaction
+answer node kept clock n key version body = (outcome node kept clock n key version body).reaction
 
 -- what a waiting fetch comes to now: a reply where it is ready, else silence
 unfoldable pub ready : Kept → ℕ → Wait → Reaction
-ready kept clock wait = looked (world_at kept clock) wait.deadline wait.body
+ready kept clock wait = looked (world_at kept clock) wait.deadline wait.version wait.body
 
 -- the partitions that a fetch asks for, if it was read
 abbrev pub asked_in : World → Result FetchRequest WireFault → List Place

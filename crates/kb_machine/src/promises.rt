@@ -48,10 +48,10 @@ pub fn strangers_are_greeted()
 /// tenant's partitions as they are at that moment, one after the other, from the one that holds the asked offset; or the
 /// connection gets no reply. The tenant's logs are within their limits, as `logs_stay_small` (`kb_tenant`) says of each that there is.
 pub fn fetches_get_whole_batches()
-    ensures at_once { (setup : Setup) (kept : Kept) (clock : ℕ) (s : Session) (frame rest : List ℕ) (version : ℤ) (body : List ℕ) (fetch : FetchRequest)
+    ensures at_once { (setup : Setup) (kept : Kept) (clock n : ℕ) (s : Session) (frame rest : List ℕ) (version : ℤ) (body : List ℕ) (fetch : FetchRequest)
         → HasSmallLogs (world_at kept clock) → front s.unread ≡ Whole frame rest
         → (request frame).asked ≡ Another (pos 1) version body → whole fetch_request body ≡ Ok fetch
-        → GetsBatches (world_at kept clock) fetch (request frame).correlation_id (record s { unread = rest }) (served setup kept clock s) }
+        → GetsBatches (world_at kept clock) fetch (request frame).correlation_id (record s { unread = rest }) (served setup kept clock n s) }
     ensures after_a_wait { (kept : Kept) (clock tenant : ℕ) (s : Session) (wait : Wait) (fetch : FetchRequest)
         → HasSmallLogs (world_at kept clock) → s.stage ≡ BoundTo tenant (Some wait) → whole fetch_request wait.body ≡ Ok fetch
         → GetsBatches (world_at kept clock) fetch wait.correlation_id (record s { stage = without_wait s.stage }) (woken kept clock s) }
@@ -81,8 +81,8 @@ pub fn nothing_before_login()
 
 /// A connection stays its tenant's for good, whatever it asks.
 pub fn bound_for_good()
-    ensures { (setup : Setup) (kept : Kept) (clock tenant : ℕ) (s : Session) → whose s.stage ≡ Some tenant
-        → whose (served setup kept clock s).stage ≡ Some tenant }
+    ensures { (setup : Setup) (kept : Kept) (clock n tenant : ℕ) (s : Session) → whose s.stage ≡ Some tenant
+        → whose (served setup kept clock n s).stage ≡ Some tenant }
 {}
 
 /// Turns come to an end: then no connection can take one.

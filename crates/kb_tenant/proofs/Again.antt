@@ -10,11 +10,12 @@ use Rattle.kb_world.specs.Tied.{IsTied}
 use Rattle.kb_world.specs.World.{World, new_world}
 use Rattle.kb_world.specs.declared.place.Place.{Place}
 use Rattle.kb_tenant.specs.Fetch.{fetch_answer, places_in, places_of}
-use Rattle.kb_tenant.specs.Serve.{Outcome, of_produce, of_create_topics, of_delete_topics, of_init_producer_id, served}
+use Rattle.kb_tenant.specs.Serve.{Outcome, of_produce, of_offset_commit, of_create_topics, of_delete_topics, of_init_producer_id, served}
 use Rattle.kb_tenant.specs.Waiting.{AreNamedApart, HasOwnNames}
 use Rattle.kb_tenant.specs.declared.node.Node.{Node}
 use Rattle.kb_tenant.proofs.Asked.{Finds, all_found}
 use Rattle.kb_tenant.proofs.ByRequest.{by_request}
+use Rattle.kb_tenant.proofs.CommitMoves.{commit_moves, commit_names}
 use Rattle.kb_tenant.proofs.CreateMoves.{create_moves}
 use Rattle.kb_tenant.proofs.Losing.{create_apart, delete_loses, produce_loses}
 use Rattle.kb_tenant.proofs.Moves.{Moves, waits_through}
@@ -65,14 +66,17 @@ untold w v moves tied r deadline waits = (waits_through [] w v moves tied r dead
     nowhere : (place : Place) → Contains [] place → ⊥
     nowhere place c = omega (arith, c.1)
 
-pub served_again : (node : Node) (w : World) (key : ℤ) (body : List ℕ) (r : FetchRequest) (deadline : ℕ) → IsTied w → HasOwnNames w → fetch_answer w r deadline ≡ None
-    → fetch_answer (served node w key body).world r deadline ≡ None → places_of (served node w key body).world r ≡ places_of w r
-served_again node w key body r deadline tied own waits =
-    by_request (λ (o : Outcome). fetch_answer o.world r deadline ≡ None → places_of o.world r ≡ places_of w r) node w key body (record {
+pub served_again : (node : Node) (w : World) (n : ℕ) (key version : ℤ) (body : List ℕ) (r : FetchRequest) (deadline : ℕ) → IsTied w → HasOwnNames w → fetch_answer w r deadline ≡ None
+    → fetch_answer (served node w n key version body).world r deadline ≡ None → places_of (served node w n key version body).world r ≡ places_of w r
+served_again node w n key version body r deadline tied own waits =
+    by_request (λ (o : Outcome). fetch_answer o.world r deadline ≡ None → places_of o.world r ≡ places_of w r) node w n key version body (record {
       produce = λ q read after. places_back w (of_produce w q).world ((produce_loses w q).before own) r deadline after;
       fetch = λ q read after. refl;
       list_offsets = λ q read after. refl;
       metadata = λ q read after. refl;
+      offset_commit = λ q read after. untold w (of_offset_commit w q).world (commit_moves w q) tied r deadline waits;
+      offset_fetch = λ q read after. refl;
+      find_coordinator = λ q read after. refl;
       create_topics = λ q read after. untold w (of_create_topics w q).world (create_moves w q) tied r deadline waits;
       delete_topics = λ q read after. places_back w (of_delete_topics w q).world ((delete_loses w q).before own) r deadline after;
       init_producer_id = λ q read after. untold w (of_init_producer_id w q).world (init_moves w q) tied r deadline waits;
@@ -80,12 +84,15 @@ served_again node w key body r deadline tied own waits =
     })
 
 -- the names of topics stay apart
-pub served_names : (node : Node) (w : World) (key : ℤ) (body : List ℕ) → HasOwnNames w → HasOwnNames (served node w key body).world
-served_names node w key body own = by_request (λ (o : Outcome). HasOwnNames o.world) node w key body (record {
+pub served_names : (node : Node) (w : World) (n : ℕ) (key version : ℤ) (body : List ℕ) → HasOwnNames w → HasOwnNames (served node w n key version body).world
+served_names node w n key version body own = by_request (λ (o : Outcome). HasOwnNames o.world) node w n key version body (record {
   produce = λ q read. (produce_loses w q).apart own;
   fetch = λ q read. own;
   list_offsets = λ q read. own;
   metadata = λ q read. own;
+  offset_commit = λ q read. commit_names w q own;
+  offset_fetch = λ q read. own;
+  find_coordinator = λ q read. own;
   create_topics = λ q read. create_apart w q own;
   delete_topics = λ q read. (delete_loses w q).apart own;
   init_producer_id = λ q read. subst AreNamedApart (sym (init_topics w q)) own;

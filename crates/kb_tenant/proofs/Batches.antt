@@ -158,9 +158,9 @@ reaction-holds w r bytes (Some reply) spelled e is = written-holds w r (deadline
     replied-is : {x y : List ℕ} → Replies x ≡ Replies y → x ≡ y
     replied-is h = cc
 
-pub served-holds : (node : Node) (w : World) (body bytes : List ℕ) (r : FetchRequest) → HasSmallLogs w → whole fetch_request body ≡ Ok r → (served node w (pos 1) body).reaction ≡ Replies bytes → HoldsBatches w r bytes
+pub served-holds : (node : Node) (w : World) (n : ℕ) (version : ℤ) (body bytes : List ℕ) (r : FetchRequest) → HasSmallLogs w → whole fetch_request body ≡ Ok r → (served node w n (pos 1) version body).reaction ≡ Replies bytes → HoldsBatches w r bytes
 unfolding served
-served-holds node w body bytes r small read replies = reaction-holds w r bytes (fetch_answer w r (deadline_of w r)) (reply_spelled w body r small read) refl (sym (ap (λ x. (if_read w x (of_fetch w)).reaction) read) ∙ replies)
+served-holds node w n version body bytes r small read replies = reaction-holds w r bytes (fetch_answer w r (deadline_of w r)) (reply_spelled w body r small read) refl (sym (ap (λ x. (if_read w x (of_fetch w)).reaction) read) ∙ replies)
 
 look-holds : (w : World) (deadline : ℕ) (r : FetchRequest) (bytes : List ℕ) (answer : Option FetchReply) → Spelled w r → fetch_answer w r deadline ≡ answer → (elim answer [ Some reply ↦ Replies (fetch_reply.written reply) | None ↦ Silent ]) ≡ Replies bytes → HoldsBatches w r bytes
 look-holds w deadline r bytes None spelled e is = absurd (cc)
@@ -169,6 +169,6 @@ look-holds w deadline r bytes (Some reply) spelled e is = written-holds w r dead
     replied-is : {x y : List ℕ} → Replies x ≡ Replies y → x ≡ y
     replied-is h = cc
 
-pub looked-holds : (w : World) (deadline : ℕ) (body bytes : List ℕ) (r : FetchRequest) → HasSmallLogs w → whole fetch_request body ≡ Ok r → looked w deadline body ≡ Replies bytes → HoldsBatches w r bytes
+pub looked-holds : (w : World) (deadline : ℕ) (version : ℤ) (body bytes : List ℕ) (r : FetchRequest) → HasSmallLogs w → whole fetch_request body ≡ Ok r → looked w deadline version body ≡ Replies bytes → HoldsBatches w r bytes
 unfolding looked
-looked-holds w deadline body bytes r small read replies = look-holds w deadline r bytes (fetch_answer w r deadline) (reply_spelled w body r small read) refl (sym (ap (looked_at w deadline) read) ∙ replies)
+looked-holds w deadline version body bytes r small read replies = look-holds w deadline r bytes (fetch_answer w r deadline) (reply_spelled w body r small read) refl (sym (ap (looked_at w deadline) read) ∙ replies)

@@ -12,9 +12,13 @@ use Rattle.kb_api_data.specs.declared.init_producer_id.InitProducerIdRequest.{In
 use Rattle.kb_api_data.specs.declared.list_offsets.ListOffsetsRequest.{ListOffsetsRequest}
 use Rattle.kb_api_data.specs.declared.metadata.MetadataRequest.{MetadataRequest}
 use Rattle.kb_api_data.specs.declared.produce.ProduceRequest.{ProduceRequest}
+use Rattle.kb_api_group.specs.Layouts.{find_coordinator_request, offset_commit_request, offset_fetch_request}
+use Rattle.kb_api_group.specs.declared.find_coordinator.FindCoordinatorRequest.{FindCoordinatorRequest}
+use Rattle.kb_api_group.specs.declared.offset_commit.OffsetCommitRequest.{OffsetCommitRequest}
+use Rattle.kb_api_group.specs.declared.offset_fetch.OffsetFetchRequest.{OffsetFetchRequest}
 use Rattle.kb_world.specs.World.{World}
 use Rattle.kb_tenant.specs.Replies.{Shuts}
-use Rattle.kb_tenant.specs.Serve.{Outcome, if_read, of_produce, of_fetch, of_list_offsets, of_metadata, of_create_topics, of_delete_topics, of_init_producer_id, served, stays}
+use Rattle.kb_tenant.specs.Serve.{Outcome, if_read, of_produce, of_fetch, of_list_offsets, of_metadata, of_offset_commit, of_offset_fetch, of_find_coordinator, of_create_topics, of_delete_topics, of_init_producer_id, served, stays}
 use Rattle.kb_tenant.specs.declared.node.Node.{Node}
 
 -- It holds of what each API's request comes to, where the body is one, and of a connection that is shut.
@@ -23,6 +27,9 @@ pub record Cases (P : Outcome → Type 0) (node : Node) (w : World) (body : List
   pub fetch : (r : FetchRequest) → whole fetch_request body ≡ Ok r → P (of_fetch w r)
   pub list_offsets : (r : ListOffsetsRequest) → whole list_offsets_request body ≡ Ok r → P (of_list_offsets w r)
   pub metadata : (r : MetadataRequest) → whole metadata_request body ≡ Ok r → P (of_metadata node w r)
+  pub offset_commit : (r : OffsetCommitRequest) → whole offset_commit_request body ≡ Ok r → P (of_offset_commit w r)
+  pub offset_fetch : (r : OffsetFetchRequest) → whole offset_fetch_request body ≡ Ok r → P (of_offset_fetch w r)
+  pub find_coordinator : (r : FindCoordinatorRequest) → whole find_coordinator_request body ≡ Ok r → P (of_find_coordinator node w r)
   pub create_topics : (r : CreateTopicsRequest) → whole create_topics_request body ≡ Ok r → P (of_create_topics w r)
   pub delete_topics : (r : DeleteTopicsRequest) → whole delete_topics_request body ≡ Ok r → P (of_delete_topics w r)
   pub init_producer_id : (r : InitProducerIdRequest) → whole init_producer_id_request body ≡ Ok r → P (of_init_producer_id w r)
@@ -36,13 +43,16 @@ either : (P : Outcome → Type 0) (b : Bool) (o p : Outcome) → P o → P p →
 either P true o p first second = first
 either P false o p first second = second
 
-pub by_request : (P : Outcome → Type 0) (node : Node) (w : World) (key : ℤ) (body : List ℕ) → Cases P node w body → P (served node w key body)
+pub by_request : (P : Outcome → Type 0) (node : Node) (w : World) (n : ℕ) (key version : ℤ) (body : List ℕ) → Cases P node w body → P (served node w n key version body)
 unfolding served
-by_request P node w key body c =
+by_request P node w n key version body c =
     let shut : Outcome = stays w Shuts in
     let inits : Outcome = if_read w (whole init_producer_id_request body) (of_init_producer_id w) in
     let deletes : Outcome = if_read w (whole delete_topics_request body) (of_delete_topics w) in
     let creates : Outcome = if_read w (whole create_topics_request body) (of_create_topics w) in
+    let finds : Outcome = if_read w (whole find_coordinator_request body) (of_find_coordinator node w) in
+    let asks : Outcome = if_read w (whole offset_fetch_request body) (of_offset_fetch w) in
+    let commits : Outcome = if_read w (whole offset_commit_request body) (of_offset_commit w) in
     let tells : Outcome = if_read w (whole metadata_request body) (of_metadata node w) in
     let lists : Outcome = if_read w (whole list_offsets_request body) (of_list_offsets w) in
     let fetches : Outcome = if_read w (whole fetch_request body) (of_fetch w) in
@@ -50,13 +60,19 @@ by_request P node w key body c =
     let from_22 : Outcome = if int_eq key (pos 22) then inits else shut in
     let from_20 : Outcome = if int_eq key (pos 20) then deletes else from_22 in
     let from_19 : Outcome = if int_eq key (pos 19) then creates else from_20 in
-    let from_3 : Outcome = if int_eq key (pos 3) then tells else from_19 in
+    let from_10 : Outcome = if int_eq key (pos 10) then finds else from_19 in
+    let from_9 : Outcome = if int_eq key (pos 9) then asks else from_10 in
+    let from_8 : Outcome = if int_eq key (pos 8) then commits else from_9 in
+    let from_3 : Outcome = if int_eq key (pos 3) then tells else from_8 in
     let from_2 : Outcome = if int_eq key (pos 2) then lists else from_3 in
     let from_1 : Outcome = if int_eq key (pos 1) then fetches else from_2 in
     either P (int_eq key (pos 0)) produces from_1 (read_by P w (whole produce_request body) (of_produce w) c.produce c.shut)
     (either P (int_eq key (pos 1)) fetches from_2 (read_by P w (whole fetch_request body) (of_fetch w) c.fetch c.shut)
     (either P (int_eq key (pos 2)) lists from_3 (read_by P w (whole list_offsets_request body) (of_list_offsets w) c.list_offsets c.shut)
-    (either P (int_eq key (pos 3)) tells from_19 (read_by P w (whole metadata_request body) (of_metadata node w) c.metadata c.shut)
+    (either P (int_eq key (pos 3)) tells from_8 (read_by P w (whole metadata_request body) (of_metadata node w) c.metadata c.shut)
+    (either P (int_eq key (pos 8)) commits from_9 (read_by P w (whole offset_commit_request body) (of_offset_commit w) c.offset_commit c.shut)
+    (either P (int_eq key (pos 9)) asks from_10 (read_by P w (whole offset_fetch_request body) (of_offset_fetch w) c.offset_fetch c.shut)
+    (either P (int_eq key (pos 10)) finds from_19 (read_by P w (whole find_coordinator_request body) (of_find_coordinator node w) c.find_coordinator c.shut)
     (either P (int_eq key (pos 19)) creates from_20 (read_by P w (whole create_topics_request body) (of_create_topics w) c.create_topics c.shut)
     (either P (int_eq key (pos 20)) deletes from_22 (read_by P w (whole delete_topics_request body) (of_delete_topics w) c.delete_topics c.shut)
-    (either P (int_eq key (pos 22)) inits shut (read_by P w (whole init_producer_id_request body) (of_init_producer_id w) c.init_producer_id c.shut) c.shut))))))
+    (either P (int_eq key (pos 22)) inits shut (read_by P w (whole init_producer_id_request body) (of_init_producer_id w) c.init_producer_id c.shut) c.shut)))))))))

@@ -2,6 +2,9 @@ pub mod Again
 pub mod Asked
 pub mod Batches
 pub mod ByRequest
+pub mod CommitMoves
+pub mod Committing
+pub mod Coordinator
 pub mod CreateMoves
 pub mod Creating
 pub mod DeleteMoves
@@ -19,6 +22,7 @@ pub mod Moves
 pub mod Names
 pub mod Offsets
 pub mod OwnNames
+pub mod OffsetsKept
 pub mod ProduceMoves
 pub mod Produced
 pub mod Ready

@@ -29,10 +29,10 @@ pub record IsAlike (old new : Known) : Type 0 where
   pub names : (name : List ℕ) → named name new.topics ≡ named name old.topics
   pub apart : AreNamedApart old.topics → AreNamedApart new.topics
 
-alike_same : (k : Known) → IsAlike k k
+pub alike_same : (k : Known) → IsAlike k k
 alike_same k = record { creates = refl; none = λ i none. none; counts = refl; names = λ name. refl; apart = λ own. own }
 
-put_alike : (k : Known) (i p : ℕ) (part : PartitionState) (o : Option TopicState) → topic_at i k.topics ≡ o → IsAlike k (record k { topics = put_topic i p part k.topics o })
+pub put_alike : (k : Known) (i p : ℕ) (part : PartitionState) (o : Option TopicState) → topic_at i k.topics ≡ o → IsAlike k (record k { topics = put_topic i p part k.topics o })
 put_alike k i p part None at = alike_same k
 put_alike k i p part (Some t) at = record {
   creates = refl;

@@ -18,6 +18,7 @@ use Rattle.kb_tenant.specs.Serve.{Outcome, served}
 use Rattle.kb_tenant.specs.Waiting.{AreApart, StillWaits}
 use Rattle.kb_tenant.specs.declared.node.Node.{Node}
 use Rattle.kb_tenant.proofs.ByRequest.{by_request}
+use Rattle.kb_tenant.proofs.CommitMoves.{commit_moves}
 use Rattle.kb_tenant.proofs.CreateMoves.{create_moves}
 use Rattle.kb_tenant.proofs.DeleteMoves.{delete_moves}
 use Rattle.kb_tenant.proofs.Moves.{Moves, stays_same, waits_through}
@@ -65,12 +66,15 @@ init_topics w r = given_topics w r.transactional_id
 abbrev Leaves : World → Outcome → Type 0
 Leaves w o = Moves [] o.touched w o.world
 
-pub serve_leaves : (node : Node) (w : World) (key : ℤ) (body : List ℕ) → Leaves w (served node w key body)
-serve_leaves node w key body = by_request (Leaves w) node w key body (record {
+pub serve_leaves : (node : Node) (w : World) (n : ℕ) (key version : ℤ) (body : List ℕ) → Leaves w (served node w n key version body)
+serve_leaves node w n key version body = by_request (Leaves w) node w n key version body (record {
   produce = λ r read. produce_moves w r;
   fetch = λ r read. stays_same w [];
   list_offsets = λ r read. stays_same w [];
   metadata = λ r read. stays_same w [];
+  offset_commit = λ r read. commit_moves w r;
+  offset_fetch = λ r read. stays_same w [];
+  find_coordinator = λ r read. stays_same w [];
   create_topics = λ r read. create_moves w r;
   delete_topics = λ r read. delete_moves w r;
   init_producer_id = λ r read. init_moves w r;
@@ -80,15 +84,15 @@ serve_leaves node w key body = by_request (Leaves w) node w key body (record {
 -- ---- the laws
 
 -- a request keeps a world tied
-pub served_tied : (node : Node) (w : World) (key : ℤ) (body : List ℕ) → IsTied w → IsTied (served node w key body).world
-served_tied node w key body = (serve_leaves node w key body).tied
+pub served_tied : (node : Node) (w : World) (n : ℕ) (key version : ℤ) (body : List ℕ) → IsTied w → IsTied (served node w n key version body).world
+served_tied node w n key version body = (serve_leaves node w n key version body).tied
 
 -- a fetch waits on through a request that touches none of its places
-pub served_waits : (node : Node) (w : World) (key : ℤ) (body : List ℕ) (r : FetchRequest) (deadline : ℕ) → IsTied w → fetch_answer w r deadline ≡ None
-    → AreApart (places_of w r) (served node w key body).touched → StillWaits w (served node w key body).world r deadline
-served_waits node w key body r deadline tied waits none =
-    let o = served node w key body in
-    waits_through o.touched w o.world (serve_leaves node w key body) tied r deadline waits none
+pub served_waits : (node : Node) (w : World) (n : ℕ) (key version : ℤ) (body : List ℕ) (r : FetchRequest) (deadline : ℕ) → IsTied w → fetch_answer w r deadline ≡ None
+    → AreApart (places_of w r) (served node w n key version body).touched → StillWaits w (served node w n key version body).world r deadline
+served_waits node w n key version body r deadline tied waits none =
+    let o = served node w n key version body in
+    waits_through o.touched w o.world (serve_leaves node w n key version body) tied r deadline waits none
 
 -- the same for retention
 pub retained_tied : (w : World) (place : Place) → IsTied w → IsTied (retain w place).0

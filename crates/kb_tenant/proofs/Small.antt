@@ -1,5 +1,5 @@
 -- Logs stay small through requests and retention.
-use Rattle.std.proofs.Common.{◌≡◌, ◌≤◌, ◌<◌, ◌^◌, ◌+◌, ℕ, ℤ, zero, suc, Bool, true, false, cond, List, [], ◌∷◌, ◌++◌, length, Option, Some, None, Result, Ok, Err, refl, sym, subst, arith}
+use Rattle.std.proofs.Common.{◌≡◌, ◌≤◌, ◌<◌, ◌^◌, ◌+◌, ℕ, ℤ, zero, suc, Bool, true, false, cond, List, [], ◌∷◌, length, Option, Some, None, Ok, Err, refl, sym, subst, arith}
 use Rattle.std.specs.Prelude.{All, nat_le, pos, is_some, replicate, slice_get, slice_set}
 use Rattle.std.specs.List.{AllByRecursion}
 use Rattle.std.specs.Option.{option_and_then}
@@ -41,11 +41,12 @@ use Rattle.kb_tenant.specs.Batches.{HasSmallLogs, IsSmall}
 use Rattle.kb_tenant.specs.CreateTopics.{created_all, created_topic, made_unless, made_with, refusal, settings_in, stands_twice}
 use Rattle.kb_tenant.specs.DeleteTopics.{deleted_all, deleted_topic}
 use Rattle.kb_tenant.specs.InitProducerId.{id_given, id_refused, init_producer_id}
-use Rattle.kb_tenant.specs.Produce.{Progress, appended_at, batch_in, decided, known_place, offered_unless, produced, progress, read_unless, refusal_of, served, served_topic, tried, verdict_on}
+use Rattle.kb_tenant.specs.Produce.{Progress, appended_at, decided, known_place, offered_unless, produced, progress, read_unless, refusal_of, served, served_topic, tried, verdict_on}
 use Rattle.kb_tenant.specs.Serve.{Outcome, served as served_by_key}
 use Rattle.kb_tenant.specs.Turns.{in_turn}
 use Rattle.kb_tenant.specs.declared.node.Node.{Node}
 use Rattle.kb_tenant.proofs.ByRequest.{by_request}
+use Rattle.kb_tenant.proofs.CommitMoves.{commit_logs}
 
 -- ---- entries under keys
 
@@ -273,12 +274,15 @@ clock_small w now small = small
 pub retained_small : (w : World) (place : Place) → HasSmallLogs w → HasSmallLogs (retain w place).0
 retained_small w place small = out_of (retain w place).0 (due_keeps w place (due w place) (into w small))
 
-pub served_small : (node : Node) (w : World) (key : ℤ) (body : List ℕ) → HasSmallLogs w → HasSmallLogs (served_by_key node w key body).world
-served_small node w key body small = out_of (served_by_key node w key body).world (by_request (λ (o : Outcome). Keeps w o.world) node w key body (record {
+pub served_small : (node : Node) (w : World) (n : ℕ) (key version : ℤ) (body : List ℕ) → HasSmallLogs w → HasSmallLogs (served_by_key node w n key version body).world
+served_small node w n key version body small = out_of (served_by_key node w n key version body).world (by_request (λ (o : Outcome). Keeps w o.world) node w n key version body (record {
   produce = λ r read. produce_keeps w r;
   fetch = λ r read all. all;
   list_offsets = λ r read all. all;
   metadata = λ r read all. all;
+  offset_commit = λ r read all. subst AreAllSmall (sym (commit_logs w r)) all;
+  offset_fetch = λ r read all. all;
+  find_coordinator = λ r read all. all;
   create_topics = λ r read. create_keeps w r;
   delete_topics = λ r read. delete_keeps w r;
   init_producer_id = λ r read. init_keeps w r;

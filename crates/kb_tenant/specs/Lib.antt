@@ -2,10 +2,13 @@ pub mod Batches
 pub mod CreateTopics
 pub mod DeleteTopics
 pub mod Fetch
+pub mod FindCoordinator
 pub mod Hosted
 pub mod InitProducerId
 pub mod ListOffsets
 pub mod Metadata
+pub mod OffsetCommit
+pub mod OffsetFetch
 pub mod Produce
 pub mod Repeated
 pub mod Replies

@@ -15,14 +15,21 @@ use Rattle.kb_api_data.specs.declared.metadata.MetadataRequest.{MetadataRequest}
 use Rattle.kb_api_data.specs.declared.create_topics.CreateTopicsRequest.{CreateTopicsRequest}
 use Rattle.kb_api_data.specs.declared.delete_topics.DeleteTopicsRequest.{DeleteTopicsRequest}
 use Rattle.kb_api_data.specs.declared.init_producer_id.InitProducerIdRequest.{InitProducerIdRequest}
+use Rattle.kb_api_group.specs.Layouts.{find_coordinator_reply, find_coordinator_request, offset_commit_reply, offset_commit_request, offset_fetch_reply, offset_fetch_request}
+use Rattle.kb_api_group.specs.declared.find_coordinator.FindCoordinatorRequest.{FindCoordinatorRequest}
+use Rattle.kb_api_group.specs.declared.offset_commit.OffsetCommitRequest.{OffsetCommitRequest}
+use Rattle.kb_api_group.specs.declared.offset_fetch.OffsetFetchRequest.{OffsetFetchRequest}
 use Rattle.kb_world.specs.World.{World}
 use Rattle.kb_world.specs.declared.place.Place.{Place}
 use Rattle.kb_tenant.specs.CreateTopics.{created_all}
 use Rattle.kb_tenant.specs.DeleteTopics.{deleted_all}
 use Rattle.kb_tenant.specs.Fetch.{deadline_of, fetch_answer, places_of}
+use Rattle.kb_tenant.specs.FindCoordinator.{coordinator}
 use Rattle.kb_tenant.specs.InitProducerId.{init_producer_id}
 use Rattle.kb_tenant.specs.ListOffsets.{list_offsets}
 use Rattle.kb_tenant.specs.Metadata.{metadata_of}
+use Rattle.kb_tenant.specs.OffsetCommit.{committed_all}
+use Rattle.kb_tenant.specs.OffsetFetch.{fetched_all}
 use Rattle.kb_tenant.specs.Produce.{produced, is_due}
 use Rattle.kb_tenant.specs.Replies.{Reaction, Replies, Waits, Silent, Shuts, IsAnswer}
 use Rattle.kb_tenant.specs.declared.answer.Answer.{Answer}
@@ -60,6 +67,15 @@ of_list_offsets w r = stays w (Replies (list_offsets_reply.written (list_offsets
 abbrev pub of_metadata : Node → World → MetadataRequest → Outcome
 of_metadata node w r = stays w (Replies (metadata_reply.written (metadata_of w node r)))
 
+abbrev pub of_offset_commit : World → OffsetCommitRequest → Outcome
+of_offset_commit w r = let c = committed_all w r in record { world = c.0; touched = []; reaction = Replies (offset_commit_reply.written c.1) }
+
+abbrev pub of_offset_fetch : World → OffsetFetchRequest → Outcome
+of_offset_fetch w r = stays w (Replies (offset_fetch_reply.written (fetched_all w r)))
+
+abbrev pub of_find_coordinator : Node → World → FindCoordinatorRequest → Outcome
+of_find_coordinator node w r = stays w (Replies (find_coordinator_reply.written (coordinator node)))
+
 abbrev pub of_create_topics : World → CreateTopicsRequest → Outcome
 of_create_topics w r = let c = created_all w r in record { world = c.0; touched = []; reaction = Replies (create_topics_reply.written c.1) }
 
@@ -76,25 +92,29 @@ abbrev pub if_read : {A : Type 0} → World → Result A WireFault → (A → Ou
 if_read w (Ok v) f = f v
 if_read w (Err fault) f = stays w Shuts
 
--- 0 is Produce, 1 Fetch, 2 ListOffsets, 3 Metadata, 19 CreateTopics, 20 DeleteTopics, 22 InitProducerId
-unfoldable pub served : Node → World → ℤ → List ℕ → Outcome
-served node w key body =
+-- a request on the connection of number n; 0 is Produce, 1 Fetch, 2 ListOffsets, 3 Metadata, 8 OffsetCommit, 9 OffsetFetch,
+-- 10 FindCoordinator, 19 CreateTopics, 20 DeleteTopics, 22 InitProducerId
+unfoldable pub served : Node → World → ℕ → ℤ → ℤ → List ℕ → Outcome
+served node w n key version body =
     if int_eq key (pos 0) then if_read w (whole produce_request body) (of_produce w)
     else if int_eq key (pos 1) then if_read w (whole fetch_request body) (of_fetch w)
     else if int_eq key (pos 2) then if_read w (whole list_offsets_request body) (of_list_offsets w)
     else if int_eq key (pos 3) then if_read w (whole metadata_request body) (of_metadata node w)
+    else if int_eq key (pos 8) then if_read w (whole offset_commit_request body) (of_offset_commit w)
+    else if int_eq key (pos 9) then if_read w (whole offset_fetch_request body) (of_offset_fetch w)
+    else if int_eq key (pos 10) then if_read w (whole find_coordinator_request body) (of_find_coordinator node w)
     else if int_eq key (pos 19) then if_read w (whole create_topics_request body) (of_create_topics w)
     else if int_eq key (pos 20) then if_read w (whole delete_topics_request body) (of_delete_topics w)
     else if int_eq key (pos 22) then if_read w (whole init_producer_id_request body) (of_init_producer_id w)
     else stays w Shuts
 
--- a waiting fetch, of that body and deadline: its reply, where it waits no longer
+-- a waiting fetch, of that deadline, version and body: its reply, where it waits no longer
 abbrev pub looked_at : World → ℕ → Result FetchRequest WireFault → Reaction
 looked_at w deadline (Err fault) = Shuts
 looked_at w deadline (Ok r) = elim (fetch_answer w r deadline) [ Some reply ↦ Replies (fetch_reply.written reply) | None ↦ Silent ]
 
-unfoldable pub looked : World → ℕ → List ℕ → Reaction
-looked w deadline body = looked_at w deadline (whole fetch_request body)
+unfoldable pub looked : World → ℕ → ℤ → List ℕ → Reaction
+looked w deadline version body = looked_at w deadline (whole fetch_request body)
 
 -- ---- what the code answers
 

@@ -16,7 +16,7 @@ use kb_world::Parts;
 use std::alloc::{AllocError, Global};
 
 /// The error code for what a call of the catalog answered.
-fn code_in(answer: Result<(), CatalogFault>) -> i16
+pub(crate) fn code_in(answer: Result<(), CatalogFault>) -> i16
     ensures { result ≡ code_in answer }
 {
     match answer {

@@ -13,12 +13,13 @@ use crate::create_topics::create_topics;
 use crate::delete_topics::delete_topics;
 use crate::fetch;
 use crate::fetch::{Fetching, serve_fetch};
+use crate::group_offsets::{serve_find_coordinator, serve_offset_commit, serve_offset_fetch};
 use crate::init_producer_id::init_producer_id;
 use crate::list_offsets::list_offsets;
 use crate::metadata::metadata;
 use crate::node::Node;
 use crate::produce::produce;
-use crate::request::Request;
+use crate::request::{Request, Wait};
 use kb_api_data::{
     CreateTopicsRequest, DeleteTopicsRequest, FetchRequest, InitProducerIdRequest,
     ListOffsetsRequest, MetadataRequest, ProduceRequest,
@@ -187,13 +188,16 @@ fn serve_by_key<L: PartitionLog + Drop, S: Store>(
     requires sound { (scene L.log S.disk parts.old shelf.old).sound }
     ensures step { IsStep (scene L.log S.disk parts.old shelf.old) (scene L.log S.disk parts.new shelf.new) }
     ensures meets { let a = scene L.log S.disk parts.old shelf.old in let b = scene L.log S.disk parts.new shelf.new in
-        Meets a b (IsServed request.now.correlation_id (served node.now a.state.world request.now.api_key request.now.body.now) b.state.world touched.new.items result) }
+        Meets a b (IsServed request.now.correlation_id (served node.now a.state.world request.now.connection request.now.api_key request.now.api_version request.now.body.now) b.state.world touched.new.items result) }
 {
     match request.api_key {
         0 => serve_produce(alloc, parts, shelf, request, touched),
         1 => serve_a_fetch(alloc, parts, shelf, request),
         2 => serve_list_offsets(alloc, parts, shelf, request),
         3 => serve_metadata(alloc, parts, node, request),
+        8 => serve_offset_commit(alloc, parts, shelf, request),
+        9 => serve_offset_fetch(alloc, parts, request),
+        10 => serve_find_coordinator(alloc, node, request),
         19 => serve_create_topics(alloc, parts, shelf, request),
         20 => serve_delete_topics(alloc, parts, shelf, request, touched),
         22 => serve_init_producer_id(alloc, parts, shelf, request),
@@ -217,7 +221,7 @@ pub fn serve<L: PartitionLog + Drop, S: Store>(
     requires sound { (scene L.log S.disk parts.old shelf.old).sound }
     ensures step { IsStep (scene L.log S.disk parts.old shelf.old) (scene L.log S.disk parts.new shelf.new) }
     ensures meets { let a = scene L.log S.disk parts.old shelf.old in let b = scene L.log S.disk parts.new shelf.new in
-        Meets a b (IsOutcome request.now.correlation_id (served node.now a.state.world request.now.api_key request.now.body.now) b.state.world result.touched.items result.answer) }
+        Meets a b (IsOutcome request.now.correlation_id (served node.now a.state.world request.now.connection request.now.api_key request.now.api_version request.now.body.now) b.state.world result.touched.items result.answer) }
 {
     let mut touched = Vec::new(alloc);
     let answer = match serve_by_key(alloc, parts, shelf, node, request, &mut touched) {
@@ -231,32 +235,30 @@ pub fn serve<L: PartitionLog + Drop, S: Store>(
     Served { answer, touched }
 }
 
-/// Looks at a fetch that waits until the deadline at most, by its body.
+/// Looks at a fetch that waits until its deadline at most.
 #[tactic(auto, unfolding(crate::specs::Serve::looked))]
 fn look_at<L: PartitionLog + Drop, S: Store>(
     alloc: Global,
     parts: &mut Parts<L>,
     shelf: &mut Shelf<S>,
-    correlation_id: i32,
-    body: &[u8],
-    deadline: u64,
+    wait: &Wait<'_>,
 ) -> Result<Answer, ReadFault>
     requires { (scene L.log S.disk parts.old shelf.old).sound }
     ensures step { IsStep (scene L.log S.disk parts.old shelf.old) (scene L.log S.disk parts.new shelf.new) }
     ensures same { let a = scene L.log S.disk parts.old shelf.old in let b = scene L.log S.disk parts.new shelf.new in
         b.disk.honest → a.agrees → b.state.world ≡ a.state.world }
     ensures meets { let a = scene L.log S.disk parts.old shelf.old in let b = scene L.log S.disk parts.new shelf.new in
-        Meets a b (IsServed correlation_id (stays a.state.world (looked a.state.world deadline body.now)) b.state.world [] result) }
+        Meets a b (IsServed wait.now.correlation_id (stays a.state.world (looked a.state.world wait.now.deadline wait.now.api_version wait.now.body.now)) b.state.world [] result) }
 {
-    let asked = FetchRequest::read(alloc, body)?;
-    let mut sink = begin(alloc, correlation_id)?;
-    if fetch::look(alloc, parts, shelf, &asked, deadline, &mut sink)? {
+    let asked = FetchRequest::read(alloc, wait.body)?;
+    let mut sink = begin(alloc, wait.correlation_id)?;
+    if fetch::look(alloc, parts, shelf, &asked, wait.deadline, &mut sink)? {
         return Ok(finish(sink));
     }
     Ok(Answer::NoReply)
 }
 
-/// Looks at a fetch that waits until the deadline at most, by its correlation id and its body.
+/// Looks at a fetch that waits until its deadline at most.
 ///
 /// It is answered where it waits no longer; `NoReply` says that it still waits. The world stays, whatever is refused. Want
 /// of memory shuts the connection and is counted.
@@ -264,18 +266,16 @@ pub fn look<L: PartitionLog + Drop, S: Store>(
     alloc: Global,
     parts: &mut Parts<L>,
     shelf: &mut Shelf<S>,
-    correlation_id: i32,
-    body: &[u8],
-    deadline: u64,
+    wait: &Wait<'_>,
 ) -> Answer
     requires { (scene L.log S.disk parts.old shelf.old).sound }
     ensures step { IsStep (scene L.log S.disk parts.old shelf.old) (scene L.log S.disk parts.new shelf.new) }
     ensures same { let a = scene L.log S.disk parts.old shelf.old in let b = scene L.log S.disk parts.new shelf.new in
         b.disk.honest → a.agrees → b.state.world ≡ a.state.world }
     ensures meets { let a = scene L.log S.disk parts.old shelf.old in let b = scene L.log S.disk parts.new shelf.new in
-        Meets a b ((b.state.world ≡ a.state.world) × IsAnswer correlation_id (looked a.state.world deadline body.now) result) }
+        Meets a b ((b.state.world ≡ a.state.world) × IsAnswer wait.now.correlation_id (looked a.state.world wait.now.deadline wait.now.api_version wait.now.body.now) result) }
 {
-    match look_at(alloc, parts, shelf, correlation_id, body, deadline) {
+    match look_at(alloc, parts, shelf, wait) {
         Ok(answer) => answer,
         Err(ReadFault::Wire(_)) => Answer::Shut,
         Err(ReadFault::Memory) => {

@@ -6,10 +6,14 @@ mod create_topics;
 mod delete_topics;
 mod dispatch;
 mod fetch;
+mod find_coordinator;
+mod group_offsets;
 mod init_producer_id;
 mod list_offsets;
 mod metadata;
 mod node;
+mod offset_commit;
+mod offset_fetch;
 mod produce;
 mod promises;
 mod repeated;
@@ -22,4 +26,4 @@ pub use promises::{
     before_deadline, fetches_give_whole_batches, logs_stay_small, names_stay_apart, requests_again,
     requests_elsewhere, retention_again, retention_elsewhere, worlds_stay_tied,
 };
-pub use request::Request;
+pub use request::{Request, Wait};

@@ -18,7 +18,7 @@ ghost use Rattle.kb_tenant.specs.declared.node.Node.{Node};
 /// The topics of a world are tied to its logs from the start on, whatever is asked, dropped by retention, or the time.
 pub fn worlds_stay_tied()
     ensures begun { (clock : ℕ) → IsTied (at_clock new_world clock) }
-    ensures served { (node : Node) (w : World) (key : ℤ) (body : List ℕ) → IsTied w → IsTied (served node w key body).world }
+    ensures served { (node : Node) (w : World) (n : ℕ) (key version : ℤ) (body : List ℕ) → IsTied w → IsTied (served node w n key version body).world }
     ensures retained { (w : World) (place : Place) → IsTied w → IsTied (retain w place).0 }
     ensures clocked { (w : World) (now : ℕ) → IsTied w → IsTied (at_clock w now) }
 {}
@@ -26,7 +26,7 @@ pub fn worlds_stay_tied()
 /// No two topics of a world have one name, from the start on, whatever is asked, dropped by retention, or the time.
 pub fn names_stay_apart()
     ensures begun { (clock : ℕ) → HasOwnNames (at_clock new_world clock) }
-    ensures served { (node : Node) (w : World) (key : ℤ) (body : List ℕ) → HasOwnNames w → HasOwnNames (served node w key body).world }
+    ensures served { (node : Node) (w : World) (n : ℕ) (key version : ℤ) (body : List ℕ) → HasOwnNames w → HasOwnNames (served node w n key version body).world }
     ensures retained { (w : World) (place : Place) → HasOwnNames w → HasOwnNames (retain w place).0 }
     ensures clocked { (w : World) (now : ℕ) → HasOwnNames w → HasOwnNames (at_clock w now) }
 {}
@@ -34,9 +34,9 @@ pub fn names_stay_apart()
 /// A fetch that waits has no answer after a request that touches none of the places that it waits for, and waits for the
 /// same places.
 pub fn requests_elsewhere()
-    ensures { (node : Node) (w : World) (key : ℤ) (body : List ℕ) (r : FetchRequest) (deadline : ℕ) → IsTied w
-        → fetch_answer w r deadline ≡ None → AreApart (places_of w r) (served node w key body).touched
-        → StillWaits w (served node w key body).world r deadline }
+    ensures { (node : Node) (w : World) (n : ℕ) (key version : ℤ) (body : List ℕ) (r : FetchRequest) (deadline : ℕ) → IsTied w
+        → fetch_answer w r deadline ≡ None → AreApart (places_of w r) (served node w n key version body).touched
+        → StillWaits w (served node w n key version body).world r deadline }
 {}
 
 /// The same after retention at a place that it does not wait for.
@@ -52,9 +52,9 @@ pub fn before_deadline()
 
 /// A fetch that has no answer before and after a request waits for the same places, whatever the request touched.
 pub fn requests_again()
-    ensures { (node : Node) (w : World) (key : ℤ) (body : List ℕ) (r : FetchRequest) (deadline : ℕ) → IsTied w → HasOwnNames w
-        → fetch_answer w r deadline ≡ None → fetch_answer (served node w key body).world r deadline ≡ None
-        → places_of (served node w key body).world r ≡ places_of w r }
+    ensures { (node : Node) (w : World) (n : ℕ) (key version : ℤ) (body : List ℕ) (r : FetchRequest) (deadline : ℕ) → IsTied w → HasOwnNames w
+        → fetch_answer w r deadline ≡ None → fetch_answer (served node w n key version body).world r deadline ≡ None
+        → places_of (served node w n key version body).world r ≡ places_of w r }
 {}
 
 /// Retention changes no place that a fetch asks for.
@@ -66,7 +66,7 @@ pub fn retention_again()
 /// retention, or the time.
 pub fn logs_stay_small()
     ensures begun { (clock : ℕ) → HasSmallLogs (at_clock new_world clock) }
-    ensures served { (node : Node) (w : World) (key : ℤ) (body : List ℕ) → HasSmallLogs w → HasSmallLogs (served node w key body).world }
+    ensures served { (node : Node) (w : World) (n : ℕ) (key version : ℤ) (body : List ℕ) → HasSmallLogs w → HasSmallLogs (served node w n key version body).world }
     ensures retained { (w : World) (place : Place) → HasSmallLogs w → HasSmallLogs (retain w place).0 }
     ensures clocked { (w : World) (now : ℕ) → HasSmallLogs w → HasSmallLogs (at_clock w now) }
 {}
@@ -75,8 +75,8 @@ pub fn logs_stay_small()
 /// without an error gives whole batches of its log as it is at that moment, one after the other, from the one that holds the
 /// asked offset.
 pub fn fetches_give_whole_batches()
-    ensures served { (node : Node) (w : World) (body bytes : List ℕ) (r : FetchRequest) → HasSmallLogs w → whole fetch_request body ≡ Ok r
-        → (served node w (pos 1) body).reaction ≡ Replies bytes → HoldsBatches w r bytes }
-    ensures looked { (w : World) (deadline : ℕ) (body bytes : List ℕ) (r : FetchRequest) → HasSmallLogs w → whole fetch_request body ≡ Ok r
-        → looked w deadline body ≡ Replies bytes → HoldsBatches w r bytes }
+    ensures served { (node : Node) (w : World) (n : ℕ) (version : ℤ) (body bytes : List ℕ) (r : FetchRequest) → HasSmallLogs w → whole fetch_request body ≡ Ok r
+        → (served node w n (pos 1) version body).reaction ≡ Replies bytes → HoldsBatches w r bytes }
+    ensures looked { (w : World) (deadline : ℕ) (version : ℤ) (body bytes : List ℕ) (r : FetchRequest) → HasSmallLogs w → whole fetch_request body ≡ Ok r
+        → looked w deadline version body ≡ Replies bytes → HoldsBatches w r bytes }
 {}

@@ -1,3 +1,4 @@
+pub mod Committed
 pub mod Created
 pub mod Creating
 pub mod Deleted

@@ -113,7 +113,8 @@ WereThere old new = (i : ℕ) (t : TopicState) → topic_at i new.topics ≡ Som
 pub as_before : (old new : Known) → new.topics ≡ old.topics → WereThere old new
 as_before old new same i t at = record { former = t; at = ap (λ ts. topic_at i ts) (sym same) ∙ at; config = refl }
 
-part_put : (old : Known) (i p : ℕ) (part : PartitionState) (o : Option TopicState) → topic_at i old.topics ≡ o → (j : ℕ) (t : TopicState) → topic_at j (put_topic i p part old.topics o) ≡ Some t → WasThere old j t
+-- a topic has another state of one partition
+pub part_put : (old : Known) (i p : ℕ) (part : PartitionState) (o : Option TopicState) → topic_at i old.topics ≡ o → (j : ℕ) (t : TopicState) → topic_at j (put_topic i p part old.topics o) ≡ Some t → WasThere old j t
 part_put old i p part None e j t at = record { former = t; at = at; config = refl }
 part_put old i p part (Some u) e j t at =
     ⊎_elim

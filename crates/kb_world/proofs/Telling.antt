@@ -1,5 +1,5 @@
 -- A refused call of the catalog names what refused it.
-use Rattle.std.proofs.Common.{◌≡◌, ◌∙◌, ◌≤◌, ◌+◌, ◌-◌, ◌^◌, ◌⊎◌, ⊎_elim, inl, inr, ℕ, ℤ, nat_le, Bool, true, false, List, length, Option, Some, None, is_some, Result, Err, not, ◌&&◌, sym, ap, refl, subst, arith}
+use Rattle.std.proofs.Common.{◌≡◌, ◌∙◌, ◌≤◌, ◌+◌, ◌-◌, ◌^◌, ◌⊎◌, ⊎_elim, inl, inr, ℕ, ℤ, nat_le, nat_lt, Bool, true, false, List, length, Option, Some, None, is_some, Result, Err, not, ◌&&◌, sym, ap, refl, subst, arith}
 use Rattle.std.proofs.lemmas.Bool.Decides.{nat_tests}
 use Rattle.std.specs.Prelude.{if◌then◌else◌}
 use Rattle.kb_store.specs.Disk.{Disk}
@@ -7,9 +7,9 @@ use Rattle.kb_log.specs.OnShelf.{Log}
 use Rattle.kb_partitions.specs.Scene.{Scene}
 use Rattle.kb_topics.specs.Calls.{IsCause, IsLogCause}
 use Rattle.kb_topics.specs.Catalog.{known}
-use Rattle.kb_topics.specs.Known.{Known, is_limit, is_partition_count, named}
+use Rattle.kb_topics.specs.Known.{Known, PartitionState, is_limit, is_partition_count, named}
 use Rattle.kb_topics.specs.Name.{is_legal}
-use Rattle.kb_topics.specs.Refusals.{create_refusal, delete_refusal, issue_refusal}
+use Rattle.kb_topics.specs.Refusals.{commit_refusal, create_refusal, delete_refusal, issue_refusal}
 use Rattle.kb_topics.specs.declared.config.TopicConfig.{TopicConfig}
 use Rattle.kb_topics.specs.declared.fault.CatalogFault.{CatalogFault}
 use Rattle.kb_topics.specs.declared.fault.CatalogFault.TheVariants as catalog
@@ -78,6 +78,14 @@ issue_defined k f is = by (nat_le (2 ^ 63 - 1) k.issues) is
   where
     by : (t : Bool) → (if t then Some catalog.UsedUp else None) ≡ Some f → IsDefined k f
     by true e = is_first k catalog.UsedUp f (inl tt) e
+    by false e = absurd cc
+
+pub commit_defined : (k : Known) (metadata : List ℕ) (o : Option PartitionState) (f : CatalogFault) → commit_refusal metadata o ≡ Some f → IsDefined k f
+commit_defined k metadata None f is = is_first k catalog.Unknown f (inl tt) is
+commit_defined k metadata (Some p) f is = by (nat_lt 4096 (length metadata)) is
+  where
+    by : (t : Bool) → (if t then Some catalog.Metadata else None) ≡ Some f → IsDefined k f
+    by true e = is_first k catalog.Metadata f (inl tt) e
     by false e = absurd cc
 
 -- ---- a refused call

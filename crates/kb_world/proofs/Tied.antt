@@ -56,7 +56,7 @@ counted_inserted {A} size (e ∷ es) i v = by (nat_cmp i e.0) (counted_inserted 
 
 -- ---- a new start
 
-put_counts : (i p : ℕ) (part : PartitionState) (ts : List (ℕ × TopicState)) (o : Option TopicState) → topic_at i ts ≡ o → counted partition_count (put_topic i p part ts o) ≡ counted partition_count ts
+pub put_counts : (i p : ℕ) (part : PartitionState) (ts : List (ℕ × TopicState)) (o : Option TopicState) → topic_at i ts ≡ o → counted partition_count (put_topic i p part ts o) ≡ counted partition_count ts
 put_counts i p part ts None at = refl
 put_counts i p part ts (Some t) at = counted_set partition_count (is_at (nat_cmp i)) ts t (with_part p part t) at (length-set t.partitions p part)
 

@@ -1,6 +1,7 @@
 -- What each call makes of a world, and answers, where memory and the store refuse nothing.
 use Rattle.std.specs.Prelude.{ℕ, ℤ, pos, Bool, true, false, List, [], ◌∷◌, length, map, Option, Some, None, Result, Ok, Err, nat_le, int_lt, ◌+◌, ◌^◌, ◌≡◌, ◌++◌, ◌||◌, if◌then◌else◌, option_map}
 use Rattle.std.specs.List.{flat_map, range_with_len}
+use Rattle.std.specs.Option.{option_and_then}
 use Rattle.kb_batch.specs.Batch.{natural, count_of}
 use Rattle.kb_producers.specs.Batches.{kept_all, kept_of}
 use Rattle.kb_producers.specs.Verdict.{verdict}
@@ -9,8 +10,8 @@ use Rattle.kb_log.specs.Log.{fetched, first_at, retained_start}
 use Rattle.kb_log.specs.declared.time.OffsetAndTimestamp.{OffsetAndTimestamp}
 use Rattle.kb_topics.specs.ByName.{by_name}
 use Rattle.kb_topics.specs.Catalog.{start_command}
-use Rattle.kb_topics.specs.Known.{Known, TopicState, new_topic, with_topic, without_topic, with_id, named, topic_at, step}
-use Rattle.kb_topics.specs.Refusals.{create_refusal, issue_refusal}
+use Rattle.kb_topics.specs.Known.{Known, CommittedOffset, PartitionState, TopicState, new_topic, with_topic, without_topic, with_id, with_commit, with_partition, named, topic_at, partition_at, committed_at, step}
+use Rattle.kb_topics.specs.Refusals.{commit_refusal, create_refusal, issue_refusal}
 use Rattle.kb_topics.specs.declared.config.TopicConfig.{TopicConfig}
 use Rattle.kb_topics.specs.declared.fault.CatalogFault.{CatalogFault}
 use Rattle.kb_topics.specs.declared.fault.CatalogFault.TheVariants as catalog
@@ -103,6 +104,29 @@ issued_unless w None = (record w { known = with_id w.known }, Ok (pos w.known.is
 -- The next producer id is given out.
 abbrev pub issue : World → World × Result ℤ CatalogFault
 issue w = issued_unless w (issue_refusal w.known)
+
+-- ---- committed offsets
+
+-- what the catalog has of the partition at a place
+abbrev pub known_at : Known → Place → Option PartitionState
+known_at k place = partition_at k (pos place.instance) (pos place.number)
+
+-- what is known where a group's offset, with what it writes beside it, stands in the place of the one that it had committed
+abbrev pub with_committed : Known → Place → List ℕ → CommittedOffset → Option PartitionState → Known
+with_committed k place group c None = k
+with_committed k place group c (Some p) = with_partition k (pos place.instance) (pos place.number) (with_commit p group c)
+
+abbrev pub committed_unless : World → Place → List ℕ → CommittedOffset → Option CatalogFault → World × Result (Unit {0}) CatalogFault
+committed_unless w place group c (Some f) = (w, Err f)
+committed_unless w place group c None = (record w { known = with_committed w.known place group c (known_at w.known place) }, Ok tt)
+
+-- A group commits an offset to a partition, with metadata beside it.
+abbrev pub commit : World → Place → List ℕ → ℤ → List ℕ → World × Result (Unit {0}) CatalogFault
+commit w place group offset metadata = committed_unless w place group (record { offset = offset; metadata = metadata }) (commit_refusal metadata (known_at w.known place))
+
+-- what a group committed to a partition, if it did
+abbrev pub committed : World → Place → List ℕ → Option CommittedOffset
+committed w place group = option_and_then (committed_at group) (known_at w.known place)
 
 -- ---- retention
 

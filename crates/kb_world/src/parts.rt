@@ -5,7 +5,7 @@ ghost use Rattle.kb_store.specs.Disk.{Table, Files};
 ghost use Rattle.kb_topics.specs.ByName.{by_name};
 ghost use Rattle.kb_topics.specs.Catalog.{known};
 ghost use Rattle.kb_topics.specs.Known.{named, topic_at};
-ghost use Rattle.kb_world.specs.Calls.{start_of, end_of, judged, at_clock, retain_all};
+ghost use Rattle.kb_world.specs.Calls.{start_of, end_of, judged, committed, at_clock, retain_all};
 ghost use Rattle.kb_world.specs.Parts.{Agrees, IsSound, Owns, raised, refused, world_of};
 ghost use Rattle.kb_world.specs.World.{new_world};
 
@@ -14,7 +14,7 @@ use kb_batch::BatchView;
 use kb_log::PartitionLog;
 use kb_partitions::Partitions;
 use kb_producers::Verdict;
-use kb_topics::{Catalog, Topic, TopicsByName};
+use kb_topics::{Catalog, Committed, Topic, TopicsByName};
 use std::alloc::Global;
 
 /// A tenant's catalog and its partitions, the clock, a clock up to which no partition has anything to drop, and how many refusals of
@@ -129,6 +129,13 @@ impl<L: PartitionLog> Parts<L> {
         ensures { (files : Files) → result ≡ (world_of L.log self.now files).known.issues }
     {
         self.catalog.next_producer_id()
+    }
+
+    /// What a group committed to a partition; none where it committed nothing to it, or there is no such partition.
+    pub fn committed(&self, place: Place, group: &str) -> Option<&Committed>
+        ensures { (files : Files) → option_copied result ≡ committed (world_of L.log self.now files) place group.now }
+    {
+        self.catalog.committed(group, place.instance, place.number)
     }
 
     /// The offset of a partition's first record, or else its end; none where there is no such partition.

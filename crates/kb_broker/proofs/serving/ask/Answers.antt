@@ -14,8 +14,8 @@ returns-then-before-lt18446744073709551615-clause-meets g c = λ honest calm.
     let k = kept_of (tenants_in g.L.PartitionLog.log g.S.Store.disk a.tenants.now) a.tenant in
     let l = kept_of (tenants_in g.L.PartitionLog.log g.S.Store.disk c.serve-answer.new.self) a.tenant in
     let r = c.serve-answer.result in
-    answered-now a.setup.now.node k l a.clock q.correlation_id q.api_key q.body.now r.touched.items r.answer
-    (subst (λ n. IsOutcome q.correlation_id (served n (world_at k a.clock) q.api_key q.body.now) (world_at l a.clock) r.touched.items r.answer) c.node-node.ensures.node (c.serve-answer.ensures.meets honest calm))
+    answered-now a.setup.now.node k l a.clock q.connection q.correlation_id q.api_key q.api_version q.body.now r.touched.items r.answer
+    (subst (λ n. IsOutcome q.correlation_id (served n (world_at k a.clock) q.connection q.api_key q.api_version q.body.now) (world_at l a.clock) r.touched.items r.answer) c.node-node.ensures.node (c.serve-answer.ensures.meets honest calm))
 
 pub returns-then-before-lt18446744073709551615-clause-asked :
     goal.returns-then-before-lt18446744073709551615-clause-asked
@@ -23,7 +23,7 @@ returns-then-before-lt18446744073709551615-clause-asked g c = λ honest.
     let a = c.args in
     let q = a.request.now in
     let r = c.serve-answer.result in
-    asked-on g.L.PartitionLog.log g.S.Store.disk (is_honest g.S.Store.disk c.serve-answer.new.self) honest a.tenants.now (c.serve-answer.ensures.honest honest) c.node-node.result (tenants_in g.L.PartitionLog.log g.S.Store.disk c.serve-answer.new.self) a.clock a.tenant q.correlation_id q.api_key q.body.now r.touched.items r.answer c.requires.hosted c.serve-answer.ensures.turn c.serve-answer.ensures.meets
+    asked-on g.L.PartitionLog.log g.S.Store.disk (is_honest g.S.Store.disk c.serve-answer.new.self) honest a.tenants.now (c.serve-answer.ensures.honest honest) c.node-node.result (tenants_in g.L.PartitionLog.log g.S.Store.disk c.serve-answer.new.self) a.clock a.tenant q.connection q.correlation_id q.api_key q.api_version q.body.now r.touched.items r.answer c.requires.hosted c.serve-answer.ensures.turn c.serve-answer.ensures.meets
 
 pub returns-then-before-lt18446744073709551615-clause-touched :
     goal.returns-then-before-lt18446744073709551615-clause-touched
@@ -32,4 +32,4 @@ returns-then-before-lt18446744073709551615-clause-touched g c = λ honest.
     let q = a.request.now in
     let r = c.serve-answer.result in
     let calm = calm-of _ _ c.refusals-before.result c.refusals.result c.refusals-before.ensures c.refusals.ensures c.if-refusals-before.true c.if-before-lt18446744073709551615.true in
-    touched-now g.L.PartitionLog.log g.S.Store.disk (is_honest g.S.Store.disk c.serve-answer.new.self) honest c.node-node.result a.tenants.now (tenants_in g.L.PartitionLog.log g.S.Store.disk c.serve-answer.new.self) a.clock a.tenant q.correlation_id q.api_key q.body.now r.touched.items r.answer c.requires.hosted c.serve-answer.ensures.meets calm
+    touched-now g.L.PartitionLog.log g.S.Store.disk (is_honest g.S.Store.disk c.serve-answer.new.self) honest c.node-node.result a.tenants.now (tenants_in g.L.PartitionLog.log g.S.Store.disk c.serve-answer.new.self) a.clock a.tenant q.connection q.correlation_id q.api_key q.api_version q.body.now r.touched.items r.answer c.requires.hosted c.serve-answer.ensures.meets calm

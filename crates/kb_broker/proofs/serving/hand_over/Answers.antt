@@ -42,9 +42,9 @@ pub returns-else-is_err-2-clause-parked : goal.returns-else-is_err-2-clause-park
 returns-else-is_err-2-clause-parked c = (parked c).others
 
 pub returns-else-is_err-2-clause-dated : goal.returns-else-is_err-2-clause-dated
-returns-else-is_err-2-clause-dated c = λ key id body asks.
+returns-else-is_err-2-clause-dated c = λ key version id body asks.
     let a = c.args in
-    dated-answered c.answer-given.result a.parking.now c.match-answer.parking a.tenant a.connection.now.number a.connection.now c.answer-given.new.self a.answer key id body (parked c) c.requires.bound asks c.answer-given.ensures.ok c.answer-given.ensures.free (sym c.is_err-2.ensures.value ∙ c.if-is_err-2.false)
+    dated-answered c.answer-given.result a.parking.now c.match-answer.parking a.tenant a.connection.now.number a.connection.now c.answer-given.new.self a.answer key version id body (parked c) c.requires.bound asks c.answer-given.ensures.ok c.answer-given.ensures.free (sym c.is_err-2.ensures.value ∙ c.if-is_err-2.false)
 
 pub returns-else-is_err-2-clause-owned : goal.returns-else-is_err-2-clause-owned
 returns-else-is_err-2-clause-owned c =

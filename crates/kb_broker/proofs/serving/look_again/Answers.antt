@@ -1,4 +1,4 @@
-use Rattle.std.proofs.Common.{◌≡◌, FitsSigned, of_z, rules, subst, sym, ◌∙◌, to_z, true, w32}
+use Rattle.std.proofs.Common.{◌≡◌, FitsSigned, of_z, rules, subst, sym, ◌∙◌, to_z, true, w16, w32}
 use Rattle.std.proofs.lemmas.Int.{to_z-of_z}
 use Rattle.kb_tenants.specs.Tenants.{is_honest}
 use Rattle.kb_tenant.specs.Hosted.{IsTurn, kept_of, world_at}
@@ -17,14 +17,16 @@ returns-else-is_err-clause-looked g c =
     let t = c.in-Some.tenant in
     let w = c.in-Some.waiting.now in
     let fits : FitsSigned w32 w.correlation_id = search rules in
+    let version : FitsSigned w16 w.api_version = search rules in
     let passes : c.is_looked_for.result ≡ true = search rules in
     let l = c.look-answer.ensures in
     looked-ok (is_honest g.S.Store.disk c.look-answer.new.self) c.wake.result a.whom a.clock t (tenants_in g.L.PartitionLog.log g.S.Store.disk a.tenants.now) (tenants_in g.L.PartitionLog.log g.S.Store.disk c.look-answer.new.self) a.connection.now c.wake.new.self (wait_of w) c.look-answer.result c.in-Some.ensures.some (sym c.is_looked_for.ensures ∙ passes) l.turn l.stays
     (λ honest calm.
     let met = l.meets honest calm in
     let k = kept_of (tenants_in g.L.PartitionLog.log g.S.Store.disk a.tenants.now) t in
-    let same = subst (λ body. IsAnswer (to_z w32 (of_z w32 w.correlation_id)) (looked (world_at k a.clock) w.deadline body) c.look-answer.result) c.deref.ensures.value met.1 in
-    (met.0, subst (λ z. IsAnswer z (looked (world_at k a.clock) w.deadline w.body.items) c.look-answer.result) (to_z-of_z w32 w.correlation_id fits) same))
+    let same = subst (λ body. IsAnswer (to_z w32 (of_z w32 w.correlation_id)) (looked (world_at k a.clock) w.deadline (to_z w16 (of_z w16 w.api_version)) body) c.look-answer.result) c.deref.ensures.value met.1 in
+    let versioned = subst (λ v. IsAnswer (to_z w32 (of_z w32 w.correlation_id)) (looked (world_at k a.clock) w.deadline v w.body.items) c.look-answer.result) (to_z-of_z w16 w.api_version version) same in
+    (met.0, subst (λ z. IsAnswer z (looked (world_at k a.clock) w.deadline w.api_version w.body.items) c.look-answer.result) (to_z-of_z w32 w.correlation_id fits) versioned))
     l.shut c.wake.ensures.ok c.wake.ensures.number c.wake.ensures.stage c.wake.ensures.unread (sym c.is_err.ensures.value ∙ c.if-is_err.false)
 
 pub returns-then-is_err-clause-looked : goal.returns-then-is_err-clause-looked

@@ -1,9 +1,11 @@
-use Rattle.std.proofs.Common.{ap, subst}
+use Rattle.std.proofs.Common.{◌≡◌, ap, subst}
 use Rattle.std.specs.Prelude.{IfNone, IfSome}
 use Rattle.std.specs.FinMap as fin
-use Rattle.kb_tenant.specs.Hosted.{kept_of, nothing}
+use Rattle.kb_tenant.specs.Hosted.{kept_of, nothing, IsMet}
+use Rattle.kb_tenant.specs.Replies.{IsAnswer}
 use Rattle.kb_tenant.specs.declared.request.Request.{Request}
 use Rattle.kb_machine.specs.Machine.{Line}
+use Rattle.kb_machine.specs.Tenant.{answer, kept_after}
 use Rattle.kb_connection.specs.Fronts.{IsAsked, IsOwn}
 use Rattle.kb_tenants.specs.Tenants.{is_honest}
 use Rattle.kb_broker.specs.Hosts.{tenants_in}
@@ -15,7 +17,7 @@ pub returns-in_err-serve-in-Ok-None-clause-spent : goal.returns-in_err-serve-in-
 returns-in_err-serve-in-Ok-None-clause-spent g c = spent-shut c.args.connection.now c.serve.new.self c.requires.able c.in_err-serve-in-Ok-None.ensures.err
 
 pub returns-in-Ok-None-clause-number : goal.returns-in-Ok-None-clause-number
-returns-in-Ok-None-clause-number g c = ap (λ (x : Line). x.number) (c.in_ok-serve-in-Ok-None.ensures.ok nothing 0)
+returns-in-Ok-None-clause-number g c = ap (λ (x : Line). x.number) (c.in_ok-serve-in-Ok-None.ensures.ok nothing 0 0)
 
 pub returns-in-Ok-None-clause-spent : goal.returns-in-Ok-None-clause-spent
 returns-in-Ok-None-clause-spent g c = spent-served c.serve.result c.args.setup.now c.args.connection.now c.serve.new.self c.requires.able c.serve.ensures.ok c.serve.ensures.err
@@ -48,7 +50,7 @@ pub returns-in-Ok-None-clause-touched : goal.returns-in-Ok-None-clause-touched
 returns-in-Ok-None-clause-touched g c = λ honest.
     let a = c.args in
     let own = subst (λ found. IfNone found (IsOwn a.connection.now.session)) c.in-Ok-None.field-0-is c.in-Ok-None.ensures.own in
-    own-touched a.setup.now a.tenant a.clock (tenants_in g.L.PartitionLog.log g.S.Store.disk a.tenants.now) a.connection.now c.serve.new.self c.new.result.items own c.in_ok-serve-in-Ok-None.ensures.ok
+    own-touched a.setup.now a.tenant a.clock a.connection.now.number (tenants_in g.L.PartitionLog.log g.S.Store.disk a.tenants.now) a.connection.now c.serve.new.self c.new.result.items own c.in_ok-serve-in-Ok-None.ensures.ok
 
 pub returns-in-Err-clause-spent : goal.returns-in-Err-clause-spent
 returns-in-Err-clause-spent g c = spent-shut c.args.connection.now c.shut_down.new.self c.requires.able c.shut_down.ensures
@@ -58,19 +60,25 @@ returns-clause-ok g c = λ honest calm.
     let a = c.args in
     let q = c.in-Ok-Some.request in
     let s = a.connection.now.session in
-    let asked = subst (λ found. IfSome found (λ (r : Request). IsAsked s r.api_key r.correlation_id r.body.now)) c.in-Ok-Some.field-0-is c.in-Ok-Some.ensures.asked in
-    let done = c.ask.ensures.meets honest calm in
-    asked-now a.setup.now a.clock (kept_of (tenants_in g.L.PartitionLog.log g.S.Store.disk a.tenants.now) a.tenant) (kept_of (tenants_in g.L.PartitionLog.log g.S.Store.disk c.ask.new.tenants) a.tenant) a.connection.now c.hand_over.new.connection q.api_key q.correlation_id q.body.now c.ask.result.0 asked done.0 done.1 c.in_ok-hand_over.ensures.ok
+    let asked = subst (λ found. IfSome found (λ (r : Request). IsAsked s r.api_key r.api_version r.correlation_id r.body.now)) c.in-Ok-Some.field-0-is c.in-Ok-Some.ensures.asked in
+    let same : q.connection ≡ a.connection.now.number = subst (λ found. IfSome found (λ (r : Request). r.connection ≡ a.connection.now.number)) c.in-Ok-Some.field-0-is c.in-Ok-Some.ensures.number in
+    let meets = subst (λ n. IsMet a.tenant (is_honest g.S.Store.disk c.ask.new.tenants) (tenants_in g.L.PartitionLog.log g.S.Store.disk a.tenants.now) (tenants_in g.L.PartitionLog.log g.S.Store.disk c.ask.new.tenants)
+    (λ k l. (l ≡ kept_after a.setup.now.node k a.clock n q.api_key q.api_version q.body.now) × IsAnswer q.correlation_id (answer a.setup.now.node k a.clock n q.api_key q.api_version q.body.now) c.ask.result.0)) same c.ask.ensures.meets in
+    let done = meets honest calm in
+    asked-now a.setup.now a.clock a.connection.now.number (kept_of (tenants_in g.L.PartitionLog.log g.S.Store.disk a.tenants.now) a.tenant) (kept_of (tenants_in g.L.PartitionLog.log g.S.Store.disk c.ask.new.tenants) a.tenant) a.connection.now c.hand_over.new.connection q.api_key q.api_version q.correlation_id q.body.now c.ask.result.0 asked done.0 done.1 c.in_ok-hand_over.ensures.ok
 
 pub returns-clause-keyed : goal.returns-clause-keyed
 returns-clause-keyed g c = λ honest.
     let a = c.args in
     let q = c.in-Ok-Some.request in
     let s = a.connection.now.session in
-    let asked = subst (λ found. IfSome found (λ (r : Request). IsAsked s r.api_key r.correlation_id r.body.now)) c.in-Ok-Some.field-0-is c.in-Ok-Some.ensures.asked in
-    keyed-answered (is_honest g.S.Store.disk c.ask.new.tenants) honest a.setup.now a.tenant a.clock (tenants_in g.L.PartitionLog.log g.S.Store.disk a.tenants.now) (tenants_in g.L.PartitionLog.log g.S.Store.disk c.ask.new.tenants) a.connection.now c.hand_over.new.connection q.api_key q.correlation_id q.body.now c.ask.result.0 (fin.get c.hand_over.new.parking a.connection.now.number) c.requires.bound c.hand_over.ensures.spent asked c.ask.ensures.turn c.ask.ensures.meets c.in_ok-hand_over.ensures.ok c.in_ok-hand_over.ensures.keyed
+    let asked = subst (λ found. IfSome found (λ (r : Request). IsAsked s r.api_key r.api_version r.correlation_id r.body.now)) c.in-Ok-Some.field-0-is c.in-Ok-Some.ensures.asked in
+    let same : q.connection ≡ a.connection.now.number = subst (λ found. IfSome found (λ (r : Request). r.connection ≡ a.connection.now.number)) c.in-Ok-Some.field-0-is c.in-Ok-Some.ensures.number in
+    let meets = subst (λ n. IsMet a.tenant (is_honest g.S.Store.disk c.ask.new.tenants) (tenants_in g.L.PartitionLog.log g.S.Store.disk a.tenants.now) (tenants_in g.L.PartitionLog.log g.S.Store.disk c.ask.new.tenants)
+    (λ k l. (l ≡ kept_after a.setup.now.node k a.clock n q.api_key q.api_version q.body.now) × IsAnswer q.correlation_id (answer a.setup.now.node k a.clock n q.api_key q.api_version q.body.now) c.ask.result.0)) same c.ask.ensures.meets in
+    keyed-answered (is_honest g.S.Store.disk c.ask.new.tenants) honest a.setup.now a.tenant a.clock a.connection.now.number (tenants_in g.L.PartitionLog.log g.S.Store.disk a.tenants.now) (tenants_in g.L.PartitionLog.log g.S.Store.disk c.ask.new.tenants) a.connection.now c.hand_over.new.connection q.api_key q.api_version q.correlation_id q.body.now c.ask.result.0 (fin.get c.hand_over.new.parking a.connection.now.number) c.requires.bound c.hand_over.ensures.spent asked c.ask.ensures.turn meets c.in_ok-hand_over.ensures.ok c.in_ok-hand_over.ensures.keyed
 
 pub returns-clause-touched : goal.returns-clause-touched
 returns-clause-touched g c =
     let a = c.args in
-    turned-touched (is_honest g.S.Store.disk c.ask.new.tenants) a.setup.now a.tenant a.clock (tenants_in g.L.PartitionLog.log g.S.Store.disk a.tenants.now) (tenants_in g.L.PartitionLog.log g.S.Store.disk c.ask.new.tenants) a.connection.now.session c.hand_over.new.connection.session c.ask.result.1 c.ask.ensures.touched (returns-clause-ok g c)
+    turned-touched (is_honest g.S.Store.disk c.ask.new.tenants) a.setup.now a.tenant a.clock a.connection.now.number (tenants_in g.L.PartitionLog.log g.S.Store.disk a.tenants.now) (tenants_in g.L.PartitionLog.log g.S.Store.disk c.ask.new.tenants) a.connection.now.session c.hand_over.new.connection.session c.ask.result.1 c.ask.ensures.touched (returns-clause-ok g c)

@@ -1,7 +1,7 @@
 use Rattle.std.proofs.Common.{rules, ◌≡◌, pos, [], sym, subst}
 use Rattle.kb_world.specs.Parts.{world_of}
 use Rattle.kb_tenant.specs.Serve.{served, IsServed}
-use Rattle.kb_tenant.proofs.Keys.{served_metadata}
+use Rattle.kb_tenant.proofs.Keys.{served_find_coordinator, served_metadata, served_offset_fetch}
 use Rattle.kb_tenant.proofs.dispatch.serve_by_key.Goals as goal
 
 pub returns-in-3-clause-meets : goal.returns-in-3-clause-meets
@@ -10,6 +10,26 @@ returns-in-3-clause-meets g c = λ honest agree calm.
     let w = world_of g.L.PartitionLog.log c.args.parts.now files in
     let request = c.args.request.now in
     let key : request.api_key ≡ pos 3 = search rules in
-    subst (λ ts. IsServed request.correlation_id (served c.args.node.now w request.api_key request.body.now) w ts c.serve_metadata.result) (sym c.requires.untouched)
-    (subst (λ o. IsServed request.correlation_id o w [] c.serve_metadata.result) (sym (served_metadata c.args.node.now w request.api_key request.body.now key))
+    subst (λ ts. IsServed request.correlation_id (served c.args.node.now w request.connection request.api_key request.api_version request.body.now) w ts c.serve_metadata.result) (sym c.requires.untouched)
+    (subst (λ o. IsServed request.correlation_id o w [] c.serve_metadata.result) (sym (served_metadata c.args.node.now w request.connection request.api_key request.api_version request.body.now key))
     (c.serve_metadata.ensures files))
+
+pub returns-in-9-clause-meets : goal.returns-in-9-clause-meets
+returns-in-9-clause-meets g c = λ honest agree calm.
+    let files = (g.S.Store.disk c.args.shelf.now.store).files in
+    let w = world_of g.L.PartitionLog.log c.args.parts.now files in
+    let request = c.args.request.now in
+    let key : request.api_key ≡ pos 9 = search rules in
+    subst (λ ts. IsServed request.correlation_id (served c.args.node.now w request.connection request.api_key request.api_version request.body.now) w ts c.serve_offset_fetch.result) (sym c.requires.untouched)
+    (subst (λ o. IsServed request.correlation_id o w [] c.serve_offset_fetch.result) (sym (served_offset_fetch c.args.node.now w request.connection request.api_key request.api_version request.body.now key))
+    (c.serve_offset_fetch.ensures files))
+
+pub returns-in-10-clause-meets : goal.returns-in-10-clause-meets
+returns-in-10-clause-meets g c = λ honest agree calm.
+    let files = (g.S.Store.disk c.args.shelf.now.store).files in
+    let w = world_of g.L.PartitionLog.log c.args.parts.now files in
+    let request = c.args.request.now in
+    let key : request.api_key ≡ pos 10 = search rules in
+    subst (λ ts. IsServed request.correlation_id (served c.args.node.now w request.connection request.api_key request.api_version request.body.now) w ts c.serve_find_coordinator.result) (sym c.requires.untouched)
+    (subst (λ o. IsServed request.correlation_id o w [] c.serve_find_coordinator.result) (sym (served_find_coordinator c.args.node.now w request.connection request.api_key request.api_version request.body.now key))
+    (c.serve_find_coordinator.ensures w))

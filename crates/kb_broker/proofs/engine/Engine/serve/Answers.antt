@@ -70,8 +70,8 @@ returns-in-Ok g c =
     let here = state-is _ _ c.self.view_is in
     let earlier = subst (λ (x : OnStore g.row.S.Denot). IsLaterWith (disk x.store) (disk c.take_turn-taken.new.tenants.shelf.store) x.state.tenants us) c.self.view_is t.later in
     let taken = taken-ok g c in
-    let is : IsTakenAt H b.setup b.clock l.session.stage b.tenants us l.session m.session =
-    subst (λ (x : BrokerState). IsTakenAt H x.setup x.clock l.session.stage x.tenants us l.session m.session) here c.in-Ok.ensures.ok in
+    let is : IsTakenAt H b.setup b.clock l.number l.session.stage b.tenants us l.session m.session =
+    subst (λ (x : BrokerState). IsTakenAt H x.setup x.clock l.number l.session.stage x.tenants us l.session m.session) here c.in-Ok.ensures.ok in
     let left : H → IsLeftBy who b.setup b.clock l.session.stage l.number q b.tenants us l.session m.session = λ honest.
     subst (λ (x : BrokerState). IsLeftBy who x.setup x.clock l.session.stage l.number q x.tenants us l.session m.session) here (c.in-Ok.ensures.left honest) in
     record {

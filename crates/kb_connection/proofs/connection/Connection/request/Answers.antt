@@ -10,19 +10,22 @@ pub returns-in_default : goal.returns-in_default
 returns-in_default c = record {
   own = own_unless_frame _ _ _ (ap (λ (l : Line). l.session.unread) c.self.view_is) c.next.ensures c.in_default.not-Frame;
   asked = tt;
+  number = tt;
   unshut = tt;
 }
 
 pub returns-in-Another-clause-asked : goal.returns-in-Another-clause-asked
 returns-in-Another-clause-asked c =
     let key : FitsSigned w16 c.in-Another.key = search rules in
+    let version : FitsSigned w16 c.in-Another.version = search rules in
     let id : FitsSigned w32 c.in_ok-correlation_id.field-0.correlation_id = search rules in
-    is_handed _ _ _ _ _ _ _ _ _ _ _ (ap (λ (l : Line). l.session.unread) c.self.view_is) c.in-Frame.ensures c.as_slice.ensures c.in_ok-correlation_id.ensures c.in-Another.is (to_z-of_z w16 _ key) (to_z-of_z w32 _ id) c.as_slice-in-Another.ensures
+    is_handed _ _ _ _ _ _ _ _ _ _ _ _ (ap (λ (l : Line). l.session.unread) c.self.view_is) c.in-Frame.ensures c.as_slice.ensures c.in_ok-correlation_id.ensures c.in-Another.is (to_z-of_z w16 _ key) (to_z-of_z w16 _ version) (to_z-of_z w32 _ id) c.as_slice-in-Another.ensures
 
 pub returns-in_default-asked : goal.returns-in_default-asked
 returns-in_default-asked c = record {
   own = own_unless_another _ _ _ _ _ (ap (λ (l : Line). l.session.unread) c.self.view_is) c.in-Frame.ensures c.as_slice.ensures c.in_ok-correlation_id.ensures c.in_default-asked.not-Another;
   asked = tt;
+  number = tt;
   unshut = tt;
 }
 

@@ -5,13 +5,13 @@ use Rattle.kb_connection.proofs.Turning.{serve_more, serve_bad, serve_frame}
 use Rattle.kb_connection.proofs.connection.Connection.serve.Goals as goal
 
 pub returns-in-More-clause-ok : goal.returns-in-More-clause-ok
-returns-in-More-clause-ok c kept clock = serve_more c.args.setup.now kept clock _ _ (ap (λ (l : Line). l.session.unread) c.self.view_is) c.in-More.ensures
+returns-in-More-clause-ok c kept clock n = serve_more c.args.setup.now kept clock n _ _ (ap (λ (l : Line). l.session.unread) c.self.view_is) c.in-More.ensures
 
 pub returns-in-TooSmall-clause-ok : goal.returns-in-TooSmall-clause-ok
-returns-in-TooSmall-clause-ok c kept clock = serve_bad c.args.setup.now kept clock _ _ _ _ (ap (λ (l : Line). l.session.unread) c.self.view_is) c.next.ensures c.in-TooSmall.is c.shut_down.ensures
+returns-in-TooSmall-clause-ok c kept clock n = serve_bad c.args.setup.now kept clock n _ _ _ _ (ap (λ (l : Line). l.session.unread) c.self.view_is) c.next.ensures c.in-TooSmall.is c.shut_down.ensures
 
 pub returns-in-Frame-clause-ok : goal.returns-in-Frame-clause-ok
-returns-in-Frame-clause-ok c kept clock =
+returns-in-Frame-clause-ok c kept clock n =
     let same = ap (λ (l : Line). l.session.unread) c.self.view_is in
     let own = own_frame _ _ _ _ same c.in-Frame.ensures c.as_slice.ensures c.requires in
-    serve_frame c.args.setup.now kept clock _ _ _ _ _ _ _ same c.in-Frame.ensures c.as_slice.ensures (c.bound_reaction-reaction.ensures own) c.take_turn.ensures.ok
+    serve_frame c.args.setup.now kept clock n _ _ _ _ _ _ _ same c.in-Frame.ensures c.as_slice.ensures (c.bound_reaction-reaction.ensures own) c.take_turn.ensures.ok

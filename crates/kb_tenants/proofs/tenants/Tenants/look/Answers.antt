@@ -1,7 +1,5 @@
-use Rattle.std.proofs.Common.{◌≡◌, ◌∙◌, ◌+◌, ◌-◌, ◌<◌, ap, subst, sym, to_z, of_z, arith}
-use Rattle.std.proofs.lemmas.Int.{to_z-of_z}
+use Rattle.std.proofs.Common.{◌≡◌, ◌∙◌, ◌+◌, ◌-◌, ◌<◌, ap, subst, sym, arith}
 use Rattle.std.specs.Prelude.{min}
-use Rattle.std.specs.Int.{w32}
 use Rattle.kb_world.specs.Parts.{END, world_of}
 use Rattle.kb_tenant.specs.Hosted.{kept_in, world_at}
 use Rattle.kb_tenant.specs.Replies.{IsAnswer}
@@ -29,13 +27,13 @@ returns-then-before-lt18446744073709551615-clause-turn g c =
 
 pub returns-then-before-lt18446744073709551615-clause-meets : goal.returns-then-before-lt18446744073709551615-clause-meets
 returns-then-before-lt18446744073709551615-clause-meets g c =
-    let id = to_z w32 (of_z w32 c.args.correlation_id) in
+    let wait = c.args.wait.now in
     let k = kept_in (world_of g.L.PartitionLog.log c.index_mut.result.now.parts (g.S.Store.disk c.args.self.now.shelf.store).files) in
     met_at g.L.PartitionLog.log g.S.Store.disk g.met.L.PartitionLog.lawful c.args.self.now c.args.tenant c.index_mut.result.now c.set_clock.new.self c.args.clock
     c.requires.tenant c.index_mut.ensures.value c.requires.kept c.set_clock.ensures.parts c.look-answer.new.parts c.count_failures.new.parts (min (c.refusals-before.result + (c.failures.result - c.failures-failures.result)) END) c.look-answer.new.shelf c.count_failures.ensures c.look-answer.ensures.step
-    (λ v u. (u ≡ v) × IsAnswer id (looked v c.args.deadline c.args.body.now) c.look-answer.result)
-    (λ v u. (u ≡ v) × IsAnswer c.args.correlation_id (looked (world_at v c.args.clock) c.args.deadline c.args.body.now) c.look-answer.result)
-    (λ done. (ap kept_in done.0, subst (λ z. IsAnswer z (looked (world_at k c.args.clock) c.args.deadline c.args.body.now) c.look-answer.result) (to_z-of_z w32 c.args.correlation_id c.ranges.correlation_id) done.1))
+    (λ v u. (u ≡ v) × IsAnswer wait.correlation_id (looked v wait.deadline wait.api_version wait.body.now) c.look-answer.result)
+    (λ v u. (u ≡ v) × IsAnswer wait.correlation_id (looked (world_at v c.args.clock) wait.deadline wait.api_version wait.body.now) c.look-answer.result)
+    (λ done. (ap kept_in done.0, done.1))
     c.look-answer.ensures.meets
 
 pub returns-then-before-lt18446744073709551615-clause-stays : goal.returns-then-before-lt18446744073709551615-clause-stays

@@ -32,13 +32,13 @@ returns-clause-meets g c =
     let node = c.args.node.now in
     let k = kept_in (world_of log c.index_mut.result.now.parts (g.S.Store.disk c.args.self.now.shelf.store).files) in
     let w = world_of log c.serve-served.new.parts (g.S.Store.disk c.serve-served.new.shelf.store).files in
-    let o = served node (world_at k c.args.clock) r.api_key r.body.now in
+    let o = served node (world_at k c.args.clock) r.connection r.api_key r.api_version r.body.now in
     met_at log g.S.Store.disk g.met.L.PartitionLog.lawful c.args.self.now c.args.tenant c.index_mut.result.now c.set_clock.new.self c.args.clock
     c.requires.tenant c.index_mut.ensures.value c.requires.kept c.set_clock.ensures.parts c.serve-served.new.parts c.count_failures.new.parts (min (c.refusals-refusals.result + (c.failures.result - c.failures-failures.result)) END) c.serve-served.new.shelf c.count_failures.ensures c.serve-served.ensures.step
-    (λ v u. IsOutcome r.correlation_id (served node v r.api_key r.body.now) u c.serve-served.result.touched.items c.serve-served.result.answer)
-    (λ v u. IsOutcome r.correlation_id (served node (world_at v c.args.clock) r.api_key r.body.now) (world_at u c.args.clock) c.serve-served.result.touched.items c.serve-served.result.answer)
+    (λ v u. IsOutcome r.correlation_id (served node v r.connection r.api_key r.api_version r.body.now) u c.serve-served.result.touched.items c.serve-served.result.answer)
+    (λ v u. IsOutcome r.correlation_id (served node (world_at v c.args.clock) r.connection r.api_key r.api_version r.body.now) (world_at u c.args.clock) c.serve-served.result.touched.items c.serve-served.result.answer)
     (λ done. subst (λ n. IsOutcome r.correlation_id o (world_at (kept_in w) n) c.serve-served.result.touched.items c.serve-served.result.answer)
-    (ap (λ v. v.clock) done.0 ∙ (serve_leaves node (world_at k c.args.clock) r.api_key r.body.now).clock) done)
+    (ap (λ v. v.clock) done.0 ∙ (serve_leaves node (world_at k c.args.clock) r.connection r.api_key r.api_version r.body.now).clock) done)
     c.serve-served.ensures.meets
 
 pub returns-clause-accounted : goal.returns-clause-accounted

@@ -1,0 +1,156 @@
+-- The steps of an OffsetCommit.
+use Rattle.std.proofs.Common.{◌≡◌, ◌∙◌, sym, ap, refl, inl, inr, ⊎_elim, ℕ, ℤ, pos, List, ◌++◌, length, Option, Some, None, Result, Ok, Err}
+use Rattle.std.specs.Int.{w32}
+use Rattle.std.specs.List.{flat_map}
+use Rattle.kb_wire.specs.Codec.{array, count, string, int}
+use Rattle.kb_api_group.specs.Layouts.{commit_partition, commit_partition_reply, commit_topic, commit_topic_reply, offset_commit_request, offset_commit_reply}
+use Rattle.kb_api_group.specs.declared.offset_commit.CommitPartition.{CommitPartition}
+use Rattle.kb_api_group.specs.declared.offset_commit.CommitPartitionReply.{CommitPartitionReply}
+use Rattle.kb_api_group.specs.declared.offset_commit.CommitTopic.{CommitTopic}
+use Rattle.kb_api_group.specs.declared.offset_commit.OffsetCommitRequest.{OffsetCommitRequest}
+use Rattle.kb_partitions.specs.Scene.{Scene}
+use Rattle.kb_topics.specs.CatalogFault.{code_of as fault_code}
+use Rattle.kb_topics.specs.Known.{named}
+use Rattle.kb_topics.specs.declared.fault.CatalogFault.{CatalogFault}
+use Rattle.kb_topics.specs.declared.fault.CatalogFault.TheVariants as catalog
+use Rattle.kb_world.specs.Calls.{commit}
+use Rattle.kb_world.specs.Parts.{Seen}
+use Rattle.kb_world.specs.Told.{IsCatalogWant, IsDone, Tells}
+use Rattle.kb_world.specs.World.{World, place_in}
+use Rattle.kb_world.specs.declared.place.Place.{Place}
+use Rattle.kb_tenant.specs.CreateTopics.{code_in}
+use Rattle.kb_tenant.specs.OffsetCommit.{committed, committed_all, committed_at, committed_entry, committed_topic, metadata_in, refusal_of}
+use Rattle.kb_tenant.specs.Produce.{written_next}
+use Rattle.kb_tenant.specs.Told.{IsFaultOf, IsTold}
+use Rattle.kb_tenant.specs.Turns.{in_turn, written_behind}
+use Rattle.kb_tenant.proofs.Fitting.{array_written, written_both}
+use Rattle.kb_tenant.proofs.Turning.{turn_length}
+
+-- ---- one entry
+
+done_so : (a b : Scene Seen) (P Q : Type 0) → (P → Q) → IsDone a b P → IsDone a b Q
+done_so a b P Q f is = record { counted = is.counted; met = λ honest agree. f (is.met honest agree) }
+
+-- the code for what the call answered, at what the entry says
+pub commit_code : (v w : World) (place : Place) (group : List ℕ) (e : CommitPartition) (offset : ℤ) (text : List ℕ) (r : Result (Unit {0}) CatalogFault) (code : ℤ)
+    → offset ≡ e.offset → text ≡ metadata_in e.metadata → code ≡ code_in r → (v, r) ≡ commit w place group offset text → (v, code) ≡ committed_at w (Some place) group e
+commit_code v w place group e offset text r code at beside is met =
+    ap (λ z. (v, z)) is
+    ∙ ap (λ (x : World × Result (Unit {0}) CatalogFault). (x.0, code_in x.1)) (met ∙ ap (λ z. commit w place group z text) at ∙ ap (λ s. commit w place group e.offset s) beside)
+
+fault_told : (a b : Scene Seen) (end : ℕ) (P Q : Type 0) (r : Result (Unit {0}) CatalogFault) (code : ℤ) → (P → Q) → code ≡ code_in r → Tells a b P (IsCatalogWant end a b) r → IsTold a b Q (IsFaultOf end a b code)
+fault_told a b end P Q (Ok u) code f is told = inl (done_so a b P Q f told)
+fault_told a b end P Q (Err g) code f is told =
+    ⊎_elim
+    (λ own. inl (done_so a b P Q f own))
+    (λ wanted. inr (record { want = record { fault = g; told = is; want = wanted.want }; counted = wanted.counted; stays = wanted.stays }))
+    told
+
+pub commit_told : (a b : Scene Seen) (end : ℕ) (place : Place) (group : List ℕ) (e : CommitPartition) (offset : ℤ) (text : List ℕ) (r : Result (Unit {0}) CatalogFault) (code : ℤ)
+    → offset ≡ e.offset → text ≡ metadata_in e.metadata → code ≡ code_in r → Tells a b ((b.state.world, r) ≡ commit a.state.world place group offset text) (IsCatalogWant end a b) r
+    → IsTold a b ((b.state.world, code) ≡ committed_at a.state.world (Some place) group e) (IsFaultOf end a b code)
+commit_told a b end place group e offset text r code at beside is told =
+    fault_told a b end ((b.state.world, r) ≡ commit a.state.world place group offset text) ((b.state.world, code) ≡ committed_at a.state.world (Some place) group e) r code
+    (commit_code b.state.world a.state.world place group e offset text r code at beside is) is told
+
+-- each fault of the catalog has a code that is not 0
+fault_speaks : (f : CatalogFault) → fault_code f ≡ pos 0 → ⊥
+fault_speaks catalog.Name e = absurd cc
+fault_speaks catalog.Exists e = absurd cc
+fault_speaks catalog.Partitions e = absurd cc
+fault_speaks catalog.Limit e = absurd cc
+fault_speaks catalog.TooMany e = absurd cc
+fault_speaks catalog.Unknown e = absurd cc
+fault_speaks catalog.Metadata e = absurd cc
+fault_speaks catalog.Back e = absurd cc
+fault_speaks catalog.UsedUp e = absurd cc
+fault_speaks catalog.Full e = absurd cc
+fault_speaks catalog.Store e = absurd cc
+fault_speaks catalog.Memory e = absurd cc
+
+-- what is answered with no error was done
+pub acknowledged : (a b : Scene Seen) (P : Type 0) (end : ℕ) (code : ℤ) → IsTold a b P (IsFaultOf end a b code) → code ≡ pos 0 → IsDone a b P
+acknowledged a b P end code told zero = ⊎_elim (λ done. done) (λ refused. absurd (fault_speaks refused.want.fault (sym refused.want.told ∙ zero))) told
+
+-- an entry that the whole request does not refuse, at its place
+pub entry_at : (w : World) (refusal : Option ℤ) (group : List ℕ) (topic : Option ℕ) (e : CommitPartition) (o : Option Place) → refusal ≡ None → o ≡ place_in topic e.partition
+    → committed_at w o group e ≡ committed refusal group topic w e
+entry_at w refusal group topic e o none at = ap (λ p. committed_at w p group e) at ∙ ap (λ (r : Option ℤ). committed r group topic w e) (sym none)
+
+pub told_so : (a b : Scene Seen) (P Q Want : Type 0) → (P → Q) → IsTold a b P Want → IsTold a b Q Want
+told_so a b P Q Want f told = ⊎_elim (λ done. inl (done_so a b P Q f done)) (λ refused. inr refused) told
+
+-- the reply for an entry
+pub entry_is : (w v : World) (refusal : Option ℤ) (group : List ℕ) (topic : Option ℕ) (e : CommitPartition) (partition sent code : ℤ) → partition ≡ e.partition → sent ≡ code → (v, code) ≡ committed refusal group topic w e
+    → (v, (let x : CommitPartitionReply = record { partition = partition; error_code = sent } in x)) ≡ committed_entry refusal group topic w e
+entry_is w v refusal group topic e partition sent code one same step =
+    ap (λ n. (v, (let x : CommitPartitionReply = record { partition = n; error_code = sent } in x))) one
+    ∙ ap (λ z. (v, (let x : CommitPartitionReply = record { partition = e.partition; error_code = z } in x))) same
+    ∙ ap (λ (r : World × ℤ). (r.0, (let x : CommitPartitionReply = record { partition = e.partition; error_code = r.1 } in x))) step
+
+-- ---- what fits
+
+pub reply_fits : (r : CommitPartitionReply) → commit_partition_reply.Fits r
+unfolding commit_partition_reply int
+reply_fits r = (tt, tt)
+
+pub name_fits : (t : CommitTopic) → commit_topic.Fits t → string.Fits t.name
+unfolding commit_topic
+name_fits t fits = fits.0
+
+pub entries_fit : (t : CommitTopic) → commit_topic.Fits t → (array commit_partition).Fits t.partitions
+unfolding commit_topic
+entries_fit t fits = fits.1
+
+pub group_fits : (q : OffsetCommitRequest) → offset_commit_request.Fits q → string.Fits q.group_id
+unfolding offset_commit_request
+group_fits q fits = fits.0
+
+pub topics_fit : (q : OffsetCommitRequest) → offset_commit_request.Fits q → (array commit_topic).Fits q.topics
+unfolding offset_commit_request
+topics_fit q fits = fits.1.1.1.1
+
+-- ---- bytes
+
+-- a topic's answer is its name, its count and its partitions' answers
+pub topic_told : (refusal : Option ℤ) (group : List ℕ) (topic : Option ℕ) (w : World) (t : CommitTopic) (name : List ℕ) (entries : List CommitPartition) (n : ℕ) (out out1 out2 : List ℕ) (result : World × List ℕ)
+    → name ≡ t.name → entries ≡ t.partitions → n ≡ length t.partitions → topic ≡ named t.name w.known.topics
+    → out1 ≡ out ++ string.written name → out2 ≡ out1 ++ (count w32).written n
+    → result ≡ written_behind commit_partition_reply.written out2 (in_turn (committed_entry refusal group topic) w entries)
+    → result ≡ written_next commit_topic_reply.written out (committed_topic refusal group w t)
+unfolding commit_topic_reply
+topic_told refusal group topic w t name entries n out out1 out2 result name_is entries_are many topic_is first second is =
+    let write = commit_partition_reply.written in
+    let f = committed_entry refusal group (named t.name w.known.topics) in
+    let r = in_turn f w t.partitions in
+    let all = flat_map write r.1 in
+    let count_is : n ≡ length r.1 = many ∙ sym (turn_length f w t.partitions) in
+    let tail : out2 ++ all ≡ out1 ++ ((count w32).written n ++ all) = written_both out1 out2 (out2 ++ all) ((count w32).written n) all second refl in
+    let bytes : out2 ++ all ≡ out ++ (string.written t.name ++ (array commit_partition_reply).written r.1) =
+    written_both out out1 (out2 ++ all) (string.written t.name) ((array commit_partition_reply).written r.1) (first ∙ ap (λ m. out ++ string.written m) name_is)
+    (tail ∙ ap (λ x. out1 ++ x) (array_written commit_partition_reply r.1 n count_is)) in
+    is
+    ∙ ap (λ es. written_behind write out2 (in_turn (committed_entry refusal group topic) w es)) entries_are
+    ∙ ap (λ i. written_behind write out2 (in_turn (committed_entry refusal group i) w t.partitions)) topic_is
+    ∙ ap (λ l. (r.0, l)) bytes
+
+-- the reply is its count and its topics' answers
+pub all_told : (q : OffsetCommitRequest) (w v : World) (refusal : Option ℤ) (group : List ℕ) (topics : List CommitTopic) (n : ℕ) (out out1 out2 : List ℕ)
+    → refusal ≡ refusal_of q.group_id q.generation_id → group ≡ q.group_id → topics ≡ q.topics → n ≡ length q.topics → out1 ≡ out ++ (count w32).written n
+    → (v, out2) ≡ written_behind commit_topic_reply.written out1 (in_turn (committed_topic refusal group) w topics)
+    → (v ≡ (committed_all w q).0) × (out2 ≡ out ++ offset_commit_reply.written (committed_all w q).1)
+unfolding offset_commit_reply
+all_told q w v refusal group topics n out out1 out2 refusal_is group_is topics_are many first told =
+    let write = commit_topic_reply.written in
+    let f = committed_topic (refusal_of q.group_id q.generation_id) q.group_id in
+    let r = in_turn f w q.topics in
+    let all : (v, out2) ≡ (r.0, out1 ++ flat_map write r.1) =
+    told
+    ∙ ap (λ ts. written_behind write out1 (in_turn (committed_topic refusal group) w ts)) topics_are
+    ∙ ap (λ g. written_behind write out1 (in_turn (committed_topic refusal g) w q.topics)) group_is
+    ∙ ap (λ (o : Option ℤ). written_behind write out1 (in_turn (committed_topic o q.group_id) w q.topics)) refusal_is in
+    let last : out2 ≡ out1 ++ flat_map write r.1 = ap (λ (x : World × List ℕ). x.1) all in (
+      ap (λ (x : World × List ℕ). x.0) all,
+      written_both out out1 out2 ((count w32).written n) (flat_map write r.1) first last
+          ∙ ap (λ x. out ++ x) (array_written commit_topic_reply r.1 n (many ∙ sym (turn_length f w q.topics))),
+    )

@@ -1,0 +1,46 @@
+-- What is written of committed offsets.
+use Rattle.std.proofs.Common.{◌≡◌, ◌∙◌, sym, ap, ℕ, ℤ, List, ◌++◌, length, map, Option, Some, w32}
+use Rattle.std.specs.List.{flat_map}
+use Rattle.std.specs.Option.{option_and_then}
+use Rattle.std.proofs.lemmas.List.{length-map}
+use Rattle.kb_wire.specs.Codec.{array, count, string}
+use Rattle.kb_api_group.specs.Layouts.{offset_fetch_partition_reply, offset_fetch_topic_reply, offset_fetch_reply}
+use Rattle.kb_api_group.specs.declared.offset_fetch.OffsetFetchTopic.{OffsetFetchTopic}
+use Rattle.kb_api_group.specs.declared.offset_fetch.OffsetFetchRequest.{OffsetFetchRequest}
+use Rattle.kb_topics.specs.Known.{named}
+use Rattle.kb_world.specs.Calls.{committed}
+use Rattle.kb_world.specs.World.{World, place_in}
+use Rattle.kb_world.specs.declared.place.Place.{Place}
+use Rattle.kb_tenant.specs.OffsetFetch.{fetched, fetched_all, fetched_topic, kept}
+use Rattle.kb_tenant.proofs.Fitting.{array_written, written_both}
+
+-- what is kept of a partition at its place
+pub kept_at : (w : World) (group : List ℕ) (topic : Option ℕ) (partition p : ℤ) (place : Place) → p ≡ partition → Some place ≡ place_in topic p → committed w place group ≡ kept w group topic partition
+kept_at w group topic partition p place same there = ap (λ o. option_and_then (λ x. committed w x group) o) (there ∙ ap (place_in topic) same)
+
+-- a topic's answer is its name, its count and its partitions' answers
+pub topic_written : (w : World) (group : List ℕ) (t : OffsetFetchTopic) (name : List ℕ) (n : ℕ) (instance : Option ℕ) (partitions : List ℤ) (old s1 s2 s3 : List ℕ)
+    → name ≡ t.name → n ≡ length t.partitions → instance ≡ named t.name w.known.topics → partitions ≡ t.partitions
+    → s1 ≡ old ++ string.written name → s2 ≡ s1 ++ (count w32).written n → s3 ≡ s2 ++ flat_map offset_fetch_partition_reply.written (map (fetched w group instance) partitions)
+    → s3 ≡ old ++ offset_fetch_topic_reply.written (fetched_topic w group t)
+unfolding offset_fetch_topic_reply
+topic_written w group t name n instance partitions old s1 s2 s3 name_is n_is instance_is partitions_are p q r =
+    let write = offset_fetch_partition_reply.written in
+    let f = fetched w group (named t.name w.known.topics) in
+    let replies = map f t.partitions in
+    let all = flat_map write replies in
+    let last : s3 ≡ s2 ++ all = r ∙ ap (λ i. s2 ++ flat_map write (map (fetched w group i) partitions)) instance_is ∙ ap (λ ps. s2 ++ flat_map write (map f ps)) partitions_are in
+    let tail : s3 ≡ s1 ++ ((count w32).written n ++ all) = written_both s1 s2 s3 ((count w32).written n) all q last in
+    let array_is = array_written offset_fetch_partition_reply replies n (n_is ∙ sym (length-map t.partitions f)) in
+    written_both old s1 s3 (string.written t.name) ((array offset_fetch_partition_reply).written replies) (p ∙ ap (λ m. old ++ string.written m) name_is) (tail ∙ ap (λ x. s1 ++ x) array_is)
+
+-- the reply is its count and its topics' answers
+pub all_written : (w : World) (q : OffsetFetchRequest) (group : List ℕ) (n : ℕ) (old s1 s2 : List ℕ) → group ≡ q.group_id → n ≡ length q.topics → s1 ≡ old ++ (count w32).written n
+    → s2 ≡ s1 ++ flat_map offset_fetch_topic_reply.written (map (fetched_topic w group) q.topics) → s2 ≡ old ++ offset_fetch_reply.written (fetched_all w q)
+unfolding offset_fetch_reply
+all_written w q group n old s1 s2 group_is n_is p r =
+    let f = fetched_topic w q.group_id in
+    let replies = map f q.topics in
+    let last : s2 ≡ s1 ++ flat_map offset_fetch_topic_reply.written replies = r ∙ ap (λ g. s1 ++ flat_map offset_fetch_topic_reply.written (map (fetched_topic w g) q.topics)) group_is in
+    written_both old s1 s2 ((count w32).written n) (flat_map offset_fetch_topic_reply.written replies) p last
+    ∙ ap (λ x. old ++ x) (array_written offset_fetch_topic_reply replies n (n_is ∙ sym (length-map q.topics f)))

@@ -1,0 +1,40 @@
+use Rattle.std.proofs.Common.{refl, rules, w16, w32}
+use Rattle.std.proofs.lemmas.Int.{to_z-of_z}
+use Rattle.kb_api_group.specs.Layouts.{commit_partition_reply}
+use Rattle.kb_partitions.specs.Scene.{Scene}
+use Rattle.kb_world.specs.Parts.{Seen, scene}
+use Rattle.kb_world.specs.Steps.{step_then, meets_then, meets_so}
+use Rattle.kb_tenant.specs.OffsetCommit.{committed_entry}
+use Rattle.kb_tenant.proofs.Committing.{entry_is, reply_fits}
+use Rattle.kb_tenant.proofs.Replies.{entry_next}
+use Rattle.kb_tenant.proofs.offset_commit.commit_entries.Goals as goal
+
+pub write-requires : goal.write-requires
+write-requires g c = λ k. ((refl, tt), reply_fits _)
+
+pub returns-in_err-write-clause-step : goal.returns-in_err-write-clause-step
+returns-in_err-write-clause-step g c =
+    let log = g.L.PartitionLog.log in
+    let disk = g.S.Store.disk in
+    let a : Scene Seen = scene log disk c.args.parts.now c.args.shelf.now in
+    let b : Scene Seen = scene log disk c.loop-entry.parts c.loop-entry.shelf in
+    let d : Scene Seen = scene log disk c.commit_entry.new.parts c.commit_entry.new.shelf in
+    step_then a b d c.loop-entry.invariant.step c.commit_entry.ensures.step
+
+pub loop-entry-preserved : goal.loop-entry-preserved
+loop-entry-preserved g c =
+    let log = g.L.PartitionLog.log in
+    let disk = g.S.Store.disk in
+    let a : Scene Seen = scene log disk c.args.parts.now c.args.shelf.now in
+    let b : Scene Seen = scene log disk c.loop-entry.parts c.loop-entry.shelf in
+    let d : Scene Seen = scene log disk c.commit_entry.new.parts c.commit_entry.new.shelf in
+    let group = c.args.group.now in
+    let f = committed_entry c.args.refusal group c.args.topic in
+    let e = c.entry-item.result in
+    let i = c.loop-entry.entry-index in
+    record {
+      step = step_then a b d c.loop-entry.invariant.step c.commit_entry.ensures.step;
+      told = meets_so a d _ _ (λ both. entry_next commit_partition_reply f c.loop-entry.sink.bytes c.write.new.sink.bytes b.state.world d.state.world _ c.args.entries.now i e _ c.loop-entry-test.true c.entry-item.is c.in_ok-write.ensures.ok
+          (entry_is b.state.world d.state.world c.args.refusal group c.args.topic e _ _ c.commit_entry.result (to_z-of_z w32 e.partition (search rules)) (to_z-of_z w16 c.commit_entry.result (record { sfits = c.commit_entry.type_inv })) both.1) both.0)
+          (meets_then a b d _ _ c.loop-entry.invariant.step c.commit_entry.ensures.step c.loop-entry.invariant.told c.commit_entry.ensures.meets);
+    }

@@ -1,0 +1,70 @@
+use Rattle.std.proofs.Common.{◌∙◌, ◌<◌, ◌≤◌, ap, sym, refl, rules, subst, length, get_or, to_z, of_z, w32}
+use Rattle.std.proofs.lemmas.Int.{to_z-of_z}
+use Rattle.kb_api_group.specs.Layouts.{commit_topic, commit_topic_reply}
+use Rattle.kb_partitions.specs.Scene.{Scene}
+use Rattle.kb_world.specs.Parts.{Seen, scene}
+use Rattle.kb_world.specs.Steps.{step_then, meets_then, meets_so}
+use Rattle.kb_tenant.specs.OffsetCommit.{committed_topic, refusal_of}
+use Rattle.kb_tenant.proofs.Committing.{all_told, group_fits, topics_fit}
+use Rattle.kb_tenant.proofs.Deleting.{name_short}
+use Rattle.kb_tenant.proofs.Fitting.{count_fits, item_fits}
+use Rattle.kb_tenant.proofs.Produced.{told_next}
+use Rattle.kb_tenant.proofs.Turning.{turn_over}
+use Rattle.kb_tenant.proofs.offset_commit.offset_commit.Goals as goal
+
+pub put_count-requires : goal.put_count-requires
+put_count-requires g c = count_fits commit_topic c.args.request.now.topics c.len.result (topics_fit c.args.request.now c.requires.fits) c.len.ensures
+
+pub commit_topic-requires-clause-fits : goal.commit_topic-requires-clause-fits
+commit_topic-requires-clause-fits g c =
+    let i = c.loop-topic.topic-index in
+    item_fits commit_topic c.args.request.now.topics i c.topic-item.result (topics_fit c.args.request.now c.requires.fits)
+    (subst (λ ts. i < length ts) c.as_slice-topic-items.ensures c.loop-topic-test.true)
+    (c.topic-item.is ∙ ap (λ ts. get_or ts i c.topic-item.result) c.as_slice-topic-items.ensures)
+
+pub commit_topic-requires-clause-text : goal.commit_topic-requires-clause-text
+commit_topic-requires-clause-text g c = name_short c.args.request.now.group_id _ c.as_str-group.ensures (group_fits c.args.request.now c.requires.fits)
+
+pub returns-in_err-commit_topic-clause-step : goal.returns-in_err-commit_topic-clause-step
+returns-in_err-commit_topic-clause-step g c =
+    let log = g.L.PartitionLog.log in
+    let disk = g.S.Store.disk in
+    let a : Scene Seen = scene log disk c.args.parts.now c.args.shelf.now in
+    let b : Scene Seen = scene log disk c.loop-topic.parts c.loop-topic.shelf in
+    let d : Scene Seen = scene log disk c.commit_topic.new.parts c.commit_topic.new.shelf in
+    step_then a b d c.loop-topic.invariant.step c.commit_topic.ensures.step
+
+pub loop-topic-preserved : goal.loop-topic-preserved
+loop-topic-preserved g c =
+    let log = g.L.PartitionLog.log in
+    let disk = g.S.Store.disk in
+    let a : Scene Seen = scene log disk c.args.parts.now c.args.shelf.now in
+    let b : Scene Seen = scene log disk c.loop-topic.parts c.loop-topic.shelf in
+    let d : Scene Seen = scene log disk c.commit_topic.new.parts c.commit_topic.new.shelf in
+    let f = committed_topic c.refusal_of-refusal.result c.as_str-group.result.now in
+    let i = c.loop-topic.topic-index in
+    record {
+      step = step_then a b d c.loop-topic.invariant.step c.commit_topic.ensures.step;
+      told = meets_so a d _ _
+          (told_next commit_topic_reply.written f c.loop-topic.sink.bytes c.commit_topic.new.sink.bytes b.state.world d.state.world c.args.request.now.topics i c.topic-item.result _
+          (subst (λ ts. i < length ts) c.as_slice-topic-items.ensures c.loop-topic-test.true)
+          (c.topic-item.is ∙ ap (λ ts. get_or ts i c.topic-item.result) c.as_slice-topic-items.ensures))
+          (meets_then a b d _ _ c.loop-topic.invariant.step c.commit_topic.ensures.step c.loop-topic.invariant.told c.in_ok-commit_topic.ensures.meets);
+    }
+
+pub returns-clause-meets : goal.returns-clause-meets
+returns-clause-meets g c =
+    let log = g.L.PartitionLog.log in
+    let disk = g.S.Store.disk in
+    let a : Scene Seen = scene log disk c.args.parts.now c.args.shelf.now in
+    let b : Scene Seen = scene log disk c.loop-topic.parts c.loop-topic.shelf in
+    let q = c.args.request.now in
+    let refusal = c.refusal_of-refusal.result in
+    let group = c.as_str-group.result.now in
+    let i = c.loop-topic.topic-index in
+    let over = turn_over commit_topic_reply.written (committed_topic refusal group) c.loop-topic.sink.bytes b.state.world q.topics i (subst (λ ts. length ts ≤ i) c.as_slice-topic-items.ensures c.loop-topic-test.false) in
+    meets_so a b _ _
+    (λ told. all_told q a.state.world b.state.world refusal group q.topics c.len.result c.args.sink.now.bytes c.put_count.new.self.bytes c.loop-topic.sink.bytes
+    (c.refusal_of-refusal.ensures ∙ ap (λ t. refusal_of t (to_z w32 (of_z w32 q.generation_id))) c.as_str-group.ensures ∙ ap (refusal_of q.group_id) (to_z-of_z w32 q.generation_id (search rules)))
+    c.as_str-group.ensures refl c.len.ensures c.in_ok-put_count.ensures.ok (sym over ∙ told))
+    c.loop-topic.invariant.told

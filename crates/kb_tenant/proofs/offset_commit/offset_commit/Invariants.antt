@@ -1,0 +1,19 @@
+use Rattle.std.proofs.Common.{◌≡◌, drop}
+use Rattle.kb_api_group.specs.Layouts.{commit_topic_reply}
+use Rattle.kb_world.specs.Parts.{scene}
+use Rattle.kb_world.specs.Steps.{IsStep, Meets}
+use Rattle.kb_tenant.specs.OffsetCommit.{committed_topic}
+use Rattle.kb_tenant.specs.Turns.{in_turn, written_behind}
+use Rattle.kb_tenant.proofs.offset_commit.offset_commit.Given as goal
+
+-- what was answered, and what the rest is still to be answered, is the whole answer
+abbrev pub invariant-loop-topic : goal.invariant-loop-topic
+invariant-loop-topic g l =
+    let a = scene g.L.PartitionLog.log g.S.Store.disk l.initial.parts l.initial.shelf in
+    let b = scene g.L.PartitionLog.log g.S.Store.disk l.parts l.shelf in
+    let f = committed_topic l.refusal l.group in
+    let write = commit_topic_reply.written in
+    record {
+      step : IsStep a b;
+      told : Meets a b (written_behind write l.sink.bytes (in_turn f b.state.world (drop l.topic-index l.request.topics)) ≡ written_behind write l.initial.sink.bytes (in_turn f a.state.world l.request.topics));
+    }

@@ -1,0 +1,14 @@
+use Rattle.std.proofs.Common.{◌≡◌, ◌++◌, map, drop}
+use Rattle.std.specs.List.{flat_map}
+use Rattle.kb_api_group.specs.Layouts.{offset_fetch_topic_reply}
+use Rattle.kb_store.specs.Disk.{Files}
+use Rattle.kb_world.specs.Parts.{world_of}
+use Rattle.kb_tenant.specs.OffsetFetch.{fetched_topic}
+use Rattle.kb_tenant.proofs.offset_fetch.offset_fetch.Given as goal
+
+-- what was written, and what the rest is still to be answered, is the whole answer
+abbrev pub invariant-loop-topic : goal.invariant-loop-topic
+invariant-loop-topic g l =
+    let write = offset_fetch_topic_reply.written in
+    (files : Files) → let f = fetched_topic (world_of g.L.PartitionLog.log l.parts files) l.group in
+    l.sink.bytes ++ flat_map write (map f (drop l.topic-index l.request.topics)) ≡ l.initial.sink.bytes ++ flat_map write (map f l.request.topics)

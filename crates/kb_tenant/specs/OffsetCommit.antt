@@ -1,0 +1,57 @@
+-- OffsetCommit (Kafka protocol guide, "The Messages: OffsetCommit", version 2): a group records how far it has processed partitions.
+-- No group has members yet: only a consumer that chooses its partitions itself commits, and it names a generation below 0.
+use Rattle.std.specs.Prelude.{ℕ, ℤ, pos, List, [], length, Option, Some, None, int_lt, ◌==◌, if◌then◌else◌}
+use Rattle.kb_api_group.specs.ErrorCode.{code_of}
+use Rattle.kb_api_group.specs.declared.error_code.ErrorCode.TheVariants as codes
+use Rattle.kb_api_group.specs.declared.offset_commit.CommitPartition.{CommitPartition}
+use Rattle.kb_api_group.specs.declared.offset_commit.CommitPartitionReply.{CommitPartitionReply}
+use Rattle.kb_api_group.specs.declared.offset_commit.CommitTopic.{CommitTopic}
+use Rattle.kb_api_group.specs.declared.offset_commit.CommitTopicReply.{CommitTopicReply}
+use Rattle.kb_api_group.specs.declared.offset_commit.OffsetCommitRequest.{OffsetCommitRequest}
+use Rattle.kb_api_group.specs.declared.offset_commit.OffsetCommitReply.{OffsetCommitReply}
+use Rattle.kb_topics.specs.Known.{named}
+use Rattle.kb_world.specs.Calls.{commit}
+use Rattle.kb_world.specs.World.{World, place_in}
+use Rattle.kb_world.specs.declared.place.Place.{Place}
+use Rattle.kb_tenant.specs.CreateTopics.{code_in}
+use Rattle.kb_tenant.specs.Turns.{in_turn}
+
+-- what each entry is refused for: the group has no name, or a member of it commits, and it has none
+abbrev pub refusal_of : List ℕ → ℤ → Option ℤ
+refusal_of group generation =
+    if length group == 0 then Some (code_of codes.InvalidGroupId)
+    else (if int_lt generation (pos 0) then None else Some (code_of codes.UnknownMemberId))
+
+-- what is kept beside an offset; null is kept as an empty text
+abbrev pub metadata_in : Option (List ℕ) → List ℕ
+metadata_in None = []
+metadata_in (Some text) = text
+
+-- ---- one entry, its answer an error code
+
+abbrev pub committed_at : World → Option Place → List ℕ → CommitPartition → World × ℤ
+committed_at w None group e = (w, code_of codes.UnknownTopicOrPartition)
+committed_at w (Some place) group e = let r = commit w place group e.offset (metadata_in e.metadata) in (r.0, code_in r.1)
+
+-- An entry of the topic of an instance: its partition gets the group's offset, unless the whole request is refused.
+abbrev pub committed : Option ℤ → List ℕ → Option ℕ → World → CommitPartition → World × ℤ
+committed (Some code) group topic w e = (w, code)
+committed None group topic w e = committed_at w (place_in topic e.partition) group e
+
+abbrev pub answered : ℤ → World × ℤ → World × CommitPartitionReply
+answered partition r = (r.0, record { partition = partition; error_code = r.1 })
+
+abbrev pub committed_entry : Option ℤ → List ℕ → Option ℕ → World → CommitPartition → World × CommitPartitionReply
+committed_entry refusal group topic w e = answered e.partition (committed refusal group topic w e)
+
+-- ---- all of them, in turn
+
+abbrev pub answered_topic : List ℕ → World × List CommitPartitionReply → World × CommitTopicReply
+answered_topic name r = (r.0, record { name = name; partitions = r.1 })
+
+abbrev pub committed_topic : Option ℤ → List ℕ → World → CommitTopic → World × CommitTopicReply
+committed_topic refusal group w t = answered_topic t.name (in_turn (committed_entry refusal group (named t.name w.known.topics)) w t.partitions)
+
+-- The entries are served in order, each on what the one before it left.
+abbrev pub committed_all : World → OffsetCommitRequest → World × OffsetCommitReply
+committed_all w q = let r = in_turn (committed_topic (refusal_of q.group_id q.generation_id) q.group_id) w q.topics in (r.0, record { topics = r.1 })

@@ -1,0 +1,71 @@
+//! Requests about the offsets of groups, from their bodies to their replies.
+ghost use Rattle.std.specs.Prelude.{◌≡◌, []};
+ghost use Rattle.kb_api_group.specs.Layouts.{find_coordinator_request, offset_commit_request, offset_fetch_request};
+ghost use Rattle.kb_store.specs.Disk.{Files};
+ghost use Rattle.kb_tenant.specs.Serve.{if_read, of_find_coordinator, of_offset_commit, of_offset_fetch, IsServed};
+ghost use Rattle.kb_wire.specs.Codec.{string, whole};
+ghost use Rattle.kb_world.specs.Parts.{scene, world_of};
+ghost use Rattle.kb_world.specs.Steps.{IsStep, Meets};
+ghost use Rattle.kb_world.specs.World.{World};
+
+use crate::answer::{Answer, begin, finish};
+use crate::find_coordinator::find_coordinator;
+use crate::node::Node;
+use crate::offset_commit::offset_commit;
+use crate::offset_fetch::offset_fetch;
+use crate::request::Request;
+use kb_api_group::{FindCoordinatorRequest, OffsetCommitRequest, OffsetFetchRequest};
+use kb_log::{PartitionLog, Shelf};
+use kb_store::Store;
+use kb_wire::{Layout, ReadFault, Sink};
+use kb_world::Parts;
+use std::alloc::Global;
+
+/// OffsetCommit.
+pub(crate) fn serve_offset_commit<L: PartitionLog + Drop, S: Store>(
+    alloc: Global,
+    parts: &mut Parts<L>,
+    shelf: &mut Shelf<S>,
+    request: &Request<'_>,
+) -> Result<Answer, ReadFault>
+    requires { (scene L.log S.disk parts.old shelf.old).sound }
+    ensures step { IsStep (scene L.log S.disk parts.old shelf.old) (scene L.log S.disk parts.new shelf.new) }
+    ensures meets { let a = scene L.log S.disk parts.old shelf.old in let b = scene L.log S.disk parts.new shelf.new in
+        Meets a b (IsServed request.now.correlation_id (if_read a.state.world (whole offset_commit_request request.now.body.now) (of_offset_commit a.state.world)) b.state.world [] result) }
+{
+    let asked = OffsetCommitRequest::read(alloc, request.body)?;
+    let mut sink = begin(alloc, request.correlation_id)?;
+    offset_commit(parts, shelf, &asked, &mut sink)?;
+    Ok(finish(sink))
+}
+
+/// OffsetFetch.
+pub(crate) fn serve_offset_fetch<L: PartitionLog + Drop>(
+    alloc: Global,
+    parts: &Parts<L>,
+    request: &Request<'_>,
+) -> Result<Answer, ReadFault>
+    ensures { (files : Files) → let w = world_of L.log parts.now files in
+        IsServed request.now.correlation_id (if_read w (whole offset_fetch_request request.now.body.now) (of_offset_fetch w)) w [] result }
+{
+    let asked = OffsetFetchRequest::read(alloc, request.body)?;
+    let mut sink = begin(alloc, request.correlation_id)?;
+    offset_fetch(parts, &asked, &mut sink)?;
+    Ok(finish(sink))
+}
+
+/// FindCoordinator. The group is not looked at.
+pub(crate) fn serve_find_coordinator(
+    alloc: Global,
+    node: &Node<'_>,
+    request: &Request<'_>,
+) -> Result<Answer, ReadFault>
+    requires { string.Fits node.now.host }
+    ensures { (w : World) →
+        IsServed request.now.correlation_id (if_read w (whole find_coordinator_request request.now.body.now) (of_find_coordinator node.now w)) w [] result }
+{
+    let _asked = FindCoordinatorRequest::read(alloc, request.body)?;
+    let mut sink = begin(alloc, request.correlation_id)?;
+    find_coordinator(node, &mut sink)?;
+    Ok(finish(sink))
+}

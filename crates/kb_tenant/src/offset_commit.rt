@@ -1,0 +1,168 @@
+//! OffsetCommit, version 2 (Kafka protocol guide): a group records how far it has processed partitions.
+ghost use Rattle.std.specs.Prelude.{◌≡◌, ◌++◌, ◌<◌, ◌^◌, length, pos, OnOk};
+ghost use Rattle.kb_api_group.specs.Layouts.{commit_partition_reply, commit_topic, commit_topic_reply, offset_commit_request, offset_commit_reply};
+ghost use Rattle.kb_tenant.specs.OffsetCommit.{refusal_of as refusal_for, metadata_in as metadata_for, committed_at, committed, committed_entry, committed_topic, committed_all};
+ghost use Rattle.kb_tenant.specs.Produce.{written_next};
+ghost use Rattle.kb_tenant.specs.Told.{IsFaultOf, IsTold};
+ghost use Rattle.kb_tenant.specs.Turns.{in_turn, written_behind};
+ghost use Rattle.kb_wire.specs.Codec.{string};
+ghost use Rattle.kb_world.specs.Parts.{meta, scene};
+ghost use Rattle.kb_world.specs.Steps.{IsStep, Meets};
+ghost use Rattle.kb_world.specs.Told.{IsDone};
+ghost use Rattle.std.specs.Prelude.{Some};
+
+use crate::create_topics::code_in;
+use kb_api_group::{
+    CommitPartition, CommitPartitionReply, CommitTopic, ErrorCode, OffsetCommitRequest,
+};
+use kb_log::{PartitionLog, Shelf};
+use kb_store::Store;
+use kb_wire::{Layout, Sink};
+use kb_world::{Parts, Place};
+use std::alloc::AllocError;
+
+/// What every entry is refused for: the group has no name, or a member of it commits, and it has none.
+fn refusal_of(group: &str, generation_id: i32) -> Option<i16>
+    ensures { result ≡ refusal_for group.now generation_id }
+{
+    if group.is_empty() {
+        return Some(ErrorCode::InvalidGroupId.code());
+    }
+    if generation_id < 0 {
+        return None;
+    }
+    Some(ErrorCode::UnknownMemberId.code())
+}
+
+/// What an entry writes beside its offset. Null is kept as an empty text.
+fn metadata_in<'a>(entry: &'a CommitPartition<'_>) -> &'a str
+    ensures { result.now ≡ metadata_for entry.now.metadata }
+{
+    match &entry.metadata {
+        Some(metadata) => metadata.as_str(),
+        None => "",
+    }
+}
+
+/// Commits an entry's offset to the partition at a place, and answers its error code.
+fn commit_at<L: PartitionLog + Drop, S: Store>(
+    parts: &mut Parts<L>,
+    shelf: &mut Shelf<S>,
+    group: &str,
+    place: Place,
+    entry: &CommitPartition<'_>,
+) -> i16
+    requires sound { (scene L.log S.disk parts.old shelf.old).sound }
+    requires text { length group.now < 2 ^ 15 }
+    ensures step { IsStep (scene L.log S.disk parts.old shelf.old) (scene L.log S.disk parts.new shelf.new) }
+    ensures meets { let a = scene L.log S.disk parts.old shelf.old in let b = scene L.log S.disk parts.new shelf.new in
+        Meets a b ((b.state.world, result) ≡ committed_at a.state.world (Some place) group.now entry.now) }
+    ensures told { let a = scene L.log S.disk parts.old shelf.old in let b = scene L.log S.disk parts.new shelf.new in
+        IsTold a b ((b.state.world, result) ≡ committed_at a.state.world (Some place) group.now entry.now) (IsFaultOf (meta L.log parts.old).end a b result) }
+{
+    let metadata = metadata_in(entry);
+    code_in(parts.commit(shelf, place, group, entry.offset, metadata))
+}
+
+/// Serves an entry of a topic, which a refusal of the whole request refuses too, and answers its error code.
+fn commit_entry<L: PartitionLog + Drop, S: Store>(
+    parts: &mut Parts<L>,
+    shelf: &mut Shelf<S>,
+    refusal: Option<i16>,
+    group: &str,
+    topic: Option<u64>,
+    entry: &CommitPartition<'_>,
+) -> i16
+    requires sound { (scene L.log S.disk parts.old shelf.old).sound }
+    requires text { length group.now < 2 ^ 15 }
+    ensures step { IsStep (scene L.log S.disk parts.old shelf.old) (scene L.log S.disk parts.new shelf.new) }
+    ensures meets { let a = scene L.log S.disk parts.old shelf.old in let b = scene L.log S.disk parts.new shelf.new in
+        Meets a b ((b.state.world, result) ≡ committed refusal group.now topic a.state.world entry.now) }
+    ensures told { let a = scene L.log S.disk parts.old shelf.old in let b = scene L.log S.disk parts.new shelf.new in
+        IsTold a b ((b.state.world, result) ≡ committed refusal group.now topic a.state.world entry.now) (IsFaultOf (meta L.log parts.old).end a b result) }
+    // An offset that is answered with no error is a command of the catalog, whatever else was refused.
+    ensures acknowledged { let a = scene L.log S.disk parts.old shelf.old in let b = scene L.log S.disk parts.new shelf.new in
+        result ≡ pos 0 → IsDone a b ((b.state.world, result) ≡ committed refusal group.now topic a.state.world entry.now) }
+{
+    if let Some(code) = refusal {
+        return code;
+    }
+    let Some(place) = Place::new(topic, entry.partition) else {
+        return ErrorCode::UnknownTopicOrPartition.code();
+    };
+    commit_at(parts, shelf, group, place, entry)
+}
+
+/// Serves a topic's entries in order. An `Err` leaves what was committed, and some of the answers written.
+fn commit_entries<L: PartitionLog + Drop, S: Store>(
+    parts: &mut Parts<L>,
+    shelf: &mut Shelf<S>,
+    refusal: Option<i16>,
+    group: &str,
+    topic: Option<u64>,
+    entries: &[CommitPartition<'_>],
+    sink: &mut Sink,
+) -> Result<(), AllocError>
+    requires sound { (scene L.log S.disk parts.old shelf.old).sound }
+    requires text { length group.now < 2 ^ 15 }
+    ensures step { IsStep (scene L.log S.disk parts.old shelf.old) (scene L.log S.disk parts.new shelf.new) }
+    ensures meets { OnOk result (let a = scene L.log S.disk parts.old shelf.old in let b = scene L.log S.disk parts.new shelf.new in
+        Meets a b ((b.state.world, sink.new.bytes) ≡ written_behind commit_partition_reply.written sink.old.bytes (in_turn (committed_entry refusal group.now topic) a.state.world entries.now))) }
+{
+    for entry in entries {
+        let reply = CommitPartitionReply {
+            partition: entry.partition,
+            error_code: commit_entry(parts, shelf, refusal, group, topic, entry),
+        };
+        reply.write(sink)?;
+    }
+    Ok(())
+}
+
+/// Serves a topic's entries, behind the topic's name and their count.
+fn commit_topic<L: PartitionLog + Drop, S: Store>(
+    parts: &mut Parts<L>,
+    shelf: &mut Shelf<S>,
+    refusal: Option<i16>,
+    group: &str,
+    topic: &CommitTopic<'_>,
+    sink: &mut Sink,
+) -> Result<(), AllocError>
+    requires sound { (scene L.log S.disk parts.old shelf.old).sound }
+    requires text { length group.now < 2 ^ 15 }
+    requires fits { commit_topic.Fits topic.now }
+    ensures step { IsStep (scene L.log S.disk parts.old shelf.old) (scene L.log S.disk parts.new shelf.new) }
+    ensures meets { OnOk result (let a = scene L.log S.disk parts.old shelf.old in let b = scene L.log S.disk parts.new shelf.new in
+        Meets a b ((b.state.world, sink.new.bytes) ≡ written_next commit_topic_reply.written sink.old.bytes (committed_topic refusal group.now a.state.world topic.now))) }
+{
+    sink.put_string(topic.name.as_str())?;
+    sink.put_count(topic.partitions.len())?;
+    let instance = parts.topic_named(topic.name.as_str());
+    let entries = topic.partitions.as_slice();
+    commit_entries(parts, shelf, refusal, group, instance, entries, sink)
+}
+
+/// Serves OffsetCommit: commits the group's offsets in the order of the request, and writes the reply behind what is in the sink.
+///
+/// `member_id` and `retention_time_ms` have no effect. An `Err` leaves what was committed, and some front of the reply.
+pub(crate) fn offset_commit<L: PartitionLog + Drop, S: Store>(
+    parts: &mut Parts<L>,
+    shelf: &mut Shelf<S>,
+    request: &OffsetCommitRequest<'_>,
+    sink: &mut Sink,
+) -> Result<(), AllocError>
+    requires sound { (scene L.log S.disk parts.old shelf.old).sound }
+    requires fits { offset_commit_request.Fits request.now }
+    ensures step { IsStep (scene L.log S.disk parts.old shelf.old) (scene L.log S.disk parts.new shelf.new) }
+    ensures meets { OnOk result (let a = scene L.log S.disk parts.old shelf.old in let b = scene L.log S.disk parts.new shelf.new in
+        Meets a b (let r = committed_all a.state.world request.now in
+        (b.state.world ≡ r.0) × (sink.new.bytes ≡ sink.old.bytes ++ offset_commit_reply.written r.1))) }
+{
+    let group = request.group_id.as_str();
+    let refusal = refusal_of(group, request.generation_id);
+    sink.put_count(request.topics.len())?;
+    for topic in request.topics.as_slice() {
+        commit_topic(parts, shelf, refusal, group, topic, sink)?;
+    }
+    Ok(())
+}

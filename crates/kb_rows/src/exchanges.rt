@@ -125,6 +125,22 @@ pub(crate) const REFUSED_ONCE: [Step<'static>; 14] = [
     In(2, "fetch", "fetched-yo"),
 ];
 
+/// A tenant makes a topic. The store refuses the first offset that a group commits to it, which leaves the group with none, and takes it
+/// when it comes again.
+pub(crate) const COMMIT_REFUSED_ONCE: [Step<'static>; 11] = [
+    Open(1),
+    Open(2),
+    In(1, "handshake", "offered"),
+    In(2, "handshake", "offered"),
+    In(1, "ann", "welcome"),
+    In(2, "bob", "welcome"),
+    In(1, "create", "created"),
+    In(1, "commit", "commit-refused"),
+    In(1, "ask-offset", "no-offset"),
+    In(1, "commit", "committed"),
+    In(1, "ask-offset", "offset-5"),
+];
+
 /// The events of an exchange, with pieces of at most so many bytes.
 pub(crate) fn events_of(
     rt: &impl Abort,

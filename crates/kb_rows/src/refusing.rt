@@ -1,6 +1,8 @@
 //! Brokers whose logs write to a store that refuses: a refusal is its tenant's own.
 
-use crate::exchanges::{ALTERNATING, REFUSED_ONCE, events_of, wanted_of};
+use crate::exchanges::{
+    ALTERNATING, COMMIT_REFUSED_ONCE, REFUSED_ONCE, Step, events_of, wanted_of,
+};
 use crate::running::{are_told, is_told, refusals_of, run};
 use crate::written::WrittenLog;
 use kb_broker::{Broker, Event, Settings, Written};
@@ -63,18 +65,24 @@ fn counts_of(
     Ok(counts)
 }
 
-/// A refused append answers its tenant an error and no offset, is counted for that tenant alone, and leaves the offset to the
-/// next batch. The other tenant sees nothing of it.
-#[test]
-fn a_refused_append_is_its_tenants_own(rt: HostRuntime) -> Result<(), Fail> {
-    let mut broker = opened(rt.alloc(), Fuse::Once(7))?;
-    let events = events_of(&rt, rt.alloc(), &REFUSED_ONCE, usize::MAX)?;
-    let written = run(&rt, rt.alloc(), &mut broker, &events)?;
-    let wanted = wanted_of(&rt, rt.alloc(), &REFUSED_ONCE)?;
-    are_told(&rt, "a refused append", &written, &wanted);
+/// Plays an exchange on a store that refuses that call alone, which is counted once, for the first tenant.
+fn refuses_once(rt: &impl Abort, alloc: Global, call: u64, steps: &[Step<'_>]) -> Result<(), Fail> {
+    let mut broker = opened(alloc, Fuse::Once(call))?;
+    let events = events_of(rt, alloc, steps, usize::MAX)?;
+    let written = run(rt, alloc, &mut broker, &events)?;
+    let wanted = wanted_of(rt, alloc, steps)?;
+    are_told(rt, "a refused call", &written, &wanted);
     assert_eq!(rt; refusals_of(&broker), [1, 0, 0]);
     assert_eq!(rt; broker.into_store().failures(), 1);
     Ok(())
+}
+
+/// A refused append answers its tenant an error and no offset, is counted for that tenant alone, and leaves the offset to the
+/// next batch. The other tenant sees nothing of it. A refused commit leaves its group what it had.
+#[test]
+fn a_refused_append_is_its_tenants_own(rt: HostRuntime) -> Result<(), Fail> {
+    refuses_once(&rt, rt.alloc(), 7, &REFUSED_ONCE)?;
+    refuses_once(&rt, rt.alloc(), 4, &COMMIT_REFUSED_ONCE)
 }
 
 /// Whichever call is refused, alone or with all that follow.

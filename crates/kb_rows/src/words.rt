@@ -7,7 +7,7 @@ use std::process::Abort;
 /// Requests and replies, one a line, each with a space and its digits: SaslHandshake of `PLAIN`, the logins of `ann` of tenant `a`
 /// and of `bob` of tenant `b`, a mechanism that is not known, a second login, one with a wrong password, ApiVersions, CreateTopics of `t` twice, Metadata of all topics, Produce to `t` of a batch of one
 /// record with value `hi` or `yo`, Fetch of `t` from 0 on, and one that waits for a second for what comes at 1. Behind them stand
-/// their replies.
+/// their replies. Then come OffsetCommit of 5 to `t`, and OffsetFetch, with theirs.
 const MESSAGES: &str = "\
     handshake 000000110011000100000002ffff0005504c41494e\n\
     offered 00000011000000020000000000010005504c41494e\n\
@@ -54,6 +54,12 @@ const MESSAGES: &str = "\
     came 000000770000001600000000000000010001740000000100000000000000000000000000020000000000000002ffffffff0000004600000\
     000000000010000003a000000000271a3af2c00000000000000000000000000050000000000000005ffffffffffffffffffffffffffff0000000\
     1100000000104686900\n\
+    commit 00000035000800020000003cffff000167ffffffff0000ffffffffffffffff000000010001740000000100000000000000000000000500016d\n\
+    committed 000000150000003c0000000100017400000001000000000000\n\
+    commit-refused 000000150000003c0000000100017400000001000000000038\n\
+    ask-offset 0000001c000900010000003dffff000167000000010001740000000100000000\n\
+    no-offset 0000001f0000003d000000010001740000000100000000ffffffffffffffff00000000\n\
+    offset-5 000000200000003d000000010001740000000100000000000000000000000500016d0000\n\
 ";
 
 /// What a word stands for: itself, where it stands for no message.

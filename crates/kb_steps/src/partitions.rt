@@ -4,6 +4,7 @@ ghost use Rattle.kb_store.specs.Disk.{Table};
 ghost use Rattle.kb_log.specs.ListLog.{list_log};
 ghost use Rattle.kb_partitions.specs.Partitions.{AreSound};
 
+use crate::words::bytes;
 use kb_batch::BatchView;
 use kb_log::{ListLog, Shelf};
 use kb_partitions::{PartitionFault, Partitions};
@@ -11,16 +12,6 @@ use kb_producers::Verdict;
 use kb_store::{MemoryStore, Store};
 use std::alloc::Global;
 use std::test::Fail;
-
-/// One record, value `hi`, timestamp 5.
-#[rattlefmt::skip]
-const HI: &[u8; 70] = &[
-    0x00, 0x00, 0x00, 0x00, 0x00, 0x00, 0x00, 0x00, 0x00, 0x00, 0x00, 0x3a, 0xff, 0xff, 0xff, 0xff,
-    0x02, 0x71, 0xa3, 0xaf, 0x2c, 0x00, 0x00, 0x00, 0x00, 0x00, 0x00, 0x00, 0x00, 0x00, 0x00, 0x00,
-    0x00, 0x00, 0x05, 0x00, 0x00, 0x00, 0x00, 0x00, 0x00, 0x00, 0x05, 0xff, 0xff, 0xff, 0xff, 0xff,
-    0xff, 0xff, 0xff, 0xff, 0xff, 0xff, 0xff, 0xff, 0xff, 0x00, 0x00, 0x00, 0x01, 0x10, 0x00, 0x00,
-    0x00, 0x01, 0x04, 0x68, 0x69, 0x00,
-];
 
 /// A topic of instance 7 with two partitions.
 fn made(alloc: Global) -> Result<Partitions<ListLog>, Fail>
@@ -65,12 +56,13 @@ fn places(rt: HostRuntime) -> Result<(), Fail> {
         (8, 0, None),
     ];
     for (instance, number, want) in rows {
-        assert_eq!(rt; partitions.start(instance, number), want);
-        assert_eq!(rt; partitions.end(instance, number), want);
+        assert!(rt; partitions.start(instance, number) == want);
+        assert!(rt; partitions.end(instance, number) == want);
     }
-    let batch = BatchView::read(HI.as_slice()).ok().ok_or("a batch")?;
-    assert_eq!(rt; partitions.judge(7, 1, &batch), Some(Verdict::Append));
-    assert_eq!(rt; partitions.judge(7, 2, &batch), None);
+    let hi = bytes(&rt, rt.alloc(), "hi")?;
+    let batch = BatchView::read(&hi).ok().ok_or("a batch")?;
+    assert!(rt; partitions.judge(7, 1, &batch) == Some(Verdict::Append));
+    assert!(rt; partitions.judge(7, 2, &batch) == None);
     Ok(())
 }
 
@@ -81,15 +73,15 @@ fn reads(rt: HostRuntime) -> Result<(), Fail> {
         .ok_or("a shelf")?;
     let partitions = made(rt.alloc())?;
     let given = fetched(rt.alloc(), &mut shelf, &partitions, 1, 0)?;
-    assert_eq!(rt; given.len(), 0);
+    assert!(rt; given.len() == 0);
     let past = fetched(rt.alloc(), &mut shelf, &partitions, 1, 1);
-    assert_eq!(rt; past.err().map(|fault| fault.code()), Some(1));
+    assert!(rt; past.err().map(|fault| fault.code()) == Some(1));
     let unknown = fetched(rt.alloc(), &mut shelf, &partitions, 2, 0);
-    assert_eq!(rt; unknown.err().map(|fault| fault.code()), Some(3));
+    assert!(rt; unknown.err().map(|fault| fault.code()) == Some(3));
     let found = partitions.first_at(&mut shelf, 7, 1, 0)?;
-    assert_eq!(rt; found.is_none(), true);
+    assert!(rt; found.is_none());
     let start = partitions.retained_start(&mut shelf, 7, 0, 0, 0, 0)?;
-    assert_eq!(rt; start, 0);
+    assert!(rt; start == 0);
     Ok(())
 }
 
@@ -99,36 +91,25 @@ fn appends(rt: HostRuntime) -> Result<(), Fail> {
         .ok()
         .ok_or("a shelf")?;
     let mut partitions = made(rt.alloc())?;
-    let batch = BatchView::read(HI).ok().ok_or("a batch")?;
-    assert_eq!(rt; partitions.append(&mut shelf, 7, 1, &batch), Ok(0));
-    assert_eq!(rt; partitions.append(&mut shelf, 7, 1, &batch), Ok(1));
-    assert_eq!(rt;
-        partitions.append(&mut shelf, 7, 2, &batch),
-        Err(PartitionFault::Unknown)
-    );
-    assert_eq!(rt; partitions.end(7, 1), Some(2));
-    assert_eq!(rt; partitions.end(7, 0), Some(0));
+    let hi = bytes(&rt, rt.alloc(), "hi")?;
+    let batch = BatchView::read(&hi).ok().ok_or("a batch")?;
+    assert!(rt; partitions.append(&mut shelf, 7, 1, &batch) == Ok(0));
+    assert!(rt; partitions.append(&mut shelf, 7, 1, &batch) == Ok(1));
+    assert!(rt; partitions.append(&mut shelf, 7, 2, &batch) == Err(PartitionFault::Unknown));
+    assert!(rt; partitions.end(7, 1) == Some(2));
+    assert!(rt; partitions.end(7, 0) == Some(0));
     let mut given = Vec::new(rt.alloc());
-    assert_eq!(rt;
-        partitions.fetch(&mut shelf, 7, 1, 1, 0, true, &mut given),
-        Ok(())
-    );
-    assert_eq!(rt; given.len(), 70);
-    assert_eq!(rt; &given[..8], [0, 0, 0, 0, 0, 0, 0, 1].as_slice());
+    assert!(rt; partitions.fetch(&mut shelf, 7, 1, 1, 0, true, &mut given) == Ok(()));
+    assert!(rt; given.len() == 70);
+    assert!(rt; given.starts_with(&[0, 0, 0, 0, 0, 0, 0, 1]));
     let found = partitions.first_at(&mut shelf, 7, 1, 5).ok().flatten();
-    assert_eq!(rt; found.map(|record| record.offset), Some(0));
-    assert_eq!(rt;
-        partitions.retained_start(&mut shelf, 7, 1, 6, 0, -1),
-        Ok(2)
-    );
-    assert_eq!(rt;
-        partitions.retained_start(&mut shelf, 7, 1, 5, 0, 100),
-        Ok(1)
-    );
-    assert_eq!(rt; partitions.kept_until(7, 1, 1000, -1), 1005);
-    assert_eq!(rt; partitions.kept_until(7, 1, 1000, 100), i64::MIN);
-    assert_eq!(rt; partitions.kept_until(7, 0, 1000, 0), i64::MAX);
-    assert_eq!(rt; partitions.kept_until(7, 2, 1000, 0), i64::MAX);
+    assert!(rt; found.map(|record| record.offset) == Some(0));
+    assert!(rt; partitions.retained_start(&mut shelf, 7, 1, 6, 0, -1) == Ok(2));
+    assert!(rt; partitions.retained_start(&mut shelf, 7, 1, 5, 0, 100) == Ok(1));
+    assert!(rt; partitions.kept_until(7, 1, 1000, -1) == 1005);
+    assert!(rt; partitions.kept_until(7, 1, 1000, 100) == i64::MIN);
+    assert!(rt; partitions.kept_until(7, 0, 1000, 0) == i64::MAX);
+    assert!(rt; partitions.kept_until(7, 2, 1000, 0) == i64::MAX);
     Ok(())
 }
 
@@ -138,21 +119,19 @@ fn removes(rt: HostRuntime) -> Result<(), Fail> {
         .ok()
         .ok_or("a shelf")?;
     let mut partitions = two_topics(rt.alloc())?;
-    let batch = BatchView::read(HI).ok().ok_or("a batch")?;
-    assert_eq!(rt; partitions.append(&mut shelf, 7, 0, &batch), Ok(0));
-    assert_eq!(rt; partitions.append(&mut shelf, 9, 0, &batch), Ok(0));
-    assert_eq!(rt; partitions.append(&mut shelf, 9, 0, &batch), Ok(1));
-    assert_eq!(rt; partitions.remove(&mut shelf, 7), Ok(()));
-    assert_eq!(rt; partitions.end(7, 0), None);
-    assert_eq!(rt; partitions.end(9, 0), Some(2));
+    let hi = bytes(&rt, rt.alloc(), "hi")?;
+    let batch = BatchView::read(&hi).ok().ok_or("a batch")?;
+    assert!(rt; partitions.append(&mut shelf, 7, 0, &batch) == Ok(0));
+    assert!(rt; partitions.append(&mut shelf, 9, 0, &batch) == Ok(0));
+    assert!(rt; partitions.append(&mut shelf, 9, 0, &batch) == Ok(1));
+    assert!(rt; partitions.remove(&mut shelf, 7) == Ok(()));
+    assert!(rt; partitions.end(7, 0) == None);
+    assert!(rt; partitions.end(9, 0) == Some(2));
     let mut given = Vec::new(rt.alloc());
-    assert_eq!(rt;
-        partitions.fetch(&mut shelf, 9, 0, 0, 1000, true, &mut given),
-        Ok(())
-    );
-    assert_eq!(rt; given.len(), 140);
-    assert_eq!(rt; partitions.remove(&mut shelf, 7), Ok(()));
-    assert_eq!(rt; partitions.end(9, 0), Some(2));
+    assert!(rt; partitions.fetch(&mut shelf, 9, 0, 0, 1000, true, &mut given) == Ok(()));
+    assert!(rt; given.len() == 140);
+    assert!(rt; partitions.remove(&mut shelf, 7) == Ok(()));
+    assert!(rt; partitions.end(9, 0) == Some(2));
     Ok(())
 }
 
@@ -160,9 +139,9 @@ fn removes(rt: HostRuntime) -> Result<(), Fail> {
 fn takes_back(rt: HostRuntime) -> Result<(), Fail> {
     let mut partitions = two_topics(rt.alloc())?;
     partitions.take_back(9);
-    assert_eq!(rt; partitions.end(9, 0), None);
-    assert_eq!(rt; partitions.end(7, 0), Some(0));
+    assert!(rt; partitions.end(9, 0) == None);
+    assert!(rt; partitions.end(7, 0) == Some(0));
     partitions.take_back(9);
-    assert_eq!(rt; partitions.end(7, 0), Some(0));
+    assert!(rt; partitions.end(7, 0) == Some(0));
     Ok(())
 }

@@ -7,7 +7,7 @@ ghost use Rattle.kb_tenants.specs.Tenants.{AreKept, hosted};
 
 use kb_log::{ListLog, Shelf};
 use kb_store::{MemoryStore, Store};
-use kb_tenant::{Answer, Node, Request};
+use kb_tenant::{Answer, Node, Request, Wait};
 use kb_tenants::Tenants;
 use kb_wire::Text;
 use std::alloc::{AllocError, Global};
@@ -106,7 +106,9 @@ fn plays(
     };
     for (tenant, api_key, body, reply) in asked {
         let request = Request {
+            connection: 1,
             api_key: *api_key,
+            api_version: 0,
             correlation_id: 9,
             body,
         };
@@ -174,7 +176,13 @@ fn refusals_are_counted_by_tenant(rt: HostRuntime) -> Result<(), Fail> {
 fn nothing_is_there_yet(rt: HostRuntime) -> Result<(), Fail> {
     let mut tenants = two(rt.alloc())?;
     assert!(rt; !tenants.retain_all(1000));
-    let answer = tenants.look(rt.alloc(), 1, 1000, 9, b"", 2000);
+    let wait = Wait {
+        correlation_id: 9,
+        api_version: 4,
+        body: b"",
+        deadline: 2000,
+    };
+    let answer = tenants.look(rt.alloc(), 1, 1000, &wait);
     assert!(rt; matches!(answer, Answer::Shut));
     let mut store = tenants.into_shelf().into_store();
     let files = store.list(rt.alloc()).map_err(|_| AllocError)?;

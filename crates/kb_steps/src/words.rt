@@ -1,6 +1,6 @@
 //! Bytes as words of hexadecimal digits.
 //!
-//! A word behind `'` stands for its own letters. The other words are those of `meaning`, and `crc`: the CRC-32C of all that stands
+//! A word behind `'` stands for its own letters. The other words are those of `WORDS`, and `crc`: the CRC-32C of all that stands
 //! behind it.
 
 use kb_batch::crc32c;
@@ -8,33 +8,43 @@ use std::alloc::{AllocError, Global};
 use std::process::Abort;
 use std::test::Fail;
 
-/// What some words stand for: `t/0` partition 0 of `t`, the only one of a request or a reply, `hi` the batch of one record
-/// with timestamp 5 and value `hi`, `abc` one of three records from its magic on, `front` what a batch of one record of no producer
-/// has between its checksum and its record where its times are 0, and the fronts and parts of others.
+/// What some words stand for, one a line, each with a space and its digits: `t/0` is partition 0 of `t`, the only one of a request or
+/// a reply, `hi` the batch of one record with timestamp 5 and value `hi`, `three` and `kept` are what stands behind the base offset
+/// of a batch of three records, as it comes and as a log keeps it, `front` is what a batch of one record of no producer has between
+/// its checksum and its record where its times are 0; and the fronts and parts of others.
+const WORDS: &str = "\
+    t/0 000000010001740000000100000000\n\
+    produce 0000006b0000000300000014ffffffff0001000003e800000001000174000000010000000000000046\n\
+    silently 0000006b0000000300000014ffffffff0000000003e800000001000174000000010000000000000046\n\
+    produced 0000002900000014000000010001740000000100000000\n\
+    nowhere ffffffffffffffffffffffffffffffff\n\
+    head 00000000000000000000003affffffff02\n\
+    times 00000000000000050000000000000005\n\
+    nobody ffffffffffffffffffffffffffff\n\
+    value 100000000104686900\n\
+    front 00000000000000000000000000000000000000000000ffffffffffffffffffffffffffff00000001\n\
+    hi 00000000000000000000003affffffff0271a3af2c00000000000000000000000000050000000000000005ffffffffffffffffffffffffff\
+    ff00000001100000000104686900\n\
+    three 00000049ffffffff02aa99226000000000000200000000000000050000000000000005ffffffffffffffffffffffffffff000000030e000\
+    000010261000e000002010262000e00000401026300\n\
+    kept 000000490000000002aa99226000000000000200000000000000050000000000000005ffffffffffffffffffffffffffff000000030e0000\
+    00010261000e000002010262000e00000401026300\n\
+    5-3-9 00000000000000280000004e0000000602\n\
+    from-5 0000000000020000000000000005\n\
+    records-5-3-9 000000000000000700030000000b000000031c000000026b0276040268027800010c00030201\
+    01000c000804000000\n\
+";
+
+/// What a word stands for: itself, where it stands for no other.
 fn meaning<'a>(word: &'a str) -> &'a str {
-    match word {
-        "t/0" => "000000010001740000000100000000",
-        "produce" =>
-            "0000006b0000000300000014ffffffff0001000003e800000001000174000000010000000000000046",
-        "silently" =>
-            "0000006b0000000300000014ffffffff0000000003e800000001000174000000010000000000000046",
-        "produced" => "0000002900000014000000010001740000000100000000",
-        "list" => "000000250002000100000028ffffffffffff000000010001740000000100000000",
-        "listed" => "0000002500000028000000010001740000000100000000",
-        "nowhere" => "ffffffffffffffffffffffffffffffff",
-        "head" => "00000000000000000000003affffffff02",
-        "times" => "00000000000000050000000000000005",
-        "nobody" => "ffffffffffffffffffffffffffff",
-        "value" => "100000000104686900",
-        "front" =>
-            "00000000000000000000000000000000000000000000ffffffffffffffffffffffffffff00000001",
-        "hi" => "00000000000000000000003affffffff0271a3af2c0000000000000000000000000005\
-             0000000000000005ffffffffffffffffffffffffffff00000001100000000104686900",
-        "abc" =>
-            "02aa99226000000000000200000000000000050000000000000005ffffffffffffffffffffffffffff\
-             000000030e000000010261000e000002010262000e00000401026300",
-        _ => word,
+    for line in WORDS.lines() {
+        if let Some((name, digits)) = line.split_once(' ') {
+            if name == word {
+                return digits;
+            }
+        }
     }
+    word
 }
 
 /// Adds the bytes of a word.

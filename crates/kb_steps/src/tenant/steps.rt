@@ -66,11 +66,13 @@ fn request<'a>(rt: &impl Abort, frame: &'a [u8]) -> Result<Request<'a>, Fail> {
     let size = cursor.i32()?;
     assert_eq!(rt; usize::try_from(size).ok(), frame.len().checked_sub(4));
     let api_key = cursor.i16()?;
-    let _version = cursor.i16()?;
+    let api_version = cursor.i16()?;
     let correlation_id = cursor.i32()?;
     assert_eq!(rt; cursor.i16()?, -1);
     Ok(Request {
+        connection: 1,
         api_key,
+        api_version,
         correlation_id,
         body: cursor.rest(),
     })
@@ -112,14 +114,13 @@ impl Tenant {
         requires { (scene list_log (λ s. memory_disk s.files.entries) self.old.parts self.old.shelf).sound }
         ensures { (scene list_log (λ s. memory_disk s.files.entries) self.new.parts self.new.shelf).sound }
     {
-        look(
-            alloc,
-            &mut self.parts,
-            &mut self.shelf,
-            request.correlation_id,
-            request.body,
+        let wait = kb_tenant::Wait {
+            correlation_id: request.correlation_id,
+            api_version: request.api_version,
+            body: request.body,
             deadline,
-        )
+        };
+        look(alloc, &mut self.parts, &mut self.shelf, &wait)
     }
 
     /// Moves the clock.
@@ -214,6 +215,28 @@ impl Tenant {
         }
         assert!(rt; matches!(served.answer, Answer::Shut), "{text}");
         Ok(false)
+    }
+
+    /// Takes a request, and sees that it has one of two replies.
+    pub(super) fn has_one_of(
+        &mut self,
+        rt: &impl Abort,
+        alloc: Global,
+        text: &str,
+        replies: [&str; 2],
+    ) -> Result<(), Fail>
+        requires { (scene list_log (λ s. memory_disk s.files.entries) self.old.parts self.old.shelf).sound }
+        ensures { (scene list_log (λ s. memory_disk s.files.entries) self.new.parts self.new.shelf).sound }
+    {
+        let served = self.ask(rt, alloc, text)?;
+        let [first, second] = replies;
+        let first = bytes(rt, alloc, first)?;
+        let second = bytes(rt, alloc, second)?;
+        assert!(rt;
+            is_reply(&served.answer, &first) || is_reply(&served.answer, &second),
+            "{text}"
+        );
+        Ok(())
     }
 
     /// Takes a step.

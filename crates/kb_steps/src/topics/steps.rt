@@ -45,6 +45,21 @@ fn empty_catalog(alloc: Global) -> Catalog<ListLog>
     Catalog::new(alloc, String::new(alloc), 1_048_576)
 }
 
+/// The bytes of a log from an offset on, up to a limit.
+fn fetched(
+    alloc: Global,
+    shelf: &mut Shelf<MemoryStore>,
+    log: &ListLog,
+    offset: i64,
+    limit: u64,
+) -> Result<Vec<u8>, Fail>
+    requires { IsListed log.now }
+{
+    let mut bytes = Vec::new(alloc);
+    log.fetch(shelf, offset, limit, true, &mut bytes)?;
+    Ok(bytes)
+}
+
 /// A catalog and its files.
 #[derive(Drop)]
 pub(super) struct Kept {
@@ -70,10 +85,7 @@ impl Kept {
     pub(super) fn recorded(&mut self, alloc: Global) -> Result<Vec<u8>, Fail>
         requires { IsListed (meta_log self.old.catalog) }
     {
-        let mut recorded = Vec::new(alloc);
-        let log = self.catalog.log();
-        log.fetch(&mut self.shelf, 0, 10_000, true, &mut recorded)?;
-        Ok(recorded)
+        fetched(alloc, &mut self.shelf, self.catalog.log(), 0, 10_000)
     }
 
     /// Whether a group committed this in a partition.

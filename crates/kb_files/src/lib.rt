@@ -5,3 +5,5 @@
 
 #[cfg(test)]
 mod headers;
+#[cfg(test)]
+mod segments;

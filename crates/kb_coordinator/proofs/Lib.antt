@@ -1,3 +1,8 @@
+mod Commits
+mod Joins
 mod Lists
 mod Named
+mod Places
+mod Steps
+mod Ticking
 mod Written

@@ -3,7 +3,7 @@ use Rattle.std.proofs.Common.{◌≡◌, ◌∙◌, ◌+◌, ◌<◌, ◌≤◌,
 use Rattle.std.specs.Option.{option_map}
 use Rattle.std.specs.Ordering.{is_lt, nat_cmp}
 use Rattle.std.specs.Cmp.Lexicographic.{slice_cmp}
-use Rattle.std.specs.List.{slice_set, flat_map}
+use Rattle.std.specs.List.{slice_set}
 use Rattle.std.proofs.lemmas.List.{append-nil}
 use Rattle.std.proofs.lemmas.Option.{same_Some, none-some}
 use Rattle.std.proofs.Math.Numerals.{suc-eq-add-one}
@@ -32,6 +32,11 @@ pub at_index : {A : Type 0} (xs : List A) (i : ℕ) (x : A) → i < length xs �
 at_index [] i x h e = absurd (omega (arith, h))
 at_index (y ∷ xs) zero x h e = ap Some (sym e)
 at_index (y ∷ xs) (suc i) x h e = at_index xs i x (omega (arith, h)) e
+
+pub at_get : {A : Type 0} (xs : List A) (i : ℕ) (d : A) → i < length xs → slice_get xs i ≡ Some (get_or xs i d)
+at_get [] i d h = absurd (omega (arith, h))
+at_get (x ∷ xs) zero d h = refl
+at_get (x ∷ xs) (suc i) d h = at_get xs i d (omega (arith, h))
 
 -- What was mapped, and what is left.
 pub map_go : {A B : Type 0} (f : A → B) (i : ℕ) (xs : List A) (x : A) (done next all : List B) → done ++ map f (drop i xs) ≡ all → slice_get xs i ≡ Some x → next ≡ done ++ f x ∷ [] → next ++ map f (drop (i + 1) xs) ≡ all
@@ -147,3 +152,12 @@ unfolding first_above
 above_end id es i n inv h =
     let next : first_above id (drop i es) ≡ 0 = ap (first_above id) (drop_end i es h) in
     omega (arith, inv, next)
+
+pub above_most : (id : List ℕ) (es : List Entry) → first_above id es ≤ length es
+unfolding first_above
+above_most id [] = omega arith
+above_most id (e ∷ es) = by (is_lt (slice_cmp nat_cmp id e.id)) (above_most id es)
+  where
+    by : (b : Bool) → first_above id es ≤ length es → (if b then 0 else suc (first_above id es)) ≤ length (e ∷ es)
+    by true h = omega arith
+    by false h = omega (arith, h)

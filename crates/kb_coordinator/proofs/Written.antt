@@ -1,5 +1,5 @@
 -- What is written, part by part.
-use Rattle.std.proofs.Common.{◌≡◌, ◌∙◌, sym, ap, refl, subst, ℕ, suc, ◌+◌, ◌<◌, ◌≤◌, ◌^◌, List, [], ◌∷◌, ◌++◌, length, map, ℤ, pos, drop, get_or, drop-cons, add-one, append_assoc, arith, w16, w32}
+use Rattle.std.proofs.Common.{◌≡◌, ◌∙◌, sym, ap, refl, ℕ, suc, ◌+◌, ◌<◌, ◌≤◌, ◌^◌, List, ◌∷◌, ◌++◌, length, map, ℤ, pos, drop, get_or, drop-cons, add-one, append_assoc, w32}
 use Rattle.std.proofs.lemmas.List.{append-nil}
 use Rattle.std.specs.List.{flat_map}
 use Rattle.kb_coordinator.proofs.Lists.{drop_end}

@@ -1,5 +1,5 @@
 -- What each request and moment does to the groups of a tenant, and is answered.
-use Rattle.std.specs.Prelude.{◌≡◌, ◌+◌, ℕ, Bool, true, false, ◌&&◌, ◌||◌, List, [], ◌∷◌, ◌++◌, map, length, ℤ, pos, int_lt, nat_eq, nat_le, if◌then◌else◌, is_some, is_none, Option, Some, None}
+use Rattle.std.specs.Prelude.{◌≡◌, ◌+◌, ℕ, Bool, ◌&&◌, ◌||◌, List, [], ◌∷◌, ◌++◌, map, length, slice_set, ℤ, pos, nat_eq, nat_le, nat_lt, if◌then◌else◌, is_none, Option, Some, None}
 use Rattle.kb_groups.specs.declared.code.Code.{Code}
 use Rattle.kb_groups.specs.declared.code.Code.TheVariants as of
 use Rattle.kb_groups.specs.declared.state.State.{State}
@@ -7,12 +7,12 @@ use Rattle.kb_groups.specs.declared.reply.Release.{Release}
 use Rattle.kb_groups.specs.declared.reply.Reply.{Reply}
 use Rattle.kb_groups.specs.declared.reply.SyncAnswer.{SyncAnswer}
 use Rattle.kb_groups.specs.declared.reply.SyncAnswer.TheVariants.{Refused}
-use Rattle.std.specs.List.{flat_map, slice_set}
+use Rattle.std.specs.List.{flat_map}
 use Rattle.std.specs.Ordering.{int_eq}
 use Rattle.kb_groups.specs.declared.borrowed.Join.{Join}
 use Rattle.kb_groups.specs.Calls as one
 use Rattle.kb_api_group.specs.ErrorCode.{code_of}
-use Rattle.kb_groups.specs.Moments.{tick}
+use Rattle.kb_groups.specs.Moments.{never, tick}
 use Rattle.kb_groups.specs.Rebalance.{Step}
 use Rattle.kb_api_group.specs.declared.error_code.ErrorCode.{ErrorCode}
 use Rattle.kb_api_group.specs.declared.error_code.ErrorCode.TheVariants as codes
@@ -21,8 +21,8 @@ use Rattle.kb_api_group.specs.declared.sync_group.SyncGroupRequest.{SyncGroupReq
 use Rattle.kb_api_group.specs.declared.heartbeat.HeartbeatRequest.{HeartbeatRequest}
 use Rattle.kb_api_group.specs.declared.leave_group.LeaveGroupRequest.{LeaveGroupRequest}
 use Rattle.kb_coordinator.specs.declared.groups.Entry.{Entry}
-use Rattle.kb_coordinator.specs.Groups.{Groups, found, changed, silent, with_new}
-use Rattle.kb_coordinator.specs.Requests.{assigned_to, error_of, join_of, named}
+use Rattle.kb_coordinator.specs.Groups.{Groups, found, changed, earliest, silent, with_new}
+use Rattle.kb_coordinator.specs.Requests.{assigned_to, commit_of_none, error_of, join_of, named}
 
 -- What the group says, if it is there.
 abbrev pub by_group : {A : Type 0} → A → (State → A) → Option State → A
@@ -47,11 +47,10 @@ after_heartbeat clock r gs = with_changed r.group_id (one.after_heartbeat clock 
 
 -- ## OffsetCommit: whether the member may commit
 
--- A commit of no generation is taken where no such group ever was.
 abbrev pub may_commit : List ℕ → List ℕ → ℤ → Groups → ErrorCode
 may_commit id member generation gs =
     if one.is_empty id then codes.InvalidGroupId
-    else error_of (by_group (if int_lt generation (pos 0) then of.Fine else of.UnknownMemberId) (one.may_commit (named member) generation) (found id gs.groups))
+    else error_of (by_group (commit_of_none generation) (one.may_commit (named member) generation) (found id gs.groups))
 
 abbrev pub after_may_commit : ℕ → List ℕ → List ℕ → ℤ → Groups → Groups
 after_may_commit clock id member generation gs = if one.is_empty id then silent gs else with_changed id (one.after_may_commit clock (named member) generation) gs
@@ -114,19 +113,27 @@ abbrev pub is_accepted : ErrorCode → Bool
 is_accepted code = int_eq (code_of code) (pos 0)
 
 -- A new member takes the next number.
+abbrev pub given_with : Join → Groups → ℕ
+given_with j gs = if is_none j.member then gs.members + 1 else gs.members
+
 abbrev pub numbered : Join → Groups → Groups
-numbered j gs = record gs { members = if is_none j.member then gs.members + 1 else gs.members }
-
-abbrev pub entry_joined : ℕ → Join → Entry → Entry
-entry_joined clock j e = record { id = e.id; group = (one.join clock j e.group).group }
-
--- The group at a place takes a join.
-abbrev pub known_joined : ℕ → Join → ℕ → Entry → Groups → Groups
-known_joined clock j place e gs = numbered j (record gs { groups = slice_set gs.groups place (entry_joined clock j e); released = (one.join clock j e.group).released })
+numbered j gs = record gs { members = given_with j gs }
 
 -- A new group takes a join, and stands in its place.
 abbrev pub new_joined : ℕ → Join → List ℕ → Groups → Groups
 new_joined clock j id gs = numbered j (record gs { groups = with_new id (one.join clock j one.fresh).group gs.groups; released = (one.join clock j one.fresh).released })
+
+abbrev pub after_new : ℕ → Join → List ℕ → Groups → Groups
+after_new clock j id gs = if is_accepted (new_code j gs) then new_joined clock j id gs else silent gs
+
+abbrev pub entry_joined : ℕ → Join → Entry → Entry
+entry_joined clock j e = record { id = e.id; group = (one.join clock j e.group).group }
+
+-- A join to the group at a place.
+abbrev pub after_known : ℕ → Join → ℕ → Entry → Groups → Groups
+after_known clock j place e gs =
+    if is_accepted (known_code j e.group gs) then numbered j (record gs { groups = slice_set gs.groups place (entry_joined clock j e); released = (one.join clock j e.group).released })
+    else silent gs
 
 abbrev pub joined_by : ℕ → Join → List ℕ → Groups → Option State → Groups
 joined_by clock j id gs None = new_joined clock j id gs
@@ -135,13 +142,16 @@ joined_by clock j id gs (Some g) = numbered j (record gs { groups = changed id (
 abbrev pub after_join : ℕ → ℕ → JoinGroupRequest → Groups → Groups
 after_join clock connection r gs =
     if is_accepted (join_code connection r gs) then joined_by clock (join_of gs.members connection r) r.group_id gs (found r.group_id gs.groups)
-    else record gs { released = [] }
+    else silent gs
 
 -- ## A connection ends
 
+abbrev pub hung_up : ℕ → ℕ → Entry → Entry
+hung_up clock connection e = record { id = e.id; group = one.dropped clock connection e.group }
+
 -- The wait of that connection goes; its member stays, and its session starts.
 abbrev pub left : ℕ → ℕ → Groups → Groups
-left clock connection gs = record gs { groups = map (λ e. record { id = e.id; group = one.dropped clock connection e.group }) gs.groups }
+left clock connection gs = record gs { groups = map (hung_up clock connection) gs.groups }
 
 -- ## A moment
 
@@ -152,17 +162,30 @@ ticked clock e = record { id = e.id; group = (tick clock e.group).group }
 abbrev pub at_moment : ℕ → Groups → Groups
 at_moment clock gs = record gs { groups = map (ticked clock) gs.groups; released = flat_map (λ e. (tick clock e.group).released) gs.groups }
 
-abbrev pub one_ticked : ℕ → ℕ → Entry → Groups → Groups
-one_ticked clock place e gs = record gs { groups = slice_set gs.groups place (ticked clock e); released = gs.released ++ (tick clock e.group).released }
+-- The groups after a moment that only those had that are marked; the others were refused memory, and are as they were.
+unfoldable pub some_ticked : ℕ → List Bool → List Entry → List Entry
+some_ticked clock [] es = []
+some_ticked clock (b ∷ bs) [] = []
+some_ticked clock (b ∷ bs) (e ∷ es) = (if b then ticked clock e else e) ∷ some_ticked clock bs es
 
--- This group had its moment, or was refused memory and is as it was.
-abbrev pub Ticked : ℕ → Entry → Entry → List Release → ℕ → List Release → ℕ → Type 0
-Ticked clock e n rs k released refused = (b : Bool) × (n ≡ (if b then e else ticked clock e)) × (released ≡ (if b then rs else (tick clock e.group).released ++ rs)) × (refused ≡ (if b then k + 1 else k))
+-- The replies of that moment.
+unfoldable pub some_released : ℕ → List Bool → List Entry → List Release
+some_released clock [] es = []
+some_released clock (b ∷ bs) [] = []
+some_released clock (b ∷ bs) (e ∷ es) = (if b then (tick clock e.group).released else []) ++ some_released clock bs es
+
+-- How many are not marked.
+unfoldable pub unmarked : List Bool → ℕ
+unmarked [] = 0
+unmarked (b ∷ bs) = (if b then 0 else 1) + unmarked bs
 
 -- Each group had its moment, or was refused memory and is as it was; that many were refused.
-unfoldable pub Ticks : ℕ → List Entry → List Entry → List Release → ℕ → Type 0
-Ticks clock [] new released refused = (new ≡ []) × (released ≡ []) × (refused ≡ 0)
-Ticks clock (e ∷ es) new released refused = (n : Entry) × (ns : List Entry) × (rs : List Release) × (k : ℕ) × (new ≡ n ∷ ns) × Ticks clock es ns rs k × Ticked clock e n rs k released refused
+abbrev pub Ticks : ℕ → List Entry → List Entry → List Release → ℕ → Type 0
+Ticks clock es new released refused = (marks : List Bool) × (length marks ≡ length es) × (new ≡ some_ticked clock marks es) × (released ≡ some_released clock marks es) × (refused ≡ unmarked marks)
+
+-- The next moment at which a session ends or a deadline comes, if there is one.
+abbrev pub next_due : Groups → Option ℕ
+next_due gs = if nat_lt (earliest gs.groups) never then Some (earliest gs.groups) else None
 
 -- ## Who is answered
 

@@ -1,11 +1,12 @@
 -- The groups of a tenant.
-use Rattle.std.specs.Prelude.{ℕ, zero, suc, List, [], ◌∷◌, Option, Some, None, bytes_eq, if◌then◌else◌}
+use Rattle.std.specs.Prelude.{ℕ, suc, min, List, [], ◌∷◌, Option, Some, None, bytes_eq, if◌then◌else◌}
 use Rattle.std.specs.Option.{option_map}
 use Rattle.std.specs.Ordering.{is_lt, nat_cmp}
 use Rattle.std.specs.Cmp.Lexicographic.{slice_cmp}
 use Rattle.std.specs.List.{insert}
 use Rattle.kb_groups.specs.declared.state.State.{State}
 use Rattle.kb_groups.specs.declared.reply.Release.{Release}
+use Rattle.kb_groups.specs.Moments.{never, next_due}
 use Rattle.kb_coordinator.specs.declared.groups.Entry.{Entry}
 
 -- The groups by id in byte order, how many member numbers were given out, and the replies that the last request or moment gave to
@@ -45,3 +46,8 @@ first_above id (e ∷ es) = if is_lt (slice_cmp nat_cmp id e.id) then 0 else suc
 -- The groups with a new one in its place.
 abbrev pub with_new : List ℕ → State → List Entry → List Entry
 with_new id g es = insert es (first_above id es) (record { id = id; group = g })
+
+-- The first moment at which a session of these groups ends or a deadline of them comes.
+unfoldable pub earliest : List Entry → ℕ
+earliest [] = never
+earliest (e ∷ es) = min (next_due e.group) (earliest es)

@@ -1,5 +1,5 @@
 -- What requests give, as groups take it.
-use Rattle.std.specs.Prelude.{◌+◌, ◌^◌, ℕ, Bool, ◌&&◌, List, [], ◌∷◌, drop, map, Option, Some, None, bytes_eq, nat_lt, if◌then◌else◌}
+use Rattle.std.specs.Prelude.{◌+◌, ◌^◌, ℕ, ◌&&◌, List, drop, map, Option, Some, None, bytes_eq, nat_lt, int_lt, ℤ, pos, if◌then◌else◌}
 use Rattle.std.specs.Str.Parse.{digits_value}
 use Rattle.kb_groups.specs.declared.code.Code.{Code}
 use Rattle.kb_groups.specs.declared.code.Code.TheVariants as of
@@ -49,3 +49,7 @@ error_of of.UnknownMemberId = codes.UnknownMemberId
 error_of of.InvalidSessionTimeout = codes.InvalidSessionTimeout
 error_of of.RebalanceInProgress = codes.RebalanceInProgress
 error_of of.GroupMaxSizeReached = codes.GroupMaxSizeReached
+
+-- A commit of no generation is taken where no such group ever was.
+abbrev pub commit_of_none : ℤ → Code
+commit_of_none generation = if int_lt generation (pos 0) then of.Fine else of.UnknownMemberId

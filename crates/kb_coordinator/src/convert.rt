@@ -1,7 +1,7 @@
 //! What requests give, as groups take it.
 ghost use Rattle.std.specs.Prelude.{◌≡◌, IfOk, map};
 ghost use Rattle.kb_groups.specs.MemberId.{member_id};
-ghost use Rattle.kb_coordinator.specs.Requests.{asked_member, assigned_to, error_of, named, offered};
+ghost use Rattle.kb_coordinator.specs.Requests.{asked_member, assigned_to, commit_of_none, error_of, named, offered};
 
 use kb_api_group::{ErrorCode, JoinProtocol, SyncAssignment};
 use kb_groups::{Blob, Code, Text, member_number};
@@ -81,5 +81,16 @@ pub(crate) fn error_of(code: Code) -> ErrorCode
         Code::InvalidSessionTimeout => ErrorCode::InvalidSessionTimeout,
         Code::RebalanceInProgress => ErrorCode::RebalanceInProgress,
         Code::GroupMaxSizeReached => ErrorCode::GroupMaxSizeReached,
+    }
+}
+
+/// Whether a commit is taken where no such group ever was.
+pub(crate) fn commit_of_none(generation: i32) -> ErrorCode
+    ensures { result ≡ error_of (commit_of_none generation) }
+{
+    if generation < 0 {
+        ErrorCode::None
+    } else {
+        ErrorCode::UnknownMemberId
     }
 }

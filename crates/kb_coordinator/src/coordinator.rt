@@ -1,40 +1,44 @@
-//! The groups of a tenant, and what requests and moments do to them.
-ghost use Rattle.std.specs.Prelude.{◌≡◌};
+//! The groups of a tenant, and what requests do to them.
+ghost use Rattle.std.specs.Prelude.{◌≡◌, ◌≤◌, IfOk, OnErr, OnOk};
 ghost use Rattle.kb_coordinator.specs.Groups.{none, place_of, silent};
-ghost use Rattle.kb_coordinator.specs.Calls.{after_heartbeat, heartbeat_code};
+ghost use Rattle.kb_coordinator.specs.Calls.{after_heartbeat, after_leave, after_may_commit, after_sync, heartbeat_code, leave_code, may_commit, sync_answer};
 
-use crate::convert::number_of;
+use crate::convert::{assignments, commit_of_none, error_of, number_of};
 use crate::groups::{Entry, place_of};
-use kb_api_group::HeartbeatRequest;
-use kb_groups::{Code, Release};
-use std::alloc::Global;
+use kb_api_group::{ErrorCode, HeartbeatRequest, LeaveGroupRequest, SyncGroupRequest};
+use kb_groups::{Code, Release, SyncAnswer};
+use std::alloc::{AllocError, Global};
 use std::marker::Model;
 
 /// All consumer groups of one tenant, which contracts see as `Groups`.
 ///
-/// Clocks are in milliseconds, at most 2^62. A call that answers `Err` was refused memory, and left the groups as they were.
+/// Clocks are in milliseconds, at most 2^62. A call that answers `Err` was refused memory: it left the groups as they were, and
+/// answers nobody who waited.
 #[derive(Drop)]
 pub struct Coordinator {
-    alloc: Global,
-    groups: Vec<Entry>,
-    members: u64,
-    released: Vec<Vec<Release>>,
+    pub(crate) alloc: Global,
+    pub(crate) groups: Vec<Entry>,
+    pub(crate) members: u64,
+    pub(crate) released: Vec<Vec<Release>>,
+    /// Before this moment no session ends and no deadline comes.
+    pub(crate) quiet_until: u64,
 }
 
 impl Model for Coordinator {
     ghost use Rattle.std.specs.Prelude.{◌≤◌};
     ghost use Rattle.std.specs.List.{flat_map};
-    ghost use Rattle.kb_coordinator.specs.Groups.{Groups};
+    ghost use Rattle.kb_coordinator.specs.Groups.{Groups, earliest};
 
     ghost Value = { Groups };
 
     ghost view = { λ c. record { groups = c.groups.items; members = c.members; released = flat_map (λ v. v.items) c.released.items } };
 
-    ghost invariant = { λ c. c.members ≤ 9223372036854775807 };
+    ghost invariant = { λ c. (c.members ≤ 9223372036854775807) × (c.quiet_until ≤ earliest c.groups.items) };
 }
 
 impl Coordinator {
     /// No groups. It takes no memory.
+    #[tactic(auto, unfolding(crate::specs::Groups::earliest))]
     pub fn new(alloc: Global) -> Coordinator
         ensures { result ≡ none }
     {
@@ -43,6 +47,7 @@ impl Coordinator {
             groups: Vec::new(alloc),
             members: 0,
             released: Vec::new(alloc),
+            quiet_until: u64::MAX,
         }
     }
 
@@ -54,7 +59,7 @@ impl Coordinator {
     }
 
     /// The place of the group of that id.
-    fn place(&self, id: &str) -> Option<usize>
+    pub(crate) fn place(&self, id: &str) -> Option<usize>
         ensures { result ≡ place_of id.now self.now.groups }
     {
         place_of(&self.groups, id.as_bytes())
@@ -71,8 +76,76 @@ impl Coordinator {
         };
         let number = number_of(request.member_id.as_str());
         let generation = request.generation_id;
-        self.groups[place]
+        let entry = &mut self.groups[place];
+        let code = entry.group.heartbeat(number, generation, clock);
+        self.quiet_until = self.quiet_until.min(entry.group.quiet_until());
+        code
+    }
+
+    /// Whether a member may commit offsets: the error of each partition of Kafka's OffsetCommit. It takes no memory.
+    pub fn may_commit(&mut self, id: &str, generation: i32, member: &str, clock: u64) -> ErrorCode
+        ensures code { result ≡ may_commit id.now member.now generation self.old }
+        ensures after { self.new ≡ after_may_commit clock id.now member.now generation self.old }
+    {
+        self.released.clear();
+        if id.is_empty() {
+            return ErrorCode::InvalidGroupId;
+        }
+        let Some(place) = self.place(id) else {
+            return commit_of_none(generation);
+        };
+        let number = number_of(member);
+        let entry = &mut self.groups[place];
+        let code = entry.group.may_commit(number, generation, clock);
+        self.quiet_until = self.quiet_until.min(entry.group.quiet_until());
+        error_of(code)
+    }
+
+    /// Kafka's LeaveGroup.
+    pub fn leave(&mut self, request: &LeaveGroupRequest<'_>, clock: u64) -> Result<Code, AllocError>
+        requires { clock ≤ 4611686018427387904 }
+        ensures code { IfOk result (λ code. code ≡ leave_code request.now self.old) }
+        ensures after { OnOk result (self.new ≡ after_leave clock request.now self.old) }
+        ensures refused { OnErr result (self.new ≡ silent self.old) }
+    {
+        self.released.clear();
+        let Some(place) = self.place(request.group_id.as_str()) else {
+            return Ok(Code::UnknownMemberId);
+        };
+        let number = number_of(request.member_id.as_str());
+        self.released.push(Vec::new(self.alloc))?;
+        let entry = &mut self.groups[place];
+        let (code, replies) = entry.group.leave(self.alloc, number, clock)?;
+        self.quiet_until = self.quiet_until.min(entry.group.quiet_until());
+        self.released[0] = replies;
+        Ok(code)
+    }
+
+    /// Kafka's SyncGroup, of that connection.
+    pub fn sync(
+        &mut self,
+        request: &SyncGroupRequest<'_>,
+        connection: u64,
+        clock: u64,
+    ) -> Result<SyncAnswer, AllocError>
+        ensures answer { IfOk result (λ answer. answer ≡ sync_answer clock connection request.now self.old) }
+        ensures after { OnOk result (self.new ≡ after_sync clock connection request.now self.old) }
+        ensures refused { OnErr result (self.new ≡ silent self.old) }
+    {
+        self.released.clear();
+        let Some(place) = self.place(request.group_id.as_str()) else {
+            return Ok(SyncAnswer::Refused(Code::UnknownMemberId));
+        };
+        let number = number_of(request.member_id.as_str());
+        let generation = request.generation_id;
+        let given = assignments(self.alloc, request.assignments.as_slice())?;
+        self.released.push(Vec::new(self.alloc))?;
+        let entry = &mut self.groups[place];
+        let (answer, replies) = entry
             .group
-            .heartbeat(number, generation, clock)
+            .sync(self.alloc, connection, number, generation, &given, clock)?;
+        self.quiet_until = self.quiet_until.min(entry.group.quiet_until());
+        self.released[0] = replies;
+        Ok(answer)
     }
 }

@@ -3,7 +3,6 @@
 //! [`Coordinator`] keeps the groups by their ids in byte order, how many member numbers were given out, and the replies that its last
 //! request or moment gave to requests that waited. Contracts see it as `Groups`. Each call of it does to the groups, and answers, what
 //! the definition of its API says (`specs/Calls`), of which the group that it names is the only one that changes.
-//! Of the requests Heartbeat stands so far; of the others, the definitions.
 //! The replies' bodies are written by [`put_join_refusal`], [`put_sync`] and [`put_reply`].
 //!
 //! Kafka protocol guide: JoinGroup, SyncGroup, Heartbeat, LeaveGroup, and the check of OffsetCommit's member.
@@ -12,6 +11,8 @@
 mod convert;
 mod coordinator;
 mod groups;
+mod join;
+mod moment;
 mod replies;
 
 pub use coordinator::Coordinator;

@@ -2,7 +2,7 @@
 
 ghost use Rattle.std.specs.Prelude.{◌≡◌, ◌≤◌, IfOk, OnErr, OnOk};
 ghost use Rattle.kb_groups.specs.Calls.{after_heartbeat, after_may_commit, dropped, fresh, heartbeat, join, join_code, leave, leave_code, may_commit, sync};
-ghost use Rattle.kb_groups.specs.Moments.{tick};
+ghost use Rattle.kb_groups.specs.Moments.{next_due, tick};
 
 use crate::borrowed::{Join, SyncAssignment};
 use crate::code::Code;
@@ -49,6 +49,20 @@ impl Group {
         ensures { result.now ≡ self.now }
     {
         &self.state
+    }
+
+    /// Before this moment no session ends and no deadline comes. It costs constant time.
+    pub fn quiet_until(&self) -> u64
+        ensures { result ≤ next_due self.now }
+    {
+        self.quiet_until
+    }
+
+    /// The next moment at which a session ends or a deadline comes; `u64::MAX` where there is none.
+    pub fn next_due(&self) -> u64
+        ensures { result ≡ next_due self.now }
+    {
+        self.state.next_due()
     }
 
     /// The code of a join, as far as the group decides it: session timeout, protocols and type, member, agreement with the others,

@@ -1,0 +1,31 @@
+use Rattle.std.proofs.Common.{◌≡◌, ◌<◌, ◌≤◌, ◌∙◌, sym, subst, Some, slice_get, length}
+use Rattle.std.specs.List.{flat_map}
+use Rattle.kb_coordinator.specs.Groups.{Groups}
+use Rattle.kb_coordinator.proofs.Lists.{at_index}
+use Rattle.kb_coordinator.proofs.Joins.{known_given, known_taken}
+use Rattle.kb_coordinator.proofs.Places.{groups_of, one_reply, quiet_here}
+use Rattle.kb_coordinator.proofs.coordinator.Coordinator.join_known.Goals as goal
+
+pub invariant_of-self-3 : goal.invariant_of-self-3
+invariant_of-self-3 c =
+    let es = c.self.inside.groups.items in
+    let place = c.args.place in
+    let e = c.index_mut-entry.result.now in
+    let below : place < length es = subst (λ (gs : Groups). place < length gs.groups) (sym c.self.view_is) c.requires.below in
+    let there : slice_get es place ≡ Some e = at_index es place e below c.index_mut-entry.ensures.value in (
+      subst (λ n. n ≤ 9223372036854775807) (sym c.given_with-members.ensures) (known_given c.args.request.now e c.known_error-error.result (groups_of es c.self.inside.members (flat_map (λ v. v.items) c.self.inside.released.items)) c.self.invariant.0 (c.known_error-error.ensures e there) (sym c.if-not-is_accepted.ensures)),
+      quiet_here es place e c.join.new.self c.self.inside.quiet_until c.quiet_until.result _ c.self.invariant.1 c.quiet_until.ensures c.min-self-inside.ensures,
+    )
+
+pub returns-clause-after : goal.returns-clause-after
+returns-clause-after c there_now at =
+    let es = c.self.inside.groups.items in
+    let place = c.args.place in
+    let e = c.index_mut-entry.result.now in
+    let below : place < length es = subst (λ (gs : Groups). place < length gs.groups) (sym c.self.view_is) c.requires.below in
+    let there : slice_get es place ≡ Some e = at_index es place e below c.index_mut-entry.ensures.value in
+    known_taken c.args.clock c.args.request.now place there_now e es c.self.inside.members (flat_map (λ v. v.items) c.self.inside.released.items) _ c.args.self.now c.join.new.self c.given_with-members.result c.known_error-error.result c.self.view_is
+    there at (c.known_error-error.ensures e there) (sym c.if-not-is_accepted.ensures)
+    c.in_ok-replies.ensures.group
+    (one_reply (λ v. v.items) _ _ _ c.in_ok-replies.replies c.in_ok-push.ensures.items c.clear.ensures.items ∙ c.in_ok-replies.ensures.released)
+    c.given_with-members.ensures

@@ -1,0 +1,20 @@
+use Rattle.std.proofs.Common.{◌≤◌, sym, subst, arith}
+use Rattle.std.specs.List.{flat_map}
+use Rattle.kb_coordinator.specs.declared.groups.Entry.{Entry}
+use Rattle.kb_coordinator.specs.Groups.{earliest}
+use Rattle.kb_coordinator.proofs.Lists.{above_most}
+use Rattle.kb_coordinator.proofs.Joins.{new_given}
+use Rattle.kb_coordinator.proofs.Places.{groups_of, quiet_new}
+use Rattle.kb_coordinator.proofs.coordinator.Coordinator.join_new.Goals as goal
+
+pub insert-requires : goal.insert-requires
+insert-requires c =
+    omega (arith, c.first_above-place.ensures, above_most c.as_bytes-2.result.now c.deref.result.now, c.deref.ensures.len)
+
+pub invariant_of-self-3 : goal.invariant_of-self-3
+invariant_of-self-3 c =
+    let es = c.self.inside.groups.items in
+    let n : Entry = record { id = c.in_ok-key.key; group = c.join.new.self } in (
+      subst (λ m. m ≤ 9223372036854775807) (sym c.given_with-members.ensures) (new_given c.args.request.now c.new_error-error.result (groups_of es c.self.inside.members (flat_map (λ v. v.items) c.self.inside.released.items)) c.self.invariant.0 c.new_error-error.ensures (sym c.if-not-is_accepted.ensures)),
+      subst (λ l. c.min-self-inside.result ≤ earliest l) (sym c.in_ok-insert.ensures.items) (quiet_new es c.first_above-place.result n c.self.inside.quiet_until c.quiet_until-quiet_until.result c.min-self-inside.result c.self.invariant.1 c.quiet_until-quiet_until.ensures c.min-self-inside.ensures),
+    )

@@ -1,0 +1,70 @@
+use Rattle.std.proofs.Common.{◌≡◌, ◌<◌, ◌∙◌, sym, ap, arith, Some, None, slice_get, length}
+use Rattle.std.specs.List.{flat_map}
+use Rattle.kb_groups.specs.Calls as one
+use Rattle.kb_groups.specs.declared.code.Code.TheVariants.{UnknownMemberId}
+use Rattle.kb_coordinator.specs.Groups.{place_of}
+use Rattle.kb_coordinator.specs.Requests.{named}
+use Rattle.kb_coordinator.proofs.Lists.{at_index, place_below}
+use Rattle.kb_coordinator.proofs.Places.{err_holds, no_reply, one_reply, quiet_here, refused_here, said_here, said_nowhere, silent_now, stepped_here, stepped_nowhere}
+use Rattle.kb_coordinator.proofs.coordinator.Coordinator.leave.Goals as goal
+
+pub returns-in_default-clause-code : goal.returns-in_default-clause-code
+returns-in_default-clause-code c =
+    let es = c.self.inside.groups.items in
+    let id = c.args.request.now.group_id in
+    let q : place_of id es ≡ None = sym (c.in_default.ensures ∙ ap (λ x. place_of x es) c.as_str.ensures) in
+    said_nowhere UnknownMemberId (one.leave_code (named c.args.request.now.member_id)) id es c.self.inside.members (flat_map (λ v. v.items) c.self.inside.released.items) c.args.self.now c.self.view_is q
+
+pub returns-in_default-clause-after : goal.returns-in_default-clause-after
+returns-in_default-clause-after c =
+    let es = c.self.inside.groups.items in
+    let id = c.args.request.now.group_id in
+    let q : place_of id es ≡ None = sym (c.in_default.ensures ∙ ap (λ x. place_of x es) c.as_str.ensures) in
+    stepped_nowhere id (one.leave c.args.clock (named c.args.request.now.member_id)) es c.self.inside.members (flat_map (λ v. v.items) c.self.inside.released.items) _ c.args.self.now c.self.view_is q (ap (flat_map (λ v. v.items)) c.clear.ensures.items)
+
+pub returns-in_err-push-clause-refused : goal.returns-in_err-push-clause-refused
+returns-in_err-push-clause-refused c =
+    err_holds c.from_residual.result (silent_now c.self.inside.groups.items c.self.inside.members (flat_map (λ v. v.items) c.self.inside.released.items) _ c.args.self.now c.self.view_is (ap (flat_map (λ v. v.items)) (c.in_err-push.ensures.items ∙ c.clear.ensures.items)))
+
+pub index_mut-entry-requires : goal.index_mut-entry-requires
+index_mut-entry-requires c =
+    let es = c.self.inside.groups.items in
+    let id = c.args.request.now.group_id in
+    let below : c.in-Some.place < length es = place_below id es c.in-Some.place (sym (c.in-Some.ensures ∙ ap (λ x. place_of x es) c.as_str.ensures)) in
+    omega (arith, below, c.self.inside.groups.ok)
+
+pub returns-in_err-code-clause-refused : goal.returns-in_err-code-clause-refused
+returns-in_err-code-clause-refused c =
+    let es = c.self.inside.groups.items in
+    let id = c.args.request.now.group_id in
+    let e = c.index_mut-entry.result.now in
+    let p : place_of id es ≡ Some c.in-Some.place = sym (c.in-Some.ensures ∙ ap (λ x. place_of x es) c.as_str.ensures) in
+    let at : slice_get es c.in-Some.place ≡ Some e = at_index es c.in-Some.place e (place_below id es c.in-Some.place p) c.index_mut-entry.ensures.value in
+    err_holds c.from_residual-in_err-code.result (refused_here es c.self.inside.members (flat_map (λ v. v.items) c.self.inside.released.items) _ c.args.self.now c.in-Some.place e c.leave.new.self c.self.view_is at c.in_err-code.ensures.refused
+    (no_reply (λ v. v.items) _ _ _ c.in_ok-push.ensures.items c.clear.ensures.items c.new.ensures.items))
+
+pub returns-clause-code : goal.returns-clause-code
+returns-clause-code c =
+    let es = c.self.inside.groups.items in
+    let id = c.args.request.now.group_id in
+    let e = c.index_mut-entry.result.now in
+    let p : place_of id es ≡ Some c.in-Some.place = sym (c.in-Some.ensures ∙ ap (λ x. place_of x es) c.as_str.ensures) in
+    let at : slice_get es c.in-Some.place ≡ Some e = at_index es c.in-Some.place e (place_below id es c.in-Some.place p) c.index_mut-entry.ensures.value in
+    said_here UnknownMemberId (one.leave_code (named c.args.request.now.member_id)) id es c.self.inside.members (flat_map (λ v. v.items) c.self.inside.released.items) c.args.self.now c.in-Some.place e _ c.self.view_is p at
+    (c.in_ok-code.ensures.code ∙ ap (λ n. one.leave_code n e.group) (c.number_of-number.ensures ∙ ap named c.as_str-2.ensures))
+
+pub invariant_of-self-2 : goal.invariant_of-self-2
+invariant_of-self-2 c =
+    (c.self.invariant.0, quiet_here c.self.inside.groups.items c.in-Some.place c.index_mut-entry.result.now c.leave.new.self c.self.inside.quiet_until c.quiet_until.result _ c.self.invariant.1 c.quiet_until.ensures c.min-self-inside.ensures)
+
+pub returns-clause-after : goal.returns-clause-after
+returns-clause-after c =
+    let es = c.self.inside.groups.items in
+    let id = c.args.request.now.group_id in
+    let e = c.index_mut-entry.result.now in
+    let p : place_of id es ≡ Some c.in-Some.place = sym (c.in-Some.ensures ∙ ap (λ x. place_of x es) c.as_str.ensures) in
+    let at : slice_get es c.in-Some.place ≡ Some e = at_index es c.in-Some.place e (place_below id es c.in-Some.place p) c.index_mut-entry.ensures.value in
+    let who = c.number_of-number.ensures ∙ ap named c.as_str-2.ensures in
+    stepped_here id (one.leave c.args.clock (named c.args.request.now.member_id)) es c.self.inside.members (flat_map (λ v. v.items) c.self.inside.released.items) _ c.args.self.now c.in-Some.place e c.leave.new.self c.self.view_is p at
+    (c.in_ok-code.ensures.group ∙ ap (λ n. (one.leave c.args.clock n e.group).group) who)
+    (one_reply (λ v. v.items) _ _ _ c.in_ok-code.replies c.in_ok-push.ensures.items c.clear.ensures.items ∙ c.in_ok-code.ensures.released ∙ ap (λ n. (one.leave c.args.clock n e.group).released) who)

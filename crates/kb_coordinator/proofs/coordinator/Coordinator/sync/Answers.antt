@@ -1,0 +1,88 @@
+use Rattle.std.proofs.Common.{rules, FitsSigned, ◌≡◌, ◌<◌, w32, to_z, of_z, ◌∙◌, sym, ap, arith, map, Some, None, slice_get, length}
+use Rattle.std.specs.List.{flat_map}
+use Rattle.std.proofs.lemmas.Int.{to_z-of_z}
+use Rattle.kb_groups.specs.Calls as one
+use Rattle.kb_groups.specs.declared.code.Code.TheVariants.{UnknownMemberId}
+use Rattle.kb_groups.specs.declared.reply.SyncAnswer.TheVariants.{Refused}
+use Rattle.kb_coordinator.specs.Groups.{place_of}
+use Rattle.kb_coordinator.specs.Requests.{assigned_to, named}
+use Rattle.kb_coordinator.specs.Calls.{sync_in}
+use Rattle.kb_coordinator.proofs.Lists.{at_index, place_below}
+use Rattle.kb_coordinator.proofs.Places.{err_holds, no_reply, one_reply, quiet_here, refused_here, said_here, said_nowhere, silent_now, stepped_here, stepped_nowhere}
+use Rattle.kb_coordinator.proofs.coordinator.Coordinator.sync.Goals as goal
+
+pub returns-in_default-clause-answer : goal.returns-in_default-clause-answer
+returns-in_default-clause-answer c =
+    let es = c.self.inside.groups.items in
+    let id = c.args.request.now.group_id in
+    let q : place_of id es ≡ None = sym (c.in_default.ensures ∙ ap (λ x. place_of x es) c.as_str.ensures) in
+    said_nowhere (Refused UnknownMemberId) (λ g. (sync_in c.args.clock c.args.connection c.args.request.now g).0) id es c.self.inside.members (flat_map (λ v. v.items) c.self.inside.released.items) c.args.self.now c.self.view_is q
+
+pub returns-in_default-clause-after : goal.returns-in_default-clause-after
+returns-in_default-clause-after c =
+    let es = c.self.inside.groups.items in
+    let id = c.args.request.now.group_id in
+    let q : place_of id es ≡ None = sym (c.in_default.ensures ∙ ap (λ x. place_of x es) c.as_str.ensures) in
+    stepped_nowhere id (λ g. (sync_in c.args.clock c.args.connection c.args.request.now g).1) es c.self.inside.members (flat_map (λ v. v.items) c.self.inside.released.items) _ c.args.self.now c.self.view_is q (ap (flat_map (λ v. v.items)) c.clear.ensures.items)
+
+pub returns-in_err-given-clause-refused : goal.returns-in_err-given-clause-refused
+returns-in_err-given-clause-refused c =
+    err_holds c.from_residual.result (silent_now c.self.inside.groups.items c.self.inside.members (flat_map (λ v. v.items) c.self.inside.released.items) _ c.args.self.now c.self.view_is (ap (flat_map (λ v. v.items)) c.clear.ensures.items))
+
+pub returns-in_err-push-clause-refused : goal.returns-in_err-push-clause-refused
+returns-in_err-push-clause-refused c =
+    err_holds c.from_residual-in_err-push.result (silent_now c.self.inside.groups.items c.self.inside.members (flat_map (λ v. v.items) c.self.inside.released.items) _ c.args.self.now c.self.view_is (ap (flat_map (λ v. v.items)) (c.in_err-push.ensures.items ∙ c.clear.ensures.items)))
+
+pub index_mut-entry-requires : goal.index_mut-entry-requires
+index_mut-entry-requires c =
+    let es = c.self.inside.groups.items in
+    let id = c.args.request.now.group_id in
+    let below : c.in-Some.place < length es = place_below id es c.in-Some.place (sym (c.in-Some.ensures ∙ ap (λ x. place_of x es) c.as_str.ensures)) in
+    omega (arith, below, c.self.inside.groups.ok)
+
+pub returns-in_err-answer-clause-refused : goal.returns-in_err-answer-clause-refused
+returns-in_err-answer-clause-refused c =
+    let es = c.self.inside.groups.items in
+    let id = c.args.request.now.group_id in
+    let e = c.index_mut-entry.result.now in
+    let p : place_of id es ≡ Some c.in-Some.place = sym (c.in-Some.ensures ∙ ap (λ x. place_of x es) c.as_str.ensures) in
+    let at : slice_get es c.in-Some.place ≡ Some e = at_index es c.in-Some.place e (place_below id es c.in-Some.place p) c.index_mut-entry.ensures.value in
+    err_holds c.from_residual-in_err-answer.result (refused_here es c.self.inside.members (flat_map (λ v. v.items) c.self.inside.released.items) _ c.args.self.now c.in-Some.place e c.sync.new.self c.self.view_is at c.in_err-answer.ensures.refused
+    (no_reply (λ v. v.items) _ _ _ c.in_ok-push.ensures.items c.clear.ensures.items c.new.ensures.items))
+
+pub returns-clause-answer : goal.returns-clause-answer
+returns-clause-answer c =
+    let es = c.self.inside.groups.items in
+    let id = c.args.request.now.group_id in
+    let e = c.index_mut-entry.result.now in
+    let p : place_of id es ≡ Some c.in-Some.place = sym (c.in-Some.ensures ∙ ap (λ x. place_of x es) c.as_str.ensures) in
+    let at : slice_get es c.in-Some.place ≡ Some e = at_index es c.in-Some.place e (place_below id es c.in-Some.place p) c.index_mut-entry.ensures.value in
+    let fits : FitsSigned w32 c.args.request.now.generation_id = search rules in
+    let who = c.number_of-number.ensures ∙ ap named c.as_str-2.ensures in
+    let generation = to_z-of_z w32 c.args.request.now.generation_id fits in
+    let given = c.deref.ensures.value ∙ c.in_ok-given.ensures ∙ ap (map assigned_to) c.as_slice.ensures in
+    let same : one.sync c.args.clock c.args.connection c.number_of-number.result (to_z w32 (of_z w32 c.args.request.now.generation_id)) c.deref.result.now e.group ≡ sync_in c.args.clock c.args.connection c.args.request.now e.group
+    = λ k. one.sync c.args.clock c.args.connection (who k) (generation k) (given k) e.group in
+    said_here (Refused UnknownMemberId) (λ g. (sync_in c.args.clock c.args.connection c.args.request.now g).0) id es c.self.inside.members (flat_map (λ v. v.items) c.self.inside.released.items) c.args.self.now c.in-Some.place e _ c.self.view_is p at
+    (c.in_ok-answer.ensures.answer ∙ ap (λ s. s.0) same)
+
+pub invariant_of-self-2 : goal.invariant_of-self-2
+invariant_of-self-2 c =
+    (c.self.invariant.0, quiet_here c.self.inside.groups.items c.in-Some.place c.index_mut-entry.result.now c.sync.new.self c.self.inside.quiet_until c.quiet_until.result _ c.self.invariant.1 c.quiet_until.ensures c.min-self-inside.ensures)
+
+pub returns-clause-after : goal.returns-clause-after
+returns-clause-after c =
+    let es = c.self.inside.groups.items in
+    let id = c.args.request.now.group_id in
+    let e = c.index_mut-entry.result.now in
+    let p : place_of id es ≡ Some c.in-Some.place = sym (c.in-Some.ensures ∙ ap (λ x. place_of x es) c.as_str.ensures) in
+    let at : slice_get es c.in-Some.place ≡ Some e = at_index es c.in-Some.place e (place_below id es c.in-Some.place p) c.index_mut-entry.ensures.value in
+    let fits : FitsSigned w32 c.args.request.now.generation_id = search rules in
+    let who = c.number_of-number.ensures ∙ ap named c.as_str-2.ensures in
+    let generation = to_z-of_z w32 c.args.request.now.generation_id fits in
+    let given = c.deref.ensures.value ∙ c.in_ok-given.ensures ∙ ap (map assigned_to) c.as_slice.ensures in
+    let same : one.sync c.args.clock c.args.connection c.number_of-number.result (to_z w32 (of_z w32 c.args.request.now.generation_id)) c.deref.result.now e.group ≡ sync_in c.args.clock c.args.connection c.args.request.now e.group
+    = λ k. one.sync c.args.clock c.args.connection (who k) (generation k) (given k) e.group in
+    stepped_here id (λ g. (sync_in c.args.clock c.args.connection c.args.request.now g).1) es c.self.inside.members (flat_map (λ v. v.items) c.self.inside.released.items) _ c.args.self.now c.in-Some.place e c.sync.new.self c.self.view_is p at
+    (c.in_ok-answer.ensures.group ∙ ap (λ s. s.1.group) same)
+    (one_reply (λ v. v.items) _ _ _ c.in_ok-answer.replies c.in_ok-push.ensures.items c.clear.ensures.items ∙ c.in_ok-answer.ensures.released ∙ ap (λ s. s.1.released) same)

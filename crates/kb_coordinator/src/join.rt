@@ -1,0 +1,179 @@
+//! Members join the groups of a tenant.
+ghost use Rattle.std.specs.Prelude.{◌≡◌, ◌<◌, ◌≤◌, IfOk, OnErr, OnOk, length, slice_get, Some};
+ghost use Rattle.kb_coordinator.specs.declared.groups.Entry.{Entry};
+ghost use Rattle.kb_coordinator.specs.Groups.{silent};
+ghost use Rattle.kb_coordinator.specs.Calls.{after_join, after_known, after_new, full, given_with, is_accepted, join_code, known_code, lacks_number, new_code, unless_refused};
+
+use crate::convert::{asked_member, error_of, offers};
+use crate::coordinator::Coordinator;
+use crate::groups::{Entry, first_above};
+use kb_api_group::{ErrorCode, JoinGroupRequest};
+use kb_groups::{Bytes, Code, Group, Join, Text};
+use std::alloc::{AllocError, Global};
+
+/// How many groups a tenant has at most.
+const MAX_GROUPS: usize = 1_000;
+/// How many member numbers a tenant gives out at most.
+const MAX_MEMBERS: u64 = 9_223_372_036_854_775_807;
+
+/// The error of a join: the group's refusal, if it refuses; else whether nothing is left for it.
+fn error_unless(code: Code, is_full: bool) -> ErrorCode
+    ensures { result ≡ unless_refused code (full is_full) }
+{
+    match code {
+        Code::Fine => {
+            if is_full {
+                ErrorCode::CoordinatorNotAvailable
+            } else {
+                ErrorCode::None
+            }
+        }
+        Code::IllegalGeneration
+        | Code::InconsistentGroupProtocol
+        | Code::UnknownMemberId
+        | Code::InvalidSessionTimeout
+        | Code::RebalanceInProgress
+        | Code::GroupMaxSizeReached => error_of(code),
+    }
+}
+
+/// Whether it is no error.
+fn is_accepted(error: ErrorCode) -> bool
+    ensures { result ≡ is_accepted error }
+{
+    error.code() == 0
+}
+
+impl Coordinator {
+    /// Whether it is a new member, and no number is left for it.
+    fn lacks_number(&self, request: &Join<'_>) -> bool
+        ensures { result ≡ lacks_number request.now self.now }
+    {
+        request.member.is_none() && self.members >= MAX_MEMBERS
+    }
+
+    /// How many member numbers are given out once it has joined.
+    fn given_with(&self, request: &Join<'_>) -> u64
+        ensures { result ≡ given_with request.now self.now }
+    {
+        if request.member.is_none() {
+            self.members + 1
+        } else {
+            self.members
+        }
+    }
+
+    /// The error of a join to the group at a place.
+    fn known_error(&self, place: usize, request: &Join<'_>) -> ErrorCode
+        requires { place < length self.now.groups }
+        ensures { (e : Entry) → slice_get self.now.groups place ≡ Some e → result ≡ known_code request.now e.group self.now }
+    {
+        let code = self.groups[place].group.join_code(request);
+        error_unless(code, self.lacks_number(request))
+    }
+
+    /// The error of a join to a group that is not there.
+    fn new_error(&self, request: &Join<'_>) -> ErrorCode
+        ensures { result ≡ new_code request.now self.now }
+    {
+        let group = Group::new(self.alloc);
+        let code = group.join_code(request);
+        error_unless(
+            code,
+            self.groups.len() >= MAX_GROUPS || self.lacks_number(request),
+        )
+    }
+
+    /// A join to the group at a place.
+    fn join_known(
+        &mut self,
+        place: usize,
+        request: &Join<'_>,
+        clock: u64,
+    ) -> Result<ErrorCode, AllocError>
+        requires below { place < length self.old.groups }
+        requires clock { clock ≤ 4611686018427387904 }
+        ensures code { (e : Entry) → slice_get self.old.groups place ≡ Some e → IfOk result (λ code. code ≡ known_code request.now e.group self.old) }
+        ensures after { (e : Entry) → slice_get self.old.groups place ≡ Some e → OnOk result (self.new ≡ after_known clock request.now place e self.old) }
+        ensures refused { OnErr result (self.new ≡ silent self.old) }
+    {
+        self.released.clear();
+        let error = self.known_error(place, request);
+        if !is_accepted(error) {
+            return Ok(error);
+        }
+        let members = self.given_with(request);
+        self.released.push(Vec::new(self.alloc))?;
+        let entry = &mut self.groups[place];
+        let (_, replies) = entry.group.join(self.alloc, request, clock)?;
+        self.quiet_until = self.quiet_until.min(entry.group.quiet_until());
+        self.released[0] = replies;
+        self.members = members;
+        Ok(error)
+    }
+
+    /// A join to a group that is not there.
+    fn join_new(
+        &mut self,
+        id: &str,
+        request: &Join<'_>,
+        clock: u64,
+    ) -> Result<ErrorCode, AllocError>
+        requires { clock ≤ 4611686018427387904 }
+        ensures code { IfOk result (λ code. code ≡ new_code request.now self.old) }
+        ensures after { OnOk result (self.new ≡ after_new clock request.now id.now self.old) }
+        ensures refused { OnErr result (self.new ≡ silent self.old) }
+    {
+        self.released.clear();
+        let error = self.new_error(request);
+        if !is_accepted(error) {
+            return Ok(error);
+        }
+        let members = self.given_with(request);
+        let key = Bytes::copy_of(self.alloc, id.as_bytes())?;
+        self.released.push(Vec::new(self.alloc))?;
+        let mut group = Group::new(self.alloc);
+        let (_, replies) = group.join(self.alloc, request, clock)?;
+        let quiet_until = group.quiet_until();
+        let place = first_above(&self.groups, id.as_bytes());
+        self.groups.insert(place, Entry { id: key, group })?;
+        self.quiet_until = self.quiet_until.min(quiet_until);
+        self.released[0] = replies;
+        self.members = members;
+        Ok(error)
+    }
+
+    /// Kafka's JoinGroup, of that connection: the error of a join that is refused. One that is accepted, with `ErrorCode::None`, waits:
+    /// its own reply is among those of requests that waited, of this call if all members have joined with it.
+    pub fn join(
+        &mut self,
+        request: &JoinGroupRequest<'_>,
+        connection: u64,
+        clock: u64,
+    ) -> Result<ErrorCode, AllocError>
+        requires { clock ≤ 4611686018427387904 }
+        ensures code { IfOk result (λ code. code ≡ join_code connection request.now self.old) }
+        ensures after { OnOk result (self.new ≡ after_join clock connection request.now self.old) }
+        ensures refused { OnErr result (self.new ≡ silent self.old) }
+    {
+        self.released.clear();
+        let id = request.group_id.as_str();
+        if id.is_empty() {
+            return Ok(ErrorCode::InvalidGroupId);
+        }
+        let protocols = offers(self.alloc, request.protocols.as_slice())?;
+        let join = Join {
+            connection,
+            member: asked_member(request.member_id.as_str()),
+            new_member: self.members + 1,
+            session_timeout: request.session_timeout_ms,
+            rebalance_timeout: request.rebalance_timeout_ms,
+            protocol_type: Text::new(request.protocol_type.as_str()),
+            protocols: &protocols,
+        };
+        match self.place(id) {
+            Some(place) => self.join_known(place, &join, clock),
+            None => self.join_new(id, &join, clock),
+        }
+    }
+}

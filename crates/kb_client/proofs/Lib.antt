@@ -1,2 +1,4 @@
 mod Fitting
 mod Reading
+mod Walks
+mod Consuming

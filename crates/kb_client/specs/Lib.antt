@@ -4,3 +4,6 @@ pub mod Replies
 pub mod Requests
 pub mod Producer
 pub mod Reactions
+pub mod Lines
+pub mod Fetched
+pub mod Consumer

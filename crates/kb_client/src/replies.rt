@@ -1,12 +1,14 @@
-//! What a client finds in a reply. Nothing here takes memory.
+//! What a client finds in a reply. Fetch alone may take memory.
 
 ghost use Rattle.std.specs.Prelude.{◌≡◌};
-ghost use Rattle.kb_wire.specs.Reads.{Answers};
+ghost use Rattle.kb_wire.specs.Reads.{Answers, ReadsWhole};
+ghost use Rattle.kb_client.specs.Fetched.{fetched_partition};
 ghost use Rattle.kb_client.specs.Replies.{body_for, handshake_code, authenticate_code, create_code, identity, produce_code, PartitionAt};
 
 use crate::stage::ProducerId;
-use kb_api_data::ProducePartitionReply;
-use kb_wire::{Cursor, WireFault};
+use kb_api_data::{FetchPartitionReply, ProducePartitionReply};
+use kb_wire::{Cursor, Layout, ReadFault, WireFault};
+use std::alloc::Global;
 
 /// The body of a reply, if its correlation id is that of the request.
 pub fn body_for(id: i32, frame: &[u8]) -> Result<&[u8], WireFault>
@@ -105,4 +107,26 @@ fn partition(cursor: &mut Cursor<'_>) -> Result<ProducePartitionReply, WireFault
         base_offset: cursor.i64()?,
         log_append_time_ms: cursor.i64()?,
     })
+}
+
+/// Fetch for one partition.
+pub fn fetched_partition<'a>(
+    alloc: Global,
+    body: &'a [u8],
+) -> Result<FetchPartitionReply<'a>, ReadFault>
+    ensures { ReadsWhole (fetched_partition body.now) result }
+{
+    let mut cursor = Cursor::new(body);
+    cursor.i32()?;
+    let topics = cursor.count()?;
+    cursor.string()?;
+    let partitions = cursor.count()?;
+    let reply = FetchPartitionReply::read_from(alloc, &mut cursor)?;
+    if !cursor.at_end() {
+        return Err(ReadFault::Wire(WireFault::Bad));
+    }
+    if topics != 1 || partitions != 1 {
+        return Err(ReadFault::Wire(WireFault::Bad));
+    }
+    Ok(reply)
 }

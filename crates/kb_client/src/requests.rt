@@ -1,14 +1,15 @@
-//! The requests of a producer, each as its bytes.
+//! The requests of a client, each as its bytes.
 
 ghost use Rattle.std.specs.Prelude.{◌≡◌, ◌≤◌, ◌<◌, ◌^◌, length, pos, IfOk};
 ghost use Rattle.kb_client.specs.Requests.{request_text, handshake_text, plain_message, authenticate_text, create_text, identify_text, produce_topics, produce_text, IsBatchOf};
+ghost use Rattle.kb_client.specs.Fetched.{fetch_topics, fetch_text, patience};
 
 use crate::line::Line;
 use crate::stage::ProducerId;
 use crate::target::Target;
 use kb_api_data::{
-    CreateTopic, CreateTopicsRequest, InitProducerIdRequest, ProducePartition, ProduceRequest,
-    ProduceTopic,
+    CreateTopic, CreateTopicsRequest, FetchPartition, FetchRequest, FetchTopic,
+    InitProducerIdRequest, ProducePartition, ProduceRequest, ProduceTopic,
 };
 use kb_api_group::{RequestHeader, SaslAuthenticateRequest, SaslHandshakeRequest};
 use kb_batch::BatchBuilder;
@@ -16,6 +17,8 @@ use kb_wire::{Array, Blob, Layout, Sink, Text};
 use std::alloc::{AllocError, Global};
 
 const PRODUCE: i16 = 0;
+
+const FETCH: i16 = 1;
 
 const SASL_HANDSHAKE: i16 = 17;
 
@@ -27,6 +30,15 @@ const SASL_AUTHENTICATE: i16 = 36;
 
 /// The greatest size of a request, which is an INT32.
 const MAX_SIZE: usize = 2_147_483_647;
+
+/// The bytes of a header without a client's name, and of the fields of a Fetch request but for the name.
+const FETCH_FIELDS: usize = 64;
+
+/// The most bytes of records that are asked for.
+const MAX_FETCH_BYTES: i32 = 1_048_576;
+
+/// How long a reply may wait for a byte, in milliseconds, where more is waited for.
+const MAX_WAIT_MS: i32 = 500;
 
 /// The bytes of a header without a client's name, and of the fields of a Produce request but for the batch and the name.
 const PRODUCE_FIELDS: usize = 64;
@@ -187,4 +199,55 @@ pub fn produce<'a>(
     };
     let room = PRODUCE_FIELDS + target.topic().len() + batch.len();
     request(alloc, (PRODUCE, 3), id, &body, room)
+}
+
+/// The topics of a Fetch request: the partition from an offset on.
+fn fetch_topics_of<'a>(
+    alloc: Global,
+    target: &'a Target,
+    offset: i64,
+) -> Result<Array<FetchTopic<'a>>, AllocError>
+    ensures { IfOk result (λ topics. topics ≡ fetch_topics target.now offset) }
+{
+    let mut partitions = Array::new(alloc);
+    partitions.push(FetchPartition {
+        partition: target.partition(),
+        fetch_offset: offset,
+        partition_max_bytes: MAX_FETCH_BYTES,
+    })?;
+    let mut topics = Array::new(alloc);
+    topics.push(FetchTopic {
+        topic: Text::new(target.topic()),
+        partitions,
+    })?;
+    Ok(topics)
+}
+
+/// How long a reply may wait for a byte, in milliseconds.
+fn patience(follow: bool) -> i32
+    ensures { result ≡ patience follow }
+{
+    if follow { MAX_WAIT_MS } else { 0 }
+}
+
+/// Fetch: whole batches of the partition from an offset on. With `follow` the reply may wait for a byte.
+pub fn fetch(
+    alloc: Global,
+    id: i32,
+    target: &Target,
+    offset: i64,
+    follow: bool,
+) -> Result<Vec<u8>, AllocError>
+    ensures { IfOk result (λ text. text.items ≡ fetch_text id target.now offset follow) }
+{
+    let body = FetchRequest {
+        replica_id: -1,
+        max_wait_ms: patience(follow),
+        min_bytes: 1,
+        max_bytes: MAX_FETCH_BYTES,
+        isolation_level: 0,
+        topics: fetch_topics_of(alloc, target, offset)?,
+    };
+    let room = FETCH_FIELDS + target.topic().len();
+    request(alloc, (FETCH, 4), id, &body, room)
 }

@@ -1,0 +1,74 @@
+//! `kconsole consume`: prints the lines of a partition.
+
+ghost use Rattle.kconsole.specs.Console.{IsWithin};
+
+use crate::console::ConsoleLine;
+use crate::fault::Fault;
+use crate::link::Link;
+use kb_client::ConsumerCore;
+use std::io;
+use std::io::Write;
+
+/// How often it asks or waits at most.
+const TURNS: u64 = 9_223_372_036_854_775_807;
+
+/// The bytes that are read at once.
+const BUFFER_BYTES: usize = 262_144;
+
+/// Prints the lines of a partition from an offset on, at most so many.
+pub fn consume(
+    rt: &HostRuntime,
+    line: ConsoleLine,
+    from: i64,
+    max: Option<u64>,
+    follow: bool,
+) -> Result<(), Fault>
+    requires { IsWithin line }
+{
+    let alloc = rt.alloc();
+    let ConsoleLine {
+        host,
+        port,
+        login,
+        topic,
+        partition,
+        retries,
+        task: _,
+    } = line;
+    let mut link = Link::new(alloc, &host, port, retries)?;
+    let mut core = ConsumerCore::new(alloc, login, topic, partition, from, max, follow);
+    let mut buffer = vec![in alloc; 0; BUFFER_BYTES]?;
+    for _ in 0..TURNS {
+        if core.finished() {
+            return Ok(());
+        }
+        turn(rt, &mut core, &mut link, &mut buffer)?;
+    }
+    Err(Fault::Read)
+}
+
+/// Sends a request, or waits for a piece of its reply and prints the lines that it completes.
+fn turn(
+    rt: &HostRuntime,
+    core: &mut ConsumerCore,
+    link: &mut Link,
+    buffer: &mut [u8],
+) -> Result<(), Fault> {
+    if link.connect(rt)? {
+        core.connected();
+    }
+    let request = core.take_output()?;
+    if !request.is_empty() && !link.send(&request) {
+        return Ok(());
+    }
+    let n = link.receive(buffer);
+    if n == 0 {
+        return Ok(());
+    }
+    let done = core.input(&buffer[..n]);
+    let lines = core.take_lines();
+    if !lines.is_empty() && io::writer(rt).write_all(&lines).is_err() {
+        return Err(Fault::Write);
+    }
+    Ok(done?)
+}

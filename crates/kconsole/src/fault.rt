@@ -1,0 +1,86 @@
+//! Why the program ends early.
+
+use crate::console::LineFault;
+use kb_client::ClientFault;
+use std::alloc::{AllocError, AllocFailed};
+use std::fmt;
+use std::fmt::{Display, Formatter, Write};
+
+/// Why the program ends early.
+#[derive(Debug, Drop)]
+pub enum Fault {
+    /// The command line, or a call for help.
+    Words(clap::Error),
+    /// There is no connection after the retries.
+    Connect,
+    /// What a client ended with.
+    Client(ClientFault),
+    /// The line of this number has more than 1,000,000 bytes.
+    LineTooLong(u64),
+    /// Standard input.
+    Read,
+    /// Standard output.
+    Write,
+    /// Memory ran out.
+    Memory,
+}
+
+impl Display for Fault {
+    fn fmt<W: Write>(&self, f: &mut Formatter<W>) -> fmt::Result {
+        match self {
+            Fault::Words(e) => write!(f, "{e}"),
+            Fault::Connect => f.write_str("cannot connect"),
+            Fault::Client(fault) => {
+                write!(f, "{fault}")?;
+                f.write_str(meaning(*fault))
+            }
+            Fault::LineTooLong(number) => write!(f, "line too long: {number}"),
+            Fault::Read => f.write_str("read fault"),
+            Fault::Write => f.write_str("write fault"),
+            Fault::Memory => f.write_str("out of memory"),
+        }
+    }
+}
+
+/// What an error code means, where a user may meet it (Kafka protocol guide, "Error Codes").
+fn meaning(fault: ClientFault) -> &'static str {
+    match fault {
+        ClientFault::Code(1) => ": the offset is not in the partition",
+        ClientFault::Code(3) => ": there is no such topic or partition",
+        ClientFault::Code(17) => ": the topic's name is not legal",
+        ClientFault::Code(37) => ": the number of partitions is not legal",
+        ClientFault::Code(44) => ": the broker makes no more topics",
+        ClientFault::Code(56) => ": the broker's store failed",
+        _ => "",
+    }
+}
+
+impl From<AllocError> for Fault {
+    fn from(_e: AllocError) -> Fault {
+        Fault::Memory
+    }
+}
+
+impl<T: Drop> From<AllocFailed<T>> for Fault {
+    fn from(_e: AllocFailed<T>) -> Fault {
+        Fault::Memory
+    }
+}
+
+impl From<ClientFault> for Fault {
+    fn from(e: ClientFault) -> Fault {
+        match e {
+            ClientFault::Memory => Fault::Memory,
+            _ => Fault::Client(e),
+        }
+    }
+}
+
+impl From<LineFault> for Fault {
+    fn from(e: LineFault) -> Fault {
+        match e {
+            LineFault::Words(e) => Fault::Words(e),
+            LineFault::Memory => Fault::Memory,
+        }
+    }
+}

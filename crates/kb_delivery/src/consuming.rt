@@ -1,6 +1,6 @@
 //! Consumers, and one whose connection ends after each byte of its input in turn.
 
-use crate::wire::{Wire, login_of_ann, short, unexpected};
+use crate::wire::{Cut, Wire, login_of_ann, short, unexpected};
 use kb_client::{ClientFault, ConsumerCore};
 use std::alloc::{AllocError, Global};
 use std::process::Abort;
@@ -63,16 +63,34 @@ fn consumer(
     Ok(ConsumerCore::new(alloc, login, topic, 0, from, max, false))
 }
 
-/// Asks until the consumer is finished. Once `cut` bytes of the input have come, the connection ends. The lines, and whether it
-/// ended.
+/// A consumer asks, and what the broker answers comes, up to where the connection ends; then another one begins.
+fn exchange(
+    rt: &impl Abort,
+    wire: &mut Wire,
+    core: &mut ConsumerCore,
+    cut: &mut Cut,
+    lines: &mut Vec<u8>,
+) -> Result<(), Fail> {
+    let output = core.take_output().map_err(|fault| unexpected(rt, fault))?;
+    let mut reply = wire.pass(&output);
+    let ends = cut.shorten(&mut reply);
+    core.input(&reply).map_err(|fault| unexpected(rt, fault))?;
+    lines.extend_from_slice(&core.take_lines())?;
+    if ends {
+        wire.renew(rt)?;
+        core.connected();
+    }
+    Ok(())
+}
+
+/// Asks until the consumer is finished: the lines.
 fn run(
     rt: &impl Abort,
     alloc: Global,
     wire: &mut Wire,
     core: &mut ConsumerCore,
-    cut: Option<usize>,
-) -> Result<(Vec<u8>, bool), Fail> {
-    let mut left = cut;
+    cut: &mut Cut,
+) -> Result<Vec<u8>, Fail> {
     let mut lines = Vec::new(alloc);
     wire.renew(rt)?;
     core.connected();
@@ -80,28 +98,10 @@ fn run(
         if core.finished() {
             break;
         }
-        let output = core.take_output().map_err(|fault| unexpected(rt, fault))?;
-        let mut reply = wire.pass(&output);
-        let ends = match left {
-            Some(bytes) => bytes <= reply.len(),
-            None => false,
-        };
-        if let Some(bytes) = left {
-            left = bytes.checked_sub(reply.len());
-            if ends {
-                reply.truncate(bytes);
-                left = None;
-            }
-        }
-        core.input(&reply).map_err(|fault| unexpected(rt, fault))?;
-        lines.extend_from_slice(&core.take_lines())?;
-        if ends {
-            wire.renew(rt)?;
-            core.connected();
-        }
+        exchange(rt, wire, core, cut, &mut lines)?;
     }
     assert!(rt; core.finished());
-    Ok((lines, cut.is_some() && left.is_none()))
+    Ok(lines)
 }
 
 /// The lines of the topic `t`.
@@ -113,48 +113,104 @@ pub(crate) fn text_of(
     max: Option<u64>,
 ) -> Result<Vec<u8>, Fail> {
     let mut core = consumer(rt, alloc, "t", from, max)?;
-    let (lines, _) = run(rt, alloc, wire, &mut core, None)?;
-    Ok(lines)
+    run(rt, alloc, wire, &mut core, &mut Cut::nowhere())
+}
+
+/// Each part of the topic `t` is as wanted.
+fn has_parts(
+    rt: &impl Abort,
+    alloc: Global,
+    wire: &mut Wire,
+    parts: &[(i64, Option<u64>, &str)],
+) -> Result<(), Fail> {
+    for (from, max, expected) in parts {
+        let text = text_of(rt, alloc, wire, *from, *max)?;
+        assert!(rt; text.as_slice() == expected.as_bytes(), "from {from}");
+    }
+    Ok(())
 }
 
 #[test]
 fn lines_come_from_an_offset_on(rt: HostRuntime) -> Result<(), Fail> {
-    let alloc = rt.alloc();
-    let mut wire = filled(&rt, alloc)?;
-    for (from, max, expected) in PARTS {
-        let text = text_of(&rt, alloc, &mut wire, from, max)?;
-        assert_eq!(rt; text.as_slice(), expected.as_bytes(), "from {from}");
-    }
-    for cut in 0..10_000 {
-        let mut core = consumer(&rt, alloc, "t", 1, Some(4))?;
-        let (text, ended) = run(&rt, alloc, &mut wire, &mut core, Some(cut))?;
-        assert_eq!(rt;
-            text.as_slice(),
-            b"b\nc\na\nb\n".as_slice(),
-            "after {cut} bytes"
-        );
-        if !ended {
-            assert!(rt; cut > 100);
+    let mut wire = filled(&rt, rt.alloc())?;
+    has_parts(&rt, rt.alloc(), &mut wire, &PARTS)
+}
+
+/// Four lines come to a consumer whose connection ends after so many bytes. Whether it ended.
+fn come_at_last(
+    rt: &impl Abort,
+    alloc: Global,
+    wire: &mut Wire,
+    bytes: usize,
+) -> Result<bool, Fail> {
+    let mut cut = Cut::after(bytes);
+    let mut core = consumer(rt, alloc, "t", 1, Some(4))?;
+    let text = run(rt, alloc, wire, &mut core, &mut cut)?;
+    assert!(rt;
+        text.as_slice() == b"b\nc\na\nb\n".as_slice(),
+        "after {bytes} bytes"
+    );
+    Ok(cut.is_past())
+}
+
+#[test]
+fn lines_come_whatever_byte_is_the_last(rt: HostRuntime) -> Result<(), Fail> {
+    let mut wire = filled(&rt, rt.alloc())?;
+    for bytes in 0..10_000 {
+        if !come_at_last(&rt, rt.alloc(), &mut wire, bytes)? {
+            assert!(rt; bytes > 100);
             break;
         }
     }
     Ok(())
 }
 
-#[test]
-fn what_is_refused_is_a_fault(rt: HostRuntime) -> Result<(), Fail> {
-    let alloc = rt.alloc();
-    let mut wire = filled(&rt, alloc)?;
-    for (topic, from, code) in [("t", 7, 1), ("t", -1, 1), ("u", 0, 3), ("", 0, 3)] {
-        let mut core = consumer(&rt, alloc, topic, from, None)?;
-        wire.renew(&rt)?;
-        core.connected();
-        let mut fault = None;
-        for _ in 0..3 {
-            let output = core.take_output().map_err(|fault| unexpected(&rt, fault))?;
-            fault = core.input(&wire.pass(&output)).err();
-        }
-        assert_eq!(rt; fault, Some(ClientFault::Code(code)));
+/// A consumer asks: the fault that the answer is to it.
+fn ask(
+    rt: &impl Abort,
+    wire: &mut Wire,
+    core: &mut ConsumerCore,
+) -> Result<Option<ClientFault>, Fail> {
+    let output = core.take_output().map_err(|fault| unexpected(rt, fault))?;
+    Ok(core.input(&wire.pass(&output)).err())
+}
+
+/// What a new consumer's first fetch comes to, behind the handshake and the login.
+fn first_fetch(
+    rt: &impl Abort,
+    wire: &mut Wire,
+    core: &mut ConsumerCore,
+) -> Result<Option<ClientFault>, Fail> {
+    wire.renew(rt)?;
+    core.connected();
+    assert!(rt; ask(rt, wire, core)?.is_none());
+    assert!(rt; ask(rt, wire, core)?.is_none());
+    ask(rt, wire, core)
+}
+
+/// A topic and an offset from which there is nothing, and the code of the fault.
+const REFUSED: [(&str, i64, i16); 4] = [("t", 7, 1), ("t", -1, 1), ("u", 0, 3), ("", 0, 3)];
+
+/// Each is refused with its code.
+fn are_refused(
+    rt: &impl Abort,
+    alloc: Global,
+    wire: &mut Wire,
+    refused: &[(&str, i64, i16)],
+) -> Result<(), Fail> {
+    for (topic, from, code) in refused {
+        let mut core = consumer(rt, alloc, topic, *from, None)?;
+        let fault = first_fetch(rt, wire, &mut core)?;
+        assert!(rt;
+            fault == Some(ClientFault::Code(*code)),
+            "{topic} from {from}"
+        );
     }
     Ok(())
+}
+
+#[test]
+fn what_is_refused_is_a_fault(rt: HostRuntime) -> Result<(), Fail> {
+    let mut wire = filled(&rt, rt.alloc())?;
+    are_refused(&rt, rt.alloc(), &mut wire, &REFUSED)
 }

@@ -47,6 +47,43 @@ impl Wire {
     }
 }
 
+/// Where a connection ends: once so many more bytes have come, or nowhere.
+#[derive(Clone, Copy)]
+pub(crate) struct Cut {
+    left: Option<usize>,
+}
+
+impl Cut {
+    /// After so many bytes.
+    pub(crate) fn after(bytes: usize) -> Cut {
+        Cut { left: Some(bytes) }
+    }
+
+    /// Nowhere.
+    pub(crate) fn nowhere() -> Cut {
+        Cut { left: None }
+    }
+
+    /// Bytes are on their way: those behind the end of the connection are lost. Whether it ends among them.
+    pub(crate) fn shorten(&mut self, bytes: &mut Vec<u8>) -> bool {
+        let Some(left) = self.left else {
+            return false;
+        };
+        self.left = left.checked_sub(bytes.len());
+        let ends = left <= bytes.len();
+        if ends {
+            bytes.truncate(left);
+            self.left = None;
+        }
+        ends
+    }
+
+    /// Whether there is no end to come.
+    pub(crate) fn is_past(&self) -> bool {
+        self.left.is_none()
+    }
+}
+
 /// A text of at most 255 bytes.
 pub(crate) fn short(rt: &impl Abort, alloc: Global, text: &str) -> Result<String, AllocError>
     ensures { IfOk result (λ s. length (string_bytes s) ≤ 255) }

@@ -193,7 +193,7 @@ fn happen_to<E: Server>(
         Move::Told(_, digits) | Move::Ask(_, _, digits) => {
             let reply = bytes_of(rt, alloc, digits)?;
             hear(edge, client, alloc, now, reply.len())?;
-            assert_eq!(rt; client.got, reply);
+            assert!(rt; client.got == reply);
         }
         _ => {}
     }
@@ -252,10 +252,10 @@ pub(crate) fn play<E: Server>(
         match *next {
             Move::Join => join(net, alloc, edge, clients)?,
             Move::At(moment) => now = moment,
-            Move::Turns(turn) => assert_eq!(rt; edge.turn(alloc, now), turn, "{name}"),
+            Move::Turns(turn) => assert!(rt; edge.turn(alloc, now) == turn, "{name}"),
             Move::Leave => {
                 drop(clients.pop());
-                assert_eq!(rt; count_closed(edge, alloc, now), 1, "{name}");
+                assert!(rt; count_closed(edge, alloc, now) == 1, "{name}");
             }
             _ => assert!(rt; edge.turn(alloc, now).is_idle(), "{name}"),
         }

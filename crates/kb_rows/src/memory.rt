@@ -48,9 +48,9 @@ fn are_told_where_spared(
     wanted: &[Written],
     tenants: &[usize],
 ) {
-    assert_eq!(rt; outcome.written.len(), wanted.len());
+    assert!(rt; outcome.written.len() == wanted.len());
     for ((got, wanted), tenant) in outcome.written.iter().zip(wanted).zip(tenants) {
-        assert_eq!(rt; got.conn, wanted.conn);
+        assert!(rt; got.conn == wanted.conn);
         if is_spared(outcome.refusals, *tenant) {
             is_told(rt, "while memory is refused", got, wanted);
         }

@@ -93,7 +93,7 @@ pub(crate) fn written_of(
     events: &[Event],
 ) -> Result<Vec<Written>, AllocError> {
     let outcome = outcome_of(rt, alloc, events)?;
-    assert_eq!(rt; outcome.refusals, [0, 0, 0]);
+    assert!(rt; outcome.refusals == [0, 0, 0]);
     Ok(outcome.written)
 }
 
@@ -125,15 +125,19 @@ fn after(last: u64, event: &Event) -> Option<u64>
 
 /// A connection got what is wanted, and was shut where it is wanted.
 pub(crate) fn is_told(rt: &impl Abort, name: &str, got: &Written, wanted: &Written) {
-    assert_eq!(rt; got.bytes, wanted.bytes, "{name}: connection {}", got.conn);
+    assert!(rt;
+        got.bytes == wanted.bytes,
+        "{name}: connection {}",
+        got.conn
+    );
     assert!(rt; got.shut == wanted.shut, "{name}: connection {}", got.conn);
 }
 
 /// Each connection got what is wanted, and was shut where it is wanted.
 pub(crate) fn are_told(rt: &impl Abort, name: &str, written: &[Written], wanted: &[Written]) {
-    assert_eq!(rt; written.len(), wanted.len());
+    assert!(rt; written.len() == wanted.len());
     for (got, wanted) in written.iter().zip(wanted) {
-        assert_eq!(rt; got.conn, wanted.conn);
+        assert!(rt; got.conn == wanted.conn);
         is_told(rt, name, got, wanted);
     }
 }

@@ -24,7 +24,7 @@ fn versions_of(
     broker: &mut Broker<MemoryStore>,
 ) -> Result<Vec<u8>, AllocError> {
     let request = bytes_of(rt, alloc, "versions")?;
-    assert_eq!(rt; broker.last_connection(), 0);
+    assert!(rt; broker.last_connection() == 0);
     broker.connect(alloc, 1)?;
     broker.input(alloc, 1, &request);
     Ok(broker.take_output(alloc, 1))
@@ -41,10 +41,7 @@ fn lists(
     let mut broker = serving_broker(alloc, settings, listing)?;
     let reply = versions_of(rt, alloc, &mut broker)?;
     let listed = bytes_of(rt, alloc, listed)?;
-    assert_eq!(rt;
-        reply.get(HANDSHAKE..HANDSHAKE + 6),
-        Some(listed.as_slice())
-    );
+    assert!(rt; reply.get(HANDSHAKE..HANDSHAKE + 6) == Some(listed.as_slice()));
     Ok(())
 }
 
@@ -63,7 +60,7 @@ fn a_data_folder_is_needed(rt: HostRuntime) -> Result<(), Fail> {
     let settings = Settings::standard(alloc)?;
     match serving_broker(alloc, &settings, Listing::Served) {
         Ok(_) => panic!(rt; "there is no data folder"),
-        Err(fault) => assert_eq!(rt; fault, StartFault::Field(String::from_str(alloc, "data")?)),
+        Err(fault) => assert!(rt; fault == StartFault::Field(String::from_str(alloc, "data")?)),
     }
     Ok(())
 }
@@ -72,8 +69,8 @@ fn a_data_folder_is_needed(rt: HostRuntime) -> Result<(), Fail> {
 fn texts_of_settings_are_read(rt: HostRuntime) -> Result<(), Fail> {
     let alloc = rt.alloc();
     let settings = read_settings(alloc, TEXT)?;
-    assert_eq!(rt; settings.host.as_str(), "127.0.0.1");
-    assert_eq!(rt; settings.port, 9092);
+    assert!(rt; settings.host.as_str() == "127.0.0.1");
+    assert!(rt; settings.port == 9092);
     let faults = [
         ("= 3", StartFault::Settings),
         (
@@ -85,7 +82,7 @@ fn texts_of_settings_are_read(rt: HostRuntime) -> Result<(), Fail> {
     for (text, fault) in faults {
         match read_settings(alloc, text) {
             Ok(_) => panic!(rt; "the text is wrong"),
-            Err(found) => assert_eq!(rt; found, fault),
+            Err(found) => assert!(rt; found == fault),
         }
     }
     Ok(())
@@ -108,7 +105,7 @@ fn a_bound_port_is_not_bound_again(rt: HostRuntime) -> Result<(), Fail> {
     let address = format!(in rt.alloc(); "127.0.0.1:{}", edge.port())?;
     match bound(&rt, rt.alloc(), &address) {
         Ok(_) => panic!(rt; "the port is taken"),
-        Err(fault) => assert_eq!(rt; fault, StartFault::Listen),
+        Err(fault) => assert!(rt; fault == StartFault::Listen),
     }
     Ok(())
 }
@@ -140,7 +137,7 @@ fn faults_have_their_texts(rt: HostRuntime) -> Result<(), Fail> {
         (StartFault::from(refused), "kbroker: out of memory"),
     ];
     for (fault, text) in faults {
-        assert_eq!(rt; format!(in alloc; "{fault}")?.as_str(), text);
+        assert!(rt; format!(in alloc; "{fault}")?.as_str() == text);
     }
     Ok(())
 }

@@ -126,7 +126,7 @@ impl Talk {
     /// Sees that nothing is left of what was given.
     fn is_done(&self, rt: &impl Abort) {
         assert!(rt; !self.connection.can_turn());
-        assert_eq!(rt; self.connection.room(), 4_194_312);
+        assert!(rt; self.connection.room() == 4_194_312);
     }
 
     /// Takes the output, and sees that it is this.
@@ -188,15 +188,14 @@ impl Talk {
             }
             None => panic!(rt; "it waits"),
         }
-        assert_eq!(rt; self.connection.phase(), Phase::Bound(3));
+        assert!(rt; self.connection.phase() == Phase::Bound(3));
         assert!(rt; !self.connection.can_turn());
     }
 }
 
-#[test]
-fn greets_and_logs_in(rt: HostRuntime) -> Result<(), Fail> {
-    let mut talk = Talk::new(&rt, rt.alloc())?;
-    assert_eq!(rt; talk.connection.number(), 7);
+/// A greeting, from its first request to one that comes too late.
+fn greets(rt: &impl Abort, talk: &mut Talk) -> Result<(), Fail> {
+    assert!(rt; talk.connection.number() == 7);
     for exchange in [
         &VERSIONS,
         &OTHER_VERSIONS,
@@ -205,51 +204,67 @@ fn greets_and_logs_in(rt: HostRuntime) -> Result<(), Fail> {
         &LOGIN,
         &TOO_LATE,
     ] {
-        talk.takes(&rt, exchange)?;
+        talk.takes(rt, exchange)?;
     }
-    assert_eq!(rt; talk.connection.phase(), Phase::Bound(3));
+    assert!(rt; talk.connection.phase() == Phase::Bound(3));
     assert!(rt; !talk.connection.is_shut());
+    Ok(())
+}
+
+#[test]
+fn greets_and_logs_in(rt: HostRuntime) -> Result<(), Fail> {
+    let mut talk = Talk::new(&rt, rt.alloc())?;
+    greets(&rt, &mut talk)?;
     talk.connection.shut_down();
     assert!(rt; talk.connection.is_shut());
     assert!(rt; talk.connection.into_output().is_empty());
     Ok(())
 }
 
+/// No reply, two replies, and the end.
+fn is_answered(rt: &impl Abort, talk: &mut Talk) -> Result<(), Fail> {
+    talk.answers(rt, Answer::NoReply)?;
+    talk.says(rt, "")?;
+    talk.replies(rt, FIRST)?;
+    talk.replies(rt, SECOND)?;
+    assert!(rt; !talk.connection.is_shut());
+    talk.answers(rt, Answer::Shut)?;
+    assert!(rt; talk.connection.is_shut());
+    talk.says(rt, "00000005 00000009 'a 00000005 00000009 'b")
+}
+
 /// What is untaken stays, also where the tenant shuts the connection.
 #[test]
 fn tenant_answers(rt: HostRuntime) -> Result<(), Fail> {
     let mut talk = Talk::bound(&rt, rt.alloc())?;
-    talk.answers(&rt, Answer::NoReply)?;
-    talk.says(&rt, "")?;
-    talk.replies(&rt, FIRST)?;
-    talk.replies(&rt, SECOND)?;
-    assert!(rt; !talk.connection.is_shut());
-    talk.answers(&rt, Answer::Shut)?;
-    assert!(rt; talk.connection.is_shut());
-    talk.says(&rt, "00000005 00000009 'a 00000005 00000009 'b")
+    is_answered(&rt, &mut talk)
+}
+
+/// A wait that another request finds, and that its answer ends.
+fn waits(rt: &impl Abort, talk: &mut Talk) -> Result<(), Fail> {
+    assert!(rt; talk.connection.waiting().is_none());
+    talk.parks(rt)?;
+    talk.connection.feed(&bytes(rt, talk.alloc, METADATA)?)?;
+    talk.is_parked(rt);
+    talk.connection.wake(Answer::NoReply)?;
+    talk.is_parked(rt);
+    let reply = bytes(rt, talk.alloc, FIRST)?;
+    talk.connection.wake(Answer::Reply(reply))?;
+    assert!(rt; talk.connection.waiting().is_none());
+    assert!(rt; talk.connection.can_turn());
+    talk.says(rt, FIRST)
 }
 
 /// Another request that comes meanwhile has to wait too.
 #[test]
 fn fetch_waits_and_is_woken(rt: HostRuntime) -> Result<(), Fail> {
     let mut talk = Talk::bound(&rt, rt.alloc())?;
-    assert!(rt; talk.connection.waiting().is_none());
-    talk.parks(&rt)?;
-    talk.connection.feed(&bytes(&rt, rt.alloc(), METADATA)?)?;
-    talk.is_parked(&rt);
-    talk.connection.wake(Answer::NoReply)?;
-    talk.is_parked(&rt);
-    let reply = bytes(&rt, rt.alloc(), FIRST)?;
-    talk.connection.wake(Answer::Reply(reply))?;
-    assert!(rt; talk.connection.waiting().is_none());
-    assert!(rt; talk.connection.can_turn());
-    talk.says(&rt, FIRST)
+    waits(&rt, &mut talk)
 }
 
-#[test]
-fn shut_connection_waits_no_longer(rt: HostRuntime) -> Result<(), Fail> {
-    let mut talk = Talk::bound(&rt, rt.alloc())?;
-    talk.parks(&rt)?;
+/// A wait that the end of the connection ends.
+fn waits_and_is_shut(rt: &impl Abort, talk: &mut Talk) -> Result<(), Fail> {
+    talk.parks(rt)?;
     talk.connection.wake(Answer::Shut)?;
     assert!(rt; talk.connection.is_shut());
     assert!(rt; talk.connection.waiting().is_none());
@@ -257,9 +272,15 @@ fn shut_connection_waits_no_longer(rt: HostRuntime) -> Result<(), Fail> {
 }
 
 #[test]
+fn shut_connection_waits_no_longer(rt: HostRuntime) -> Result<(), Fail> {
+    let mut talk = Talk::bound(&rt, rt.alloc())?;
+    waits_and_is_shut(&rt, &mut talk)
+}
+
+#[test]
 fn logins(rt: HostRuntime) -> Result<(), Fail> {
     let setup = setup(&rt, rt.alloc())?;
-    assert_eq!(rt; setup.login(b"u\0u\0p"), Some(3));
-    assert_eq!(rt; setup.login(b"\0u\0"), None);
+    assert!(rt; setup.login(b"u\0u\0p") == Some(3));
+    assert!(rt; setup.login(b"\0u\0").is_none());
     Ok(())
 }

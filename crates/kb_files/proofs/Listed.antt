@@ -1,0 +1,17 @@
+-- The one file that a store lists is there.
+use Rattle.std.proofs.Common.{◌≡◌, ◌∙◌, ℕ, true, nat_eq, List, [], ◌∷◌, IsSome, refl, sym, ap, subst, true≢false}
+use Rattle.std.proofs.lemmas.Bool.{eqb-true}
+use Rattle.std.specs.Cmp.{first_so}
+use Rattle.std.specs.FinMap.{get, keys, contains_key-keys}
+use Rattle.std.specs.List.{list_any}
+use Rattle.std.specs.Ordering.{nat_cmp, eq_by_cmp}
+use Rattle.std.specs.Str.{bytes_eq}
+use Rattle.kb_store.specs.Disk.{Disk, IsThere, Keeps}
+
+has_first : (xs : List ℕ) → bytes_eq xs (0 ∷ []) ≡ true → list_any (eq_by_cmp nat_cmp 0) xs ≡ true
+has_first [] h = absurd (true≢false (sym h))
+has_first (x ∷ xs) h = subst (λ y. list_any (eq_by_cmp nat_cmp 0) (y ∷ xs) ≡ true) (sym (eqb-true x 0 (first_so (nat_eq x 0) (bytes_eq xs []) h))) refl
+
+pub alone_is_there : (old new : Disk) (numbers : List ℕ) → numbers ≡ keys old.table → Keeps old new → bytes_eq numbers (0 ∷ []) ≡ true → IsThere new 0
+alone_is_there old new numbers listed kept alone =
+    subst (λ t. IsSome (get t 0)) (sym kept.table) (contains_key-keys old.table 0 ∙ ap (list_any (eq_by_cmp nat_cmp 0)) (sym listed) ∙ has_first numbers alone)

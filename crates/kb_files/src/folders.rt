@@ -1,0 +1,102 @@
+//! A store over a folder of the system's: what was written is there when the folder is opened again.
+ghost use Rattle.std.specs.Prelude.{◌≡◌, true, IfOk};
+ghost use Rattle.kb_store.specs.Disk.{IsThere};
+
+use kb_folder::{FolderFault, FolderStore, HostFolder};
+use kb_log::{LogFault, Shelf};
+use kb_store::{Store, StoreFault, read_file};
+use std::alloc::Global;
+use std::fs;
+use std::process::Abort;
+use std::test::Fail;
+
+/// A name that is no file's of a log.
+const OTHER: &str = "00000000000000000000.old";
+
+/// The store over a folder of the system's.
+fn opened(
+    files: &HostRuntime,
+    path: &str,
+) -> Result<FolderStore<HostFolder<HostRuntime>>, FolderFault> {
+    FolderStore::new(files.alloc(), HostFolder::new(*files, path)?)
+}
+
+/// A file of two pieces, in a folder without files.
+#[tactic(auto, using(kb_store::proofs::Disks::is_there_put, kb_store::proofs::Disks::is_there_grown))]
+fn written<S: Store + Drop>(alloc: Global, store: S) -> Result<S, Fail> {
+    let mut shelf = Shelf::new(alloc, store, 0).ok().ok_or("a shelf")?;
+    let file = shelf.create()?;
+    shelf.append(file, b"first ")?;
+    shelf.append(file, b"second")?;
+    if file != 0 || shelf.failures() != 0 {
+        return Err("not the first file".into());
+    }
+    Ok(shelf.into_store())
+}
+
+/// Whether 0 is the only file.
+#[tactic(auto, using(crate::proofs::Listed::alone_is_there))]
+fn is_alone<S: Store>(alloc: Global, store: &mut S) -> Result<bool, StoreFault>
+    ensures { IfOk result (λ yes. yes ≡ true → IsThere (S.disk store.new) 0) }
+{
+    Ok(store.list(alloc)?.as_slice() == [0].as_slice())
+}
+
+/// Whether there is no file but 0, and that has those bytes.
+fn has<S: Store>(alloc: Global, store: &mut S, bytes: &[u8]) -> Result<bool, StoreFault> {
+    Ok(is_alone(alloc, store)? && read_file(alloc, store, 0)?.as_slice() == bytes)
+}
+
+/// Cuts the file 0, which is the only one.
+fn cut<S: Store>(alloc: Global, store: &mut S, len: u64) -> Result<(), Fail> {
+    if !is_alone(alloc, store)? || store.len(0)? < len {
+        return Err("another file".into());
+    }
+    Ok(store.cut(0, len)?)
+}
+
+/// Takes the file 0 away, which is the only one.
+fn remove<S: Store>(alloc: Global, store: &mut S) -> Result<(), Fail> {
+    if !is_alone(alloc, store)? {
+        return Err("another file".into());
+    }
+    Ok(store.remove(0)?)
+}
+
+/// Each store is over the folder as the one before left it.
+fn is_kept(files: &HostRuntime, rt: &impl Abort, path: &str, other: &str) -> Result<(), Fail> {
+    let alloc = files.alloc();
+    drop(written(alloc, opened(files, path)?)?);
+    fs::write(files, other, "not a log's")?;
+    assert!(rt; has(alloc, &mut opened(files, path)?, b"first second")?);
+    cut(alloc, &mut opened(files, path)?, 5)?;
+    assert!(rt; has(alloc, &mut opened(files, path)?, b"first")?);
+    remove(alloc, &mut opened(files, path)?)?;
+    assert!(rt; opened(files, path)?.list(alloc)?.is_empty());
+    assert!(rt; fs::read(files, other)?.as_slice() == b"not a log's".as_slice());
+    Ok(())
+}
+
+#[test]
+fn a_folder_is_what_it_was(rt: HostRuntime) -> Result<(), Fail> {
+    let path = folder_of_its_own(&rt)?;
+    let mut other = path.clone()?;
+    other.push('/')?;
+    other.push_str(OTHER)?;
+    is_kept(&rt, &rt, path.as_str(), other.as_str())?;
+    fs::remove_file(&rt, other.as_str())?;
+    fs::remove_dir(&rt, path.as_str())?;
+    Ok(())
+}
+
+/// The path of a new folder among the temporary ones.
+fn folder_of_its_own(files: &HostRuntime) -> Result<String, Fail> {
+    let parent = std::env::temp_dir(files)?;
+    for number in 0..1000u16 {
+        let path = format!(in files.alloc(); "{}/kb-files-{number}", parent.as_str())?;
+        if fs::create_dir(files, path.as_str()).is_ok() {
+            return Ok(path);
+        }
+    }
+    Err("no folder".into())
+}

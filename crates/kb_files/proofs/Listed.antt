@@ -1,5 +1,5 @@
--- The one file that a store lists is there.
-use Rattle.std.proofs.Common.{◌≡◌, ◌∙◌, ℕ, true, nat_eq, List, [], ◌∷◌, IsSome, refl, sym, ap, subst, true≢false}
+-- The one file that a store lists is there; where it lists none, none is.
+use Rattle.std.proofs.Common.{◌≡◌, ◌∙◌, ℕ, true, false, nat_eq, List, [], ◌∷◌, Option, Some, None, is_some, IsSome, refl, sym, ap, subst, true≢false}
 use Rattle.std.proofs.lemmas.Bool.{eqb-true}
 use Rattle.std.specs.Cmp.{first_so}
 use Rattle.std.specs.FinMap.{get, keys, contains_key-keys}
@@ -15,3 +15,15 @@ has_first (x ∷ xs) h = subst (λ y. list_any (eq_by_cmp nat_cmp 0) (y ∷ xs) 
 pub alone_is_there : (old new : Disk) (numbers : List ℕ) → numbers ≡ keys old.table → Keeps old new → bytes_eq numbers (0 ∷ []) ≡ true → IsThere new 0
 alone_is_there old new numbers listed kept alone =
     subst (λ t. IsSome (get t 0)) (sym kept.table) (contains_key-keys old.table 0 ∙ ap (list_any (eq_by_cmp nat_cmp 0)) (sym listed) ∙ has_first numbers alone)
+
+none_in : {X : Type 0} → (o : Option X) → is_some o ≡ false → o ≡ None
+none_in None h = refl
+none_in (Some x) h = absurd (true≢false h)
+
+none_of : (xs : List ℕ) → bytes_eq xs [] ≡ true → list_any (eq_by_cmp nat_cmp 0) xs ≡ false
+none_of [] h = refl
+none_of (x ∷ xs) h = absurd (true≢false (sym h))
+
+pub none_listed : (old new : Disk) (numbers : List ℕ) → numbers ≡ keys old.table → Keeps old new → bytes_eq numbers [] ≡ true → get new.table 0 ≡ None
+none_listed old new numbers listed kept none =
+    none_in (get new.table 0) (ap (λ t. is_some (get t 0)) kept.table ∙ contains_key-keys old.table 0 ∙ ap (list_any (eq_by_cmp nat_cmp 0)) (sym listed) ∙ none_of numbers none)

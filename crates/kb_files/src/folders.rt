@@ -2,6 +2,7 @@
 ghost use Rattle.std.specs.Prelude.{◌≡◌, true, IfOk};
 ghost use Rattle.kb_store.specs.Disk.{IsThere};
 
+use crate::begun::is_alone;
 use kb_folder::{FolderFault, FolderStore, HostFolder};
 use kb_log::{LogFault, Shelf};
 use kb_store::{Store, StoreFault, read_file};
@@ -32,14 +33,6 @@ fn written<S: Store + Drop>(alloc: Global, store: S) -> Result<S, Fail> {
         return Err("not the first file".into());
     }
     Ok(shelf.into_store())
-}
-
-/// Whether 0 is the only file.
-#[tactic(auto, using(crate::proofs::Listed::alone_is_there))]
-fn is_alone<S: Store>(alloc: Global, store: &mut S) -> Result<bool, StoreFault>
-    ensures { IfOk result (λ yes. yes ≡ true → IsThere (S.disk store.new) 0) }
-{
-    Ok(store.list(alloc)?.as_slice() == [0].as_slice())
 }
 
 /// Whether there is no file but 0, and that has those bytes.

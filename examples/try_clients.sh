@@ -1,8 +1,8 @@
 #!/bin/sh
 # A session of stock clients with a broker of three tenants: try_clients.sh [KBROKER]
 #
-# It serves tenants.toml at localhost:19092 with the proved program (crates/kbroker/out/kbroker, or the one that is named), lets a
-# producer and a consumer in Python and kcat speak to it, compares what they print, and ends the broker. It needs Python's
+# It serves tenants.toml at localhost:19092 with the proved program (crates/kbroker/out/kbroker, or the one that is named), makes
+# topics with it, lets a producer and a consumer in Python and kcat speak to it, compares what they print, and ends the broker. It needs Python's
 # confluent_kafka (Debian: python3-confluent-kafka) and kcat.
 set -u
 kbroker=$(realpath "${1:-$(dirname "$0")/../crates/kbroker/out/kbroker}")
@@ -17,8 +17,13 @@ if [ "$python" = none ] || ! command -v kcat >/dev/null; then
     exit 2
 fi
 
-# Each with USER PASSWORD first.
-make() { timeout 60 "$python" create_topic.py localhost 19092 "$1" "$2" orders; }
+# Each with USER PASSWORD first, `topic` behind its verb.
+topic() {
+    verb=$1 user=$2 password=$3
+    shift 3
+    timeout 60 "$kbroker" topic "$verb" --broker localhost:19092 --user "$user" --password "$password" "$@"
+}
+make() { topic create "$1" "$2" orders; }
 write() { printf "$3" | timeout 60 "$python" producer.py localhost:19092 "$1" "$2" orders; }
 read_all() { timeout 60 "$python" consumer.py localhost:19092 "$1" "$2" orders; }
 with_kcat() {
@@ -58,7 +63,7 @@ if ! grep -q listening "$said"; then
 fi
 
 expect "ann makes a topic" "made orders, partitions: 1" make ann pw1
-expect "amir of the same tenant cannot make it again" "create_topic: TOPIC_ALREADY_EXISTS" make amir pw2
+expect "amir of the same tenant cannot make it again" "kbroker: TOPIC_ALREADY_EXISTS" make amir pw2
 expect "bob of another tenant makes his own" "made orders, partitions: 1" make bob pw3
 expect "ann writes" "3 sent" write ann pw1 'one\ntwo\nthree\n'
 expect "bob writes" "1 sent" write bob pw3 'uno\n'
@@ -67,6 +72,10 @@ expect "bob reads what he wrote" "0 uno" read_all bob pw3
 expect "cleo of the third tenant has no such topic" "consumer: Broker: Unknown topic or partition" read_all cleo pw4
 expect "kcat writes as ann" "" write_with_kcat ann pw1 four
 expect "kcat reads all of it" 'one\ntwo\nthree\nfour' with_kcat ann pw1 -C -t orders -o beginning -e
+expect "amir lists it" "orders 1" topic list amir pw2
+expect "ann deletes it" "deleted orders" topic delete ann pw1 orders
+expect "it is gone" "kbroker: UNKNOWN_TOPIC_OR_PARTITION" topic delete ann pw1 orders
+expect "bob's is there" "orders 1" topic list bob pw3
 
 if [ "$faults" -ne 0 ]; then
     echo "$faults not as expected"

@@ -2,22 +2,25 @@
 //!
 //! `kbroker script` runs a script of events from standard input and writes what each connection gets to standard output.
 //! `kbroker serve` listens on the address of its settings and serves sockets until it is stopped. `kbroker check` says what
-//! settings come to. Status 0 is done, 1 a fault with one line on standard error, 2 a fault of the command line with its usage.
+//! settings come to. `kbroker topic` makes, deletes and lists topics of a broker that runs. Status 0 is done, 1 a fault with one line on standard error, 2 a fault of the command line with its usage.
 #![tactic(auto)]
 
 mod check;
 mod journal;
 mod serve;
+mod topic;
 mod words;
 
 use clap::error::ErrorKind;
 use clap::{Arg, ArgAction, ArgMatches, Command};
+use kb_admin::AdminFault;
 use kb_node::{NodeFault, Settings, StartFault, play_script, play_script_with, read_settings};
-use std::alloc::{AllocError, Global};
+use std::alloc::{AllocError, AllocFailed, Global};
 use std::io::{BufReader, BufWriter};
 use std::process::ExitCode;
 use std::{fs, io};
 use thiserror::Error;
+use topic::TopicFault;
 
 /// Why the program ends early.
 #[derive(Debug, Drop, Error)]
@@ -29,10 +32,18 @@ enum Fault {
     Start(StartFault),
     #[error("{0}")]
     Node(NodeFault),
+    #[error("kbroker: {0}")]
+    Topic(TopicFault),
 }
 
 impl From<AllocError> for Fault {
     fn from(_e: AllocError) -> Fault {
+        Fault::Node(NodeFault::Memory)
+    }
+}
+
+impl<T: Drop> From<AllocFailed<T>> for Fault {
+    fn from(_e: AllocFailed<T>) -> Fault {
         Fault::Node(NodeFault::Memory)
     }
 }
@@ -46,6 +57,15 @@ impl From<StartFault> for Fault {
 impl From<NodeFault> for Fault {
     fn from(e: NodeFault) -> Fault {
         Fault::Node(e)
+    }
+}
+
+impl From<AdminFault> for Fault {
+    fn from(e: AdminFault) -> Fault {
+        match e {
+            AdminFault::Memory => Fault::Node(NodeFault::Memory),
+            AdminFault::Refused(_) | AdminFault::Protocol => Fault::Topic(TopicFault::Admin(e)),
+        }
     }
 }
 
@@ -85,7 +105,8 @@ fn command<'a>(alloc: Global) -> Result<Command<'a>, AllocError> {
         .subcommand_required(true)
         .subcommand(script)?
         .subcommand(serve)?
-        .subcommand(check)
+        .subcommand(check)?
+        .subcommand(topic::topic_command(alloc)?)
 }
 
 /// The file of the settings.
@@ -104,6 +125,7 @@ fn run(rt: &HostRuntime) -> Result<(), Fault> {
     match matches.subcommand() {
         Some(("serve", found)) => serve::serve(rt, found),
         Some(("check", found)) => check::check(rt, found),
+        Some(("topic", found)) => topic::topic(rt, found),
         Some((_, found)) => script(rt, found.get_str("config")),
         // A subcommand is asked for: no other line is taken.
         None => Ok(()),

@@ -162,6 +162,14 @@ ticked clock e = record { id = e.id; group = (tick clock e.group).group }
 abbrev pub at_moment : ℕ → Groups → Groups
 at_moment clock gs = record gs { groups = map (ticked clock) gs.groups; released = flat_map (λ e. (tick clock e.group).released) gs.groups }
 
+-- Whether a session ends or a deadline comes by that moment.
+abbrev pub is_due : ℕ → Groups → Bool
+is_due clock gs = nat_le (earliest gs.groups) clock
+
+-- A moment, if anything is due by then; else nothing happens.
+abbrev pub passed : ℕ → Groups → Groups
+passed clock gs = if is_due clock gs then at_moment clock gs else gs
+
 -- The groups after a moment that only those had that are marked; the others were refused memory, and are as they were.
 unfoldable pub some_ticked : ℕ → List Bool → List Entry → List Entry
 some_ticked clock [] es = []

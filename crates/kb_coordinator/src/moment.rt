@@ -1,10 +1,10 @@
 //! Moments, and connections that end.
-ghost use Rattle.std.specs.Prelude.{◌≡◌, ◌≤◌, ◌++◌, OnErr, OnOk, [], if◌then◌else◌, map, min, nat_eq, option_copied};
+ghost use Rattle.std.specs.Prelude.{◌≡◌, ◌≤◌, ◌++◌, OnErr, OnOk, IfNone, IfSome, [], false, if◌then◌else◌, map, min, nat_eq, option_copied};
 ghost use Rattle.std.specs.List.{flat_map};
 ghost use Rattle.kb_groups.specs.Moments as due;
 ghost use Rattle.kb_groups.specs.Moments.{tick};
 ghost use Rattle.kb_coordinator.specs.Groups.{earliest};
-ghost use Rattle.kb_coordinator.specs.Calls.{Ticks, at_moment, hung_up, left, next_due, reply_among, reply_to, ticked};
+ghost use Rattle.kb_coordinator.specs.Calls.{Ticks, at_moment, hung_up, is_due, left, next_due, passed, reply_among, reply_to, ticked};
 
 use crate::coordinator::Coordinator;
 use crate::groups::Entry;
@@ -148,6 +148,35 @@ impl Coordinator {
         let refused = tick_each(self.alloc, &mut self.groups, clock, &mut self.released);
         self.quiet_until = quiet_until(&self.groups);
         refused
+    }
+
+    /// Before this moment, in milliseconds, no session of a group ends and no deadline comes. It costs constant time.
+    pub fn quiet_until(&self) -> u64
+        ensures { result ≤ earliest self.now.groups }
+    {
+        self.quiet_until
+    }
+
+    /// A moment, if a session ends or a deadline comes by then: as `at_moment`. `None`: nothing is due, and nothing has changed, not
+    /// even the last replies. Else it gives how many groups were refused memory: these are as they were, until the next moment.
+    ///
+    /// Before `quiet_until` it costs constant time; else it looks at the members of groups whose sessions may have ended.
+    pub fn pass(&mut self, clock: u64) -> Option<usize>
+        requires { clock ≤ 4611686018427387904 }
+        ensures none { IfNone result ((is_due clock self.old ≡ false) × (self.new ≡ self.old)) }
+        ensures all { IfSome result (λ refused. refused ≡ 0 → self.new ≡ passed clock self.old) }
+        ensures groups { IfSome result (λ refused. Ticks clock self.old.groups self.new.groups self.new.released refused) }
+        ensures members { self.new.members ≡ self.old.members }
+    {
+        if clock < self.quiet_until {
+            return None;
+        }
+        let earliest = earliest(&self.groups);
+        if clock < earliest {
+            self.quiet_until = earliest;
+            return None;
+        }
+        Some(self.at_moment(clock))
     }
 
     /// The next moment at which a session ends or a deadline comes, if there is one.

@@ -1,15 +1,17 @@
 -- A fetch that has no answer before and after a change waits for the same places.
-use Rattle.std.proofs.Common.{◌≡◌, ◌∙◌, ℕ, ℤ, List, [], ◌∷◌, ◌++◌, Some, None, refl, sym, subst, ap, arith}
-use Rattle.std.specs.List.{AllByRecursion, Contains, flat_map}
+use Rattle.std.proofs.Common.{◌≡◌, ◌∙◌, ℕ, ℤ, List, [], ◌∷◌, ◌++◌, Option, Some, None, refl, sym, subst, ap}
+use Rattle.std.specs.List.{AllByRecursion, flat_map}
 use Rattle.kb_api_data.specs.declared.fetch.FetchPartition.{FetchPartition}
 use Rattle.kb_api_data.specs.declared.fetch.FetchTopic.{FetchTopic}
 use Rattle.kb_api_data.specs.declared.fetch.FetchRequest.{FetchRequest}
+use Rattle.kb_api_group.specs.declared.offset_commit.OffsetCommitRequest.{OffsetCommitRequest}
 use Rattle.kb_topics.specs.Known.{named}
 use Rattle.kb_world.specs.Calls.{all_places, at_clock, retain, retain_all, retain_each}
 use Rattle.kb_world.specs.Tied.{IsTied}
 use Rattle.kb_world.specs.World.{World, new_world}
 use Rattle.kb_world.specs.declared.place.Place.{Place}
 use Rattle.kb_tenant.specs.Fetch.{fetch_answer, places_in, places_of}
+use Rattle.kb_tenant.specs.OffsetCommit.{committed_all, refusal_of}
 use Rattle.kb_tenant.specs.Serve.{Outcome, of_produce, of_offset_commit, of_create_topics, of_delete_topics, of_init_producer_id, served}
 use Rattle.kb_tenant.specs.Waiting.{AreNamedApart, HasOwnNames}
 use Rattle.kb_tenant.specs.declared.node.Node.{Node}
@@ -20,7 +22,7 @@ use Rattle.kb_tenant.proofs.CreateMoves.{create_moves}
 use Rattle.kb_tenant.proofs.Losing.{create_apart, delete_loses, produce_loses}
 use Rattle.kb_tenant.proofs.Moves.{Moves, waits_through}
 use Rattle.kb_tenant.proofs.RetainMoves.{retain_alike}
-use Rattle.kb_tenant.proofs.ServeMoves.{init_moves, init_topics}
+use Rattle.kb_tenant.proofs.ServeMoves.{committed_waits, init_moves, init_topics, nowhere}
 
 -- ---- places are found by name
 
@@ -62,9 +64,6 @@ module _ (w v : World) where
 -- a change that tells no place
 untold : (w v : World) → Moves [] [] w v → IsTied w → (r : FetchRequest) (deadline : ℕ) → fetch_answer w r deadline ≡ None → places_of v r ≡ places_of w r
 untold w v moves tied r deadline waits = (waits_through [] w v moves tied r deadline waits (λ place asked none. nowhere place none)).1
-  where
-    nowhere : (place : Place) → Contains [] place → ⊥
-    nowhere place c = omega (arith, c.1)
 
 pub served_again : (node : Node) (w : World) (n : ℕ) (key version : ℤ) (body : List ℕ) (r : FetchRequest) (deadline : ℕ) → IsTied w → HasOwnNames w → fetch_answer w r deadline ≡ None
     → fetch_answer (served node w n key version body).world r deadline ≡ None → places_of (served node w n key version body).world r ≡ places_of w r
@@ -74,7 +73,7 @@ served_again node w n key version body r deadline tied own waits =
       fetch = λ q read after. refl;
       list_offsets = λ q read after. refl;
       metadata = λ q read after. refl;
-      offset_commit = λ q read after. untold w (of_offset_commit w q).world (commit_moves w q) tied r deadline waits;
+      offset_commit = λ q read after. untold w (of_offset_commit w q).world (commit_moves w (refusal_of q.group_id q.generation_id) q) tied r deadline waits;
       offset_fetch = λ q read after. refl;
       find_coordinator = λ q read after. refl;
       create_topics = λ q read after. untold w (of_create_topics w q).world (create_moves w q) tied r deadline waits;
@@ -83,6 +82,11 @@ served_again node w n key version body r deadline tied own waits =
       shut = λ after. refl;
     })
 
+-- the same after each commit
+pub committed_again : (w : World) (refusal : Option ℤ) (q : OffsetCommitRequest) (r : FetchRequest) (deadline : ℕ) → IsTied w → HasOwnNames w → fetch_answer w r deadline ≡ None
+    → fetch_answer (committed_all w refusal q).0 r deadline ≡ None → places_of (committed_all w refusal q).0 r ≡ places_of w r
+committed_again w refusal q r deadline tied own waits after = (committed_waits w refusal q r deadline tied waits).1
+
 -- the names of topics stay apart
 pub served_names : (node : Node) (w : World) (n : ℕ) (key version : ℤ) (body : List ℕ) → HasOwnNames w → HasOwnNames (served node w n key version body).world
 served_names node w n key version body own = by_request (λ (o : Outcome). HasOwnNames o.world) node w n key version body (record {
@@ -90,7 +94,7 @@ served_names node w n key version body own = by_request (λ (o : Outcome). HasOw
   fetch = λ q read. own;
   list_offsets = λ q read. own;
   metadata = λ q read. own;
-  offset_commit = λ q read. commit_names w q own;
+  offset_commit = λ q read. commit_names w (refusal_of q.group_id q.generation_id) q own;
   offset_fetch = λ q read. own;
   find_coordinator = λ q read. own;
   create_topics = λ q read. create_apart w q own;

@@ -8,10 +8,10 @@ use Rattle.kb_topics.specs.Refusals.{commit_refusal}
 use Rattle.kb_topics.specs.declared.fault.CatalogFault.{CatalogFault}
 use Rattle.kb_world.specs.Calls.{committed_unless, known_at, with_committed}
 use Rattle.kb_partitions.specs.Logs.{log_at}
-use Rattle.kb_world.specs.Tied.{counted}
+use Rattle.kb_world.specs.Tied.{IsTied, counted}
 use Rattle.kb_world.specs.World.{World, place_in}
 use Rattle.kb_world.specs.declared.place.Place.{Place}
-use Rattle.kb_tenant.specs.OffsetCommit.{committed_all, committed_at, committed_entry, committed_topic, metadata_in, refusal_of}
+use Rattle.kb_tenant.specs.OffsetCommit.{committed_all, committed_at, committed_entry, committed_topic, metadata_in}
 use Rattle.kb_tenant.specs.Turns.{in_turn}
 use Rattle.kb_tenant.specs.Waiting.{HasOwnNames}
 use Rattle.kb_tenant.proofs.Moves.{Moves}
@@ -71,10 +71,8 @@ topic_commits refusal group w t =
     let topic = named t.name w.known.topics in
     turns_commit (committed_entry refusal group topic) (entry_commits refusal group topic) w t.partitions
 
-all_commits : (w : World) (r : OffsetCommitRequest) → Commits w (committed_all w r).0
-all_commits w r =
-    let refusal = refusal_of r.group_id r.generation_id in
-    turns_commit (committed_topic refusal r.group_id) (topic_commits refusal r.group_id) w r.topics
+all_commits : (w : World) (refusal : Option ℤ) (r : OffsetCommitRequest) → Commits w (committed_all w refusal r).0
+all_commits w refusal r = turns_commit (committed_topic refusal r.group_id) (topic_commits refusal r.group_id) w r.topics
 
 -- ---- the laws
 
@@ -92,11 +90,14 @@ moves_by w v c = record {
   };
 }
 
-pub commit_moves : (w : World) (r : OffsetCommitRequest) → Moves [] [] w (committed_all w r).0
-commit_moves w r = moves_by w (committed_all w r).0 (all_commits w r)
+pub commit_moves : (w : World) (refusal : Option ℤ) (r : OffsetCommitRequest) → Moves [] [] w (committed_all w refusal r).0
+commit_moves w refusal r = moves_by w (committed_all w refusal r).0 (all_commits w refusal r)
 
-pub commit_names : (w : World) (r : OffsetCommitRequest) → HasOwnNames w → HasOwnNames (committed_all w r).0
-commit_names w r = (all_commits w r).alike.apart
+pub commit_tied : (w : World) (refusal : Option ℤ) (r : OffsetCommitRequest) → IsTied w → IsTied (committed_all w refusal r).0
+commit_tied w refusal r = (commit_moves w refusal r).tied
 
-pub commit_logs : (w : World) (r : OffsetCommitRequest) → (committed_all w r).0.logs ≡ w.logs
-commit_logs w r = (all_commits w r).logs
+pub commit_names : (w : World) (refusal : Option ℤ) (r : OffsetCommitRequest) → HasOwnNames w → HasOwnNames (committed_all w refusal r).0
+commit_names w refusal r = (all_commits w refusal r).alike.apart
+
+pub commit_logs : (w : World) (refusal : Option ℤ) (r : OffsetCommitRequest) → (committed_all w refusal r).0.logs ≡ w.logs
+commit_logs w refusal r = (all_commits w refusal r).logs

@@ -19,7 +19,7 @@ use Rattle.kb_world.specs.Told.{IsCatalogWant, IsDone, Tells}
 use Rattle.kb_world.specs.World.{World, place_in}
 use Rattle.kb_world.specs.declared.place.Place.{Place}
 use Rattle.kb_tenant.specs.CreateTopics.{code_in}
-use Rattle.kb_tenant.specs.OffsetCommit.{committed, committed_all, committed_at, committed_entry, committed_topic, metadata_in, refusal_of}
+use Rattle.kb_tenant.specs.OffsetCommit.{committed, committed_all, committed_at, committed_entry, committed_topic, metadata_in}
 use Rattle.kb_tenant.specs.Produce.{written_next}
 use Rattle.kb_tenant.specs.Told.{IsFaultOf, IsTold}
 use Rattle.kb_tenant.specs.Turns.{in_turn, written_behind}
@@ -136,19 +136,18 @@ topic_told refusal group topic w t name entries n out out1 out2 result name_is e
 
 -- the reply is its count and its topics' answers
 pub all_told : (q : OffsetCommitRequest) (w v : World) (refusal : Option ℤ) (group : List ℕ) (topics : List CommitTopic) (n : ℕ) (out out1 out2 : List ℕ)
-    → refusal ≡ refusal_of q.group_id q.generation_id → group ≡ q.group_id → topics ≡ q.topics → n ≡ length q.topics → out1 ≡ out ++ (count w32).written n
+    → group ≡ q.group_id → topics ≡ q.topics → n ≡ length q.topics → out1 ≡ out ++ (count w32).written n
     → (v, out2) ≡ written_behind commit_topic_reply.written out1 (in_turn (committed_topic refusal group) w topics)
-    → (v ≡ (committed_all w q).0) × (out2 ≡ out ++ offset_commit_reply.written (committed_all w q).1)
+    → (v ≡ (committed_all w refusal q).0) × (out2 ≡ out ++ offset_commit_reply.written (committed_all w refusal q).1)
 unfolding offset_commit_reply
-all_told q w v refusal group topics n out out1 out2 refusal_is group_is topics_are many first told =
+all_told q w v refusal group topics n out out1 out2 group_is topics_are many first told =
     let write = commit_topic_reply.written in
-    let f = committed_topic (refusal_of q.group_id q.generation_id) q.group_id in
+    let f = committed_topic refusal q.group_id in
     let r = in_turn f w q.topics in
     let all : (v, out2) ≡ (r.0, out1 ++ flat_map write r.1) =
     told
     ∙ ap (λ ts. written_behind write out1 (in_turn (committed_topic refusal group) w ts)) topics_are
-    ∙ ap (λ g. written_behind write out1 (in_turn (committed_topic refusal g) w q.topics)) group_is
-    ∙ ap (λ (o : Option ℤ). written_behind write out1 (in_turn (committed_topic o q.group_id) w q.topics)) refusal_is in
+    ∙ ap (λ g. written_behind write out1 (in_turn (committed_topic refusal g) w q.topics)) group_is in
     let last : out2 ≡ out1 ++ flat_map write r.1 = ap (λ (x : World × List ℕ). x.1) all in (
       ap (λ (x : World × List ℕ). x.0) all,
       written_both out out1 out2 ((count w32).written n) (flat_map write r.1) first last

@@ -6,6 +6,7 @@ use Rattle.kb_api_data.specs.declared.init_producer_id.InitProducerIdRequest.{In
 use Rattle.kb_api_data.specs.declared.fetch.FetchRequest.{FetchRequest}
 use Rattle.kb_api_group.specs.ErrorCode.{code_of as code}
 use Rattle.kb_api_group.specs.declared.error_code.ErrorCode.TheVariants as codes
+use Rattle.kb_api_group.specs.declared.offset_commit.OffsetCommitRequest.{OffsetCommitRequest}
 use Rattle.kb_topics.specs.Refusals.{issue_refusal}
 use Rattle.kb_topics.specs.declared.fault.CatalogFault.{CatalogFault}
 use Rattle.kb_world.specs.Calls.{issue, issued_unless, retain}
@@ -14,6 +15,7 @@ use Rattle.kb_world.specs.World.{World}
 use Rattle.kb_world.specs.declared.place.Place.{Place}
 use Rattle.kb_tenant.specs.Fetch.{fetch_answer, places_of}
 use Rattle.kb_tenant.specs.InitProducerId.{id_given, id_refused, init_producer_id}
+use Rattle.kb_tenant.specs.OffsetCommit.{committed_all, refusal_of}
 use Rattle.kb_tenant.specs.Serve.{Outcome, served}
 use Rattle.kb_tenant.specs.Waiting.{AreApart, StillWaits}
 use Rattle.kb_tenant.specs.declared.node.Node.{Node}
@@ -72,7 +74,7 @@ serve_leaves node w n key version body = by_request (Leaves w) node w n key vers
   fetch = λ r read. stays_same w [];
   list_offsets = λ r read. stays_same w [];
   metadata = λ r read. stays_same w [];
-  offset_commit = λ r read. commit_moves w r;
+  offset_commit = λ r read. commit_moves w (refusal_of r.group_id r.generation_id) r;
   offset_fetch = λ r read. stays_same w [];
   find_coordinator = λ r read. stays_same w [];
   create_topics = λ r read. create_moves w r;
@@ -82,6 +84,10 @@ serve_leaves node w n key version body = by_request (Leaves w) node w n key vers
 })
 
 -- ---- the laws
+
+-- no place is among none
+pub nowhere : (place : Place) → Contains [] place → ⊥
+nowhere place c = omega (arith, c.1)
 
 -- a request keeps a world tied
 pub served_tied : (node : Node) (w : World) (n : ℕ) (key version : ℤ) (body : List ℕ) → IsTied w → IsTied (served node w n key version body).world
@@ -93,6 +99,11 @@ pub served_waits : (node : Node) (w : World) (n : ℕ) (key version : ℤ) (body
 served_waits node w n key version body r deadline tied waits none =
     let o = served node w n key version body in
     waits_through o.touched w o.world (serve_leaves node w n key version body) tied r deadline waits none
+
+-- it waits on through each commit
+pub committed_waits : (w : World) (refusal : Option ℤ) (q : OffsetCommitRequest) (r : FetchRequest) (deadline : ℕ) → IsTied w → fetch_answer w r deadline ≡ None → StillWaits w (committed_all w refusal q).0 r deadline
+committed_waits w refusal q r deadline tied waits =
+    waits_through [] w (committed_all w refusal q).0 (commit_moves w refusal q) tied r deadline waits (λ place asked none. nowhere place none)
 
 -- the same for retention
 pub retained_tied : (w : World) (place : Place) → IsTied w → IsTied (retain w place).0

@@ -25,6 +25,7 @@ use Rattle.kb_api_data.specs.declared.init_producer_id.InitProducerIdReply.{Init
 use Rattle.kb_api_group.specs.ErrorCode.{code_of as code}
 use Rattle.kb_api_group.specs.declared.error_code.ErrorCode.{ErrorCode}
 use Rattle.kb_api_group.specs.declared.error_code.ErrorCode.TheVariants as codes
+use Rattle.kb_api_group.specs.declared.offset_commit.OffsetCommitRequest.{OffsetCommitRequest}
 use Rattle.kb_producers.specs.declared.verdict.Verdict.{Verdict}
 use Rattle.kb_producers.specs.declared.verdict.Verdict.TheVariants.{Append, Repeat, Refuse}
 use Rattle.kb_topics.specs.Known.{Known, named, step}
@@ -42,6 +43,7 @@ use Rattle.kb_tenant.specs.CreateTopics.{created_all, created_topic, made_unless
 use Rattle.kb_tenant.specs.DeleteTopics.{deleted_all, deleted_topic}
 use Rattle.kb_tenant.specs.InitProducerId.{id_given, id_refused, init_producer_id}
 use Rattle.kb_tenant.specs.Produce.{Progress, appended_at, decided, known_place, offered_unless, produced, progress, read_unless, refusal_of, served, served_topic, tried, verdict_on}
+use Rattle.kb_tenant.specs.OffsetCommit.{committed_all, refusal_of as commit_refusal}
 use Rattle.kb_tenant.specs.Serve.{Outcome, served as served_by_key}
 use Rattle.kb_tenant.specs.Turns.{in_turn}
 use Rattle.kb_tenant.specs.declared.node.Node.{Node}
@@ -239,6 +241,11 @@ given_keeps w (Some id) all = all
 init_keeps : (w : World) (r : InitProducerIdRequest) → Keeps w (init_producer_id w r).0
 init_keeps w r = given_keeps w r.transactional_id
 
+-- ---- OffsetCommit
+
+commit_keeps : (w : World) (refusal : Option ℤ) (r : OffsetCommitRequest) → Keeps w (committed_all w refusal r).0
+commit_keeps w refusal r all = subst AreAllSmall (sym (commit_logs w refusal r)) all
+
 -- ---- retention
 
 below_small : (i p : ℕ) (start : ℤ) (ls : Logs) (o : Option LogState) → log_at i p ls ≡ o → AreAllSmall ls → AreAllSmall (without_below i p start o ls)
@@ -274,13 +281,16 @@ clock_small w now small = small
 pub retained_small : (w : World) (place : Place) → HasSmallLogs w → HasSmallLogs (retain w place).0
 retained_small w place small = out_of (retain w place).0 (due_keeps w place (due w place) (into w small))
 
+pub committed_small : (w : World) (refusal : Option ℤ) (r : OffsetCommitRequest) → HasSmallLogs w → HasSmallLogs (committed_all w refusal r).0
+committed_small w refusal r small = out_of (committed_all w refusal r).0 (commit_keeps w refusal r (into w small))
+
 pub served_small : (node : Node) (w : World) (n : ℕ) (key version : ℤ) (body : List ℕ) → HasSmallLogs w → HasSmallLogs (served_by_key node w n key version body).world
 served_small node w n key version body small = out_of (served_by_key node w n key version body).world (by_request (λ (o : Outcome). Keeps w o.world) node w n key version body (record {
   produce = λ r read. produce_keeps w r;
   fetch = λ r read all. all;
   list_offsets = λ r read all. all;
   metadata = λ r read all. all;
-  offset_commit = λ r read all. subst AreAllSmall (sym (commit_logs w r)) all;
+  offset_commit = λ r read. commit_keeps w (commit_refusal r.group_id r.generation_id) r;
   offset_fetch = λ r read all. all;
   find_coordinator = λ r read all. all;
   create_topics = λ r read. create_keeps w r;

@@ -3,7 +3,6 @@ pub mod CreateTopics
 pub mod DeleteTopics
 pub mod Fetch
 pub mod FindCoordinator
-pub mod Hosted
 pub mod InitProducerId
 pub mod ListOffsets
 pub mod Metadata

@@ -1,5 +1,6 @@
 -- OffsetCommit (Kafka protocol guide, "The Messages: OffsetCommit", version 2): a group records how far it has processed partitions.
--- No group has members yet: only a consumer that chooses its partitions itself commits, and it names a generation below 0.
+-- Whether all entries of a request are refused is a parameter of `committed_all`. This crate's own `served` is that of a tenant whose
+-- groups have no members: there only a consumer that chooses its partitions itself commits, and it names a generation below 0.
 use Rattle.std.specs.Prelude.{ℕ, ℤ, pos, List, [], length, Option, Some, None, int_lt, ◌==◌, if◌then◌else◌}
 use Rattle.kb_api_group.specs.ErrorCode.{code_of}
 use Rattle.kb_api_group.specs.declared.error_code.ErrorCode.TheVariants as codes
@@ -16,7 +17,7 @@ use Rattle.kb_world.specs.declared.place.Place.{Place}
 use Rattle.kb_tenant.specs.CreateTopics.{code_in}
 use Rattle.kb_tenant.specs.Turns.{in_turn}
 
--- what each entry is refused for: the group has no name, or a member of it commits, and it has none
+-- what each entry is refused for, where groups have no members: the group has no name, or a member of it commits, and it has none
 abbrev pub refusal_of : List ℕ → ℤ → Option ℤ
 refusal_of group generation =
     if length group == 0 then Some (code_of codes.InvalidGroupId)
@@ -52,6 +53,6 @@ answered_topic name r = (r.0, record { name = name; partitions = r.1 })
 abbrev pub committed_topic : Option ℤ → List ℕ → World → CommitTopic → World × CommitTopicReply
 committed_topic refusal group w t = answered_topic t.name (in_turn (committed_entry refusal group (named t.name w.known.topics)) w t.partitions)
 
--- The entries are served in order, each on what the one before it left.
-abbrev pub committed_all : World → OffsetCommitRequest → World × OffsetCommitReply
-committed_all w q = let r = in_turn (committed_topic (refusal_of q.group_id q.generation_id) q.group_id) w q.topics in (r.0, record { topics = r.1 })
+-- The entries are served in order, each on what the one before it left, or all are refused.
+abbrev pub committed_all : World → Option ℤ → OffsetCommitRequest → World × OffsetCommitReply
+committed_all w refusal q = let r = in_turn (committed_topic refusal q.group_id) w q.topics in (r.0, record { topics = r.1 })

@@ -28,7 +28,7 @@ use Rattle.kb_tenant.specs.FindCoordinator.{coordinator}
 use Rattle.kb_tenant.specs.InitProducerId.{init_producer_id}
 use Rattle.kb_tenant.specs.ListOffsets.{list_offsets}
 use Rattle.kb_tenant.specs.Metadata.{metadata_of}
-use Rattle.kb_tenant.specs.OffsetCommit.{committed_all}
+use Rattle.kb_tenant.specs.OffsetCommit.{committed_all, refusal_of}
 use Rattle.kb_tenant.specs.OffsetFetch.{fetched_all}
 use Rattle.kb_tenant.specs.Produce.{produced, is_due}
 use Rattle.kb_tenant.specs.Replies.{Reaction, Replies, Waits, Silent, Shuts, IsAnswer}
@@ -68,7 +68,7 @@ abbrev pub of_metadata : Node → World → MetadataRequest → Outcome
 of_metadata node w r = stays w (Replies (metadata_reply.written (metadata_of w node r)))
 
 abbrev pub of_offset_commit : World → OffsetCommitRequest → Outcome
-of_offset_commit w r = let c = committed_all w r in record { world = c.0; touched = []; reaction = Replies (offset_commit_reply.written c.1) }
+of_offset_commit w r = let c = committed_all w (refusal_of r.group_id r.generation_id) r in record { world = c.0; touched = []; reaction = Replies (offset_commit_reply.written c.1) }
 
 abbrev pub of_offset_fetch : World → OffsetFetchRequest → Outcome
 of_offset_fetch w r = stays w (Replies (offset_fetch_reply.written (fetched_all w r)))

@@ -20,8 +20,11 @@ pub enum Answer {
     Shut,
 }
 
-/// Begins a reply: room for its size, and its correlation id.
-pub(crate) fn begin(alloc: Global, correlation_id: i32) -> Result<Sink, AllocError>
+/// Begins a reply: four bytes, each 0, as room for its size (INT32), and its correlation id (Kafka protocol guide, "Response
+/// Header").
+///
+/// The body is to be written behind them, and then `finish` sets the size. The only error is want of memory, which is not counted.
+pub fn begin(alloc: Global, correlation_id: i32) -> Result<Sink, AllocError>
     ensures { IfOk result (λ sink. sink.bytes ≡ begun correlation_id) }
 {
     let mut sink = Sink::new(alloc);
@@ -43,11 +46,12 @@ fn set_size(bytes: &mut [u8])
     place.copy_from_slice(&size.to_be_bytes());
 }
 
-/// Sets the size of a reply that was begun, behind whose correlation id its body stands.
+/// Sets the size of a reply that was begun, behind whose correlation id its body stands: the answer is that reply.
 ///
-/// A size above 2,147,483,647 cannot be told: then the connection is to be shut.
+/// The size counts the bytes behind it, those of the correlation id and the body. One above 2,147,483,647 does not fit an INT32:
+/// then the connection is to be shut. Of bytes that were not begun (`begin`) nothing is said.
 #[tactic(auto, using(crate::proofs::Framing::sized, crate::proofs::Framing::long))]
-pub(crate) fn finish(sink: Sink) -> Answer
+pub fn finish(sink: Sink) -> Answer
     ensures { (id : ℤ) (body : List ℕ) → sink.bytes ≡ begun id ++ body → IsAnswer id (Replies body) result }
 {
     let mut bytes = sink.into_vec();

@@ -10,8 +10,8 @@ ghost use Rattle.kb_world.specs.World.{World};
 
 use crate::answer::{Answer, begin, finish};
 use crate::find_coordinator::find_coordinator;
+use crate::group_commit::{offset_commit, refusal_of};
 use crate::node::Node;
-use crate::offset_commit::offset_commit;
 use crate::offset_fetch::offset_fetch;
 use crate::request::Request;
 use kb_api_group::{FindCoordinatorRequest, OffsetCommitRequest, OffsetFetchRequest};
@@ -21,7 +21,7 @@ use kb_wire::{Layout, ReadFault, Sink};
 use kb_world::Parts;
 use std::alloc::Global;
 
-/// OffsetCommit.
+/// OffsetCommit, of a tenant whose groups have no members.
 pub(crate) fn serve_offset_commit<L: PartitionLog + Drop, S: Store>(
     alloc: Global,
     parts: &mut Parts<L>,
@@ -35,7 +35,8 @@ pub(crate) fn serve_offset_commit<L: PartitionLog + Drop, S: Store>(
 {
     let asked = OffsetCommitRequest::read(alloc, request.body)?;
     let mut sink = begin(alloc, request.correlation_id)?;
-    offset_commit(parts, shelf, &asked, &mut sink)?;
+    let refusal = refusal_of(asked.group_id.as_str(), asked.generation_id);
+    offset_commit(parts, shelf, &asked, refusal, &mut sink)?;
     Ok(finish(sink))
 }
 

@@ -1,4 +1,5 @@
-//! The requests of one tenant: what each does to its world, and answers.
+//! The requests of one tenant for its topics, and what its groups commit: what each does to its world, and answers. Requests of
+//! groups' members are not among them: `kb_service` has these too.
 #![tactic(auto)]
 
 mod answer;
@@ -7,20 +8,21 @@ mod delete_topics;
 mod dispatch;
 mod fetch;
 mod find_coordinator;
+mod group_commit;
 mod group_offsets;
 mod init_producer_id;
 mod list_offsets;
 mod metadata;
 mod node;
-mod offset_commit;
 mod offset_fetch;
 mod produce;
 mod promises;
 mod repeated;
 mod request;
 
-pub use answer::Answer;
+pub use answer::{Answer, begin, finish};
 pub use dispatch::{Served, look, serve};
+pub use group_commit::offset_commit;
 pub use node::Node;
 pub use promises::{
     before_deadline, fetches_give_whole_batches, logs_stay_small, names_stay_apart, requests_again,

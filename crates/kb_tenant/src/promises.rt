@@ -1,42 +1,49 @@
 //! Laws about the definitions, each as the contract of a function with an empty body.
-ghost use Rattle.std.specs.Prelude.{◌≡◌, ◌<◌, ℕ, ℤ, pos, List, Ok, None};
+ghost use Rattle.std.specs.Prelude.{◌≡◌, ◌<◌, ℕ, ℤ, pos, List, Option, Ok, None};
 ghost use Rattle.std.specs.List.{Contains};
 ghost use Rattle.kb_wire.specs.Codec.{whole};
 ghost use Rattle.kb_api_data.specs.Layouts.{fetch_request};
 ghost use Rattle.kb_api_data.specs.declared.fetch.FetchRequest.{FetchRequest};
+ghost use Rattle.kb_api_group.specs.declared.offset_commit.OffsetCommitRequest.{OffsetCommitRequest};
 ghost use Rattle.kb_world.specs.Tied.{IsTied};
 ghost use Rattle.kb_world.specs.World.{World, new_world};
 ghost use Rattle.kb_world.specs.Calls.{at_clock, retain, retain_all};
 ghost use Rattle.kb_world.specs.declared.place.Place.{Place};
 ghost use Rattle.kb_tenant.specs.Batches.{HasSmallLogs, HoldsBatches};
 ghost use Rattle.kb_tenant.specs.Fetch.{fetch_answer, places_of};
+ghost use Rattle.kb_tenant.specs.OffsetCommit.{committed_all};
 ghost use Rattle.kb_tenant.specs.Replies.{Replies};
 ghost use Rattle.kb_tenant.specs.Serve.{served, looked};
 ghost use Rattle.kb_tenant.specs.Waiting.{AreApart, HasOwnNames, StillWaits};
 ghost use Rattle.kb_tenant.specs.declared.node.Node.{Node};
 
-/// The topics of a world are tied to its logs from the start on, whatever is asked, dropped by retention, or the time.
+/// The topics of a world are tied to its logs from the start on, whatever is asked, committed, dropped by retention, or the time.
+/// Here and below a commit may be refused for any reason, or for none.
 pub fn worlds_stay_tied()
     ensures begun { (clock : ℕ) → IsTied (at_clock new_world clock) }
     ensures served { (node : Node) (w : World) (n : ℕ) (key version : ℤ) (body : List ℕ) → IsTied w → IsTied (served node w n key version body).world }
+    ensures committed { (w : World) (refusal : Option ℤ) (q : OffsetCommitRequest) → IsTied w → IsTied (committed_all w refusal q).0 }
     ensures retained { (w : World) (place : Place) → IsTied w → IsTied (retain w place).0 }
     ensures clocked { (w : World) (now : ℕ) → IsTied w → IsTied (at_clock w now) }
 {}
 
-/// No two topics of a world have one name, from the start on, whatever is asked, dropped by retention, or the time.
+/// No two topics of a world have one name, from the start on, whatever is asked, committed, dropped by retention, or the time.
 pub fn names_stay_apart()
     ensures begun { (clock : ℕ) → HasOwnNames (at_clock new_world clock) }
     ensures served { (node : Node) (w : World) (n : ℕ) (key version : ℤ) (body : List ℕ) → HasOwnNames w → HasOwnNames (served node w n key version body).world }
+    ensures committed { (w : World) (refusal : Option ℤ) (q : OffsetCommitRequest) → HasOwnNames w → HasOwnNames (committed_all w refusal q).0 }
     ensures retained { (w : World) (place : Place) → HasOwnNames w → HasOwnNames (retain w place).0 }
     ensures clocked { (w : World) (now : ℕ) → HasOwnNames w → HasOwnNames (at_clock w now) }
 {}
 
 /// A fetch that waits has no answer after a request that touches none of the places that it waits for, and waits for the
-/// same places.
+/// same places. So it is after each commit.
 pub fn requests_elsewhere()
-    ensures { (node : Node) (w : World) (n : ℕ) (key version : ℤ) (body : List ℕ) (r : FetchRequest) (deadline : ℕ) → IsTied w
+    ensures served { (node : Node) (w : World) (n : ℕ) (key version : ℤ) (body : List ℕ) (r : FetchRequest) (deadline : ℕ) → IsTied w
         → fetch_answer w r deadline ≡ None → AreApart (places_of w r) (served node w n key version body).touched
         → StillWaits w (served node w n key version body).world r deadline }
+    ensures committed { (w : World) (refusal : Option ℤ) (q : OffsetCommitRequest) (r : FetchRequest) (deadline : ℕ) → IsTied w
+        → fetch_answer w r deadline ≡ None → StillWaits w (committed_all w refusal q).0 r deadline }
 {}
 
 /// The same after retention at a place that it does not wait for.
@@ -50,11 +57,14 @@ pub fn before_deadline()
     ensures { (w : World) (r : FetchRequest) (deadline now : ℕ) → fetch_answer w r deadline ≡ None → now < deadline → StillWaits w (at_clock w now) r deadline }
 {}
 
-/// A fetch that has no answer before and after a request waits for the same places, whatever the request touched.
+/// A fetch that has no answer before and after a request, or a commit, waits for the same places, whatever the request touched.
 pub fn requests_again()
-    ensures { (node : Node) (w : World) (n : ℕ) (key version : ℤ) (body : List ℕ) (r : FetchRequest) (deadline : ℕ) → IsTied w → HasOwnNames w
+    ensures served { (node : Node) (w : World) (n : ℕ) (key version : ℤ) (body : List ℕ) (r : FetchRequest) (deadline : ℕ) → IsTied w → HasOwnNames w
         → fetch_answer w r deadline ≡ None → fetch_answer (served node w n key version body).world r deadline ≡ None
         → places_of (served node w n key version body).world r ≡ places_of w r }
+    ensures committed { (w : World) (refusal : Option ℤ) (q : OffsetCommitRequest) (r : FetchRequest) (deadline : ℕ) → IsTied w → HasOwnNames w
+        → fetch_answer w r deadline ≡ None → fetch_answer (committed_all w refusal q).0 r deadline ≡ None
+        → places_of (committed_all w refusal q).0 r ≡ places_of w r }
 {}
 
 /// Retention changes no place that a fetch asks for.
@@ -62,11 +72,12 @@ pub fn retention_again()
     ensures { (w : World) (r : FetchRequest) → places_of (retain_all w).0 r ≡ places_of w r }
 {}
 
-/// The ends and the batches of a world's logs are within their limits from the start on, whatever is asked, dropped by
+/// The ends and the batches of a world's logs are within their limits from the start on, whatever is asked, committed, dropped by
 /// retention, or the time.
 pub fn logs_stay_small()
     ensures begun { (clock : ℕ) → HasSmallLogs (at_clock new_world clock) }
     ensures served { (node : Node) (w : World) (n : ℕ) (key version : ℤ) (body : List ℕ) → HasSmallLogs w → HasSmallLogs (served node w n key version body).world }
+    ensures committed { (w : World) (refusal : Option ℤ) (q : OffsetCommitRequest) → HasSmallLogs w → HasSmallLogs (committed_all w refusal q).0 }
     ensures retained { (w : World) (place : Place) → HasSmallLogs w → HasSmallLogs (retain w place).0 }
     ensures clocked { (w : World) (now : ℕ) → HasSmallLogs w → HasSmallLogs (at_clock w now) }
 {}

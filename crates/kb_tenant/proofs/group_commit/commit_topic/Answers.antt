@@ -9,7 +9,7 @@ use Rattle.kb_world.specs.Steps.{meets_so}
 use Rattle.kb_world.specs.World.{World}
 use Rattle.kb_tenant.proofs.Committing.{entries_fit, name_fits, topic_told}
 use Rattle.kb_tenant.proofs.Fitting.{count_fits}
-use Rattle.kb_tenant.proofs.offset_commit.commit_topic.Goals as goal
+use Rattle.kb_tenant.proofs.group_commit.commit_topic.Goals as goal
 
 pub put_string-requires : goal.put_string-requires
 put_string-requires g c = subst string.Fits (sym c.as_str.ensures) (name_fits c.args.topic.now c.requires.fits)

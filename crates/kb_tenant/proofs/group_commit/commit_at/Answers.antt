@@ -2,7 +2,7 @@ use Rattle.std.proofs.Common.{◌∙◌, rules, w16, w64}
 use Rattle.std.proofs.lemmas.Int.{to_z-of_z}
 use Rattle.kb_world.specs.Parts.{meta, scene, world_of}
 use Rattle.kb_tenant.proofs.Committing.{commit_code, commit_told}
-use Rattle.kb_tenant.proofs.offset_commit.commit_at.Goals as goal
+use Rattle.kb_tenant.proofs.group_commit.commit_at.Goals as goal
 
 pub returns-clause-meets : goal.returns-clause-meets
 returns-clause-meets g c = λ honest agree calm.

@@ -1,16 +1,15 @@
-use Rattle.std.proofs.Common.{◌∙◌, ◌<◌, ◌≤◌, ap, sym, refl, rules, subst, length, get_or, to_z, of_z, w32}
-use Rattle.std.proofs.lemmas.Int.{to_z-of_z}
+use Rattle.std.proofs.Common.{◌∙◌, ◌<◌, ◌≤◌, ap, sym, refl, subst, length, get_or}
 use Rattle.kb_api_group.specs.Layouts.{commit_topic, commit_topic_reply}
 use Rattle.kb_partitions.specs.Scene.{Scene}
 use Rattle.kb_world.specs.Parts.{Seen, scene}
 use Rattle.kb_world.specs.Steps.{step_then, meets_then, meets_so}
-use Rattle.kb_tenant.specs.OffsetCommit.{committed_topic, refusal_of}
+use Rattle.kb_tenant.specs.OffsetCommit.{committed_topic}
 use Rattle.kb_tenant.proofs.Committing.{all_told, group_fits, topics_fit}
 use Rattle.kb_tenant.proofs.Deleting.{name_short}
 use Rattle.kb_tenant.proofs.Fitting.{count_fits, item_fits}
 use Rattle.kb_tenant.proofs.Produced.{told_next}
 use Rattle.kb_tenant.proofs.Turning.{turn_over}
-use Rattle.kb_tenant.proofs.offset_commit.offset_commit.Goals as goal
+use Rattle.kb_tenant.proofs.group_commit.offset_commit.Goals as goal
 
 pub put_count-requires : goal.put_count-requires
 put_count-requires g c = count_fits commit_topic c.args.request.now.topics c.len.result (topics_fit c.args.request.now c.requires.fits) c.len.ensures
@@ -41,7 +40,7 @@ loop-topic-preserved g c =
     let a : Scene Seen = scene log disk c.args.parts.now c.args.shelf.now in
     let b : Scene Seen = scene log disk c.loop-topic.parts c.loop-topic.shelf in
     let d : Scene Seen = scene log disk c.commit_topic.new.parts c.commit_topic.new.shelf in
-    let f = committed_topic c.refusal_of-refusal.result c.as_str-group.result.now in
+    let f = committed_topic c.args.refusal c.as_str-group.result.now in
     let i = c.loop-topic.topic-index in
     record {
       step = step_then a b d c.loop-topic.invariant.step c.commit_topic.ensures.step;
@@ -59,12 +58,11 @@ returns-clause-meets g c =
     let a : Scene Seen = scene log disk c.args.parts.now c.args.shelf.now in
     let b : Scene Seen = scene log disk c.loop-topic.parts c.loop-topic.shelf in
     let q = c.args.request.now in
-    let refusal = c.refusal_of-refusal.result in
+    let refusal = c.args.refusal in
     let group = c.as_str-group.result.now in
     let i = c.loop-topic.topic-index in
     let over = turn_over commit_topic_reply.written (committed_topic refusal group) c.loop-topic.sink.bytes b.state.world q.topics i (subst (λ ts. length ts ≤ i) c.as_slice-topic-items.ensures c.loop-topic-test.false) in
     meets_so a b _ _
     (λ told. all_told q a.state.world b.state.world refusal group q.topics c.len.result c.args.sink.now.bytes c.put_count.new.self.bytes c.loop-topic.sink.bytes
-    (c.refusal_of-refusal.ensures ∙ ap (λ t. refusal_of t (to_z w32 (of_z w32 q.generation_id))) c.as_str-group.ensures ∙ ap (refusal_of q.group_id) (to_z-of_z w32 q.generation_id (search rules)))
     c.as_str-group.ensures refl c.len.ensures c.in_ok-put_count.ensures.ok (sym over ∙ told))
     c.loop-topic.invariant.told

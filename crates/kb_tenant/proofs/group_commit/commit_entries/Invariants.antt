@@ -4,7 +4,7 @@ use Rattle.kb_world.specs.Parts.{scene}
 use Rattle.kb_world.specs.Steps.{IsStep, Meets}
 use Rattle.kb_tenant.specs.OffsetCommit.{committed_entry}
 use Rattle.kb_tenant.specs.Turns.{in_turn, written_behind}
-use Rattle.kb_tenant.proofs.offset_commit.commit_entries.Given as goal
+use Rattle.kb_tenant.proofs.group_commit.commit_entries.Given as goal
 
 -- what was answered, and what the rest is still to be answered, is the whole answer
 abbrev pub invariant-loop-entry : goal.invariant-loop-entry

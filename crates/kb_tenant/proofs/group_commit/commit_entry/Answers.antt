@@ -5,7 +5,7 @@ use Rattle.kb_world.specs.World.{World, place_in}
 use Rattle.kb_tenant.specs.OffsetCommit.{committed, committed_at}
 use Rattle.kb_tenant.specs.Told.{IsFaultOf, IsTold}
 use Rattle.kb_tenant.proofs.Committing.{acknowledged, entry_at, told_so}
-use Rattle.kb_tenant.proofs.offset_commit.commit_entry.Goals as goal
+use Rattle.kb_tenant.proofs.group_commit.commit_entry.Goals as goal
 
 pub returns-clause-meets : goal.returns-clause-meets
 returns-clause-meets g c = λ honest agree calm.

@@ -21,8 +21,9 @@ use kb_wire::{Layout, Sink};
 use kb_world::{Parts, Place};
 use std::alloc::AllocError;
 
-/// What every entry is refused for: the group has no name, or a member of it commits, and it has none.
-fn refusal_of(group: &str, generation_id: i32) -> Option<i16>
+/// What every entry is refused for where groups have no members: the group has no name, or a member of it commits, and it has
+/// none.
+pub(crate) fn refusal_of(group: &str, generation_id: i32) -> Option<i16>
     ensures { result ≡ refusal_for group.now generation_id }
 {
     if group.is_empty() {
@@ -142,24 +143,28 @@ fn commit_topic<L: PartitionLog + Drop, S: Store>(
     commit_entries(parts, shelf, refusal, group, instance, entries, sink)
 }
 
-/// Serves OffsetCommit: commits the group's offsets in the order of the request, and writes the reply behind what is in the sink.
+/// Serves OffsetCommit, version 2 (Kafka protocol guide): commits the group's offsets in the order of the request, and writes the
+/// reply behind what is in the sink.
 ///
-/// `member_id` and `retention_time_ms` have no effect. An `Err` leaves what was committed, and some front of the reply.
-pub(crate) fn offset_commit<L: PartitionLog + Drop, S: Store>(
+/// A refusal is an error code that all entries are answered; then nothing is committed. It says whether the group, its generation
+/// and its member may commit: `group_id` only names whose offsets they are, and `generation_id`, `member_id` and `retention_time_ms`
+/// have no effect. An `Err` is want of memory for the reply, which is not counted: it leaves what was committed, and some front of
+/// the reply.
+pub fn offset_commit<L: PartitionLog + Drop, S: Store>(
     parts: &mut Parts<L>,
     shelf: &mut Shelf<S>,
     request: &OffsetCommitRequest<'_>,
+    refusal: Option<i16>,
     sink: &mut Sink,
 ) -> Result<(), AllocError>
     requires sound { (scene L.log S.disk parts.old shelf.old).sound }
     requires fits { offset_commit_request.Fits request.now }
     ensures step { IsStep (scene L.log S.disk parts.old shelf.old) (scene L.log S.disk parts.new shelf.new) }
     ensures meets { OnOk result (let a = scene L.log S.disk parts.old shelf.old in let b = scene L.log S.disk parts.new shelf.new in
-        Meets a b (let r = committed_all a.state.world request.now in
+        Meets a b (let r = committed_all a.state.world refusal request.now in
         (b.state.world ≡ r.0) × (sink.new.bytes ≡ sink.old.bytes ++ offset_commit_reply.written r.1))) }
 {
     let group = request.group_id.as_str();
-    let refusal = refusal_of(group, request.generation_id);
     sink.put_count(request.topics.len())?;
     for topic in request.topics.as_slice() {
         commit_topic(parts, shelf, refusal, group, topic, sink)?;

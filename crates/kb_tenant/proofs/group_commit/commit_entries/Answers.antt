@@ -7,7 +7,7 @@ use Rattle.kb_world.specs.Steps.{step_then, meets_then, meets_so}
 use Rattle.kb_tenant.specs.OffsetCommit.{committed_entry}
 use Rattle.kb_tenant.proofs.Committing.{entry_is, reply_fits}
 use Rattle.kb_tenant.proofs.Replies.{entry_next}
-use Rattle.kb_tenant.proofs.offset_commit.commit_entries.Goals as goal
+use Rattle.kb_tenant.proofs.group_commit.commit_entries.Goals as goal
 
 pub write-requires : goal.write-requires
 write-requires g c = λ k. ((refl, tt), reply_fits _)

@@ -3,7 +3,7 @@ use Rattle.std.proofs.Common.{◌≡◌, ◌⊎◌, ⊎_elim, inl, inr, ◌≤�
 use Rattle.std.specs.Prelude.{min}
 use Rattle.std.proofs.lemmas.List.Sums.{sum_by-cons}
 use Rattle.kb_world.specs.Parts.{END}
-use Rattle.kb_tenant.specs.Hosted.{TenantState, IsAccounted, HasEnded, refusals_of, total}
+use Rattle.kb_service.specs.Hosted.{TenantState, IsAccounted, HasEnded, refusals_of, total}
 
 -- ---- calls in turn
 

@@ -1,14 +1,15 @@
--- One more tenant, without files.
+-- One more tenant, without files and groups.
 use Rattle.std.proofs.Common.{◌≡◌, ◌∙◌, ◌⊎◌, ⊎_elim, inl, inr, ℕ, zero, suc, List, [], ◌∷◌, ◌++◌, Some, sym, ap, subst}
 use Rattle.std.specs.Prelude.{map, slice_get, string_bytes}
 use Rattle.std.proofs.lemmas.List.{map_push}
+use Rattle.kb_coordinator.specs.Groups.{none}
 use Rattle.kb_store.specs.Disk.{Disk, Table, Files}
 use Rattle.kb_log.specs.OnShelf.{Log}
 use Rattle.kb_log.specs.Shelf.{Shelved}
 use Rattle.kb_world.specs.Parts.{Agrees, IsSound, Owns, world_of}
-use Rattle.kb_world.specs.World.{new_world}
+use Rattle.kb_world.specs.World.{World, new_world}
 use Rattle.kb_world.specs.declared.parts.Parts.{Parts}
-use Rattle.kb_tenant.specs.Hosted.{TenantState, kept_in, new_tenant}
+use Rattle.kb_service.specs.Hosted.{TenantState, kept_in, new_tenant}
 use Rattle.kb_tenants.specs.Tenants.{AreKept, AreSound, Agree, IsIdleUntil, hosted, parts_of, state_of}
 use Rattle.kb_tenants.specs.declared.tenants.Tenant.{Tenant}
 use Rattle.kb_tenants.specs.declared.tenants.Tenants.{Tenants}
@@ -60,14 +61,14 @@ module _ {L S : Type 0} (log : L → Log) (disk : S → Disk) (old new : Tenants
 -- a tenant was added behind the others
 module _ {L S : Type 0} (log : L → Log) (disk : S → Disk) (old new : Tenants L S) (x : Tenant L)
     (pushed : new.tenants.items ≡ old.tenants.items ++ x ∷ []) (same : new.shelf ≡ old.shelf) (until : new.kept_until ≡ old.kept_until)
-    (name : List ℕ) (named : string_bytes x.name ≡ name) (world : (files : Files) → world_of log x.parts files ≡ new_world) (calm : x.parts.refusals ≡ 0) where
+    (name : List ℕ) (named : string_bytes x.name ≡ name) (world : (files : Files) → world_of log x.parts files ≡ new_world) (calm : x.parts.refusals ≡ 0) (bare : x.groups ≡ none) where
   parts_pushed : parts_of new.tenants.items ≡ parts_of old.tenants.items ++ x.parts ∷ []
   parts_pushed = ap parts_of pushed ∙ map_push (λ (z : Tenant L). z.parts) old.tenants.items x
 
   pub hosted_added : hosted log disk new ≡ hosted log disk old ++ new_tenant name ∷ []
   hosted_added =
       let files = (disk old.shelf.store).files in
-      let kept = ap kept_in (world files) in
+      let kept = ap (λ (w : World). kept_in w x.groups) (world files) ∙ ap (kept_in new_world) bare in
       let one : state_of log files x ≡ new_tenant name = (λ i. record { name = named i; kept = kept i; refusals = calm i }) in
       ap (λ (s : Shelved S). map (state_of log (disk s.store).files) new.tenants.items) same
       ∙ ap (map (state_of log files)) pushed

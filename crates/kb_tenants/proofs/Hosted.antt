@@ -1,6 +1,6 @@
 -- What a call for one tenant is to those who see each tenant's name, what it keeps and its count.
-use Rattle.std.proofs.Common.{◌≡◌, ◌∙◌, ◌≤◌, ◌<◌, ◌+◌, ◌≤ℤ◌, ⊎_elim, ℕ, ℤ, pos, zero, suc, Bool, true, false, eqb, List, [], ◌∷◌, Some, length, get_or, sym, ap, refl, subst, arith}
-use Rattle.std.specs.Prelude.{map, min, slice_get, slice_set, option_map, unwrap_or, string_bytes, ◌&&◌}
+use Rattle.std.proofs.Common.{◌≡◌, ◌∙◌, ◌≤◌, ◌<◌, ◌+◌, ◌≤ℤ◌, ⊎_elim, ℕ, ℤ, pos, zero, suc, Bool, true, false, cond, eqb, List, [], ◌∷◌, Option, Some, None, length, get_or, sym, ap, refl, subst, arith}
+use Rattle.std.specs.Prelude.{map, min, slice_get, slice_set, option_map, string_bytes, ◌&&◌}
 use Rattle.std.specs.Bool.{MatchBool}
 use Rattle.std.specs.List.{AllWithin, HoldsAt, list_all}
 use Rattle.std.specs.Vec.{with_item}
@@ -9,24 +9,27 @@ use Rattle.std.proofs.lemmas.List.Sums.{list_all-from_AllPass}
 use Rattle.std.proofs.lemmas.List.{map-set, length-map, get_or-set_other}
 use Rattle.std.proofs.lemmas.Option.{slice_get-map, get_or_from_slice_get}
 use Rattle.std.proofs.Math.Seq.{map-set_same}
+use Rattle.kb_coordinator.specs.Calls as groups
+use Rattle.kb_coordinator.specs.Groups.{Groups, none}
 use Rattle.kb_store.specs.Disk.{Disk, Files}
 use Rattle.kb_log.specs.OnShelf.{Log, IsLawfulLog}
 use Rattle.kb_log.specs.Shelf.{Shelved}
+use Rattle.kb_world.specs.Calls.{at_clock}
 use Rattle.kb_world.specs.Parts.{Agrees, IsSound, END, scene, world_of, entries, raised, refused}
 use Rattle.kb_world.specs.Steps.{IsStep, IsCalm, Meets, step_same, step_then}
 use Rattle.kb_world.specs.World.{World}
 use Rattle.kb_world.specs.declared.parts.Parts.{Parts}
 use Rattle.kb_world.proofs.Lifted.{clocked, recast, loud, raised_meets, raised_step, refused_step}
-use Rattle.kb_tenant.specs.Hosted.{TenantState, Kept, IsAccounted, IsTurn, IsMet, nothing, kept_in, kept_of, refusals_of, names_of, retained, world_at, all_calm}
+use Rattle.kb_service.specs.Hosted.{TenantState, Kept, IsAccounted, IsTurn, IsMet, nothing, kept_in, kept_of, left, passed, refusals_of, names_of, with_kept, all_calm}
 use Rattle.kb_tenant.proofs.LogMoves.{same_or_not}
-use Rattle.kb_tenants.specs.Tenants.{AreKept, IsIdleUntil, hosted, parts_of, state_of}
+use Rattle.kb_tenants.specs.Tenants.{AreKept, IsIdleUntil, hosted, parts_of, regrouped, state_of}
 use Rattle.kb_tenants.specs.Turns.{IsShelfTurn, seen_at}
 use Rattle.kb_tenants.specs.declared.tenants.Tenant.{Tenant}
 use Rattle.kb_tenants.specs.declared.tenants.Tenants.{Tenants}
 use Rattle.kb_tenants.proofs.Accounted.{accounted_rises, accounted_turn}
-use Rattle.kb_tenants.proofs.Idle.{IsQuiet, idle_stays, idle_turn, quiet_kept}
+use Rattle.kb_tenants.proofs.Idle.{IsQuiet, idle_stays, idle_turn}
 use Rattle.kb_tenants.proofs.Others.{found, turn}
-use Rattle.kb_tenants.proofs.Retained.{length_named}
+use Rattle.kb_tenants.proofs.Passed.{length_named}
 
 -- ---- lists
 
@@ -50,8 +53,16 @@ names_in {L} ts = map (λ (x : Tenant L). string_bytes x.name) ts
 counts_in : {L : Type 0} → List (Tenant L) → List ℕ
 counts_in {L} ts = map (λ (x : Tenant L). x.parts.refusals) ts
 
+groups_in : {L : Type 0} → List (Tenant L) → List Groups
+groups_in {L} ts = map (λ (x : Tenant L). x.groups) ts
+
 kepts_in : {L : Type 0} → (L → Log) → Files → List (Tenant L) → List Kept
-kepts_in {L} log files ts = map (λ (x : Tenant L). kept_in (world_of log x.parts files)) ts
+kepts_in {L} log files ts = map (λ (x : Tenant L). kept_in (world_of log x.parts files) x.groups) ts
+
+-- what is kept where that is seen of the topics, with those groups
+abbrev joined : Option World → Groups → Kept
+joined None gs = nothing
+joined (Some w) gs = kept_in w gs
 
 module _ {L : Type 0} (log : L → Log) (files : Files) where
   names_seen : (ts : List (Tenant L)) → names_of (map (state_of log files) ts) ≡ names_in ts
@@ -70,22 +81,33 @@ module _ {L : Type 0} (log : L → Log) (files : Files) where
   kepts_seen : (ts : List (Tenant L)) → map (λ (x : TenantState). x.kept) (map (state_of log files) ts) ≡ kepts_in log files ts
   unfolding kepts_in
   kepts_seen [] = refl
-  kepts_seen (x ∷ ts) = ap (λ ks. kept_in (world_of log x.parts files) ∷ ks) (kepts_seen ts)
+  kepts_seen (x ∷ ts) = ap (λ ks. kept_in (world_of log x.parts files) x.groups ∷ ks) (kepts_seen ts)
 
-  kept_seen : (ts : List (Tenant L)) (u : ℕ) → kept_of (map (state_of log files) ts) u ≡ unwrap_or (option_map kept_in (seen_at log (parts_of ts) files u)) nothing
+  kept_seen : (ts : List (Tenant L)) (u : ℕ) → kept_of (map (state_of log files) ts) u ≡ joined (seen_at log (parts_of ts) files u) (get_or (groups_in ts) u none)
+  unfolding groups_in
   kept_seen [] u = refl
   kept_seen (x ∷ ts) zero = refl
   kept_seen (x ∷ ts) (suc u) = kept_seen ts u
 
-  pub kept_here : (ts : List (Tenant L)) (t : ℕ) (x : Tenant L) → slice_get ts t ≡ Some x → kept_of (map (state_of log files) ts) t ≡ kept_in (world_of log x.parts files)
+  pub kept_here : (ts : List (Tenant L)) (t : ℕ) (x : Tenant L) → slice_get ts t ≡ Some x → kept_of (map (state_of log files) ts) t ≡ kept_in (world_of log x.parts files) x.groups
   kept_here [] t x at = absurd cc
-  kept_here (y ∷ ts) zero x at = let same : y ≡ x = cc in ap (λ (z : Tenant L). kept_in (world_of log z.parts files)) same
+  kept_here (y ∷ ts) zero x at = let same : y ≡ x = cc in ap (λ (z : Tenant L). kept_in (world_of log z.parts files) z.groups) same
   kept_here (y ∷ ts) (suc t) x at = kept_here ts t x at
 
   pub refusals_here : (ts : List (Tenant L)) (t : ℕ) (x : Tenant L) → slice_get ts t ≡ Some x → refusals_of (map (state_of log files) ts) t ≡ x.parts.refusals
   refusals_here [] t x at = absurd cc
   refusals_here (y ∷ ts) zero x at = let same : y ≡ x = cc in ap (λ (z : Tenant L). z.parts.refusals) same
   refusals_here (y ∷ ts) (suc t) x at = refusals_here ts t x at
+
+  -- another's groups, and nothing else
+  put_groups : (ts : List (Tenant L)) (t : ℕ) (x : Tenant L) (gs : Groups) → slice_get ts t ≡ Some x
+      → map (state_of log files) (slice_set ts t (record x { groups = gs })) ≡ with_kept t (kept_in (world_of log x.parts files) gs) (map (state_of log files) ts)
+  unfolding with_kept
+  put_groups [] t x gs at = absurd cc
+  put_groups (y ∷ ts) zero x gs at =
+      let same : y ≡ x = cc in
+      ap (λ (z : Tenant L). (let s : TenantState = record { name = string_bytes z.name; kept = kept_in (world_of log x.parts files) gs; refusals = z.parts.refusals } in s) ∷ map (state_of log files) ts) (sym same)
+  put_groups (y ∷ ts) (suc t) x gs at = ap (λ ss. state_of log files y ∷ ss) (put_groups ts t x gs at)
 
 put_here : {A : Type 0} (xs : List A) (t : ℕ) (x y : A) → slice_get xs t ≡ Some x → slice_get (slice_set xs t y) t ≡ Some y
 put_here [] t x y at = absurd cc
@@ -94,17 +116,17 @@ put_here (z ∷ xs) (suc t) x y at = put_here xs t x y at
 
 -- ---- a step of one tenant
 
--- the tenants after a call that left the tenant at a place these parts, and this shelf
-abbrev pub after : {L S : Type 0} → Tenants L S → ℕ → Tenant L → Parts L → Shelved S → Tenants L S
-after ts t x p shelf = record { tenants = with_item ts.tenants t (record x { parts = p }); shelf = shelf; kept_until = ts.kept_until }
+-- the tenants after a call that left the tenant at a place these parts and groups, and this shelf
+abbrev pub after : {L S : Type 0} → Tenants L S → ℕ → Tenant L → Parts L → Groups → Shelved S → Tenants L S
+after ts t x p gs shelf = record { tenants = with_item ts.tenants t (record x { parts = p; groups = gs }); shelf = shelf; kept_until = ts.kept_until }
 
--- what a tenant's parts have to drop is what it is seen to
-pub idle_here : {L : Type 0} (log : L → Log) (files : Files) (ts : List (Tenant L)) (t : ℕ) (x : Tenant L) (until : ℤ) → slice_get ts t ≡ Some x → Agrees log x.parts files → IsQuiet log x.parts until
-    → (clock : ℕ) → pos clock ≤ℤ until → retained clock (kept_of (map (state_of log files) ts) t) ≡ kept_of (map (state_of log files) ts) t
+-- what is due for a tenant is what it is seen to be
+pub idle_here : {L : Type 0} (log : L → Log) (files : Files) (ts : List (Tenant L)) (t : ℕ) (x : Tenant L) (until : ℤ) → slice_get ts t ≡ Some x → Agrees log x.parts files → IsQuiet log x until
+    → (clock : ℕ) → pos clock ≤ℤ until → passed clock (kept_of (map (state_of log files) ts) t) ≡ kept_of (map (state_of log files) ts) t
 idle_here log files ts t x until at agree quiet clock le =
-    subst (λ k. retained clock k ≡ k) (sym (kept_here log files ts t x at)) (quiet_kept (world_of log x.parts files) clock (quiet files agree clock le))
+    subst (λ k. passed clock k ≡ k) (sym (kept_here log files ts t x at)) (quiet files agree clock le)
 
-module _ {L S : Type 0} (log : L → Log) (disk : S → Disk) (law : (l : L) → IsLawfulLog (log l)) (old : Tenants L S) (t : ℕ) (x : Tenant L) (p : Parts L) (shelf : Shelved S)
+module _ {L S : Type 0} (log : L → Log) (disk : S → Disk) (law : (l : L) → IsLawfulLog (log l)) (old : Tenants L S) (t : ℕ) (x : Tenant L) (p : Parts L) (gs : Groups) (shelf : Shelved S)
     (lt : t < length (hosted log disk old)) (read : x ≡ get_or old.tenants.items t x)
     (kept : AreKept log disk old) (step : IsStep (scene log disk x.parts old.shelf) (scene log disk p shelf)) where
   there : slice_get old.tenants.items t ≡ Some x
@@ -113,99 +135,111 @@ module _ {L S : Type 0} (log : L → Log) (disk : S → Disk) (law : (l : L) →
   parts_there : slice_get (parts_of old.tenants.items) t ≡ Some x.parts
   parts_there = slice_get-map (λ (z : Tenant L). z.parts) old.tenants.items t ∙ ap (option_map (λ (z : Tenant L). z.parts)) there
 
-  there_after : slice_get (after old t x p shelf).tenants.items t ≡ Some (record x { parts = p })
-  there_after = put_here old.tenants.items t x (record x { parts = p }) there
+  there_after : slice_get (after old t x p gs shelf).tenants.items t ≡ Some (record x { parts = p; groups = gs })
+  there_after = put_here old.tenants.items t x (record x { parts = p; groups = gs }) there
 
-  shelf_turn : IsShelfTurn log t (parts_of old.tenants.items) (parts_of (after old t x p shelf).tenants.items) (disk old.shelf.store) (disk shelf.store) old.shelf.next shelf.next
+  shelf_turn : IsShelfTurn log t (parts_of old.tenants.items) (parts_of (after old t x p gs shelf).tenants.items) (disk old.shelf.store) (disk shelf.store) old.shelf.next shelf.next
   shelf_turn =
       subst (λ qs. IsShelfTurn log t (parts_of old.tenants.items) qs (disk old.shelf.store) (disk shelf.store) old.shelf.next shelf.next)
-      (sym (map-set (λ (z : Tenant L). z.parts) old.tenants.items t (record x { parts = p })))
+      (sym (map-set (λ (z : Tenant L). z.parts) old.tenants.items t (record x { parts = p; groups = gs })))
       (turn log law (parts_of old.tenants.items) t x.parts p (disk old.shelf.store) (disk shelf.store) old.shelf.next shelf.next parts_there kept.sound step)
 
-  kept_until : (until : ℤ) → ((disk shelf.store).honest → IsIdleUntil until (hosted log disk (after old t x p shelf))) → AreKept log disk (record (after old t x p shelf) { kept_until = until })
+  kept_until : (until : ℤ) → ((disk shelf.store).honest → IsIdleUntil until (hosted log disk (after old t x p gs shelf))) → AreKept log disk (record (after old t x p gs shelf) { kept_until = until })
   kept_until until idle = record { sound = shelf_turn.sound; agree = λ honest. shelf_turn.agree honest (kept.agree (shelf_turn.honest honest)); until = idle }
 
-  counts_after : counts_in (after old t x p shelf).tenants.items ≡ slice_set (counts_in old.tenants.items) t p.refusals
+  counts_after : counts_in (after old t x p gs shelf).tenants.items ≡ slice_set (counts_in old.tenants.items) t p.refusals
   unfolding counts_in
-  counts_after = map-set (λ (z : Tenant L). z.parts.refusals) old.tenants.items t (record x { parts = p })
+  counts_after = map-set (λ (z : Tenant L). z.parts.refusals) old.tenants.items t (record x { parts = p; groups = gs })
 
-  count_after : (u : ℕ) → refusals_of (hosted log disk (after old t x p shelf)) u ≡ get_or (slice_set (counts_in old.tenants.items) t p.refusals) u 0
-  count_after u = refusals_seen log (disk shelf.store).files (after old t x p shelf).tenants.items u ∙ ap (λ ns. get_or ns u 0) counts_after
+  count_after : (u : ℕ) → refusals_of (hosted log disk (after old t x p gs shelf)) u ≡ get_or (slice_set (counts_in old.tenants.items) t p.refusals) u 0
+  count_after u = refusals_seen log (disk shelf.store).files (after old t x p gs shelf).tenants.items u ∙ ap (λ ns. get_or ns u 0) counts_after
 
   -- the count of another tenant is as it was
-  counts_stay : (u : ℕ) → (u ≡ t → ⊥) → refusals_of (hosted log disk (after old t x p shelf)) u ≡ refusals_of (hosted log disk old) u
+  counts_stay : (u : ℕ) → (u ≡ t → ⊥) → refusals_of (hosted log disk (after old t x p gs shelf)) u ≡ refusals_of (hosted log disk old) u
   counts_stay u ne =
       count_after u ∙ get_or-set_other (counts_in old.tenants.items) t u p.refusals 0 ne ∙ sym (refusals_seen log (disk old.shelf.store).files old.tenants.items u)
 
   -- no count is less
-  counts_rise : (u : ℕ) → refusals_of (hosted log disk old) u ≤ refusals_of (hosted log disk (after old t x p shelf)) u
+  counts_rise : (u : ℕ) → refusals_of (hosted log disk old) u ≤ refusals_of (hosted log disk (after old t x p gs shelf)) u
   counts_rise u =
       let was = refusals_seen log (disk old.shelf.store).files old.tenants.items in
       let here : get_or (counts_in old.tenants.items) t 0 ≡ x.parts.refusals = sym (was t) ∙ refusals_here log (disk old.shelf.store).files old.tenants.items t x there in
       let more = rises (counts_in old.tenants.items) t u p.refusals (omega (arith, here, step.grows)) in
       omega (arith, more, was u, count_after u)
 
-  names_stay : names_in (after old t x p shelf).tenants.items ≡ names_in old.tenants.items
+  names_stay : names_in (after old t x p gs shelf).tenants.items ≡ names_in old.tenants.items
   unfolding names_in
-  names_stay = map-set_same (λ (z : Tenant L). string_bytes z.name) old.tenants.items t (record x { parts = p }) x
+  names_stay = map-set_same (λ (z : Tenant L). string_bytes z.name) old.tenants.items t (record x { parts = p; groups = gs }) x
       (ap (λ (z : Tenant L). string_bytes z.name) (sym (get_or_from_slice_get old.tenants.items t x x there)))
 
+  -- the groups of another tenant are as they were
+  groups_stay : (u : ℕ) → (u ≡ t → ⊥) → get_or (groups_in (after old t x p gs shelf).tenants.items) u none ≡ get_or (groups_in old.tenants.items) u none
+  unfolding groups_in
+  groups_stay u ne =
+      ap (λ gss. get_or gss u none) (map-set (λ (z : Tenant L). z.groups) old.tenants.items t (record x { parts = p; groups = gs }))
+      ∙ get_or-set_other (map (λ (z : Tenant L). z.groups) old.tenants.items) t u gs none ne
+
   -- the step is a turn of what is seen
-  pub turn_after : IsTurn t (disk shelf.store).honest (hosted log disk old) (hosted log disk (after old t x p shelf))
+  pub turn_after : IsTurn t (disk shelf.store).honest (hosted log disk old) (hosted log disk (after old t x p gs shelf))
   turn_after = record {
-    names = names_seen log (disk shelf.store).files (after old t x p shelf).tenants.items ∙ names_stay ∙ sym (names_seen log (disk old.shelf.store).files old.tenants.items);
+    names = names_seen log (disk shelf.store).files (after old t x p gs shelf).tenants.items ∙ names_stay ∙ sym (names_seen log (disk old.shelf.store).files old.tenants.items);
     grows = counts_rise;
     counts = counts_stay;
     others = λ honest u ne.
-        kept_seen log (disk shelf.store).files (after old t x p shelf).tenants.items u
-        ∙ ap (λ o. unwrap_or (option_map kept_in o) nothing) (shelf_turn.worlds honest u ne)
+        kept_seen log (disk shelf.store).files (after old t x p gs shelf).tenants.items u
+        ∙ ap (λ o. joined o (get_or (groups_in (after old t x p gs shelf).tenants.items) u none)) (shelf_turn.worlds honest u ne)
+        ∙ ap (joined (seen_at log (parts_of old.tenants.items) (disk old.shelf.store).files u)) (groups_stay u ne)
         ∙ sym (kept_seen log (disk old.shelf.store).files old.tenants.items u);
   }
 
+  -- what the tenant keeps now
+  pub kept_now : kept_of (hosted log disk (after old t x p gs shelf)) t ≡ kept_in (world_of log p (disk shelf.store).files) gs
+  kept_now = kept_here log (disk shelf.store).files (after old t x p gs shelf).tenants.items t (record x { parts = p; groups = gs }) there_after
+
   -- where the tenant is looked at
-  pub kept_after : (until : ℤ) → until ≤ℤ old.kept_until → IsQuiet log p until → AreKept log disk (record (after old t x p shelf) { kept_until = until })
+  pub kept_after : (until : ℤ) → until ≤ℤ old.kept_until → IsQuiet log (record x { parts = p; groups = gs }) until → AreKept log disk (record (after old t x p gs shelf) { kept_until = until })
   kept_after until sooner quiet = kept_until until (λ honest.
       let before = shelf_turn.honest honest in
-      idle_turn until old.kept_until t (disk shelf.store).honest (hosted log disk old) (hosted log disk (after old t x p shelf)) turn_after honest sooner (kept.until before)
-      (idle_here log (disk shelf.store).files (after old t x p shelf).tenants.items t (record x { parts = p }) until there_after (step.frame.agrees honest (kept.agree before t x.parts parts_there)) quiet))
+      idle_turn until old.kept_until t (disk shelf.store).honest (hosted log disk old) (hosted log disk (after old t x p gs shelf)) turn_after honest sooner (kept.until before)
+      (idle_here log (disk shelf.store).files (after old t x p gs shelf).tenants.items t (record x { parts = p; groups = gs }) until there_after (step.frame.agrees honest (kept.agree before t x.parts parts_there)) quiet))
 
   -- where all keep what they kept
-  pub kept_same : ((disk shelf.store).honest → (u : ℕ) → kept_of (hosted log disk (after old t x p shelf)) u ≡ kept_of (hosted log disk old) u) → AreKept log disk (after old t x p shelf)
+  pub kept_same : ((disk shelf.store).honest → (u : ℕ) → kept_of (hosted log disk (after old t x p gs shelf)) u ≡ kept_of (hosted log disk old) u) → AreKept log disk (after old t x p gs shelf)
   kept_same same = kept_until old.kept_until (λ honest.
-      idle_stays old.kept_until (hosted log disk old) (hosted log disk (after old t x p shelf)) (same honest) (kept.until (shelf_turn.honest honest)))
+      idle_stays old.kept_until (hosted log disk old) (hosted log disk (after old t x p gs shelf)) (same honest) (kept.until (shelf_turn.honest honest)))
 
   -- a calm that is seen is one of the tenant's parts
-  pub calm_here : IsCalm (refusals_of (hosted log disk old) t) (refusals_of (hosted log disk (after old t x p shelf)) t) → IsCalm x.parts.refusals p.refusals
+  pub calm_here : IsCalm (refusals_of (hosted log disk old) t) (refusals_of (hosted log disk (after old t x p gs shelf)) t) → IsCalm x.parts.refusals p.refusals
   calm_here calm =
-      subst (λ n. IsCalm x.parts.refusals n) (refusals_here log (disk shelf.store).files (after old t x p shelf).tenants.items t (record x { parts = p }) there_after)
-      (subst (λ n. IsCalm n (refusals_of (hosted log disk (after old t x p shelf)) t)) (refusals_here log (disk old.shelf.store).files old.tenants.items t x there) calm)
+      subst (λ n. IsCalm x.parts.refusals n) (refusals_here log (disk shelf.store).files (after old t x p gs shelf).tenants.items t (record x { parts = p; groups = gs }) there_after)
+      (subst (λ n. IsCalm n (refusals_of (hosted log disk (after old t x p gs shelf)) t)) (refusals_here log (disk old.shelf.store).files old.tenants.items t x there) calm)
 
   -- and a calm of its parts is one that is seen
-  pub calm_seen : IsCalm x.parts.refusals p.refusals → IsCalm (refusals_of (hosted log disk old) t) (refusals_of (hosted log disk (after old t x p shelf)) t)
+  pub calm_seen : IsCalm x.parts.refusals p.refusals → IsCalm (refusals_of (hosted log disk old) t) (refusals_of (hosted log disk (after old t x p gs shelf)) t)
   calm_seen calm =
-      subst (λ n. IsCalm (refusals_of (hosted log disk old) t) n) (sym (refusals_here log (disk shelf.store).files (after old t x p shelf).tenants.items t (record x { parts = p }) there_after))
+      subst (λ n. IsCalm (refusals_of (hosted log disk old) t) n) (sym (refusals_here log (disk shelf.store).files (after old t x p gs shelf).tenants.items t (record x { parts = p; groups = gs }) there_after))
       (subst (λ n. IsCalm n p.refusals) (sym (refusals_here log (disk old.shelf.store).files old.tenants.items t x there)) calm)
 
   -- where the tenant keeps what it kept, all do
-  pub stays_after : ((disk shelf.store).honest → Agrees log x.parts (disk old.shelf.store).files → kept_in (world_of log p (disk shelf.store).files) ≡ kept_in (world_of log x.parts (disk old.shelf.store).files))
-      → (disk shelf.store).honest → (u : ℕ) → kept_of (hosted log disk (after old t x p shelf)) u ≡ kept_of (hosted log disk old) u
+  pub stays_after : ((disk shelf.store).honest → Agrees log x.parts (disk old.shelf.store).files → kept_in (world_of log p (disk shelf.store).files) gs ≡ kept_in (world_of log x.parts (disk old.shelf.store).files) x.groups)
+      → (disk shelf.store).honest → (u : ℕ) → kept_of (hosted log disk (after old t x p gs shelf)) u ≡ kept_of (hosted log disk old) u
   stays_after same honest u =
-      let here : kept_of (hosted log disk (after old t x p shelf)) t ≡ kept_of (hosted log disk old) t =
-      kept_here log (disk shelf.store).files (after old t x p shelf).tenants.items t (record x { parts = p }) there_after
+      let here : kept_of (hosted log disk (after old t x p gs shelf)) t ≡ kept_of (hosted log disk old) t =
+      kept_here log (disk shelf.store).files (after old t x p gs shelf).tenants.items t (record x { parts = p; groups = gs }) there_after
       ∙ same honest (kept.agree (shelf_turn.honest honest) t x.parts parts_there)
       ∙ sym (kept_here log (disk old.shelf.store).files old.tenants.items t x there) in
       ⊎_elim
-      (λ is. subst (λ v. kept_of (hosted log disk (after old t x p shelf)) v ≡ kept_of (hosted log disk old) v) (sym is) here)
+      (λ is. subst (λ v. kept_of (hosted log disk (after old t x p gs shelf)) v ≡ kept_of (hosted log disk old) v) (sym is) here)
       (λ ne. turn_after.others honest u ne)
       (same_or_not u t)
 
   -- what the step meets is what is seen
   pub met_after : (P : Kept → Kept → Type 0)
-      → Meets (scene log disk x.parts old.shelf) (scene log disk p shelf) (P (kept_in (world_of log x.parts (disk old.shelf.store).files)) (kept_in (world_of log p (disk shelf.store).files)))
-      → IsMet t (disk shelf.store).honest (hosted log disk old) (hosted log disk (after old t x p shelf)) P
+      → Meets (scene log disk x.parts old.shelf) (scene log disk p shelf) (P (kept_in (world_of log x.parts (disk old.shelf.store).files) x.groups) (kept_in (world_of log p (disk shelf.store).files) gs))
+      → IsMet t (disk shelf.store).honest (hosted log disk old) (hosted log disk (after old t x p gs shelf)) P
   met_after P meets honest calm =
-      subst (λ k. P k (kept_of (hosted log disk (after old t x p shelf)) t)) (sym (kept_here log (disk old.shelf.store).files old.tenants.items t x there))
-      (subst (λ k. P (kept_in (world_of log x.parts (disk old.shelf.store).files)) k) (sym (kept_here log (disk shelf.store).files (after old t x p shelf).tenants.items t (record x { parts = p }) there_after))
+      subst (λ k. P k (kept_of (hosted log disk (after old t x p gs shelf)) t)) (sym (kept_here log (disk old.shelf.store).files old.tenants.items t x there))
+      (subst (λ k. P (kept_in (world_of log x.parts (disk old.shelf.store).files) x.groups) k) (sym (kept_here log (disk shelf.store).files (after old t x p gs shelf).tenants.items t (record x { parts = p; groups = gs }) there_after))
       (meets honest (kept.agree (shelf_turn.honest honest) t x.parts parts_there) (calm_here calm)))
 
 -- ---- a refusal is counted
@@ -219,37 +253,112 @@ module _ {L S : Type 0} (log : L → Log) (disk : S → Disk) (law : (l : L) →
       let sound = kept.sound.each t x.parts (slice_get-map (λ (z : Tenant L). z.parts) old.tenants.items t ∙ ap (option_map (λ (z : Tenant L). z.parts)) here) in
       subst (λ (v : Parts L). IsStep a (scene log disk v old.shelf)) (sym counted) (refused_step log a x.parts (disk old.shelf.store) old.shelf.next (step_same a sound))
 
-  kepts_stay : kepts_in log (disk old.shelf.store).files (after old t x p old.shelf).tenants.items ≡ kepts_in log (disk old.shelf.store).files old.tenants.items
+  kepts_stay : kepts_in log (disk old.shelf.store).files (after old t x p x.groups old.shelf).tenants.items ≡ kepts_in log (disk old.shelf.store).files old.tenants.items
   unfolding kepts_in
   kepts_stay =
       let files = (disk old.shelf.store).files in
       let here = found old.tenants.items t x (within (state_of log files) old.tenants.items t lt) read in
-      map-set_same (λ (z : Tenant L). kept_in (world_of log z.parts files)) old.tenants.items t (record x { parts = p }) x
-      (ap (λ (v : Parts L). kept_in (world_of log v files)) counted ∙ ap (λ (z : Tenant L). kept_in (world_of log z.parts files)) (sym (get_or_from_slice_get old.tenants.items t x x here)))
+      map-set_same (λ (z : Tenant L). kept_in (world_of log z.parts files) z.groups) old.tenants.items t (record x { parts = p }) x
+      (ap (λ (v : Parts L). kept_in (world_of log v files) x.groups) counted ∙ ap (λ (z : Tenant L). kept_in (world_of log z.parts files) z.groups) (sym (get_or_from_slice_get old.tenants.items t x x here)))
 
-  pub kept_stays : (u : ℕ) → kept_of (hosted log disk (after old t x p old.shelf)) u ≡ kept_of (hosted log disk old) u
+  pub kept_stays : (u : ℕ) → kept_of (hosted log disk (after old t x p x.groups old.shelf)) u ≡ kept_of (hosted log disk old) u
   kept_stays u =
       let files = (disk old.shelf.store).files in
-      ap (λ ks. get_or ks u nothing) (kepts_seen log files (after old t x p old.shelf).tenants.items ∙ kepts_stay ∙ sym (kepts_seen log files old.tenants.items))
+      ap (λ ks. get_or ks u nothing) (kepts_seen log files (after old t x p x.groups old.shelf).tenants.items ∙ kepts_stay ∙ sym (kepts_seen log files old.tenants.items))
 
-  pub kept_refused : AreKept log disk (after old t x p old.shelf)
-  kept_refused = kept_same log disk law old t x p old.shelf lt read kept refused_at (λ honest. kept_stays)
+  pub kept_refused : AreKept log disk (after old t x p x.groups old.shelf)
+  kept_refused = kept_same log disk law old t x p x.groups old.shelf lt read kept refused_at (λ honest. kept_stays)
 
   -- what is kept needs no honest store here
-  pub turn_refused : IsTurn t (Unit {0}) (hosted log disk old) (hosted log disk (after old t x p old.shelf))
+  pub turn_refused : IsTurn t (Unit {0}) (hosted log disk old) (hosted log disk (after old t x p x.groups old.shelf))
   turn_refused =
-      let told = turn_after log disk law old t x p old.shelf lt read kept refused_at in
+      let told = turn_after log disk law old t x p x.groups old.shelf lt read kept refused_at in
       record { names = told.names; grows = told.grows; counts = told.counts; others = λ honest u ne. kept_stays u }
 
-  pub loud_refused : IsCalm (refusals_of (hosted log disk old) t) (refusals_of (hosted log disk (after old t x p old.shelf)) t) → ⊥
+  pub loud_refused : IsCalm (refusals_of (hosted log disk old) t) (refusals_of (hosted log disk (after old t x p x.groups old.shelf)) t) → ⊥
   loud_refused calm =
       loud x.parts.refusals x.parts (omega arith)
-      (subst (λ (v : Parts L). IsCalm x.parts.refusals v.refusals) counted (calm_here log disk law old t x p old.shelf lt read kept refused_at calm))
+      (subst (λ (v : Parts L). IsCalm x.parts.refusals v.refusals) counted (calm_here log disk law old t x p x.groups old.shelf lt read kept refused_at calm))
 
-  pub accounted_refused : IsAccounted (hosted log disk old) (hosted log disk (after old t x p old.shelf)) (disk old.shelf.store).failures (disk old.shelf.store).failures
+  pub accounted_refused : IsAccounted (hosted log disk old) (hosted log disk (after old t x p x.groups old.shelf)) (disk old.shelf.store).failures (disk old.shelf.store).failures
   accounted_refused =
-      accounted_rises (hosted log disk old) (hosted log disk (after old t x p old.shelf)) (disk old.shelf.store).failures
-      (length_named (hosted log disk old) (hosted log disk (after old t x p old.shelf)) turn_refused.names) turn_refused.grows
+      accounted_rises (hosted log disk old) (hosted log disk (after old t x p x.groups old.shelf)) (disk old.shelf.store).failures
+      (length_named (hosted log disk old) (hosted log disk (after old t x p x.groups old.shelf)) turn_refused.names) turn_refused.grows
+
+-- ---- groups change, and what was refused to them is counted
+
+module _ {L S : Type 0} (log : L → Log) (disk : S → Disk) (law : (l : L) → IsLawfulLog (log l)) (old : Tenants L S) (t : ℕ) (x : Tenant L) (gs : Groups)
+    (lt : t < length (hosted log disk old)) (read : x ≡ get_or old.tenants.items t x) (kept : AreKept log disk old) where
+  sound_own : IsSound log x.parts (disk old.shelf.store).table old.shelf.next
+  sound_own =
+      let here = found old.tenants.items t x (within (state_of log (disk old.shelf.store).files) old.tenants.items t lt) read in
+      kept.sound.each t x.parts (slice_get-map (λ (z : Tenant L). z.parts) old.tenants.items t ∙ ap (option_map (λ (z : Tenant L). z.parts)) here)
+
+  step_own : IsStep (scene log disk x.parts old.shelf) (scene log disk x.parts old.shelf)
+  step_own = step_same (scene log disk x.parts old.shelf) sound_own
+
+  pub kept_left : (until : ℤ) → until ≤ℤ old.kept_until → IsQuiet log (record x { groups = gs }) until → AreKept log disk (record (after old t x x.parts gs old.shelf) { kept_until = until })
+  kept_left = kept_after log disk law old t x x.parts gs old.shelf lt read kept step_own
+
+  pub state_left : (clock n : ℕ) → gs ≡ groups.left clock n x.groups
+      → hosted log disk (after old t x x.parts gs old.shelf) ≡ with_kept t (left clock n (kept_of (hosted log disk old) t)) (hosted log disk old)
+  unfolding left
+  state_left clock n is =
+      let files = (disk old.shelf.store).files in
+      let here = found old.tenants.items t x (within (state_of log files) old.tenants.items t lt) read in
+      let seen = kept_here log files old.tenants.items t x here in
+      put_groups log files old.tenants.items t x gs here
+      ∙ ap (λ k. with_kept t k (hosted log disk old)) (ap (kept_in (world_of log x.parts files)) is ∙ ap (left clock n) (sym seen))
+
+  module _ (p : Parts L) (n : ℕ) (counted : p ≡ raised x.parts n) where
+    counted_own : IsStep (scene log disk x.parts old.shelf) (scene log disk p old.shelf)
+    counted_own = subst (λ (v : Parts L). IsStep (scene log disk x.parts old.shelf) (scene log disk v old.shelf)) (sym counted)
+        (raised_step log (scene log disk x.parts old.shelf) x.parts n (disk old.shelf.store) old.shelf.next step_own)
+
+    pub kept_counted : (until : ℤ) → until ≤ℤ old.kept_until → IsQuiet log (record x { parts = p; groups = gs }) until → AreKept log disk (record (after old t x p gs old.shelf) { kept_until = until })
+    kept_counted = kept_after log disk law old t x p gs old.shelf lt read kept counted_own
+
+    pub turn_counted : IsTurn t (disk old.shelf.store).honest (hosted log disk old) (hosted log disk (after old t x p gs old.shelf))
+    turn_counted = turn_after log disk law old t x p gs old.shelf lt read kept counted_own
+
+    pub accounted_counted : IsAccounted (hosted log disk old) (hosted log disk (after old t x p gs old.shelf)) (disk old.shelf.store).failures (disk old.shelf.store).failures
+    accounted_counted =
+        accounted_rises (hosted log disk old) (hosted log disk (after old t x p gs old.shelf)) (disk old.shelf.store).failures
+        (length_named (hosted log disk old) (hosted log disk (after old t x p gs old.shelf)) turn_counted.names) turn_counted.grows
+
+    -- a moment of the groups, where none was refused memory
+    pub met_counted : (clock m : ℕ) → n ≡ min (x.parts.refusals + m) END → (m ≡ 0 → gs ≡ groups.passed clock x.groups)
+        → IsMet t (disk old.shelf.store).honest (hosted log disk old) (hosted log disk (after old t x p gs old.shelf)) (λ k l. l ≡ regrouped clock k)
+    met_counted clock m count all = met_after log disk law old t x p gs old.shelf lt read kept counted_own (λ k l. l ≡ regrouped clock k) (λ honest agree calm.
+        let files = (disk old.shelf.store).files in
+        let same = ap (λ (v : Parts L). v.refusals) counted in
+        let none : m ≡ 0 = omega (arith, count, same, calm.same, calm.below) in
+        ap (λ (v : Parts L). kept_in (world_of log v files) gs) counted ∙ ap (kept_in (world_of log x.parts files)) (all none))
+
+  -- nothing was due
+  module _ (same : gs ≡ x.groups) where
+    pub stays_own : (u : ℕ) → kept_of (hosted log disk (after old t x x.parts gs old.shelf)) u ≡ kept_of (hosted log disk old) u
+    stays_own u =
+        let files = (disk old.shelf.store).files in
+        let here = found old.tenants.items t x (within (state_of log files) old.tenants.items t lt) read in
+        ap (λ ss. kept_of ss u) (map-set_same (state_of log files) old.tenants.items t (record x { groups = gs }) x
+        (ap (λ v. state_of log files (record x { groups = v })) same ∙ ap (state_of log files) (sym (get_or_from_slice_get old.tenants.items t x x here))))
+
+    pub kept_own : AreKept log disk (after old t x x.parts gs old.shelf)
+    kept_own = kept_same log disk law old t x x.parts gs old.shelf lt read kept step_own (λ honest. stays_own)
+
+    pub turn_own : IsTurn t (disk old.shelf.store).honest (hosted log disk old) (hosted log disk (after old t x x.parts gs old.shelf))
+    turn_own = turn_after log disk law old t x x.parts gs old.shelf lt read kept step_own
+
+    pub accounted_own : IsAccounted (hosted log disk old) (hosted log disk (after old t x x.parts gs old.shelf)) (disk old.shelf.store).failures (disk old.shelf.store).failures
+    accounted_own =
+        accounted_rises (hosted log disk old) (hosted log disk (after old t x x.parts gs old.shelf)) (disk old.shelf.store).failures
+        (length_named (hosted log disk old) (hosted log disk (after old t x x.parts gs old.shelf)) turn_own.names) turn_own.grows
+
+    pub met_own : (clock : ℕ) → groups.is_due clock x.groups ≡ false
+        → IsMet t (disk old.shelf.store).honest (hosted log disk old) (hosted log disk (after old t x x.parts gs old.shelf)) (λ k l. l ≡ regrouped clock k)
+    met_own clock early = met_after log disk law old t x x.parts gs old.shelf lt read kept step_own (λ k l. l ≡ regrouped clock k) (λ honest agree calm.
+        ap (kept_in (world_of log x.parts (disk old.shelf.store).files)) (same ∙ ap (λ b. cond b (groups.at_moment clock x.groups) x.groups) (sym early)))
 
 -- ---- counts
 
@@ -289,7 +398,7 @@ module _ {L S : Type 0} (log : L → Log) (disk : S → Disk) (law : (l : L) →
   agrees_at : Agrees log x.parts (disk old.shelf.store).files → Agrees log (record x.parts { clock = clock }) (disk old.shelf.store).files
   agrees_at agree = record { catalog = agree.catalog; fold = agree.fold; logs = agree.logs; until = agree.until }
 
-  module _ (mid p : Parts L) (n : ℕ) (shelf : Shelved S) (counted : p ≡ raised mid n) (step : IsStep (scene log disk q old.shelf) (scene log disk mid shelf)) where
+  module _ (mid p : Parts L) (n : ℕ) (gs : Groups) (shelf : Shelved S) (counted : p ≡ raised mid n) (step : IsStep (scene log disk q old.shelf) (scene log disk mid shelf)) where
     counted_at : IsStep (scene log disk q old.shelf) (scene log disk p shelf)
     counted_at = subst (λ (v : Parts L). IsStep (scene log disk q old.shelf) (scene log disk v shelf)) (sym counted) (raised_step log (scene log disk q old.shelf) mid n (disk shelf.store) shelf.next step)
 
@@ -303,49 +412,54 @@ module _ {L S : Type 0} (log : L → Log) (disk : S → Disk) (law : (l : L) →
     meets_counted P meets = subst (λ (v : Parts L). Meets (scene log disk q old.shelf) (scene log disk v shelf) P) (sym counted) (raised_meets log (scene log disk q old.shelf) mid n (disk shelf.store) shelf.next P step meets)
 
     -- where the tenant is looked at
-    pub kept_at : (until : ℤ) → until ≤ℤ old.kept_until → IsQuiet log p until → AreKept log disk (record (after old t x p shelf) { kept_until = until })
-    kept_at = kept_after log disk law old t x p shelf lt read kept step_at
+    pub kept_at : (until : ℤ) → until ≤ℤ old.kept_until → IsQuiet log (record x { parts = p; groups = gs }) until → AreKept log disk (record (after old t x p gs shelf) { kept_until = until })
+    kept_at = kept_after log disk law old t x p gs shelf lt read kept step_at
 
-    pub turn_at : IsTurn t (disk shelf.store).honest (hosted log disk old) (hosted log disk (after old t x p shelf))
-    turn_at = turn_after log disk law old t x p shelf lt read kept step_at
+    pub turn_at : IsTurn t (disk shelf.store).honest (hosted log disk old) (hosted log disk (after old t x p gs shelf))
+    turn_at = turn_after log disk law old t x p gs shelf lt read kept step_at
+
+    -- what the tenant keeps now
+    pub now_at : kept_of (hosted log disk (after old t x p gs shelf)) t ≡ kept_in (world_of log p (disk shelf.store).files) gs
+    now_at = kept_now log disk law old t x p gs shelf lt read kept step_at
 
     -- what is met at that clock is what is seen
     pub met_at : (P : World → World → Type 0) (Q : Kept → Kept → Type 0)
-        → (P (world_at (kept_in (world_of log x.parts (disk old.shelf.store).files)) clock) (world_of log mid (disk shelf.store).files) → Q (kept_in (world_of log x.parts (disk old.shelf.store).files)) (kept_in (world_of log mid (disk shelf.store).files)))
+        → (P (at_clock (world_of log x.parts (disk old.shelf.store).files) clock) (world_of log mid (disk shelf.store).files) → Q (kept_in (world_of log x.parts (disk old.shelf.store).files) x.groups) (kept_in (world_of log mid (disk shelf.store).files) gs))
         → Meets (scene log disk q old.shelf) (scene log disk mid shelf) (P (world_of log q (disk old.shelf.store).files) (world_of log mid (disk shelf.store).files))
-        → IsMet t (disk shelf.store).honest (hosted log disk old) (hosted log disk (after old t x p shelf)) Q
-    met_at P Q so meets = met_after log disk law old t x p shelf lt read kept step_at Q (λ honest agree calm.
+        → IsMet t (disk shelf.store).honest (hosted log disk old) (hosted log disk (after old t x p gs shelf)) Q
+    met_at P Q so meets = met_after log disk law old t x p gs shelf lt read kept step_at Q (λ honest agree calm.
         let all = meets_counted (P (world_of log q (disk old.shelf.store).files) (world_of log mid (disk shelf.store).files)) meets in
-        subst (λ w. Q (kept_in (world_of log x.parts (disk old.shelf.store).files)) (kept_in w)) (sym same_world)
+        subst (λ w. Q (kept_in (world_of log x.parts (disk old.shelf.store).files) x.groups) (kept_in w gs)) (sym same_world)
         (so (subst (λ (v : Parts L). Meets (scene log disk v old.shelf) (scene log disk p shelf) (P (world_of log v (disk old.shelf.store).files) (world_of log mid (disk shelf.store).files))) set all honest (agrees_at agree) calm)))
 
-    -- where the world at that clock stays, all keep what they kept
-    pub stays_at : ((disk shelf.store).honest → Agrees log q (disk old.shelf.store).files → world_of log mid (disk shelf.store).files ≡ world_of log q (disk old.shelf.store).files)
-        → (disk shelf.store).honest → (u : ℕ) → kept_of (hosted log disk (after old t x p shelf)) u ≡ kept_of (hosted log disk old) u
-    stays_at same = stays_after log disk law old t x p shelf lt read kept step_at (λ honest agree.
-        ap kept_in (same_world ∙ same honest (subst (λ (v : Parts L). Agrees log v (disk old.shelf.store).files) (sym set) (agrees_at agree)))
-        ∙ ap (λ (v : Parts L). kept_in (world_of log v (disk old.shelf.store).files)) set)
+    -- where the world at that clock and the groups stay, all keep what they kept
+    pub stays_at : gs ≡ x.groups → ((disk shelf.store).honest → Agrees log q (disk old.shelf.store).files → world_of log mid (disk shelf.store).files ≡ world_of log q (disk old.shelf.store).files)
+        → (disk shelf.store).honest → (u : ℕ) → kept_of (hosted log disk (after old t x p gs shelf)) u ≡ kept_of (hosted log disk old) u
+    stays_at is same = stays_after log disk law old t x p gs shelf lt read kept step_at (λ honest agree.
+        ap (λ w. kept_in w gs) (same_world ∙ same honest (subst (λ (v : Parts L). Agrees log v (disk old.shelf.store).files) (sym set) (agrees_at agree)))
+        ∙ ap (λ (v : Parts L). kept_in (world_of log v (disk old.shelf.store).files) gs) set
+        ∙ ap (kept_in (world_of log x.parts (disk old.shelf.store).files)) is)
 
-    pub kept_stay_at : ((disk shelf.store).honest → Agrees log q (disk old.shelf.store).files → world_of log mid (disk shelf.store).files ≡ world_of log q (disk old.shelf.store).files) → AreKept log disk (after old t x p shelf)
-    kept_stay_at same = kept_same log disk law old t x p shelf lt read kept step_at (stays_at same)
+    pub kept_stay_at : gs ≡ x.groups → ((disk shelf.store).honest → Agrees log q (disk old.shelf.store).files → world_of log mid (disk shelf.store).files ≡ world_of log q (disk old.shelf.store).files) → AreKept log disk (after old t x p gs shelf)
+    kept_stay_at is same = kept_same log disk law old t x p gs shelf lt read kept step_at (stays_at is same)
 
     -- what is calm at that clock is seen to be calm
-    pub calm_at : IsCalm q.refusals p.refusals → IsCalm (refusals_of (hosted log disk old) t) (refusals_of (hosted log disk (after old t x p shelf)) t)
-    calm_at calm = calm_seen log disk law old t x p shelf lt read kept step_at (subst (λ (v : Parts L). IsCalm v.refusals p.refusals) set calm)
+    pub calm_at : IsCalm q.refusals p.refusals → IsCalm (refusals_of (hosted log disk old) t) (refusals_of (hosted log disk (after old t x p gs shelf)) t)
+    calm_at calm = calm_seen log disk law old t x p gs shelf lt read kept step_at (subst (λ (v : Parts L). IsCalm v.refusals p.refusals) set calm)
 
     -- and the other way round
-    pub calm_from : IsCalm (refusals_of (hosted log disk old) t) (refusals_of (hosted log disk (after old t x p shelf)) t) → IsCalm q.refusals p.refusals
-    calm_from calm = subst (λ (v : Parts L). IsCalm v.refusals p.refusals) (sym set) (calm_here log disk law old t x p shelf lt read kept step_at calm)
+    pub calm_from : IsCalm (refusals_of (hosted log disk old) t) (refusals_of (hosted log disk (after old t x p gs shelf)) t) → IsCalm q.refusals p.refusals
+    calm_from calm = subst (λ (v : Parts L). IsCalm v.refusals p.refusals) (sym set) (calm_here log disk law old t x p gs shelf lt read kept step_at calm)
 
     -- what the store refused meanwhile was counted
     pub accounted_at : (m : ℕ) → n ≡ min (q.refusals + m) END → (disk shelf.store).failures ≡ (disk old.shelf.store).failures + m
-        → IsAccounted (hosted log disk old) (hosted log disk (after old t x p shelf)) (disk old.shelf.store).failures (disk shelf.store).failures
+        → IsAccounted (hosted log disk old) (hosted log disk (after old t x p gs shelf)) (disk old.shelf.store).failures (disk shelf.store).failures
     accounted_at m count sum =
-        let at = there log disk law old t x p shelf lt read kept step_at in
+        let at = there log disk law old t x p gs shelf lt read kept step_at in
         let was = refusals_here log (disk old.shelf.store).files old.tenants.items t x at in
-        let is = refusals_here log (disk shelf.store).files (after old t x p shelf).tenants.items t (record x { parts = p }) (there_after log disk law old t x p shelf lt read kept step_at) in
+        let is = refusals_here log (disk shelf.store).files (after old t x p gs shelf).tenants.items t (record x { parts = p; groups = gs }) (there_after log disk law old t x p gs shelf lt read kept step_at) in
         let same = ap (λ (v : Parts L). v.refusals) set in
         let more = ap (λ (v : Parts L). v.refusals) counted in
-        subst (λ f. IsAccounted (hosted log disk old) (hosted log disk (after old t x p shelf)) (disk old.shelf.store).failures f) (sym sum)
-        (accounted_turn (hosted log disk old) (hosted log disk (after old t x p shelf)) t (disk old.shelf.store).failures m lt
-        (length_named (hosted log disk old) (hosted log disk (after old t x p shelf)) turn_at.names) turn_at.grows (omega (arith, count, more, was, is, same)))
+        subst (λ f. IsAccounted (hosted log disk old) (hosted log disk (after old t x p gs shelf)) (disk old.shelf.store).failures f) (sym sum)
+        (accounted_turn (hosted log disk old) (hosted log disk (after old t x p gs shelf)) t (disk old.shelf.store).failures m lt
+        (length_named (hosted log disk old) (hosted log disk (after old t x p gs shelf)) turn_at.names) turn_at.grows (omega (arith, count, more, was, is, same)))

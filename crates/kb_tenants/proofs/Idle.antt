@@ -1,5 +1,6 @@
--- Up to when no tenant has anything to drop.
-use Rattle.std.proofs.Common.{◌≡◌, ◌∙◌, ◌⊎◌, ⊎_elim, ◌≤◌, ◌<◌, ◌≤ℤ◌, ◌+◌, ℕ, ℤ, zero, suc, pos, false, List, [], ◌∷◌, ◌++◌, length, sym, ap, refl, subst, arith}
+-- Up to when a moment leaves each tenant what it keeps.
+use Rattle.std.proofs.Common.{◌≡◌, ◌∙◌, ◌⊎◌, ⊎_elim, ◌≤◌, ◌<◌, ◌≤ℤ◌, ◌+◌, ℕ, ℤ, zero, suc, pos, Bool, true, false, cond, nat_le, List, [], ◌∷◌, ◌++◌, length, sym, ap, refl, subst, arith}
+use Rattle.std.proofs.lemmas.Bool.Decides.{nat_tests}
 use Rattle.std.proofs.lemmas.Int.{ints}
 use Rattle.std.specs.Prelude.{map}
 use Rattle.std.specs.List.{flat_map}
@@ -7,6 +8,9 @@ use Rattle.std.specs.Cmp.Lexicographic.{slice_cmp}
 use Rattle.std.specs.FinMap.{empty, entries, len-empty, len-entries}
 use Rattle.std.specs.Ordering.{nat_cmp}
 use Rattle.std.proofs.lemmas.List.{length-map, get_or_past}
+use Rattle.kb_coordinator.specs.Calls as groups
+use Rattle.kb_coordinator.specs.Calls.{at_moment}
+use Rattle.kb_coordinator.specs.Groups.{Groups, earliest, none}
 use Rattle.kb_store.specs.Disk.{Files}
 use Rattle.kb_log.specs.OnShelf.{Log}
 use Rattle.kb_topics.specs.ByName.{by_name}
@@ -14,10 +18,10 @@ use Rattle.kb_topics.specs.Known.{TopicState}
 use Rattle.kb_world.specs.Calls.{at_clock, places_of_topic, retain_all, retain_each}
 use Rattle.kb_world.specs.Parts.{Agrees, world_of}
 use Rattle.kb_world.specs.World.{World}
-use Rattle.kb_world.specs.declared.parts.Parts.{Parts}
-use Rattle.kb_tenant.specs.Hosted.{TenantState, IsTurn, nothing, new_tenant, kept_in, kept_of, retained, world_at}
+use Rattle.kb_service.specs.Hosted.{TenantState, IsTurn, nothing, new_tenant, kept_in, kept_of, passed, world_at}
 use Rattle.kb_tenant.proofs.LogMoves.{same_or_not}
 use Rattle.kb_tenants.specs.Tenants.{IsIdleUntil}
+use Rattle.kb_tenants.specs.declared.tenants.Tenant.{Tenant}
 
 -- ---- nothing is kept
 
@@ -31,40 +35,58 @@ no_item (x ∷ xs) e = absurd (omega (arith, e))
 no_topic : by_name [] ≡ []
 no_topic = ap (map (λ (e : List ℕ × (ℕ × TopicState)). e.1)) (no_item (entries (empty {R = slice_cmp nat_cmp})) (sym (len-entries (empty {R = slice_cmp nat_cmp})) ∙ len-empty (slice_cmp nat_cmp) (ℕ × TopicState)))
 
--- where nothing is there is nothing to drop
-nothing_retained : (clock : ℕ) → retained clock nothing ≡ nothing
-unfolding retained
-nothing_retained clock = ap (λ ts. kept_in (retain_each (flat_map places_of_topic ts) (world_at nothing clock)).0) no_topic
+-- where no group is a moment leaves none
+no_group : (clock : ℕ) → groups.passed clock none ≡ none
+no_group clock = by (nat_le (earliest none.groups) clock)
+  where
+    by : (b : Bool) → cond b (at_moment clock none) none ≡ none
+    by true = refl
+    by false = refl
 
-pub past_retained : (ts : List TenantState) (t clock : ℕ) → length ts ≤ t → retained clock (kept_of ts t) ≡ kept_of ts t
-past_retained ts t clock le = subst (λ k. retained clock k ≡ k) (sym (past ts t le)) (nothing_retained clock)
+-- where nothing is there is nothing due
+nothing_passed : (clock : ℕ) → passed clock nothing ≡ nothing
+unfolding passed
+nothing_passed clock =
+    ap (λ ts. kept_in (retain_each (flat_map places_of_topic ts) (world_at nothing clock)).0 (groups.passed clock none)) no_topic
+    ∙ ap (kept_in (world_at nothing clock)) (no_group clock)
+
+pub past_passed : (ts : List TenantState) (t clock : ℕ) → length ts ≤ t → passed clock (kept_of ts t) ≡ kept_of ts t
+past_passed ts t clock le = subst (λ k. passed clock k ≡ k) (sym (past ts t le)) (nothing_passed clock)
 
 -- ---- one tenant
 
--- at each clock up to that one a tenant's parts have nothing to drop
-abbrev pub IsQuiet : {L : Type 0} → (L → Log) → Parts L → ℤ → Type 0
-IsQuiet log p until = (files : Files) → Agrees log p files → (clock : ℕ) → pos clock ≤ℤ until → retain_all (at_clock (world_of log p files) clock) ≡ (at_clock (world_of log p files) clock, false)
+-- at each clock up to that one a moment leaves a tenant what it keeps
+abbrev pub IsQuiet : {L : Type 0} → (L → Log) → Tenant L → ℤ → Type 0
+IsQuiet log x until = (files : Files) → Agrees log x.parts files → (clock : ℕ) → pos clock ≤ℤ until
+    → passed clock (kept_in (world_of log x.parts files) x.groups) ≡ kept_in (world_of log x.parts files) x.groups
 
-pub quiet_kept : (w : World) (clock : ℕ) → retain_all (at_clock w clock) ≡ (at_clock w clock, false) → retained clock (kept_in w) ≡ kept_in w
-unfolding retained
-quiet_kept w clock quiet = ap (λ r. kept_in r.0) quiet
+-- before the first moment at which a session ends or a deadline comes the groups stay
+pub not_due : (clock : ℕ) (gs : Groups) → clock < earliest gs.groups → groups.passed clock gs ≡ gs
+not_due clock gs early =
+    let before : nat_le (earliest gs.groups) clock ≡ false = grind (arith, nat_tests) in
+    ap (λ b. cond b (at_moment clock gs) gs) before
+
+-- where the topics have nothing to drop, and the groups nothing due
+pub quiet_kept : (w : World) (gs : Groups) (clock : ℕ) → retain_all (at_clock w clock) ≡ (at_clock w clock, false) → clock < earliest gs.groups → passed clock (kept_in w gs) ≡ kept_in w gs
+unfolding passed
+quiet_kept w gs clock quiet early = ap (λ r. kept_in r.0 (groups.passed clock gs)) quiet ∙ ap (kept_in w) (not_due clock gs early)
 
 -- ---- all tenants
 
 -- where there is none
 pub idle_none : (until : ℤ) (ts : List TenantState) → ts ≡ [] → IsIdleUntil until ts
-idle_none until ts none t clock le = past_retained ts t clock (omega (arith, ap length none))
+idle_none until ts none t clock le = past_passed ts t clock (omega (arith, ap length none))
 
 -- where all keep what they kept
 pub idle_stays : (until : ℤ) (old new : List TenantState) → ((t : ℕ) → kept_of new t ≡ kept_of old t) → IsIdleUntil until old → IsIdleUntil until new
-idle_stays until old new same idle t clock le = ap (retained clock) (same t) ∙ idle t clock le ∙ sym (same t)
+idle_stays until old new same idle t clock le = ap (passed clock) (same t) ∙ idle t clock le ∙ sym (same t)
 
 -- where one is looked at, and the others keep what they kept
 pub idle_turn : (until later : ℤ) (t : ℕ) (H : Type 0) (old new : List TenantState) → IsTurn t H old new → H → until ≤ℤ later → IsIdleUntil later old
-    → ((clock : ℕ) → pos clock ≤ℤ until → retained clock (kept_of new t) ≡ kept_of new t) → IsIdleUntil until new
+    → ((clock : ℕ) → pos clock ≤ℤ until → passed clock (kept_of new t) ≡ kept_of new t) → IsIdleUntil until new
 idle_turn until later t H old new turn honest sooner idle own u clock le = ⊎_elim
-    (λ same. subst (λ v. retained clock (kept_of new v) ≡ kept_of new v) (sym same) (own clock le))
-    (λ ne. let stays = turn.others honest u ne in ap (retained clock) stays ∙ idle u clock (omega (arith, ints, sooner, le)) ∙ sym stays)
+    (λ same. subst (λ v. passed clock (kept_of new v) ≡ kept_of new v) (sym same) (own clock le))
+    (λ ne. let stays = turn.others honest u ne in ap (passed clock) stays ∙ idle u clock (omega (arith, ints, sooner, le)) ∙ sym stays)
     (same_or_not u t)
 
 kept_pushed : (ts : List TenantState) (name : List ℕ) (t : ℕ) → kept_of (ts ++ new_tenant name ∷ []) t ≡ kept_of ts t
@@ -79,24 +101,24 @@ idle_added until ts name = idle_stays until ts (ts ++ new_tenant name ∷ []) (k
 
 -- ---- tenant by tenant
 
--- at each clock up to that one retention leaves each tenant before a place what it keeps
+-- at each clock up to that one a moment leaves each tenant before a place what it keeps
 abbrev pub IsIdleBelow : ℕ → ℤ → List TenantState → Type 0
-IsIdleBelow i until ts = (t clock : ℕ) → t < i → pos clock ≤ℤ until → retained clock (kept_of ts t) ≡ kept_of ts t
+IsIdleBelow i until ts = (t clock : ℕ) → t < i → pos clock ≤ℤ until → passed clock (kept_of ts t) ≡ kept_of ts t
 
 pub below_or_not : (u i : ℕ) → (u < i) ⊎ (i ≤ u)
 below_or_not u i = grind arith
 
 -- one more is looked at
 pub idle_next : (i : ℕ) (until later : ℤ) (ts : List TenantState) → until ≤ℤ later → IsIdleBelow i later ts
-    → ((clock : ℕ) → pos clock ≤ℤ until → retained clock (kept_of ts i) ≡ kept_of ts i) → IsIdleBelow (i + 1) until ts
+    → ((clock : ℕ) → pos clock ≤ℤ until → passed clock (kept_of ts i) ≡ kept_of ts i) → IsIdleBelow (i + 1) until ts
 idle_next i until later ts sooner below here t clock lt le = ⊎_elim
     (λ before. below t clock before (omega (arith, ints, sooner, le)))
-    (λ from. let same : i ≡ t = omega (arith, lt, from) in subst (λ v. retained clock (kept_of ts v) ≡ kept_of ts v) same (here clock le))
+    (λ from. let same : i ≡ t = omega (arith, lt, from) in subst (λ v. passed clock (kept_of ts v) ≡ kept_of ts v) same (here clock le))
     (below_or_not t i)
 
 -- behind the last tenant
 pub idle_over : (i : ℕ) (until : ℤ) (ts : List TenantState) → length ts ≤ i → IsIdleBelow i until ts → IsIdleUntil until ts
 idle_over i until ts all below t clock le = ⊎_elim
     (λ before. below t clock before le)
-    (λ from. past_retained ts t clock (omega (arith, all, from)))
+    (λ from. past_passed ts t clock (omega (arith, all, from)))
     (below_or_not t i)

@@ -7,7 +7,7 @@ use Rattle.kb_world.specs.Parts.{IsSound, world_of}
 use Rattle.kb_world.specs.Tied.{IsTied}
 use Rattle.kb_world.specs.declared.parts.Parts.{Parts}
 use Rattle.kb_world.proofs.Tied.{tied_world}
-use Rattle.kb_tenant.specs.Hosted.{kept_of, world_at}
+use Rattle.kb_service.specs.Hosted.{kept_of, world_at}
 use Rattle.kb_tenant.proofs.Tied.{clock_tied, new_tied}
 use Rattle.kb_tenant.specs.Waiting.{HasOwnNames}
 use Rattle.kb_tenant.proofs.Folding.{agreed_names}

@@ -2,9 +2,11 @@
 use Rattle.std.specs.Prelude.{◌≡◌, ◌≤ℤ◌, ℕ, ℤ, pos, List, Some, map, slice_get, string_bytes}
 use Rattle.kb_store.specs.Disk.{Disk, Table, Files}
 use Rattle.kb_log.specs.OnShelf.{Log}
+use Rattle.kb_coordinator.specs.Calls as groups
+use Rattle.kb_world.specs.Calls.{retain_all}
 use Rattle.kb_world.specs.Parts.{IsSound, Agrees, Owns, world_of}
 use Rattle.kb_world.specs.declared.parts.Parts.{Parts}
-use Rattle.kb_tenant.specs.Hosted.{TenantState, kept_in, kept_of, retained}
+use Rattle.kb_service.specs.Hosted.{Kept, TenantState, kept_in, kept_of, passed, world_at}
 use Rattle.kb_tenants.specs.declared.tenants.Tenant.{Tenant}
 use Rattle.kb_tenants.specs.declared.tenants.Tenants.{Tenants}
 
@@ -23,7 +25,7 @@ parts_of {L} ts = map (λ (x : Tenant L). x.parts) ts
 
 -- a tenant, where the files are those: its name, what it keeps, and how many refusals were counted for it
 abbrev pub state_of : {L : Type 0} → (L → Log) → Files → Tenant L → TenantState
-state_of log files x = record { name = string_bytes x.name; kept = kept_in (world_of log x.parts files); refusals = x.parts.refusals }
+state_of log files x = record { name = string_bytes x.name; kept = kept_in (world_of log x.parts files) x.groups; refusals = x.parts.refusals }
 
 -- whether the store has told the truth so far
 abbrev pub is_honest : {L S : Type 0} → (S → Disk) → Tenants L S → Type 0
@@ -33,12 +35,22 @@ is_honest disk ts = (disk ts.shelf.store).honest
 abbrev pub hosted : {L S : Type 0} → (L → Log) → (S → Disk) → Tenants L S → List TenantState
 hosted log disk ts = map (state_of log (disk ts.shelf.store).files) ts.tenants.items
 
--- at each clock up to that one retention leaves each tenant what it keeps
+-- ---- a moment
+
+-- its part for the groups, if a session of one ends or a deadline comes
+abbrev pub regrouped : ℕ → Kept → Kept
+regrouped clock kept = record kept { groups = groups.passed clock kept.groups }
+
+-- and what retention leaves then
+unfoldable pub retained : ℕ → Kept → Kept
+retained clock kept = kept_in (retain_all (world_at kept clock)).0 kept.groups
+
+-- at each clock up to that one a moment leaves each tenant what it keeps
 abbrev pub IsIdleUntil : ℤ → List TenantState → Type 0
-IsIdleUntil until ts = (t clock : ℕ) → pos clock ≤ℤ until → retained clock (kept_of ts t) ≡ kept_of ts t
+IsIdleUntil until ts = (t clock : ℕ) → pos clock ≤ℤ until → passed clock (kept_of ts t) ≡ kept_of ts t
 
 -- What holds between the calls: the parts are sound on the shelf; and on an honest store they agree with their files, and up to a
--- clock no tenant has anything to drop.
+-- clock a moment leaves each tenant what it keeps.
 pub record AreKept {L S : Type 0} (log : L → Log) (disk : S → Disk) (ts : Tenants L S) : Type 0 where
   pub sound : AreSound log (parts_of ts.tenants.items) (disk ts.shelf.store).table ts.shelf.next
   pub agree : is_honest disk ts → Agree log (parts_of ts.tenants.items) (disk ts.shelf.store).files

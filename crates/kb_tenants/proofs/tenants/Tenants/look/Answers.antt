@@ -1,7 +1,7 @@
-use Rattle.std.proofs.Common.{◌≡◌, ◌∙◌, ◌+◌, ◌-◌, ◌<◌, ap, subst, sym, arith}
+use Rattle.std.proofs.Common.{◌≡◌, ◌∙◌, ◌+◌, ◌-◌, ◌<◌, ap, refl, subst, sym, arith}
 use Rattle.std.specs.Prelude.{min}
-use Rattle.kb_world.specs.Parts.{END, world_of}
-use Rattle.kb_tenant.specs.Hosted.{kept_in, world_at}
+use Rattle.kb_world.specs.Parts.{END}
+use Rattle.kb_service.specs.Hosted.{kept_in, world_at}
 use Rattle.kb_tenant.specs.Replies.{IsAnswer}
 use Rattle.kb_tenant.specs.Serve.{looked}
 use Rattle.kb_tenants.proofs.Hosted.{accounted_at, sound_at, kept_stay_at, turn_at, met_at, stays_at, calm_at, calm_from}
@@ -18,33 +18,32 @@ look-answer-requires g c =
 pub returns-then-before-lt18446744073709551615-clause-kept : goal.returns-then-before-lt18446744073709551615-clause-kept
 returns-then-before-lt18446744073709551615-clause-kept g c =
     kept_stay_at g.L.PartitionLog.log g.S.Store.disk g.met.L.PartitionLog.lawful c.args.self.now c.args.tenant c.index_mut.result.now c.set_clock.new.self c.args.clock
-    c.requires.tenant c.index_mut.ensures.value c.requires.kept c.set_clock.ensures.parts c.look-answer.new.parts c.count_failures.new.parts (min (c.refusals-before.result + (c.failures.result - c.failures-failures.result)) END) c.look-answer.new.shelf c.count_failures.ensures c.look-answer.ensures.step c.look-answer.ensures.same
+    c.requires.tenant c.index_mut.ensures.value c.requires.kept c.set_clock.ensures.parts c.look-answer.new.parts c.count.new.parts (min (c.refusals-before.result + (c.failures.result - c.failures-failures.result)) END) c.index_mut.result.now.groups c.look-answer.new.shelf c.count.ensures c.look-answer.ensures.step refl c.look-answer.ensures.same
 
 pub returns-then-before-lt18446744073709551615-clause-turn : goal.returns-then-before-lt18446744073709551615-clause-turn
 returns-then-before-lt18446744073709551615-clause-turn g c =
     turn_at g.L.PartitionLog.log g.S.Store.disk g.met.L.PartitionLog.lawful c.args.self.now c.args.tenant c.index_mut.result.now c.set_clock.new.self c.args.clock
-    c.requires.tenant c.index_mut.ensures.value c.requires.kept c.set_clock.ensures.parts c.look-answer.new.parts c.count_failures.new.parts (min (c.refusals-before.result + (c.failures.result - c.failures-failures.result)) END) c.look-answer.new.shelf c.count_failures.ensures c.look-answer.ensures.step
+    c.requires.tenant c.index_mut.ensures.value c.requires.kept c.set_clock.ensures.parts c.look-answer.new.parts c.count.new.parts (min (c.refusals-before.result + (c.failures.result - c.failures-failures.result)) END) c.index_mut.result.now.groups c.look-answer.new.shelf c.count.ensures c.look-answer.ensures.step
 
 pub returns-then-before-lt18446744073709551615-clause-meets : goal.returns-then-before-lt18446744073709551615-clause-meets
 returns-then-before-lt18446744073709551615-clause-meets g c =
     let wait = c.args.wait.now in
-    let k = kept_in (world_of g.L.PartitionLog.log c.index_mut.result.now.parts (g.S.Store.disk c.args.self.now.shelf.store).files) in
     met_at g.L.PartitionLog.log g.S.Store.disk g.met.L.PartitionLog.lawful c.args.self.now c.args.tenant c.index_mut.result.now c.set_clock.new.self c.args.clock
-    c.requires.tenant c.index_mut.ensures.value c.requires.kept c.set_clock.ensures.parts c.look-answer.new.parts c.count_failures.new.parts (min (c.refusals-before.result + (c.failures.result - c.failures-failures.result)) END) c.look-answer.new.shelf c.count_failures.ensures c.look-answer.ensures.step
+    c.requires.tenant c.index_mut.ensures.value c.requires.kept c.set_clock.ensures.parts c.look-answer.new.parts c.count.new.parts (min (c.refusals-before.result + (c.failures.result - c.failures-failures.result)) END) c.index_mut.result.now.groups c.look-answer.new.shelf c.count.ensures c.look-answer.ensures.step
     (λ v u. (u ≡ v) × IsAnswer wait.correlation_id (looked v wait.deadline wait.api_version wait.body.now) c.look-answer.result)
     (λ v u. (u ≡ v) × IsAnswer wait.correlation_id (looked (world_at v c.args.clock) wait.deadline wait.api_version wait.body.now) c.look-answer.result)
-    (λ done. (ap kept_in done.0, done.1))
+    (λ done. (ap (λ w. kept_in w c.index_mut.result.now.groups) done.0, done.1))
     c.look-answer.ensures.meets
 
 pub returns-then-before-lt18446744073709551615-clause-stays : goal.returns-then-before-lt18446744073709551615-clause-stays
 returns-then-before-lt18446744073709551615-clause-stays g c =
     stays_at g.L.PartitionLog.log g.S.Store.disk g.met.L.PartitionLog.lawful c.args.self.now c.args.tenant c.index_mut.result.now c.set_clock.new.self c.args.clock
-    c.requires.tenant c.index_mut.ensures.value c.requires.kept c.set_clock.ensures.parts c.look-answer.new.parts c.count_failures.new.parts (min (c.refusals-before.result + (c.failures.result - c.failures-failures.result)) END) c.look-answer.new.shelf c.count_failures.ensures c.look-answer.ensures.step c.look-answer.ensures.same
+    c.requires.tenant c.index_mut.ensures.value c.requires.kept c.set_clock.ensures.parts c.look-answer.new.parts c.count.new.parts (min (c.refusals-before.result + (c.failures.result - c.failures-failures.result)) END) c.index_mut.result.now.groups c.look-answer.new.shelf c.count.ensures c.look-answer.ensures.step refl c.look-answer.ensures.same
 
 pub returns-then-before-lt18446744073709551615-clause-shut : goal.returns-then-before-lt18446744073709551615-clause-shut
 returns-then-before-lt18446744073709551615-clause-shut g c = λ loud. absurd (loud
     (calm_at g.L.PartitionLog.log g.S.Store.disk g.met.L.PartitionLog.lawful c.args.self.now c.args.tenant c.index_mut.result.now c.set_clock.new.self c.args.clock
-    c.requires.tenant c.index_mut.ensures.value c.requires.kept c.set_clock.ensures.parts c.look-answer.new.parts c.count_failures.new.parts (min (c.refusals-before.result + (c.failures.result - c.failures-failures.result)) END) c.look-answer.new.shelf c.count_failures.ensures c.look-answer.ensures.step
+    c.requires.tenant c.index_mut.ensures.value c.requires.kept c.set_clock.ensures.parts c.look-answer.new.parts c.count.new.parts (min (c.refusals-before.result + (c.failures.result - c.failures-failures.result)) END) c.index_mut.result.now.groups c.look-answer.new.shelf c.count.ensures c.look-answer.ensures.step
     (record {
       same = sym c.refusals.ensures ∙ c.if-refusals-before.true ∙ c.refusals-before.ensures;
       below = subst (λ n. n < END) c.refusals-before.ensures c.if-before-lt18446744073709551615.true;
@@ -53,7 +52,7 @@ returns-then-before-lt18446744073709551615-clause-shut g c = λ loud. absurd (lo
 pub returns-then-before-lt18446744073709551615-clause-accounted : goal.returns-then-before-lt18446744073709551615-clause-accounted
 returns-then-before-lt18446744073709551615-clause-accounted g c =
     accounted_at g.L.PartitionLog.log g.S.Store.disk g.met.L.PartitionLog.lawful c.args.self.now c.args.tenant c.index_mut.result.now c.set_clock.new.self c.args.clock
-    c.requires.tenant c.index_mut.ensures.value c.requires.kept c.set_clock.ensures.parts c.look-answer.new.parts c.count_failures.new.parts (min (c.refusals-before.result + (c.failures.result - c.failures-failures.result)) END) c.look-answer.new.shelf c.count_failures.ensures c.look-answer.ensures.step
+    c.requires.tenant c.index_mut.ensures.value c.requires.kept c.set_clock.ensures.parts c.look-answer.new.parts c.count.new.parts (min (c.refusals-before.result + (c.failures.result - c.failures-failures.result)) END) c.index_mut.result.now.groups c.look-answer.new.shelf c.count.ensures c.look-answer.ensures.step
     (c.failures.result - c.failures-failures.result) (ap (λ k. min (k + (c.failures.result - c.failures-failures.result)) END) c.refusals-before.ensures)
     (omega (arith, c.failures.ensures, c.failures-failures.ensures, c.look-answer.ensures.step.frame.failures))
 
@@ -62,17 +61,17 @@ returns-then-before-lt18446744073709551615-clause-accounted g c =
 pub returns-else-refusals-before-clause-kept : goal.returns-else-refusals-before-clause-kept
 returns-else-refusals-before-clause-kept g c =
     kept_stay_at g.L.PartitionLog.log g.S.Store.disk g.met.L.PartitionLog.lawful c.args.self.now c.args.tenant c.index_mut.result.now c.set_clock.new.self c.args.clock
-    c.requires.tenant c.index_mut.ensures.value c.requires.kept c.set_clock.ensures.parts c.look-answer.new.parts c.count_failures.new.parts (min (c.refusals-before.result + (c.failures.result - c.failures-failures.result)) END) c.look-answer.new.shelf c.count_failures.ensures c.look-answer.ensures.step c.look-answer.ensures.same
+    c.requires.tenant c.index_mut.ensures.value c.requires.kept c.set_clock.ensures.parts c.look-answer.new.parts c.count.new.parts (min (c.refusals-before.result + (c.failures.result - c.failures-failures.result)) END) c.index_mut.result.now.groups c.look-answer.new.shelf c.count.ensures c.look-answer.ensures.step refl c.look-answer.ensures.same
 
 pub returns-else-refusals-before-clause-turn : goal.returns-else-refusals-before-clause-turn
 returns-else-refusals-before-clause-turn g c =
     turn_at g.L.PartitionLog.log g.S.Store.disk g.met.L.PartitionLog.lawful c.args.self.now c.args.tenant c.index_mut.result.now c.set_clock.new.self c.args.clock
-    c.requires.tenant c.index_mut.ensures.value c.requires.kept c.set_clock.ensures.parts c.look-answer.new.parts c.count_failures.new.parts (min (c.refusals-before.result + (c.failures.result - c.failures-failures.result)) END) c.look-answer.new.shelf c.count_failures.ensures c.look-answer.ensures.step
+    c.requires.tenant c.index_mut.ensures.value c.requires.kept c.set_clock.ensures.parts c.look-answer.new.parts c.count.new.parts (min (c.refusals-before.result + (c.failures.result - c.failures-failures.result)) END) c.index_mut.result.now.groups c.look-answer.new.shelf c.count.ensures c.look-answer.ensures.step
 
 pub returns-else-refusals-before-clause-meets : goal.returns-else-refusals-before-clause-meets
 returns-else-refusals-before-clause-meets g c = λ honest seen.
     let calm = calm_from g.L.PartitionLog.log g.S.Store.disk g.met.L.PartitionLog.lawful c.args.self.now c.args.tenant c.index_mut.result.now c.set_clock.new.self c.args.clock
-    c.requires.tenant c.index_mut.ensures.value c.requires.kept c.set_clock.ensures.parts c.look-answer.new.parts c.count_failures.new.parts (min (c.refusals-before.result + (c.failures.result - c.failures-failures.result)) END) c.look-answer.new.shelf c.count_failures.ensures c.look-answer.ensures.step seen in
+    c.requires.tenant c.index_mut.ensures.value c.requires.kept c.set_clock.ensures.parts c.look-answer.new.parts c.count.new.parts (min (c.refusals-before.result + (c.failures.result - c.failures-failures.result)) END) c.index_mut.result.now.groups c.look-answer.new.shelf c.count.ensures c.look-answer.ensures.step seen in
     absurd (elim c.else-refusals-before.branch [
       | else-refusals-before-via-then-refusals-before+else-before-lt18446744073709551615 w ↦ omega (arith, w.if-before-lt18446744073709551615.false, c.refusals-before.ensures, calm.below)
       | else-refusals-before-via-else-refusals-before w ↦ w.if-refusals-before.false (c.refusals.ensures ∙ calm.same ∙ sym c.refusals-before.ensures)
@@ -81,11 +80,11 @@ returns-else-refusals-before-clause-meets g c = λ honest seen.
 pub returns-else-refusals-before-clause-stays : goal.returns-else-refusals-before-clause-stays
 returns-else-refusals-before-clause-stays g c =
     stays_at g.L.PartitionLog.log g.S.Store.disk g.met.L.PartitionLog.lawful c.args.self.now c.args.tenant c.index_mut.result.now c.set_clock.new.self c.args.clock
-    c.requires.tenant c.index_mut.ensures.value c.requires.kept c.set_clock.ensures.parts c.look-answer.new.parts c.count_failures.new.parts (min (c.refusals-before.result + (c.failures.result - c.failures-failures.result)) END) c.look-answer.new.shelf c.count_failures.ensures c.look-answer.ensures.step c.look-answer.ensures.same
+    c.requires.tenant c.index_mut.ensures.value c.requires.kept c.set_clock.ensures.parts c.look-answer.new.parts c.count.new.parts (min (c.refusals-before.result + (c.failures.result - c.failures-failures.result)) END) c.index_mut.result.now.groups c.look-answer.new.shelf c.count.ensures c.look-answer.ensures.step refl c.look-answer.ensures.same
 
 pub returns-else-refusals-before-clause-accounted : goal.returns-else-refusals-before-clause-accounted
 returns-else-refusals-before-clause-accounted g c =
     accounted_at g.L.PartitionLog.log g.S.Store.disk g.met.L.PartitionLog.lawful c.args.self.now c.args.tenant c.index_mut.result.now c.set_clock.new.self c.args.clock
-    c.requires.tenant c.index_mut.ensures.value c.requires.kept c.set_clock.ensures.parts c.look-answer.new.parts c.count_failures.new.parts (min (c.refusals-before.result + (c.failures.result - c.failures-failures.result)) END) c.look-answer.new.shelf c.count_failures.ensures c.look-answer.ensures.step
+    c.requires.tenant c.index_mut.ensures.value c.requires.kept c.set_clock.ensures.parts c.look-answer.new.parts c.count.new.parts (min (c.refusals-before.result + (c.failures.result - c.failures-failures.result)) END) c.index_mut.result.now.groups c.look-answer.new.shelf c.count.ensures c.look-answer.ensures.step
     (c.failures.result - c.failures-failures.result) (ap (λ k. min (k + (c.failures.result - c.failures-failures.result)) END) c.refusals-before.ensures)
     (omega (arith, c.failures.ensures, c.failures-failures.ensures, c.look-answer.ensures.step.frame.failures))

@@ -1,0 +1,5 @@
+pub mod ByRequest
+pub mod Committing
+pub mod Joining
+pub mod Keys
+pub mod Laws

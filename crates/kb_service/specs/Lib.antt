@@ -1,0 +1,3 @@
+pub mod Hosted
+pub mod Replies
+pub mod Serve

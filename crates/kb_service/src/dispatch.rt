@@ -1,0 +1,90 @@
+//! A request of a tenant, by its key.
+ghost use Rattle.std.specs.Prelude.{◌≡◌, ◌≤◌, ◌^◌, []};
+ghost use Rattle.kb_wire.specs.Codec.{string};
+ghost use Rattle.kb_world.specs.Parts.{scene};
+ghost use Rattle.kb_world.specs.Steps.{IsStep, Meets};
+ghost use Rattle.kb_service.specs.Serve.{has_released, served, IsOutcome, IsServed};
+
+use crate::answer::{Answer, Served};
+use crate::commits::commit_offsets;
+use crate::members::{heartbeat, join_group, leave_group, sync_group};
+use crate::replies::is_anyone_released;
+use kb_coordinator::Coordinator;
+use kb_log::{PartitionLog, Shelf};
+use kb_store::Store;
+use kb_tenant::{Node, Request};
+use kb_wire::ReadFault;
+use kb_world::{Parts, Place};
+use std::alloc::Global;
+
+/// Serves a request by its key.
+fn serve_by_key<L: PartitionLog + Drop, S: Store>(
+    alloc: Global,
+    parts: &mut Parts<L>,
+    groups: &mut Coordinator,
+    shelf: &mut Shelf<S>,
+    node: &Node<'_>,
+    request: &Request<'_>,
+    touched: &mut Vec<Place>,
+) -> Result<Answer, ReadFault>
+    requires untouched { touched.old.items ≡ [] }
+    requires host { string.Fits node.now.host }
+    requires clock { parts.old.clock ≤ 4611686018427387904 }
+    requires sound { (scene L.log S.disk parts.old shelf.old).sound }
+    ensures step { IsStep (scene L.log S.disk parts.old shelf.old) (scene L.log S.disk parts.new shelf.new) }
+    ensures meets { let a = scene L.log S.disk parts.old shelf.old in let b = scene L.log S.disk parts.new shelf.new in
+        Meets a b (IsServed request.now.correlation_id (served node.now a.state.world groups.old request.now.connection request.now.api_key request.now.api_version request.now.body.now) b.state.world groups.new touched.new.items result) }
+{
+    let clock = parts.clock();
+    match request.api_key {
+        8 => commit_offsets(alloc, parts, groups, shelf, request),
+        11 => join_group(alloc, groups, clock, request),
+        12 => heartbeat(alloc, groups, clock, request),
+        13 => leave_group(alloc, groups, clock, request),
+        14 => sync_group(alloc, groups, clock, request),
+        _ => {
+            groups.silence();
+            let served = kb_tenant::serve(alloc, parts, shelf, node, request);
+            *touched = served.touched;
+            Ok(Answer::Plain(served.answer))
+        }
+    }
+}
+
+/// Serves a request of a tenant, at the clock of its parts, in milliseconds.
+///
+/// A body that is not the API's, a key that is not a tenant's and a reply whose size does not fit an INT32 shut the connection. So does
+/// want of memory for the read request, the reply or a wait, which is counted; changes that were made stay, and a call of a group that
+/// was refused memory made none. The host is to fit a STRING.
+pub fn serve<L: PartitionLog + Drop, S: Store>(
+    alloc: Global,
+    parts: &mut Parts<L>,
+    groups: &mut Coordinator,
+    shelf: &mut Shelf<S>,
+    node: &Node<'_>,
+    request: &Request<'_>,
+) -> Served
+    requires host { string.Fits node.now.host }
+    requires clock { (scene L.log S.disk parts.old shelf.old).state.world.clock ≤ 2 ^ 62 }
+    requires sound { (scene L.log S.disk parts.old shelf.old).sound }
+    ensures step { IsStep (scene L.log S.disk parts.old shelf.old) (scene L.log S.disk parts.new shelf.new) }
+    ensures meets { let a = scene L.log S.disk parts.old shelf.old in let b = scene L.log S.disk parts.new shelf.new in
+        Meets a b (IsOutcome request.now.correlation_id (served node.now a.state.world groups.old request.now.connection request.now.api_key request.now.api_version request.now.body.now) b.state.world groups.new result.touched.items result.answer) }
+    ensures released { result.released ≡ has_released groups.new }
+{
+    let mut touched = Vec::new(alloc);
+    let answer = match serve_by_key(alloc, parts, groups, shelf, node, request, &mut touched) {
+        Ok(answer) => answer,
+        Err(ReadFault::Wire(_)) => Answer::Plain(kb_tenant::Answer::Shut),
+        Err(ReadFault::Memory) => {
+            parts.refuse();
+            Answer::Plain(kb_tenant::Answer::Shut)
+        }
+    };
+    let released = is_anyone_released(groups);
+    Served {
+        answer,
+        touched,
+        released,
+    }
+}

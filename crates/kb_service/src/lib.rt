@@ -1,0 +1,21 @@
+//! All that one tenant is served: each request by its key, those for topics and their logs by `kb_tenant`, those for consumer groups
+//! by `kb_coordinator`.
+//!
+//! `specs/Hosted.antt` says what a tenant keeps and what a moment leaves of it, `specs/Serve.antt` what each request makes of it and
+//! comes to, `specs/Replies.antt` what a connection gets.
+#![tactic(auto)]
+
+mod answer;
+mod commits;
+mod dispatch;
+mod members;
+mod promises;
+mod replies;
+
+pub use answer::{Answer, Served};
+pub use dispatch::serve;
+pub use promises::{
+    fetches_give_whole_batches, group_waits_elsewhere, logs_stay_small, names_stay_apart,
+    requests_again, requests_elsewhere, worlds_stay_tied,
+};
+pub use replies::tell;

@@ -1,0 +1,58 @@
+//! Laws about the definitions, each as the contract of a function with an empty body. What they say of retention and of the time
+//! `kb_tenant`'s laws of the same names say.
+ghost use Rattle.std.specs.Prelude.{◌≡◌, ℕ, ℤ, pos, List, Ok, None};
+ghost use Rattle.kb_wire.specs.Codec.{whole};
+ghost use Rattle.kb_api_data.specs.Layouts.{fetch_request};
+ghost use Rattle.kb_api_data.specs.declared.fetch.FetchRequest.{FetchRequest};
+ghost use Rattle.kb_coordinator.specs.Groups.{Groups, silent};
+ghost use Rattle.kb_world.specs.Tied.{IsTied};
+ghost use Rattle.kb_world.specs.World.{World};
+ghost use Rattle.kb_tenant.specs.Batches.{HasSmallLogs, HoldsBatches};
+ghost use Rattle.kb_tenant.specs.Fetch.{fetch_answer, places_of};
+ghost use Rattle.kb_tenant.specs.Replies.{Silent};
+ghost use Rattle.kb_tenant.specs.Waiting.{AreApart, HasOwnNames, StillWaits};
+ghost use Rattle.kb_tenant.specs.declared.node.Node.{Node};
+ghost use Rattle.kb_service.specs.Replies.{replies, told_to};
+ghost use Rattle.kb_service.specs.Serve.{served};
+
+/// The topics of a world stay tied to its logs, whatever is asked.
+pub fn worlds_stay_tied()
+    ensures { (node : Node) (w : World) (gs : Groups) (n : ℕ) (key version : ℤ) (body : List ℕ) → IsTied w → IsTied (served node w gs n key version body).world }
+{}
+
+/// No two topics of a world come to have one name, whatever is asked.
+pub fn names_stay_apart()
+    ensures { (node : Node) (w : World) (gs : Groups) (n : ℕ) (key version : ℤ) (body : List ℕ) → HasOwnNames w → HasOwnNames (served node w gs n key version body).world }
+{}
+
+/// A fetch that waits has no answer after a request that touches none of the places that it waits for, and waits for the same places.
+pub fn requests_elsewhere()
+    ensures { (node : Node) (w : World) (gs : Groups) (n : ℕ) (key version : ℤ) (body : List ℕ) (r : FetchRequest) (deadline : ℕ) → IsTied w
+        → fetch_answer w r deadline ≡ None → AreApart (places_of w r) (served node w gs n key version body).touched
+        → StillWaits w (served node w gs n key version body).world r deadline }
+{}
+
+/// A fetch that has no answer before and after a request waits for the same places, whatever the request touched.
+pub fn requests_again()
+    ensures { (node : Node) (w : World) (gs : Groups) (n : ℕ) (key version : ℤ) (body : List ℕ) (r : FetchRequest) (deadline : ℕ) → IsTied w → HasOwnNames w
+        → fetch_answer w r deadline ≡ None → fetch_answer (served node w gs n key version body).world r deadline ≡ None
+        → places_of (served node w gs n key version body).world r ≡ places_of w r }
+{}
+
+/// A request that waits for its group gets nothing after a request that is for no group.
+pub fn group_waits_elsewhere()
+    ensures { (node : Node) (w : World) (gs : Groups) (n k : ℕ) (key version : ℤ) (body : List ℕ) → (served node w gs n key version body).groups ≡ silent gs
+        → told_to k (served node w gs n key version body).groups ≡ Silent }
+{}
+
+/// The ends and the batches of a world's logs stay within their limits, whatever is asked.
+pub fn logs_stay_small()
+    ensures { (node : Node) (w : World) (gs : Groups) (n : ℕ) (key version : ℤ) (body : List ℕ) → HasSmallLogs w → HasSmallLogs (served node w gs n key version body).world }
+{}
+
+/// What a fetch (its key is 1) is answered at once: the one reply that the bytes spell, in which each partition without an error gives
+/// whole batches of its log as it is at that moment, one after the other, from the one that holds the asked offset.
+pub fn fetches_give_whole_batches()
+    ensures { (node : Node) (w : World) (gs : Groups) (n : ℕ) (version : ℤ) (body bytes : List ℕ) (r : FetchRequest) → HasSmallLogs w → whole fetch_request body ≡ Ok r
+        → (served node w gs n (pos 1) version body).reaction ≡ replies bytes → HoldsBatches w r bytes }
+{}

@@ -1,0 +1,47 @@
+use Rattle.std.proofs.Common.{◌+◌, ap, arith, to_z, of_z, w64}
+use Rattle.std.proofs.lemmas.Int.{ints}
+use Rattle.std.specs.Prelude.{min}
+use Rattle.kb_world.specs.Parts.{END}
+use Rattle.kb_tenants.proofs.Hosted.{accounted_counted, kept_counted, kept_own, met_counted, met_own, turn_counted}
+use Rattle.kb_tenants.proofs.tenants.Tenants.pass_groups.Goals as goal
+
+-- ---- nothing was due
+
+pub returns-in_default-clause-kept : goal.returns-in_default-clause-kept
+returns-in_default-clause-kept g c =
+    kept_own g.L.PartitionLog.log g.S.Store.disk g.met.L.PartitionLog.lawful c.args.self.now c.args.tenant c.index_mut-one.result.now c.pass.new.self
+    c.requires.tenant c.index_mut-one.ensures.value c.requires.kept c.in_default.ensures.none.1
+
+pub returns-in_default-clause-meets : goal.returns-in_default-clause-meets
+returns-in_default-clause-meets g c =
+    met_own g.L.PartitionLog.log g.S.Store.disk g.met.L.PartitionLog.lawful c.args.self.now c.args.tenant c.index_mut-one.result.now c.pass.new.self
+    c.requires.tenant c.index_mut-one.ensures.value c.requires.kept c.in_default.ensures.none.1
+    c.args.clock c.in_default.ensures.none.0
+
+-- ---- a moment
+
+pub returns-clause-kept : goal.returns-clause-kept
+returns-clause-kept g c =
+    kept_counted g.L.PartitionLog.log g.S.Store.disk g.met.L.PartitionLog.lawful c.args.self.now c.args.tenant c.index_mut-one.result.now c.pass.new.self
+    c.requires.tenant c.index_mut-one.ensures.value c.requires.kept c.count.new.parts
+    (min (c.refusals-before.result + c.in-Some.refused) END) c.count.ensures (to_z w64 (of_z w64 c.min-self.result)) (omega (arith, ints, c.min-self.ensures.self_bound))
+    (λ files agrees clock le. c.kept_until.ensures files agrees clock (omega (arith, ints, le, c.min-self.ensures.other_bound)))
+
+pub returns-clause-turn : goal.returns-clause-turn
+returns-clause-turn g c =
+    turn_counted g.L.PartitionLog.log g.S.Store.disk g.met.L.PartitionLog.lawful c.args.self.now c.args.tenant c.index_mut-one.result.now c.pass.new.self
+    c.requires.tenant c.index_mut-one.ensures.value c.requires.kept c.count.new.parts
+    (min (c.refusals-before.result + c.in-Some.refused) END) c.count.ensures
+
+pub returns-clause-accounted : goal.returns-clause-accounted
+returns-clause-accounted g c =
+    accounted_counted g.L.PartitionLog.log g.S.Store.disk g.met.L.PartitionLog.lawful c.args.self.now c.args.tenant c.index_mut-one.result.now c.pass.new.self
+    c.requires.tenant c.index_mut-one.ensures.value c.requires.kept c.count.new.parts
+    (min (c.refusals-before.result + c.in-Some.refused) END) c.count.ensures
+
+pub returns-clause-meets : goal.returns-clause-meets
+returns-clause-meets g c =
+    met_counted g.L.PartitionLog.log g.S.Store.disk g.met.L.PartitionLog.lawful c.args.self.now c.args.tenant c.index_mut-one.result.now c.pass.new.self
+    c.requires.tenant c.index_mut-one.ensures.value c.requires.kept c.count.new.parts
+    (min (c.refusals-before.result + c.in-Some.refused) END) c.count.ensures
+    c.args.clock c.in-Some.refused (ap (λ k. min (k + c.in-Some.refused) END) c.refusals-before.ensures) c.in-Some.ensures.all

@@ -7,12 +7,12 @@ use Rattle.std.specs.List.{AllByRecursion, remove}
 use Rattle.std.proofs.Math.Seq.{take-suc}
 use Rattle.std.proofs.lemmas.Bool.Decides.{nat_tests}
 use Rattle.kb_waits.specs.Queue.{AreParked, Queue}
-use Rattle.kb_tenant.specs.Hosted.{TenantState}
+use Rattle.kb_service.specs.Hosted.{TenantState}
 use Rattle.kb_machine.specs.Tenant.{Wait}
 use Rattle.kb_machine.specs.Session.{Stage, Greets, BoundTo, Session, fresh, is_free, fed, without_wait, shut_down}
 use Rattle.kb_machine.specs.Machine.{Line, those}
 use Rattle.kb_machine.specs.Calls.{other_than}
-use Rattle.kb_machine.specs.Owners.{find_line}
+use Rattle.kb_machine.specs.Machine.{find_line}
 use Rattle.kb_machine.specs.Broker.{BrokerState, IsSound, IsUnready, AreUnready, AnyWait, Rising}
 use Rattle.kb_machine.specs.declared.whom.Whom.{Whom}
 use Rattle.kb_machine.specs.Turned.{IsPassedOver, SameOthers, Waked}
@@ -22,11 +22,11 @@ use Rattle.kb_machine.proofs.Steps.{remove-those}
 use Rattle.kb_machine.proofs.Turns.{unready-same}
 use Rattle.kb_connection.specs.View.{with_session}
 use Rattle.kb_broker.specs.Places.{number_at, waits_in, IsPassed, ArePassed, AreWaked, IsLookedAt, IsOneMore}
-use Rattle.kb_broker.specs.Parked.{deadline_at, deadline_in, until_of, IsKeyedIn, IsOwnedIn, IsQueueOf, IsUnreadyIn, IsUnreadyAt, IsAmong, IsSoughtAt, IsSoughtIn, SameBut, AreMinded}
+use Rattle.kb_broker.specs.Parked.{until, deadline_at, deadline_in, until_of, IsKeyedIn, IsOwnedIn, IsQueueOf, IsUnreadyIn, IsUnreadyAt, IsAmong, IsSoughtAt, IsSoughtIn, SameBut, AreMinded}
 use Rattle.kb_broker.proofs.Placed.{get-at, number_at-is}
 use Rattle.kb_broker.proofs.Handled.{put_with, fed-stage}
 use Rattle.kb_broker.proofs.Looked.{looked-number, looked-waked, one-more, waked-more}
-use Rattle.kb_broker.proofs.Parked.{IsCarried, IsMindedOne, carried-same, each-find, minded-all, minded-more, nobody-waits, sought-minded}
+use Rattle.kb_broker.proofs.Parked.{IsCarried, IsMindedOne, carried-in, carried-same, each-find, minded-all, minded-more, nobody-waits, sought-minded}
 
 -- 1. Nobody waits
 
@@ -49,7 +49,7 @@ dateless (Some s) e = at s.stage e
 -- where the queue is empty no connection waits
 pub none-waits : (H : Type 0) (q : Queue) (a b : BrokerState) → a ≡ b → IsQueueOf H q a.tenants a.lines → Rising 0 b.last b.lines → fin.len q ≡ 0 → AllByRecursion (λ (l : Line). waits_in (Some l.session) ≡ false) b.lines
 none-waits H q a b e v rising empty =
-    each-find (λ o. waits_in o ≡ false) 0 b.last b.lines rising (λ n.
+    each-find (λ n o. waits_in o ≡ false) 0 b.last b.lines rising (λ n.
     dateless (find_line n b.lines) (ap (λ (x : BrokerState). deadline_in (find_line n x.lines)) (sym e) ∙ nobody-waits H q a.tenants n a.lines v (empty-none q n empty)))
 
 -- and no wait is looked for
@@ -80,14 +80,14 @@ find-closed P m n ls other own = by (eqb m n) refl
     by false e = let ne = eqb_other m n e in subst P (sym (find-closed_other m n ls ne)) (other ne)
 
 -- the connection at a place is closed, and stands in the queue no longer
-pub queue-closed : (H : Type 0) (q p : Queue) (ts : List TenantState) (low last : ℕ) (ls : List Line) (i : ℕ) (l : Line) → IsQueueOf H q ts ls → Rising low last ls → IsAt ls i l
-    → ((k : ℕ) → k ≢ l.number → fin.get p k ≡ fin.get q k) → fin.get p l.number ≡ None → IsQueueOf H p ts (remove ls i)
-queue-closed H q p ts low last ls i l v rising at others gone =
-    subst (IsQueueOf H p ts) (sym (remove-those low last ls i l rising at))
+pub queue-closed : (H G : Type 0) (q p : Queue) (ts us : List TenantState) (low last : ℕ) (ls : List Line) (i : ℕ) (l : Line) → IsQueueOf H q ts ls → Rising low last ls → IsAt ls i l
+    → ((k : ℕ) → k ≢ l.number → fin.get p k ≡ fin.get q k) → fin.get p l.number ≡ None → (G → H) → IsCarried ts us ls q → IsQueueOf G p us (remove ls i)
+queue-closed H G q p ts us low last ls i l v rising at others gone back carried =
+    subst (IsQueueOf G p us) (sym (remove-those low last ls i l rising at))
     (record {
       dated = λ n. find-closed (λ o. until_of (fin.get p n) ≡ deadline_in o) l.number n ls (λ ne. ap until_of (others n ne) ∙ v.dated n) (λ is. ap until_of (ap (fin.get p) is ∙ gone));
       owned = λ n. find-closed (λ o. IsOwnedIn o (fin.get p n)) l.number n ls (λ ne. subst (IsOwnedIn (find_line n ls)) (sym (others n ne)) (v.owned n)) (λ is. tt);
-      keyed = λ honest n. find-closed (λ o. IsKeyedIn ts o (fin.get p n)) l.number n ls (λ ne. subst (IsKeyedIn ts (find_line n ls)) (sym (others n ne)) (v.keyed honest n)) (λ is. tt);
+      keyed = λ honest n. find-closed (λ o. IsKeyedIn us n o (fin.get p n)) l.number n ls (λ ne. subst (IsKeyedIn us n (find_line n ls)) (sym (others n ne)) (carried-in ts us ls q n carried (v.keyed (back honest) n))) (λ is. tt);
     })
 
 -- 3. What a connection waits for
@@ -109,7 +109,7 @@ from_some None b P Q f e t h = let no : false ≡ true = e ∙ ap not t in absur
 from_some (Some x) b P Q f e t h = f x h
 
 pub deadline-some : (st : Stage) (t : ℕ) (w : Wait) → st ≡ BoundTo t (Some w) → deadline_at st ≡ None → ⊥
-deadline-some st t w e none = let no : Some w.deadline ≡ None = sym (ap deadline_at e) ∙ none in cc
+deadline-some st t w e none = let no : Some (until w.awaited) ≡ None = sym (ap deadline_at e) ∙ none in cc
 
 -- the wait is as it was, where there is one
 pub stage-kept : (old new : Stage) → (new ≡ old) ⊎ (deadline_at new ≡ None) → (deadline_at new ≡ None → ⊥) → new ≡ old
@@ -140,7 +140,7 @@ looked-carried H honest whom clock ts us l m (BoundTo t (Some w)) ls q (inl p) =
 looked-carried H honest whom clock ts us l m (BoundTo t (Some w)) ls q (inr p) = carried-same ts us ls q p.1.turn.grows (p.1.stays honest)
 
 -- the connection waits for nothing that is ready then, or nothing was looked at
-looked-either : (H : Type 0) → H → (whom : Whom) (b : BrokerState) (l m : Line) (us : List TenantState) (st : Stage) → IsLookedAt H whom b.clock st b.tenants us l m → IsUnready AnyWait b m.session.stage ⊎ ((m ≡ l) × (IsSoughtAt whom b.clock st → IsUnready AnyWait b st))
+looked-either : (H : Type 0) → H → (whom : Whom) (b : BrokerState) (l m : Line) (us : List TenantState) (st : Stage) → IsLookedAt H whom b.clock st b.tenants us l m → IsUnready AnyWait b l.number m.session.stage ⊎ ((m ≡ l) × (IsSoughtAt whom b.clock st → IsUnready AnyWait b l.number st))
 looked-either H honest whom b l m us (Greets h) p = inr (p.1, λ s. tt)
 looked-either H honest whom b l m us (BoundTo t None) p = inr (p.1, λ s. tt)
 looked-either H honest whom b l m us (BoundTo t (Some w)) (inl p) = inr (p.1.1, λ s. (let no : true ≡ false = sym s ∙ p.0 in absurd (cc)))
@@ -150,7 +150,7 @@ minded-one : (H : Type 0) → H → (whom : Whom) (b : BrokerState) (i : ℕ) (l
 minded-one H honest whom b i l m us sound at is = record {
   waked = waked;
   others = (one-more H whom b i l m us sound at is).others;
-  rest = λ u. unready (left (subst (IsUnreadyIn b) before u));
+  rest = λ u. unready (left (subst (λ n. IsUnready AnyWait b n l.session.stage) number (subst (IsUnreadyIn b (number_at i b)) before u)));
   done = λ s. unready (looked (subst (IsSoughtIn whom b.clock) before s));
   todo = todo (looked-either H honest whom b l m us l.session.stage is);
 }
@@ -173,24 +173,24 @@ minded-one H honest whom b i l m us sound at is = record {
     after : find_line (number_at i b) c.lines ≡ Some m.session
     after = ap (λ n. find_line n c.lines) (number ∙ sym same) ∙ find-at 0 b.last c.lines i m (rising-set 0 b.last b.lines i l m sound.rising at same) (set-at b.lines i l m at)
 
-    unready : IsUnready AnyWait b m.session.stage → IsUnreadyAt (number_at i b) c
-    unready u = subst (IsUnreadyIn c) (sym after) (unready-same AnyWait b c m.session.stage refl waked.kept u)
+    unready : IsUnready AnyWait b l.number m.session.stage → IsUnreadyAt (number_at i b) c
+    unready u = subst (IsUnreadyIn c (number_at i b)) (sym after) (subst (λ n. IsUnready AnyWait c n m.session.stage) (sym number) (unready-same AnyWait b c l.number m.session.stage refl waked.kept u))
 
-    left : IsUnready AnyWait b l.session.stage → IsUnready AnyWait b m.session.stage
+    left : IsUnready AnyWait b l.number l.session.stage → IsUnready AnyWait b l.number m.session.stage
     left u = by (looked-either H honest whom b l m us l.session.stage is)
       where
-        by : IsUnready AnyWait b m.session.stage ⊎ ((m ≡ l) × (IsSoughtAt whom b.clock l.session.stage → IsUnready AnyWait b l.session.stage)) → IsUnready AnyWait b m.session.stage
+        by : IsUnready AnyWait b l.number m.session.stage ⊎ ((m ≡ l) × (IsSoughtAt whom b.clock l.session.stage → IsUnready AnyWait b l.number l.session.stage)) → IsUnready AnyWait b l.number m.session.stage
         by (inl v) = v
-        by (inr p) = subst (λ (x : Line). IsUnready AnyWait b x.session.stage) (sym p.0) u
+        by (inr p) = subst (λ (x : Line). IsUnready AnyWait b l.number x.session.stage) (sym p.0) u
 
-    looked : IsSoughtAt whom b.clock l.session.stage → IsUnready AnyWait b m.session.stage
+    looked : IsSoughtAt whom b.clock l.session.stage → IsUnready AnyWait b l.number m.session.stage
     looked s = by (looked-either H honest whom b l m us l.session.stage is)
       where
-        by : IsUnready AnyWait b m.session.stage ⊎ ((m ≡ l) × (IsSoughtAt whom b.clock l.session.stage → IsUnready AnyWait b l.session.stage)) → IsUnready AnyWait b m.session.stage
+        by : IsUnready AnyWait b l.number m.session.stage ⊎ ((m ≡ l) × (IsSoughtAt whom b.clock l.session.stage → IsUnready AnyWait b l.number l.session.stage)) → IsUnready AnyWait b l.number m.session.stage
         by (inl v) = v
         by (inr p) = left (p.1 s)
 
-    todo : IsUnready AnyWait b m.session.stage ⊎ ((m ≡ l) × (IsSoughtAt whom b.clock l.session.stage → IsUnready AnyWait b l.session.stage)) → IsUnreadyAt (number_at i b) c ⊎ (find_line (number_at i b) c.lines ≡ find_line (number_at i b) b.lines)
+    todo : IsUnready AnyWait b l.number m.session.stage ⊎ ((m ≡ l) × (IsSoughtAt whom b.clock l.session.stage → IsUnready AnyWait b l.number l.session.stage)) → IsUnreadyAt (number_at i b) c ⊎ (find_line (number_at i b) c.lines ≡ find_line (number_at i b) b.lines)
     todo (inl u) = inl (unready u)
     todo (inr p) = inr (after ∙ (ap (λ (x : Line). Some x.session) p.0 ∙ sym before))
 

@@ -13,13 +13,14 @@ use Rattle.std.proofs.lemmas.List.Elements.{All-contains, Contains-push_cases}
 use Rattle.kb_waits.specs.Queue as queue
 use Rattle.kb_waits.specs.Queue.{Queue}
 use Rattle.kb_store.specs.Disk.{Disk}
-use Rattle.kb_tenant.specs.Hosted as hosted
-use Rattle.kb_tenant.specs.Hosted.{TenantState, IsTurn}
+use Rattle.kb_service.specs.Hosted as hosted
+use Rattle.kb_service.specs.Hosted.{TenantState, IsTurn}
 use Rattle.kb_tenant.specs.Replies.{Silent}
 use Rattle.kb_machine.specs.Tenant.{Wait, ready}
 use Rattle.kb_machine.specs.Session.{Stage, Greets, BoundTo, Session, can, fresh, is_free, without_wait}
 use Rattle.kb_machine.specs.Machine.{Line, Moment, first_able}
-use Rattle.kb_machine.specs.Owners.{find_line, whose}
+use Rattle.kb_machine.specs.Owners.{whose}
+use Rattle.kb_machine.specs.Machine.{find_line}
 use Rattle.kb_machine.specs.Broker.{BrokerState, IsSound, IsUnready, AreUnready, AnyWait}
 use Rattle.kb_machine.specs.declared.whom.Whom.{Whom}
 use Rattle.kb_machine.specs.declared.whom.Whom.TheVariants as whoms
@@ -27,7 +28,7 @@ use Rattle.kb_machine.specs.Turned.{Scope, Everybody, AreStill, IsGoing, IsLooke
 use Rattle.kb_machine.proofs.Sets.{IsAt, all-map, none-able, find-at}
 use Rattle.kb_machine.proofs.Parts.{eqb_same, eqb_other}
 use Rattle.kb_machine.proofs.Owned.{found as found-all}
-use Rattle.kb_machine.proofs.Quiet.{first-silent, own-turn}
+use Rattle.kb_machine.proofs.Quiet.{first-silent}
 use Rattle.kb_machine.proofs.Turns.{going-same, going-then, turned-same, turned-then, unready-weaken}
 use Rattle.kb_machine.proofs.Wakes.{turned-served}
 use Rattle.kb_broker.specs.Hosts.{OnStore, is_honest, IsLater, IsReadyOn, NoneReady, StepsTo}
@@ -118,7 +119,7 @@ next-least b i l ns sound at least among able = record {
 
 -- nobody can take a turn where the set of those that can is empty
 pub none-among : (b : BrokerState) (ns : List ℕ) → IsSound b → ns ≡ [] → AreAmong ns b → first_able b.lines ≡ None
-none-among b ns sound none among = none-able b.lines (each-find (λ o. can_in o ≡ false) 0 b.last b.lines sound.rising (λ n. by n (can_in (find_line n b.lines)) refl))
+none-among b ns sound none among = none-able b.lines (each-find (λ n o. can_in o ≡ false) 0 b.last b.lines sound.rising (λ n. by n (can_in (find_line n b.lines)) refl))
   where
     by : (n : ℕ) (c : Bool) → can_in (find_line n b.lines) ≡ c → can_in (find_line n b.lines) ≡ false
     by n true e = let c = subst (λ ks. Contains ks n) none (among n e) in absurd (let h = c.1 in omega (arith, h))
@@ -250,19 +251,19 @@ carried-at H honest (Greets h) b us q unready turn asked = subst (λ ts. IsCarri
 carried-at H honest (BoundTo t w) b us q unready turn asked = carried-turn H honest t b.tenants us b.lines q turn asked (waiting-on b unready)
 
 queue-taken : (H G : Type 0) (q p : Queue) (b : BrokerState) (i : ℕ) (l m : Line) (us : List TenantState) → IsQueueOf H q b.tenants b.lines → IsTaken G b i l m us → (G → H) → (H → AreUnready AnyWait b) → (G → IsAskedOnAt l.session.stage b.tenants us)
-    → ((k : ℕ) → k ≢ l.number → fin.get p k ≡ fin.get q k) → until_of (fin.get p l.number) ≡ deadline_at m.session.stage → IsOwnedAt m.session.stage (fin.get p l.number) → (G → IsKeyedAt us m.session.stage (fin.get p l.number)) → IsQueueOf G p us (set b.lines i m)
+    → ((k : ℕ) → k ≢ l.number → fin.get p k ≡ fin.get q k) → until_of (fin.get p l.number) ≡ deadline_at m.session.stage → IsOwnedAt m.session.stage (fin.get p l.number) → (G → IsKeyedAt us l.number m.session.stage (fin.get p l.number)) → IsQueueOf G p us (set b.lines i m)
 queue-taken H G q p b i l m us v k back unready asked parked dated owned keyed =
     queue-put H G q p b.tenants us 0 b.last b.lines i l m v k.next.sound.rising k.at k.number back parked dated owned
     (λ honest. carried-at G honest l.session.stage b us q (unready (back honest)) k.turn (asked honest)) keyed
 
 -- the queue after a turn, where a is what the broker's own fields are
 pub queue-turn : (H G : Type 0) (q p : Queue) (a b : BrokerState) (i : ℕ) (l m : Line) (us : List TenantState) → a ≡ b → IsQueueOf H q a.tenants a.lines → IsTaken G b i l m us → (G → H) → (H → AreUnready AnyWait b) → (G → IsAskedOnAt l.session.stage a.tenants us)
-    → ((k : ℕ) → k ≢ l.number → fin.get p k ≡ fin.get q k) → until_of (fin.get p l.number) ≡ deadline_at m.session.stage → IsOwnedAt m.session.stage (fin.get p l.number) → (G → IsKeyedAt us m.session.stage (fin.get p l.number)) → IsQueueOf G p us (set a.lines i m)
+    → ((k : ℕ) → k ≢ l.number → fin.get p k ≡ fin.get q k) → until_of (fin.get p l.number) ≡ deadline_at m.session.stage → IsOwnedAt m.session.stage (fin.get p l.number) → (G → IsKeyedAt us l.number m.session.stage (fin.get p l.number)) → IsQueueOf G p us (set a.lines i m)
 queue-turn H G q p a b i l m us e v k back unready asked parked dated owned keyed =
     subst (λ (x : BrokerState). IsQueueOf H q x.tenants x.lines → (G → IsAskedOnAt l.session.stage x.tenants us) → IsQueueOf G p us (set x.lines i m)) (sym e)
     (λ v' asked'. queue-taken H G q p b i l m us v' k back unready asked' parked dated owned keyed) v asked
 
--- whose waiting fetches are to be looked at after it
+-- whose waiting requests are to be looked at after it
 pub served-by : (H : Type 0) → H → (c : Concerned) (scope : Scope) (b : BrokerState) (i : ℕ) (l m : Line) (us : List TenantState) (q : Queue) → AreStill scope b → AreUnready AnyWait b → IsTaken H b i l m us → IsTakenAt H b.setup b.clock l.number l.session.stage b.tenants us l.session m.session
     → IsWhose c l.session.stage → IsLeftBy c b.setup b.clock l.session.stage l.number q b.tenants us l.session m.session → IsServedFor c scope b (put_with b i m us)
 served-by H honest concerned.Nobody scope b i l m us q still unready k is who left = served-quiet H honest scope b i l m us still unready k is left
@@ -271,28 +272,8 @@ served-by H honest (concerned.All t) scope b i l m us q still unready k is who l
 
 -- the turn of a connection bound to a tenant leaves no wait of the tenant ready but among those
 record IsSpared (t : ℕ) (ns : List ℕ) (b : BrokerState) (l m : Line) (us : List TenantState) (d : BrokerState) : Type 0 where
-  own : IsUnready AnyWait d m.session.stage ⊎ (Contains ns l.number × IsSoughtAt (whoms.Tenant t) d.clock m.session.stage)
-  others : (k : ℕ) (y : Session) (w : Wait) → k ≢ l.number → find_line k b.lines ≡ Some y → y.stage ≡ BoundTo t (Some w) → ready (hosted.kept_of b.tenants t) b.clock w ≡ Silent → (ready (hosted.kept_of us t) b.clock w ≡ Silent) ⊎ Contains ns k
-
--- where the queue has each fetch under what it asks
-spared-passed : (H : Type 0) → H → (G : Type 0) → G → (t : ℕ) (x : Option Wait) (ns : List ℕ) (b : BrokerState) (i : ℕ) (l m : Line) (us : List TenantState) (q : Queue) → IsTaken H b i l m us → l.session.stage ≡ BoundTo t x → IsQueueOf G q b.tenants b.lines
-    → IsTurn t H b.tenants us → IsPassedOn b.setup t b.clock l.number q b.tenants us l.session m.session ns → IsSpared t ns b l m us (put_with b i m us)
-spared-passed H honest G true-so t x ns b i l m us q taken bound v turn p = record {
-  own = inl (own-turn b i t l m us H turn honest taken.at (able-free l.session taken.able) (ap without_wait bound) (taken.spent.stage t x bound) p.session p.kept);
-  others = λ k y w ne e f silent. mine k y w ne e f silent (among k ns);
-}
-  where
-    calm : hosted.refusals_of b.tenants t ≡ 0
-    calm = let up = turn.grows t in let end = p.calm in omega (arith, up, end)
-
-    apart : (k : ℕ) (y : Session) (w : Wait) → k ≢ l.number → find_line k b.lines ≡ Some y → y.stage ≡ BoundTo t (Some w) → ready (hosted.kept_of b.tenants t) b.clock w ≡ Silent → (Contains ns k → ⊥) → ready (hosted.kept_of us t) b.clock w ≡ Silent
-    apart k y w ne e f silent not-in =
-        let keyed : IsKeyedAt b.tenants (BoundTo t (Some w)) (fin.get q k) = subst (λ st. IsKeyedAt b.tenants st (fin.get q k)) f (subst (λ o. IsKeyedIn b.tenants o (fin.get q k)) e (v.keyed true-so k)) in
-        p.others k w ne not-in (keyed calm (first-silent (hosted.kept_of b.tenants t) b.clock w silent)) silent
-
-    mine : (k : ℕ) (y : Session) (w : Wait) → k ≢ l.number → find_line k b.lines ≡ Some y → y.stage ≡ BoundTo t (Some w) → ready (hosted.kept_of b.tenants t) b.clock w ≡ Silent → Contains ns k ⊎ (Contains ns k → ⊥) → (ready (hosted.kept_of us t) b.clock w ≡ Silent) ⊎ Contains ns k
-    mine k y w ne e f silent (inl c) = inr c
-    mine k y w ne e f silent (inr not-in) = inl (apart k y w ne e f silent not-in)
+  own : Contains ns l.number × IsSoughtAt (whoms.Tenant t) d.clock m.session.stage
+  others : (k : ℕ) (y : Session) (w : Wait) → k ≢ l.number → find_line k b.lines ≡ Some y → y.stage ≡ BoundTo t (Some w) → ready (hosted.kept_of b.tenants t) b.clock k w ≡ Silent → (ready (hosted.kept_of us t) b.clock k w ≡ Silent) ⊎ Contains ns k
 
 -- a connection bound to a tenant waits for what is looked for as the tenant's
 sought-own : (t clock : ℕ) (st : Stage) → without_wait st ≡ BoundTo t None → IsSoughtAt (whoms.Tenant t) clock st
@@ -300,11 +281,31 @@ sought-own t clock (Greets h) e = tt
 sought-own t clock (BoundTo u None) e = tt
 sought-own t clock (BoundTo u (Some w)) e = let is : u ≡ t = cc in grind (arith, nat_tests, is)
 
+-- where the queue has each that waits under what it asks
+spared-passed : (H G : Type 0) → G → (t : ℕ) (x : Option Wait) (ns : List ℕ) (b : BrokerState) (i : ℕ) (l m : Line) (us : List TenantState) (q : Queue) → IsTaken H b i l m us → l.session.stage ≡ BoundTo t x → IsQueueOf G q b.tenants b.lines
+    → IsTurn t H b.tenants us → IsPassedOn b.setup t b.clock l.number q b.tenants us l.session m.session ns → IsSpared t ns b l m us (put_with b i m us)
+spared-passed H G true-so t x ns b i l m us q taken bound v turn p = record {
+  own = (p.own, sought-own t b.clock m.session.stage (taken.spent.stage t x bound ∙ ap without_wait bound));
+  others = λ k y w ne e f silent. mine k y w ne e f silent (among k ns);
+}
+  where
+    calm : hosted.refusals_of b.tenants t ≡ 0
+    calm = let up = turn.grows t in let end = p.calm in omega (arith, up, end)
+
+    apart : (k : ℕ) (y : Session) (w : Wait) → k ≢ l.number → find_line k b.lines ≡ Some y → y.stage ≡ BoundTo t (Some w) → ready (hosted.kept_of b.tenants t) b.clock k w ≡ Silent → (Contains ns k → ⊥) → ready (hosted.kept_of us t) b.clock k w ≡ Silent
+    apart k y w ne e f silent not-in =
+        let keyed : IsKeyedAt b.tenants k (BoundTo t (Some w)) (fin.get q k) = subst (λ st. IsKeyedAt b.tenants k st (fin.get q k)) f (subst (λ o. IsKeyedIn b.tenants k o (fin.get q k)) e (v.keyed true-so k)) in
+        p.others k w ne not-in (keyed calm (first-silent (hosted.kept_of b.tenants t) b.clock k w silent)) silent
+
+    mine : (k : ℕ) (y : Session) (w : Wait) → k ≢ l.number → find_line k b.lines ≡ Some y → y.stage ≡ BoundTo t (Some w) → ready (hosted.kept_of b.tenants t) b.clock k w ≡ Silent → Contains ns k ⊎ (Contains ns k → ⊥) → (ready (hosted.kept_of us t) b.clock k w ≡ Silent) ⊎ Contains ns k
+    mine k y w ne e f silent (inl c) = inr c
+    mine k y w ne e f silent (inr not-in) = inl (apart k y w ne e f silent not-in)
+
 -- where all of the tenant's are among those
 spared-all : (H G : Type 0) (t : ℕ) (x : Option Wait) (ns : List ℕ) (b : BrokerState) (i : ℕ) (l m : Line) (us : List TenantState) (q : Queue) → IsTaken H b i l m us → l.session.stage ≡ BoundTo t x → IsQueueOf G q b.tenants b.lines
     → AreAllOf t l.number q ns → IsSpared t ns b l m us (put_with b i m us)
 spared-all H G t x ns b i l m us q taken bound v all = record {
-  own = inr (all.own, sought-own t b.clock m.session.stage (taken.spent.stage t x bound ∙ ap without_wait bound));
+  own = (all.own, sought-own t b.clock m.session.stage (taken.spent.stage t x bound ∙ ap without_wait bound));
   others = λ k y w ne e f silent. inr (all.others k ne (subst (λ st. IsOwnedAt st (fin.get q k)) f (subst (λ o. IsOwnedIn o (fin.get q k)) e (v.owned k))));
 }
 
@@ -312,31 +313,31 @@ spared-all H G t x ns b i l m us q taken bound v all = record {
 left-spared : (H : Type 0) → H → (t : ℕ) (ns : List ℕ) (b : BrokerState) (i : ℕ) (l m : Line) (us : List TenantState) → AreUnready AnyWait b → IsTaken H b i l m us
     → IsTurn t H b.tenants us → IsSpared t ns b l m us (put_with b i m us) → (k : ℕ) → IsMinded (whoms.Tenant t) ns (put_with b i m us) k
 left-spared H honest t ns b i l m us unready taken turn p k =
-    find-set (λ o. IsUnreadyIn d o ⊎ (Contains ns k × IsSoughtIn (whoms.Tenant t) d.clock o)) 0 b.last k b.lines i l m taken.next.sound.rising taken.at taken.number
-    (λ ne. other (find_line k b.lines) refl ne) (λ e. subst (λ j. IsUnready AnyWait d m.session.stage ⊎ (Contains ns j × IsSoughtAt (whoms.Tenant t) d.clock m.session.stage)) (sym e) p.own)
+    find-set (λ o. IsUnreadyIn d k o ⊎ (Contains ns k × IsSoughtIn (whoms.Tenant t) d.clock o)) 0 b.last k b.lines i l m taken.next.sound.rising taken.at taken.number
+    (λ ne. other (find_line k b.lines) refl ne) (λ e. subst (λ j. IsUnready AnyWait d j m.session.stage ⊎ (Contains ns j × IsSoughtAt (whoms.Tenant t) d.clock m.session.stage)) (sym e) (inr p.own))
   where
     d : BrokerState
     d = put_with b i m us
 
-    asked-here : (w : Wait) → (ready (hosted.kept_of us t) b.clock w ≡ Silent) ⊎ Contains ns k → IsUnready AnyWait d (BoundTo t (Some w)) ⊎ (Contains ns k × IsSoughtAt (whoms.Tenant t) d.clock (BoundTo t (Some w)))
+    asked-here : (w : Wait) → (ready (hosted.kept_of us t) b.clock k w ≡ Silent) ⊎ Contains ns k → IsUnready AnyWait d k (BoundTo t (Some w)) ⊎ (Contains ns k × IsSoughtAt (whoms.Tenant t) d.clock (BoundTo t (Some w)))
     asked-here w (inl silent) = inl (λ any. silent)
     asked-here w (inr c) = inr (c, grind (arith, nat_tests))
 
-    waits : k ≢ l.number → (y : Session) (r : Stage) → find_line k b.lines ≡ Some y → y.stage ≡ r → IsUnready AnyWait b r → IsUnready AnyWait d r ⊎ (Contains ns k × IsSoughtAt (whoms.Tenant t) d.clock r)
+    waits : k ≢ l.number → (y : Session) (r : Stage) → find_line k b.lines ≡ Some y → y.stage ≡ r → IsUnready AnyWait b k r → IsUnready AnyWait d k r ⊎ (Contains ns k × IsSoughtAt (whoms.Tenant t) d.clock r)
     waits ne y (Greets h) e f unready' = inl tt
     waits ne y (BoundTo n None) e f unready' = inl tt
     waits ne y (BoundTo n (Some w)) e f unready' = by (eqb t n) refl
       where
-        by : (c : Bool) → eqb t n ≡ c → IsUnready AnyWait d (BoundTo n (Some w)) ⊎ (Contains ns k × IsSoughtAt (whoms.Tenant t) d.clock (BoundTo n (Some w)))
+        by : (c : Bool) → eqb t n ≡ c → IsUnready AnyWait d k (BoundTo n (Some w)) ⊎ (Contains ns k × IsSoughtAt (whoms.Tenant t) d.clock (BoundTo n (Some w)))
         by true g =
             let is : t ≡ n = eqb_same t n g in
-            subst (λ j. IsUnready AnyWait d (BoundTo j (Some w)) ⊎ (Contains ns k × IsSoughtAt (whoms.Tenant t) d.clock (BoundTo j (Some w)))) is
-            (asked-here w (p.others k y w ne e (f ∙ ap (λ j. BoundTo j (Some w)) (sym is)) (subst (λ j. ready (hosted.kept_of b.tenants j) b.clock w ≡ Silent) (sym is) (unready' tt))))
-        by false g = inl (λ any. ap (λ x. ready x b.clock w) (turn.others honest n (eqb_other t n g)) ∙ unready' tt)
+            subst (λ j. IsUnready AnyWait d k (BoundTo j (Some w)) ⊎ (Contains ns k × IsSoughtAt (whoms.Tenant t) d.clock (BoundTo j (Some w)))) is
+            (asked-here w (p.others k y w ne e (f ∙ ap (λ j. BoundTo j (Some w)) (sym is)) (subst (λ j. ready (hosted.kept_of b.tenants j) b.clock k w ≡ Silent) (sym is) (unready' tt))))
+        by false g = inl (λ any. ap (λ x. ready x b.clock k w) (turn.others honest n (eqb_other t n g)) ∙ unready' tt)
 
-    other : (o : Option Session) → find_line k b.lines ≡ o → k ≢ l.number → IsUnreadyIn d (find_line k b.lines) ⊎ (Contains ns k × IsSoughtIn (whoms.Tenant t) d.clock (find_line k b.lines))
-    other None e ne = inl (subst (IsUnreadyIn d) (sym e) tt)
-    other (Some y) e ne = subst (λ o. IsUnreadyIn d o ⊎ (Contains ns k × IsSoughtIn (whoms.Tenant t) d.clock o)) (sym e) (waits ne y y.stage e refl (subst (IsUnreadyIn b) e (unready-at b unready k)))
+    other : (o : Option Session) → find_line k b.lines ≡ o → k ≢ l.number → IsUnreadyIn d k (find_line k b.lines) ⊎ (Contains ns k × IsSoughtIn (whoms.Tenant t) d.clock (find_line k b.lines))
+    other None e ne = inl (subst (IsUnreadyIn d k) (sym e) tt)
+    other (Some y) e ne = subst (λ o. IsUnreadyIn d k o ⊎ (Contains ns k × IsSoughtIn (whoms.Tenant t) d.clock o)) (sym e) (waits ne y y.stage e refl (subst (IsUnreadyIn b k) e (unready-at b unready k)))
 
 left-these : (H : Type 0) → H → (G : Type 0) → G → (t : ℕ) (ns : List ℕ) (b : BrokerState) (i : ℕ) (l m : Line) (us : List TenantState) (q : Queue) (st : Stage) → AreUnready AnyWait b → IsTaken H b i l m us → l.session.stage ≡ st → whose st ≡ Some t → IsQueueOf G q b.tenants b.lines
     → IsTurnAt H st b.tenants us → IsPassedOn b.setup t b.clock l.number q b.tenants us l.session m.session ns ⊎ AreAllOf t l.number q ns → (k : ℕ) → IsMinded (whoms.Tenant t) ns (put_with b i m us) k
@@ -353,7 +354,7 @@ left-these H honest G true-so t ns b i l m us q (BoundTo u x) unready taken s wh
     turn = subst (λ n. IsTurn n H b.tenants us) same turn'
 
     by : IsPassedOn b.setup t b.clock l.number q b.tenants us l.session m.session ns ⊎ AreAllOf t l.number q ns → IsSpared t ns b l m us (put_with b i m us)
-    by (inl passed) = spared-passed H honest G true-so t x ns b i l m us q taken bound v turn passed
+    by (inl passed) = spared-passed H G true-so t x ns b i l m us q taken bound v turn passed
     by (inr all) = spared-all H G t x ns b i l m us q taken bound v all
 
 pub left-by : (H : Type 0) → H → (G : Type 0) → G → (c : Concerned) (b : BrokerState) (i : ℕ) (l m : Line) (us : List TenantState) (q : Queue) → AreUnready AnyWait b → IsTaken H b i l m us → IsWhose c l.session.stage → IsQueueOf G q b.tenants b.lines
@@ -384,7 +385,7 @@ confined-these ns n a b c own first then k apart = then k apart ∙ first k (λ 
 
 -- 5. A moment
 
--- what retention, and then looks, left of the broker on its store, before the turns
+-- what the tenants' own parts, and then looks, left of the broker on its store, before the turns
 pub record IsAwake {S : Type 0} (disk : S → Disk) (now : ℕ) (whom : Whom) (a s b : OnStore S) : Type 0 where
   pub ready : IsReadyOn disk a
   pub first : IsLater disk a s

@@ -7,20 +7,30 @@ use Rattle.std.specs.Result.{is_err}
 use Rattle.std.specs.List.{AllByRecursion}
 use Rattle.std.proofs.lemmas.Bool.Decides.{nat_tests}
 use Rattle.std.proofs.lemmas.List.{get_or_default, length-map}
-use Rattle.kb_tenant.specs.Hosted.{TenantState, IsTurn, AreRetained, names_of, refusals_of}
-use Rattle.kb_machine.specs.Session.{Stage, Greets, BoundTo, Session, fresh, shut_down, without_wait, is_free, fed, room, can}
-use Rattle.kb_machine.specs.Machine.{Comes, Moment, Line, first_able, work}
-use Rattle.kb_machine.specs.Owners.{find_line}
-use Rattle.kb_machine.specs.Broker.{BrokerState, AreUnready, AnyWait, IsReady, IsSound, IsStep, IsUntaken, is_deaf}
+use Rattle.kb_world.specs.Steps.{IsCalm}
+use Rattle.kb_service.specs.Hosted.{TenantState, IsTurn, HavePassed, names_of, refusals_of}
+use Rattle.kb_machine.specs.Session.{Stage, Greets, BoundTo, Session, fresh, shut_down, without_wait, is_free, fed, overruns, room, can}
+use Rattle.kb_service.specs.Hosted as hosted
+use Rattle.kb_service.specs.Serve.{has_released}
+use Rattle.kb_tenant.specs.Replies.{Silent}
+use Rattle.kb_machine.specs.Tenant.{Wait, ready}
+use Rattle.kb_machine.specs.Greeting.{User}
+use Rattle.kb_machine.specs.Machine.{Happening, Comes, Moment, Line, find_line, first_able, stepped, turns, work}
+use Rattle.kb_machine.specs.Owners.{whose}
+use Rattle.kb_machine.specs.Calls.{left_by}
+use Rattle.kb_machine.specs.Broker.{BrokerState, AreUnready, AnyWait, InRange, IsCalmFor, IsReady, IsSound, IsStep, IsUnready, IsUntaken, Mine, is_deaf, view_of}
 use Rattle.kb_machine.specs.declared.whom.Whom.{Whom}
 use Rattle.kb_machine.specs.Turned.{Scope, Of, Everybody, IsStill, AreStill, IsGoing, is_resting, IsFed, SameOthers, Turned, Served, Waked, IsPassedOver}
 use Rattle.kb_machine.proofs.Quiet.{quiet-turn}
-use Rattle.kb_machine.proofs.Sets.{IsAt, all-map, all-still, find-set_other, work-set, first-still, still-none}
-use Rattle.kb_machine.proofs.Parts.{count, turn-then, calm-right, eqb_same}
+use Rattle.kb_machine.proofs.Sets.{IsAt, all-at, all-map, all-still, find-set_other, work-set, first-still, still-none}
+use Rattle.kb_machine.proofs.Parts.{count, each-tenant, turn-then, calm-right, eqb_same}
 use Rattle.kb_machine.proofs.Owned.{found as found-all}
 use Rattle.kb_machine.proofs.Steps.{begun, sound-begun, all-unready, due-unready, step-moment}
 use Rattle.kb_machine.proofs.Wakes.{turned-quiet}
-use Rattle.kb_machine.proofs.Turns.{going-then, untouched-then, turned-greeting, called-going, greeting-going, refused-going, served-bound, refused-greeting}
+use Rattle.kb_machine.proofs.Leaving.{left_fed, kept-unfed, names-fed, own-whose, ready-fed, refusals-fed}
+use Rattle.kb_machine.proofs.Owners.{IsMine}
+use Rattle.kb_tenants.proofs.Passed.{length_named}
+use Rattle.kb_machine.proofs.Turns.{changed-quiet, free-unready, going-then, unready-quiet, untouched-then, turned-greeting, called-going, greeting-going, refused-going, served-bound, refused-greeting}
 use Rattle.kb_machine.proofs.Feeds.{still-settled, fed-kept, fed-refused, fed-bound, step-comes, step-nothing, step-shut}
 use Rattle.kb_connection.specs.View.{with_session}
 use Rattle.kb_broker.specs.Places.{numbers, number_at, waits_in, Leaves, IsSpent, IsTakenAt, IsTurnAt, AreIdle, IsNext, IsScoped, IsCountedAt, IsCountedFor, IsServedAt, IsQuietAt}
@@ -47,12 +57,36 @@ from_ok (Err x) b P e t h = let no : true ≡ false = sym e ∙ t in absurd (cc)
 pub work-put : (b : BrokerState) (i : ℕ) (l m : Line) (ls : List Line) → IsAt b.lines i l → ls ≡ set b.lines i m → length m.session.unread < length l.session.unread → work ls < work b.lines
 work-put b i l m ls at e lt = let h = work-set b.lines i l m at in let f = ap work e in omega (arith, h, f)
 
--- the piece was taken
-pub fed-put : (a b : BrokerState) (i : ℕ) (l m : Line) (piece : List ℕ) → a ≡ b → IsSound b → first_able b.lines ≡ None → IsAt b.lines i l → m ≡ with_session l (fed piece l.session) → IsFed (number_at i b) piece b (put_at a i m)
-fed-put a b i l m piece e sound settled at is =
-    let f = fed-kept b i l m piece sound settled at (ap (λ (x : Line). x.number) is) (ap (λ (x : Line). x.session) is) in
-    let g : IsFed (number_at i b) piece b (put_at b i m) = subst (λ n. IsFed n piece b (put_at b i m)) (sym (number_at-is b i l at)) f in
-    subst (λ (x : BrokerState). IsFed (number_at i b) piece b (put_at x i m)) (sym e) g
+-- The piece was taken, where a is what is left of b once a member of a group that waited on a connection that it overruns waits no
+-- longer.
+pub record IsLeftFed (piece : List ℕ) (a b : BrokerState) (i : ℕ) (l : Line) : Type 0 where
+  pub at : IsAt b.lines i l
+  pub is : a ≡ record b { tenants = left_fed piece b.clock l.number l.session b.tenants }
+
+pub left-over : (d a b : BrokerState) (i : ℕ) (l : Line) (piece : List ℕ) → d ≡ a → IsAt b.lines i l → overruns piece l.session ≡ true → ((x : Line) → let k = get_or b.lines i x in a ≡ record b { tenants = left_by b.clock k.number k.session.stage b.tenants }) → IsLeftFed piece d b i l
+left-over d a b i l piece e at over left = record {
+  at = at;
+  is = e ∙ (left l
+      ∙ (ap (λ (x : Line). record b { tenants = left_by b.clock x.number x.session.stage b.tenants }) (sym at.here)
+      ∙ ap (λ (x : Bool). record b { tenants = cond x (left_by b.clock l.number l.session.stage b.tenants) b.tenants }) (sym over)));
+}
+
+pub left-under : (d b : BrokerState) (i : ℕ) (l : Line) (piece : List ℕ) → d ≡ b → IsAt b.lines i l → overruns piece l.session ≡ false → IsLeftFed piece d b i l
+left-under d b i l piece e at under = record { at = at; is = e ∙ ap (λ (x : Bool). record b { tenants = cond x (left_by b.clock l.number l.session.stage b.tenants) b.tenants }) (sym under) }
+
+-- the connection that then stands at the place, where c is what the broker's own fields are, is that one
+pub left-there : (c a b : BrokerState) (i : ℕ) (k l : Line) (piece : List ℕ) → c ≡ a → IsLeftFed piece a b i k → l ≡ get_or c.lines i l → IsLeftFed piece a b i l
+left-there c a b i k l piece e h read =
+    let here : l ≡ get_or b.lines i l = read ∙ ap (λ (x : BrokerState). get_or x.lines i l) (e ∙ h.is) in
+    let same : k ≡ l = h.at.here ∙ (get_or_default b.lines i k l h.at.within ∙ sym here) in
+    subst (IsLeftFed piece a b i) same h
+
+pub fed-put : (a b : BrokerState) (i : ℕ) (l m : Line) (piece : List ℕ) → IsLeftFed piece a b i l → IsSound b → first_able b.lines ≡ None → m ≡ with_session l (fed piece l.session) → IsFed (number_at i b) piece b (put_at a i m)
+fed-put a b i l m piece left sound settled is =
+    let ts = left_fed piece b.clock l.number l.session b.tenants in
+    let f = fed-kept b i l m piece ts sound settled left.at (ap (λ (x : Line). x.number) is) (ap (λ (x : Line). x.session) is) refl in
+    let g : IsFed (number_at i b) piece b (put_at (record b { tenants = ts }) i m) = subst (λ n. IsFed n piece b (put_at (record b { tenants = ts }) i m)) (sym (number_at-is b i l left.at)) f in
+    subst (λ (x : BrokerState). IsFed (number_at i b) piece b (put_at x i m)) (sym left.is) g
 
 -- 2. A turn was taken
 
@@ -120,19 +154,26 @@ pub served-taken : (H : Type 0) → H → (scope : Scope) (b : BrokerState) (i :
 served-taken H honest scope b i l m us (Greets h) still k s turn is = subst (λ ts. Turned scope b (put_with b i m ts)) (sym turn) (turned-greeting scope b i l m h k.next.sound still k.at (first-at b i l k.next k.at) k.able s k.number is)
 served-taken H honest scope b i l m us (BoundTo t w) still k s turn is = served-bound scope b i t l m w H us k.next.sound still k.at (first-at b i l k.next k.at) k.able s k.number (k.spent.stage t w s) turn honest (is honest)
 
--- it made no waiting fetch ready
+-- it made nothing ready that waits
 quiet-at : (H : Type 0) → H → (scope : Scope) (b : BrokerState) (i : ℕ) (l m : Line) (us : List TenantState) (st : Stage) → AreUnready AnyWait b → IsTaken H b i l m us → l.session.stage ≡ st → IsTurnAt H st b.tenants us → IsServedAt st scope b (put_with b i m us) → IsQuietAt b.setup b.clock l.number st b.tenants us l.session m.session →
     Turned scope b (put_with b i m us)
 quiet-at H honest scope b i l m us (Greets h) unready k s turn served quiet = served
 quiet-at H honest scope b i l m us (BoundTo t w) unready k s turn served quiet =
-    turned-quiet t scope b (put_with b i m us) served
-    (quiet-turn b i t l m us H turn honest unready k.at (able-free l.session k.able) (ap without_wait s) (k.spent.stage t w s) quiet.session quiet.kept quiet.ready)
+    turned-quiet t scope b (put_with b i m us) served (by quiet.own)
+  where
+    others : (u n : ℕ) (x : Wait) → ready (hosted.kept_of b.tenants u) b.clock n x ≡ Silent → ready (hosted.kept_of us u) b.clock n x ≡ Silent
+    others u n x silent = each-tenant (λ v. ready (hosted.kept_of b.tenants v) b.clock n x ≡ Silent → ready (hosted.kept_of us v) b.clock n x ≡ Silent) t u (eqb t u) refl
+        (λ before. quiet.ready n x before) (λ ne before. ap (λ y. ready y b.clock n x) (turn.others honest u ne) ∙ before) silent
+
+    by : (has_released (hosted.kept_of us t).groups ≡ false) ⊎ (is_free m.session.stage ≡ true) → AreUnready AnyWait (put_with b i m us)
+    by (inl none) = quiet-turn b i t l m us H turn honest unready k.at (able-free l.session k.able) (ap without_wait s) k.number (k.spent.stage t w s) quiet.session quiet.kept none quiet.ready
+    by (inr free) = changed-quiet AnyWait b i m us b.unbound_refusals others unready (free-unready AnyWait b m.number m.session.stage free)
 
 pub served-quiet : (H : Type 0) → H → (scope : Scope) (b : BrokerState) (i : ℕ) (l m : Line) (us : List TenantState) → AreStill scope b → AreUnready AnyWait b → IsTaken H b i l m us → IsTakenAt H b.setup b.clock l.number l.session.stage b.tenants us l.session m.session →
     IsQuietAt b.setup b.clock l.number l.session.stage b.tenants us l.session m.session → Turned scope b (put_with b i m us)
 served-quiet H honest scope b i l m us still unready k is quiet = quiet-at H honest scope b i l m us l.session.stage unready k refl k.turn (served-taken H honest scope b i l m us l.session.stage still k refl k.turn is) quiet
 
--- whose waiting fetches are then looked at
+-- whose waiting requests are then looked at
 pub served-for : (c : Concerned) (st : Stage) (scope : Scope) (b d : BrokerState) → (c ≡ concerned.Nobody → ⊥) → IsWhose c st → IsServedAt st scope b d → IsServedFor c scope b d
 served-for concerned.Nobody st scope b d some who s = absurd (some refl)
 served-for (concerned.These t ns) (Greets h) scope b d some who s = absurd (cc)
@@ -192,9 +233,95 @@ fed-counted b c i l m piece (Greets h) sound settled at s n e r =
 fed-counted b c i l m piece (BoundTo t w) sound settled at s n e r =
     subst (λ x. IsFed l.number piece b x) (sym r.is) (fed-bound b i t l m piece w (Unit {0}) c.tenants sound settled at s n e r.turn tt r.stays r.counted)
 
-pub fed-shut : (b c : BrokerState) (i : ℕ) (l m : Line) (piece : List ℕ) → IsSound b → first_able b.lines ≡ None → IsShut b c i l m → IsFed (number_at i b) piece b c
+-- names stay, and each tenant is still one of the broker's
+length-fed : (piece : List ℕ) (clock n : ℕ) (s : Session) (ts : List TenantState) → length (left_fed piece clock n s ts) ≡ length ts
+length-fed piece clock n s ts = length_named ts (left_fed piece clock n s ts) (names-fed piece clock n s ts)
+
+sound-fed : (b : BrokerState) (piece : List ℕ) (l : Line) → IsSound b → IsSound (record b { tenants = left_fed piece b.clock l.number l.session b.tenants })
+sound-fed b piece l s =
+    let many = length-fed piece b.clock l.number l.session b.tenants in
+    record {
+      rising = s.rising;
+      in_range = subst (λ k. AllByRecursion (λ (x : Line). InRange k x.session.stage) b.lines) (sym many) s.in_range;
+      users = subst (λ k. AllByRecursion (λ (u : User). u.tenant < k) b.setup.users) (sym many) s.users;
+      clock = s.clock;
+    }
+
+without-range : (n : ℕ) (st : Stage) → InRange n st → InRange n (without_wait st)
+without-range n (Greets h) r = tt
+without-range n (BoundTo t w) r = r
+
+pub range-fed : (a b : BrokerState) (i : ℕ) (l : Line) (piece : List ℕ) (st : Stage) → IsSound b → IsLeftFed piece a b i l → st ≡ without_wait l.session.stage → InRange (length a.tenants) st
+range-fed a b i l piece st sound left e =
+    let d = record b { tenants = left_fed piece b.clock l.number l.session b.tenants } in
+    let here = all-at (λ (x : Line). InRange (length d.tenants) x.session.stage) b.lines i l left.at (sound-fed b piece l sound).in_range in
+    subst (λ (x : BrokerState). InRange (length x.tenants) st) (sym left.is) (subst (InRange (length d.tenants)) (sym e) (without-range (length d.tenants) l.session.stage here))
+
+-- what the piece leaves then, where it is counted for the connection's tenant, is left of the state before
+fed-since : (b c : BrokerState) (i u : ℕ) (l : Line) (w : Option Wait) (piece : List ℕ) → let d = record b { tenants = left_fed piece b.clock l.number l.session b.tenants } in
+    IsAt b.lines i l → l.session.stage ≡ BoundTo u w → (IsCalm (refusals_of d.tenants u) (refusals_of c.tenants u) → ⊥) → IsFed l.number piece d c → IsFed l.number piece b c
+fed-since b c i u l w piece at bound loud f = record {
+  going = record {
+    sound = g.sound;
+    grows = record { setup = g.grows.setup; names = g.grows.names ∙ names-fed piece b.clock l.number l.session b.tenants; own = λ t. (let up = g.grows.own t in let same = counts t in omega (arith, up, same)); unbound = g.grows.unbound };
+    clock = g.clock;
+    last = g.last;
+    numbers = g.numbers;
+    bound = g.bound;
+  };
+  still = f.still;
+  counted = (λ t other. f.counted.0 t other ∙ counts t, f.counted.1);
+  others = f.others;
+  unready = λ unready. f.unready
+      (all-map (λ (k : Line). IsUnready AnyWait b k.number k.session.stage) (λ (k : Line). IsUnready AnyWait d k.number k.session.stage)
+      (λ k. unready-quiet AnyWait b d refl (λ t n x silent. ready-fed piece b.clock l.number l.session b.tenants t b.clock n x ∙ silent) k.number k.session.stage) b.lines unready);
+  mine = f.mine;
+  view = λ t mine es k calm. seen t mine es k (record { own = subst (λ n. IsCalm n (refusals_of c.tenants t)) (sym (counts t)) calm.own; unbound = calm.unbound });
+}
+  where
+    d : BrokerState
+    d = record b { tenants = left_fed piece b.clock l.number l.session b.tenants }
+
+    g : IsGoing d c
+    g = f.going
+
+    counts : (t : ℕ) → refusals_of d.tenants t ≡ refusals_of b.tenants t
+    counts t = refusals-fed piece b.clock l.number l.session b.tenants t
+
+    seen : (t : ℕ) (mine : ℕ → Bool) (es : List Happening) → Mine t mine (Comes l.number piece ∷ es) b → IsCalmFor t d c → turns (view_of t mine c) ≡ stepped (mine l.number) (Comes l.number piece) (view_of t mine b)
+    seen t mine es k calm = by (mine l.number) refl
+      where
+        own : IsMine b.setup t mine (Comes l.number piece ∷ es) l
+        own = all-at (IsMine b.setup t mine (Comes l.number piece ∷ es)) b.lines i l at k.now
+
+        by : (y : Bool) → mine l.number ≡ y → turns (view_of t mine c) ≡ stepped (mine l.number) (Comes l.number piece) (view_of t mine b)
+        by true same =
+            let is : u ≡ t = own-whose b.setup t mine (Comes l.number piece ∷ es) l own same u (ap whose bound) in
+            absurd (loud (subst (λ v. IsCalm (refusals_of d.tenants v) (refusals_of c.tenants v)) (sym is) calm.own))
+        by false other =
+            let kept = kept-unfed b.setup t b.clock mine (Comes l.number piece ∷ es) b.tenants piece l own other in
+            f.view t mine es k calm
+            ∙ (ap (λ (y : Bool). stepped y (Comes l.number piece) (view_of t mine d)) other
+            ∙ (ap (λ x. record (view_of t mine b) { kept = x }) kept
+            ∙ sym (ap (λ (y : Bool). stepped y (Comes l.number piece) (view_of t mine b)) other)))
+
+-- a greeting one has no tenant, so nothing changes first
+fed-from : (b c : BrokerState) (i : ℕ) (l m : Line) (piece : List ℕ) (st : Stage) → let d = record b { tenants = left_fed piece b.clock l.number l.session b.tenants } in
+    IsAt b.lines i l → l.session.stage ≡ st → IsCountedAt st (put_at d i m) c → IsFed l.number piece d c → IsFed l.number piece b c
+fed-from b c i l m piece (Greets h) at s counted f =
+    let same : (x : Bool) → cond x (left_by b.clock l.number (Greets h) b.tenants) b.tenants ≡ b.tenants = λ x. either x b.tenants in
+    subst (λ ts. IsFed l.number piece (record b { tenants = ts }) c) (ap (λ st. cond (overruns piece l.session) (left_by b.clock l.number st b.tenants) b.tenants) s ∙ same (overruns piece l.session)) f
+  where
+    either : (x : Bool) (ts : List TenantState) → cond x ts ts ≡ ts
+    either true ts = refl
+    either false ts = refl
+fed-from b c i l m piece (BoundTo u w) at s counted f = fed-since b c i u l w piece at s counted.counted f
+
+pub fed-shut : (b c : BrokerState) (i : ℕ) (l m : Line) (piece : List ℕ) → IsSound b → first_able b.lines ≡ None → IsShut (record b { tenants = left_fed piece b.clock l.number l.session b.tenants }) c i l m → IsFed (number_at i b) piece b c
 fed-shut b c i l m piece sound settled h =
-    subst (λ n. IsFed n piece b c) (sym (number_at-is b i l h.at)) (fed-counted b c i l m piece l.session.stage sound settled h.at refl (ap (λ (x : Line). x.number) h.is) (ap (λ (x : Line). x.session) h.is) h.counted)
+    let d = record b { tenants = left_fed piece b.clock l.number l.session b.tenants } in
+    let first = fed-counted d c i l m piece l.session.stage (sound-fed b piece l sound) settled h.at refl (ap (λ (x : Line). x.number) h.is) (ap (λ (x : Line). x.session) h.is) h.counted in
+    subst (λ n. IsFed n piece b c) (sym (number_at-is b i l h.at)) (fed-from b c i l m piece l.session.stage h.at refl h.counted first)
 
 -- a piece leaves a wait as it is, or ends it
 pub fed-stage : (piece : List ℕ) (s : Session) → ((fed piece s).stage ≡ s.stage) ⊎ (deadline_at (fed piece s).stage ≡ None)
@@ -389,18 +516,18 @@ others-taken a b c i n l piece ready f fed turned k ne free =
 
 -- 6. A moment
 
--- the clock moved, and then retention left this
+-- the clock moved, and then the tenants' own parts left this
 pub record HasBegun (H : Type 0) (now : ℕ) (whom : Whom) (a s : BrokerState) : Type 0 where
   pub is : s ≡ begun a now s.tenants
-  pub retained : AreRetained (max a.clock now) H a.tenants s.tenants
+  pub passed : HavePassed (max a.clock now) H a.tenants s.tenants
   pub leaves : H → Leaves whom a.tenants s.tenants
 
-pub has-begun : (H : Type 0) (now clock : ℕ) (whom : Whom) (a b s : BrokerState) → a ≡ b → clock ≡ max a.clock now → AreRetained clock H a.tenants s.tenants → s ≡ record a { clock = clock; tenants = s.tenants } → (H → Leaves whom a.tenants s.tenants) → HasBegun H now whom b s
-has-begun H now clock whom a b s e is retained rest leaves =
+pub has-begun : (H : Type 0) (now clock : ℕ) (whom : Whom) (a b s : BrokerState) → a ≡ b → clock ≡ max a.clock now → HavePassed clock H a.tenants s.tenants → s ≡ record a { clock = clock; tenants = s.tenants } → (H → Leaves whom a.tenants s.tenants) → HasBegun H now whom b s
+has-begun H now clock whom a b s e is passed rest leaves =
     subst (λ (x : BrokerState). HasBegun H now whom x s) e
     (record {
       is = rest ∙ ap (λ n. record a { clock = n; tenants = s.tenants }) is;
-      retained = subst (λ n. AreRetained n H a.tenants s.tenants) is retained;
+      passed = subst (λ n. HavePassed n H a.tenants s.tenants) is passed;
       leaves = leaves;
     })
 
@@ -408,7 +535,7 @@ pub in-time : (b : BrokerState) (now : ℕ) → IsSound b → now ≤ 2 ^ 62 →
 in-time b now sound le = let h = sound.clock in grind (arith, h, le)
 
 pub sound-after : (H : Type 0) (now : ℕ) (whom : Whom) (a s : BrokerState) → IsSound a → now ≤ 2 ^ 62 → HasBegun H now whom a s → IsSound s
-sound-after H now whom a s sound le h = subst IsSound (sym h.is) (sound-begun a now (max a.clock now) H s.tenants sound h.retained (in-time a now sound le))
+sound-after H now whom a s sound le h = subst IsSound (sym h.is) (sound-begun a now (max a.clock now) H s.tenants sound h.passed (in-time a now sound le))
 
 -- what can be ready after it is looked at
 begun-unready : (whom : Whom) (a : BrokerState) (now : ℕ) (ts : List TenantState) → AreUnready AnyWait a → Leaves whom a.tenants ts → AreUnready (IsPassedOver whom (max a.clock now)) (begun a now ts)
@@ -421,7 +548,7 @@ unready-over H honest now whom a s ready h = subst (λ (x : BrokerState). AreUnr
 pub idle-none : (H : Type 0) (now : ℕ) (whom : Whom) (a s b : BrokerState) → first_able a.lines ≡ None → HasBegun H now whom a s → b ≡ s → first_able b.lines ≡ None
 idle-none H now whom a s b settled h same = ap (λ (x : BrokerState). first_able x.lines) (same ∙ h.is) ∙ settled
 
--- then waiting fetches were looked at, and then there were turns until none was left; an honest store is spoken of
+-- then waiting requests were looked at, and then there were turns until none was left; an honest store is spoken of
 pub record IsMoved (H : Type 0) (now : ℕ) (whom : Whom) (a s b c : BrokerState) : Type 0 where
   pub ready : IsReady a
   pub begun : HasBegun H now whom a s
@@ -452,7 +579,7 @@ module _ (H : Type 0) (honest : H) (now : ℕ) (whom : Whom) (a s b c : BrokerSt
   unready = m.rest (unready-over H honest now whom a s m.ready m.begun)
 
   pub moved-step : IsStep (Moment now) a c
-  moved-step = step-moment now whom a b c s.tenants H honest m.begun.retained waked unready turned m.none
+  moved-step = step-moment now whom a b c s.tenants H honest m.begun.passed waked unready turned m.none
 
   pub moved-unready : AreUnready AnyWait c
   moved-unready = turned.unready unready

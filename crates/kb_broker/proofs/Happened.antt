@@ -7,7 +7,7 @@ use Rattle.kb_machine.specs.Calls.{IsRefused, opened, closed, taken}
 use Rattle.kb_machine.proofs.Steps.{sound-opened, settled-opened, unready-opened, step-opened, step-unopened, sound-closed, settled-closed, unready-closed, step-closed}
 use Rattle.kb_machine.proofs.Taken.{sound-taken, settled-taken, unready-taken}
 use Rattle.kb_broker.specs.Hosts.{OnStore, is_honest, IsLater, IsReadyOn, StepsTo}
-use Rattle.kb_broker.proofs.Honest.{later-is}
+use Rattle.kb_broker.proofs.Honest.{later-is, later-on}
 
 -- another state on the same store
 module _ {S : Type 0} (disk : S → Disk) (a c : OnStore S) (same : c.store ≡ a.store) where
@@ -44,9 +44,12 @@ pub disconnected-ready : {S : Type 0} (disk : S → Disk) (a c : OnStore S) (n :
 disconnected-ready disk a c n ready h =
     ready-on disk a c (ap (λ (x : OnStore _). x.store) h) (closed a.state n) (ap (λ (x : OnStore _). x.state) h) ready (sound-closed a.state n ready.sound) (settled-closed a.state n ready.settled) (unready-closed a.state n)
 
+-- where a member of a group waited on it, it waits no longer
+left-step : {S : Type 0} (a c : OnStore S) (n : ℕ) → c ≡ record a { state = closed a.state n } → IsStep (Closes n) a.state c.state
+left-step a c n h = subst (λ x. IsStep (Closes n) a.state x) (sym (ap (λ (x : OnStore _). x.state) h)) (step-closed a.state n)
+
 pub disconnected : {S : Type 0} (disk : S → Disk) (a b c : OnStore S) (n : ℕ) → a ≡ b → c ≡ record a { state = closed a.state n } → StepsTo disk (Closes n) b c
-disconnected disk a b c n e h = λ honest.
-    subst (λ (x : OnStore _). IsStep (Closes n) x.state c.state) e (subst (λ x. IsStep (Closes n) a.state x) (sym (ap (λ (x : OnStore _). x.state) h)) (step-closed a.state n))
+disconnected disk a b c n e h = λ honest. subst (λ (x : OnStore _). IsStep (Closes n) x.state c.state) e (left-step a c n h)
 
 pub drained-ready : {S : Type 0} (disk : S → Disk) (a c : OnStore S) (n : ℕ) → IsReadyOn disk a → c ≡ record a { state = taken a.state n } → IsReadyOn disk c
 drained-ready disk a c n ready h =
@@ -58,4 +61,6 @@ connected-later disk (Ok x) a c n same ok err = later-is disk a c same (ap (λ (
 connected-later disk (Err x) a c n same ok err = later-is disk a c same (ap (λ (b : BrokerState). b.tenants) err.is)
 
 pub disconnected-later : {S : Type 0} (disk : S → Disk) (a c : OnStore S) (n : ℕ) → c ≡ record a { state = closed a.state n } → IsLater disk a c
-disconnected-later disk a c n h = later-is disk a c (ap (λ (x : OnStore _). x.store) h) (ap (λ (x : OnStore _). x.state.tenants) h)
+disconnected-later disk a c n h =
+    let grows = (left-step a c n h).grows in
+    later-on disk a.store c.store a.state.tenants c.state.tenants (ap (λ (x : OnStore _). x.store) h) grows.names grows.own

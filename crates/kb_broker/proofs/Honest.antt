@@ -1,9 +1,9 @@
 -- What may be said where a store has told the truth.
 use Rattle.std.proofs.Common.{◌≡◌, ◌≤◌, ◌∙◌, ℕ, List, ap, sym, subst, arith}
 use Rattle.kb_store.specs.Disk.{Disk}
-use Rattle.kb_tenant.specs.Hosted.{TenantState, names_of, refusals_of}
+use Rattle.kb_service.specs.Hosted.{TenantState, names_of, refusals_of}
 use Rattle.kb_tenants.proofs.Accounted.{accounted_rises, accounted_same, accounted_then}
-use Rattle.kb_tenants.proofs.Retained.{length_named}
+use Rattle.kb_tenants.proofs.Passed.{length_named}
 use Rattle.kb_machine.specs.Broker.{BrokerState, IsReady}
 use Rattle.kb_broker.specs.Hosts.{OnStore, is_honest, IsLater, IsLaterWith, IsReadyOn}
 

@@ -1,4 +1,5 @@
 pub mod Honest
+pub mod Left
 pub mod Placed
 pub mod Handled
 pub mod Looked

@@ -1,8 +1,8 @@
--- Waiting fetches that are looked at again, one after another.
+-- Waiting requests that are looked at again, one after another.
 use Rattle.std.proofs.Common.{◌≡◌, ◌≤◌, ℕ, zero, suc, List, [], ◌∷◌, length, take, set, true, false, Some, None, refl, sym, ◌∙◌, ap, subst, arith, inl, inr}
 use Rattle.std.specs.List.{AllByRecursion}
 use Rattle.std.proofs.lemmas.List.{set-get_or, take_all}
-use Rattle.kb_tenant.specs.Hosted.{TenantState}
+use Rattle.kb_service.specs.Hosted.{TenantState}
 use Rattle.kb_machine.specs.Session.{Stage, Greets, BoundTo}
 use Rattle.kb_machine.specs.Machine.{Line}
 use Rattle.kb_machine.specs.Broker.{BrokerState, IsSound, IsUnready, AreUnready, AnyWait, kept_of}
@@ -41,17 +41,17 @@ passed-stage : (l m : Line) (st : Stage) → l.session.stage ≡ st → m ≡ l 
 passed-stage l m st e same = ap (λ (x : Line). x.session.stage) same ∙ e
 
 -- what is left of it is not ready, if it is looked for
-looked-unready : (H : Type 0) → H → (whom : Whom) (b : BrokerState) (l m : Line) (us : List TenantState) (st : Stage) → l.session.stage ≡ st → IsLookedAt H whom b.clock st b.tenants us l m → IsUnready (IsLookedFor whom b.clock) b m.session.stage
-looked-unready H honest whom b l m us (Greets h) e p = subst (IsUnready (IsLookedFor whom b.clock) b) (sym (passed-stage l m (Greets h) e p.1)) tt
-looked-unready H honest whom b l m us (BoundTo t None) e p = subst (IsUnready (IsLookedFor whom b.clock) b) (sym (passed-stage l m (BoundTo t None) e p.1)) tt
-looked-unready H honest whom b l m us (BoundTo t (Some w)) e (inl p) = subst (IsUnready (IsLookedFor whom b.clock) b) (sym (passed-stage l m (BoundTo t (Some w)) e p.1.1)) (λ looked. let no : true ≡ false = sym looked ∙ p.0 in absurd (cc))
-looked-unready H honest whom b l m us (BoundTo t (Some w)) e (inr p) = weaken AnyWait (IsLookedFor whom b.clock) b (λ u x h. tt) m.session.stage (p.1.unready honest b refl refl)
+looked-unready : (H : Type 0) → H → (whom : Whom) (b : BrokerState) (l m : Line) (us : List TenantState) (st : Stage) → l.session.stage ≡ st → IsLookedAt H whom b.clock st b.tenants us l m → IsUnready (IsLookedFor whom b.clock) b l.number m.session.stage
+looked-unready H honest whom b l m us (Greets h) e p = subst (IsUnready (IsLookedFor whom b.clock) b l.number) (sym (passed-stage l m (Greets h) e p.1)) tt
+looked-unready H honest whom b l m us (BoundTo t None) e p = subst (IsUnready (IsLookedFor whom b.clock) b l.number) (sym (passed-stage l m (BoundTo t None) e p.1)) tt
+looked-unready H honest whom b l m us (BoundTo t (Some w)) e (inl p) = subst (IsUnready (IsLookedFor whom b.clock) b l.number) (sym (passed-stage l m (BoundTo t (Some w)) e p.1.1)) (λ looked. let no : true ≡ false = sym looked ∙ p.0 in absurd (cc))
+looked-unready H honest whom b l m us (BoundTo t (Some w)) e (inr p) = weaken AnyWait (IsLookedFor whom b.clock) b (λ u x h. tt) l.number m.session.stage (p.1.unready honest b refl refl)
 
 -- and where it was not ready if it is passed over, it is not ready in any case
-looked-rest : (H : Type 0) → H → (whom : Whom) (b : BrokerState) (l m : Line) (us : List TenantState) (st : Stage) → l.session.stage ≡ st → IsLookedAt H whom b.clock st b.tenants us l m → IsUnready (IsPassedOver whom b.clock) b l.session.stage → IsUnready AnyWait b m.session.stage
-looked-rest H honest whom b l m us (Greets h) e p u = subst (IsUnready AnyWait b) (sym (passed-stage l m (Greets h) e p.1)) tt
-looked-rest H honest whom b l m us (BoundTo t None) e p u = subst (IsUnready AnyWait b) (sym (passed-stage l m (BoundTo t None) e p.1)) tt
-looked-rest H honest whom b l m us (BoundTo t (Some w)) e (inl p) u = subst (IsUnready AnyWait b) (sym (passed-stage l m (BoundTo t (Some w)) e p.1.1)) (λ any. subst (IsUnready (IsPassedOver whom b.clock) b) e u p.0)
+looked-rest : (H : Type 0) → H → (whom : Whom) (b : BrokerState) (l m : Line) (us : List TenantState) (st : Stage) → l.session.stage ≡ st → IsLookedAt H whom b.clock st b.tenants us l m → IsUnready (IsPassedOver whom b.clock) b l.number l.session.stage → IsUnready AnyWait b l.number m.session.stage
+looked-rest H honest whom b l m us (Greets h) e p u = subst (IsUnready AnyWait b l.number) (sym (passed-stage l m (Greets h) e p.1)) tt
+looked-rest H honest whom b l m us (BoundTo t None) e p u = subst (IsUnready AnyWait b l.number) (sym (passed-stage l m (BoundTo t None) e p.1)) tt
+looked-rest H honest whom b l m us (BoundTo t (Some w)) e (inl p) u = subst (IsUnready AnyWait b l.number) (sym (passed-stage l m (BoundTo t (Some w)) e p.1.1)) (λ any. subst (IsUnready (IsPassedOver whom b.clock) b l.number) e u p.0)
 looked-rest H honest whom b l m us (BoundTo t (Some w)) e (inr p) u = p.1.unready honest b refl refl
 
 looked-unread : (H : Type 0) (whom : Whom) (clock : ℕ) (old new : List TenantState) (l m : Line) (st : Stage) → IsLookedAt H whom clock st old new l m → length m.session.unread ≤ length l.session.unread
@@ -59,6 +59,12 @@ looked-unread H whom clock old new l m (Greets h) p = let e = ap (λ (x : Line).
 looked-unread H whom clock old new l m (BoundTo t None) p = let e = ap (λ (x : Line). length x.session.unread) p.1 in omega (arith, e)
 looked-unread H whom clock old new l m (BoundTo t (Some w)) (inl p) = let e = ap (λ (x : Line). length x.session.unread) p.1.1 in omega (arith, e)
 looked-unread H whom clock old new l m (BoundTo t (Some w)) (inr p) = p.1.unread
+
+pub looked-number : (H : Type 0) (whom : Whom) (clock : ℕ) (old new : List TenantState) (l m : Line) (st : Stage) → IsLookedAt H whom clock st old new l m → m.number ≡ l.number
+looked-number H whom clock old new l m (Greets h) p = ap (λ (x : Line). x.number) p.1
+looked-number H whom clock old new l m (BoundTo t None) p = ap (λ (x : Line). x.number) p.1
+looked-number H whom clock old new l m (BoundTo t (Some w)) (inl p) = ap (λ (x : Line). x.number) p.1.1
+looked-number H whom clock old new l m (BoundTo t (Some w)) (inr p) = p.1.number
 
 -- 2. One after another
 
@@ -68,8 +74,8 @@ take-set P (k ∷ ls) zero l m at h p = (p, tt)
 take-set P (k ∷ ls) (suc i) l m at h p = (h.0, take-set P ls i l m (tail-at k ls i l at) h.1 p)
 
 -- at a later moment, in which tenants keep the same
-all-same : (P : ℕ → Wait → Type 0) (b c : BrokerState) (ls : List Line) → c.clock ≡ b.clock → ((t : ℕ) → kept_of c t ≡ kept_of b t) → AllByRecursion (λ (l : Line). IsUnready P b l.session.stage) ls → AllByRecursion (λ (l : Line). IsUnready P c l.session.stage) ls
-all-same P b c ls clock kept h = all-map (λ (l : Line). IsUnready P b l.session.stage) (λ (l : Line). IsUnready P c l.session.stage) (λ l. unready-same P b c l.session.stage clock kept) ls h
+all-same : (P : ℕ → Wait → Type 0) (b c : BrokerState) (ls : List Line) → c.clock ≡ b.clock → ((t : ℕ) → kept_of c t ≡ kept_of b t) → AllByRecursion (λ (l : Line). IsUnready P b l.number l.session.stage) ls → AllByRecursion (λ (l : Line). IsUnready P c l.number l.session.stage) ls
+all-same P b c ls clock kept h = all-map (λ (l : Line). IsUnready P b l.number l.session.stage) (λ (l : Line). IsUnready P c l.number l.session.stage) (λ l. unready-same P b c l.number l.session.stage clock kept) ls h
 
 -- whatever the store says: numbers stay, and a bound connection stays bound
 looked-going : (H : Type 0) (whom : Whom) (b : BrokerState) (i : ℕ) (l m : Line) (us : List TenantState) (st : Stage) → IsSound b → IsAt b.lines i l → l.session.stage ≡ st → IsLookedAt H whom b.clock st b.tenants us l m → IsGoing b (put_with b i m us)
@@ -77,12 +83,6 @@ looked-going H whom b i l m us (Greets h) s at e p = (passed-waked whom b i l m 
 looked-going H whom b i l m us (BoundTo t None) s at e p = (passed-waked whom b i l m us s at p).going
 looked-going H whom b i l m us (BoundTo t (Some w)) s at e (inl p) = (passed-waked whom b i l m us s at p.1).going
 looked-going H whom b i l m us (BoundTo t (Some w)) s at e (inr p) = let k = p.1 in called-going b i t l m H us s at (record { wait = Some w; is = e }) k.number k.stage k.turn
-
-pub looked-number : (H : Type 0) (whom : Whom) (clock : ℕ) (old new : List TenantState) (l m : Line) (st : Stage) → IsLookedAt H whom clock st old new l m → m.number ≡ l.number
-looked-number H whom clock old new l m (Greets h) p = ap (λ (x : Line). x.number) p.1
-looked-number H whom clock old new l m (BoundTo t None) p = ap (λ (x : Line). x.number) p.1
-looked-number H whom clock old new l m (BoundTo t (Some w)) (inl p) = ap (λ (x : Line). x.number) p.1.1
-looked-number H whom clock old new l m (BoundTo t (Some w)) (inr p) = p.1.number
 
 pub one-more : (H : Type 0) (whom : Whom) (b : BrokerState) (i : ℕ) (l m : Line) (us : List TenantState) → IsSound b → IsAt b.lines i l → IsLookedAt H whom b.clock l.session.stage b.tenants us l m → IsOneMore i b (put_with b i m us)
 one-more H whom b i l m us s at is =
@@ -100,16 +100,17 @@ waked-more H honest whom a b i l m us v at is =
     let over : ℕ → Wait → Type 0 = IsPassedOver whom a.clock in
     let q = looked-waked H honest whom b i l m us l.session.stage v.waked.going.sound at refl is in
     let clock = v.waked.going.clock in
-    let left = λ (u : AreUnready over a). looked-rest H honest whom b l m us l.session.stage refl is (subst (λ n. IsUnready (IsPassedOver whom n) b l.session.stage) (sym clock) (all-at (λ (k : Line). IsUnready over b k.session.stage) b.lines i l at (v.over u))) in
+    let number = sym (looked-number H whom b.clock b.tenants us l m l.session.stage is) in
+    let left = λ (u : AreUnready over a). looked-rest H honest whom b l m us l.session.stage refl is (subst (λ n. IsUnready (IsPassedOver whom n) b l.number l.session.stage) (sym clock) (all-at (λ (k : Line). IsUnready over b k.number k.session.stage) b.lines i l at (v.over u))) in
     record {
       waked = waked-then whom a b c v.waked q;
-      looked = take-set (λ (k : Line). IsUnready (IsLookedFor whom a.clock) c k.session.stage) b.lines i l m at
+      looked = take-set (λ (k : Line). IsUnready (IsLookedFor whom a.clock) c k.number k.session.stage) b.lines i l m at
           (all-same (IsLookedFor whom a.clock) b c (take i b.lines) refl q.kept v.looked)
-          (unready-same (IsLookedFor whom a.clock) b c m.session.stage refl q.kept (subst (λ n. IsUnready (IsLookedFor whom n) b m.session.stage) clock (looked-unready H honest whom b l m us l.session.stage refl is)));
-      rest = λ u. take-set (λ (k : Line). IsUnready AnyWait c k.session.stage) b.lines i l m at
+          (subst (λ n. IsUnready (IsLookedFor whom a.clock) c n m.session.stage) number (unready-same (IsLookedFor whom a.clock) b c l.number m.session.stage refl q.kept (subst (λ n. IsUnready (IsLookedFor whom n) b l.number m.session.stage) clock (looked-unready H honest whom b l m us l.session.stage refl is))));
+      rest = λ u. take-set (λ (k : Line). IsUnready AnyWait c k.number k.session.stage) b.lines i l m at
           (all-same AnyWait b c (take i b.lines) refl q.kept (v.rest u))
-          (unready-same AnyWait b c m.session.stage refl q.kept (left u));
-      over = λ u. all-set (λ (k : Line). IsUnready over c k.session.stage) b.lines i m (all-same over b c b.lines refl q.kept (v.over u)) (unready-same over b c m.session.stage refl q.kept (weaken AnyWait over b (λ t w h. tt) m.session.stage (left u)));
+          (subst (λ n. IsUnready AnyWait c n m.session.stage) number (unready-same AnyWait b c l.number m.session.stage refl q.kept (left u)));
+      over = λ u. all-set (λ (k : Line). IsUnready over c k.number k.session.stage) b.lines i m (all-same over b c b.lines refl q.kept (v.over u)) (subst (λ n. IsUnready over c n m.session.stage) number (unready-same over b c l.number m.session.stage refl q.kept (weaken AnyWait over b (λ t w h. tt) l.number m.session.stage (left u))));
     }
 
 -- all were looked at
@@ -124,24 +125,24 @@ pub waked-all : (whom : Whom) (a b : BrokerState) (i : ℕ) → AreWaked whom a 
 waked-all whom a b i v le =
     let all = all-lines a b i v.waked.going.numbers le in
     record {
-      looked = subst (AllByRecursion (λ (l : Line). IsUnready (IsLookedFor whom a.clock) b l.session.stage)) all v.looked;
-      rest = λ u. subst (AllByRecursion (λ (l : Line). IsUnready AnyWait b l.session.stage)) all (v.rest u);
+      looked = subst (AllByRecursion (λ (l : Line). IsUnready (IsLookedFor whom a.clock) b l.number l.session.stage)) all v.looked;
+      rest = λ u. subst (AllByRecursion (λ (l : Line). IsUnready AnyWait b l.number l.session.stage)) all (v.rest u);
     }
 
 -- where no wait is looked for, none that is looked for is ready, and one that is not ready if it is passed over is not ready
-passed-looked : (whom : Whom) (b : BrokerState) (st : Stage) → IsPassed whom b.clock st → IsUnready (IsLookedFor whom b.clock) b st
-passed-looked whom b (Greets h) p = tt
-passed-looked whom b (BoundTo t None) p = tt
-passed-looked whom b (BoundTo t (Some w)) p = λ looked. let no : true ≡ false = sym looked ∙ p in absurd (cc)
+passed-looked : (whom : Whom) (b : BrokerState) (n : ℕ) (st : Stage) → IsPassed whom b.clock st → IsUnready (IsLookedFor whom b.clock) b n st
+passed-looked whom b n (Greets h) p = tt
+passed-looked whom b n (BoundTo t None) p = tt
+passed-looked whom b n (BoundTo t (Some w)) p = λ looked. let no : true ≡ false = sym looked ∙ p in absurd (cc)
 
 pub passed-looked-all : (whom : Whom) (b : BrokerState) → ArePassed whom b → AreUnready (IsLookedFor whom b.clock) b
-passed-looked-all whom b p = all-map (λ (l : Line). IsPassed whom b.clock l.session.stage) (λ (l : Line). IsUnready (IsLookedFor whom b.clock) b l.session.stage) (λ l. passed-looked whom b l.session.stage) b.lines p
+passed-looked-all whom b p = all-map (λ (l : Line). IsPassed whom b.clock l.session.stage) (λ (l : Line). IsUnready (IsLookedFor whom b.clock) b l.number l.session.stage) (λ l. passed-looked whom b l.number l.session.stage) b.lines p
 
-passed-rest : (whom : Whom) (b : BrokerState) (ls : List Line) → AllByRecursion (λ (l : Line). IsPassed whom b.clock l.session.stage) ls → AllByRecursion (λ (l : Line). IsUnready (IsPassedOver whom b.clock) b l.session.stage) ls → AllByRecursion (λ (l : Line). IsUnready AnyWait b l.session.stage) ls
+passed-rest : (whom : Whom) (b : BrokerState) (ls : List Line) → AllByRecursion (λ (l : Line). IsPassed whom b.clock l.session.stage) ls → AllByRecursion (λ (l : Line). IsUnready (IsPassedOver whom b.clock) b l.number l.session.stage) ls → AllByRecursion (λ (l : Line). IsUnready AnyWait b l.number l.session.stage) ls
 passed-rest whom b [] p u = tt
 passed-rest whom b (l ∷ ls) p u = (one l.session.stage p.0 u.0, passed-rest whom b ls p.1 u.1)
   where
-    one : (st : Stage) → IsPassed whom b.clock st → IsUnready (IsPassedOver whom b.clock) b st → IsUnready AnyWait b st
+    one : (st : Stage) → IsPassed whom b.clock st → IsUnready (IsPassedOver whom b.clock) b l.number st → IsUnready AnyWait b l.number st
     one (Greets h) p u = tt
     one (BoundTo t None) p u = tt
     one (BoundTo t (Some w)) p u = λ any. u p

@@ -11,7 +11,7 @@ use Rattle.kb_wire.specs.Fits.{array_fits, string_fits}
 use Rattle.kb_settings.specs.Settings.{is_host, is_within}
 use Rattle.kb_api_group.specs.Layouts.{api_version}
 use Rattle.kb_api_group.specs.declared.api_versions.ApiVersion.{ApiVersion}
-use Rattle.kb_tenant.specs.Hosted.{TenantState, new_tenant}
+use Rattle.kb_service.specs.Hosted.{TenantState, new_tenant}
 use Rattle.kb_machine.specs.Greeting.{User as Login, Setup}
 use Rattle.kb_machine.specs.Machine.{first_able}
 use Rattle.kb_machine.specs.Broker.{BrokerState, AreUnready, AnyWait, IsSound}

@@ -6,15 +6,15 @@ use Rattle.std.specs.List.{AllByRecursion}
 use Rattle.std.proofs.lemmas.Bool.Decides.{nat_tests}
 use Rattle.std.proofs.lemmas.List.Elements.{Contains-push_cases}
 use Rattle.kb_waits.specs.Queue as queue
-use Rattle.kb_waits.specs.Queue.{Queue, AreParked, IsUnder}
+use Rattle.kb_waits.specs.Queue.{Queue, AreParked}
 use Rattle.kb_world.specs.Steps.{IsCalm}
-use Rattle.kb_tenant.specs.Hosted as hosted
-use Rattle.kb_tenant.specs.Hosted.{TenantState, IsTurn, AreRetained, retained}
+use Rattle.kb_service.specs.Hosted as hosted
+use Rattle.kb_service.specs.Hosted.{TenantState, IsTurn, HavePassed}
 use Rattle.kb_tenant.specs.Replies.{Silent}
-use Rattle.kb_machine.specs.Tenant.{Wait, ready, asked}
+use Rattle.kb_machine.specs.Tenant.{Awaited, Wait, Records, Group, is_past, ready, asked}
 use Rattle.kb_machine.specs.Session.{Stage, Greets, BoundTo, Session, is_free, can}
 use Rattle.kb_machine.specs.Machine.{Line, first_able}
-use Rattle.kb_machine.specs.Owners.{find_line}
+use Rattle.kb_machine.specs.Machine.{find_line}
 use Rattle.kb_machine.specs.Broker.{BrokerState, IsSound, IsUnready, AreUnready, AnyWait, Rising, kept_of}
 use Rattle.kb_machine.specs.declared.whom.Whom.{Whom}
 use Rattle.kb_machine.specs.declared.whom.Whom.TheVariants as whoms
@@ -22,10 +22,12 @@ use Rattle.kb_machine.specs.Turned.{Waked, IsPassedOver, SameOthers, is_looked_f
 use Rattle.kb_machine.proofs.Sets.{IsAt, all-map, all-still, find-at, find-set_other, rising-set, rising-above, set-at, tail-at, no-at}
 use Rattle.kb_machine.proofs.Parts.{each-tenant, eqb_same, eqb_other}
 use Rattle.kb_machine.proofs.Owned.{found as found-all}
-use Rattle.kb_machine.proofs.Quiet.{first-silent, asked-retained}
+use Rattle.kb_machine.proofs.Quiet.{first-silent, asked-passed}
 use Rattle.kb_machine.proofs.Turns.{unready-same}
 use Rattle.kb_machine.proofs.Wakes.{waked-then}
-use Rattle.kb_broker.specs.Parked.{keys_for, deadline_at, deadline_in, until_of, IsKeyedAt, IsKeyedIn, IsOwnedAt, IsOwnedIn, IsQueueOf, IsAskedOn, IsWaitingOnAt, AreWaitingOn, IsUnreadyIn, IsUnreadyAt, IsAmong, IsSoughtAt, IsSoughtIn, IsMinded, AreMinded, SameBut, can_in, AreAmong}
+use Rattle.kb_machine.specs.Calls.{left_by}
+use Rattle.kb_broker.proofs.Left.{left-refusals, left-ready_in, left-asked_in}
+use Rattle.kb_broker.specs.Parked.{until, keys_for, deadline_at, deadline_in, until_of, IsKeyedAt, IsKeyedIn, IsOwnedAt, IsOwnedIn, IsQueueOf, IsAskedOn, IsWaitingOnAt, AreWaitingOn, IsUnreadyIn, IsUnreadyAt, IsAmong, IsSoughtAt, IsSoughtIn, IsMinded, AreMinded, SameBut, can_in, AreAmong}
 
 -- 1. The connection of a number
 
@@ -54,24 +56,24 @@ find-set P low last n ls i l m rising at same other own = by (eqb l.number n) re
     by false e = let ne : n ≢ l.number = eqb_other l.number n e in subst P (sym (find-set_other n ls i l m at same ne)) (other ne)
 
 -- of the connection of a number holds what holds of each
-pub find-each : (P : Session → Type 0) (n : ℕ) (s : Session) (ls : List Line) → AllByRecursion (λ (l : Line). P l.session) ls → find_line n ls ≡ Some s → P s
+pub find-each : (P : ℕ → Session → Type 0) (n : ℕ) (s : Session) (ls : List Line) → AllByRecursion (λ (l : Line). P l.number l.session) ls → find_line n ls ≡ Some s → P n s
 find-each P n s [] h e = absurd (cc)
-find-each P n s (l ∷ ls) h e = by (eqb l.number n) (find-each P n s ls h.1) e
+find-each P n s (l ∷ ls) h e = by (eqb l.number n) refl (find-each P n s ls h.1) e
   where
-    by : (b : Bool) → (find_line n ls ≡ Some s → P s) → cond b (Some l.session) (find_line n ls) ≡ Some s → P s
-    by true rest g = let is : l.session ≡ s = cc in subst P is h.0
-    by false rest g = rest g
+    by : (b : Bool) → eqb l.number n ≡ b → (find_line n ls ≡ Some s → P n s) → cond b (Some l.session) (find_line n ls) ≡ Some s → P n s
+    by true same rest g = let is : l.session ≡ s = cc in subst (λ k. P k s) (eqb_same l.number n same) (subst (P l.number) is h.0)
+    by false other rest g = rest g
 
 -- and of each holds what holds of the connection of each number
-pub each-find : (P : Option Session → Type 0) (low last : ℕ) (ls : List Line) → Rising low last ls → ((n : ℕ) → P (find_line n ls)) → AllByRecursion (λ (l : Line). P (Some l.session)) ls
-each-find P low last ls rising h = all-map (λ (l : Line). find_line l.number ls ≡ Some l.session) (λ (l : Line). P (Some l.session)) (λ l is. subst P is (h l.number)) ls (found-all low last ls rising)
+pub each-find : (P : ℕ → Option Session → Type 0) (low last : ℕ) (ls : List Line) → Rising low last ls → ((n : ℕ) → P n (find_line n ls)) → AllByRecursion (λ (l : Line). P l.number (Some l.session)) ls
+each-find P low last ls rising h = all-map (λ (l : Line). find_line l.number ls ≡ Some l.session) (λ (l : Line). P l.number (Some l.session)) (λ l is. subst (P l.number) is (h l.number)) ls (found-all low last ls rising)
 
 -- 2. The queue
 
-keyed-free : (ts : List TenantState) (st : Stage) (o : Option queue.Wait) → deadline_at st ≡ None → IsKeyedAt ts st o
-keyed-free ts (Greets h) o e = tt
-keyed-free ts (BoundTo t None) o e = tt
-keyed-free ts (BoundTo t (Some w)) o e = absurd (cc)
+keyed-free : (ts : List TenantState) (n : ℕ) (st : Stage) (o : Option queue.Wait) → deadline_at st ≡ None → IsKeyedAt ts n st o
+keyed-free ts n (Greets h) o e = tt
+keyed-free ts n (BoundTo t None) o e = tt
+keyed-free ts n (BoundTo t (Some w)) o e = absurd (cc)
 
 owned-free : (st : Stage) (o : Option queue.Wait) → deadline_at st ≡ None → IsOwnedAt st o
 owned-free (Greets h) o e = tt
@@ -92,17 +94,17 @@ pub queue-opened : (H : Type 0) (q : Queue) (ts : List TenantState) (ls : List L
 queue-opened H q ts ls l v free = record {
   dated = λ n. find-push (λ o. until_of (fin.get q n) ≡ deadline_in o) n ls l (v.dated n) (λ none. v.dated n ∙ (ap deadline_in none ∙ sym free));
   owned = λ n. find-push (λ o. IsOwnedIn o (fin.get q n)) n ls l (v.owned n) (λ none. owned-free l.session.stage (fin.get q n) free);
-  keyed = λ honest n. find-push (λ o. IsKeyedIn ts o (fin.get q n)) n ls l (v.keyed honest n) (λ none. keyed-free ts l.session.stage (fin.get q n) free);
+  keyed = λ honest n. find-push (λ o. IsKeyedIn ts n o (fin.get q n)) n ls l (v.keyed honest n) (λ none. keyed-free ts n l.session.stage (fin.get q n) free);
 }
 
 -- what holds of the tenants then
 pub record IsCarried (ts us : List TenantState) (ls : List Line) (q : Queue) : Type 0 where
-  pub keyed : (k : ℕ) (s : Session) → find_line k ls ≡ Some s → IsKeyedAt ts s.stage (fin.get q k) → IsKeyedAt us s.stage (fin.get q k)
+  pub keyed : (k : ℕ) (s : Session) → find_line k ls ≡ Some s → IsKeyedAt ts k s.stage (fin.get q k) → IsKeyedAt us k s.stage (fin.get q k)
 
-carried-in : (ts us : List TenantState) (ls : List Line) (q : Queue) (k : ℕ) → IsCarried ts us ls q → IsKeyedIn ts (find_line k ls) (fin.get q k) → IsKeyedIn us (find_line k ls) (fin.get q k)
+pub carried-in : (ts us : List TenantState) (ls : List Line) (q : Queue) (k : ℕ) → IsCarried ts us ls q → IsKeyedIn ts k (find_line k ls) (fin.get q k) → IsKeyedIn us k (find_line k ls) (fin.get q k)
 carried-in ts us ls q k c h = by (find_line k ls) refl h
   where
-    by : (o : Option Session) → find_line k ls ≡ o → IsKeyedIn ts o (fin.get q k) → IsKeyedIn us o (fin.get q k)
+    by : (o : Option Session) → find_line k ls ≡ o → IsKeyedIn ts k o (fin.get q k) → IsKeyedIn us k o (fin.get q k)
     by None e h = tt
     by (Some s) e h = c.keyed k s e h
 
@@ -117,13 +119,13 @@ queue-tenants H G q ts us ls v back carried = record {
 -- the connection at a place has changed, and what stands in the queue of it
 pub queue-put : (H G : Type 0) (q p : Queue) (ts us : List TenantState) (low last : ℕ) (ls : List Line) (i : ℕ) (l m : Line) → IsQueueOf H q ts ls → Rising low last ls → IsAt ls i l → m.number ≡ l.number → (G → H)
     → ((k : ℕ) → k ≢ l.number → fin.get p k ≡ fin.get q k) → until_of (fin.get p l.number) ≡ deadline_at m.session.stage → IsOwnedAt m.session.stage (fin.get p l.number)
-    → (G → IsCarried ts us ls q) → (G → IsKeyedAt us m.session.stage (fin.get p l.number)) → IsQueueOf G p us (set ls i m)
+    → (G → IsCarried ts us ls q) → (G → IsKeyedAt us l.number m.session.stage (fin.get p l.number)) → IsQueueOf G p us (set ls i m)
 queue-put H G q p ts us low last ls i l m v rising at same back others dated owned carried keyed = record {
   dated = λ n. find-set (λ o. until_of (fin.get p n) ≡ deadline_in o) low last n ls i l m rising at same (λ ne. ap until_of (others n ne) ∙ v.dated n) (λ e. subst (λ k. until_of (fin.get p k) ≡ deadline_at m.session.stage) (sym e) dated);
   owned = λ n. find-set (λ o. IsOwnedIn o (fin.get p n)) low last n ls i l m rising at same (λ ne. subst (IsOwnedIn (find_line n ls)) (sym (others n ne)) (v.owned n)) (λ e. subst (λ k. IsOwnedAt m.session.stage (fin.get p k)) (sym e) owned);
-  keyed = λ honest n. find-set (λ o. IsKeyedIn us o (fin.get p n)) low last n ls i l m rising at same
-      (λ ne. subst (IsKeyedIn us (find_line n ls)) (sym (others n ne)) (carried-in ts us ls q n (carried honest) (v.keyed (back honest) n)))
-      (λ e. subst (λ k. IsKeyedAt us m.session.stage (fin.get p k)) (sym e) (keyed honest));
+  keyed = λ honest n. find-set (λ o. IsKeyedIn us n o (fin.get p n)) low last n ls i l m rising at same
+      (λ ne. subst (IsKeyedIn us n (find_line n ls)) (sym (others n ne)) (carried-in ts us ls q n (carried honest) (v.keyed (back honest) n)))
+      (λ e. subst (λ k. IsKeyedAt us k m.session.stage (fin.get p k)) (sym e) (keyed honest));
 }
 
 -- the same, where it waits for nothing then and stands in the queue no longer
@@ -131,7 +133,7 @@ pub queue-left : (H G : Type 0) (q p : Queue) (ts us : List TenantState) (low la
     → ((k : ℕ) → k ≢ l.number → fin.get p k ≡ fin.get q k) → fin.get p l.number ≡ None → deadline_at m.session.stage ≡ None
     → (G → IsCarried ts us ls q) → IsQueueOf G p us (set ls i m)
 queue-left H G q p ts us low last ls i l m v rising at same back others gone free carried =
-    queue-put H G q p ts us low last ls i l m v rising at same back others (ap until_of gone ∙ sym free) (owned-free m.session.stage (fin.get p l.number) free) carried (λ honest. keyed-free us m.session.stage (fin.get p l.number) free)
+    queue-put H G q p ts us low last ls i l m v rising at same back others (ap until_of gone ∙ sym free) (owned-free m.session.stage (fin.get p l.number) free) carried (λ honest. keyed-free us l.number m.session.stage (fin.get p l.number) free)
 
 -- the same, where it waits as before
 pub queue-kept : (H G : Type 0) (q : Queue) (ts us : List TenantState) (low last : ℕ) (ls : List Line) (i : ℕ) (l m : Line) → IsQueueOf H q ts ls → Rising low last ls → IsAt ls i l → m.number ≡ l.number → (G → H)
@@ -140,7 +142,7 @@ queue-kept H G q ts us low last ls i l m v rising at same back stage carried =
     let here : find_line l.number ls ≡ Some l.session = find-at low last ls i l rising at in
     queue-put H G q q ts us low last ls i l m v rising at same back (λ k ne. refl) (v.dated l.number ∙ (ap deadline_in here ∙ ap deadline_at (sym stage)))
     (subst (λ st. IsOwnedAt st (fin.get q l.number)) (sym stage) (subst (λ o. IsOwnedIn o (fin.get q l.number)) here (v.owned l.number))) carried
-    (λ honest. subst (λ st. IsKeyedAt us st (fin.get q l.number)) (sym stage) ((carried honest).keyed l.number l.session here (subst (λ o. IsKeyedIn ts o (fin.get q l.number)) here (v.keyed (back honest) l.number))))
+    (λ honest. subst (λ st. IsKeyedAt us l.number st (fin.get q l.number)) (sym stage) ((carried honest).keyed l.number l.session here (subst (λ o. IsKeyedIn ts l.number o (fin.get q l.number)) here (v.keyed (back honest) l.number))))
 
 -- nobody waits where the queue is empty
 pub nobody-waits : (H : Type 0) (q : Queue) (ts : List TenantState) (n : ℕ) (ls : List Line) → IsQueueOf H q ts ls → fin.get q n ≡ None → deadline_in (find_line n ls) ≡ None
@@ -150,38 +152,48 @@ nobody-waits H q ts n ls v none = sym (v.dated n) ∙ ap until_of none
 
 -- counts have only risen, and what is kept is the same
 pub carried-same : (ts us : List TenantState) (ls : List Line) (q : Queue) → ((t : ℕ) → hosted.refusals_of ts t ≤ hosted.refusals_of us t) → ((t : ℕ) → hosted.kept_of us t ≡ hosted.kept_of ts t) → IsCarried ts us ls q
-carried-same ts us ls q grows kept = record { keyed = λ k s e h. at s.stage (fin.get q k) h }
+carried-same ts us ls q grows kept = record { keyed = λ k s e h. at k s.stage (fin.get q k) h }
   where
     before : (t : ℕ) → hosted.refusals_of us t ≡ 0 → hosted.refusals_of ts t ≡ 0
     before t calm = let up = grows t in omega (arith, calm, up)
 
-    at : (st : Stage) (o : Option queue.Wait) → IsKeyedAt ts st o → IsKeyedAt us st o
-    at (Greets h) o k = tt
-    at (BoundTo t None) o k = tt
-    at (BoundTo t (Some w)) o k = λ calm silent.
-        k (before t calm) (subst (λ x. ready x 0 w ≡ Silent) (kept t) silent) ∙ ap (λ x. Some (keys_for t (asked x w))) (sym (kept t))
+    at : (n : ℕ) (st : Stage) (o : Option queue.Wait) → IsKeyedAt ts n st o → IsKeyedAt us n st o
+    at n (Greets h) o k = tt
+    at n (BoundTo t None) o k = tt
+    at n (BoundTo t (Some w)) o k = λ calm silent.
+        k (before t calm) (subst (λ x. ready x 0 n w ≡ Silent) (kept t) silent) ∙ ap (λ x. Some (keys_for t (asked x w))) (sym (kept t))
 
-waiting-find : (ts : List TenantState) (k : ℕ) (s : Session) (ls : List Line) → AllByRecursion (λ (l : Line). IsWaitingOnAt ts l.session.stage) ls → find_line k ls ≡ Some s → IsWaitingOnAt ts s.stage
-waiting-find ts k s ls h e = find-each (λ (x : Session). IsWaitingOnAt ts x.stage) k s ls h e
+-- a connection is gone on which a member waited
+pub carried-left : (clock m : ℕ) (gone : Stage) (ts : List TenantState) (ls : List Line) (q : Queue) → IsCarried ts (left_by clock m gone ts) ls q
+carried-left clock m gone ts ls q = record { keyed = λ k s e h. at k s.stage (fin.get q k) h }
+  where
+    at : (n : ℕ) (st : Stage) (o : Option queue.Wait) → IsKeyedAt ts n st o → IsKeyedAt (left_by clock m gone ts) n st o
+    at n (Greets h) o k = tt
+    at n (BoundTo t None) o k = tt
+    at n (BoundTo t (Some w)) o k = λ calm silent.
+        k (sym (left-refusals clock m gone ts t) ∙ calm) (sym (left-ready_in clock m gone ts t 0 n w) ∙ silent) ∙ ap (λ ps. Some (keys_for t ps)) (sym (left-asked_in clock m gone ts t w))
+
+waiting-find : (ts : List TenantState) (k : ℕ) (s : Session) (ls : List Line) → AllByRecursion (λ (l : Line). IsWaitingOnAt ts l.number l.session.stage) ls → find_line k ls ≡ Some s → IsWaitingOnAt ts k s.stage
+waiting-find ts k s ls h e = find-each (λ n (x : Session). IsWaitingOnAt ts n x.stage) k s ls h e
 
 -- a call for a tenant, after which a fetch that still waits asks the same
-pub carried-turn : (H : Type 0) → H → (u : ℕ) (ts us : List TenantState) (ls : List Line) (q : Queue) → IsTurn u H ts us → IsAskedOn u ts us → AllByRecursion (λ (l : Line). IsWaitingOnAt ts l.session.stage) ls → IsCarried ts us ls q
-carried-turn H honest u ts us ls q turn still waiting = record { keyed = λ k s e h. at s.stage (fin.get q k) (waiting-find ts k s ls waiting e) h }
+pub carried-turn : (H : Type 0) → H → (u : ℕ) (ts us : List TenantState) (ls : List Line) (q : Queue) → IsTurn u H ts us → IsAskedOn u ts us → AllByRecursion (λ (l : Line). IsWaitingOnAt ts l.number l.session.stage) ls → IsCarried ts us ls q
+carried-turn H honest u ts us ls q turn still waiting = record { keyed = λ k s e h. at k s.stage (fin.get q k) (waiting-find ts k s ls waiting e) h }
   where
     before : (t : ℕ) → hosted.refusals_of us t ≡ 0 → hosted.refusals_of ts t ≡ 0
     before t calm = let up = turn.grows t in omega (arith, calm, up)
 
-    at : (st : Stage) (o : Option queue.Wait) → IsWaitingOnAt ts st → IsKeyedAt ts st o → IsKeyedAt us st o
-    at (Greets h) o w k = tt
-    at (BoundTo t None) o w k = tt
-    at (BoundTo t (Some w)) o waits k = λ calm silent.
-        let same = each-tenant (λ v. hosted.refusals_of us v ≡ 0 → ready (hosted.kept_of ts v) 0 w ≡ Silent → ready (hosted.kept_of us v) 0 w ≡ Silent → asked (hosted.kept_of us v) w ≡ asked (hosted.kept_of ts v) w) u t (eqb u t) refl
-        (λ c. still c w) (λ ne c a b. ap (λ x. asked x w) (turn.others honest t ne)) calm waits silent in
+    at : (n : ℕ) (st : Stage) (o : Option queue.Wait) → IsWaitingOnAt ts n st → IsKeyedAt ts n st o → IsKeyedAt us n st o
+    at n (Greets h) o w k = tt
+    at n (BoundTo t None) o w k = tt
+    at n (BoundTo t (Some w)) o waits k = λ calm silent.
+        let same = each-tenant (λ v. hosted.refusals_of us v ≡ 0 → ready (hosted.kept_of ts v) 0 n w ≡ Silent → ready (hosted.kept_of us v) 0 n w ≡ Silent → asked (hosted.kept_of us v) w ≡ asked (hosted.kept_of ts v) w) u t (eqb u t) refl
+        (λ c. still c n w) (λ ne c a b. ap (λ x. asked x w) (turn.others honest t ne)) calm waits silent in
         k (before t calm) waits ∙ ap (λ ps. Some (keys_for t ps)) (sym same)
 
--- retention
-pub carried-retained : (H : Type 0) → H → (clock : ℕ) (ts us : List TenantState) (ls : List Line) (q : Queue) → AreRetained clock H ts us → AllByRecursion (λ (l : Line). IsWaitingOnAt ts l.session.stage) ls → IsCarried ts us ls q
-carried-retained H honest clock ts us ls q kept waiting = record { keyed = λ k s e h. at s.stage (fin.get q k) (waiting-find ts k s ls waiting e) h }
+-- a moment
+pub carried-passed : (H : Type 0) → H → (clock : ℕ) (ts us : List TenantState) (ls : List Line) (q : Queue) → HavePassed clock H ts us → AllByRecursion (λ (l : Line). IsWaitingOnAt ts l.number l.session.stage) ls → IsCarried ts us ls q
+carried-passed H honest clock ts us ls q kept waiting = record { keyed = λ k s e h. at k s.stage (fin.get q k) (waiting-find ts k s ls waiting e) h }
   where
     before : (t : ℕ) → hosted.refusals_of us t ≡ 0 → hosted.refusals_of ts t ≡ 0
     before t calm = let up = kept.grows t in omega (arith, calm, up)
@@ -189,40 +201,40 @@ carried-retained H honest clock ts us ls q kept waiting = record { keyed = λ k 
     quiet : (t : ℕ) → hosted.refusals_of us t ≡ 0 → IsCalm (hosted.refusals_of ts t) (hosted.refusals_of us t)
     quiet t calm = let none = before t calm in record { same = calm ∙ sym none; below = grind (arith, nat_tests, none) }
 
-    at : (st : Stage) (o : Option queue.Wait) → IsWaitingOnAt ts st → IsKeyedAt ts st o → IsKeyedAt us st o
-    at (Greets h) o w k = tt
-    at (BoundTo t None) o w k = tt
-    at (BoundTo t (Some w)) o waits k = λ calm silent.
-        k (before t calm) waits ∙ ap (λ ps. Some (keys_for t ps)) (sym (ap (λ x. asked x w) (kept.kept honest t (quiet t calm)) ∙ asked-retained clock (hosted.kept_of ts t) w))
+    at : (n : ℕ) (st : Stage) (o : Option queue.Wait) → IsWaitingOnAt ts n st → IsKeyedAt ts n st o → IsKeyedAt us n st o
+    at n (Greets h) o w k = tt
+    at n (BoundTo t None) o w k = tt
+    at n (BoundTo t (Some w)) o waits k = λ calm silent.
+        k (before t calm) waits ∙ ap (λ ps. Some (keys_for t ps)) (sym (ap (λ x. asked x w) (kept.kept honest t (quiet t calm)) ∙ asked-passed clock (hosted.kept_of ts t) w))
 
 -- where no fetch that waits is ready, each would wait at the first moment too
 pub waiting-on : (b : BrokerState) → AreUnready AnyWait b → AreWaitingOn b
-waiting-on b u = all-map (λ (l : Line). IsUnready AnyWait b l.session.stage) (λ (l : Line). IsWaitingOnAt b.tenants l.session.stage) (λ l. at l.session.stage) b.lines u
+waiting-on b u = all-map (λ (l : Line). IsUnready AnyWait b l.number l.session.stage) (λ (l : Line). IsWaitingOnAt b.tenants l.number l.session.stage) (λ l. at l.number l.session.stage) b.lines u
   where
-    at : (st : Stage) → IsUnready AnyWait b st → IsWaitingOnAt b.tenants st
-    at (Greets h) u = tt
-    at (BoundTo t None) u = tt
-    at (BoundTo t (Some w)) u = first-silent (kept_of b t) b.clock w (u tt)
+    at : (n : ℕ) (st : Stage) → IsUnready AnyWait b n st → IsWaitingOnAt b.tenants n st
+    at n (Greets h) u = tt
+    at n (BoundTo t None) u = tt
+    at n (BoundTo t (Some w)) u = first-silent (kept_of b t) b.clock n w (u tt)
 
 -- 4. Unready, by number
 
 pub unready-at : (b : BrokerState) → AreUnready AnyWait b → (k : ℕ) → IsUnreadyAt k b
 unready-at b u k = by (find_line k b.lines) refl
   where
-    by : (o : Option Session) → find_line k b.lines ≡ o → IsUnreadyIn b o
+    by : (o : Option Session) → find_line k b.lines ≡ o → IsUnreadyIn b k o
     by None e = tt
-    by (Some s) e = find-each (λ (x : Session). IsUnready AnyWait b x.stage) k s b.lines u e
+    by (Some s) e = find-each (λ n (x : Session). IsUnready AnyWait b n x.stage) k s b.lines u e
 
 pub at-unready : (b : BrokerState) → IsSound b → ((k : ℕ) → IsUnreadyAt k b) → AreUnready AnyWait b
 at-unready b sound h = each-find (IsUnreadyIn b) 0 b.last b.lines sound.rising h
 
-unready-in : (a b : BrokerState) (o : Option Session) → b.clock ≡ a.clock → ((t : ℕ) → kept_of b t ≡ kept_of a t) → IsUnreadyIn a o → IsUnreadyIn b o
-unready-in a b None clock kept u = tt
-unready-in a b (Some s) clock kept u = unready-same AnyWait a b s.stage clock kept u
+unready-in : (a b : BrokerState) (k : ℕ) (o : Option Session) → b.clock ≡ a.clock → ((t : ℕ) → kept_of b t ≡ kept_of a t) → IsUnreadyIn a k o → IsUnreadyIn b k o
+unready-in a b k None clock kept u = tt
+unready-in a b k (Some s) clock kept u = unready-same AnyWait a b k s.stage clock kept u
 
 -- a connection that is the same at a later moment, in which tenants keep the same
 pub unready-later : (a b : BrokerState) (k : ℕ) → b.clock ≡ a.clock → ((t : ℕ) → kept_of b t ≡ kept_of a t) → find_line k b.lines ≡ find_line k a.lines → IsUnreadyAt k a → IsUnreadyAt k b
-unready-later a b k clock kept same u = subst (IsUnreadyIn b) (sym same) (unready-in a b (find_line k a.lines) clock kept u)
+unready-later a b k clock kept same u = subst (IsUnreadyIn b k) (sym same) (unready-in a b k (find_line k a.lines) clock kept u)
 
 -- 5. Looks by number
 
@@ -232,7 +244,7 @@ minded-absent whom a b n ns v none = record { waked = v.waked; rest = v.rest; do
   where
     by : (k : ℕ) → IsSoughtIn whom a.clock (find_line k a.lines) → Contains ns k ⊎ (n ≡ k) → IsUnreadyAt k b
     by k s (inl c) = v.done k c s
-    by k s (inr e) = subst (IsUnreadyIn b) (sym (ap (λ j. find_line j b.lines) (sym e) ∙ none)) tt
+    by k s (inr e) = subst (IsUnreadyIn b k) (sym (ap (λ j. find_line j b.lines) (sym e) ∙ none)) tt
 
 -- one look more: what it leaves of the connection of that number
 pub record IsMindedOne (whom : Whom) (n : ℕ) (b c : BrokerState) : Type 0 where
@@ -305,9 +317,13 @@ among k (n ∷ ns) = by (eqb n k) refl (among k ns)
         at (suc i) lt is = not-in (i, omega (arith, lt), is)
 
 -- a wait that is looked for stands among those that are looked at
-sought-there : (whom : Whom) (clock t : ℕ) (w : Wait) (o : Option queue.Wait) → until_of o ≡ Some w.deadline → is_looked_for whom clock t w ≡ true → IsSomeAnd o (IsAmong whom clock)
+sought-there : (whom : Whom) (clock t : ℕ) (w : Wait) (o : Option queue.Wait) → until_of o ≡ Some (until w.awaited) → is_looked_for whom clock t w ≡ true → IsSomeAnd o (IsAmong whom clock)
 sought-there whom clock t w None e h = absurd (cc)
-sought-there whoms.Due clock t w (Some x) e h = let is : x.deadline ≡ w.deadline = cc in let come : w.deadline ≤ clock = grind (arith, nat_tests, h) in omega (arith, is, come)
+sought-there whoms.Due clock t w (Some x) e h = by w.awaited e h
+  where
+    by : (a : Awaited) → until_of (Some x) ≡ Some (until a) → is_past clock a ≡ true → queue.IsDue clock x
+    by (Records version body deadline) e h = let is : x.deadline ≡ deadline = cc in let come : deadline ≤ clock = grind (arith, nat_tests, h) in omega (arith, is, come)
+    by Group e h = let no : false ≡ true = h in absurd (cc)
 sought-there whoms.All clock t w (Some x) e h = tt
 sought-there (whoms.Tenant u) clock t w (Some x) e h = tt
 
@@ -315,21 +331,21 @@ sought-there (whoms.Tenant u) clock t w (Some x) e h = tt
 pub sought-minded : (H : Type 0) (q : Queue) (whom : Whom) (b : BrokerState) (ns : List ℕ) → IsQueueOf H q b.tenants b.lines → AreParked q (IsAmong whom b.clock) ns → AreUnready (IsPassedOver whom b.clock) b → (k : ℕ) → IsMinded whom ns b k
 sought-minded H q whom b ns v parked unready k = by (find_line k b.lines) refl
   where
-    waits : (s : Session) (st : Stage) → s.stage ≡ st → find_line k b.lines ≡ Some s → IsUnready (IsPassedOver whom b.clock) b st → IsUnready AnyWait b st ⊎ (Contains ns k × IsSoughtAt whom b.clock st)
+    waits : (s : Session) (st : Stage) → s.stage ≡ st → find_line k b.lines ≡ Some s → IsUnready (IsPassedOver whom b.clock) b k st → IsUnready AnyWait b k st ⊎ (Contains ns k × IsSoughtAt whom b.clock st)
     waits s (Greets h) is e u = inl tt
     waits s (BoundTo t None) is e u = inl tt
     waits s (BoundTo t (Some w)) is e u = when (is_looked_for whom b.clock t w) refl
       where
-        until : until_of (fin.get q k) ≡ Some w.deadline
-        until = v.dated k ∙ (ap deadline_in e ∙ ap deadline_at is)
+        stands : until_of (fin.get q k) ≡ Some (until w.awaited)
+        stands = v.dated k ∙ (ap deadline_in e ∙ ap deadline_at is)
 
-        when : (c : Bool) → is_looked_for whom b.clock t w ≡ c → IsUnready AnyWait b (BoundTo t (Some w)) ⊎ (Contains ns k × IsSoughtAt whom b.clock (BoundTo t (Some w)))
-        when true c = inr ((parked.exactly k).1 (sought-there whom b.clock t w (fin.get q k) until c), c)
+        when : (c : Bool) → is_looked_for whom b.clock t w ≡ c → IsUnready AnyWait b k (BoundTo t (Some w)) ⊎ (Contains ns k × IsSoughtAt whom b.clock (BoundTo t (Some w)))
+        when true c = inr ((parked.exactly k).1 (sought-there whom b.clock t w (fin.get q k) stands c), c)
         when false c = inl (λ any. u c)
 
     by : (o : Option Session) → find_line k b.lines ≡ o → IsMinded whom ns b k
-    by None e = inl (subst (IsUnreadyIn b) (sym e) tt)
-    by (Some s) e = subst (λ o. IsUnreadyIn b o ⊎ (Contains ns k × IsSoughtIn whom b.clock o)) (sym e) (waits s s.stage refl e (find-each (λ (x : Session). IsUnready (IsPassedOver whom b.clock) b x.stage) k s b.lines unready e))
+    by None e = inl (subst (IsUnreadyIn b k) (sym e) tt)
+    by (Some s) e = subst (λ o. IsUnreadyIn b k o ⊎ (Contains ns k × IsSoughtIn whom b.clock o)) (sym e) (waits s s.stage refl e (find-each (λ n (x : Session). IsUnready (IsPassedOver whom b.clock) b n x.stage) k s b.lines unready e))
 
 -- 7. Who may go on
 
@@ -347,7 +363,7 @@ among-settled ns a b settled same k able = by (among k ns)
   where
     still : (o : Option Session) → find_line k a.lines ≡ o → can_in o ≡ true → ⊥
     still None e c = cc
-    still (Some s) e c = let no : can s ≡ false = find-each (λ (x : Session). can x ≡ false) k s a.lines (all-still a.lines settled) e in let bad : false ≡ true = sym no ∙ c in cc
+    still (Some s) e c = let no : can s ≡ false = find-each (λ n (x : Session). can x ≡ false) k s a.lines (all-still a.lines settled) e in let bad : false ≡ true = sym no ∙ c in cc
 
     by : Contains ns k ⊎ (Contains ns k → ⊥) → Contains ns k
     by (inl c) = c

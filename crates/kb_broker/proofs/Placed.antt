@@ -9,10 +9,10 @@ use Rattle.std.proofs.lemmas.Bool.Decides.{nat_tests}
 use Rattle.std.proofs.lemmas.Cmp.{ranked}
 use Rattle.std.proofs.lemmas.List.{get_or-map, get_or_default}
 use Rattle.kb_machine.specs.Session.{fresh}
-use Rattle.kb_machine.specs.Machine.{Line, each, on}
-use Rattle.kb_machine.specs.Owners.{find_line}
+use Rattle.kb_machine.specs.Machine.{Line, each, on, those}
+use Rattle.kb_machine.specs.Machine.{find_line}
 use Rattle.kb_machine.specs.Broker.{BrokerState, Rising}
-use Rattle.kb_machine.specs.Calls.{closed, taken, without_output, is_open, open_in}
+use Rattle.kb_machine.specs.Calls.{closed, left_by, left_in, other_than, taken, without_output, is_open, open_in}
 use Rattle.kb_machine.proofs.Sets.{IsAt, rising-places, set-on, each-on_none, find-at, find-none}
 use Rattle.kb_machine.proofs.Steps.{remove-those, those-all}
 use Rattle.kb_connection.specs.View.{with_session}
@@ -91,14 +91,32 @@ open-found b n (Some i) r none within some =
     let l = get_or b.lines i d in
     sym (ap open_in (find-found b i n l r (record { at = get-at b.lines i d within; number = some d })))
 
-pub closed-found : (a b : BrokerState) (i n : ℕ) (l : Line) (ls : List Line) → a ≡ b → Rising 0 b.last b.lines → IsFound b i n l → ls ≡ remove a.lines i → record a { lines = ls } ≡ closed b n
-closed-found a b i n l ls e r f h =
-    let same : ls ≡ remove b.lines i = h ∙ ap (λ (x : BrokerState). remove x.lines i) e in
-    let cut : ls ≡ (closed b n).lines = same ∙ (remove-those 0 b.last b.lines i l r f.at ∙ ap (λ k. (closed b k).lines) f.number) in
-    ap (λ (x : BrokerState). record x { lines = ls }) e ∙ ap (λ x. record b { lines = x }) cut
+-- the connection at a place, in the state in which a member of a group that waited on it waits no longer
+pub record IsLeft (c b : BrokerState) (i n : ℕ) (l : Line) : Type 0 where
+  pub found : IsFound b i n l
+  pub is : c ≡ record b { tenants = left_by b.clock l.number l.session.stage b.tenants }
+
+pub left-found : (a c b : BrokerState) (i n : ℕ) (l : Line) → a ≡ c → ((d : Line) → let k = get_or b.lines i d in c ≡ record b { tenants = left_by b.clock k.number k.session.stage b.tenants }) → i < length b.lines → ((d : Line) → (get_or b.lines i d).number ≡ n) → l ≡ get_or a.lines i l → IsLeft c b i n l
+left-found a c b i n l e left lt some h =
+    let here : l ≡ get_or b.lines i l = h ∙ ap (λ (x : BrokerState). get_or x.lines i l) (e ∙ left l) in
+    record {
+      found = record { at = record { within = lt; here = here }; number = ap (λ (x : Line). x.number) here ∙ some l };
+      is = left l ∙ ap (λ (x : Line). record b { tenants = left_by b.clock x.number x.session.stage b.tenants }) (sym here);
+    }
+
+pub closed-found : (a c b : BrokerState) (i n : ℕ) (l : Line) (ls : List Line) → a ≡ c → Rising 0 b.last b.lines → IsLeft c b i n l → ls ≡ remove a.lines i → record a { lines = ls } ≡ closed b n
+closed-found a c b i n l ls e r f h =
+    let ts = left_by b.clock l.number l.session.stage b.tenants in
+    let is = e ∙ f.is in
+    let same : ls ≡ remove b.lines i = h ∙ ap (λ (x : BrokerState). remove x.lines i) is in
+    let cut : ls ≡ those (other_than n) b.lines = same ∙ (remove-those 0 b.last b.lines i l r f.found.at ∙ ap (λ k. those (other_than k) b.lines) f.found.number) in
+    let left : ts ≡ left_in b.clock n (find_line n b.lines) b.tenants = ap (λ k. left_by b.clock k l.session.stage b.tenants) f.found.number ∙ ap (λ o. left_in b.clock n o b.tenants) (sym (find-found b i n l r f.found)) in
+    ap (λ (x : BrokerState). record x { lines = ls }) is ∙ (ap (λ x. record b { tenants = ts; lines = x }) cut ∙ ap (λ x. record b { tenants = x; lines = those (other_than n) b.lines }) left)
 
 pub closed-none : (b : BrokerState) (n : ℕ) → AllByRecursion (λ l. l.number ≢ n) b.lines → b ≡ closed b n
-closed-none b n h = sym (ap (λ x. record b { lines = x }) (those-all n b.lines h))
+closed-none b n h =
+    ap (λ o. record b { tenants = left_in b.clock n o b.tenants }) (sym (find-none n b.lines h))
+    ∙ ap (λ x. record b { tenants = left_in b.clock n (find_line n b.lines) b.tenants; lines = x }) (sym (those-all n b.lines h))
 
 pub taken-found : (a b : BrokerState) (i n : ℕ) (l m : Line) → a ≡ b → Rising 0 b.last b.lines → IsFound b i n l → m ≡ with_session l (without_output l.session) → record a { lines = set a.lines i m } ≡ taken b n
 taken-found a b i n l m e r f h =

@@ -1,11 +1,13 @@
 -- Each event of a script on a broker.
-use Rattle.std.proofs.Common.{◌≡◌, ℕ, ◌<◌, ◌&&◌, Bool, true, not, List, ◌++◌, refl, sym, ap, subst, ◌∙◌, Option, Result, Ok, Err, OnOk, OnErr, IfErr, cond}
+use Rattle.std.proofs.Common.{◌≡◌, ◌==◌, ℕ, zero, suc, ◌<◌, ◌&&◌, Bool, true, not, List, [], ◌∷◌, ◌++◌, refl, sym, ap, subst, ◌∙◌, Option, Some, None, Result, Ok, Err, OnOk, OnErr, IfErr, cond}
 use Rattle.std.specs.Io.KnownBytes.{Appends}
 use Rattle.std.proofs.KnownBytes.{Appends-nil}
+use Rattle.kb_service.specs.Hosted.{Kept, TenantState, kept_of, with_kept, left, all_calm}
+use Rattle.kb_machine.specs.Session.{Session}
 use Rattle.kb_machine.specs.Machine.{Happening, Opens, Comes, Closes, Moment}
 use Rattle.kb_machine.specs.Broker.{BrokerState, IsReady, IsStep}
-use Rattle.kb_machine.specs.Owners.{find_line}
-use Rattle.kb_machine.specs.Calls.{opened, closed, taken, is_calm, is_shut, output_of}
+use Rattle.kb_machine.specs.Machine.{find_line}
+use Rattle.kb_machine.specs.Calls.{opened, closed, left_in, taken, is_calm, is_shut, output_of}
 use Rattle.kb_machine.specs.Turned.{SameOthers}
 use Rattle.kb_machine.proofs.Steps.{sound-opened, settled-opened, unready-opened, step-opened, sound-closed, settled-closed, unready-closed, step-closed}
 use Rattle.kb_broker.specs.declared.script.ScriptFault.{ScriptFault}
@@ -13,6 +15,7 @@ use Rattle.kb_broker.specs.declared.script.ScriptFault.TheVariants as faults
 use Rattle.kb_broker.specs.Places.{numbers}
 use Rattle.kb_broker.specs.Script.{Told, Event, Plays, Stops, is_in_place, course_of, sent_text, step_text}
 use Rattle.kb_broker.specs.ScriptRun.{IsQuiet, hushed, here, Happens, HappensSilently, IsSpoken, IsUnwritten, IsDone, IsBroken, words, shut_marks, said_since}
+use Rattle.kb_broker.proofs.Left.{left-cases}
 use Rattle.kb_broker.proofs.ScriptWords.{silent-opened, silent-closed, silent-same, quiet-opened, quiet-closed, quiet-same, said-one, taken-hushed, hushed-quiet, open-opened, open-closed, open-stays}
 use Rattle.kb_broker.proofs.ScriptSaid.{words-since}
 
@@ -24,10 +27,24 @@ opens-silently b new n ready quiet calm above is =
       silent = silent-opened b n ready.sound.rising quiet;
     })
 
+-- nothing is counted
+calm-with : (t : ℕ) (k : Kept) (ts : List TenantState) → all_calm (with_kept t k ts) ≡ all_calm ts
+unfolding with_kept
+calm-with t k [] = refl
+calm-with zero k (x ∷ xs) = refl
+calm-with (suc t) k (x ∷ xs) = ap (λ c. x.refusals == 0 && c) (calm-with t k xs)
+
+calm-left : (clock n : ℕ) (o : Option Session) (ts : List TenantState) → all_calm (left_in clock n o ts) ≡ all_calm ts
+calm-left clock n None ts = refl
+calm-left clock n (Some s) ts = left-cases (λ us. all_calm us ≡ all_calm ts) clock n s.stage ts refl (λ t. calm-with t (left clock n (kept_of ts t)) ts)
+
+calm-closed : (b : BrokerState) (n : ℕ) → is_calm b ≡ true → is_calm (closed b n) ≡ true
+calm-closed b n calm = ap (λ c. b.unbound_refusals == 0 && c) (calm-left b.clock n (find_line n b.lines) b.tenants) ∙ calm
+
 pub closes-silently : (b new : BrokerState) (n : ℕ) → IsReady b → IsQuiet b → is_calm b ≡ true → new ≡ closed b n → HappensSilently (Closes n) b new
 closes-silently b new n ready quiet calm is =
     subst (λ x. HappensSilently (Closes n) b x) (sym is) (record {
-      happens = record { step = step-closed b n; ready = record { sound = sound-closed b n ready.sound; settled = settled-closed b n ready.settled; unready = unready-closed b n ready.unready }; calm = calm; stands = record { open_now = λ k. open-closed b n k; last = refl } };
+      happens = record { step = step-closed b n; ready = record { sound = sound-closed b n ready.sound; settled = settled-closed b n ready.settled; unready = unready-closed b n ready.unready }; calm = calm-closed b n calm; stands = record { open_now = λ k. open-closed b n k; last = refl } };
       quiet = quiet-closed b n quiet;
       silent = silent-closed b n ready.sound.rising quiet;
     })

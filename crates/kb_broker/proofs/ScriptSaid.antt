@@ -2,7 +2,7 @@
 use Rattle.std.proofs.Common.{◌≡◌, ℕ, zero, suc, ◌<◌, ◌&&◌, Bool, false, not, List, [], ◌∷◌, ◌++◌, length, map, take, get_or, refl, sym, ap, ◌∙◌, arith, Some, append_assoc, append-nil}
 use Rattle.std.specs.List.{AllByRecursion}
 use Rattle.kb_machine.specs.Machine.{Line, Sent, sent}
-use Rattle.kb_machine.specs.Owners.{find_line}
+use Rattle.kb_machine.specs.Machine.{find_line}
 use Rattle.kb_machine.specs.Broker.{BrokerState, Rising}
 use Rattle.kb_machine.specs.Calls.{shut_in}
 use Rattle.kb_machine.specs.Told.{said}

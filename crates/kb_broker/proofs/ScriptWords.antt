@@ -4,7 +4,7 @@ use Rattle.std.proofs.lemmas.Bool.Decides.{nat_tests}
 use Rattle.std.specs.List.{AllByRecursion}
 use Rattle.kb_machine.specs.Session.{Session, fresh, can}
 use Rattle.kb_machine.specs.Machine.{Line, each, on, those}
-use Rattle.kb_machine.specs.Owners.{find_line}
+use Rattle.kb_machine.specs.Machine.{find_line}
 use Rattle.kb_machine.specs.Broker.{IsUnready, AnyWait, BrokerState, Rising, InRange, IsReady}
 use Rattle.kb_machine.specs.Calls.{opened, closed, taken, without_output, other_than, open_in, output_in, shut_in, is_open, is_shut, output_of}
 use Rattle.kb_machine.specs.Told.{said, quieted_lines}
@@ -228,7 +228,7 @@ unfolding can
 ready-lines low last tenants [] r i h = (r, tt, tt)
 ready-lines low last tenants (l ∷ ls) r i h = let rest = ready-lines l.number last tenants ls r.1 i.1 h.1 in ((r.0, rest.0), (i.0, rest.1), (h.0, rest.2))
 
-unready-hushed : (b : BrokerState) (ls : List Line) → AllByRecursion (λ l. IsUnready AnyWait b l.session.stage) ls → AllByRecursion (λ l. IsUnready AnyWait b l.session.stage) (quieted_lines ls)
+unready-hushed : (b : BrokerState) (ls : List Line) → AllByRecursion (λ l. IsUnready AnyWait b l.number l.session.stage) ls → AllByRecursion (λ l. IsUnready AnyWait b l.number l.session.stage) (quieted_lines ls)
 unready-hushed b [] h = tt
 unready-hushed b (l ∷ ls) h = (h.0, unready-hushed b ls h.1)
 

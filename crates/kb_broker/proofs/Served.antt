@@ -1,5 +1,5 @@
 -- What a turn leaves of the connection that took it and of its place in the queue, and whom it concerns.
-use Rattle.std.proofs.Common.{◌≡◌, ◌≢◌, ◌<◌, ℕ, ℤ, List, [], ◌∷◌, length, get_or, Option, Some, None, Result, Ok, Err, OnOk, Bool, true, false, zero, suc, inl, inr, refl, sym, ◌∙◌, ap, subst, arith}
+use Rattle.std.proofs.Common.{◌≡◌, ◌≢◌, ◌<◌, ℕ, ℤ, List, [], ◌∷◌, length, get_or, Option, Some, None, Result, Ok, Err, OnOk, OnErr, Bool, true, false, zero, suc, inl, inr, refl, sym, ◌∙◌, ap, subst, arith}
 use Rattle.std.proofs.lemmas.List.Elements.{Contains-append_left, Contains-push, Contains-push_cases}
 use Rattle.std.specs.Prelude.{◌++◌, ◌⊎◌, Contains, IsSomeAnd, IfSome, cond}
 use Rattle.std.specs.Result.{is_err}
@@ -11,28 +11,31 @@ use Rattle.std.proofs.lemmas.Bool.Decides.{nat_tests}
 use Rattle.kb_api_group.specs.Frames.{Front, Whole, Partial, TooSmall, TooLarge, front}
 use Rattle.kb_waits.specs.Queue as queue
 use Rattle.kb_waits.specs.Queue.{Queue, AreParked, IsUnder, IsUnderAny}
+use Rattle.kb_waits.specs.declared.key.WaitKey.{WaitKey}
 use Rattle.kb_waits.proofs.Queues.{get-insert_other, tied-itself}
 use Rattle.kb_world.specs.declared.place.Place.{Place}
-use Rattle.kb_tenant.specs.Hosted.{Kept, TenantState, IsTurn, IsMet, kept_of, refusals_of, nothing}
-use Rattle.kb_tenant.specs.Replies.{Reaction, Replies, Waits, Silent, Shuts, IsAnswer}
-use Rattle.kb_tenant.specs.declared.answer.Answer.{Answer}
-use Rattle.kb_tenant.specs.declared.answer.Answer.TheVariants as answers
+use Rattle.kb_service.specs.Hosted.{Kept, TenantState, IsTurn, IsMet, kept_of, refusals_of, nothing}
+use Rattle.kb_tenant.specs.Replies.{Replies, Waits, Silent, Shuts}
+use Rattle.kb_tenant.specs.declared.answer.Answer.TheVariants as plain
+use Rattle.kb_service.specs.Replies.{Reaction, Plain, Rebalances, IsAnswer}
+use Rattle.kb_service.specs.declared.answer.Answer.{Answer}
+use Rattle.kb_service.specs.declared.answer.Answer.TheVariants as answers
 use Rattle.kb_tenant.specs.declared.node.Node.{Node}
-use Rattle.kb_machine.specs.Tenant.{answer, asked, kept_after}
+use Rattle.kb_machine.specs.Tenant.{Awaited, Wait, Records, Group, answer, asked, kept_after}
 use Rattle.kb_machine.specs.Requests as requests
 use Rattle.kb_machine.specs.Requests.{Asked, Versions, OtherVersions, Handshake, Authenticate, Another, Unread}
-use Rattle.kb_machine.specs.Session.{Stage, Greets, BoundTo, Session, shut_down, without_wait, is_free}
+use Rattle.kb_machine.specs.Session.{Stage, Greets, BoundTo, Session, shut_down, waiting, without_wait, is_free}
 use Rattle.kb_machine.specs.Greeting.{Setup, greeted}
 use Rattle.kb_machine.specs.Machine.{Line, answered, served, served_by, served_at, put}
 use Rattle.kb_machine.proofs.Owners.{stage-shut}
-use Rattle.kb_machine.proofs.Quiet.{asked-parks}
+use Rattle.kb_machine.proofs.Quiet.{asked-group, asked-parks}
 use Rattle.kb_machine.proofs.Turns.{free-greeted, free-replied, free-without}
 use Rattle.kb_connection.specs.Fronts.{IsOwn, IsAsked, is_tenants, is_tenants_at}
 use Rattle.kb_connection.specs.TenantAnswers.{is_wait}
 use Rattle.kb_connection.specs.View.{with_session, without_front}
 use Rattle.kb_connection.proofs.Fronts.{fewer-behind}
 use Rattle.kb_broker.specs.Places.{IsSpent}
-use Rattle.kb_broker.specs.Parked.{key_of, keys_for, keys_of, tenant_key, deadline_at, until_of, places_of, parked_for, AreAllOf, AreConcerned, AreTheTenants, IsKeyedAt, IsOwnedAt, IsTouched, IsTouchedTurn, IsUnderTenant, IsConcern, IsLeftBy, IsPassedOn}
+use Rattle.kb_broker.specs.Parked.{key_of, keys_for, keys_of, tenant_key, until, deadline_at, until_of, places_of, parked_for, AreAllOf, AreConcerned, AreTheTenants, IsKeyedAt, IsOwnedAt, IsTouched, IsTouchedTurn, IsUnderTenant, IsConcern, IsLeftBy, IsPassedOn}
 use Rattle.kb_broker.specs.declared.serving.Concerned.{Concerned}
 use Rattle.kb_broker.specs.declared.serving.Concerned.TheVariants as concerned
 use Rattle.kb_broker.proofs.Handled.{from_ok}
@@ -40,10 +43,10 @@ use Rattle.kb_broker.proofs.Parked.{deadline-free}
 
 -- 1. A connection that waits for nothing
 
-pub keyed-none : (ts : List TenantState) (st : Stage) (o : Option queue.Wait) → is_free st ≡ true → IsKeyedAt ts st o
-keyed-none ts (Greets h) o e = tt
-keyed-none ts (BoundTo t None) o e = tt
-keyed-none ts (BoundTo t (Some w)) o e = let no : false ≡ true = e in absurd (cc)
+pub keyed-none : (ts : List TenantState) (n : ℕ) (st : Stage) (o : Option queue.Wait) → is_free st ≡ true → IsKeyedAt ts n st o
+keyed-none ts n (Greets h) o e = tt
+keyed-none ts n (BoundTo t None) o e = tt
+keyed-none ts n (BoundTo t (Some w)) o e = let no : false ≡ true = e in absurd (cc)
 
 pub owned-none : (st : Stage) (o : Option queue.Wait) → is_free st ≡ true → IsOwnedAt st o
 owned-none (Greets h) o e = tt
@@ -81,12 +84,13 @@ pub own-free : (setup : Setup) (t : ℕ) (l new : Line) → l.session.stage ≡ 
 own-free setup t l new bound own is = ap (λ (x : Line). is_free x.session.stage) (is nothing 0 0) ∙ free-own setup nothing 0 0 l.session own (ap is_free bound)
 
 -- it touches nothing of the tenant's
-pub own-touched : (setup : Setup) (t clock n : ℕ) (ts : List TenantState) (l new : Line) (places : List Place) → IsOwn l.session → ((kept : Kept) (clock n : ℕ) → new ≡ with_session l (served setup kept clock n l.session))
+pub own-touched : (setup : Setup) (t clock n : ℕ) (ts : List TenantState) (l new : Line) (places : List Place) → l.session.stage ≡ BoundTo t None → IsOwn l.session → ((kept : Kept) (clock n : ℕ) → new ≡ with_session l (served setup kept clock n l.session))
     → IsTouchedTurn setup t clock n ts ts l.session new.session places
-own-touched setup t clock n ts l new places own is = record {
+own-touched setup t clock n ts l new places bound own is = record {
   session = ap (λ (x : Line). x.session) (is (kept_of ts t) clock n);
   kept = sym (own.put setup (kept_of ts t) clock n);
-  ready = λ w apart silent. silent;
+  own = inr (own-free setup t l new bound own is);
+  ready = λ k w apart silent. silent;
 }
 
 -- a greeting
@@ -110,30 +114,29 @@ pub record IsParkedBy (q p : Queue) (t n : ℕ) (r : Answer) : Type 0 where
 get-insert_own : (q : Queue) (n : ℕ) (w : queue.Wait) → fin.get (fin.insert q n w) n ≡ Some w
 get-insert_own q n w = fin.get-insert nat_cmp_total q n w n ∙ ap (λ b. cond b (Some w) (fin.get q n)) (tied-itself n)
 
-pub parked-by : {A E : Type 0} (result : Result A E) (q x p : Queue) (t m n deadline : ℕ) (at : List Place) (places : Vec Place Global) (r : Answer) → r ≡ answers.Wait deadline places → m ≡ n → at ≡ places.items → p ≡ x
-    → OnOk result (x ≡ fin.insert q m (record { deadline = deadline; keys = keys_for t at })) → is_err result ≡ false → IsParkedBy q p t n r
-parked-by result q x p t m n deadline at places r wait number same stays ok good =
-    let w : queue.Wait = record { deadline = deadline; keys = keys_for t at } in
-    let is : p ≡ fin.insert q n w = stays ∙ from_ok result false (x ≡ fin.insert q m w) (sym good) refl ok ∙ ap (λ k. fin.insert q k w) number in
-    record {
-      others = λ k ne. ap (λ y. fin.get y k) is ∙ get-insert_other q n k w ne;
-      own = ap (λ y. fin.get y n) is ∙ (get-insert_own q n w ∙ (ap (λ ps. Some (let y : queue.Wait = record { deadline = deadline; keys = keys_for t ps } in y)) same ∙ ap (parked_for t) (sym wait)));
-    }
+-- a connection is put into the queue, where there is memory for it
+pub parked-own : {A E : Type 0} (result : Result A E) (q p : Queue) (n deadline : ℕ) (keys : List WaitKey) → OnOk result (p ≡ fin.insert q n (record { deadline = deadline; keys = keys })) → OnOk result (fin.get p n ≡ Some (record { deadline = deadline; keys = keys }))
+parked-own (Ok x) q p n deadline keys is = ap (λ y. fin.get y n) is ∙ get-insert_own q n (record { deadline = deadline; keys = keys })
+parked-own (Err x) q p n deadline keys is = tt
 
-not-parked : (t : ℕ) (r : Answer) → ((deadline : ℕ) (places : Vec Place Global) → r ≡ answers.Wait deadline places → ⊥) → parked_for t r ≡ None
-not-parked t (answers.Reply reply) never = refl
-not-parked t (answers.Wait deadline places) never = absurd (never deadline places refl)
-not-parked t answers.NoReply never = refl
-not-parked t answers.Shut never = refl
+pub parked-others : {A E : Type 0} (result : Result A E) (q p : Queue) (n : ℕ) (w : queue.Wait) → OnOk result (p ≡ fin.insert q n w) → OnErr result (p ≡ q) → (k : ℕ) → k ≢ n → fin.get p k ≡ fin.get q k
+parked-others (Ok x) q p n w is same k ne = ap (λ y. fin.get y k) is ∙ get-insert_other q n k w ne
+parked-others (Err x) q p n w is same k ne = ap (λ y. fin.get y k) same
 
-pub parked-not : (q p : Queue) (t n : ℕ) (r : Answer) → p ≡ q → fin.get q n ≡ None → ((deadline : ℕ) (places : Vec Place Global) → r ≡ answers.Wait deadline places → ⊥) → IsParkedBy q p t n r
-parked-not q p t n r same none never = record { others = λ k ne. ap (λ x. fin.get x k) same; own = ap (λ x. fin.get x n) same ∙ (none ∙ sym (not-parked t r never)) }
+pub parked-by : {A E : Type 0} (result : Result A E) (q p : Queue) (t m n : ℕ) (r : Answer) → m ≡ n → OnOk result (fin.get p m ≡ parked_for t r) → ((k : ℕ) → k ≢ m → fin.get p k ≡ fin.get q k) → is_err result ≡ false → IsParkedBy q p t n r
+parked-by result q p t m n r number own others good = record {
+  others = λ k ne. others k (λ e. ne (e ∙ number));
+  own = ap (fin.get p) (sym number) ∙ from_ok result false (fin.get p m ≡ parked_for t r) (sym good) refl own;
+}
 
 -- it is taken out again
 pub parked-gone : (q p x : Queue) (t m n : ℕ) (r : Answer) → IsParkedBy q p t n r → m ≡ n → ((k : ℕ) → k ≢ m → fin.get x k ≡ fin.get p k) → (k : ℕ) → k ≢ n → fin.get x k ≡ fin.get q k
 parked-gone q p x t m n r parked number gone k ne = gone k (λ e. ne (e ∙ number)) ∙ parked.others k ne
 
 -- where the connection stands in the queue, it waits until then
+dated-waiting : (t : ℕ) (st : Stage) (id : ℤ) (awaited : Awaited) → st ≡ BoundTo t None → deadline_at (waiting (record { correlation_id = id; awaited = awaited }) st) ≡ Some (until awaited)
+dated-waiting t st id awaited e = ap (λ x. deadline_at (waiting (record { correlation_id = id; awaited = awaited }) x)) e
+
 pub dated-answered : {A E : Type 0} (result : Result A E) (q p : Queue) (t n : ℕ) (l new : Line) (r : Answer) (key version id : ℤ) (body : List ℕ) → IsParkedBy q p t n r → l.session.stage ≡ BoundTo t None → IsAsked l.session key version id body
     → ((key version id : ℤ) (body : List ℕ) (reaction : Reaction) → IsAsked l.session key version id body → IsAnswer id reaction r → OnOk result (new ≡ with_session l (answered reaction id version body (without_front l.session))))
     → (is_wait r ≡ false → is_free l.session.stage ≡ true → is_free new.session.stage ≡ true) → is_err result ≡ false → until_of (fin.get p n) ≡ deadline_at new.session.stage
@@ -141,29 +144,31 @@ dated-answered result q p t n l new r key version id body parked bound asks ok f
   where
     by : (r : Answer) → ((key version id : ℤ) (body : List ℕ) (reaction : Reaction) → IsAsked l.session key version id body → IsAnswer id reaction r → OnOk result (new ≡ with_session l (answered reaction id version body (without_front l.session))))
         → (is_wait r ≡ false → is_free l.session.stage ≡ true → is_free new.session.stage ≡ true) → until_of (parked_for t r) ≡ deadline_at new.session.stage
-    by (answers.Reply reply) ok free = sym (deadline-free new.session.stage (free refl (ap is_free bound)))
-    by (answers.Wait deadline places) ok free =
-        let is = from_ok result false (new ≡ with_session l (answered (Waits deadline places.items) id version body (without_front l.session))) (sym good) refl (ok key version id body (Waits deadline places.items) asks (refl, refl)) in
-        sym (ap (λ (x : Line). deadline_at x.session.stage) is ∙ waits l.session.stage bound)
-      where
-        waits : (st : Stage) → st ≡ BoundTo t None → deadline_at (answered (Waits deadline places.items) id version body (record l.session { stage = st })).stage ≡ Some deadline
-        waits st e = ap (λ x. deadline_at (answered (Waits deadline places.items) id version body (record l.session { stage = x })).stage) e
-    by answers.NoReply ok free = sym (deadline-free new.session.stage (free refl (ap is_free bound)))
-    by answers.Shut ok free = sym (deadline-free new.session.stage (free refl (ap is_free bound)))
+    by (answers.Plain (plain.Reply reply)) ok free = sym (deadline-free new.session.stage (free refl (ap is_free bound)))
+    by (answers.Plain (plain.Wait deadline places)) ok free =
+        let reaction : Reaction = Plain (Waits deadline places.items) in
+        let is = from_ok result false (new ≡ with_session l (answered reaction id version body (without_front l.session))) (sym good) refl (ok key version id body reaction asks (refl, refl)) in
+        sym (ap (λ (x : Line). deadline_at x.session.stage) is ∙ dated-waiting t l.session.stage id (Records version body deadline) bound)
+    by (answers.Plain plain.NoReply) ok free = sym (deadline-free new.session.stage (free refl (ap is_free bound)))
+    by (answers.Plain plain.Shut) ok free = sym (deadline-free new.session.stage (free refl (ap is_free bound)))
+    by answers.Rebalance ok free =
+        let is = from_ok result false (new ≡ with_session l (answered Rebalances id version body (without_front l.session))) (sym good) refl (ok key version id body Rebalances asks tt) in
+        sym (ap (λ (x : Line). deadline_at x.session.stage) is ∙ dated-waiting t l.session.stage id Group bound)
 
 -- and it stands there under its tenant
+owned-by : (t deadline : ℕ) (places : List Place) (st : Stage) (o : Option queue.Wait) → o ≡ Some (record { deadline = deadline; keys = keys_for t places }) → without_wait st ≡ BoundTo t None → IsOwnedAt st o
+owned-by t deadline places (Greets h) o parked bound = tt
+owned-by t deadline places (BoundTo u None) o parked bound = tt
+owned-by t deadline places (BoundTo u (Some w)) o parked bound =
+    let is : u ≡ t = cc in
+    subst (λ v. IsUnderTenant v o) (sym is) (subst (IsUnderTenant t) (sym parked) (0, omega arith, refl))
+
 pub owned-answered : (t : ℕ) (st : Stage) (r : Answer) (o : Option queue.Wait) → o ≡ parked_for t r → without_wait st ≡ BoundTo t None → (is_wait r ≡ false → is_free st ≡ true) → IsOwnedAt st o
-owned-answered t st (answers.Reply reply) o parked bound free = owned-none st o (free refl)
-owned-answered t st (answers.Wait deadline places) o parked bound free = by st bound
-  where
-    by : (st : Stage) → without_wait st ≡ BoundTo t None → IsOwnedAt st o
-    by (Greets h) e = tt
-    by (BoundTo u None) e = tt
-    by (BoundTo u (Some w)) e =
-        let is : u ≡ t = cc in
-        subst (λ v. IsUnderTenant v o) (sym is) (subst (IsUnderTenant t) (sym parked) (0, omega arith, refl))
-owned-answered t st answers.NoReply o parked bound free = owned-none st o (free refl)
-owned-answered t st answers.Shut o parked bound free = owned-none st o (free refl)
+owned-answered t st (answers.Plain (plain.Reply reply)) o parked bound free = owned-none st o (free refl)
+owned-answered t st (answers.Plain (plain.Wait deadline places)) o parked bound free = owned-by t deadline places.items st o parked bound
+owned-answered t st (answers.Plain plain.NoReply) o parked bound free = owned-none st o (free refl)
+owned-answered t st (answers.Plain plain.Shut) o parked bound free = owned-none st o (free refl)
+owned-answered t st answers.Rebalance o parked bound free = owned-by t (until Group) [] st o parked bound
 
 pub on-ok : {A E : Type 0} (result : Result A E) (P : Type 0) → P → OnOk result P
 on-ok (Ok x) P h = h
@@ -172,38 +177,46 @@ on-ok (Err x) P h = tt
 -- 3. What it then waits for
 
 -- only where nothing was ever refused to the tenant there is something to show
-keyed-calm : (us : List TenantState) (t : ℕ) (st : Stage) (o : Option queue.Wait) → without_wait st ≡ BoundTo t None → (refusals_of us t ≡ 0 → IsKeyedAt us st o) → IsKeyedAt us st o
-keyed-calm us t (Greets h) o e k = tt
-keyed-calm us t (BoundTo u None) o e k = tt
-keyed-calm us t (BoundTo u (Some w)) o e k = λ calm silent. let is : u ≡ t = cc in k (ap (refusals_of us) (sym is) ∙ calm) calm silent
+keyed-calm : (us : List TenantState) (t n : ℕ) (st : Stage) (o : Option queue.Wait) → without_wait st ≡ BoundTo t None → (refusals_of us t ≡ 0 → IsKeyedAt us n st o) → IsKeyedAt us n st o
+keyed-calm us t n (Greets h) o e k = tt
+keyed-calm us t n (BoundTo u None) o e k = tt
+keyed-calm us t n (BoundTo u (Some w)) o e k = λ calm silent. let is : u ≡ t = cc in k (ap (refusals_of us) (sym is) ∙ calm) calm silent
 
 -- it stands under what it asks
+keyed-waiting : (us : List TenantState) (t n : ℕ) (st : Stage) (w : Wait) (o : Option queue.Wait) → st ≡ BoundTo t None → places_of o ≡ Some (keys_for t (asked (kept_of us t) w)) → IsKeyedAt us n (waiting w st) o
+keyed-waiting us t n st w o bound is = subst (λ x. IsKeyedAt us n (waiting w x) o) (sym bound) (λ calm silent. is)
+
 keyed-by : (node : Node) (us : List TenantState) (t clock n : ℕ) (k : Kept) (key version id : ℤ) (body : List ℕ) (s : Session) (is : Reaction) (r : Answer) → answer node k clock n key version body ≡ is → kept_of us t ≡ kept_after node k clock n key version body → s.stage ≡ BoundTo t None
-    → IsAnswer id is r → IsKeyedAt us (answered is id version body s).stage (parked_for t r)
-keyed-by node us t clock n k key version id body s (Replies reply) r e kept bound told = keyed-none us _ (parked_for t r) (free-replied id reply s (ap is_free bound))
-keyed-by node us t clock n k key version id body s (Waits deadline places) (answers.Reply reply) e kept bound told = absurd told
-keyed-by node us t clock n k key version id body s (Waits deadline places) (answers.Wait until parts) e kept bound told =
-    subst (λ st. IsKeyedAt us (answered (Waits deadline places) id version body (record s { stage = st })).stage (parked_for t (answers.Wait until parts))) (sym bound)
-    (λ calm silent. ap (λ ps. Some (keys_for t ps)) (told.1 ∙ (asked-parks node k clock n key version body deadline places id e ∙ ap (λ x. asked x (record { correlation_id = id; version = version; body = body; deadline = deadline })) (sym kept))))
-keyed-by node us t clock n k key version id body s (Waits deadline places) answers.NoReply e kept bound told = absurd told
-keyed-by node us t clock n k key version id body s (Waits deadline places) answers.Shut e kept bound told = absurd told
-keyed-by node us t clock n k key version id body s Silent r e kept bound told = keyed-none us _ (parked_for t r) (ap is_free bound)
-keyed-by node us t clock n k key version id body s Shuts r e kept bound told = keyed-none us _ (parked_for t r) (free-without s.stage)
+    → IsAnswer id is r → IsKeyedAt us n (answered is id version body s).stage (parked_for t r)
+keyed-by node us t clock n k key version id body s (Plain (Replies reply)) r e kept bound told = keyed-none us n _ (parked_for t r) (free-replied id reply s (ap is_free bound))
+keyed-by node us t clock n k key version id body s (Plain (Waits deadline places)) (answers.Plain (plain.Reply reply)) e kept bound told = absurd told
+keyed-by node us t clock n k key version id body s (Plain (Waits deadline places)) (answers.Plain (plain.Wait late parts)) e kept bound told =
+    let w : Wait = record { correlation_id = id; awaited = Records version body deadline } in
+    keyed-waiting us t n s.stage w (parked_for t (answers.Plain (plain.Wait late parts))) bound
+    (ap (λ ps. Some (keys_for t ps)) (told.1 ∙ (asked-parks node k clock n key version body deadline places id e ∙ ap (λ x. asked x w) (sym kept))))
+keyed-by node us t clock n k key version id body s (Plain (Waits deadline places)) (answers.Plain plain.NoReply) e kept bound told = absurd told
+keyed-by node us t clock n k key version id body s (Plain (Waits deadline places)) (answers.Plain plain.Shut) e kept bound told = absurd told
+keyed-by node us t clock n k key version id body s (Plain (Waits deadline places)) answers.Rebalance e kept bound told = absurd told
+keyed-by node us t clock n k key version id body s (Plain Silent) r e kept bound told = keyed-none us n _ (parked_for t r) (ap is_free bound)
+keyed-by node us t clock n k key version id body s (Plain Shuts) r e kept bound told = keyed-none us n _ (parked_for t r) (free-without s.stage)
+keyed-by node us t clock n k key version id body s Rebalances (answers.Plain a) e kept bound told = absurd told
+keyed-by node us t clock n k key version id body s Rebalances answers.Rebalance e kept bound told =
+    keyed-waiting us t n s.stage (record { correlation_id = id; awaited = Group }) (parked_for t answers.Rebalance) bound (ap (λ ps. Some (keys_for t ps)) (sym (asked-group (kept_of us t) id)))
 
 -- the connection that was answered stands in the queue under what it asks
 pub keyed-answered : (H : Type 0) → H → (setup : Setup) (t clock n : ℕ) (ts us : List TenantState) (l new : Line) (key version id : ℤ) (body : List ℕ) (r : Answer) (o : Option queue.Wait) → l.session.stage ≡ BoundTo t None → IsSpent l.session new.session → IsAsked l.session key version id body → IsTurn t H ts us
     → IsMet t H ts us (λ k m. (m ≡ kept_after setup.node k clock n key version body) × IsAnswer id (answer setup.node k clock n key version body) r)
     → ((key version id : ℤ) (body : List ℕ) (reaction : Reaction) → IsAsked l.session key version id body → IsAnswer id reaction r → new ≡ with_session l (answered reaction id version body (without_front l.session)))
-    → o ≡ parked_for t r → IsKeyedAt us new.session.stage o
+    → o ≡ parked_for t r → IsKeyedAt us n new.session.stage o
 keyed-answered H honest setup t clock n ts us l new key version id body r o bound spent asks turn meets ok parked =
-    keyed-calm us t new.session.stage o (spent.stage t None bound ∙ ap without_wait bound)
+    keyed-calm us t n new.session.stage o (spent.stage t None bound ∙ ap without_wait bound)
     (λ none.
     let up = turn.grows t in
     let before : refusals_of ts t ≡ 0 = omega (arith, none, up) in
     let done = meets honest (record { same = none ∙ sym before; below = grind (arith, nat_tests, before) }) in
     let is = ok key version id body (answer setup.node (kept_of ts t) clock n key version body) asks done.1 in
-    subst (IsKeyedAt us new.session.stage) (sym parked)
-    (subst (λ (x : Line). IsKeyedAt us x.session.stage (parked_for t r)) (sym is) (keyed-by setup.node us t clock n (kept_of ts t) key version id body (without_front l.session) (answer setup.node (kept_of ts t) clock n key version body) r refl done.0 bound done.1)))
+    subst (IsKeyedAt us n new.session.stage) (sym parked)
+    (subst (λ (x : Line). IsKeyedAt us n x.session.stage (parked_for t r)) (sym is) (keyed-by setup.node us t clock n (kept_of ts t) key version id body (without_front l.session) (answer setup.node (kept_of ts t) clock n key version body) r refl done.0 bound done.1)))
 
 -- 4. Whom a turn concerns
 
@@ -214,7 +227,7 @@ turned-touched H setup t clock n ts us s r None touched meets = tt
 turned-touched H setup t clock n ts us s r (Some places) touched meets = λ honest.
     let h = touched honest in
     let both = meets honest h.calm in
-    record { session = both.0; kept = both.1; ready = h.ready }
+    record { session = both.0; kept = both.1; own = inl h.none; ready = h.ready }
 
 contains-key : (t : ℕ) (places : List Place) (place : Place) → Contains places place → Contains (keys_of t places) (key_of t place)
 contains-key t [] place c = absurd (let h = c.1 in omega (arith, h))
@@ -281,7 +294,7 @@ left-by H honest c setup t clock n q p ts us s r st touched bound others concern
     by concerned.Nobody None concern turn = absurd concern
     by concerned.Nobody (Some places) none turn =
         let h = turn honest in
-        record { session = h.session; kept = h.kept; ready = λ w silent. h.ready w (λ place asks touches. nowhere place (subst (λ ps. Contains ps place) none touches)) silent }
+        record { session = h.session; kept = h.kept; own = h.own; ready = λ k w silent. h.ready k w (λ place asks touches. nowhere place (subst (λ ps. Contains ps place) none touches)) silent }
     by (concerned.These u ns) None concern turn = subst (λ x. IsLeftBy (concerned.These x ns) setup clock (BoundTo t None) n q ts us s r) (sym concern.0) (inr (all-of t n q p ns.items others concern.1))
     by (concerned.These u ns) (Some places) concern turn = subst (λ x. IsLeftBy (concerned.These x ns) setup clock (BoundTo t None) n q ts us s r) (sym concern.0) (these (turn honest) concern.1)
       where
@@ -291,7 +304,7 @@ left-by H honest c setup t clock n q p ts us s r st touched bound others concern
           kept = h.kept;
           calm = c.calm;
           own = c.own;
-          others = λ k w ne apart parked silent. h.ready w
+          others = λ k w ne apart parked silent. h.ready k w
               (λ place asks touches. apart (c.under k place touches (under-key t (asked (kept_of ts t) w) place (fin.get p k) (ap places_of (others k ne) ∙ parked) asks)))
               silent;
         })

@@ -3,10 +3,13 @@ use Rattle.std.proofs.Common.{◌≡◌, ◌≤◌, false, Some, inr, ℕ, ℤ, 
 use Rattle.kb_world.specs.Parts.{END}
 use Rattle.kb_world.specs.Steps.{IsCalm}
 use Rattle.kb_world.specs.declared.place.Place.{Place}
-use Rattle.kb_tenant.specs.Hosted.{Kept, nothing, TenantState, IsTurn, IsMet, kept_in, kept_of, refusals_of, world_at}
-use Rattle.kb_tenant.specs.Replies.{Reaction, Shuts, IsAnswer}
-use Rattle.kb_tenant.specs.Serve.{IsOutcome, served, looked}
-use Rattle.kb_tenant.specs.declared.answer.Answer.{Answer}
+use Rattle.kb_service.specs.Hosted.{Kept, nothing, TenantState, IsTurn, IsMet, kept_in, kept_of, refusals_of, world_at}
+use Rattle.kb_tenant.specs.Replies as plain
+use Rattle.kb_tenant.specs.Replies.{Shuts}
+use Rattle.kb_tenant.specs.declared.answer.Answer.{Answer as Plain}
+use Rattle.kb_service.specs.Replies.{Reaction, IsAnswer}
+use Rattle.kb_service.specs.Serve.{IsOutcome, has_released, served}
+use Rattle.kb_service.specs.declared.answer.Answer.{Answer}
 use Rattle.kb_tenant.specs.declared.answer.Answer.TheVariants as answers
 use Rattle.kb_tenant.specs.declared.node.Node.{Node}
 use Rattle.kb_machine.specs.Tenant.{Wait, answer, asked, ready, kept_after}
@@ -42,10 +45,12 @@ use Rattle.kb_machine.proofs.Parts.{turn-then, calm-right}
 -- 1. A request of the tenant
 
 -- what is answered, and kept
-pub answered-now : (node : Node) (k l : Kept) (clock n : ℕ) (id key version : ℤ) (body : List ℕ) (touched : List Place) (r : Answer) → IsOutcome id (served node (world_at k clock) n key version body) (world_at l clock) touched r
+pub answered-now : (node : Node) (k l : Kept) (clock n : ℕ) (id key version : ℤ) (body : List ℕ) (touched : List Place) (r : Answer) → IsOutcome id (served node (world_at k clock) k.groups n key version body) (world_at l clock) l.groups touched r
     → (l ≡ kept_after node k clock n key version body) × IsAnswer id (answer node k clock n key version body) r
 unfolding answer kept_after
-answered-now node k l clock n id key version body touched r h = (ap kept_in h.0, h.2)
+answered-now node k l clock n id key version body touched r h =
+    let o = served node (world_at k clock) k.groups n key version body in
+    (ap (λ w. kept_in w l.groups) h.0 ∙ ap (kept_in o.world) h.1, h.3)
 
 -- what stands in front was asked, and answered so: the connection is the machine's
 pub asked-now : (setup : Setup) (clock n : ℕ) (k m : Kept) (l new : Line) (key version id : ℤ) (body : List ℕ) (r : Answer) → IsAsked l.session key version id body → m ≡ kept_after setup.node k clock n key version body → IsAnswer id (answer setup.node k clock n key version body) r
@@ -59,25 +64,25 @@ asked-now setup clock n k m l new key version id body r asked kept told ok =
 pub calm-of : (x y before after : ℕ) → before ≡ x → after ≡ y → after ≡ before → before < END → IsCalm x y
 calm-of x y before after p q same up = record { same = sym q ∙ (same ∙ p); below = subst (λ n. n < END) p up }
 
--- where nothing was refused, only a fetch that asks a touched partition may have become ready
+-- where nothing was refused, and nobody's group answered it, only a fetch that asks a touched partition may have become ready
 pub touched-now : {L S : Type 0} (log : L → Log) (disk : S → Disk) (H : Type 0) → H → (node : Node) (hosts : Tenants L S) (us : List TenantState) (clock t n : ℕ) (id key version : ℤ) (body : List ℕ) (touched : List Place) (r : Answer) → AreHosted log disk hosts
-    → IsMet t H (tenants_in log disk hosts) us (λ k l. IsOutcome id (served node (world_at k clock) n key version body) (world_at l clock) touched r)
-    → IsCalm (refusals_of (tenants_in log disk hosts) t) (refusals_of us t) → IsTouched t clock (tenants_in log disk hosts) us touched
-touched-now log disk H honest node hosts us clock t n id key version body touched r kept meets calm =
+    → IsMet t H (tenants_in log disk hosts) us (λ k l. IsOutcome id (served node (world_at k clock) k.groups n key version body) (world_at l clock) l.groups touched r)
+    → IsCalm (refusals_of (tenants_in log disk hosts) t) (refusals_of us t) → has_released (kept_of us t).groups ≡ false → IsTouched t clock (tenants_in log disk hosts) us touched
+touched-now log disk H honest node hosts us clock t n id key version body touched r kept meets calm nobody =
     let h = meets honest calm in
-    record { calm = calm; ready = λ w apart. apart-ready node (kept_of (tenants_in log disk hosts) t) (kept_of us t) clock n key version body w (kept_tied log disk hosts kept t clock) h.0 (subst (AreApart (asked (kept_of (tenants_in log disk hosts) t) w)) h.1 apart) }
+    record { calm = calm; none = nobody; ready = λ k w apart. apart-ready node (kept_of (tenants_in log disk hosts) t) (kept_of us t) clock n key version body k w (kept_tied log disk hosts kept t clock) h.0 (subst (AreApart (asked (kept_of (tenants_in log disk hosts) t) w)) h.2 apart) nobody }
 
 -- where nothing was ever refused to the tenant, a fetch that still waits asks for the same
 pub asked-on : {L S : Type 0} (log : L → Log) (disk : S → Disk) (H : Type 0) → H → (hosts : Tenants L S) → is_honest disk hosts → (node : Node) (us : List TenantState) (clock t n : ℕ) (id key version : ℤ) (body : List ℕ) (touched : List Place) (r : Answer) → AreHosted log disk hosts
     → IsTurn t H (tenants_in log disk hosts) us
-    → IsMet t H (tenants_in log disk hosts) us (λ k l. IsOutcome id (served node (world_at k clock) n key version body) (world_at l clock) touched r)
+    → IsMet t H (tenants_in log disk hosts) us (λ k l. IsOutcome id (served node (world_at k clock) k.groups n key version body) (world_at l clock) l.groups touched r)
     → IsAskedOn t (tenants_in log disk hosts) us
 asked-on log disk H honest hosts before-honest node us clock t n id key version body touched r kept turn meets calm =
     let ts = tenants_in log disk hosts in
     let up = turn.grows t in
     let before : refusals_of ts t ≡ 0 = omega (arith, calm, up) in
     let h = meets honest (record { same = calm ∙ sym before; below = grind (arith, nat_tests, before) }) in
-    λ w old new. asked-again node (kept_of ts t) (kept_of us t) clock n key version body w (kept_tied log disk hosts kept t clock) (kept_names log disk hosts kept before-honest t clock) h.0 old new
+    λ k w old new. asked-again node (kept_of ts t) (kept_of us t) clock n key version body k w (kept_tied log disk hosts kept t clock) (kept_names log disk hosts kept before-honest t clock) h.0 old new
 
 -- 2. What a turn leaves of a connection in any case
 
@@ -107,28 +112,28 @@ spent-greeted (Ok x) setup h l new greets able ok err =
     record { less = omega (arith, less, left); stage = λ t w e. (let none : Greets h ≡ BoundTo t w = sym greets ∙ e in absurd (cc)) }
 spent-greeted (Err x) setup h l new greets able ok err = spent-shut l new able err
 
--- 3. A look at a waiting fetch
+-- 3. A look at a waiting request
 
 -- what the tenant answers to it is what the machine tells
-met-looked : {A E : Type 0} (H : Type 0) → H → (result : Result A E) (clock t : ℕ) (ts us : List TenantState) (l new : Line) (w : Wait) (r : Answer) → l.session.stage ≡ BoundTo t (Some w)
-    → IsMet t H ts us (λ k m. (m ≡ k) × IsAnswer w.correlation_id (looked (world_at k clock) w.deadline w.version w.body) r)
-    → ((id : ℤ) (reaction : Reaction) → IsAnswer id reaction r → OnOk result (new ≡ with_session l (told reaction id l.session)))
-    → IsCalm (refusals_of ts t) (refusals_of us t) → OnOk result (new.session ≡ woken (kept_of ts t) clock l.session)
-unfolding ready woken_by
+met-looked : {A E : Type 0} (H : Type 0) → H → (result : Result A E) (clock t : ℕ) (ts us : List TenantState) (l new : Line) (w : Wait) (r : Plain) → l.session.stage ≡ BoundTo t (Some w)
+    → IsMet t H ts us (λ k m. (m ≡ k) × plain.IsAnswer w.correlation_id (ready k clock l.number w) r)
+    → ((id : ℤ) (reaction : plain.Reaction) → plain.IsAnswer id reaction r → OnOk result (new ≡ with_session l (told reaction id l.session)))
+    → IsCalm (refusals_of ts t) (refusals_of us t) → OnOk result (new.session ≡ woken (kept_of ts t) clock l.number l.session)
+unfolding woken_by
 met-looked H honest (Err x) clock t ts us l new w r stage meets ok calm = tt
 met-looked H honest (Ok x) clock t ts us l new w r stage meets ok calm =
     let k = kept_of ts t in
     let done = meets honest calm in
-    let is = ok w.correlation_id (looked (world_at k clock) w.deadline w.version w.body) done.1 in
-    ap (λ (x : Line). x.session) is ∙ sym (ap (woken_by k clock l.session) stage)
+    let is = ok w.correlation_id (ready k clock l.number w) done.1 in
+    ap (λ (x : Line). x.session) is ∙ sym (ap (woken_by k clock l.number l.session) stage)
 
 -- a look that was not refused is told by its answer, and one that was shuts the connection
-pub looked-ok : {A E : Type 0} (H : Type 0) (result : Result A E) (whom : Whom) (clock t : ℕ) (ts us : List TenantState) (l new : Line) (w : Wait) (r : Answer) → l.session.stage ≡ BoundTo t (Some w) → IsLookedFor whom clock t w → IsTurn t H ts us
-    → (H → (u : ℕ) → kept_of us u ≡ kept_of ts u) → IsMet t H ts us (λ k m. (m ≡ k) × IsAnswer w.correlation_id (looked (world_at k clock) w.deadline w.version w.body) r) → ((IsCalm (refusals_of ts t) (refusals_of us t) → ⊥) → r ≡ answers.Shut)
-    → ((id : ℤ) (reaction : Reaction) → IsAnswer id reaction r → OnOk result (new ≡ with_session l (told reaction id l.session)))
+pub looked-ok : {A E : Type 0} (H : Type 0) (result : Result A E) (whom : Whom) (clock t : ℕ) (ts us : List TenantState) (l new : Line) (w : Wait) (r : Plain) → l.session.stage ≡ BoundTo t (Some w) → IsLookedFor whom clock t w → IsTurn t H ts us
+    → (H → (u : ℕ) → kept_of us u ≡ kept_of ts u) → IsMet t H ts us (λ k m. (m ≡ k) × plain.IsAnswer w.correlation_id (ready k clock l.number w) r) → ((IsCalm (refusals_of ts t) (refusals_of us t) → ⊥) → r ≡ answers.Shut)
+    → ((id : ℤ) (reaction : plain.Reaction) → plain.IsAnswer id reaction r → OnOk result (new ≡ with_session l (told reaction id l.session)))
     → new.number ≡ l.number → without_wait new.session.stage ≡ without_wait l.session.stage → length new.session.unread ≤ length l.session.unread → is_err result ≡ false → IsLookedAt H whom clock l.session.stage ts us l new
 looked-ok H result whom clock t ts us l new w r stage yours turn stays meets shut ok number same unread good =
-    let met = λ (honest : H) (calm : IsCalm (refusals_of ts t) (refusals_of us t)). let h : OnOk result (new.session ≡ woken (kept_of ts t) clock l.session) = met-looked H honest result clock t ts us l new w r stage meets ok calm in from_ok result false (new.session ≡ woken (kept_of ts t) clock l.session) (sym good) refl h in
+    let met = λ (honest : H) (calm : IsCalm (refusals_of ts t) (refusals_of us t)). let h : OnOk result (new.session ≡ woken (kept_of ts t) clock l.number l.session) = met-looked H honest result clock t ts us l new w r stage meets ok calm in from_ok result false (new.session ≡ woken (kept_of ts t) clock l.number l.session) (sym good) refl h in
     subst (λ st. IsLookedAt H whom clock st ts us l new) (sym stage)
     (inr (
       yours,
@@ -140,13 +145,13 @@ looked-ok H result whom clock t ts us l new w r stage yours turn stays meets shu
         stays = stays;
         meets = met;
         unready = λ honest b is now. calm-or (refusals_of ts t) (refusals_of us t)
-            (λ calm. unready-met b t w l new stage (met honest calm ∙ (ap (λ k. woken k clock l.session) (ap (λ x. kept_of x t) (sym is)) ∙ ap (λ n. woken (kept_of b.tenants t) n l.session) (sym now))))
-            (λ loud. let is-shut = from_ok result false (new ≡ with_session l (shut_down l.session)) (sym good) refl (ok w.correlation_id Shuts (subst (IsAnswer w.correlation_id Shuts) (sym (shut loud)) tt)) in subst (λ (x : Line). IsUnready AnyWait b x.session.stage) (sym is-shut) (shut-unready AnyWait b l.session));
+            (λ calm. unready-met b t w l new stage (met honest calm ∙ (ap (λ k. woken k clock l.number l.session) (ap (λ x. kept_of x t) (sym is)) ∙ ap (λ n. woken (kept_of b.tenants t) n l.number l.session) (sym now))))
+            (λ loud. let is-shut = from_ok result false (new ≡ with_session l (shut_down l.session)) (sym good) refl (ok w.correlation_id Shuts (subst (plain.IsAnswer w.correlation_id Shuts) (sym (shut loud)) tt)) in subst (λ (x : Line). IsUnready AnyWait b l.number x.session.stage) (sym is-shut) (shut-unready AnyWait b l.number l.session));
       },
     ))
   where
-    unready-met : (b : BrokerState) (t : ℕ) (w : Wait) (l new : Line) → l.session.stage ≡ BoundTo t (Some w) → new.session ≡ woken (kept_of b.tenants t) b.clock l.session → IsUnready AnyWait b new.session.stage
-    unready-met b t w l new stage is = subst (λ (s : Session). IsUnready AnyWait b s.stage) (sym is) (unready-woken AnyWait b l.session t w stage)
+    unready-met : (b : BrokerState) (t : ℕ) (w : Wait) (l new : Line) → l.session.stage ≡ BoundTo t (Some w) → new.session ≡ woken (kept_of b.tenants t) b.clock l.number l.session → IsUnready AnyWait b l.number new.session.stage
+    unready-met b t w l new stage is = subst (λ (s : Session). IsUnready AnyWait b l.number s.stage) (sym is) (unready-woken AnyWait b l.number l.session t w stage)
 
     by : (x y : ℕ) {P : Type 0} (b : Bool) → (eqb y x && nat_lt x END) ≡ b → (IsCalm x y → P) → ((IsCalm x y → ⊥) → P) → P
     by x y true e calm loud = calm (record { same = grind (arith, nat_tests, e); below = grind (arith, nat_tests, e) })
@@ -170,6 +175,6 @@ looked-err H whom clock t ts us vs l new w stage yours first then stays again co
         turn = turn-then t H H ts us vs (λ u. u) first (turn-sure H t us vs then);
         stays = λ honest u. again u ∙ stays honest u;
         meets = λ honest calm. absurd (counted (calm-right (refusals_of ts t) (refusals_of us t) (refusals_of vs t) (first.grows t) (then.grows t) calm));
-        unready = λ honest b e now. subst (λ (x : Line). IsUnready AnyWait b x.session.stage) (sym is) (shut-unready AnyWait b l.session);
+        unready = λ honest b e now. subst (λ (x : Line). IsUnready AnyWait b l.number x.session.stage) (sym is) (shut-unready AnyWait b l.number l.session);
       },
     ))

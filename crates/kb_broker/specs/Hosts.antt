@@ -2,7 +2,7 @@
 use Rattle.std.specs.Prelude.{◌≡◌, ◌≤◌, ℕ, List, None}
 use Rattle.kb_store.specs.Disk.{Disk}
 use Rattle.kb_log.specs.OnShelf.{Log}
-use Rattle.kb_tenant.specs.Hosted.{TenantState, IsAccounted, refusals_of}
+use Rattle.kb_service.specs.Hosted.{TenantState, IsAccounted, refusals_of}
 use Rattle.kb_tenants.specs.Tenants.{AreKept, hosted}
 use Rattle.kb_tenants.specs.declared.tenants.Tenants.{Tenants}
 use Rattle.kb_machine.specs.Machine.{Happening, first_able}
@@ -48,7 +48,7 @@ IsLater disk old new = IsLaterWith (disk old.store) (disk new.store) old.state.t
 abbrev pub StepsTo : {S : Type 0} → (S → Disk) → Happening → OnStore S → OnStore S → Type 0
 StepsTo disk e old new = is_honest disk new → IsStep e old.state new.state
 
--- no fetch that waits is ready, unless the store lied
+-- nothing that waits is ready, unless the store lied
 abbrev pub NoneReady : {S : Type 0} → (S → Disk) → OnStore S → Type 0
 NoneReady disk b = is_honest disk b → AreUnready AnyWait b.state
 

@@ -8,18 +8,21 @@ use Rattle.kb_waits.specs.Queue.{Queue}
 use Rattle.kb_waits.specs.declared.key.WaitKey.{WaitKey}
 use Rattle.kb_waits.specs.declared.key.WaitKey.TheVariants as keys
 use Rattle.kb_world.specs.declared.place.Place.{Place}
-use Rattle.kb_tenant.specs.Hosted as hosted
-use Rattle.kb_tenant.specs.Hosted.{TenantState}
+use Rattle.kb_service.specs.Hosted as hosted
+use Rattle.kb_service.specs.Hosted.{TenantState}
+use Rattle.kb_service.specs.Serve.{has_released}
 use Rattle.kb_tenant.specs.Replies.{Silent}
 use Rattle.kb_tenant.specs.Waiting.{AreApart}
 use Rattle.kb_world.specs.Steps.{IsCalm}
-use Rattle.kb_tenant.specs.declared.answer.Answer.{Answer}
-use Rattle.kb_tenant.specs.declared.answer.Answer.TheVariants as answers
-use Rattle.kb_machine.specs.Tenant.{Wait, ready, asked}
-use Rattle.kb_machine.specs.Session.{Stage, Greets, BoundTo, Session, can}
+use Rattle.kb_tenant.specs.declared.answer.Answer.TheVariants as plain
+use Rattle.kb_service.specs.declared.answer.Answer.{Answer}
+use Rattle.kb_service.specs.declared.answer.Answer.TheVariants as answers
+use Rattle.kb_machine.specs.Tenant.{Awaited, Records, Group, Wait, ready, asked}
+use Rattle.kb_machine.specs.Session.{Stage, Greets, BoundTo, Session, can, is_free}
 use Rattle.kb_machine.specs.Greeting.{Setup}
 use Rattle.kb_machine.specs.Machine.{Line, served, put}
-use Rattle.kb_machine.specs.Owners.{find_line, whose}
+use Rattle.kb_machine.specs.Owners.{whose}
+use Rattle.kb_machine.specs.Machine.{find_line}
 use Rattle.kb_machine.specs.Broker.{BrokerState, IsUnready, AnyWait}
 use Rattle.kb_machine.specs.declared.whom.Whom.{Whom}
 use Rattle.kb_machine.specs.declared.whom.Whom.TheVariants as whoms
@@ -46,11 +49,16 @@ tenant_key t = keys.Tenant t
 abbrev pub keys_for : ℕ → List Place → List WaitKey
 keys_for t places = tenant_key t ∷ keys_of t places
 
+-- until when a request waits: a fetch until its deadline, one that waits for its group until the end of time
+abbrev pub until : Awaited → ℕ
+until (Records version body deadline) = deadline
+until Group = 18446744073709551615
+
 -- until when a connection at that stage waits, where it does
 abbrev pub deadline_at : Stage → Option ℕ
 deadline_at (Greets handshaken) = None
 deadline_at (BoundTo tenant None) = None
-deadline_at (BoundTo tenant (Some wait)) = Some wait.deadline
+deadline_at (BoundTo tenant (Some wait)) = Some (until wait.awaited)
 
 abbrev pub deadline_in : Option Session → Option ℕ
 deadline_in None = None
@@ -62,16 +70,16 @@ until_of o = option_map (λ (w : queue.Wait). w.deadline) o
 abbrev pub places_of : Option queue.Wait → Option (List WaitKey)
 places_of o = option_map (λ (w : queue.Wait). w.keys) o
 
--- as long as nothing was refused to its tenant, a connection that waits at that stage for a fetch that is not ready stands under
--- its tenant and exactly the partitions that the fetch asks
-abbrev pub IsKeyedAt : List TenantState → Stage → Option queue.Wait → Type 0
-IsKeyedAt ts (Greets handshaken) o = ⊤
-IsKeyedAt ts (BoundTo t None) o = ⊤
-IsKeyedAt ts (BoundTo t (Some w)) o = hosted.refusals_of ts t ≡ 0 → ready (hosted.kept_of ts t) 0 w ≡ Silent → places_of o ≡ Some (keys_for t (asked (hosted.kept_of ts t) w))
+-- as long as nothing was refused to its tenant, the connection of number n that waits at that stage for what is not ready stands under
+-- its tenant and exactly the partitions that its request asks
+abbrev pub IsKeyedAt : List TenantState → ℕ → Stage → Option queue.Wait → Type 0
+IsKeyedAt ts n (Greets handshaken) o = ⊤
+IsKeyedAt ts n (BoundTo t None) o = ⊤
+IsKeyedAt ts n (BoundTo t (Some w)) o = hosted.refusals_of ts t ≡ 0 → ready (hosted.kept_of ts t) 0 n w ≡ Silent → places_of o ≡ Some (keys_for t (asked (hosted.kept_of ts t) w))
 
-abbrev pub IsKeyedIn : List TenantState → Option Session → Option queue.Wait → Type 0
-IsKeyedIn ts None o = ⊤
-IsKeyedIn ts (Some s) o = IsKeyedAt ts s.stage o
+abbrev pub IsKeyedIn : List TenantState → ℕ → Option Session → Option queue.Wait → Type 0
+IsKeyedIn ts n None o = ⊤
+IsKeyedIn ts n (Some s) o = IsKeyedAt ts n s.stage o
 
 -- whatever was refused, a connection that waits at that stage stands under its tenant
 abbrev pub IsUnderTenant : ℕ → Option queue.Wait → Type 0
@@ -87,24 +95,25 @@ IsOwnedIn None o = ⊤
 IsOwnedIn (Some s) o = IsOwnedAt s.stage o
 
 -- the queue holds exactly the connections that wait, each until its deadline, under its tenant, and, unless the store lied, under
--- what its fetch asks
+-- what its request asks
 pub record IsQueueOf (honest : Type 0) (q : Queue) (ts : List TenantState) (lines : List Line) : Type 0 where
   pub dated : (n : ℕ) → until_of (get q n) ≡ deadline_in (find_line n lines)
   pub owned : (n : ℕ) → IsOwnedIn (find_line n lines) (get q n)
-  pub keyed : honest → (n : ℕ) → IsKeyedIn ts (find_line n lines) (get q n)
+  pub keyed : honest → (n : ℕ) → IsKeyedIn ts n (find_line n lines) (get q n)
 
 -- 2. A turn
 
 -- what a tenant's answer puts into the queue
 abbrev pub parked_for : ℕ → Answer → Option queue.Wait
-parked_for t (answers.Reply reply) = None
-parked_for t (answers.Wait deadline places) = Some (record { deadline = deadline; keys = keys_for t places.items })
-parked_for t answers.NoReply = None
-parked_for t answers.Shut = None
+parked_for t (answers.Plain (plain.Reply reply)) = None
+parked_for t (answers.Plain (plain.Wait deadline places)) = Some (record { deadline = deadline; keys = keys_for t places.items })
+parked_for t (answers.Plain plain.NoReply) = None
+parked_for t (answers.Plain plain.Shut) = None
+parked_for t answers.Rebalance = Some (record { deadline = until Group; keys = keys_for t [] })
 
--- a fetch of the tenant that is not ready before nor after asks for the same partitions
+-- a request of the tenant that waits and is not ready before nor after asks for the same partitions
 abbrev pub AreAskedStill : ℕ → List TenantState → List TenantState → Type 0
-AreAskedStill t old new = (w : Wait) → ready (hosted.kept_of old t) 0 w ≡ Silent → ready (hosted.kept_of new t) 0 w ≡ Silent → asked (hosted.kept_of new t) w ≡ asked (hosted.kept_of old t) w
+AreAskedStill t old new = (n : ℕ) (w : Wait) → ready (hosted.kept_of old t) 0 n w ≡ Silent → ready (hosted.kept_of new t) 0 n w ≡ Silent → asked (hosted.kept_of new t) w ≡ asked (hosted.kept_of old t) w
 
 -- where nothing was ever refused to the tenant
 abbrev pub IsAskedOn : ℕ → List TenantState → List TenantState → Type 0
@@ -115,30 +124,32 @@ IsAskedOnAt (Greets handshaken) old new = ⊤
 IsAskedOnAt (BoundTo t wait) old new = IsAskedOn t old new
 
 -- after the turn of a connection with that number and session s, which is r then, of a tenant to which nothing was ever refused:
--- a fetch that was not ready is not ready, if the queue has it under what it asks and its connection is not among those
+-- what waits and was not ready is not ready, if the queue has it under what it asks and its connection is not among those
 pub record IsPassedOn (setup : Setup) (t clock n : ℕ) (q : Queue) (old new : List TenantState) (s r : Session) (ns : List ℕ) : Type 0 where
   pub session : r ≡ served setup (hosted.kept_of old t) clock n s
   pub kept : hosted.kept_of new t ≡ put setup (hosted.kept_of old t) clock n s.unread
   pub calm : hosted.refusals_of new t ≡ 0
   pub own : Contains ns n
-  pub others : (k : ℕ) (w : Wait) → k ≢ n → (Contains ns k → ⊥) → places_of (get q k) ≡ Some (keys_for t (asked (hosted.kept_of old t) w)) → ready (hosted.kept_of old t) clock w ≡ Silent → ready (hosted.kept_of new t) clock w ≡ Silent
+  pub others : (k : ℕ) (w : Wait) → k ≢ n → (Contains ns k → ⊥) → places_of (get q k) ≡ Some (keys_for t (asked (hosted.kept_of old t) w)) → ready (hosted.kept_of old t) clock k w ≡ Silent → ready (hosted.kept_of new t) clock k w ≡ Silent
 
 -- the connection of that number is among those, and all others that stand in the queue under the tenant
 pub record AreAllOf (t n : ℕ) (q : Queue) (ns : List ℕ) : Type 0 where
   pub own : Contains ns n
   pub others : (k : ℕ) → k ≢ n → IsUnderTenant t (get q k) → Contains ns k
 
--- nothing was refused to a tenant, and a fetch that was not ready is not ready, if it asks none of those partitions
+-- nothing was refused to a tenant, its groups answer nobody who waited, and what waits and was not ready is not ready, if it asks none of those partitions
 pub record IsTouched (t clock : ℕ) (old new : List TenantState) (places : List Place) : Type 0 where
   pub calm : IsCalm (hosted.refusals_of old t) (hosted.refusals_of new t)
-  pub ready : (w : Wait) → AreApart (asked (hosted.kept_of old t) w) places → ready (hosted.kept_of old t) clock w ≡ Silent → ready (hosted.kept_of new t) clock w ≡ Silent
+  pub none : has_released (hosted.kept_of new t).groups ≡ false
+  pub ready : (k : ℕ) (w : Wait) → AreApart (asked (hosted.kept_of old t) w) places → ready (hosted.kept_of old t) clock k w ≡ Silent → ready (hosted.kept_of new t) clock k w ≡ Silent
 
--- the turn of a connection of number n bound to that tenant, of whose session s it leaves r, was not refused, and a fetch that was not ready is
--- not ready, if it asks none of those partitions
+-- the turn of a connection of number n bound to that tenant, of whose session s it leaves r, was not refused; the connection waits for
+-- nothing then, or the groups answer nobody who waited; and what waits and was not ready is not ready, if it asks none of those partitions
 pub record IsTouchedTurn (setup : Setup) (t clock n : ℕ) (old new : List TenantState) (s r : Session) (places : List Place) : Type 0 where
   pub session : r ≡ served setup (hosted.kept_of old t) clock n s
   pub kept : hosted.kept_of new t ≡ put setup (hosted.kept_of old t) clock n s.unread
-  pub ready : (w : Wait) → AreApart (asked (hosted.kept_of old t) w) places → ready (hosted.kept_of old t) clock w ≡ Silent → ready (hosted.kept_of new t) clock w ≡ Silent
+  pub own : (has_released (hosted.kept_of new t).groups ≡ false) ⊎ (is_free r.stage ≡ true)
+  pub ready : (k : ℕ) (w : Wait) → AreApart (asked (hosted.kept_of old t) w) places → ready (hosted.kept_of old t) clock k w ≡ Silent → ready (hosted.kept_of new t) clock k w ≡ Silent
 
 -- those connections are the one of that number, and all that stand in the queue under one of those partitions
 pub record AreUnder (t n : ℕ) (ts : List TenantState) (q : Queue) (places : List Place) (ns : List ℕ) : Type 0 where
@@ -176,12 +187,12 @@ IsLeftBy (concerned.All t) setup clock st n q old new s r = ⊤
 -- 3. Looks by number
 
 -- a connection of that number waits for nothing that is ready
-abbrev pub IsUnreadyIn : BrokerState → Option Session → Type 0
-IsUnreadyIn b None = ⊤
-IsUnreadyIn b (Some s) = IsUnready AnyWait b s.stage
+abbrev pub IsUnreadyIn : BrokerState → ℕ → Option Session → Type 0
+IsUnreadyIn b k None = ⊤
+IsUnreadyIn b k (Some s) = IsUnready AnyWait b k s.stage
 
 abbrev pub IsUnreadyAt : ℕ → BrokerState → Type 0
-IsUnreadyAt k b = IsUnreadyIn b (find_line k b.lines)
+IsUnreadyAt k b = IsUnreadyIn b k (find_line k b.lines)
 
 -- what a connection waits for is looked for, if it waits
 abbrev pub IsSoughtAt : Whom → ℕ → Stage → Type 0
@@ -220,7 +231,7 @@ IsConfined concerned.Nobody n old new = SameOthers n old new
 IsConfined (concerned.These t ns) n old new = Contains ns.items n × SameBut ns.items old new
 IsConfined (concerned.All t) n old new = ⊤
 
--- a turn after which nobody's waiting fetches have to be looked at again, or before those of a tenant are
+-- a turn after which nobody's waiting requests have to be looked at again, or before those of a tenant are
 abbrev pub IsServedFor : Concerned → Scope → BrokerState → BrokerState → Type 0
 IsServedFor concerned.Nobody scope old new = Turned scope old new
 IsServedFor (concerned.These t ns) scope old new = Served t scope old new
@@ -238,14 +249,14 @@ IsAllOf concerned.Nobody st = whose st ≡ None
 IsAllOf (concerned.These t ns) st = ⊥
 IsAllOf (concerned.All t) st = whose st ≡ Some t
 
--- a fetch that waits would do so at the first moment too
-abbrev pub IsWaitingOnAt : List TenantState → Stage → Type 0
-IsWaitingOnAt ts (Greets handshaken) = ⊤
-IsWaitingOnAt ts (BoundTo t None) = ⊤
-IsWaitingOnAt ts (BoundTo t (Some w)) = ready (hosted.kept_of ts t) 0 w ≡ Silent
+-- what waits on the connection of number n would do so at the first moment too
+abbrev pub IsWaitingOnAt : List TenantState → ℕ → Stage → Type 0
+IsWaitingOnAt ts n (Greets handshaken) = ⊤
+IsWaitingOnAt ts n (BoundTo t None) = ⊤
+IsWaitingOnAt ts n (BoundTo t (Some w)) = ready (hosted.kept_of ts t) 0 n w ≡ Silent
 
 abbrev pub AreWaitingOn : BrokerState → Type 0
-AreWaitingOn b = AllByRecursion (λ (l : Line). IsWaitingOnAt b.tenants l.session.stage) b.lines
+AreWaitingOn b = AllByRecursion (λ (l : Line). IsWaitingOnAt b.tenants l.number l.session.stage) b.lines
 
 -- what is left to be looked at after a turn: all that may be ready of a tenant's waits stand among those
 abbrev pub IsLeftTo : Concerned → BrokerState → Type 0

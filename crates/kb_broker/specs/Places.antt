@@ -1,9 +1,10 @@
 -- A connection's place in the broker, its turns there, and the count of a refusal.
-use Rattle.std.specs.Prelude.{◌≡◌, ◌≢◌, ℕ, ◌<◌, ◌≤◌, List, length, take, map, get_or, Option, Some, None, Bool, false, not, ◌⊎◌, ⊤}
+use Rattle.std.specs.Prelude.{◌≡◌, ◌≢◌, ℕ, ◌<◌, ◌≤◌, List, length, take, map, get_or, Option, Some, None, Bool, true, false, not, ◌⊎◌, ⊤}
 use Rattle.std.specs.List.{AllByRecursion}
 use Rattle.kb_world.specs.Steps.{IsCalm}
-use Rattle.kb_tenant.specs.Hosted as hosted
-use Rattle.kb_tenant.specs.Hosted.{TenantState, IsTurn, IsMet}
+use Rattle.kb_service.specs.Hosted as hosted
+use Rattle.kb_service.specs.Hosted.{TenantState, IsTurn, IsMet}
+use Rattle.kb_service.specs.Serve.{has_released}
 use Rattle.kb_tenant.specs.Replies.{Silent}
 use Rattle.kb_machine.specs.Tenant.{Wait, ready}
 use Rattle.kb_machine.specs.Session.{Stage, Greets, BoundTo, Session, without_wait, is_free, can}
@@ -23,7 +24,7 @@ numbers b = map (λ (l : Line). l.number) b.lines
 abbrev pub number_at : ℕ → BrokerState → ℕ
 number_at i b = get_or (numbers b) i 0
 
--- whether a connection waits for the answer to a fetch
+-- whether a connection waits
 abbrev pub waits_in : Option Session → Bool
 waits_in None = false
 waits_in (Some s) = not (is_free s.stage)
@@ -37,7 +38,7 @@ IsPassed whom clock (BoundTo tenant (Some wait)) = IsPassedOver whom clock tenan
 abbrev pub ArePassed : Whom → BrokerState → Type 0
 ArePassed whom b = AllByRecursion (λ (l : Line). IsPassed whom b.clock l.session.stage) b.lines
 
--- after retention all waits are looked at, or those that are due, where nobody's batches went
+-- after a moment's own part all waits are looked at, or those that are due, where nothing happened to any tenant
 abbrev pub Leaves : Whom → List TenantState → List TenantState → Type 0
 Leaves whom old new = (whom ≡ whoms.All) ⊎ ((whom ≡ whoms.Due) × ((t : ℕ) → hosted.kept_of new t ≡ hosted.kept_of old t))
 
@@ -65,11 +66,13 @@ abbrev pub IsTakenAt : Type 0 → Setup → ℕ → ℕ → Stage → List Tenan
 IsTakenAt honest setup clock n (Greets handshaken) old new s r = r ≡ greeted setup handshaken s
 IsTakenAt honest setup clock n (BoundTo tenant wait) old new s r = IsMet tenant honest old new (λ k l. (r ≡ served setup k clock n s) × (l ≡ put setup k clock n s.unread))
 
--- the turn of a connection of number n bound to that tenant, of whose session s it leaves r, was not refused, and makes no waiting fetch ready
+-- the turn of a connection of number n bound to that tenant, of whose session s it leaves r, was not refused, the connection waits for nothing then, or the
+-- groups answer nobody who waited, and what waits and was not ready is not ready
 pub record IsQuietTurn (setup : Setup) (t clock n : ℕ) (old new : List TenantState) (s r : Session) : Type 0 where
   pub session : r ≡ served setup (hosted.kept_of old t) clock n s
   pub kept : hosted.kept_of new t ≡ put setup (hosted.kept_of old t) clock n s.unread
-  pub ready : (w : Wait) → ready (hosted.kept_of old t) clock w ≡ Silent → ready (hosted.kept_of new t) clock w ≡ Silent
+  pub own : (has_released (hosted.kept_of new t).groups ≡ false) ⊎ (is_free r.stage ≡ true)
+  pub ready : (k : ℕ) (w : Wait) → ready (hosted.kept_of old t) clock k w ≡ Silent → ready (hosted.kept_of new t) clock k w ≡ Silent
 
 -- the same at any stage: a greeting one changes nothing that a tenant keeps
 abbrev pub IsQuietAt : Setup → ℕ → ℕ → Stage → List TenantState → List TenantState → Session → Session → Type 0
@@ -93,26 +96,26 @@ abbrev pub IsCountedAt : Stage → BrokerState → BrokerState → Type 0
 IsCountedAt (Greets handshaken) old new = IsRefused old new
 IsCountedAt (BoundTo tenant wait) old new = IsCountedFor tenant old new
 
--- the turn of a connection at that stage, before its tenant's waiting fetches are looked at again
+-- the turn of a connection at that stage, before its tenant's waiting requests are looked at again
 abbrev pub IsServedAt : Stage → Scope → BrokerState → BrokerState → Type 0
 IsServedAt (Greets handshaken) scope old new = Turned scope old new
 IsServedAt (BoundTo tenant wait) scope old new = Served tenant scope old new
 
--- a look at a waiting fetch of that tenant left this of the connection l and of the tenants; unless the store lied what they keep stays, and the fetch waits no longer, or is not ready
+-- a look at what waits of that tenant left this of the connection l and of the tenants; unless the store lied what they keep stays, and it waits no longer, or is not ready
 pub record IsLooked (honest : Type 0) (t clock : ℕ) (old new : List TenantState) (l m : Line) : Type 0 where
   pub number : m.number ≡ l.number
   pub stage : without_wait m.session.stage ≡ without_wait l.session.stage
   pub unread : length m.session.unread ≤ length l.session.unread
   pub turn : IsTurn t honest old new
   pub stays : honest → (u : ℕ) → hosted.kept_of new u ≡ hosted.kept_of old u
-  pub meets : IsMet t honest old new (λ k n. m.session ≡ woken k clock l.session)
-  pub unready : honest → (b : BrokerState) → b.tenants ≡ old → b.clock ≡ clock → IsUnready AnyWait b m.session.stage
+  pub meets : IsMet t honest old new (λ k n. m.session ≡ woken k clock l.number l.session)
+  pub unready : honest → (b : BrokerState) → b.tenants ≡ old → b.clock ≡ clock → IsUnready AnyWait b l.number m.session.stage
 
 -- nothing was looked at
 abbrev pub IsPassedBy : List TenantState → List TenantState → Line → Line → Type 0
 IsPassedBy old new l m = (new ≡ old) × (m ≡ l)
 
--- a connection at that stage was looked at, if it waits for a fetch that is looked for
+-- a connection at that stage was looked at, if it waits for what is looked for
 abbrev pub IsLookedAt : Type 0 → Whom → ℕ → Stage → List TenantState → List TenantState → Line → Line → Type 0
 IsLookedAt honest whom clock (Greets handshaken) old new l m = IsPassedBy old new l m
 IsLookedAt honest whom clock (BoundTo t None) old new l m = IsPassedBy old new l m
@@ -121,8 +124,8 @@ IsLookedAt honest whom clock (BoundTo t (Some w)) old new l m = (IsPassedOver wh
 -- the connections before a place were looked at, and those behind it are as they were
 pub record AreWaked (whom : Whom) (old new : BrokerState) (i : ℕ) : Type 0 where
   pub waked : Waked whom old new
-  pub looked : AllByRecursion (λ (l : Line). IsUnready (IsLookedFor whom old.clock) new l.session.stage) (take i new.lines)
-  pub rest : AreUnready (IsPassedOver whom old.clock) old → AllByRecursion (λ (l : Line). IsUnready AnyWait new l.session.stage) (take i new.lines)
+  pub looked : AllByRecursion (λ (l : Line). IsUnready (IsLookedFor whom old.clock) new l.number l.session.stage) (take i new.lines)
+  pub rest : AreUnready (IsPassedOver whom old.clock) old → AllByRecursion (λ (l : Line). IsUnready AnyWait new l.number l.session.stage) (take i new.lines)
   pub over : AreUnready (IsPassedOver whom old.clock) old → AreUnready (IsPassedOver whom old.clock) new
 
 -- what one look more leaves of the broker whatever the store says

@@ -21,7 +21,7 @@ IsQuiet b = AllByRecursion (λ (l : Line). l.session.output ≡ []) b.lines
 abbrev pub hushed : BrokerState → BrokerState
 hushed b = record b { lines = quieted_lines b.lines }
 
--- no connection waits for a fetch
+-- no connection waits
 abbrev pub NoneWaits : BrokerState → Type 0
 NoneWaits b = AllByRecursion (λ (l : Line). waits_in (Some l.session) ≡ false) b.lines
 

@@ -7,7 +7,7 @@ ghost use Rattle.kb_wire.specs.Codec.{array};
 ghost use Rattle.kb_api_group.specs.Layouts.{api_version};
 ghost use Rattle.kb_settings.specs.Names.{byte_order, in_order, place_of};
 ghost use Rattle.kb_store.specs.Disk.{Keeps};
-ghost use Rattle.kb_tenant.specs.Hosted.{new_tenant};
+ghost use Rattle.kb_service.specs.Hosted.{new_tenant};
 ghost use Rattle.kb_broker.specs.Hosts.{tenants_in, AreHosted};
 ghost use Rattle.kb_broker.specs.Opening.{least, listed, opening, opening_listing, opening_setup, tenants_of, login_of, BlamesStore};
 

@@ -1,4 +1,4 @@
-//! The connections that wait for a fetch.
+//! The connections that wait.
 
 ghost use Rattle.std.specs.Prelude.{◌≡◌, ◌≢◌, ◌==◌, ◌++◌, ℕ, None, OnOk, OnErr, IfOk};
 ghost use Rattle.std.specs.FinMap as fin;
@@ -12,7 +12,7 @@ use std::alloc::{AllocError, Global};
 use std::marker::Model;
 use std::mem;
 
-/// The queue of the connections that wait for a fetch, by number: each until its deadline, under its tenant and the partitions that
+/// The queue of the connections that wait, by number: each until its deadline, under its tenant and the partitions that
 /// its fetch asks. A clause sees the queue.
 #[derive(Drop)]
 pub struct Parking {

@@ -7,7 +7,7 @@ ghost use Rattle.kb_machine.specs.Calls.{closed};
 ghost use Rattle.kb_world.specs.Steps.{IsCalm};
 ghost use Rattle.kb_machine.specs.Broker.{IsRun, IsUnowned, alone_unowned, kept_of, last_after, only, owned_by, view_of};
 ghost use Rattle.kb_tenant.specs.Batches.{HasSmallLogs};
-ghost use Rattle.kb_tenant.specs.Hosted.{world_at};
+ghost use Rattle.kb_service.specs.Hosted.{world_at};
 ghost use Rattle.kb_machine.specs.Fetches.{FetchesGetBatches};
 ghost use Rattle.kb_machine.specs.Isolation.{IsIsolated, LeavesWorlds, AreAlike, own_events, own_sent};
 ghost use Rattle.kb_machine.specs.Greetings.{greeted_alone};

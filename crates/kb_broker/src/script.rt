@@ -182,7 +182,7 @@ fn close(
     calm(broker)
 }
 
-/// A moment passes, and what the broker says is written. Where nobody waits for a fetch it says nothing.
+/// A moment passes, and what the broker says is written. Where nobody waits it says nothing.
 fn pass<W: Write>(
     alloc: Global,
     broker: &mut Broker<MemoryStore>,
@@ -208,7 +208,7 @@ fn pass<W: Write>(
     calm(broker)
 }
 
-/// Gives a piece to a connection, and writes what the broker says, to this connection and to those that wait for a fetch.
+/// Gives a piece to a connection, and writes what the broker says, to this connection and to those that wait.
 fn give<W: Write>(
     alloc: Global,
     broker: &mut Broker<MemoryStore>,
@@ -233,7 +233,7 @@ fn give<W: Write>(
     say(alloc, broker, writer, &were_shut)
 }
 
-/// Gives a piece to a connection where none waits for a fetch, and writes what the broker says: it says nothing to any other.
+/// Gives a piece to a connection where none waits, and writes what the broker says: it says nothing to any other.
 fn give_alone<W: Write>(
     alloc: Global,
     broker: &mut Broker<MemoryStore>,

@@ -1,33 +1,38 @@
 //! The turn of one connection, beside the tenants.
 
-ghost use Rattle.std.specs.Prelude.{◌≡◌, ◌≢◌, ◌<◌, ◌⊎◌, ℕ, ℤ, List, Option, length, OnOk, OnErr, IfOk, IfSome, Ok, None, true, false};
+ghost use Rattle.std.specs.Prelude.{◌≡◌, ◌≢◌, ◌<◌, ◌≤◌, ◌^◌, ◌⊎◌, ℕ, ℤ, List, Option, length, OnOk, OnErr, IfOk, IfSome, Ok, None, true, false};
 ghost use Rattle.std.specs.FinMap as fin;
 ghost use Rattle.kb_api_group.specs.Frames.{front};
-ghost use Rattle.kb_tenant.specs.Hosted.{IsTurn, IsMet};
-ghost use Rattle.kb_tenant.specs.Replies.{Reaction, IsAnswer};
+ghost use Rattle.kb_service.specs.Hosted.{IsTurn, IsMet, kept_of, refusals_of};
+ghost use Rattle.kb_world.specs.Steps.{IsCalm};
+ghost use Rattle.kb_service.specs.Replies.{Reaction, IsAnswer};
+ghost use Rattle.kb_service.specs.declared.answer.Answer.TheVariants as any;
+ghost use Rattle.kb_tenant.specs.Replies as plain;
+ghost use Rattle.kb_tenant.specs.declared.answer.Answer.TheVariants as answers;
 ghost use Rattle.kb_machine.specs.Session.{BoundTo, shut_down, can};
 ghost use Rattle.kb_machine.specs.Machine.{answered, served, put};
 ghost use Rattle.kb_machine.specs.Broker.{InRange};
-ghost use Rattle.kb_machine.specs.Tenant.{answer, kept_after};
+ghost use Rattle.kb_machine.specs.Tenant.{answer, kept_after, is_past, ready};
 ghost use Rattle.kb_machine.specs.Turned.{is_looked_for};
 ghost use Rattle.kb_tenants.specs.Tenants.{is_honest};
 ghost use Rattle.kb_connection.specs.Fronts.{is_tenants_at, IsAsked};
-ghost use Rattle.kb_connection.specs.View.{wait_of, with_session, without_front};
+ghost use Rattle.kb_connection.specs.View.{awaited_of, wait_of, with_session, without_front};
 ghost use Rattle.kb_broker.specs.Hosts.{tenants_in, AreHosted, AreLater};
 ghost use Rattle.kb_broker.specs.Places.{IsSpent, IsTakenAt, IsTurnAt, IsLookedAt};
 ghost use Rattle.kb_broker.specs.Parked.{parked_for, until_of, deadline_at, IsKeyedAt, IsOwnedAt, IsAskedOn, IsAskedOnAt, IsTouched, IsTouchedTurn, AreConcerned, IsConcern, IsLeftBy, IsOwnTo, IsWhose};
 
 use crate::parking::Parking;
-use kb_connection::{Connection, Phase, Setup, Waiting};
+use kb_connection::{Awaited, Connection, Phase, Setup, Waiting};
 use kb_log::PartitionLog;
 use kb_machine::Whom;
+use kb_service::{Answer, Served};
 use kb_store::Store;
-use kb_tenant::{Answer, Request, Served, Wait};
+use kb_tenant::{Request, Wait};
 use kb_tenants::Tenants;
 use kb_world::Place;
 use std::alloc::{AllocError, Global};
 
-/// Whose waiting fetches may be ready after a turn, and are to be looked at again.
+/// Whose waiting requests may be ready after a turn, and are to be looked at again.
 #[derive(Drop)]
 pub enum Concerned {
     /// Nobody's: no other connection has changed.
@@ -38,7 +43,7 @@ pub enum Concerned {
     All(usize),
 }
 
-/// Serves what stands in front of a connection that can take a turn, and answers whose waiting fetches may be ready after it. If it
+/// Serves what stands in front of a connection that can take a turn, and answers whose waiting requests may be ready after it. If it
 /// waits then, it is parked. Where memory is refused the connection is shut.
 ///
 /// The tenants change as by a call for the connection's tenant, or not where it still greets.
@@ -51,6 +56,7 @@ pub fn take_turn<L: PartitionLog + Drop, S: Store>(
     connection: &mut Connection,
 ) -> Result<Concerned, AllocError>
     requires hosted { AreHosted L.log S.disk tenants.old }
+    requires clock { clock ≤ 2 ^ 62 }
     requires tenant { InRange (length (tenants_in L.log S.disk tenants.old)) connection.old.session.stage }
     requires able { can connection.old.session ≡ true }
     requires free { fin.get parking.old connection.old.number ≡ None }
@@ -62,7 +68,7 @@ pub fn take_turn<L: PartitionLog + Drop, S: Store>(
     ensures parked { (k : ℕ) → k ≢ connection.old.number → fin.get parking.new k ≡ fin.get parking.old k }
     ensures dated { until_of (fin.get parking.new connection.old.number) ≡ deadline_at connection.new.session.stage }
     ensures owned { IsOwnedAt connection.new.session.stage (fin.get parking.new connection.old.number) }
-    ensures keyed { is_honest S.disk tenants.new → IsKeyedAt (tenants_in L.log S.disk tenants.new) connection.new.session.stage (fin.get parking.new connection.old.number) }
+    ensures keyed { is_honest S.disk tenants.new → IsKeyedAt (tenants_in L.log S.disk tenants.new) connection.old.number connection.new.session.stage (fin.get parking.new connection.old.number) }
     ensures asked { is_honest S.disk tenants.new → IsAskedOnAt connection.old.session.stage (tenants_in L.log S.disk tenants.old) (tenants_in L.log S.disk tenants.new) }
     ensures ok { OnOk result (IsTakenAt (is_honest S.disk tenants.new) setup.now clock connection.old.number connection.old.session.stage (tenants_in L.log S.disk tenants.old) (tenants_in L.log S.disk tenants.new) connection.old.session connection.new.session) }
     ensures whose { IfOk result (λ c. IsWhose c connection.old.session.stage) }
@@ -83,7 +89,7 @@ pub fn take_turn<L: PartitionLog + Drop, S: Store>(
     }
 }
 
-/// Whose waiting fetches may be ready after a turn of a tenant that touched these partitions, or to which something was refused.
+/// Whose waiting requests may be ready after a turn of a tenant that touched these partitions, or where that is not known.
 ///
 /// Where the list of those cannot be kept, all of the tenant are looked at.
 fn whom_it_concerns<L: PartitionLog + Drop, S: Store>(
@@ -110,8 +116,8 @@ fn whom_it_concerns<L: PartitionLog + Drop, S: Store>(
 
 /// The connections that wait for one of these partitions of the tenant, and that of the number behind them.
 ///
-/// As long as nothing was ever refused to the tenant the queue has each fetch under what it asks; else all of the tenant that wait
-/// stand in the list.
+/// As long as nothing was ever refused to the tenant the queue has each fetch under what it asks; else, and where requests that waited
+/// for their group were answered, all of the tenant that wait stand in the list.
 fn numbers_concerned<L: PartitionLog + Drop, S: Store>(
     alloc: Global,
     tenants: &Tenants<L, S>,
@@ -132,7 +138,7 @@ fn numbers_concerned<L: PartitionLog + Drop, S: Store>(
 }
 
 /// Serves what stands in front of a connection that is bound to a tenant, and answers which partitions were touched; `None`:
-/// something was refused to the tenant. If it waits then, it is parked.
+/// something was refused to the tenant, or its group answered requests that waited. If it waits then, it is parked.
 fn serve_bound<L: PartitionLog + Drop, S: Store>(
     alloc: Global,
     setup: &Setup,
@@ -143,6 +149,7 @@ fn serve_bound<L: PartitionLog + Drop, S: Store>(
     connection: &mut Connection,
 ) -> Result<Option<Vec<Place>>, AllocError>
     requires hosted { AreHosted L.log S.disk tenants.old }
+    requires clock { clock ≤ 2 ^ 62 }
     requires tenant { tenant < length (tenants_in L.log S.disk tenants.old) }
     requires bound { connection.old.session.stage ≡ BoundTo tenant None }
     requires able { can connection.old.session ≡ true }
@@ -155,7 +162,7 @@ fn serve_bound<L: PartitionLog + Drop, S: Store>(
     ensures parked { (k : ℕ) → k ≢ connection.old.number → fin.get parking.new k ≡ fin.get parking.old k }
     ensures dated { until_of (fin.get parking.new connection.old.number) ≡ deadline_at connection.new.session.stage }
     ensures owned { IsOwnedAt connection.new.session.stage (fin.get parking.new connection.old.number) }
-    ensures keyed { is_honest S.disk tenants.new → IsKeyedAt (tenants_in L.log S.disk tenants.new) connection.new.session.stage (fin.get parking.new connection.old.number) }
+    ensures keyed { is_honest S.disk tenants.new → IsKeyedAt (tenants_in L.log S.disk tenants.new) connection.old.number connection.new.session.stage (fin.get parking.new connection.old.number) }
     ensures asked { is_honest S.disk tenants.new → IsAskedOn tenant (tenants_in L.log S.disk tenants.old) (tenants_in L.log S.disk tenants.new) }
     ensures ok { OnOk result (IsMet tenant (is_honest S.disk tenants.new) (tenants_in L.log S.disk tenants.old) (tenants_in L.log S.disk tenants.new)
         (λ k l. (connection.new.session ≡ served setup.now k clock connection.old.number connection.old.session) × (l ≡ put setup.now k clock connection.old.number connection.old.session.unread))) }
@@ -198,14 +205,9 @@ fn hand_over(
     ensures err { OnErr result (connection.new ≡ with_session connection.old (shut_down connection.old.session)) }
 {
     let number = connection.number();
-    if let Answer::Wait { deadline, keys } = &answer {
-        if parking
-            .park(alloc, number, tenant, *deadline, keys)
-            .is_err()
-        {
-            connection.shut_down();
-            return Err(AllocError);
-        }
+    if park(alloc, parking, tenant, number, &answer).is_err() {
+        connection.shut_down();
+        return Err(AllocError);
     }
     let given = connection.answer(alloc, answer);
     if given.is_err() {
@@ -214,7 +216,49 @@ fn hand_over(
     given
 }
 
-/// A tenant's answer to its request, and which partitions it touched; `None`: something was refused to the tenant.
+/// Parks a connection that is not parked, where the answer to its request is to wait: until the fetch's deadline under the partitions
+/// that it asks, or for its group, without a deadline. After an `Err` nothing has changed.
+fn park(
+    alloc: Global,
+    parking: &mut Parking,
+    tenant: usize,
+    number: u64,
+    answer: &Answer,
+) -> Result<(), AllocError>
+    requires { fin.get parking.old number ≡ None }
+    ensures parked { OnOk result (fin.get parking.new number ≡ parked_for tenant answer.now) }
+    ensures others { (k : ℕ) → k ≢ number → fin.get parking.new k ≡ fin.get parking.old k }
+    ensures refused { OnErr result (parking.new ≡ parking.old) }
+{
+    match answer {
+        Answer::Plain(plain) => park_fetch(alloc, parking, tenant, number, plain),
+        Answer::Rebalance => parking.park(alloc, number, tenant, u64::MAX, &[]),
+    }
+}
+
+/// Parks a connection that is not parked, where the answer to its fetch is to wait. After an `Err` nothing has changed.
+fn park_fetch(
+    alloc: Global,
+    parking: &mut Parking,
+    tenant: usize,
+    number: u64,
+    answer: &kb_tenant::Answer,
+) -> Result<(), AllocError>
+    requires { fin.get parking.old number ≡ None }
+    ensures parked { OnOk result (fin.get parking.new number ≡ parked_for tenant (any.Plain answer.now)) }
+    ensures others { (k : ℕ) → k ≢ number → fin.get parking.new k ≡ fin.get parking.old k }
+    ensures refused { OnErr result (parking.new ≡ parking.old) }
+{
+    match answer {
+        kb_tenant::Answer::Wait { deadline, keys } => {
+            parking.park(alloc, number, tenant, *deadline, keys)
+        }
+        _ => Ok(()),
+    }
+}
+
+/// A tenant's answer to its request, and which partitions it touched; `None`: something was refused to the tenant, or its group
+/// answered requests that waited.
 fn ask<L: PartitionLog + Drop, S: Store>(
     alloc: Global,
     setup: &Setup,
@@ -224,6 +268,7 @@ fn ask<L: PartitionLog + Drop, S: Store>(
     request: &Request<'_>,
 ) -> (Answer, Option<Vec<Place>>)
     requires hosted { AreHosted L.log S.disk tenants.old }
+    requires clock { clock ≤ 2 ^ 62 }
     requires tenant { tenant < length (tenants_in L.log S.disk tenants.old) }
     ensures hosted { AreHosted L.log S.disk tenants.new }
     ensures later { AreLater L.log S.disk tenants.old tenants.new }
@@ -236,15 +281,19 @@ fn ask<L: PartitionLog + Drop, S: Store>(
 {
     let before = tenants.refusals(tenant);
     let node = setup.node();
-    let Served { answer, touched } = tenants.serve(alloc, tenant, clock, &node, request);
-    if tenants.refusals(tenant) == before && before < u64::MAX {
+    let Served {
+        answer,
+        touched,
+        released,
+    } = tenants.serve(alloc, tenant, clock, &node, request);
+    if tenants.refusals(tenant) == before && before < u64::MAX && !released {
         (answer, Some(touched))
     } else {
         (answer, None)
     }
 }
 
-/// Looks at a connection again, where it waits for a fetch that is looked for. One that is ready is answered. Where memory is
+/// Looks at a connection again, where it waits for what is looked for. A request that is ready is answered. Where memory is
 /// refused the connection is shut, with a count.
 pub fn look_again<L: PartitionLog + Drop, S: Store>(
     alloc: Global,
@@ -266,25 +315,68 @@ pub fn look_again<L: PartitionLog + Drop, S: Store>(
     if !is_looked_for(whom, clock, tenant, waiting) {
         return;
     }
-    let wait = Wait {
-        correlation_id: waiting.correlation_id,
-        api_version: waiting.api_version,
-        body: &waiting.body,
-        deadline: waiting.deadline,
-    };
-    let answer = tenants.look(alloc, tenant, clock, &wait);
+    let number = connection.number();
+    let answer = ask_again(alloc, tenants, clock, tenant, number, waiting);
     if connection.wake(answer).is_err() {
         tenants.refuse(tenant);
     }
 }
 
-/// Whether a waiting fetch is looked at.
+/// What the request that waits on the connection of a number comes to now: `NoReply` says that it still waits. What the tenants keep
+/// stays, also where something was refused.
+fn ask_again<L: PartitionLog + Drop, S: Store>(
+    alloc: Global,
+    tenants: &mut Tenants<L, S>,
+    clock: u64,
+    tenant: usize,
+    number: u64,
+    waiting: &Waiting,
+) -> kb_tenant::Answer
+    requires hosted { AreHosted L.log S.disk tenants.old }
+    requires tenant { tenant < length (tenants_in L.log S.disk tenants.old) }
+    ensures hosted { AreHosted L.log S.disk tenants.new }
+    ensures later { AreLater L.log S.disk tenants.old tenants.new }
+    ensures turn { IsTurn tenant (is_honest S.disk tenants.new) (tenants_in L.log S.disk tenants.old) (tenants_in L.log S.disk tenants.new) }
+    ensures meets { IsMet tenant (is_honest S.disk tenants.new) (tenants_in L.log S.disk tenants.old) (tenants_in L.log S.disk tenants.new)
+        (λ k l. (l ≡ k) × plain.IsAnswer waiting.now.correlation_id (ready k clock number (wait_of waiting.now)) result) }
+    ensures stays { is_honest S.disk tenants.new → (t : ℕ) → kept_of (tenants_in L.log S.disk tenants.new) t ≡ kept_of (tenants_in L.log S.disk tenants.old) t }
+    ensures shut { (IsCalm (refusals_of (tenants_in L.log S.disk tenants.old) tenant) (refusals_of (tenants_in L.log S.disk tenants.new) tenant) → ⊥) → result ≡ answers.Shut }
+{
+    match &waiting.awaited {
+        Awaited::Records {
+            api_version,
+            body,
+            deadline,
+        } => {
+            let wait = Wait {
+                correlation_id: waiting.correlation_id,
+                api_version: *api_version,
+                body,
+                deadline: *deadline,
+            };
+            tenants.look(alloc, tenant, clock, &wait)
+        }
+        Awaited::Group => tenants.tell(alloc, tenant, number, waiting.correlation_id),
+    }
+}
+
+/// Whether what waits is looked at.
 fn is_looked_for(whom: Whom, clock: u64, tenant: usize, waiting: &Waiting) -> bool
     ensures { result ≡ is_looked_for whom clock tenant (wait_of waiting.now) }
 {
     match whom {
         Whom::Tenant(concerned) => tenant == concerned,
-        Whom::Due => waiting.deadline <= clock,
+        Whom::Due => is_past(clock, &waiting.awaited),
         Whom::All => true,
+    }
+}
+
+/// Whether a fetch's deadline has come. One that waits for its group has none.
+fn is_past(clock: u64, awaited: &Awaited) -> bool
+    ensures { result ≡ is_past clock (awaited_of awaited.now) }
+{
+    match awaited {
+        Awaited::Records { deadline, .. } => *deadline <= clock,
+        Awaited::Group => false,
     }
 }

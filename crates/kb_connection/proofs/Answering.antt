@@ -7,8 +7,12 @@ use Rattle.kb_api_group.specs.Frames.{front, behind}
 use Rattle.kb_tenant.specs.Replies.{Reaction, Replies, Waits, Silent, Shuts, IsAnswer, reply_size}
 use Rattle.kb_tenant.specs.declared.answer.Answer.{Answer}
 use Rattle.kb_tenant.specs.declared.answer.Answer.TheVariants as answers
+use Rattle.kb_service.specs.Replies as service
+use Rattle.kb_service.specs.Replies.{Plain, Rebalances}
+use Rattle.kb_service.specs.declared.answer.Answer.{Answer as AnyAnswer}
+use Rattle.kb_service.specs.declared.answer.Answer.TheVariants as any
 use Rattle.kb_machine.specs.Session.{Session, shut_down, replied, without_wait, is_free}
-use Rattle.kb_machine.specs.Machine.{Line, answered, told}
+use Rattle.kb_machine.specs.Machine.{Line, answered, plainly, told}
 use Rattle.kb_machine.proofs.Owners.{stage-shut}
 use Rattle.kb_machine.proofs.Turns.{free-without}
 use Rattle.kb_connection.specs.Fronts.{is_tenants_at}
@@ -37,7 +41,7 @@ long_is id body s h =
 abbrev pub IsNoWait : Answer → Type 0
 IsNoWait answer = (deadline : ℕ) (keys : Vec Place Global) → answer ≡ answers.Wait deadline keys → ⊥
 
-answer_is : (id version : ℤ) (body : List ℕ) (reaction : Reaction) (answer : Answer) (s : Session) → IsNoWait answer → IsAnswer id reaction answer → given answer s ≡ answered reaction id version body s
+answer_is : (id version : ℤ) (body : List ℕ) (reaction : Reaction) (answer : Answer) (s : Session) → IsNoWait answer → IsAnswer id reaction answer → given answer s ≡ plainly reaction id version body s
 answer_is id version body (Replies reply) (answers.Reply r) s no_wait h = reply_is id reply r s h
 answer_is id version body (Replies reply) (answers.Wait d k) s no_wait h = absurd h
 answer_is id version body (Replies reply) answers.NoReply s no_wait h = absurd h
@@ -55,22 +59,26 @@ answer_is id version body Shuts (answers.Wait d k) s no_wait h = absurd h
 answer_is id version body Shuts answers.NoReply s no_wait h = absurd h
 answer_is id version body Shuts answers.Shut s no_wait h = refl
 
-pub gives : {E : Type 0} (result : Result (Unit {0}) E) (l m new : Line) (id version : ℤ) (body : List ℕ) (reaction : Reaction) (answer : Answer) → IsNoWait answer → m ≡ with_session l (without_front l.session)
-    → OnOk result (new ≡ with_session m (given answer m.session)) → IsAnswer id reaction answer → OnOk result (new ≡ with_session l (answered reaction id version body (without_front l.session)))
-gives (Ok u) l m new id version body reaction answer no_wait left done h =
-    done ∙ ap (λ (x : Line). with_session x (given answer x.session)) left ∙ ap (with_session l) (answer_is id version body reaction answer (without_front l.session) no_wait h)
-gives (Err fault) l m new id version body reaction answer no_wait left done h = tt
+served_is : (id version : ℤ) (body : List ℕ) (reaction : service.Reaction) (answer : Answer) (s : Session) → IsNoWait answer → service.IsAnswer id reaction (any.Plain answer) → given answer s ≡ answered reaction id version body s
+served_is id version body (Plain reaction) answer s no_wait h = answer_is id version body reaction answer s no_wait h
+served_is id version body Rebalances answer s no_wait h = absurd h
+
+pub gives : {E : Type 0} (result : Result (Unit {0}) E) (l m new : Line) (id version : ℤ) (body : List ℕ) (reaction : service.Reaction) (all : AnyAnswer) (answer : Answer) → all ≡ any.Plain answer → IsNoWait answer → m ≡ with_session l (without_front l.session)
+    → OnOk result (new ≡ with_session m (given answer m.session)) → service.IsAnswer id reaction all → OnOk result (new ≡ with_session l (answered reaction id version body (without_front l.session)))
+gives (Ok u) l m new id version body reaction all answer is no_wait left done h =
+    done ∙ ap (λ (x : Line). with_session x (given answer x.session)) left ∙ ap (with_session l) (served_is id version body reaction answer (without_front l.session) no_wait (subst (service.IsAnswer id reaction) is h))
+gives (Err fault) l m new id version body reaction all answer is no_wait left done h = tt
 
 -- 3. The request's bytes are gone
 
 less : (l new : Line) → is_tenants_at (front l.session.unread) ≡ true → length new.session.unread ≤ length (behind (front l.session.unread) l.session.unread) → length new.session.unread < length l.session.unread
 less l new asks few = let fewer = fewer-behind l.session.unread asks in omega arith
 
-unread_parked : (deadline : ℕ) (asked : Option (ℤ × ℤ × ℤ × List ℕ)) (s : Session) → (parked deadline asked s).unread ≡ s.unread
+unread_parked : (deadline : Option ℕ) (asked : Option (ℤ × ℤ × ℤ × List ℕ)) (s : Session) → (parked deadline asked s).unread ≡ s.unread
 unread_parked deadline None s = refl
 unread_parked deadline (Some a) s = refl
 
-pub less_parked : {E : Type 0} (result : Result (Unit {0}) E) (l new : Line) (deadline : ℕ) (asked : Option (ℤ × ℤ × ℤ × List ℕ)) → OnOk result (new ≡ with_session l (parked deadline asked (without_front l.session)))
+pub less_parked : {E : Type 0} (result : Result (Unit {0}) E) (l new : Line) (deadline : Option ℕ) (asked : Option (ℤ × ℤ × ℤ × List ℕ)) → OnOk result (new ≡ with_session l (parked deadline asked (without_front l.session)))
     → OnErr result (new ≡ with_session l (shut_down l.session)) → is_tenants_at (front l.session.unread) ≡ true → length new.session.unread < length l.session.unread
 less_parked (Ok u) l new deadline asked ok err asks = less l new asks (omega (arith, ap (λ (x : Line). length x.session.unread) ok, ap length (unread_parked deadline asked (without_front l.session))))
 less_parked (Err fault) l new deadline asked ok err asks = less l new asks (omega (arith, ap (λ (x : Line). length x.session.unread) err))
@@ -100,7 +108,7 @@ pub free_given : {E : Type 0} (result : Result (Unit {0}) E) (l m new : Line) (a
 free_given (Ok u) l m new answer left ok err free = ap (λ (x : Line). is_free x.session.stage) ok ∙ free_after answer m.session (ap (λ (x : Line). is_free x.session.stage) left ∙ free)
 free_given (Err fault) l m new answer left ok err free = ap (λ (x : Line). is_free x.session.stage) err ∙ free-without m.session.stage
 
--- 5. To a fetch that waits
+-- 5. To a request that waits
 
 -- a reply ends the wait
 ended_is : (id : ℤ) (reaction : Reaction) (reply : Vec ℕ Global) (s : Session) → IsAnswer id reaction (answers.Reply reply) → given (answers.Reply reply) (record s { stage = without_wait s.stage }) ≡ told reaction id s

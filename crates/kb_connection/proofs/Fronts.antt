@@ -3,7 +3,7 @@ use Rattle.std.proofs.Common.{◌≡◌, ◌<◌, ℕ, ℤ, List, length, true, 
 use Rattle.kb_api_group.specs.Frames.{Front, Whole, Partial, TooSmall, TooLarge, front, answer, behind}
 use Rattle.kb_api_group.specs.declared.frames.Next.{Next}
 use Rattle.kb_api_group.specs.declared.frames.Next.TheVariants as answers
-use Rattle.kb_tenant.specs.Hosted.{Kept}
+use Rattle.kb_service.specs.Hosted.{Kept}
 use Rattle.kb_machine.specs.Requests.{Asked, Versions, OtherVersions, Handshake, Authenticate, Another, Unread, Request, request}
 use Rattle.kb_machine.specs.Session.{Session}
 use Rattle.kb_machine.specs.Greeting.{Setup}

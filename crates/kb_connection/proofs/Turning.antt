@@ -6,7 +6,7 @@ use Rattle.kb_api_group.specs.declared.frames.Next.{Next}
 use Rattle.kb_api_group.specs.declared.frames.Next.TheVariants as answers
 use Rattle.kb_machine.specs.Requests.{request}
 use Rattle.kb_machine.specs.Session.{Session, shut_down}
-use Rattle.kb_tenant.specs.Hosted.{Kept}
+use Rattle.kb_service.specs.Hosted.{Kept}
 use Rattle.kb_machine.specs.Greeting.{Setup, greeted, greeted_at, greeted_by}
 use Rattle.kb_machine.specs.Machine.{Line, served, served_at, served_by}
 use Rattle.kb_connection.specs.declared.reaction.Reaction.{Reaction}

@@ -1,7 +1,7 @@
 -- Whose the request is that stands in front of a bound connection: its tenant's, or a matter of the connection alone.
 use Rattle.std.specs.Prelude.{◌≡◌, ℕ, ℤ, List, Bool, true, false, Option, Some, None}
 use Rattle.kb_api_group.specs.Frames.{Front, Whole, Partial, TooSmall, TooLarge, front}
-use Rattle.kb_tenant.specs.Hosted.{Kept}
+use Rattle.kb_service.specs.Hosted.{Kept}
 use Rattle.kb_machine.specs.Requests.{Asked, Versions, OtherVersions, Handshake, Authenticate, Another, Unread, request}
 use Rattle.kb_machine.specs.Session.{Session}
 use Rattle.kb_machine.specs.Tenant.{answer, kept_after}

@@ -2,7 +2,7 @@
 use Rattle.std.specs.Prelude.{◌≡◌, ◌≤◌, ℕ, List, [], length, Bool, true, Option, Some, None, Result, Ok, Err}
 use Rattle.kb_wire.specs.declared.fault.ReadFault.{ReadFault}
 use Rattle.kb_wire.specs.declared.fault.ReadFault.TheVariants as faults
-use Rattle.kb_machine.specs.Tenant.{Wait}
+use Rattle.kb_machine.specs.Tenant.{Awaited, Records, Group, Wait}
 use Rattle.kb_machine.specs.Requests.{Asked, Versions, OtherVersions, Handshake, Authenticate, Another, Unread, Request}
 use Rattle.kb_machine.specs.Session.{Stage, Greets, BoundTo, Session, LIMIT, is_free}
 use Rattle.kb_machine.specs.Machine.{Line}
@@ -12,6 +12,8 @@ use Rattle.kb_connection.specs.declared.request.Asked.{Asked as Read}
 use Rattle.kb_connection.specs.declared.request.Request.{Request as ReadRequest}
 use Rattle.kb_connection.specs.declared.connection.Phase.{Phase}
 use Rattle.kb_connection.specs.declared.connection.Phase.TheVariants as phases
+use Rattle.kb_connection.specs.declared.connection.Awaited.{Awaited as Awaits}
+use Rattle.kb_connection.specs.declared.connection.Awaited.TheVariants as awaited
 use Rattle.kb_connection.specs.declared.connection.Waiting.{Waiting}
 use Rattle.kb_connection.specs.declared.connection.Stage.{Stage as Held}
 use Rattle.kb_connection.specs.declared.connection.Stage.TheVariants as stages
@@ -34,9 +36,14 @@ Reads a (Err faults.Memory) = Unit {0}
 abbrev pub request_of : ReadRequest → Request
 request_of r = record { correlation_id = r.correlation_id; asked = asked_of r.asked }
 
--- a fetch that waits for its answer
+-- what a request waits for
+abbrev pub awaited_of : Awaits → Awaited
+awaited_of (awaited.Records version body deadline) = Records version body.items deadline
+awaited_of awaited.Group = Group
+
+-- a request that waits for its answer
 abbrev pub wait_of : Waiting → Wait
-wait_of w = record { correlation_id = w.correlation_id; version = w.api_version; body = w.body.items; deadline = w.deadline }
+wait_of w = record { correlation_id = w.correlation_id; awaited = awaited_of w.awaited }
 
 -- the stage of a connection, but for its wait
 abbrev pub stage_of : Phase → Stage
@@ -47,7 +54,7 @@ stage_of (phases.Bound tenant) = BoundTo tenant None
 abbrev pub stage_with_wait : Held → Stage
 stage_with_wait (stages.Greets handshaken) = Greets handshaken
 stage_with_wait (stages.Bound tenant) = BoundTo tenant None
-stage_with_wait (stages.Waits tenant fetch) = BoundTo tenant (Some (wait_of fetch))
+stage_with_wait (stages.Waits tenant request) = BoundTo tenant (Some (wait_of request))
 
 -- a connection with another session
 abbrev pub with_session : Line → Session → Line

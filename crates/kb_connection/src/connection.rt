@@ -2,10 +2,12 @@
 
 ghost use Rattle.std.specs.Prelude.{◌≡◌, ◌<◌, ◌≤◌, ◌^◌, ◌++◌, ℕ, ℤ, List, length, true, false, option_map, IfOk, IfSome, IfNone, OnOk, OnErr, ◌⊎◌};
 ghost use Rattle.kb_api_group.specs.Frames.{front};
-ghost use Rattle.kb_tenant.specs.Hosted.{Kept};
-ghost use Rattle.kb_tenant.specs.Replies.{Reaction as Reacts, IsAnswer, framed, reply_size};
+ghost use Rattle.kb_service.specs.Hosted.{Kept};
+ghost use Rattle.kb_service.specs.Replies.{Reaction as Reacts, IsAnswer};
+ghost use Rattle.kb_tenant.specs.Replies as tenant;
+ghost use Rattle.kb_tenant.specs.Replies.{framed, reply_size};
 ghost use Rattle.kb_machine.specs.Requests.{request};
-ghost use Rattle.kb_machine.specs.Session.{Session, Greets, BoundTo, fresh, room, fed, replied, shut_down, without_wait, waiting, is_free, can};
+ghost use Rattle.kb_machine.specs.Session.{Session, Greets, BoundTo, fresh, room, overruns, fed, replied, shut_down, without_wait, waiting, has_member, is_free, can};
 ghost use Rattle.kb_machine.specs.Greeting.{Setup, greeted, greeted_by};
 ghost use Rattle.kb_machine.specs.Machine.{answered, served, served_by, told};
 ghost use Rattle.kb_machine.specs.Calls.{without_output};
@@ -20,7 +22,7 @@ use crate::reply::{authenticate_body, handshake_body, versions_body};
 use crate::request::{Asked, Request};
 use crate::setup::Setup;
 use kb_api_group::{ErrorCode, FrameFeed, Next};
-use kb_tenant::Answer;
+use kb_service::Answer;
 use kb_wire::Text;
 use std::alloc::{AllocError, Global};
 use std::marker::Model;
@@ -53,17 +55,29 @@ impl Phase {
     }
 }
 
-/// A fetch that waits for its answer.
+/// What a request waits for.
+#[derive(Drop)]
+pub enum Awaited {
+    /// The records that it asks for: a fetch.
+    Records {
+        /// The version of the fetch.
+        api_version: i16,
+        /// The body of the fetch, behind its header.
+        body: Vec<u8>,
+        /// The moment after which it waits no longer, in milliseconds.
+        deadline: u64,
+    },
+    /// The answer of its group, without a deadline: a join or a sync.
+    Group,
+}
+
+/// A request that waits for its answer.
 #[derive(Drop)]
 pub struct Waiting {
-    /// The correlation id of its request.
+    /// Its correlation id.
     pub correlation_id: i32,
-    /// The version of its request.
-    pub api_version: i16,
-    /// The body of its request.
-    pub body: Vec<u8>,
-    /// The moment after which it waits no longer.
-    pub deadline: u64,
+    /// What it waits for.
+    pub awaited: Awaited,
 }
 
 /// How far a connection is, and what it waits for.
@@ -73,7 +87,7 @@ enum Stage {
     Greets(bool),
     /// It is bound to a tenant, whose place this is.
     Bound(usize),
-    /// It is bound to a tenant, and waits for the answer to a fetch.
+    /// It is bound to a tenant, and waits for the answer to a request.
     Waits(usize, Waiting),
 }
 
@@ -129,14 +143,24 @@ impl Connection {
         }
     }
 
-    /// The tenant that it is bound to and the fetch that it waits for, if it waits.
+    /// The tenant that it is bound to and the request whose answer it waits for, if it waits.
     pub fn waiting(&self) -> Option<(usize, &Waiting)>
         ensures some { IfSome result (λ r. self.now.session.stage ≡ BoundTo r.0 (Some (wait_of r.1.now))) }
         ensures none { IfNone result (is_free self.now.session.stage ≡ true) }
     {
         match &self.stage {
-            Stage::Waits(tenant, fetch) => Some((*tenant, fetch)),
+            Stage::Waits(tenant, request) => Some((*tenant, request)),
             Stage::Greets(_) | Stage::Bound(_) => None,
+        }
+    }
+
+    /// Whether a member of a group waits on it.
+    pub fn has_member(&self) -> bool
+        ensures { result ≡ has_member self.now.session.stage }
+    {
+        match &self.stage {
+            Stage::Waits(_, request) => matches!(&request.awaited, Awaited::Group),
+            Stage::Greets(_) | Stage::Bound(_) => false,
         }
     }
 
@@ -153,6 +177,13 @@ impl Connection {
         ensures limited { IsLimited self.now.session.unread self.now.session.stage self.now.session.shut }
     {
         UNREAD_LIMIT.saturating_sub(self.unread.unread())
+    }
+
+    /// Whether a piece is longer than its room, where it was not shut: then the piece shuts it.
+    pub fn overruns(&self, piece: &[u8]) -> bool
+        ensures { result ≡ overruns piece.now self.now.session }
+    {
+        !self.shut && self.room() < piece.len()
     }
 
     /// Whether it can take a turn: it waits for nothing, and a whole request or a bad size stands in front.
@@ -183,7 +214,7 @@ impl Connection {
     pub fn shut_down(&mut self)
         ensures { self.new ≡ with_session self.old (shut_down self.old.session) }
     {
-        self.stop_waiting(); // its fetch gets no answer
+        self.stop_waiting(); // its request gets no answer
         self.unread.clear();
         self.shut = true;
     }
@@ -213,7 +244,7 @@ impl Connection {
         if self.shut {
             return Ok(());
         }
-        if self.room() < piece.len() {
+        if self.overruns(piece) {
             self.shut_down();
             return Ok(());
         }
@@ -276,8 +307,8 @@ impl Connection {
         }
     }
 
-    /// Leaves the tenant's request in front behind, and gives the tenant's answer to it. Where the answer is to wait, the
-    /// request is kept until `wake` ends the wait. Where memory is refused it is shut.
+    /// Leaves the tenant's request in front behind, and gives the tenant's answer to it. Where the answer is to wait, what it
+    /// takes to answer the request is kept until `wake` ends the wait. Where memory is refused it is shut.
     #[tactic(auto, using(crate::proofs::Answering::gives, crate::proofs::Answering::less_given, crate::proofs::Answering::less_parked, crate::proofs::Answering::free_given))]
     pub fn answer(&mut self, alloc: Global, answer: Answer) -> Result<(), AllocError>
         ensures ok { (key version id : ℤ) (body : List ℕ) (reaction : Reacts) → IsAsked self.old.session key version id body → IsAnswer id reaction answer → OnOk result (self.new ≡ with_session self.old (answered reaction id version body (without_front self.old.session))) }
@@ -289,19 +320,22 @@ impl Connection {
         ensures free { is_wait answer ≡ false → is_free self.old.session.stage ≡ true → is_free self.new.session.stage ≡ true }
     {
         match answer {
-            Answer::Wait { deadline, .. } => self.park(alloc, deadline),
-            answer => {
+            Answer::Rebalance => self.park(alloc, None),
+            Answer::Plain(kb_tenant::Answer::Wait { deadline, .. }) => {
+                self.park(alloc, Some(deadline))
+            }
+            Answer::Plain(answer) => {
                 self.skip(); // it is not handed out again
                 self.give(answer)
             }
         }
     }
 
-    /// Gives an answer to the fetch that it waits for: a reply ends the wait, and no reply leaves it waiting. Where memory is
+    /// Gives an answer to the request that waits on it: a reply ends the wait, and no reply leaves it waiting. Where memory is
     /// refused it is shut.
     #[tactic(auto, using(crate::proofs::Answering::ends, crate::proofs::Answering::tells))]
-    pub fn wake(&mut self, answer: Answer) -> Result<(), AllocError>
-        ensures ok { (id : ℤ) (reaction : Reacts) → IsAnswer id reaction answer → OnOk result (self.new ≡ with_session self.old (told reaction id self.old.session)) }
+    pub fn wake(&mut self, answer: kb_tenant::Answer) -> Result<(), AllocError>
+        ensures ok { (id : ℤ) (reaction : tenant.Reaction) → tenant.IsAnswer id reaction answer → OnOk result (self.new ≡ with_session self.old (told reaction id self.old.session)) }
         ensures err { OnErr result (self.new ≡ with_session self.old (shut_down self.old.session)) }
         // whatever the answer is, also where a refusal spoiled it
         ensures number { self.new.number ≡ self.old.number }
@@ -310,23 +344,23 @@ impl Connection {
         ensures same { is_quiet answer ≡ true → self.new ≡ self.old }
         ensures unread { length self.new.session.unread ≤ length self.old.session.unread }
     {
-        if let Answer::Reply(_) = &answer {
+        if let kb_tenant::Answer::Reply(_) = &answer {
             self.stop_waiting(); // the reply ends the wait
         }
         self.give(answer)
     }
 
-    /// Leaves the request in front behind, and waits for its answer until the deadline at most. Where memory is refused it is
-    /// shut.
-    fn park(&mut self, alloc: Global, deadline: u64) -> Result<(), AllocError>
+    /// Leaves the request in front behind, and waits for its answer: until the deadline at most, or, without one, until its group
+    /// gives it. Where memory is refused it is shut.
+    fn park(&mut self, alloc: Global, deadline: Option<u64>) -> Result<(), AllocError>
         ensures ok { OnOk result (self.new ≡ with_session self.old (parked deadline (asked_at (front self.old.session.unread)) (without_front self.old.session))) }
         ensures err { OnErr result (self.new ≡ with_session self.old (shut_down self.old.session)) }
     {
-        let fetch = self.fetch_in_front(alloc, deadline);
+        let request = self.request_in_front(alloc, deadline);
         self.skip();
-        match fetch {
-            Ok(Some(fetch)) => {
-                self.wait_for(fetch);
+        match request {
+            Ok(Some(request)) => {
+                self.wait_for(request);
                 Ok(())
             }
             Ok(None) => Ok(()),
@@ -337,51 +371,62 @@ impl Connection {
         }
     }
 
-    /// The request of its tenant that stands in front, to wait for its answer until the deadline.
-    fn fetch_in_front(&self, alloc: Global, deadline: u64) -> Result<Option<Waiting>, AllocError>
+    /// The request of its tenant that stands in front, to wait for its answer: of one that waits for its group, which has no
+    /// deadline, the correlation id is all that is kept.
+    fn request_in_front(
+        &self,
+        alloc: Global,
+        deadline: Option<u64>,
+    ) -> Result<Option<Waiting>, AllocError>
         ensures found { IfOk result (λ found. option_map wait_of found ≡ option_map (wait_for deadline) (asked_at (front self.now.session.unread))) }
-        ensures unshut { IfOk result (λ found. IfSome found (λ fetch. self.now.session.shut ≡ false)) }
+        ensures unshut { IfOk result (λ found. IfSome found (λ request. self.now.session.shut ≡ false)) }
     {
         let Some(request) = self.request(alloc)? else {
             return Ok(None);
         };
+        let awaited = match deadline {
+            Some(deadline) => Awaited::Records {
+                api_version: request.api_version,
+                body: Vec::from_slice(alloc, request.body)?,
+                deadline,
+            },
+            None => Awaited::Group,
+        };
         Ok(Some(Waiting {
             correlation_id: request.correlation_id,
-            api_version: request.api_version,
-            body: Vec::from_slice(alloc, request.body)?,
-            deadline,
+            awaited,
         }))
     }
 
-    /// Waits for the answer to a fetch. One that greets has none, and one that was shut waits for nothing.
-    fn wait_for(&mut self, fetch: Waiting)
+    /// Waits for the answer to a request. One that greets has none, and one that was shut waits for nothing.
+    fn wait_for(&mut self, request: Waiting)
         requires { self.old.session.shut ≡ false }
-        ensures { self.new ≡ with_session self.old (record self.old.session { stage = waiting (wait_of fetch) self.old.session.stage }) }
+        ensures { self.new ≡ with_session self.old (record self.old.session { stage = waiting (wait_of request) self.old.session.stage }) }
     {
         if let Phase::Bound(tenant) = self.phase() {
-            self.stage = Stage::Waits(tenant, fetch);
+            self.stage = Stage::Waits(tenant, request);
         }
     }
 
     /// Does what an answer says, but for a wait. Where memory is refused it is shut.
-    fn give(&mut self, answer: Answer) -> Result<(), AllocError>
+    fn give(&mut self, answer: kb_tenant::Answer) -> Result<(), AllocError>
         ensures ok { OnOk result (self.new ≡ with_session self.old (given answer self.old.session)) }
         ensures err { OnErr result (self.new ≡ with_session self.old (shut_down self.old.session)) }
         ensures same { is_quiet answer ≡ true → self.new ≡ self.old }
     {
         match answer {
-            Answer::Reply(reply) => {
+            kb_tenant::Answer::Reply(reply) => {
                 let sent = self.send(reply);
                 if sent.is_err() {
                     self.shut_down();
                 }
                 sent
             }
-            Answer::Shut => {
+            kb_tenant::Answer::Shut => {
                 self.shut_down();
                 Ok(())
             }
-            Answer::NoReply | Answer::Wait { .. } => Ok(()),
+            kb_tenant::Answer::NoReply | kb_tenant::Answer::Wait { .. } => Ok(()),
         }
     }
 

@@ -2,7 +2,7 @@
 
 ghost use Rattle.std.specs.Prelude.{◌≡◌, ℤ, ℕ, false};
 ghost use Rattle.kb_machine.specs.Session.{Session};
-ghost use Rattle.kb_tenant.specs.Hosted.{Kept};
+ghost use Rattle.kb_service.specs.Hosted.{Kept};
 ghost use Rattle.kb_machine.specs.Greeting.{Setup, greeted_by};
 ghost use Rattle.kb_machine.specs.Machine.{served_by};
 ghost use Rattle.kb_connection.specs.Fronts.{is_tenants};

@@ -3,24 +3,27 @@ use Rattle.std.proofs.Common.{◌≡◌, ◌≢◌, ◌<◌, ◌≤◌, ◌++◌
 use Rattle.std.specs.Prelude.{cond, nat_lt}
 use Rattle.std.specs.List.{AllByRecursion}
 use Rattle.std.proofs.lemmas.Bool.Decides.{nat_tests}
-use Rattle.std.proofs.lemmas.List.{set-get_or}
+use Rattle.std.proofs.lemmas.List.{set-get_or, length-map}
 use Rattle.kb_world.specs.Steps.{IsCalm}
-use Rattle.kb_tenant.specs.Hosted as hosted
-use Rattle.kb_tenant.specs.Hosted.{TenantState, IsTurn}
-use Rattle.kb_machine.specs.Tenant.{Wait}
-use Rattle.kb_machine.specs.Session.{Stage, Greets, BoundTo, Session, fed, room, shut_down, without_wait, can}
+use Rattle.kb_service.specs.Hosted as hosted
+use Rattle.kb_service.specs.Hosted.{TenantState, IsTurn}
+use Rattle.kb_tenant.specs.Replies.{Silent}
+use Rattle.kb_machine.specs.Tenant.{Wait, ready}
+use Rattle.kb_machine.specs.Session.{Stage, Greets, BoundTo, Session, fed, room, overruns, shut_down, without_wait, can}
 use Rattle.kb_machine.specs.Greeting.{Setup}
-use Rattle.kb_machine.specs.Machine.{Happening, Comes, Line, World, each, on, those, first_able, turns, stepped}
+use Rattle.kb_machine.specs.Machine.{Happening, Comes, Line, World, each, on, those, find_line, first_able, kept_fed, turns, stepped}
 use Rattle.kb_machine.specs.Owners.{Owns, Fits, whose, heard, destiny}
+use Rattle.kb_machine.specs.Calls.{left_by}
 use Rattle.kb_machine.specs.Broker.{BrokerState, IsUnready, AnyWait, kept_of, IsReady, IsSound, IsStep, IsUntaken, Rising, Mine, view_of}
-use Rattle.kb_machine.specs.Turned.{Scope, Of, IsStill, AreStill, Turned, IsFed}
+use Rattle.kb_machine.specs.Turned.{Scope, Of, IsStill, AreStill, Turned, IsFed, IsGoing}
+use Rattle.kb_service.specs.Hosted.{Kept}
 use Rattle.kb_machine.proofs.Laws.{none-those, turns-none, those-each}
-use Rattle.kb_machine.specs.Turned.{IsGoing}
+use Rattle.kb_machine.proofs.Leaving.{find-those, left_fed, names-fed, refusals-fed, ready-fed, kept-fed, kept-unfed}
 use Rattle.kb_machine.proofs.Owners.{IsBound, IsMine, heard-still, fate-bound, mine-bound, bound-same, those-on_other, stage-fed, stage-shut}
 use Rattle.kb_machine.proofs.Ranges.{range-same}
-use Rattle.kb_machine.proofs.Sets.{IsAt, all-at, all-map, all-those, all-still, rising-above, set-on, find-set_other, tail-at, no-at, each-on_none}
+use Rattle.kb_machine.proofs.Sets.{IsAt, all-at, all-map, all-those, all-still, rising-above, set-on, find-at, find-none, find-set_other, tail-at, no-at, each-on_none}
 use Rattle.kb_machine.proofs.Parts.{count, each-tenant, calm-left, calm-right, grows-same, calm-first, calm-then}
-use Rattle.kb_machine.proofs.Turns.{shut-unready, changed-unready, changed, changed-going, changed-still, called-going, going-then, counted-then, counted-same, counted-tenant, counted-unbound, scope-tenant, tenant-later}
+use Rattle.kb_machine.proofs.Turns.{shut-unready, changed-quiet, changed-unready, changed, changed-going, changed-still, called-going, going-then, counted-then, counted-same, counted-tenant, counted-unbound, scope-tenant, tenant-later}
 use Rattle.kb_machine.proofs.Steps.{settled-turns, with_lines}
 
 -- 1. What a piece is to those that it does not come on
@@ -81,37 +84,60 @@ still-settled scope b h = all-map (λ l. can l.session ≡ false) (IsStill scope
 fed-still : (b : BrokerState) (i : ℕ) (l m : Line) (ps : List TenantState) (x : ℕ) → first_able b.lines ≡ None → m.number ≡ l.number → IsGoing b (changed b i m ps x) → AreStill (Of l.number) (changed b i m ps x)
 fed-still b i l m ps x none n g = changed-still (Of l.number) b i m ps x g (still-settled (Of l.number) b none) (λ c. inl n)
 
-view-fed : (w : World) (mine : ℕ → Bool) (n : ℕ) (piece : List ℕ) (ls : List Line) (yes : Bool) → mine n ≡ yes → w.lines ≡ those mine ls → first_able ls ≡ None → turns (with_lines w (those mine (each (on n (fed piece)) ls))) ≡ stepped yes (Comes n piece) w
-view-fed w mine n piece ls true m f none = ap (λ x. turns (with_lines w x)) (those-each mine (on n (fed piece)) ls ∙ ap (each (on n (fed piece))) (sym f))
-view-fed w mine n piece ls false m f none = ap (λ x. turns (with_lines w x)) (those-on_other mine n (fed piece) ls m ∙ sym f) ∙ turns-none w (ap first_able f ∙ none-those mine ls none)
+view-fed : (w : World) (mine : ℕ → Bool) (n : ℕ) (piece : List ℕ) (ls : List Line) (kept : Kept) (yes : Bool) → mine n ≡ yes → w.lines ≡ those mine ls → first_able ls ≡ None → (yes ≡ true → kept ≡ kept_fed piece w.clock n (find_line n w.lines) w.kept) → (yes ≡ false → kept ≡ w.kept)
+    → turns (record w { kept = kept; lines = those mine (each (on n (fed piece)) ls) }) ≡ stepped yes (Comes n piece) w
+view-fed w mine n piece ls kept true m f none own other =
+    ap (λ k. turns (record w { kept = k; lines = those mine (each (on n (fed piece)) ls) })) (own refl)
+    ∙ ap (λ x. turns (record w { kept = kept_fed piece w.clock n (find_line n w.lines) w.kept; lines = x })) (those-each mine (on n (fed piece)) ls ∙ ap (each (on n (fed piece))) (sym f))
+view-fed w mine n piece ls kept false m f none own other =
+    ap (λ k. turns (record w { kept = k; lines = those mine (each (on n (fed piece)) ls) })) (other refl)
+    ∙ (ap (λ x. turns (with_lines w x)) (those-on_other mine n (fed piece) ls m ∙ sym f) ∙ turns-none w (ap first_able f ∙ none-those mine ls none))
 
-unready-fed : (P : ℕ → Wait → Type 0) (b : BrokerState) (piece : List ℕ) (s : Session) → IsUnready P b s.stage → IsUnready P b (fed piece s).stage
+unready-fed : (P : ℕ → Wait → Type 0) (b : BrokerState) (n : ℕ) (piece : List ℕ) (s : Session) → IsUnready P b n s.stage → IsUnready P b n (fed piece s).stage
 unfolding fed
-unready-fed P b piece s u = by s.shut (nat_lt (room s) (length piece))
+unready-fed P b n piece s u = by s.shut (nat_lt (room s) (length piece))
   where
-    by : (x y : Bool) → IsUnready P b (let r : Session = cond x s (cond y (shut_down s) (record s { unread = s.unread ++ piece })) in r).stage
+    by : (x y : Bool) → IsUnready P b n (let r : Session = cond x s (cond y (shut_down s) (record s { unread = s.unread ++ piece })) in r).stage
     by true y = u
-    by false true = shut-unready P b s
+    by false true = shut-unready P b n s
     by false false = u
 
--- the piece was taken, or it was longer than the room and the connection is shut
-pub fed-kept : (b : BrokerState) (i : ℕ) (l m : Line) (piece : List ℕ) → IsSound b → first_able b.lines ≡ None → IsAt b.lines i l → m.number ≡ l.number → m.session ≡ fed piece l.session → IsFed l.number piece b (changed b i m b.tenants b.unbound_refusals)
-fed-kept b i l m piece s settled at n e =
-    let same : without_wait m.session.stage ≡ without_wait l.session.stage = ap (λ (x : Session). without_wait x.stage) e ∙ stage-fed piece l.session in
-    let owner : whose m.session.stage ≡ whose l.session.stage = whose-same l.session.stage m.session.stage same in
-    let still = all-at (λ x. can x.session ≡ false) b.lines i l at (all-still b.lines settled) in
-    let lines : set b.lines i m ≡ each (on l.number (fed piece)) b.lines = set-on 0 b.last (fed piece) b.lines i l m s.rising at n e in
-    let going = changed-going b i l m b.tenants b.unbound_refusals s at n refl (range-same (length b.tenants) l.session.stage m.session.stage same (all-at _ b.lines i l at s.in_range))
-    (record { setup = refl; names = refl; own = λ t. omega arith; unbound = omega arith }) (λ t f. owner ∙ f) in
-    record {
-      going = going;
-      still = fed-still b i l m b.tenants b.unbound_refusals settled n going;
-      counted = counted-same (Of l.number) b (changed b i m b.tenants b.unbound_refusals) (λ t. refl) refl;
-      unready = λ u. changed-unready AnyWait b i m b.tenants b.unbound_refusals (λ t. refl) u (subst (λ (x : Session). IsUnready AnyWait b x.stage) (sym e) (unready-fed AnyWait b piece l.session (all-at (λ x. IsUnready AnyWait b x.session.stage) b.lines i l at u)));
-      others = λ k ne. find-set_other k b.lines i l m at n ne;
-      mine = λ t mine es k calm. record { now = comes-set b.setup t 0 b.last mine piece es b.lines i l m s.rising at n (comes-fed b.setup t mine piece es l m still n e) k.now; later = k.later };
-      view = λ t mine es k calm. ap (λ x. turns (with_lines (view_of t mine b) (those mine x))) lines ∙ view-fed (view_of t mine b) mine l.number piece b.lines (mine l.number) refl refl settled;
-    }
+length-fed : (piece : List ℕ) (clock n : ℕ) (s : Session) (ts : List TenantState) → length (left_fed piece clock n s ts) ≡ length ts
+length-fed piece clock n s ts =
+    sym (length-map (left_fed piece clock n s ts) (λ (x : TenantState). x.name)) ∙ (ap length (names-fed piece clock n s ts) ∙ length-map ts (λ (x : TenantState). x.name))
+
+-- The piece was taken, or it was longer than the room and the connection is shut. Where a member waited on it that waits no longer, its
+-- tenant keeps something else.
+pub fed-kept : (b : BrokerState) (i : ℕ) (l m : Line) (piece : List ℕ) (ts : List TenantState) → IsSound b → first_able b.lines ≡ None → IsAt b.lines i l → m.number ≡ l.number → m.session ≡ fed piece l.session → ts ≡ left_fed piece b.clock l.number l.session b.tenants
+    → IsFed l.number piece b (changed b i m ts b.unbound_refusals)
+fed-kept b i l m piece ts s settled at n e is = subst (λ xs. IsFed l.number piece b (changed b i m xs b.unbound_refusals)) (sym is) (here b i l m piece s settled at n e)
+  where
+    here : (b : BrokerState) (i : ℕ) (l m : Line) (piece : List ℕ) → IsSound b → first_able b.lines ≡ None → IsAt b.lines i l → m.number ≡ l.number → m.session ≡ fed piece l.session → IsFed l.number piece b (changed b i m (left_fed piece b.clock l.number l.session b.tenants) b.unbound_refusals)
+    here b i l m piece s settled at n e =
+        let ts = left_fed piece b.clock l.number l.session b.tenants in
+        let counts = refusals-fed piece b.clock l.number l.session b.tenants in
+        let same : without_wait m.session.stage ≡ without_wait l.session.stage = ap (λ (x : Session). without_wait x.stage) e ∙ stage-fed piece l.session in
+        let owner : whose m.session.stage ≡ whose l.session.stage = whose-same l.session.stage m.session.stage same in
+        let still = all-at (λ x. can x.session ≡ false) b.lines i l at (all-still b.lines settled) in
+        let lines : set b.lines i m ≡ each (on l.number (fed piece)) b.lines = set-on 0 b.last (fed piece) b.lines i l m s.rising at n e in
+        let going = changed-going b i l m ts b.unbound_refusals s at n (length-fed piece b.clock l.number l.session b.tenants) (range-same (length b.tenants) l.session.stage m.session.stage same (all-at _ b.lines i l at s.in_range))
+        (record { setup = refl; names = names-fed piece b.clock l.number l.session b.tenants; own = λ t. (let c = counts t in omega (arith, c)); unbound = omega arith }) (λ t f. owner ∙ f) in
+        record {
+          going = going;
+          still = fed-still b i l m ts b.unbound_refusals settled n going;
+          counted = counted-same (Of l.number) b (changed b i m ts b.unbound_refusals) counts refl;
+          unready = λ u. changed-quiet AnyWait b i m ts b.unbound_refusals (λ t k w silent. ready-fed piece b.clock l.number l.session b.tenants t b.clock k w ∙ silent) u
+              (subst (λ (x : Session). IsUnready AnyWait b m.number x.stage) (sym e) (unready-fed AnyWait b m.number piece l.session (subst (λ k. IsUnready AnyWait b k l.session.stage) (sym n) (all-at (λ x. IsUnready AnyWait b x.number x.session.stage) b.lines i l at u))));
+          others = λ k ne. find-set_other k b.lines i l m at n ne;
+          mine = λ t mine es k calm. record { now = comes-set b.setup t 0 b.last mine piece es b.lines i l m s.rising at n (comes-fed b.setup t mine piece es l m still n e) k.now; later = k.later };
+          view = λ t mine es k calm.
+              let own = all-at (IsMine b.setup t mine (Comes l.number piece ∷ es)) b.lines i l at k.now in
+              ap (λ x. turns (record (view_of t mine b) { kept = hosted.kept_of ts t; lines = those mine x })) lines
+              ∙ view-fed (view_of t mine b) mine l.number piece b.lines (hosted.kept_of ts t) (mine l.number) refl refl settled
+              (λ yes. kept-fed b.setup t b.clock mine (Comes l.number piece ∷ es) b.tenants piece l own yes
+              ∙ ap (λ o. kept_fed piece b.clock l.number o (kept_of b t)) (sym (find-those mine l.number b.lines yes ∙ find-at 0 b.last b.lines i l s.rising at)))
+              (λ no. kept-unfed b.setup t b.clock mine (Comes l.number piece ∷ es) b.tenants piece l own no);
+        }
 
 -- a greeting connection's piece could not be kept
 pub fed-refused : (b : BrokerState) (i : ℕ) (l m : Line) (piece : List ℕ) (h : Bool) (x : ℕ) → IsSound b → first_able b.lines ≡ None → IsAt b.lines i l → l.session.stage ≡ Greets h → m.number ≡ l.number → m.session ≡ shut_down l.session → b.unbound_refusals ≤ x → (IsCalm b.unbound_refusals x → ⊥) →
@@ -125,7 +151,7 @@ fed-refused b i l m piece h x s settled at g n e up rises =
       going = going;
       still = fed-still b i l m b.tenants x settled n going;
       counted = counted-unbound (Of l.number) b i l m x s at (inl refl) none;
-      unready = λ u. changed-unready AnyWait b i m b.tenants x (λ t. refl) u (subst (λ (y : Session). IsUnready AnyWait b y.stage) (sym e) (shut-unready AnyWait b l.session));
+      unready = λ u. changed-unready AnyWait b i m b.tenants x (λ t. refl) u (subst (λ (y : Session). IsUnready AnyWait b m.number y.stage) (sym e) (shut-unready AnyWait b m.number l.session));
       others = λ k ne. find-set_other k b.lines i l m at n ne;
       mine = λ t mine es k calm. absurd (rises calm);
       view = λ t mine es k calm. absurd (rises calm.unbound);
@@ -135,10 +161,10 @@ view-hidden : (w : World) (mine : ℕ → Bool) (n : ℕ) (f : Session → Sessi
 view-hidden w mine n f piece ls m e none =
     ap (λ x. turns (with_lines w x)) (those-on_other mine n f ls m ∙ sym e) ∙ (turns-none w (ap first_able e ∙ none-those mine ls none) ∙ sym (ap (λ y. stepped y (Comes n piece) w) m))
 
--- a bound connection's piece could not be kept: a refusal is counted for its tenant
-pub fed-bound : (b : BrokerState) (i u : ℕ) (l m : Line) (piece : List ℕ) (w : Option Wait) (H : Type 0) (ts : List TenantState) → IsSound b → first_able b.lines ≡ None → IsAt b.lines i l → l.session.stage ≡ BoundTo u w → m.number ≡ l.number → m.session ≡ shut_down l.session →
-    IsTurn u H b.tenants ts → H → ((t : ℕ) → hosted.kept_of ts t ≡ kept_of b t) → (IsCalm (count b.tenants u) (count ts u) → ⊥) → IsFed l.number piece b (changed b i m ts b.unbound_refusals)
-fed-bound b i u l m piece w H ts s settled at g n e turn honest stays loud =
+-- a bound connection's piece could not be kept: a refusal is counted for its tenant, whatever it keeps then, as long as nothing becomes ready
+pub fed-loud : (b : BrokerState) (i u : ℕ) (l m : Line) (piece : List ℕ) (w : Option Wait) (H : Type 0) (ts : List TenantState) → IsSound b → first_able b.lines ≡ None → IsAt b.lines i l → l.session.stage ≡ BoundTo u w → m.number ≡ l.number → m.session ≡ shut_down l.session →
+    IsTurn u H b.tenants ts → H → ((t k : ℕ) (w : Wait) → ready (kept_of b t) b.clock k w ≡ Silent → ready (hosted.kept_of ts t) b.clock k w ≡ Silent) → (IsCalm (count b.tenants u) (count ts u) → ⊥) → IsFed l.number piece b (changed b i m ts b.unbound_refusals)
+fed-loud b i u l m piece w H ts s settled at g n e turn honest quiet loud =
     let p : IsBound u l.session = record { wait = w; is = g } in
     let same : without_wait m.session.stage ≡ without_wait l.session.stage = ap (λ (x : Session). without_wait x.stage) e ∙ stage-shut l.session in
     let q : IsBound u m.session = bound-same u l.session m.session p same in
@@ -149,7 +175,7 @@ fed-bound b i u l m piece w H ts s settled at g n e turn honest stays loud =
       going = going;
       still = fed-still b i l m ts b.unbound_refusals settled n going;
       counted = counted-tenant (Of l.number) b new u (tenant-later (Of l.number) b new u going (scope-tenant (Of l.number) b i u l s at (inl refl) (ap whose g))) (λ t ne. turn.counts t ne) refl;
-      unready = λ k. changed-unready AnyWait b i m ts b.unbound_refusals stays k (subst (λ (y : Session). IsUnready AnyWait b y.stage) (sym e) (shut-unready AnyWait b l.session));
+      unready = λ k. changed-quiet AnyWait b i m ts b.unbound_refusals quiet k (subst (λ (y : Session). IsUnready AnyWait b m.number y.stage) (sym e) (shut-unready AnyWait b m.number l.session));
       others = λ k ne. find-set_other k b.lines i l m at n ne;
       mine = λ t mine es k calm. record { now = comes-set b.setup t 0 b.last mine piece es b.lines i l m s.rising at n (comes-bound b.setup t u mine piece es l m p q n) k.now; later = k.later };
       view = λ t mine es k calm. each-tenant (λ v. Mine v mine (Comes l.number piece ∷ es) b → IsCalm (count b.tenants v) (count ts v) → turns (view_of v mine new) ≡ stepped (mine l.number) (Comes l.number piece) (view_of v mine b)) u t (eqb u t) refl
@@ -162,6 +188,12 @@ fed-bound b i u l m piece w H ts s settled at g n e turn honest stays loud =
           ∙ view-hidden (view_of t mine b) mine l.number (λ z. m.session) piece b.lines no refl settled))
           k calm.own;
     }
+
+-- or its tenant keeps what it kept
+pub fed-bound : (b : BrokerState) (i u : ℕ) (l m : Line) (piece : List ℕ) (w : Option Wait) (H : Type 0) (ts : List TenantState) → IsSound b → first_able b.lines ≡ None → IsAt b.lines i l → l.session.stage ≡ BoundTo u w → m.number ≡ l.number → m.session ≡ shut_down l.session →
+    IsTurn u H b.tenants ts → H → ((t : ℕ) → hosted.kept_of ts t ≡ kept_of b t) → (IsCalm (count b.tenants u) (count ts u) → ⊥) → IsFed l.number piece b (changed b i m ts b.unbound_refusals)
+fed-bound b i u l m piece w H ts s settled at g n e turn honest stays loud =
+    fed-loud b i u l m piece w H ts s settled at g n e turn honest (λ t k x silent. ap (λ kept. ready kept b.clock k x) (stays t) ∙ silent) loud
 
 -- 3. The end of the event
 
@@ -197,7 +229,11 @@ step-not_open b n piece r none = record {
 }
   where
     by : (t : ℕ) (mine : ℕ → Bool) (yes : Bool) → view_of t mine b ≡ stepped yes (Comes n piece) (view_of t mine b)
-    by t mine true = sym (ap (λ x. turns (with_lines (view_of t mine b) x)) (each-on_none n (fed piece) (those mine b.lines) (all-those _ mine b.lines none)) ∙ settled-turns t mine b r.settled)
+    by t mine true =
+        let v = view_of t mine b in
+        let gone = all-those _ mine b.lines none in
+        sym (ap (λ o. turns (record v { kept = kept_fed piece b.clock n o v.kept; lines = each (on n (fed piece)) (those mine b.lines) })) (find-none n (those mine b.lines) gone)
+        ∙ (ap (λ x. turns (with_lines v x)) (each-on_none n (fed piece) (those mine b.lines) gone) ∙ settled-turns t mine b r.settled))
     by t mine false = refl
 
 fed-nothing : (s : Session) → fed [] s ≡ s
@@ -213,9 +249,9 @@ unfolding fed
 fed-shut piece s e = grind (arith, e)
 
 -- a piece that leaves the connection as it was
-pub step-same : (b : BrokerState) (i : ℕ) (l : Line) (piece : List ℕ) → IsReady b → IsAt b.lines i l → fed piece l.session ≡ l.session → IsStep (Comes l.number piece) b b
-step-same b i l piece r at e =
-    let f = fed-kept b i l l piece r.sound r.settled at refl (sym e) in
+pub step-same : (b : BrokerState) (i : ℕ) (l : Line) (piece : List ℕ) → IsReady b → IsAt b.lines i l → fed piece l.session ≡ l.session → overruns piece l.session ≡ false → IsStep (Comes l.number piece) b b
+step-same b i l piece r at e fits =
+    let f = fed-kept b i l l piece b.tenants r.sound r.settled at refl (sym e) (sym (ap (λ (x : Bool). cond x (left_by b.clock l.number l.session.stage b.tenants) b.tenants) fits)) in
     let same : set b.lines i l ≡ b.lines = ap (set b.lines i) at.here ∙ set-get_or b.lines i l in
     record {
       last = omega arith;
@@ -226,7 +262,7 @@ step-same b i l piece r at e =
     }
 
 pub step-nothing : (b : BrokerState) (i : ℕ) (l : Line) → IsReady b → IsAt b.lines i l → IsStep (Comes l.number []) b b
-step-nothing b i l r at = step-same b i l [] r at (fed-nothing l.session)
+step-nothing b i l r at = step-same b i l [] r at (fed-nothing l.session) (grind (arith, nat_tests))
 
 pub step-shut : (b : BrokerState) (i : ℕ) (l : Line) (piece : List ℕ) → IsReady b → IsAt b.lines i l → l.session.shut ≡ true → IsStep (Comes l.number piece) b b
-step-shut b i l piece r at e = step-same b i l piece r at (fed-shut piece l.session e)
+step-shut b i l piece r at e = step-same b i l piece r at (fed-shut piece l.session e) (grind (arith, e))

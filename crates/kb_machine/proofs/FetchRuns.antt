@@ -1,18 +1,19 @@
 -- In a whole run of a machine each fetch is answered with whole batches.
-use Rattle.std.proofs.Common.{ℕ, zero, suc, max, List, [], ◌∷◌, Option, Some, None}
+use Rattle.std.proofs.Common.{ℕ, zero, suc, max, List, [], ◌∷◌, Bool, true, false, cond, Option, Some, None}
 use Rattle.std.specs.List.{AllByRecursion}
 use Rattle.kb_api_group.specs.Frames.{Front, Whole, Partial, TooSmall, TooLarge, front}
 use Rattle.kb_world.specs.World as tenants
 use Rattle.kb_world.specs.Calls.{all_places, retain, retain_each}
 use Rattle.kb_world.specs.declared.place.Place.{Place}
 use Rattle.kb_tenant.specs.Batches.{HasSmallLogs}
-use Rattle.kb_tenant.specs.Hosted.{Kept, retained, world_at}
-use Rattle.kb_tenant.proofs.Small.{retained_small, served_small}
+use Rattle.kb_service.specs.Hosted.{Kept, left, passed, world_at}
+use Rattle.kb_tenant.proofs.Small.{retained_small}
+use Rattle.kb_service.proofs.Laws.{served_small}
 use Rattle.kb_machine.specs.Requests.{Asked, Versions, OtherVersions, Handshake, Authenticate, Another, Unread, request}
 use Rattle.kb_machine.specs.Tenant.{kept_after}
-use Rattle.kb_machine.specs.Session.{Stage, Greets, BoundTo, Session, fed}
+use Rattle.kb_machine.specs.Session.{Stage, Greets, BoundTo, Session, fed, overruns, has_member}
 use Rattle.kb_machine.specs.Greeting.{Setup}
-use Rattle.kb_machine.specs.Machine.{Happening, Opens, Comes, Closes, Moment, Line, World, put, kept_by, kept_at, each, on, first_able, all_woken, turn_at, turn_of, turn, again, work, turns, step}
+use Rattle.kb_machine.specs.Machine.{Happening, Opens, Comes, Closes, Moment, Line, World, put, kept_by, kept_at, each, on, find_line, first_able, all_woken, turn_at, turn_of, turn, again, work, turns, kept_without, kept_closed, kept_fed, step}
 use Rattle.kb_machine.specs.Isolation.{last_world}
 use Rattle.kb_machine.specs.Fetches.{ServesBatches, WakesWithBatches, AllWakeWithBatches, after_request, TurnGivesBatches, NextGivesBatches, TurnsGiveBatches, EventGivesBatches, FetchesGetBatches}
 use Rattle.kb_machine.proofs.Fetches.{served-batches, woken-batches}
@@ -27,9 +28,28 @@ each-small : (places : List Place) (w : tenants.World) → HasSmallLogs w → Ha
 each-small [] w small = small
 each-small (place ∷ places) w small = each-small places (retain w place).0 (retained_small w place small)
 
-small-retained : (clock : ℕ) (kept : Kept) → HasSmallLogs (world_at kept clock) → HasSmallLogs (world_at (retained clock kept) clock)
-unfolding retained
-small-retained clock kept small = each-small (all_places (world_at kept clock)) (world_at kept clock) small
+small-passed : (clock : ℕ) (kept : Kept) → HasSmallLogs (world_at kept clock) → HasSmallLogs (world_at (passed clock kept) clock)
+unfolding passed
+small-passed clock kept small = each-small (all_places (world_at kept clock)) (world_at kept clock) small
+
+small-left : (clock n : ℕ) (kept : Kept) → HasSmallLogs (world_at kept clock) → HasSmallLogs (world_at (left clock n kept) clock)
+unfolding left
+small-left clock n kept small = small
+
+small-if : (clock : ℕ) (b : Bool) (k l : Kept) → HasSmallLogs (world_at k clock) → HasSmallLogs (world_at l clock) → HasSmallLogs (world_at (cond b k l) clock)
+small-if clock true k l small also = small
+small-if clock false k l small also = also
+
+small-without : (clock n : ℕ) (stage : Stage) (kept : Kept) → HasSmallLogs (world_at kept clock) → HasSmallLogs (world_at (kept_without clock n stage kept) clock)
+small-without clock n stage kept small = small-if clock (has_member stage) (left clock n kept) kept (small-left clock n kept small) small
+
+small-closed : (clock n : ℕ) (o : Option Session) (kept : Kept) → HasSmallLogs (world_at kept clock) → HasSmallLogs (world_at (kept_closed clock n o kept) clock)
+small-closed clock n None kept small = small
+small-closed clock n (Some s) kept small = small-without clock n s.stage kept small
+
+small-fed : (piece : List ℕ) (clock n : ℕ) (o : Option Session) (kept : Kept) → HasSmallLogs (world_at kept clock) → HasSmallLogs (world_at (kept_fed piece clock n o kept) clock)
+small-fed piece clock n None kept small = small
+small-fed piece clock n (Some s) kept small = small-if clock (overruns piece s) (kept_without clock n s.stage kept) kept (small-without clock n s.stage kept small) small
 
 small-by : (setup : Setup) (kept : Kept) (clock n : ℕ) (a : Asked) → HasSmallLogs (world_at kept clock) → HasSmallLogs (world_at (kept_by setup kept clock n a) clock)
 unfolding kept_after
@@ -37,7 +57,7 @@ small-by setup kept clock n Versions small = small
 small-by setup kept clock n OtherVersions small = small
 small-by setup kept clock n (Handshake mechanism) small = small
 small-by setup kept clock n (Authenticate message) small = small
-small-by setup kept clock n (Another key version body) small = served_small setup.node (world_at kept clock) n key version body small
+small-by setup kept clock n (Another key version body) small = served_small setup.node (world_at kept clock) kept.groups n key version body small
 small-by setup kept clock n Unread small = small
 
 small-at : (setup : Setup) (kept : Kept) (clock n : ℕ) (f : Front) → HasSmallLogs (world_at kept clock) → HasSmallLogs (world_at (kept_at setup kept clock n f) clock)
@@ -72,11 +92,13 @@ small-turns w small = small-again (work w.lines) w small
 
 small-step : (e : Happening) (w : World) → IsSmall w → IsSmall (step e w)
 small-step (Opens n) w small = small
-small-step (Comes n piece) w small = small-turns (record w { lines = each (on n (fed piece)) w.lines }) small
-small-step (Closes n) w small = small
+small-step (Comes n piece) w small =
+    let o = find_line n w.lines in
+    small-turns (record w { kept = kept_fed piece w.clock n o w.kept; lines = each (on n (fed piece)) w.lines }) (small-fed piece w.clock n o w.kept small)
+small-step (Closes n) w small = small-closed w.clock n (find_line n w.lines) w.kept small
 small-step (Moment now) w small =
     let clock = max w.clock now in
-    small-turns (all_woken (record w { kept = retained clock w.kept; clock = clock })) (small-retained clock w.kept small)
+    small-turns (all_woken (record w { kept = passed clock w.kept; clock = clock })) (small-passed clock w.kept small)
 
 pub small-last : (es : List Happening) (w : World) → IsSmall w → IsSmall (last_world es w)
 small-last [] w small = small
@@ -87,15 +109,15 @@ small-last (e ∷ es) w small = small-last es (step e w) (small-step e w small)
 serves : (w : World) (n : ℕ) (s : Session) → IsSmall w → ServesBatches w n s
 serves w n s small frame rest version body fetch at asks read = served-batches w.setup w.kept w.clock n s frame rest version body fetch small at asks read
 
-wakes : (w : World) (s : Session) → IsSmall w → WakesWithBatches w s
-wakes w s small tenant wait fetch waits read = woken-batches w.kept w.clock tenant s wait fetch small waits read
+wakes : (w : World) (n : ℕ) (s : Session) → IsSmall w → WakesWithBatches w n s
+wakes w n s small tenant id version body deadline fetch waits read = woken-batches w.kept w.clock n tenant s id version body deadline fetch small waits read
 
 each-line : (P : Line → Type 0) → ((l : Line) → P l) → (ls : List Line) → AllByRecursion P ls
 each-line P all [] = tt
 each-line P all (l ∷ ls) = (all l, each-line P all ls)
 
 all-wake : (w : World) → IsSmall w → AllWakeWithBatches w
-all-wake w small = each-line (λ (l : Line). WakesWithBatches w l.session) (λ l. wakes w l.session small) w.lines
+all-wake w small = each-line (λ (l : Line). WakesWithBatches w l.number l.session) (λ l. wakes w l.number l.session small) w.lines
 
 turn-gives : (w : World) (l : Line) (stage : Stage) → IsSmall w → TurnGivesBatches w l stage
 turn-gives w l (Greets handshaken) small = tt
@@ -111,12 +133,15 @@ turns-give (suc n) w small = (next-gives w (first_able w.lines) small, turns-giv
 
 event-gives : (e : Happening) (w : World) → IsSmall w → EventGivesBatches e w
 event-gives (Opens n) w small = tt
-event-gives (Comes n piece) w small = let next = record w { lines = each (on n (fed piece)) w.lines } in turns-give (work next.lines) next small
+event-gives (Comes n piece) w small =
+    let o = find_line n w.lines in
+    let next = record w { kept = kept_fed piece w.clock n o w.kept; lines = each (on n (fed piece)) w.lines } in
+    turns-give (work next.lines) next (small-fed piece w.clock n o w.kept small)
 event-gives (Closes n) w small = tt
 event-gives (Moment now) w small =
     let clock = max w.clock now in
-    let after = record w { kept = retained clock w.kept; clock = clock } in
-    let kept = small-retained clock w.kept small in
+    let after = record w { kept = passed clock w.kept; clock = clock } in
+    let kept = small-passed clock w.kept small in
     (all-wake after kept, turns-give (work (all_woken after).lines) (all_woken after) kept)
 
 -- a whole run

@@ -5,29 +5,34 @@ use Rattle.kb_api_group.specs.Frames.{Whole, front}
 use Rattle.kb_api_data.specs.Layouts.{fetch_request}
 use Rattle.kb_api_data.specs.declared.fetch.FetchRequest.{FetchRequest}
 use Rattle.kb_tenant.specs.Batches.{HasSmallLogs, HoldsBatches}
-use Rattle.kb_tenant.specs.Hosted.{Kept, world_at}
-use Rattle.kb_tenant.specs.Replies.{Reaction, Replies, Waits, Silent, Shuts}
-use Rattle.kb_tenant.proofs.Batches.{looked-holds, served-holds}
+use Rattle.kb_service.specs.Hosted.{Kept, world_at}
+use Rattle.kb_tenant.specs.Replies as tenant
+use Rattle.kb_tenant.specs.Replies.{Replies, Waits, Silent, Shuts}
+use Rattle.kb_service.specs.Replies.{Reaction, Plain, Rebalances}
+use Rattle.kb_tenant.proofs.Batches.{looked-holds}
+use Rattle.kb_service.proofs.Laws.{served-holds}
 use Rattle.kb_machine.specs.Requests.{Another, request}
-use Rattle.kb_machine.specs.Tenant.{Wait, answer, ready}
+use Rattle.kb_machine.specs.Tenant.{Wait, Records, answer, ready}
 use Rattle.kb_machine.specs.Session.{BoundTo, Session, without_wait}
 use Rattle.kb_machine.specs.Greeting.{Setup}
 use Rattle.kb_machine.specs.Machine.{answered, served_by, served_at, served, told, woken_by, woken}
 use Rattle.kb_machine.specs.Fetches.{GetsBatches}
 
-answer-holds : (setup : Setup) (kept : Kept) (clock n : ℕ) (version : ℤ) (body reply : List ℕ) (r : FetchRequest) → HasSmallLogs (world_at kept clock) → whole fetch_request body ≡ Ok r → answer setup.node kept clock n (pos 1) version body ≡ Replies reply → HoldsBatches (world_at kept clock) r reply
+answer-holds : (setup : Setup) (kept : Kept) (clock n : ℕ) (version : ℤ) (body reply : List ℕ) (r : FetchRequest) → HasSmallLogs (world_at kept clock) → whole fetch_request body ≡ Ok r → answer setup.node kept clock n (pos 1) version body ≡ Plain (Replies reply) → HoldsBatches (world_at kept clock) r reply
 unfolding answer
-answer-holds setup kept clock n version body reply r small read e = served-holds setup.node (world_at kept clock) n version body reply r small read e
+answer-holds setup kept clock n version body reply r small read e = served-holds setup.node (world_at kept clock) kept.groups n version body reply r small read e
 
-ready-holds : (kept : Kept) (clock : ℕ) (wait : Wait) (reply : List ℕ) (r : FetchRequest) → HasSmallLogs (world_at kept clock) → whole fetch_request wait.body ≡ Ok r → ready kept clock wait ≡ Replies reply → HoldsBatches (world_at kept clock) r reply
+ready-holds : (kept : Kept) (clock n : ℕ) (id version : ℤ) (body : List ℕ) (deadline : ℕ) (reply : List ℕ) (r : FetchRequest) → HasSmallLogs (world_at kept clock) → whole fetch_request body ≡ Ok r
+    → ready kept clock n (record { correlation_id = id; awaited = Records version body deadline }) ≡ Replies reply → HoldsBatches (world_at kept clock) r reply
 unfolding ready
-ready-holds kept clock wait reply r small read e = looked-holds (world_at kept clock) wait.deadline wait.version wait.body reply r small read e
+ready-holds kept clock n id version body deadline reply r small read e = looked-holds (world_at kept clock) deadline version body reply r small read e
 
 answered_by : (setup : Setup) (kept : Kept) (clock n : ℕ) (id version : ℤ) (body : List ℕ) (s : Session) (r : FetchRequest) → HasSmallLogs (world_at kept clock) → whole fetch_request body ≡ Ok r → (x : Reaction) → answer setup.node kept clock n (pos 1) version body ≡ x → GetsBatches (world_at kept clock) r id s (answered x id version body s)
-answered_by setup kept clock n id version body s r small read (Replies reply) e = inl (reply, answer-holds setup kept clock n version body reply r small read e, refl)
-answered_by setup kept clock n id version body s r small read (Waits deadline places) e = inr refl
-answered_by setup kept clock n id version body s r small read Silent e = inr refl
-answered_by setup kept clock n id version body s r small read Shuts e = inr refl
+answered_by setup kept clock n id version body s r small read (Plain (Replies reply)) e = inl (reply, answer-holds setup kept clock n version body reply r small read e, refl)
+answered_by setup kept clock n id version body s r small read (Plain (Waits deadline places)) e = inr refl
+answered_by setup kept clock n id version body s r small read (Plain Silent) e = inr refl
+answered_by setup kept clock n id version body s r small read (Plain Shuts) e = inr refl
+answered_by setup kept clock n id version body s r small read Rebalances e = inr refl
 
 -- a fetch that takes its turn
 pub served-batches : (setup : Setup) (kept : Kept) (clock n : ℕ) (s : Session) (frame rest : List ℕ) (version : ℤ) (body : List ℕ) (r : FetchRequest) → HasSmallLogs (world_at kept clock) → front s.unread ≡ Whole frame rest → (request frame).asked ≡ Another (pos 1) version body → whole fetch_request body ≡ Ok r
@@ -40,18 +45,20 @@ served-batches setup kept clock n s frame rest version body r small at asks read
     ap (served_at setup kept clock n s) at ∙ ap (λ a. served_by setup kept clock n id a from) asks in
     subst (GetsBatches (world_at kept clock) r id from) (sym is) (answered_by setup kept clock n id version body from r small read (answer setup.node kept clock n (pos 1) version body) refl)
 
-told_by : (kept : Kept) (clock : ℕ) (wait : Wait) (s : Session) (r : FetchRequest) → HasSmallLogs (world_at kept clock) → whole fetch_request wait.body ≡ Ok r → (x : Reaction) → ready kept clock wait ≡ x
-    → GetsBatches (world_at kept clock) r wait.correlation_id (record s { stage = without_wait s.stage }) (told x wait.correlation_id s)
-told_by kept clock wait s r small read (Replies reply) e = inl (reply, ready-holds kept clock wait reply r small read e, refl)
-told_by kept clock wait s r small read (Waits deadline places) e = inr refl
-told_by kept clock wait s r small read Silent e = inr refl
-told_by kept clock wait s r small read Shuts e = inr refl
+told_by : (kept : Kept) (clock n : ℕ) (id version : ℤ) (body : List ℕ) (deadline : ℕ) (s : Session) (r : FetchRequest) → HasSmallLogs (world_at kept clock) → whole fetch_request body ≡ Ok r → (x : tenant.Reaction)
+    → ready kept clock n (record { correlation_id = id; awaited = Records version body deadline }) ≡ x → GetsBatches (world_at kept clock) r id (record s { stage = without_wait s.stage }) (told x id s)
+told_by kept clock n id version body deadline s r small read (Replies reply) e = inl (reply, ready-holds kept clock n id version body deadline reply r small read e, refl)
+told_by kept clock n id version body deadline s r small read (Waits until places) e = inr refl
+told_by kept clock n id version body deadline s r small read Silent e = inr refl
+told_by kept clock n id version body deadline s r small read Shuts e = inr refl
 
 -- a fetch that waited
-pub woken-batches : (kept : Kept) (clock tenant : ℕ) (s : Session) (wait : Wait) (r : FetchRequest) → HasSmallLogs (world_at kept clock) → s.stage ≡ BoundTo tenant (Some wait) → whole fetch_request wait.body ≡ Ok r
-    → GetsBatches (world_at kept clock) r wait.correlation_id (record s { stage = without_wait s.stage }) (woken kept clock s)
+pub woken-batches : (kept : Kept) (clock n tenant : ℕ) (s : Session) (id version : ℤ) (body : List ℕ) (deadline : ℕ) (r : FetchRequest) → HasSmallLogs (world_at kept clock)
+    → s.stage ≡ BoundTo tenant (Some (record { correlation_id = id; awaited = Records version body deadline })) → whole fetch_request body ≡ Ok r
+    → GetsBatches (world_at kept clock) r id (record s { stage = without_wait s.stage }) (woken kept clock n s)
 unfolding woken_by
-woken-batches kept clock tenant s wait r small waits read =
+woken-batches kept clock n tenant s id version body deadline r small waits read =
     let from : Session = record s { stage = without_wait s.stage } in
-    let is : woken kept clock s ≡ told (ready kept clock wait) wait.correlation_id s = ap (woken_by kept clock s) waits in
-    subst (GetsBatches (world_at kept clock) r wait.correlation_id from) (sym is) (told_by kept clock wait s r small read (ready kept clock wait) refl)
+    let wait : Wait = record { correlation_id = id; awaited = Records version body deadline } in
+    let is : woken kept clock n s ≡ told (ready kept clock n wait) id s = ap (woken_by kept clock n s) waits in
+    subst (GetsBatches (world_at kept clock) r id from) (sym is) (told_by kept clock n id version body deadline s r small read (ready kept clock n wait) refl)

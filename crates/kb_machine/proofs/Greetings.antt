@@ -4,15 +4,15 @@ use Rattle.std.specs.Prelude.{map}
 use Rattle.std.proofs.lemmas.Bool.Decides.{nat_tests}
 use Rattle.kb_wire.specs.Codec.{int}
 use Rattle.kb_api_group.specs.Frames.{front}
-use Rattle.kb_tenant.specs.Hosted.{Kept, retained}
-use Rattle.kb_machine.specs.Session.{Stage, Greets, BoundTo, Session, fresh, fed, can, is_turn}
+use Rattle.kb_service.specs.Hosted.{Kept, passed}
+use Rattle.kb_machine.specs.Session.{Stage, Greets, BoundTo, Session, fresh, overruns, fed, can, is_turn}
 use Rattle.kb_machine.specs.Greeting.{Setup, greeted}
-use Rattle.kb_machine.specs.Machine.{Happening, Opens, Comes, Closes, Moment, Line, World, Sent, woken_by, all_woken, those, each, on, first_able, turn_at, turn, turns, again, work, step, run, sent, by_number}
-use Rattle.kb_machine.specs.Owners.{greet_turn, greet_turn_at, heard, whose, destiny, unborn, find_line, fate_from, owner, purge}
+use Rattle.kb_machine.specs.Machine.{Happening, Opens, Comes, Closes, Moment, Line, World, Sent, woken_by, those, each, on, first_able, turn_at, turn, turns, again, kept_without, kept_closed, kept_fed, step, run, sent, by_number, find_line}
+use Rattle.kb_machine.specs.Owners.{greet_turn, greet_turn_at, heard, whose, destiny, unborn, fate_from, purge}
 use Rattle.kb_machine.specs.Broker.{BrokerState, Rising, IsRun, IsReady, IsUnowned, view_of, only, alone_unowned}
 use Rattle.kb_machine.specs.Greetings.{pieces_of, greeting, once_opened, greeted_from, sent_by, greeted_alone}
 use Rattle.kb_machine.proofs.Laws.{turn-none, turn-some, turns-none, greeted-still}
-use Rattle.kb_machine.proofs.Owners.{IsBound, destiny-bound, heard-still}
+use Rattle.kb_machine.proofs.Owners.{destiny-bound, heard-still}
 use Rattle.kb_machine.proofs.Pinned.{turns-settled}
 use Rattle.kb_machine.proofs.Sets.{rising-last}
 
@@ -74,23 +74,33 @@ turns-lone w n s u =
     ap (λ k. again turn k (lone w n s)) all ∙ again-lone w n (length s.unread) s u
 
 -- a moment changes nothing of it
-woken-lone : (kept : Kept) (clock : ℕ) (s : Session) (st : Stage) → whose st ≡ None → woken_by kept clock s st ≡ s
+woken-lone : (kept : Kept) (clock n : ℕ) (s : Session) (st : Stage) → whose st ≡ None → woken_by kept clock n s st ≡ s
 unfolding woken_by
-woken-lone kept clock s (Greets h) u = refl
-woken-lone kept clock s (BoundTo t w) u = absurd (cc)
+woken-lone kept clock n s (Greets h) u = refl
+woken-lone kept clock n s (BoundTo t w) u = absurd (cc)
 
 moment-lone : (w : World) (n : ℕ) (s : Session) (now : ℕ) → whose s.stage ≡ None → can s ≡ false
-    → step (Moment now) (lone w n s) ≡ lone (record w { kept = retained (max w.clock now) w.kept; clock = max w.clock now }) n s
+    → step (Moment now) (lone w n s) ≡ lone (record w { kept = passed (max w.clock now) w.kept; clock = max w.clock now }) n s
 moment-lone w n s now u c =
     let clock = max w.clock now in
-    let kept = retained clock w.kept in
+    let kept = passed clock w.kept in
     let v : World = record w { kept = kept; clock = clock } in
-    ap (λ x. turns (lone v n x)) (woken-lone kept clock s s.stage u) ∙ turns-none (lone v n s) (able-lone n s false c)
+    ap (λ x. turns (lone v n x)) (woken-lone kept clock n s s.stage u) ∙ turns-none (lone v n s) (able-lone n s false c)
+
+-- nor does a piece that is longer than its room
+kept-lone : (piece : List ℕ) (clock m : ℕ) (s : Session) (st : Stage) (kept : Kept) (b : Bool) → s.stage ≡ st → whose st ≡ None → kept_fed piece clock m (cond b (Some s) None) kept ≡ kept
+kept-lone piece clock m s st kept false e u = refl
+kept-lone piece clock m s (BoundTo t w) kept true e u = absurd (cc)
+kept-lone piece clock m s (Greets h) kept true e u = ap (λ x. cond (overruns piece s) (kept_without clock m x kept) kept) e ∙ by (overruns piece s)
+  where
+    by : (b : Bool) → cond b kept kept ≡ kept
+    by true = refl
+    by false = refl
 
 -- 2. A world of no connection, where none of that number opens any more
 
-moment-empty : (w : World) (now : ℕ) → step (Moment now) (empty w) ≡ empty (record w { kept = retained (max w.clock now) w.kept; clock = max w.clock now })
-moment-empty w now = let clock = max w.clock now in turns-none (empty (record w { kept = retained clock w.kept; clock = clock })) refl
+moment-empty : (w : World) (now : ℕ) → step (Moment now) (empty w) ≡ empty (record w { kept = passed (max w.clock now) w.kept; clock = max w.clock now })
+moment-empty w now = let clock = max w.clock now in turns-none (empty (record w { kept = passed clock w.kept; clock = clock })) refl
 
 comes-empty : (w : World) (n : ℕ) (piece : List ℕ) → step (Comes n piece) (empty w) ≡ empty w
 comes-empty w n piece = turns-none (empty w) refl
@@ -113,7 +123,7 @@ run-gone n last (Closes m ∷ es) w le r = by (eqb m n) (run-gone n last es w le
     by true rest = rest
     by false rest = rest
 run-gone n last (Moment now ∷ es) w le r =
-    ap (run (purge (only n) es)) (moment-empty w now) ∙ run-gone n last es (record w { kept = retained (max w.clock now) w.kept; clock = max w.clock now }) le r.1
+    ap (run (purge (only n) es)) (moment-empty w now) ∙ run-gone n last es (record w { kept = passed (max w.clock now) w.kept; clock = max w.clock now }) le r.1
 
 -- 3. Runs of one connection
 
@@ -150,7 +160,10 @@ run-lone n last (Comes m piece ∷ es) w s le r c d = by (eqb m n) refl (λ x. r
         let later : destiny w.setup n (heard w.setup f) es ≡ None = (cond-none (eqb m n) (destiny w.setup n (heard w.setup f) es) (destiny w.setup n s es) d).0 e in
         let u : whose (heard w.setup f).stage ≡ None = now-unbound w.setup n (heard w.setup f) es (heard w.setup f).stage refl later in
         let here : each (on m (fed piece)) (record { number = n; session = s } ∷ []) ≡ record { number = n; session = f } ∷ [] = let is : m ≡ n = grind (arith, nat_tests) in ap (λ k. each (on k (fed piece)) (record { number = n; session = s } ∷ [])) is ∙ each-lone n (fed piece) s in
-        ap (run (purge (only n) es)) (ap (λ ls. turns (record w { lines = ls })) here ∙ turns-lone w n f u)
+        let bare = now-unbound w.setup n s (Comes m piece ∷ es) s.stage refl d in
+        let kept : kept_fed piece w.clock m (find_line m (record { number = n; session = s } ∷ [])) w.kept ≡ w.kept = kept-lone piece w.clock m s s.stage w.kept (eqb n m) refl bare in
+        ap (λ k. run (purge (only n) es) (turns (record w { kept = k; lines = each (on m (fed piece)) (record { number = n; session = s } ∷ []) }))) kept
+        ∙ ap (run (purge (only n) es)) (ap (λ ls. turns (record w { lines = ls })) here ∙ turns-lone w n f u)
         ∙ rest (heard w.setup f) (settled-heard w n f u) later
     by false e rest = rest s c ((cond-none (eqb m n) (destiny w.setup n (heard w.setup (fed piece s)) es) (destiny w.setup n s es) d).1 e)
 run-lone n last (Closes m ∷ es) w s le r c d = by (eqb m n) refl (run-lone n last es w s le r c)
@@ -158,12 +171,13 @@ run-lone n last (Closes m ∷ es) w s le r c d = by (eqb m n) refl (run-lone n l
     by : (b : Bool) → eqb m n ≡ b → (destiny w.setup n s es ≡ None → run (purge (only n) es) (lone w n s) ≡ sent_by n (Some (greeting w.setup s (pieces_of n es)))) → run (cond b (Closes m ∷ purge (only n) es) (purge (only n) es)) (lone w n s) ≡ sent_by n (Some (greeting w.setup s (cond b [] (pieces_of n es))))
     by true e rest =
         let same : eqb n m ≡ true = grind (arith, nat_tests) in
-        ap (λ x. map sent (cond x (record { number = n; session = s } ∷ []) []) ++ run (purge (only n) es) (record w { lines = cond (not x) (record { number = n; session = s } ∷ []) [] })) same
-        ∙ ap (λ ss. (let x : Sent = record { number = n; bytes = s.output; shut = s.shut } in x) ∷ ss) (run-gone n last es w le r)
+        let kept = kept_closed w.clock m (find_line m (record { number = n; session = s } ∷ [])) w.kept in
+        ap (λ x. map sent (cond x (record { number = n; session = s } ∷ []) []) ++ run (purge (only n) es) (record w { kept = kept; lines = cond (not x) (record { number = n; session = s } ∷ []) [] })) same
+        ∙ ap (λ ss. (let x : Sent = record { number = n; bytes = s.output; shut = s.shut } in x) ∷ ss) (run-gone n last es (record w { kept = kept }) le r)
     by false e rest = rest ((cond-none (eqb m n) (whose s.stage) (destiny w.setup n s es) d).1 e)
 run-lone n last (Moment now ∷ es) w s le r c d =
     ap (run (purge (only n) es)) (moment-lone w n s now (now-unbound w.setup n s es s.stage refl d) c)
-    ∙ run-lone n last es (record w { kept = retained (max w.clock now) w.kept; clock = max w.clock now }) s le r.1 c d
+    ∙ run-lone n last es (record w { kept = passed (max w.clock now) w.kept; clock = max w.clock now }) s le r.1 c d
 
 fresh-still : can fresh ≡ false
 unfolding can front int
@@ -190,7 +204,7 @@ run-unborn n last (Closes m ∷ es) w r d = by (eqb m n) (run-unborn n last es w
     by true rest = rest
     by false rest = rest
 run-unborn n last (Moment now ∷ es) w r d =
-    ap (run (purge (only n) es)) (moment-empty w now) ∙ run-unborn n last es (record w { kept = retained (max w.clock now) w.kept; clock = max w.clock now }) r.1 d
+    ap (run (purge (only n) es)) (moment-empty w now) ∙ run-unborn n last es (record w { kept = passed (max w.clock now) w.kept; clock = max w.clock now }) r.1 d
 
 -- 4. In a broker
 

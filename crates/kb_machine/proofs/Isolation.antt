@@ -1,10 +1,10 @@
 -- Two runs that are alike for a tenant give its connections the same.
 use Rattle.std.proofs.Common.{◌≡◌, ℕ, List, [], ◌∷◌, ◌++◌, Bool, true, false, cond, sym, ◌∙◌, ap, refl}
-use Rattle.kb_machine.specs.Machine.{Happening, Line, World, Sent, run, step, stepped, those, those_sent, by_number}
+use Rattle.kb_machine.specs.Machine.{Happening, World, Sent, run, stepped, those, those_sent, by_number}
 use Rattle.kb_machine.specs.Owners.{concerns, purge}
 use Rattle.kb_machine.specs.Broker.{BrokerState, IsCalmFor, Mine, view_of, kept_of, owned_by, alone}
 use Rattle.kb_machine.specs.Told.{quieted}
-use Rattle.kb_machine.specs.Isolation.{IsIsolated, StartsAlike, AreAlike, own_events, own_lines, own_sent, last_world, IsLeft, LeavesWorlds}
+use Rattle.kb_machine.specs.Isolation.{IsIsolated, StartsAlike, AreAlike, own_events, own_lines, own_sent, last_world, LeavesWorlds}
 
 view-alike : (t : ℕ) (es fs : List Happening) (a b : BrokerState) → StartsAlike t es fs a b → view_of t (owned_by t fs b) b ≡ view_of t (owned_by t es a) a
 view-alike t es fs a b s =

@@ -6,12 +6,14 @@ use Rattle.std.specs.Int.{w32, cast_signed, from_be_bytes}
 use Rattle.kb_wire.specs.Codec.{int}
 use Rattle.kb_api_group.specs.Frames.{Front, Whole, Partial, TooSmall, TooLarge, front, front_by}
 use Rattle.kb_machine.specs.Requests.{Asked, Versions, OtherVersions, Handshake, Authenticate, Another, Unread, request}
-use Rattle.kb_tenant.specs.Hosted.{Kept}
-use Rattle.kb_tenant.specs.Replies.{Reaction, Replies, Waits, Silent, Shuts}
+use Rattle.kb_service.specs.Hosted.{Kept}
+use Rattle.kb_tenant.specs.Replies as tenant
+use Rattle.kb_tenant.specs.Replies.{Replies, Waits, Silent, Shuts}
+use Rattle.kb_service.specs.Replies.{Reaction, Plain, Rebalances}
 use Rattle.kb_machine.specs.Tenant.{answer, ready}
 use Rattle.kb_machine.specs.Session.{Stage, Greets, BoundTo, Session, replied, is_turn, can}
 use Rattle.kb_machine.specs.Greeting.{Setup, greeted_by, greeted_at, greeted, shaken, authenticated, logged_in, login}
-use Rattle.kb_machine.specs.Machine.{Line, World, answered, served_by, served_at, served, put, told, woken_by, woken, each, on, those, first_able, turn_at, turn_of, turn, again, work, turns}
+use Rattle.kb_machine.specs.Machine.{Line, World, plainly, answered, served_by, served_at, served, put, told, woken_by, woken, each, on, those, first_able, turn_at, turn_of, turn, again, work, turns}
 
 -- 1. Lists of connections
 
@@ -92,11 +94,15 @@ greeted_by-le setup h id (Authenticate m) s = authenticated-le setup h id m s
 greeted_by-le setup h id (Another k v b) s = omega arith
 greeted_by-le setup h id Unread s = omega arith
 
+plainly-le : (r : tenant.Reaction) (id version : ℤ) (body : List ℕ) (s : Session) → length (plainly r id version body s).unread ≤ length s.unread
+plainly-le (Replies reply) id version body s = replied-le id reply s
+plainly-le (Waits deadline places) id version body s = omega arith
+plainly-le Silent id version body s = omega arith
+plainly-le Shuts id version body s = omega arith
+
 answered-le : (r : Reaction) (id version : ℤ) (body : List ℕ) (s : Session) → length (answered r id version body s).unread ≤ length s.unread
-answered-le (Replies reply) id version body s = replied-le id reply s
-answered-le (Waits deadline places) id version body s = omega arith
-answered-le Silent id version body s = omega arith
-answered-le Shuts id version body s = omega arith
+answered-le (Plain r) id version body s = plainly-le r id version body s
+answered-le Rebalances id version body s = omega arith
 
 pub served_by-le : (setup : Setup) (kept : Kept) (clock n : ℕ) (id : ℤ) (a : Asked) (s : Session) → length (served_by setup kept clock n id a s).unread ≤ length s.unread
 unfolding served_by
@@ -199,21 +205,21 @@ work-on n f t (k ∷ ls) l h e =
     let les = work-on_le n f t ls in
     grind (arith, nat_tests, rest, here, le, les)
 
-told-le : (r : Reaction) (id : ℤ) (s : Session) → length (told r id s).unread ≤ length s.unread
+told-le : (r : tenant.Reaction) (id : ℤ) (s : Session) → length (told r id s).unread ≤ length s.unread
 told-le (Replies reply) id s = replied-le id reply _
 told-le (Waits deadline places) id s = omega arith
 told-le Silent id s = omega arith
 told-le Shuts id s = omega arith
 
-woken_by-le : (kept : Kept) (clock : ℕ) (s : Session) (st : Stage) → length (woken_by kept clock s st).unread ≤ length s.unread
+woken_by-le : (kept : Kept) (clock n : ℕ) (s : Session) (st : Stage) → length (woken_by kept clock n s st).unread ≤ length s.unread
 unfolding woken_by
-woken_by-le kept clock s (Greets h) = omega arith
-woken_by-le kept clock s (BoundTo u None) = omega arith
-woken_by-le kept clock s (BoundTo u (Some w)) = told-le (ready kept clock w) w.correlation_id s
+woken_by-le kept clock n s (Greets h) = omega arith
+woken_by-le kept clock n s (BoundTo u None) = omega arith
+woken_by-le kept clock n s (BoundTo u (Some w)) = told-le (ready kept clock n w) w.correlation_id s
 
-pub work-woken : (kept : Kept) (clock : ℕ) (ls : List Line) → work (each (λ k s. woken kept clock s) ls) ≤ work ls
+pub work-woken : (kept : Kept) (clock : ℕ) (ls : List Line) → work (each (λ k s. woken kept clock k s) ls) ≤ work ls
 work-woken kept clock [] = omega arith
-work-woken kept clock (l ∷ ls) = let h = woken_by-le kept clock l.session l.session.stage in omega (arith, h, work-woken kept clock ls)
+work-woken kept clock (l ∷ ls) = let h = woken_by-le kept clock l.number l.session l.session.stage in omega (arith, h, work-woken kept clock ls)
 
 work-turn_at : (w : World) (l : Line) (st : Stage) → first_able w.lines ≡ Some l → work (turn_at w l.number l.session.unread st).lines < work w.lines
 work-turn_at w l (Greets h) f = work-on l.number (greeted w.setup h) (greeted-takes w.setup h) w.lines l f refl

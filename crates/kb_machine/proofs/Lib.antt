@@ -1,7 +1,9 @@
 pub mod Feeds
 pub mod Laws
+pub mod Leaving
 pub mod Owned
 pub mod Owners
+pub mod Parking
 pub mod Parts
 pub mod FetchRuns
 pub mod Fetches

@@ -5,8 +5,8 @@ use Rattle.std.specs.List.{AllByRecursion}
 use Rattle.std.proofs.lemmas.Bool.Decides.{nat_tests}
 use Rattle.kb_machine.specs.Session.{Stage, Greets, BoundTo, Session, fresh, fed}
 use Rattle.kb_machine.specs.Greeting.{Setup}
-use Rattle.kb_machine.specs.Machine.{Happening, Opens, Comes, Closes, Moment, Line}
-use Rattle.kb_machine.specs.Owners.{destiny, heard, unborn, find_line, fate_from, owner, owned, is_owner, whose, Fits}
+use Rattle.kb_machine.specs.Machine.{Happening, Opens, Comes, Closes, Moment, Line, find_line}
+use Rattle.kb_machine.specs.Owners.{destiny, heard, unborn, fate_from, owner, owned, is_owner, whose, Fits}
 use Rattle.kb_machine.specs.Broker.{BrokerState, IsSound, Rising, IsRun, last_after, Mine, owned_by, InRange, only, IsUnowned, IsCalmFor, Grows}
 use Rattle.kb_world.specs.Steps.{IsCalm}
 use Rattle.kb_machine.proofs.Ranges.{AreUsers, IsBelow, range-heard, range-fed}

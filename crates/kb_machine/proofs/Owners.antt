@@ -5,12 +5,14 @@ use Rattle.std.specs.List.{AllByRecursion}
 use Rattle.std.proofs.lemmas.Bool.Decides.{nat_tests}
 use Rattle.kb_api_group.specs.Frames.{Front, Whole, Partial, TooSmall, TooLarge, front}
 use Rattle.kb_machine.specs.Requests.{Asked, Versions, OtherVersions, Handshake, Authenticate, Another, Unread, request}
-use Rattle.kb_tenant.specs.Hosted.{Kept}
-use Rattle.kb_tenant.specs.Replies.{Reaction, Replies, Waits, Silent, Shuts, framed, reply_size}
-use Rattle.kb_machine.specs.Tenant.{Wait, answer}
+use Rattle.kb_service.specs.Hosted.{Kept}
+use Rattle.kb_tenant.specs.Replies as tenant
+use Rattle.kb_tenant.specs.Replies.{Replies, Waits, Silent, Shuts, framed, reply_size}
+use Rattle.kb_service.specs.Replies.{Reaction, Plain, Rebalances}
+use Rattle.kb_machine.specs.Tenant.{Wait, Records, Group, answer}
 use Rattle.kb_machine.specs.Session.{Stage, Greets, BoundTo, Session, fed, shut_down, without_wait, waiting, can, is_turn, room, replied}
 use Rattle.kb_machine.specs.Greeting.{Setup, greeted}
-use Rattle.kb_machine.specs.Machine.{Happening, Opens, Comes, Closes, Moment, Line, World, answered, served_by, served_at, served, put, each, on, those, first_able, all_woken, turn_at, turn, turns, again}
+use Rattle.kb_machine.specs.Machine.{Happening, Opens, Comes, Closes, Moment, Line, World, plainly, answered, served_by, served_at, served, put, each, on, those, first_able, all_woken, turn_at, turn, turns, again}
 use Rattle.kb_machine.specs.Owners.{greet_turn, greet_turn_at, heard, destiny, whose, Fits, Owns, Pairwise}
 use Rattle.kb_machine.proofs.Laws.{those-each, first-those, turn-some, turns-turn, greeted-less, greeted-still}
 
@@ -117,11 +119,15 @@ stage-waiting : (wait : Wait) (st : Stage) → without_wait (waiting wait st) �
 stage-waiting wait (Greets h) = refl
 stage-waiting wait (BoundTo u w) = refl
 
+stage-plainly : (r : tenant.Reaction) (id version : ℤ) (body : List ℕ) (s : Session) → without_wait (plainly r id version body s).stage ≡ without_wait s.stage
+stage-plainly (Replies reply) id version body s = stage-replied id reply s
+stage-plainly (Waits deadline places) id version body s = stage-waiting (record { correlation_id = id; awaited = Records version body deadline }) s.stage
+stage-plainly Silent id version body s = refl
+stage-plainly Shuts id version body s = stage-shut s
+
 pub stage-answered : (r : Reaction) (id version : ℤ) (body : List ℕ) (s : Session) → without_wait (answered r id version body s).stage ≡ without_wait s.stage
-stage-answered (Replies reply) id version body s = stage-replied id reply s
-stage-answered (Waits deadline places) id version body s = stage-waiting (record { correlation_id = id; version = version; body = body; deadline = deadline }) s.stage
-stage-answered Silent id version body s = refl
-stage-answered Shuts id version body s = stage-shut s
+stage-answered (Plain r) id version body s = stage-plainly r id version body s
+stage-answered Rebalances id version body s = stage-waiting (record { correlation_id = id; awaited = Group }) s.stage
 
 stage-served_by : (setup : Setup) (kept : Kept) (clock n : ℕ) (id : ℤ) (a : Asked) (s : Session) → without_wait (served_by setup kept clock n id a s).stage ≡ without_wait s.stage
 unfolding served_by

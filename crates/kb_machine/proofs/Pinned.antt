@@ -2,11 +2,12 @@
 use Rattle.std.proofs.Common.{◌≡◌, ◌∙◌, ◌≤◌, ℕ, ℤ, zero, suc, List, ◌++◌, length, Bool, true, false, cond, nat_lt, Option, Some, None, refl, sym, ap, arith}
 use Rattle.std.proofs.lemmas.Bool.Decides.{nat_tests}
 use Rattle.std.proofs.lemmas.List.{length-append}
-use Rattle.kb_machine.specs.Session.{Stage, Greets, BoundTo, Session, LIMIT, room, without_wait, shut_down, fed}
+use Rattle.kb_machine.specs.Session.{Stage, Greets, BoundTo, Session, LIMIT, room, without_wait, shut_down, fed, has_member, overruns}
 use Rattle.kb_machine.specs.Requests.{Another, Authenticate}
-use Rattle.kb_tenant.specs.Hosted.{Kept}
+use Rattle.kb_coordinator.specs.Calls as groups
+use Rattle.kb_service.specs.Hosted.{Kept, left}
 use Rattle.kb_machine.specs.Greeting.{Setup, greeted_by, logged_in, login}
-use Rattle.kb_machine.specs.Machine.{World, Line, first_able, turn, turns, again, work, served}
+use Rattle.kb_machine.specs.Machine.{World, Closes, Line, find_line, first_able, turn, turns, again, work, served, kept_without, kept_closed, kept_fed, step}
 use Rattle.kb_machine.specs.Owners.{whose}
 use Rattle.kb_machine.proofs.Laws.{work-turn, again-none}
 use Rattle.kb_machine.proofs.Owners.{stage-served}
@@ -47,3 +48,27 @@ settled_by (suc n) w (Some l) h p = let lt = work-turn w l h in settled_by n (tu
 pub turns-settled : (w : World) → first_able (turns w).lines ≡ None
 unfolding turns
 turns-settled w = settled_by (work w.lines) w (first_able w.lines) refl (omega arith)
+
+-- a connection is gone, on which a member waited or not
+gone-groups : (clock n : ℕ) (stage : Stage) (kept : Kept) → has_member stage ≡ true → (kept_without clock n stage kept).groups ≡ groups.left clock n kept.groups
+unfolding left
+gone-groups clock n stage kept waits = ap (λ (b : Bool). let k : Kept = cond b (left clock n kept) kept in k.groups) waits
+
+pub closed-groups : (n : ℕ) (s : Session) (w : World) → find_line n w.lines ≡ Some s → has_member s.stage ≡ true → (step (Closes n) w).kept.groups ≡ groups.left w.clock n w.kept.groups
+closed-groups n s w found waits = ap (λ o. (kept_closed w.clock n o w.kept).groups) found ∙ gone-groups w.clock n s.stage w.kept waits
+
+pub closed-others : (n : ℕ) (s : Session) (w : World) → find_line n w.lines ≡ Some s → has_member s.stage ≡ false → (step (Closes n) w).kept ≡ w.kept
+closed-others n s w found none = ap (λ o. kept_closed w.clock n o w.kept) found ∙ ap (λ (b : Bool). cond b (left w.clock n w.kept) w.kept) none
+
+pub overrun-groups : (n : ℕ) (piece : List ℕ) (s : Session) (w : World) → find_line n w.lines ≡ Some s → has_member s.stage ≡ true → overruns piece s ≡ true
+    → (fed piece s ≡ shut_down s) × ((kept_fed piece w.clock n (find_line n w.lines) w.kept).groups ≡ groups.left w.clock n w.kept.groups)
+unfolding fed
+overrun-groups n piece s w found waits over =
+    let open_still : s.shut ≡ false = grind (arith, over) in
+    let long : nat_lt (room s) (length piece) ≡ true = grind (arith, over) in (
+      ap (λ (b : Bool). cond b s (cond (nat_lt (room s) (length piece)) (shut_down s) (record s { unread = s.unread ++ piece }))) open_still
+          ∙ ap (λ (b : Bool). cond b (shut_down s) (record s { unread = s.unread ++ piece })) long,
+      ap (λ o. (kept_fed piece w.clock n o w.kept).groups) found
+          ∙ (ap (λ (b : Bool). let k : Kept = cond b (kept_without w.clock n s.stage w.kept) w.kept in k.groups) over
+          ∙ gone-groups w.clock n s.stage w.kept waits),
+    )

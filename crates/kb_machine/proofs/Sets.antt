@@ -4,8 +4,8 @@ use Rattle.std.specs.Prelude.{cond, map}
 use Rattle.std.specs.List.{AllByRecursion}
 use Rattle.std.proofs.lemmas.Bool.Decides.{nat_tests}
 use Rattle.kb_machine.specs.Session.{Session, can}
-use Rattle.kb_machine.specs.Machine.{Line, each, on, those, work, first_able}
-use Rattle.kb_machine.specs.Owners.{Pairwise, find_line}
+use Rattle.kb_machine.specs.Machine.{Line, each, on, those, work, first_able, find_line}
+use Rattle.kb_machine.specs.Owners.{Pairwise}
 use Rattle.kb_machine.specs.Broker.{Rising}
 use Rattle.kb_machine.proofs.Owners.{same_line, pairwise-same}
 

@@ -6,16 +6,16 @@ use Rattle.std.proofs.lemmas.Bool.Decides.{nat_tests}
 use Rattle.kb_api_group.specs.Frames.{front}
 use Rattle.kb_wire.specs.Codec.{int}
 use Rattle.kb_world.specs.Steps.{IsCalm}
-use Rattle.kb_tenant.specs.Hosted as hosted
-use Rattle.kb_tenant.specs.Hosted.{Kept, TenantState, AreRetained, world_at}
+use Rattle.kb_service.specs.Hosted as hosted
+use Rattle.kb_service.specs.Hosted.{Kept, TenantState, HavePassed, names_of, world_at}
 use Rattle.std.specs.Prelude.{Some}
 use Rattle.kb_tenant.specs.Replies.{Silent}
 use Rattle.kb_machine.proofs.Quiet.{still-silent}
 use Rattle.kb_tenant.proofs.Asked.{waits_at}
-use Rattle.kb_machine.specs.Tenant.{Wait, ready}
+use Rattle.kb_machine.specs.Tenant.{Wait, Awaited, Records, Group, is_past, ready, ready_for}
 use Rattle.kb_machine.specs.Session.{Stage, Greets, BoundTo, fresh, can}
 use Rattle.kb_machine.specs.Greeting.{Setup, User}
-use Rattle.kb_machine.specs.Machine.{Happening, Opens, Closes, Moment, Line, World, those, first_able, all_woken, turns, stepped}
+use Rattle.kb_machine.specs.Machine.{Happening, Opens, Closes, Moment, Line, World, those, find_line, first_able, all_woken, kept_closed, turns, stepped}
 use Rattle.kb_machine.specs.Owners.{Owns, Fits, whose, heard, destiny, unborn}
 use Rattle.kb_machine.specs.Broker.{BrokerState, InRange, Grows, IsSound, IsUnready, AreUnready, AnyWait, kept_of, IsStep, Rising, Mine, view_of}
 use Rattle.kb_machine.specs.Calls.{opened, closed, moved, other_than}
@@ -25,7 +25,8 @@ use Rattle.kb_machine.specs.declared.whom.Whom.TheVariants as whoms
 use Rattle.kb_machine.specs.Turned.{Everybody, Turned, Waked, IsPassedOver}
 use Rattle.kb_machine.proofs.Owners.{IsMine, heard-still}
 use Rattle.kb_machine.proofs.Parts.{calm-right, calm-first, calm-then, grows-then, length-names}
-use Rattle.kb_machine.proofs.Turns.{going-then}
+use Rattle.kb_machine.proofs.Leaving.{kept-closed, kept-unclosed, names-closed, refusals-closed, ready-closed}
+use Rattle.kb_machine.proofs.Turns.{going-then, unready-quiet}
 use Rattle.kb_machine.proofs.Wakes.{unready-view}
 use Rattle.kb_machine.proofs.Sets.{IsAt, all-map, all-those, all-push, rising-above, tail-at, no-at}
 
@@ -81,7 +82,7 @@ pub settled-opened : (b : BrokerState) (n : ℕ) → first_able b.lines ≡ None
 settled-opened b n settled = first-push b.lines (record { number = n; session = fresh }) settled can-fresh
 
 pub unready-opened : (b : BrokerState) (n : ℕ) → AreUnready AnyWait b → AreUnready AnyWait (opened b n)
-unready-opened b n unready = all-push (λ l. IsUnready AnyWait b l.session.stage) b.lines (record { number = n; session = fresh }) unready tt
+unready-opened b n unready = all-push (λ l. IsUnready AnyWait b l.number l.session.stage) b.lines (record { number = n; session = fresh }) unready tt
 
 view-opened : (w : World) (n : ℕ) (mine : ℕ → Bool) (yes : Bool) → mine n ≡ yes → with_lines w (w.lines ++ those mine (record { number = n; session = fresh } ∷ [])) ≡ stepped yes (Opens n) w
 view-opened w n mine true e = ap (λ (x : List Line). with_lines w (w.lines ++ x)) (grind (arith, e))
@@ -158,43 +159,64 @@ closes-others setup t n mine es (l ∷ ls) h = closes-others_by setup t n mine e
     closes-others_by setup t n mine es l ls true e p h = rw e h
     closes-others_by setup t n mine es l ls false e p h = let ne : eqb n l.number ≡ false = grind (arith, nat_tests) in rw e (subst (Fits t (mine l.number)) (ap (λ (b : Bool). cond b (whose (heard setup l.session).stage) (destiny setup l.number (heard setup l.session) es)) ne) p, h)
 
-view-closed : (w : World) (n : ℕ) (mine : ℕ → Bool) (ls : List Line) (yes : Bool) → w.lines ≡ those mine ls → mine n ≡ yes → with_lines w (those mine (those (other_than n) ls)) ≡ stepped yes (Closes n) w
-view-closed w n mine ls true f e = ap (with_lines w) (those-those mine (other_than n) ls ∙ ap (those (other_than n)) (sym f))
-view-closed w n mine ls false f e = ap (with_lines w) (those-without mine n ls e ∙ sym f)
+view-closed : (w : World) (n : ℕ) (mine : ℕ → Bool) (ls : List Line) (kept : Kept) (yes : Bool) → w.lines ≡ those mine ls → mine n ≡ yes → (yes ≡ true → kept ≡ kept_closed w.clock n (find_line n w.lines) w.kept) → (yes ≡ false → kept ≡ w.kept)
+    → record w { kept = kept; lines = those mine (those (other_than n) ls) } ≡ stepped yes (Closes n) w
+view-closed w n mine ls kept true f e own other =
+    ap (λ k. record w { kept = k; lines = those mine (those (other_than n) ls) }) (own refl)
+    ∙ ap (λ x. record w { kept = kept_closed w.clock n (find_line n w.lines) w.kept; lines = x }) (those-those mine (other_than n) ls ∙ ap (those (other_than n)) (sym f))
+view-closed w n mine ls kept false f e own other =
+    ap (λ k. record w { kept = k; lines = those mine (those (other_than n) ls) }) (other refl) ∙ ap (with_lines w) (those-without mine n ls e ∙ sym f)
+
+closed-grows : (b : BrokerState) (n : ℕ) → Grows b (closed b n)
+closed-grows b n = record {
+  setup = refl;
+  names = names-closed b.clock n (find_line n b.lines) b.tenants;
+  own = λ t. let e = refusals-closed b.clock n (find_line n b.lines) b.tenants t in omega (arith, e);
+  unbound = omega arith;
+}
 
 pub sound-closed : (b : BrokerState) (n : ℕ) → IsSound b → IsSound (closed b n)
-sound-closed b n s = record {
-  rising = rising-those 0 b.last (other_than n) b.lines s.rising;
-  in_range = all-those _ (other_than n) b.lines s.in_range;
-  users = s.users;
-  clock = s.clock;
-}
+sound-closed b n s =
+    let many = length-names b (closed b n) (closed-grows b n) in
+    record {
+      rising = rising-those 0 b.last (other_than n) b.lines s.rising;
+      in_range = subst (λ k. AllByRecursion (λ (l : Line). InRange k l.session.stage) (those (other_than n) b.lines)) (sym many) (all-those _ (other_than n) b.lines s.in_range);
+      users = subst (λ k. AllByRecursion (λ (u : User). u.tenant < k) b.setup.users) (sym many) s.users;
+      clock = s.clock;
+    }
 
 pub settled-closed : (b : BrokerState) (n : ℕ) → first_able b.lines ≡ None → first_able (closed b n).lines ≡ None
 settled-closed b n settled = none-those (other_than n) b.lines settled
 
 pub unready-closed : (b : BrokerState) (n : ℕ) → AreUnready AnyWait b → AreUnready AnyWait (closed b n)
-unready-closed b n unready = all-those (λ l. IsUnready AnyWait b l.session.stage) (other_than n) b.lines unready
+unready-closed b n unready =
+    let c = closed b n in
+    all-those (λ l. IsUnready AnyWait c l.number l.session.stage) (other_than n) b.lines
+    (all-map (λ l. IsUnready AnyWait b l.number l.session.stage) (λ l. IsUnready AnyWait c l.number l.session.stage)
+    (λ l. unready-quiet AnyWait b c refl (λ t k w silent. ready-closed b.clock n (find_line n b.lines) b.tenants t b.clock k w ∙ silent) l.number l.session.stage) b.lines unready)
 
 pub step-closed : (b : BrokerState) (n : ℕ) → IsStep (Closes n) b (closed b n)
 step-closed b n = record {
   last = omega arith;
-  grows = record { setup = refl; names = refl; own = λ t. omega arith; unbound = omega arith };
-  counted = record { own = λ t. refl; unbound = refl };
+  grows = closed-grows b n;
+  counted = record { own = λ t. refusals-closed b.clock n (find_line n b.lines) b.tenants t; unbound = refl };
   mine = λ t mine es m q. record { now = closes-others b.setup t n mine es b.lines m.now; later = m.later };
-  view = λ t mine es m q. view-closed (view_of t mine b) n mine b.lines (mine n) refl refl;
+  view = λ t mine es m q.
+      view-closed (view_of t mine b) n mine b.lines (hosted.kept_of (closed b n).tenants t) (mine n) refl refl
+      (λ yes. kept-closed b.setup t n b.clock mine (Closes n ∷ es) b.tenants b.lines m.now yes)
+      (λ no. kept-unclosed b.setup t n b.clock mine (Closes n ∷ es) b.tenants b.lines m.now no);
 }
 
 -- 3. A moment
 
--- the clock has moved, and retention has left the tenants this
+-- the clock has moved, and the moment has left the tenants this
 abbrev pub begun : BrokerState → ℕ → List TenantState → BrokerState
 begun b now ts = record (moved b now) { tenants = ts }
 
-pub begun-grows : (b : BrokerState) (now clock : ℕ) (H : Type 0) (ts : List TenantState) → AreRetained clock H b.tenants ts → Grows b (begun b now ts)
+pub begun-grows : (b : BrokerState) (now clock : ℕ) (H : Type 0) (ts : List TenantState) → HavePassed clock H b.tenants ts → Grows b (begun b now ts)
 begun-grows b now clock H ts r = record { setup = refl; names = r.names; own = r.grows; unbound = omega arith }
 
-pub sound-begun : (b : BrokerState) (now clock : ℕ) (H : Type 0) (ts : List TenantState) → IsSound b → AreRetained clock H b.tenants ts → max b.clock now ≤ 2 ^ 62 → IsSound (begun b now ts)
+pub sound-begun : (b : BrokerState) (now clock : ℕ) (H : Type 0) (ts : List TenantState) → IsSound b → HavePassed clock H b.tenants ts → max b.clock now ≤ 2 ^ 62 → IsSound (begun b now ts)
 sound-begun b now clock H ts s r le =
     let many = length-names b (begun b now ts) (begun-grows b now clock H ts r) in
     record {
@@ -204,35 +226,41 @@ sound-begun b now clock H ts s r le =
       clock = le;
     }
 
--- a fetch that was not ready is not before its deadline, as long as its tenant keeps the same
-later : (kept : Kept) (clock now : ℕ) (w : Wait) → ready kept clock w ≡ Silent → now < w.deadline → ready kept now w ≡ Silent
+-- a request that was not ready is not before its deadline, as long as its tenant keeps the same
+later : (kept : Kept) (clock now n : ℕ) (w : Wait) → ready kept clock n w ≡ Silent → is_past now w.awaited ≡ false → ready kept now n w ≡ Silent
 unfolding ready
-later kept clock now w e early = still-silent (world_at kept clock) (world_at kept now) w.deadline w.version w.body (λ r waits. (waits_at (world_at kept clock) r w.deadline waits now early).0) e
-
--- so where nothing was dropped only those can be ready after the clock moved whose deadline has come
-pub due-unready : (b : BrokerState) (now : ℕ) (ts : List TenantState) → ((t : ℕ) → hosted.kept_of ts t ≡ kept_of b t) → AreUnready AnyWait b → AreUnready (IsPassedOver whoms.Due (max b.clock now)) (begun b now ts)
-due-unready b now ts same r = all-map (λ l. IsUnready AnyWait b l.session.stage) (λ l. IsUnready (IsPassedOver whoms.Due (max b.clock now)) (begun b now ts) l.session.stage) (λ l. one l.session.stage) b.lines r
+later kept clock now n w e early = by w.awaited e early
   where
-    one : (st : Stage) → IsUnready AnyWait b st → IsUnready (IsPassedOver whoms.Due (max b.clock now)) (begun b now ts) st
-    one (Greets h) u = tt
-    one (BoundTo t None) u = tt
-    one (BoundTo t (Some w)) u = λ early. subst (λ k. ready k (max b.clock now) w ≡ Silent) (sym (same t)) (later (kept_of b t) b.clock (max b.clock now) w (u tt) (grind (arith, nat_tests, early)))
+    by : (x : Awaited) → ready_for kept clock n x ≡ Silent → is_past now x ≡ false → ready_for kept now n x ≡ Silent
+    by (Records version body deadline) h early =
+        let before : now < deadline = grind (arith, nat_tests, early) in
+        still-silent (world_at kept clock) (world_at kept now) deadline version body (λ r waits. (waits_at (world_at kept clock) r deadline waits now before).0) h
+    by Group h early = h
+
+-- so where nothing happened to the tenants only those can be ready after the clock moved whose deadline has come
+pub due-unready : (b : BrokerState) (now : ℕ) (ts : List TenantState) → ((t : ℕ) → hosted.kept_of ts t ≡ kept_of b t) → AreUnready AnyWait b → AreUnready (IsPassedOver whoms.Due (max b.clock now)) (begun b now ts)
+due-unready b now ts same r = all-map (λ l. IsUnready AnyWait b l.number l.session.stage) (λ l. IsUnready (IsPassedOver whoms.Due (max b.clock now)) (begun b now ts) l.number l.session.stage) (λ l. one l.number l.session.stage) b.lines r
+  where
+    one : (n : ℕ) (st : Stage) → IsUnready AnyWait b n st → IsUnready (IsPassedOver whoms.Due (max b.clock now)) (begun b now ts) n st
+    one n (Greets h) u = tt
+    one n (BoundTo t None) u = tt
+    one n (BoundTo t (Some w)) u = λ early. subst (λ k. ready k (max b.clock now) n w ≡ Silent) (sym (same t)) (later (kept_of b t) b.clock (max b.clock now) n w (u tt) early)
 
 -- where all are looked at none is passed over
 pub all-unready : (b : BrokerState) (clock : ℕ) → AreUnready (IsPassedOver whoms.All clock) b
 all-unready b clock = each b.lines
   where
-    one : (st : Stage) → IsUnready (IsPassedOver whoms.All clock) b st
-    one (Greets h) = tt
-    one (BoundTo t None) = tt
-    one (BoundTo t (Some w)) = λ over. absurd (cc)
+    one : (n : ℕ) (st : Stage) → IsUnready (IsPassedOver whoms.All clock) b n st
+    one n (Greets h) = tt
+    one n (BoundTo t None) = tt
+    one n (BoundTo t (Some w)) = λ over. absurd (cc)
 
-    each : (ls : List Line) → AllByRecursion (λ (l : Line). IsUnready (IsPassedOver whoms.All clock) b l.session.stage) ls
+    each : (ls : List Line) → AllByRecursion (λ (l : Line). IsUnready (IsPassedOver whoms.All clock) b l.number l.session.stage) ls
     each [] = tt
-    each (l ∷ ls) = (one l.session.stage, each ls)
+    each (l ∷ ls) = (one l.number l.session.stage, each ls)
 
--- then waiting fetches are looked at, and then there are turns until none is left
-pub step-moment : (now : ℕ) (whom : Whom) (a b c : BrokerState) (ts : List TenantState) (H : Type 0) → H → AreRetained (max a.clock now) H a.tenants ts → Waked whom (begun a now ts) b → AreUnready AnyWait b → Turned Everybody b c → first_able c.lines ≡ None → IsStep (Moment now) a c
+-- then waiting requests are looked at, and then there are turns until none is left
+pub step-moment : (now : ℕ) (whom : Whom) (a b c : BrokerState) (ts : List TenantState) (H : Type 0) → H → HavePassed (max a.clock now) H a.tenants ts → Waked whom (begun a now ts) b → AreUnready AnyWait b → Turned Everybody b c → first_able c.lines ≡ None → IsStep (Moment now) a c
 step-moment now whom a b c ts H honest r q unready t none =
     let start = begun a now ts in
     let f = begun-grows a now (max a.clock now) H ts r in

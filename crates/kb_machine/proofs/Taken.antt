@@ -32,11 +32,11 @@ range-taken n tenants (l ∷ ls) h = (by (eqb l.number n), range-taken n tenants
     by true = h.0
     by false = h.0
 
-each-unready : (n : ℕ) (b : BrokerState) (ls : List Line) → AllByRecursion (λ l. IsUnready AnyWait b l.session.stage) ls → AllByRecursion (λ l. IsUnready AnyWait b l.session.stage) (each (on n without_output) ls)
+each-unready : (n : ℕ) (b : BrokerState) (ls : List Line) → AllByRecursion (λ l. IsUnready AnyWait b l.number l.session.stage) ls → AllByRecursion (λ l. IsUnready AnyWait b l.number l.session.stage) (each (on n without_output) ls)
 each-unready n b [] h = tt
 each-unready n b (l ∷ ls) h = (by (eqb l.number n), each-unready n b ls h.1)
   where
-    by : (c : Bool) → IsUnready AnyWait b (cond c (without_output l.session) l.session).stage
+    by : (c : Bool) → IsUnready AnyWait b l.number (cond c (without_output l.session) l.session).stage
     by true = h.0
     by false = h.0
 

@@ -7,13 +7,14 @@ use Rattle.kb_tenant.specs.Replies.{framed, reply_size}
 use Rattle.kb_machine.specs.Requests.{Asked, Versions, OtherVersions, Handshake, Authenticate, Another, Unread, request}
 use Rattle.std.proofs.lemmas.Bool.Decides.{nat_tests}
 use Rattle.kb_world.specs.Steps.{IsCalm}
-use Rattle.kb_tenant.specs.Hosted as hosted
-use Rattle.kb_tenant.specs.Hosted.{TenantState, IsTurn}
+use Rattle.kb_service.specs.Hosted as hosted
+use Rattle.kb_service.specs.Hosted.{TenantState, IsTurn}
+use Rattle.kb_tenant.specs.Replies.{Silent}
 use Rattle.kb_machine.specs.Tenant.{Wait, ready}
 use Rattle.kb_machine.specs.Session.{Stage, Session, Greets, BoundTo, shut_down, replied, without_wait, is_free, can}
 use Rattle.kb_machine.specs.Greeting.{Setup, login, logged_in, shaken, greeted_by, greeted_at, greeted}
-use Rattle.kb_machine.specs.Machine.{Happening, Line, served, put, each, on, those, first_able, all_woken, turns}
-use Rattle.kb_machine.specs.Owners.{Owns, find_line, whose}
+use Rattle.kb_machine.specs.Machine.{Happening, Line, served, put, each, on, those, first_able, all_woken, turns, find_line}
+use Rattle.kb_machine.specs.Owners.{Owns, whose}
 use Rattle.kb_machine.specs.Broker.{BrokerState, IsSound, IsUnready, AreUnready, AnyWait, Grows, InRange, Mine, view_of, kept_of, refusals_of, bound_to, bound_as}
 use Rattle.kb_machine.specs.Turned.{Scope, Of, Everybody, HasTenant, InScope, IsStill, AreStill, IsCountedIn, IsGoing, is_resting, AreUntouched, Turned, Served}
 use Rattle.kb_machine.proofs.Owners.{IsBound, IsMine, SameFate, fate-same, fate-greeted, fate-bound, mine-bound, bound-same, owns-fates, those-on_other, view-greeting, view-served}
@@ -78,17 +79,17 @@ turned-then scope a b c p q =
 
 -- 2. Waits that are not ready
 
-pub free-unready : (P : ℕ → Wait → Type 0) (b : BrokerState) (st : Stage) → is_free st ≡ true → IsUnready P b st
-free-unready P b (Greets h) e = tt
-free-unready P b (BoundTo t None) e = tt
-free-unready P b (BoundTo t (Some w)) e = let no : false ≡ true = e in absurd (cc)
+pub free-unready : (P : ℕ → Wait → Type 0) (b : BrokerState) (n : ℕ) (st : Stage) → is_free st ≡ true → IsUnready P b n st
+free-unready P b n (Greets h) e = tt
+free-unready P b n (BoundTo t None) e = tt
+free-unready P b n (BoundTo t (Some w)) e = let no : false ≡ true = e in absurd (cc)
 
 pub free-without : (st : Stage) → is_free (without_wait st) ≡ true
 free-without (Greets h) = refl
 free-without (BoundTo t w) = refl
 
-pub shut-unready : (P : ℕ → Wait → Type 0) (b : BrokerState) (s : Session) → IsUnready P b (shut_down s).stage
-shut-unready P b s = free-unready P b (without_wait s.stage) (free-without s.stage)
+pub shut-unready : (P : ℕ → Wait → Type 0) (b : BrokerState) (n : ℕ) (s : Session) → IsUnready P b n (shut_down s).stage
+shut-unready P b n s = free-unready P b n (without_wait s.stage) (free-without s.stage)
 
 pub free-replied : (id : ℤ) (body : List ℕ) (s : Session) → is_free s.stage ≡ true → is_free (replied id body s).stage ≡ true
 unfolding replied
@@ -127,25 +128,35 @@ free-greeted setup h s free = by (front s.unread)
     by Partial = free
 
 -- a state in which the tenants keep the same at the same time
-pub unready-same : (P : ℕ → Wait → Type 0) (a b : BrokerState) (st : Stage) → b.clock ≡ a.clock → ((t : ℕ) → kept_of b t ≡ kept_of a t) → IsUnready P a st → IsUnready P b st
-unready-same P a b (Greets h) e kept u = tt
-unready-same P a b (BoundTo t None) e kept u = tt
-unready-same P a b (BoundTo t (Some w)) e kept u = λ p. ap (λ k. ready k b.clock w) (kept t) ∙ (ap (λ c. ready (kept_of a t) c w) e ∙ u p)
+pub unready-same : (P : ℕ → Wait → Type 0) (a b : BrokerState) (n : ℕ) (st : Stage) → b.clock ≡ a.clock → ((t : ℕ) → kept_of b t ≡ kept_of a t) → IsUnready P a n st → IsUnready P b n st
+unready-same P a b n (Greets h) e kept u = tt
+unready-same P a b n (BoundTo t None) e kept u = tt
+unready-same P a b n (BoundTo t (Some w)) e kept u = λ p. ap (λ k. ready k b.clock n w) (kept t) ∙ (ap (λ c. ready (kept_of a t) c n w) e ∙ u p)
+
+-- a state in which what was not ready is not ready, at the same time
+pub unready-quiet : (P : ℕ → Wait → Type 0) (a b : BrokerState) → b.clock ≡ a.clock → ((t n : ℕ) (w : Wait) → ready (kept_of a t) a.clock n w ≡ Silent → ready (kept_of b t) a.clock n w ≡ Silent) → (n : ℕ) (st : Stage) → IsUnready P a n st → IsUnready P b n st
+unready-quiet P a b e quiet n (Greets h) u = tt
+unready-quiet P a b e quiet n (BoundTo t None) u = tt
+unready-quiet P a b e quiet n (BoundTo t (Some w)) u = λ p. ap (λ c. ready (kept_of b t) c n w) e ∙ quiet t n w (u p)
 
 -- fewer waits pass
-pub weaken : (P Q : ℕ → Wait → Type 0) (b : BrokerState) → ((t : ℕ) (w : Wait) → Q t w → P t w) → (st : Stage) → IsUnready P b st → IsUnready Q b st
-weaken P Q b less (Greets h) u = tt
-weaken P Q b less (BoundTo t None) u = tt
-weaken P Q b less (BoundTo t (Some w)) u = λ q. u (less t w q)
+pub weaken : (P Q : ℕ → Wait → Type 0) (b : BrokerState) → ((t : ℕ) (w : Wait) → Q t w → P t w) → (n : ℕ) (st : Stage) → IsUnready P b n st → IsUnready Q b n st
+weaken P Q b less n (Greets h) u = tt
+weaken P Q b less n (BoundTo t None) u = tt
+weaken P Q b less n (BoundTo t (Some w)) u = λ q. u (less t w q)
 
 pub unready-weaken : (P Q : ℕ → Wait → Type 0) (b : BrokerState) → ((t : ℕ) (w : Wait) → Q t w → P t w) → AreUnready P b → AreUnready Q b
-unready-weaken P Q b less u = all-map (λ l. IsUnready P b l.session.stage) (λ l. IsUnready Q b l.session.stage) (λ l. weaken P Q b less l.session.stage) b.lines u
+unready-weaken P Q b less u = all-map (λ l. IsUnready P b l.number l.session.stage) (λ l. IsUnready Q b l.number l.session.stage) (λ l. weaken P Q b less l.number l.session.stage) b.lines u
 
--- another connection at a place, while the tenants keep the same
-pub changed-unready : (P : ℕ → Wait → Type 0) (b : BrokerState) (i : ℕ) (m : Line) (ps : List TenantState) (x : ℕ) → ((t : ℕ) → hosted.kept_of ps t ≡ kept_of b t) → AreUnready P b → IsUnready P b m.session.stage → AreUnready P (record b { lines = set b.lines i m; tenants = ps; unbound_refusals = x })
-changed-unready P b i m ps x stays u here =
+-- another connection at a place, while what was not ready is not ready
+pub changed-quiet : (P : ℕ → Wait → Type 0) (b : BrokerState) (i : ℕ) (m : Line) (ps : List TenantState) (x : ℕ) → ((t n : ℕ) (w : Wait) → ready (kept_of b t) b.clock n w ≡ Silent → ready (hosted.kept_of ps t) b.clock n w ≡ Silent) → AreUnready P b → IsUnready P b m.number m.session.stage → AreUnready P (record b { lines = set b.lines i m; tenants = ps; unbound_refusals = x })
+changed-quiet P b i m ps x quiet u here =
     let new = record b { lines = set b.lines i m; tenants = ps; unbound_refusals = x } in
-    all-map (λ l. IsUnready P b l.session.stage) (λ l. IsUnready P new l.session.stage) (λ l. unready-same P b new l.session.stage refl stays) (set b.lines i m) (all-set (λ l. IsUnready P b l.session.stage) b.lines i m u here)
+    all-map (λ l. IsUnready P b l.number l.session.stage) (λ l. IsUnready P new l.number l.session.stage) (λ l. unready-quiet P b new refl quiet l.number l.session.stage) (set b.lines i m) (all-set (λ l. IsUnready P b l.number l.session.stage) b.lines i m u here)
+
+-- or while the tenants keep the same
+pub changed-unready : (P : ℕ → Wait → Type 0) (b : BrokerState) (i : ℕ) (m : Line) (ps : List TenantState) (x : ℕ) → ((t : ℕ) → hosted.kept_of ps t ≡ kept_of b t) → AreUnready P b → IsUnready P b m.number m.session.stage → AreUnready P (record b { lines = set b.lines i m; tenants = ps; unbound_refusals = x })
+changed-unready P b i m ps x stays u here = changed-quiet P b i m ps x (λ t n w silent. ap (λ k. ready k b.clock n w) (stays t) ∙ silent) u here
 
 -- 3. Another connection at a place
 
@@ -274,7 +285,7 @@ turned-greeting scope b i l m h s still at able c g n e =
       still = turned-still scope b i l m b.tenants b.unbound_refusals going still (all-at (IsStill scope b) b.lines i l at still c) n stays;
       counted = counted-same scope b (changed b i m b.tenants b.unbound_refusals) (λ t. refl) refl;
       untouched = changed-untouched b i l m b.tenants b.unbound_refusals s at n (able-busy l.session c);
-      unready = λ u. changed-unready AnyWait b i m b.tenants b.unbound_refusals (λ t. refl) u (free-unready AnyWait b m.session.stage (ap (λ (x : Session). is_free x.stage) e ∙ free-greeted b.setup h l.session (ap is_free g)));
+      unready = λ u. changed-unready AnyWait b i m b.tenants b.unbound_refusals (λ t. refl) u (free-unready AnyWait b m.number m.session.stage (ap (λ (x : Session). is_free x.stage) e ∙ free-greeted b.setup h l.session (ap is_free g)));
       mine = λ t mine es k calm. owns-fates b.setup t mine b.last es b.lines (set b.lines i m) (pairwise-set (SameFate b.setup) (fate-same b.setup) b.lines i l m at (fate-greeted b.setup h l m g n e)) k;
       view = λ t mine es k calm.
           let w = view_of t mine b in
@@ -294,7 +305,7 @@ refused-greeting scope b i l m h x s still at c g n e up rises =
       still = turned-still scope b i l m b.tenants x going still inside n stays;
       counted = counted-unbound scope b i l m x s at inside none;
       untouched = changed-untouched b i l m b.tenants x s at n (able-busy l.session c);
-      unready = λ u. changed-unready AnyWait b i m b.tenants x (λ t. refl) u (subst (λ (y : Session). IsUnready AnyWait b y.stage) (sym e) (shut-unready AnyWait b l.session));
+      unready = λ u. changed-unready AnyWait b i m b.tenants x (λ t. refl) u (subst (λ (y : Session). IsUnready AnyWait b m.number y.stage) (sym e) (shut-unready AnyWait b m.number l.session));
       mine = λ t mine es k calm. absurd (rises calm);
       view = λ t mine es k calm. absurd (rises calm.unbound);
     }
@@ -341,17 +352,17 @@ called-others b i u l m H ts s at p n turn honest t mine es k ne =
 served-unready : (b : BrokerState) (i u : ℕ) (m : Line) (H : Type 0) (ts : List TenantState) → IsTurn u H b.tenants ts → H → IsBound u m.session → AreUnready AnyWait b → AreUnready (λ t w. t ≢ u) (changed b i m ts b.unbound_refusals)
 served-unready b i u m H ts turn honest q k =
     let new = changed b i m ts b.unbound_refusals in
-    all-set (λ l. IsUnready (λ t w. t ≢ u) new l.session.stage) b.lines i m (all-map (λ l. IsUnready AnyWait b l.session.stage) (λ l. IsUnready (λ t w. t ≢ u) new l.session.stage) (λ l. other b u new (λ t ne. turn.others honest t ne) l.session.stage) b.lines k)
-    (subst (IsUnready (λ t w. t ≢ u) new) (sym q.is) (own u new q.wait))
+    all-set (λ l. IsUnready (λ t w. t ≢ u) new l.number l.session.stage) b.lines i m (all-map (λ l. IsUnready AnyWait b l.number l.session.stage) (λ l. IsUnready (λ t w. t ≢ u) new l.number l.session.stage) (λ l. other b u new (λ t ne. turn.others honest t ne) l.number l.session.stage) b.lines k)
+    (subst (IsUnready (λ t w. t ≢ u) new m.number) (sym q.is) (own u new m.number q.wait))
   where
-    other : (b : BrokerState) (u : ℕ) (new : BrokerState) → ((t : ℕ) → t ≢ u → hosted.kept_of ts t ≡ kept_of b t) → (st : Stage) → IsUnready AnyWait b st → IsUnready (λ t w. t ≢ u) (changed b i m ts b.unbound_refusals) st
-    other b u new kept (Greets h) k = tt
-    other b u new kept (BoundTo t None) k = tt
-    other b u new kept (BoundTo t (Some w)) k = λ ne. ap (λ x. ready x b.clock w) (kept t ne) ∙ k tt
+    other : (b : BrokerState) (u : ℕ) (new : BrokerState) → ((t : ℕ) → t ≢ u → hosted.kept_of ts t ≡ kept_of b t) → (n : ℕ) (st : Stage) → IsUnready AnyWait b n st → IsUnready (λ t w. t ≢ u) (changed b i m ts b.unbound_refusals) n st
+    other b u new kept n (Greets h) k = tt
+    other b u new kept n (BoundTo t None) k = tt
+    other b u new kept n (BoundTo t (Some w)) k = λ ne. ap (λ x. ready x b.clock n w) (kept t ne) ∙ k tt
 
-    own : (u : ℕ) (new : BrokerState) (w : Option Wait) → IsUnready (λ t w. t ≢ u) new (BoundTo u w)
-    own u new None = tt
-    own u new (Some w) = λ ne. absurd (ne refl)
+    own : (u : ℕ) (new : BrokerState) (n : ℕ) (w : Option Wait) → IsUnready (λ t w. t ≢ u) new n (BoundTo u w)
+    own u new n None = tt
+    own u new n (Some w) = λ ne. absurd (ne refl)
 
 -- the turn of a bound connection, which is a call for its tenant: where nothing was refused to the tenant, it is the machine's
 pub served-bound : (scope : Scope) (b : BrokerState) (i u : ℕ) (l m : Line) (w : Option Wait) (H : Type 0) (ts : List TenantState) → IsSound b → AreStill scope b → IsAt b.lines i l → first_able b.lines ≡ Some l → can l.session ≡ true →

@@ -1,11 +1,11 @@
--- Waiting fetches that are looked at again.
+-- Waiting requests that are looked at again.
 use Rattle.std.proofs.Common.{◌≡◌, ◌≢◌, ℕ, ℤ, List, [], ◌∷◌, set, eqb, Bool, true, false, Option, Some, None, refl, sym, ◌∙◌, ap, subst, arith, inr}
 use Rattle.std.specs.Prelude.{cond, Result, Ok, Err}
 use Rattle.std.specs.List.{AllByRecursion}
 use Rattle.std.proofs.lemmas.Bool.Decides.{nat_tests}
 use Rattle.kb_world.specs.Steps.{IsCalm}
-use Rattle.kb_tenant.specs.Hosted as hosted
-use Rattle.kb_tenant.specs.Hosted.{Kept, TenantState, IsTurn, world_at}
+use Rattle.kb_service.specs.Hosted as hosted
+use Rattle.kb_service.specs.Hosted.{Kept, TenantState, IsTurn, world_at}
 use Rattle.kb_tenant.specs.Fetch.{fetch_answer}
 use Rattle.kb_tenant.specs.Serve.{looked, looked_at}
 use Rattle.kb_wire.specs.Codec.{whole}
@@ -15,7 +15,10 @@ use Rattle.kb_api_data.specs.declared.fetch.FetchRequest.{FetchRequest}
 use Rattle.kb_api_data.specs.declared.fetch.FetchReply.{FetchReply}
 use Rattle.kb_world.specs.declared.place.Place.{Place}
 use Rattle.kb_tenant.specs.Replies.{Reaction, Replies, Waits, Silent, Shuts}
-use Rattle.kb_machine.specs.Tenant.{Wait, ready}
+use Rattle.kb_groups.specs.declared.reply.Reply.{Reply}
+use Rattle.kb_coordinator.specs.Calls.{reply_to}
+use Rattle.kb_service.specs.Replies as service
+use Rattle.kb_machine.specs.Tenant.{Wait, Awaited, Records, Group, ready, ready_for}
 use Rattle.kb_machine.specs.Session.{Stage, Greets, BoundTo, Session, without_wait, is_free, shut_down}
 use Rattle.kb_machine.specs.Machine.{Happening, Line, told, woken_by, woken, each, on, those, all_woken, turns}
 use Rattle.kb_machine.specs.Owners.{whose}
@@ -31,34 +34,34 @@ use Rattle.kb_machine.proofs.Turns.{free-unready, free-without, free-replied, sh
 
 -- 1. A second look finds nothing new
 
-woken-free : (kept : Kept) (clock : ℕ) (s : Session) → is_free s.stage ≡ true → woken kept clock s ≡ s
+woken-free : (kept : Kept) (clock n : ℕ) (s : Session) → is_free s.stage ≡ true → woken kept clock n s ≡ s
 unfolding woken_by
-woken-free kept clock s free = by s.stage refl
+woken-free kept clock n s free = by s.stage refl
   where
-    by : (st : Stage) → s.stage ≡ st → woken_by kept clock s st ≡ s
+    by : (st : Stage) → s.stage ≡ st → woken_by kept clock n s st ≡ s
     by (Greets h) e = refl
     by (BoundTo u None) e = refl
     by (BoundTo u (Some w)) e = let no : false ≡ true = sym (ap is_free e) ∙ free in absurd (cc)
 
-told-twice : (kept : Kept) (clock : ℕ) (r : Reaction) (id : ℤ) (s : Session) → woken kept clock s ≡ told r id s → woken kept clock (told r id s) ≡ told r id s
-told-twice kept clock (Replies reply) id s e = woken-free kept clock (told (Replies reply) id s) (free-replied id reply (record s { stage = without_wait s.stage }) (free-without s.stage))
-told-twice kept clock (Waits deadline places) id s e = e
-told-twice kept clock Silent id s e = e
-told-twice kept clock Shuts id s e = woken-free kept clock (shut_down s) (free-without s.stage)
+told-twice : (kept : Kept) (clock n : ℕ) (r : Reaction) (id : ℤ) (s : Session) → woken kept clock n s ≡ told r id s → woken kept clock n (told r id s) ≡ told r id s
+told-twice kept clock n (Replies reply) id s e = woken-free kept clock n (told (Replies reply) id s) (free-replied id reply (record s { stage = without_wait s.stage }) (free-without s.stage))
+told-twice kept clock n (Waits deadline places) id s e = e
+told-twice kept clock n Silent id s e = e
+told-twice kept clock n Shuts id s e = woken-free kept clock n (shut_down s) (free-without s.stage)
 
-woken-at : (kept : Kept) (clock : ℕ) (s : Session) (u : ℕ) (w : Wait) → s.stage ≡ BoundTo u (Some w) → woken kept clock s ≡ told (ready kept clock w) w.correlation_id s
+woken-at : (kept : Kept) (clock n : ℕ) (s : Session) (u : ℕ) (w : Wait) → s.stage ≡ BoundTo u (Some w) → woken kept clock n s ≡ told (ready kept clock n w) w.correlation_id s
 unfolding woken_by
-woken-at kept clock s u w e = ap (woken_by kept clock s) e
+woken-at kept clock n s u w e = ap (woken_by kept clock n s) e
 
-pub woken-twice : (kept : Kept) (clock : ℕ) (s : Session) → woken kept clock (woken kept clock s) ≡ woken kept clock s
-woken-twice kept clock s = by kept clock s s.stage refl
+pub woken-twice : (kept : Kept) (clock n : ℕ) (s : Session) → woken kept clock n (woken kept clock n s) ≡ woken kept clock n s
+woken-twice kept clock n s = by kept clock s s.stage refl
   where
-    by : (kept : Kept) (clock : ℕ) (s : Session) (st : Stage) → s.stage ≡ st → woken kept clock (woken kept clock s) ≡ woken kept clock s
-    by kept clock s (Greets h) e = let same = woken-free kept clock s (ap is_free e) in ap (woken kept clock) same
-    by kept clock s (BoundTo u None) e = let same = woken-free kept clock s (ap is_free e) in ap (woken kept clock) same
+    by : (kept : Kept) (clock : ℕ) (s : Session) (st : Stage) → s.stage ≡ st → woken kept clock n (woken kept clock n s) ≡ woken kept clock n s
+    by kept clock s (Greets h) e = let same = woken-free kept clock n s (ap is_free e) in ap (woken kept clock n) same
+    by kept clock s (BoundTo u None) e = let same = woken-free kept clock n s (ap is_free e) in ap (woken kept clock n) same
     by kept clock s (BoundTo u (Some w)) e =
-        let is = woken-at kept clock s u w e in
-        ap (woken kept clock) is ∙ (told-twice kept clock (ready kept clock w) w.correlation_id s is ∙ sym is)
+        let is = woken-at kept clock n s u w e in
+        ap (woken kept clock n) is ∙ (told-twice kept clock n (ready kept clock n w) w.correlation_id s is ∙ sym is)
 
 -- 2. Looks, one after another
 
@@ -102,19 +105,21 @@ unconcerned whom t u concerned never = λ e. never (subst (Concerns whom) (sym e
 busy : (u : ℕ) (w : Wait) (s : Session) → s.stage ≡ BoundTo u (Some w) → is_resting (Some s) ≡ false
 busy u w s e = let f : is_free s.stage ≡ false = ap is_free e in grind (arith, f)
 
-each-again : (kept : Kept) (clock n : ℕ) (ls : List Line) → each (λ k s. woken kept clock s) (each (on n (woken kept clock)) ls) ≡ each (λ k s. woken kept clock s) ls
+each-again : (kept : Kept) (clock n : ℕ) (ls : List Line) → each (λ k s. woken kept clock k s) (each (on n (woken kept clock n)) ls) ≡ each (λ k s. woken kept clock k s) ls
 each-again kept clock n [] = refl
-each-again kept clock n (l ∷ ls) = by (eqb l.number n) (each-again kept clock n ls)
+each-again kept clock n (l ∷ ls) = by (eqb l.number n) refl (each-again kept clock n ls)
   where
-    by : (b : Bool) → each (λ k s. woken kept clock s) (each (on n (woken kept clock)) ls) ≡ each (λ k s. woken kept clock s) ls →
-        (let x : Line = record { number = l.number; session = woken kept clock (cond b (woken kept clock l.session) l.session) } in x) ∷ each (λ k s. woken kept clock s) (each (on n (woken kept clock)) ls) ≡ (let x : Line = record { number = l.number; session = woken kept clock l.session } in x) ∷ each (λ k s. woken kept clock s) ls
-    by true rest = let twice = woken-twice kept clock l.session in ap (λ s. (let x : Line = record { number = l.number; session = s } in x) ∷ each (λ k s. woken kept clock s) (each (on n (woken kept clock)) ls)) twice ∙ ap (λ xs. (let x : Line = record { number = l.number; session = woken kept clock l.session } in x) ∷ xs) rest
-    by false rest = ap (λ xs. (let x : Line = record { number = l.number; session = woken kept clock l.session } in x) ∷ xs) rest
+    by : (b : Bool) → eqb l.number n ≡ b → each (λ k s. woken kept clock k s) (each (on n (woken kept clock n)) ls) ≡ each (λ k s. woken kept clock k s) ls →
+        (let x : Line = record { number = l.number; session = woken kept clock l.number (cond b (woken kept clock n l.session) l.session) } in x) ∷ each (λ k s. woken kept clock k s) (each (on n (woken kept clock n)) ls) ≡ (let x : Line = record { number = l.number; session = woken kept clock l.number l.session } in x) ∷ each (λ k s. woken kept clock k s) ls
+    by true e rest =
+        let twice = ap (λ k. woken kept clock l.number (woken kept clock k l.session)) (sym (eqb_same l.number n e)) ∙ woken-twice kept clock l.number l.session in
+        ap (λ s. (let x : Line = record { number = l.number; session = s } in x) ∷ each (λ k s. woken kept clock k s) (each (on n (woken kept clock n)) ls)) twice ∙ ap (λ xs. (let x : Line = record { number = l.number; session = woken kept clock l.number l.session } in x) ∷ xs) rest
+    by false e rest = ap (λ xs. (let x : Line = record { number = l.number; session = woken kept clock l.number l.session } in x) ∷ xs) rest
 
 -- a waiting connection of a concerned tenant was looked at
 pub waked-line : (whom : Whom) (b : BrokerState) (i u : ℕ) (l m : Line) (w : Wait) (H : Type 0) (ts : List TenantState) → IsSound b → IsAt b.lines i l → l.session.stage ≡ BoundTo u (Some w) → Concerns whom u →
     m.number ≡ l.number → without_wait m.session.stage ≡ without_wait l.session.stage → IsTurn u H b.tenants ts → H → ((t : ℕ) → hosted.kept_of ts t ≡ kept_of b t) →
-    (IsCalm (count b.tenants u) (count ts u) → m.session ≡ woken (kept_of b u) b.clock l.session) →
+    (IsCalm (count b.tenants u) (count ts u) → m.session ≡ woken (kept_of b u) b.clock l.number l.session) →
     Waked whom b (changed b i m ts b.unbound_refusals)
 waked-line whom b i u l m w H ts s at g concerned n same turn honest stays meets =
     let p : IsBound u l.session = record { wait = Some w; is = g } in
@@ -137,10 +142,10 @@ waked-line whom b i u l m w H ts s at g concerned n same turn honest stays meets
     }
   where
     own : (b : BrokerState) (i u : ℕ) (l m : Line) (ts : List TenantState) → IsSound b → IsAt b.lines i l → m.number ≡ l.number → (mine : ℕ → Bool) →
-        m.session ≡ woken (kept_of b u) b.clock l.session → hosted.kept_of ts u ≡ kept_of b u → all_woken (view_of u mine (changed b i m ts b.unbound_refusals)) ≡ all_woken (view_of u mine b)
+        m.session ≡ woken (kept_of b u) b.clock l.number l.session → hosted.kept_of ts u ≡ kept_of b u → all_woken (view_of u mine (changed b i m ts b.unbound_refusals)) ≡ all_woken (view_of u mine b)
     own b i u l m ts s at n mine done same =
         let x = view_of u mine b in
-        let g = woken (kept_of b u) b.clock in
+        let g = woken (kept_of b u) b.clock l.number in
         let lines : set b.lines i m ≡ each (on l.number g) b.lines = set-on 0 b.last g b.lines i l m s.rising at n done in
         let cut : those mine (set b.lines i m) ≡ each (on l.number g) (those mine b.lines) = ap (those mine) lines ∙ those-each mine (on l.number g) b.lines in
         ap (λ k. all_woken (record x { kept = k; lines = those mine (set b.lines i m) })) same
@@ -150,46 +155,54 @@ waked-line whom b i u l m w H ts s at g concerned n same turn honest stays meets
 -- 4. What was looked at is not ready
 
 -- a look never comes to a wait
-never-waits : (kept : Kept) (clock : ℕ) (w : Wait) (deadline : ℕ) (places : List Place) → ready kept clock w ≡ Waits deadline places → ⊥
+never-waits : (kept : Kept) (clock n : ℕ) (w : Wait) (deadline : ℕ) (places : List Place) → ready kept clock n w ≡ Waits deadline places → ⊥
 unfolding ready looked
-never-waits kept clock w deadline places e = by (whole fetch_request w.body) e
+never-waits kept clock n w deadline places e = for w.awaited e
   where
     answers : (o : Option FetchReply) → elim o [ Some reply ↦ Replies (fetch_reply.written reply) | None ↦ Silent ] ≡ Waits deadline places → ⊥
     answers (Some reply) h = absurd (cc)
     answers None h = absurd (cc)
 
-    by : (r : Result FetchRequest WireFault) → looked_at (world_at kept clock) w.deadline r ≡ Waits deadline places → ⊥
-    by (Ok r) h = answers (fetch_answer (world_at kept clock) r w.deadline) h
-    by (Err fault) h = absurd (cc)
+    by : (until : ℕ) (r : Result FetchRequest WireFault) → looked_at (world_at kept clock) until r ≡ Waits deadline places → ⊥
+    by until (Ok r) h = answers (fetch_answer (world_at kept clock) r until) h
+    by until (Err fault) h = absurd (cc)
+
+    tells : (o : Option Reply) → service.told o ≡ Waits deadline places → ⊥
+    tells (Some reply) h = absurd (cc)
+    tells None h = absurd (cc)
+
+    for : (x : Awaited) → ready_for kept clock n x ≡ Waits deadline places → ⊥
+    for (Records version body until) h = by until (whole fetch_request body) h
+    for Group h = tells (reply_to n kept.groups) h
 
 -- what is left of a connection after a look waits no longer, or is not ready
-pub unready-woken : (P : ℕ → Wait → Type 0) (b : BrokerState) (s : Session) (u : ℕ) (w : Wait) → s.stage ≡ BoundTo u (Some w) → IsUnready P b (woken (kept_of b u) b.clock s).stage
-unready-woken P b s u w e = subst (λ (x : Session). IsUnready P b x.stage) (sym (woken-at (kept_of b u) b.clock s u w e)) (by (ready (kept_of b u) b.clock w) refl)
+pub unready-woken : (P : ℕ → Wait → Type 0) (b : BrokerState) (n : ℕ) (s : Session) (u : ℕ) (w : Wait) → s.stage ≡ BoundTo u (Some w) → IsUnready P b n (woken (kept_of b u) b.clock n s).stage
+unready-woken P b n s u w e = subst (λ (x : Session). IsUnready P b n x.stage) (sym (woken-at (kept_of b u) b.clock n s u w e)) (by (ready (kept_of b u) b.clock n w) refl)
   where
-    by : (r : Reaction) → ready (kept_of b u) b.clock w ≡ r → IsUnready P b (told r w.correlation_id s).stage
-    by (Replies reply) f = free-unready P b (told (Replies reply) w.correlation_id s).stage (free-replied w.correlation_id reply (record s { stage = without_wait s.stage }) (free-without s.stage))
-    by (Waits deadline places) f = absurd (never-waits (kept_of b u) b.clock w deadline places f)
-    by Silent f = subst (IsUnready P b) (sym e) (λ p. f)
-    by Shuts f = shut-unready P b s
+    by : (r : Reaction) → ready (kept_of b u) b.clock n w ≡ r → IsUnready P b n (told r w.correlation_id s).stage
+    by (Replies reply) f = free-unready P b n (told (Replies reply) w.correlation_id s).stage (free-replied w.correlation_id reply (record s { stage = without_wait s.stage }) (free-without s.stage))
+    by (Waits deadline places) f = absurd (never-waits (kept_of b u) b.clock n w deadline places f)
+    by Silent f = subst (IsUnready P b n) (sym e) (λ p. f)
+    by Shuts f = shut-unready P b n s
 
 -- of the tenant's connections none is ready
-each-unready : (P : ℕ → Wait → Type 0) (b : BrokerState) (t : ℕ) (mine : ℕ → Bool) (es : List Happening) → ((w : Wait) → P t w) → (ls : List Line) → AllByRecursion (IsMine b.setup t mine es) ls → AllByRecursion (λ (l : Line). IsUnready P b l.session.stage) ls →
-    each (λ k s. woken (kept_of b t) b.clock s) (those mine ls) ≡ those mine ls
+each-unready : (P : ℕ → Wait → Type 0) (b : BrokerState) (t : ℕ) (mine : ℕ → Bool) (es : List Happening) → ((w : Wait) → P t w) → (ls : List Line) → AllByRecursion (IsMine b.setup t mine es) ls → AllByRecursion (λ (l : Line). IsUnready P b l.number l.session.stage) ls →
+    each (λ k s. woken (kept_of b t) b.clock k s) (those mine ls) ≡ those mine ls
 each-unready P b t mine es passes [] m h = refl
 each-unready P b t mine es passes (l ∷ ls) m h = by (mine l.number) refl (each-unready P b t mine es passes ls m.1 h.1)
   where
-    at : (st : Stage) → l.session.stage ≡ st → mine l.number ≡ true → woken (kept_of b t) b.clock l.session ≡ l.session
-    at (Greets g) e among = woken-free (kept_of b t) b.clock l.session (ap is_free e)
-    at (BoundTo u None) e among = woken-free (kept_of b t) b.clock l.session (ap is_free e)
+    at : (st : Stage) → l.session.stage ≡ st → mine l.number ≡ true → woken (kept_of b t) b.clock l.number l.session ≡ l.session
+    at (Greets g) e among = woken-free (kept_of b t) b.clock l.number l.session (ap is_free e)
+    at (BoundTo u None) e among = woken-free (kept_of b t) b.clock l.number l.session (ap is_free e)
     at (BoundTo u (Some w)) e among =
         let is : mine l.number ≡ eqb u t = mine-bound b.setup t mine es l u (record { wait = Some w; is = e }) m.0 in
         let same : u ≡ t = eqb_same u t (sym is ∙ among) in
-        let silent : ready (kept_of b t) b.clock w ≡ Silent = subst (λ v. P v w → ready (kept_of b v) b.clock w ≡ Silent) same (subst (IsUnready P b) e h.0) (passes w) in
-        woken-at (kept_of b t) b.clock l.session u w e ∙ ap (λ r. told r w.correlation_id l.session) silent
+        let silent : ready (kept_of b t) b.clock l.number w ≡ Silent = subst (λ v. P v w → ready (kept_of b v) b.clock l.number w ≡ Silent) same (subst (IsUnready P b l.number) e h.0) (passes w) in
+        woken-at (kept_of b t) b.clock l.number l.session u w e ∙ ap (λ r. told r w.correlation_id l.session) silent
 
-    by : (c : Bool) → mine l.number ≡ c → each (λ k s. woken (kept_of b t) b.clock s) (those mine ls) ≡ those mine ls → each (λ k s. woken (kept_of b t) b.clock s) (cond c (l ∷ those mine ls) (those mine ls)) ≡ cond c (l ∷ those mine ls) (those mine ls)
+    by : (c : Bool) → mine l.number ≡ c → each (λ k s. woken (kept_of b t) b.clock k s) (those mine ls) ≡ those mine ls → each (λ k s. woken (kept_of b t) b.clock k s) (cond c (l ∷ those mine ls) (those mine ls)) ≡ cond c (l ∷ those mine ls) (those mine ls)
     by false e rest = rest
-    by true e rest = ap (λ s. (let x : Line = record { number = l.number; session = s } in x) ∷ each (λ k s. woken (kept_of b t) b.clock s) (those mine ls)) (at l.session.stage refl e) ∙ ap (λ xs. l ∷ xs) rest
+    by true e rest = ap (λ s. (let x : Line = record { number = l.number; session = s } in x) ∷ each (λ k s. woken (kept_of b t) b.clock k s) (those mine ls)) (at l.session.stage refl e) ∙ ap (λ xs. l ∷ xs) rest
 
 -- then no look finds anything new
 pub unready-view : (P : ℕ → Wait → Type 0) (b : BrokerState) (t : ℕ) (mine : ℕ → Bool) (es : List Happening) → AreUnready P b → ((w : Wait) → P t w) → Mine t mine es b → all_woken (view_of t mine b) ≡ view_of t mine b

@@ -2,14 +2,14 @@
 use Rattle.std.specs.Prelude.{◌≡◌, ◌≢◌, ℕ, ◌<◌, ◌≤◌, ◌^◌, ◌==◌, List, [], ◌∷◌, length, Option, Some, None, Bool, true, ⊤, ◌⊎◌}
 use Rattle.std.specs.List.{AllByRecursion}
 use Rattle.kb_world.specs.Steps.{IsCalm}
-use Rattle.kb_tenant.specs.Hosted as hosted
-use Rattle.kb_tenant.specs.Hosted.{Kept, TenantState, names_of}
+use Rattle.kb_service.specs.Hosted as hosted
+use Rattle.kb_service.specs.Hosted.{Kept, TenantState, names_of}
 use Rattle.kb_tenant.specs.Replies.{Silent}
 use Rattle.kb_machine.specs.Tenant.{Wait, ready}
 use Rattle.kb_machine.specs.Session.{Stage, Greets, BoundTo, Session}
 use Rattle.kb_machine.specs.Greeting.{Setup, User}
-use Rattle.kb_machine.specs.Machine.{Happening, Opens, Comes, Closes, Moment, Line, World, Sent, those, first_able, stepped, run}
-use Rattle.kb_machine.specs.Owners.{Owns, concerns, purge, owner, owned, find_line, whose}
+use Rattle.kb_machine.specs.Machine.{Happening, Opens, Comes, Closes, Moment, Line, World, Sent, those, first_able, stepped, run, find_line}
+use Rattle.kb_machine.specs.Owners.{Owns, concerns, purge, owner, owned, whose}
 
 -- the broker: what is fixed, the tenants in byte order of names, the refusals that were counted for no tenant, the clock,
 -- the greatest number that a connection has had, and the open connections by rising number
@@ -102,19 +102,19 @@ pub record IsSound (b : BrokerState) : Type 0 where
   pub users : AllByRecursion (λ (u : User). u.tenant < length b.tenants) b.setup.users
   pub clock : b.clock ≤ 2 ^ 62
 
--- at that stage nothing waits that is ready, among the waits of a tenant that pass
-abbrev pub IsUnready : (ℕ → Wait → Type 0) → BrokerState → Stage → Type 0
-IsUnready P b (Greets handshaken) = ⊤
-IsUnready P b (BoundTo tenant None) = ⊤
-IsUnready P b (BoundTo tenant (Some wait)) = P tenant wait → ready (kept_of b tenant) b.clock wait ≡ Silent
+-- on the connection of number n, at that stage, nothing waits that is ready, among the waits of a tenant that pass
+abbrev pub IsUnready : (ℕ → Wait → Type 0) → BrokerState → ℕ → Stage → Type 0
+IsUnready P b n (Greets handshaken) = ⊤
+IsUnready P b n (BoundTo tenant None) = ⊤
+IsUnready P b n (BoundTo tenant (Some wait)) = P tenant wait → ready (kept_of b tenant) b.clock n wait ≡ Silent
 
 abbrev pub AreUnready : (ℕ → Wait → Type 0) → BrokerState → Type 0
-AreUnready P b = AllByRecursion (λ l. IsUnready P b l.session.stage) b.lines
+AreUnready P b = AllByRecursion (λ l. IsUnready P b l.number l.session.stage) b.lines
 
 abbrev pub AnyWait : ℕ → Wait → Type 0
 AnyWait tenant wait = ⊤
 
--- and no connection can take a turn, and no fetch that waits is ready
+-- and no connection can take a turn, and no request that waits is ready
 pub record IsReady (b : BrokerState) : Type 0 where
   pub sound : IsSound b
   pub settled : first_able b.lines ≡ None

@@ -1,10 +1,9 @@
 -- What the broker's calls answer, and the state that they leave.
-use Rattle.std.specs.Prelude.{◌≡◌, ℕ, ◌≤◌, ◌==◌, ◌&&◌, List, [], ◌∷◌, ◌++◌, max, Bool, true, false, not, Option, Some, None}
-use Rattle.kb_machine.specs.Session.{Session, fresh, room}
-use Rattle.kb_machine.specs.Machine.{each, on, those}
-use Rattle.kb_machine.specs.Owners.{find_line}
+use Rattle.std.specs.Prelude.{◌≡◌, ℕ, ◌≤◌, ◌==◌, ◌&&◌, List, [], ◌∷◌, ◌++◌, max, Bool, true, false, not, if◌then◌else◌, Option, Some, None}
+use Rattle.kb_machine.specs.Session.{Stage, Greets, BoundTo, Session, fresh, room, has_member}
+use Rattle.kb_machine.specs.Machine.{each, on, those, find_line}
 use Rattle.kb_world.specs.Steps.{IsCalm}
-use Rattle.kb_tenant.specs.Hosted.{count_named, all_calm}
+use Rattle.kb_service.specs.Hosted.{TenantState, kept_of, with_kept, left, count_named, all_calm}
 use Rattle.kb_machine.specs.Broker.{BrokerState}
 
 -- 1. The state that a call leaves
@@ -22,9 +21,18 @@ pub record IsRefused (old new : BrokerState) : Type 0 where
 abbrev pub other_than : ℕ → ℕ → Bool
 other_than n k = not (k == n)
 
+abbrev pub left_by : ℕ → ℕ → Stage → List TenantState → List TenantState
+left_by clock n (Greets handshaken) ts = ts
+left_by clock n (BoundTo t wait) ts = if has_member (BoundTo t wait) then with_kept t (left clock n (kept_of ts t)) ts else ts
+
+-- the tenants once the connection of number n is gone: a member that waited on it waits no longer
+abbrev pub left_in : ℕ → ℕ → Option Session → List TenantState → List TenantState
+left_in clock n None ts = ts
+left_in clock n (Some s) ts = left_by clock n s.stage ts
+
 -- after a connection closed
 abbrev pub closed : BrokerState → ℕ → BrokerState
-closed b n = record b { lines = those (other_than n) b.lines }
+closed b n = record b { tenants = left_in b.clock n (find_line n b.lines) b.tenants; lines = those (other_than n) b.lines }
 
 -- after a moment
 abbrev pub moved : BrokerState → ℕ → BrokerState

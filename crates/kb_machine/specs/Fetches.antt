@@ -7,11 +7,11 @@ use Rattle.kb_api_data.specs.Layouts.{fetch_request}
 use Rattle.kb_api_data.specs.declared.fetch.FetchRequest.{FetchRequest}
 use Rattle.kb_world.specs.World as tenants
 use Rattle.kb_tenant.specs.Batches.{HoldsBatches}
-use Rattle.kb_tenant.specs.Hosted.{retained, world_at}
+use Rattle.kb_service.specs.Hosted.{passed, world_at}
 use Rattle.kb_machine.specs.Requests.{Another, request}
-use Rattle.kb_machine.specs.Tenant.{Wait}
+use Rattle.kb_machine.specs.Tenant.{Records}
 use Rattle.kb_machine.specs.Session.{Stage, Greets, BoundTo, Session, fed, replied, without_wait}
-use Rattle.kb_machine.specs.Machine.{Happening, Opens, Comes, Closes, Moment, Line, World, served, put, woken, each, on, first_able, all_woken, turn, work, step}
+use Rattle.kb_machine.specs.Machine.{Happening, Opens, Comes, Closes, Moment, Line, World, served, put, woken, kept_fed, find_line, each, on, first_able, all_woken, turn, work, step}
 
 -- it got a reply that holds such batches, or no reply
 abbrev pub GetsBatches : tenants.World → FetchRequest → ℤ → Session → Session → Type 0
@@ -25,15 +25,15 @@ ServesBatches w n s = (frame rest : List ℕ) (version : ℤ) (body : List ℕ) 
     → front s.unread ≡ Whole frame rest → (request frame).asked ≡ Another (pos 1) version body → whole fetch_request body ≡ Ok fetch
     → GetsBatches (world_at w.kept w.clock) fetch (request frame).correlation_id (record s { unread = rest }) (served w.setup w.kept w.clock n s)
 
--- where a connection waits for a fetch that is looked at, it gets such batches
-abbrev pub WakesWithBatches : World → Session → Type 0
-WakesWithBatches w s = (tenant : ℕ) (wait : Wait) (fetch : FetchRequest)
-    → s.stage ≡ BoundTo tenant (Some wait) → whole fetch_request wait.body ≡ Ok fetch
-    → GetsBatches (world_at w.kept w.clock) fetch wait.correlation_id (record s { stage = without_wait s.stage }) (woken w.kept w.clock s)
+-- where a fetch waits on a connection, of number n, that is looked at, the connection gets such batches
+abbrev pub WakesWithBatches : World → ℕ → Session → Type 0
+WakesWithBatches w n s = (tenant : ℕ) (id version : ℤ) (body : List ℕ) (deadline : ℕ) (fetch : FetchRequest)
+    → s.stage ≡ BoundTo tenant (Some (record { correlation_id = id; awaited = Records version body deadline })) → whole fetch_request body ≡ Ok fetch
+    → GetsBatches (world_at w.kept w.clock) fetch id (record s { stage = without_wait s.stage }) (woken w.kept w.clock n s)
 
 -- so does each that waits
 abbrev pub AllWakeWithBatches : World → Type 0
-AllWakeWithBatches w = AllByRecursion (λ (l : Line). WakesWithBatches w l.session) w.lines
+AllWakeWithBatches w = AllByRecursion (λ (l : Line). WakesWithBatches w l.number l.session) w.lines
 
 -- 2. A whole run
 
@@ -61,11 +61,11 @@ AllTurnsGiveBatches w = TurnsGiveBatches (work w.lines) w
 
 abbrev pub EventGivesBatches : Happening → World → Type 0
 EventGivesBatches (Opens n) w = ⊤
-EventGivesBatches (Comes n piece) w = AllTurnsGiveBatches (record w { lines = each (on n (fed piece)) w.lines })
+EventGivesBatches (Comes n piece) w = AllTurnsGiveBatches (record w { kept = kept_fed piece w.clock n (find_line n w.lines) w.kept; lines = each (on n (fed piece)) w.lines })
 EventGivesBatches (Closes n) w = ⊤
 EventGivesBatches (Moment now) w =
     let clock = max w.clock now in
-    let after = record w { kept = retained clock w.kept; clock = clock } in
+    let after = record w { kept = passed clock w.kept; clock = clock } in
     AllWakeWithBatches after × AllTurnsGiveBatches (all_woken after)
 
 -- In a run of the machine by these events each reply to a fetch, at once or after a wait, holds whole batches of each partition that it

@@ -2,8 +2,8 @@
 use Rattle.std.specs.Prelude.{ℕ, ◌==◌, List, [], ◌∷◌, if◌then◌else◌, Option, Some, None}
 use Rattle.kb_machine.specs.Session.{Session, fresh, fed}
 use Rattle.kb_machine.specs.Greeting.{Setup}
-use Rattle.kb_machine.specs.Machine.{Happening, Opens, Comes, Closes, Moment, Sent}
-use Rattle.kb_machine.specs.Owners.{heard, find_line}
+use Rattle.kb_machine.specs.Machine.{Happening, Opens, Comes, Closes, Moment, Sent, find_line}
+use Rattle.kb_machine.specs.Owners.{heard}
 use Rattle.kb_machine.specs.Broker.{BrokerState}
 
 -- the pieces that come on a connection until it closes

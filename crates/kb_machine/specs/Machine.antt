@@ -2,11 +2,13 @@
 use Rattle.std.specs.Prelude.{ℕ, zero, suc, ◌+◌, ◌==◌, ℤ, List, [], ◌∷◌, ◌++◌, length, map, filter, Bool, true, false, not, if◌then◌else◌, Option, Some, None, nat_lt, max}
 use Rattle.kb_api_group.specs.Frames.{Front, Whole, Partial, TooSmall, TooLarge, front}
 use Rattle.kb_api_group.specs.declared.error_code.ErrorCode.TheVariants as errors
-use Rattle.kb_tenant.specs.Hosted.{Kept, retained}
-use Rattle.kb_tenant.specs.Replies.{Reaction, Replies, Waits, Silent, Shuts}
+use Rattle.kb_tenant.specs.Replies as tenant
+use Rattle.kb_tenant.specs.Replies.{Replies, Waits, Silent, Shuts}
+use Rattle.kb_service.specs.Hosted.{Kept, left, passed}
+use Rattle.kb_service.specs.Replies.{Reaction, Plain, Rebalances}
 use Rattle.kb_machine.specs.Requests.{Asked, Versions, OtherVersions, Handshake, Authenticate, Another, Unread, request}
-use Rattle.kb_machine.specs.Tenant.{kept_after, answer, ready}
-use Rattle.kb_machine.specs.Session.{Stage, Greets, BoundTo, Session, fresh, without_wait, waiting, shut_down, fed, replied, can}
+use Rattle.kb_machine.specs.Tenant.{Records, Group, kept_after, answer, ready}
+use Rattle.kb_machine.specs.Session.{Stage, Greets, BoundTo, Session, fresh, without_wait, waiting, shut_down, overruns, fed, replied, has_member, can}
 use Rattle.kb_machine.specs.Greeting.{Setup, greeted, versions_reply, handshake_reply, illegal_state}
 
 -- a connection: its number and what it has
@@ -30,12 +32,17 @@ pub data Happening : Type 0 where
 
 -- 1. Requests of a bound connection
 
+-- what a request of that version and body comes to that waits for no group
+abbrev pub plainly : tenant.Reaction → ℤ → ℤ → List ℕ → Session → Session
+plainly (Replies reply) id version body s = replied id reply s
+plainly (Waits deadline places) id version body s = record s { stage = waiting (record { correlation_id = id; awaited = Records version body deadline }) s.stage }
+plainly Silent id version body s = s
+plainly Shuts id version body s = shut_down s
+
 -- what a request of that version and body comes to
 abbrev pub answered : Reaction → ℤ → ℤ → List ℕ → Session → Session
-answered (Replies reply) id version body s = replied id reply s
-answered (Waits deadline places) id version body s = record s { stage = waiting (record { correlation_id = id; version = version; body = body; deadline = deadline }) s.stage }
-answered Silent id version body s = s
-answered Shuts id version body s = shut_down s
+answered (Plain reaction) id version body s = plainly reaction id version body s
+answered Rebalances id version body s = record s { stage = waiting (record { correlation_id = id; awaited = Group }) s.stage }
 
 -- what a request of a bound connection, of number n, does to it; s is the connection without the request
 unfoldable pub served_by : Setup → Kept → ℕ → ℕ → ℤ → Asked → Session → Session
@@ -76,21 +83,21 @@ put setup kept clock n unread = kept_at setup kept clock n (front unread)
 
 -- 2. Waits
 
--- what a waiting fetch comes to: a reply ends the wait
-abbrev pub told : Reaction → ℤ → Session → Session
+-- what a waiting request comes to: a reply ends the wait
+abbrev pub told : tenant.Reaction → ℤ → Session → Session
 told (Replies reply) id s = replied id reply (record s { stage = without_wait s.stage })
 told (Waits deadline places) id s = s
 told Silent id s = s
 told Shuts id s = shut_down s
 
-unfoldable pub woken_by : Kept → ℕ → Session → Stage → Session
-woken_by kept clock s (Greets handshaken) = s
-woken_by kept clock s (BoundTo tenant None) = s
-woken_by kept clock s (BoundTo tenant (Some wait)) = told (ready kept clock wait) wait.correlation_id s
+unfoldable pub woken_by : Kept → ℕ → ℕ → Session → Stage → Session
+woken_by kept clock n s (Greets handshaken) = s
+woken_by kept clock n s (BoundTo tenant None) = s
+woken_by kept clock n s (BoundTo tenant (Some wait)) = told (ready kept clock n wait) wait.correlation_id s
 
--- a fetch that waits is answered where it is ready
-abbrev pub woken : Kept → ℕ → Session → Session
-woken kept clock s = woken_by kept clock s s.stage
+-- a request that waits, on the connection of number n, is answered where it is ready
+abbrev pub woken : Kept → ℕ → ℕ → Session → Session
+woken kept clock n s = woken_by kept clock n s s.stage
 
 -- 3. Lists of connections
 
@@ -105,6 +112,10 @@ on n f k s = if k == n then f s else s
 abbrev pub those : (ℕ → Bool) → List Line → List Line
 those mine lines = filter (λ l. mine l.number) lines
 
+abbrev pub find_line : ℕ → List Line → Option Session
+find_line n [] = None
+find_line n (l ∷ ls) = if l.number == n then Some l.session else find_line n ls
+
 -- the least-numbered connection that can take a turn
 abbrev pub first_able : List Line → Option Line
 first_able [] = None
@@ -114,7 +125,7 @@ first_able (l ∷ ls) = if can l.session then Some l else first_able ls
 
 -- all waits that are ready are answered
 abbrev pub all_woken : World → World
-all_woken w = record w { lines = each (λ k s. woken w.kept w.clock s) w.lines }
+all_woken w = record w { lines = each (λ k s. woken w.kept w.clock k s) w.lines }
 
 -- a bound connection's request: what is kept changes, then all waits that became ready are answered
 abbrev pub turn_at : World → ℕ → List ℕ → Stage → World
@@ -144,12 +155,26 @@ turns w = again turn (work w.lines) w
 
 -- 5. Events
 
+-- what is kept once the connection of number n is gone that was at that stage
+abbrev pub kept_without : ℕ → ℕ → Stage → Kept → Kept
+kept_without clock n stage kept = if has_member stage then left clock n kept else kept
+
+-- what is kept once it is closed
+abbrev pub kept_closed : ℕ → ℕ → Option Session → Kept → Kept
+kept_closed clock n None kept = kept
+kept_closed clock n (Some s) kept = kept_without clock n s.stage kept
+
+-- what is kept once a piece came on it: one that is longer than its room shuts it
+abbrev pub kept_fed : List ℕ → ℕ → ℕ → Option Session → Kept → Kept
+kept_fed piece clock n None kept = kept
+kept_fed piece clock n (Some s) kept = if overruns piece s then kept_without clock n s.stage kept else kept
+
 -- one event: at a moment the clock, then the tenant's own part, then the waits that are ready, then turns; a moment before the clock acts as one at the clock
 abbrev pub step : Happening → World → World
 step (Opens n) w = record w { lines = w.lines ++ record { number = n; session = fresh } ∷ [] }
-step (Comes n piece) w = turns (record w { lines = each (on n (fed piece)) w.lines })
-step (Closes n) w = record w { lines = those (λ k. not (k == n)) w.lines }
-step (Moment now) w = let clock = max w.clock now in turns (all_woken (record w { kept = retained clock w.kept; clock = clock }))
+step (Comes n piece) w = turns (record w { kept = kept_fed piece w.clock n (find_line n w.lines) w.kept; lines = each (on n (fed piece)) w.lines })
+step (Closes n) w = record w { kept = kept_closed w.clock n (find_line n w.lines) w.kept; lines = those (λ k. not (k == n)) w.lines }
+step (Moment now) w = let clock = max w.clock now in turns (all_woken (record w { kept = passed clock w.kept; clock = clock }))
 
 -- an event that concerns the tenant is a step, any other is nothing
 abbrev pub stepped : Bool → Happening → World → World

@@ -3,7 +3,7 @@ use Rattle.std.specs.Prelude.{◌≡◌, ℕ, ◌<◌, ◌==◌, List, [], ◌�
 use Rattle.std.specs.List.{AllByRecursion}
 use Rattle.kb_machine.specs.Session.{Stage, Greets, BoundTo, Session, fresh, fed}
 use Rattle.kb_machine.specs.Greeting.{Setup, greeted}
-use Rattle.kb_machine.specs.Machine.{Happening, Opens, Comes, Closes, Moment, Line, again}
+use Rattle.kb_machine.specs.Machine.{Happening, Opens, Comes, Closes, Moment, Line, again, find_line}
 
 -- 1. What a connection's own bytes lead it to
 
@@ -39,10 +39,6 @@ unborn setup n (Opens m ∷ es) = if m == n then destiny setup n fresh es else u
 unborn setup n (Comes m piece ∷ es) = unborn setup n es
 unborn setup n (Closes m ∷ es) = unborn setup n es
 unborn setup n (Moment now ∷ es) = unborn setup n es
-
-abbrev pub find_line : ℕ → List Line → Option Session
-find_line n [] = None
-find_line n (l ∷ ls) = if l.number == n then Some l.session else find_line n ls
 
 abbrev pub fate_from : Setup → ℕ → Option Session → List Happening → Option ℕ
 fate_from setup n None es = unborn setup n es

@@ -1,8 +1,8 @@
 -- What a connection has, and what happens to it alone.
-use Rattle.std.specs.Prelude.{ℕ, ℤ, ◌-◌, List, [], ◌++◌, length, Bool, true, false, ◌&&◌, if◌then◌else◌, nat_lt, Option, Some, None}
+use Rattle.std.specs.Prelude.{ℕ, ℤ, ◌-◌, List, [], ◌++◌, length, Bool, true, false, not, ◌&&◌, if◌then◌else◌, nat_lt, Option, Some, None}
 use Rattle.kb_api_group.specs.Frames.{Front, Whole, Partial, TooSmall, TooLarge, front}
 use Rattle.kb_tenant.specs.Replies.{framed, reply_size}
-use Rattle.kb_machine.specs.Tenant.{Wait}
+use Rattle.kb_machine.specs.Tenant.{Wait, is_members}
 
 -- whether a connection still greets, and then whether a mechanism was accepted, or the tenant that it is bound to and its waiting request
 pub data Stage : Type 0 where
@@ -23,7 +23,7 @@ abbrev pub without_wait : Stage → Stage
 without_wait (Greets handshaken) = Greets handshaken
 without_wait (BoundTo tenant wait) = BoundTo tenant None
 
--- it waits for the answer to a fetch
+-- it waits for the answer to a request
 abbrev pub waiting : Wait → Stage → Stage
 waiting wait (Greets handshaken) = Greets handshaken
 waiting wait (BoundTo tenant earlier) = BoundTo tenant (Some wait)
@@ -40,6 +40,10 @@ LIMIT = 4194312
 abbrev pub room : Session → ℕ
 room s = LIMIT - length s.unread
 
+-- whether a piece is longer than the room of a connection that is not shut
+abbrev pub overruns : List ℕ → Session → Bool
+overruns piece s = not s.shut && nat_lt (room s) (length piece)
+
 -- a piece came: one longer than the room is not taken and shuts the connection; a shut one ignores it
 unfoldable pub fed : List ℕ → Session → Session
 fed piece s = if s.shut then s else if nat_lt (room s) (length piece) then shut_down s else record s { unread = s.unread ++ piece }
@@ -47,6 +51,12 @@ fed piece s = if s.shut then s else if nat_lt (room s) (length piece) then shut_
 -- a reply is sent, unless its size does not fit an INT32: then the connection is shut
 unfoldable pub replied : ℤ → List ℕ → Session → Session
 replied correlation_id body s = if nat_lt 2147483647 (reply_size body) then shut_down s else record s { output = s.output ++ framed correlation_id body }
+
+-- whether a member of a group waits on it
+abbrev pub has_member : Stage → Bool
+has_member (Greets handshaken) = false
+has_member (BoundTo tenant None) = false
+has_member (BoundTo tenant (Some wait)) = is_members wait.awaited
 
 abbrev pub is_free : Stage → Bool
 is_free (Greets handshaken) = true

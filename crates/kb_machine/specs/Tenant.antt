@@ -1,5 +1,5 @@
 -- What a tenant's own requests mean to its machine.
-use Rattle.std.specs.Prelude.{ℕ, ℤ, List, [], Result, Ok, Err}
+use Rattle.std.specs.Prelude.{ℕ, ℤ, List, [], Bool, true, false, nat_le, Result, Ok, Err}
 use Rattle.kb_wire.specs.Codec.{whole}
 use Rattle.kb_wire.specs.declared.fault.WireFault.{WireFault}
 use Rattle.kb_api_data.specs.Layouts.{fetch_request}
@@ -7,39 +7,62 @@ use Rattle.kb_api_data.specs.declared.fetch.FetchRequest.{FetchRequest}
 use Rattle.kb_world.specs.World.{World}
 use Rattle.kb_world.specs.declared.place.Place.{Place}
 use Rattle.kb_tenant.specs.Fetch.{places_of}
-use Rattle.kb_tenant.specs.Hosted.{Kept, world_at, kept_in}
-use Rattle.kb_tenant.specs.Replies.{Reaction}
-use Rattle.kb_tenant.specs.Serve.{Outcome, served, looked}
+use Rattle.kb_service.specs.Hosted.{Kept, world_at, kept_in}
+use Rattle.kb_tenant.specs.Replies as tenant
+use Rattle.kb_tenant.specs.Serve.{looked}
+use Rattle.kb_service.specs.Replies.{Reaction, told_to}
+use Rattle.kb_service.specs.Serve.{Outcome, served}
 use Rattle.kb_tenant.specs.declared.node.Node.{Node}
 
--- a fetch that waits for its answer: its correlation id, its version and its body, and the moment after which it waits no longer
+-- what a request waits for: the records that a fetch of that version and body asks, until a moment at most, or its group's answer
+pub data Awaited : Type 0 where
+  Records : (version : ℤ) (body : List ℕ) (deadline : ℕ) → Awaited
+  Group : Awaited
+
+-- a request that waits for its answer: its correlation id, and what it waits for
 pub record Wait : Type 0 where
   pub correlation_id : ℤ
-  pub version : ℤ
-  pub body : List ℕ
-  pub deadline : ℕ
+  pub awaited : Awaited
 
 -- what a request on the connection of number n makes of the tenant's world, and comes to
 abbrev pub outcome : Node → Kept → ℕ → ℕ → ℤ → ℤ → List ℕ → Outcome
-outcome node kept clock n key version body = served node (world_at kept clock) n key version body
+outcome node kept clock n key version body = served node (world_at kept clock) kept.groups n key version body
 
 -- what is kept after a request
 unfoldable pub kept_after : Node → Kept → ℕ → ℕ → ℤ → ℤ → List ℕ → Kept
-kept_after node kept clock n key version body = kept_in (outcome node kept clock n key version body).world
+kept_after node kept clock n key version body = let o = outcome node kept clock n key version body in kept_in o.world o.groups
 
 -- what a request comes to for its connection
 unfoldable pub answer : Node → Kept → ℕ → ℕ → ℤ → ℤ → List ℕ → Reaction
 answer node kept clock n key version body = (outcome node kept clock n key version body).reaction
 
--- what a waiting fetch comes to now: a reply where it is ready, else silence
-unfoldable pub ready : Kept → ℕ → Wait → Reaction
-ready kept clock wait = looked (world_at kept clock) wait.deadline wait.version wait.body
+abbrev pub ready_for : Kept → ℕ → ℕ → Awaited → tenant.Reaction
+ready_for kept clock n (Records version body deadline) = looked (world_at kept clock) deadline version body
+ready_for kept clock n Group = told_to n kept.groups
+
+-- what the request comes to now that waits on the connection of number n: a reply where it is ready, else silence
+unfoldable pub ready : Kept → ℕ → ℕ → Wait → tenant.Reaction
+ready kept clock n wait = ready_for kept clock n wait.awaited
 
 -- the partitions that a fetch asks for, if it was read
 abbrev pub asked_in : World → Result FetchRequest WireFault → List Place
 asked_in w (Ok r) = places_of w r
 asked_in w (Err fault) = []
 
--- the partitions that a waiting fetch asks for, which are the same at each time
+abbrev pub asked_for : Kept → Awaited → List Place
+asked_for kept (Records version body deadline) = asked_in (world_at kept 0) (whole fetch_request body)
+asked_for kept Group = []
+
+-- the partitions that a waiting request asks for, which are the same at each time
 unfoldable pub asked : Kept → Wait → List Place
-asked kept wait = asked_in (world_at kept 0) (whole fetch_request wait.body)
+asked kept wait = asked_for kept wait.awaited
+
+-- whether it waits no longer than that, whatever happens
+abbrev pub is_past : ℕ → Awaited → Bool
+is_past clock (Records version body deadline) = nat_le deadline clock
+is_past clock Group = false
+
+-- whether it waits for its group
+abbrev pub is_members : Awaited → Bool
+is_members (Records version body deadline) = false
+is_members Group = true

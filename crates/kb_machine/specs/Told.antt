@@ -1,8 +1,8 @@
 -- What a machine says event by event, where its output is taken after each.
 use Rattle.std.specs.Prelude.{◌≡◌, ℕ, ◌<◌, List, [], ◌∷◌, map, not, ◌&&◌, length, Bool, ⊤}
 use Rattle.std.specs.List.{AllByRecursion}
-use Rattle.kb_machine.specs.Machine.{Happening, Line, World, Sent, each, stepped, those_sent}
-use Rattle.kb_machine.specs.Owners.{find_line, concerns}
+use Rattle.kb_machine.specs.Machine.{Happening, Line, World, Sent, each, stepped, those_sent, find_line}
+use Rattle.kb_machine.specs.Owners.{concerns}
 use Rattle.kb_machine.specs.Broker.{BrokerState, view_of, owned_by, only, IsUnowned}
 use Rattle.kb_machine.specs.Calls.{without_output, shut_in}
 

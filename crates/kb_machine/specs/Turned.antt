@@ -1,10 +1,10 @@
 -- The broker within an event: what stands between what happened and the end of the turns that it led to.
-use Rattle.std.specs.Prelude.{◌≡◌, ◌≢◌, ◌==◌, ℕ, nat_le, List, ◌∷◌, map, Bool, true, false, not, ◌&&◌, Option, Some, None, ⊤, ◌⊎◌}
+use Rattle.std.specs.Prelude.{◌≡◌, ◌≢◌, ◌==◌, ℕ, List, ◌∷◌, map, Bool, true, false, not, ◌&&◌, Option, Some, None, ⊤, ◌⊎◌}
 use Rattle.std.specs.List.{AllByRecursion}
-use Rattle.kb_machine.specs.Tenant.{Wait}
+use Rattle.kb_machine.specs.Tenant.{Wait, is_past}
 use Rattle.kb_machine.specs.Session.{Session, can, is_free}
-use Rattle.kb_machine.specs.Machine.{Happening, Comes, Line, all_woken, turns, stepped}
-use Rattle.kb_machine.specs.Owners.{find_line, whose}
+use Rattle.kb_machine.specs.Machine.{Happening, Comes, Line, all_woken, turns, stepped, find_line}
+use Rattle.kb_machine.specs.Owners.{whose}
 use Rattle.kb_world.specs.Steps.{IsCalm}
 use Rattle.kb_machine.specs.declared.whom.Whom.{Whom}
 use Rattle.kb_machine.specs.declared.whom.Whom.TheVariants as whoms
@@ -77,7 +77,7 @@ pub record Turned (scope : Scope) (old new : BrokerState) : Type 0 where
   pub mine : (t : ℕ) (mine : ℕ → Bool) (es : List Happening) → Mine t mine es old → IsCalm old.unbound_refusals new.unbound_refusals → Mine t mine es new
   pub view : (t : ℕ) (mine : ℕ → Bool) (es : List Happening) → Mine t mine es old → IsCalmFor t old new → turns (view_of t mine new) ≡ turns (view_of t mine old)
 
--- the turn of a connection that is bound to a tenant, before the tenant's waiting fetches are looked at again
+-- the turn of a connection that is bound to a tenant, before the tenant's waiting requests are looked at again
 pub record Served (tenant : ℕ) (scope : Scope) (old new : BrokerState) : Type 0 where
   pub going : IsGoing old new
   pub still : AreStill scope new
@@ -99,7 +99,7 @@ pub record IsFed (n : ℕ) (piece : List ℕ) (old new : BrokerState) : Type 0 w
   pub mine : (t : ℕ) (mine : ℕ → Bool) (es : List Happening) → Mine t mine (Comes n piece ∷ es) old → IsCalm old.unbound_refusals new.unbound_refusals → Mine t mine es new
   pub view : (t : ℕ) (mine : ℕ → Bool) (es : List Happening) → Mine t mine (Comes n piece ∷ es) old → IsCalmFor t old new → turns (view_of t mine new) ≡ stepped (mine n) (Comes n piece) (view_of t mine old)
 
--- 3. Waiting fetches that are looked at again
+-- 3. Waiting requests that are looked at again
 
 -- a look may be at a wait of the tenant
 abbrev pub Concerns : Whom → ℕ → Type 0
@@ -122,7 +122,7 @@ pub record Waked (whom : Whom) (old new : BrokerState) : Type 0 where
 -- whether a wait is looked at
 abbrev pub is_looked_for : Whom → ℕ → ℕ → Wait → Bool
 is_looked_for (whoms.Tenant u) clock t w = t == u
-is_looked_for whoms.Due clock t w = nat_le w.deadline clock
+is_looked_for whoms.Due clock t w = is_past clock w.awaited
 is_looked_for whoms.All clock t w = true
 
 abbrev pub IsLookedFor : Whom → ℕ → ℕ → Wait → Type 0

@@ -2,9 +2,10 @@
 //!
 //! `specs/Requests.antt` says what a connection's bytes ask, `specs/Session.antt` what a connection has,
 //! `specs/Greeting.antt` what the requests mean that need no tenant (Kafka protocol guide, "SASL Authentication
-//! Sequence"; RFC 4616), `specs/Tenant.antt` what a tenant keeps, `specs/Machine.antt` the machine of one tenant
-//! as a function of its events, `specs/Owners.antt` which connections are a tenant's, and `specs/Broker.antt`
-//! the broker of all tenants and how each of its steps is a step of each tenant's machine.
+//! Sequence"; RFC 4616), `specs/Tenant.antt` what a tenant's requests mean (by `kb_service`) and what they wait for,
+//! `specs/Machine.antt` the machine of one tenant as a function of its events, `specs/Owners.antt` which connections
+//! are a tenant's, and `specs/Broker.antt` the broker of all tenants and how each of its steps is a step of each
+//! tenant's machine.
 #![tactic(auto)]
 
 mod promises;
@@ -12,7 +13,7 @@ mod whom;
 
 pub use promises::{
     bound_for_good, fetches_get_batches_in_runs, fetches_get_whole_batches, first_event,
-    nothing_before_login, one_tenants_in_order, others_change_nothing, owners_at_entry,
-    room_is_kept, runs_go_on, strangers_are_greeted, turns_end,
+    members_wait_no_longer, nothing_before_login, one_tenants_in_order, others_change_nothing,
+    owners_at_entry, room_is_kept, runs_go_on, strangers_are_greeted, turns_end,
 };
 pub use whom::Whom;

@@ -1,17 +1,18 @@
 //! Laws about the definitions, each as the contract of a function with an empty body.
-ghost use Rattle.std.specs.Prelude.{◌≡◌, ◌≤◌, ◌++◌, ◌∷◌, ℕ, ℤ, List, [], Bool, true, length, pos, Ok, Some, None};
-ghost use Rattle.kb_machine.specs.Session.{Session, Stage, BoundTo, LIMIT, fed, shut_down, without_wait};
+ghost use Rattle.std.specs.Prelude.{◌≡◌, ◌≤◌, ◌++◌, ◌∷◌, ℕ, ℤ, List, [], Bool, true, false, length, pos, Ok, Some, None};
+ghost use Rattle.kb_machine.specs.Session.{Session, Stage, BoundTo, LIMIT, fed, has_member, overruns, shut_down, without_wait};
 ghost use Rattle.kb_wire.specs.Codec.{whole};
 ghost use Rattle.kb_api_group.specs.Frames.{Whole, front};
 ghost use Rattle.kb_api_data.specs.Layouts.{fetch_request};
 ghost use Rattle.kb_api_data.specs.declared.fetch.FetchRequest.{FetchRequest};
 ghost use Rattle.kb_machine.specs.Requests.{Another, Authenticate, request};
-ghost use Rattle.kb_machine.specs.Tenant.{Wait};
+ghost use Rattle.kb_machine.specs.Tenant.{Records};
 ghost use Rattle.kb_machine.specs.Fetches.{FetchesGetBatches, GetsBatches};
 ghost use Rattle.kb_tenant.specs.Batches.{HasSmallLogs};
-ghost use Rattle.kb_tenant.specs.Hosted.{Kept, world_at};
+ghost use Rattle.kb_coordinator.specs.Calls.{left};
+ghost use Rattle.kb_service.specs.Hosted.{Kept, world_at};
 ghost use Rattle.kb_machine.specs.Greeting.{Setup, greeted_by, login};
-ghost use Rattle.kb_machine.specs.Machine.{World, Line, Happening, Sent, first_able, turns, those, those_sent, served, stepped, leaving, run, by_number, woken};
+ghost use Rattle.kb_machine.specs.Machine.{World, Line, Happening, Closes, Sent, first_able, turns, those, those_sent, find_line, served, kept_fed, step, stepped, leaving, run, by_number, woken};
 ghost use Rattle.kb_machine.specs.Owners.{whose, concerns, purge};
 ghost use Rattle.kb_machine.specs.Broker.{BrokerState, IsCalmFor, IsReady, IsRun, IsUnowned, Mine, Rising, alone_unowned, owned_by, view_of};
 ghost use Rattle.kb_machine.specs.Greetings.{greeted_alone};
@@ -46,15 +47,16 @@ pub fn strangers_are_greeted()
 
 /// What a machine answers to a fetch, where its connection takes a turn and where it has waited, holds whole batches of the
 /// tenant's partitions as they are at that moment, one after the other, from the one that holds the asked offset; or the
-/// connection gets no reply. The tenant's logs are within their limits, as `logs_stay_small` (`kb_tenant`) says of each that there is.
+/// connection gets no reply. The tenant's logs are within their limits, as `logs_stay_small` (`kb_service`) says of each that there is.
 pub fn fetches_get_whole_batches()
     ensures at_once { (setup : Setup) (kept : Kept) (clock n : ℕ) (s : Session) (frame rest : List ℕ) (version : ℤ) (body : List ℕ) (fetch : FetchRequest)
         → HasSmallLogs (world_at kept clock) → front s.unread ≡ Whole frame rest
         → (request frame).asked ≡ Another (pos 1) version body → whole fetch_request body ≡ Ok fetch
         → GetsBatches (world_at kept clock) fetch (request frame).correlation_id (record s { unread = rest }) (served setup kept clock n s) }
-    ensures after_a_wait { (kept : Kept) (clock tenant : ℕ) (s : Session) (wait : Wait) (fetch : FetchRequest)
-        → HasSmallLogs (world_at kept clock) → s.stage ≡ BoundTo tenant (Some wait) → whole fetch_request wait.body ≡ Ok fetch
-        → GetsBatches (world_at kept clock) fetch wait.correlation_id (record s { stage = without_wait s.stage }) (woken kept clock s) }
+    ensures after_a_wait { (kept : Kept) (clock n tenant : ℕ) (s : Session) (id version : ℤ) (body : List ℕ) (deadline : ℕ) (fetch : FetchRequest)
+        → HasSmallLogs (world_at kept clock) → s.stage ≡ BoundTo tenant (Some (record { correlation_id = id; awaited = Records version body deadline }))
+        → whole fetch_request body ≡ Ok fetch
+        → GetsBatches (world_at kept clock) fetch id (record s { stage = without_wait s.stage }) (woken kept clock n s) }
 {}
 
 /// In a whole run of a machine each reply to a fetch, at once or after a wait, holds whole batches of each partition that it answers
@@ -69,6 +71,16 @@ pub fn fetches_get_batches_in_runs()
 pub fn room_is_kept()
     ensures limit { (piece : List ℕ) (s : Session) → length s.unread ≤ LIMIT → length (fed piece s).unread ≤ LIMIT }
     ensures shut { (piece : List ℕ) (s : Session) → s.shut ≡ true → fed piece s ≡ s }
+{}
+
+/// A member of a group waits no longer on a connection that is gone: once it closes, or is shut since a piece is longer than its room,
+/// its group stands as after a connection that ends. A connection on which no member waited leaves what is kept as it was.
+pub fn members_wait_no_longer()
+    ensures closed { (n : ℕ) (s : Session) (w : World) → find_line n w.lines ≡ Some s → has_member s.stage ≡ true
+        → (step (Closes n) w).kept.groups ≡ left w.clock n w.kept.groups }
+    ensures overrun { (n : ℕ) (piece : List ℕ) (s : Session) (w : World) → find_line n w.lines ≡ Some s → has_member s.stage ≡ true → overruns piece s ≡ true
+        → (fed piece s ≡ shut_down s) × ((kept_fed piece w.clock n (find_line n w.lines) w.kept).groups ≡ left w.clock n w.kept.groups) }
+    ensures others { (n : ℕ) (s : Session) (w : World) → find_line n w.lines ≡ Some s → has_member s.stage ≡ false → (step (Closes n) w).kept ≡ w.kept }
 {}
 
 /// Before authentication a request of a tenant shuts the connection; a login that names no user with its password shuts it.

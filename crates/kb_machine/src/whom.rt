@@ -1,6 +1,6 @@
-//! Whose waiting fetches are looked at again.
+//! Whose waiting requests are looked at again.
 
-/// Whose waiting fetches are looked at again.
+/// Whose waiting requests are looked at again.
 #[derive(Clone, Copy, Debug, PartialEq, Eq)]
 pub enum Whom {
     /// Those of a tenant, which changed what it keeps.

@@ -1,7 +1,7 @@
 -- The broker that opens with the standard settings.
 use Rattle.std.proofs.Common.{◌≡◌, ℕ, List, [], map, sym, ap, subst, ◌∙◌}
 use Rattle.std.proofs.lemmas.Simd.{map-map}
-use Rattle.kb_tenant.specs.Hosted.{new_tenant}
+use Rattle.kb_service.specs.Hosted.{new_tenant}
 use Rattle.kb_tenant.specs.declared.node.Node.{Node}
 use Rattle.kb_machine.specs.Requests.{served_versions}
 use Rattle.kb_machine.specs.Greeting.{User as Login}

@@ -1,7 +1,7 @@
 -- What a program of the broker writes.
 use Rattle.std.specs.Prelude.{◌≡◌, ◌⊎◌, ℕ, List, [], ◌∷◌, codes, Option, Result, Err}
 use Rattle.std.specs.Io.KnownBytes.{Keeps}
-use Rattle.kb_tenant.specs.Hosted.{new_tenant}
+use Rattle.kb_service.specs.Hosted.{new_tenant}
 use Rattle.kb_machine.specs.Requests.{served_versions}
 use Rattle.kb_machine.specs.Broker.{BrokerState}
 use Rattle.kb_broker.specs.declared.script.ScriptFault.{ScriptFault}

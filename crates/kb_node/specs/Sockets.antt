@@ -2,15 +2,15 @@
 use Rattle.std.specs.Prelude.{ℕ, Bool, not, ◌==◌, ◌&&◌, ◌||◌}
 use Rattle.kb_machine.specs.Broker.{BrokerState}
 use Rattle.kb_machine.specs.Calls.{is_shut}
-use Rattle.kb_machine.specs.Owners.{find_line}
+use Rattle.kb_machine.specs.Machine.{find_line}
 use Rattle.kb_broker.specs.Places.{waits_in}
 
--- the connection waits for the answer to a fetch
+-- the connection waits for the answer to a request
 abbrev pub is_waiting : ℕ → BrokerState → Bool
 is_waiting n b = waits_in (find_line n b.lines)
 
--- A request may be handed on: the peer is there, all output is written, the broker did not shut the connection, and it waits for no
--- fetch.
+-- A request may be handed on: the peer is there, all output is written, the broker did not shut the connection, and it does
+-- not wait.
 abbrev pub can_ask : Bool → ℕ → ℕ → BrokerState → Bool
 can_ask is_over unwritten n b = not is_over && (unwritten == 0) && not (is_shut n b) && not (is_waiting n b)
 

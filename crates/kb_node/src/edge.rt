@@ -28,7 +28,7 @@ const ROUNDS: usize = 16;
 /// was asked for below it may go past it.
 const OUTPUT: usize = 268_435_456;
 
-/// How long is waited where a fetch may be due, and where nothing is, in milliseconds.
+/// How long is waited where a waiting request may be due, and where nothing is, in milliseconds.
 const SHORT_WAIT: u64 = 5;
 
 const LONG_WAIT: u64 = 100;
@@ -61,7 +61,7 @@ pub struct BindRefused<S: Store> {
 ///
 /// Each socket that is accepted is a new connection, of a number above all earlier ones. Its bytes are the connection's, in
 /// order, and the connection's output is what is written to it. They are handed on a request at a time, in turn among the
-/// connections, and only while the connection has no output to be written and waits for no fetch: so a connection that asks and
+/// connections, and only while the connection has no output to be written and waits for nothing: so a connection that asks and
 /// never reads has one reply kept.
 #[derive(Drop)]
 pub struct Edge<R: Net, S: Store> {
@@ -79,7 +79,7 @@ pub struct Edge<R: Net, S: Store> {
     can_accept: bool,
     /// The connections whose sockets can go on, each once.
     ready: Vec<u64>,
-    /// Those that wait for a fetch, each once.
+    /// Those that wait for an answer, each once.
     waiting: Vec<u64>,
     /// An empty list, to be filled while another is gone through.
     spare: Vec<u64>,
@@ -181,7 +181,7 @@ impl<R: Net, S: Store> Edge<R, S> {
         &self.denied
     }
 
-    /// Waits until a socket becomes ready or a new one is there: 5 ms at most while a fetch waits, which may be due then, and
+    /// Waits until a socket becomes ready or a new one is there: 5 ms at most while a request waits, which may be due then, and
     /// else 100 ms; and no time where a socket can go on as it is. An edge that was bound without a watch does not wait.
     pub fn wait(&mut self) {
         let longest = self.longest_wait();
@@ -367,7 +367,7 @@ impl<R: Net, S: Store> Edge<R, S> {
         }
     }
 
-    /// The connection of the socket at a place waits for a fetch.
+    /// The connection of the socket at a place waits for an answer.
     fn await_answer(&mut self, place: usize) {
         let Some(socket) = self.sockets.get_mut(place) else {
             return;
@@ -378,7 +378,7 @@ impl<R: Net, S: Store> Edge<R, S> {
         }
     }
 
-    /// Those that waited for a fetch, and do so no longer, can go on.
+    /// Those that waited for an answer, and do so no longer, can go on.
     fn look_at_waiting(&mut self, alloc: Global) {
         if self.waiting.is_empty() {
             return;
@@ -392,7 +392,7 @@ impl<R: Net, S: Store> Edge<R, S> {
         self.spare = waiting;
     }
 
-    /// A connection that waited for a fetch waits on, or its socket can go on.
+    /// A connection that waited for an answer waits on, or its socket can go on.
     fn look_at(&mut self, number: u64) {
         let Some(place) = self.place_of(number) else {
             return;

@@ -21,7 +21,7 @@ use std::net::SocketAddr;
 pub enum Next {
     /// Nothing: it can go on.
     Turn,
-    /// That its connection's fetch is answered.
+    /// That its connection's waiting request is answered.
     Answer,
     /// That the system has it readable or writable.
     System,
@@ -47,7 +47,7 @@ pub struct Socket<T> {
     is_over: bool,
     /// Whether its connection is closed.
     is_ended: bool,
-    /// Whether its turn is to come, and whether its fetch's answer is.
+    /// Whether its turn is to come, and whether its waiting request's answer is.
     pub(crate) is_queued: bool,
     pub(crate) is_waiting: bool,
     ghost within: { written ≤ vec_len output },

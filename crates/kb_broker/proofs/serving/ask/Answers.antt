@@ -1,35 +1,49 @@
-use Rattle.std.proofs.Common.{subst}
-use Rattle.kb_tenant.specs.Hosted.{kept_of, world_at}
-use Rattle.kb_tenant.specs.Serve.{IsOutcome, served}
+use Rattle.std.proofs.Common.{subst, sym, ◌∙◌}
+use Rattle.kb_service.specs.Hosted.{kept_of, refusals_of, world_at}
+use Rattle.kb_service.specs.Serve.{IsOutcome, served}
 use Rattle.kb_tenants.specs.Tenants.{is_honest}
 use Rattle.kb_broker.specs.Hosts.{tenants_in}
 use Rattle.kb_broker.proofs.TenantTurns.{answered-now, asked-on, calm-of, touched-now}
 use Rattle.kb_broker.proofs.serving.ask.Goals as goal
 
-pub returns-then-before-lt18446744073709551615-clause-meets :
-    goal.returns-then-before-lt18446744073709551615-clause-meets
-returns-then-before-lt18446744073709551615-clause-meets g c = λ honest calm.
+pub returns-then-not-released-clause-meets : goal.returns-then-not-released-clause-meets
+returns-then-not-released-clause-meets g c = λ honest calm.
     let a = c.args in
     let q = a.request.now in
     let k = kept_of (tenants_in g.L.PartitionLog.log g.S.Store.disk a.tenants.now) a.tenant in
     let l = kept_of (tenants_in g.L.PartitionLog.log g.S.Store.disk c.serve-answer.new.self) a.tenant in
     let r = c.serve-answer.result in
     answered-now a.setup.now.node k l a.clock q.connection q.correlation_id q.api_key q.api_version q.body.now r.touched.items r.answer
-    (subst (λ n. IsOutcome q.correlation_id (served n (world_at k a.clock) q.connection q.api_key q.api_version q.body.now) (world_at l a.clock) r.touched.items r.answer) c.node-node.ensures.node (c.serve-answer.ensures.meets honest calm))
+    (subst (λ n. IsOutcome q.correlation_id (served n (world_at k a.clock) k.groups q.connection q.api_key q.api_version q.body.now) (world_at l a.clock) l.groups r.touched.items r.answer) c.node-node.ensures.node (c.serve-answer.ensures.meets honest calm))
 
-pub returns-then-before-lt18446744073709551615-clause-asked :
-    goal.returns-then-before-lt18446744073709551615-clause-asked
-returns-then-before-lt18446744073709551615-clause-asked g c = λ honest.
+pub returns-then-not-released-clause-asked : goal.returns-then-not-released-clause-asked
+returns-then-not-released-clause-asked g c = λ honest.
     let a = c.args in
     let q = a.request.now in
     let r = c.serve-answer.result in
     asked-on g.L.PartitionLog.log g.S.Store.disk (is_honest g.S.Store.disk c.serve-answer.new.self) honest a.tenants.now (c.serve-answer.ensures.honest honest) c.node-node.result (tenants_in g.L.PartitionLog.log g.S.Store.disk c.serve-answer.new.self) a.clock a.tenant q.connection q.correlation_id q.api_key q.api_version q.body.now r.touched.items r.answer c.requires.hosted c.serve-answer.ensures.turn c.serve-answer.ensures.meets
 
-pub returns-then-before-lt18446744073709551615-clause-touched :
-    goal.returns-then-before-lt18446744073709551615-clause-touched
-returns-then-before-lt18446744073709551615-clause-touched g c = λ honest.
+pub returns-else-refusals-before-clause-meets : goal.returns-else-refusals-before-clause-meets
+returns-else-refusals-before-clause-meets g c = λ honest calm.
+    let a = c.args in
+    let q = a.request.now in
+    let k = kept_of (tenants_in g.L.PartitionLog.log g.S.Store.disk a.tenants.now) a.tenant in
+    let l = kept_of (tenants_in g.L.PartitionLog.log g.S.Store.disk c.serve-answer.new.self) a.tenant in
+    let r = c.serve-answer.result in
+    answered-now a.setup.now.node k l a.clock q.connection q.correlation_id q.api_key q.api_version q.body.now r.touched.items r.answer
+    (subst (λ n. IsOutcome q.correlation_id (served n (world_at k a.clock) k.groups q.connection q.api_key q.api_version q.body.now) (world_at l a.clock) l.groups r.touched.items r.answer) c.node-node.ensures.node (c.serve-answer.ensures.meets honest calm))
+
+pub returns-else-refusals-before-clause-asked : goal.returns-else-refusals-before-clause-asked
+returns-else-refusals-before-clause-asked g c = λ honest.
     let a = c.args in
     let q = a.request.now in
     let r = c.serve-answer.result in
-    let calm = calm-of _ _ c.refusals-before.result c.refusals.result c.refusals-before.ensures c.refusals.ensures c.if-refusals-before.true c.if-before-lt18446744073709551615.true in
-    touched-now g.L.PartitionLog.log g.S.Store.disk (is_honest g.S.Store.disk c.serve-answer.new.self) honest c.node-node.result a.tenants.now (tenants_in g.L.PartitionLog.log g.S.Store.disk c.serve-answer.new.self) a.clock a.tenant q.connection q.correlation_id q.api_key q.api_version q.body.now r.touched.items r.answer c.requires.hosted c.serve-answer.ensures.meets calm
+    asked-on g.L.PartitionLog.log g.S.Store.disk (is_honest g.S.Store.disk c.serve-answer.new.self) honest a.tenants.now (c.serve-answer.ensures.honest honest) c.node-node.result (tenants_in g.L.PartitionLog.log g.S.Store.disk c.serve-answer.new.self) a.clock a.tenant q.connection q.correlation_id q.api_key q.api_version q.body.now r.touched.items r.answer c.requires.hosted c.serve-answer.ensures.turn c.serve-answer.ensures.meets
+
+pub returns-then-not-released-clause-touched : goal.returns-then-not-released-clause-touched
+returns-then-not-released-clause-touched g c = λ honest.
+    let a = c.args in
+    let q = a.request.now in
+    let r = c.serve-answer.result in
+    let calm = calm-of (refusals_of (tenants_in g.L.PartitionLog.log g.S.Store.disk a.tenants.now) a.tenant) (refusals_of (tenants_in g.L.PartitionLog.log g.S.Store.disk c.serve-answer.new.self) a.tenant) c.refusals-before.result c.refusals.result c.refusals-before.ensures c.refusals.ensures c.if-refusals-before.true c.if-before-lt18446744073709551615.true in
+    touched-now g.L.PartitionLog.log g.S.Store.disk (is_honest g.S.Store.disk c.serve-answer.new.self) honest c.node-node.result a.tenants.now (tenants_in g.L.PartitionLog.log g.S.Store.disk c.serve-answer.new.self) a.clock a.tenant q.connection q.correlation_id q.api_key q.api_version q.body.now r.touched.items r.answer c.requires.hosted c.serve-answer.ensures.meets calm (sym c.serve-answer.ensures.released ∙ c.if-not-released.true)

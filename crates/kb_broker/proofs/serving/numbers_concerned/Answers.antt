@@ -1,6 +1,6 @@
 use Rattle.std.proofs.Common.{◌++◌, ◌∷◌, [], ℕ, Vec, Global, ◌≡◌, ◌∙◌, sym, subst, ap, rules}
 use Rattle.kb_waits.specs.Queue.{AreParked, IsUnderAny}
-use Rattle.kb_tenant.specs.Hosted.{refusals_of}
+use Rattle.kb_service.specs.Hosted.{refusals_of}
 use Rattle.kb_broker.specs.Hosts.{tenants_in}
 use Rattle.kb_broker.specs.Parked.{keys_of, AreConcerned}
 use Rattle.kb_broker.proofs.Served.{concerned-all, concerned-touched}

@@ -1,8 +1,8 @@
 use Rattle.std.proofs.Common.{◌≡◌, ap, subst}
 use Rattle.std.specs.Prelude.{IfNone, IfSome}
 use Rattle.std.specs.FinMap as fin
-use Rattle.kb_tenant.specs.Hosted.{kept_of, nothing, IsMet}
-use Rattle.kb_tenant.specs.Replies.{IsAnswer}
+use Rattle.kb_service.specs.Hosted.{kept_of, nothing, IsMet}
+use Rattle.kb_service.specs.Replies.{IsAnswer}
 use Rattle.kb_tenant.specs.declared.request.Request.{Request}
 use Rattle.kb_machine.specs.Machine.{Line}
 use Rattle.kb_machine.specs.Tenant.{answer, kept_after}
@@ -44,13 +44,13 @@ pub returns-in-Ok-None-clause-keyed : goal.returns-in-Ok-None-clause-keyed
 returns-in-Ok-None-clause-keyed g c = λ honest.
     let a = c.args in
     let own = subst (λ found. IfNone found (IsOwn a.connection.now.session)) c.in-Ok-None.field-0-is c.in-Ok-None.ensures.own in
-    keyed-none (tenants_in g.L.PartitionLog.log g.S.Store.disk a.tenants.now) c.serve.new.self.session.stage (fin.get a.parking.now a.connection.now.number) (own-free a.setup.now a.tenant a.connection.now c.serve.new.self c.requires.bound own c.in_ok-serve-in-Ok-None.ensures.ok)
+    keyed-none (tenants_in g.L.PartitionLog.log g.S.Store.disk a.tenants.now) a.connection.now.number c.serve.new.self.session.stage (fin.get a.parking.now a.connection.now.number) (own-free a.setup.now a.tenant a.connection.now c.serve.new.self c.requires.bound own c.in_ok-serve-in-Ok-None.ensures.ok)
 
 pub returns-in-Ok-None-clause-touched : goal.returns-in-Ok-None-clause-touched
 returns-in-Ok-None-clause-touched g c = λ honest.
     let a = c.args in
     let own = subst (λ found. IfNone found (IsOwn a.connection.now.session)) c.in-Ok-None.field-0-is c.in-Ok-None.ensures.own in
-    own-touched a.setup.now a.tenant a.clock a.connection.now.number (tenants_in g.L.PartitionLog.log g.S.Store.disk a.tenants.now) a.connection.now c.serve.new.self c.new.result.items own c.in_ok-serve-in-Ok-None.ensures.ok
+    own-touched a.setup.now a.tenant a.clock a.connection.now.number (tenants_in g.L.PartitionLog.log g.S.Store.disk a.tenants.now) a.connection.now c.serve.new.self c.new.result.items c.requires.bound own c.in_ok-serve-in-Ok-None.ensures.ok
 
 pub returns-in-Err-clause-spent : goal.returns-in-Err-clause-spent
 returns-in-Err-clause-spent g c = spent-shut c.args.connection.now c.shut_down.new.self c.requires.able c.shut_down.ensures

@@ -37,7 +37,7 @@ pub returns-in_ok-greet-in-Greets-clause-keyed : goal.returns-in_ok-greet-in-Gre
 returns-in_ok-greet-in-Greets-clause-keyed g c = λ honest.
     let a = c.args in
     let greets = sym (able-stage a.connection.now.session c.requires.able) ∙ sym c.in-Greets.ensures in
-    keyed-none (tenants_in g.L.PartitionLog.log g.S.Store.disk a.tenants.now) c.greet.new.self.session.stage (fin.get a.parking.now a.connection.now.number) (greeted-free a.setup.now c.in-Greets.handshaken a.connection.now c.greet.new.self greets c.in_ok-greet-in-Greets.ensures.ok)
+    keyed-none (tenants_in g.L.PartitionLog.log g.S.Store.disk a.tenants.now) a.connection.now.number c.greet.new.self.session.stage (fin.get a.parking.now a.connection.now.number) (greeted-free a.setup.now c.in-Greets.handshaken a.connection.now c.greet.new.self greets c.in_ok-greet-in-Greets.ensures.ok)
 
 pub returns-in_ok-touched-in-Bound-clause-left : goal.returns-in_ok-touched-in-Bound-clause-left
 returns-in_ok-touched-in-Bound-clause-left g c = λ honest.

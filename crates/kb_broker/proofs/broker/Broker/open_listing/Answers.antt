@@ -1,5 +1,5 @@
 use Rattle.std.proofs.Common.{◌∙◌, List, ap, map, Bor, ℕ}
-use Rattle.kb_tenant.specs.Hosted.{new_tenant}
+use Rattle.kb_service.specs.Hosted.{new_tenant}
 use Rattle.kb_broker.proofs.OpeningParts.{opening-made, opening-ready}
 use Rattle.kb_broker.proofs.broker.Broker.open_listing.Goals as goal
 

@@ -1,29 +1,37 @@
-use Rattle.std.proofs.Common.{refl, sym, ◌∙◌, ap, subst}
+use Rattle.std.proofs.Common.{◌≡◌, arith, length, refl, sym, ◌∙◌, ap, subst}
 use Rattle.std.specs.FinMap as fin
-use Rattle.kb_machine.specs.Calls.{output_in}
+use Rattle.kb_machine.specs.Session.{fresh}
+use Rattle.kb_machine.specs.Machine.{Line}
+use Rattle.kb_machine.specs.Broker.{BrokerState}
+use Rattle.kb_machine.specs.Calls.{left_by, output_in}
 use Rattle.kb_machine.proofs.Sets.{find-none}
-use Rattle.kb_broker.proofs.Placed.{found, find-found, closed-found, closed-none}
+use Rattle.kb_broker.proofs.Placed.{IsLeft, left-found, find-found, closed-found, closed-none}
 use Rattle.kb_tenants.specs.Tenants.{is_honest}
 use Rattle.kb_broker.specs.Hosts.{tenants_in}
 use Rattle.kb_broker.specs.Parked.{IsQueueOf}
-use Rattle.kb_broker.proofs.Fields.{queue-closed, rising-inside}
+use Rattle.kb_broker.proofs.Fields.{carried-on, queue-closed, rising-inside}
 use Rattle.kb_broker.proofs.Handled.{at-inside}
 use Rattle.kb_broker.proofs.Honest.{state-is, store-is, stands-on}
+use Rattle.kb_broker.proofs.engine.Engine.disconnect.Given as given
 use Rattle.kb_broker.proofs.engine.Engine.disconnect.Goals as goal
+
+-- the connection, in the state in which a member that waited on it waits no longer
+gone : (g : given.Over) (c : goal.After-into_output g) → IsLeft c.leave.new.self.state c.args.self.now.state c.in-Some.i c.args.number c.remove.result
+gone g c = left-found _ c.leave.new.self.state c.args.self.now.state c.in-Some.i c.args.number c.remove.result (state-is _ _ c.self.view_is) c.leave.ensures.left c.in-Some.ensures.within c.in-Some.ensures.some c.remove.ensures.value
+
+pub remove-requires : goal.remove-requires
+remove-requires g c =
+    let d : Line = record { number = 0; session = fresh } in
+    let same : length c.self.inside.connections.items ≡ length c.args.self.now.state.lines = ap (λ (x : BrokerState). length x.lines) (state-is _ _ c.self.view_is ∙ c.leave.ensures.left d) in
+    omega (arith, c.in-Some.ensures.within, same, c.self.inside.connections.ok.0)
 
 pub returns-in-Some-clause-state : goal.returns-in-Some-clause-state
 returns-in-Some-clause-state g c =
-    let b = c.args.self.now.state in
-    let i = c.in-Some.i in
-    let l = c.remove.result in
-    stands-on c.args.self.now _ _ _ (closed-found _ b i c.args.number l c.remove.new.self.items (state-is _ _ c.self.view_is) c.requires (found _ b i c.args.number l (state-is _ _ c.self.view_is) c.in-Some.ensures.within c.in-Some.ensures.some c.remove.ensures.value) c.remove.ensures.items) (store-is _ _ c.self.view_is)
+    stands-on c.args.self.now _ _ _ (closed-found _ c.leave.new.self.state c.args.self.now.state c.in-Some.i c.args.number c.remove.result c.remove.new.self.items (state-is _ _ c.self.view_is) c.requires.rising (gone g c) c.remove.ensures.items) (store-is _ _ c.self.view_is ∙ c.leave.ensures.store)
 
 pub returns-in-Some-clause-output : goal.returns-in-Some-clause-output
 returns-in-Some-clause-output g c =
-    let b = c.args.self.now.state in
-    let i = c.in-Some.i in
-    let l = c.remove.result in
-    c.into_output.ensures ∙ sym (ap output_in (find-found b i c.args.number l c.requires (found _ b i c.args.number l (state-is _ _ c.self.view_is) c.in-Some.ensures.within c.in-Some.ensures.some c.remove.ensures.value)))
+    c.into_output.ensures ∙ sym (ap output_in (find-found c.args.self.now.state c.in-Some.i c.args.number c.remove.result c.requires.rising (gone g c).found))
 
 pub returns-in-None-clause-state : goal.returns-in-None-clause-state
 returns-in-None-clause-state g c = stands-on c.args.self.now _ _ _ (closed-none c.args.self.now.state c.args.number c.in-None.ensures.none) refl
@@ -36,16 +44,18 @@ invariant_of-self g c =
     let disk = g.S.Store.disk in
     let b = c.args.self.now.state in
     let i = c.in-Some.i in
-    let n = c.args.number in
     let l = c.remove.result in
     let q = c.self.inside.parking in
     let p = c.forget.new.self in
+    let H = is_honest disk c.self.inside.tenants in
     let ts = tenants_in g.L.PartitionLog.log disk c.self.inside.tenants in
-    let f = found _ b i n l (state-is _ _ c.self.view_is) c.in-Some.ensures.within c.in-Some.ensures.some c.remove.ensures.value in
-    let a = at-inside _ b i l (state-is _ _ c.self.view_is) f.at in (
+    let ls = c.self.inside.connections.items in
+    let h = gone g c in
+    let inside = state-is _ _ c.self.view_is ∙ h.is in
+    let left : BrokerState = record b { tenants = left_by b.clock l.number l.session.stage b.tenants } in
+    let a = at-inside _ left i l inside (record { within = h.found.at.within; here = h.found.at.here }) in (
       c.self.invariant.0,
-      subst (IsQueueOf (is_honest disk c.self.inside.tenants) p ts) (sym c.remove.ensures.items)
-          (queue-closed (is_honest disk c.self.inside.tenants) q p ts 0 b.last c.self.inside.connections.items i l c.self.invariant.1
-          (rising-inside _ b (state-is _ _ c.self.view_is) c.requires) a
-          (λ k ne. c.forget.ensures.others k (λ e. ne (e ∙ sym f.number))) (ap (fin.get p) f.number ∙ c.forget.ensures.gone)),
+      subst (IsQueueOf H p ts) (sym c.remove.ensures.items)
+          (queue-closed H H q p ts ts 0 b.last ls i l c.self.invariant.1 (rising-inside _ left inside c.requires.rising) a
+          (λ k ne. c.forget.ensures.others k (λ e. ne (e ∙ sym h.found.number))) (ap (fin.get p) h.found.number ∙ c.forget.ensures.gone) (λ honest. honest) (carried-on ts ls q)),
     )

@@ -1,5 +1,5 @@
 use Rattle.std.proofs.Common.{◌≡◌, false, sym, ◌∙◌, ap, subst}
-use Rattle.kb_machine.specs.Owners.{find_line}
+use Rattle.kb_machine.specs.Machine.{find_line}
 use Rattle.kb_machine.proofs.Sets.{find-none}
 use Rattle.kb_broker.specs.Parked.{can_in}
 use Rattle.kb_broker.proofs.Placed.{found, find-found}

@@ -1,0 +1,34 @@
+use Rattle.std.proofs.Common.{FitsSigned, of_z, rules, subst, sym, to_z, w16, w32}
+use Rattle.std.proofs.lemmas.Int.{to_z-of_z}
+use Rattle.kb_service.specs.Hosted.{kept_of, world_at}
+use Rattle.kb_service.specs.Replies.{told_to}
+use Rattle.kb_tenant.specs.Replies.{IsAnswer}
+use Rattle.kb_tenant.specs.Serve.{looked}
+use Rattle.kb_machine.specs.Tenant.{ready_for, ready}
+use Rattle.kb_connection.specs.View.{awaited_of}
+use Rattle.kb_broker.specs.Hosts.{tenants_in}
+use Rattle.kb_broker.proofs.serving.ask_again.Goals as goal
+
+pub returns-in-Records-clause-meets : goal.returns-in-Records-clause-meets
+unfolding ready
+returns-in-Records-clause-meets g c = λ honest calm.
+    let a = c.args in
+    let w = a.waiting.now in
+    let f = c.in-Records in
+    let k = kept_of (tenants_in g.L.PartitionLog.log g.S.Store.disk a.tenants.now) a.tenant in
+    let fits : FitsSigned w32 w.correlation_id = search rules in
+    let version : FitsSigned w16 f.api_version = search rules in
+    let met = c.look.ensures.meets honest calm in
+    let bodied = subst (λ body. IsAnswer (to_z w32 (of_z w32 w.correlation_id)) (looked (world_at k a.clock) f.deadline (to_z w16 (of_z w16 f.api_version)) body) c.look.result) c.deref.ensures.value met.1 in
+    let versioned = subst (λ v. IsAnswer (to_z w32 (of_z w32 w.correlation_id)) (looked (world_at k a.clock) f.deadline v f.body.items) c.look.result) (to_z-of_z w16 f.api_version version) bodied in
+    (met.0, subst (λ x. IsAnswer w.correlation_id (ready_for k a.clock a.number (awaited_of x)) c.look.result) (sym f.is) (subst (λ z. IsAnswer z (looked (world_at k a.clock) f.deadline f.api_version f.body.items) c.look.result) (to_z-of_z w32 w.correlation_id fits) versioned))
+
+pub returns-in-Group-clause-meets : goal.returns-in-Group-clause-meets
+unfolding ready
+returns-in-Group-clause-meets g c = λ honest calm.
+    let a = c.args in
+    let w = a.waiting.now in
+    let k = kept_of (tenants_in g.L.PartitionLog.log g.S.Store.disk a.tenants.now) a.tenant in
+    let fits : FitsSigned w32 w.correlation_id = search rules in
+    let met = c.tell.ensures.meets honest calm in
+    (met.0, subst (λ x. IsAnswer w.correlation_id (ready_for k a.clock a.number (awaited_of x)) c.tell.result) (sym c.in-Group.is) (subst (λ z. IsAnswer z (told_to a.number k.groups) c.tell.result) (to_z-of_z w32 w.correlation_id fits) met.1))

@@ -1,0 +1,124 @@
+-- A request that begins to wait for partitions is not ready at once, and waits for those that it asks for.
+use Rattle.std.proofs.Common.{◌≡◌, ℕ, ℤ, pos, List, [], Bool, true, false, Option, Some, None, refl, sym, ◌∙◌, ap, subst}
+use Rattle.std.specs.Prelude.{cond, Result, Ok, Err, if◌then◌else◌}
+use Rattle.std.specs.Ordering.{int_eq}
+use Rattle.kb_wire.specs.Codec.{whole}
+use Rattle.kb_wire.specs.declared.fault.WireFault.{WireFault}
+use Rattle.kb_api_data.specs.Layouts.{fetch_request, fetch_reply, produce_reply}
+use Rattle.kb_api_data.specs.declared.fetch.FetchRequest.{FetchRequest}
+use Rattle.kb_api_data.specs.declared.fetch.FetchReply.{FetchReply}
+use Rattle.kb_api_group.specs.Layouts.{heartbeat_request, join_group_request, leave_group_request, offset_commit_request, sync_group_request}
+use Rattle.kb_coordinator.specs.Calls.{is_accepted, join_code, sync_answer}
+use Rattle.kb_coordinator.specs.Groups.{Groups, silent}
+use Rattle.kb_groups.specs.declared.reply.SyncAnswer.{SyncAnswer}
+use Rattle.kb_groups.specs.declared.reply.SyncAnswer.TheVariants as sync
+use Rattle.kb_world.specs.World.{World}
+use Rattle.kb_world.specs.declared.place.Place.{Place}
+use Rattle.kb_tenant.specs.Fetch.{deadline_of, fetch_answer, places_of}
+use Rattle.kb_tenant.specs.Produce.{produced, is_due}
+use Rattle.kb_tenant.specs.Replies.{Reaction, Replies, Waits, Silent}
+use Rattle.kb_tenant.specs.Serve as tenant
+use Rattle.kb_tenant.specs.Serve.{stays, fetch_reaction, of_fetch, looked, looked_at}
+use Rattle.kb_tenant.specs.declared.node.Node.{Node}
+use Rattle.kb_tenant.proofs.ByRequest.{by_request}
+use Rattle.kb_service.specs.Hosted.{Kept, kept_in, world_at}
+use Rattle.kb_service.specs.Replies.{Plain, Rebalances, replies}
+use Rattle.kb_service.specs.Serve.{Outcome, if_read, of_groups, of_heartbeat, of_join, of_leave, of_offset_commit, of_sync, of_topics, sync_reaction, served}
+use Rattle.kb_machine.specs.Tenant.{asked_in}
+
+-- 1. A request that is for no group
+
+-- what a look tells
+abbrev pub told_as : Option FetchReply → Reaction
+told_as o = elim o [ Some reply ↦ Replies (fetch_reply.written reply) | None ↦ Silent ]
+
+-- a request that is to wait would be told nothing at once, and waits for what it asks for
+pub record IsParked (version : ℤ) (body : List ℕ) (clock : ℕ) (v : World) (gs : Groups) (deadline : ℕ) (places : List Place) : Type 0 where
+  pub silent : looked (world_at (kept_in v gs) clock) deadline version body ≡ Silent
+  pub asks : places ≡ asked_in v (whole fetch_request body)
+
+abbrev ParksPlain : ℤ → List ℕ → ℕ → Groups → tenant.Outcome → Type 0
+ParksPlain version body clock gs o = (deadline : ℕ) (places : List Place) → o.reaction ≡ Waits deadline places → IsParked version body clock o.world gs deadline places
+
+produce-parks : (version : ℤ) (body : List ℕ) (clock : ℕ) (gs : Groups) (v : World) (touched : List Place) (reply : List ℕ) (b : Bool) → ParksPlain version body clock gs (record { world = v; touched = touched; reaction = cond b (Replies reply) Silent })
+produce-parks version body clock gs v touched reply true deadline places e = absurd (cc)
+produce-parks version body clock gs v touched reply false deadline places e = absurd (cc)
+
+fetch-parks : (k : Kept) (clock : ℕ) (gs : Groups) (version : ℤ) (body : List ℕ) (r : FetchRequest) → whole fetch_request body ≡ Ok r → ParksPlain version body clock gs (of_fetch (world_at k clock) r)
+unfolding looked
+fetch-parks k clock gs version body r read = by (fetch_answer (world_at k clock) r (deadline_of (world_at k clock) r)) refl
+  where
+    by : (o : Option FetchReply) → fetch_answer (world_at k clock) r (deadline_of (world_at k clock) r) ≡ o → ParksPlain version body clock gs (stays (world_at k clock) (fetch_reaction (world_at k clock) r o))
+    by (Some reply) e deadline places f = absurd (cc)
+    by None e deadline places f =
+        let until : deadline_of (world_at k clock) r ≡ deadline = cc in
+        let same : places_of (world_at k clock) r ≡ places = cc in
+        record {
+          silent = ap (looked_at (world_at k clock) deadline) read ∙ ap told_as (subst (λ d. fetch_answer (world_at k clock) r d ≡ None) until e);
+          asks = sym same ∙ sym (ap (asked_in (world_at k clock)) read);
+        }
+
+plain-parks : (node : Node) (k : Kept) (clock n : ℕ) (gs : Groups) (key version : ℤ) (body : List ℕ) → ParksPlain version body clock gs (tenant.served node (world_at k clock) n key version body)
+plain-parks node k clock n gs key version body =
+    let w = world_at k clock in
+    by_request (ParksPlain version body clock gs) node w n key version body (record {
+      produce = λ r read. produce-parks version body clock gs (produced w [] r).0.world (produced w [] r).0.touched (produce_reply.written (produced w [] r).1) (is_due r.acks);
+      fetch = λ r read. fetch-parks k clock gs version body r read;
+      list_offsets = λ r read deadline places e. absurd (cc);
+      metadata = λ r read deadline places e. absurd (cc);
+      offset_commit = λ r read deadline places e. absurd (cc);
+      offset_fetch = λ r read deadline places e. absurd (cc);
+      find_coordinator = λ r read deadline places e. absurd (cc);
+      create_topics = λ r read deadline places e. absurd (cc);
+      delete_topics = λ r read deadline places e. absurd (cc);
+      init_producer_id = λ r read deadline places e. absurd (cc);
+      shut = λ deadline places e. absurd (cc);
+    })
+
+-- 2. Any request
+
+abbrev pub Parks : ℤ → List ℕ → ℕ → Outcome → Type 0
+Parks version body clock o = (deadline : ℕ) (places : List Place) → o.reaction ≡ Plain (Waits deadline places) → IsParked version body clock o.world o.groups deadline places
+
+read-parks : {A : Type 0} (version : ℤ) (body : List ℕ) (clock : ℕ) (w : World) (gs : Groups) (r : Result A WireFault) (f : A → Outcome) → ((a : A) → Parks version body clock (f a)) → Parks version body clock (if_read w gs r f)
+read-parks version body clock w gs (Ok a) f each = each a
+read-parks version body clock w gs (Err fault) f each = λ deadline places e. absurd (cc)
+
+either : (version : ℤ) (body : List ℕ) (clock : ℕ) (b : Bool) (o p : Outcome) → Parks version body clock o → Parks version body clock p → Parks version body clock (if b then o else p)
+either version body clock true o p first second = first
+either version body clock false o p first second = second
+
+join-parks : (version : ℤ) (body : List ℕ) (clock : ℕ) (w : World) (gs : Groups) (b : Bool) (reply : List ℕ) → Parks version body clock (of_groups w gs (if b then Rebalances else replies reply))
+join-parks version body clock w gs true reply deadline places e = absurd (cc)
+join-parks version body clock w gs false reply deadline places e = absurd (cc)
+
+sync-parks : (version : ℤ) (body : List ℕ) (clock : ℕ) (w : World) (gs : Groups) (a : SyncAnswer) → Parks version body clock (of_groups w gs (sync_reaction a))
+sync-parks version body clock w gs (sync.Refused code) deadline places e = absurd (cc)
+sync-parks version body clock w gs (sync.Got assignment) deadline places e = absurd (cc)
+sync-parks version body clock w gs sync.Waits deadline places e = absurd (cc)
+
+-- one that is for no group
+topics-parks : (node : Node) (k : Kept) (clock n : ℕ) (key version : ℤ) (body : List ℕ) → Parks version body clock (of_topics k.groups (tenant.served node (world_at k clock) n key version body))
+topics-parks node k clock n key version body deadline places e = (let f : (tenant.served node (world_at k clock) n key version body).reaction ≡ Waits deadline places = cc in plain-parks node k clock n (silent k.groups) key version body deadline places f)
+
+pub parks : (node : Node) (k : Kept) (clock n : ℕ) (key version : ℤ) (body : List ℕ) → Parks version body clock (served node (world_at k clock) k.groups n key version body)
+unfolding served
+parks node k clock n key version body =
+    let w = world_at k clock in
+    let gs = k.groups in
+    let others : Outcome = of_topics gs (tenant.served node w n key version body) in
+    let syncs : Outcome = if_read w gs (whole sync_group_request body) (of_sync w n gs) in
+    let leaves : Outcome = if_read w gs (whole leave_group_request body) (of_leave w gs) in
+    let beats : Outcome = if_read w gs (whole heartbeat_request body) (of_heartbeat w gs) in
+    let joins : Outcome = if_read w gs (whole join_group_request body) (of_join w n gs) in
+    let commits : Outcome = if_read w gs (whole offset_commit_request body) (of_offset_commit w gs) in
+    let from_14 : Outcome = if int_eq key (pos 14) then syncs else others in
+    let from_13 : Outcome = if int_eq key (pos 13) then leaves else from_14 in
+    let from_12 : Outcome = if int_eq key (pos 12) then beats else from_13 in
+    let from_11 : Outcome = if int_eq key (pos 11) then joins else from_12 in
+    either version body clock (int_eq key (pos 8)) commits from_11 (read-parks version body clock w gs (whole offset_commit_request body) (of_offset_commit w gs) (λ r deadline places e. absurd (cc)))
+    (either version body clock (int_eq key (pos 11)) joins from_12 (read-parks version body clock w gs (whole join_group_request body) (of_join w n gs) (λ r. join-parks version body clock w (of_join w n gs r).groups (is_accepted (join_code n r gs)) _))
+    (either version body clock (int_eq key (pos 12)) beats from_13 (read-parks version body clock w gs (whole heartbeat_request body) (of_heartbeat w gs) (λ r deadline places e. absurd (cc)))
+    (either version body clock (int_eq key (pos 13)) leaves from_14 (read-parks version body clock w gs (whole leave_group_request body) (of_leave w gs) (λ r deadline places e. absurd (cc)))
+    (either version body clock (int_eq key (pos 14)) syncs others (read-parks version body clock w gs (whole sync_group_request body) (of_sync w n gs) (λ r. sync-parks version body clock w (of_sync w n gs r).groups (sync_answer w.clock n r gs)))
+    (topics-parks node k clock n key version body)))))

@@ -88,6 +88,26 @@ const OVER_THE_ROOM: [Call<'static>; 8] = [
     Unknown("nobody"),
 ];
 
+/// A member whose connection overruns its room while its join waits: it is shut, and the member counts until its session ends.
+const MEMBER_OVER_THE_ROOM: [Call<'static>; 16] = [
+    Opens(1),
+    Opens(2),
+    Asks(1, "handshake ann join", "offered welcome joined"),
+    Asks(2, "handshake ann join-second", "offered welcome"),
+    Zeros(2, 4_194_312),
+    Room(2, 0),
+    Stays(2),
+    Zeros(2, 1),
+    Shut(2),
+    Asks(1, "beat", "rebalance"),
+    Asks(1, "rejoin", ""),
+    Passes(9_999),
+    Asks(1, "", ""),
+    Passes(10_000),
+    Asks(1, "", "rejoined-alone"),
+    Calm,
+];
+
 /// A request before the login, sizes below 0, below a request's and above the greatest, and a header that is cut off.
 const SHUTTING: [&str; 5] = [
     "0000000e0003000100000001ffffffffffff",
@@ -129,7 +149,7 @@ fn make(
 }
 
 /// What a connection gets for some bytes.
-fn output_of(
+pub(crate) fn output_of(
     rt: &impl Abort,
     alloc: Global,
     broker: &mut Broker<MemoryStore>,
@@ -142,7 +162,7 @@ fn output_of(
 }
 
 /// What a connection is answered, byte by byte.
-fn asks(
+pub(crate) fn asks(
     rt: &impl Abort,
     alloc: Global,
     broker: &mut Broker<MemoryStore>,
@@ -175,6 +195,7 @@ fn calls_are_answered(rt: HostRuntime) -> Result<(), Fail> {
     makes(&rt, rt.alloc(), &WRONG_PASSWORD)?;
     makes(&rt, rt.alloc(), &ONE_CLOSES)?;
     makes(&rt, rt.alloc(), &OVER_THE_ROOM)?;
+    makes(&rt, rt.alloc(), &MEMBER_OVER_THE_ROOM)?;
     Ok(())
 }
 

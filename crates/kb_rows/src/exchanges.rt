@@ -66,34 +66,37 @@ pub(crate) const FOR_A_BATCH: [Step<'static>; 18] = [
     In(3, "append-hi", "appended-1"),
 ];
 
-/// What happens on three connections: `ann` makes a topic and appends to it on the first and fetches on the third, and nobody
-/// logs in on the second.
-pub(crate) const OF_ANN: [Step<'static>; 17] = [
+/// What happens on three connections: `ann` makes a topic and appends to it on the first and fetches on the third, both are members of a
+/// group, and nobody logs in on the second.
+pub(crate) const OF_ANN: [Step<'static>; 20] = [
     Open(1),
-    In(1, "handshake", "offered"),
-    In(1, "ann", "welcome"),
+    In(1, "handshake ann", "offered welcome"),
     Open(2),
     In(1, "create", "created"),
     In(2, "versions", "served"),
-    In(1, "create-again", "exists"),
-    In(1, "metadata", "described"),
+    In(1, "create-again metadata", "exists described"),
     Open(3),
-    In(1, "append-hi", "appended-0"),
-    In(3, "handshake", "offered"),
-    In(3, "ann", "welcome"),
-    In(1, "fetch", "fetched-hi"),
+    In(1, "append-hi join", "appended-0 joined"),
+    In(3, "handshake ann", "offered welcome"),
+    In(1, "fetch sync", "fetched-hi shared-aa"),
+    In(3, "join-second", ""),
+    Gets(3, "joined-second"),
+    In(1, "beat rejoin", "rebalance rejoined"),
+    In(3, "sync-second", ""),
+    Gets(3, "shared-bb"),
+    In(1, "share commit-of-2", "shared-nothing committed"),
     Close(1),
     Shut(2, "metadata", ""),
-    In(3, "fetch", "fetched-hi"),
+    In(3, "fetch leave-second", "fetched-hi gone"),
     Shut(3, "00000007", ""),
 ];
 
-/// What happens on two connections of `bob`: his topic has the same name, and other bytes.
-pub(crate) const OF_BOB: [Step<'static>; 15] = [
+/// What happens on two connections of `bob`: his topic has the same name, and other bytes. His group has it too; its second member
+/// goes on alone where the first one closes.
+pub(crate) const OF_BOB: [Step<'static>; 19] = [
     Open(1),
     Open(2),
-    In(2, "handshake", "offered"),
-    In(2, "bob", "welcome"),
+    In(2, "handshake bob", "offered welcome"),
     In(2, "metadata", "nothing-described"),
     In(2, "create", "created"),
     In(2, "create-again", "exists"),
@@ -103,8 +106,13 @@ pub(crate) const OF_BOB: [Step<'static>; 15] = [
     In(1, "bob", "welcome"),
     In(2, "fetch", "fetched-yo"),
     In(1, "fetch", "fetched-yo"),
+    In(2, "join sync beat", "joined shared-aa beaten"),
+    In(1, "join-second", ""),
+    Gets(1, "joined-second"),
+    In(2, "rejoin beat-of-2", "rejoined beaten"),
+    In(1, "ask-offset", "no-offset"),
     Close(2),
-    In(1, "metadata", "described"),
+    In(1, "leave-second metadata", "gone described"),
 ];
 
 /// Two tenants make a topic of one name. The store refuses the first one's batch, and takes it when it comes again.
@@ -139,6 +147,28 @@ pub(crate) const COMMIT_REFUSED_ONCE: [Step<'static>; 11] = [
     In(1, "ask-offset", "no-offset"),
     In(1, "commit", "committed"),
     In(1, "ask-offset", "offset-5"),
+];
+
+/// Two members of `ann` share a group, of which one commits and the other leaves, and `bob` has a group of that name for himself.
+pub(crate) const SHARED_GROUP: [Step<'static>; 18] = [
+    Open(1),
+    Open(2),
+    Open(3),
+    In(1, "handshake ann", "offered welcome"),
+    In(2, "handshake bob", "offered welcome"),
+    In(3, "handshake ann", "offered welcome"),
+    In(1, "create join", "created joined"),
+    In(2, "join", "joined"),
+    In(3, "join-second", ""),
+    In(2, "sync", "shared-aa"),
+    Gets(3, "joined-second"),
+    In(1, "beat rejoin", "rebalance rejoined"),
+    In(3, "sync-second", ""),
+    Gets(3, "shared-bb"),
+    In(1, "share commit-of-2", "shared-nothing committed"),
+    In(3, "leave-second", "gone"),
+    In(1, "beat-of-2", "rebalance"),
+    In(2, "beat", "beaten"),
 ];
 
 /// The events of an exchange, with pieces of at most so many bytes.

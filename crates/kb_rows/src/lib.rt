@@ -17,6 +17,8 @@ mod exchanges;
 #[cfg(test)]
 mod faults;
 #[cfg(test)]
+mod groups;
+#[cfg(test)]
 mod memory;
 #[cfg(test)]
 mod mixes;

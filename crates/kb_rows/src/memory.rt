@@ -1,6 +1,6 @@
 //! Exchanges of two tenants while memory may be refused.
 
-use crate::exchanges::{ALTERNATING, FOR_A_BATCH, Step, events_of, wanted_of};
+use crate::exchanges::{ALTERNATING, FOR_A_BATCH, SHARED_GROUP, Step, events_of, wanted_of};
 use crate::running::{Outcome, is_told, outcome_of};
 use kb_broker::Written;
 use std::alloc::Global;
@@ -18,6 +18,12 @@ fn a_refusal_is_felt_by_its_own_tenant_alone(rt: HostRuntime) -> Result<(), Fail
 #[test]
 fn a_refusal_ends_no_wait_of_another(rt: HostRuntime) -> Result<(), Fail> {
     spares(&rt, rt.alloc(), &FOR_A_BATCH, &[0, 1, 0])
+}
+
+/// The same where members of a group wait for each other.
+#[test]
+fn a_refusal_in_a_group_is_nothing_to_another_tenant(rt: HostRuntime) -> Result<(), Fail> {
+    spares(&rt, rt.alloc(), &SHARED_GROUP, &[0, 1, 0])
 }
 
 /// Plays an exchange whose connections belong to these tenants: 0 is `a`, 1 is `b`.

@@ -2,7 +2,8 @@
 
 use crate::words::bytes;
 use kb_api_group::ApiVersion;
-use kb_connection::{Connection, Login, Phase, Setup};
+use kb_connection::{Awaited, Connection, Login, Phase, Setup};
+use kb_service::Answer::{Plain, Rebalance};
 use kb_tenant::Answer;
 use kb_wire::{Array, Layout};
 use std::alloc::Global;
@@ -152,7 +153,7 @@ impl Talk {
     }
 
     /// Gives a request of the tenant, and its answer.
-    fn answers(&mut self, rt: &impl Abort, answer: Answer) -> Result<(), Fail> {
+    fn answers(&mut self, rt: &impl Abort, answer: kb_service::Answer) -> Result<(), Fail> {
         self.hands_out(rt)?;
         self.connection.answer(self.alloc, answer)?;
         self.is_done(rt);
@@ -162,34 +163,44 @@ impl Talk {
     /// Gives a request of the tenant that is answered by this reply.
     fn replies(&mut self, rt: &impl Abort, reply: &str) -> Result<(), Fail> {
         let reply = bytes(rt, self.alloc, reply)?;
-        self.answers(rt, Answer::Reply(reply))
+        self.answers(rt, Plain(Answer::Reply(reply)))
     }
 
-    /// Gives a request of the tenant whose answer waits until 500.
+    /// Gives a request of the tenant that waits for records until 500.
     fn parks(&mut self, rt: &impl Abort) -> Result<(), Fail> {
-        let keys = Vec::new(self.alloc);
-        self.answers(
-            rt,
-            Answer::Wait {
-                deadline: 500,
-                keys,
-            },
-        )?;
-        self.is_parked(rt);
+        let wait = Answer::Wait {
+            deadline: 500,
+            keys: Vec::new(self.alloc),
+        };
+        self.answers(rt, Plain(wait))?;
+        self.is_parked(rt, false);
         Ok(())
     }
 
-    /// Sees that it waits for that answer.
-    fn is_parked(&self, rt: &impl Abort) {
+    /// Sees that a request waits: for its group, or for records until 500.
+    fn is_parked(&self, rt: &impl Abort, for_group: bool) {
         match self.connection.waiting() {
-            Some((tenant, fetch)) => {
-                assert!(rt; tenant == 3 && fetch.correlation_id == 9 && fetch.deadline == 500);
-                assert!(rt; fetch.body.as_slice() == ALL_TOPICS);
+            Some((tenant, request)) => {
+                assert!(rt; tenant == 3 && request.correlation_id == 9);
+                assert!(rt; is_awaited(&request.awaited, for_group));
             }
             None => panic!(rt; "it waits"),
         }
+        assert!(rt; self.connection.has_member() == for_group);
         assert!(rt; self.connection.phase() == Phase::Bound(3));
         assert!(rt; !self.connection.can_turn());
+    }
+}
+
+/// Whether a group is waited for, or the records of that request until 500.
+fn is_awaited(awaited: &Awaited, for_group: bool) -> bool {
+    match awaited {
+        Awaited::Group => for_group,
+        Awaited::Records {
+            api_version,
+            body,
+            deadline,
+        } => !for_group && *api_version == 1 && body.as_slice() == ALL_TOPICS && *deadline == 500,
     }
 }
 
@@ -223,12 +234,12 @@ fn greets_and_logs_in(rt: HostRuntime) -> Result<(), Fail> {
 
 /// No reply, two replies, and the end.
 fn is_answered(rt: &impl Abort, talk: &mut Talk) -> Result<(), Fail> {
-    talk.answers(rt, Answer::NoReply)?;
+    talk.answers(rt, Plain(Answer::NoReply))?;
     talk.says(rt, "")?;
     talk.replies(rt, FIRST)?;
     talk.replies(rt, SECOND)?;
     assert!(rt; !talk.connection.is_shut());
-    talk.answers(rt, Answer::Shut)?;
+    talk.answers(rt, Plain(Answer::Shut))?;
     assert!(rt; talk.connection.is_shut());
     talk.says(rt, "00000005 00000009 'a 00000005 00000009 'b")
 }
@@ -241,16 +252,16 @@ fn tenant_answers(rt: HostRuntime) -> Result<(), Fail> {
 }
 
 /// A wait that another request finds, and that its answer ends.
-fn waits(rt: &impl Abort, talk: &mut Talk) -> Result<(), Fail> {
-    assert!(rt; talk.connection.waiting().is_none());
-    talk.parks(rt)?;
+fn waits(rt: &impl Abort, talk: &mut Talk, for_group: bool) -> Result<(), Fail> {
+    talk.is_parked(rt, for_group);
     talk.connection.feed(&bytes(rt, talk.alloc, METADATA)?)?;
-    talk.is_parked(rt);
+    talk.is_parked(rt, for_group);
     talk.connection.wake(Answer::NoReply)?;
-    talk.is_parked(rt);
+    talk.is_parked(rt, for_group);
     let reply = bytes(rt, talk.alloc, FIRST)?;
     talk.connection.wake(Answer::Reply(reply))?;
     assert!(rt; talk.connection.waiting().is_none());
+    assert!(rt; !talk.connection.has_member());
     assert!(rt; talk.connection.can_turn());
     talk.says(rt, FIRST)
 }
@@ -259,7 +270,33 @@ fn waits(rt: &impl Abort, talk: &mut Talk) -> Result<(), Fail> {
 #[test]
 fn fetch_waits_and_is_woken(rt: HostRuntime) -> Result<(), Fail> {
     let mut talk = Talk::bound(&rt, rt.alloc())?;
-    waits(&rt, &mut talk)
+    assert!(rt; talk.connection.waiting().is_none());
+    talk.parks(&rt)?;
+    waits(&rt, &mut talk, false)
+}
+
+/// So it has where a member waits for its group.
+#[test]
+fn member_waits_and_is_told(rt: HostRuntime) -> Result<(), Fail> {
+    let mut talk = Talk::bound(&rt, rt.alloc())?;
+    assert!(rt; !talk.connection.has_member());
+    talk.answers(&rt, Rebalance)?;
+    waits(&rt, &mut talk, true)
+}
+
+/// A piece as long as the room is taken, and one that is longer shuts the connection.
+#[test]
+fn longest_piece_is_taken(rt: HostRuntime) -> Result<(), Fail> {
+    let mut talk = Talk::new(&rt, rt.alloc())?;
+    let mut piece = Vec::new(rt.alloc());
+    piece.resize(4_194_312, 0)?;
+    assert!(rt; !talk.connection.overruns(&piece));
+    piece.push(0)?;
+    assert!(rt; talk.connection.overruns(&piece));
+    talk.connection.feed(&piece)?;
+    assert!(rt; talk.connection.is_shut());
+    assert!(rt; !talk.connection.overruns(&piece));
+    Ok(())
 }
 
 /// A wait that the end of the connection ends.

@@ -2,7 +2,7 @@
 ghost use Rattle.std.specs.Prelude.{◌≡◌, [], ◌∷◌, IfOk};
 ghost use Rattle.kb_store.specs.Memory.{memory_disk};
 ghost use Rattle.kb_log.specs.ListLog.{list_log};
-ghost use Rattle.kb_tenant.specs.Hosted.{new_tenant};
+ghost use Rattle.kb_service.specs.Hosted.{new_tenant};
 ghost use Rattle.kb_tenants.specs.Tenants.{AreKept, hosted};
 
 use kb_log::{ListLog, Shelf};
@@ -83,9 +83,9 @@ fn two(alloc: Global) -> Result<Tenants<ListLog, MemoryStore>, Fail>
 }
 
 /// Whether an answer is that reply.
-fn is_reply(answer: &Answer, reply: &[u8]) -> bool {
+fn is_reply(answer: &kb_service::Answer, reply: &[u8]) -> bool {
     match answer {
-        Answer::Reply(bytes) => bytes.as_slice() == reply,
+        kb_service::Answer::Plain(Answer::Reply(bytes)) => bytes.as_slice() == reply,
         _ => false,
     }
 }
@@ -146,15 +146,15 @@ fn each_tenant_keeps_what_its_topics_say(rt: HostRuntime) -> Result<(), Fail> {
     let there = [(0, 2, LIST_FIRST, AT_0), (1, 2, LIST_FIRST, AT_0)];
     let gone = [(0, 2, LIST_FIRST, AT_1), (1, 2, LIST_FIRST, AT_1)];
     plays(&rt, rt.alloc(), &mut tenants, &made);
-    assert!(rt; !tenants.retain_all(1005));
+    assert!(rt; !tenants.pass(1005));
     plays(&rt, rt.alloc(), &mut tenants, &there);
-    assert!(rt; tenants.retain_all(1006));
+    assert!(rt; tenants.pass(1006));
     plays(&rt, rt.alloc(), &mut tenants, &gone);
-    assert!(rt; !tenants.retain_all(1006));
+    assert!(rt; !tenants.pass(1006));
     let again = [(1, 0, APPEND, APPENDED_NEXT), (1, 2, LIST_FIRST, AT_1)];
     let gone_again = [(0, 2, LIST_FIRST, AT_1), (1, 2, LIST_FIRST, AT_2)];
     plays(&rt, rt.alloc(), &mut tenants, &again);
-    assert!(rt; tenants.retain_all(1006));
+    assert!(rt; tenants.pass(1006));
     plays(&rt, rt.alloc(), &mut tenants, &gone_again);
     Ok(())
 }
@@ -175,7 +175,7 @@ fn refusals_are_counted_by_tenant(rt: HostRuntime) -> Result<(), Fail> {
 #[test]
 fn nothing_is_there_yet(rt: HostRuntime) -> Result<(), Fail> {
     let mut tenants = two(rt.alloc())?;
-    assert!(rt; !tenants.retain_all(1000));
+    assert!(rt; !tenants.pass(1000));
     let wait = Wait {
         correlation_id: 9,
         api_version: 4,

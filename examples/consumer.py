@@ -1,7 +1,7 @@
 #!/usr/bin/env python3
 """Prints what stands in partition 0 of a topic, up to its end: consumer.py HOST:PORT USER PASSWORD TOPIC [FROM]
 
-It asks for the partition by name and reads from the offset FROM (0 where it is left out): there are no consumer groups yet.
+It asks for the partition by name and reads from the offset FROM (0 where it is left out), without a group: group_consumer.py has one.
 """
 import sys
 
@@ -16,8 +16,7 @@ def main(address, user, password, topic, start="0"):
         "sasl.mechanisms": "PLAIN",
         "sasl.username": user,
         "sasl.password": password,
-        # The library wants a name and asks for the group's coordinator, which the broker answers by closing that connection.
-        # With `assign` and no commits nothing else is asked of a group.
+        # The library wants a name and asks for the group's coordinator. With `assign` and no commits nothing else is asked of a group.
         "group.id": "none",
         "enable.auto.commit": False,
         "log.connection.close": False,

@@ -1,6 +1,6 @@
 #!/bin/bash
 # Measures the broker's engine alone, without sockets: plays scripts of requests on the broker and on a plain C program, and prints
-# what a request costs each, in processor time, as topics and idle connections grow in number.
+# what a request costs each, in processor time, as topics and idle connections grow in number, or groups and their members.
 # The broker's executable is the first argument, or crates/kbroker/out/kbroker. Everything else goes into a new folder, which is
 # removed in the end.
 set -euo pipefail
@@ -56,18 +56,26 @@ for bytes in 100 1000; do
     done
     prepare "text $bytes 1 1"
     play
-done | awk -v n=$requests '
+done > ../times
+for what in Heartbeat Join; do
+    for groups in 1 1000; do
+        for members in 1 10 200; do prepare "$what $members $groups 1"; done
+    done
+    play
+done >> ../times
+awk -v n=$requests '
     {
-        script = $2 " of " $3 " bytes | " $4 " | " $5; loaded = $6; time = $7 + $8
-        if (!(script in kinds)) { scripts[++count] = script; kinds[script] = $2 $3 }
+        is_group = $2 == "Heartbeat" || $2 == "Join"
+        script = $2 " of " $3 (is_group ? " members | " : " bytes | ") $4 " | " $5; loaded = $6; time = $7 + $8
+        if (!(script in kinds)) { scripts[++count] = script; kinds[script] = is_group ? $2 : $2 $3 }
         if (!(($1, script, loaded) in best) || time < best[$1, script, loaded]) best[$1, script, loaded] = time
     }
     function cost(player, script) { return (best[player, script, 1] - best[player, script, 0]) / n }
     END {
-        print "what | topics | idle connections | broker: requests/s, us | plain C: the same | ratio | against the first of its kind"
+        print "what | topics or groups | idle connections | broker: requests/s, us | plain C: the same | ratio | against the first of its kind"
         for (i = 1; i <= count; i++) {
             script = scripts[i]; kind = kinds[script]; b = cost("broker", script); c = cost("floor", script)
             if (!(kind in first)) first[kind] = b
             printf "%s | %.0f | %.2f | %.0f | %.2f | %.2f | %.2f\n", script, 1 / b, b * 1e6, 1 / c, c * 1e6, b / c, b / first[kind]
         }
-    }'
+    }' ../times

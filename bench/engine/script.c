@@ -1,18 +1,24 @@
 /* Writes a script of events for `kbroker script`: a set-up, and so many requests behind it.
 
        script Produce|Fetch|text BYTES TOPICS IDLE REQUESTS
+       script Heartbeat|Join MEMBERS GROUPS IDLE REQUESTS
 
    Connection 1 asks before it logs in, and is shut. Connection 2 is of the first tenant: it makes the topics, 1,000 at most, and
    fills them where they are to be fetched from. That many idle ones, of all tenants in turn, log in and then say nothing.
    The requests go through the topics in turn, each with one batch of one record of so many bytes. They come on connection 2;
-   at `text` they are those of Produce and come on the connection that was shut, so that they are read and go no further. */
+   at `text` they are those of Produce and come on the connection that was shut, so that they are read and go no further.
+
+   Groups are of the first tenant too, 1,000 at most, with 200 members each at most. The members of a place in all groups have one
+   connection, the first ones connection 2. They join one after another, and then the first one again, with which all are in. Heartbeats
+   come on connection 2, one of each group in turn and then one of the next member of each. At `Join` the members of a group join
+   again, the first one last, which answers all, and then those of the next group. */
 #include <stdio.h>
 #include <stdlib.h>
 
 #include "batch.h"
 #include "hex.h"
 
-enum { SHUT = 1, ASKING, IDLE, TENANTS = 16, FILLED = 10000, MOST = 1 << 15 };
+enum { SHUT = 1, ASKING, TENANTS = 16, FILLED = 10000, MOST = 1 << 15, MEMBERS = 200 };
 
 static uint8_t request[MOST + 256];
 
@@ -77,19 +83,65 @@ static void fetch(int topic, int offset, size_t size) {
     ask(ASKING, put(p, size, 4));
 }
 
+/* The name of a member: numbers are given out as they join, from 1 on. */
+static uint8_t *put_member(uint8_t *p, int number) {
+    char name[16];
+    int n = number ? sprintf(name, "m-%d", number) : 0;
+    return put_bytes(put(p, n, 2), name, n);
+}
+
+/* The member of a number joins a group, as a new one where it has none yet. */
+static void join(int connection, int group, int number) {
+    uint8_t *p = put_name(begin(11, 1), group);
+    p = put(put(p, 10000, 4), 20000, 4);
+    p = put_bytes(put_member(p, number), "\0\10consumer\0\0\0\1\0\5range\0\0\0\1\1", 26);
+    ask(connection, p);
+}
+
+/* The members of a group, of which the first has a number, join again. */
+static void join_again(int group, int members, int first) {
+    for (int i = members; i--;)
+        join(ASKING + i, group, first + i);
+}
+
+static void beat(int group, int number) {
+    uint8_t *p = put(put_name(begin(12, 0), group), 2, 4);
+    ask(ASKING, put_member(p, number));
+}
+
+static void ask_groups(int joins, int members, int groups, int requests) {
+    for (int i = 0; i < groups; i++) {
+        for (int k = 0; k < members; k++)
+            join(ASKING + k, i, 0);
+        join(ASKING, i, i * members + 1);
+    }
+    for (int i = 0; joins && i < requests / members; i++)
+        join_again(i % groups, members, i % groups * members + 1);
+    for (int i = 0; !joins && i < requests; i++)
+        beat(i % groups, i % groups * members + i / groups % members + 1);
+}
+
 int main(int count, char **words) {
     static uint8_t batch[MOST + 128];
     if (count != 6 || atoi(words[2]) > MOST)
         return 2;
     int topics = atoi(words[3]), idle = atoi(words[4]), requests = atoi(words[5]);
     int fetches = *words[1] == 'F', connection = *words[1] == 't' ? SHUT : ASKING;
+    int joins = *words[1] == 'J', members = joins || *words[1] == 'H' ? atoi(words[2]) : 1;
+    if (members < 1 || members > MEMBERS)
+        return 2;
     size_t size = put_batch(batch, 1, atoi(words[2]));
 
     printf("open %d\n", SHUT);
     ask(SHUT, put(begin(3, 1), -1, 4));
-    log_in(ASKING, 0);
+    for (int i = 0; i < members; i++)
+        log_in(ASKING + i, 0);
     for (int i = 0; i < idle; i++)
-        log_in(IDLE + i, i % TENANTS);
+        log_in(ASKING + members + i, i % TENANTS);
+    if (joins || *words[1] == 'H')
+        ask_groups(joins, members, topics, requests);
+    if (joins || *words[1] == 'H')
+        return fflush(stdout) || ferror(stdout);
     for (int i = 0; i < topics; i++)
         make(i);
     for (int i = 0; fetches && i < FILLED; i++)

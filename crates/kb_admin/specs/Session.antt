@@ -42,7 +42,7 @@ asked_text stages.Ended s = []
 
 -- ---- what a reply comes to
 
--- a fault of reading, as the session's
+-- what a fault of reading is to the one who asked for a task
 abbrev pub read_fault : ReadFault → AdminFault
 read_fault read_faults.Memory = faults.Memory
 read_fault (read_faults.Wire fault) = faults.Protocol

@@ -2,7 +2,9 @@ mod Commits
 mod Joins
 mod Lists
 mod Named
+mod Order
 mod Places
+mod Search
 mod Steps
 mod Ticking
 mod Written

@@ -48,28 +48,6 @@ map_end f i xs done all inv h = sym (ap (λ l. done ++ map f l) (drop_end i xs h
 
 -- ## The place of a group
 
-shifted_more : (i : ℕ) (o : Option ℕ) → option_map (λ k. i + k) (option_map suc o) ≡ option_map (λ k. (i + 1) + k) o
-shifted_more i None = refl
-shifted_more i (Some k) = ap Some (omega arith)
-
-pub place_go : (id : List ℕ) (es : List Entry) (i : ℕ) (e : Entry) (o : Option ℕ) → o ≡ option_map (λ k. i + k) (place_of id (drop i es)) → slice_get es i ≡ Some e → bytes_eq e.id id ≡ false → o ≡ option_map (λ k. (i + 1) + k) (place_of id (drop (i + 1) es))
-unfolding place_of
-place_go id es i e o inv at differ =
-    inv ∙ ap (λ l. option_map (λ k. i + k) (place_of id l)) (drop_next i es e at)
-    ∙ ap (λ b. option_map (λ k. i + k) (if b then Some 0 else option_map suc (place_of id (drop (i + 1) es)))) differ
-    ∙ shifted_more i (place_of id (drop (i + 1) es))
-
-pub place_stop : (id : List ℕ) (es : List Entry) (i : ℕ) (e : Entry) (o : Option ℕ) → o ≡ option_map (λ k. i + k) (place_of id (drop i es)) → slice_get es i ≡ Some e → bytes_eq e.id id ≡ true → Some i ≡ o
-unfolding place_of
-place_stop id es i e o inv at same =
-    sym (inv ∙ ap (λ l. option_map (λ k. i + k) (place_of id l)) (drop_next i es e at)
-    ∙ ap (λ b. option_map (λ k. i + k) (if b then Some 0 else option_map suc (place_of id (drop (i + 1) es)))) same
-    ∙ ap Some (omega arith))
-
-pub place_end : (id : List ℕ) (es : List Entry) (i : ℕ) (o : Option ℕ) → o ≡ option_map (λ k. i + k) (place_of id (drop i es)) → length es ≤ i → None ≡ o
-unfolding place_of
-place_end id es i o inv h = sym (inv ∙ ap (λ l. option_map (λ k. i + k) (place_of id l)) (drop_end i es h))
-
 -- The group at its place.
 pub found_at : (id : List ℕ) (es : List Entry) (i : ℕ) (e : Entry) → place_of id es ≡ Some i → slice_get es i ≡ Some e → found id es ≡ Some e.group
 unfolding found place_of
@@ -129,29 +107,7 @@ place_below id (x ∷ es) i p = by (bytes_eq x.id id) (place_of id es) p (λ j q
     by false None q rest = absurd (none-some i q)
     by false (Some j) q rest = omega (arith, same_Some _ _ q, rest j refl)
 
-pub place_init : (o : Option ℕ) → o ≡ option_map (λ k. 0 + k) o
-place_init None = refl
-place_init (Some k) = ap Some (omega arith)
-
 -- ## The place of a new group
-
-pub above_go : (id : List ℕ) (es : List Entry) (i n : ℕ) (e : Entry) → n ≡ i + first_above id (drop i es) → slice_get es i ≡ Some e → is_lt (slice_cmp nat_cmp id e.id) ≡ false → n ≡ (i + 1) + first_above id (drop (i + 1) es)
-unfolding first_above
-above_go id es i n e inv at differ =
-    let next : first_above id (drop i es) ≡ suc (first_above id (drop (i + 1) es)) = ap (first_above id) (drop_next i es e at) ∙ ap (λ b. if b then 0 else suc (first_above id (drop (i + 1) es))) differ in
-    omega (arith, inv, next)
-
-pub above_stop : (id : List ℕ) (es : List Entry) (i n : ℕ) (e : Entry) → n ≡ i + first_above id (drop i es) → slice_get es i ≡ Some e → is_lt (slice_cmp nat_cmp id e.id) ≡ true → i ≡ n
-unfolding first_above
-above_stop id es i n e inv at same =
-    let next : first_above id (drop i es) ≡ 0 = ap (first_above id) (drop_next i es e at) ∙ ap (λ b. if b then 0 else suc (first_above id (drop (i + 1) es))) same in
-    omega (arith, inv, next)
-
-pub above_end : (id : List ℕ) (es : List Entry) (i n : ℕ) → n ≡ i + first_above id (drop i es) → length es ≤ i → i ≡ n
-unfolding first_above
-above_end id es i n inv h =
-    let next : first_above id (drop i es) ≡ 0 = ap (first_above id) (drop_end i es h) in
-    omega (arith, inv, next)
 
 pub above_most : (id : List ℕ) (es : List Entry) → first_above id es ≤ length es
 unfolding first_above

@@ -1,9 +1,11 @@
 -- A call to the group at a place, and its replies.
 use Rattle.std.proofs.Common.{◌≡◌, ◌∙◌, ◌<◌, ◌≤◌, ℕ, min, List, [], ◌∷◌, ◌++◌, length, Some, None, Result, Ok, Err, append_assoc, ◌-◌, slice_get, slice_set, sym, ap, arith, length-append}
-use Rattle.std.specs.List.{flat_map, insert}
+use Rattle.std.specs.List.{All, flat_map, insert}
 use Rattle.std.specs.Prelude.{OnErr}
 use Rattle.std.proofs.lemmas.List.{append-nil}
 use Rattle.std.proofs.lemmas.List.Concat.{flat_map-append}
+use Rattle.std.proofs.lemmas.List.Elements.{All-cons, All-nil, All-push, All-same}
+use Rattle.kb_coordinator.specs.Groups.{AreInOrder}
 use Rattle.kb_groups.specs.declared.reply.Release.{Release}
 use Rattle.kb_groups.specs.declared.state.State.{State}
 use Rattle.kb_groups.specs.Moments.{next_due}
@@ -91,3 +93,18 @@ quiet_here es place e g q p r h k is = omega (arith, due_put es place (with_grou
 
 pub quiet_new : (es : List Entry) (place : ℕ) (n : Entry) (q p r : ℕ) → q ≤ earliest es → p ≤ next_due n.group → r ≡ min q p → r ≤ earliest (insert es place n)
 quiet_new es place n q p r h k is = omega (arith, due_insert es place n q p h k, is)
+
+-- ## The order of the replies
+
+pub none_ordered : {X : Type 0} (P : X → Type 0) (items : List X) → items ≡ [] → All P items
+none_ordered P items none = All-same P items [] none (All-nil P)
+
+pub one_ordered : {X : Type 0} (P : X → Type 0) (items cleared : List X) (x r : X) → items ≡ cleared ++ x ∷ [] → cleared ≡ [] → P r → All P (slice_set items 0 r)
+one_ordered P items cleared x r e h p =
+    All-same P (slice_set items 0 r) (r ∷ []) (ap (λ l. slice_set l 0 r) (e ∙ ap (λ l. l ++ x ∷ []) h)) (All-cons P r [] p (All-nil P))
+
+pub no_releases : (rs : List Release) → rs ≡ [] → AreInOrder rs
+no_releases rs none i j d le lt = absurd (omega (arith, lt, ap length none))
+
+pub more_ordered : {X : Type 0} (P : X → Type 0) (items old : List X) (x : X) → items ≡ old ++ x ∷ [] → All P old → P x → All P items
+more_ordered P items old x e all p = All-same P items (old ++ x ∷ []) e (All-push P old x all p)

@@ -1,8 +1,11 @@
 -- One group after the other, and the first moment at which something is due.
-use Rattle.std.proofs.Common.{◌≡◌, ◌∙◌, ◌+◌, ◌≤◌, ℕ, zero, suc, min, List, [], ◌∷◌, ◌++◌, length, Bool, true, false, Option, Some, None, nat_eq, if◌then◌else◌, slice_get, slice_set, take, drop, map, refl, sym, ap, arith}
+use Rattle.std.proofs.Common.{◌≡◌, ◌∙◌, ◌+◌, ◌<◌, ◌≤◌, ℕ, zero, suc, min, List, [], ◌∷◌, ◌++◌, length, Bool, true, false, Option, Some, None, get_or, nat_eq, ltb, if◌then◌else◌, slice_get, slice_set, take, drop, map, refl, sym, ap, arith}
 use Rattle.std.specs.List.{flat_map, insert}
+use Rattle.std.specs.List.Sorted.{IsPartitionPoint}
+use Rattle.std.proofs.lemmas.Bool.Decides.{nat_tests}
 use Rattle.std.proofs.lemmas.Option.{same_Some, none-some}
 use Rattle.std.proofs.Math.Numerals.{suc-eq-add-one}
+use Rattle.kb_coordinator.specs.Groups.{AreInOrder}
 use Rattle.kb_groups.specs.Moments.{never, next_due}
 use Rattle.kb_coordinator.specs.declared.groups.Entry.{Entry}
 use Rattle.kb_coordinator.specs.Groups.{earliest}
@@ -65,6 +68,11 @@ first_end i es m inv fits h =
     let rest : earliest (drop i es) ≡ never = ap earliest (drop_end i es h) in
     omega (arith, inv, rest, fits)
 
+pub none_due : (es : List Entry) → es ≡ [] → never ≤ earliest es
+unfolding earliest
+none_due [] none = omega arith
+none_due (e ∷ es) none = absurd (omega (arith, ap length none))
+
 pub first_most : (es : List Entry) → earliest es ≤ never
 unfolding earliest
 first_most [] = omega arith
@@ -102,19 +110,50 @@ among_here connection (r ∷ rs) ss reply h = by (nat_eq r.connection connection
     by true k rest = k
     by false k rest = rest k
 
-pub among_go : (connection i : ℕ) (rs : List Release) (r : Release) (o : Option Reply) → reply_among connection (drop i rs) ≡ o → slice_get rs i ≡ Some r → nat_eq r.connection connection ≡ false → reply_among connection (drop (i + 1) rs) ≡ o
+none_over : (connection : ℕ) (rs : List Release) → ((k : ℕ) (d : Release) → k < length rs → connection < (get_or rs k d).connection) → reply_among connection rs ≡ None
 unfolding reply_among
-among_go connection i rs r o inv at differ =
-    sym (ap (reply_among connection) (drop_next i rs r at) ∙ ap (λ b. if b then Some r.reply else reply_among connection (drop (i + 1) rs)) differ) ∙ inv
+none_over connection [] h = refl
+none_over connection (r ∷ rs) h =
+    let other : nat_eq r.connection connection ≡ false = let over = h 0 r (omega arith) in grind (arith, nat_tests, over) in
+    ap (λ b. if b then Some r.reply else reply_among connection rs) other ∙ none_over connection rs (λ k d lt. h (suc k) d (omega (arith, lt)))
 
-pub among_stop : (connection i : ℕ) (rs : List Release) (r : Release) (o : Option Reply) → reply_among connection (drop i rs) ≡ o → slice_get rs i ≡ Some r → nat_eq r.connection connection ≡ true → Some r.reply ≡ o
-unfolding reply_among
-among_stop connection i rs r o inv at same =
-    sym (ap (reply_among connection) (drop_next i rs r at) ∙ ap (λ b. if b then Some r.reply else reply_among connection (drop (i + 1) rs)) same) ∙ inv
+abbrev pub first_reply : ℕ → Option Release → Option Reply
+first_reply connection None = None
+first_reply connection (Some r) = if nat_eq r.connection connection then Some r.reply else None
 
-pub among_end : (connection i : ℕ) (rs : List Release) (o : Option Reply) → reply_among connection (drop i rs) ≡ o → length rs ≤ i → None ≡ o
+-- Where they stand by connection, the first that is not below it has the reply, if one has.
+pub among_from : (connection i : ℕ) (rs : List Release) → i ≤ length rs → IsPartitionPoint (λ (r : Release). ltb r.connection connection ≡ true) (λ (r : Release). ltb r.connection connection ≡ false) rs i → AreInOrder rs → reply_among connection rs ≡ first_reply connection (slice_get rs i)
 unfolding reply_among
-among_end connection i rs o inv h = sym (ap (reply_among connection) (drop_end i rs h)) ∙ inv
+among_from connection i [] within parted order = refl
+among_from connection zero (r ∷ rs) within parted order =
+    by (nat_eq r.connection connection) refl
+  where
+    by : (b : Bool) → nat_eq r.connection connection ≡ b → (if b then Some r.reply else reply_among connection rs) ≡ (if b then Some r.reply else None)
+    by true h = refl
+    by false h =
+        let high = parted.1 0 r (omega arith) (omega arith) in
+        let over : connection < r.connection = grind (arith, nat_tests, h, high) in
+        none_over connection rs (λ k d lt. let next = order 0 (suc k) d (omega arith) (omega (arith, lt)) in omega (arith, over, next))
+among_from connection (suc i) (r ∷ rs) within parted order =
+    let low = parted.0 0 r (omega arith) (omega arith) in
+    let other : nat_eq r.connection connection ≡ false = grind (arith, nat_tests, low) in
+    ap (λ b. if b then Some r.reply else reply_among connection rs) other
+    ∙ among_from connection i rs (omega (arith, within)) (λ k d z l. parted.0 (suc k) d (omega arith) (omega (arith, l)), λ k d z l. parted.1 (suc k) d (omega (arith, z)) (omega (arith, l)))
+    (λ a b d le lt. order (suc a) (suc b) d (omega (arith, le)) (omega (arith, lt)))
+
+pub none_first : (connection i : ℕ) (rs : List Release) → length rs ≤ i → None ≡ first_reply connection (slice_get rs i)
+none_first connection i rs over = ap (first_reply connection) (sym (by rs i over))
+  where
+    by : (rs : List Release) (i : ℕ) → length rs ≤ i → slice_get rs i ≡ None
+    by [] i h = refl
+    by (r ∷ rs) zero h = absurd (omega (arith, h))
+    by (r ∷ rs) (suc i) h = by rs i (omega (arith, h))
+
+pub one_first : (connection i : ℕ) (rs : List Release) (r : Release) → slice_get rs i ≡ Some r → nat_eq r.connection connection ≡ true → Some r.reply ≡ first_reply connection (slice_get rs i)
+one_first connection i rs r at same = sym (ap (first_reply connection) at ∙ ap (λ b. if b then Some r.reply else None) same)
+
+pub other_first : (connection i : ℕ) (rs : List Release) (r : Release) → slice_get rs i ≡ Some r → nat_eq r.connection connection ≡ false → None ≡ first_reply connection (slice_get rs i)
+other_first connection i rs r at differ = sym (ap (first_reply connection) at ∙ ap (λ b. if b then Some r.reply else None) differ)
 
 pub lists_go : {X : Type 0} (f : X → List Release) (connection i : ℕ) (xs : List X) (x : X) (o : Option Reply) → reply_among connection (flat_map f (drop i xs)) ≡ o → slice_get xs i ≡ Some x → reply_among connection (f x) ≡ None → reply_among connection (flat_map f (drop (i + 1) xs)) ≡ o
 lists_go f connection i xs x o inv at none =

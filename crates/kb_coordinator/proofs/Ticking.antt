@@ -1,17 +1,18 @@
 -- The moments of the groups, one after the other.
 use Rattle.std.proofs.Common.{◌≡◌, ◌∙◌, ◌+◌, ◌<◌, ◌≤◌, ℕ, zero, suc, Bool, true, false, List, [], ◌∷◌, ◌++◌, length, Some, slice_get, slice_set, take, drop, map, refl, sym, ap, arith, append_assoc, length-append, nat_eq, if◌then◌else◌, subst}
 use Rattle.std.specs.List.{flat_map}
-use Rattle.std.proofs.lemmas.List.{append-nil}
+use Rattle.std.proofs.lemmas.List.{append-nil, length-map}
 use Rattle.std.proofs.lemmas.Option.{same_Some, none-some}
 use Rattle.std.proofs.Math.Numerals.{suc-eq-add-one}
 use Rattle.kb_groups.specs.declared.reply.Release.{Release}
 use Rattle.kb_groups.specs.Moments.{next_due, tick}
 use Rattle.kb_groups.proofs.Quiet.{tick_early}
 use Rattle.kb_coordinator.specs.declared.groups.Entry.{Entry}
-use Rattle.kb_coordinator.specs.Groups.{Groups, earliest}
-use Rattle.kb_coordinator.specs.Calls.{Ticks, at_moment, some_released, some_ticked, ticked, unmarked}
+use Rattle.kb_coordinator.specs.Groups.{AreSorted, Groups, earliest}
+use Rattle.kb_coordinator.specs.Calls.{Ticks, at_moment, hung_up, some_released, some_ticked, ticked, unmarked}
 use Rattle.kb_coordinator.proofs.Lists.{drop_end}
 use Rattle.kb_coordinator.proofs.Places.{groups_of}
+use Rattle.kb_coordinator.proofs.Search.{ids_each, sorted_same, sorted_ticked}
 
 ticked_more : (clock : ℕ) (marks : List Bool) (es : List Entry) (b : Bool) (e : Entry) → length marks ≡ length es → some_ticked clock (marks ++ b ∷ []) (es ++ e ∷ []) ≡ some_ticked clock marks es ++ (if b then ticked clock e else e) ∷ []
 unfolding some_ticked
@@ -207,3 +208,12 @@ pub each_moment : (clock n : ℕ) (es new : List Entry) (members : ℕ) (old rs 
 each_moment clock n es new members old rs now k view ticks len =
     subst (λ (gs : Groups). Ticks clock gs.groups (take n (new ++ drop (length new) es)) rs k) view
     (subst (λ (l : List Entry). Ticks clock es l rs k) (sym (written_back n new es (ticks_length clock es new rs k ticks) len)) ticks)
+
+-- The order of the ids stays.
+pub sorted_moment : (clock n : ℕ) (es new : List Entry) (rs : List Release) (k : ℕ) → Ticks clock es new rs k → n ≡ length es → AreSorted es → AreSorted (take n (new ++ drop (length new) es))
+sorted_moment clock n es new rs k ticks len rises =
+    subst AreSorted (sym (written_back n new es (ticks_length clock es new rs k ticks) len)) (sorted_ticked clock es new rs k ticks rises)
+
+pub sorted_left : (clock connection n : ℕ) (es new : List Entry) → new ≡ map (hung_up clock connection) es → n ≡ length es → AreSorted es → AreSorted (take n (new ++ drop (length new) es))
+sorted_left clock connection n es new is len rises =
+    subst AreSorted (sym (written_back n new es (ap length is ∙ length-map es (hung_up clock connection)) len)) (sorted_same es new (ids_each (hung_up clock connection) (λ e. refl) es ∙ ap (map (λ (e : Entry). e.id)) (sym is)) rises)

@@ -1,9 +1,10 @@
 -- The groups of a tenant.
-use Rattle.std.specs.Prelude.{ℕ, suc, min, List, [], ◌∷◌, Option, Some, None, bytes_eq, if◌then◌else◌}
+use Rattle.std.specs.Prelude.{ℕ, suc, min, List, [], ◌∷◌, map, Option, Some, None, bytes_eq, if◌then◌else◌}
 use Rattle.std.specs.Option.{option_map}
 use Rattle.std.specs.Ordering.{is_lt, nat_cmp}
 use Rattle.std.specs.Cmp.Lexicographic.{slice_cmp}
 use Rattle.std.specs.List.{insert}
+use Rattle.std.specs.List.Sorted.{IsNonDecreasingBy, IsStrictlySortedBy}
 use Rattle.kb_groups.specs.declared.state.State.{State}
 use Rattle.kb_groups.specs.declared.reply.Release.{Release}
 use Rattle.kb_groups.specs.Moments.{never, next_due}
@@ -22,6 +23,14 @@ none = record { groups = []; members = 0; released = [] }
 -- Nobody who waited is answered.
 abbrev pub silent : Groups → Groups
 silent gs = record gs { released = [] }
+
+-- Each id is below those after it, in byte order.
+abbrev pub AreSorted : List Entry → Type 0
+AreSorted es = IsStrictlySortedBy (slice_cmp nat_cmp) (map (λ e. e.id) es)
+
+-- The replies stand by rising connection number.
+abbrev pub AreInOrder : List Release → Type 0
+AreInOrder rs = IsNonDecreasingBy (λ (r : Release). r.connection) rs
 
 -- The group of that id.
 unfoldable pub found : List ℕ → List Entry → Option State

@@ -26,19 +26,19 @@ pub struct Coordinator {
 
 impl Model for Coordinator {
     ghost use Rattle.std.specs.Prelude.{◌≤◌};
-    ghost use Rattle.std.specs.List.{flat_map};
-    ghost use Rattle.kb_coordinator.specs.Groups.{Groups, earliest};
+    ghost use Rattle.std.specs.List.{All, flat_map};
+    ghost use Rattle.kb_coordinator.specs.Groups.{AreInOrder};
+    ghost use Rattle.kb_coordinator.specs.Groups.{AreSorted, Groups, earliest};
 
     ghost Value = { Groups };
 
     ghost view = { λ c. record { groups = c.groups.items; members = c.members; released = flat_map (λ v. v.items) c.released.items } };
 
-    ghost invariant = { λ c. (c.members ≤ 9223372036854775807) × (c.quiet_until ≤ earliest c.groups.items) };
+    ghost invariant = { λ c. (c.members ≤ 9223372036854775807) × (c.quiet_until ≤ earliest c.groups.items) × AreSorted c.groups.items × All (λ v. AreInOrder v.items) c.released.items };
 }
 
 impl Coordinator {
     /// No groups. It takes no memory.
-    #[tactic(auto, unfolding(crate::specs::Groups::earliest))]
     pub fn new(alloc: Global) -> Coordinator
         ensures { result ≡ none }
     {
@@ -58,7 +58,7 @@ impl Coordinator {
         self.released.clear();
     }
 
-    /// The place of the group of that id.
+    /// The place of the group of that id, by halving.
     pub(crate) fn place(&self, id: &str) -> Option<usize>
         ensures { result ≡ place_of id.now self.now.groups }
     {

@@ -1,6 +1,6 @@
 //! Groups by their ids.
 ghost use Rattle.std.specs.Prelude.{◌≡◌};
-ghost use Rattle.kb_coordinator.specs.Groups.{first_above, place_of};
+ghost use Rattle.kb_coordinator.specs.Groups.{AreSorted, first_above, place_of};
 
 use kb_groups::{Bytes, Group};
 
@@ -11,26 +11,28 @@ pub struct Entry {
     pub group: Group,
 }
 
-/// The place of the group of that id.
+/// The place of the group of that id, by halving.
 pub(crate) fn place_of(groups: &[Entry], id: &[u8]) -> Option<usize>
+    requires { AreSorted groups.now }
     ensures { result ≡ place_of id.now groups.now }
 {
-    for i in 0..groups.len() {
-        if groups[i].id.as_slice() == id {
-            return Some(i);
-        }
+    let above = first_above(groups, id);
+    if above == 0 {
+        return None;
     }
-    None
+    let place = above - 1;
+    let entry = groups.get(place)?;
+    if entry.id.as_slice() == id {
+        Some(place)
+    } else {
+        None
+    }
 }
 
-/// The place of the first group whose id is above that one, in byte order.
+/// The place of the first group whose id is above that one, in byte order, by halving.
 pub(crate) fn first_above(groups: &[Entry], id: &[u8]) -> usize
+    requires { AreSorted groups.now }
     ensures { result ≡ first_above id.now groups.now }
 {
-    for i in 0..groups.len() {
-        if id.cmp(groups[i].id.as_slice()).is_lt() {
-            return i;
-        }
-    }
-    groups.len()
+    groups.partition_point(|entry| entry.id.as_slice().cmp(id).is_le())
 }

@@ -1,7 +1,7 @@
 //! Members join the groups of a tenant.
-ghost use Rattle.std.specs.Prelude.{◌≡◌, ◌<◌, ◌≤◌, IfOk, OnErr, OnOk, length, slice_get, Some};
+ghost use Rattle.std.specs.Prelude.{◌≡◌, ◌<◌, ◌≤◌, IfOk, OnErr, OnOk, length, slice_get, None, Some};
 ghost use Rattle.kb_coordinator.specs.declared.groups.Entry.{Entry};
-ghost use Rattle.kb_coordinator.specs.Groups.{silent};
+ghost use Rattle.kb_coordinator.specs.Groups.{place_of, silent};
 ghost use Rattle.kb_coordinator.specs.Calls.{after_join, after_known, after_new, full, given_with, is_accepted, join_code, known_code, lacks_number, new_code, unless_refused};
 
 use crate::convert::{asked_member, error_of, offers};
@@ -119,7 +119,8 @@ impl Coordinator {
         request: &Join<'_>,
         clock: u64,
     ) -> Result<ErrorCode, AllocError>
-        requires { clock ≤ 4611686018427387904 }
+        requires absent { place_of id.now self.old.groups ≡ None }
+        requires clock { clock ≤ 4611686018427387904 }
         ensures code { IfOk result (λ code. code ≡ new_code request.now self.old) }
         ensures after { OnOk result (self.new ≡ after_new clock request.now id.now self.old) }
         ensures refused { OnErr result (self.new ≡ silent self.old) }

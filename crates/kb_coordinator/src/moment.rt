@@ -1,6 +1,7 @@
 //! Moments, and connections that end.
 ghost use Rattle.std.specs.Prelude.{◌≡◌, ◌≤◌, ◌++◌, OnErr, OnOk, IfNone, IfSome, [], false, if◌then◌else◌, map, min, nat_eq, option_copied};
-ghost use Rattle.std.specs.List.{flat_map};
+ghost use Rattle.std.specs.List.{All, flat_map};
+ghost use Rattle.kb_coordinator.specs.Groups.{AreInOrder};
 ghost use Rattle.kb_groups.specs.Moments as due;
 ghost use Rattle.kb_groups.specs.Moments.{tick};
 ghost use Rattle.kb_coordinator.specs.Groups.{earliest};
@@ -60,10 +61,12 @@ fn tick_one(
     clock: u64,
     released: &mut Vec<Vec<Release>>,
 ) -> Result<(), AllocError>
-    requires { clock ≤ 4611686018427387904 }
+    requires clock { clock ≤ 4611686018427387904 }
+    requires order { All (λ v. AreInOrder v.items) released.old.items }
     ensures entry { OnOk result (entry.new ≡ ticked clock entry.old) }
     ensures released { OnOk result (flat_map (λ v. v.items) released.new.items ≡ flat_map (λ v. v.items) released.old.items ++ (tick clock entry.old.group).released) }
     ensures refused { OnErr result ((entry.new ≡ entry.old) × (flat_map (λ v. v.items) released.new.items ≡ flat_map (λ v. v.items) released.old.items)) }
+    ensures order { All (λ v. AreInOrder v.items) released.new.items }
 {
     if clock < entry.group.quiet_until() {
         return Ok(());
@@ -82,9 +85,11 @@ fn tick_counted(
     clock: u64,
     released: &mut Vec<Vec<Release>>,
 ) -> usize
-    requires { clock ≤ 4611686018427387904 }
+    requires clock { clock ≤ 4611686018427387904 }
+    requires order { All (λ v. AreInOrder v.items) released.old.items }
     ensures entry { entry.new ≡ (if nat_eq result 0 then ticked clock entry.old else entry.old) }
     ensures released { flat_map (λ v. v.items) released.new.items ≡ flat_map (λ v. v.items) released.old.items ++ (if nat_eq result 0 then (tick clock entry.old.group).released else []) }
+    ensures order { All (λ v. AreInOrder v.items) released.new.items }
     ensures most { result ≤ 1 }
 {
     match tick_one(alloc, entry, clock, released) {
@@ -102,7 +107,9 @@ fn tick_each(
 ) -> usize
     requires clock { clock ≤ 4611686018427387904 }
     requires silent { flat_map (λ v. v.items) released.old.items ≡ [] }
-    ensures { Ticks clock groups.old groups.new (flat_map (λ v. v.items) released.new.items) result }
+    requires order { All (λ v. AreInOrder v.items) released.old.items }
+    ensures ticks { Ticks clock groups.old groups.new (flat_map (λ v. v.items) released.new.items) result }
+    ensures order { All (λ v. AreInOrder v.items) released.new.items }
 {
     let mut refused = 0;
     for i in 0..groups.len() {
@@ -111,21 +118,23 @@ fn tick_each(
     refused
 }
 
-/// The reply on that connection among these.
+/// The reply on that connection among these, by halving.
 fn reply_among(releases: &[Release], connection: u64) -> Option<&Reply>
+    requires { AreInOrder releases.now }
     ensures { option_copied result ≡ reply_among connection releases.now }
 {
-    for i in 0..releases.len() {
-        if releases[i].connection == connection {
-            return Some(&releases[i].reply);
-        }
+    let place = releases.partition_point(|release| release.connection < connection);
+    let release = releases.get(place)?;
+    if release.connection == connection {
+        Some(&release.reply)
+    } else {
+        None
     }
-    None
 }
 
 impl Coordinator {
     /// A connection is closed or shut: it waits no longer. The member whose request waited stays, and its session starts. It takes no
-    /// memory.
+    /// memory, and looks at the members of those groups alone in which a request waits.
     pub fn left(&mut self, connection: u64, clock: u64)
         ensures { self.new ≡ left clock connection self.old }
     {
@@ -199,7 +208,8 @@ impl Coordinator {
         self.released.as_slice()
     }
 
-    /// What the request that waits on that connection is answered, if the last request or moment answered it.
+    /// What the request that waits on that connection is answered, if the last request or moment answered it. Each group's replies are
+    /// searched by halving.
     pub fn reply_to(&self, connection: u64) -> Option<&Reply>
         ensures { option_copied result ≡ reply_to connection self.now }
     {

@@ -6,3 +6,4 @@ pub mod Place
 pub mod Steps
 pub mod Settled
 pub mod Quiet
+pub mod Waiting

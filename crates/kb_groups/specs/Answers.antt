@@ -1,5 +1,5 @@
 -- Requests that wait, and their replies.
-use Rattle.std.specs.Prelude.{ℕ, Bool, true, false, List, [], ◌∷◌, Option, Some, None, nat_lt, nat_eq, if◌then◌else◌}
+use Rattle.std.specs.Prelude.{ℕ, Bool, true, false, ◌||◌, List, [], ◌∷◌, Option, Some, None, is_some, nat_lt, nat_eq, if◌then◌else◌}
 use Rattle.kb_groups.specs.declared.code.Code.{Code}
 use Rattle.kb_groups.specs.declared.code.Code.TheVariants.{RebalanceInProgress}
 use Rattle.kb_groups.specs.declared.member.Asked.{Asked}
@@ -32,6 +32,11 @@ waits_join (Some w) = is_join w.asked
 abbrev pub waits_on : ℕ → Option Waiter → Bool
 waits_on connection None = false
 waits_on connection (Some w) = nat_eq w.connection connection
+
+-- Whether a request of some member waits.
+unfoldable pub any_waits : Roster → Bool
+any_waits [] = false
+any_waits (e ∷ ms) = is_some e.1.waiter || any_waits ms
 
 -- The refusal of the request of member n that waited: a refused join names the member that it asked for, none at a first join.
 abbrev pub refusal : Code → ℕ → Asked → Reply

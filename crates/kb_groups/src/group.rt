@@ -19,18 +19,21 @@ pub struct Group {
     state: State,
     /// Before this moment no session ends and no deadline comes.
     quiet_until: u64,
+    /// Whether a request of some member waits.
+    has_waiting: bool,
 }
 
 impl Model for Group {
-    ghost use Rattle.std.specs.Prelude.{◌≤◌};
+    ghost use Rattle.std.specs.Prelude.{◌≡◌, ◌≤◌};
     ghost use Rattle.kb_groups.specs.declared.state.State.{State};
+    ghost use Rattle.kb_groups.specs.Answers.{any_waits};
     ghost use Rattle.kb_groups.specs.Moments.{next_due};
 
     ghost Value = { State };
 
     ghost view = { λ g. g.state };
 
-    ghost invariant = { λ g. g.quiet_until ≤ next_due g.state };
+    ghost invariant = { λ g. (g.quiet_until ≤ next_due g.state) × (g.has_waiting ≡ any_waits g.state.members) };
 }
 
 impl Group {
@@ -41,6 +44,7 @@ impl Group {
         Group {
             state: State::new(alloc),
             quiet_until: 0,
+            has_waiting: false,
         }
     }
 
@@ -88,6 +92,7 @@ impl Group {
     {
         let result = self.state.join(alloc, request, clock);
         self.quiet_until = self.state.next_due();
+        self.has_waiting = self.state.members.any_waits();
         result
     }
 
@@ -110,6 +115,7 @@ impl Group {
             .state
             .sync(alloc, connection, number, generation, assignments, clock);
         self.quiet_until = self.state.next_due();
+        self.has_waiting = self.state.members.any_waits();
         result
     }
 
@@ -148,15 +154,21 @@ impl Group {
     {
         let result = self.state.leave(alloc, number, clock);
         self.quiet_until = self.state.next_due();
+        self.has_waiting = self.state.members.any_waits();
         result
     }
 
     /// The wait of a closed connection goes; the member stays. It takes no memory.
+    /// Where no request of a member waits it costs constant time.
     pub fn dropped(&mut self, connection: u64, clock: u64)
         ensures { self.new ≡ dropped clock connection self.old }
     {
+        if !self.has_waiting {
+            return;
+        }
         self.state.dropped(connection, clock);
         self.quiet_until = self.state.next_due();
+        self.has_waiting = self.state.members.any_waits();
     }
 
     /// A moment: sessions end, and then a deadline comes; with the requests that wait no longer, by connection.
@@ -172,6 +184,7 @@ impl Group {
         }
         let result = self.state.tick(alloc, clock);
         self.quiet_until = self.state.next_due();
+        self.has_waiting = self.state.members.any_waits();
         result
     }
 }

@@ -3,6 +3,7 @@
 ghost use Rattle.std.specs.Prelude.{◌≡◌, ◌+◌, ◌<◌, ℕ, IfOk, OnErr, OnOk, length, is_some, option_copied, []};
 ghost use Rattle.kb_groups.specs.declared.member.Member.{Member};
 ghost use Rattle.kb_groups.specs.Members.{Roster, member, changed, put, without, each, has_none};
+ghost use Rattle.kb_groups.specs.Answers.{any_waits};
 ghost use Rattle.kb_groups.specs.Rebalance.{longest, all_join, next_leader};
 
 use crate::change::Change;
@@ -109,6 +110,20 @@ impl Members {
             }
         }
         true
+    }
+
+    /// Whether a request of some member waits.
+    pub(crate) fn any_waits(&self) -> bool
+        ensures { result ≡ any_waits self.now }
+    {
+        for i in 0..self.map.len() {
+            if let Some((_, member)) = self.map.get_index(i) {
+                if member.waiter.is_some() {
+                    return true;
+                }
+            }
+        }
+        false
     }
 
     /// Changes one member, if it is here.

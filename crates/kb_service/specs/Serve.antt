@@ -1,5 +1,5 @@
 -- What a request of a tenant makes of what it keeps, and comes to for the connection that sent it.
-use Rattle.std.specs.Prelude.{◌≡◌, ℕ, ℤ, pos, List, [], Bool, Option, Some, None, Result, Ok, Err, length, nat_le, if◌then◌else◌}
+use Rattle.std.specs.Prelude.{◌≡◌, ◌⊎◌, ℕ, ℤ, pos, List, [], Bool, Option, Some, None, Result, Ok, Err, length, nat_le, if◌then◌else◌}
 use Rattle.std.specs.Ordering.{int_eq}
 use Rattle.kb_wire.specs.Codec.{whole}
 use Rattle.kb_wire.specs.declared.fault.WireFault.{WireFault}
@@ -113,3 +113,15 @@ abbrev pub IsServed : ℤ → Outcome → World → Groups → List Place → Re
 IsServed id o w gs touched (Ok answer) = IsOutcome id o w gs touched answer
 IsServed id o w gs touched (Err (faults.Wire fault)) = IsOutcome id o w gs touched (answers.Plain plain.Shut)
 IsServed id o w gs touched (Err faults.Memory) = Unit {0}
+
+-- ---- where memory was refused
+
+-- The groups are those that the request makes, or those of before without the last replies; and then the connection is shut.
+abbrev pub AreGroupsAfter : (old made : Groups) → Answer → Groups → Type 0
+AreGroupsAfter old made answer new = (new ≡ made) ⊎ ((new ≡ silent old) × (answer ≡ answers.Plain plain.Shut))
+
+-- the same, where want of memory is a fault
+abbrev pub AreGroupsBy : (old made : Groups) → Result Answer ReadFault → Groups → Type 0
+AreGroupsBy old made (Ok answer) new = new ≡ made
+AreGroupsBy old made (Err (faults.Wire fault)) new = new ≡ made
+AreGroupsBy old made (Err faults.Memory) new = (new ≡ made) ⊎ (new ≡ silent old)

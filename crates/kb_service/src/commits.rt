@@ -5,7 +5,7 @@ ghost use Rattle.kb_coordinator.specs.Calls.{after_may_commit};
 ghost use Rattle.kb_wire.specs.Codec.{whole};
 ghost use Rattle.kb_world.specs.Parts.{scene};
 ghost use Rattle.kb_world.specs.Steps.{IsStep, Meets};
-ghost use Rattle.kb_service.specs.Serve.{commit_refusal, if_read, of_offset_commit, IsServed};
+ghost use Rattle.kb_service.specs.Serve.{commit_refusal, if_read, of_offset_commit, AreGroupsBy, IsServed};
 
 use crate::answer::Answer;
 use kb_api_group::OffsetCommitRequest;
@@ -45,6 +45,8 @@ pub(crate) fn commit_offsets<L: PartitionLog + Drop, S: Store>(
     ensures step { IsStep (scene L.log S.disk parts.old shelf.old) (scene L.log S.disk parts.new shelf.new) }
     ensures meets { let a = scene L.log S.disk parts.old shelf.old in let b = scene L.log S.disk parts.new shelf.new in
         Meets a b (IsServed request.now.correlation_id (if_read a.state.world groups.old (whole offset_commit_request request.now.body.now) (of_offset_commit a.state.world groups.old)) b.state.world groups.new [] result) }
+    ensures groups { let a = scene L.log S.disk parts.old shelf.old in
+        AreGroupsBy groups.old (if_read a.state.world groups.old (whole offset_commit_request request.now.body.now) (of_offset_commit a.state.world groups.old)).groups result groups.new }
 {
     groups.silence();
     let asked = OffsetCommitRequest::read(alloc, request.body)?;

@@ -3,7 +3,7 @@ ghost use Rattle.std.specs.Prelude.{◌≡◌, ◌≤◌, ◌^◌, []};
 ghost use Rattle.kb_wire.specs.Codec.{string};
 ghost use Rattle.kb_world.specs.Parts.{scene};
 ghost use Rattle.kb_world.specs.Steps.{IsStep, Meets};
-ghost use Rattle.kb_service.specs.Serve.{has_released, served, IsOutcome, IsServed};
+ghost use Rattle.kb_service.specs.Serve.{has_released, served, AreGroupsAfter, AreGroupsBy, IsOutcome, IsServed};
 
 use crate::answer::{Answer, Served};
 use crate::commits::commit_offsets;
@@ -34,6 +34,8 @@ fn serve_by_key<L: PartitionLog + Drop, S: Store>(
     ensures step { IsStep (scene L.log S.disk parts.old shelf.old) (scene L.log S.disk parts.new shelf.new) }
     ensures meets { let a = scene L.log S.disk parts.old shelf.old in let b = scene L.log S.disk parts.new shelf.new in
         Meets a b (IsServed request.now.correlation_id (served node.now a.state.world groups.old request.now.connection request.now.api_key request.now.api_version request.now.body.now) b.state.world groups.new touched.new.items result) }
+    ensures groups { let a = scene L.log S.disk parts.old shelf.old in
+        AreGroupsBy groups.old (served node.now a.state.world groups.old request.now.connection request.now.api_key request.now.api_version request.now.body.now).groups result groups.new }
 {
     let clock = parts.clock();
     match request.api_key {
@@ -54,8 +56,8 @@ fn serve_by_key<L: PartitionLog + Drop, S: Store>(
 /// Serves a request of a tenant, at the clock of its parts, in milliseconds.
 ///
 /// A body that is not the API's, a key that is not a tenant's and a reply whose size does not fit an INT32 shut the connection. So does
-/// want of memory for the read request, the reply or a wait, which is counted; changes that were made stay, and a call of a group that
-/// was refused memory made none. The host is to fit a STRING.
+/// want of memory for the read request, the reply or a wait, which is counted. Whatever was refused, and on any store, the groups are
+/// then those that the request makes, or those of before without the last replies. The host is to fit a STRING.
 pub fn serve<L: PartitionLog + Drop, S: Store>(
     alloc: Global,
     parts: &mut Parts<L>,
@@ -70,6 +72,8 @@ pub fn serve<L: PartitionLog + Drop, S: Store>(
     ensures step { IsStep (scene L.log S.disk parts.old shelf.old) (scene L.log S.disk parts.new shelf.new) }
     ensures meets { let a = scene L.log S.disk parts.old shelf.old in let b = scene L.log S.disk parts.new shelf.new in
         Meets a b (IsOutcome request.now.correlation_id (served node.now a.state.world groups.old request.now.connection request.now.api_key request.now.api_version request.now.body.now) b.state.world groups.new result.touched.items result.answer) }
+    ensures groups { let a = scene L.log S.disk parts.old shelf.old in
+        AreGroupsAfter groups.old (served node.now a.state.world groups.old request.now.connection request.now.api_key request.now.api_version request.now.body.now).groups result.answer groups.new }
     ensures released { result.released ≡ has_released groups.new }
 {
     let mut touched = Vec::new(alloc);

@@ -8,7 +8,7 @@ ghost use Rattle.kb_tenant.specs.Replies.{begun};
 ghost use Rattle.kb_wire.specs.Codec.{whole};
 ghost use Rattle.kb_world.specs.World.{World};
 ghost use Rattle.kb_service.specs.Replies.{IsAnswer};
-ghost use Rattle.kb_service.specs.Serve.{if_read, of_heartbeat, of_join, of_leave, of_sync, sync_reaction, IsServed};
+ghost use Rattle.kb_service.specs.Serve.{if_read, of_heartbeat, of_join, of_leave, of_sync, sync_reaction, AreGroupsBy, IsServed};
 
 use crate::answer::Answer;
 use kb_api_group::{
@@ -32,8 +32,10 @@ pub(crate) fn join_group(
     request: &Request<'_>,
 ) -> Result<Answer, ReadFault>
     requires { clock ≤ 4611686018427387904 }
-    ensures { (w : World) → w.clock ≡ clock →
+    ensures served { (w : World) → w.clock ≡ clock →
         IsServed request.now.correlation_id (if_read w groups.old (whole join_group_request request.now.body.now) (of_join w request.now.connection groups.old)) w groups.new [] result }
+    ensures groups { (w : World) → w.clock ≡ clock →
+        AreGroupsBy groups.old (if_read w groups.old (whole join_group_request request.now.body.now) (of_join w request.now.connection groups.old)).groups result groups.new }
 {
     groups.silence();
     let asked = JoinGroupRequest::read(alloc, request.body)?;
@@ -64,8 +66,10 @@ pub(crate) fn sync_group(
     clock: u64,
     request: &Request<'_>,
 ) -> Result<Answer, ReadFault>
-    ensures { (w : World) → w.clock ≡ clock →
+    ensures served { (w : World) → w.clock ≡ clock →
         IsServed request.now.correlation_id (if_read w groups.old (whole sync_group_request request.now.body.now) (of_sync w request.now.connection groups.old)) w groups.new [] result }
+    ensures groups { (w : World) → w.clock ≡ clock →
+        AreGroupsBy groups.old (if_read w groups.old (whole sync_group_request request.now.body.now) (of_sync w request.now.connection groups.old)).groups result groups.new }
 {
     groups.silence();
     let asked = SyncGroupRequest::read(alloc, request.body)?;
@@ -82,8 +86,10 @@ pub(crate) fn heartbeat(
     clock: u64,
     request: &Request<'_>,
 ) -> Result<Answer, ReadFault>
-    ensures { (w : World) → w.clock ≡ clock →
+    ensures served { (w : World) → w.clock ≡ clock →
         IsServed request.now.correlation_id (if_read w groups.old (whole heartbeat_request request.now.body.now) (of_heartbeat w groups.old)) w groups.new [] result }
+    ensures groups { (w : World) → w.clock ≡ clock →
+        AreGroupsBy groups.old (if_read w groups.old (whole heartbeat_request request.now.body.now) (of_heartbeat w groups.old)).groups result groups.new }
 {
     groups.silence();
     let asked = HeartbeatRequest::read(alloc, request.body)?;
@@ -106,8 +112,10 @@ pub(crate) fn leave_group(
     request: &Request<'_>,
 ) -> Result<Answer, ReadFault>
     requires { clock ≤ 4611686018427387904 }
-    ensures { (w : World) → w.clock ≡ clock →
+    ensures served { (w : World) → w.clock ≡ clock →
         IsServed request.now.correlation_id (if_read w groups.old (whole leave_group_request request.now.body.now) (of_leave w groups.old)) w groups.new [] result }
+    ensures groups { (w : World) → w.clock ≡ clock →
+        AreGroupsBy groups.old (if_read w groups.old (whole leave_group_request request.now.body.now) (of_leave w groups.old)).groups result groups.new }
 {
     groups.silence();
     let asked = LeaveGroupRequest::read(alloc, request.body)?;

@@ -1,7 +1,7 @@
-use Rattle.std.proofs.Common.{rules, ◌≡◌, pos, false, [], sym, subst}
+use Rattle.std.proofs.Common.{rules, ◌≡◌, ◌∙◌, pos, false, [], ap, sym, subst}
 use Rattle.std.specs.Ordering.{int_eq}
 use Rattle.kb_world.specs.Parts.{world_of}
-use Rattle.kb_service.specs.Serve.{served, IsOutcome, IsServed}
+use Rattle.kb_service.specs.Serve.{served, AreGroupsBy, IsOutcome, IsServed}
 use Rattle.kb_service.specs.declared.answer.Answer.TheVariants as answers
 use Rattle.kb_service.proofs.Keys.{served_commit, served_heartbeat, served_join, served_leave, served_sync, served_topics}
 use Rattle.kb_service.proofs.dispatch.serve_by_key.Goals as goal
@@ -25,7 +25,7 @@ returns-in-11-clause-meets g c = λ honest agree calm.
     let key : request.api_key ≡ pos 11 = search rules in
     subst (λ ts. IsServed request.correlation_id (served c.args.node.now w gs request.connection request.api_key request.api_version request.body.now) w c.join_group.new.groups ts c.join_group.result) (sym c.requires.untouched)
     (subst (λ o. IsServed request.correlation_id o w c.join_group.new.groups [] c.join_group.result) (sym (served_join c.args.node.now w gs request.connection request.api_key request.api_version request.body.now key))
-    (c.join_group.ensures w (sym c.clock-clock.ensures)))
+    (c.join_group.ensures.served w (sym c.clock-clock.ensures)))
 
 pub returns-in-12-clause-meets : goal.returns-in-12-clause-meets
 returns-in-12-clause-meets g c = λ honest agree calm.
@@ -35,7 +35,7 @@ returns-in-12-clause-meets g c = λ honest agree calm.
     let key : request.api_key ≡ pos 12 = search rules in
     subst (λ ts. IsServed request.correlation_id (served c.args.node.now w gs request.connection request.api_key request.api_version request.body.now) w c.heartbeat.new.groups ts c.heartbeat.result) (sym c.requires.untouched)
     (subst (λ o. IsServed request.correlation_id o w c.heartbeat.new.groups [] c.heartbeat.result) (sym (served_heartbeat c.args.node.now w gs request.connection request.api_key request.api_version request.body.now key))
-    (c.heartbeat.ensures w (sym c.clock-clock.ensures)))
+    (c.heartbeat.ensures.served w (sym c.clock-clock.ensures)))
 
 pub returns-in-13-clause-meets : goal.returns-in-13-clause-meets
 returns-in-13-clause-meets g c = λ honest agree calm.
@@ -45,7 +45,7 @@ returns-in-13-clause-meets g c = λ honest agree calm.
     let key : request.api_key ≡ pos 13 = search rules in
     subst (λ ts. IsServed request.correlation_id (served c.args.node.now w gs request.connection request.api_key request.api_version request.body.now) w c.leave_group.new.groups ts c.leave_group.result) (sym c.requires.untouched)
     (subst (λ o. IsServed request.correlation_id o w c.leave_group.new.groups [] c.leave_group.result) (sym (served_leave c.args.node.now w gs request.connection request.api_key request.api_version request.body.now key))
-    (c.leave_group.ensures w (sym c.clock-clock.ensures)))
+    (c.leave_group.ensures.served w (sym c.clock-clock.ensures)))
 
 pub returns-in-14-clause-meets : goal.returns-in-14-clause-meets
 returns-in-14-clause-meets g c = λ honest agree calm.
@@ -55,7 +55,7 @@ returns-in-14-clause-meets g c = λ honest agree calm.
     let key : request.api_key ≡ pos 14 = search rules in
     subst (λ ts. IsServed request.correlation_id (served c.args.node.now w gs request.connection request.api_key request.api_version request.body.now) w c.sync_group.new.groups ts c.sync_group.result) (sym c.requires.untouched)
     (subst (λ o. IsServed request.correlation_id o w c.sync_group.new.groups [] c.sync_group.result) (sym (served_sync c.args.node.now w gs request.connection request.api_key request.api_version request.body.now key))
-    (c.sync_group.ensures w (sym c.clock-clock.ensures)))
+    (c.sync_group.ensures.served w (sym c.clock-clock.ensures)))
 
 pub returns-in_default-clause-meets : goal.returns-in_default-clause-meets
 returns-in_default-clause-meets g c = λ honest agree calm.
@@ -72,3 +72,61 @@ returns-in_default-clause-meets g c = λ honest agree calm.
     subst (λ o. IsOutcome request.correlation_id o after c.silence.new.self c.serve-served.result.touched.items (answers.Plain c.serve-served.result.answer))
     (sym (served_topics c.args.node.now w gs request.connection request.api_key request.api_version request.body.now not_8 not_11 not_12 not_13 not_14))
     (met.0, c.silence.ensures, met.1, met.2)
+
+pub returns-in-8-clause-groups : goal.returns-in-8-clause-groups
+returns-in-8-clause-groups g c =
+    let w = world_of g.L.PartitionLog.log c.args.parts.now (g.S.Store.disk c.args.shelf.now.store).files in
+    let request = c.args.request.now in
+    let gs = c.args.groups.now in
+    let key : request.api_key ≡ pos 8 = search rules in
+    subst (λ o. AreGroupsBy gs o.groups c.commit_offsets.result c.commit_offsets.new.groups) (sym (served_commit c.args.node.now w gs request.connection request.api_key request.api_version request.body.now key))
+    c.commit_offsets.ensures.groups
+
+pub returns-in-11-clause-groups : goal.returns-in-11-clause-groups
+returns-in-11-clause-groups g c =
+    let w = world_of g.L.PartitionLog.log c.args.parts.now (g.S.Store.disk c.args.shelf.now.store).files in
+    let request = c.args.request.now in
+    let gs = c.args.groups.now in
+    let key : request.api_key ≡ pos 11 = search rules in
+    subst (λ o. AreGroupsBy gs o.groups c.join_group.result c.join_group.new.groups) (sym (served_join c.args.node.now w gs request.connection request.api_key request.api_version request.body.now key))
+    (c.join_group.ensures.groups w (sym c.clock-clock.ensures))
+
+pub returns-in-12-clause-groups : goal.returns-in-12-clause-groups
+returns-in-12-clause-groups g c =
+    let w = world_of g.L.PartitionLog.log c.args.parts.now (g.S.Store.disk c.args.shelf.now.store).files in
+    let request = c.args.request.now in
+    let gs = c.args.groups.now in
+    let key : request.api_key ≡ pos 12 = search rules in
+    subst (λ o. AreGroupsBy gs o.groups c.heartbeat.result c.heartbeat.new.groups) (sym (served_heartbeat c.args.node.now w gs request.connection request.api_key request.api_version request.body.now key))
+    (c.heartbeat.ensures.groups w (sym c.clock-clock.ensures))
+
+pub returns-in-13-clause-groups : goal.returns-in-13-clause-groups
+returns-in-13-clause-groups g c =
+    let w = world_of g.L.PartitionLog.log c.args.parts.now (g.S.Store.disk c.args.shelf.now.store).files in
+    let request = c.args.request.now in
+    let gs = c.args.groups.now in
+    let key : request.api_key ≡ pos 13 = search rules in
+    subst (λ o. AreGroupsBy gs o.groups c.leave_group.result c.leave_group.new.groups) (sym (served_leave c.args.node.now w gs request.connection request.api_key request.api_version request.body.now key))
+    (c.leave_group.ensures.groups w (sym c.clock-clock.ensures))
+
+pub returns-in-14-clause-groups : goal.returns-in-14-clause-groups
+returns-in-14-clause-groups g c =
+    let w = world_of g.L.PartitionLog.log c.args.parts.now (g.S.Store.disk c.args.shelf.now.store).files in
+    let request = c.args.request.now in
+    let gs = c.args.groups.now in
+    let key : request.api_key ≡ pos 14 = search rules in
+    subst (λ o. AreGroupsBy gs o.groups c.sync_group.result c.sync_group.new.groups) (sym (served_sync c.args.node.now w gs request.connection request.api_key request.api_version request.body.now key))
+    (c.sync_group.ensures.groups w (sym c.clock-clock.ensures))
+
+pub returns-in_default-clause-groups : goal.returns-in_default-clause-groups
+returns-in_default-clause-groups g c =
+    let w = world_of g.L.PartitionLog.log c.args.parts.now (g.S.Store.disk c.args.shelf.now.store).files in
+    let request = c.args.request.now in
+    let gs = c.args.groups.now in
+    let not_8 : int_eq request.api_key (pos 8) ≡ false = search rules in
+    let not_11 : int_eq request.api_key (pos 11) ≡ false = search rules in
+    let not_12 : int_eq request.api_key (pos 12) ≡ false = search rules in
+    let not_13 : int_eq request.api_key (pos 13) ≡ false = search rules in
+    let not_14 : int_eq request.api_key (pos 14) ≡ false = search rules in
+    c.silence.ensures
+    ∙ ap (λ o. o.groups) (sym (served_topics c.args.node.now w gs request.connection request.api_key request.api_version request.body.now not_8 not_11 not_12 not_13 not_14))

@@ -1,17 +1,17 @@
-use Rattle.std.proofs.Common.{rules, ◌≡◌, ◌∙◌, ◌++◌, false, ap, to_z, of_z, w16, w32}
+use Rattle.std.proofs.Common.{rules, ◌≡◌, ◌∙◌, ◌++◌, false, ap, sym, to_z, of_z, w16, w32}
 use Rattle.kb_api_group.specs.ErrorCode.{code_of}
 use Rattle.kb_api_group.specs.Layouts.{join_group_request}
-use Rattle.kb_coordinator.specs.Calls.{is_accepted}
+use Rattle.kb_coordinator.specs.Calls.{after_join, is_accepted}
 use Rattle.kb_coordinator.specs.Replies.{join_refusal}
 use Rattle.kb_tenant.specs.Replies.{begun}
 use Rattle.kb_wire.specs.Codec.{whole}
-use Rattle.kb_service.specs.Serve.{of_join}
+use Rattle.kb_service.specs.Serve.{if_read, of_join}
 use Rattle.kb_service.specs.declared.answer.Answer.TheVariants as answers
 use Rattle.kb_service.proofs.Joining.{joined, was_read}
 use Rattle.kb_service.proofs.members.join_group.Goals as goal
 
-pub returns : goal.returns
-returns c = λ w at.
+pub returns-clause-served : goal.returns-clause-served
+returns-clause-served c = λ w at.
     let request = c.args.request.now in
     let asked = c.in_ok-asked.asked in
     let code = c.in_ok-join.field-0 in
@@ -27,3 +27,12 @@ returns c = λ w at.
     was_read request.correlation_id w w gs c.join.new.self (whole join_group_request request.body.now) asked (of_join w n gs) (answers.Plain c.finish.result) c.in_ok-asked.ensures.exact
     (joined request.correlation_id w n c.args.clock gs c.silence.new.self c.join.new.self asked code false (answers.Plain c.finish.result) at c.silence.ensures c.in_ok-join.ensures.code c.in_ok-join.ensures.after refused
     (c.finish.ensures request.correlation_id body written))
+
+pub returns-clause-groups : goal.returns-clause-groups
+returns-clause-groups c = λ w at.
+    let asked = c.in_ok-asked.asked in
+    let gs = c.args.groups.now in
+    let n = c.args.request.now.connection in
+    c.in_ok-join.ensures.after
+    ∙ (λ k. after_join (sym at k) n asked (c.silence.ensures k))
+    ∙ ap (λ r. (if_read w gs r (of_join w n gs)).groups) (sym c.in_ok-asked.ensures.exact)

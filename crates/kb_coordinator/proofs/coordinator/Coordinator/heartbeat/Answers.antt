@@ -1,12 +1,14 @@
-use Rattle.std.proofs.Common.{rules, FitsSigned, ◌≡◌, ◌<◌, w32, ◌∙◌, sym, ap, arith, Some, None, slice_get, length}
+use Rattle.std.proofs.Common.{rules, FitsSigned, ◌≡◌, ◌<◌, w32, ◌∙◌, sym, ap, arith, Some, None, slice_get, length, refl}
 use Rattle.std.specs.List.{flat_map}
 use Rattle.std.proofs.lemmas.Int.{to_z-of_z}
+use Rattle.kb_coordinator.specs.Groups.{AreInOrder}
 use Rattle.kb_groups.specs.Calls as one
 use Rattle.kb_groups.specs.declared.code.Code.TheVariants.{UnknownMemberId}
 use Rattle.kb_coordinator.specs.Groups.{place_of}
 use Rattle.kb_coordinator.specs.Requests.{named}
 use Rattle.kb_coordinator.proofs.Lists.{at_index, place_below}
-use Rattle.kb_coordinator.proofs.Places.{changed_here, changed_nowhere, quiet_here, said_here, said_nowhere}
+use Rattle.kb_coordinator.proofs.Places.{changed_here, changed_nowhere, none_ordered, quiet_here, said_here, said_nowhere, with_group}
+use Rattle.kb_coordinator.proofs.Search.{sorted_put}
 use Rattle.kb_coordinator.proofs.coordinator.Coordinator.heartbeat.Goals as goal
 
 pub returns-in_default-clause-code : goal.returns-in_default-clause-code
@@ -32,7 +34,16 @@ index_mut-entry-requires c =
 
 pub invariant_of-self-2 : goal.invariant_of-self-2
 invariant_of-self-2 c =
-    (c.self.invariant.0, quiet_here c.self.inside.groups.items c.in-Some.place c.index_mut-entry.result.now c.heartbeat-code.new.self c.self.inside.quiet_until c.quiet_until.result _ c.self.invariant.1 c.quiet_until.ensures c.min-self-inside.ensures)
+    let es = c.self.inside.groups.items in
+    let id = c.args.request.now.group_id in
+    let e = c.index_mut-entry.result.now in
+    let p : place_of id es ≡ Some c.in-Some.place = sym (c.in-Some.ensures ∙ ap (λ x. place_of x es) c.as_str.ensures) in
+    let at : slice_get es c.in-Some.place ≡ Some e = at_index es c.in-Some.place e (place_below id es c.in-Some.place p) c.index_mut-entry.ensures.value in (
+      c.self.invariant.0,
+      quiet_here c.self.inside.groups.items c.in-Some.place c.index_mut-entry.result.now c.heartbeat-code.new.self c.self.inside.quiet_until c.quiet_until.result _ c.self.invariant.1 c.quiet_until.ensures c.min-self-inside.ensures,
+      sorted_put es c.in-Some.place e (with_group e c.heartbeat-code.new.self) at refl c.self.invariant.2,
+      none_ordered (λ v. AreInOrder v.items) _ c.clear.ensures.items,
+    )
 
 pub returns-clause-code : goal.returns-clause-code
 returns-clause-code c =

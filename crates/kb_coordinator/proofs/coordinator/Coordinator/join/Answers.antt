@@ -109,3 +109,6 @@ returns-clause-after c =
     } in
     let q : place_of r.group_id es ≡ None = sym (c.in-None.ensures ∙ ap (λ x. place_of x es) c.as_str-id.ensures) in
     subst (λ x. OnOk c.join_new.result (c.join_new.new.self ≡ x)) (ap (λ x. after_new c.args.clock j x gs) c.as_str-id.ensures ∙ new_leaves c.args.clock c.args.connection r j gs named same q ∙ ap (after_join c.args.clock c.args.connection r) c.self.view_is) c.join_new.ensures.after
+
+pub join_new-requires-clause-absent : goal.join_new-requires-clause-absent
+join_new-requires-clause-absent c = sym c.in-None.ensures

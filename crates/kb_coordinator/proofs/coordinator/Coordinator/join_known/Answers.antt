@@ -1,9 +1,12 @@
-use Rattle.std.proofs.Common.{◌≡◌, ◌<◌, ◌≤◌, ◌∙◌, sym, subst, Some, slice_get, length}
+use Rattle.std.proofs.Common.{◌≡◌, ◌<◌, ◌≤◌, ◌∙◌, refl, sym, subst, Some, slice_get, length}
 use Rattle.std.specs.List.{flat_map}
+use Rattle.kb_coordinator.specs.Groups.{AreInOrder}
+use Rattle.kb_coordinator.proofs.Order.{join_in_order}
 use Rattle.kb_coordinator.specs.Groups.{Groups}
 use Rattle.kb_coordinator.proofs.Lists.{at_index}
 use Rattle.kb_coordinator.proofs.Joins.{known_given, known_taken}
-use Rattle.kb_coordinator.proofs.Places.{groups_of, one_reply, quiet_here}
+use Rattle.kb_coordinator.proofs.Places.{groups_of, one_ordered, one_reply, quiet_here, with_group}
+use Rattle.kb_coordinator.proofs.Search.{sorted_put}
 use Rattle.kb_coordinator.proofs.coordinator.Coordinator.join_known.Goals as goal
 
 pub invariant_of-self-3 : goal.invariant_of-self-3
@@ -15,6 +18,9 @@ invariant_of-self-3 c =
     let there : slice_get es place ≡ Some e = at_index es place e below c.index_mut-entry.ensures.value in (
       subst (λ n. n ≤ 9223372036854775807) (sym c.given_with-members.ensures) (known_given c.args.request.now e c.known_error-error.result (groups_of es c.self.inside.members (flat_map (λ v. v.items) c.self.inside.released.items)) c.self.invariant.0 (c.known_error-error.ensures e there) (sym c.if-not-is_accepted.ensures)),
       quiet_here es place e c.join.new.self c.self.inside.quiet_until c.quiet_until.result _ c.self.invariant.1 c.quiet_until.ensures c.min-self-inside.ensures,
+      sorted_put es place e (with_group e c.join.new.self) there refl c.self.invariant.2,
+      one_ordered (λ v. AreInOrder v.items) _ _ _ c.in_ok-replies.replies c.in_ok-push.ensures.items c.clear.ensures.items
+          (subst AreInOrder (sym c.in_ok-replies.ensures.released) (join_in_order c.args.clock c.args.request.now e.group)),
     )
 
 pub returns-clause-after : goal.returns-clause-after

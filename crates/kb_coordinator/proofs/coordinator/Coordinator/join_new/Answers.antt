@@ -1,10 +1,12 @@
-use Rattle.std.proofs.Common.{◌≤◌, sym, subst, arith}
+use Rattle.std.proofs.Common.{rules, ◌≡◌, ◌∙◌, ◌≤◌, ap, sym, subst, arith, None}
 use Rattle.std.specs.List.{flat_map}
 use Rattle.kb_coordinator.specs.declared.groups.Entry.{Entry}
-use Rattle.kb_coordinator.specs.Groups.{earliest}
+use Rattle.kb_coordinator.proofs.Order.{join_in_order}
+use Rattle.kb_coordinator.specs.Groups.{AreInOrder, AreSorted, Groups, earliest, first_above, place_of}
 use Rattle.kb_coordinator.proofs.Lists.{above_most}
 use Rattle.kb_coordinator.proofs.Joins.{new_given}
-use Rattle.kb_coordinator.proofs.Places.{groups_of, quiet_new}
+use Rattle.kb_coordinator.proofs.Places.{groups_of, one_ordered, quiet_new}
+use Rattle.kb_coordinator.proofs.Search.{sorted_inserted}
 use Rattle.kb_coordinator.proofs.coordinator.Coordinator.join_new.Goals as goal
 
 pub insert-requires : goal.insert-requires
@@ -14,7 +16,13 @@ insert-requires c =
 pub invariant_of-self-3 : goal.invariant_of-self-3
 invariant_of-self-3 c =
     let es = c.self.inside.groups.items in
-    let n : Entry = record { id = c.in_ok-key.key; group = c.join.new.self } in (
+    let n : Entry = record { id = c.in_ok-key.key; group = c.join.new.self } in
+    let named : n.id ≡ c.args.id.now = search rules in
+    let asked : c.as_bytes-2.result.now ≡ n.id = search rules in
+    let absent = subst (λ (gs : Groups). place_of c.args.id.now gs.groups ≡ None) (sym c.self.view_is) c.requires.absent in (
       subst (λ m. m ≤ 9223372036854775807) (sym c.given_with-members.ensures) (new_given c.args.request.now c.new_error-error.result (groups_of es c.self.inside.members (flat_map (λ v. v.items) c.self.inside.released.items)) c.self.invariant.0 c.new_error-error.ensures (sym c.if-not-is_accepted.ensures)),
       subst (λ l. c.min-self-inside.result ≤ earliest l) (sym c.in_ok-insert.ensures.items) (quiet_new es c.first_above-place.result n c.self.inside.quiet_until c.quiet_until-quiet_until.result c.min-self-inside.result c.self.invariant.1 c.quiet_until-quiet_until.ensures c.min-self-inside.ensures),
+      subst AreSorted (sym c.in_ok-insert.ensures.items) (sorted_inserted n es c.first_above-place.result c.self.invariant.2 (ap (λ x. place_of x es) named ∙ absent) (c.first_above-place.ensures ∙ (λ k. first_above (asked k) (c.deref.ensures.value k)))),
+      one_ordered (λ v. AreInOrder v.items) _ _ _ c.in_ok-replies.replies c.in_ok-push.ensures.items c.clear.ensures.items
+          (subst AreInOrder (sym c.in_ok-replies.ensures.released) (join_in_order c.args.clock c.args.request.now _)),
     )

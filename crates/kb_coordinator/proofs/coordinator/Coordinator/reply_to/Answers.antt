@@ -1,5 +1,6 @@
-use Rattle.std.proofs.Common.{◌∙◌, sym, ap, arith}
+use Rattle.std.proofs.Common.{◌∙◌, sym, ap, arith, subst}
 use Rattle.kb_coordinator.specs.Calls.{reply_among, reply_to}
+use Rattle.kb_coordinator.specs.Groups.{AreInOrder}
 use Rattle.kb_coordinator.proofs.Lists.{at_index}
 use Rattle.kb_coordinator.proofs.Steps.{lists_end, lists_go, lists_stop}
 use Rattle.kb_coordinator.proofs.coordinator.Coordinator.reply_to.Goals as goal
@@ -21,3 +22,8 @@ pub returns : goal.returns
 returns c =
     lists_end (λ v. v.items) c.args.connection c.loop-i.i c.self.inside.released.items _ c.loop-i.invariant (omega (arith, c.loop-i-test.false, c.len-i-end.ensures, c.self.inside.released.ok))
     ∙ ap (reply_to c.args.connection) c.self.view_is
+
+pub reply_among-requires : goal.reply_among-requires
+reply_among-requires c =
+    let order = c.self.invariant.3 c.loop-i.i c.index.result.now (omega (arith, c.loop-i-test.true, c.self.inside.released.ok)) in
+    subst AreInOrder (sym c.deref.ensures.value) (subst (λ v. AreInOrder v.items) (sym c.index.ensures) order)

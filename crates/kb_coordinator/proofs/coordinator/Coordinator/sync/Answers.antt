@@ -1,14 +1,17 @@
-use Rattle.std.proofs.Common.{rules, FitsSigned, ◌≡◌, ◌<◌, w32, to_z, of_z, ◌∙◌, sym, ap, arith, map, Some, None, slice_get, length}
+use Rattle.std.proofs.Common.{rules, FitsSigned, ◌≡◌, ◌<◌, w32, to_z, of_z, ◌∙◌, sym, ap, arith, map, Some, None, slice_get, length, refl, subst}
 use Rattle.std.specs.List.{flat_map}
 use Rattle.std.proofs.lemmas.Int.{to_z-of_z}
+use Rattle.kb_coordinator.specs.Groups.{AreInOrder}
 use Rattle.kb_groups.specs.Calls as one
+use Rattle.kb_coordinator.proofs.Order.{sync_in_order}
 use Rattle.kb_groups.specs.declared.code.Code.TheVariants.{UnknownMemberId}
 use Rattle.kb_groups.specs.declared.reply.SyncAnswer.TheVariants.{Refused}
 use Rattle.kb_coordinator.specs.Groups.{place_of}
 use Rattle.kb_coordinator.specs.Requests.{assigned_to, named}
 use Rattle.kb_coordinator.specs.Calls.{sync_in}
 use Rattle.kb_coordinator.proofs.Lists.{at_index, place_below}
-use Rattle.kb_coordinator.proofs.Places.{err_holds, no_reply, one_reply, quiet_here, refused_here, said_here, said_nowhere, silent_now, stepped_here, stepped_nowhere}
+use Rattle.kb_coordinator.proofs.Places.{err_holds, no_reply, one_ordered, one_reply, quiet_here, refused_here, said_here, said_nowhere, silent_now, stepped_here, stepped_nowhere, with_group}
+use Rattle.kb_coordinator.proofs.Search.{sorted_put}
 use Rattle.kb_coordinator.proofs.coordinator.Coordinator.sync.Goals as goal
 
 pub returns-in_default-clause-answer : goal.returns-in_default-clause-answer
@@ -68,7 +71,17 @@ returns-clause-answer c =
 
 pub invariant_of-self-2 : goal.invariant_of-self-2
 invariant_of-self-2 c =
-    (c.self.invariant.0, quiet_here c.self.inside.groups.items c.in-Some.place c.index_mut-entry.result.now c.sync.new.self c.self.inside.quiet_until c.quiet_until.result _ c.self.invariant.1 c.quiet_until.ensures c.min-self-inside.ensures)
+    let es = c.self.inside.groups.items in
+    let id = c.args.request.now.group_id in
+    let e = c.index_mut-entry.result.now in
+    let p : place_of id es ≡ Some c.in-Some.place = sym (c.in-Some.ensures ∙ ap (λ x. place_of x es) c.as_str.ensures) in
+    let at : slice_get es c.in-Some.place ≡ Some e = at_index es c.in-Some.place e (place_below id es c.in-Some.place p) c.index_mut-entry.ensures.value in (
+      c.self.invariant.0,
+      quiet_here c.self.inside.groups.items c.in-Some.place c.index_mut-entry.result.now c.sync.new.self c.self.inside.quiet_until c.quiet_until.result _ c.self.invariant.1 c.quiet_until.ensures c.min-self-inside.ensures,
+      sorted_put es c.in-Some.place e (with_group e c.sync.new.self) at refl c.self.invariant.2,
+      one_ordered (λ v. AreInOrder v.items) _ _ _ c.in_ok-answer.replies c.in_ok-push.ensures.items c.clear.ensures.items
+          (subst AreInOrder (sym c.in_ok-answer.ensures.released) (sync_in_order c.args.clock c.args.connection c.number_of-number.result _ c.deref.result.now e.group)),
+    )
 
 pub returns-clause-after : goal.returns-clause-after
 returns-clause-after c =

@@ -1,0 +1,10 @@
+use Rattle.std.proofs.Common.{arith}
+use Rattle.kb_coordinator.specs.Groups.{AreInOrder}
+use Rattle.kb_coordinator.proofs.Places.{none_ordered}
+use Rattle.kb_coordinator.proofs.Search.{none_sorted}
+use Rattle.kb_coordinator.proofs.Steps.{none_due}
+use Rattle.kb_coordinator.proofs.coordinator.Coordinator.new.Goals as goal
+
+pub invariant_of-result : goal.invariant_of-result
+invariant_of-result c =
+    (omega arith, none_due c.new.result.items c.new.ensures.items, none_sorted c.new.result.items c.new.ensures.items, none_ordered (λ v. AreInOrder v.items) _ c.new-2.ensures.items)

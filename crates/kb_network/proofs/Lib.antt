@@ -1,0 +1,11 @@
+pub mod Texts
+pub mod Asking
+pub mod Hearing
+pub mod Invariant
+pub mod Steps
+pub mod Serving
+pub mod Delivering
+pub mod Finding
+pub mod Giving
+pub mod Fetches
+pub mod Consuming

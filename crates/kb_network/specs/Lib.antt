@@ -1,0 +1,4 @@
+pub mod Receiver
+pub mod Sending
+pub mod Partition
+pub mod Consuming

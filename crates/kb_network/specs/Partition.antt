@@ -1,0 +1,29 @@
+-- A partition that a consumer reads: batches that are added at its end, and what a fetch answers of them.
+use Rattle.std.specs.Prelude.{ℕ, suc, ℤ, pos, ◌^◌, ◌≤ℤ◌, ◌<ℤ◌, int_lt, if◌then◌else◌, List, [], ◌∷◌, take}
+use Rattle.std.specs.List.{flat_map}
+use Rattle.kb_batch.specs.declared.record.RecordView.{RecordView}
+use Rattle.kb_batch.specs.Header.{base_offset_of}
+use Rattle.kb_batch.specs.Batch.{IsBatch}
+use Rattle.kb_client.specs.Lines.{end_of, records_from}
+
+-- Accepted batches, each at or behind the end of the one before, and below the end of INT64. The first is at an offset or above.
+abbrev pub IsLog : ℤ → List (List ℕ) → Type 0
+IsLog from [] = Unit {0}
+IsLog from (batch ∷ batches) = IsBatch batch × (from ≤ℤ base_offset_of batch) × (end_of batch <ℤ pos (2 ^ 63)) × IsLog (end_of batch) batches
+
+-- the batch that holds an offset, or else the first above it, and those behind it; none at the end
+unfoldable pub from_holding : ℤ → List (List ℕ) → List (List ℕ)
+from_holding offset [] = []
+from_holding offset (batch ∷ batches) = if int_lt offset (end_of batch) then batch ∷ batches else from_holding offset batches
+
+-- the records at an offset and above
+abbrev pub records_of_log : ℤ → List (List ℕ) → List RecordView
+records_of_log offset batches = flat_map (λ batch. records_from offset batch) batches
+
+-- the bytes of some batches, one after another
+abbrev pub joined : List (List ℕ) → List ℕ
+joined batches = flat_map (λ batch. batch) batches
+
+-- what a fetch from an offset is answered: one batch, and so many more
+abbrev pub answered : ℕ → ℤ → List (List ℕ) → List (List ℕ)
+answered n offset batches = take (suc n) (from_holding offset batches)

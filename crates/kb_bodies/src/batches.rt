@@ -2,23 +2,12 @@
 
 use crate::said::Field::{Count, Letters, Number};
 use crate::said::Said;
-use kb_batch::{BatchBuilder, BatchFault, BatchView, stamp};
+use kb_batch::{BatchBuilder, BatchFault, BatchView, BuildFault, stamp};
 use kb_wire::Blob;
 use std::alloc::{AllocError, Global};
 
-/// `batch`, `fronts` and `stamp`. Whether the kind is one of these.
-pub fn read(alloc: Global, kind: &str, bytes: &[u8], said: &mut Said) -> Result<bool, AllocError> {
-    match kind {
-        "batch" => batch(alloc, bytes, said)?,
-        "fronts" => fronts(alloc, bytes, said)?,
-        "stamp" => stamped(alloc, bytes, said)?,
-        _ => return Ok(false),
-    }
-    Ok(true)
-}
-
-/// The header and the records of a batch, or why it is refused.
-fn batch(alloc: Global, bytes: &[u8], said: &mut Said) -> Result<(), AllocError> {
+/// `batch`: its header and its records, or why it is refused.
+pub fn batch(alloc: Global, bytes: &[u8], said: &mut Said) -> Result<(), AllocError> {
     match BatchView::read(bytes) {
         Ok(view) => {
             header(&view, said)?;
@@ -73,8 +62,8 @@ fn letters<'a>(blob: &Option<Blob<'a>>) -> &'a [u8] {
     }
 }
 
-/// Why each front of a batch is refused: a line from each length on where the reason is another one.
-fn fronts(alloc: Global, bytes: &[u8], said: &mut Said) -> Result<(), AllocError> {
+/// `fronts`: why each front of a batch is refused, a line from each length on where the reason is another one.
+pub fn fronts(alloc: Global, bytes: &[u8], said: &mut Said) -> Result<(), AllocError> {
     let mut last = None;
     for length in 0..bytes.len() {
         let fault = BatchView::read(&bytes[..length]).err();
@@ -98,8 +87,8 @@ fn say_front(
     }
 }
 
-/// The batch with the base offset 258.
-fn stamped(alloc: Global, bytes: &[u8], said: &mut Said) -> Result<(), AllocError> {
+/// `stamp`: the batch with the base offset 258.
+pub fn stamped(alloc: Global, bytes: &[u8], said: &mut Said) -> Result<(), AllocError> {
     let mut bytes = Vec::from_slice(alloc, bytes)?;
     if bytes.len() >= 16 {
         stamp(&mut bytes, 258);
@@ -107,22 +96,28 @@ fn stamped(alloc: Global, bytes: &[u8], said: &mut Said) -> Result<(), AllocErro
     said.bytes(&bytes)
 }
 
-/// `build`: a batch of no producer, of records `TIMESTAMP=VALUE`. Whether the kind is this.
-pub fn build(alloc: Global, kind: &str, text: &str, said: &mut Said) -> Result<bool, AllocError> {
-    if kind != "build" {
-        return Ok(false);
-    }
+/// `build`: a batch of no producer, of records `TIMESTAMP=VALUE`.
+pub fn build(alloc: Global, text: &str, said: &mut Said) -> Result<(), AllocError> {
     let mut builder = BatchBuilder::new(alloc, -1, -1, -1);
+    push_all(alloc, &mut builder, text, said)?;
+    match builder.finish() {
+        Ok(batch) => said.bytes(&batch),
+        Err(fault) => refused(alloc, fault, said),
+    }
+}
+
+fn push_all(
+    alloc: Global,
+    builder: &mut BatchBuilder,
+    text: &str,
+    said: &mut Said,
+) -> Result<(), AllocError> {
     for record in text.split(' ') {
         if let Some((timestamp, value)) = record.split_once('=') {
-            push(alloc, &mut builder, timestamp, value, said)?;
+            push(alloc, builder, timestamp, value, said)?;
         }
     }
-    match builder.finish() {
-        Ok(batch) => said.bytes(&batch)?,
-        Err(fault) => said.line(&format!(in alloc; "{fault}")?)?,
-    }
-    Ok(true)
+    Ok(())
 }
 
 fn push(
@@ -135,6 +130,11 @@ fn push(
     let timestamp = timestamp.parse::<i64>().unwrap_or(0);
     match builder.push(timestamp, None, Some(value.as_bytes())) {
         Ok(()) => Ok(()),
-        Err(fault) => said.line(&format!(in alloc; "{fault}")?),
+        Err(fault) => refused(alloc, fault, said),
     }
+}
+
+fn refused(alloc: Global, fault: BuildFault, said: &mut Said) -> Result<(), AllocError> {
+    let text = format!(in alloc; "{fault}")?;
+    said.line(&text)
 }

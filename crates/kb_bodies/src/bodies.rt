@@ -1,9 +1,7 @@
 //! Bodies of requests and replies, and the values in them, each read and written back.
-ghost use Rattle.std.specs.Prelude.{◌<◌, length};
 
-use crate::data::{read_reply, read_request, read_within};
-use crate::numbers::{read_fixed, read_sized};
-use crate::plain::{read_greeting, read_group_reply, read_group_request};
+use crate::data::read_request;
+use crate::said::Field::Number;
 use crate::said::Said;
 use kb_api_group::{FrameFeed, Next, RequestHeader, RequestStart};
 use kb_wire::{Layout, ReadFault, Sink, WireFault};
@@ -17,11 +15,10 @@ pub trait Describe {
     }
 }
 
-/// A kind is a type's name, or `frame` with one behind a request's header, or `start`. Whether it is one of these.
-pub fn read(alloc: Global, kind: &str, bytes: &[u8], said: &mut Said) -> Result<bool, AllocError> {
+/// A kind is a type's name, or `frame` with one behind a request's header, or `start`.
+pub fn read(alloc: Global, kind: &str, bytes: &[u8], said: &mut Said) -> Result<(), AllocError> {
     if kind == "start" {
-        start(bytes, said)?;
-        return Ok(true);
+        return start(bytes, said);
     }
     match kind.strip_prefix("frame/") {
         Some(body) => frame(alloc, body, bytes, said),
@@ -30,19 +27,10 @@ pub fn read(alloc: Global, kind: &str, bytes: &[u8], said: &mut Said) -> Result<
 }
 
 /// The kinds that are a type's name.
-fn read_body(alloc: Global, kind: &str, bytes: &[u8], said: &mut Said) -> Result<bool, AllocError> {
+fn read_body(alloc: Global, kind: &str, bytes: &[u8], said: &mut Said) -> Result<(), AllocError> {
     let mut longer = Vec::from_slice(alloc, bytes)?;
     longer.push(0)?;
-    Ok(
-        read_request(alloc, kind, &longer, said)?
-            || read_reply(alloc, kind, &longer, said)?
-            || read_within(alloc, kind, &longer, said)?
-            || read_greeting(alloc, kind, &longer, said)?
-            || read_group_request(alloc, kind, &longer, said)?
-            || read_group_reply(alloc, kind, &longer, said)?
-            || read_fixed(alloc, kind, &longer, said)?
-            || read_sized(alloc, kind, &longer, said)?,
-    )
+    read_request(alloc, kind, &longer, said)
 }
 
 /// Reads all but the last byte and says what is found, or the fault. What is read must be written as it stood, be too short
@@ -51,26 +39,38 @@ pub fn read_back<'a, T: Layout<'a> + Describe>(
     alloc: Global,
     longer: &'a [u8],
     said: &mut Said,
-) -> Result<bool, AllocError>
-    requires { 0 < length longer.now }
-{
-    let bytes = &longer[..longer.len() - 1];
+) -> Result<(), AllocError> {
+    let Some((_, bytes)) = longer.split_last() else {
+        return said.line("there is no last byte");
+    };
     match T::read(alloc, bytes) {
         Ok(value) => {
-            let mut sink = Sink::new(alloc);
-            value.write(&mut sink)?;
-            if sink.as_slice() != bytes {
-                said.bytes(sink.as_slice())?;
-            }
+            is_written::<T>(alloc, &value, bytes, said)?;
             value.describe(said)?;
-            if !bytes.is_empty() {
-                expect::<T>(alloc, &bytes[..bytes.len() - 1], WireFault::Short, said)?;
-            }
-            expect::<T>(alloc, longer, WireFault::Bad, said)?;
         }
-        Err(fault) => said.line(name(fault))?,
+        Err(fault) => return said.line(name(fault)),
     }
-    Ok(true)
+    if let Some((_, shorter)) = bytes.split_last() {
+        expect::<T>(alloc, shorter, WireFault::Short, said)?;
+    }
+    expect::<T>(alloc, longer, WireFault::Bad, said)
+}
+
+/// Says how a value is written where it is not written so.
+fn is_written<'a, T: Layout<'a>>(
+    alloc: Global,
+    value: &T,
+    bytes: &[u8],
+    said: &mut Said,
+) -> Result<(), AllocError>
+    requires { T.codec.Fits value.now }
+{
+    let mut sink = Sink::new(alloc);
+    value.write(&mut sink)?;
+    if sink.as_slice() == bytes {
+        return Ok(());
+    }
+    said.bytes(sink.as_slice())
 }
 
 /// Says so where reading does not end in this fault.
@@ -97,30 +97,31 @@ pub fn name(fault: ReadFault) -> &'static str {
 }
 
 /// A frame that comes in two pieces: what is asked, and the body behind the header.
-fn frame(alloc: Global, body: &str, frame: &[u8], said: &mut Said) -> Result<bool, AllocError> {
+fn frame(alloc: Global, body: &str, frame: &[u8], said: &mut Said) -> Result<(), AllocError> {
     let mut feed = FrameFeed::new(alloc);
-    let Some((front, rest)) = frame.split_at_checked(3) else {
-        return Ok(false);
-    };
+    is_fed(&mut feed, frame, said)?;
+    if let Next::Frame(bytes) = feed.next() {
+        request(alloc, body, bytes.as_slice(), said)?;
+    }
+    feed.skip();
+    if feed.unread() > 0 {
+        return said.line("bytes are left");
+    }
+    Ok(())
+}
+
+/// Gives a frame to a feed in two pieces, of which the first has three bytes.
+fn is_fed(feed: &mut FrameFeed, frame: &[u8], said: &mut Said) -> Result<(), AllocError> {
+    let (front, rest) = frame.split_at_checked(3).unwrap_or((frame, b""));
     feed.push(front)?;
     if !matches!(feed.next(), Next::More) {
         said.line("three bytes are a frame")?;
     }
-    feed.push(rest)?;
-    let known = match feed.next() {
-        Next::Frame(bytes) => request(alloc, body, bytes.as_slice(), said)?,
-        _ => false,
-    };
-    feed.skip();
-    if feed.unread() > 0 {
-        said.line("bytes are left")?;
-    }
-    Ok(known)
+    feed.push(rest)
 }
 
 /// A request in its frame.
-fn request(alloc: Global, kind: &str, frame: &[u8], said: &mut Said) -> Result<bool, AllocError> {
-    use crate::said::Field::Number;
+fn request(alloc: Global, kind: &str, frame: &[u8], said: &mut Said) -> Result<(), AllocError> {
     match RequestHeader::read(frame) {
         Ok((header, body)) => {
             said.fields(&[
@@ -130,13 +131,12 @@ fn request(alloc: Global, kind: &str, frame: &[u8], said: &mut Said) -> Result<b
             ])?;
             read_body(alloc, kind, body, said)
         }
-        Err(_) => Ok(false),
+        Err(_) => said.line("no header"),
     }
 }
 
 /// The start of a request of any version.
 fn start(bytes: &[u8], said: &mut Said) -> Result<(), AllocError> {
-    use crate::said::Field::Number;
     match RequestStart::read(bytes) {
         Ok((start, _)) => said.fields(&[
             ("api_key", Number(start.api_key as i64)),

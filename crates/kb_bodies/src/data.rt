@@ -1,7 +1,7 @@
 //! Requests and replies about topics and records, and what stands in them.
-ghost use Rattle.std.specs.Prelude.{◌<◌, length};
 
 use crate::bodies::{Describe, read_back};
+use crate::plain::read_greeting;
 use crate::said::Field::{Count, Number, Numbers, Text};
 use crate::said::Said;
 use kb_api_data::{
@@ -13,15 +13,13 @@ use kb_api_data::{
 };
 use std::alloc::{AllocError, Global};
 
-/// Requests. Whether the kind is one.
+/// Requests, and other kinds.
 pub fn read_request(
     alloc: Global,
     kind: &str,
     longer: &[u8],
     said: &mut Said,
-) -> Result<bool, AllocError>
-    requires { 0 < length longer.now }
-{
+) -> Result<(), AllocError> {
     match kind {
         "ProduceRequest" => read_back::<ProduceRequest>(alloc, longer, said),
         "FetchRequest" => read_back::<FetchRequest>(alloc, longer, said),
@@ -30,19 +28,12 @@ pub fn read_request(
         "CreateTopicsRequest" => read_back::<CreateTopicsRequest>(alloc, longer, said),
         "DeleteTopicsRequest" => read_back::<DeleteTopicsRequest>(alloc, longer, said),
         "InitProducerIdRequest" => read_back::<InitProducerIdRequest>(alloc, longer, said),
-        _ => Ok(false),
+        _ => read_reply(alloc, kind, longer, said),
     }
 }
 
-/// Replies. Whether the kind is one.
-pub fn read_reply(
-    alloc: Global,
-    kind: &str,
-    longer: &[u8],
-    said: &mut Said,
-) -> Result<bool, AllocError>
-    requires { 0 < length longer.now }
-{
+/// Replies, and other kinds.
+fn read_reply(alloc: Global, kind: &str, longer: &[u8], said: &mut Said) -> Result<(), AllocError> {
     match kind {
         "ProduceReply" => read_back::<ProduceReply>(alloc, longer, said),
         "FetchReply" => read_back::<FetchReply>(alloc, longer, said),
@@ -51,19 +42,17 @@ pub fn read_reply(
         "CreateTopicsReply" => read_back::<CreateTopicsReply>(alloc, longer, said),
         "DeleteTopicsReply" => read_back::<DeleteTopicsReply>(alloc, longer, said),
         "InitProducerIdReply" => read_back::<InitProducerIdReply>(alloc, longer, said),
-        _ => Ok(false),
+        _ => read_within(alloc, kind, longer, said),
     }
 }
 
-/// What stands in them. Whether the kind is one.
-pub fn read_within(
+/// What stands in them, and other kinds.
+fn read_within(
     alloc: Global,
     kind: &str,
     longer: &[u8],
     said: &mut Said,
-) -> Result<bool, AllocError>
-    requires { 0 < length longer.now }
-{
+) -> Result<(), AllocError> {
     match kind {
         "ProducePartitionReply" => read_back::<ProducePartitionReply>(alloc, longer, said),
         "FetchPartition" => read_back::<FetchPartition>(alloc, longer, said),
@@ -71,7 +60,7 @@ pub fn read_within(
         "ListOffsetsPartitionReply" => read_back::<ListOffsetsPartitionReply>(alloc, longer, said),
         "MetadataPartition" => read_back::<MetadataPartition>(alloc, longer, said),
         "CreateTopic" => read_back::<CreateTopic>(alloc, longer, said),
-        _ => Ok(false),
+        _ => read_greeting(alloc, kind, longer, said),
     }
 }
 

@@ -3,7 +3,8 @@
 use crate::said::Field::{Count, Id, Letters, Number};
 use crate::said::Said;
 use kb_groups::{
-    Blob, Code, Group, Join, JoinProtocol, Joined, Release, Reply, SyncAnswer, SyncAssignment, Text,
+    Blob, Code, Group, Join, JoinProtocol, Joined, Listed, Release, Reply, SyncAnswer,
+    SyncAssignment, Text,
 };
 use std::alloc::{AllocError, Global};
 
@@ -35,15 +36,20 @@ impl<'a> Call<'a> {
             generation: 0,
             pairs: Vec::new(alloc),
         };
+        call.take_all(text)?;
+        Ok(call)
+    }
+
+    fn take_all(&mut self, text: &'a str) -> Result<(), AllocError> {
         for item in text.split(' ') {
             if let Some((name, value)) = item.split_once(':') {
-                call.take(name, value);
+                self.take(name, value);
             }
             if let Some(pair) = item.split_once('=') {
-                call.pairs.push(pair)?;
+                self.pairs.push(pair)?;
             }
         }
-        Ok(call)
+        Ok(())
     }
 
     fn take(&mut self, name: &str, value: &str) {
@@ -87,9 +93,20 @@ impl Members {
             "rebalance-timeout" => self.rebalance_timeout = rest.parse::<i32>().unwrap_or(0),
             "at" => self.clock = rest.parse::<u32>().unwrap_or(0),
             "joins" => self.joins(alloc, rest.parse::<u32>().unwrap_or(0), said)?,
-            _ => return self.ask(alloc, kind, &Call::new(alloc, rest)?, said),
+            _ => return self.call_by_name(alloc, kind, rest, said),
         }
         Ok(true)
+    }
+
+    fn call_by_name(
+        &mut self,
+        alloc: Global,
+        kind: &str,
+        rest: &str,
+        said: &mut Said,
+    ) -> Result<bool, AllocError> {
+        let call = Call::new(alloc, rest)?;
+        self.ask(alloc, kind, &call, said)
     }
 
     fn ask(
@@ -128,17 +145,14 @@ impl Members {
 
     fn join(&mut self, alloc: Global, call: &Call<'_>, said: &mut Said) -> Result<(), AllocError> {
         let mut protocols = Vec::new(alloc);
-        for (name, metadata) in &call.pairs {
-            protocols.push(offer(name, metadata))?;
-        }
+        add_offers(&mut protocols, &call.pairs)?;
         let (code, released) = self.join_with(
             alloc,
             call.connection,
             call.member,
             protocols.as_slice(),
         )?;
-        say_code(code, said)?;
-        say_released(&released, said)
+        say_answer(code, &released, said)
     }
 
     fn join_with(
@@ -165,27 +179,25 @@ impl Members {
 
     /// So many new members join, on connections from 1 on, and it is said how many of them did.
     fn joins(&mut self, alloc: Global, count: u32, said: &mut Said) -> Result<(), AllocError> {
-        let protocols = [offer("range", "x")];
         let mut joined = 0usize;
         for connection in 0..count {
-            let (code, _) = self.join_with(
-                alloc,
-                connection as u64 + 1,
-                None,
-                protocols.as_slice(),
-            )?;
-            if code.number() == 0 {
+            if self.is_joined(alloc, connection as u64 + 1)? {
                 joined = joined.saturating_add(1);
             }
         }
         said.fields(&[("joined", Count(joined))])
     }
 
+    /// A new member joins, and whether it did.
+    fn is_joined(&mut self, alloc: Global, connection: u64) -> Result<bool, AllocError> {
+        let protocols = [offer("range", "x")];
+        let (code, _) = self.join_with(alloc, connection, None, &protocols)?;
+        Ok(code.number() == 0)
+    }
+
     fn sync(&mut self, alloc: Global, call: &Call<'_>, said: &mut Said) -> Result<(), AllocError> {
         let mut assignments = Vec::new(alloc);
-        for (member, assignment) in &call.pairs {
-            assignments.push(assigned(member, assignment))?;
-        }
+        add_assigned(&mut assignments, &call.pairs)?;
         let (answer, released) = self.group.sync(
             alloc,
             call.connection,
@@ -200,8 +212,7 @@ impl Members {
 
     fn leave(&mut self, alloc: Global, number: u64, said: &mut Said) -> Result<(), AllocError> {
         let (code, released) = self.group.leave(alloc, number, self.clock as u64)?;
-        say_code(code, said)?;
-        say_released(&released, said)
+        say_answer(code, &released, said)
     }
 
     fn tick(&mut self, alloc: Global, said: &mut Said) -> Result<(), AllocError> {
@@ -222,6 +233,32 @@ fn assigned<'a>(member_id: &'a str, assignment: &'a str) -> SyncAssignment<'a> {
         member_id: Text::new(member_id),
         assignment: Blob::new(assignment.as_bytes()),
     }
+}
+
+fn add_offers<'a>(
+    protocols: &mut Vec<JoinProtocol<'a>>,
+    pairs: &[(&'a str, &'a str)],
+) -> Result<(), AllocError> {
+    for (name, metadata) in pairs {
+        protocols.push(offer(name, metadata))?;
+    }
+    Ok(())
+}
+
+fn add_assigned<'a>(
+    assignments: &mut Vec<SyncAssignment<'a>>,
+    pairs: &[(&'a str, &'a str)],
+) -> Result<(), AllocError> {
+    for (member_id, assignment) in pairs {
+        assignments.push(assigned(member_id, assignment))?;
+    }
+    Ok(())
+}
+
+/// The answer to a call, and each request that waits no longer.
+fn say_answer(code: Code, released: &[Release], said: &mut Said) -> Result<(), AllocError> {
+    say_code(code, said)?;
+    say_released(released, said)
 }
 
 fn say_code(code: Code, said: &mut Said) -> Result<(), AllocError> {
@@ -282,7 +319,11 @@ fn say_joined(connection: u64, reply: &Joined, said: &mut Said) -> Result<(), Al
         ("leader", Id(reply.leader)),
         ("member", Id(reply.member)),
     ])?;
-    for listed in reply.members.as_slice() {
+    say_listed(reply.members.as_slice(), said)
+}
+
+fn say_listed(members: &[Listed], said: &mut Said) -> Result<(), AllocError> {
+    for listed in members {
         said.fields(&[
             ("listed", Id(listed.member)),
             ("metadata", Letters(listed.metadata.as_slice())),

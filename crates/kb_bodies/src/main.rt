@@ -37,10 +37,21 @@ use std::{env, fs, io};
 /// The text of all files that the arguments name. A line that begins with four spaces is joined to the one above.
 fn read(rt: &HostRuntime) -> io::Result<String> {
     let mut text = String::new(rt.alloc());
-    for file in env::args(rt)?.skip(1) {
-        text.push_str(&fs::read_to_string(rt, &file)?)?;
-    }
+    add_files(rt, &mut text)?;
     Ok(text.replace(rt.alloc(), "\n    ", " ")?)
+}
+
+/// Adds the text of all files that the arguments name.
+fn add_files(rt: &HostRuntime, text: &mut String) -> io::Result<()> {
+    for file in env::args(rt)?.skip(1) {
+        add_file(rt, text, &file)?;
+    }
+    Ok(())
+}
+
+fn add_file(rt: &HostRuntime, text: &mut String, file: &str) -> io::Result<()> {
+    let added = fs::read_to_string(rt, file)?;
+    Ok(text.push_str(&added)?)
 }
 
 fn main(rt: HostRuntime) -> io::Result<()> {

@@ -1,5 +1,4 @@
 //! Single values: those of fixed size, texts and bytes, numbers of groups of seven bits, checksums, and members' ids.
-ghost use Rattle.std.specs.Prelude.{◌<◌, length};
 
 use crate::bodies::{Describe, name, read_back};
 use crate::said::Field::{Count, Letters, Number, Text as Words};
@@ -9,111 +8,94 @@ use kb_groups::{member_id, member_number};
 use kb_wire::{Array, Blob, Cursor, ReadFault, Sink, Text, WireFault};
 use std::alloc::{AllocError, Global};
 
-/// `VARINT`, `VARLONG` and `crc32c`. Whether the kind is one of these.
-pub fn read(alloc: Global, kind: &str, bytes: &[u8], said: &mut Said) -> Result<bool, AllocError> {
-    match kind {
-        "VARINT" => varint(alloc, bytes, said)?,
-        "VARLONG" => varlong(alloc, bytes, said)?,
-        "crc32c" => checksum(bytes, said)?,
-        _ => return Ok(false),
-    }
-    Ok(true)
-}
-
 fn fault(fault: WireFault, said: &mut Said) -> Result<(), AllocError> {
     said.line(name(ReadFault::Wire(fault)))
 }
 
-/// The number in front of some bytes, and how it is written.
-fn varint(alloc: Global, bytes: &[u8], said: &mut Said) -> Result<(), AllocError> {
+/// `VARINT`: the number in front of some bytes, and how it is written.
+pub fn varint(alloc: Global, bytes: &[u8], said: &mut Said) -> Result<(), AllocError> {
     match Cursor::new(bytes).varint() {
         Ok(number) => {
-            let mut sink = Sink::new(alloc);
-            sink.put_varint(number)?;
-            said.fields(&[("value", Number(number as i64))])?;
-            said.bytes(sink.as_slice())
+            (number as i64).describe(said)?;
+            say_varint(alloc, number, said)
         }
         Err(short) => fault(short, said),
     }
 }
 
-/// The long number in front of some bytes, and how it is written.
-fn varlong(alloc: Global, bytes: &[u8], said: &mut Said) -> Result<(), AllocError> {
+fn say_varint(alloc: Global, number: i32, said: &mut Said) -> Result<(), AllocError> {
+    let mut sink = Sink::new(alloc);
+    sink.put_varint(number)?;
+    said.bytes(sink.as_slice())
+}
+
+/// `VARLONG`: the long number in front of some bytes, and how it is written.
+pub fn varlong(alloc: Global, bytes: &[u8], said: &mut Said) -> Result<(), AllocError> {
     match Cursor::new(bytes).varlong() {
         Ok(number) => {
-            let mut sink = Sink::new(alloc);
-            sink.put_varlong(number)?;
-            said.fields(&[("value", Number(number))])?;
-            said.bytes(sink.as_slice())
+            number.describe(said)?;
+            say_varlong(alloc, number, said)
         }
         Err(short) => fault(short, said),
     }
 }
 
-/// The CRC-32C of some bytes, whole, and from two pieces cut anywhere.
-fn checksum(bytes: &[u8], said: &mut Said) -> Result<(), AllocError> {
+fn say_varlong(alloc: Global, number: i64, said: &mut Said) -> Result<(), AllocError> {
+    let mut sink = Sink::new(alloc);
+    sink.put_varlong(number)?;
+    said.bytes(sink.as_slice())
+}
+
+/// `crc32c`: the CRC-32C of some bytes, whole, and from two pieces cut anywhere.
+pub fn checksum(bytes: &[u8], said: &mut Said) -> Result<(), AllocError> {
     let whole = crc32c(bytes);
     said.bytes(&whole.to_be_bytes())?;
     for cut in 0..bytes.len() {
-        let mut crc = Crc::default();
-        crc.update(&bytes[..cut]);
-        crc.update(b"");
-        crc.update(&bytes[cut..]);
-        if crc.value() != whole {
+        if checksum_of_two(&bytes[..cut], &bytes[cut..]) != whole {
             said.line("pieces have another one")?;
         }
     }
     Ok(())
 }
 
-/// `member`: the number in a member's id, and the id of that number. Whether the kind is this.
-pub fn read_text(
-    alloc: Global,
-    kind: &str,
-    text: &str,
-    said: &mut Said,
-) -> Result<bool, AllocError> {
-    if kind != "member" {
-        return Ok(false);
-    }
+fn checksum_of_two(front: &[u8], rest: &[u8]) -> u32 {
+    let mut crc = Crc::default();
+    crc.update(front);
+    crc.update(b"");
+    crc.update(rest);
+    crc.value()
+}
+
+/// `member`: the number in a member's id, and the id of that number.
+pub fn member(alloc: Global, text: &str, said: &mut Said) -> Result<(), AllocError> {
     match member_number(text) {
         Some(number) => {
             let id = member_id(alloc, number)?;
-            said.fields(&[("number", Letters(id.as_slice()))])?;
+            said.fields(&[("number", Letters(id.as_slice()))])
         }
-        None => said.line("no id of a member")?,
+        None => said.line("no id of a member"),
     }
-    Ok(true)
 }
 
-/// Values of fixed size, by the protocol guide's names of types. Whether the kind is one.
+/// Values of fixed size, by the protocol guide's names of types, and other kinds.
 pub fn read_fixed(
     alloc: Global,
     kind: &str,
     longer: &[u8],
     said: &mut Said,
-) -> Result<bool, AllocError>
-    requires { 0 < length longer.now }
-{
+) -> Result<(), AllocError> {
     match kind {
         "INT8" => read_back::<i8>(alloc, longer, said),
         "INT16" => read_back::<i16>(alloc, longer, said),
         "INT32" => read_back::<i32>(alloc, longer, said),
         "INT64" => read_back::<i64>(alloc, longer, said),
         "BOOLEAN" => read_back::<bool>(alloc, longer, said),
-        _ => Ok(false),
+        _ => read_sized(alloc, kind, longer, said),
     }
 }
 
-/// Values with a length or a count in front; the arrays are of `STRING`. Whether the kind is one.
-pub fn read_sized(
-    alloc: Global,
-    kind: &str,
-    longer: &[u8],
-    said: &mut Said,
-) -> Result<bool, AllocError>
-    requires { 0 < length longer.now }
-{
+/// Values with a length or a count in front; the arrays are of `STRING`. There is no other kind.
+fn read_sized(alloc: Global, kind: &str, longer: &[u8], said: &mut Said) -> Result<(), AllocError> {
     match kind {
         "STRING" => read_back::<Text>(alloc, longer, said),
         "NULLABLE_STRING" => read_back::<Option<Text>>(alloc, longer, said),
@@ -121,7 +103,7 @@ pub fn read_sized(
         "NULLABLE_BYTES" => read_back::<Option<Blob>>(alloc, longer, said),
         "ARRAY" => read_back::<Array<Text>>(alloc, longer, said),
         "NULLABLE_ARRAY" => read_back::<Option<Array<Text>>>(alloc, longer, said),
-        _ => Ok(false),
+        _ => said.line("no such kind"),
     }
 }
 

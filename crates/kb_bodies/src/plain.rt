@@ -1,7 +1,7 @@
 //! Requests and replies of the greeting, and of groups.
-ghost use Rattle.std.specs.Prelude.{◌<◌, length};
 
 use crate::bodies::{Describe, read_back};
+use crate::numbers::read_fixed;
 use crate::said::Field::{Count, Letters, Number, Text};
 use crate::said::Said;
 use kb_api_group::{
@@ -13,15 +13,13 @@ use kb_api_group::{
 };
 use std::alloc::{AllocError, Global};
 
-/// What is asked before a group is. Whether the kind is one of these.
+/// What is asked before a group is, and other kinds.
 pub fn read_greeting(
     alloc: Global,
     kind: &str,
     longer: &[u8],
     said: &mut Said,
-) -> Result<bool, AllocError>
-    requires { 0 < length longer.now }
-{
+) -> Result<(), AllocError> {
     match kind {
         "ApiVersionsRequest" => read_back::<ApiVersionsRequest>(alloc, longer, said),
         "ApiVersionsReply" => read_back::<ApiVersionsReply>(alloc, longer, said),
@@ -31,19 +29,17 @@ pub fn read_greeting(
         "SaslAuthenticateReply" => read_back::<SaslAuthenticateReply>(alloc, longer, said),
         "FindCoordinatorRequest" => read_back::<FindCoordinatorRequest>(alloc, longer, said),
         "FindCoordinatorReply" => read_back::<FindCoordinatorReply>(alloc, longer, said),
-        _ => Ok(false),
+        _ => read_group_request(alloc, kind, longer, said),
     }
 }
 
-/// Requests to a group. Whether the kind is one.
-pub fn read_group_request(
+/// Requests to a group, and other kinds.
+fn read_group_request(
     alloc: Global,
     kind: &str,
     longer: &[u8],
     said: &mut Said,
-) -> Result<bool, AllocError>
-    requires { 0 < length longer.now }
-{
+) -> Result<(), AllocError> {
     match kind {
         "JoinGroupRequest" => read_back::<JoinGroupRequest>(alloc, longer, said),
         "SyncGroupRequest" => read_back::<SyncGroupRequest>(alloc, longer, said),
@@ -51,19 +47,17 @@ pub fn read_group_request(
         "LeaveGroupRequest" => read_back::<LeaveGroupRequest>(alloc, longer, said),
         "OffsetCommitRequest" => read_back::<OffsetCommitRequest>(alloc, longer, said),
         "OffsetFetchRequest" => read_back::<OffsetFetchRequest>(alloc, longer, said),
-        _ => Ok(false),
+        _ => read_group_reply(alloc, kind, longer, said),
     }
 }
 
-/// Replies of a group. Whether the kind is one.
-pub fn read_group_reply(
+/// Replies of a group, and other kinds.
+fn read_group_reply(
     alloc: Global,
     kind: &str,
     longer: &[u8],
     said: &mut Said,
-) -> Result<bool, AllocError>
-    requires { 0 < length longer.now }
-{
+) -> Result<(), AllocError> {
     match kind {
         "JoinGroupReply" => read_back::<JoinGroupReply>(alloc, longer, said),
         "SyncGroupReply" => read_back::<SyncGroupReply>(alloc, longer, said),
@@ -71,7 +65,7 @@ pub fn read_group_reply(
         "LeaveGroupReply" => read_back::<LeaveGroupReply>(alloc, longer, said),
         "OffsetCommitReply" => read_back::<OffsetCommitReply>(alloc, longer, said),
         "OffsetFetchReply" => read_back::<OffsetFetchReply>(alloc, longer, said),
-        _ => Ok(false),
+        _ => read_fixed(alloc, kind, longer, said),
     }
 }
 

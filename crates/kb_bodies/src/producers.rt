@@ -32,11 +32,7 @@ impl Producers {
         said: &mut Said,
     ) -> Result<bool, AllocError> {
         match kind {
-            "append" => {
-                let (producer, sequence) = rest.split_once(' ').unwrap_or((rest, "0"));
-                let producer = producer.parse::<i64>().unwrap_or(-1);
-                self.append(alloc, producer, sequence.parse::<i32>().unwrap_or(-1), said)?;
-            }
+            "append" => self.append(alloc, rest, said)?,
             "dropped-below" => self.table.dropped_below(rest.parse::<i64>().unwrap_or(0)),
             _ => return Ok(false),
         }
@@ -53,10 +49,7 @@ impl Producers {
     ) -> Result<bool, AllocError> {
         match kind {
             "rebuild" => self.rebuild(alloc, bytes, said)?,
-            "judge" => match BatchView::read(bytes) {
-                Ok(view) => say(self.table.judge(&view), said)?,
-                Err(_) => said.line("no batch")?,
-            },
+            "judge" => self.judge(bytes, said)?,
             _ => return Ok(false),
         }
         Ok(true)
@@ -72,13 +65,17 @@ impl Producers {
         }
     }
 
-    fn append(
-        &mut self,
-        alloc: Global,
-        producer: i64,
-        sequence: i32,
-        said: &mut Said,
-    ) -> Result<(), AllocError> {
+    fn judge(&self, bytes: &[u8], said: &mut Said) -> Result<(), AllocError> {
+        match BatchView::read(bytes) {
+            Ok(view) => say(self.table.judge(&view), said),
+            Err(_) => said.line("no batch"),
+        }
+    }
+
+    fn append(&mut self, alloc: Global, text: &str, said: &mut Said) -> Result<(), AllocError> {
+        let (producer, sequence) = text.split_once(' ').unwrap_or((text, "0"));
+        let producer = producer.parse::<i64>().unwrap_or(-1);
+        let sequence = sequence.parse::<i32>().unwrap_or(-1);
         let mut builder = BatchBuilder::new(alloc, producer, 0, sequence);
         let pushed = builder.push(5, None, Some(b"hi"));
         match (pushed, builder.finish()) {

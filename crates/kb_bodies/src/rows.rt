@@ -10,10 +10,7 @@ use std::alloc::{AllocError, Global};
 /// Plays the cases of a text, and says what came of each.
 pub fn play_all(alloc: Global, text: &str) -> Result<String, AllocError> {
     let mut rows = Rows::new(alloc);
-    for line in text.lines() {
-        rows.take(alloc, line)?;
-    }
-    rows.finish()?;
+    rows.take_all(alloc, text)?;
     Ok(rows.played)
 }
 
@@ -43,6 +40,14 @@ impl<'a> Rows<'a> {
         }
     }
 
+    /// The lines of a text, to the end of its last case.
+    fn take_all(&mut self, alloc: Global, text: &'a str) -> Result<(), AllocError> {
+        for line in text.lines() {
+            self.take(alloc, line)?;
+        }
+        self.finish()
+    }
+
     /// One more line.
     fn take(&mut self, alloc: Global, line: &'a str) -> Result<(), AllocError> {
         if line.is_empty() || line.starts_with('#') {
@@ -59,10 +64,8 @@ impl<'a> Rows<'a> {
         if let Some(wanted) = line.strip_prefix(">> ") {
             return self.want_bytes(alloc, wanted);
         }
-        match line.split_once(' ') {
-            Some((kind, rest)) => self.take_case(alloc, kind, rest),
-            None => self.take_case(alloc, line, ""),
-        }
+        let (kind, rest) = line.split_once(' ').unwrap_or((line, ""));
+        self.take_case(alloc, kind, rest)
     }
 
     /// Begins a case.
@@ -85,28 +88,35 @@ impl<'a> Rows<'a> {
         if kind == "word" {
             return self.words.learn(alloc, rest);
         }
-        if self.members.call(alloc, kind, rest, &mut self.said)?
-            || self.producers.call(alloc, kind, rest, &mut self.said)?
-            || settings::read(alloc, kind, rest, &mut self.said)?
-            || numbers::read_text(alloc, kind, rest, &mut self.said)?
-            || batches::build(alloc, kind, rest, &mut self.said)?
-        {
+        if self.members.call(alloc, kind, rest, &mut self.said)? {
             return Ok(());
         }
-        self.take_bytes(alloc, kind, rest)
+        self.take_batches(alloc, kind, rest)
+    }
+
+    /// A line of the case that is no call on a group.
+    fn take_batches(&mut self, alloc: Global, kind: &str, rest: &str) -> Result<(), AllocError> {
+        if self.producers.call(alloc, kind, rest, &mut self.said)? {
+            return Ok(());
+        }
+        self.take_text(alloc, kind, rest)
+    }
+
+    /// A line of the case that is no call.
+    fn take_text(&mut self, alloc: Global, kind: &str, rest: &str) -> Result<(), AllocError> {
+        if read_text(alloc, kind, rest, &mut self.said)? {
+            return Ok(());
+        }
+        let bytes = self.words.bytes(alloc, rest)?;
+        self.take_bytes(alloc, kind, &bytes)
     }
 
     /// A line of the case that speaks of bytes.
-    fn take_bytes(&mut self, alloc: Global, kind: &str, rest: &str) -> Result<(), AllocError> {
-        let bytes = self.words.bytes(alloc, rest)?;
-        if self.producers.read(alloc, kind, &bytes, &mut self.said)?
-            || batches::read(alloc, kind, &bytes, &mut self.said)?
-            || numbers::read(alloc, kind, &bytes, &mut self.said)?
-            || bodies::read(alloc, kind, &bytes, &mut self.said)?
-        {
+    fn take_bytes(&mut self, alloc: Global, kind: &str, bytes: &[u8]) -> Result<(), AllocError> {
+        if self.producers.read(alloc, kind, bytes, &mut self.said)? {
             return Ok(());
         }
-        self.said.line("no such kind")
+        read_bytes(alloc, kind, bytes, &mut self.said)
     }
 
     /// Adds the name of the case that is read, where there is one. Else than wanted, what was said stands above it.
@@ -120,5 +130,28 @@ impl<'a> Rows<'a> {
         }
         self.played.push_str(self.name)?;
         self.played.push('\n')
+    }
+}
+
+/// `member`, `build`, and texts of settings. Whether the kind is one of these.
+fn read_text(alloc: Global, kind: &str, text: &str, said: &mut Said) -> Result<bool, AllocError> {
+    match kind {
+        "member" => numbers::member(alloc, text, said)?,
+        "build" => batches::build(alloc, text, said)?,
+        _ => return settings::read(alloc, kind, text, said),
+    }
+    Ok(true)
+}
+
+/// `batch`, `fronts`, `stamp`, `VARINT`, `VARLONG` and `crc32c`; another kind is read as a body.
+fn read_bytes(alloc: Global, kind: &str, bytes: &[u8], said: &mut Said) -> Result<(), AllocError> {
+    match kind {
+        "batch" => batches::batch(alloc, bytes, said),
+        "fronts" => batches::fronts(alloc, bytes, said),
+        "stamp" => batches::stamped(alloc, bytes, said),
+        "VARINT" => numbers::varint(alloc, bytes, said),
+        "VARLONG" => numbers::varlong(alloc, bytes, said),
+        "crc32c" => numbers::checksum(bytes, said),
+        _ => bodies::read(alloc, kind, bytes, said),
     }
 }

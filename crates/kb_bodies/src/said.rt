@@ -3,7 +3,7 @@
 use std::alloc::{AllocError, Global};
 
 /// What a field holds.
-#[derive(Drop)]
+#[derive(Clone, Copy)]
 pub enum Field<'a> {
     Number(i64),
     Id(u64),
@@ -51,27 +51,26 @@ impl Said {
     pub fn fields(&mut self, fields: &[(&str, Field<'_>)]) -> Result<(), AllocError> {
         let mut separator = "";
         for (name, field) in fields {
-            self.text.push_str(separator)?;
-            self.text.push_str(name)?;
-            self.value(field)?;
+            self.field(separator, name, *field)?;
             separator = ", ";
         }
         self.text.push('\n')
     }
 
-    /// What a field holds, behind its name.
-    fn value(&mut self, field: &Field<'_>) -> Result<(), AllocError> {
+    /// A field behind its name.
+    fn field(&mut self, separator: &str, name: &str, field: Field<'_>) -> Result<(), AllocError> {
+        self.text.push_str(separator)?;
+        self.text.push_str(name)?;
         self.text.push(' ')?;
+        self.value(field)
+    }
+
+    /// What a field holds.
+    fn value(&mut self, field: Field<'_>) -> Result<(), AllocError> {
         match field {
-            Field::Number(number) => self.number(*number),
-            Field::Id(id) => {
-                let text = format!(in self.alloc; "{id}")?;
-                self.text.push_str(&text)
-            }
-            Field::Count(count) => {
-                let text = format!(in self.alloc; "{count}")?;
-                self.text.push_str(&text)
-            }
+            Field::Number(number) => self.number(number),
+            Field::Id(id) => self.id(id),
+            Field::Count(count) => self.id(count as u64),
             Field::Text(text) => self.letters(text),
             Field::Letters(bytes) => self.letters(str::from_utf8(bytes).unwrap_or("?")),
             Field::Numbers(numbers) => self.numbers(numbers),
@@ -81,6 +80,11 @@ impl Said {
     fn letters(&mut self, letters: &str) -> Result<(), AllocError> {
         self.text
             .push_str(if letters.is_empty() { "empty" } else { letters })
+    }
+
+    fn id(&mut self, id: u64) -> Result<(), AllocError> {
+        let text = format!(in self.alloc; "{id}")?;
+        self.text.push_str(&text)
     }
 
     fn number(&mut self, number: i64) -> Result<(), AllocError> {

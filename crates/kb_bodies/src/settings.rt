@@ -2,7 +2,7 @@
 
 use crate::said::Field::{Count, Number, Text};
 use crate::said::Said;
-use kb_settings::Settings;
+use kb_settings::{Settings, SettingsFault, User};
 use std::alloc::{AllocError, Global};
 
 /// Two users, who are those of the standard settings.
@@ -13,57 +13,90 @@ const USERS: &str =
 /// `many` users of so many tenants. Whether it is one of these. In a text ` | ` ends a line, and `{64}` is so many letters.
 pub fn read(alloc: Global, kind: &str, rest: &str, said: &mut Said) -> Result<bool, AllocError> {
     match kind {
-        "alone" => fault(alloc, &lines(alloc, rest)?, said)?,
+        "alone" => alone(alloc, rest, said)?,
         "with" => with_users(alloc, rest, said)?,
         "shows" => shows(alloc, rest, said)?,
-        "standard" => match Settings::standard(alloc) {
-            Ok(settings) => say(&settings, said)?,
-            Err(refused) => return Err(refused),
-        },
+        "standard" => standard(alloc, said)?,
         "many" => many(alloc, rest, said)?,
         _ => return Ok(false),
     }
     Ok(true)
 }
 
-/// The lines of a text.
-fn lines(alloc: Global, text: &str) -> Result<String, AllocError> {
-    let mut text = text.replace(alloc, " | ", "\n")?;
-    for count in [64usize, 65, 255, 256] {
-        let name = format!(in alloc; "{{{count}}}")?;
-        text = text.replace(alloc, name.as_str(), &letters(alloc, count)?)?;
+/// Adds the lines of a text.
+fn add_lines(lines: &mut String, text: &str) -> Result<(), AllocError> {
+    for line in text.split(" | ") {
+        add_line(lines, line)?;
+        lines.push('\n')?;
     }
-    Ok(text)
+    Ok(())
 }
 
-/// So many letters.
-fn letters(alloc: Global, count: usize) -> Result<String, AllocError> {
-    let mut text = String::new(alloc);
+/// Adds a line, with so many letters for its `{64}`.
+fn add_line(lines: &mut String, line: &str) -> Result<(), AllocError> {
+    let Some((front, count, rest)) = around_count(line) else {
+        return lines.push_str(line);
+    };
+    lines.push_str(front)?;
+    add_letters(lines, count)?;
+    lines.push_str(rest)
+}
+
+/// The number in the braces of a line, and what stands before and behind them.
+fn around_count(line: &str) -> Option<(&str, u32, &str)> {
+    let (front, rest) = line.split_once('{')?;
+    let (count, rest) = rest.split_once('}')?;
+    Some((front, count.parse::<u32>().ok()?, rest))
+}
+
+fn add_letters(lines: &mut String, count: u32) -> Result<(), AllocError> {
     for _ in 0..count {
-        text.push('x')?;
+        lines.push('x')?;
     }
-    Ok(text)
+    Ok(())
+}
+
+fn alone(alloc: Global, text: &str, said: &mut Said) -> Result<(), AllocError> {
+    let mut lines = String::new(alloc);
+    add_lines(&mut lines, text)?;
+    fault(alloc, &lines, said)
 }
 
 fn with_users(alloc: Global, text: &str, said: &mut Said) -> Result<(), AllocError> {
-    let text = lines(alloc, text)?;
-    fault(alloc, &format!(in alloc; "{text}\n{USERS}")?, said)
+    let mut lines = String::new(alloc);
+    add_lines(&mut lines, text)?;
+    lines.push_str(USERS)?;
+    fault(alloc, &lines, said)
 }
 
 /// What a text comes to: `right`, or its fault.
 fn fault(alloc: Global, text: &str, said: &mut Said) -> Result<(), AllocError> {
     match Settings::read(alloc, text) {
         Ok(_) => said.line("right"),
-        Err(fault) => said.line(&format!(in alloc; "{fault}")?),
+        Err(fault) => wrong(alloc, &fault, said),
     }
+}
+
+fn wrong(alloc: Global, fault: &SettingsFault, said: &mut Said) -> Result<(), AllocError> {
+    let text = format!(in alloc; "{fault}")?;
+    said.line(&text)
 }
 
 /// The settings of a text before two users.
 fn shows(alloc: Global, text: &str, said: &mut Said) -> Result<(), AllocError> {
-    let text = lines(alloc, text)?;
-    match Settings::read(alloc, &format!(in alloc; "{text}\n{USERS}")?) {
+    let mut lines = String::new(alloc);
+    add_lines(&mut lines, text)?;
+    lines.push_str(USERS)?;
+    match Settings::read(alloc, &lines) {
         Ok(settings) => say(&settings, said),
-        Err(fault) => said.line(&format!(in alloc; "{fault}")?),
+        Err(fault) => wrong(alloc, &fault, said),
+    }
+}
+
+fn standard(alloc: Global, said: &mut Said) -> Result<(), AllocError> {
+    match Settings::standard(alloc) {
+        Ok(settings) => say(&settings, said),
+        Err(refused) => Err(refused),
     }
 }
 
@@ -77,7 +110,11 @@ fn say(settings: &Settings, said: &mut Said) -> Result<(), AllocError> {
         ("data", Text(settings.folder.as_deref().unwrap_or("none"))),
         ("users", Count(settings.users.len())),
     ])?;
-    for user in &settings.users {
+    say_users(settings.users.as_slice(), said)
+}
+
+fn say_users(users: &[User], said: &mut Said) -> Result<(), AllocError> {
+    for user in users {
         said.fields(&[
             ("name", Text(user.name.as_str())),
             ("password", Text(user.password.as_str())),
@@ -90,17 +127,24 @@ fn say(settings: &Settings, said: &mut Said) -> Result<(), AllocError> {
 /// So many users, `u0`, `u1`, .., of so many tenants.
 fn many(alloc: Global, counts: &str, said: &mut Said) -> Result<(), AllocError> {
     let (users, tenants) = counts.split_once(' ').unwrap_or((counts, "1"));
-    let (users, tenants) = (
-        users.parse::<u32>().unwrap_or(0),
-        tenants.parse::<u32>().unwrap_or(1),
-    );
+    let users = users.parse::<u32>().unwrap_or(0);
+    let tenants = tenants.parse::<u32>().unwrap_or(1);
     let mut text = String::new(alloc);
+    add_users(alloc, &mut text, users, tenants)?;
+    fault(alloc, &text, said)
+}
+
+fn add_users(alloc: Global, text: &mut String, users: u32, tenants: u32) -> Result<(), AllocError> {
     for user in 0..users {
         let tenant = user.checked_rem(tenants).unwrap_or(0);
-        let entry = format!(in alloc;
-            "[[user]]\nname = \"u{user}\"\npassword = \"p\"\ntenant = \"t{tenant}\"\n"
-        )?;
-        text.push_str(&entry)?;
+        add_user(alloc, text, user, tenant)?;
     }
-    fault(alloc, &text, said)
+    Ok(())
+}
+
+fn add_user(alloc: Global, text: &mut String, user: u32, tenant: u32) -> Result<(), AllocError> {
+    let entry = format!(in alloc;
+        "[[user]]\nname = \"u{user}\"\npassword = \"p\"\ntenant = \"t{tenant}\"\n"
+    )?;
+    text.push_str(&entry)
 }

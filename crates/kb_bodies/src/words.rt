@@ -19,8 +19,7 @@ impl<'a> Words<'a> {
     /// A text `NAME BYTES` gives one more.
     pub fn learn(&mut self, alloc: Global, text: &'a str) -> Result<(), AllocError> {
         if let Some((name, bytes)) = text.split_once(' ') {
-            let mut digits = String::new(alloc);
-            self.put(alloc, &mut digits, bytes)?;
+            let digits = self.digits(alloc, bytes)?;
             self.known.push((name, digits))?;
         }
         Ok(())
@@ -28,12 +27,18 @@ impl<'a> Words<'a> {
 
     /// The bytes that are written so; none where there is a digit that is none.
     pub fn bytes(&self, alloc: Global, words: &str) -> Result<Vec<u8>, AllocError> {
-        let mut digits = String::new(alloc);
-        self.put(alloc, &mut digits, words)?;
+        let digits = self.digits(alloc, words)?;
         match hex::decode(alloc, digits.as_bytes()) {
             Ok(bytes) => Ok(bytes),
             Err(_) => Ok(Vec::new(alloc)),
         }
+    }
+
+    /// The digits of some bytes.
+    fn digits(&self, alloc: Global, bytes: &str) -> Result<String, AllocError> {
+        let mut digits = String::new(alloc);
+        self.put(alloc, &mut digits, bytes)?;
+        Ok(digits)
     }
 
     /// Adds the digits of some bytes.
@@ -43,12 +48,20 @@ impl<'a> Words<'a> {
                 Some((_field, value)) => value,
                 None => item,
             };
-            match value.strip_prefix('\'') {
-                Some(letters) => digits.push_str(&hex::encode(alloc, letters.as_bytes())?)?,
-                None => digits.push_str(self.meaning(value))?,
-            }
+            self.put_value(alloc, digits, value)?;
         }
         Ok(())
+    }
+
+    /// Adds the digits of letters behind a `'`, or of a word.
+    fn put_value(&self, alloc: Global, digits: &mut String, value: &str) -> Result<(), AllocError> {
+        match value.strip_prefix('\'') {
+            Some(letters) => {
+                let letters = hex::encode(alloc, letters.as_bytes())?;
+                digits.push_str(&letters)
+            }
+            None => digits.push_str(self.meaning(value)),
+        }
     }
 
     /// What a word stands for: itself, where it stands for no other.

@@ -4,8 +4,6 @@
 #![tactic(auto)]
 
 #[cfg(test)]
-mod connection;
-#[cfg(test)]
 mod log;
 #[cfg(test)]
 mod partitions;

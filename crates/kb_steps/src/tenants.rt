@@ -6,17 +6,13 @@ ghost use Rattle.kb_service.specs.Hosted.{new_tenant};
 ghost use Rattle.kb_tenants.specs.Tenants.{AreKept, hosted};
 
 use kb_log::{ListLog, Shelf};
-use kb_store::{MemoryStore, Store};
-use kb_tenant::{Answer, Node, Request, Wait};
+use kb_store::MemoryStore;
+use kb_tenant::{Answer, Node, Request};
 use kb_tenants::Tenants;
 use kb_wire::Text;
 use std::alloc::{AllocError, Global};
 use std::process::Abort;
 use std::test::Fail;
-
-/// CreateTopics of `t` with one partition.
-const CREATE: &[u8] =
-    b"\x00\x00\x00\x01\x00\x01t\x00\x00\x00\x01\x00\x01\x00\x00\x00\x00\x00\x00\x00\x00\x00\x00\x13\x88";
 
 /// CreateTopics of `t` with one partition that keeps batches for 1000 milliseconds.
 const CREATE_KEPT: &[u8] =
@@ -24,20 +20,6 @@ const CREATE_KEPT: &[u8] =
 
 /// It is made.
 const MADE: &[u8] = b"\x00\x00\x00\x0d\x00\x00\x00\x09\x00\x00\x00\x01\x00\x01t\x00\x00";
-
-/// It is there already.
-const EXISTS: &[u8] = b"\x00\x00\x00\x0d\x00\x00\x00\x09\x00\x00\x00\x01\x00\x01t\x00\x24";
-
-/// InitProducerId.
-const INIT: &[u8] = b"\xff\xff\x00\x00\xea\x60";
-
-/// Id 0 of epoch 0.
-const FIRST_ID: &[u8] =
-    b"\x00\x00\x00\x14\x00\x00\x00\x09\x00\x00\x00\x00\x00\x00\x00\x00\x00\x00\x00\x00\x00\x00\x00\x00";
-
-/// Id 1 of epoch 0.
-const SECOND_ID: &[u8] =
-    b"\x00\x00\x00\x14\x00\x00\x00\x09\x00\x00\x00\x00\x00\x00\x00\x00\x00\x00\x00\x00\x00\x01\x00\x00";
 
 /// Produce to `t` of a batch of one record with timestamp 5.
 const APPEND: &[u8] =
@@ -49,26 +31,6 @@ const APPEND: &[u8] =
 /// It is appended at offset 0.
 const APPENDED: &[u8] =
     b"\x00\x00\x00\x29\x00\x00\x00\x09\x00\x00\x00\x01\x00\x01t\x00\x00\x00\x01\x00\x00\x00\x00\x00\x00\x00\x00\x00\x00\x00\x00\x00\x00\xff\xff\xff\xff\xff\xff\xff\xff\x00\x00\x00\x00";
-
-/// It is appended at offset 1.
-const APPENDED_NEXT: &[u8] =
-    b"\x00\x00\x00\x29\x00\x00\x00\x09\x00\x00\x00\x01\x00\x01t\x00\x00\x00\x01\x00\x00\x00\x00\x00\x00\x00\x00\x00\x00\x00\x00\x00\x01\xff\xff\xff\xff\xff\xff\xff\xff\x00\x00\x00\x00";
-
-/// ListOffsets of the first offset of `t`.
-const LIST_FIRST: &[u8] =
-    b"\xff\xff\xff\xff\x00\x00\x00\x01\x00\x01t\x00\x00\x00\x01\x00\x00\x00\x00\xff\xff\xff\xff\xff\xff\xff\xfe";
-
-/// It is 0.
-const AT_0: &[u8] =
-    b"\x00\x00\x00\x25\x00\x00\x00\x09\x00\x00\x00\x01\x00\x01t\x00\x00\x00\x01\x00\x00\x00\x00\x00\x00\xff\xff\xff\xff\xff\xff\xff\xff\x00\x00\x00\x00\x00\x00\x00\x00";
-
-/// It is 1.
-const AT_1: &[u8] =
-    b"\x00\x00\x00\x25\x00\x00\x00\x09\x00\x00\x00\x01\x00\x01t\x00\x00\x00\x01\x00\x00\x00\x00\x00\x00\xff\xff\xff\xff\xff\xff\xff\xff\x00\x00\x00\x00\x00\x00\x00\x01";
-
-/// It is 2.
-const AT_2: &[u8] =
-    b"\x00\x00\x00\x25\x00\x00\x00\x09\x00\x00\x00\x01\x00\x01t\x00\x00\x00\x01\x00\x00\x00\x00\x00\x00\xff\xff\xff\xff\xff\xff\xff\xff\x00\x00\x00\x00\x00\x00\x00\x02";
 
 /// The tenants `a` and `b`, without topics.
 fn two(alloc: Global) -> Result<Tenants<ListLog, MemoryStore>, Fail>
@@ -119,44 +81,27 @@ fn plays(
     }
 }
 
+/// Each moment of these, and whether anything is due in it.
+const MOMENTS: [(u64, bool); 4] = [(1000, false), (1005, false), (1006, true), (1006, false)];
+
 #[test]
-fn each_tenant_has_its_own(rt: HostRuntime) -> Result<(), Fail> {
+fn a_batch_is_due_once(rt: HostRuntime) -> Result<(), Fail> {
     let mut tenants = two(rt.alloc())?;
-    let asked = [
-        (0, 19, CREATE, MADE),
-        (1, 19, CREATE, MADE),
-        (0, 19, CREATE, EXISTS),
-        (0, 22, INIT, FIRST_ID),
-        (0, 22, INIT, SECOND_ID),
-        (1, 22, INIT, FIRST_ID),
-    ];
+    let asked = [(1, 19, CREATE_KEPT, MADE), (1, 0, APPEND, APPENDED)];
     plays(&rt, rt.alloc(), &mut tenants, &asked);
+    for (clock, is_due) in &MOMENTS {
+        assert!(rt; passes(&rt, &mut tenants, *clock) == *is_due, "{clock}");
+    }
     Ok(())
 }
 
-#[test]
-fn each_tenant_keeps_what_its_topics_say(rt: HostRuntime) -> Result<(), Fail> {
-    let mut tenants = two(rt.alloc())?;
-    let made = [
-        (0, 19, CREATE_KEPT, MADE),
-        (0, 0, APPEND, APPENDED),
-        (1, 19, CREATE_KEPT, MADE),
-        (1, 0, APPEND, APPENDED),
-    ];
-    let there = [(0, 2, LIST_FIRST, AT_0), (1, 2, LIST_FIRST, AT_0)];
-    let gone = [(0, 2, LIST_FIRST, AT_1), (1, 2, LIST_FIRST, AT_1)];
-    plays(&rt, rt.alloc(), &mut tenants, &made);
-    assert!(rt; !tenants.pass(1005));
-    plays(&rt, rt.alloc(), &mut tenants, &there);
-    assert!(rt; tenants.pass(1006));
-    plays(&rt, rt.alloc(), &mut tenants, &gone);
-    assert!(rt; !tenants.pass(1006));
-    let again = [(1, 0, APPEND, APPENDED_NEXT), (1, 2, LIST_FIRST, AT_1)];
-    let gone_again = [(0, 2, LIST_FIRST, AT_1), (1, 2, LIST_FIRST, AT_2)];
-    plays(&rt, rt.alloc(), &mut tenants, &again);
-    assert!(rt; tenants.pass(1006));
-    plays(&rt, rt.alloc(), &mut tenants, &gone_again);
-    Ok(())
+/// Whether anything is due in a moment.
+fn passes(rt: &impl Abort, tenants: &mut Tenants<ListLog, MemoryStore>, clock: u64) -> bool
+    requires { AreKept list_log (λ s. memory_disk s.files.entries) tenants.old }
+    ensures { AreKept list_log (λ s. memory_disk s.files.entries) tenants.new }
+{
+    assert!(rt; clock < 2000);
+    tenants.pass(clock)
 }
 
 #[test]
@@ -173,19 +118,8 @@ fn refusals_are_counted_by_tenant(rt: HostRuntime) -> Result<(), Fail> {
 }
 
 #[test]
-fn nothing_is_there_yet(rt: HostRuntime) -> Result<(), Fail> {
+fn nothing_is_due_where_nothing_is_there(rt: HostRuntime) -> Result<(), Fail> {
     let mut tenants = two(rt.alloc())?;
-    assert!(rt; !tenants.pass(1000));
-    let wait = Wait {
-        correlation_id: 9,
-        api_version: 4,
-        body: b"",
-        deadline: 2000,
-    };
-    let answer = tenants.look(rt.alloc(), 1, 1000, &wait);
-    assert!(rt; matches!(answer, Answer::Shut));
-    let mut store = tenants.into_shelf().into_store();
-    let files = store.list(rt.alloc()).map_err(|_| AllocError)?;
-    assert!(rt; files.is_empty());
+    assert!(rt; !passes(&rt, &mut tenants, 1000));
     Ok(())
 }

@@ -1,42 +1,28 @@
-//! The steps of an exchange with a catalog, over a log in memory.
+//! Calls of a catalog over a log in memory.
 ghost use Rattle.std.specs.Prelude.{IfOk};
 ghost use Rattle.kb_log.specs.ListLog.{IsListed};
 ghost use Rattle.kb_topics.specs.Catalog.{meta_log};
 
 use kb_log::{ListLog, PartitionLog, Shelf};
 use kb_store::MemoryStore;
-use kb_topics::{Catalog, CatalogFault, TopicConfig};
+use kb_topics::{Catalog, TopicConfig};
 use std::alloc::Global;
 use std::process::Abort;
 use std::test::Fail;
 
-/// A step of an exchange, with the answer that is wanted. A partition is named by the instance of its topic and its number.
+/// A call that is accepted. A partition is named by the instance of its topic and its number.
 #[derive(Clone, Copy)]
 pub(super) enum Step<'a> {
-    /// A topic of that name and number of partitions is made, with those settings.
-    Create(&'a str, i32, TopicConfig, Result<i64, CatalogFault>),
+    /// A topic of that name and number of partitions is made, with those settings, and has that instance.
+    Create(&'a str, i32, TopicConfig, i64),
     /// The topic of that name is deleted.
-    Delete(&'a str, Result<(), CatalogFault>),
-    /// A producer id is given out.
-    Issue(Result<i64, CatalogFault>),
+    Delete(&'a str),
+    /// That producer id is given out.
+    Issue(i64),
     /// The start of a partition is moved to an offset.
-    Start(i64, i32, i64, Result<(), CatalogFault>),
+    Start(i64, i32, i64),
     /// A group commits an offset in a partition, with metadata.
-    Commit(&'a str, i64, i32, i64, &'a str, Result<(), CatalogFault>),
-    /// The offset and the metadata that a group committed in a partition.
-    Committed(&'a str, u64, usize, Option<(i64, &'a str)>),
-    /// The start of a partition.
-    StartOf(u64, usize, i64),
-    /// The instance of the topic of that name.
-    Named(&'a str, Option<u64>),
-    /// The name, the number of partitions and the settings of the topic of an instance.
-    Topic(u64, &'a str, usize, TopicConfig),
-    /// All topics, by name.
-    Topics(&'a [(u64, &'a str)]),
-    /// How many topics there are, the next instance and the next producer id.
-    Counts(usize, u64, u64),
-    /// The end of the meta log.
-    End(i64),
+    Commit(&'a str, i64, i32, i64, &'a str),
 }
 
 fn empty_catalog(alloc: Global) -> Catalog<ListLog>
@@ -88,85 +74,26 @@ impl Kept {
         fetched(alloc, &mut self.shelf, self.catalog.log(), 0, 10_000)
     }
 
-    /// Whether a group committed this in a partition.
-    fn has_committed(
-        &self,
-        group: &str,
-        instance: u64,
-        number: usize,
-        want: Option<(i64, &str)>,
-    ) -> bool {
-        let committed = self.catalog.committed(group, instance, number);
-        committed.map(|committed| (committed.offset(), committed.metadata())) == want
-    }
-
-    /// Whether a topic has this name, this number of partitions and these settings.
-    fn has_topic(&self, instance: u64, name: &str, count: usize, config: TopicConfig) -> bool {
-        match self.catalog.topic(instance) {
-            Some(topic) => topic.name() == name
-                && topic.partitions().len() == count
-                && topic.config() == config,
-            None => false,
-        }
-    }
-
-    /// Whether the topics are these, by name.
-    fn has_topics(&self, want: &[(u64, &str)]) -> bool {
-        let mut topics = self.catalog.topics();
-        for (instance, name) in want {
-            match topics.next() {
-                Some((found, topic)) if found == *instance && topic.name() == *name => {}
-                _ => return false,
-            }
-        }
-        topics.next().is_none()
-    }
-
-    /// Whether a step that changes nothing has the answer that is wanted.
-    fn shows(&self, step: &Step<'_>) -> bool {
-        let catalog = &self.catalog;
-        match step {
-            Step::Committed(group, instance, number, want) => self.has_committed(
-                group, *instance, *number, *want,
-            ),
-            Step::StartOf(instance, number, start) => catalog
-                .partition(*instance, *number)
-                .map(|partition| partition.start())
-                == Some(*start),
-            Step::Named(name, want) => catalog.instance_of(name) == *want,
-            Step::Topic(instance, name, count, config) => self.has_topic(
-                *instance, name, *count, *config,
-            ),
-            Step::Topics(want) => self.has_topics(want),
-            Step::Counts(topics, instance, producer_id) => catalog.len() == *topics
-                && catalog.next_instance() == *instance
-                && catalog.next_producer_id() == *producer_id,
-            Step::End(end) => catalog.log().end() == *end,
-            _ => false,
-        }
-    }
-
-    /// Takes a step, and answers whether it has the answer that is wanted.
-    pub(super) fn take(&mut self, step: &Step<'_>) -> bool
+    /// Makes a call, and says whether it is accepted, with the answer that is wanted.
+    fn take(&mut self, step: &Step<'_>) -> bool
         requires { IsListed (meta_log self.old.catalog) }
         ensures { IsListed (meta_log self.new.catalog) }
     {
         let (catalog, shelf) = (&mut self.catalog, &mut self.shelf);
         match step {
             Step::Create(name, count, config, want) => catalog.create(shelf, name, *count, *config)
-                == *want,
-            Step::Delete(name, want) => name.len() < 300 && catalog.delete(shelf, name) == *want,
-            Step::Issue(want) => catalog.issue(shelf) == *want,
-            Step::Start(instance, number, offset, want) => catalog.moved_start(
+                == Ok(*want),
+            Step::Delete(name) => name.len() < 300 && catalog.delete(shelf, name) == Ok(()),
+            Step::Issue(want) => catalog.issue(shelf) == Ok(*want),
+            Step::Start(instance, number, offset) => catalog.moved_start(
                 shelf, *instance, *number, *offset,
-            ) == *want,
-            Step::Commit(group, instance, number, offset, metadata, want) => group.len() < 300
-                && catalog.commit(shelf, group, *instance, *number, *offset, metadata) == *want,
-            _ => self.shows(step),
+            ) == Ok(()),
+            Step::Commit(group, instance, number, offset, metadata) => group.len() < 300
+                && catalog.commit(shelf, group, *instance, *number, *offset, metadata) == Ok(()),
         }
     }
 
-    /// Takes some steps.
+    /// Makes some calls.
     pub(super) fn take_all(&mut self, rt: &impl Abort, steps: &[Step<'_>])
         requires { IsListed (meta_log self.old.catalog) }
         ensures { IsListed (meta_log self.new.catalog) }
@@ -175,10 +102,4 @@ impl Kept {
             assert!(rt; self.take(step), "step {number}");
         }
     }
-}
-
-/// Takes some steps from a catalog without topics on.
-pub(super) fn plays(rt: &impl Abort, alloc: Global, steps: &[Step<'_>]) -> Result<(), Fail> {
-    Kept::new(alloc)?.take_all(rt, steps);
-    Ok(())
 }

@@ -15,14 +15,17 @@ use Rattle.kb_machine.specs.Calls.{other_than}
 use Rattle.kb_machine.specs.Machine.{find_line}
 use Rattle.kb_machine.specs.Broker.{BrokerState, IsSound, IsUnready, AreUnready, AnyWait, Rising}
 use Rattle.kb_machine.specs.declared.whom.Whom.{Whom}
-use Rattle.kb_machine.specs.Turned.{IsPassedOver, SameOthers, Waked}
+use Rattle.kb_machine.specs.declared.whom.Whom.TheVariants as whoms
+use Rattle.kb_machine.specs.Turned.{SameOthers, Waked}
+use Rattle.std.specs.declared.alloc.Global.{Global}
+use Rattle.std.specs.declared.vec.Vec.{Vec}
 use Rattle.kb_machine.proofs.Sets.{IsAt, all-map, find-at, rising-set, set-at}
 use Rattle.kb_machine.proofs.Parts.{eqb_same, eqb_other}
 use Rattle.kb_machine.proofs.Steps.{remove-those}
 use Rattle.kb_machine.proofs.Turns.{unready-same}
 use Rattle.kb_connection.specs.View.{with_session}
 use Rattle.kb_broker.specs.Places.{number_at, waits_in, IsPassed, ArePassed, AreWaked, IsLookedAt, IsOneMore}
-use Rattle.kb_broker.specs.Parked.{until, deadline_at, deadline_in, until_of, IsKeyedIn, IsOwnedIn, IsQueueOf, IsUnreadyIn, IsUnreadyAt, IsAmong, IsSoughtAt, IsSoughtIn, SameBut, AreMinded}
+use Rattle.kb_broker.specs.Parked.{until, deadline_at, deadline_in, until_of, IsKeyedIn, IsOwnedIn, IsQueueOf, IsReadyAmong, IsUnreadyIn, IsUnreadyAt, AreSought, IsSoughtAt, IsSoughtIn, SameBut, AreMinded}
 use Rattle.kb_broker.proofs.Placed.{get-at, number_at-is}
 use Rattle.kb_broker.proofs.Handled.{put_with, fed-stage}
 use Rattle.kb_broker.proofs.Looked.{looked-number, looked-waked, one-more, waked-more}
@@ -228,8 +231,7 @@ minded-take whom a b ns j n lt is v =
 pub same-more : (ns : List ℕ) (n : ℕ) (a b c : BrokerState) → Contains ns n → SameBut ns a b → SameOthers n b c → SameBut ns a c
 same-more ns n a b c in' same others = λ k apart. others k (λ e. apart (subst (Contains ns) (sym e) in')) ∙ same k apart
 
--- those that are looked for were looked at, and the others were not ready: none is ready then
-pub sought-looked : (H : Type 0) (q : Queue) (whom : Whom) (a b c : BrokerState) (ns ms : List ℕ) → a ≡ b → IsQueueOf H q a.tenants a.lines → AreParked q (IsAmong whom a.clock) ns → ms ≡ ns → AreMinded whom a c ms → AreUnready (IsPassedOver whom b.clock) b → AreUnready AnyWait c
-sought-looked H q whom a b c ns ms e v parked same minded unready =
-    let over : AreUnready (IsPassedOver whom a.clock) a = subst (λ (x : BrokerState). AreUnready (IsPassedOver whom x.clock) x) (sym e) unready in
-    minded-all whom a c ns (subst (AreMinded whom a c) same minded) (sought-minded H q whom a ns v parked over)
+-- those that may be ready were looked at: none is ready then
+pub sought-looked : (H : Type 0) (q : Queue) (answered : Option (Vec ℕ Global)) (a b c : BrokerState) (ns ms : List ℕ) → a ≡ b → IsQueueOf H q a.tenants a.lines → AreSought q answered a.clock ns → ms ≡ ns → AreMinded whoms.All a c ms → IsReadyAmong answered b → AreUnready AnyWait c
+sought-looked H q answered a b c ns ms e v sought same minded ready =
+    minded-all whoms.All a c ns (subst (AreMinded whoms.All a c) same minded) (sought-minded H q answered a ns v sought (subst (IsReadyAmong answered) (sym e) ready))

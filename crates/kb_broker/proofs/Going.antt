@@ -19,12 +19,13 @@ use Rattle.kb_tenant.specs.Replies.{Silent}
 use Rattle.kb_machine.specs.Tenant.{Wait, ready}
 use Rattle.kb_machine.specs.Session.{Stage, Greets, BoundTo, Session, can, fresh, is_free, without_wait}
 use Rattle.kb_machine.specs.Machine.{Line, Moment, first_able}
+use Rattle.std.specs.declared.alloc.Global.{Global}
+use Rattle.std.specs.declared.vec.Vec.{Vec}
 use Rattle.kb_machine.specs.Owners.{whose}
 use Rattle.kb_machine.specs.Machine.{find_line}
 use Rattle.kb_machine.specs.Broker.{BrokerState, IsSound, IsUnready, AreUnready, AnyWait}
-use Rattle.kb_machine.specs.declared.whom.Whom.{Whom}
 use Rattle.kb_machine.specs.declared.whom.Whom.TheVariants as whoms
-use Rattle.kb_machine.specs.Turned.{Scope, Everybody, AreStill, IsGoing, IsLookedFor, IsPassedOver, SameOthers, Served, Turned, Waked}
+use Rattle.kb_machine.specs.Turned.{Scope, Everybody, AreStill, IsGoing, IsLookedFor, SameOthers, Served, Turned, Waked}
 use Rattle.kb_machine.proofs.Sets.{IsAt, all-map, none-able, find-at}
 use Rattle.kb_machine.proofs.Parts.{eqb_same, eqb_other}
 use Rattle.kb_machine.proofs.Owned.{found as found-all}
@@ -33,7 +34,7 @@ use Rattle.kb_machine.proofs.Turns.{going-same, going-then, turned-same, turned-
 use Rattle.kb_machine.proofs.Wakes.{turned-served}
 use Rattle.kb_broker.specs.Hosts.{OnStore, is_honest, IsLater, IsReadyOn, NoneReady, StepsTo}
 use Rattle.kb_broker.specs.Places.{numbers, number_at, waits_in, AreIdle, IsNext, IsScoped, IsTakenAt, IsTurnAt}
-use Rattle.kb_broker.specs.Parked.{deadline_at, deadline_in, until_of, AreAllOf, IsKeyedAt, IsKeyedIn, IsOwnedAt, IsOwnedIn, IsQueueOf, IsAskedOnAt, IsPassedOn, IsWhose, IsLeftBy, IsUnreadyIn, IsSoughtAt, IsSoughtIn, IsMinded, AreMinded, SameBut, IsServedFor, IsOwnTo, IsAllOf, IsLeftTo, can_in, AreAmong}
+use Rattle.kb_broker.specs.Parked.{deadline_at, deadline_in, until_of, AreAllOf, AreAnswered, IsKeyedAt, IsKeyedIn, IsOwnedAt, IsOwnedIn, IsQueueOf, IsAskedOnAt, IsPassedOn, IsWhose, IsLeftBy, IsUnreadyIn, IsSoughtAt, IsSoughtIn, IsMinded, AreMinded, SameBut, IsServedFor, IsOwnTo, IsAllOf, IsLeftTo, IsReadyAmong, can_in, AreAmong}
 use Rattle.kb_broker.specs.declared.serving.Concerned.{Concerned}
 use Rattle.kb_broker.specs.declared.serving.Concerned.TheVariants as concerned
 use Rattle.kb_broker.proofs.Honest.{later-same, later-then, ready-of}
@@ -339,8 +340,20 @@ left-spared H honest t ns b i l m us unready taken turn p k =
     other None e ne = inl (subst (IsUnreadyIn d k) (sym e) tt)
     other (Some y) e ne = subst (λ o. IsUnreadyIn d k o ⊎ (Contains ns k × IsSoughtIn (whoms.Tenant t) d.clock o)) (sym e) (waits ne y y.stage e refl (subst (IsUnreadyIn b k) e (unready-at b unready k)))
 
+-- where all that its groups answered are among those
+spared-answered : (H : Type 0) (t : ℕ) (x : Option Wait) (ns : List ℕ) (b : BrokerState) (i : ℕ) (l m : Line) (us : List TenantState) → IsTaken H b i l m us → l.session.stage ≡ BoundTo t x → AreAnswered t b.clock l.number b.tenants us ns
+    → IsSpared t ns b l m us (put_with b i m us)
+spared-answered H t x ns b i l m us taken bound p = record {
+  own = (p.own, sought-own t b.clock m.session.stage (taken.spent.stage t x bound ∙ ap without_wait bound));
+  others = λ k y w ne e f silent. by k w ne silent (among k ns);
+}
+  where
+    by : (k : ℕ) (w : Wait) → k ≢ l.number → ready (hosted.kept_of b.tenants t) b.clock k w ≡ Silent → Contains ns k ⊎ (Contains ns k → ⊥) → (ready (hosted.kept_of us t) b.clock k w ≡ Silent) ⊎ Contains ns k
+    by k w ne silent (inl c) = inr c
+    by k w ne silent (inr not-in) = inl (p.others k w ne not-in silent)
+
 left-these : (H : Type 0) → H → (G : Type 0) → G → (t : ℕ) (ns : List ℕ) (b : BrokerState) (i : ℕ) (l m : Line) (us : List TenantState) (q : Queue) (st : Stage) → AreUnready AnyWait b → IsTaken H b i l m us → l.session.stage ≡ st → whose st ≡ Some t → IsQueueOf G q b.tenants b.lines
-    → IsTurnAt H st b.tenants us → IsPassedOn b.setup t b.clock l.number q b.tenants us l.session m.session ns ⊎ AreAllOf t l.number q ns → (k : ℕ) → IsMinded (whoms.Tenant t) ns (put_with b i m us) k
+    → IsTurnAt H st b.tenants us → IsPassedOn b.setup t b.clock l.number q b.tenants us l.session m.session ns ⊎ (AreAllOf t l.number q ns ⊎ AreAnswered t b.clock l.number b.tenants us ns) → (k : ℕ) → IsMinded (whoms.Tenant t) ns (put_with b i m us) k
 left-these H honest G true-so t ns b i l m us q (Greets h) unready taken s who v turn p = absurd (cc)
 left-these H honest G true-so t ns b i l m us q (BoundTo u x) unready taken s who v turn' p = left-spared H honest t ns b i l m us unready taken turn (by p)
   where
@@ -353,9 +366,10 @@ left-these H honest G true-so t ns b i l m us q (BoundTo u x) unready taken s wh
     turn : IsTurn t H b.tenants us
     turn = subst (λ n. IsTurn n H b.tenants us) same turn'
 
-    by : IsPassedOn b.setup t b.clock l.number q b.tenants us l.session m.session ns ⊎ AreAllOf t l.number q ns → IsSpared t ns b l m us (put_with b i m us)
+    by : IsPassedOn b.setup t b.clock l.number q b.tenants us l.session m.session ns ⊎ (AreAllOf t l.number q ns ⊎ AreAnswered t b.clock l.number b.tenants us ns) → IsSpared t ns b l m us (put_with b i m us)
     by (inl passed) = spared-passed H G true-so t x ns b i l m us q taken bound v turn passed
-    by (inr all) = spared-all H G t x ns b i l m us q taken bound v all
+    by (inr (inl all)) = spared-all H G t x ns b i l m us q taken bound v all
+    by (inr (inr answered)) = spared-answered H t x ns b i l m us taken bound answered
 
 pub left-by : (H : Type 0) → H → (G : Type 0) → G → (c : Concerned) (b : BrokerState) (i : ℕ) (l m : Line) (us : List TenantState) (q : Queue) → AreUnready AnyWait b → IsTaken H b i l m us → IsWhose c l.session.stage → IsQueueOf G q b.tenants b.lines
     → IsLeftBy c b.setup b.clock l.session.stage l.number q b.tenants us l.session m.session → IsLeftTo c (put_with b i m us)
@@ -386,26 +400,26 @@ confined-these ns n a b c own first then k apart = then k apart ∙ first k (λ 
 -- 5. A moment
 
 -- what the tenants' own parts, and then looks, left of the broker on its store, before the turns
-pub record IsAwake {S : Type 0} (disk : S → Disk) (now : ℕ) (whom : Whom) (a s b : OnStore S) : Type 0 where
+pub record IsAwake {S : Type 0} (disk : S → Disk) (now : ℕ) (answered : Option (Vec ℕ Global)) (a s b : OnStore S) : Type 0 where
   pub ready : IsReadyOn disk a
   pub first : IsLater disk a s
-  pub begun : HasBegun (is_honest disk s) now whom a.state s.state
+  pub begun : HasBegun (is_honest disk s) now answered a.state s.state
   pub going : IsGoing s.state b.state
   pub later : IsLater disk s b
-  pub waked : is_honest disk b → Waked whom s.state b.state
-  pub rest : is_honest disk b → AreUnready (IsPassedOver whom s.state.clock) s.state → AreUnready AnyWait b.state
+  pub waked : is_honest disk b → Waked whoms.All s.state b.state
+  pub rest : is_honest disk b → IsReadyAmong answered s.state → AreUnready AnyWait b.state
 
-pub awake-unready : {S : Type 0} (disk : S → Disk) (now : ℕ) (whom : Whom) (a s b : OnStore S) → IsAwake disk now whom a s b → NoneReady disk b
-awake-unready disk now whom a s b h = λ honest.
+pub awake-unready : {S : Type 0} (disk : S → Disk) (now : ℕ) (answered : Option (Vec ℕ Global)) (a s b : OnStore S) → IsAwake disk now answered a s b → NoneReady disk b
+awake-unready disk now answered a s b h = λ honest.
     let then = h.later.honest honest in
-    h.rest honest (unready-over (is_honest disk s) then now whom a.state s.state (ready-of disk a h.ready (h.first.honest then)) h.begun)
+    h.rest honest (unready-over (is_honest disk s) then now answered a.state s.state (ready-of disk a h.ready (h.first.honest then)) h.begun)
 
-pub awake-still : {S : Type 0} (disk : S → Disk) (now : ℕ) (whom : Whom) (a s b : OnStore S) → IsAwake disk now whom a s b → is_honest disk b → IsScoped b.state
-awake-still disk now whom a s b h = λ honest. (Everybody, waked-still (is_honest disk s) now whom a.state s.state b.state h.ready.settled h.begun (h.waked honest))
+pub awake-still : {S : Type 0} (disk : S → Disk) (now : ℕ) (answered : Option (Vec ℕ Global)) (a s b : OnStore S) → IsAwake disk now answered a s b → is_honest disk b → IsScoped b.state
+awake-still disk now answered a s b h = λ honest. (Everybody, waked-still (is_honest disk s) now answered a.state s.state b.state h.ready.settled h.begun (h.waked honest))
 
 -- those that were looked at are all that can take a turn
-pub awake-among : {S : Type 0} (disk : S → Disk) (now : ℕ) (whom : Whom) (a s b : OnStore S) (ns : List ℕ) → IsAwake disk now whom a s b → SameBut ns s.state b.state → AreAmong ns b.state
-awake-among disk now whom a s b ns h same = among-settled ns s.state b.state (idle-none (is_honest disk s) now whom a.state s.state s.state h.ready.settled h.begun refl) same
+pub awake-among : {S : Type 0} (disk : S → Disk) (now : ℕ) (answered : Option (Vec ℕ Global)) (a s b : OnStore S) (ns : List ℕ) → IsAwake disk now answered a s b → SameBut ns s.state b.state → AreAmong ns b.state
+awake-among disk now answered a s b ns h same = among-settled ns s.state b.state (idle-none (is_honest disk s) now answered a.state s.state s.state h.ready.settled h.begun refl) same
 
 -- what a moment leaves
 pub record IsMovedOn {S : Type 0} (disk : S → Disk) (now : ℕ) (a d : OnStore S) : Type 0 where
@@ -417,14 +431,14 @@ pub record IsMovedOn {S : Type 0} (disk : S → Disk) (now : ℕ) (a d : OnStore
   pub numbers : numbers d.state ≡ numbers a.state
   pub others : is_honest disk d → (k : ℕ) → waits_in (find_line k a.state.lines) ≡ false → find_line k d.state.lines ≡ find_line k a.state.lines
 
-pub moved-on : {S : Type 0} (disk : S → Disk) (now : ℕ) (whom : Whom) (a s b d : OnStore S) → IsAwake disk now whom a s b → IsGoing b.state d.state → IsLater disk b d
+pub moved-on : {S : Type 0} (disk : S → Disk) (now : ℕ) (answered : Option (Vec ℕ Global)) (a s b d : OnStore S) → IsAwake disk now answered a s b → IsGoing b.state d.state → IsLater disk b d
     → (is_honest disk d → (scope : Scope) → AreStill scope b.state → Turned scope b.state d.state) → first_able d.state.lines ≡ None → IsMovedOn disk now a d
-moved-on disk now whom a s b d h going later turned settled =
+moved-on disk now answered a s b d h going later turned settled =
     let H = is_honest disk s in
     let after = later-then disk s b d h.later later in
     let whole = later-then disk a s d h.first after in
-    let gone = moved-going H now whom a.state s.state b.state h.ready.settled h.begun d.state h.going going in
-    let moved : is_honest disk d → IsMoved H now whom a.state s.state b.state d.state = λ honest. record {
+    let gone = moved-going H now answered a.state s.state b.state h.ready.settled h.begun d.state h.going going in
+    let moved : is_honest disk d → IsMoved H now answered a.state s.state b.state d.state = λ honest. record {
       ready = ready-of disk a h.ready (whole.honest honest);
       begun = h.begun;
       waked = h.waked (later.honest honest);
@@ -433,11 +447,11 @@ moved-on disk now whom a s b d h going later turned settled =
       none = settled;
     } in
     record {
-      ready = record { sound = gone.sound; settled = settled; unready = λ honest. moved-unready H (after.honest honest) now whom a.state s.state b.state d.state (moved honest) };
+      ready = record { sound = gone.sound; settled = settled; unready = λ honest. moved-unready H (after.honest honest) now answered a.state s.state b.state d.state (moved honest) };
       later = whole;
-      step = λ honest. moved-step H (after.honest honest) now whom a.state s.state b.state d.state (moved honest);
+      step = λ honest. moved-step H (after.honest honest) now answered a.state s.state b.state d.state (moved honest);
       clock = gone.clock;
       last = gone.last;
       numbers = gone.numbers;
-      others = λ honest. moved-others H (after.honest honest) now whom a.state s.state b.state d.state (moved honest);
+      others = λ honest. moved-others H (after.honest honest) now answered a.state s.state b.state d.state (moved honest);
     }

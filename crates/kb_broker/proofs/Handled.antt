@@ -1,42 +1,47 @@
 -- What the broker's steps leave of it.
 use Rattle.std.proofs.Common.{◌≡◌, ◌≢◌, ◌++◌, ◌+◌, ◌<◌, ℕ, List, [], ◌∷◌, length, get_or, set, eqb, Some, None, Result, Ok, Err, OnOk, OnErr, Bool, true, false, suc, inl, inr, refl, sym, ◌∙◌, ap, subst, arith}
-use Rattle.std.specs.Prelude.{max, ◌^◌, ◌≤◌, ◌⊎◌, None, not, cond, nat_lt, Option}
+use Rattle.std.specs.Prelude.{max, pos, Contains, ◌^◌, ◌≤◌, ◌⊎◌, None, not, cond, nat_lt, Option}
 use Rattle.std.specs.List.{position, position_or_len}
+use Rattle.std.specs.declared.alloc.Global.{Global}
+use Rattle.std.specs.declared.vec.Vec.{Vec}
+use Rattle.kb_tenants.specs.Tenants.{IsQuietBut}
+use Rattle.kb_tenant.specs.Serve.{looked}
 use Rattle.std.proofs.lemmas.List.Quantifiers.{position-Some}
 use Rattle.std.specs.Result.{is_err}
 use Rattle.std.specs.List.{AllByRecursion}
 use Rattle.std.proofs.lemmas.Bool.Decides.{nat_tests}
 use Rattle.std.proofs.lemmas.List.{get_or_default, length-map}
 use Rattle.kb_world.specs.Steps.{IsCalm}
-use Rattle.kb_service.specs.Hosted.{TenantState, IsTurn, HavePassed, names_of, refusals_of}
+use Rattle.kb_service.specs.Hosted.{Kept, TenantState, IsTurn, HavePassed, names_of, refusals_of, world_at}
 use Rattle.kb_machine.specs.Session.{Stage, Greets, BoundTo, Session, fresh, shut_down, without_wait, is_free, fed, overruns, room, can}
 use Rattle.kb_service.specs.Hosted as hosted
 use Rattle.kb_service.specs.Serve.{has_released}
 use Rattle.kb_tenant.specs.Replies.{Silent}
-use Rattle.kb_machine.specs.Tenant.{Wait, ready}
+use Rattle.kb_machine.specs.Tenant.{Awaited, Records, Group, Wait, ready, ready_for}
 use Rattle.kb_machine.specs.Greeting.{User}
 use Rattle.kb_machine.specs.Machine.{Happening, Comes, Moment, Line, find_line, first_able, stepped, turns, work}
 use Rattle.kb_machine.specs.Owners.{whose}
 use Rattle.kb_machine.specs.Calls.{left_by}
 use Rattle.kb_machine.specs.Broker.{BrokerState, AreUnready, AnyWait, InRange, IsCalmFor, IsReady, IsSound, IsStep, IsUnready, IsUntaken, Mine, is_deaf, view_of}
-use Rattle.kb_machine.specs.declared.whom.Whom.{Whom}
+use Rattle.kb_machine.specs.declared.whom.Whom.TheVariants as whoms
 use Rattle.kb_machine.specs.Turned.{Scope, Of, Everybody, IsStill, AreStill, IsGoing, is_resting, IsFed, SameOthers, Turned, Served, Waked, IsPassedOver}
 use Rattle.kb_machine.proofs.Quiet.{quiet-turn}
 use Rattle.kb_machine.proofs.Sets.{IsAt, all-at, all-map, all-still, find-set_other, work-set, first-still, still-none}
 use Rattle.kb_machine.proofs.Parts.{count, each-tenant, turn-then, calm-right, eqb_same}
 use Rattle.kb_machine.proofs.Owned.{found as found-all}
-use Rattle.kb_machine.proofs.Steps.{begun, sound-begun, all-unready, due-unready, step-moment}
+use Rattle.kb_machine.proofs.Steps.{begun, sound-begun, due-unready, step-moment}
 use Rattle.kb_machine.proofs.Wakes.{turned-quiet}
-use Rattle.kb_machine.proofs.Leaving.{left_fed, kept-unfed, names-fed, own-whose, ready-fed, refusals-fed}
+use Rattle.kb_machine.proofs.Leaving.{left_fed, kept-unfed, left-names, left-other, left-own, left-refusals, names-fed, own-whose, ready-fed, ready-left, refusals-fed}
 use Rattle.kb_machine.proofs.Owners.{IsMine}
 use Rattle.kb_tenants.proofs.Passed.{length_named}
 use Rattle.kb_machine.proofs.Turns.{changed-quiet, free-unready, going-then, unready-quiet, untouched-then, turned-greeting, called-going, greeting-going, refused-going, served-bound, refused-greeting}
-use Rattle.kb_machine.proofs.Feeds.{still-settled, fed-kept, fed-refused, fed-bound, step-comes, step-nothing, step-shut}
+use Rattle.kb_machine.proofs.Feeds.{still-settled, fed-kept, fed-refused, fed-loud, step-comes, step-nothing, step-shut}
 use Rattle.kb_connection.specs.View.{with_session}
 use Rattle.kb_broker.specs.Places.{numbers, number_at, waits_in, Leaves, IsSpent, IsTakenAt, IsTurnAt, AreIdle, IsNext, IsScoped, IsCountedAt, IsCountedFor, IsServedAt, IsQuietAt}
-use Rattle.kb_broker.specs.Parked.{deadline_at, IsServedFor, IsWhose, IsAllOf}
+use Rattle.kb_broker.specs.Parked.{deadline_at, IsReadyAmong, IsServedFor, IsWhose, IsAllOf}
 use Rattle.kb_broker.specs.declared.serving.Concerned.{Concerned}
 use Rattle.kb_broker.specs.declared.serving.Concerned.TheVariants as concerned
+use Rattle.kb_broker.proofs.Parked.{among}
 use Rattle.kb_broker.proofs.Placed.{IsFound, at-read, get-at, find-found, number_at-is}
 
 -- 1. A connection at a place changes
@@ -200,38 +205,44 @@ work-taken H b i l m us h = work-put b i l m (set b.lines i m) h.at refl h.spent
 pub record IsShut (b c : BrokerState) (i : ℕ) (l m : Line) : Type 0 where
   pub at : IsAt b.lines i l
   pub is : m ≡ with_session l (shut_down l.session)
-  pub counted : IsCountedAt l.session.stage (put_at b i m) c
+  pub counted : IsCountedAt l.number l.session.stage (put_at b i m) c
 
 -- waiting or not, it is counted for the same
-counted-stage : (st : Stage) (b c : BrokerState) → IsCountedAt (without_wait st) b c → IsCountedAt st b c
-counted-stage (Greets h) b c r = r
-counted-stage (BoundTo t w) b c r = r
+counted-stage : (n : ℕ) (st : Stage) (b c : BrokerState) → IsCountedAt n (without_wait st) b c → IsCountedAt n st b c
+counted-stage n (Greets h) b c r = r
+counted-stage n (BoundTo t w) b c r = r
 
-pub shut-at : (a b c : BrokerState) (i : ℕ) (k l m : Line) (st : Stage) → a ≡ b → i < length b.lines → k ≡ get_or a.lines i k → l ≡ get_or a.lines i l → st ≡ without_wait k.session.stage → m ≡ with_session l (shut_down l.session) → IsCountedAt st (put_at a i m) c → IsShut b c i l m
-shut-at a b c i k l m st e lt read at s is counted =
+pub shut-at : (a b c : BrokerState) (i n : ℕ) (k l m : Line) (st : Stage) → a ≡ b → i < length b.lines → k ≡ get_or a.lines i k → l ≡ get_or a.lines i l → n ≡ l.number → st ≡ without_wait k.session.stage → m ≡ with_session l (shut_down l.session) → IsCountedAt n st (put_at a i m) c → IsShut b c i l m
+shut-at a b c i n k l m st e lt read at number s is counted =
     let here = at-read a b i l e lt at in
     let there = at-read a b i k e lt read in
     let same : k ≡ l = there.here ∙ (get_or_default b.lines i k l lt ∙ sym here.here) in
     let stage : st ≡ without_wait l.session.stage = s ∙ ap (λ (x : Line). without_wait x.session.stage) same in
-    record { at = here; is = is; counted = counted-stage l.session.stage (put_at b i m) c (subst (λ x. IsCountedAt x (put_at b i m) c) stage (subst (λ (x : BrokerState). IsCountedAt st (put_at x i m) c) e counted)) }
+    record { at = here; is = is; counted = counted-stage l.number l.session.stage (put_at b i m) c (subst (λ x. IsCountedAt l.number x (put_at b i m) c) stage (subst (λ (x : BrokerState). IsCountedAt l.number st (put_at x i m) c) e (subst (λ k. IsCountedAt k st (put_at a i m) c) number counted))) }
 
-pub lines-counted : (st : Stage) (b c : BrokerState) → IsCountedAt st b c → c.lines ≡ b.lines
-lines-counted (Greets h) b c r = ap (λ (x : BrokerState). x.lines) r.is
-lines-counted (BoundTo t w) b c r = ap (λ (x : BrokerState). x.lines) r.is
+pub lines-counted : (n : ℕ) (st : Stage) (b c : BrokerState) → IsCountedAt n st b c → c.lines ≡ b.lines
+lines-counted n (Greets h) b c r = ap (λ (x : BrokerState). x.lines) r.is
+lines-counted n (BoundTo t w) b c r = ap (λ (x : BrokerState). x.lines) r.is
 
-pub names-counted : (st : Stage) (b c : BrokerState) → IsCountedAt st b c → names_of c.tenants ≡ names_of b.tenants
-names-counted (Greets h) b c r = ap (λ (x : BrokerState). names_of x.tenants) r.is
-names-counted (BoundTo t w) b c r = r.turn.names
+pub names-counted : (n : ℕ) (st : Stage) (b c : BrokerState) → IsCountedAt n st b c → names_of c.tenants ≡ names_of b.tenants
+names-counted n (Greets h) b c r = ap (λ (x : BrokerState). names_of x.tenants) r.is
+names-counted n (BoundTo t w) b c r = r.turn.names
 
-pub counts-counted : (st : Stage) (b c : BrokerState) → IsCountedAt st b c → (u : ℕ) → refusals_of b.tenants u ≤ refusals_of c.tenants u
-counts-counted (Greets h) b c r u = let same = ap (λ (x : BrokerState). refusals_of x.tenants u) r.is in omega (arith, same)
-counts-counted (BoundTo t w) b c r u = r.turn.grows u
+pub counts-counted : (n : ℕ) (st : Stage) (b c : BrokerState) → IsCountedAt n st b c → (u : ℕ) → refusals_of b.tenants u ≤ refusals_of c.tenants u
+counts-counted n (Greets h) b c r u = let same = ap (λ (x : BrokerState). refusals_of x.tenants u) r.is in omega (arith, same)
+counts-counted n (BoundTo t w) b c r u = r.turn.grows u
 
-fed-counted : (b c : BrokerState) (i : ℕ) (l m : Line) (piece : List ℕ) (st : Stage) → IsSound b → first_able b.lines ≡ None → IsAt b.lines i l → l.session.stage ≡ st → m.number ≡ l.number → m.session ≡ shut_down l.session → IsCountedAt st (put_at b i m) c → IsFed l.number piece b c
+-- what waits is as ready as before
+ready-counted : (t n : ℕ) (b c : BrokerState) → IsCountedFor t n b c → (u at k : ℕ) (w : Wait) → ready (hosted.kept_of b.tenants u) at k w ≡ Silent → ready (hosted.kept_of c.tenants u) at k w ≡ Silent
+ready-counted t n b c r u at k w = each-tenant (λ v. ready (hosted.kept_of b.tenants v) at k w ≡ Silent → ready (hosted.kept_of c.tenants v) at k w ≡ Silent) t u (eqb t u) refl
+    (λ silent. ap (λ x. ready x at k w) r.left ∙ (ready-left b.clock n (hosted.kept_of b.tenants t) at k w ∙ silent))
+    (λ ne silent. ap (λ x. ready x at k w) (r.turn.others tt u ne) ∙ silent)
+
+fed-counted : (b c : BrokerState) (i : ℕ) (l m : Line) (piece : List ℕ) (st : Stage) → IsSound b → first_able b.lines ≡ None → IsAt b.lines i l → l.session.stage ≡ st → m.number ≡ l.number → m.session ≡ shut_down l.session → IsCountedAt l.number st (put_at b i m) c → IsFed l.number piece b c
 fed-counted b c i l m piece (Greets h) sound settled at s n e r =
     subst (λ x. IsFed l.number piece b x) (sym r.is) (fed-refused b i l m piece h c.unbound_refusals sound settled at s n e r.grows r.counted)
 fed-counted b c i l m piece (BoundTo t w) sound settled at s n e r =
-    subst (λ x. IsFed l.number piece b x) (sym r.is) (fed-bound b i t l m piece w (Unit {0}) c.tenants sound settled at s n e r.turn tt r.stays r.counted)
+    subst (λ x. IsFed l.number piece b x) (sym r.is) (fed-loud b i t l m piece w (Unit {0}) c.tenants sound settled at s n e r.turn tt (λ u k x. ready-counted t l.number (put_at b i m) c r u b.clock k x) r.counted)
 
 -- names stay, and each tenant is still one of the broker's
 length-fed : (piece : List ℕ) (clock n : ℕ) (s : Session) (ts : List TenantState) → length (left_fed piece clock n s ts) ≡ length ts
@@ -307,7 +318,7 @@ fed-since b c i u l w piece at bound loud f = record {
 
 -- a greeting one has no tenant, so nothing changes first
 fed-from : (b c : BrokerState) (i : ℕ) (l m : Line) (piece : List ℕ) (st : Stage) → let d = record b { tenants = left_fed piece b.clock l.number l.session b.tenants } in
-    IsAt b.lines i l → l.session.stage ≡ st → IsCountedAt st (put_at d i m) c → IsFed l.number piece d c → IsFed l.number piece b c
+    IsAt b.lines i l → l.session.stage ≡ st → IsCountedAt l.number st (put_at d i m) c → IsFed l.number piece d c → IsFed l.number piece b c
 fed-from b c i l m piece (Greets h) at s counted f =
     let same : (x : Bool) → cond x (left_by b.clock l.number (Greets h) b.tenants) b.tenants ≡ b.tenants = λ x. either x b.tenants in
     subst (λ ts. IsFed l.number piece (record b { tenants = ts }) c) (ap (λ st. cond (overruns piece l.session) (left_by b.clock l.number st b.tenants) b.tenants) s ∙ same (overruns piece l.session)) f
@@ -346,28 +357,58 @@ pub turn-sure : (H : Type 0) (t : ℕ) (ts us : List TenantState) → IsTurn t (
 turn-sure H t ts us turn = record { names = turn.names; grows = turn.grows; counts = turn.counts; others = λ honest. turn.others tt }
 
 -- a turn that was refused to the connection, and counted
-turn-refused : (H : Type 0) (t : ℕ) (b c : BrokerState) (i : ℕ) (m : Line) (us : List TenantState) → IsTurn t H b.tenants us → IsCountedFor t (put_with b i m us) c → IsTurn t H b.tenants c.tenants
-turn-refused H t b c i m us turn r = turn-then t H H b.tenants us c.tenants (λ u. u) turn (turn-sure H t us c.tenants r.turn)
+turn-refused : (H : Type 0) (t n : ℕ) (b c : BrokerState) (i : ℕ) (m : Line) (us : List TenantState) → IsTurn t H b.tenants us → IsCountedFor t n (put_with b i m us) c → IsTurn t H b.tenants c.tenants
+turn-refused H t n b c i m us turn r = turn-then t H H b.tenants us c.tenants (λ u. u) turn (turn-sure H t us c.tenants r.turn)
 
-pub refused-taken : (H : Type 0) (b c : BrokerState) (i : ℕ) (l m : Line) (us : List TenantState) (st : Stage) → IsTaken H b i l m us → l.session.stage ≡ st → m.session ≡ shut_down l.session → IsTurnAt H st b.tenants us → IsCountedAt st (put_with b i m us) c → IsGoing b c
+pub refused-taken : (H : Type 0) (b c : BrokerState) (i : ℕ) (l m : Line) (us : List TenantState) (st : Stage) → IsTaken H b i l m us → l.session.stage ≡ st → m.session ≡ shut_down l.session → IsTurnAt H st b.tenants us → IsCountedAt l.number st (put_with b i m us) c → IsGoing b c
 refused-taken H b c i l m us (Greets h) k s e turn r =
     let g = subst (λ ts. IsGoing b (record (put_with b i m ts) { unbound_refusals = c.unbound_refusals })) (sym turn) (refused-going b i l m h c.unbound_refusals k.next.sound k.at s k.number e r.grows) in
     subst (λ x. IsGoing b x) (sym r.is) g
 refused-taken H b c i l m us (BoundTo t w) k s e turn r =
-    subst (λ x. IsGoing b x) (sym r.is) (called-going b i t l m H c.tenants k.next.sound k.at (record { wait = w; is = s }) k.number (k.spent.stage t w s) (turn-refused H t b c i m us turn r))
+    subst (λ x. IsGoing b x) (sym r.is) (called-going b i t l m H c.tenants k.next.sound k.at (record { wait = w; is = s }) k.number (k.spent.stage t w s) (turn-refused H t l.number b c i m us turn r))
 
-pub served-refused : (H : Type 0) → H → (scope : Scope) (b c : BrokerState) (i : ℕ) (l m : Line) (us : List TenantState) (st : Stage) → AreStill scope b → IsTaken H b i l m us → l.session.stage ≡ st → m.session ≡ shut_down l.session → IsTurnAt H st b.tenants us → IsCountedAt st (put_with b i m us) c → IsServedAt st scope b c
+pub served-refused : (H : Type 0) → H → (scope : Scope) (b c : BrokerState) (i : ℕ) (l m : Line) (us : List TenantState) (st : Stage) → AreStill scope b → IsTaken H b i l m us → l.session.stage ≡ st → m.session ≡ shut_down l.session → IsTurnAt H st b.tenants us → IsCountedAt l.number st (put_with b i m us) c → IsServedAt st scope b c
 served-refused H honest scope b c i l m us (Greets h) still k s e turn r =
     let f = refused-greeting scope b i l m h c.unbound_refusals k.next.sound still k.at k.able s k.number e r.grows r.counted in
     let g = subst (λ ts. Turned scope b (record (put_with b i m ts) { unbound_refusals = c.unbound_refusals })) (sym turn) f in
     subst (λ x. Turned scope b x) (sym r.is) g
 served-refused H honest scope b c i l m us (BoundTo t w) still k s e turn r =
-    let f = served-bound scope b i t l m w H c.tenants k.next.sound still k.at (first-at b i l k.next k.at) k.able s k.number (k.spent.stage t w s) (turn-refused H t b c i m us turn r) honest
+    let f = served-bound scope b i t l m w H c.tenants k.next.sound still k.at (first-at b i l k.next k.at) k.able s k.number (k.spent.stage t w s) (turn-refused H t l.number b c i m us turn r) honest
     (λ calm. absurd (r.counted (calm-right (count b.tenants t) (count us t) (count c.tenants t) (turn.grows t) (r.turn.grows t) calm))) in
     subst (λ x. Served t scope b x) (sym r.is) f
 
-pub work-refused : (H : Type 0) (b c : BrokerState) (i : ℕ) (l m : Line) (us : List TenantState) (st : Stage) → IsTaken H b i l m us → IsCountedAt st (put_with b i m us) c → work c.lines < work b.lines
-work-refused H b c i l m us st h r = work-put b i l m c.lines h.at (lines-counted st (put_with b i m us) c r) h.spent.less
+pub work-refused : (H : Type 0) (b c : BrokerState) (i : ℕ) (l m : Line) (us : List TenantState) (st : Stage) → IsTaken H b i l m us → IsCountedAt l.number st (put_with b i m us) c → work c.lines < work b.lines
+work-refused H b c i l m us st h r = work-put b i l m c.lines h.at (lines-counted l.number st (put_with b i m us) c r) h.spent.less
+
+-- a connection of a tenant on which a member waits
+abbrev pub member_at : ℕ → Stage
+member_at t = BoundTo t (Some (record { correlation_id = pos 0; awaited = Group }))
+
+-- a member waits no longer on a connection of a tenant, as a call for the tenant
+left-turn : (clock n t : ℕ) (ts : List TenantState) → IsTurn t (Unit {0}) ts (left_by clock n (member_at t) ts)
+left-turn clock n t ts = record {
+  names = left-names clock n (member_at t) ts;
+  grows = λ u. (let same = left-refusals clock n (member_at t) ts u in omega (arith, same));
+  counts = λ u ne. left-refusals clock n (member_at t) ts u;
+  others = λ sure u ne. left-other clock n u (member_at t) ts (λ v e. (let is : t ≡ v = cc in λ same. ne (same ∙ sym is)));
+}
+
+-- and then a refusal is counted for the tenant
+pub counted-for : (b : BrokerState) (t n : ℕ) (us vs : List TenantState) → us ≡ left_by b.clock n (member_at t) b.tenants → IsTurn t (Unit {0}) us vs → ((u : ℕ) → hosted.kept_of vs u ≡ hosted.kept_of us u)
+    → (IsCalm (refusals_of us t) (refusals_of vs t) → ⊥) → IsCountedFor t n b (record b { tenants = vs })
+counted-for b t n us vs is turn stays loud =
+    let first : IsTurn t (Unit {0}) b.tenants us = subst (IsTurn t (Unit {0}) b.tenants) (sym is) (left-turn b.clock n t b.tenants) in
+    record {
+      is = refl;
+      turn = turn-then t (Unit {0}) (Unit {0}) b.tenants us vs (λ u. u) first turn;
+      left = stays t ∙ (ap (λ ts. hosted.kept_of ts t) is ∙ left-own b.clock n t (member_at t) b.tenants (λ u e. (let same : t ≡ u = cc in sym same)));
+      counted = λ calm. loud (calm-right (refusals_of b.tenants t) (refusals_of us t) (refusals_of vs t) (first.grows t) (turn.grows t) calm);
+    }
+
+-- the same, where a is what the broker's own fields are
+pub counted-inside : (a b : BrokerState) (t n : ℕ) (us vs : List TenantState) → a ≡ b → us ≡ left_by a.clock n (member_at t) a.tenants → IsTurn t (Unit {0}) us vs → ((u : ℕ) → hosted.kept_of vs u ≡ hosted.kept_of us u)
+    → (IsCalm (refusals_of us t) (refusals_of vs t) → ⊥) → IsCountedFor t n b (record a { tenants = vs })
+counted-inside a b t n us vs e is turn stays loud = subst (λ (x : BrokerState). IsCountedFor t n x (record a { tenants = vs })) e (counted-for a t n us vs is turn stays loud)
 
 -- 4. Turns until none is left
 
@@ -517,14 +558,14 @@ others-taken a b c i n l piece ready f fed turned k ne free =
 -- 6. A moment
 
 -- the clock moved, and then the tenants' own parts left this
-pub record HasBegun (H : Type 0) (now : ℕ) (whom : Whom) (a s : BrokerState) : Type 0 where
+pub record HasBegun (H : Type 0) (now : ℕ) (answered : Option (Vec ℕ Global)) (a s : BrokerState) : Type 0 where
   pub is : s ≡ begun a now s.tenants
   pub passed : HavePassed (max a.clock now) H a.tenants s.tenants
-  pub leaves : H → Leaves whom a.tenants s.tenants
+  pub leaves : H → Leaves answered a.tenants s.tenants
 
-pub has-begun : (H : Type 0) (now clock : ℕ) (whom : Whom) (a b s : BrokerState) → a ≡ b → clock ≡ max a.clock now → HavePassed clock H a.tenants s.tenants → s ≡ record a { clock = clock; tenants = s.tenants } → (H → Leaves whom a.tenants s.tenants) → HasBegun H now whom b s
-has-begun H now clock whom a b s e is passed rest leaves =
-    subst (λ (x : BrokerState). HasBegun H now whom x s) e
+pub has-begun : (H : Type 0) (now clock : ℕ) (answered : Option (Vec ℕ Global)) (a b s : BrokerState) → a ≡ b → clock ≡ max a.clock now → HavePassed clock H a.tenants s.tenants → s ≡ record a { clock = clock; tenants = s.tenants } → (H → Leaves answered a.tenants s.tenants) → HasBegun H now answered b s
+has-begun H now clock answered a b s e is passed rest leaves =
+    subst (λ (x : BrokerState). HasBegun H now answered x s) e
     (record {
       is = rest ∙ ap (λ n. record a { clock = n; tenants = s.tenants }) is;
       passed = subst (λ n. HavePassed n H a.tenants s.tenants) is passed;
@@ -534,52 +575,78 @@ has-begun H now clock whom a b s e is passed rest leaves =
 pub in-time : (b : BrokerState) (now : ℕ) → IsSound b → now ≤ 2 ^ 62 → max b.clock now ≤ 2 ^ 62
 in-time b now sound le = let h = sound.clock in grind (arith, h, le)
 
-pub sound-after : (H : Type 0) (now : ℕ) (whom : Whom) (a s : BrokerState) → IsSound a → now ≤ 2 ^ 62 → HasBegun H now whom a s → IsSound s
-sound-after H now whom a s sound le h = subst IsSound (sym h.is) (sound-begun a now (max a.clock now) H s.tenants sound h.passed (in-time a now sound le))
+pub sound-after : (H : Type 0) (now : ℕ) (answered : Option (Vec ℕ Global)) (a s : BrokerState) → IsSound a → now ≤ 2 ^ 62 → HasBegun H now answered a s → IsSound s
+sound-after H now answered a s sound le h = subst IsSound (sym h.is) (sound-begun a now (max a.clock now) H s.tenants sound h.passed (in-time a now sound le))
 
--- what can be ready after it is looked at
-begun-unready : (whom : Whom) (a : BrokerState) (now : ℕ) (ts : List TenantState) → AreUnready AnyWait a → Leaves whom a.tenants ts → AreUnready (IsPassedOver whom (max a.clock now)) (begun a now ts)
-begun-unready whom a now ts u (inl all) = subst (λ w. AreUnready (IsPassedOver w (max a.clock now)) (begun a now ts)) (sym all) (all-unready (begun a now ts) (max a.clock now))
-begun-unready whom a now ts u (inr due) = subst (λ w. AreUnready (IsPassedOver w (max a.clock now)) (begun a now ts)) (sym due.0) (due-unready a now ts due.1 u)
+-- what a moment did not answer is as little ready as before
+quiet-ready : (ns : List ℕ) (k l : Kept) (clock n : ℕ) (w : Wait) → IsQuietBut ns k l → (Contains ns n → ⊥) → ready k clock n w ≡ Silent → ready l clock n w ≡ Silent
+unfolding ready
+quiet-ready ns k l clock n w q apart silent = by w.awaited silent
+  where
+    same : world_at l clock ≡ world_at k clock
+    same = ap (λ x. world_at (record l { known = x }) clock) q.known ∙ ap (λ x. world_at (record l { known = k.known; logs = x }) clock) q.logs
 
-pub unready-over : (H : Type 0) → H → (now : ℕ) (whom : Whom) (a s : BrokerState) → IsReady a → HasBegun H now whom a s → AreUnready (IsPassedOver whom s.clock) s
-unready-over H honest now whom a s ready h = subst (λ (x : BrokerState). AreUnready (IsPassedOver whom x.clock) x) (sym h.is) (begun-unready whom a now s.tenants ready.unready (h.leaves honest))
+    by : (x : Awaited) → ready_for k clock n x ≡ Silent → ready_for l clock n x ≡ Silent
+    by (Records version body deadline) h = ap (λ x. looked x deadline version body) same ∙ h
+    by Group h = q.told n apart h
 
-pub idle-none : (H : Type 0) (now : ℕ) (whom : Whom) (a s b : BrokerState) → first_able a.lines ≡ None → HasBegun H now whom a s → b ≡ s → first_able b.lines ≡ None
-idle-none H now whom a s b settled h same = ap (λ (x : BrokerState). first_able x.lines) (same ∙ h.is) ∙ settled
+-- only what is due or was answered can be ready then
+begun-unready : (answered : Option (Vec ℕ Global)) (a : BrokerState) (now : ℕ) (ts : List TenantState) → AreUnready AnyWait a → Leaves answered a.tenants ts → IsReadyAmong answered (begun a now ts)
+begun-unready None a now ts u quiet = tt
+begun-unready (Some ns) a now ts u quiet =
+    all-map (λ (l : Line). IsUnready (IsPassedOver whoms.Due clock) (begun a now a.tenants) l.number l.session.stage) (λ (l : Line). Contains ns.items l.number ⊎ IsUnready (IsPassedOver whoms.Due clock) (begun a now ts) l.number l.session.stage)
+    (λ l. either l.number l.session.stage (among l.number ns.items)) a.lines (due-unready a now a.tenants (λ t. refl) u)
+  where
+    clock : ℕ
+    clock = max a.clock now
+
+    one : (n : ℕ) (st : Stage) → (Contains ns.items n → ⊥) → IsUnready (IsPassedOver whoms.Due clock) (begun a now a.tenants) n st → IsUnready (IsPassedOver whoms.Due clock) (begun a now ts) n st
+    one n (Greets h) apart u = tt
+    one n (BoundTo t None) apart u = tt
+    one n (BoundTo t (Some w)) apart u = λ early. quiet-ready ns.items (hosted.kept_of a.tenants t) (hosted.kept_of ts t) clock n w (quiet t) apart (u early)
+
+    either : (n : ℕ) (st : Stage) → Contains ns.items n ⊎ (Contains ns.items n → ⊥) → IsUnready (IsPassedOver whoms.Due clock) (begun a now a.tenants) n st → Contains ns.items n ⊎ IsUnready (IsPassedOver whoms.Due clock) (begun a now ts) n st
+    either n st (inl c) u = inl c
+    either n st (inr apart) u = inr (one n st apart u)
+
+pub unready-over : (H : Type 0) → H → (now : ℕ) (answered : Option (Vec ℕ Global)) (a s : BrokerState) → IsReady a → HasBegun H now answered a s → IsReadyAmong answered s
+unready-over H honest now answered a s ready h = subst (IsReadyAmong answered) (sym h.is) (begun-unready answered a now s.tenants ready.unready (h.leaves honest))
+
+pub idle-none : (H : Type 0) (now : ℕ) (answered : Option (Vec ℕ Global)) (a s b : BrokerState) → first_able a.lines ≡ None → HasBegun H now answered a s → b ≡ s → first_able b.lines ≡ None
+idle-none H now answered a s b settled h same = ap (λ (x : BrokerState). first_able x.lines) (same ∙ h.is) ∙ settled
 
 -- then waiting requests were looked at, and then there were turns until none was left; an honest store is spoken of
-pub record IsMoved (H : Type 0) (now : ℕ) (whom : Whom) (a s b c : BrokerState) : Type 0 where
+pub record IsMoved (H : Type 0) (now : ℕ) (answered : Option (Vec ℕ Global)) (a s b c : BrokerState) : Type 0 where
   pub ready : IsReady a
-  pub begun : HasBegun H now whom a s
-  pub waked : Waked whom s b
-  pub rest : AreUnready (IsPassedOver whom s.clock) s → AreUnready AnyWait b
+  pub begun : HasBegun H now answered a s
+  pub waked : Waked whoms.All s b
+  pub rest : IsReadyAmong answered s → AreUnready AnyWait b
   pub turned : (scope : Scope) → AreStill scope b → Turned scope b c
   pub none : first_able c.lines ≡ None
 
-module _ (H : Type 0) (now : ℕ) (whom : Whom) (a s b : BrokerState) (settled : first_able a.lines ≡ None) (h : HasBegun H now whom a s) where
-  waked-begun : Waked whom s b → Waked whom (begun a now s.tenants) b
-  waked-begun waked = subst (λ x. Waked whom x b) h.is waked
+module _ (H : Type 0) (now : ℕ) (answered : Option (Vec ℕ Global)) (a s b : BrokerState) (settled : first_able a.lines ≡ None) (h : HasBegun H now answered a s) where
+  waked-begun : Waked whoms.All s b → Waked whoms.All (begun a now s.tenants) b
+  waked-begun waked = subst (λ x. Waked whoms.All x b) h.is waked
 
-  pub waked-still : Waked whom s b → AreStill Everybody b
+  pub waked-still : Waked whoms.All s b → AreStill Everybody b
   waked-still waked = (waked-begun waked).still Everybody (λ t h. tt) (still-settled Everybody (begun a now s.tenants) settled)
 
   -- whatever the store says
   pub moved-going : (c : BrokerState) → IsGoing s b → IsGoing b c → IsGoing (begun a now s.tenants) c
   moved-going c first then = going-then (begun a now s.tenants) b c (subst (λ x. IsGoing x b) h.is first) then
 
-module _ (H : Type 0) (honest : H) (now : ℕ) (whom : Whom) (a s b c : BrokerState) (m : IsMoved H now whom a s b c) where
-  waked : Waked whom (begun a now s.tenants) b
-  waked = waked-begun H now whom a s b m.ready.settled m.begun m.waked
+module _ (H : Type 0) (honest : H) (now : ℕ) (answered : Option (Vec ℕ Global)) (a s b c : BrokerState) (m : IsMoved H now answered a s b c) where
+  waked : Waked whoms.All (begun a now s.tenants) b
+  waked = waked-begun H now answered a s b m.ready.settled m.begun m.waked
 
   turned : Turned Everybody b c
-  turned = m.turned Everybody (waked-still H now whom a s b m.ready.settled m.begun m.waked)
+  turned = m.turned Everybody (waked-still H now answered a s b m.ready.settled m.begun m.waked)
 
   unready : AreUnready AnyWait b
-  unready = m.rest (unready-over H honest now whom a s m.ready m.begun)
+  unready = m.rest (unready-over H honest now answered a s m.ready m.begun)
 
   pub moved-step : IsStep (Moment now) a c
-  moved-step = step-moment now whom a b c s.tenants H honest m.begun.passed waked unready turned m.none
+  moved-step = step-moment now whoms.All a b c s.tenants H honest m.begun.passed waked unready turned m.none
 
   pub moved-unready : AreUnready AnyWait c
   moved-unready = turned.unready unready

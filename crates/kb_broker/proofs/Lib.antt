@@ -14,6 +14,7 @@ pub mod RunEvents
 pub mod RunHistory
 pub mod RunLast
 pub mod RunOrder
+pub mod Alone
 pub mod TenantTurns
 pub mod ScriptLines
 pub mod ScriptReading

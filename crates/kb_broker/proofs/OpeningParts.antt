@@ -1,5 +1,5 @@
 -- The parts of the broker at its start.
-use Rattle.std.proofs.Common.{◌≡◌, ◌<◌, ◌+◌, ◌++◌, ◌^◌, take, ℕ, List, [], ◌∷◌, map, length, get_or, refl, sym, ap, subst, ◌∙◌, lit≤, string_bytes, arith}
+use Rattle.std.proofs.Common.{◌≡◌, ◌<◌, ◌+◌, ◌++◌, ◌^◌, take, ℕ, ℤ, pos, List, [], ◌∷◌, map, length, get_or, refl, sym, ap, subst, ◌∙◌, lit≤, string_bytes, arith}
 use Rattle.std.proofs.Math.ListN.{get_or-map, length-map}
 use Rattle.std.specs.List.{AllByRecursion, Contains}
 use Rattle.std.proofs.lemmas.List.{get_or_default, map-append, take_more}
@@ -18,8 +18,9 @@ use Rattle.kb_machine.specs.Broker.{BrokerState, AreUnready, AnyWait, IsSound}
 use Rattle.kb_store.specs.Disk.{Disk}
 use Rattle.kb_broker.specs.Hosts.{OnStore, IsReadyOn}
 use Rattle.kb_settings.specs.Names.{place_of}
-use Rattle.kb_broker.specs.Opening.{tenant_of, tenants_of, login_of, opening_listing, opening_setup}
+use Rattle.kb_broker.specs.Opening.{tenant_of, tenants_of, login_of, opening_listing, opening_setup, listed, listed_as}
 use Rattle.kb_broker.specs.declared.opening.Listing.{Listing}
+use Rattle.kb_broker.specs.declared.opening.Listing.TheVariants as listings
 use Rattle.kb_settings.specs.declared.settings.User.{User}
 use Rattle.kb_settings.specs.declared.settings.Settings.{Settings}
 use Rattle.kb_settings.proofs.NamesInOrder.{rises-in_order, in-in_order, place-below}
@@ -27,6 +28,20 @@ use Rattle.kb_settings.proofs.NamesInOrder.{rises-in_order, in-in_order, place-b
 pub versions-fit : (vs : List ApiVersion) → length vs < 2 ^ 31 → (array api_version).Fits vs
 unfolding api_version int
 versions-fit vs lt = array_fits api_version vs lt (λ k d below. (tt, (tt, tt)))
+
+-- the table of both listings
+abbrev row : ℕ → ℕ → ℕ → ℕ → ℕ → ℤ × ℤ × ℤ × ℤ × ℤ
+row key least greatest stock_least stock_greatest = (pos key, pos least, pos greatest, pos stock_least, pos stock_greatest)
+
+abbrev rows : List (ℤ × ℤ × ℤ × ℤ × ℤ)
+rows =
+    row 0 3 3 3 3 ∷ row 1 4 4 4 4 ∷ row 2 1 1 1 1 ∷ row 3 1 1 1 1 ∷ row 8 2 2 2 2 ∷ row 9 1 1 1 1 ∷ row 10 0 0 0 0 ∷ row 11 1 1 1 1 ∷
+    row 12 0 0 0 0 ∷ row 13 0 0 0 0 ∷ row 14 0 0 0 0 ∷ row 17 1 1 0 1 ∷ row 18 0 0 0 0 ∷ row 19 0 0 0 0 ∷ row 20 0 0 0 0 ∷ row 22 0 0 0 0 ∷ row 36 0 0 0 0 ∷ []
+
+-- from it each listing lists what it is to list
+pub all-listed : (listing : Listing) → map (listed_as listing) rows ≡ listed listing
+all-listed listings.Served = refl
+all-listed listings.StockClients = refl
 
 -- a host of at most 255 bytes fits a reply
 pub host-fits : (s : Settings) (host : List ℕ) → host ≡ string_bytes s.host → IsTrue (is_host (string_bytes s.host)) → string.Fits host

@@ -1,10 +1,12 @@
 -- The queue of the connections that wait, as the broker changes; and what is told by the numbers of connections.
 use Rattle.std.proofs.Common.{◌≡◌, ◌≢◌, ◌++◌, ◌<◌, ◌≤◌, ℕ, List, [], ◌∷◌, length, get_or, set, eqb, nat_cmp, Option, Some, None, Bool, true, false, zero, suc, inl, inr, refl, sym, ◌∙◌, ap, subst, arith}
-use Rattle.std.specs.Prelude.{cond, Contains, IsSomeAnd, ◌⊎◌}
+use Rattle.std.specs.Prelude.{cond, Contains, IsSomeAnd, ◌⊎◌, ◌↔◌}
 use Rattle.std.specs.FinMap as fin
+use Rattle.std.specs.declared.alloc.Global.{Global}
+use Rattle.std.specs.declared.vec.Vec.{Vec}
 use Rattle.std.specs.List.{AllByRecursion}
 use Rattle.std.proofs.lemmas.Bool.Decides.{nat_tests}
-use Rattle.std.proofs.lemmas.List.Elements.{Contains-push_cases}
+use Rattle.std.proofs.lemmas.List.Elements.{Contains-append_cases, Contains-append_left, Contains-append_right, Contains-push_cases}
 use Rattle.kb_waits.specs.Queue as queue
 use Rattle.kb_waits.specs.Queue.{Queue, AreParked}
 use Rattle.kb_world.specs.Steps.{IsCalm}
@@ -18,7 +20,7 @@ use Rattle.kb_machine.specs.Machine.{find_line}
 use Rattle.kb_machine.specs.Broker.{BrokerState, IsSound, IsUnready, AreUnready, AnyWait, Rising, kept_of}
 use Rattle.kb_machine.specs.declared.whom.Whom.{Whom}
 use Rattle.kb_machine.specs.declared.whom.Whom.TheVariants as whoms
-use Rattle.kb_machine.specs.Turned.{Waked, IsPassedOver, SameOthers, is_looked_for}
+use Rattle.kb_machine.specs.Turned.{Waked, IsPassedOver, SameOthers}
 use Rattle.kb_machine.proofs.Sets.{IsAt, all-map, all-still, find-at, find-set_other, rising-set, rising-above, set-at, tail-at, no-at}
 use Rattle.kb_machine.proofs.Parts.{each-tenant, eqb_same, eqb_other}
 use Rattle.kb_machine.proofs.Owned.{found as found-all}
@@ -27,7 +29,7 @@ use Rattle.kb_machine.proofs.Turns.{unready-same}
 use Rattle.kb_machine.proofs.Wakes.{waked-then}
 use Rattle.kb_machine.specs.Calls.{left_by}
 use Rattle.kb_broker.proofs.Left.{left-refusals, left-ready_in, left-asked_in}
-use Rattle.kb_broker.specs.Parked.{until, keys_for, deadline_at, deadline_in, until_of, IsKeyedAt, IsKeyedIn, IsOwnedAt, IsOwnedIn, IsQueueOf, IsAskedOn, IsWaitingOnAt, AreWaitingOn, IsUnreadyIn, IsUnreadyAt, IsAmong, IsSoughtAt, IsSoughtIn, IsMinded, AreMinded, SameBut, can_in, AreAmong}
+use Rattle.kb_broker.specs.Parked.{until, keys_for, deadline_at, deadline_in, until_of, IsKeyedAt, IsKeyedIn, IsOwnedAt, IsOwnedIn, IsQueueOf, IsAskedOn, IsWaitingOnAt, AreWaitingOn, IsReadyAmong, IsUnreadyIn, IsUnreadyAt, AreSought, IsSoughtAt, IsSoughtIn, IsMinded, AreMinded, SameBut, can_in, AreAmong}
 
 -- 1. The connection of a number
 
@@ -173,6 +175,10 @@ carried-left clock m gone ts ls q = record { keyed = λ k s e h. at k s.stage (f
     at n (BoundTo t (Some w)) o k = λ calm silent.
         k (sym (left-refusals clock m gone ts t) ∙ calm) (sym (left-ready_in clock m gone ts t 0 n w) ∙ silent) ∙ ap (λ ps. Some (keys_for t ps)) (sym (left-asked_in clock m gone ts t w))
 
+-- and then they change again
+pub carried-then : (ts us vs : List TenantState) (ls : List Line) (q : Queue) → IsCarried ts us ls q → IsCarried us vs ls q → IsCarried ts vs ls q
+carried-then ts us vs ls q first then = record { keyed = λ k s e h. then.keyed k s e (first.keyed k s e h) }
+
 waiting-find : (ts : List TenantState) (k : ℕ) (s : Session) (ls : List Line) → AllByRecursion (λ (l : Line). IsWaitingOnAt ts l.number l.session.stage) ls → find_line k ls ≡ Some s → IsWaitingOnAt ts k s.stage
 waiting-find ts k s ls h e = find-each (λ n (x : Session). IsWaitingOnAt ts n x.stage) k s ls h e
 
@@ -316,36 +322,68 @@ among k (n ∷ ns) = by (eqb n k) refl (among k ns)
         at zero lt is = eqb_other n k e (sym is)
         at (suc i) lt is = not-in (i, omega (arith, lt), is)
 
--- a wait that is looked for stands among those that are looked at
-sought-there : (whom : Whom) (clock t : ℕ) (w : Wait) (o : Option queue.Wait) → until_of o ≡ Some (until w.awaited) → is_looked_for whom clock t w ≡ true → IsSomeAnd o (IsAmong whom clock)
-sought-there whom clock t w None e h = absurd (cc)
-sought-there whoms.Due clock t w (Some x) e h = by w.awaited e h
+-- those that are due, and some behind them
+pub due-more : (q : Queue) (clock : ℕ) (ns told ms : List ℕ) → AreParked q (queue.IsDue clock) ns → ms ≡ ns ++ told → (k : ℕ) → Contains ms k ↔ (IsSomeAnd (fin.get q k) (queue.IsDue clock) ⊎ Contains told k)
+due-more q clock ns told ms parked is k = (λ c. into (Contains-append_cases ns told k (subst (λ xs. Contains xs k) is c)), λ c. subst (λ xs. Contains xs k) (sym is) (back c))
+  where
+    into : Contains ns k ⊎ Contains told k → IsSomeAnd (fin.get q k) (queue.IsDue clock) ⊎ Contains told k
+    into (inl c) = inl ((parked.exactly k).0 c)
+    into (inr c) = inr c
+
+    back : IsSomeAnd (fin.get q k) (queue.IsDue clock) ⊎ Contains told k → Contains (ns ++ told) k
+    back (inl due) = Contains-append_left ns told k ((parked.exactly k).1 due)
+    back (inr c) = Contains-append_right ns told k c
+
+-- a fetch whose deadline has come stands in the queue until then
+due-there : (clock : ℕ) (w : Wait) (o : Option queue.Wait) → until_of o ≡ Some (until w.awaited) → is_past clock w.awaited ≡ true → IsSomeAnd o (queue.IsDue clock)
+due-there clock w None e h = absurd (cc)
+due-there clock w (Some x) e h = by w.awaited e h
   where
     by : (a : Awaited) → until_of (Some x) ≡ Some (until a) → is_past clock a ≡ true → queue.IsDue clock x
     by (Records version body deadline) e h = let is : x.deadline ≡ deadline = cc in let come : deadline ≤ clock = grind (arith, nat_tests, h) in omega (arith, is, come)
     by Group e h = let no : false ≡ true = h in absurd (cc)
-sought-there whoms.All clock t w (Some x) e h = tt
-sought-there (whoms.Tenant u) clock t w (Some x) e h = tt
 
--- those that are looked for are looked at, where the others are not ready
-pub sought-minded : (H : Type 0) (q : Queue) (whom : Whom) (b : BrokerState) (ns : List ℕ) → IsQueueOf H q b.tenants b.lines → AreParked q (IsAmong whom b.clock) ns → AreUnready (IsPassedOver whom b.clock) b → (k : ℕ) → IsMinded whom ns b k
-sought-minded H q whom b ns v parked unready k = by (find_line k b.lines) refl
+-- what waits stands in the queue
+any-there : (w : Wait) (o : Option queue.Wait) → until_of o ≡ Some (until w.awaited) → IsSomeAnd o queue.IsAny
+any-there w None e = absurd (cc)
+any-there w (Some x) e = tt
+
+all-sought : (clock : ℕ) (st : Stage) → IsSoughtAt whoms.All clock st
+all-sought clock (Greets h) = tt
+all-sought clock (BoundTo t None) = tt
+all-sought clock (BoundTo t (Some w)) = refl
+
+-- those that may be ready are looked at
+pub sought-minded : (H : Type 0) (q : Queue) (answered : Option (Vec ℕ Global)) (b : BrokerState) (ns : List ℕ) → IsQueueOf H q b.tenants b.lines → AreSought q answered b.clock ns → IsReadyAmong answered b → (k : ℕ) → IsMinded whoms.All ns b k
+sought-minded H q None b ns v sought ready k = by (find_line k b.lines) refl
   where
-    waits : (s : Session) (st : Stage) → s.stage ≡ st → find_line k b.lines ≡ Some s → IsUnready (IsPassedOver whom b.clock) b k st → IsUnready AnyWait b k st ⊎ (Contains ns k × IsSoughtAt whom b.clock st)
+    waits : (s : Session) (st : Stage) → s.stage ≡ st → find_line k b.lines ≡ Some s → IsUnready AnyWait b k st ⊎ (Contains ns k × IsSoughtAt whoms.All b.clock st)
+    waits s (Greets h) is e = inl tt
+    waits s (BoundTo t None) is e = inl tt
+    waits s (BoundTo t (Some w)) is e = inr ((sought.exactly k).1 (any-there w (fin.get q k) (v.dated k ∙ (ap deadline_in e ∙ ap deadline_at is))), refl)
+
+    by : (o : Option Session) → find_line k b.lines ≡ o → IsMinded whoms.All ns b k
+    by None e = inl (subst (IsUnreadyIn b k) (sym e) tt)
+    by (Some s) e = subst (λ o. IsUnreadyIn b k o ⊎ (Contains ns k × IsSoughtIn whoms.All b.clock o)) (sym e) (waits s s.stage refl e)
+sought-minded H q (Some told) b ns v sought ready k = by (find_line k b.lines) refl
+  where
+    waits : (s : Session) (st : Stage) → s.stage ≡ st → find_line k b.lines ≡ Some s → IsUnready (IsPassedOver whoms.Due b.clock) b k st → IsUnready AnyWait b k st ⊎ (Contains ns k × IsSoughtAt whoms.All b.clock st)
     waits s (Greets h) is e u = inl tt
     waits s (BoundTo t None) is e u = inl tt
-    waits s (BoundTo t (Some w)) is e u = when (is_looked_for whom b.clock t w) refl
+    waits s (BoundTo t (Some w)) is e u = when (is_past b.clock w.awaited) refl
       where
-        stands : until_of (fin.get q k) ≡ Some (until w.awaited)
-        stands = v.dated k ∙ (ap deadline_in e ∙ ap deadline_at is)
-
-        when : (c : Bool) → is_looked_for whom b.clock t w ≡ c → IsUnready AnyWait b k (BoundTo t (Some w)) ⊎ (Contains ns k × IsSoughtAt whom b.clock (BoundTo t (Some w)))
-        when true c = inr ((parked.exactly k).1 (sought-there whom b.clock t w (fin.get q k) stands c), c)
+        when : (c : Bool) → is_past b.clock w.awaited ≡ c → IsUnready AnyWait b k (BoundTo t (Some w)) ⊎ (Contains ns k × IsSoughtAt whoms.All b.clock (BoundTo t (Some w)))
+        when true c = inr ((sought k).1 (inl (due-there b.clock w (fin.get q k) (v.dated k ∙ (ap deadline_in e ∙ ap deadline_at is)) c)), refl)
         when false c = inl (λ any. u c)
 
-    by : (o : Option Session) → find_line k b.lines ≡ o → IsMinded whom ns b k
+    either : (s : Session) → find_line k b.lines ≡ Some s → Contains told.items k ⊎ IsUnready (IsPassedOver whoms.Due b.clock) b k s.stage → IsUnready AnyWait b k s.stage ⊎ (Contains ns k × IsSoughtAt whoms.All b.clock s.stage)
+    either s e (inl c) = inr ((sought k).1 (inr c), all-sought b.clock s.stage)
+    either s e (inr u) = waits s s.stage refl e u
+
+    by : (o : Option Session) → find_line k b.lines ≡ o → IsMinded whoms.All ns b k
     by None e = inl (subst (IsUnreadyIn b k) (sym e) tt)
-    by (Some s) e = subst (λ o. IsUnreadyIn b k o ⊎ (Contains ns k × IsSoughtIn whom b.clock o)) (sym e) (waits s s.stage refl e (find-each (λ n (x : Session). IsUnready (IsPassedOver whom b.clock) b n x.stage) k s b.lines unready e))
+    by (Some s) e = subst (λ o. IsUnreadyIn b k o ⊎ (Contains ns k × IsSoughtIn whoms.All b.clock o)) (sym e)
+        (either s e (find-each (λ n (x : Session). Contains told.items n ⊎ IsUnready (IsPassedOver whoms.Due b.clock) b n x.stage) k s b.lines ready e))
 
 -- 7. Who may go on
 

@@ -6,8 +6,8 @@ use Rattle.kb_api_group.specs.Frames.{Front, Whole, Partial, TooSmall, TooLarge,
 use Rattle.kb_api_group.specs.declared.error_code.ErrorCode.TheVariants as errors
 use Rattle.kb_tenant.specs.Replies.{reply_size}
 use Rattle.kb_machine.specs.Requests.{Asked, Versions, OtherVersions, Handshake, Authenticate, Another, Unread, request}
-use Rattle.kb_machine.specs.Session.{Stage, Greets, BoundTo, Session, shut_down, replied, fed, room}
-use Rattle.kb_machine.specs.Greeting.{Setup, authenticate_reply, login, logged_in, shaken, authenticated, greeted_by, greeted_at, greeted}
+use Rattle.kb_machine.specs.Session.{Greeting, Unshaken, Shaken, Bare, Stage, Greets, BoundTo, Session, shut_down, replied, fed, room}
+use Rattle.kb_machine.specs.Greeting.{Setup, authenticate_reply, login, logged_in, bare_login, greeting_after, shaken, authenticated, greeted_by, greeted_frame, greeted_at, greeted}
 use Rattle.kb_machine.specs.Machine.{Happening, Opens, Comes, Closes, Moment, Line, again}
 use Rattle.kb_machine.specs.Owners.{greet_turn_at, greet_turn, heard, whose, destiny, Pairwise}
 use Rattle.kb_machine.specs.Broker.{BrokerState, Mine}
@@ -34,9 +34,9 @@ same-replied id body s t e = replied_by (nat_lt 2147483647 (reply_size body)) _ 
 same-stage : (st : Stage) (s t : Session) → Same s t → Same (record s { stage = st }) (record t { stage = st })
 same-stage st s t e = ap (λ (x : Session). record x { stage = st }) e
 
-same-shaken : (b : Bool) (id : ℤ) (h : Bool) (s t : Session) → Same s t → Same (shaken b id h s) (shaken b id h t)
-same-shaken true id h s t e = same-replied id _ _ _ (same-stage (Greets true) s t e)
-same-shaken false id h s t e = same-replied id _ s t e
+same-shaken : (b : Bool) (id version : ℤ) (s t : Session) → Same s t → Same (shaken b id version s) (shaken b id version t)
+same-shaken true id version s t e = same-replied id _ _ _ (same-stage (Greets (greeting_after version)) s t e)
+same-shaken false id version s t e = same-replied id _ s t e
 
 same-denied : (id : ℤ) (body : List ℕ) (s t : Session) → Same s t → Same (shut_down (replied id body s)) (shut_down (replied id body t))
 same-denied id body s t e = same-shut (replied id body s) (replied id body t) (same-replied id body s t e)
@@ -53,18 +53,27 @@ same-greeted_by : (setup : Setup) (h : Bool) (id : ℤ) (a : Asked) (s t : Sessi
 unfolding greeted_by
 same-greeted_by setup h id Versions s t e = same-replied id _ s t e
 same-greeted_by setup h id OtherVersions s t e = same-replied id _ s t e
-same-greeted_by setup h id (Handshake mechanism) s t e = same-shaken (bytes_eq mechanism (codes "PLAIN")) id h s t e
+same-greeted_by setup h id (Handshake version mechanism) s t e = same-shaken (bytes_eq mechanism (codes "PLAIN")) id version s t e
 same-greeted_by setup h id (Authenticate message) s t e = same-authenticated setup h id message s t e
 same-greeted_by setup h id (Another key version body) s t e = same-shut s t e
 same-greeted_by setup h id Unread s t e = same-shut s t e
 
-same-greeted_at : (setup : Setup) (h : Bool) (f : Front) (s t : Session) → Same s t → Same (greeted_at setup h s f) (greeted_at setup h t f)
-same-greeted_at setup h (Whole frame rest) s t e = same-greeted_by setup h (request frame).correlation_id (request frame).asked _ _ (ap (λ (x : Session). record x { unread = rest }) e)
+same-bare_login : (o : Option ℕ) (s t : Session) → Same s t → Same (bare_login o s) (bare_login o t)
+same-bare_login (Some u) s t e = same-stage (BoundTo u None) s t e
+same-bare_login None s t e = same-shut s t e
+
+same-greeted_frame : (setup : Setup) (h : Greeting) (frame : List ℕ) (s t : Session) → Same s t → Same (greeted_frame setup h frame s) (greeted_frame setup h frame t)
+same-greeted_frame setup Unshaken frame s t e = let r = request setup.versions frame in same-greeted_by setup false r.correlation_id r.asked s t e
+same-greeted_frame setup Shaken frame s t e = let r = request setup.versions frame in same-greeted_by setup true r.correlation_id r.asked s t e
+same-greeted_frame setup Bare frame s t e = same-bare_login (login setup.users frame) s t e
+
+same-greeted_at : (setup : Setup) (h : Greeting) (f : Front) (s t : Session) → Same s t → Same (greeted_at setup h s f) (greeted_at setup h t f)
+same-greeted_at setup h (Whole frame rest) s t e = same-greeted_frame setup h frame _ _ (ap (λ (x : Session). record x { unread = rest }) e)
 same-greeted_at setup h TooSmall s t e = same-shut s t e
 same-greeted_at setup h TooLarge s t e = same-shut s t e
 same-greeted_at setup h Partial s t e = e
 
-same-greeted : (setup : Setup) (h : Bool) (s t : Session) → Same s t → Same (greeted setup h s) (greeted setup h t)
+same-greeted : (setup : Setup) (h : Greeting) (s t : Session) → Same s t → Same (greeted setup h s) (greeted setup h t)
 unfolding greeted
 same-greeted setup h s t e =
     let f : front s.unread ≡ front t.unread = ap (λ (x : Session). front x.unread) e in

@@ -1,5 +1,5 @@
 -- What a turn leaves of the connection that took it and of its place in the queue, and whom it concerns.
-use Rattle.std.proofs.Common.{◌≡◌, ◌≢◌, ◌<◌, ℕ, ℤ, List, [], ◌∷◌, length, get_or, Option, Some, None, Result, Ok, Err, OnOk, OnErr, Bool, true, false, zero, suc, inl, inr, refl, sym, ◌∙◌, ap, subst, arith}
+use Rattle.std.proofs.Common.{◌≡◌, ◌≢◌, ◌<◌, ℕ, ℤ, List, [], ◌∷◌, length, get_or, Option, Some, None, Result, Ok, Err, OnOk, OnErr, true, false, zero, suc, inl, inr, refl, sym, ◌∙◌, ap, subst, arith}
 use Rattle.std.proofs.lemmas.List.Elements.{Contains-append_left, Contains-push, Contains-push_cases}
 use Rattle.std.specs.Prelude.{◌++◌, ◌⊎◌, Contains, IsSomeAnd, IfSome, cond}
 use Rattle.std.specs.Result.{is_err}
@@ -23,8 +23,9 @@ use Rattle.kb_service.specs.declared.answer.Answer.TheVariants as answers
 use Rattle.kb_tenant.specs.declared.node.Node.{Node}
 use Rattle.kb_machine.specs.Tenant.{Awaited, Wait, Records, Group, answer, asked, kept_after}
 use Rattle.kb_machine.specs.Requests as requests
+use Rattle.kb_api_group.specs.declared.api_versions.ApiVersion.{ApiVersion}
 use Rattle.kb_machine.specs.Requests.{Asked, Versions, OtherVersions, Handshake, Authenticate, Another, Unread}
-use Rattle.kb_machine.specs.Session.{Stage, Greets, BoundTo, Session, shut_down, waiting, without_wait, is_free}
+use Rattle.kb_machine.specs.Session.{Greeting, Stage, Greets, BoundTo, Session, shut_down, waiting, without_wait, is_free}
 use Rattle.kb_machine.specs.Greeting.{Setup, greeted}
 use Rattle.kb_machine.specs.Machine.{Line, answered, served, served_by, served_at, put}
 use Rattle.kb_machine.proofs.Owners.{stage-shut}
@@ -35,7 +36,10 @@ use Rattle.kb_connection.specs.TenantAnswers.{is_wait}
 use Rattle.kb_connection.specs.View.{with_session, without_front}
 use Rattle.kb_connection.proofs.Fronts.{fewer-behind}
 use Rattle.kb_broker.specs.Places.{IsSpent}
-use Rattle.kb_broker.specs.Parked.{key_of, keys_for, keys_of, tenant_key, until, deadline_at, until_of, places_of, parked_for, AreAllOf, AreConcerned, AreTheTenants, IsKeyedAt, IsOwnedAt, IsTouched, IsTouchedTurn, IsUnderTenant, IsConcern, IsLeftBy, IsPassedOn}
+use Rattle.kb_tenants.specs.Tenants as tenants
+use Rattle.kb_broker.specs.Parked.{key_of, keys_for, keys_of, tenant_key, until, deadline_at, until_of, places_of, parked_for, AreAllOf, AreAnswered, AreConcerned, AreTheTenants, AreWaitingFor, IsKeyedAt, IsOwnedAt, IsTouchedBy, IsTouchedTurn, IsTouchedTurnBy, IsUnderTenant, IsConcern, IsLeftBy, IsOwnTo, IsPassedOn}
+use Rattle.kb_broker.specs.declared.serving.Touched.{Touched}
+use Rattle.kb_broker.specs.declared.serving.Touched.TheVariants as touches
 use Rattle.kb_broker.specs.declared.serving.Concerned.{Concerned}
 use Rattle.kb_broker.specs.declared.serving.Concerned.TheVariants as concerned
 use Rattle.kb_broker.proofs.Handled.{from_ok}
@@ -64,45 +68,45 @@ own_by : (setup : Setup) (kept : Kept) (clock n : ℕ) (id : ℤ) (a : Asked) (s
 unfolding served_by
 own_by setup kept clock n id Versions s own free = free-replied id _ s free
 own_by setup kept clock n id OtherVersions s own free = free-replied id _ s free
-own_by setup kept clock n id (Handshake mechanism) s own free = free-replied id _ s free
+own_by setup kept clock n id (Handshake version mechanism) s own free = free-replied id _ s free
 own_by setup kept clock n id (Authenticate message) s own free = free-replied id _ s free
 own_by setup kept clock n id (Another key version body) s own free = let no : true ≡ false = own in absurd (cc)
 own_by setup kept clock n id Unread s own free = free-without s.stage
 
-own_at : (setup : Setup) (kept : Kept) (clock n : ℕ) (s : Session) (f : Front) → is_tenants_at f ≡ false → is_free s.stage ≡ true → is_free (served_at setup kept clock n s f).stage ≡ true
-own_at setup kept clock n s (Whole frame rest) own free = let r = requests.request frame in own_by setup kept clock n r.correlation_id r.asked (record s { unread = rest }) own free
+own_at : (setup : Setup) (kept : Kept) (clock n : ℕ) (s : Session) (f : Front) → is_tenants_at setup.versions f ≡ false → is_free s.stage ≡ true → is_free (served_at setup kept clock n s f).stage ≡ true
+own_at setup kept clock n s (Whole frame rest) own free = let r = requests.request setup.versions frame in own_by setup kept clock n r.correlation_id r.asked (record s { unread = rest }) own free
 own_at setup kept clock n s TooSmall own free = free-without s.stage
 own_at setup kept clock n s TooLarge own free = free-without s.stage
 own_at setup kept clock n s Partial own free = free
 
 -- a turn that is a matter of the connection alone waits for nothing
-free-own : (setup : Setup) (kept : Kept) (clock n : ℕ) (s : Session) → IsOwn s → is_free s.stage ≡ true → is_free (served setup kept clock n s).stage ≡ true
+free-own : (setup : Setup) (kept : Kept) (clock n : ℕ) (s : Session) → IsOwn setup s → is_free s.stage ≡ true → is_free (served setup kept clock n s).stage ≡ true
 unfolding served
 free-own setup kept clock n s own free = own_at setup kept clock n s (front s.unread) own.own free
 
-pub own-free : (setup : Setup) (t : ℕ) (l new : Line) → l.session.stage ≡ BoundTo t None → IsOwn l.session → ((kept : Kept) (clock n : ℕ) → new ≡ with_session l (served setup kept clock n l.session)) → is_free new.session.stage ≡ true
+pub own-free : (setup : Setup) (t : ℕ) (l new : Line) → l.session.stage ≡ BoundTo t None → IsOwn setup l.session → ((kept : Kept) (clock n : ℕ) → new ≡ with_session l (served setup kept clock n l.session)) → is_free new.session.stage ≡ true
 own-free setup t l new bound own is = ap (λ (x : Line). is_free x.session.stage) (is nothing 0 0) ∙ free-own setup nothing 0 0 l.session own (ap is_free bound)
 
 -- it touches nothing of the tenant's
-pub own-touched : (setup : Setup) (t clock n : ℕ) (ts : List TenantState) (l new : Line) (places : List Place) → l.session.stage ≡ BoundTo t None → IsOwn l.session → ((kept : Kept) (clock n : ℕ) → new ≡ with_session l (served setup kept clock n l.session))
+pub own-touched : (setup : Setup) (t clock n : ℕ) (ts : List TenantState) (l new : Line) (places : List Place) → l.session.stage ≡ BoundTo t None → IsOwn setup l.session → ((kept : Kept) (clock n : ℕ) → new ≡ with_session l (served setup kept clock n l.session))
     → IsTouchedTurn setup t clock n ts ts l.session new.session places
 own-touched setup t clock n ts l new places bound own is = record {
   session = ap (λ (x : Line). x.session) (is (kept_of ts t) clock n);
-  kept = sym (own.put setup (kept_of ts t) clock n);
+  kept = sym (own.put (kept_of ts t) clock n);
   own = inr (own-free setup t l new bound own is);
   ready = λ k w apart silent. silent;
 }
 
 -- a greeting
-pub greeted-free : (setup : Setup) (h : Bool) (l new : Line) → l.session.stage ≡ Greets h → new ≡ with_session l (greeted setup h l.session) → is_free new.session.stage ≡ true
+pub greeted-free : (setup : Setup) (h : Greeting) (l new : Line) → l.session.stage ≡ Greets h → new ≡ with_session l (greeted setup h l.session) → is_free new.session.stage ≡ true
 greeted-free setup h l new greets is = ap (λ (x : Line). is_free x.session.stage) is ∙ free-greeted setup h l.session (ap is_free greets)
 
 -- 2. A tenant's answer
 
 -- the connection was shut before the answer was given
-pub spent-refused : (l new : Line) → is_tenants_at (front l.session.unread) ≡ true → new ≡ with_session l (shut_down l.session) → IsSpent l.session new.session
-spent-refused l new asks is =
-    let some = fewer-behind l.session.unread asks in
+pub spent-refused : (versions : List ApiVersion) (l new : Line) → is_tenants_at versions (front l.session.unread) ≡ true → new ≡ with_session l (shut_down l.session) → IsSpent l.session new.session
+spent-refused versions l new asks is =
+    let some = fewer-behind versions l.session.unread asks in
     let left = ap (λ (x : Line). length x.session.unread) is in
     record { less = omega (arith, some, left); stage = λ t w e. ap (λ (x : Line). without_wait x.session.stage) is ∙ stage-shut l.session }
 
@@ -137,12 +141,12 @@ parked-gone q p x t m n r parked number gone k ne = gone k (λ e. ne (e ∙ numb
 dated-waiting : (t : ℕ) (st : Stage) (id : ℤ) (awaited : Awaited) → st ≡ BoundTo t None → deadline_at (waiting (record { correlation_id = id; awaited = awaited }) st) ≡ Some (until awaited)
 dated-waiting t st id awaited e = ap (λ x. deadline_at (waiting (record { correlation_id = id; awaited = awaited }) x)) e
 
-pub dated-answered : {A E : Type 0} (result : Result A E) (q p : Queue) (t n : ℕ) (l new : Line) (r : Answer) (key version id : ℤ) (body : List ℕ) → IsParkedBy q p t n r → l.session.stage ≡ BoundTo t None → IsAsked l.session key version id body
-    → ((key version id : ℤ) (body : List ℕ) (reaction : Reaction) → IsAsked l.session key version id body → IsAnswer id reaction r → OnOk result (new ≡ with_session l (answered reaction id version body (without_front l.session))))
+pub dated-answered : {A E : Type 0} (setup : Setup) (result : Result A E) (q p : Queue) (t n : ℕ) (l new : Line) (r : Answer) (key version id : ℤ) (body : List ℕ) → IsParkedBy q p t n r → l.session.stage ≡ BoundTo t None → IsAsked setup l.session key version id body
+    → ((key version id : ℤ) (body : List ℕ) (reaction : Reaction) → IsAsked setup l.session key version id body → IsAnswer id reaction r → OnOk result (new ≡ with_session l (answered reaction id version body (without_front l.session))))
     → (is_wait r ≡ false → is_free l.session.stage ≡ true → is_free new.session.stage ≡ true) → is_err result ≡ false → until_of (fin.get p n) ≡ deadline_at new.session.stage
-dated-answered result q p t n l new r key version id body parked bound asks ok free good = ap until_of parked.own ∙ by r ok free
+dated-answered setup result q p t n l new r key version id body parked bound asks ok free good = ap until_of parked.own ∙ by r ok free
   where
-    by : (r : Answer) → ((key version id : ℤ) (body : List ℕ) (reaction : Reaction) → IsAsked l.session key version id body → IsAnswer id reaction r → OnOk result (new ≡ with_session l (answered reaction id version body (without_front l.session))))
+    by : (r : Answer) → ((key version id : ℤ) (body : List ℕ) (reaction : Reaction) → IsAsked setup l.session key version id body → IsAnswer id reaction r → OnOk result (new ≡ with_session l (answered reaction id version body (without_front l.session))))
         → (is_wait r ≡ false → is_free l.session.stage ≡ true → is_free new.session.stage ≡ true) → until_of (parked_for t r) ≡ deadline_at new.session.stage
     by (answers.Plain (plain.Reply reply)) ok free = sym (deadline-free new.session.stage (free refl (ap is_free bound)))
     by (answers.Plain (plain.Wait deadline places)) ok free =
@@ -204,9 +208,9 @@ keyed-by node us t clock n k key version id body s Rebalances answers.Rebalance 
     keyed-waiting us t n s.stage (record { correlation_id = id; awaited = Group }) (parked_for t answers.Rebalance) bound (ap (λ ps. Some (keys_for t ps)) (sym (asked-group (kept_of us t) id)))
 
 -- the connection that was answered stands in the queue under what it asks
-pub keyed-answered : (H : Type 0) → H → (setup : Setup) (t clock n : ℕ) (ts us : List TenantState) (l new : Line) (key version id : ℤ) (body : List ℕ) (r : Answer) (o : Option queue.Wait) → l.session.stage ≡ BoundTo t None → IsSpent l.session new.session → IsAsked l.session key version id body → IsTurn t H ts us
+pub keyed-answered : (H : Type 0) → H → (setup : Setup) (t clock n : ℕ) (ts us : List TenantState) (l new : Line) (key version id : ℤ) (body : List ℕ) (r : Answer) (o : Option queue.Wait) → l.session.stage ≡ BoundTo t None → IsSpent l.session new.session → IsAsked setup l.session key version id body → IsTurn t H ts us
     → IsMet t H ts us (λ k m. (m ≡ kept_after setup.node k clock n key version body) × IsAnswer id (answer setup.node k clock n key version body) r)
-    → ((key version id : ℤ) (body : List ℕ) (reaction : Reaction) → IsAsked l.session key version id body → IsAnswer id reaction r → new ≡ with_session l (answered reaction id version body (without_front l.session)))
+    → ((key version id : ℤ) (body : List ℕ) (reaction : Reaction) → IsAsked setup l.session key version id body → IsAnswer id reaction r → new ≡ with_session l (answered reaction id version body (without_front l.session)))
     → o ≡ parked_for t r → IsKeyedAt us n new.session.stage o
 keyed-answered H honest setup t clock n ts us l new key version id body r o bound spent asks turn meets ok parked =
     keyed-calm us t n new.session.stage o (spent.stage t None bound ∙ ap without_wait bound)
@@ -221,13 +225,14 @@ keyed-answered H honest setup t clock n ts us l new key version id body r o boun
 -- 4. Whom a turn concerns
 
 -- what the tenant was asked is the turn
-pub turned-touched : (H : Type 0) (setup : Setup) (t clock n : ℕ) (ts us : List TenantState) (s r : Session) (touched : Option (Vec Place Global)) → IfSome touched (λ places. H → IsTouched t clock ts us places.items)
-    → IsMet t H ts us (λ k l. (r ≡ served setup k clock n s) × (l ≡ put setup k clock n s.unread)) → IfSome touched (λ places. H → IsTouchedTurn setup t clock n ts us s r places.items)
-turned-touched H setup t clock n ts us s r None touched meets = tt
-turned-touched H setup t clock n ts us s r (Some places) touched meets = λ honest.
+pub turned-touched : (H : Type 0) (setup : Setup) (t clock n : ℕ) (ts us : List TenantState) (s r : Session) (touched : Touched) → (H → IsTouchedBy touched t clock ts us)
+    → IsMet t H ts us (λ k l. (r ≡ served setup k clock n s) × (l ≡ put setup k clock n s.unread)) → H → IsTouchedTurnBy touched setup t clock n ts us s r
+turned-touched H setup t clock n ts us s r (touches.Partitions places) touched meets honest =
     let h = touched honest in
     let both = meets honest h.calm in
     record { session = both.0; kept = both.1; own = inl h.none; ready = h.ready }
+turned-touched H setup t clock n ts us s r touches.Groups touched meets honest = touched honest
+turned-touched H setup t clock n ts us s r touches.Unknown touched meets honest = tt
 
 contains-key : (t : ℕ) (places : List Place) (place : Place) → Contains places place → Contains (keys_of t places) (key_of t place)
 contains-key t [] place c = absurd (let h = c.1 in omega (arith, h))
@@ -248,7 +253,7 @@ nowhere : (place : Place) → Contains [] place → ⊥
 nowhere place c = let h = c.1 in omega (arith, h)
 
 -- those that stand under the partitions, and the one of that number
-pub concerned-touched : (t n : ℕ) (ts : List TenantState) (q : Queue) (places : Vec Place Global) (ns ms : List ℕ) → refusals_of ts t ≡ 0 → AreParked q (IsUnderAny (keys_of t places.items)) ns → ms ≡ ns ++ n ∷ [] → AreConcerned t n ts q (Some places) ms
+pub concerned-touched : (t n : ℕ) (ts : List TenantState) (q : Queue) (places : Vec Place Global) (ns ms : List ℕ) → refusals_of ts t ≡ 0 → AreParked q (IsUnderAny (keys_of t places.items)) ns → ms ≡ ns ++ n ∷ [] → AreConcerned t n ts q (touches.Partitions places) ms
 concerned-touched t n ts q places ns ms calm parked is = inl (record {
   calm = calm;
   own = subst (λ ks. Contains ks n) (sym is) (Contains-push ns n);
@@ -260,8 +265,8 @@ concerned-touched t n ts q places ns ms calm parked is = inl (record {
     any-key (Some w) place touches under = let there = contains-key t places.items place touches in (there.0, key_of t place, there.1, there.2, under)
 
 -- those that stand under the tenant, and the one of that number
-pub concerned-all : (t n : ℕ) (ts : List TenantState) (q : Queue) (touched : Option (Vec Place Global)) (ns ms : List ℕ) → AreParked q (IsUnder (tenant_key t)) ns → ms ≡ ns ++ n ∷ [] → AreConcerned t n ts q touched ms
-concerned-all t n ts q touched ns ms parked is = by touched
+pub concerned-all : (t n : ℕ) (ts : List TenantState) (q : Queue) (touched : Touched) (ns ms : List ℕ) → (touched ≡ touches.Groups → ⊥) → AreParked q (IsUnder (tenant_key t)) ns → ms ≡ ns ++ n ∷ [] → AreConcerned t n ts q touched ms
+concerned-all t n ts q touched ns ms no-group parked is = by touched no-group
   where
     into : (k : ℕ) → Contains ns k ⊎ (n ≡ k) → IsUnderTenant t (fin.get q k) ⊎ (n ≡ k)
     into k (inl there) = inl ((parked.exactly k).0 there)
@@ -274,9 +279,15 @@ concerned-all t n ts q touched ns ms parked is = by touched
     all : AreTheTenants t n q ms
     all = subst (AreTheTenants t n q) (sym is) (λ k. (λ c. into k (Contains-push_cases ns n k c), back k))
 
-    by : (touched : Option (Vec Place Global)) → AreConcerned t n ts q touched ms
-    by None = all
-    by (Some places) = inr all
+    by : (touched : Touched) → (touched ≡ touches.Groups → ⊥) → AreConcerned t n ts q touched ms
+    by (touches.Partitions places) no-group = inr all
+    by touches.Groups no-group = absurd (no-group refl)
+    by touches.Unknown no-group = all
+
+-- those that wait for the partitions, and the one of that number
+pub concerned-waiting : (t n : ℕ) (ts : List TenantState) (q : Queue) (places : Vec Place Global) (ns ms : List ℕ) → AreWaitingFor t ts q places.items ns → ms ≡ ns ++ n ∷ [] → AreConcerned t n ts q (touches.Partitions places) ms
+concerned-waiting t n ts q places ns ms (inl h) is = concerned-touched t n ts q places ns ms h.0 h.1 is
+concerned-waiting t n ts q places ns ms (inr h) is = concerned-all t n ts q (touches.Partitions places) ns ms (λ e. absurd (cc)) h is
 
 -- before the turn the others stood there too
 all-of : (t n : ℕ) (q p : Queue) (ns : List ℕ) → ((k : ℕ) → k ≢ n → fin.get p k ≡ fin.get q k) → AreTheTenants t n p ns → AreAllOf t n q ns
@@ -285,20 +296,43 @@ all-of t n q p ns others h = record {
   others = λ k ne under. (h k).1 (inl (subst (IsUnderTenant t) (sym (others k ne)) under));
 }
 
+-- the connection that took the turn is among those that are concerned
+pub own-concern : (c : Concerned) (t n : ℕ) (ts : List TenantState) (q : Queue) (touched : Touched) → IsConcern c t n ts q touched → IsOwnTo c n
+own-concern concerned.Nobody t n ts q touched concern = tt
+own-concern (concerned.All u) t n ts q touched concern = tt
+own-concern (concerned.These u ns) t n ts q touches.Unknown concern = (concern.1 n).1 (inr refl)
+own-concern (concerned.These u ns) t n ts q touches.Groups concern = subst (λ ks. Contains ks n) (sym concern.1) (Contains-push (tenants.answered (kept_of ts t).groups) n)
+own-concern (concerned.These u ns) t n ts q (touches.Partitions places) concern = by concern.1
+  where
+    by : AreConcerned t n ts q (touches.Partitions places) ns.items → Contains ns.items n
+    by (inl under) = under.own
+    by (inr all) = (all n).1 (inr refl)
+
 -- what is left to be looked at after it
-pub left-by : (H : Type 0) → H → (c : Concerned) (setup : Setup) (t clock n : ℕ) (q p : Queue) (ts us : List TenantState) (s r : Session) (st : Stage) (touched : Option (Vec Place Global)) → st ≡ BoundTo t None → ((k : ℕ) → k ≢ n → fin.get p k ≡ fin.get q k)
-    → IsConcern c t n us p touched → IfSome touched (λ places. H → IsTouchedTurn setup t clock n ts us s r places.items) → IsLeftBy c setup clock st n q ts us s r
+pub left-by : (H : Type 0) → H → (c : Concerned) (setup : Setup) (t clock n : ℕ) (q p : Queue) (ts us : List TenantState) (s r : Session) (st : Stage) (touched : Touched) → st ≡ BoundTo t None → ((k : ℕ) → k ≢ n → fin.get p k ≡ fin.get q k)
+    → IsConcern c t n us p touched → (H → IsTouchedTurnBy touched setup t clock n ts us s r) → IsLeftBy c setup clock st n q ts us s r
 left-by H honest c setup t clock n q p ts us s r st touched bound others concern turn = subst (λ x. IsLeftBy c setup clock x n q ts us s r) (sym bound) (by c touched concern turn)
   where
-    by : (c : Concerned) (touched : Option (Vec Place Global)) → IsConcern c t n us p touched → IfSome touched (λ places. H → IsTouchedTurn setup t clock n ts us s r places.items) → IsLeftBy c setup clock (BoundTo t None) n q ts us s r
-    by concerned.Nobody None concern turn = absurd concern
-    by concerned.Nobody (Some places) none turn =
+    by : (c : Concerned) (touched : Touched) → IsConcern c t n us p touched → (H → IsTouchedTurnBy touched setup t clock n ts us s r) → IsLeftBy c setup clock (BoundTo t None) n q ts us s r
+    by concerned.Nobody touches.Groups concern turn = absurd concern
+    by concerned.Nobody touches.Unknown concern turn = absurd concern
+    by concerned.Nobody (touches.Partitions places) none turn =
         let h = turn honest in
         record { session = h.session; kept = h.kept; own = h.own; ready = λ k w silent. h.ready k w (λ place asks touches. nowhere place (subst (λ ps. Contains ps place) none touches)) silent }
-    by (concerned.These u ns) None concern turn = subst (λ x. IsLeftBy (concerned.These x ns) setup clock (BoundTo t None) n q ts us s r) (sym concern.0) (inr (all-of t n q p ns.items others concern.1))
-    by (concerned.These u ns) (Some places) concern turn = subst (λ x. IsLeftBy (concerned.These x ns) setup clock (BoundTo t None) n q ts us s r) (sym concern.0) (these (turn honest) concern.1)
+    by (concerned.These u ns) touches.Unknown concern turn = subst (λ x. IsLeftBy (concerned.These x ns) setup clock (BoundTo t None) n q ts us s r) (sym concern.0) (inr (inl (all-of t n q p ns.items others concern.1)))
+    by (concerned.These u ns) touches.Groups concern turn = subst (λ x. IsLeftBy (concerned.These x ns) setup clock (BoundTo t None) n q ts us s r) (sym concern.0) (inr (inr these))
       where
-        these : IsTouchedTurn setup t clock n ts us s r places.items → AreConcerned t n us p (Some places) ns.items → IsPassedOn setup t clock n q ts us s r ns.items ⊎ AreAllOf t n q ns.items
+        told : List ℕ
+        told = tenants.answered (kept_of us t).groups
+
+        these : AreAnswered t clock n ts us ns.items
+        these = record {
+          own = subst (λ ks. Contains ks n) (sym concern.1) (Contains-push told n);
+          others = λ k w ne apart. (turn honest).ready k w (λ c. apart (subst (λ ks. Contains ks k) (sym concern.1) (Contains-append_left told (n ∷ []) k c)));
+        }
+    by (concerned.These u ns) (touches.Partitions places) concern turn = subst (λ x. IsLeftBy (concerned.These x ns) setup clock (BoundTo t None) n q ts us s r) (sym concern.0) (these (turn honest) concern.1)
+      where
+        these : IsTouchedTurn setup t clock n ts us s r places.items → AreConcerned t n us p (touches.Partitions places) ns.items → IsPassedOn setup t clock n q ts us s r ns.items ⊎ (AreAllOf t n q ns.items ⊎ AreAnswered t clock n ts us ns.items)
         these h (inl c) = inl (record {
           session = h.session;
           kept = h.kept;
@@ -308,5 +342,5 @@ left-by H honest c setup t clock n q p ts us s r st touched bound others concern
               (λ place asks touches. apart (c.under k place touches (under-key t (asked (kept_of ts t) w) place (fin.get p k) (ap places_of (others k ne) ∙ parked) asks)))
               silent;
         })
-        these h (inr c) = inr (all-of t n q p ns.items others c)
+        these h (inr c) = inr (inl (all-of t n q p ns.items others c))
     by (concerned.All u) touched concern turn = tt

@@ -1,5 +1,9 @@
 -- What a tenant's call is to the connection that it is for.
-use Rattle.std.proofs.Common.{◌≡◌, ◌≤◌, false, Some, inr, ℕ, ℤ, List, length, Bool, true, Result, Ok, Err, OnOk, OnErr, refl, sym, ap, subst, ◌∙◌, arith}
+use Rattle.std.proofs.Common.{◌≡◌, ◌≤◌, false, Some, inl, inr, ℕ, ℤ, List, [], length, Bool, true, Result, Ok, Err, OnOk, OnErr, refl, sym, ap, subst, ◌∙◌, arith}
+use Rattle.kb_coordinator.specs.Groups.{Groups, silent}
+use Rattle.kb_world.specs.Tied.{IsTied}
+use Rattle.kb_world.specs.World.{World}
+use Rattle.kb_service.proofs.ByRequest.{by_request}
 use Rattle.kb_world.specs.Parts.{END}
 use Rattle.kb_world.specs.Steps.{IsCalm}
 use Rattle.kb_world.specs.declared.place.Place.{Place}
@@ -7,13 +11,13 @@ use Rattle.kb_service.specs.Hosted.{Kept, nothing, TenantState, IsTurn, IsMet, k
 use Rattle.kb_tenant.specs.Replies as plain
 use Rattle.kb_tenant.specs.Replies.{Shuts}
 use Rattle.kb_tenant.specs.declared.answer.Answer.{Answer as Plain}
-use Rattle.kb_service.specs.Replies.{Reaction, IsAnswer}
-use Rattle.kb_service.specs.Serve.{IsOutcome, has_released, served}
+use Rattle.kb_service.specs.Replies.{Reaction, IsAnswer, told_to}
+use Rattle.kb_service.specs.Serve.{Outcome, IsOutcome, has_released, served}
 use Rattle.kb_service.specs.declared.answer.Answer.{Answer}
 use Rattle.kb_tenant.specs.declared.answer.Answer.TheVariants as answers
 use Rattle.kb_tenant.specs.declared.node.Node.{Node}
-use Rattle.kb_machine.specs.Tenant.{Wait, answer, asked, ready, kept_after}
-use Rattle.kb_machine.specs.Session.{Greets, BoundTo, Session, can, shut_down, without_wait}
+use Rattle.kb_machine.specs.Tenant.{Awaited, Records, Group, Wait, answer, asked, ready, ready_for, kept_after}
+use Rattle.kb_machine.specs.Session.{Greeting, Greets, BoundTo, Session, can, shut_down, without_wait}
 use Rattle.kb_machine.specs.Greeting.{Setup, greeted}
 use Rattle.kb_machine.specs.Machine.{Line, answered, told, woken, woken_by, served as served_by_turn, put}
 use Rattle.kb_machine.proofs.Laws.{can-turn, some-left, greeted-less, served-less}
@@ -21,10 +25,11 @@ use Rattle.kb_machine.proofs.Owners.{stage-served, stage-shut}
 use Rattle.kb_connection.specs.Fronts.{IsAsked}
 use Rattle.kb_connection.specs.View.{with_session, without_front}
 use Rattle.kb_tenants.proofs.Tied.{kept_names, kept_tied}
+use Rattle.kb_tenants.proofs.Answered.{untold}
 use Rattle.kb_tenants.specs.Tenants.{is_honest}
 use Rattle.kb_machine.proofs.Quiet.{apart-ready, asked-again}
 use Rattle.kb_tenant.specs.Waiting.{AreApart}
-use Rattle.kb_broker.specs.Parked.{IsTouched, IsAskedOn}
+use Rattle.kb_broker.specs.Parked.{IsReleased, IsTouched, IsAskedOn}
 use Rattle.kb_store.specs.Disk.{Disk}
 use Rattle.kb_log.specs.OnShelf.{Log}
 use Rattle.kb_tenants.specs.declared.tenants.Tenants.{Tenants}
@@ -32,7 +37,7 @@ use Rattle.kb_broker.specs.Hosts.{AreHosted, tenants_in}
 use Rattle.kb_broker.specs.Places.{IsSpent, IsLookedAt}
 use Rattle.kb_broker.proofs.Handled.{from_ok, turn-sure}
 use Rattle.std.proofs.Common.{eqb}
-use Rattle.std.specs.Prelude.{nat_lt, ◌<◌, ◌&&◌}
+use Rattle.std.specs.Prelude.{Contains, nat_lt, ◌<◌, ◌&&◌, ◌⊎◌}
 use Rattle.std.specs.Result.{is_err}
 use Rattle.kb_machine.specs.declared.whom.Whom.{Whom}
 use Rattle.kb_machine.specs.Turned.{IsLookedFor}
@@ -53,12 +58,12 @@ answered-now node k l clock n id key version body touched r h =
     (ap (λ w. kept_in w l.groups) h.0 ∙ ap (kept_in o.world) h.1, h.3)
 
 -- what stands in front was asked, and answered so: the connection is the machine's
-pub asked-now : (setup : Setup) (clock n : ℕ) (k m : Kept) (l new : Line) (key version id : ℤ) (body : List ℕ) (r : Answer) → IsAsked l.session key version id body → m ≡ kept_after setup.node k clock n key version body → IsAnswer id (answer setup.node k clock n key version body) r
-    → ((key' version' id' : ℤ) (body' : List ℕ) (reaction : Reaction) → IsAsked l.session key' version' id' body' → IsAnswer id' reaction r → new ≡ with_session l (answered reaction id' version' body' (without_front l.session)))
+pub asked-now : (setup : Setup) (clock n : ℕ) (k m : Kept) (l new : Line) (key version id : ℤ) (body : List ℕ) (r : Answer) → IsAsked setup l.session key version id body → m ≡ kept_after setup.node k clock n key version body → IsAnswer id (answer setup.node k clock n key version body) r
+    → ((key' version' id' : ℤ) (body' : List ℕ) (reaction : Reaction) → IsAsked setup l.session key' version' id' body' → IsAnswer id' reaction r → new ≡ with_session l (answered reaction id' version' body' (without_front l.session)))
     → (new.session ≡ served_by_turn setup k clock n l.session) × (m ≡ put setup k clock n l.session.unread)
 asked-now setup clock n k m l new key version id body r asked kept told ok =
     let is = ok key version id body (answer setup.node k clock n key version body) asked told in
-    (ap (λ (x : Line). x.session) is ∙ sym (asked.served setup k clock n), kept ∙ sym (asked.put setup k clock n))
+    (ap (λ (x : Line). x.session) is ∙ sym (asked.served k clock n), kept ∙ sym (asked.put k clock n))
 
 -- the code's word for it
 pub calm-of : (x y before after : ℕ) → before ≡ x → after ≡ y → after ≡ before → before < END → IsCalm x y
@@ -71,6 +76,46 @@ pub touched-now : {L S : Type 0} (log : L → Log) (disk : S → Disk) (H : Type
 touched-now log disk H honest node hosts us clock t n id key version body touched r kept meets calm nobody =
     let h = meets honest calm in
     record { calm = calm; none = nobody; ready = λ k w apart. apart-ready node (kept_of (tenants_in log disk hosts) t) (kept_of us t) clock n key version body k w (kept_tied log disk hosts kept t clock) h.0 (subst (AreApart (asked (kept_of (tenants_in log disk hosts) t) w)) h.2 apart) nobody }
+
+-- a request that touches a partition answers nobody who waited for a group
+one-alone : (node : Node) (w : World) (gs : Groups) (n : ℕ) (key version : ℤ) (body : List ℕ) → let o = served node w gs n key version body in (o.touched ≡ []) ⊎ (o.groups ≡ silent gs)
+one-alone node w gs n key version body = by_request (λ (o : Outcome). (o.touched ≡ []) ⊎ (o.groups ≡ silent gs)) node w gs n key version body (record { stays = λ after reaction. inl refl; commit = λ r. inl refl; topics = inr refl })
+
+-- after a request that touched no partition what its groups do not answer is as little ready as before
+answered-ready : (node : Node) (k l : Kept) (clock n : ℕ) (key version : ℤ) (body : List ℕ) (m : ℕ) (w : Wait) → IsTied (world_at k clock) → world_at l clock ≡ (served node (world_at k clock) k.groups n key version body).world
+    → (served node (world_at k clock) k.groups n key version body).touched ≡ [] → told_to m l.groups ≡ plain.Silent → ready k clock m w ≡ plain.Silent → ready l clock m w ≡ plain.Silent
+unfolding ready
+answered-ready node k l clock n key version body m w tied same untouched still silence = by w.awaited quietly
+  where
+    nowhere : (place : Place) → Contains [] place → ⊥
+    nowhere place c = let h = c.1 in omega (arith, h)
+
+    hushed : Kept
+    hushed = record l { groups = silent l.groups }
+
+    quietly : ready hushed clock m w ≡ plain.Silent
+    quietly = apart-ready node k hushed clock n key version body m w tied same (λ place asks touches. nowhere place (subst (λ ps. Contains ps place) untouched touches)) refl silence
+
+    by : (x : Awaited) → ready_for hushed clock m x ≡ plain.Silent → ready_for l clock m x ≡ plain.Silent
+    by (Records asks fetch deadline) h = h
+    by Group h = still
+
+-- where nothing was refused, and groups answered requests that waited, only those may have become ready
+pub released-now : {L S : Type 0} (log : L → Log) (disk : S → Disk) (H : Type 0) → H → (node : Node) (hosts : Tenants L S) (us : List TenantState) (clock t n : ℕ) (id key version : ℤ) (body : List ℕ) (touched : List Place) (r : Answer) → AreHosted log disk hosts
+    → IsMet t H (tenants_in log disk hosts) us (λ k l. IsOutcome id (served node (world_at k clock) k.groups n key version body) (world_at l clock) l.groups touched r)
+    → IsCalm (refusals_of (tenants_in log disk hosts) t) (refusals_of us t) → has_released (kept_of us t).groups ≡ true → IsReleased t clock (tenants_in log disk hosts) us
+released-now log disk H honest node hosts us clock t n id key version body touched r kept meets calm some =
+    let h = meets honest calm in
+    let k = kept_of (tenants_in log disk hosts) t in
+    let l = kept_of us t in
+    record {
+      calm = calm;
+      ready = λ m w apart. answered-ready node k l clock n key version body m w (kept_tied log disk hosts kept t clock) h.0 (by (served node (world_at k clock) k.groups n key version body) k.groups l.groups h.1 some (one-alone node (world_at k clock) k.groups n key version body)) (untold m l.groups apart);
+    }
+  where
+    by : (o : Outcome) (gs after : Groups) → after ≡ o.groups → has_released after ≡ true → (o.touched ≡ []) ⊎ (o.groups ≡ silent gs) → o.touched ≡ []
+    by o gs after same some (inl none) = none
+    by o gs after same some (inr quiet) = let no : has_released (silent gs) ≡ true = subst (λ x. has_released x ≡ true) (same ∙ quiet) some in absurd (cc)
 
 -- where nothing was ever refused to the tenant, a fetch that still waits asks for the same
 pub asked-on : {L S : Type 0} (log : L → Log) (disk : S → Disk) (H : Type 0) → H → (hosts : Tenants L S) → is_honest disk hosts → (node : Node) (us : List TenantState) (clock t n : ℕ) (id key version : ℤ) (body : List ℕ) (touched : List Place) (r : Answer) → AreHosted log disk hosts
@@ -104,7 +149,7 @@ spent-served (Ok x) setup l new able ok err =
 spent-served (Err x) setup l new able ok err = spent-shut l new able err
 
 -- a greeting
-pub spent-greeted : {A E : Type 0} (result : Result A E) (setup : Setup) (h : Bool) (l new : Line) → l.session.stage ≡ Greets h → can l.session ≡ true → OnOk result (new ≡ with_session l (greeted setup h l.session))
+pub spent-greeted : {A E : Type 0} (result : Result A E) (setup : Setup) (h : Greeting) (l new : Line) → l.session.stage ≡ Greets h → can l.session ≡ true → OnOk result (new ≡ with_session l (greeted setup h l.session))
     → OnErr result (new ≡ with_session l (shut_down l.session)) → IsSpent l.session new.session
 spent-greeted (Ok x) setup h l new greets able ok err =
     let less = greeted-less setup h l.session (can-turn l.session able) in

@@ -1,8 +1,6 @@
 -- The broker that opens with settings.
-use Rattle.std.specs.Prelude.{◌≡◌, ℕ, ℤ, pos, List, [], map, string_bytes, if◌then◌else◌}
-use Rattle.std.specs.Ordering.{int_eq}
+use Rattle.std.specs.Prelude.{◌≡◌, ℕ, ℤ, pos, List, [], ◌∷◌, map, string_bytes}
 use Rattle.kb_api_group.specs.declared.api_versions.ApiVersion.{ApiVersion}
-use Rattle.kb_machine.specs.Requests.{served_versions}
 use Rattle.kb_machine.specs.Greeting.{Setup, User as Login}
 use Rattle.kb_service.specs.Hosted.{new_tenant}
 use Rattle.kb_machine.specs.Broker.{BrokerState}
@@ -26,21 +24,35 @@ tenants_of users = in_order (map tenant_of users)
 abbrev pub login_of : List (List ℕ) → User → Login
 login_of names u = record { name = string_bytes u.name; password = string_bytes u.password; tenant = place_of (tenant_of u) names }
 
--- the least version that is listed of an API whose one served version this is; stock clients see SaslHandshake from version 0 on
-abbrev pub least : Listing → ℤ → ℤ → ℤ
-least listings.Served key version = version
-least listings.StockClients key version = if int_eq key (pos 17) then pos 0 else version
+-- an API from one version to another
+abbrev pub between : ℕ → ℕ → ℕ → ApiVersion
+between key least greatest = record { api_key = pos key; min_version = pos least; max_version = pos greatest }
 
-abbrev pub listed_as : Listing → ApiVersion → ApiVersion
-listed_as listing v = record {
-  api_key = v.api_key;
-  min_version = least listing v.api_key v.min_version;
-  max_version = v.max_version;
-}
+abbrev pub at_version : ℕ → ℕ → ApiVersion
+at_version key version = between key version version
+
+-- each API at one version, by rising key: Produce, Fetch, ListOffsets, Metadata, OffsetCommit, OffsetFetch, FindCoordinator, JoinGroup,
+-- Heartbeat, LeaveGroup, SyncGroup, SaslHandshake, ApiVersions, CreateTopics, DeleteTopics, InitProducerId, SaslAuthenticate
+abbrev pub served_versions : List ApiVersion
+served_versions =
+    at_version 0 3 ∷ at_version 1 4 ∷ at_version 2 1 ∷ at_version 3 1 ∷ at_version 8 2 ∷ at_version 9 1 ∷ at_version 10 0 ∷ at_version 11 1 ∷
+    at_version 12 0 ∷ at_version 13 0 ∷ at_version 14 0 ∷ at_version 17 1 ∷ at_version 18 0 ∷ at_version 19 0 ∷ at_version 20 0 ∷ at_version 22 0 ∷ at_version 36 0 ∷ []
+
+-- the same, but SaslHandshake from 0 to 1
+abbrev pub stock_versions : List ApiVersion
+stock_versions =
+    at_version 0 3 ∷ at_version 1 4 ∷ at_version 2 1 ∷ at_version 3 1 ∷ at_version 8 2 ∷ at_version 9 1 ∷ at_version 10 0 ∷ at_version 11 1 ∷
+    at_version 12 0 ∷ at_version 13 0 ∷ at_version 14 0 ∷ between 17 0 1 ∷ at_version 18 0 ∷ at_version 19 0 ∷ at_version 20 0 ∷ at_version 22 0 ∷ at_version 36 0 ∷ []
 
 -- the versions that are listed
 abbrev pub listed : Listing → List ApiVersion
-listed listing = map (listed_as listing) served_versions
+listed listings.Served = served_versions
+listed listings.StockClients = stock_versions
+
+-- what is listed of an API that has a key, a least and greatest version, and a least and greatest version with stock clients
+abbrev pub listed_as : Listing → ℤ × ℤ × ℤ × ℤ × ℤ → ApiVersion
+listed_as listings.Served api = record { api_key = api.0; min_version = api.1; max_version = api.2 }
+listed_as listings.StockClients api = record { api_key = api.0; min_version = api.3; max_version = api.4 }
 
 -- what is fixed
 abbrev pub opening_setup : Listing → Settings → Setup
@@ -61,7 +73,7 @@ opening_listing listing s = record {
   lines = [];
 }
 
--- what is listed is what is served
+-- each API is listed at one version
 abbrev pub opening : Settings → BrokerState
 opening = opening_listing listings.Served
 

@@ -1,10 +1,10 @@
 -- The queue of the connections that wait, beside the broker: what stands in it, and what it is good for.
-use Rattle.std.specs.Prelude.{◌≡◌, ◌≢◌, ◌↔◌, ℕ, List, map, Option, Some, None, option_map, [], ◌∷◌, Bool, true, false, Contains, IsSomeAnd, ◌⊎◌, ⊤}
+use Rattle.std.specs.Prelude.{◌≡◌, ◌≢◌, ◌↔◌, ℕ, List, map, Option, Some, None, option_map, [], ◌∷◌, ◌++◌, Bool, true, false, Contains, IsSomeAnd, ◌⊎◌, ⊤}
 use Rattle.std.specs.FinMap.{get}
 use Rattle.std.specs.declared.alloc.Global.{Global}
 use Rattle.std.specs.declared.vec.Vec.{Vec}
 use Rattle.kb_waits.specs.Queue as queue
-use Rattle.kb_waits.specs.Queue.{Queue}
+use Rattle.kb_waits.specs.Queue.{Queue, AreParked}
 use Rattle.kb_waits.specs.declared.key.WaitKey.{WaitKey}
 use Rattle.kb_waits.specs.declared.key.WaitKey.TheVariants as keys
 use Rattle.kb_world.specs.declared.place.Place.{Place}
@@ -13,6 +13,7 @@ use Rattle.kb_service.specs.Hosted.{TenantState}
 use Rattle.kb_service.specs.Serve.{has_released}
 use Rattle.kb_tenant.specs.Replies.{Silent}
 use Rattle.kb_tenant.specs.Waiting.{AreApart}
+use Rattle.kb_tenants.specs.Tenants.{answered}
 use Rattle.kb_world.specs.Steps.{IsCalm}
 use Rattle.kb_tenant.specs.declared.answer.Answer.TheVariants as plain
 use Rattle.kb_service.specs.declared.answer.Answer.{Answer}
@@ -26,11 +27,13 @@ use Rattle.kb_machine.specs.Machine.{find_line}
 use Rattle.kb_machine.specs.Broker.{BrokerState, IsUnready, AnyWait}
 use Rattle.kb_machine.specs.declared.whom.Whom.{Whom}
 use Rattle.kb_machine.specs.declared.whom.Whom.TheVariants as whoms
-use Rattle.kb_machine.specs.Turned.{Scope, SameOthers, Turned, Served, Waked, IsLookedFor}
+use Rattle.kb_machine.specs.Turned.{Scope, SameOthers, Turned, Served, Waked, IsLookedFor, IsPassedOver}
 use Rattle.std.specs.List.{AllByRecursion}
 use Rattle.kb_broker.specs.Places.{IsQuietAt}
 use Rattle.kb_broker.specs.declared.serving.Concerned.{Concerned}
 use Rattle.kb_broker.specs.declared.serving.Concerned.TheVariants as concerned
+use Rattle.kb_broker.specs.declared.serving.Touched.{Touched}
+use Rattle.kb_broker.specs.declared.serving.Touched.TheVariants as touches
 
 -- 1. The queue
 
@@ -137,11 +140,27 @@ pub record AreAllOf (t n : ℕ) (q : Queue) (ns : List ℕ) : Type 0 where
   pub own : Contains ns n
   pub others : (k : ℕ) → k ≢ n → IsUnderTenant t (get q k) → Contains ns k
 
+-- the connection of that number is among those, and nothing that waits elsewhere and was not ready is ready
+pub record AreAnswered (t clock n : ℕ) (old new : List TenantState) (ns : List ℕ) : Type 0 where
+  pub own : Contains ns n
+  pub others : (k : ℕ) (w : Wait) → k ≢ n → (Contains ns k → ⊥) → ready (hosted.kept_of old t) clock k w ≡ Silent → ready (hosted.kept_of new t) clock k w ≡ Silent
+
 -- nothing was refused to a tenant, its groups answer nobody who waited, and what waits and was not ready is not ready, if it asks none of those partitions
 pub record IsTouched (t clock : ℕ) (old new : List TenantState) (places : List Place) : Type 0 where
   pub calm : IsCalm (hosted.refusals_of old t) (hosted.refusals_of new t)
   pub none : has_released (hosted.kept_of new t).groups ≡ false
   pub ready : (k : ℕ) (w : Wait) → AreApart (asked (hosted.kept_of old t) w) places → ready (hosted.kept_of old t) clock k w ≡ Silent → ready (hosted.kept_of new t) clock k w ≡ Silent
+
+-- nothing was refused to a tenant, and what waits and was not ready is not ready, if its groups do not answer it
+pub record IsReleased (t clock : ℕ) (old new : List TenantState) : Type 0 where
+  pub calm : IsCalm (hosted.refusals_of old t) (hosted.refusals_of new t)
+  pub ready : (k : ℕ) (w : Wait) → (Contains (answered (hosted.kept_of new t).groups) k → ⊥) → ready (hosted.kept_of old t) clock k w ≡ Silent → ready (hosted.kept_of new t) clock k w ≡ Silent
+
+-- what a request of a tenant touched, where that is known
+abbrev pub IsTouchedBy : Touched → ℕ → ℕ → List TenantState → List TenantState → Type 0
+IsTouchedBy (touches.Partitions places) t clock old new = IsTouched t clock old new places.items
+IsTouchedBy touches.Groups t clock old new = IsReleased t clock old new
+IsTouchedBy touches.Unknown t clock old new = ⊤
 
 -- the turn of a connection of number n bound to that tenant, of whose session s it leaves r, was not refused; the connection waits for
 -- nothing then, or the groups answer nobody who waited; and what waits and was not ready is not ready, if it asks none of those partitions
@@ -150,6 +169,12 @@ pub record IsTouchedTurn (setup : Setup) (t clock n : ℕ) (old new : List Tenan
   pub kept : hosted.kept_of new t ≡ put setup (hosted.kept_of old t) clock n s.unread
   pub own : (has_released (hosted.kept_of new t).groups ≡ false) ⊎ (is_free r.stage ≡ true)
   pub ready : (k : ℕ) (w : Wait) → AreApart (asked (hosted.kept_of old t) w) places → ready (hosted.kept_of old t) clock k w ≡ Silent → ready (hosted.kept_of new t) clock k w ≡ Silent
+
+-- what such a turn touched, where that is known
+abbrev pub IsTouchedTurnBy : Touched → Setup → ℕ → ℕ → ℕ → List TenantState → List TenantState → Session → Session → Type 0
+IsTouchedTurnBy (touches.Partitions places) setup t clock n old new s r = IsTouchedTurn setup t clock n old new s r places.items
+IsTouchedTurnBy touches.Groups setup t clock n old new s r = IsReleased t clock old new
+IsTouchedTurnBy touches.Unknown setup t clock n old new s r = ⊤
 
 -- those connections are the one of that number, and all that stand in the queue under one of those partitions
 pub record AreUnder (t n : ℕ) (ts : List TenantState) (q : Queue) (places : List Place) (ns : List ℕ) : Type 0 where
@@ -161,14 +186,22 @@ pub record AreUnder (t n : ℕ) (ts : List TenantState) (q : Queue) (places : Li
 abbrev pub AreTheTenants : ℕ → ℕ → Queue → List ℕ → Type 0
 AreTheTenants t n q ns = (k : ℕ) → Contains ns k ↔ (IsUnderTenant t (get q k) ⊎ (n ≡ k))
 
--- whose waits partitions of a tenant concern that were touched; where that is not known, or what the waits ask, all of the tenant's
-abbrev pub AreConcerned : ℕ → ℕ → List TenantState → Queue → Option (Vec Place Global) → List ℕ → Type 0
-AreConcerned t n ts q None ns = AreTheTenants t n q ns
-AreConcerned t n ts q (Some places) ns = AreUnder t n ts q places.items ns ⊎ AreTheTenants t n q ns
+-- those connections are exactly those that stand in the queue under one of those partitions, where nothing was ever refused to the tenant; or those
+-- that stand there under the tenant
+abbrev pub AreWaitingFor : ℕ → List TenantState → Queue → List Place → List ℕ → Type 0
+AreWaitingFor t ts q places ns = ((hosted.refusals_of ts t ≡ 0) × AreParked q (queue.IsUnderAny (keys_of t places)) ns) ⊎ AreParked q (queue.IsUnder (tenant_key t)) ns
 
-abbrev pub IsConcern : Concerned → ℕ → ℕ → List TenantState → Queue → Option (Vec Place Global) → Type 0
-IsConcern concerned.Nobody t n ts q None = ⊥
-IsConcern concerned.Nobody t n ts q (Some places) = places.items ≡ []
+-- whose waits a turn of a tenant concerns: those for the partitions that it touched, or exactly those that the tenant's groups answered;
+-- where that is not known, or what the waits ask, all of the tenant's
+abbrev pub AreConcerned : ℕ → ℕ → List TenantState → Queue → Touched → List ℕ → Type 0
+AreConcerned t n ts q (touches.Partitions places) ns = AreUnder t n ts q places.items ns ⊎ AreTheTenants t n q ns
+AreConcerned t n ts q touches.Groups ns = ns ≡ answered (hosted.kept_of ts t).groups ++ n ∷ []
+AreConcerned t n ts q touches.Unknown ns = AreTheTenants t n q ns
+
+abbrev pub IsConcern : Concerned → ℕ → ℕ → List TenantState → Queue → Touched → Type 0
+IsConcern concerned.Nobody t n ts q (touches.Partitions places) = places.items ≡ []
+IsConcern concerned.Nobody t n ts q touches.Groups = ⊥
+IsConcern concerned.Nobody t n ts q touches.Unknown = ⊥
 IsConcern (concerned.These u ns) t n ts q touched = (u ≡ t) × AreConcerned t n ts q touched ns.items
 IsConcern (concerned.All u) t n ts q touched = u ≡ t
 
@@ -181,7 +214,7 @@ IsWhose (concerned.All t) st = whose st ≡ Some t
 -- what a turn leaves ready: nothing, or nothing but what those connections wait for, which may be all of the tenant's
 abbrev pub IsLeftBy : Concerned → Setup → ℕ → Stage → ℕ → Queue → List TenantState → List TenantState → Session → Session → Type 0
 IsLeftBy concerned.Nobody setup clock st n q old new s r = IsQuietAt setup clock n st old new s r
-IsLeftBy (concerned.These t ns) setup clock st n q old new s r = IsPassedOn setup t clock n q old new s r ns.items ⊎ AreAllOf t n q ns.items
+IsLeftBy (concerned.These t ns) setup clock st n q old new s r = IsPassedOn setup t clock n q old new s r ns.items ⊎ (AreAllOf t n q ns.items ⊎ AreAnswered t clock n old new ns.items)
 IsLeftBy (concerned.All t) setup clock st n q old new s r = ⊤
 
 -- 3. Looks by number
@@ -204,11 +237,16 @@ abbrev pub IsSoughtIn : Whom → ℕ → Option Session → Type 0
 IsSoughtIn whom clock None = ⊤
 IsSoughtIn whom clock (Some s) = IsSoughtAt whom clock s.stage
 
--- a wait stands among those that are looked at: those whose deadline has come, or all
-abbrev pub IsAmong : Whom → ℕ → queue.Wait → Type 0
-IsAmong whoms.Due clock wait = queue.IsDue clock wait
-IsAmong whoms.All clock wait = queue.IsAny wait
-IsAmong (whoms.Tenant t) clock wait = queue.IsAny wait
+-- those connections are looked at in a moment: those whose deadline has come and those that were answered, where it is known on which requests were
+-- answered, or all that wait
+abbrev pub AreSought : Queue → Option (Vec ℕ Global) → ℕ → List ℕ → Type 0
+AreSought q None clock ns = AreParked q queue.IsAny ns
+AreSought q (Some answered) clock ns = (k : ℕ) → Contains ns k ↔ (IsSomeAnd (get q k) (queue.IsDue clock) ⊎ Contains answered.items k)
+
+-- what waits is ready only where it is due or on those connections; where it is not known on which, any may be
+abbrev pub IsReadyAmong : Option (Vec ℕ Global) → BrokerState → Type 0
+IsReadyAmong None b = ⊤
+IsReadyAmong (Some ns) b = AllByRecursion (λ (l : Line). Contains ns.items l.number ⊎ IsUnready (IsPassedOver whoms.Due b.clock) b l.number l.session.stage) b.lines
 
 -- a connection waits for nothing that is ready, or is among those that are looked at
 abbrev pub IsMinded : Whom → List ℕ → BrokerState → ℕ → Type 0

@@ -1,6 +1,9 @@
 -- A connection's place in the broker, its turns there, and the count of a refusal.
 use Rattle.std.specs.Prelude.{◌≡◌, ◌≢◌, ℕ, ◌<◌, ◌≤◌, List, length, take, map, get_or, Option, Some, None, Bool, true, false, not, ◌⊎◌, ⊤}
 use Rattle.std.specs.List.{AllByRecursion}
+use Rattle.std.specs.declared.alloc.Global.{Global}
+use Rattle.std.specs.declared.vec.Vec.{Vec}
+use Rattle.kb_tenants.specs.Tenants.{AreQuietBut}
 use Rattle.kb_world.specs.Steps.{IsCalm}
 use Rattle.kb_service.specs.Hosted as hosted
 use Rattle.kb_service.specs.Hosted.{TenantState, IsTurn, IsMet}
@@ -38,9 +41,10 @@ IsPassed whom clock (BoundTo tenant (Some wait)) = IsPassedOver whom clock tenan
 abbrev pub ArePassed : Whom → BrokerState → Type 0
 ArePassed whom b = AllByRecursion (λ (l : Line). IsPassed whom b.clock l.session.stage) b.lines
 
--- after a moment's own part all waits are looked at, or those that are due, where nothing happened to any tenant
-abbrev pub Leaves : Whom → List TenantState → List TenantState → Type 0
-Leaves whom old new = (whom ≡ whoms.All) ⊎ ((whom ≡ whoms.Due) × ((t : ℕ) → hosted.kept_of new t ≡ hosted.kept_of old t))
+-- after the tenants' own parts of a moment, but for what is due, only requests on those connections may be ready; where it is not known on which, any
+abbrev pub Leaves : Option (Vec ℕ Global) → List TenantState → List TenantState → Type 0
+Leaves None old new = ⊤
+Leaves (Some ns) old new = AreQuietBut ns.items old new
 
 -- no connection but that one can take a turn
 abbrev pub AreIdle : ℕ → BrokerState → Type 0
@@ -84,17 +88,17 @@ pub record IsSpent (s r : Session) : Type 0 where
   pub less : length r.unread < length s.unread
   pub stage : (tenant : ℕ) (wait : Option Wait) → s.stage ≡ BoundTo tenant wait → without_wait r.stage ≡ without_wait s.stage
 
--- a refusal was counted for a tenant, and nothing else has changed
-pub record IsCountedFor (t : ℕ) (old new : BrokerState) : Type 0 where
+-- a refusal was counted for a tenant, a member of whose groups that waited on the connection of number n waits no longer; and nothing else has changed
+pub record IsCountedFor (t n : ℕ) (old new : BrokerState) : Type 0 where
   pub is : new ≡ record old { tenants = new.tenants }
   pub turn : IsTurn t (Unit {0}) old.tenants new.tenants
-  pub stays : (u : ℕ) → hosted.kept_of new.tenants u ≡ hosted.kept_of old.tenants u
+  pub left : hosted.kept_of new.tenants t ≡ hosted.left old.clock n (hosted.kept_of old.tenants t)
   pub counted : IsCalm (refusals_of old t) (refusals_of new t) → ⊥
 
--- a refusal was counted for the tenant that a connection is bound to, or for none where it still greets
-abbrev pub IsCountedAt : Stage → BrokerState → BrokerState → Type 0
-IsCountedAt (Greets handshaken) old new = IsRefused old new
-IsCountedAt (BoundTo tenant wait) old new = IsCountedFor tenant old new
+-- a refusal, for which the connection of number n is shut, was counted for the tenant that it is bound to, or for none where it still greets
+abbrev pub IsCountedAt : ℕ → Stage → BrokerState → BrokerState → Type 0
+IsCountedAt n (Greets handshaken) old new = IsRefused old new
+IsCountedAt n (BoundTo tenant wait) old new = IsCountedFor tenant n old new
 
 -- the turn of a connection at that stage, before its tenant's waiting requests are looked at again
 abbrev pub IsServedAt : Stage → Scope → BrokerState → BrokerState → Type 0

@@ -9,7 +9,7 @@ ghost use Rattle.kb_settings.specs.Names.{byte_order, in_order, place_of};
 ghost use Rattle.kb_store.specs.Disk.{Keeps};
 ghost use Rattle.kb_service.specs.Hosted.{new_tenant};
 ghost use Rattle.kb_broker.specs.Hosts.{tenants_in, AreHosted};
-ghost use Rattle.kb_broker.specs.Opening.{least, listed, opening, opening_listing, opening_setup, tenants_of, login_of, BlamesStore};
+ghost use Rattle.kb_broker.specs.Opening.{listed, listed_as, opening, opening_listing, opening_setup, tenants_of, login_of, BlamesStore};
 
 use crate::broker::Broker;
 use crate::engine::Engine;
@@ -23,51 +23,57 @@ use kb_wire::Array;
 use std::alloc::{AllocError, Global};
 use thiserror::Error;
 
-/// The APIs that are served, each at one version, by rising key: Produce, Fetch, ListOffsets, Metadata, OffsetCommit,
-/// OffsetFetch, FindCoordinator, JoinGroup, Heartbeat, LeaveGroup, SyncGroup, SaslHandshake, ApiVersions, CreateTopics,
-/// DeleteTopics, InitProducerId, SaslAuthenticate.
-const SERVED: [(i16, i16); 17] = [
-    (0, 3),
-    (1, 4),
-    (2, 1),
-    (3, 1),
-    (8, 2),
-    (9, 1),
-    (10, 0),
-    (11, 1),
-    (12, 0),
-    (13, 0),
-    (14, 0),
-    (17, 1),
-    (18, 0),
-    (19, 0),
-    (20, 0),
-    (22, 0),
-    (36, 0),
+/// An API: its key, its least and greatest version, and its least and greatest version with stock clients.
+type Api = (i16, i16, i16, i16, i16);
+
+/// The APIs that are listed, by rising key (Kafka protocol guide, "Api Keys").
+const APIS: [Api; 17] = [
+    (0, 3, 3, 3, 3), // Produce
+    (1, 4, 4, 4, 4), // Fetch
+    (2, 1, 1, 1, 1), // ListOffsets
+    (3, 1, 1, 1, 1), // Metadata
+    (8, 2, 2, 2, 2), // OffsetCommit
+    (9, 1, 1, 1, 1), // OffsetFetch
+    (10, 0, 0, 0, 0), // FindCoordinator
+    (11, 1, 1, 1, 1), // JoinGroup
+    (12, 0, 0, 0, 0), // Heartbeat
+    (13, 0, 0, 0, 0), // LeaveGroup
+    (14, 0, 0, 0, 0), // SyncGroup
+    (17, 1, 1, 0, 1), // SaslHandshake
+    (18, 0, 0, 0, 0), // ApiVersions
+    (19, 0, 0, 0, 0), // CreateTopics
+    (20, 0, 0, 0, 0), // DeleteTopics
+    (22, 0, 0, 0, 0), // InitProducerId
+    (36, 0, 0, 0, 0), // SaslAuthenticate
 ];
 
-/// The key of SaslHandshake.
-const SASL_HANDSHAKE: i16 = 17;
-
-/// Which versions a broker lists. What it serves is the same.
+/// Which versions a broker lists, and so which it serves.
 #[derive(Clone, Copy, Debug, PartialEq, Eq)]
 pub enum Listing {
-    /// Each API at the one version that is served.
+    /// Each API at one version.
     Served,
-    /// The same, but SaslHandshake from version 0 on. librdkafka asks for that before it logs in, and then sends version 1: a
-    /// handshake of version 0 is not served.
+    /// The same, and SaslHandshake from version 0 on. Older clients log in by that version, and librdkafka looks for it in the list
+    /// before it logs in by version 1.
     StockClients,
 }
 
 impl Listing {
-    /// The least version that is listed of an API.
-    fn least(self, key: i16, version: i16) -> i16
-        ensures { result ≡ least self key version }
+    /// What it lists of an API.
+    fn entry(self, api: Api) -> ApiVersion
+        ensures { result ≡ listed_as self api }
     {
-        if self == Listing::StockClients && key == SASL_HANDSHAKE {
-            0
-        } else {
-            version
+        let (api_key, least, greatest, stock_least, stock_greatest) = api;
+        match self {
+            Listing::Served => ApiVersion {
+                api_key,
+                min_version: least,
+                max_version: greatest,
+            },
+            Listing::StockClients => ApiVersion {
+                api_key,
+                min_version: stock_least,
+                max_version: stock_greatest,
+            },
         }
     }
 }
@@ -196,25 +202,15 @@ fn listed_versions(alloc: Global, listing: Listing) -> Result<Array<ApiVersion>,
     ensures is { IfOk result (λ versions. versions ≡ listed listing) }
     ensures fits { IfOk result (λ versions. (array api_version).Fits versions) }
 {
-    let versions = at_each(alloc, listing, &SERVED)?;
+    let versions = entries(alloc, listing, &APIS)?;
     Ok(Array::from_vec(versions))
 }
 
-/// Each key at its one version, and its least version by the listing.
-fn at_each(
-    alloc: Global,
-    listing: Listing,
-    keys: &[(i16, i16)],
-) -> Result<Vec<ApiVersion>, AllocError>
-    ensures { IfOk result (λ versions. versions.items ≡ map (λ k. record { api_key = k.0; min_version = least listing k.0 k.1; max_version = k.1 }) keys.now) }
+/// What it lists of each API.
+fn entries(alloc: Global, listing: Listing, apis: &[Api]) -> Result<Vec<ApiVersion>, AllocError>
+    ensures { IfOk result (λ versions. versions.items ≡ map (listed_as listing) apis.now) }
 {
-    keys.iter()
-        .map(|(key, version)| ApiVersion {
-            api_key: *key,
-            min_version: listing.least(*key, *version),
-            max_version: *version,
-        })
-        .collect(alloc)
+    apis.iter().map(|api| listing.entry(*api)).collect(alloc)
 }
 
 /// The users' logins, where the names are those of their tenants.

@@ -1,11 +1,10 @@
 //! The connections that wait.
 
-ghost use Rattle.std.specs.Prelude.{◌≡◌, ◌≢◌, ◌==◌, ◌++◌, ℕ, None, OnOk, OnErr, IfOk};
+ghost use Rattle.std.specs.Prelude.{◌≡◌, ◌≢◌, ◌==◌, ◌++◌, ◌⊎◌, ◌↔◌, ℕ, None, Contains, IsSomeAnd, OnOk, OnErr, IfOk};
 ghost use Rattle.std.specs.FinMap as fin;
-ghost use Rattle.kb_waits.specs.Queue.{AreParked, IsUnder, IsUnderAny};
-ghost use Rattle.kb_broker.specs.Parked.{keys_for, keys_of, tenant_key, IsAmong};
+ghost use Rattle.kb_waits.specs.Queue.{AreParked, IsDue, IsUnder, IsUnderAny};
+ghost use Rattle.kb_broker.specs.Parked.{keys_for, keys_of, tenant_key, AreSought};
 
-use kb_machine::Whom;
 use kb_waits::{WaitKey, Waits};
 use kb_world::Place;
 use std::alloc::{AllocError, Global};
@@ -78,18 +77,19 @@ impl Parking {
         self.waits.forget(number);
     }
 
-    /// The connections that are looked at after retention, ascending: those whose deadline has come, or all. The list is to be given
-    /// back by `give_back`.
-    pub fn sought(&mut self, alloc: Global, whom: Whom, clock: u64) -> Result<Vec<u64>, AllocError>
-        ensures sought { IfOk result (λ ns. AreParked self.old (IsAmong whom clock) ns.items) }
+    /// The connections that are looked at in a moment: those whose deadline has come, and behind them those that were answered; or all that
+    /// wait, where it is not known who was answered. The list is to be given back by `give_back`.
+    pub fn sought(
+        &mut self,
+        alloc: Global,
+        answered: &Option<Vec<u64>>,
+        clock: u64,
+    ) -> Result<Vec<u64>, AllocError>
+        ensures sought { IfOk result (λ ns. AreSought self.old answered.now clock ns.items) }
         ensures queue { self.new ≡ self.old }
     {
         let mut numbers = mem::replace(&mut self.room, Vec::new(alloc));
-        let found = match whom {
-            Whom::Due => self.waits.due(clock, &mut numbers),
-            Whom::All | Whom::Tenant(_) => self.waits.all(&mut numbers),
-        };
-        match found {
+        match seek(&self.waits, answered, clock, &mut numbers) {
             Ok(()) => Ok(numbers),
             Err(e) => {
                 self.room = numbers;
@@ -132,6 +132,39 @@ impl Parking {
             .touched(&WaitKey::Tenant { tenant }, &mut numbers)?;
         Ok(numbers)
     }
+}
+
+/// Replaces what is in `numbers` by the connections that are looked at in a moment. After an `Err`, which is want of memory, some may be
+/// missing.
+fn seek(
+    waits: &Waits,
+    answered: &Option<Vec<u64>>,
+    clock: u64,
+    numbers: &mut Vec<u64>,
+) -> Result<(), AllocError>
+    ensures { OnOk result (AreSought waits.now answered.now clock numbers.new.items) }
+{
+    match answered {
+        Some(answered) => due_or_answered(waits, clock, answered, numbers),
+        None => waits.all(numbers),
+    }
+}
+
+/// Replaces what is in `numbers` by the connections whose deadline has come, and behind them those that were answered. After an `Err`,
+/// which is want of memory, some may be missing.
+fn due_or_answered(
+    waits: &Waits,
+    clock: u64,
+    answered: &[u64],
+    numbers: &mut Vec<u64>,
+) -> Result<(), AllocError>
+    ensures { OnOk result ((k : ℕ) → Contains numbers.new.items k ↔ (IsSomeAnd (fin.get waits.now k) (IsDue clock) ⊎ Contains answered.now k)) }
+{
+    waits.due(clock, numbers)?;
+    for number in answered {
+        numbers.push(*number)?;
+    }
+    Ok(())
 }
 
 /// The keys of a connection of a tenant that waits for some partitions.

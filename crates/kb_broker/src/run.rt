@@ -5,11 +5,12 @@ ghost use Rattle.std.specs.Vec.{vec_len, vec_capacity};
 ghost use Rattle.kb_machine.specs.Machine.{Closes, Sent, those_sent, by_number, sent, leaving};
 ghost use Rattle.kb_machine.specs.Calls.{closed};
 ghost use Rattle.kb_world.specs.Steps.{IsCalm};
-ghost use Rattle.kb_machine.specs.Broker.{IsRun, IsUnowned, alone_unowned, kept_of, last_after, only, owned_by, view_of};
+ghost use Rattle.kb_machine.specs.Broker.{IsCalmFor, IsRun, IsUnowned, alone_unowned, kept_of, last_after, only, owned_by, view_of};
 ghost use Rattle.kb_tenant.specs.Batches.{HasSmallLogs};
 ghost use Rattle.kb_service.specs.Hosted.{world_at};
 ghost use Rattle.kb_machine.specs.Fetches.{FetchesGetBatches};
 ghost use Rattle.kb_machine.specs.Isolation.{IsIsolated, LeavesWorlds, AreAlike, own_events, own_sent};
+ghost use Rattle.kb_machine.specs.Alone.{HasToItself};
 ghost use Rattle.kb_machine.specs.Greetings.{greeted_alone};
 ghost use Rattle.kb_broker.specs.Hosts.{is_honest, IsLater, IsReadyOn, StepsTo};
 ghost use Rattle.kb_broker.specs.Runs.{happening_of, happenings, sent_of, is_opening, connections_of, emptied, IsPassed, Passes};
@@ -160,6 +161,9 @@ fn openings(events: &[Event]) -> usize
 /// are the same: its connections got the same bytes, and the same of them were shut, whatever others did in either. This holds
 /// where nothing was refused to the tenant, nor to a connection that was not bound, and the stores are honest to the end.
 ///
+/// Where the tenant has the second broker to itself, and nothing but its own events and the moments come to it, all that the second
+/// run writes is what the tenant's connections got in the first.
+///
 /// An `Err`, for want of memory, comes before the first event of a run, and may come after the first run.
 pub fn run_both<S: Store, L: PartitionLog + Drop>(
     alloc: Global,
@@ -172,6 +176,9 @@ pub fn run_both<S: Store, L: PartitionLog + Drop>(
     requires second { IsRun second.old.state.last (happenings others.now) }
     ensures alike { IfOk result (λ both. is_honest S.disk first.new → is_honest S.disk second.new → (t : ℕ) → AreAlike t (happenings events.now) (happenings others.now) first.old.state first.new.state second.old.state second.new.state →
         own_sent t (happenings others.now) second.old.state (map sent_of both.1.items) ≡ own_sent t (happenings events.now) first.old.state (map sent_of both.0.items)) }
+    ensures alone { IfOk result (λ both. is_honest S.disk first.new → is_honest S.disk second.new → (t : ℕ) → HasToItself t (happenings events.now) first.old.state second.old.state →
+        happenings others.now ≡ own_events t (happenings events.now) first.old.state → IsCalmFor t first.old.state first.new.state → IsCalmFor t second.old.state second.new.state →
+        map sent_of both.1.items ≡ own_sent t (happenings events.now) first.old.state (map sent_of both.0.items)) }
 {
     let got = first.run(alloc, events)?;
     let others_got = second.run(alloc, others)?;

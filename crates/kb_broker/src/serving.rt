@@ -19,7 +19,7 @@ ghost use Rattle.kb_connection.specs.Fronts.{is_tenants_at, IsAsked};
 ghost use Rattle.kb_connection.specs.View.{awaited_of, wait_of, with_session, without_front};
 ghost use Rattle.kb_broker.specs.Hosts.{tenants_in, AreHosted, AreLater};
 ghost use Rattle.kb_broker.specs.Places.{IsSpent, IsTakenAt, IsTurnAt, IsLookedAt};
-ghost use Rattle.kb_broker.specs.Parked.{parked_for, until_of, deadline_at, IsKeyedAt, IsOwnedAt, IsAskedOn, IsAskedOnAt, IsTouched, IsTouchedTurn, AreConcerned, IsConcern, IsLeftBy, IsOwnTo, IsWhose};
+ghost use Rattle.kb_broker.specs.Parked.{parked_for, until_of, deadline_at, IsKeyedAt, IsOwnedAt, IsAskedOn, IsAskedOnAt, IsTouchedBy, IsTouchedTurnBy, AreConcerned, AreWaitingFor, IsConcern, IsLeftBy, IsOwnTo, IsWhose};
 
 use crate::parking::Parking;
 use kb_connection::{Awaited, Connection, Phase, Setup, Waiting};
@@ -31,6 +31,17 @@ use kb_tenant::{Request, Wait};
 use kb_tenants::Tenants;
 use kb_world::Place;
 use std::alloc::{AllocError, Global};
+
+/// What a turn of a tenant's connection touched of what requests wait for.
+#[derive(Drop)]
+pub enum Touched {
+    /// These partitions, and no group.
+    Partitions(Vec<Place>),
+    /// Groups, which answered requests that waited for them, and no partition.
+    Groups,
+    /// That is not known: something was refused to the tenant.
+    Unknown,
+}
 
 /// Whose waiting requests may be ready after a turn, and are to be looked at again.
 #[derive(Drop)]
@@ -77,8 +88,8 @@ pub fn take_turn<L: PartitionLog + Drop, S: Store>(
     ensures err { OnErr result (connection.new ≡ with_session connection.old (shut_down connection.old.session)) }
 {
     match connection.phase() {
-        Phase::Greets(handshaken) => {
-            connection.greet(alloc, setup, handshaken)?;
+        Phase::Greets(greeting) => {
+            connection.greet(alloc, setup, greeting)?;
             Ok(Concerned::Nobody)
         }
         Phase::Bound(tenant) => {
@@ -89,7 +100,7 @@ pub fn take_turn<L: PartitionLog + Drop, S: Store>(
     }
 }
 
-/// Whose waiting requests may be ready after a turn of a tenant that touched these partitions, or where that is not known.
+/// Whose waiting requests may be ready after a turn of a tenant that touched that.
 ///
 /// Where the list of those cannot be kept, all of the tenant are looked at.
 fn whom_it_concerns<L: PartitionLog + Drop, S: Store>(
@@ -98,12 +109,12 @@ fn whom_it_concerns<L: PartitionLog + Drop, S: Store>(
     parking: &Parking,
     tenant: usize,
     number: u64,
-    touched: Option<Vec<Place>>,
+    touched: Touched,
 ) -> Concerned
     requires { tenant < length (tenants_in L.log S.disk tenants.now) }
     ensures { IsConcern result tenant number (tenants_in L.log S.disk tenants.now) parking.now touched }
 {
-    if let Some(places) = &touched {
+    if let Touched::Partitions(places) = &touched {
         if places.is_empty() {
             return Concerned::Nobody;
         }
@@ -114,31 +125,51 @@ fn whom_it_concerns<L: PartitionLog + Drop, S: Store>(
     }
 }
 
-/// The connections that wait for one of these partitions of the tenant, and that of the number behind them.
+/// The connections that wait for one of these partitions of the tenant.
 ///
-/// As long as nothing was ever refused to the tenant the queue has each fetch under what it asks; else, and where requests that waited
-/// for their group were answered, all of the tenant that wait stand in the list.
+/// As long as nothing was ever refused to the tenant the queue has each fetch under what it asks; else all of the tenant that wait stand
+/// in the list.
+fn who_waits_for<L: PartitionLog + Drop, S: Store>(
+    alloc: Global,
+    tenants: &Tenants<L, S>,
+    parking: &Parking,
+    tenant: usize,
+    places: &[Place],
+) -> Result<Vec<u64>, AllocError>
+    requires { tenant < length (tenants_in L.log S.disk tenants.now) }
+    ensures { IfOk result (λ ns. AreWaitingFor tenant (tenants_in L.log S.disk tenants.now) parking.now places.now ns.items) }
+{
+    if tenants.refusals(tenant) == 0 {
+        parking.touched(alloc, tenant, places)
+    } else {
+        parking.of_tenant(alloc, tenant)
+    }
+}
+
+/// The connections that wait for one of the tenant's partitions that were touched, or that its groups answered, and that of the number
+/// behind them. Where it is not known what was touched all of the tenant that wait stand in the list.
 fn numbers_concerned<L: PartitionLog + Drop, S: Store>(
     alloc: Global,
     tenants: &Tenants<L, S>,
     parking: &Parking,
     tenant: usize,
     number: u64,
-    touched: &Option<Vec<Place>>,
+    touched: &Touched,
 ) -> Result<Vec<u64>, AllocError>
     requires { tenant < length (tenants_in L.log S.disk tenants.now) }
     ensures { IfOk result (λ ns. AreConcerned tenant number (tenants_in L.log S.disk tenants.now) parking.now touched.now ns.items) }
 {
     let mut numbers = match touched {
-        Some(places) if tenants.refusals(tenant) == 0 => { parking.touched(alloc, tenant, places)? }
-        _ => parking.of_tenant(alloc, tenant)?,
+        Touched::Groups => tenants.answered(alloc, tenant)?,
+        Touched::Partitions(places) => who_waits_for(alloc, tenants, parking, tenant, places)?,
+        Touched::Unknown => parking.of_tenant(alloc, tenant)?,
     };
     numbers.push(number)?;
     Ok(numbers)
 }
 
-/// Serves what stands in front of a connection that is bound to a tenant, and answers which partitions were touched; `None`:
-/// something was refused to the tenant, or its group answered requests that waited. If it waits then, it is parked.
+/// Serves what stands in front of a connection that is bound to a tenant, and answers what was touched. If it waits then, it is
+/// parked.
 fn serve_bound<L: PartitionLog + Drop, S: Store>(
     alloc: Global,
     setup: &Setup,
@@ -147,7 +178,7 @@ fn serve_bound<L: PartitionLog + Drop, S: Store>(
     clock: u64,
     tenant: usize,
     connection: &mut Connection,
-) -> Result<Option<Vec<Place>>, AllocError>
+) -> Result<Touched, AllocError>
     requires hosted { AreHosted L.log S.disk tenants.old }
     requires clock { clock ≤ 2 ^ 62 }
     requires tenant { tenant < length (tenants_in L.log S.disk tenants.old) }
@@ -166,40 +197,41 @@ fn serve_bound<L: PartitionLog + Drop, S: Store>(
     ensures asked { is_honest S.disk tenants.new → IsAskedOn tenant (tenants_in L.log S.disk tenants.old) (tenants_in L.log S.disk tenants.new) }
     ensures ok { OnOk result (IsMet tenant (is_honest S.disk tenants.new) (tenants_in L.log S.disk tenants.old) (tenants_in L.log S.disk tenants.new)
         (λ k l. (connection.new.session ≡ served setup.now k clock connection.old.number connection.old.session) × (l ≡ put setup.now k clock connection.old.number connection.old.session.unread))) }
-    ensures touched { IfOk result (λ found. IfSome found (λ places. is_honest S.disk tenants.new → IsTouchedTurn setup.now tenant clock connection.old.number (tenants_in L.log S.disk tenants.old) (tenants_in L.log S.disk tenants.new) connection.old.session connection.new.session places.items)) }
+    ensures touched { IfOk result (λ touched. is_honest S.disk tenants.new → IsTouchedTurnBy touched setup.now tenant clock connection.old.number (tenants_in L.log S.disk tenants.old) (tenants_in L.log S.disk tenants.new) connection.old.session connection.new.session) }
     ensures err { OnErr result (connection.new ≡ with_session connection.old (shut_down connection.old.session)) }
 {
-    let (answer, touched) = match connection.request(alloc) {
+    let (answer, touched) = match connection.request(alloc, setup) {
         Ok(Some(request)) => ask(alloc, setup, tenants, clock, tenant, &request),
         Ok(None) => {
             connection.serve(alloc, setup)?;
-            return Ok(Some(Vec::new(alloc)));
+            return Ok(Touched::Partitions(Vec::new(alloc)));
         }
         Err(e) => {
             connection.shut_down();
             return Err(e);
         }
     };
-    hand_over(alloc, parking, tenant, connection, answer)?;
+    hand_over(alloc, setup, parking, tenant, connection, answer)?;
     Ok(touched)
 }
 
 /// Gives a tenant's answer to the connection that asked, and parks it where it is to wait. Where memory is refused it is shut.
 fn hand_over(
     alloc: Global,
+    setup: &Setup,
     parking: &mut Parking,
     tenant: usize,
     connection: &mut Connection,
     answer: Answer,
 ) -> Result<(), AllocError>
     requires bound { connection.old.session.stage ≡ BoundTo tenant None }
-    requires asks { is_tenants_at (front connection.old.session.unread) ≡ true }
+    requires asks { is_tenants_at setup.now.versions (front connection.old.session.unread) ≡ true }
     requires free { fin.get parking.old connection.old.number ≡ None }
     ensures number { connection.new.number ≡ connection.old.number }
     ensures spent { IsSpent connection.old.session connection.new.session }
     ensures parked { (k : ℕ) → k ≢ connection.old.number → fin.get parking.new k ≡ fin.get parking.old k }
-    ensures ok { (key version id : ℤ) (body : List ℕ) (reaction : Reaction) → IsAsked connection.old.session key version id body → IsAnswer id reaction answer → OnOk result (connection.new ≡ with_session connection.old (answered reaction id version body (without_front connection.old.session))) }
-    ensures dated { (key version id : ℤ) (body : List ℕ) → IsAsked connection.old.session key version id body → until_of (fin.get parking.new connection.old.number) ≡ deadline_at connection.new.session.stage }
+    ensures ok { (key version id : ℤ) (body : List ℕ) (reaction : Reaction) → IsAsked setup.now connection.old.session key version id body → IsAnswer id reaction answer → OnOk result (connection.new ≡ with_session connection.old (answered reaction id version body (without_front connection.old.session))) }
+    ensures dated { (key version id : ℤ) (body : List ℕ) → IsAsked setup.now connection.old.session key version id body → until_of (fin.get parking.new connection.old.number) ≡ deadline_at connection.new.session.stage }
     ensures owned { IsOwnedAt connection.new.session.stage (fin.get parking.new connection.old.number) }
     ensures keyed { OnOk result (fin.get parking.new connection.old.number ≡ parked_for tenant answer) }
     ensures err { OnErr result (connection.new ≡ with_session connection.old (shut_down connection.old.session)) }
@@ -209,7 +241,7 @@ fn hand_over(
         connection.shut_down();
         return Err(AllocError);
     }
-    let given = connection.answer(alloc, answer);
+    let given = connection.answer(alloc, setup, answer);
     if given.is_err() {
         parking.forget(number);
     }
@@ -257,8 +289,7 @@ fn park_fetch(
     }
 }
 
-/// A tenant's answer to its request, and which partitions it touched; `None`: something was refused to the tenant, or its group
-/// answered requests that waited.
+/// A tenant's answer to its request, and what the request touched.
 fn ask<L: PartitionLog + Drop, S: Store>(
     alloc: Global,
     setup: &Setup,
@@ -266,7 +297,7 @@ fn ask<L: PartitionLog + Drop, S: Store>(
     clock: u64,
     tenant: usize,
     request: &Request<'_>,
-) -> (Answer, Option<Vec<Place>>)
+) -> (Answer, Touched)
     requires hosted { AreHosted L.log S.disk tenants.old }
     requires clock { clock ≤ 2 ^ 62 }
     requires tenant { tenant < length (tenants_in L.log S.disk tenants.old) }
@@ -277,7 +308,7 @@ fn ask<L: PartitionLog + Drop, S: Store>(
         (λ k l. (l ≡ kept_after setup.now.node k clock request.now.connection request.now.api_key request.now.api_version request.now.body.now)
         × IsAnswer request.now.correlation_id (answer setup.now.node k clock request.now.connection request.now.api_key request.now.api_version request.now.body.now) result.0) }
     ensures asked { is_honest S.disk tenants.new → IsAskedOn tenant (tenants_in L.log S.disk tenants.old) (tenants_in L.log S.disk tenants.new) }
-    ensures touched { IfSome result.1 (λ places. is_honest S.disk tenants.new → IsTouched tenant clock (tenants_in L.log S.disk tenants.old) (tenants_in L.log S.disk tenants.new) places.items) }
+    ensures touched { is_honest S.disk tenants.new → IsTouchedBy result.1 tenant clock (tenants_in L.log S.disk tenants.old) (tenants_in L.log S.disk tenants.new) }
 {
     let before = tenants.refusals(tenant);
     let node = setup.node();
@@ -286,10 +317,14 @@ fn ask<L: PartitionLog + Drop, S: Store>(
         touched,
         released,
     } = tenants.serve(alloc, tenant, clock, &node, request);
-    if tenants.refusals(tenant) == before && before < u64::MAX && !released {
-        (answer, Some(touched))
+    if tenants.refusals(tenant) == before && before < u64::MAX {
+        if released {
+            (answer, Touched::Groups)
+        } else {
+            (answer, Touched::Partitions(touched))
+        }
     } else {
-        (answer, None)
+        (answer, Touched::Unknown)
     }
 }
 

@@ -4,6 +4,7 @@ use Rattle.std.proofs.lemmas.Bool.Decides.{nat_tests}
 use Rattle.std.specs.declared.vec.Vec.{Vec}
 use Rattle.kb_world.specs.declared.place.Place.{Place}
 use Rattle.kb_api_group.specs.Frames.{front, behind}
+use Rattle.kb_api_group.specs.declared.api_versions.ApiVersion.{ApiVersion}
 use Rattle.kb_tenant.specs.Replies.{Reaction, Replies, Waits, Silent, Shuts, IsAnswer, reply_size}
 use Rattle.kb_tenant.specs.declared.answer.Answer.{Answer}
 use Rattle.kb_tenant.specs.declared.answer.Answer.TheVariants as answers
@@ -71,17 +72,17 @@ gives (Err fault) l m new id version body reaction all answer is no_wait left do
 
 -- 3. The request's bytes are gone
 
-less : (l new : Line) → is_tenants_at (front l.session.unread) ≡ true → length new.session.unread ≤ length (behind (front l.session.unread) l.session.unread) → length new.session.unread < length l.session.unread
-less l new asks few = let fewer = fewer-behind l.session.unread asks in omega arith
+less : (versions : List ApiVersion) (l new : Line) → is_tenants_at versions (front l.session.unread) ≡ true → length new.session.unread ≤ length (behind (front l.session.unread) l.session.unread) → length new.session.unread < length l.session.unread
+less versions l new asks few = let fewer = fewer-behind versions l.session.unread asks in omega arith
 
 unread_parked : (deadline : Option ℕ) (asked : Option (ℤ × ℤ × ℤ × List ℕ)) (s : Session) → (parked deadline asked s).unread ≡ s.unread
 unread_parked deadline None s = refl
 unread_parked deadline (Some a) s = refl
 
-pub less_parked : {E : Type 0} (result : Result (Unit {0}) E) (l new : Line) (deadline : Option ℕ) (asked : Option (ℤ × ℤ × ℤ × List ℕ)) → OnOk result (new ≡ with_session l (parked deadline asked (without_front l.session)))
-    → OnErr result (new ≡ with_session l (shut_down l.session)) → is_tenants_at (front l.session.unread) ≡ true → length new.session.unread < length l.session.unread
-less_parked (Ok u) l new deadline asked ok err asks = less l new asks (omega (arith, ap (λ (x : Line). length x.session.unread) ok, ap length (unread_parked deadline asked (without_front l.session))))
-less_parked (Err fault) l new deadline asked ok err asks = less l new asks (omega (arith, ap (λ (x : Line). length x.session.unread) err))
+pub less_parked : {E : Type 0} (versions : List ApiVersion) (result : Result (Unit {0}) E) (l new : Line) (deadline : Option ℕ) (asked : Option (ℤ × ℤ × ℤ × List ℕ)) → OnOk result (new ≡ with_session l (parked deadline asked (without_front l.session)))
+    → OnErr result (new ≡ with_session l (shut_down l.session)) → is_tenants_at versions (front l.session.unread) ≡ true → length new.session.unread < length l.session.unread
+less_parked versions (Ok u) l new deadline asked ok err asks = less versions l new asks (omega (arith, ap (λ (x : Line). length x.session.unread) ok, ap length (unread_parked deadline asked (without_front l.session))))
+less_parked versions (Err fault) l new deadline asked ok err asks = less versions l new asks (omega (arith, ap (λ (x : Line). length x.session.unread) err))
 
 unread_given : (answer : Answer) (s : Session) → length (given answer s).unread ≤ length s.unread
 unread_given (answers.Reply reply) s = omega arith
@@ -89,11 +90,11 @@ unread_given (answers.Wait deadline keys) s = omega arith
 unread_given answers.NoReply s = omega arith
 unread_given answers.Shut s = omega arith
 
-pub less_given : {E : Type 0} (result : Result (Unit {0}) E) (l m new : Line) (answer : Answer) → m ≡ with_session l (without_front l.session) → OnOk result (new ≡ with_session m (given answer m.session))
-    → OnErr result (new ≡ with_session m (shut_down m.session)) → is_tenants_at (front l.session.unread) ≡ true → length new.session.unread < length l.session.unread
-less_given (Ok u) l m new answer left ok err asks =
-    less l new asks (omega (arith, ap (λ (x : Line). length x.session.unread) ok, unread_given answer m.session, ap (λ (x : Line). length x.session.unread) left))
-less_given (Err fault) l m new answer left ok err asks = less l new asks (omega (arith, ap (λ (x : Line). length x.session.unread) err))
+pub less_given : {E : Type 0} (versions : List ApiVersion) (result : Result (Unit {0}) E) (l m new : Line) (answer : Answer) → m ≡ with_session l (without_front l.session) → OnOk result (new ≡ with_session m (given answer m.session))
+    → OnErr result (new ≡ with_session m (shut_down m.session)) → is_tenants_at versions (front l.session.unread) ≡ true → length new.session.unread < length l.session.unread
+less_given versions (Ok u) l m new answer left ok err asks =
+    less versions l new asks (omega (arith, ap (λ (x : Line). length x.session.unread) ok, unread_given answer m.session, ap (λ (x : Line). length x.session.unread) left))
+less_given versions (Err fault) l m new answer left ok err asks = less versions l new asks (omega (arith, ap (λ (x : Line). length x.session.unread) err))
 
 -- 4. What is no wait leaves it waiting for nothing
 

@@ -5,9 +5,10 @@ use Rattle.kb_tenant.specs.Replies.{framed, reply_size}
 use Rattle.kb_machine.specs.Session.{Stage, Greets, BoundTo, Session, shut_down, replied, without_wait}
 use Rattle.kb_machine.specs.Greeting.{Setup, handshake_reply, authenticate_reply}
 use Rattle.kb_machine.specs.Machine.{Line}
+use Rattle.kb_connection.specs.declared.greeting.Greeting.{Greeting}
 use Rattle.kb_connection.specs.declared.reaction.Reaction.{Reaction}
 use Rattle.kb_connection.specs.declared.reaction.Reaction.TheVariants as reactions
-use Rattle.kb_connection.specs.View.{with_session}
+use Rattle.kb_connection.specs.View.{greeting_of, with_session}
 use Rattle.kb_connection.specs.Reactions.{reacted}
 
 -- a stage without a wait may be set before the reply or after it
@@ -25,9 +26,9 @@ restaged l new id back sent body stage free one is same =
     ∙ ap (λ i. with_session l (replied i sent (record l.session { stage = stage }))) one
     ∙ ap (λ b. with_session l (replied id b (record l.session { stage = stage }))) same
 
-pub accepts : (setup : Setup) (reaction : Reaction) (l new : Line) (id back : ℤ) (sent : List ℕ) → back ≡ id → reaction ≡ reactions.Accepts → new ≡ with_session l (replied back sent l.session) → sent ≡ handshake_reply errors.None → with_session new (record new.session { stage = Greets true }) ≡ with_session l (reacted setup reaction id l.session)
-accepts setup reaction l new id back sent one is done same =
-    restaged l new id back sent (handshake_reply errors.None) (Greets true) refl one done same ∙ ap (λ r. with_session l (reacted setup r id l.session)) (sym is)
+pub accepts : (setup : Setup) (reaction : Reaction) (greeting : Greeting) (l new : Line) (id back : ℤ) (sent : List ℕ) → back ≡ id → reaction ≡ reactions.Accepts greeting → new ≡ with_session l (replied back sent l.session) → sent ≡ handshake_reply errors.None → with_session new (record new.session { stage = Greets (greeting_of greeting) }) ≡ with_session l (reacted setup reaction id l.session)
+accepts setup reaction greeting l new id back sent one is done same =
+    restaged l new id back sent (handshake_reply errors.None) (Greets (greeting_of greeting)) refl one done same ∙ ap (λ r. with_session l (reacted setup r id l.session)) (sym is)
 
 pub logs_in : (setup : Setup) (reaction : Reaction) (tenant : ℕ) (l new : Line) (id back : ℤ) (sent : List ℕ) → back ≡ id → reaction ≡ reactions.LogsIn tenant → new ≡ with_session l (replied back sent l.session) → sent ≡ authenticate_reply errors.None None → with_session new (record new.session { stage = BoundTo tenant None }) ≡ with_session l (reacted setup reaction id l.session)
 logs_in setup reaction tenant l new id back sent one is done same =

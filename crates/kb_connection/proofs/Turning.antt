@@ -1,13 +1,13 @@
 -- The turn of a connection, by what stands in front of its unread bytes.
-use Rattle.std.proofs.Common.{◌≡◌, ℕ, ℤ, List, Bool, refl, sym, ap, ◌∙◌, Result, Ok, Err, OnOk, IfOk, ◌⊎◌, inl, inr}
+use Rattle.std.proofs.Common.{◌≡◌, ℕ, ℤ, List, refl, sym, ap, ◌∙◌, Result, Ok, Err, OnOk, IfOk, ◌⊎◌, inl, inr}
 use Rattle.std.specs.declared.alloc.AllocError.{AllocError}
 use Rattle.kb_api_group.specs.Frames.{Front, Whole, Partial, TooSmall, TooLarge, front, answer, behind}
 use Rattle.kb_api_group.specs.declared.frames.Next.{Next}
 use Rattle.kb_api_group.specs.declared.frames.Next.TheVariants as answers
 use Rattle.kb_machine.specs.Requests.{request}
-use Rattle.kb_machine.specs.Session.{Session, shut_down}
+use Rattle.kb_machine.specs.Session.{Greeting, Session, shut_down}
 use Rattle.kb_service.specs.Hosted.{Kept}
-use Rattle.kb_machine.specs.Greeting.{Setup, greeted, greeted_at, greeted_by}
+use Rattle.kb_machine.specs.Greeting.{Setup, greeted, greeted_at, greeted_frame}
 use Rattle.kb_machine.specs.Machine.{Line, served, served_at, served_by}
 use Rattle.kb_connection.specs.declared.reaction.Reaction.{Reaction}
 use Rattle.kb_connection.specs.View.{with_session, without_front}
@@ -15,11 +15,11 @@ use Rattle.kb_connection.specs.Reactions.{reacted, IfReacts}
 
 -- 1. Less than a whole frame: nothing happens
 
-greeted_more : (setup : Setup) (handshaken : Bool) (s : Session) (f : Front) → answers.More ≡ answer f → s ≡ greeted_at setup handshaken s f
-greeted_more setup handshaken s (Whole frame rest) e = cc
-greeted_more setup handshaken s Partial e = refl
-greeted_more setup handshaken s TooSmall e = cc
-greeted_more setup handshaken s TooLarge e = cc
+greeted_more : (setup : Setup) (greeting : Greeting) (s : Session) (f : Front) → answers.More ≡ answer f → s ≡ greeted_at setup greeting s f
+greeted_more setup greeting s (Whole frame rest) e = cc
+greeted_more setup greeting s Partial e = refl
+greeted_more setup greeting s TooSmall e = cc
+greeted_more setup greeting s TooLarge e = cc
 
 served_more : (setup : Setup) (kept : Kept) (clock n : ℕ) (s : Session) (f : Front) → answers.More ≡ answer f → s ≡ served_at setup kept clock n s f
 served_more setup kept clock n s (Whole frame rest) e = cc
@@ -27,9 +27,9 @@ served_more setup kept clock n s Partial e = refl
 served_more setup kept clock n s TooSmall e = cc
 served_more setup kept clock n s TooLarge e = cc
 
-pub greet_more : (setup : Setup) (handshaken : Bool) (l : Line) (unread : List ℕ) → unread ≡ l.session.unread → answers.More ≡ answer (front unread) → l ≡ with_session l (greeted setup handshaken l.session)
+pub greet_more : (setup : Setup) (greeting : Greeting) (l : Line) (unread : List ℕ) → unread ≡ l.session.unread → answers.More ≡ answer (front unread) → l ≡ with_session l (greeted setup greeting l.session)
 unfolding greeted
-greet_more setup handshaken l unread same e = ap (with_session l) (greeted_more setup handshaken l.session (front l.session.unread) (e ∙ ap (λ bytes. answer (front bytes)) same))
+greet_more setup greeting l unread same e = ap (with_session l) (greeted_more setup greeting l.session (front l.session.unread) (e ∙ ap (λ bytes. answer (front bytes)) same))
 
 pub serve_more : (setup : Setup) (kept : Kept) (clock n : ℕ) (l : Line) (unread : List ℕ) → unread ≡ l.session.unread → answers.More ≡ answer (front unread) → l ≡ with_session l (served setup kept clock n l.session)
 unfolding served
@@ -40,13 +40,13 @@ serve_more setup kept clock n l unread same e = ap (with_session l) (served_more
 abbrev pub IsBad : Next → Type 0
 IsBad next = (next ≡ answers.TooSmall) ⊎ (next ≡ answers.TooLarge)
 
-greeted_bad : (setup : Setup) (handshaken : Bool) (s : Session) (f : Front) → IsBad (answer f) → shut_down s ≡ greeted_at setup handshaken s f
-greeted_bad setup handshaken s (Whole frame rest) (inl e) = cc
-greeted_bad setup handshaken s (Whole frame rest) (inr e) = cc
-greeted_bad setup handshaken s Partial (inl e) = cc
-greeted_bad setup handshaken s Partial (inr e) = cc
-greeted_bad setup handshaken s TooSmall e = refl
-greeted_bad setup handshaken s TooLarge e = refl
+greeted_bad : (setup : Setup) (greeting : Greeting) (s : Session) (f : Front) → IsBad (answer f) → shut_down s ≡ greeted_at setup greeting s f
+greeted_bad setup greeting s (Whole frame rest) (inl e) = cc
+greeted_bad setup greeting s (Whole frame rest) (inr e) = cc
+greeted_bad setup greeting s Partial (inl e) = cc
+greeted_bad setup greeting s Partial (inr e) = cc
+greeted_bad setup greeting s TooSmall e = refl
+greeted_bad setup greeting s TooLarge e = refl
 
 served_bad : (setup : Setup) (kept : Kept) (clock n : ℕ) (s : Session) (f : Front) → IsBad (answer f) → shut_down s ≡ served_at setup kept clock n s f
 served_bad setup kept clock n s (Whole frame rest) (inl e) = cc
@@ -60,27 +60,27 @@ bad_front : (next : Next) (unread bytes : List ℕ) → unread ≡ bytes → nex
 bad_front next unread bytes same e (inl is) = inl (sym (e ∙ ap (λ b. answer (front b)) same) ∙ is)
 bad_front next unread bytes same e (inr is) = inr (sym (e ∙ ap (λ b. answer (front b)) same) ∙ is)
 
-pub greet_bad : (setup : Setup) (handshaken : Bool) (l new : Line) (next : Next) (unread : List ℕ) → unread ≡ l.session.unread → next ≡ answer (front unread) → IsBad next → new ≡ with_session l (shut_down l.session) → new ≡ with_session l (greeted setup handshaken l.session)
+pub greet_bad : (setup : Setup) (greeting : Greeting) (l new : Line) (next : Next) (unread : List ℕ) → unread ≡ l.session.unread → next ≡ answer (front unread) → IsBad next → new ≡ with_session l (shut_down l.session) → new ≡ with_session l (greeted setup greeting l.session)
 unfolding greeted
-greet_bad setup handshaken l new next unread same e bad is = is ∙ ap (with_session l) (greeted_bad setup handshaken l.session (front l.session.unread) (bad_front next unread l.session.unread same e bad))
+greet_bad setup greeting l new next unread same e bad is = is ∙ ap (with_session l) (greeted_bad setup greeting l.session (front l.session.unread) (bad_front next unread l.session.unread same e bad))
 
 pub serve_bad : (setup : Setup) (kept : Kept) (clock n : ℕ) (l new : Line) (next : Next) (unread : List ℕ) → unread ≡ l.session.unread → next ≡ answer (front unread) → IsBad next → new ≡ with_session l (shut_down l.session) → new ≡ with_session l (served setup kept clock n l.session)
 unfolding served
 serve_bad setup kept clock n l new next unread same e bad is = is ∙ ap (with_session l) (served_bad setup kept clock n l.session (front l.session.unread) (bad_front next unread l.session.unread same e bad))
 
--- 3. A whole frame: its request is served
+-- 3. A whole frame is taken: its request is served, or it is PLAIN's message
 
-greeted_frame : (setup : Setup) (handshaken : Bool) (s : Session) (frame : List ℕ) (f : Front) → answers.Frame frame ≡ answer f → greeted_by setup handshaken (request frame).correlation_id (request frame).asked (record s { unread = behind f s.unread }) ≡ greeted_at setup handshaken s f
-greeted_frame setup handshaken s frame (Whole front rest) e = let same : frame ≡ front = cc in ap (λ x. greeted_by setup handshaken (request x).correlation_id (request x).asked (record s { unread = rest })) same
-greeted_frame setup handshaken s frame Partial e = cc
-greeted_frame setup handshaken s frame TooSmall e = cc
-greeted_frame setup handshaken s frame TooLarge e = cc
+greeted_whole : (setup : Setup) (greeting : Greeting) (s : Session) (frame : List ℕ) (f : Front) → answers.Frame frame ≡ answer f → greeted_frame setup greeting frame (record s { unread = behind f s.unread }) ≡ greeted_at setup greeting s f
+greeted_whole setup greeting s frame (Whole front rest) e = let same : frame ≡ front = cc in ap (λ x. greeted_frame setup greeting x (record s { unread = rest })) same
+greeted_whole setup greeting s frame Partial e = cc
+greeted_whole setup greeting s frame TooSmall e = cc
+greeted_whole setup greeting s frame TooLarge e = cc
 
-served_frame : (setup : Setup) (kept : Kept) (clock n : ℕ) (s : Session) (frame : List ℕ) (f : Front) → answers.Frame frame ≡ answer f → served_by setup kept clock n (request frame).correlation_id (request frame).asked (record s { unread = behind f s.unread }) ≡ served_at setup kept clock n s f
-served_frame setup kept clock n s frame (Whole front rest) e = let same : frame ≡ front = cc in ap (λ x. served_by setup kept clock n (request x).correlation_id (request x).asked (record s { unread = rest })) same
-served_frame setup kept clock n s frame Partial e = cc
-served_frame setup kept clock n s frame TooSmall e = cc
-served_frame setup kept clock n s frame TooLarge e = cc
+served_whole : (setup : Setup) (kept : Kept) (clock n : ℕ) (s : Session) (frame : List ℕ) (f : Front) → answers.Frame frame ≡ answer f → served_by setup kept clock n (request setup.versions frame).correlation_id (request setup.versions frame).asked (record s { unread = behind f s.unread }) ≡ served_at setup kept clock n s f
+served_whole setup kept clock n s frame (Whole front rest) e = let same : frame ≡ front = cc in ap (λ x. served_by setup kept clock n (request setup.versions x).correlation_id (request setup.versions x).asked (record s { unread = rest })) same
+served_whole setup kept clock n s frame Partial e = cc
+served_whole setup kept clock n s frame TooSmall e = cc
+served_whole setup kept clock n s frame TooLarge e = cc
 
 -- what a worked out reaction comes to
 reacts : {E : Type 0} (setup : Setup) (l new : Line) (result : Result (Unit {0}) E) (reaction : Result (ℤ × Reaction) AllocError) (g : Session → Session) (s : Session) → IfOk reaction (λ done. (s : Session) → reacted setup done.1 done.0 s ≡ g s) → g (without_front l.session) ≡ s → OnOk result (IfReacts reaction (λ id what. new ≡ with_session l (reacted setup what id (without_front l.session)))) → OnOk result (new ≡ with_session l s)
@@ -88,18 +88,18 @@ reacts setup l new (Ok u) (Ok done) g s is e h = h ∙ ap (with_session l) (is (
 reacts setup l new (Ok u) (Err fault) g s is e h = absurd h
 reacts setup l new (Err fault) reaction g s is e h = tt
 
-pub greet_frame : {E : Type 0} (setup : Setup) (handshaken : Bool) (l new : Line) (result : Result (Unit {0}) E) (reaction : Result (ℤ × Reaction) AllocError) (unread frame bytes : List ℕ) → unread ≡ l.session.unread → answers.Frame frame ≡ answer (front unread) → bytes ≡ frame → IfOk reaction (λ done. (s : Session) → reacted setup done.1 done.0 s ≡ greeted_by setup handshaken (request bytes).correlation_id (request bytes).asked s) → OnOk result (IfReacts reaction (λ id what. new ≡ with_session l (reacted setup what id (without_front l.session)))) → OnOk result (new ≡ with_session l (greeted setup handshaken l.session))
+pub greet_frame : {E : Type 0} (setup : Setup) (greeting : Greeting) (l new : Line) (result : Result (Unit {0}) E) (reaction : Result (ℤ × Reaction) AllocError) (unread frame bytes : List ℕ) → unread ≡ l.session.unread → answers.Frame frame ≡ answer (front unread) → bytes ≡ frame → IfOk reaction (λ done. (s : Session) → reacted setup done.1 done.0 s ≡ greeted_frame setup greeting bytes s) → OnOk result (IfReacts reaction (λ id what. new ≡ with_session l (reacted setup what id (without_front l.session)))) → OnOk result (new ≡ with_session l (greeted setup greeting l.session))
 unfolding greeted
-greet_frame setup handshaken l new result reaction unread frame bytes same e read is h =
+greet_frame setup greeting l new result reaction unread frame bytes same e read is h =
     let in_front : answers.Frame bytes ≡ answer (front l.session.unread) = ap answers.Frame read ∙ e ∙ ap (λ b. answer (front b)) same in
-    reacts setup l new result reaction (greeted_by setup handshaken (request bytes).correlation_id (request bytes).asked) (greeted_at setup handshaken l.session (front l.session.unread)) is (greeted_frame setup handshaken l.session bytes (front l.session.unread) in_front) h
+    reacts setup l new result reaction (greeted_frame setup greeting bytes) (greeted_at setup greeting l.session (front l.session.unread)) is (greeted_whole setup greeting l.session bytes (front l.session.unread) in_front) h
 
-pub serve_frame : {E : Type 0} (setup : Setup) (kept : Kept) (clock n : ℕ) (l new : Line) (result : Result (Unit {0}) E) (reaction : Result (ℤ × Reaction) AllocError) (unread frame bytes : List ℕ) → unread ≡ l.session.unread → answers.Frame frame ≡ answer (front unread) → bytes ≡ frame → IfOk reaction (λ done. (setup : Setup) (kept : Kept) (clock n : ℕ) (s : Session) → reacted setup done.1 done.0 s ≡ served_by setup kept clock n (request bytes).correlation_id (request bytes).asked s) → OnOk result (IfReacts reaction (λ id what. new ≡ with_session l (reacted setup what id (without_front l.session)))) → OnOk result (new ≡ with_session l (served setup kept clock n l.session))
+pub serve_frame : {E : Type 0} (setup : Setup) (kept : Kept) (clock n : ℕ) (l new : Line) (result : Result (Unit {0}) E) (reaction : Result (ℤ × Reaction) AllocError) (unread frame bytes : List ℕ) → unread ≡ l.session.unread → answers.Frame frame ≡ answer (front unread) → bytes ≡ frame → IfOk reaction (λ done. (kept : Kept) (clock n : ℕ) (s : Session) → reacted setup done.1 done.0 s ≡ served_by setup kept clock n (request setup.versions bytes).correlation_id (request setup.versions bytes).asked s) → OnOk result (IfReacts reaction (λ id what. new ≡ with_session l (reacted setup what id (without_front l.session)))) → OnOk result (new ≡ with_session l (served setup kept clock n l.session))
 unfolding served
 serve_frame setup kept clock n l new result reaction unread frame bytes same e read is h =
     let in_front : answers.Frame bytes ≡ answer (front l.session.unread) = ap answers.Frame read ∙ e ∙ ap (λ b. answer (front b)) same in
-    reacts setup l new result reaction (served_by setup kept clock n (request bytes).correlation_id (request bytes).asked) (served_at setup kept clock n l.session (front l.session.unread)) (for_this reaction is) (served_frame setup kept clock n l.session bytes (front l.session.unread) in_front) h
+    reacts setup l new result reaction (served_by setup kept clock n (request setup.versions bytes).correlation_id (request setup.versions bytes).asked) (served_at setup kept clock n l.session (front l.session.unread)) (for_this reaction is) (served_whole setup kept clock n l.session bytes (front l.session.unread) in_front) h
   where
-    for_this : (r : Result (ℤ × Reaction) AllocError) → IfOk r (λ done. (setup : Setup) (kept : Kept) (clock n : ℕ) (s : Session) → reacted setup done.1 done.0 s ≡ served_by setup kept clock n (request bytes).correlation_id (request bytes).asked s) → IfOk r (λ done. (s : Session) → reacted setup done.1 done.0 s ≡ served_by setup kept clock n (request bytes).correlation_id (request bytes).asked s)
-    for_this (Ok done) each = each setup kept clock n
+    for_this : (r : Result (ℤ × Reaction) AllocError) → IfOk r (λ done. (kept : Kept) (clock n : ℕ) (s : Session) → reacted setup done.1 done.0 s ≡ served_by setup kept clock n (request setup.versions bytes).correlation_id (request setup.versions bytes).asked s) → IfOk r (λ done. (s : Session) → reacted setup done.1 done.0 s ≡ served_by setup kept clock n (request setup.versions bytes).correlation_id (request setup.versions bytes).asked s)
+    for_this (Ok done) each = each kept clock n
     for_this (Err fault) each = tt

@@ -4,12 +4,14 @@ use Rattle.kb_wire.specs.declared.fault.ReadFault.{ReadFault}
 use Rattle.kb_wire.specs.declared.fault.ReadFault.TheVariants as faults
 use Rattle.kb_machine.specs.Tenant.{Awaited, Records, Group, Wait}
 use Rattle.kb_machine.specs.Requests.{Asked, Versions, OtherVersions, Handshake, Authenticate, Another, Unread, Request}
-use Rattle.kb_machine.specs.Session.{Stage, Greets, BoundTo, Session, LIMIT, is_free}
+use Rattle.kb_machine.specs.Session.{Greeting, Unshaken, Shaken, Bare, Stage, Greets, BoundTo, Session, LIMIT, is_free}
 use Rattle.kb_machine.specs.Machine.{Line}
 use Rattle.kb_api_group.specs.Frames.{front, behind}
 use Rattle.kb_connection.specs.declared.request.Asked.TheVariants as asked
 use Rattle.kb_connection.specs.declared.request.Asked.{Asked as Read}
 use Rattle.kb_connection.specs.declared.request.Request.{Request as ReadRequest}
+use Rattle.kb_connection.specs.declared.greeting.Greeting.{Greeting as HowFar}
+use Rattle.kb_connection.specs.declared.greeting.Greeting.TheVariants as greetings
 use Rattle.kb_connection.specs.declared.connection.Phase.{Phase}
 use Rattle.kb_connection.specs.declared.connection.Phase.TheVariants as phases
 use Rattle.kb_connection.specs.declared.connection.Awaited.{Awaited as Awaits}
@@ -22,7 +24,7 @@ use Rattle.kb_connection.specs.declared.connection.Stage.TheVariants as stages
 abbrev pub asked_of : Read → Asked
 asked_of asked.Versions = Versions
 asked_of asked.OtherVersions = OtherVersions
-asked_of (asked.Handshake mechanism) = Handshake mechanism
+asked_of (asked.Handshake version mechanism) = Handshake version mechanism
 asked_of (asked.Authenticate message) = Authenticate message
 asked_of (asked.Another key version body) = Another key version body
 asked_of asked.Unread = Unread
@@ -45,14 +47,20 @@ awaited_of awaited.Group = Group
 abbrev pub wait_of : Waiting → Wait
 wait_of w = record { correlation_id = w.correlation_id; awaited = awaited_of w.awaited }
 
+-- how far a greeting is
+abbrev pub greeting_of : HowFar → Greeting
+greeting_of greetings.Unshaken = Unshaken
+greeting_of greetings.Shaken = Shaken
+greeting_of greetings.Bare = Bare
+
 -- the stage of a connection, but for its wait
 abbrev pub stage_of : Phase → Stage
-stage_of (phases.Greets handshaken) = Greets handshaken
+stage_of (phases.Greets greeting) = Greets (greeting_of greeting)
 stage_of (phases.Bound tenant) = BoundTo tenant None
 
 -- the stage of a connection
 abbrev pub stage_with_wait : Held → Stage
-stage_with_wait (stages.Greets handshaken) = Greets handshaken
+stage_with_wait (stages.Greets greeting) = Greets (greeting_of greeting)
 stage_with_wait (stages.Bound tenant) = BoundTo tenant None
 stage_with_wait (stages.Waits tenant request) = BoundTo tenant (Some (wait_of request))
 

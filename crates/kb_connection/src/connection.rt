@@ -8,15 +8,16 @@ ghost use Rattle.kb_tenant.specs.Replies as tenant;
 ghost use Rattle.kb_tenant.specs.Replies.{framed, reply_size};
 ghost use Rattle.kb_machine.specs.Requests.{request};
 ghost use Rattle.kb_machine.specs.Session.{Session, Greets, BoundTo, fresh, room, overruns, fed, replied, shut_down, without_wait, waiting, has_member, is_free, can};
-ghost use Rattle.kb_machine.specs.Greeting.{Setup, greeted, greeted_by};
+ghost use Rattle.kb_machine.specs.Greeting.{Setup, greeted, greeted_frame};
 ghost use Rattle.kb_machine.specs.Machine.{answered, served, served_by, told};
 ghost use Rattle.kb_machine.specs.Calls.{without_output};
 ghost use Rattle.kb_machine.specs.Owners.{whose};
 ghost use Rattle.kb_connection.specs.TenantAnswers.{given, is_quiet, is_wait, wait_for, parked};
 ghost use Rattle.kb_connection.specs.Fronts.{IsOwn, IsAsked, is_tenants, is_tenants_at, asked_at};
-ghost use Rattle.kb_connection.specs.View.{stage_of, wait_of, with_session, without_front, IsLimited};
+ghost use Rattle.kb_connection.specs.View.{greeting_of, stage_of, wait_of, with_session, without_front, IsLimited};
 ghost use Rattle.kb_connection.specs.Reactions.{reacted, IfReacts};
 
+use crate::greeting::Greeting;
 use crate::reaction::Reaction;
 use crate::reply::{authenticate_body, handshake_body, versions_body};
 use crate::request::{Asked, Request};
@@ -34,11 +35,14 @@ const UNREAD_LIMIT: usize = 4_194_312;
 /// The greatest size of a reply, which is an INT32.
 const REPLY_LIMIT: usize = 2_147_483_647;
 
+/// A frame of no bytes, which is a size of 0.
+const EMPTY_FRAME: [u8; 4] = [0, 0, 0, 0];
+
 /// How far a connection is.
 #[derive(Clone, Copy, Debug, PartialEq, Eq)]
 pub enum Phase {
-    /// It greets, and a mechanism was accepted or not.
-    Greets(bool),
+    /// It greets, and is so far with that.
+    Greets(Greeting),
     /// It is bound to a tenant, whose place this is.
     Bound(usize),
 }
@@ -83,8 +87,8 @@ pub struct Waiting {
 /// How far a connection is, and what it waits for.
 #[derive(Drop)]
 enum Stage {
-    /// It greets, and a mechanism was accepted or not.
-    Greets(bool),
+    /// It greets, and is so far with that.
+    Greets(Greeting),
     /// It is bound to a tenant, whose place this is.
     Bound(usize),
     /// It is bound to a tenant, and waits for the answer to a request.
@@ -119,7 +123,7 @@ impl Connection {
     {
         Connection {
             number,
-            stage: Stage::Greets(false),
+            stage: Stage::Greets(Greeting::Unshaken),
             unread: FrameFeed::new(alloc),
             output: Vec::new(alloc),
             shut: false,
@@ -138,7 +142,7 @@ impl Connection {
         ensures { stage_of result ≡ without_wait self.now.session.stage }
     {
         match &self.stage {
-            Stage::Greets(handshaken) => Phase::Greets(*handshaken),
+            Stage::Greets(greeting) => Phase::Greets(*greeting),
             Stage::Bound(tenant) | Stage::Waits(tenant, _) => Phase::Bound(*tenant),
         }
     }
@@ -255,15 +259,16 @@ impl Connection {
         kept
     }
 
-    /// Serves the request in front of a greeting connection. Where memory is refused it is shut.
+    /// Serves the frame in front of a greeting connection: a request, or PLAIN's message itself. Where memory is refused it is
+    /// shut.
     pub fn greet(
         &mut self,
         alloc: Global,
         setup: &Setup,
-        handshaken: bool,
+        greeting: Greeting,
     ) -> Result<(), AllocError>
-        requires { self.old.session.stage ≡ Greets handshaken }
-        ensures ok { OnOk result (self.new ≡ with_session self.old (greeted setup.now handshaken self.old.session)) }
+        requires { self.old.session.stage ≡ Greets (greeting_of greeting) }
+        ensures ok { OnOk result (self.new ≡ with_session self.old (greeted setup.now (greeting_of greeting) self.old.session)) }
         ensures err { OnErr result (self.new ≡ with_session self.old (shut_down self.old.session)) }
     {
         match self.unread.next() {
@@ -273,7 +278,7 @@ impl Connection {
                 Ok(())
             }
             Next::Frame(frame) => {
-                let reaction = greeting_reaction(alloc, setup, handshaken, frame.as_slice());
+                let reaction = greeting_reaction(alloc, setup, greeting, frame.as_slice());
                 self.take_turn(alloc, setup, reaction)
             }
         }
@@ -281,9 +286,13 @@ impl Connection {
 
     /// The request of its tenant that stands in front of a bound connection. `None`: what stands there is a matter of the
     /// connection alone.
-    pub fn request(&self, alloc: Global) -> Result<Option<kb_tenant::Request<'_>>, AllocError>
-        ensures own { IfOk result (λ found. IfNone found (IsOwn self.now.session)) }
-        ensures asked { IfOk result (λ found. IfSome found (λ asked. IsAsked self.now.session asked.api_key asked.api_version asked.correlation_id asked.body.now)) }
+    pub fn request(
+        &self,
+        alloc: Global,
+        setup: &Setup,
+    ) -> Result<Option<kb_tenant::Request<'_>>, AllocError>
+        ensures own { IfOk result (λ found. IfNone found (IsOwn setup.now self.now.session)) }
+        ensures asked { IfOk result (λ found. IfSome found (λ asked. IsAsked setup.now self.now.session asked.api_key asked.api_version asked.correlation_id asked.body.now)) }
         ensures number { IfOk result (λ found. IfSome found (λ asked. asked.connection ≡ self.now.number)) }
         // none stands in front of one that was shut
         ensures unshut { IfOk result (λ found. IfSome found (λ asked. self.now.session.shut ≡ false)) }
@@ -294,7 +303,7 @@ impl Connection {
         let Request {
             correlation_id,
             asked,
-        } = Request::read(alloc, frame.as_slice())?;
+        } = Request::read(alloc, setup.versions().as_slice(), frame.as_slice())?;
         match asked {
             Asked::Another { key, version, body } => Ok(Some(kb_tenant::Request {
                 connection: self.number,
@@ -310,19 +319,19 @@ impl Connection {
     /// Leaves the tenant's request in front behind, and gives the tenant's answer to it. Where the answer is to wait, what it
     /// takes to answer the request is kept until `wake` ends the wait. Where memory is refused it is shut.
     #[tactic(auto, using(crate::proofs::Answering::gives, crate::proofs::Answering::less_given, crate::proofs::Answering::less_parked, crate::proofs::Answering::free_given))]
-    pub fn answer(&mut self, alloc: Global, answer: Answer) -> Result<(), AllocError>
-        ensures ok { (key version id : ℤ) (body : List ℕ) (reaction : Reacts) → IsAsked self.old.session key version id body → IsAnswer id reaction answer → OnOk result (self.new ≡ with_session self.old (answered reaction id version body (without_front self.old.session))) }
+    pub fn answer(&mut self, alloc: Global, setup: &Setup, answer: Answer) -> Result<(), AllocError>
+        ensures ok { (key version id : ℤ) (body : List ℕ) (reaction : Reacts) → IsAsked setup.now self.old.session key version id body → IsAnswer id reaction answer → OnOk result (self.new ≡ with_session self.old (answered reaction id version body (without_front self.old.session))) }
         ensures err { OnErr result (self.new ≡ with_session self.old (shut_down self.old.session)) }
         // whatever the answer is, also where a refusal spoiled it
         ensures number { self.new.number ≡ self.old.number }
         ensures stage { without_wait self.new.session.stage ≡ without_wait self.old.session.stage }
-        ensures less { is_tenants_at (front self.old.session.unread) ≡ true → length self.new.session.unread < length self.old.session.unread }
+        ensures less { is_tenants_at setup.now.versions (front self.old.session.unread) ≡ true → length self.new.session.unread < length self.old.session.unread }
         ensures free { is_wait answer ≡ false → is_free self.old.session.stage ≡ true → is_free self.new.session.stage ≡ true }
     {
         match answer {
-            Answer::Rebalance => self.park(alloc, None),
+            Answer::Rebalance => self.park(alloc, setup, None),
             Answer::Plain(kb_tenant::Answer::Wait { deadline, .. }) => {
-                self.park(alloc, Some(deadline))
+                self.park(alloc, setup, Some(deadline))
             }
             Answer::Plain(answer) => {
                 self.skip(); // it is not handed out again
@@ -352,11 +361,16 @@ impl Connection {
 
     /// Leaves the request in front behind, and waits for its answer: until the deadline at most, or, without one, until its group
     /// gives it. Where memory is refused it is shut.
-    fn park(&mut self, alloc: Global, deadline: Option<u64>) -> Result<(), AllocError>
-        ensures ok { OnOk result (self.new ≡ with_session self.old (parked deadline (asked_at (front self.old.session.unread)) (without_front self.old.session))) }
+    fn park(
+        &mut self,
+        alloc: Global,
+        setup: &Setup,
+        deadline: Option<u64>,
+    ) -> Result<(), AllocError>
+        ensures ok { OnOk result (self.new ≡ with_session self.old (parked deadline (asked_at setup.now.versions (front self.old.session.unread)) (without_front self.old.session))) }
         ensures err { OnErr result (self.new ≡ with_session self.old (shut_down self.old.session)) }
     {
-        let request = self.request_in_front(alloc, deadline);
+        let request = self.request_in_front(alloc, setup, deadline);
         self.skip();
         match request {
             Ok(Some(request)) => {
@@ -376,12 +390,13 @@ impl Connection {
     fn request_in_front(
         &self,
         alloc: Global,
+        setup: &Setup,
         deadline: Option<u64>,
     ) -> Result<Option<Waiting>, AllocError>
-        ensures found { IfOk result (λ found. option_map wait_of found ≡ option_map (wait_for deadline) (asked_at (front self.now.session.unread))) }
+        ensures found { IfOk result (λ found. option_map wait_of found ≡ option_map (wait_for deadline) (asked_at setup.now.versions (front self.now.session.unread))) }
         ensures unshut { IfOk result (λ found. IfSome found (λ request. self.now.session.shut ≡ false)) }
     {
-        let Some(request) = self.request(alloc)? else {
+        let Some(request) = self.request(alloc, setup)? else {
             return Ok(None);
         };
         let awaited = match deadline {
@@ -445,7 +460,7 @@ impl Connection {
     /// Serves what stands in front of a bound connection, where it is a matter of the connection alone. Where memory is refused
     /// it is shut.
     pub fn serve(&mut self, alloc: Global, setup: &Setup) -> Result<(), AllocError>
-        requires { IsOwn self.old.session }
+        requires { IsOwn setup.now self.old.session }
         ensures ok { (kept : Kept) (clock n : ℕ) → OnOk result (self.new ≡ with_session self.old (served setup.now kept clock n self.old.session)) }
         ensures err { OnErr result (self.new ≡ with_session self.old (shut_down self.old.session)) }
     {
@@ -456,7 +471,7 @@ impl Connection {
                 Ok(())
             }
             Next::Frame(frame) => {
-                let reaction = bound_reaction(alloc, frame.as_slice());
+                let reaction = bound_reaction(alloc, setup, frame.as_slice());
                 self.take_turn(alloc, setup, reaction)
             }
         }
@@ -499,10 +514,10 @@ impl Connection {
                 let body = versions_body(alloc, setup.versions(), code)?;
                 self.reply(correlation_id, &body)
             }
-            Reaction::Accepts => {
+            Reaction::Accepts(greeting) => {
                 let body = handshake_body(alloc, ErrorCode::None)?;
                 self.reply(correlation_id, &body)?;
-                self.stage = Stage::Greets(true);
+                self.stage = Stage::Greets(greeting);
                 Ok(())
             }
             Reaction::Handshake(code) => {
@@ -517,6 +532,11 @@ impl Connection {
             Reaction::LogsIn(tenant) => {
                 let body = authenticate_body(alloc, ErrorCode::None, None)?;
                 self.reply(correlation_id, &body)?;
+                self.stage = Stage::Bound(tenant);
+                Ok(())
+            }
+            Reaction::LogsInBare(tenant) => {
+                self.output.extend_from_slice(&EMPTY_FRAME)?;
                 self.stage = Stage::Bound(tenant);
                 Ok(())
             }
@@ -553,16 +573,20 @@ impl Connection {
     }
 }
 
-/// What a greeting connection's request comes to, under its correlation id.
+/// What a greeting connection's frame comes to, under its correlation id: a bare message of PLAIN has none.
 fn greeting_reaction(
     alloc: Global,
     setup: &Setup,
-    handshaken: bool,
+    greeting: Greeting,
     frame: &[u8],
 ) -> Result<(i32, Reaction), AllocError>
-    ensures { let r = request frame.now in IfOk result (λ done. (s : Session) → reacted setup.now done.1 done.0 s ≡ greeted_by setup.now handshaken r.correlation_id r.asked s) }
+    ensures { IfOk result (λ done. (s : Session) → reacted setup.now done.1 done.0 s ≡ greeted_frame setup.now (greeting_of greeting) frame.now s) }
 {
-    let request = Request::read(alloc, frame)?;
+    if greeting == Greeting::Bare {
+        return Ok((0, Reaction::bare(setup, frame)));
+    }
+    let request = Request::read(alloc, setup.versions().as_slice(), frame)?;
+    let handshaken = greeting == Greeting::Shaken;
     Ok((
         request.correlation_id,
         Reaction::greeting(setup, handshaken, &request.asked),
@@ -570,10 +594,10 @@ fn greeting_reaction(
 }
 
 /// What a bound connection's request comes to that is no request of its tenant, under its correlation id.
-fn bound_reaction(alloc: Global, frame: &[u8]) -> Result<(i32, Reaction), AllocError>
-    ensures { let r = request frame.now in is_tenants r.asked ≡ false → IfOk result (λ done. (setup : Setup) (kept : Kept) (clock n : ℕ) (s : Session) → reacted setup done.1 done.0 s ≡ served_by setup kept clock n r.correlation_id r.asked s) }
+fn bound_reaction(alloc: Global, setup: &Setup, frame: &[u8]) -> Result<(i32, Reaction), AllocError>
+    ensures { let r = request setup.now.versions frame.now in is_tenants r.asked ≡ false → IfOk result (λ done. (kept : Kept) (clock n : ℕ) (s : Session) → reacted setup.now done.1 done.0 s ≡ served_by setup.now kept clock n r.correlation_id r.asked s) }
 {
-    let request = Request::read(alloc, frame)?;
+    let request = Request::read(alloc, setup.versions().as_slice(), frame)?;
     Ok((request.correlation_id, Reaction::bound(&request.asked)))
 }
 

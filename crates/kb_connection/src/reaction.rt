@@ -3,12 +3,13 @@
 ghost use Rattle.std.specs.Prelude.{◌≡◌, ℤ, ℕ, false};
 ghost use Rattle.kb_machine.specs.Session.{Session};
 ghost use Rattle.kb_service.specs.Hosted.{Kept};
-ghost use Rattle.kb_machine.specs.Greeting.{Setup, greeted_by};
+ghost use Rattle.kb_machine.specs.Greeting.{Setup, bare_login, greeted_by, login};
 ghost use Rattle.kb_machine.specs.Machine.{served_by};
 ghost use Rattle.kb_connection.specs.Fronts.{is_tenants};
 ghost use Rattle.kb_connection.specs.View.{asked_of};
 ghost use Rattle.kb_connection.specs.Reactions.{reacted};
 
+use crate::greeting::Greeting;
 use crate::request::Asked;
 use crate::setup::Setup;
 use kb_api_group::ErrorCode;
@@ -18,14 +19,16 @@ use kb_api_group::ErrorCode;
 pub enum Reaction {
     /// The versions are listed, under a code.
     Versions(ErrorCode),
-    /// The mechanism is accepted.
-    Accepts,
+    /// The mechanism is accepted, which leaves the greeting so far.
+    Accepts(Greeting),
     /// A handshake is answered with a code, and nothing changes.
     Handshake(ErrorCode),
     /// The SASL request came out of turn.
     IllegalState,
     /// The connection is bound to a tenant.
     LogsIn(usize),
+    /// The connection is bound to a tenant, and answered with a frame of no bytes.
+    LogsInBare(usize),
     /// The login is answered with a refusal, and the connection is shut.
     Denies,
     /// The connection is shut without a reply.
@@ -41,14 +44,26 @@ impl Reaction {
         match asked {
             Asked::Versions => Reaction::Versions(ErrorCode::None),
             Asked::OtherVersions => Reaction::Versions(ErrorCode::UnsupportedVersion),
-            Asked::Handshake(mechanism) if mechanism.as_str() == "PLAIN" => Reaction::Accepts,
-            Asked::Handshake(_) => Reaction::Handshake(ErrorCode::UnsupportedSaslMechanism),
+            Asked::Handshake { version, mechanism } if mechanism.as_str() == "PLAIN" => {
+                Reaction::Accepts(Greeting::after_handshake(*version))
+            }
+            Asked::Handshake { .. } => Reaction::Handshake(ErrorCode::UnsupportedSaslMechanism),
             Asked::Authenticate(_) if !handshaken => Reaction::IllegalState,
             Asked::Authenticate(message) => match setup.login(message.as_slice()) {
                 Some(tenant) => Reaction::LogsIn(tenant),
                 None => Reaction::Denies,
             },
             Asked::Another { .. } | Asked::Unread => Reaction::Shuts,
+        }
+    }
+
+    /// What a bare message of PLAIN comes to.
+    pub fn bare(setup: &Setup, message: &[u8]) -> Reaction
+        ensures { (id : ℤ) (s : Session) → reacted setup.now result id s ≡ bare_login (login setup.now.users message.now) s }
+    {
+        match setup.login(message) {
+            Some(tenant) => Reaction::LogsInBare(tenant),
+            None => Reaction::Shuts,
         }
     }
 
@@ -60,7 +75,7 @@ impl Reaction {
         match asked {
             Asked::Versions => Reaction::Versions(ErrorCode::None),
             Asked::OtherVersions => Reaction::Versions(ErrorCode::UnsupportedVersion),
-            Asked::Handshake(_) => Reaction::Handshake(ErrorCode::IllegalSaslState),
+            Asked::Handshake { .. } => Reaction::Handshake(ErrorCode::IllegalSaslState),
             Asked::Authenticate(_) => Reaction::IllegalState,
             Asked::Another { .. } | Asked::Unread => Reaction::Shuts,
         }

@@ -6,7 +6,8 @@ ghost use Rattle.kb_machine.specs.Requests.{request, asked_by, asked_behind, is_
 ghost use Rattle.kb_connection.specs.View.{asked_of, request_of, Reads};
 
 use kb_api_group::{
-    ApiVersionsRequest, RequestHeader, RequestStart, SaslAuthenticateRequest, SaslHandshakeRequest,
+    ApiVersion, ApiVersionsRequest, RequestHeader, RequestStart, SaslAuthenticateRequest,
+    SaslHandshakeRequest,
 };
 use kb_wire::{Blob, Layout, ReadFault, Text};
 use std::alloc::{AllocError, Global};
@@ -19,8 +20,11 @@ pub enum Asked<'a> {
     Versions,
     /// ApiVersions at another version.
     OtherVersions,
-    /// SaslHandshake: the mechanism.
-    Handshake(Text<'a>),
+    /// SaslHandshake: its version and the mechanism.
+    Handshake {
+        version: i16,
+        mechanism: Text<'a>,
+    },
     /// SaslAuthenticate: the mechanism's message.
     Authenticate(Blob<'a>),
     /// Something of a tenant.
@@ -47,10 +51,15 @@ const API_VERSIONS: i16 = 18;
 const SASL_AUTHENTICATE: i16 = 36;
 
 impl<'a> Request<'a> {
-    /// The request of a frame. ApiVersions of another version than 0 is known by its key and version alone.
+    /// The request of a frame, where those versions are listed. ApiVersions of another version than 0 is known by its key and
+    /// version alone.
     #[tactic(auto, unfolding(kb_machine::specs::Requests::request))]
-    pub fn read(alloc: Global, frame: &'a [u8]) -> Result<Request<'a>, AllocError>
-        ensures { IfOk result (λ r. request_of r ≡ request frame.now) }
+    pub fn read(
+        alloc: Global,
+        versions: &[ApiVersion],
+        frame: &'a [u8],
+    ) -> Result<Request<'a>, AllocError>
+        ensures { IfOk result (λ r. request_of r ≡ request versions.now frame.now) }
     {
         let Ok((start, _)) = RequestStart::read(frame) else {
             return Ok(Request {
@@ -61,7 +70,7 @@ impl<'a> Request<'a> {
         let asked = if start.api_key == API_VERSIONS && start.api_version != 0 {
             Asked::OtherVersions
         } else {
-            read_asked(alloc, frame)?
+            read_asked(alloc, versions, frame)?
         };
         Ok(Request {
             correlation_id: start.correlation_id,
@@ -71,13 +80,17 @@ impl<'a> Request<'a> {
 }
 
 /// What a frame asks by its header and the body behind it.
-fn read_asked(alloc: Global, frame: &[u8]) -> Result<Asked<'_>, AllocError>
-    ensures { IfOk result (λ a. asked_of a ≡ asked_behind (request_header.read frame.now)) }
+fn read_asked<'a>(
+    alloc: Global,
+    versions: &[ApiVersion],
+    frame: &'a [u8],
+) -> Result<Asked<'a>, AllocError>
+    ensures { IfOk result (λ a. asked_of a ≡ asked_behind versions.now (request_header.read frame.now)) }
 {
     let Ok((header, body)) = RequestHeader::read(frame) else {
         return Ok(Asked::Unread);
     };
-    if !is_served(header.api_key, header.api_version) {
+    if !is_served(versions, header.api_key, header.api_version) {
         return Ok(Asked::Unread);
     }
     match read_body(alloc, header.api_key, header.api_version, body) {
@@ -96,7 +109,10 @@ fn read_body(alloc: Global, key: i16, version: i16, body: &[u8]) -> Result<Asked
             ApiVersionsRequest::read(alloc, body)?;
             Asked::Versions
         }
-        SASL_HANDSHAKE => Asked::Handshake(SaslHandshakeRequest::read(alloc, body)?.mechanism),
+        SASL_HANDSHAKE => Asked::Handshake {
+            version,
+            mechanism: SaslHandshakeRequest::read(alloc, body)?.mechanism,
+        },
         SASL_AUTHENTICATE => {
             Asked::Authenticate(SaslAuthenticateRequest::read(alloc, body)?.auth_bytes)
         }
@@ -109,31 +125,12 @@ fn read_body(alloc: Global, key: i16, version: i16, body: &[u8]) -> Result<Asked
     Ok(asked)
 }
 
-/// The keys that are served, each with its version, by rising key.
-const SERVED: [(i16, i16); 17] = [
-    (0, 3),
-    (1, 4),
-    (2, 1),
-    (3, 1),
-    (8, 2),
-    (9, 1),
-    (10, 0),
-    (11, 1),
-    (12, 0),
-    (13, 0),
-    (14, 0),
-    (SASL_HANDSHAKE, 1),
-    (API_VERSIONS, 0),
-    (19, 0),
-    (20, 0),
-    (22, 0),
-    (SASL_AUTHENTICATE, 0),
-];
-
-/// Whether a key is served at a version.
+/// Whether a key is served at a version: where an entry of what is listed has it, from its least version to its greatest.
 #[tactic(auto, unfolding(kb_machine::specs::Requests::is_served))]
-fn is_served(key: i16, version: i16) -> bool
-    ensures { result ≡ is_served key version }
+fn is_served(versions: &[ApiVersion], key: i16, version: i16) -> bool
+    ensures { result ≡ is_served versions.now key version }
 {
-    SERVED.contains(&(key, version))
+    versions.iter().any(|entry| entry.api_key == key
+        && entry.min_version <= version
+        && version <= entry.max_version)
 }

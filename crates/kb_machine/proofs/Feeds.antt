@@ -9,7 +9,7 @@ use Rattle.kb_service.specs.Hosted as hosted
 use Rattle.kb_service.specs.Hosted.{TenantState, IsTurn}
 use Rattle.kb_tenant.specs.Replies.{Silent}
 use Rattle.kb_machine.specs.Tenant.{Wait, ready}
-use Rattle.kb_machine.specs.Session.{Stage, Greets, BoundTo, Session, fed, room, overruns, shut_down, without_wait, can}
+use Rattle.kb_machine.specs.Session.{Greeting, Stage, Greets, BoundTo, Session, fed, room, overruns, shut_down, without_wait, can}
 use Rattle.kb_machine.specs.Greeting.{Setup}
 use Rattle.kb_machine.specs.Machine.{Happening, Comes, Line, World, each, on, those, find_line, first_able, kept_fed, turns, stepped}
 use Rattle.kb_machine.specs.Owners.{Owns, Fits, whose, heard, destiny}
@@ -140,7 +140,7 @@ fed-kept b i l m piece ts s settled at n e is = subst (λ xs. IsFed l.number pie
         }
 
 -- a greeting connection's piece could not be kept
-pub fed-refused : (b : BrokerState) (i : ℕ) (l m : Line) (piece : List ℕ) (h : Bool) (x : ℕ) → IsSound b → first_able b.lines ≡ None → IsAt b.lines i l → l.session.stage ≡ Greets h → m.number ≡ l.number → m.session ≡ shut_down l.session → b.unbound_refusals ≤ x → (IsCalm b.unbound_refusals x → ⊥) →
+pub fed-refused : (b : BrokerState) (i : ℕ) (l m : Line) (piece : List ℕ) (h : Greeting) (x : ℕ) → IsSound b → first_able b.lines ≡ None → IsAt b.lines i l → l.session.stage ≡ Greets h → m.number ≡ l.number → m.session ≡ shut_down l.session → b.unbound_refusals ≤ x → (IsCalm b.unbound_refusals x → ⊥) →
     IsFed l.number piece b (changed b i m b.tenants x)
 fed-refused b i l m piece h x s settled at g n e up rises =
     let same : without_wait m.session.stage ≡ without_wait l.session.stage = ap (λ (x : Session). without_wait x.stage) e ∙ stage-shut l.session in

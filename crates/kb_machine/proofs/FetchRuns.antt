@@ -55,13 +55,13 @@ small-by : (setup : Setup) (kept : Kept) (clock n : ℕ) (a : Asked) → HasSmal
 unfolding kept_after
 small-by setup kept clock n Versions small = small
 small-by setup kept clock n OtherVersions small = small
-small-by setup kept clock n (Handshake mechanism) small = small
+small-by setup kept clock n (Handshake version mechanism) small = small
 small-by setup kept clock n (Authenticate message) small = small
 small-by setup kept clock n (Another key version body) small = served_small setup.node (world_at kept clock) kept.groups n key version body small
 small-by setup kept clock n Unread small = small
 
 small-at : (setup : Setup) (kept : Kept) (clock n : ℕ) (f : Front) → HasSmallLogs (world_at kept clock) → HasSmallLogs (world_at (kept_at setup kept clock n f) clock)
-small-at setup kept clock n (Whole frame rest) small = small-by setup kept clock n (request frame).asked small
+small-at setup kept clock n (Whole frame rest) small = small-by setup kept clock n (request setup.versions frame).asked small
 small-at setup kept clock n TooSmall small = small
 small-at setup kept clock n TooLarge small = small
 small-at setup kept clock n Partial small = small
@@ -71,7 +71,7 @@ unfolding put
 small-put setup kept clock n unread small = small-at setup kept clock n (front unread) small
 
 small-turn_at : (w : World) (n : ℕ) (unread : List ℕ) (stage : Stage) → IsSmall w → IsSmall (turn_at w n unread stage)
-small-turn_at w n unread (Greets handshaken) small = small
+small-turn_at w n unread (Greets greeting) small = small
 small-turn_at w n unread (BoundTo tenant wait) small = small-put w.setup w.kept w.clock n unread small
 
 small-turn_of : (w : World) (o : Option Line) → IsSmall w → IsSmall (turn_of w o)
@@ -120,7 +120,7 @@ all-wake : (w : World) → IsSmall w → AllWakeWithBatches w
 all-wake w small = each-line (λ (l : Line). WakesWithBatches w l.number l.session) (λ l. wakes w l.number l.session small) w.lines
 
 turn-gives : (w : World) (l : Line) (stage : Stage) → IsSmall w → TurnGivesBatches w l stage
-turn-gives w l (Greets handshaken) small = tt
+turn-gives w l (Greets greeting) small = tt
 turn-gives w l (BoundTo tenant wait) small = (serves w l.number l.session small, all-wake (after_request w l) (small-put w.setup w.kept w.clock l.number l.session.unread small))
 
 next-gives : (w : World) (o : Option Line) → IsSmall w → NextGivesBatches w o

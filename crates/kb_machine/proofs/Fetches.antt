@@ -35,11 +35,11 @@ answered_by setup kept clock n id version body s r small read (Plain Shuts) e = 
 answered_by setup kept clock n id version body s r small read Rebalances e = inr refl
 
 -- a fetch that takes its turn
-pub served-batches : (setup : Setup) (kept : Kept) (clock n : ℕ) (s : Session) (frame rest : List ℕ) (version : ℤ) (body : List ℕ) (r : FetchRequest) → HasSmallLogs (world_at kept clock) → front s.unread ≡ Whole frame rest → (request frame).asked ≡ Another (pos 1) version body → whole fetch_request body ≡ Ok r
-    → GetsBatches (world_at kept clock) r (request frame).correlation_id (record s { unread = rest }) (served setup kept clock n s)
+pub served-batches : (setup : Setup) (kept : Kept) (clock n : ℕ) (s : Session) (frame rest : List ℕ) (version : ℤ) (body : List ℕ) (r : FetchRequest) → HasSmallLogs (world_at kept clock) → front s.unread ≡ Whole frame rest → (request setup.versions frame).asked ≡ Another (pos 1) version body → whole fetch_request body ≡ Ok r
+    → GetsBatches (world_at kept clock) r (request setup.versions frame).correlation_id (record s { unread = rest }) (served setup kept clock n s)
 unfolding served served_by
 served-batches setup kept clock n s frame rest version body r small at asks read =
-    let id = (request frame).correlation_id in
+    let id = (request setup.versions frame).correlation_id in
     let from : Session = record s { unread = rest } in
     let is : served_at setup kept clock n s (front s.unread) ≡ answered (answer setup.node kept clock n (pos 1) version body) id version body from =
     ap (served_at setup kept clock n s) at ∙ ap (λ a. served_by setup kept clock n id a from) asks in

@@ -5,7 +5,7 @@ use Rattle.std.proofs.lemmas.Bool.Decides.{nat_tests}
 use Rattle.kb_wire.specs.Codec.{int}
 use Rattle.kb_api_group.specs.Frames.{front}
 use Rattle.kb_service.specs.Hosted.{Kept, passed}
-use Rattle.kb_machine.specs.Session.{Stage, Greets, BoundTo, Session, fresh, overruns, fed, can, is_turn}
+use Rattle.kb_machine.specs.Session.{Greeting, Stage, Greets, BoundTo, Session, fresh, overruns, fed, can, is_turn}
 use Rattle.kb_machine.specs.Greeting.{Setup, greeted}
 use Rattle.kb_machine.specs.Machine.{Happening, Opens, Comes, Closes, Moment, Line, World, Sent, woken_by, those, each, on, first_able, turn_at, turn, turns, again, kept_without, kept_closed, kept_fed, step, run, sent, by_number, find_line}
 use Rattle.kb_machine.specs.Owners.{greet_turn, greet_turn_at, heard, whose, destiny, unborn, fate_from, purge}
@@ -37,7 +37,7 @@ unbound : {P : Type 0} (t : ℕ) (s : Session) (w : Option _) → s.stage ≡ Bo
 unbound t s w e h = let k : Some t ≡ None = sym (ap whose e) ∙ h in absurd (cc)
 
 -- its turn is that of the greeting
-turn-lone_by : (w : World) (n : ℕ) (s : Session) (h b : Bool) → s.stage ≡ Greets h → can s ≡ b → turn (lone w n s) ≡ lone w n (greet_turn w.setup s)
+turn-lone_by : (w : World) (n : ℕ) (s : Session) (h : Greeting) (b : Bool) → s.stage ≡ Greets h → can s ≡ b → turn (lone w n s) ≡ lone w n (greet_turn w.setup s)
 unfolding greet_turn can
 turn-lone_by w n s h true e c =
     turn-some (lone w n s) (record { number = n; session = s }) (able-lone n s true c)

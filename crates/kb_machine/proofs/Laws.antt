@@ -11,8 +11,8 @@ use Rattle.kb_tenant.specs.Replies as tenant
 use Rattle.kb_tenant.specs.Replies.{Replies, Waits, Silent, Shuts}
 use Rattle.kb_service.specs.Replies.{Reaction, Plain, Rebalances}
 use Rattle.kb_machine.specs.Tenant.{answer, ready}
-use Rattle.kb_machine.specs.Session.{Stage, Greets, BoundTo, Session, replied, is_turn, can}
-use Rattle.kb_machine.specs.Greeting.{Setup, greeted_by, greeted_at, greeted, shaken, authenticated, logged_in, login}
+use Rattle.kb_machine.specs.Session.{Greeting, Unshaken, Shaken, Bare, Stage, Greets, BoundTo, Session, replied, is_turn, can}
+use Rattle.kb_machine.specs.Greeting.{Setup, greeted_by, greeted_frame, greeted_at, greeted, greeting_after, shaken, authenticated, logged_in, bare_login, login}
 use Rattle.kb_machine.specs.Machine.{Line, World, plainly, answered, served_by, served_at, served, put, told, woken_by, woken, each, on, those, first_able, turn_at, turn_of, turn, again, work, turns}
 
 -- 1. Lists of connections
@@ -77,11 +77,11 @@ pub greeted_by-le : (setup : Setup) (h : Bool) (id : ℤ) (a : Asked) (s : Sessi
 unfolding greeted_by
 greeted_by-le setup h id Versions s = replied-le id _ s
 greeted_by-le setup h id OtherVersions s = replied-le id _ s
-greeted_by-le setup h id (Handshake m) s = shaken-le _ id h s
+greeted_by-le setup h id (Handshake v m) s = shaken-le _ id v s
   where
-    shaken-le : (b : Bool) (id : ℤ) (h : Bool) (s : Session) → length (shaken b id h s).unread ≤ length s.unread
-    shaken-le true id h s = replied-le id _ (record s { stage = Greets true })
-    shaken-le false id h s = replied-le id _ s
+    shaken-le : (b : Bool) (id v : ℤ) (s : Session) → length (shaken b id v s).unread ≤ length s.unread
+    shaken-le true id v s = replied-le id _ (record s { stage = Greets (greeting_after v) })
+    shaken-le false id v s = replied-le id _ s
 greeted_by-le setup h id (Authenticate m) s = authenticated-le setup h id m s
   where
     logged_in-le : (o : Option ℕ) (id : ℤ) (s : Session) → length (logged_in o id s).unread ≤ length s.unread
@@ -108,15 +108,23 @@ pub served_by-le : (setup : Setup) (kept : Kept) (clock n : ℕ) (id : ℤ) (a :
 unfolding served_by
 served_by-le setup kept clock n id Versions s = replied-le id _ s
 served_by-le setup kept clock n id OtherVersions s = replied-le id _ s
-served_by-le setup kept clock n id (Handshake m) s = replied-le id _ s
+served_by-le setup kept clock n id (Handshake v m) s = replied-le id _ s
 served_by-le setup kept clock n id (Authenticate m) s = replied-le id _ s
 served_by-le setup kept clock n id (Another k v b) s = answered-le (answer setup.node kept clock n k v b) id v b s
 served_by-le setup kept clock n id Unread s = omega arith
 
-greeted_at-less : (setup : Setup) (h : Bool) (s : Session) (f : Front) → front s.unread ≡ f → is_turn f ≡ true → length (greeted_at setup h s f).unread < length s.unread
+bare_login-le : (o : Option ℕ) (s : Session) → length (bare_login o s).unread ≤ length s.unread
+bare_login-le (Some t) s = omega arith
+bare_login-le None s = omega arith
+
+greeted_frame-le : (setup : Setup) (h : Greeting) (frame : List ℕ) (s : Session) → length (greeted_frame setup h frame s).unread ≤ length s.unread
+greeted_frame-le setup Unshaken frame s = let r = request setup.versions frame in greeted_by-le setup false r.correlation_id r.asked s
+greeted_frame-le setup Shaken frame s = let r = request setup.versions frame in greeted_by-le setup true r.correlation_id r.asked s
+greeted_frame-le setup Bare frame s = bare_login-le (login setup.users frame) s
+
+greeted_at-less : (setup : Setup) (h : Greeting) (s : Session) (f : Front) → front s.unread ≡ f → is_turn f ≡ true → length (greeted_at setup h s f).unread < length s.unread
 greeted_at-less setup h s (Whole frame rest) e t =
-    let r = request frame in
-    let le = greeted_by-le setup h r.correlation_id r.asked (record s { unread = rest }) in
+    let le = greeted_frame-le setup h frame (record s { unread = rest }) in
     let lt = front-rest s.unread frame rest e in
     omega arith
 greeted_at-less setup h s TooSmall e t = some-left s.unread (ap is_turn e)
@@ -124,24 +132,24 @@ greeted_at-less setup h s TooLarge e t = some-left s.unread (ap is_turn e)
 greeted_at-less setup h s Partial e t = cc
 
 -- a greeting connection's turn takes bytes
-pub greeted-less : (setup : Setup) (h : Bool) (s : Session) → is_turn (front s.unread) ≡ true → length (greeted setup h s).unread < length s.unread
+pub greeted-less : (setup : Setup) (h : Greeting) (s : Session) → is_turn (front s.unread) ≡ true → length (greeted setup h s).unread < length s.unread
 unfolding greeted
 greeted-less setup h s t = greeted_at-less setup h s (front s.unread) refl t
 
-greeted_at-still : (setup : Setup) (h : Bool) (s : Session) (f : Front) → is_turn f ≡ false → greeted_at setup h s f ≡ s
+greeted_at-still : (setup : Setup) (h : Greeting) (s : Session) (f : Front) → is_turn f ≡ false → greeted_at setup h s f ≡ s
 greeted_at-still setup h s (Whole frame rest) t = cc
 greeted_at-still setup h s TooSmall t = cc
 greeted_at-still setup h s TooLarge t = cc
 greeted_at-still setup h s Partial t = refl
 
 -- or changes nothing
-pub greeted-still : (setup : Setup) (h : Bool) (s : Session) → is_turn (front s.unread) ≡ false → greeted setup h s ≡ s
+pub greeted-still : (setup : Setup) (h : Greeting) (s : Session) → is_turn (front s.unread) ≡ false → greeted setup h s ≡ s
 unfolding greeted
 greeted-still setup h s t = greeted_at-still setup h s (front s.unread) t
 
 served_at-less : (setup : Setup) (kept : Kept) (clock n : ℕ) (s : Session) (f : Front) → front s.unread ≡ f → is_turn f ≡ true → length (served_at setup kept clock n s f).unread < length s.unread
 served_at-less setup kept clock n s (Whole frame rest) e t =
-    let r = request frame in
+    let r = request setup.versions frame in
     let le = served_by-le setup kept clock n r.correlation_id r.asked (record s { unread = rest }) in
     let lt = front-rest s.unread frame rest e in
     omega arith
@@ -177,7 +185,7 @@ le_by : (b : Bool) (x y : Session) → (b ≡ true → length x.unread < length 
 le_by true x y p q = let lt = p refl in omega arith
 le_by false x y p q = let e = ap (λ (s : Session). length s.unread) (q refl) in omega arith
 
-pub greeted-takes : (setup : Setup) (h : Bool) → Takes (greeted setup h)
+pub greeted-takes : (setup : Setup) (h : Greeting) → Takes (greeted setup h)
 greeted-takes setup h = record {
   le = λ s. le_by (is_turn (front s.unread)) (greeted setup h s) s (greeted-less setup h s) (greeted-still setup h s);
   less = λ s c. greeted-less setup h s (can-turn s c);

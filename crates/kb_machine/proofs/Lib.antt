@@ -9,6 +9,7 @@ pub mod FetchRuns
 pub mod Fetches
 pub mod Greetings
 pub mod Isolation
+pub mod Alone
 pub mod Quiet
 pub mod Ranges
 pub mod Runs
@@ -18,3 +19,4 @@ pub mod Taken
 pub mod Turns
 pub mod Wakes
 pub mod Pinned
+pub mod Moments

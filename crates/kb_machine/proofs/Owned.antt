@@ -49,7 +49,7 @@ owned-mine t es b r = record {
     own t None = tt
     own t (Some u) = refl
 
-run-lower : (low last : ℕ) (es : List Happening) → low ≤ last → IsRun last es → IsRun low es
+pub run-lower : (low last : ℕ) (es : List Happening) → low ≤ last → IsRun last es → IsRun low es
 run-lower low last [] h r = tt
 run-lower low last (Opens n ∷ es) h r = (let lt = r.0 in omega arith, r.1)
 run-lower low last (Comes n piece ∷ es) h r = run-lower low last es h r

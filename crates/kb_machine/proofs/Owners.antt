@@ -10,7 +10,7 @@ use Rattle.kb_tenant.specs.Replies as tenant
 use Rattle.kb_tenant.specs.Replies.{Replies, Waits, Silent, Shuts, framed, reply_size}
 use Rattle.kb_service.specs.Replies.{Reaction, Plain, Rebalances}
 use Rattle.kb_machine.specs.Tenant.{Wait, Records, Group, answer}
-use Rattle.kb_machine.specs.Session.{Stage, Greets, BoundTo, Session, fed, shut_down, without_wait, waiting, can, is_turn, room, replied}
+use Rattle.kb_machine.specs.Session.{Greeting, Stage, Greets, BoundTo, Session, fed, shut_down, without_wait, waiting, can, is_turn, room, replied}
 use Rattle.kb_machine.specs.Greeting.{Setup, greeted}
 use Rattle.kb_machine.specs.Machine.{Happening, Opens, Comes, Closes, Moment, Line, World, plainly, answered, served_by, served_at, served, put, each, on, those, first_able, all_woken, turn_at, turn, turns, again}
 use Rattle.kb_machine.specs.Owners.{greet_turn, greet_turn_at, heard, destiny, whose, Fits, Owns, Pairwise}
@@ -19,7 +19,7 @@ use Rattle.kb_machine.proofs.Laws.{those-each, first-those, turn-some, turns-tur
 -- 1. The greeting, as far as the bytes go
 
 -- a greeting turn takes bytes, or changes nothing
-step_at : (setup : Setup) (s : Session) (h : Bool) (b : Bool) → s.stage ≡ Greets h → is_turn (front s.unread) ≡ b → (greet_turn setup s ≡ s) ⊎ (length (greet_turn setup s).unread < length s.unread)
+step_at : (setup : Setup) (s : Session) (h : Greeting) (b : Bool) → s.stage ≡ Greets h → is_turn (front s.unread) ≡ b → (greet_turn setup s ≡ s) ⊎ (length (greet_turn setup s).unread < length s.unread)
 unfolding greet_turn
 step_at setup s h true e f =
     let lt = greeted-less setup h s f in
@@ -59,7 +59,7 @@ pub heard-bound : (setup : Setup) (s : Session) (u : ℕ) (w : Option Wait) → 
 unfolding heard greet_turn
 heard-bound setup s u w e = still setup (length s.unread) s (ap (greet_turn_at setup s) e)
 
-pub greeted-turn : (setup : Setup) (h : Bool) (s : Session) → s.stage ≡ Greets h → greeted setup h s ≡ greet_turn setup s
+pub greeted-turn : (setup : Setup) (h : Greeting) (s : Session) → s.stage ≡ Greets h → greeted setup h s ≡ greet_turn setup s
 unfolding greet_turn
 greeted-turn setup h s e = sym (ap (greet_turn_at setup s) e)
 
@@ -133,7 +133,7 @@ stage-served_by : (setup : Setup) (kept : Kept) (clock n : ℕ) (id : ℤ) (a : 
 unfolding served_by
 stage-served_by setup kept clock n id Versions s = stage-replied id _ s
 stage-served_by setup kept clock n id OtherVersions s = stage-replied id _ s
-stage-served_by setup kept clock n id (Handshake m) s = stage-replied id _ s
+stage-served_by setup kept clock n id (Handshake v m) s = stage-replied id _ s
 stage-served_by setup kept clock n id (Authenticate m) s = stage-replied id _ s
 stage-served_by setup kept clock n id (Another k v b) s = stage-answered (answer setup.node kept clock n k v b) id v b s
 stage-served_by setup kept clock n id Unread s = stage-shut s
@@ -144,7 +144,7 @@ unfolding served
 stage-served setup kept clock n s = by (front s.unread)
   where
     by : (f : Front) → without_wait (served_at setup kept clock n s f).stage ≡ without_wait s.stage
-    by (Whole frame rest) = stage-served_by setup kept clock n (request frame).correlation_id (request frame).asked (record s { unread = rest })
+    by (Whole frame rest) = stage-served_by setup kept clock n (request setup.versions frame).correlation_id (request setup.versions frame).asked (record s { unread = rest })
     by TooSmall = stage-shut s
     by TooLarge = stage-shut s
     by Partial = refl
@@ -180,7 +180,7 @@ pub record SameFate (setup : Setup) (l m : Line) : Type 0 where
 pub fate-same : (setup : Setup) (l : Line) → SameFate setup l l
 fate-same setup l = record { number = refl; fate = λ es. refl }
 
-pub fate-greeted : (setup : Setup) (h : Bool) (l m : Line) → l.session.stage ≡ Greets h → m.number ≡ l.number → m.session ≡ greeted setup h l.session → SameFate setup l m
+pub fate-greeted : (setup : Setup) (h : Greeting) (l m : Line) → l.session.stage ≡ Greets h → m.number ≡ l.number → m.session ≡ greeted setup h l.session → SameFate setup l m
 fate-greeted setup h l m e n g = record { number = n; fate = λ es. ap (λ x. destiny setup l.number x es) (ap (heard setup) (g ∙ greeted-turn setup h l.session e) ∙ heard-turn setup l.session) }
 
 -- whether a connection is one of those, if these events are to come
@@ -213,7 +213,7 @@ those-on_other mine n f (l ∷ ls) h = let rest = those-on_other mine n f ls h i
 -- 6. The steps of the whole broker, cut down to a tenant
 
 -- a greeting turn is the machine's turn, or nothing
-pub view-greeting : (mine : ℕ → Bool) (w : World) (all : List Line) (l : Line) (h b : Bool) → mine l.number ≡ b → first_able all ≡ Some l → l.session.stage ≡ Greets h → w.lines ≡ those mine all →
+pub view-greeting : (mine : ℕ → Bool) (w : World) (all : List Line) (l : Line) (h : Greeting) (b : Bool) → mine l.number ≡ b → first_able all ≡ Some l → l.session.stage ≡ Greets h → w.lines ≡ those mine all →
     turns (record w { lines = those mine (each (on l.number (greeted w.setup h)) all) }) ≡ turns w
 view-greeting mine w all l h false m f g e = ap (λ ls. turns (record w { lines = ls })) (those-on_other mine l.number (greeted w.setup h) all m ∙ sym e)
 view-greeting mine w all l h true m f g e =

@@ -2,11 +2,12 @@
 use Rattle.std.proofs.Common.{◌≡◌, ◌∙◌, ◌≤◌, ℕ, ℤ, zero, suc, List, ◌++◌, length, Bool, true, false, cond, nat_lt, Option, Some, None, refl, sym, ap, arith}
 use Rattle.std.proofs.lemmas.Bool.Decides.{nat_tests}
 use Rattle.std.proofs.lemmas.List.{length-append}
-use Rattle.kb_machine.specs.Session.{Stage, Greets, BoundTo, Session, LIMIT, room, without_wait, shut_down, fed, has_member, overruns}
+use Rattle.kb_api_group.specs.Frames.{Whole, front}
+use Rattle.kb_machine.specs.Session.{Stage, Bare, Greets, BoundTo, Session, LIMIT, room, without_wait, shut_down, fed, has_member, overruns}
 use Rattle.kb_machine.specs.Requests.{Another, Authenticate}
 use Rattle.kb_coordinator.specs.Calls as groups
 use Rattle.kb_service.specs.Hosted.{Kept, left}
-use Rattle.kb_machine.specs.Greeting.{Setup, greeted_by, logged_in, login}
+use Rattle.kb_machine.specs.Greeting.{Setup, greeted, greeted_by, greeted_at, logged_in, bare_login, login}
 use Rattle.kb_machine.specs.Machine.{World, Closes, Line, find_line, first_able, turn, turns, again, work, served, kept_without, kept_closed, kept_fed, step}
 use Rattle.kb_machine.specs.Owners.{whose}
 use Rattle.kb_machine.proofs.Laws.{work-turn, again-none}
@@ -33,6 +34,10 @@ pub denied-shuts : (setup : Setup) (id : ℤ) (message : List ℕ) (s : Session)
 unfolding greeted_by
 denied-shuts setup id message s e = ap (λ (o : Option ℕ). (logged_in o id s).shut) e
 
+pub bare-shuts : (setup : Setup) (frame rest : List ℕ) (s : Session) → front s.unread ≡ Whole frame rest → login setup.users frame ≡ None → greeted setup Bare s ≡ shut_down s
+unfolding greeted
+bare-shuts setup frame rest s at e = ap (greeted_at setup Bare s) at ∙ ap (λ (o : Option ℕ). bare_login o (record s { unread = rest })) e
+
 whose-without_wait : (st : Stage) → whose (without_wait st) ≡ whose st
 whose-without_wait (Greets h) = refl
 whose-without_wait (BoundTo t w) = refl
@@ -44,6 +49,10 @@ settled_by : (n : ℕ) (w : World) (o : Option Line) → first_able w.lines ≡ 
 settled_by n w None h p = ap (λ (v : World). first_able v.lines) (again-none n w h) ∙ h
 settled_by zero w (Some l) h p = absurd (omega (arith, work-turn w l h))
 settled_by (suc n) w (Some l) h p = let lt = work-turn w l h in settled_by n (turn w) (first_able (turn w).lines) refl (omega (arith, lt, p))
+
+-- so many turns as there are unread bytes, or more
+pub again-settled : (n : ℕ) (w : World) → work w.lines ≤ n → first_able (again turn n w).lines ≡ None
+again-settled n w enough = settled_by n w (first_able w.lines) refl enough
 
 pub turns-settled : (w : World) → first_able (turns w).lines ≡ None
 unfolding turns

@@ -177,7 +177,7 @@ by-idle : (setup : Setup) (kept : Kept) (clock n : ℕ) (id : ℤ) (a : Asked) (
 unfolding served_by ready kept_after answer
 by-idle setup kept clock n id Versions s free none = free-idle clock kept n _ (free-replied id _ s free)
 by-idle setup kept clock n id OtherVersions s free none = free-idle clock kept n _ (free-replied id _ s free)
-by-idle setup kept clock n id (Handshake mechanism) s free none = free-idle clock kept n _ (free-replied id _ s free)
+by-idle setup kept clock n id (Handshake version mechanism) s free none = free-idle clock kept n _ (free-replied id _ s free)
 by-idle setup kept clock n id (Authenticate message) s free none = free-idle clock kept n _ (free-replied id _ s free)
 by-idle setup kept clock n id (Another key version body) s free none =
     answered-idle clock (kept_after setup.node kept clock n key version body) n (answer setup.node kept clock n key version body) id version body s free none
@@ -185,7 +185,7 @@ by-idle setup kept clock n id (Another key version body) s free none =
 by-idle setup kept clock n id Unread s free none = free-idle clock kept n _ (free-without s.stage)
 
 at-idle : (setup : Setup) (kept : Kept) (clock n : ℕ) (s : Session) (f : Front) → is_free s.stage ≡ true → has_released (kept_at setup kept clock n f).groups ≡ false → IsIdle clock (kept_at setup kept clock n f) n (served_at setup kept clock n s f).stage
-at-idle setup kept clock n s (Whole frame rest) free none = let r = requests.request frame in by-idle setup kept clock n r.correlation_id r.asked (record s { unread = rest }) free none
+at-idle setup kept clock n s (Whole frame rest) free none = let r = requests.request setup.versions frame in by-idle setup kept clock n r.correlation_id r.asked (record s { unread = rest }) free none
 at-idle setup kept clock n s TooSmall free none = free-idle clock kept n _ (free-without s.stage)
 at-idle setup kept clock n s TooLarge free none = free-idle clock kept n _ (free-without s.stage)
 at-idle setup kept clock n s Partial free none = free-idle clock kept n s.stage free

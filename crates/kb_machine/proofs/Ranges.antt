@@ -8,8 +8,8 @@ use Rattle.kb_api_group.specs.declared.plain.PlainLogin.{PlainLogin}
 use Rattle.kb_api_group.specs.Frames.{Front, Whole, Partial, TooSmall, TooLarge, front}
 use Rattle.kb_tenant.specs.Replies.{framed, reply_size}
 use Rattle.kb_machine.specs.Requests.{Asked, Versions, OtherVersions, Handshake, Authenticate, Another, Unread, request}
-use Rattle.kb_machine.specs.Session.{Stage, Greets, BoundTo, Session, shut_down, replied, without_wait, fed}
-use Rattle.kb_machine.specs.Greeting.{Setup, User, greeted_by, greeted_at, greeted, shaken, authenticated, logged_in, login, tenant_of, tenant_at}
+use Rattle.kb_machine.specs.Session.{Greeting, Unshaken, Shaken, Bare, Stage, Greets, BoundTo, Session, shut_down, replied, without_wait, fed}
+use Rattle.kb_machine.specs.Greeting.{Setup, User, greeted_by, greeted_frame, greeted_at, greeted, greeting_after, shaken, authenticated, logged_in, bare_login, login, tenant_of, tenant_at}
 use Rattle.kb_machine.specs.Owners.{greet_turn, greet_turn_at, heard}
 use Rattle.kb_machine.specs.Machine.{again}
 use Rattle.kb_machine.specs.Broker.{InRange}
@@ -60,10 +60,10 @@ range-by : (n : ℕ) (setup : Setup) (h : Bool) (id : ℤ) (a : Asked) (s : Sess
 unfolding greeted_by
 range-by n setup h id Versions s us r = range-replied n id _ s r
 range-by n setup h id OtherVersions s us r = range-replied n id _ s r
-range-by n setup h id (Handshake m) s us r = by (bytes_eq m _)
+range-by n setup h id (Handshake v m) s us r = by (bytes_eq m _)
   where
-    by : (b : Bool) → InRange n (shaken b id h s).stage
-    by true = range-replied n id _ (record s { stage = Greets true }) tt
+    by : (b : Bool) → InRange n (shaken b id v s).stage
+    by true = range-replied n id _ (record s { stage = Greets (greeting_after v) }) tt
     by false = range-replied n id _ s r
 range-by n setup h id (Authenticate m) s us r = by h
   where
@@ -77,13 +77,22 @@ range-by n setup h id (Authenticate m) s us r = by h
 range-by n setup h id (Another k v b) s us r = range-without n s.stage r
 range-by n setup h id Unread s us r = range-without n s.stage r
 
+range-bare : (n : ℕ) (o : Option ℕ) (s : Session) → IsBelow n o → InRange n s.stage → InRange n (bare_login o s).stage
+range-bare n (Some t) s b r = b
+range-bare n None s b r = range-without n s.stage r
+
+range-frame : (n : ℕ) (setup : Setup) (h : Greeting) (frame : List ℕ) (s : Session) → AreUsers n setup.users → InRange n s.stage → InRange n (greeted_frame setup h frame s).stage
+range-frame n setup Unshaken frame s us r = let q = request setup.versions frame in range-by n setup false q.correlation_id q.asked s us r
+range-frame n setup Shaken frame s us r = let q = request setup.versions frame in range-by n setup true q.correlation_id q.asked s us r
+range-frame n setup Bare frame s us r = range-bare n (login setup.users frame) s (below-login n setup.users frame us) r
+
 -- the greeting binds to a tenant of the broker
-pub range-greeted : (n : ℕ) (setup : Setup) (h : Bool) (s : Session) → AreUsers n setup.users → InRange n s.stage → InRange n (greeted setup h s).stage
+pub range-greeted : (n : ℕ) (setup : Setup) (h : Greeting) (s : Session) → AreUsers n setup.users → InRange n s.stage → InRange n (greeted setup h s).stage
 unfolding greeted
 range-greeted n setup h s us r = by (front s.unread)
   where
     by : (f : Front) → InRange n (greeted_at setup h s f).stage
-    by (Whole frame rest) = range-by n setup h (request frame).correlation_id (request frame).asked (record s { unread = rest }) us r
+    by (Whole frame rest) = range-frame n setup h frame (record s { unread = rest }) us r
     by TooSmall = range-without n s.stage r
     by TooLarge = range-without n s.stage r
     by Partial = r

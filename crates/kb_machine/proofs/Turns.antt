@@ -11,8 +11,8 @@ use Rattle.kb_service.specs.Hosted as hosted
 use Rattle.kb_service.specs.Hosted.{TenantState, IsTurn}
 use Rattle.kb_tenant.specs.Replies.{Silent}
 use Rattle.kb_machine.specs.Tenant.{Wait, ready}
-use Rattle.kb_machine.specs.Session.{Stage, Session, Greets, BoundTo, shut_down, replied, without_wait, is_free, can}
-use Rattle.kb_machine.specs.Greeting.{Setup, login, logged_in, shaken, greeted_by, greeted_at, greeted}
+use Rattle.kb_machine.specs.Session.{Greeting, Unshaken, Shaken, Bare, Stage, Session, Greets, BoundTo, shut_down, replied, without_wait, is_free, can}
+use Rattle.kb_machine.specs.Greeting.{Setup, login, logged_in, bare_login, greeting_after, shaken, greeted_by, greeted_frame, greeted_at, greeted}
 use Rattle.kb_machine.specs.Machine.{Happening, Line, served, put, each, on, those, first_able, all_woken, turns, find_line}
 use Rattle.kb_machine.specs.Owners.{Owns, whose}
 use Rattle.kb_machine.specs.Broker.{BrokerState, IsSound, IsUnready, AreUnready, AnyWait, Grows, InRange, Mine, view_of, kept_of, refusals_of, bound_to, bound_as}
@@ -107,22 +107,31 @@ free-greeted_by : (setup : Setup) (h : Bool) (id : ℤ) (a : Asked) (s : Session
 unfolding greeted_by
 free-greeted_by setup h id Versions s free = free-replied id _ s free
 free-greeted_by setup h id OtherVersions s free = free-replied id _ s free
-free-greeted_by setup h id (Handshake mechanism) s free = by (bytes_eq mechanism (codes "PLAIN"))
+free-greeted_by setup h id (Handshake version mechanism) s free = by (bytes_eq mechanism (codes "PLAIN"))
   where
-    by : (b : Bool) → is_free (shaken b id h s).stage ≡ true
-    by true = free-replied id _ (record s { stage = Greets true }) refl
+    by : (b : Bool) → is_free (shaken b id version s).stage ≡ true
+    by true = free-replied id _ (record s { stage = Greets (greeting_after version) }) refl
     by false = free-replied id _ s free
 free-greeted_by setup true id (Authenticate message) s free = free-logged_in (login setup.users message) id s free
 free-greeted_by setup false id (Authenticate message) s free = free-replied id _ s free
 free-greeted_by setup h id (Another key version body) s free = free-without s.stage
 free-greeted_by setup h id Unread s free = free-without s.stage
 
-pub free-greeted : (setup : Setup) (h : Bool) (s : Session) → is_free s.stage ≡ true → is_free (greeted setup h s).stage ≡ true
+free-bare_login : (o : Option ℕ) (s : Session) → is_free s.stage ≡ true → is_free (bare_login o s).stage ≡ true
+free-bare_login (Some t) s free = refl
+free-bare_login None s free = free-without s.stage
+
+free-greeted_frame : (setup : Setup) (h : Greeting) (frame : List ℕ) (s : Session) → is_free s.stage ≡ true → is_free (greeted_frame setup h frame s).stage ≡ true
+free-greeted_frame setup Unshaken frame s free = let r = request setup.versions frame in free-greeted_by setup false r.correlation_id r.asked s free
+free-greeted_frame setup Shaken frame s free = let r = request setup.versions frame in free-greeted_by setup true r.correlation_id r.asked s free
+free-greeted_frame setup Bare frame s free = free-bare_login (login setup.users frame) s free
+
+pub free-greeted : (setup : Setup) (h : Greeting) (s : Session) → is_free s.stage ≡ true → is_free (greeted setup h s).stage ≡ true
 unfolding greeted
 free-greeted setup h s free = by (front s.unread)
   where
     by : (f : Front) → is_free (greeted_at setup h s f).stage ≡ true
-    by (Whole frame rest) = free-greeted_by setup h (request frame).correlation_id (request frame).asked (record s { unread = rest }) free
+    by (Whole frame rest) = free-greeted_frame setup h frame (record s { unread = rest }) free
     by TooSmall = free-without s.stage
     by TooLarge = free-without s.stage
     by Partial = free
@@ -257,23 +266,23 @@ counted-unbound Everybody b i l m x s at (inr h) none = let no : Some h.0 ≡ No
 
 -- 5. One turn
 
-greeting-stays : (l m : Line) (h : Bool) → l.session.stage ≡ Greets h → (t : ℕ) → whose l.session.stage ≡ Some t → whose m.session.stage ≡ Some t
+greeting-stays : (l m : Line) (h : Greeting) → l.session.stage ≡ Greets h → (t : ℕ) → whose l.session.stage ≡ Some t → whose m.session.stage ≡ Some t
 greeting-stays l m h g t f = let none : None ≡ Some t = sym (ap whose g) ∙ f in absurd (cc)
 
 -- a greeting connection takes a turn
-pub greeting-going : (b : BrokerState) (i : ℕ) (l m : Line) (h : Bool) → IsSound b → IsAt b.lines i l → l.session.stage ≡ Greets h → m.number ≡ l.number → m.session ≡ greeted b.setup h l.session → IsGoing b (changed b i m b.tenants b.unbound_refusals)
+pub greeting-going : (b : BrokerState) (i : ℕ) (l m : Line) (h : Greeting) → IsSound b → IsAt b.lines i l → l.session.stage ≡ Greets h → m.number ≡ l.number → m.session ≡ greeted b.setup h l.session → IsGoing b (changed b i m b.tenants b.unbound_refusals)
 greeting-going b i l m h s at g n e =
     let in_range = subst (λ x. InRange (length b.tenants) x.stage) (sym e) (range-greeted (length b.tenants) b.setup h l.session s.users (all-at _ b.lines i l at s.in_range)) in
     changed-going b i l m b.tenants b.unbound_refusals s at n refl in_range (record { setup = refl; names = refl; own = λ t. omega arith; unbound = omega arith }) (greeting-stays l m h g)
 
 -- and is shut, with a count, where its turn was refused
-pub refused-going : (b : BrokerState) (i : ℕ) (l m : Line) (h : Bool) (x : ℕ) → IsSound b → IsAt b.lines i l → l.session.stage ≡ Greets h → m.number ≡ l.number → m.session ≡ shut_down l.session → b.unbound_refusals ≤ x → IsGoing b (changed b i m b.tenants x)
+pub refused-going : (b : BrokerState) (i : ℕ) (l m : Line) (h : Greeting) (x : ℕ) → IsSound b → IsAt b.lines i l → l.session.stage ≡ Greets h → m.number ≡ l.number → m.session ≡ shut_down l.session → b.unbound_refusals ≤ x → IsGoing b (changed b i m b.tenants x)
 refused-going b i l m h x s at g n e up =
     let in_range = subst (λ y. InRange (length b.tenants) y.stage) (sym e) (range-without (length b.tenants) l.session.stage (all-at _ b.lines i l at s.in_range)) in
     changed-going b i l m b.tenants x s at n refl in_range (record { setup = refl; names = refl; own = λ t. omega arith; unbound = up }) (greeting-stays l m h g)
 
 -- the turn of a greeting connection
-pub turned-greeting : (scope : Scope) (b : BrokerState) (i : ℕ) (l m : Line) (h : Bool) → IsSound b → AreStill scope b → IsAt b.lines i l → first_able b.lines ≡ Some l → can l.session ≡ true →
+pub turned-greeting : (scope : Scope) (b : BrokerState) (i : ℕ) (l m : Line) (h : Greeting) → IsSound b → AreStill scope b → IsAt b.lines i l → first_able b.lines ≡ Some l → can l.session ≡ true →
     l.session.stage ≡ Greets h → m.number ≡ l.number → m.session ≡ greeted b.setup h l.session → Turned scope b (changed b i m b.tenants b.unbound_refusals)
 turned-greeting scope b i l m h s still at able c g n e =
     let none : whose l.session.stage ≡ None = ap whose g in
@@ -293,7 +302,7 @@ turned-greeting scope b i l m h s still at able c g n e =
     }
 
 -- a greeting connection whose reply or request could not be kept is shut, with a count
-pub refused-greeting : (scope : Scope) (b : BrokerState) (i : ℕ) (l m : Line) (h : Bool) (x : ℕ) → IsSound b → AreStill scope b → IsAt b.lines i l → can l.session ≡ true →
+pub refused-greeting : (scope : Scope) (b : BrokerState) (i : ℕ) (l m : Line) (h : Greeting) (x : ℕ) → IsSound b → AreStill scope b → IsAt b.lines i l → can l.session ≡ true →
     l.session.stage ≡ Greets h → m.number ≡ l.number → m.session ≡ shut_down l.session → b.unbound_refusals ≤ x → (IsCalm b.unbound_refusals x → ⊥) → Turned scope b (changed b i m b.tenants x)
 refused-greeting scope b i l m h x s still at c g n e up rises =
     let none : whose l.session.stage ≡ None = ap whose g in

@@ -87,7 +87,7 @@ IsCounted (Moment now) old new = new.unbound_refusals ≡ old.unbound_refusals
 -- 3. What holds between the events
 
 abbrev pub InRange : ℕ → Stage → Type 0
-InRange tenants (Greets handshaken) = ⊤
+InRange tenants (Greets greeting) = ⊤
 InRange tenants (BoundTo tenant wait) = tenant < tenants
 
 -- the numbers rise from above the first to at most the last
@@ -104,7 +104,7 @@ pub record IsSound (b : BrokerState) : Type 0 where
 
 -- on the connection of number n, at that stage, nothing waits that is ready, among the waits of a tenant that pass
 abbrev pub IsUnready : (ℕ → Wait → Type 0) → BrokerState → ℕ → Stage → Type 0
-IsUnready P b n (Greets handshaken) = ⊤
+IsUnready P b n (Greets greeting) = ⊤
 IsUnready P b n (BoundTo tenant None) = ⊤
 IsUnready P b n (BoundTo tenant (Some wait)) = P tenant wait → ready (kept_of b tenant) b.clock n wait ≡ Silent
 

@@ -22,7 +22,7 @@ abbrev pub other_than : ℕ → ℕ → Bool
 other_than n k = not (k == n)
 
 abbrev pub left_by : ℕ → ℕ → Stage → List TenantState → List TenantState
-left_by clock n (Greets handshaken) ts = ts
+left_by clock n (Greets greeting) ts = ts
 left_by clock n (BoundTo t wait) ts = if has_member (BoundTo t wait) then with_kept t (left clock n (kept_of ts t)) ts else ts
 
 -- the tenants once the connection of number n is gone: a member that waited on it waits no longer

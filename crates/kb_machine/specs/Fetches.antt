@@ -22,8 +22,8 @@ GetsBatches world fetch id old new = ((reply : List ℕ) × HoldsBatches world f
 -- where a fetch stands in front of a connection, of number n, that takes its turn, the connection gets such batches
 abbrev pub ServesBatches : World → ℕ → Session → Type 0
 ServesBatches w n s = (frame rest : List ℕ) (version : ℤ) (body : List ℕ) (fetch : FetchRequest)
-    → front s.unread ≡ Whole frame rest → (request frame).asked ≡ Another (pos 1) version body → whole fetch_request body ≡ Ok fetch
-    → GetsBatches (world_at w.kept w.clock) fetch (request frame).correlation_id (record s { unread = rest }) (served w.setup w.kept w.clock n s)
+    → front s.unread ≡ Whole frame rest → (request w.setup.versions frame).asked ≡ Another (pos 1) version body → whole fetch_request body ≡ Ok fetch
+    → GetsBatches (world_at w.kept w.clock) fetch (request w.setup.versions frame).correlation_id (record s { unread = rest }) (served w.setup w.kept w.clock n s)
 
 -- where a fetch waits on a connection, of number n, that is looked at, the connection gets such batches
 abbrev pub WakesWithBatches : World → ℕ → Session → Type 0
@@ -43,7 +43,7 @@ after_request w l = record w { kept = put w.setup w.kept w.clock l.number l.sess
 
 -- a turn: its own connection, and then those that wait
 abbrev pub TurnGivesBatches : World → Line → Stage → Type 0
-TurnGivesBatches w l (Greets handshaken) = ⊤
+TurnGivesBatches w l (Greets greeting) = ⊤
 TurnGivesBatches w l (BoundTo tenant wait) = ServesBatches w l.number l.session × AllWakeWithBatches (after_request w l)
 
 abbrev pub NextGivesBatches : World → Option Line → Type 0

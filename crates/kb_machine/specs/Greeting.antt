@@ -1,5 +1,6 @@
 -- The requests that need no tenant: ApiVersions, and the SASL greeting (Kafka protocol guide, "SASL Authentication Sequence"; RFC 4616).
-use Rattle.std.specs.Prelude.{ℕ, ℤ, List, [], ◌∷◌, Bool, true, false, ◌&&◌, if◌then◌else◌, Option, Some, None, codes}
+use Rattle.std.specs.Prelude.{ℕ, ℤ, pos, List, [], ◌∷◌, ◌++◌, Bool, true, false, ◌&&◌, if◌then◌else◌, Option, Some, None, codes}
+use Rattle.std.specs.Ordering.{int_eq}
 use Rattle.std.specs.Str.{bytes_eq}
 use Rattle.kb_api_group.specs.Plain.{plain}
 use Rattle.kb_api_group.specs.Frames.{Front, Whole, Partial, TooSmall, TooLarge, front}
@@ -11,7 +12,7 @@ use Rattle.kb_api_group.specs.declared.plain.PlainLogin.{PlainLogin}
 use Rattle.kb_api_group.specs.declared.api_versions.ApiVersion.{ApiVersion}
 use Rattle.kb_tenant.specs.declared.node.Node.{Node}
 use Rattle.kb_machine.specs.Requests.{Asked, Versions, OtherVersions, Handshake, Authenticate, Another, Unread, request}
-use Rattle.kb_machine.specs.Session.{Greets, BoundTo, Session, shut_down, replied}
+use Rattle.kb_machine.specs.Session.{Greeting, Unshaken, Shaken, Bare, Greets, BoundTo, Session, shut_down, replied}
 
 -- a user: the name and password of its login, and its tenant
 pub record User : Type 0 where
@@ -56,6 +57,10 @@ authenticate_reply code text = sasl_authenticate_reply.written (record { error_c
 abbrev pub illegal_state : List ℕ
 illegal_state = authenticate_reply errors.IllegalSaslState (Some (codes "illegal SASL state"))
 
+-- to a bare message of PLAIN that is right: a frame of no bytes, which is a size of 0
+abbrev pub empty_frame : List ℕ
+empty_frame = 0 ∷ 0 ∷ 0 ∷ 0 ∷ []
+
 -- 2. Before authentication
 
 -- a login that names a user with its password binds the connection, any other shuts it after the reply
@@ -63,30 +68,45 @@ abbrev pub logged_in : Option ℕ → ℤ → Session → Session
 logged_in (Some tenant) id s = replied id (authenticate_reply errors.None None) (record s { stage = BoundTo tenant None })
 logged_in None id s = shut_down (replied id (authenticate_reply errors.SaslAuthenticationFailed (Some (codes "authentication failed"))) s)
 
+-- how far the greeting is after a handshake of that version which accepted PLAIN
+abbrev pub greeting_after : ℤ → Greeting
+greeting_after version = if int_eq version (pos 0) then Bare else Shaken
+
 -- the mechanism PLAIN is accepted, another changes nothing
-abbrev pub shaken : Bool → ℤ → Bool → Session → Session
-shaken true id handshaken s = replied id (handshake_reply errors.None) (record s { stage = Greets true })
-shaken false id handshaken s = replied id (handshake_reply errors.UnsupportedSaslMechanism) s
+abbrev pub shaken : Bool → ℤ → ℤ → Session → Session
+shaken true id version s = replied id (handshake_reply errors.None) (record s { stage = Greets (greeting_after version) })
+shaken false id version s = replied id (handshake_reply errors.UnsupportedSaslMechanism) s
 
 abbrev pub authenticated : Setup → Bool → ℤ → List ℕ → Session → Session
 authenticated setup true id message s = logged_in (login setup.users message) id s
 authenticated setup false id message s = replied id illegal_state s
 
--- what a request of a greeting connection does to it; s is the connection without the request
+-- a bare message that names a user with its password binds the connection, any other shuts it without a reply
+abbrev pub bare_login : Option ℕ → Session → Session
+bare_login (Some tenant) s = record s { stage = BoundTo tenant None; output = s.output ++ empty_frame }
+bare_login None s = shut_down s
+
+-- what a request of a greeting connection does to it, where a mechanism was accepted or not; s is the connection without the request
 unfoldable pub greeted_by : Setup → Bool → ℤ → Asked → Session → Session
 greeted_by setup handshaken id Versions s = replied id (versions_reply setup.versions errors.None) s
 greeted_by setup handshaken id OtherVersions s = replied id (versions_reply setup.versions errors.UnsupportedVersion) s
-greeted_by setup handshaken id (Handshake mechanism) s = shaken (bytes_eq mechanism (codes "PLAIN")) id handshaken s
+greeted_by setup handshaken id (Handshake version mechanism) s = shaken (bytes_eq mechanism (codes "PLAIN")) id version s
 greeted_by setup handshaken id (Authenticate message) s = authenticated setup handshaken id message s
 greeted_by setup handshaken id (Another key version body) s = shut_down s
 greeted_by setup handshaken id Unread s = shut_down s
 
-abbrev pub greeted_at : Setup → Bool → Session → Front → Session
-greeted_at setup handshaken s (Whole frame rest) = let r = request frame in greeted_by setup handshaken r.correlation_id r.asked (record s { unread = rest })
-greeted_at setup handshaken s TooSmall = shut_down s
-greeted_at setup handshaken s TooLarge = shut_down s
-greeted_at setup handshaken s Partial = s
+-- what a whole frame does to it: it is a request, or PLAIN's message itself; s is the connection without the frame
+abbrev pub greeted_frame : Setup → Greeting → List ℕ → Session → Session
+greeted_frame setup Unshaken frame s = let r = request setup.versions frame in greeted_by setup false r.correlation_id r.asked s
+greeted_frame setup Shaken frame s = let r = request setup.versions frame in greeted_by setup true r.correlation_id r.asked s
+greeted_frame setup Bare frame s = bare_login (login setup.users frame) s
+
+abbrev pub greeted_at : Setup → Greeting → Session → Front → Session
+greeted_at setup greeting s (Whole frame rest) = greeted_frame setup greeting frame (record s { unread = rest })
+greeted_at setup greeting s TooSmall = shut_down s
+greeted_at setup greeting s TooLarge = shut_down s
+greeted_at setup greeting s Partial = s
 
 -- the turn of a greeting connection
-unfoldable pub greeted : Setup → Bool → Session → Session
-greeted setup handshaken s = greeted_at setup handshaken s (front s.unread)
+unfoldable pub greeted : Setup → Greeting → Session → Session
+greeted setup greeting s = greeted_at setup greeting s (front s.unread)

@@ -9,5 +9,6 @@ pub mod Turned
 pub mod Calls
 pub mod Told
 pub mod Isolation
+pub mod Alone
 pub mod Greetings
 pub mod Fetches

@@ -48,13 +48,13 @@ answered Rebalances id version body s = record s { stage = waiting (record { cor
 unfoldable pub served_by : Setup → Kept → ℕ → ℕ → ℤ → Asked → Session → Session
 served_by setup kept clock n id Versions s = replied id (versions_reply setup.versions errors.None) s
 served_by setup kept clock n id OtherVersions s = replied id (versions_reply setup.versions errors.UnsupportedVersion) s
-served_by setup kept clock n id (Handshake mechanism) s = replied id (handshake_reply errors.IllegalSaslState) s
+served_by setup kept clock n id (Handshake version mechanism) s = replied id (handshake_reply errors.IllegalSaslState) s
 served_by setup kept clock n id (Authenticate message) s = replied id illegal_state s
 served_by setup kept clock n id (Another key version body) s = answered (answer setup.node kept clock n key version body) id version body s
 served_by setup kept clock n id Unread s = shut_down s
 
 abbrev pub served_at : Setup → Kept → ℕ → ℕ → Session → Front → Session
-served_at setup kept clock n s (Whole frame rest) = let r = request frame in served_by setup kept clock n r.correlation_id r.asked (record s { unread = rest })
+served_at setup kept clock n s (Whole frame rest) = let r = request setup.versions frame in served_by setup kept clock n r.correlation_id r.asked (record s { unread = rest })
 served_at setup kept clock n s TooSmall = shut_down s
 served_at setup kept clock n s TooLarge = shut_down s
 served_at setup kept clock n s Partial = s
@@ -66,13 +66,13 @@ served setup kept clock n s = served_at setup kept clock n s (front s.unread)
 abbrev pub kept_by : Setup → Kept → ℕ → ℕ → Asked → Kept
 kept_by setup kept clock n Versions = kept
 kept_by setup kept clock n OtherVersions = kept
-kept_by setup kept clock n (Handshake mechanism) = kept
+kept_by setup kept clock n (Handshake version mechanism) = kept
 kept_by setup kept clock n (Authenticate message) = kept
 kept_by setup kept clock n (Another key version body) = kept_after setup.node kept clock n key version body
 kept_by setup kept clock n Unread = kept
 
 abbrev pub kept_at : Setup → Kept → ℕ → ℕ → Front → Kept
-kept_at setup kept clock n (Whole frame rest) = kept_by setup kept clock n (request frame).asked
+kept_at setup kept clock n (Whole frame rest) = kept_by setup kept clock n (request setup.versions frame).asked
 kept_at setup kept clock n TooSmall = kept
 kept_at setup kept clock n TooLarge = kept
 kept_at setup kept clock n Partial = kept
@@ -91,7 +91,7 @@ told Silent id s = s
 told Shuts id s = shut_down s
 
 unfoldable pub woken_by : Kept → ℕ → ℕ → Session → Stage → Session
-woken_by kept clock n s (Greets handshaken) = s
+woken_by kept clock n s (Greets greeting) = s
 woken_by kept clock n s (BoundTo tenant None) = s
 woken_by kept clock n s (BoundTo tenant (Some wait)) = told (ready kept clock n wait) wait.correlation_id s
 
@@ -116,7 +116,7 @@ abbrev pub find_line : ℕ → List Line → Option Session
 find_line n [] = None
 find_line n (l ∷ ls) = if l.number == n then Some l.session else find_line n ls
 
--- the least-numbered connection that can take a turn
+-- the first connection that can take a turn: the least-numbered, since the numbers of a list rise
 abbrev pub first_able : List Line → Option Line
 first_able [] = None
 first_able (l ∷ ls) = if can l.session then Some l else first_able ls
@@ -129,7 +129,7 @@ all_woken w = record w { lines = each (λ k s. woken w.kept w.clock k s) w.lines
 
 -- a bound connection's request: what is kept changes, then all waits that became ready are answered
 abbrev pub turn_at : World → ℕ → List ℕ → Stage → World
-turn_at w n unread (Greets handshaken) = record w { lines = each (on n (greeted w.setup handshaken)) w.lines }
+turn_at w n unread (Greets greeting) = record w { lines = each (on n (greeted w.setup greeting)) w.lines }
 turn_at w n unread (BoundTo tenant wait) = all_woken (record w { kept = put w.setup w.kept w.clock n unread; lines = each (on n (served w.setup w.kept w.clock n)) w.lines })
 
 abbrev pub turn_of : World → Option Line → World

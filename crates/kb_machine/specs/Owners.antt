@@ -9,7 +9,7 @@ use Rattle.kb_machine.specs.Machine.{Happening, Opens, Comes, Closes, Moment, Li
 
 -- a greeting connection's next request; a bound one stays
 abbrev pub greet_turn_at : Setup → Session → Stage → Session
-greet_turn_at setup s (Greets handshaken) = greeted setup handshaken s
+greet_turn_at setup s (Greets greeting) = greeted setup greeting s
 greet_turn_at setup s (BoundTo tenant wait) = s
 
 unfoldable pub greet_turn : Setup → Session → Session
@@ -21,7 +21,7 @@ heard setup s = again (greet_turn setup) (length s.unread) s
 
 -- the tenant that a connection is bound to
 abbrev pub whose : Stage → Option ℕ
-whose (Greets handshaken) = None
+whose (Greets greeting) = None
 whose (BoundTo tenant wait) = Some tenant
 
 -- the tenant that a connection's own pieces bind it to, those that come while it is open, or none

@@ -4,9 +4,16 @@ use Rattle.kb_api_group.specs.Frames.{Front, Whole, Partial, TooSmall, TooLarge,
 use Rattle.kb_tenant.specs.Replies.{framed, reply_size}
 use Rattle.kb_machine.specs.Tenant.{Wait, is_members}
 
--- whether a connection still greets, and then whether a mechanism was accepted, or the tenant that it is bound to and its waiting request
+-- how far a greeting is: no mechanism was accepted; PLAIN was, and its message comes in a request of SaslAuthenticate; or PLAIN was,
+-- and its message comes bare, as the next frame
+pub data Greeting : Type 0 where
+  Unshaken : Greeting
+  Shaken : Greeting
+  Bare : Greeting
+
+-- whether a connection still greets, and then how far it is, or the tenant that it is bound to and its waiting request
 pub data Stage : Type 0 where
-  Greets : (handshaken : Bool) → Stage
+  Greets : (greeting : Greeting) → Stage
   BoundTo : (tenant : ℕ) (wait : Option Wait) → Stage
 
 -- what a connection has, but for its number: unread bytes, untaken output, and whether the broker shut it
@@ -17,15 +24,15 @@ pub record Session : Type 0 where
   pub shut : Bool
 
 abbrev pub fresh : Session
-fresh = record { stage = Greets false; unread = []; output = []; shut = false }
+fresh = record { stage = Greets Unshaken; unread = []; output = []; shut = false }
 
 abbrev pub without_wait : Stage → Stage
-without_wait (Greets handshaken) = Greets handshaken
+without_wait (Greets greeting) = Greets greeting
 without_wait (BoundTo tenant wait) = BoundTo tenant None
 
 -- it waits for the answer to a request
 abbrev pub waiting : Wait → Stage → Stage
-waiting wait (Greets handshaken) = Greets handshaken
+waiting wait (Greets greeting) = Greets greeting
 waiting wait (BoundTo tenant earlier) = BoundTo tenant (Some wait)
 
 -- the broker shuts it: unread bytes and wait are dropped, untaken output stays
@@ -54,12 +61,12 @@ replied correlation_id body s = if nat_lt 2147483647 (reply_size body) then shut
 
 -- whether a member of a group waits on it
 abbrev pub has_member : Stage → Bool
-has_member (Greets handshaken) = false
+has_member (Greets greeting) = false
 has_member (BoundTo tenant None) = false
 has_member (BoundTo tenant (Some wait)) = is_members wait.awaited
 
 abbrev pub is_free : Stage → Bool
-is_free (Greets handshaken) = true
+is_free (Greets greeting) = true
 is_free (BoundTo tenant None) = true
 is_free (BoundTo tenant (Some wait)) = false
 

@@ -1,22 +1,26 @@
 //! Laws about the definitions, each as the contract of a function with an empty body.
-ghost use Rattle.std.specs.Prelude.{◌≡◌, ◌≤◌, ◌++◌, ◌∷◌, ℕ, ℤ, List, [], Bool, true, false, length, pos, Ok, Some, None};
-ghost use Rattle.kb_machine.specs.Session.{Session, Stage, BoundTo, LIMIT, fed, has_member, overruns, shut_down, without_wait};
+ghost use Rattle.std.specs.Prelude.{◌≡◌, ◌↔◌, ◌≤◌, ◌++◌, ◌∷◌, ℕ, ℤ, List, [], Bool, true, false, length, max, pos, Ok, Option, Some, None};
+ghost use Rattle.std.specs.List.{Contains};
+ghost use Rattle.kb_machine.specs.Session.{Session, Stage, Bare, BoundTo, LIMIT, fed, has_member, overruns, replied, shut_down, without_wait};
 ghost use Rattle.kb_wire.specs.Codec.{whole};
 ghost use Rattle.kb_api_group.specs.Frames.{Whole, front};
-ghost use Rattle.kb_api_data.specs.Layouts.{fetch_request};
+ghost use Rattle.kb_api_data.specs.Layouts.{fetch_reply, fetch_request};
 ghost use Rattle.kb_api_data.specs.declared.fetch.FetchRequest.{FetchRequest};
 ghost use Rattle.kb_machine.specs.Requests.{Another, Authenticate, request};
-ghost use Rattle.kb_machine.specs.Tenant.{Records};
-ghost use Rattle.kb_machine.specs.Fetches.{FetchesGetBatches, GetsBatches};
+ghost use Rattle.kb_machine.specs.Tenant.{Records, Wait, ready};
+ghost use Rattle.kb_machine.specs.Fetches.{AllTurnsGiveBatches, AllWakeWithBatches, EventGivesBatches, FetchesGetBatches, GetsBatches, NextGivesBatches, ServesBatches, after_request};
 ghost use Rattle.kb_tenant.specs.Batches.{HasSmallLogs};
+ghost use Rattle.kb_tenant.specs.Fetch.{fetched};
+ghost use Rattle.kb_tenant.specs.Replies.{Replies};
 ghost use Rattle.kb_coordinator.specs.Calls.{left};
-ghost use Rattle.kb_service.specs.Hosted.{Kept, world_at};
-ghost use Rattle.kb_machine.specs.Greeting.{Setup, greeted_by, login};
-ghost use Rattle.kb_machine.specs.Machine.{World, Line, Happening, Closes, Sent, first_able, turns, those, those_sent, find_line, served, kept_fed, step, stepped, leaving, run, by_number, woken};
+ghost use Rattle.kb_service.specs.Hosted.{Kept, passed, world_at};
+ghost use Rattle.kb_machine.specs.Greeting.{Setup, greeted, greeted_by, login};
+ghost use Rattle.kb_machine.specs.Machine.{World, Line, Happening, Opens, Comes, Closes, Moment, Sent, again, all_woken, each, on, first_able, turn, turns, work, those, those_sent, find_line, served, kept_fed, step, stepped, leaving, run, by_number, woken};
 ghost use Rattle.kb_machine.specs.Owners.{whose, concerns, purge};
 ghost use Rattle.kb_machine.specs.Broker.{BrokerState, IsCalmFor, IsReady, IsRun, IsUnowned, Mine, Rising, alone_unowned, owned_by, view_of};
 ghost use Rattle.kb_machine.specs.Greetings.{greeted_alone};
-ghost use Rattle.kb_machine.specs.Isolation.{IsIsolated, StartsAlike, AreAlike, own_sent, last_world, LeavesWorlds};
+ghost use Rattle.kb_machine.specs.Isolation.{IsIsolated, StartsAlike, AreAlike, own_events, own_sent, last_world, LeavesWorlds};
+ghost use Rattle.kb_machine.specs.Alone.{HasToItself};
 ghost use Rattle.kb_machine.specs.Told.{quieted};
 
 /// Isolation, as a tenant sees it: two runs in which its own events and the moments are the same, in the same order, give its
@@ -28,6 +32,38 @@ pub fn others_change_nothing()
         → IsIsolated es a after_a got → IsIsolated fs b after_b others → AreAlike t es fs a after_a b after_b
         → own_sent t fs b others ≡ own_sent t es a got }
     ensures unused { (t : ℕ) (es fs : List Happening) (b : BrokerState) → b.lines ≡ [] → StartsAlike t es fs b b }
+{}
+
+/// A tenant gets on a broker that it shares what it gets on one that it has to itself: given the tenant's own events and the moments
+/// alone, that broker writes the same bytes to the tenant's connections, and shuts the same of them. It has the same settings, and
+/// begins with what the tenant has on the shared one, as a broker does that is newly opened. On neither anything is refused to the
+/// tenant or to a connection that is not bound.
+pub fn alone_is_the_same()
+    ensures same { (t : ℕ) (es : List Happening) (shared after own own_after : BrokerState) (got own_got : List Sent)
+        → IsIsolated es shared after got → IsIsolated (own_events t es shared) own own_after own_got → HasToItself t es shared own
+        → IsCalmFor t shared after → IsCalmFor t own own_after
+        → own_sent t (own_events t es shared) own own_got ≡ own_sent t es shared got }
+    ensures owners { (t n : ℕ) (es : List Happening) (shared own : BrokerState) → HasToItself t es shared own
+        → owned_by t (own_events t es shared) own n ≡ owned_by t es shared n }
+    ensures alike { (t : ℕ) (es : List Happening) (shared after own own_after : BrokerState) → HasToItself t es shared own
+        → IsCalmFor t shared after → IsCalmFor t own own_after → AreAlike t es (own_events t es shared) shared after own own_after }
+    ensures unused { (t : ℕ) (es : List Happening) (b : BrokerState) → b.lines ≡ [] → HasToItself t es b b }
+{}
+
+/// Which connections and events are a tenant's depends on no event of others: where the tenant's own events and the moments are all
+/// that comes, the same connections are its own, and so all these events are. They are a run where all events are one.
+pub fn own_events_stay_own()
+    ensures owners { (t n : ℕ) (es : List Happening) (b : BrokerState) → owned_by t (own_events t es b) b n ≡ owned_by t es b n }
+    ensures events { (t : ℕ) (es : List Happening) (b : BrokerState) → own_events t (own_events t es b) b ≡ own_events t es b }
+    ensures in_order { (t last : ℕ) (es : List Happening) (b : BrokerState) → IsRun last es → IsRun last (own_events t es b) }
+{}
+
+/// Among a tenant's own events is none of a connection that is not its own.
+pub fn own_events_are_of_own_connections()
+    ensures opens { (t n : ℕ) (es : List Happening) (b : BrokerState) → Contains (own_events t es b) (Opens n) → owned_by t es b n ≡ true }
+    ensures comes { (t n : ℕ) (piece : List ℕ) (es : List Happening) (b : BrokerState)
+        → Contains (own_events t es b) (Comes n piece) → owned_by t es b n ≡ true }
+    ensures closes { (t n : ℕ) (es : List Happening) (b : BrokerState) → Contains (own_events t es b) (Closes n) → owned_by t es b n ≡ true }
 {}
 
 /// A run after a run goes on, for a tenant to which nothing is refused in either, where the first left its machine: the output
@@ -51,8 +87,8 @@ pub fn strangers_are_greeted()
 pub fn fetches_get_whole_batches()
     ensures at_once { (setup : Setup) (kept : Kept) (clock n : ℕ) (s : Session) (frame rest : List ℕ) (version : ℤ) (body : List ℕ) (fetch : FetchRequest)
         → HasSmallLogs (world_at kept clock) → front s.unread ≡ Whole frame rest
-        → (request frame).asked ≡ Another (pos 1) version body → whole fetch_request body ≡ Ok fetch
-        → GetsBatches (world_at kept clock) fetch (request frame).correlation_id (record s { unread = rest }) (served setup kept clock n s) }
+        → (request setup.versions frame).asked ≡ Another (pos 1) version body → whole fetch_request body ≡ Ok fetch
+        → GetsBatches (world_at kept clock) fetch (request setup.versions frame).correlation_id (record s { unread = rest }) (served setup kept clock n s) }
     ensures after_a_wait { (kept : Kept) (clock n tenant : ℕ) (s : Session) (id version : ℤ) (body : List ℕ) (deadline : ℕ) (fetch : FetchRequest)
         → HasSmallLogs (world_at kept clock) → s.stage ≡ BoundTo tenant (Some (record { correlation_id = id; awaited = Records version body deadline }))
         → whole fetch_request body ≡ Ok fetch
@@ -65,6 +101,38 @@ pub fn fetches_get_whole_batches()
 pub fn fetches_get_batches_in_runs()
     ensures run { (es : List Happening) (w : World) → HasSmallLogs (world_at w.kept w.clock) → FetchesGetBatches es w }
     ensures later { (es : List Happening) (w : World) → HasSmallLogs (world_at w.kept w.clock) → HasSmallLogs (world_at (last_world es w).kept (last_world es w).clock) }
+{}
+
+/// What is said of the fetches of an event is said of the very worlds through which the machine's step goes: those of each of its
+/// turns, from the world after the piece or the moment on; and in a turn of a bound connection that after its request, whose waits
+/// are looked at.
+pub fn batches_are_of_each_turn()
+    ensures piece { (n : ℕ) (piece : List ℕ) (w : World)
+        → let fed_world : World = record w { kept = kept_fed piece w.clock n (find_line n w.lines) w.kept; lines = each (on n (fed piece)) w.lines } in
+        (step (Comes n piece) w ≡ turns fed_world) × (EventGivesBatches (Comes n piece) w ↔ AllTurnsGiveBatches fed_world) }
+    ensures moment { (now : ℕ) (w : World)
+        → let passed_world : World = record w { kept = passed (max w.clock now) w.kept; clock = max w.clock now } in
+        (step (Moment now) w ≡ turns (all_woken passed_world))
+        × (EventGivesBatches (Moment now) w ↔ (AllWakeWithBatches passed_world × AllTurnsGiveBatches (all_woken passed_world))) }
+    ensures turns { (w : World) → (turns w ≡ again turn (work w.lines) w)
+        × (AllTurnsGiveBatches w ↔ ((count : ℕ) → NextGivesBatches (again turn count w) (first_able (again turn count w).lines))) }
+    ensures request { (w : World) (l : Line) (tenant : ℕ) (wait : Option Wait)
+        → first_able w.lines ≡ Some l → l.session.stage ≡ BoundTo tenant wait → (turn w ≡ all_woken (after_request w l))
+        × (NextGivesBatches w (first_able w.lines) ↔ (ServesBatches w l.number l.session × AllWakeWithBatches (after_request w l))) }
+{}
+
+/// A fetch that waits is answered at its deadline, whatever is kept: with what there then is of the partitions that it asks for. The
+/// reply ends its wait.
+pub fn fetches_end_at_their_deadline()
+    ensures ready { (kept : Kept) (clock n : ℕ) (id version : ℤ) (body : List ℕ) (deadline : ℕ) (fetch : FetchRequest)
+        → whole fetch_request body ≡ Ok fetch → deadline ≤ clock
+        → ready kept clock n (record { correlation_id = id; awaited = Records version body deadline })
+        ≡ Replies (fetch_reply.written (fetched (world_at kept clock) fetch).1) }
+    ensures answered { (kept : Kept) (clock n tenant : ℕ) (s : Session) (id version : ℤ) (body : List ℕ) (deadline : ℕ) (fetch : FetchRequest)
+        → s.stage ≡ BoundTo tenant (Some (record { correlation_id = id; awaited = Records version body deadline }))
+        → whole fetch_request body ≡ Ok fetch → deadline ≤ clock
+        → woken kept clock n s
+        ≡ replied id (fetch_reply.written (fetched (world_at kept clock) fetch).1) (record s { stage = without_wait s.stage }) }
 {}
 
 /// A connection never has more unread bytes than its limit, and one that was shut takes no piece.
@@ -83,12 +151,15 @@ pub fn members_wait_no_longer()
     ensures others { (n : ℕ) (s : Session) (w : World) → find_line n w.lines ≡ Some s → has_member s.stage ≡ false → (step (Closes n) w).kept ≡ w.kept }
 {}
 
-/// Before authentication a request of a tenant shuts the connection; a login that names no user with its password shuts it.
+/// Before authentication a request of a tenant shuts the connection; a login that names no user with its password shuts it. After a
+/// handshake of version 0 the next frame is the login whatever it says, a request too, and a wrong one shuts it without a reply.
 pub fn nothing_before_login()
     ensures request { (setup : Setup) (handshaken : Bool) (id key version : ℤ) (body : List ℕ) (s : Session)
         → greeted_by setup handshaken id (Another key version body) s ≡ shut_down s }
     ensures denied { (setup : Setup) (id : ℤ) (message : List ℕ) (s : Session) → login setup.users message ≡ None
         → (greeted_by setup true id (Authenticate message) s).shut ≡ true }
+    ensures bare { (setup : Setup) (frame rest : List ℕ) (s : Session) → front s.unread ≡ Whole frame rest → login setup.users frame ≡ None
+        → greeted setup Bare s ≡ shut_down s }
 {}
 
 /// A connection stays its tenant's for good, whatever it asks.

@@ -3,14 +3,13 @@ use Rattle.std.proofs.Common.{◌≡◌, ℕ, List, [], map, sym, ap, subst, ◌
 use Rattle.std.proofs.lemmas.Simd.{map-map}
 use Rattle.kb_service.specs.Hosted.{new_tenant}
 use Rattle.kb_tenant.specs.declared.node.Node.{Node}
-use Rattle.kb_machine.specs.Requests.{served_versions}
 use Rattle.kb_machine.specs.Greeting.{User as Login}
 use Rattle.kb_machine.specs.Broker.{BrokerState}
 use Rattle.kb_settings.specs.declared.settings.User.{User}
 use Rattle.kb_settings.specs.declared.settings.Settings.{Settings}
 use Rattle.kb_settings.specs.Names.{in_order, place_of}
 use Rattle.kb_settings.specs.Values.{Account, Values, account_of, values_of, standard}
-use Rattle.kb_broker.specs.Opening.{tenants_of, login_of, opening}
+use Rattle.kb_broker.specs.Opening.{served_versions, tenants_of, login_of, opening}
 use Rattle.kb_node.specs.Node.{standard_broker}
 
 abbrev names_of : List Account → List (List ℕ)

@@ -2,9 +2,9 @@
 use Rattle.std.specs.Prelude.{◌≡◌, ◌⊎◌, ℕ, List, [], ◌∷◌, codes, Option, Result, Err}
 use Rattle.std.specs.Io.KnownBytes.{Keeps}
 use Rattle.kb_service.specs.Hosted.{new_tenant}
-use Rattle.kb_machine.specs.Requests.{served_versions}
 use Rattle.kb_machine.specs.Broker.{BrokerState}
 use Rattle.kb_broker.specs.declared.script.ScriptFault.{ScriptFault}
+use Rattle.kb_broker.specs.Opening.{served_versions}
 use Rattle.kb_broker.specs.Script.{Script, script}
 use Rattle.kb_broker.specs.ScriptRun.{IsPlayed, IsEnded}
 use Rattle.kb_node.specs.declared.fault.NodeFault.{NodeFault}

@@ -326,6 +326,14 @@ module _ {L S : Type 0} (log : L → Log) (disk : S → Disk) (law : (l : L) →
         accounted_rises (hosted log disk old) (hosted log disk (after old t x p gs old.shelf)) (disk old.shelf.store).failures
         (length_named (hosted log disk old) (hosted log disk (after old t x p gs old.shelf)) turn_counted.names) turn_counted.grows
 
+    -- the topics and the logs stay
+    pub topics_counted : let k = kept_of (hosted log disk old) t in let l = kept_of (hosted log disk (after old t x p gs old.shelf)) t in (l.known ≡ k.known) × (l.logs ≡ k.logs)
+    topics_counted =
+        let files = (disk old.shelf.store).files in
+        let was = kept_here log files old.tenants.items t x (found old.tenants.items t x (within (state_of log files) old.tenants.items t lt) read) in
+        let is = kept_now log disk law old t x p gs old.shelf lt read kept counted_own ∙ ap (λ (v : Parts L). kept_in (world_of log v files) gs) counted in
+        (ap (λ (k : Kept). k.known) is ∙ sym (ap (λ (k : Kept). k.known) was), ap (λ (k : Kept). k.logs) is ∙ sym (ap (λ (k : Kept). k.logs) was))
+
     -- a moment of the groups, where none was refused memory
     pub met_counted : (clock m : ℕ) → n ≡ min (x.parts.refusals + m) END → (m ≡ 0 → gs ≡ groups.passed clock x.groups)
         → IsMet t (disk old.shelf.store).honest (hosted log disk old) (hosted log disk (after old t x p gs old.shelf)) (λ k l. l ≡ regrouped clock k)

@@ -1,5 +1,6 @@
 pub mod Accounted
 pub mod Added
+pub mod Answered
 pub mod Clock
 pub mod Hosted
 pub mod Idle

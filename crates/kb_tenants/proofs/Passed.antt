@@ -83,8 +83,3 @@ passed_over clock i H ps qs le done = record {
       done.rest honest u above ∙ sym (past_passed ps u clock (omega (arith, le, above))))
       (below_or_not u i);
 }
-
--- nothing was due in either of two turns
-pub neither : (a b : Bool) → (a || b) ≡ false → (a ≡ false) × (b ≡ false)
-neither true b e = absurd cc
-neither false b e = (refl, e)

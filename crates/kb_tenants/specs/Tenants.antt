@@ -1,12 +1,16 @@
 -- All tenants of a broker on one shelf.
-use Rattle.std.specs.Prelude.{◌≡◌, ◌≤ℤ◌, ℕ, ℤ, pos, List, Some, map, slice_get, string_bytes}
+use Rattle.std.specs.Prelude.{◌≡◌, ◌≤ℤ◌, ℕ, ℤ, pos, List, Some, map, slice_get, string_bytes, Contains}
 use Rattle.kb_store.specs.Disk.{Disk, Table, Files}
 use Rattle.kb_log.specs.OnShelf.{Log}
 use Rattle.kb_coordinator.specs.Calls as groups
+use Rattle.kb_coordinator.specs.Groups.{Groups}
+use Rattle.kb_groups.specs.declared.reply.Release.{Release}
 use Rattle.kb_world.specs.Calls.{retain_all}
 use Rattle.kb_world.specs.Parts.{IsSound, Agrees, Owns, world_of}
 use Rattle.kb_world.specs.declared.parts.Parts.{Parts}
 use Rattle.kb_service.specs.Hosted.{Kept, TenantState, kept_in, kept_of, passed, world_at}
+use Rattle.kb_service.specs.Replies.{told_to}
+use Rattle.kb_tenant.specs.Replies.{Silent}
 use Rattle.kb_tenants.specs.declared.tenants.Tenant.{Tenant}
 use Rattle.kb_tenants.specs.declared.tenants.Tenants.{Tenants}
 
@@ -34,6 +38,25 @@ is_honest disk ts = (disk ts.shelf.store).honest
 -- the tenants, by place
 abbrev pub hosted : {L S : Type 0} → (L → Log) → (S → Disk) → Tenants L S → List TenantState
 hosted log disk ts = map (state_of log (disk ts.shelf.store).files) ts.tenants.items
+
+-- ---- who is answered
+
+abbrev pub connection_of : Release → ℕ
+connection_of r = r.connection
+
+-- the connections whose requests waited and were answered by the last request or moment, in the order of the replies
+abbrev pub answered : Groups → List ℕ
+answered gs = map connection_of gs.released
+
+-- of what a tenant keeps at most its groups have changed, and a request that they told nothing is told nothing, but on those connections
+pub record IsQuietBut (ns : List ℕ) (old new : Kept) : Type 0 where
+  pub known : new.known ≡ old.known
+  pub logs : new.logs ≡ old.logs
+  pub told : (n : ℕ) → (Contains ns n → ⊥) → told_to n old.groups ≡ Silent → told_to n new.groups ≡ Silent
+
+-- so it is of each tenant
+abbrev pub AreQuietBut : List ℕ → List TenantState → List TenantState → Type 0
+AreQuietBut ns old new = (t : ℕ) → IsQuietBut ns (kept_of old t) (kept_of new t)
 
 -- ---- a moment
 

@@ -7,7 +7,7 @@ use Rattle.kb_broker.proofs.Served.{IsParkedBy, spent-refused, parked-by, parked
 use Rattle.kb_broker.proofs.serving.hand_over.Goals as goal
 
 pub returns-then-is_err-clause-spent : goal.returns-then-is_err-clause-spent
-returns-then-is_err-clause-spent c = spent-refused c.args.connection.now c.shut_down.new.self c.requires.asks c.shut_down.ensures
+returns-then-is_err-clause-spent c = spent-refused c.args.setup.now.versions c.args.connection.now c.shut_down.new.self c.requires.asks c.shut_down.ensures
 
 pub returns-then-is_err-clause-owned : goal.returns-then-is_err-clause-owned
 returns-then-is_err-clause-owned c = owned-shut c.args.connection.now c.shut_down.new.self (fin.get c.park.new.parking c.args.connection.now.number) c.shut_down.ensures
@@ -35,7 +35,7 @@ returns-else-is_err-2-clause-parked c = (parked c).others
 pub returns-else-is_err-2-clause-dated : goal.returns-else-is_err-2-clause-dated
 returns-else-is_err-2-clause-dated c = λ key version id body asks.
     let a = c.args in
-    dated-answered c.answer-given.result a.parking.now c.park.new.parking a.tenant a.connection.now.number a.connection.now c.answer-given.new.self a.answer key version id body (parked c) c.requires.bound asks c.answer-given.ensures.ok c.answer-given.ensures.free (sym c.is_err-2.ensures.value ∙ c.if-is_err-2.false)
+    dated-answered a.setup.now c.answer-given.result a.parking.now c.park.new.parking a.tenant a.connection.now.number a.connection.now c.answer-given.new.self a.answer key version id body (parked c) c.requires.bound asks c.answer-given.ensures.ok c.answer-given.ensures.free (sym c.is_err-2.ensures.value ∙ c.if-is_err-2.false)
 
 pub returns-else-is_err-2-clause-owned : goal.returns-else-is_err-2-clause-owned
 returns-else-is_err-2-clause-owned c =

@@ -1,11 +1,10 @@
-use Rattle.std.proofs.Common.{◌++◌, ◌∷◌, [], ℕ, Vec, Global, ◌≡◌, ◌∙◌, sym, subst, ap, rules}
-use Rattle.kb_waits.specs.Queue.{AreParked, IsUnderAny}
-use Rattle.kb_service.specs.Hosted.{refusals_of}
+use Rattle.std.proofs.Common.{◌++◌, ◌∷◌, [], ℕ, Vec, Global, ◌≡◌, ◌∙◌, sym, subst, ap}
 use Rattle.kb_broker.specs.Hosts.{tenants_in}
-use Rattle.kb_broker.specs.Parked.{keys_of, AreConcerned}
-use Rattle.kb_broker.proofs.Served.{concerned-all, concerned-touched}
+use Rattle.kb_broker.specs.Parked.{AreConcerned, AreWaitingFor}
+use Rattle.kb_broker.specs.declared.serving.Touched.TheVariants as touches
+use Rattle.kb_broker.proofs.Served.{concerned-all, concerned-waiting}
 use Rattle.kb_broker.proofs.serving.numbers_concerned.Goals as goal
-use Rattle.kb_broker.proofs.serving.numbers_concerned.Goals.{in-Some+in_ok-numbers-in-Some, in_default+in_ok-numbers-in_default}
+use Rattle.kb_broker.proofs.serving.numbers_concerned.Goals.{in-Groups+in_ok-numbers-in-Groups, in-Partitions+in_ok-numbers-in-Partitions, in-Unknown+in_ok-numbers-in-Unknown}
 
 pub returns : goal.returns
 returns g c =
@@ -17,12 +16,14 @@ returns g c =
     let ms = c.push.new.self.items in
     let pushed : ms ≡ c.match-touched.numbers.items ++ n ∷ [] = c.in_ok-push.ensures.items in
     elim c.match-touched.branch [
-      | in-Some+in_ok-numbers-in-Some w ↦
-          let calm : refusals_of ts t ≡ 0 = search rules in
-          subst (λ touched. AreConcerned t n ts q touched ms) (sym w.in-Some.is)
-          (concerned-touched t n ts q w.in-Some.places w.in_ok-numbers-in-Some.numbers.items ms calm
-          (subst (λ ps. AreParked q (IsUnderAny (keys_of t ps)) w.in_ok-numbers-in-Some.numbers.items) w.deref.ensures.value w.in_ok-numbers-in-Some.ensures)
+      | in-Groups+in_ok-numbers-in-Groups w ↦
+          subst (λ touched. AreConcerned t n ts q touched ms) (sym w.in-Groups.is) (pushed ∙ ap (λ (v : Vec ℕ Global). v.items ++ n ∷ []) w.numbers-is ∙ ap (λ xs. xs ++ n ∷ []) w.in_ok-numbers-in-Groups.ensures)
+      | in-Partitions+in_ok-numbers-in-Partitions w ↦
+          subst (λ touched. AreConcerned t n ts q touched ms) (sym w.in-Partitions.is)
+          (concerned-waiting t n ts q w.in-Partitions.places w.in_ok-numbers-in-Partitions.numbers.items ms
+          (subst (λ ps. AreWaitingFor t ts q ps w.in_ok-numbers-in-Partitions.numbers.items) w.deref.ensures.value w.in_ok-numbers-in-Partitions.ensures)
           (pushed ∙ ap (λ (v : Vec ℕ Global). v.items ++ n ∷ []) w.numbers-is))
-      | in_default+in_ok-numbers-in_default w ↦
-          concerned-all t n ts q a.touched.now w.in_ok-numbers-in_default.numbers.items ms w.in_ok-numbers-in_default.ensures (pushed ∙ ap (λ (v : Vec ℕ Global). v.items ++ n ∷ []) w.numbers-is)
+      | in-Unknown+in_ok-numbers-in-Unknown w ↦
+          subst (λ touched. AreConcerned t n ts q touched ms) (sym w.in-Unknown.is)
+          (concerned-all t n ts q touches.Unknown w.in_ok-numbers-in-Unknown.numbers.items ms (λ e. absurd (cc)) w.in_ok-numbers-in-Unknown.ensures (pushed ∙ ap (λ (v : Vec ℕ Global). v.items ++ n ∷ []) w.numbers-is))
     ]

@@ -25,7 +25,7 @@ returns-in-Ok-None-clause-spent g c = spent-served c.serve.result c.args.setup.n
 pub returns-in-Ok-None-clause-dated : goal.returns-in-Ok-None-clause-dated
 returns-in-Ok-None-clause-dated g c =
     let a = c.args in
-    let own = subst (λ found. IfNone found (IsOwn a.connection.now.session)) c.in-Ok-None.field-0-is c.in-Ok-None.ensures.own in
+    let own = subst (λ found. IfNone found (IsOwn a.setup.now a.connection.now.session)) c.in-Ok-None.field-0-is c.in-Ok-None.ensures.own in
     dated-none (fin.get a.parking.now a.connection.now.number) c.serve.new.self.session.stage c.requires.free (own-free a.setup.now a.tenant a.connection.now c.serve.new.self c.requires.bound own c.in_ok-serve-in-Ok-None.ensures.ok)
 
 pub returns-in_err-serve-in-Ok-None-clause-owned : goal.returns-in_err-serve-in-Ok-None-clause-owned
@@ -34,7 +34,7 @@ returns-in_err-serve-in-Ok-None-clause-owned g c = owned-shut c.args.connection.
 pub returns-in-Ok-None-clause-owned : goal.returns-in-Ok-None-clause-owned
 returns-in-Ok-None-clause-owned g c =
     let a = c.args in
-    let own = subst (λ found. IfNone found (IsOwn a.connection.now.session)) c.in-Ok-None.field-0-is c.in-Ok-None.ensures.own in
+    let own = subst (λ found. IfNone found (IsOwn a.setup.now a.connection.now.session)) c.in-Ok-None.field-0-is c.in-Ok-None.ensures.own in
     owned-none c.serve.new.self.session.stage (fin.get a.parking.now a.connection.now.number) (own-free a.setup.now a.tenant a.connection.now c.serve.new.self c.requires.bound own c.in_ok-serve-in-Ok-None.ensures.ok)
 
 pub returns-in-Err-clause-owned : goal.returns-in-Err-clause-owned
@@ -43,13 +43,13 @@ returns-in-Err-clause-owned g c = owned-shut c.args.connection.now c.shut_down.n
 pub returns-in-Ok-None-clause-keyed : goal.returns-in-Ok-None-clause-keyed
 returns-in-Ok-None-clause-keyed g c = λ honest.
     let a = c.args in
-    let own = subst (λ found. IfNone found (IsOwn a.connection.now.session)) c.in-Ok-None.field-0-is c.in-Ok-None.ensures.own in
+    let own = subst (λ found. IfNone found (IsOwn a.setup.now a.connection.now.session)) c.in-Ok-None.field-0-is c.in-Ok-None.ensures.own in
     keyed-none (tenants_in g.L.PartitionLog.log g.S.Store.disk a.tenants.now) a.connection.now.number c.serve.new.self.session.stage (fin.get a.parking.now a.connection.now.number) (own-free a.setup.now a.tenant a.connection.now c.serve.new.self c.requires.bound own c.in_ok-serve-in-Ok-None.ensures.ok)
 
 pub returns-in-Ok-None-clause-touched : goal.returns-in-Ok-None-clause-touched
 returns-in-Ok-None-clause-touched g c = λ honest.
     let a = c.args in
-    let own = subst (λ found. IfNone found (IsOwn a.connection.now.session)) c.in-Ok-None.field-0-is c.in-Ok-None.ensures.own in
+    let own = subst (λ found. IfNone found (IsOwn a.setup.now a.connection.now.session)) c.in-Ok-None.field-0-is c.in-Ok-None.ensures.own in
     own-touched a.setup.now a.tenant a.clock a.connection.now.number (tenants_in g.L.PartitionLog.log g.S.Store.disk a.tenants.now) a.connection.now c.serve.new.self c.new.result.items c.requires.bound own c.in_ok-serve-in-Ok-None.ensures.ok
 
 pub returns-in-Err-clause-spent : goal.returns-in-Err-clause-spent
@@ -60,7 +60,7 @@ returns-clause-ok g c = λ honest calm.
     let a = c.args in
     let q = c.in-Ok-Some.request in
     let s = a.connection.now.session in
-    let asked = subst (λ found. IfSome found (λ (r : Request). IsAsked s r.api_key r.api_version r.correlation_id r.body.now)) c.in-Ok-Some.field-0-is c.in-Ok-Some.ensures.asked in
+    let asked = subst (λ found. IfSome found (λ (r : Request). IsAsked a.setup.now s r.api_key r.api_version r.correlation_id r.body.now)) c.in-Ok-Some.field-0-is c.in-Ok-Some.ensures.asked in
     let same : q.connection ≡ a.connection.now.number = subst (λ found. IfSome found (λ (r : Request). r.connection ≡ a.connection.now.number)) c.in-Ok-Some.field-0-is c.in-Ok-Some.ensures.number in
     let meets = subst (λ n. IsMet a.tenant (is_honest g.S.Store.disk c.ask.new.tenants) (tenants_in g.L.PartitionLog.log g.S.Store.disk a.tenants.now) (tenants_in g.L.PartitionLog.log g.S.Store.disk c.ask.new.tenants)
     (λ k l. (l ≡ kept_after a.setup.now.node k a.clock n q.api_key q.api_version q.body.now) × IsAnswer q.correlation_id (answer a.setup.now.node k a.clock n q.api_key q.api_version q.body.now) c.ask.result.0)) same c.ask.ensures.meets in
@@ -72,7 +72,7 @@ returns-clause-keyed g c = λ honest.
     let a = c.args in
     let q = c.in-Ok-Some.request in
     let s = a.connection.now.session in
-    let asked = subst (λ found. IfSome found (λ (r : Request). IsAsked s r.api_key r.api_version r.correlation_id r.body.now)) c.in-Ok-Some.field-0-is c.in-Ok-Some.ensures.asked in
+    let asked = subst (λ found. IfSome found (λ (r : Request). IsAsked a.setup.now s r.api_key r.api_version r.correlation_id r.body.now)) c.in-Ok-Some.field-0-is c.in-Ok-Some.ensures.asked in
     let same : q.connection ≡ a.connection.now.number = subst (λ found. IfSome found (λ (r : Request). r.connection ≡ a.connection.now.number)) c.in-Ok-Some.field-0-is c.in-Ok-Some.ensures.number in
     let meets = subst (λ n. IsMet a.tenant (is_honest g.S.Store.disk c.ask.new.tenants) (tenants_in g.L.PartitionLog.log g.S.Store.disk a.tenants.now) (tenants_in g.L.PartitionLog.log g.S.Store.disk c.ask.new.tenants)
     (λ k l. (l ≡ kept_after a.setup.now.node k a.clock n q.api_key q.api_version q.body.now) × IsAnswer q.correlation_id (answer a.setup.now.node k a.clock n q.api_key q.api_version q.body.now) c.ask.result.0)) same c.ask.ensures.meets in

@@ -1,10 +1,11 @@
 use Rattle.std.proofs.Common.{subst, sym, ◌∙◌}
 use Rattle.std.specs.FinMap as fin
 use Rattle.kb_tenants.specs.Tenants.{is_honest}
+use Rattle.kb_connection.specs.View.{greeting_of}
 use Rattle.kb_broker.specs.Hosts.{tenants_in}
 use Rattle.kb_broker.proofs.Handled.{able-stage}
 use Rattle.kb_broker.specs.Parked.{IsConcern}
-use Rattle.kb_broker.proofs.Served.{dated-none, greeted-free, keyed-none, left-by, owned-none, owned-shut}
+use Rattle.kb_broker.proofs.Served.{dated-none, greeted-free, keyed-none, left-by, own-concern, owned-none, owned-shut}
 use Rattle.kb_broker.proofs.TenantTurns.{spent-greeted, spent-shut}
 use Rattle.kb_broker.proofs.serving.take_turn.Goals as goal
 
@@ -13,7 +14,7 @@ returns-in_err-greet-in-Greets-clause-spent g c = spent-shut c.args.connection.n
 
 pub returns-in_ok-greet-in-Greets-clause-spent : goal.returns-in_ok-greet-in-Greets-clause-spent
 returns-in_ok-greet-in-Greets-clause-spent g c =
-    spent-greeted c.greet.result c.args.setup.now c.in-Greets.handshaken c.args.connection.now c.greet.new.self (sym (able-stage c.args.connection.now.session c.requires.able) ∙ sym c.in-Greets.ensures) c.requires.able c.greet.ensures.ok c.greet.ensures.err
+    spent-greeted c.greet.result c.args.setup.now (greeting_of c.in-Greets.greeting) c.args.connection.now c.greet.new.self (sym (able-stage c.args.connection.now.session c.requires.able) ∙ sym c.in-Greets.ensures) c.requires.able c.greet.ensures.ok c.greet.ensures.err
 
 pub serve_bound-requires-clause-bound : goal.serve_bound-requires-clause-bound
 serve_bound-requires-clause-bound g c = sym (able-stage c.args.connection.now.session c.requires.able) ∙ sym c.in-Bound.ensures
@@ -22,7 +23,7 @@ pub returns-in_ok-greet-in-Greets-clause-dated : goal.returns-in_ok-greet-in-Gre
 returns-in_ok-greet-in-Greets-clause-dated g c =
     let a = c.args in
     let greets = sym (able-stage a.connection.now.session c.requires.able) ∙ sym c.in-Greets.ensures in
-    dated-none (fin.get a.parking.now a.connection.now.number) c.greet.new.self.session.stage c.requires.free (greeted-free a.setup.now c.in-Greets.handshaken a.connection.now c.greet.new.self greets c.in_ok-greet-in-Greets.ensures.ok)
+    dated-none (fin.get a.parking.now a.connection.now.number) c.greet.new.self.session.stage c.requires.free (greeted-free a.setup.now (greeting_of c.in-Greets.greeting) a.connection.now c.greet.new.self greets c.in_ok-greet-in-Greets.ensures.ok)
 
 pub returns-in_err-greet-in-Greets-clause-owned : goal.returns-in_err-greet-in-Greets-clause-owned
 returns-in_err-greet-in-Greets-clause-owned g c = owned-shut c.args.connection.now c.greet.new.self (fin.get c.args.parking.now c.args.connection.now.number) c.in_err-greet-in-Greets.ensures.err
@@ -31,13 +32,13 @@ pub returns-in_ok-greet-in-Greets-clause-owned : goal.returns-in_ok-greet-in-Gre
 returns-in_ok-greet-in-Greets-clause-owned g c =
     let a = c.args in
     let greets = sym (able-stage a.connection.now.session c.requires.able) ∙ sym c.in-Greets.ensures in
-    owned-none c.greet.new.self.session.stage (fin.get a.parking.now a.connection.now.number) (greeted-free a.setup.now c.in-Greets.handshaken a.connection.now c.greet.new.self greets c.in_ok-greet-in-Greets.ensures.ok)
+    owned-none c.greet.new.self.session.stage (fin.get a.parking.now a.connection.now.number) (greeted-free a.setup.now (greeting_of c.in-Greets.greeting) a.connection.now c.greet.new.self greets c.in_ok-greet-in-Greets.ensures.ok)
 
 pub returns-in_ok-greet-in-Greets-clause-keyed : goal.returns-in_ok-greet-in-Greets-clause-keyed
 returns-in_ok-greet-in-Greets-clause-keyed g c = λ honest.
     let a = c.args in
     let greets = sym (able-stage a.connection.now.session c.requires.able) ∙ sym c.in-Greets.ensures in
-    keyed-none (tenants_in g.L.PartitionLog.log g.S.Store.disk a.tenants.now) a.connection.now.number c.greet.new.self.session.stage (fin.get a.parking.now a.connection.now.number) (greeted-free a.setup.now c.in-Greets.handshaken a.connection.now c.greet.new.self greets c.in_ok-greet-in-Greets.ensures.ok)
+    keyed-none (tenants_in g.L.PartitionLog.log g.S.Store.disk a.tenants.now) a.connection.now.number c.greet.new.self.session.stage (fin.get a.parking.now a.connection.now.number) (greeted-free a.setup.now (greeting_of c.in-Greets.greeting) a.connection.now c.greet.new.self greets c.in_ok-greet-in-Greets.ensures.ok)
 
 pub returns-in_ok-touched-in-Bound-clause-left : goal.returns-in_ok-touched-in-Bound-clause-left
 returns-in_ok-touched-in-Bound-clause-left g c = λ honest.
@@ -49,3 +50,12 @@ returns-in_ok-touched-in-Bound-clause-left g c = λ honest.
     let bound = sym (able-stage a.connection.now.session c.requires.able) ∙ sym c.in-Bound.ensures in
     let concern = subst (λ n. IsConcern c.whom_it_concerns.result t n us p touched) (c.number-number.ensures ∙ c.serve_bound.ensures.number) c.whom_it_concerns.ensures in
     left-by (is_honest g.S.Store.disk c.serve_bound.new.tenants) honest c.whom_it_concerns.result a.setup.now t a.clock a.connection.now.number a.parking.now p (tenants_in g.L.PartitionLog.log g.S.Store.disk a.tenants.now) us a.connection.now.session c.serve_bound.new.connection.session a.connection.now.session.stage touched bound c.serve_bound.ensures.parked concern c.in_ok-touched-in-Bound.ensures.touched
+
+pub returns-in_ok-touched-in-Bound-clause-own : goal.returns-in_ok-touched-in-Bound-clause-own
+returns-in_ok-touched-in-Bound-clause-own g c =
+    let t = c.in-Bound.tenant in
+    let us = tenants_in g.L.PartitionLog.log g.S.Store.disk c.serve_bound.new.tenants in
+    let p = c.serve_bound.new.parking in
+    let touched = c.in_ok-touched-in-Bound.touched in
+    own-concern c.whom_it_concerns.result t c.args.connection.now.number us p touched
+    (subst (λ n. IsConcern c.whom_it_concerns.result t n us p touched) (c.number-number.ensures ∙ c.serve_bound.ensures.number) c.whom_it_concerns.ensures)

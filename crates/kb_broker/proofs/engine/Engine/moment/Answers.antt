@@ -9,8 +9,8 @@ use Rattle.kb_broker.proofs.Parked.{waiting-on}
 use Rattle.kb_broker.proofs.Going.{IsAwake, IsMovedOn, awake-among, awake-still, awake-unready, moved-on}
 use Rattle.kb_broker.proofs.engine.Engine.moment.Goals as goal
 
-pub pass-whom-requires : goal.pass-whom-requires
-pass-whom-requires g c =
+pub pass-answered-requires : goal.pass-answered-requires
+pass-answered-requires g c =
     let a = c.args.self.now.state in
     record {
       in_time = subst (λ n. n ≤ 2 ^ 62) (sym (c.max-self-inside.ensures ∙ ap (λ (x : BrokerState). max x.clock c.args.now) (state-is _ _ c.self.view_is))) (in-time a c.args.now c.requires.ready.sound c.requires.in_time);
@@ -19,26 +19,26 @@ pass-whom-requires g c =
 
 pub wake-requires : goal.wake-requires
 wake-requires g c =
-    let r = c.pass-whom.ensures in
+    let r = c.pass-answered.ensures in
     let a = c.args.self.now.state in
-    let H = is_honest g.S.Store.disk c.pass-whom.new.self in
-    let h = has-begun H c.args.now c.max-self-inside.result c.pass-whom.result _ a c.pass-whom.new.self.state (state-is _ _ c.self.view_is) c.max-self-inside.ensures r.passed r.rest r.leaves in
-    sound-after H c.args.now c.pass-whom.result a c.pass-whom.new.self.state c.requires.ready.sound c.requires.in_time h
+    let H = is_honest g.S.Store.disk c.pass-answered.new.self in
+    let h = has-begun H c.args.now c.max-self-inside.result c.pass-answered.result _ a c.pass-answered.new.self.state (state-is _ _ c.self.view_is) c.max-self-inside.ensures r.passed r.rest r.leaves in
+    sound-after H c.args.now c.pass-answered.result a c.pass-answered.new.self.state c.requires.ready.sound c.requires.in_time h
 
 pub run_among-requires : goal.run_among-requires
 run_among-requires g c =
     let disk = g.S.Store.disk in
-    let r = c.pass-whom.ensures in
+    let r = c.pass-answered.ensures in
     let w = c.wake.ensures in
     let now = c.args.now in
-    let whom = c.pass-whom.result in
+    let answered = c.pass-answered.result in
     let a = c.args.self.now in
-    let s = c.pass-whom.new.self in
+    let s = c.pass-answered.new.self in
     let b = c.wake.new.self in
-    let awake : IsAwake disk now whom a s b = record {
+    let awake : IsAwake disk now answered a s b = record {
       ready = c.requires.ready;
       first = subst (λ x. IsLater disk x s) c.self.view_is r.later;
-      begun = has-begun (is_honest disk s) now c.max-self-inside.result whom _ a.state s.state (state-is _ _ c.self.view_is) c.max-self-inside.ensures r.passed r.rest r.leaves;
+      begun = has-begun (is_honest disk s) now c.max-self-inside.result answered _ a.state s.state (state-is _ _ c.self.view_is) c.max-self-inside.ensures r.passed r.rest r.leaves;
       going = w.going;
       later = w.later;
       waked = w.waked;
@@ -46,25 +46,25 @@ run_among-requires g c =
     } in
     record {
       sound = w.going.sound;
-      unready = awake-unready disk now whom a s b awake;
-      still = awake-still disk now whom a s b awake;
-      among = subst (λ ns. AreAmong ns b.state) (sym c.deref.ensures.value) (awake-among disk now whom a s b c.in-Some.numbers.items awake c.in-Some.ensures.known);
+      unready = awake-unready disk now answered a s b awake;
+      still = awake-still disk now answered a s b awake;
+      among = subst (λ ns. AreAmong ns b.state) (sym c.deref.ensures.value) (awake-among disk now answered a s b c.in-Some.numbers.items awake c.in-Some.ensures.known);
     }
 
 pub run_all_turns-requires : goal.run_all_turns-requires
 run_all_turns-requires g c =
     let disk = g.S.Store.disk in
-    let r = c.pass-whom.ensures in
+    let r = c.pass-answered.ensures in
     let w = c.wake.ensures in
     let now = c.args.now in
-    let whom = c.pass-whom.result in
+    let answered = c.pass-answered.result in
     let a = c.args.self.now in
-    let s = c.pass-whom.new.self in
+    let s = c.pass-answered.new.self in
     let b = c.wake.new.self in
-    let awake : IsAwake disk now whom a s b = record {
+    let awake : IsAwake disk now answered a s b = record {
       ready = c.requires.ready;
       first = subst (λ x. IsLater disk x s) c.self.view_is r.later;
-      begun = has-begun (is_honest disk s) now c.max-self-inside.result whom _ a.state s.state (state-is _ _ c.self.view_is) c.max-self-inside.ensures r.passed r.rest r.leaves;
+      begun = has-begun (is_honest disk s) now c.max-self-inside.result answered _ a.state s.state (state-is _ _ c.self.view_is) c.max-self-inside.ensures r.passed r.rest r.leaves;
       going = w.going;
       later = w.later;
       waked = w.waked;
@@ -72,52 +72,52 @@ run_all_turns-requires g c =
     } in
     record {
       sound = w.going.sound;
-      unready = awake-unready disk now whom a s b awake;
-      still = awake-still disk now whom a s b awake;
+      unready = awake-unready disk now answered a s b awake;
+      still = awake-still disk now answered a s b awake;
     }
 
 pub returns-in-Some : goal.returns-in-Some
 returns-in-Some g c =
     let disk = g.S.Store.disk in
-    let r = c.pass-whom.ensures in
+    let r = c.pass-answered.ensures in
     let w = c.wake.ensures in
     let now = c.args.now in
-    let whom = c.pass-whom.result in
+    let answered = c.pass-answered.result in
     let a = c.args.self.now in
-    let s = c.pass-whom.new.self in
+    let s = c.pass-answered.new.self in
     let b = c.wake.new.self in
-    let awake : IsAwake disk now whom a s b = record {
+    let awake : IsAwake disk now answered a s b = record {
       ready = c.requires.ready;
       first = subst (λ x. IsLater disk x s) c.self.view_is r.later;
-      begun = has-begun (is_honest disk s) now c.max-self-inside.result whom _ a.state s.state (state-is _ _ c.self.view_is) c.max-self-inside.ensures r.passed r.rest r.leaves;
+      begun = has-begun (is_honest disk s) now c.max-self-inside.result answered _ a.state s.state (state-is _ _ c.self.view_is) c.max-self-inside.ensures r.passed r.rest r.leaves;
       going = w.going;
       later = w.later;
       waked = w.waked;
       rest = w.rest;
     } in
     let t = c.run_among.ensures in
-    let h = subst (IsMovedOn disk now a) (sym c.self-in-Some.view_is) (moved-on disk now whom a s b c.run_among.new.self awake t.going t.later t.turned t.settled) in
+    let h = subst (IsMovedOn disk now a) (sym c.self-in-Some.view_is) (moved-on disk now answered a s b c.run_among.new.self awake t.going t.later t.turned t.settled) in
     record { ready = h.ready; later = h.later; step = h.step; clock = h.clock; last = h.last; numbers = h.numbers; others = h.others }
 
 pub returns-in-None : goal.returns-in-None
 returns-in-None g c =
     let disk = g.S.Store.disk in
-    let r = c.pass-whom.ensures in
+    let r = c.pass-answered.ensures in
     let w = c.wake.ensures in
     let now = c.args.now in
-    let whom = c.pass-whom.result in
+    let answered = c.pass-answered.result in
     let a = c.args.self.now in
-    let s = c.pass-whom.new.self in
+    let s = c.pass-answered.new.self in
     let b = c.wake.new.self in
-    let awake : IsAwake disk now whom a s b = record {
+    let awake : IsAwake disk now answered a s b = record {
       ready = c.requires.ready;
       first = subst (λ x. IsLater disk x s) c.self.view_is r.later;
-      begun = has-begun (is_honest disk s) now c.max-self-inside.result whom _ a.state s.state (state-is _ _ c.self.view_is) c.max-self-inside.ensures r.passed r.rest r.leaves;
+      begun = has-begun (is_honest disk s) now c.max-self-inside.result answered _ a.state s.state (state-is _ _ c.self.view_is) c.max-self-inside.ensures r.passed r.rest r.leaves;
       going = w.going;
       later = w.later;
       waked = w.waked;
       rest = w.rest;
     } in
     let t = c.run_all_turns.ensures in
-    let h = moved-on disk now whom a s b c.run_all_turns.new.self awake t.going t.later t.turned t.settled in
+    let h = moved-on disk now answered a s b c.run_all_turns.new.self awake t.going t.later t.turned t.settled in
     record { ready = h.ready; later = h.later; step = h.step; clock = h.clock; last = h.last; numbers = h.numbers; others = h.others }

@@ -101,17 +101,20 @@ returns-in-Err g c =
     let taken = taken-at H _ b i l m us here c.requires.next c.index_mut-connection.ensures.value t.number t.spent t.turn in
     let phase : stage_of c.phase-phase.result ≡ l.session.stage = c.phase-phase.ensures ∙ able-stage l.session taken.able in
     let all : IsAllOf who l.session.stage = subst (IsAllOf who) phase c.all_of.ensures in
-    let counted : IsCountedAt l.session.stage (put_with b i m us) end = subst (λ st. IsCountedAt st (put_with b i m us) end) phase (subst (λ (x : BrokerState). IsCountedAt (stage_of c.phase-phase.result) (put_with x i m us) end) here c.refuse.ensures.counted) in
+    let counted : IsCountedAt l.number l.session.stage (put_with b i m us) end =
+    subst (λ st. IsCountedAt l.number st (put_with b i m us) end) phase
+    (subst (λ n. IsCountedAt n (stage_of c.phase-phase.result) (put_with b i m us) end) c.number-number.ensures
+    (subst (λ (x : BrokerState). IsCountedAt c.number-number.result (stage_of c.phase-phase.result) (put_with x i m us) end) here c.refuse.ensures.counted)) in
     let shut = ap (λ (x : Line). x.session) c.in-Err.ensures.err in
     let store = c.take_turn-taken.new.tenants.shelf.store in
     let earlier = subst (λ (x : OnStore g.row.S.Denot). IsLaterWith (disk x.store) (disk store) x.state.tenants us) c.self.view_is t.later in
-    let same = later-on disk store c.refuse.new.self.store us end.tenants c.refuse.ensures.store (names-counted l.session.stage (put_with b i m us) end counted) (counts-counted l.session.stage (put_with b i m us) end counted) in
+    let same = later-on disk store c.refuse.new.self.store us end.tenants c.refuse.ensures.store (names-counted l.number l.session.stage (put_with b i m us) end counted) (counts-counted l.number l.session.stage (put_with b i m us) end counted) in
     record {
       going = refused-taken H b end i l m us l.session.stage taken refl shut taken.turn counted;
       later = later-by (disk c.args.self.now.store) (disk store) (disk c.refuse.new.self.store) b.tenants us end.tenants earlier same;
       served = λ honest scope still. refused-for who l.session.stage scope b end all (served-refused H (same.honest honest) scope b end i l m us l.session.stage still taken refl shut taken.turn counted);
       left = λ honest. refused-left who l.session.stage end all;
       own = refused-own who l.session.stage _ all;
-      others = others-put b i l m end.lines taken.at taken.number (lines-counted l.session.stage (put_with b i m us) end counted);
+      others = others-put b i l m end.lines taken.at taken.number (lines-counted l.number l.session.stage (put_with b i m us) end counted);
       less = work-refused H b end i l m us l.session.stage taken counted;
     }

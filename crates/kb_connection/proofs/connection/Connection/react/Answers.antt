@@ -5,7 +5,7 @@ use Rattle.kb_connection.proofs.connection.Connection.react.Goals as goal
 
 pub returns-in_ok-reply-in-Accepts-clause-ok : goal.returns-in_ok-reply-in-Accepts-clause-ok
 returns-in_ok-reply-in-Accepts-clause-ok c =
-    accepts c.args.setup.now _ c.args.self.now _ c.args.correlation_id _ _ (to_z-of_z w32 c.args.correlation_id c.ranges.correlation_id) c.in-Accepts.is (c.self.view_is ∙ c.in_ok-reply-in-Accepts.ensures.ok) (c.deref-in-Accepts.ensures.value ∙ c.in_ok-body-in-Accepts.ensures)
+    accepts c.args.setup.now _ _ c.args.self.now _ c.args.correlation_id _ _ (to_z-of_z w32 c.args.correlation_id c.ranges.correlation_id) c.in-Accepts.is (c.self.view_is ∙ c.in_ok-reply-in-Accepts.ensures.ok) (c.deref-in-Accepts.ensures.value ∙ c.in_ok-body-in-Accepts.ensures)
 
 pub returns-in_ok-body-in-IllegalState-clause-ok :
     goal.returns-in_ok-body-in-IllegalState-clause-ok

@@ -13,5 +13,5 @@ returns-in-TooSmall-clause-ok c kept clock n = serve_bad c.args.setup.now kept c
 pub returns-in-Frame-clause-ok : goal.returns-in-Frame-clause-ok
 returns-in-Frame-clause-ok c kept clock n =
     let same = ap (λ (l : Line). l.session.unread) c.self.view_is in
-    let own = own_frame _ _ _ _ same c.in-Frame.ensures c.as_slice.ensures c.requires in
+    let own = own_frame c.args.setup.now _ _ _ _ same c.in-Frame.ensures c.as_slice.ensures c.requires in
     serve_frame c.args.setup.now kept clock n _ _ _ _ _ _ _ same c.in-Frame.ensures c.as_slice.ensures (c.bound_reaction-reaction.ensures own) c.take_turn.ensures.ok

@@ -2,7 +2,8 @@ use Rattle.std.proofs.Common.{◌+◌, ap, arith, to_z, of_z, w64}
 use Rattle.std.proofs.lemmas.Int.{ints}
 use Rattle.std.specs.Prelude.{min}
 use Rattle.kb_world.specs.Parts.{END}
-use Rattle.kb_tenants.proofs.Hosted.{accounted_counted, kept_counted, kept_own, met_counted, met_own, turn_counted}
+use Rattle.kb_service.specs.Hosted.{Kept}
+use Rattle.kb_tenants.proofs.Hosted.{accounted_counted, kept_counted, kept_own, met_counted, met_own, stays_own, topics_counted, turn_counted}
 use Rattle.kb_tenants.proofs.tenants.Tenants.pass_groups.Goals as goal
 
 -- ---- nothing was due
@@ -18,7 +19,19 @@ returns-in_default-clause-meets g c =
     c.requires.tenant c.index_mut-one.ensures.value c.requires.kept c.in_default.ensures.none.1
     c.args.clock c.in_default.ensures.none.0
 
+pub returns-in_default-clause-topics : goal.returns-in_default-clause-topics
+returns-in_default-clause-topics g c =
+    let same = stays_own g.L.PartitionLog.log g.S.Store.disk g.met.L.PartitionLog.lawful c.args.self.now c.args.tenant c.index_mut-one.result.now c.pass.new.self
+    c.requires.tenant c.index_mut-one.ensures.value c.requires.kept c.in_default.ensures.none.1 c.args.tenant in
+    (ap (λ (k : Kept). k.known) same, ap (λ (k : Kept). k.logs) same)
+
 -- ---- a moment
+
+pub returns-clause-topics : goal.returns-clause-topics
+returns-clause-topics g c =
+    topics_counted g.L.PartitionLog.log g.S.Store.disk g.met.L.PartitionLog.lawful c.args.self.now c.args.tenant c.index_mut-one.result.now c.pass.new.self
+    c.requires.tenant c.index_mut-one.ensures.value c.requires.kept c.count.new.parts
+    (min (c.refusals-before.result + c.in-Some.refused) END) c.count.ensures
 
 pub returns-clause-kept : goal.returns-clause-kept
 returns-clause-kept g c =

@@ -1,0 +1,33 @@
+//! Laws about whole runs, each as the contract of a function with an empty body.
+
+ghost use Rattle.std.specs.Prelude.{◌≡◌, ℕ, List, map};
+ghost use Rattle.kb_settings.specs.declared.settings.Settings.{Settings};
+ghost use Rattle.kb_machine.specs.Broker.{BrokerState, IsCalmFor, IsRun};
+ghost use Rattle.kb_machine.specs.Isolation.{IsIsolated, own_events, own_sent};
+ghost use Rattle.kb_broker.specs.declared.opening.Listing.{Listing};
+ghost use Rattle.kb_broker.specs.declared.run.Event.{Event};
+ghost use Rattle.kb_broker.specs.declared.run.Written.{Written};
+ghost use Rattle.kb_broker.specs.Opening.{opening_listing};
+ghost use Rattle.kb_broker.specs.Runs.{happenings, sent_of, connections_of};
+
+/// A tenant on a broker that it shares gets what it gets on one that it has to itself. Both are newly opened with the same settings.
+/// To the first come events of everybody, to the second only those of the tenant's connections and the moments. Then all that the
+/// second writes is what the first writes to the tenant's connections, and the second shuts those that the first shuts of them.
+///
+/// On neither may anything be refused to the tenant or to a connection that is not bound. What is said of the brokers before is
+/// what opening them ensures (`state` of `Broker::open_listing`). What is said of the runs is what `Broker::run` ensures where the
+/// stores are honest to the end (`headline`, `connections`).
+///
+/// The fewer events are a run where all the events are one.
+pub fn opened_alone_is_the_same()
+    ensures written { (listing : Listing) (settings : Settings) (t : ℕ) (events fewer : List Event) (shared after own own_after : BrokerState) (written own_written : List Written)
+        → shared ≡ opening_listing listing settings → own ≡ opening_listing listing settings
+        → happenings fewer ≡ own_events t (happenings events) shared
+        → IsIsolated (happenings events) shared after (map sent_of written)
+        → IsIsolated (happenings fewer) own own_after (map sent_of own_written)
+        → map (λ (w : Written). w.conn) own_written ≡ connections_of (happenings fewer) own
+        → IsCalmFor t shared after → IsCalmFor t own own_after
+        → map sent_of own_written ≡ own_sent t (happenings events) shared (map sent_of written) }
+    ensures run { (t : ℕ) (events fewer : List Event) (shared : BrokerState) → happenings fewer ≡ own_events t (happenings events) shared
+        → IsRun shared.last (happenings events) → IsRun shared.last (happenings fewer) }
+{}

@@ -81,7 +81,7 @@ fn plays(
     }
 }
 
-/// Each moment of these, and whether anything is due in it.
+/// Each moment of these, and whether it drops a batch.
 const MOMENTS: [(u64, bool); 4] = [(1000, false), (1005, false), (1006, true), (1006, false)];
 
 #[test]
@@ -90,18 +90,26 @@ fn a_batch_is_due_once(rt: HostRuntime) -> Result<(), Fail> {
     let asked = [(1, 19, CREATE_KEPT, MADE), (1, 0, APPEND, APPENDED)];
     plays(&rt, rt.alloc(), &mut tenants, &asked);
     for (clock, is_due) in &MOMENTS {
-        assert!(rt; passes(&rt, &mut tenants, *clock) == *is_due, "{clock}");
+        assert!(rt;
+            drops(&rt, rt.alloc(), &mut tenants, *clock) == *is_due,
+            "{clock}"
+        );
     }
     Ok(())
 }
 
-/// Whether anything is due in a moment.
-fn passes(rt: &impl Abort, tenants: &mut Tenants<ListLog, MemoryStore>, clock: u64) -> bool
+/// Whether a moment drops batches.
+fn drops(
+    rt: &impl Abort,
+    alloc: Global,
+    tenants: &mut Tenants<ListLog, MemoryStore>,
+    clock: u64,
+) -> bool
     requires { AreKept list_log (λ s. memory_disk s.files.entries) tenants.old }
     ensures { AreKept list_log (λ s. memory_disk s.files.entries) tenants.new }
 {
     assert!(rt; clock < 2000);
-    tenants.pass(clock)
+    tenants.pass(alloc, clock).is_none()
 }
 
 #[test]
@@ -120,6 +128,6 @@ fn refusals_are_counted_by_tenant(rt: HostRuntime) -> Result<(), Fail> {
 #[test]
 fn nothing_is_due_where_nothing_is_there(rt: HostRuntime) -> Result<(), Fail> {
     let mut tenants = two(rt.alloc())?;
-    assert!(rt; !passes(&rt, &mut tenants, 1000));
+    assert!(rt; !drops(&rt, rt.alloc(), &mut tenants, 1000));
     Ok(())
 }

@@ -25,11 +25,11 @@ empty_len p e h l = refl
 pub answer_len : (p e h l : ℤ) (records : List ℕ) → records ≡ [] → length (fetch_partition_reply.written (answer p e h l records)) ≡ 30
 answer_len p e h l records none = subst (λ r. length (fetch_partition_reply.written (answer p e h l r)) ≡ 30) (sym none) (empty_len p e h l)
 
-pub less : (n old new : ℕ) → n ≡ 30 → old ≤ new + n → old ≤ new + 30
-less n old new len h = omega (arith, len, h)
+pub less : (n size old new : ℕ) → n ≡ size → old ≤ new + n → old ≤ new + size
+less n size old new len h = omega (arith, len, h)
 
-pub within : (n room : ℕ) → n ≡ 30 → 30 ≤ room → n ≤ room
-within n room few h = omega (arith, few, h)
+pub within : (n size room : ℕ) → n ≡ size → size ≤ room → n ≤ room
+within n size room few h = omega (arith, few, h)
 
 fields_in_range : (p e h l : ℤ) (records : List ℕ) → FitsSigned w32 p → FitsSigned w16 e → FitsSigned w64 h → FitsSigned w64 l → fetch_partition_reply.InRange (answer p e h l records)
 unfolding fetch_partition_reply int nullable nullable_counted octets

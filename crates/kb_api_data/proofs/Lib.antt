@@ -1,2 +1,3 @@
 pub mod Answers
+pub mod AnswersV5
 pub mod Counting

@@ -1,7 +1,7 @@
 -- Each layout is lawful, since its parts are.
 use Rattle.std.proofs.Common.{refl}
 use Rattle.kb_wire.specs.Laws.{IsLawful, int8_lawful, int16_lawful, int32_lawful, int64_lawful, boolean_lawful, string_lawful, nullable_string_lawful, nullable_blob_lawful, array_lawful, nullable_array_lawful, pair_lawful, via_lawful}
-use Rattle.kb_api_data.specs.Layouts.{produce_partition, produce_topic, produce_request, produce_partition_reply, produce_topic_reply, produce_reply, fetch_partition, fetch_topic, fetch_request, aborted_transaction, fetch_partition_reply, fetch_topic_reply, fetch_reply, list_offsets_partition, list_offsets_topic, list_offsets_request, list_offsets_partition_reply, list_offsets_topic_reply, list_offsets_reply, metadata_request, metadata_broker, metadata_partition, metadata_topic, metadata_reply, create_assignment, create_config, create_topic, create_topics_request, create_topic_reply, create_topics_reply, delete_topics_request, delete_topic_reply, delete_topics_reply, init_producer_id_request, init_producer_id_reply}
+use Rattle.kb_api_data.specs.Layouts.{produce_partition, produce_topic, produce_request, produce_partition_reply, produce_topic_reply, produce_reply, fetch_partition, fetch_topic, fetch_request, aborted_transaction, fetch_partition_reply, fetch_topic_reply, fetch_reply, list_offsets_partition, list_offsets_topic, list_offsets_request, list_offsets_partition_reply, list_offsets_topic_reply, list_offsets_reply, metadata_request, metadata_broker, metadata_partition, metadata_topic, metadata_reply, create_assignment, create_config, create_topic, create_topics_request, create_topic_reply, create_topics_reply, delete_topics_request, delete_topic_reply, delete_topics_reply, init_producer_id_request, init_producer_id_reply, delete_records_partition, delete_records_topic, delete_records_request, delete_records_partition_reply, delete_records_topic_reply, delete_records_reply, fetch_partition_v5, fetch_topic_v5, fetch_request_v5, fetch_partition_reply_v5, fetch_topic_reply_v5, fetch_reply_v5, metadata_request_v0, metadata_request_v4, metadata_broker_v0, metadata_topic_v0, metadata_reply_v0, metadata_reply_v2, metadata_reply_v3, create_topics_request_v1, create_topic_reply_v1, create_topics_reply_v1, delete_topics_reply_v1}
 
 pub produce_partition_lawful : IsLawful produce_partition
 unfolding produce_partition
@@ -142,3 +142,95 @@ init_producer_id_request_lawful = via_lawful _ _ (pair_lawful nullable_string_la
 pub init_producer_id_reply_lawful : IsLawful init_producer_id_reply
 unfolding init_producer_id_reply
 init_producer_id_reply_lawful = via_lawful _ _ (pair_lawful int32_lawful (pair_lawful int16_lawful (pair_lawful int64_lawful int16_lawful))) (λ _. refl) (λ _. refl)
+
+pub delete_records_partition_lawful : IsLawful delete_records_partition
+unfolding delete_records_partition
+delete_records_partition_lawful = via_lawful _ _ (pair_lawful int32_lawful int64_lawful) (λ _. refl) (λ _. refl)
+
+pub delete_records_topic_lawful : IsLawful delete_records_topic
+unfolding delete_records_topic
+delete_records_topic_lawful = via_lawful _ _ (pair_lawful string_lawful (array_lawful _ delete_records_partition_lawful)) (λ _. refl) (λ _. refl)
+
+pub delete_records_request_lawful : IsLawful delete_records_request
+unfolding delete_records_request
+delete_records_request_lawful = via_lawful _ _ (pair_lawful (array_lawful _ delete_records_topic_lawful) int32_lawful) (λ _. refl) (λ _. refl)
+
+pub delete_records_partition_reply_lawful : IsLawful delete_records_partition_reply
+unfolding delete_records_partition_reply
+delete_records_partition_reply_lawful = via_lawful _ _ (pair_lawful int32_lawful (pair_lawful int64_lawful int16_lawful)) (λ _. refl) (λ _. refl)
+
+pub delete_records_topic_reply_lawful : IsLawful delete_records_topic_reply
+unfolding delete_records_topic_reply
+delete_records_topic_reply_lawful = via_lawful _ _ (pair_lawful string_lawful (array_lawful _ delete_records_partition_reply_lawful)) (λ _. refl) (λ _. refl)
+
+pub delete_records_reply_lawful : IsLawful delete_records_reply
+unfolding delete_records_reply
+delete_records_reply_lawful = via_lawful _ _ (pair_lawful int32_lawful (array_lawful _ delete_records_topic_reply_lawful)) (λ _. refl) (λ _. refl)
+
+pub fetch_partition_v5_lawful : IsLawful fetch_partition_v5
+unfolding fetch_partition_v5
+fetch_partition_v5_lawful = via_lawful _ _ (pair_lawful int32_lawful (pair_lawful int64_lawful (pair_lawful int64_lawful int32_lawful))) (λ _. refl) (λ _. refl)
+
+pub fetch_topic_v5_lawful : IsLawful fetch_topic_v5
+unfolding fetch_topic_v5
+fetch_topic_v5_lawful = via_lawful _ _ (pair_lawful string_lawful (array_lawful _ fetch_partition_v5_lawful)) (λ _. refl) (λ _. refl)
+
+pub fetch_request_v5_lawful : IsLawful fetch_request_v5
+unfolding fetch_request_v5
+fetch_request_v5_lawful = via_lawful _ _ (pair_lawful int32_lawful (pair_lawful int32_lawful (pair_lawful int32_lawful (pair_lawful int32_lawful (pair_lawful int8_lawful (array_lawful _ fetch_topic_v5_lawful)))))) (λ _. refl) (λ _. refl)
+
+pub fetch_partition_reply_v5_lawful : IsLawful fetch_partition_reply_v5
+unfolding fetch_partition_reply_v5
+fetch_partition_reply_v5_lawful = via_lawful _ _ (pair_lawful int32_lawful (pair_lawful int16_lawful (pair_lawful int64_lawful (pair_lawful int64_lawful (pair_lawful int64_lawful (pair_lawful (nullable_array_lawful _ aborted_transaction_lawful) nullable_blob_lawful)))))) (λ _. refl) (λ _. refl)
+
+pub fetch_topic_reply_v5_lawful : IsLawful fetch_topic_reply_v5
+unfolding fetch_topic_reply_v5
+fetch_topic_reply_v5_lawful = via_lawful _ _ (pair_lawful string_lawful (array_lawful _ fetch_partition_reply_v5_lawful)) (λ _. refl) (λ _. refl)
+
+pub fetch_reply_v5_lawful : IsLawful fetch_reply_v5
+unfolding fetch_reply_v5
+fetch_reply_v5_lawful = via_lawful _ _ (pair_lawful int32_lawful (array_lawful _ fetch_topic_reply_v5_lawful)) (λ _. refl) (λ _. refl)
+
+pub metadata_request_v0_lawful : IsLawful metadata_request_v0
+unfolding metadata_request_v0
+metadata_request_v0_lawful = via_lawful _ _ (array_lawful _ string_lawful) (λ _. refl) (λ _. refl)
+
+pub metadata_request_v4_lawful : IsLawful metadata_request_v4
+unfolding metadata_request_v4
+metadata_request_v4_lawful = via_lawful _ _ (pair_lawful (nullable_array_lawful _ string_lawful) boolean_lawful) (λ _. refl) (λ _. refl)
+
+pub metadata_broker_v0_lawful : IsLawful metadata_broker_v0
+unfolding metadata_broker_v0
+metadata_broker_v0_lawful = via_lawful _ _ (pair_lawful int32_lawful (pair_lawful string_lawful int32_lawful)) (λ _. refl) (λ _. refl)
+
+pub metadata_topic_v0_lawful : IsLawful metadata_topic_v0
+unfolding metadata_topic_v0
+metadata_topic_v0_lawful = via_lawful _ _ (pair_lawful int16_lawful (pair_lawful string_lawful (array_lawful _ metadata_partition_lawful))) (λ _. refl) (λ _. refl)
+
+pub metadata_reply_v0_lawful : IsLawful metadata_reply_v0
+unfolding metadata_reply_v0
+metadata_reply_v0_lawful = via_lawful _ _ (pair_lawful (array_lawful _ metadata_broker_v0_lawful) (array_lawful _ metadata_topic_v0_lawful)) (λ _. refl) (λ _. refl)
+
+pub metadata_reply_v2_lawful : IsLawful metadata_reply_v2
+unfolding metadata_reply_v2
+metadata_reply_v2_lawful = via_lawful _ _ (pair_lawful (array_lawful _ metadata_broker_lawful) (pair_lawful nullable_string_lawful (pair_lawful int32_lawful (array_lawful _ metadata_topic_lawful)))) (λ _. refl) (λ _. refl)
+
+pub metadata_reply_v3_lawful : IsLawful metadata_reply_v3
+unfolding metadata_reply_v3
+metadata_reply_v3_lawful = via_lawful _ _ (pair_lawful int32_lawful (pair_lawful (array_lawful _ metadata_broker_lawful) (pair_lawful nullable_string_lawful (pair_lawful int32_lawful (array_lawful _ metadata_topic_lawful))))) (λ _. refl) (λ _. refl)
+
+pub create_topics_request_v1_lawful : IsLawful create_topics_request_v1
+unfolding create_topics_request_v1
+create_topics_request_v1_lawful = via_lawful _ _ (pair_lawful (array_lawful _ create_topic_lawful) (pair_lawful int32_lawful boolean_lawful)) (λ _. refl) (λ _. refl)
+
+pub create_topic_reply_v1_lawful : IsLawful create_topic_reply_v1
+unfolding create_topic_reply_v1
+create_topic_reply_v1_lawful = via_lawful _ _ (pair_lawful string_lawful (pair_lawful int16_lawful nullable_string_lawful)) (λ _. refl) (λ _. refl)
+
+pub create_topics_reply_v1_lawful : IsLawful create_topics_reply_v1
+unfolding create_topics_reply_v1
+create_topics_reply_v1_lawful = via_lawful _ _ (array_lawful _ create_topic_reply_v1_lawful) (λ _. refl) (λ _. refl)
+
+pub delete_topics_reply_v1_lawful : IsLawful delete_topics_reply_v1
+unfolding delete_topics_reply_v1
+delete_topics_reply_v1_lawful = via_lawful _ _ (pair_lawful int32_lawful (array_lawful _ delete_topic_reply_lawful)) (λ _. refl) (λ _. refl)

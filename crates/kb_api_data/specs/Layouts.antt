@@ -1,4 +1,4 @@
--- The bodies of the protocol's requests and replies, each at its one version.
+-- The bodies of the protocol's requests and replies, each in the versions that are read and written here.
 use Rattle.kb_wire.specs.Codec.{Codec, int8, int16, int32, int64, boolean, string, nullable_string, nullable_blob, array, nullable_array, ◌⊗◌, via}
 use Rattle.kb_api_data.specs.declared.produce.ProducePartition.{ProducePartition}
 use Rattle.kb_api_data.specs.declared.produce.ProduceTopic.{ProduceTopic}
@@ -35,6 +35,29 @@ use Rattle.kb_api_data.specs.declared.delete_topics.DeleteTopicReply.{DeleteTopi
 use Rattle.kb_api_data.specs.declared.delete_topics.DeleteTopicsReply.{DeleteTopicsReply}
 use Rattle.kb_api_data.specs.declared.init_producer_id.InitProducerIdRequest.{InitProducerIdRequest}
 use Rattle.kb_api_data.specs.declared.init_producer_id.InitProducerIdReply.{InitProducerIdReply}
+use Rattle.kb_api_data.specs.declared.delete_records.DeleteRecordsPartition.{DeleteRecordsPartition}
+use Rattle.kb_api_data.specs.declared.delete_records.DeleteRecordsTopic.{DeleteRecordsTopic}
+use Rattle.kb_api_data.specs.declared.delete_records.DeleteRecordsRequest.{DeleteRecordsRequest}
+use Rattle.kb_api_data.specs.declared.delete_records.DeleteRecordsPartitionReply.{DeleteRecordsPartitionReply}
+use Rattle.kb_api_data.specs.declared.delete_records.DeleteRecordsTopicReply.{DeleteRecordsTopicReply}
+use Rattle.kb_api_data.specs.declared.delete_records.DeleteRecordsReply.{DeleteRecordsReply}
+use Rattle.kb_api_data.specs.declared.fetch_v5.FetchPartitionV5.{FetchPartitionV5}
+use Rattle.kb_api_data.specs.declared.fetch_v5.FetchTopicV5.{FetchTopicV5}
+use Rattle.kb_api_data.specs.declared.fetch_v5.FetchRequestV5.{FetchRequestV5}
+use Rattle.kb_api_data.specs.declared.fetch_v5.FetchPartitionReplyV5.{FetchPartitionReplyV5}
+use Rattle.kb_api_data.specs.declared.fetch_v5.FetchTopicReplyV5.{FetchTopicReplyV5}
+use Rattle.kb_api_data.specs.declared.fetch_v5.FetchReplyV5.{FetchReplyV5}
+use Rattle.kb_api_data.specs.declared.metadata_versions.MetadataRequestV0.{MetadataRequestV0}
+use Rattle.kb_api_data.specs.declared.metadata_versions.MetadataRequestV4.{MetadataRequestV4}
+use Rattle.kb_api_data.specs.declared.metadata_versions.MetadataBrokerV0.{MetadataBrokerV0}
+use Rattle.kb_api_data.specs.declared.metadata_versions.MetadataTopicV0.{MetadataTopicV0}
+use Rattle.kb_api_data.specs.declared.metadata_versions.MetadataReplyV0.{MetadataReplyV0}
+use Rattle.kb_api_data.specs.declared.metadata_versions.MetadataReplyV2.{MetadataReplyV2}
+use Rattle.kb_api_data.specs.declared.metadata_versions.MetadataReplyV3.{MetadataReplyV3}
+use Rattle.kb_api_data.specs.declared.create_topics_v1.CreateTopicsRequestV1.{CreateTopicsRequestV1}
+use Rattle.kb_api_data.specs.declared.create_topics_v1.CreateTopicReplyV1.{CreateTopicReplyV1}
+use Rattle.kb_api_data.specs.declared.create_topics_v1.CreateTopicsReplyV1.{CreateTopicsReplyV1}
+use Rattle.kb_api_data.specs.declared.delete_topics_v1.DeleteTopicsReplyV1.{DeleteTopicsReplyV1}
 
 -- A partition, in a request of Produce.
 unfoldable pub produce_partition : Codec ProducePartition
@@ -175,3 +198,95 @@ init_producer_id_request = via (λ p. record { transactional_id = p.0; transacti
 -- The reply of InitProducerId, version 0.
 unfoldable pub init_producer_id_reply : Codec InitProducerIdReply
 init_producer_id_reply = via (λ p. record { throttle_time_ms = p.0; error_code = p.1.0; producer_id = p.1.1.0; producer_epoch = p.1.1.1 }) (λ v. (v.throttle_time_ms, (v.error_code, (v.producer_id, v.producer_epoch)))) (int32 ⊗ int16 ⊗ int64 ⊗ int16)
+
+-- A partition, in a request of DeleteRecords.
+unfoldable pub delete_records_partition : Codec DeleteRecordsPartition
+delete_records_partition = via (λ p. record { partition = p.0; offset = p.1 }) (λ v. (v.partition, v.offset)) (int32 ⊗ int64)
+
+-- A topic, in a request of DeleteRecords.
+unfoldable pub delete_records_topic : Codec DeleteRecordsTopic
+delete_records_topic = via (λ p. record { name = p.0; partitions = p.1 }) (λ v. (v.name, v.partitions)) (string ⊗ array delete_records_partition)
+
+-- A request of DeleteRecords, version 0.
+unfoldable pub delete_records_request : Codec DeleteRecordsRequest
+delete_records_request = via (λ p. record { topics = p.0; timeout_ms = p.1 }) (λ v. (v.topics, v.timeout_ms)) (array delete_records_topic ⊗ int32)
+
+-- A partition, in the reply of DeleteRecords.
+unfoldable pub delete_records_partition_reply : Codec DeleteRecordsPartitionReply
+delete_records_partition_reply = via (λ p. record { partition = p.0; low_watermark = p.1.0; error_code = p.1.1 }) (λ v. (v.partition, (v.low_watermark, v.error_code))) (int32 ⊗ int64 ⊗ int16)
+
+-- A topic, in the reply of DeleteRecords.
+unfoldable pub delete_records_topic_reply : Codec DeleteRecordsTopicReply
+delete_records_topic_reply = via (λ p. record { name = p.0; partitions = p.1 }) (λ v. (v.name, v.partitions)) (string ⊗ array delete_records_partition_reply)
+
+-- The reply of DeleteRecords, version 0.
+unfoldable pub delete_records_reply : Codec DeleteRecordsReply
+delete_records_reply = via (λ p. record { throttle_time_ms = p.0; topics = p.1 }) (λ v. (v.throttle_time_ms, v.topics)) (int32 ⊗ array delete_records_topic_reply)
+
+-- A partition, in a request of Fetch, version 5.
+unfoldable pub fetch_partition_v5 : Codec FetchPartitionV5
+fetch_partition_v5 = via (λ p. record { partition = p.0; fetch_offset = p.1.0; log_start_offset = p.1.1.0; partition_max_bytes = p.1.1.1 }) (λ v. (v.partition, (v.fetch_offset, (v.log_start_offset, v.partition_max_bytes)))) (int32 ⊗ int64 ⊗ int64 ⊗ int32)
+
+-- A topic, in a request of Fetch, version 5.
+unfoldable pub fetch_topic_v5 : Codec FetchTopicV5
+fetch_topic_v5 = via (λ p. record { topic = p.0; partitions = p.1 }) (λ v. (v.topic, v.partitions)) (string ⊗ array fetch_partition_v5)
+
+-- A request of Fetch, version 5.
+unfoldable pub fetch_request_v5 : Codec FetchRequestV5
+fetch_request_v5 = via (λ p. record { replica_id = p.0; max_wait_ms = p.1.0; min_bytes = p.1.1.0; max_bytes = p.1.1.1.0; isolation_level = p.1.1.1.1.0; topics = p.1.1.1.1.1 }) (λ v. (v.replica_id, (v.max_wait_ms, (v.min_bytes, (v.max_bytes, (v.isolation_level, v.topics)))))) (int32 ⊗ int32 ⊗ int32 ⊗ int32 ⊗ int8 ⊗ array fetch_topic_v5)
+
+-- A partition, in the reply of Fetch, version 5.
+unfoldable pub fetch_partition_reply_v5 : Codec FetchPartitionReplyV5
+fetch_partition_reply_v5 = via (λ p. record { partition = p.0; error_code = p.1.0; high_watermark = p.1.1.0; last_stable_offset = p.1.1.1.0; log_start_offset = p.1.1.1.1.0; aborted_transactions = p.1.1.1.1.1.0; records = p.1.1.1.1.1.1 }) (λ v. (v.partition, (v.error_code, (v.high_watermark, (v.last_stable_offset, (v.log_start_offset, (v.aborted_transactions, v.records))))))) (int32 ⊗ int16 ⊗ int64 ⊗ int64 ⊗ int64 ⊗ nullable_array aborted_transaction ⊗ nullable_blob)
+
+-- A topic, in the reply of Fetch, version 5.
+unfoldable pub fetch_topic_reply_v5 : Codec FetchTopicReplyV5
+fetch_topic_reply_v5 = via (λ p. record { topic = p.0; partitions = p.1 }) (λ v. (v.topic, v.partitions)) (string ⊗ array fetch_partition_reply_v5)
+
+-- The reply of Fetch, version 5.
+unfoldable pub fetch_reply_v5 : Codec FetchReplyV5
+fetch_reply_v5 = via (λ p. record { throttle_time_ms = p.0; topics = p.1 }) (λ v. (v.throttle_time_ms, v.topics)) (int32 ⊗ array fetch_topic_reply_v5)
+
+-- A request of Metadata, version 0.
+unfoldable pub metadata_request_v0 : Codec MetadataRequestV0
+metadata_request_v0 = via (λ p. record { topics = p }) (λ v. v.topics) (array string)
+
+-- A request of Metadata, version 4.
+unfoldable pub metadata_request_v4 : Codec MetadataRequestV4
+metadata_request_v4 = via (λ p. record { topics = p.0; allow_auto_topic_creation = p.1 }) (λ v. (v.topics, v.allow_auto_topic_creation)) (nullable_array string ⊗ boolean)
+
+-- A broker, in the reply of Metadata, version 0.
+unfoldable pub metadata_broker_v0 : Codec MetadataBrokerV0
+metadata_broker_v0 = via (λ p. record { node_id = p.0; host = p.1.0; port = p.1.1 }) (λ v. (v.node_id, (v.host, v.port))) (int32 ⊗ string ⊗ int32)
+
+-- A topic, in the reply of Metadata, version 0.
+unfoldable pub metadata_topic_v0 : Codec MetadataTopicV0
+metadata_topic_v0 = via (λ p. record { error_code = p.0; name = p.1.0; partitions = p.1.1 }) (λ v. (v.error_code, (v.name, v.partitions))) (int16 ⊗ string ⊗ array metadata_partition)
+
+-- The reply of Metadata, version 0.
+unfoldable pub metadata_reply_v0 : Codec MetadataReplyV0
+metadata_reply_v0 = via (λ p. record { brokers = p.0; topics = p.1 }) (λ v. (v.brokers, v.topics)) (array metadata_broker_v0 ⊗ array metadata_topic_v0)
+
+-- The reply of Metadata, version 2.
+unfoldable pub metadata_reply_v2 : Codec MetadataReplyV2
+metadata_reply_v2 = via (λ p. record { brokers = p.0; cluster_id = p.1.0; controller_id = p.1.1.0; topics = p.1.1.1 }) (λ v. (v.brokers, (v.cluster_id, (v.controller_id, v.topics)))) (array metadata_broker ⊗ nullable_string ⊗ int32 ⊗ array metadata_topic)
+
+-- The reply of Metadata, versions 3 and 4.
+unfoldable pub metadata_reply_v3 : Codec MetadataReplyV3
+metadata_reply_v3 = via (λ p. record { throttle_time_ms = p.0; brokers = p.1.0; cluster_id = p.1.1.0; controller_id = p.1.1.1.0; topics = p.1.1.1.1 }) (λ v. (v.throttle_time_ms, (v.brokers, (v.cluster_id, (v.controller_id, v.topics))))) (int32 ⊗ array metadata_broker ⊗ nullable_string ⊗ int32 ⊗ array metadata_topic)
+
+-- A request of CreateTopics, version 1.
+unfoldable pub create_topics_request_v1 : Codec CreateTopicsRequestV1
+create_topics_request_v1 = via (λ p. record { topics = p.0; timeout_ms = p.1.0; validate_only = p.1.1 }) (λ v. (v.topics, (v.timeout_ms, v.validate_only))) (array create_topic ⊗ int32 ⊗ boolean)
+
+-- A topic, in the reply of CreateTopics, version 1.
+unfoldable pub create_topic_reply_v1 : Codec CreateTopicReplyV1
+create_topic_reply_v1 = via (λ p. record { name = p.0; error_code = p.1.0; error_message = p.1.1 }) (λ v. (v.name, (v.error_code, v.error_message))) (string ⊗ int16 ⊗ nullable_string)
+
+-- The reply of CreateTopics, version 1.
+unfoldable pub create_topics_reply_v1 : Codec CreateTopicsReplyV1
+create_topics_reply_v1 = via (λ p. record { topics = p }) (λ v. v.topics) (array create_topic_reply_v1)
+
+-- The reply of DeleteTopics, version 1.
+unfoldable pub delete_topics_reply_v1 : Codec DeleteTopicsReplyV1
+delete_topics_reply_v1 = via (λ p. record { throttle_time_ms = p.0; topics = p.1 }) (λ v. (v.throttle_time_ms, v.topics)) (int32 ⊗ array delete_topic_reply)

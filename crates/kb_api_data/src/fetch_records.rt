@@ -2,7 +2,9 @@
 ghost use Rattle.std.specs.Prelude.{◌≡◌, ◌≤◌, ◌<◌, ◌+◌, ◌-◌, ◌^◌, ◌++◌, [], ℕ, List, length, take, drop, OnOk, OnErr, IsOk};
 ghost use Rattle.std.specs.Int.{w32, to_be_bytes};
 ghost use Rattle.kb_api_data.specs.FetchRecords.{answer_front, answer_with, answer_written};
+ghost use Rattle.kb_api_data.specs.FetchRecords.{answer_front_v5, answer_written_v5};
 ghost use Rattle.kb_api_data.specs.Layouts.{fetch_partition_reply};
+ghost use Rattle.kb_api_data.specs.declared.fetch_records_v5.FetchPartitionFrontV5.{FetchPartitionFrontV5};
 
 use crate::fetch::FetchPartitionReply;
 use kb_wire::{Blob, Layout, Sink};
@@ -54,6 +56,8 @@ pub fn count_records(bytes: &mut [u8], start: usize)
     ensures placed { bytes.new ≡ take (start - 4) bytes.old ++ to_be_bytes w32 (length bytes.old - start) ++ drop start bytes.old }
     // A front and the records behind it become the whole answer with these records.
     ensures whole { (before records : List ℕ) (front : FetchPartitionFront) → bytes.old ≡ before ++ answer_front front ++ records → start ≡ length (before ++ answer_front front) → bytes.new ≡ before ++ answer_written front records }
+    // So do those of version 5.
+    ensures whole_v5 { (before records : List ℕ) (front : FetchPartitionFrontV5) → bytes.old ≡ before ++ answer_front_v5 front ++ records → start ≡ length (before ++ answer_front_v5 front) → bytes.new ≡ before ++ answer_written_v5 front records }
 {
     let count = (bytes.len() - start) as u32;
     let place = &mut bytes[start - 4..start];

@@ -6,8 +6,10 @@ use crate::said::Field::{Count, Number, Numbers, Text};
 use crate::said::Said;
 use kb_api_data::{
     CreateAssignment, CreateConfig, CreateTopic, CreateTopicsReply, CreateTopicsRequest,
+    DeleteRecordsPartition, DeleteRecordsPartitionReply, DeleteRecordsReply, DeleteRecordsRequest,
     DeleteTopicsReply, DeleteTopicsRequest, FetchPartition, FetchPartitionFront,
-    FetchPartitionReply, FetchReply, FetchRequest, InitProducerIdReply, InitProducerIdRequest,
+    FetchPartitionReply, FetchPartitionReplyV5, FetchPartitionV5, FetchReply, FetchReplyV5,
+    FetchRequest, FetchRequestV5, InitProducerIdReply, InitProducerIdRequest,
     ListOffsetsPartitionReply, ListOffsetsReply, ListOffsetsRequest, MetadataPartition,
     MetadataReply, MetadataRequest, ProducePartitionReply, ProduceReply, ProduceRequest,
 };
@@ -23,10 +25,12 @@ pub fn read_request(
     match kind {
         "ProduceRequest" => read_back::<ProduceRequest>(alloc, longer, said),
         "FetchRequest" => read_back::<FetchRequest>(alloc, longer, said),
+        "FetchRequestV5" => read_back::<FetchRequestV5>(alloc, longer, said),
         "ListOffsetsRequest" => read_back::<ListOffsetsRequest>(alloc, longer, said),
         "MetadataRequest" => read_back::<MetadataRequest>(alloc, longer, said),
         "CreateTopicsRequest" => read_back::<CreateTopicsRequest>(alloc, longer, said),
         "DeleteTopicsRequest" => read_back::<DeleteTopicsRequest>(alloc, longer, said),
+        "DeleteRecordsRequest" => read_back::<DeleteRecordsRequest>(alloc, longer, said),
         "InitProducerIdRequest" => read_back::<InitProducerIdRequest>(alloc, longer, said),
         _ => read_reply(alloc, kind, longer, said),
     }
@@ -37,10 +41,12 @@ fn read_reply(alloc: Global, kind: &str, longer: &[u8], said: &mut Said) -> Resu
     match kind {
         "ProduceReply" => read_back::<ProduceReply>(alloc, longer, said),
         "FetchReply" => read_back::<FetchReply>(alloc, longer, said),
+        "FetchReplyV5" => read_back::<FetchReplyV5>(alloc, longer, said),
         "ListOffsetsReply" => read_back::<ListOffsetsReply>(alloc, longer, said),
         "MetadataReply" => read_back::<MetadataReply>(alloc, longer, said),
         "CreateTopicsReply" => read_back::<CreateTopicsReply>(alloc, longer, said),
         "DeleteTopicsReply" => read_back::<DeleteTopicsReply>(alloc, longer, said),
+        "DeleteRecordsReply" => read_back::<DeleteRecordsReply>(alloc, longer, said),
         "InitProducerIdReply" => read_back::<InitProducerIdReply>(alloc, longer, said),
         _ => read_within(alloc, kind, longer, said),
     }
@@ -57,9 +63,15 @@ fn read_within(
         "ProducePartitionReply" => read_back::<ProducePartitionReply>(alloc, longer, said),
         "FetchPartition" => read_back::<FetchPartition>(alloc, longer, said),
         "FetchPartitionReply" => read_back::<FetchPartitionReply>(alloc, longer, said),
+        "FetchPartitionV5" => read_back::<FetchPartitionV5>(alloc, longer, said),
+        "FetchPartitionReplyV5" => read_back::<FetchPartitionReplyV5>(alloc, longer, said),
         "ListOffsetsPartitionReply" => read_back::<ListOffsetsPartitionReply>(alloc, longer, said),
         "MetadataPartition" => read_back::<MetadataPartition>(alloc, longer, said),
         "CreateTopic" => read_back::<CreateTopic>(alloc, longer, said),
+        "DeleteRecordsPartition" => read_back::<DeleteRecordsPartition>(alloc, longer, said),
+        "DeleteRecordsPartitionReply" => {
+            read_back::<DeleteRecordsPartitionReply>(alloc, longer, said)
+        }
         _ => read_greeting(alloc, kind, longer, said),
     }
 }
@@ -140,6 +152,54 @@ impl Describe for FetchPartitionReply<'_> {
     }
 }
 
+impl Describe for FetchRequestV5<'_> {
+    fn describe(&self, said: &mut Said) -> Result<(), AllocError> {
+        said.fields(&[
+            ("replica_id", Number(self.replica_id as i64)),
+            ("max_wait_ms", Number(self.max_wait_ms as i64)),
+            ("min_bytes", Number(self.min_bytes as i64)),
+            ("max_bytes", Number(self.max_bytes as i64)),
+            ("isolation_level", Number(self.isolation_level as i64)),
+            ("topics", Count(self.topics.len())),
+        ])
+    }
+}
+
+impl Describe for FetchPartitionV5 {
+    fn describe(&self, said: &mut Said) -> Result<(), AllocError> {
+        said.fields(&[
+            ("partition", Number(self.partition as i64)),
+            ("fetch_offset", Number(self.fetch_offset as i64)),
+            ("log_start_offset", Number(self.log_start_offset as i64)),
+            (
+                "partition_max_bytes",
+                Number(self.partition_max_bytes as i64),
+            ),
+        ])
+    }
+}
+
+impl Describe for FetchReplyV5<'_> {
+    fn describe(&self, said: &mut Said) -> Result<(), AllocError> {
+        said.fields(&[
+            ("throttle_time_ms", Number(self.throttle_time_ms as i64)),
+            ("topics", Count(self.topics.len())),
+        ])
+    }
+}
+
+impl Describe for FetchPartitionReplyV5<'_> {
+    fn describe(&self, said: &mut Said) -> Result<(), AllocError> {
+        said.fields(&[
+            ("partition", Number(self.partition as i64)),
+            ("error_code", Number(self.error_code as i64)),
+            ("high_watermark", Number(self.high_watermark as i64)),
+            ("last_stable_offset", Number(self.last_stable_offset as i64)),
+            ("log_start_offset", Number(self.log_start_offset as i64)),
+        ])
+    }
+}
+
 impl Describe for ListOffsetsRequest<'_> {
     fn describe(&self, said: &mut Said) -> Result<(), AllocError> {
         said.fields(&[
@@ -208,6 +268,43 @@ impl Describe for DeleteTopicsRequest<'_> {
 impl Describe for DeleteTopicsReply<'_> {
     fn describe(&self, said: &mut Said) -> Result<(), AllocError> {
         said.fields(&[("topics", Count(self.topics.len()))])
+    }
+}
+
+impl Describe for DeleteRecordsRequest<'_> {
+    fn describe(&self, said: &mut Said) -> Result<(), AllocError> {
+        said.fields(&[
+            ("topics", Count(self.topics.len())),
+            ("timeout_ms", Number(self.timeout_ms as i64)),
+        ])
+    }
+}
+
+impl Describe for DeleteRecordsPartition {
+    fn describe(&self, said: &mut Said) -> Result<(), AllocError> {
+        said.fields(&[
+            ("partition", Number(self.partition as i64)),
+            ("offset", Number(self.offset as i64)),
+        ])
+    }
+}
+
+impl Describe for DeleteRecordsReply<'_> {
+    fn describe(&self, said: &mut Said) -> Result<(), AllocError> {
+        said.fields(&[
+            ("throttle_time_ms", Number(self.throttle_time_ms as i64)),
+            ("topics", Count(self.topics.len())),
+        ])
+    }
+}
+
+impl Describe for DeleteRecordsPartitionReply {
+    fn describe(&self, said: &mut Said) -> Result<(), AllocError> {
+        said.fields(&[
+            ("partition", Number(self.partition as i64)),
+            ("low_watermark", Number(self.low_watermark as i64)),
+            ("error_code", Number(self.error_code as i64)),
+        ])
     }
 }
 

@@ -7,7 +7,7 @@ pub write-requires : goal.write-requires
 write-requires c κs = ((refl, tt), answer_fits _ _ _ _ c.new.result c.new.ensures)
 
 pub returns-clause-succeeds : goal.returns-clause-succeeds
-returns-clause-succeeds c = λ room. c.write.ensures.succeeds (within _ _ (answer_len _ _ _ _ c.new.result c.new.ensures) room)
+returns-clause-succeeds c = λ room. c.write.ensures.succeeds (within _ _ _ (answer_len _ _ _ _ c.new.result c.new.ensures) room)
 
 pub returns-clause-spelled : goal.returns-clause-spelled
 returns-clause-spelled c =
@@ -22,4 +22,4 @@ returns-clause-size c =
 pub returns-clause-room : goal.returns-clause-room
 returns-clause-room c =
     let len = answer_len _ _ _ _ c.new.result c.new.ensures in
-    on_ok_weaker c.write.result (λ h. less _ _ _ len h) c.write.ensures.room
+    on_ok_weaker c.write.result (λ h. less _ _ _ _ len h) c.write.ensures.room

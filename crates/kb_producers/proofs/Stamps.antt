@@ -15,6 +15,7 @@ kept_of_stamped base s fits long = λ i. record {
   base_sequence = sym (base_sequence_of-stamped base s long) i;
   last_sequence = last_sequence (sym (base_sequence_of-stamped base s long) i) (sym (count_of-stamped base s long) i);
   base_offset = sym (base_offset_of-stamped base s fits) i;
+  record_count = sym (count_of-stamped base s long) i;
 }
 
 -- one batch more

@@ -14,6 +14,7 @@ kept_of s = record {
   base_sequence = base_sequence_of s;
   last_sequence = last_sequence (base_sequence_of s) (count_of s);
   base_offset = base_offset_of s;
+  record_count = count_of s;
 }
 
 -- The producer has an id.

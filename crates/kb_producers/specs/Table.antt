@@ -1,5 +1,5 @@
 -- What the table of a partition's producers stands for.
-use Rattle.std.specs.Prelude.{◌≡◌, ◌<◌, ℕ, ℤ, List, [], ◌∷◌, length, take, reverse, Option, Some, None, int_lt, if◌then◌else◌}
+use Rattle.std.specs.Prelude.{◌≡◌, ◌<◌, ◌+ℤ◌, ℕ, ℤ, pos, List, [], ◌∷◌, length, take, reverse, Option, Some, None, int_le, if◌then◌else◌}
 use Rattle.kb_producers.specs.declared.kept.Kept.{Kept}
 use Rattle.kb_producers.specs.declared.producer.Producer.{Producer}
 use Rattle.kb_producers.specs.Recent.{recent_of}
@@ -10,10 +10,14 @@ pub record TableState : Type 0 where
   pub kept : List Kept
   pub room : ℕ
 
--- The list from the first batch on that does not begin below the start.
+-- The offset behind its last record.
+abbrev pub end_of : Kept → ℤ
+end_of k = k.base_offset +ℤ pos k.record_count
+
+-- The list from the first batch on that ends above the start.
 unfoldable pub since : ℤ → List Kept → List Kept
 since start [] = []
-since start (k ∷ ks) = if int_lt k.base_offset start then since start ks else k ∷ ks
+since start (k ∷ ks) = if int_le (end_of k) start then since start ks else k ∷ ks
 
 -- What is kept of a producer is told by its batches: nothing where it has none.
 abbrev pub IsSummary : List Kept → Option Producer → Type 0

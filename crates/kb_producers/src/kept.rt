@@ -1,5 +1,5 @@
 //! What idempotence keeps of a batch.
-ghost use Rattle.std.specs.Prelude.{◌≡◌};
+ghost use Rattle.std.specs.Prelude.{◌≡◌, int_le};
 
 /// A batch of an idempotent producer, as far as later batches of it are judged by it.
 #[derive(Clone, Copy, Debug, PartialEq, Eq)]
@@ -13,9 +13,21 @@ pub struct Kept {
     pub last_sequence: i32,
     /// The offset of its first record in the partition.
     pub base_offset: i64,
+    /// How many records it has.
+    pub record_count: u32,
 }
 
 impl Kept {
+    ghost use Rattle.kb_producers.specs.Table.{end_of};
+
+    /// Whether it ends at that offset or below, so that no record of it is at the offset or above.
+    pub(crate) fn ends_by(&self, offset: i64) -> bool
+        ensures { result ≡ int_le (end_of self.now) offset }
+    {
+        // The end may lie above the greatest offset.
+        self.base_offset as i128 + self.record_count as i128 <= offset as i128
+    }
+
     /// The same batch, at another offset.
     pub(crate) fn at(self, base_offset: i64) -> Kept
         ensures { result ≡ record self { base_offset = base_offset } }
@@ -26,6 +38,7 @@ impl Kept {
             base_sequence: self.base_sequence,
             last_sequence: self.last_sequence,
             base_offset,
+            record_count: self.record_count,
         }
     }
 }

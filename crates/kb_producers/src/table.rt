@@ -96,13 +96,13 @@ impl ProducerTable {
         }
     }
 
-    /// Drops the batches that begin below the start, as a log drops them from its front.
+    /// Drops the batches that end at the start or below, as a log drops them from its front. The one that holds the start stays.
     #[tactic(auto, unfolding(crate::specs::Table::since))]
     pub fn dropped_below(&mut self, start: i64)
         ensures { self.new.kept ≡ since start self.old.kept }
     {
         while let Some(first) = self.list.front() {
-            if first.base_offset >= start {
+            if !first.ends_by(start) {
                 return;
             }
             self.drop_first();

@@ -71,6 +71,7 @@ plain-parks node k clock n gs key version body =
       find_coordinator = λ r read deadline places e. absurd (cc);
       create_topics = λ r read deadline places e. absurd (cc);
       delete_topics = λ r read deadline places e. absurd (cc);
+      delete_records = λ r read deadline places e. absurd (cc);
       init_producer_id = λ r read deadline places e. absurd (cc);
       shut = λ deadline places e. absurd (cc);
     })

@@ -20,6 +20,12 @@ const APPEND: &str = "produce hi";
 /// It is appended at 0.
 const APPENDED: &str = "produced 0000 0000000000000000 ffffffffffffffff 00000000";
 
+/// DeleteRecords of `t` to 1.
+const DELETE: &str = "00000025 0015 0000 00000046 ffff t/0 0000000000000001 000003e8";
+
+/// It starts at 1.
+const DELETED: &str = "00000021 00000046 00000000 t/0 0000000000000001 0000";
+
 /// OffsetCommit: the group `g` commits 5 to `t`, with metadata `m`.
 const COMMIT: &str =
     "00000035 0008 0002 0000003c ffff 0001 'g ffffffff 0000 ffffffffffffffff 00000001 0001 't \
@@ -36,9 +42,14 @@ const NO_OFFSET_OR_5: [&str; 2] = [
 ];
 
 /// Requests, each with its reply, and with what is answered where memory is refused.
-const REQUESTS: [[&str; 3]; 3] = [
+const REQUESTS: [[&str; 3]; 4] = [
     [CREATE, CREATED, "0000000d 0000000a 00000001 0001 't ffff"],
     [APPEND, APPENDED, "produced ffff nowhere 00000000"],
+    [
+        DELETE,
+        DELETED,
+        "00000021 00000046 00000000 t/0 ffffffffffffffff ffff",
+    ],
     [
         COMMIT,
         "00000015 0000003c 00000001 0001 't 00000001 00000000 0000",

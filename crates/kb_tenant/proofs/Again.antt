@@ -12,7 +12,7 @@ use Rattle.kb_world.specs.World.{World, new_world}
 use Rattle.kb_world.specs.declared.place.Place.{Place}
 use Rattle.kb_tenant.specs.Fetch.{fetch_answer, places_in, places_of}
 use Rattle.kb_tenant.specs.OffsetCommit.{committed_all, refusal_of}
-use Rattle.kb_tenant.specs.Serve.{Outcome, of_produce, of_offset_commit, of_create_topics, of_delete_topics, of_init_producer_id, served}
+use Rattle.kb_tenant.specs.Serve.{Outcome, of_produce, of_offset_commit, of_create_topics, of_delete_records, of_delete_topics, of_init_producer_id, served}
 use Rattle.kb_tenant.specs.Waiting.{AreNamedApart, HasOwnNames}
 use Rattle.kb_tenant.specs.declared.node.Node.{Node}
 use Rattle.kb_tenant.proofs.Asked.{Finds, all_found}
@@ -21,6 +21,7 @@ use Rattle.kb_tenant.proofs.CommitMoves.{commit_moves, commit_names}
 use Rattle.kb_tenant.proofs.CreateMoves.{create_moves}
 use Rattle.kb_tenant.proofs.Losing.{create_apart, delete_loses, produce_loses}
 use Rattle.kb_tenant.proofs.Moves.{Moves, waits_through}
+use Rattle.kb_tenant.proofs.RecordsMoves.{records_alike}
 use Rattle.kb_tenant.proofs.RetainMoves.{retain_alike}
 use Rattle.kb_tenant.proofs.ServeMoves.{committed_waits, init_moves, init_topics, nowhere}
 
@@ -78,6 +79,7 @@ served_again node w n key version body r deadline tied own waits =
       find_coordinator = λ q read after. refl;
       create_topics = λ q read after. untold w (of_create_topics w q).world (create_moves w q) tied r deadline waits;
       delete_topics = λ q read after. places_back w (of_delete_topics w q).world ((delete_loses w q).before own) r deadline after;
+      delete_records = λ q read after. same_places w (of_delete_records w q).world (records_alike w q).names r;
       init_producer_id = λ q read after. untold w (of_init_producer_id w q).world (init_moves w q) tied r deadline waits;
       shut = λ after. refl;
     })
@@ -99,6 +101,7 @@ served_names node w n key version body own = by_request (λ (o : Outcome). HasOw
   find_coordinator = λ q read. own;
   create_topics = λ q read. create_apart w q own;
   delete_topics = λ q read. (delete_loses w q).apart own;
+  delete_records = λ q read. (records_alike w q).apart own;
   init_producer_id = λ q read. subst AreNamedApart (sym (init_topics w q)) own;
   shut = own;
 })

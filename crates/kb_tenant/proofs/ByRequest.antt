@@ -4,8 +4,9 @@ use Rattle.std.specs.Prelude.{pos, Result, Ok, Err, if◌then◌else◌}
 use Rattle.std.specs.Ordering.{int_eq}
 use Rattle.kb_wire.specs.Codec.{whole}
 use Rattle.kb_wire.specs.declared.fault.WireFault.{WireFault}
-use Rattle.kb_api_data.specs.Layouts.{produce_request, fetch_request, list_offsets_request, metadata_request, create_topics_request, delete_topics_request, init_producer_id_request}
+use Rattle.kb_api_data.specs.Layouts.{produce_request, fetch_request, list_offsets_request, metadata_request, create_topics_request, delete_records_request, delete_topics_request, init_producer_id_request}
 use Rattle.kb_api_data.specs.declared.create_topics.CreateTopicsRequest.{CreateTopicsRequest}
+use Rattle.kb_api_data.specs.declared.delete_records.DeleteRecordsRequest.{DeleteRecordsRequest}
 use Rattle.kb_api_data.specs.declared.delete_topics.DeleteTopicsRequest.{DeleteTopicsRequest}
 use Rattle.kb_api_data.specs.declared.fetch.FetchRequest.{FetchRequest}
 use Rattle.kb_api_data.specs.declared.init_producer_id.InitProducerIdRequest.{InitProducerIdRequest}
@@ -18,7 +19,7 @@ use Rattle.kb_api_group.specs.declared.offset_commit.OffsetCommitRequest.{Offset
 use Rattle.kb_api_group.specs.declared.offset_fetch.OffsetFetchRequest.{OffsetFetchRequest}
 use Rattle.kb_world.specs.World.{World}
 use Rattle.kb_tenant.specs.Replies.{Shuts}
-use Rattle.kb_tenant.specs.Serve.{Outcome, if_read, of_produce, of_fetch, of_list_offsets, of_metadata, of_offset_commit, of_offset_fetch, of_find_coordinator, of_create_topics, of_delete_topics, of_init_producer_id, served, stays}
+use Rattle.kb_tenant.specs.Serve.{Outcome, if_read, of_produce, of_fetch, of_list_offsets, of_metadata, of_offset_commit, of_offset_fetch, of_find_coordinator, of_create_topics, of_delete_records, of_delete_topics, of_init_producer_id, served, stays}
 use Rattle.kb_tenant.specs.declared.node.Node.{Node}
 
 -- It holds of what each API's request comes to, where the body is one, and of a connection that is shut.
@@ -32,6 +33,7 @@ pub record Cases (P : Outcome → Type 0) (node : Node) (w : World) (body : List
   pub find_coordinator : (r : FindCoordinatorRequest) → whole find_coordinator_request body ≡ Ok r → P (of_find_coordinator node w r)
   pub create_topics : (r : CreateTopicsRequest) → whole create_topics_request body ≡ Ok r → P (of_create_topics w r)
   pub delete_topics : (r : DeleteTopicsRequest) → whole delete_topics_request body ≡ Ok r → P (of_delete_topics w r)
+  pub delete_records : (r : DeleteRecordsRequest) → whole delete_records_request body ≡ Ok r → P (of_delete_records w r)
   pub init_producer_id : (r : InitProducerIdRequest) → whole init_producer_id_request body ≡ Ok r → P (of_init_producer_id w r)
   pub shut : P (stays w Shuts)
 
@@ -48,6 +50,7 @@ unfolding served
 by_request P node w n key version body c =
     let shut : Outcome = stays w Shuts in
     let inits : Outcome = if_read w (whole init_producer_id_request body) (of_init_producer_id w) in
+    let trims : Outcome = if_read w (whole delete_records_request body) (of_delete_records w) in
     let deletes : Outcome = if_read w (whole delete_topics_request body) (of_delete_topics w) in
     let creates : Outcome = if_read w (whole create_topics_request body) (of_create_topics w) in
     let finds : Outcome = if_read w (whole find_coordinator_request body) (of_find_coordinator node w) in
@@ -58,7 +61,8 @@ by_request P node w n key version body c =
     let fetches : Outcome = if_read w (whole fetch_request body) (of_fetch w) in
     let produces : Outcome = if_read w (whole produce_request body) (of_produce w) in
     let from_22 : Outcome = if int_eq key (pos 22) then inits else shut in
-    let from_20 : Outcome = if int_eq key (pos 20) then deletes else from_22 in
+    let from_21 : Outcome = if int_eq key (pos 21) then trims else from_22 in
+    let from_20 : Outcome = if int_eq key (pos 20) then deletes else from_21 in
     let from_19 : Outcome = if int_eq key (pos 19) then creates else from_20 in
     let from_10 : Outcome = if int_eq key (pos 10) then finds else from_19 in
     let from_9 : Outcome = if int_eq key (pos 9) then asks else from_10 in
@@ -74,5 +78,6 @@ by_request P node w n key version body c =
     (either P (int_eq key (pos 9)) asks from_10 (read_by P w (whole offset_fetch_request body) (of_offset_fetch w) c.offset_fetch c.shut)
     (either P (int_eq key (pos 10)) finds from_19 (read_by P w (whole find_coordinator_request body) (of_find_coordinator node w) c.find_coordinator c.shut)
     (either P (int_eq key (pos 19)) creates from_20 (read_by P w (whole create_topics_request body) (of_create_topics w) c.create_topics c.shut)
-    (either P (int_eq key (pos 20)) deletes from_22 (read_by P w (whole delete_topics_request body) (of_delete_topics w) c.delete_topics c.shut)
-    (either P (int_eq key (pos 22)) inits shut (read_by P w (whole init_producer_id_request body) (of_init_producer_id w) c.init_producer_id c.shut) c.shut)))))))))
+    (either P (int_eq key (pos 20)) deletes from_21 (read_by P w (whole delete_topics_request body) (of_delete_topics w) c.delete_topics c.shut)
+    (either P (int_eq key (pos 21)) trims from_22 (read_by P w (whole delete_records_request body) (of_delete_records w) c.delete_records c.shut)
+    (either P (int_eq key (pos 22)) inits shut (read_by P w (whole init_producer_id_request body) (of_init_producer_id w) c.init_producer_id c.shut) c.shut))))))))))

@@ -8,6 +8,7 @@ pub mod Coordinator
 pub mod CreateMoves
 pub mod Creating
 pub mod DeleteMoves
+pub mod DeletedRecords
 pub mod Deleting
 pub mod Described
 pub mod Entries
@@ -30,6 +31,7 @@ pub mod Refused
 pub mod Refusing
 pub mod Repeats
 pub mod Replies
+pub mod RecordsMoves
 pub mod RetainMoves
 pub mod ServeMoves
 pub mod Serving

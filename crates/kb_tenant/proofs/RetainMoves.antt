@@ -53,7 +53,7 @@ started_alike k new i p start (Some q) e = by (int_le q.start start) e
         subst (IsAlike k) same (put_alike k i p (with_start q start) (topic_at i k.topics) refl)
     by false is = absurd cc
 
-step_alike : (k new : Known) (i p : ℕ) (start : ℤ) → step k (start_command (pos i) (pos p) start) ≡ Some new → IsAlike k new
+pub step_alike : (k new : Known) (i p : ℕ) (start : ℤ) → step k (start_command (pos i) (pos p) start) ≡ Some new → IsAlike k new
 step_alike k new i p start e = started_alike k new i p start (partition_at k (pos i) (pos p)) e
 
 -- ---- the logs
@@ -69,20 +69,20 @@ dropped_elsewhere place other start ls (Some l) ne = log_elsewhere place other (
 
 -- ---- the world
 
-abbrev moved : World → Place → ℕ → Known → World
-moved w place start k = record w { known = k; logs = without_below place.instance place.number (pos start) (log_in w place) w.logs }
+abbrev moved : World → Place → ℤ → Known → World
+moved w place start k = record w { known = k; logs = without_below place.instance place.number start (log_in w place) w.logs }
 
-moved_moves : (w : World) (place : Place) (start : ℕ) (k : Known) → IsAlike w.known k → Moves [] (place ∷ []) w (moved w place start k)
+pub moved_moves : (w : World) (place : Place) (start : ℤ) (k : Known) → IsAlike w.known k → Moves [] (place ∷ []) w (moved w place start k)
 moved_moves w place start k alike = record {
   tied = λ t. record {
     next = λ i le. alike.none i (t.next i (subst (λ n. n ≤ i) alike.creates le));
-    logs = dropped_counts place (pos start) w.logs (log_in w place) ∙ t.logs ∙ sym alike.counts;
+    logs = dropped_counts place start w.logs (log_in w place) ∙ t.logs ∙ sym alike.counts;
   };
   clock = refl;
   told = λ other at. absurd (none_in other at);
   held = λ t name other log none h.
       let apart : other ≡ place → ⊥ = λ same. none (subst (λ x. Contains (x ∷ []) other) same (here_first other [])) in
-      record { topic = alike.names name ∙ h.topic; there = dropped_elsewhere place other (pos start) w.logs (log_in w place) apart ∙ h.there };
+      record { topic = alike.names name ∙ h.topic; there = dropped_elsewhere place other start w.logs (log_in w place) apart ∙ h.there };
 }
   where
     none_in : (other : Place) → Contains [] other → ⊥
@@ -90,7 +90,7 @@ moved_moves w place start k alike = record {
 
 stepped_moves : (w : World) (place : Place) (start : ℕ) (o : Option Known) → step w.known (start_command (pos place.instance) (pos place.number) (pos start)) ≡ o → Moves [] (place ∷ []) w (moved_to w place start o).0
 stepped_moves w place start None e = stays_told w [] (place ∷ [])
-stepped_moves w place start (Some k) e = moved_moves w place start k (step_alike w.known k place.instance place.number (pos start) e)
+stepped_moves w place start (Some k) e = moved_moves w place (pos start) k (step_alike w.known k place.instance place.number (pos start) e)
 
 due_moves : (w : World) (place : Place) (o : Option ℕ) → Moves [] (place ∷ []) w (retained_from w place o).0
 due_moves w place None = stays_told w [] (place ∷ [])

@@ -25,6 +25,7 @@ use Rattle.kb_tenant.proofs.CreateMoves.{create_moves}
 use Rattle.kb_tenant.proofs.DeleteMoves.{delete_moves}
 use Rattle.kb_tenant.proofs.Moves.{Moves, stays_same, waits_through}
 use Rattle.kb_tenant.proofs.ProduceMoves.{produce_moves}
+use Rattle.kb_tenant.proofs.RecordsMoves.{records_moves}
 use Rattle.kb_tenant.proofs.RetainMoves.{retain_moves}
 
 -- ---- InitProducerId
@@ -79,6 +80,7 @@ serve_leaves node w n key version body = by_request (Leaves w) node w n key vers
   find_coordinator = λ r read. stays_same w [];
   create_topics = λ r read. create_moves w r;
   delete_topics = λ r read. delete_moves w r;
+  delete_records = λ r read. records_moves w r;
   init_producer_id = λ r read. init_moves w r;
   shut = stays_same w [];
 })

@@ -1,6 +1,6 @@
 -- Logs stay small through requests and retention.
 use Rattle.std.proofs.Common.{◌≡◌, ◌≤◌, ◌<◌, ◌^◌, ◌+◌, ℕ, ℤ, zero, suc, Bool, true, false, cond, List, [], ◌∷◌, length, Option, Some, None, Ok, Err, refl, sym, subst, arith}
-use Rattle.std.specs.Prelude.{All, nat_le, pos, is_some, replicate, slice_get, slice_set}
+use Rattle.std.specs.Prelude.{Result, All, nat_le, pos, is_some, replicate, slice_get, slice_set}
 use Rattle.std.specs.List.{AllByRecursion}
 use Rattle.std.specs.Option.{option_and_then}
 use Rattle.std.specs.Ordering.{nat_cmp, match_ordering}
@@ -16,6 +16,8 @@ use Rattle.kb_batch.specs.declared.fault.BatchFault.{BatchFault}
 use Rattle.kb_log.specs.Log.{next_of, starting}
 use Rattle.kb_api_data.specs.declared.create_topics.CreateTopic.{CreateTopic}
 use Rattle.kb_api_data.specs.declared.create_topics.CreateTopicsRequest.{CreateTopicsRequest}
+use Rattle.kb_api_data.specs.declared.delete_records.DeleteRecordsPartition.{DeleteRecordsPartition}
+use Rattle.kb_api_data.specs.declared.delete_records.DeleteRecordsRequest.{DeleteRecordsRequest}
 use Rattle.kb_api_data.specs.declared.delete_topics.DeleteTopicsRequest.{DeleteTopicsRequest}
 use Rattle.kb_api_data.specs.declared.init_producer_id.InitProducerIdRequest.{InitProducerIdRequest}
 use Rattle.kb_api_data.specs.declared.produce.ProducePartition.{ProducePartition}
@@ -34,12 +36,14 @@ use Rattle.kb_topics.specs.Refusals.{create_refusal, issue_refusal}
 use Rattle.kb_topics.specs.declared.config.TopicConfig.{TopicConfig}
 use Rattle.kb_topics.specs.declared.fault.CatalogFault.{CatalogFault}
 use Rattle.kb_partitions.specs.Logs.{LogState, Logs, appended, dropped, log_at, no_log, put_log, with_log, without_below}
+use Rattle.kb_partitions.specs.declared.fault.PartitionFault.{PartitionFault}
 use Rattle.kb_partitions.specs.declared.fault.PartitionFault.TheVariants as partition
-use Rattle.kb_world.specs.Calls.{appended_to, at_clock, created_unless, deleted_at, due, issue, issued_unless, moved_to, retain, retained_from, with_log_at}
+use Rattle.kb_world.specs.Calls.{appended_to, at_clock, created_unless, delete_records, deleted_at, due, issue, issued_unless, moved_to, retain, retained_from, with_log_at}
 use Rattle.kb_world.specs.World.{World, log_in, new_world, place_in}
 use Rattle.kb_world.specs.declared.place.Place.{Place}
 use Rattle.kb_tenant.specs.Batches.{HasSmallLogs, IsSmall}
 use Rattle.kb_tenant.specs.CreateTopics.{created_all, created_topic, made_unless, made_with, refusal, settings_in, stands_twice}
+use Rattle.kb_tenant.specs.DeleteRecords.{deleted as records_deleted, deleted_all as all_records_deleted, deleted_in, deleted_topic as topic_records_deleted}
 use Rattle.kb_tenant.specs.DeleteTopics.{deleted_all, deleted_topic}
 use Rattle.kb_tenant.specs.InitProducerId.{id_given, id_refused, init_producer_id}
 use Rattle.kb_tenant.specs.Produce.{Progress, appended_at, decided, known_place, offered_unless, produced, progress, read_unless, refusal_of, served, served_topic, tried, verdict_on}
@@ -49,6 +53,7 @@ use Rattle.kb_tenant.specs.Turns.{in_turn}
 use Rattle.kb_tenant.specs.declared.node.Node.{Node}
 use Rattle.kb_tenant.proofs.ByRequest.{by_request}
 use Rattle.kb_tenant.proofs.CommitMoves.{commit_logs}
+use Rattle.kb_tenant.proofs.RecordsMoves.{by_deletion}
 
 -- ---- entries under keys
 
@@ -260,6 +265,27 @@ due_keeps : (w : World) (place : Place) (o : Option ℕ) → Keeps w (retained_f
 due_keeps w place None all = all
 due_keeps w place (Some start) all = moved_keeps w place start (step w.known (start_command (pos place.instance) (pos place.number) (pos start))) all
 
+-- ---- DeleteRecords
+
+partition_keeps : (w : World) (place : Place) (offset : ℤ) → Keeps w (delete_records w place offset).0
+partition_keeps w place offset = by_deletion (λ (r : World × Result ℤ PartitionFault). Keeps w r.0) w place (record {
+  refused = λ f all. all;
+  stays = λ start all. all;
+  moves = λ start k e all. below_small place.instance place.number start w.logs (log_in w place) refl all;
+}) offset
+
+deletion_keeps : (topic : Option ℕ) (s : World × List Place) (e : DeleteRecordsPartition) → Keeps s.0 (records_deleted topic s e).0.0
+deletion_keeps topic s e = at (place_in topic e.partition)
+  where
+    at : (o : Option Place) → Keeps s.0 (deleted_in s o e.offset).0.0
+    at None all = all
+    at (Some place) all = partition_keeps s.0 place e.offset all
+
+records_keeps : (w : World) (r : DeleteRecordsRequest) → Keeps w (all_records_deleted (w, []) r).0.0
+records_keeps w r =
+    turns_keep (λ (s : World × List Place). s.0) topic_records_deleted
+    (λ s t. turns_keep (λ (u : World × List Place). u.0) (records_deleted (named t.name s.0.known.topics)) (deletion_keeps (named t.name s.0.known.topics)) s t.partitions) (w, []) r.topics
+
 -- ---- the laws
 
 into : (w : World) → HasSmallLogs w → Has w
@@ -295,6 +321,7 @@ served_small node w n key version body small = out_of (served_by_key node w n ke
   find_coordinator = λ r read all. all;
   create_topics = λ r read. create_keeps w r;
   delete_topics = λ r read. delete_keeps w r;
+  delete_records = λ r read. records_keeps w r;
   init_producer_id = λ r read. init_keeps w r;
   shut = λ all. all;
 }) (into w small))

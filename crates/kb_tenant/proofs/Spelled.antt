@@ -1,12 +1,12 @@
 -- The reply of a fetch is in range, and its lengths and counts fit.
-use Rattle.std.proofs.Common.{◌≡◌, ◌∙◌, ◌≤◌, ◌<◌, ◌^◌, ◌-◌, ◌++◌, ◌||◌, ℕ, ℤ, pos, negsuc, Bool, true, false, List, [], ◌∷◌, length, max, Option, Some, None, Ok, Err, refl, sym, subst, ap, arith, length-append, w16, w32, w64}
+use Rattle.std.proofs.Common.{◌≡◌, ◌≤◌, ◌<◌, ◌^◌, ◌-◌, ◌++◌, ◌||◌, ℕ, ℤ, pos, negsuc, Bool, true, false, List, [], ◌∷◌, length, max, Option, Some, None, Ok, Err, refl, sym, subst, arith, length-append, w16, w32, w64}
 use Rattle.std.specs.Prelude.{All, FitsSigned, if◌then◌else◌, int_lt, nat_le, option_map}
 use Rattle.std.specs.List.{AllByRecursion}
 use Rattle.std.proofs.lemmas.Bool.Decides.{nat_tests}
 use Rattle.std.proofs.lemmas.List.Elements.{All-from_recursion, recursion_from_All}
-use Rattle.kb_wire.specs.Codec.{array, count, counted, int, items, nullable, nullable_counted, octets, sized, string, whole}
+use Rattle.kb_wire.specs.Codec.{count, int, items, nullable, nullable_counted, octets, sized, whole}
 use Rattle.kb_wire.specs.Fits.{null_array_fits, nullable_blob_fits}
-use Rattle.kb_wire.specs.Laws.{IsLawful, bind_ok, guard_passed}
+use Rattle.kb_wire.specs.Laws.{bind_ok, guard_passed}
 use Rattle.kb_wire.specs.declared.fault.WireFault.TheVariants.{Bad}
 use Rattle.kb_batch.specs.Batch.{natural}
 use Rattle.kb_log.specs.Log.{fetched as fetched_of, fitting, from_holding, holds}

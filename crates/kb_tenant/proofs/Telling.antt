@@ -4,7 +4,7 @@ use Rattle.kb_api_data.specs.declared.produce.ProducePartition.{ProducePartition
 use Rattle.kb_api_data.specs.declared.produce.ProducePartitionReply.{ProducePartitionReply}
 use Rattle.kb_partitions.specs.Scene.{Scene}
 use Rattle.kb_world.specs.Parts.{Seen}
-use Rattle.kb_world.specs.Told.{IsDone, IsRefused, Tells}
+use Rattle.kb_world.specs.Told.{IsDone, Tells}
 use Rattle.kb_world.specs.World.{place_in}
 use Rattle.kb_world.specs.declared.place.Place.{Place}
 use Rattle.kb_tenant.specs.Produce.{Progress, answer, answered, batch_in, known_place, served, tried}

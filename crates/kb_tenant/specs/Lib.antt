@@ -1,5 +1,6 @@
 pub mod Batches
 pub mod CreateTopics
+pub mod DeleteRecords
 pub mod DeleteTopics
 pub mod Fetch
 pub mod FindCoordinator

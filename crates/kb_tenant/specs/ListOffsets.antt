@@ -46,14 +46,14 @@ offset_found partition (Ok None) = offset_answered partition (negsuc 0) (negsuc 
 offset_found partition (Ok (Some r)) = offset_answered partition r.timestamp r.offset
 offset_found partition (Err fault) = offset_refused partition (fault_code fault)
 
--- Of a log, timestamp -1 asks the end and -2 the start, and any other the first record that is not older.
+-- Of a log, timestamp -1 asks the end and -2 the start, and any other the first record from the start on that is not older.
 abbrev pub listed_in : ℤ → ℤ → Option LogState → ListOffsetsPartitionReply
 listed_in partition timestamp None = offset_refused partition (code codes.UnknownTopicOrPartition)
 listed_in partition timestamp (Some l) =
     if int_lt timestamp (negsuc 1) then offset_refused partition (code codes.InvalidRequest)
     else (if int_eq timestamp (negsuc 0) then edge_answered partition (Some (pos l.end))
     else (if int_eq timestamp (negsuc 1) then edge_answered partition (Some (pos l.start))
-    else offset_found partition (Ok (first_at timestamp l.batches))))
+    else offset_found partition (Ok (first_at timestamp l.start l.batches))))
 
 -- a partition of the topic of an instance
 abbrev pub listed_at : World → Option ℕ → ℤ → ℤ → ListOffsetsPartitionReply

@@ -6,13 +6,14 @@ use Rattle.kb_wire.specs.declared.fault.WireFault.{WireFault}
 use Rattle.kb_wire.specs.declared.fault.ReadFault.{ReadFault}
 use Rattle.kb_wire.specs.declared.fault.ReadFault.TheVariants as faults
 use Rattle.kb_api_data.specs.Layouts.{produce_request, produce_reply, fetch_request, fetch_reply, list_offsets_request, list_offsets_reply, metadata_request, metadata_reply}
-use Rattle.kb_api_data.specs.Layouts.{create_topics_request, create_topics_reply, delete_topics_request, delete_topics_reply, init_producer_id_request, init_producer_id_reply}
+use Rattle.kb_api_data.specs.Layouts.{create_topics_request, create_topics_reply, delete_topics_request, delete_topics_reply, delete_records_request, delete_records_reply, init_producer_id_request, init_producer_id_reply}
 use Rattle.kb_api_data.specs.declared.produce.ProduceRequest.{ProduceRequest}
 use Rattle.kb_api_data.specs.declared.fetch.FetchRequest.{FetchRequest}
 use Rattle.kb_api_data.specs.declared.fetch.FetchReply.{FetchReply}
 use Rattle.kb_api_data.specs.declared.list_offsets.ListOffsetsRequest.{ListOffsetsRequest}
 use Rattle.kb_api_data.specs.declared.metadata.MetadataRequest.{MetadataRequest}
 use Rattle.kb_api_data.specs.declared.create_topics.CreateTopicsRequest.{CreateTopicsRequest}
+use Rattle.kb_api_data.specs.declared.delete_records.DeleteRecordsRequest.{DeleteRecordsRequest}
 use Rattle.kb_api_data.specs.declared.delete_topics.DeleteTopicsRequest.{DeleteTopicsRequest}
 use Rattle.kb_api_data.specs.declared.init_producer_id.InitProducerIdRequest.{InitProducerIdRequest}
 use Rattle.kb_api_group.specs.Layouts.{find_coordinator_reply, find_coordinator_request, offset_commit_reply, offset_commit_request, offset_fetch_reply, offset_fetch_request}
@@ -22,6 +23,7 @@ use Rattle.kb_api_group.specs.declared.offset_fetch.OffsetFetchRequest.{OffsetFe
 use Rattle.kb_world.specs.World.{World}
 use Rattle.kb_world.specs.declared.place.Place.{Place}
 use Rattle.kb_tenant.specs.CreateTopics.{created_all}
+use Rattle.kb_tenant.specs.DeleteRecords.{deleted_all as records_deleted}
 use Rattle.kb_tenant.specs.DeleteTopics.{deleted_all}
 use Rattle.kb_tenant.specs.Fetch.{deadline_of, fetch_answer, places_of}
 use Rattle.kb_tenant.specs.FindCoordinator.{coordinator}
@@ -82,6 +84,9 @@ of_create_topics w r = let c = created_all w r in record { world = c.0; touched 
 abbrev pub of_delete_topics : World → DeleteTopicsRequest → Outcome
 of_delete_topics w r = let d = deleted_all (w, []) r in record { world = d.0.0; touched = d.0.1; reaction = Replies (delete_topics_reply.written d.1) }
 
+abbrev pub of_delete_records : World → DeleteRecordsRequest → Outcome
+of_delete_records w r = let d = records_deleted (w, []) r in record { world = d.0.0; touched = d.0.1; reaction = Replies (delete_records_reply.written d.1) }
+
 abbrev pub of_init_producer_id : World → InitProducerIdRequest → Outcome
 of_init_producer_id w r = let i = init_producer_id w r in record { world = i.0; touched = []; reaction = Replies (init_producer_id_reply.written i.1) }
 
@@ -93,7 +98,7 @@ if_read w (Ok v) f = f v
 if_read w (Err fault) f = stays w Shuts
 
 -- a request on the connection of number n; 0 is Produce, 1 Fetch, 2 ListOffsets, 3 Metadata, 8 OffsetCommit, 9 OffsetFetch,
--- 10 FindCoordinator, 19 CreateTopics, 20 DeleteTopics, 22 InitProducerId
+-- 10 FindCoordinator, 19 CreateTopics, 20 DeleteTopics, 21 DeleteRecords, 22 InitProducerId
 unfoldable pub served : Node → World → ℕ → ℤ → ℤ → List ℕ → Outcome
 served node w n key version body =
     if int_eq key (pos 0) then if_read w (whole produce_request body) (of_produce w)
@@ -105,6 +110,7 @@ served node w n key version body =
     else if int_eq key (pos 10) then if_read w (whole find_coordinator_request body) (of_find_coordinator node w)
     else if int_eq key (pos 19) then if_read w (whole create_topics_request body) (of_create_topics w)
     else if int_eq key (pos 20) then if_read w (whole delete_topics_request body) (of_delete_topics w)
+    else if int_eq key (pos 21) then if_read w (whole delete_records_request body) (of_delete_records w)
     else if int_eq key (pos 22) then if_read w (whole init_producer_id_request body) (of_init_producer_id w)
     else stays w Shuts
 

@@ -1,15 +1,16 @@
 //! A request of a tenant, by its key.
 ghost use Rattle.std.specs.Prelude.{◌≡◌, [], IfOk, OnErr};
 ghost use Rattle.kb_wire.specs.Codec.{string, whole};
-ghost use Rattle.kb_api_data.specs.Layouts.{produce_request, fetch_request, list_offsets_request, metadata_request, create_topics_request, delete_topics_request, init_producer_id_request};
+ghost use Rattle.kb_api_data.specs.Layouts.{produce_request, fetch_request, list_offsets_request, metadata_request, create_topics_request, delete_records_request, delete_topics_request, init_producer_id_request};
 ghost use Rattle.kb_store.specs.Disk.{Files};
 ghost use Rattle.kb_world.specs.Parts.{scene, world_of};
 ghost use Rattle.kb_world.specs.Steps.{IsStep, Meets};
 ghost use Rattle.kb_tenant.specs.Replies.{IsAnswer};
-ghost use Rattle.kb_tenant.specs.Serve.{if_read, of_produce, of_fetch, of_list_offsets, of_metadata, of_create_topics, of_delete_topics, of_init_producer_id, served, looked, stays, IsOutcome, IsServed};
+ghost use Rattle.kb_tenant.specs.Serve.{if_read, of_produce, of_fetch, of_list_offsets, of_metadata, of_create_topics, of_delete_records, of_delete_topics, of_init_producer_id, served, looked, stays, IsOutcome, IsServed};
 
 use crate::answer::{Answer, begin, finish};
 use crate::create_topics::create_topics;
+use crate::delete_records::delete_records;
 use crate::delete_topics::delete_topics;
 use crate::fetch;
 use crate::fetch::{Fetching, serve_fetch};
@@ -21,8 +22,8 @@ use crate::node::Node;
 use crate::produce::produce;
 use crate::request::{Request, Wait};
 use kb_api_data::{
-    CreateTopicsRequest, DeleteTopicsRequest, FetchRequest, InitProducerIdRequest,
-    ListOffsetsRequest, MetadataRequest, ProduceRequest,
+    CreateTopicsRequest, DeleteRecordsRequest, DeleteTopicsRequest, FetchRequest,
+    InitProducerIdRequest, ListOffsetsRequest, MetadataRequest, ProduceRequest,
 };
 use kb_log::{PartitionLog, Shelf};
 use kb_store::Store;
@@ -155,6 +156,26 @@ fn serve_delete_topics<L: PartitionLog + Drop, S: Store>(
     Ok(finish(sink))
 }
 
+/// DeleteRecords.
+fn serve_delete_records<L: PartitionLog + Drop, S: Store>(
+    alloc: Global,
+    parts: &mut Parts<L>,
+    shelf: &mut Shelf<S>,
+    request: &Request<'_>,
+    touched: &mut Vec<Place>,
+) -> Result<Answer, ReadFault>
+    requires untouched { touched.old.items ≡ [] }
+    requires sound { (scene L.log S.disk parts.old shelf.old).sound }
+    ensures step { IsStep (scene L.log S.disk parts.old shelf.old) (scene L.log S.disk parts.new shelf.new) }
+    ensures meets { let a = scene L.log S.disk parts.old shelf.old in let b = scene L.log S.disk parts.new shelf.new in
+        Meets a b (IsServed request.now.correlation_id (if_read a.state.world (whole delete_records_request request.now.body.now) (of_delete_records a.state.world)) b.state.world touched.new.items result) }
+{
+    let asked = DeleteRecordsRequest::read(alloc, request.body)?;
+    let mut sink = begin(alloc, request.correlation_id)?;
+    delete_records(parts, shelf, &asked, touched, &mut sink)?;
+    Ok(finish(sink))
+}
+
 /// InitProducerId.
 fn serve_init_producer_id<L: PartitionLog + Drop, S: Store>(
     alloc: Global,
@@ -200,6 +221,7 @@ fn serve_by_key<L: PartitionLog + Drop, S: Store>(
         10 => serve_find_coordinator(alloc, node, request),
         19 => serve_create_topics(alloc, parts, shelf, request),
         20 => serve_delete_topics(alloc, parts, shelf, request, touched),
+        21 => serve_delete_records(alloc, parts, shelf, request, touched),
         22 => serve_init_producer_id(alloc, parts, shelf, request),
         _ => Ok(Answer::Shut),
     }

@@ -4,6 +4,7 @@
 
 mod answer;
 mod create_topics;
+mod delete_records;
 mod delete_topics;
 mod dispatch;
 mod fetch;

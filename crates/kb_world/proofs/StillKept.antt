@@ -180,7 +180,7 @@ kept_put u v w w' place le were others kept here q t l at there =
     other : ((q.instance ≡ place.instance) × (q.number ≡ place.number) → ⊥) → IsKeptUntil v t.config.retention_ms t.config.retention_bytes l.start l.end l.batches
     other ne clock early = kept_still u w w' q t l kept (were q.instance t at) (others q.instance q.number l ne there) clock (omega (arith, ints, early, le))
 
-nothing_kept : (clock ms bytes : ℤ) → retained_start clock ms bytes 0 [] ≡ 0
+nothing_kept : (clock ms bytes : ℤ) → retained_start clock ms bytes 0 0 [] ≡ 0
 nothing_kept clock (pos m) (pos b) = refl
 nothing_kept clock (pos m) (negsuc b) = refl
 nothing_kept clock (negsuc m) (pos b) = refl
@@ -193,7 +193,7 @@ kept_created u w w' n count new ts ls kept place t l at there =
       | inl b ↦
           let found : log_at n place.number (with_new_logs n count w.logs) ≡ Some l = ap (λ x. log_at n place.number x) (sym ls) ∙ ap (λ k. log_at k place.number w'.logs) (same_number n place.instance b) ∙ there in
           let empty = new_log count place.number l (sym (ap (option_and_then (λ (x : List LogState). slice_get x place.number)) (inserted_here n (replicate count no_log) w.logs)) ∙ found) in
-          λ clock early. subst (λ (x : LogState). retained_start (pos clock) t.config.retention_ms t.config.retention_bytes x.end x.batches ≡ x.start) (sym empty) (nothing_kept (pos clock) t.config.retention_ms t.config.retention_bytes)
+          λ clock early. subst (λ (x : LogState). retained_start (pos clock) t.config.retention_ms t.config.retention_bytes x.start x.end x.batches ≡ x.start) (sym empty) (nothing_kept (pos clock) t.config.retention_ms t.config.retention_bytes)
       | inr b ↦
           let ne = other_number n place.instance b in
           kept place t l

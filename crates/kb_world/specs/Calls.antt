@@ -1,7 +1,8 @@
 -- What each call makes of a world, and answers, where memory and the store refuse nothing.
-use Rattle.std.specs.Prelude.{ℕ, ℤ, pos, Bool, true, false, List, [], ◌∷◌, length, map, Option, Some, None, Result, Ok, Err, nat_le, int_lt, ◌+◌, ◌^◌, ◌≡◌, ◌++◌, ◌||◌, if◌then◌else◌, option_map}
+use Rattle.std.specs.Prelude.{ℕ, ℤ, pos, negsuc, Bool, true, false, List, [], ◌∷◌, length, map, Option, Some, None, Result, Ok, Err, nat_le, int_lt, ◌+◌, ◌^◌, ◌≡◌, ◌++◌, ◌||◌, if◌then◌else◌, option_map}
 use Rattle.std.specs.List.{flat_map, range_with_len}
 use Rattle.std.specs.Option.{option_and_then}
+use Rattle.std.specs.Ordering.{int_eq}
 use Rattle.kb_batch.specs.Batch.{natural, count_of}
 use Rattle.kb_producers.specs.Batches.{kept_all, kept_of}
 use Rattle.kb_producers.specs.Verdict.{verdict}
@@ -56,9 +57,9 @@ IsGiven (Err g) old (Err f) new = (f ≡ g) × (new ≡ old)
 
 abbrev pub found_in : ℤ → Option LogState → Result (Option OffsetAndTimestamp) PartitionFault
 found_in timestamp None = Err partition.Unknown
-found_in timestamp (Some l) = Ok (first_at timestamp l.batches)
+found_in timestamp (Some l) = Ok (first_at timestamp l.start l.batches)
 
--- the first record, in order of offsets, that is not older than a timestamp
+-- the first record from the start on that is not older than a timestamp
 abbrev pub find : World → Place → ℤ → Result (Option OffsetAndTimestamp) PartitionFault
 find w place timestamp = found_in timestamp (log_in w place)
 
@@ -128,11 +129,47 @@ commit w place group offset metadata = committed_unless w place group (record { 
 abbrev pub committed : World → Place → List ℕ → Option CommittedOffset
 committed w place group = option_and_then (committed_at group) (known_at w.known place)
 
+-- ---- deletion of records
+
+-- the offset that a deletion of records asks for; -1 is the end
+abbrev pub start_asked : ℤ → ℤ → ℤ
+start_asked offset end = if int_eq offset (negsuc 0) then end else offset
+
+abbrev pub deleted_to : World → Place → ℤ → Option Known → World × Result ℤ PartitionFault
+deleted_to w place start None = (w, Err partition.Unknown)
+deleted_to w place start (Some k) =
+    (record w { known = k; logs = without_below place.instance place.number start (log_in w place) w.logs }, Ok start)
+
+-- The start of a partition moves to an offset, which is the answer: the catalog records that, and the batches that end at most there go.
+abbrev pub start_moved : World → Place → ℤ → World × Result ℤ PartitionFault
+start_moved w place start = deleted_to w place start (step w.known (start_command (pos place.instance) (pos place.number) start))
+
+-- what a partition answers where the catalog refuses its new start; a meta log that is full is the store's refusal
+abbrev pub fault_of : CatalogFault → PartitionFault
+fault_of catalog.Full = partition.Store
+fault_of catalog.Store = partition.Store
+fault_of catalog.Memory = partition.Memory
+fault_of _ = partition.Unknown
+
+abbrev pub deleted_below : World → Place → ℤ → LogState → World × Result ℤ PartitionFault
+deleted_below w place start l =
+    if int_lt start (pos 0) || int_lt (pos l.end) start then (w, Err partition.Range)
+    else if int_lt (pos l.start) start then start_moved w place start
+    else (w, Ok (pos l.start))
+
+abbrev pub deleted_from : World → Place → ℤ → Option LogState → World × Result ℤ PartitionFault
+deleted_from w place offset None = (w, Err partition.Unknown)
+deleted_from w place offset (Some l) = deleted_below w place (start_asked offset (pos l.end)) l
+
+-- The start of a partition moves to an offset that lies above it. The answer is the start.
+abbrev pub delete_records : World → Place → ℤ → World × Result ℤ PartitionFault
+delete_records w place offset = deleted_from w place offset (log_in w place)
+
 -- ---- retention
 
 abbrev pub due_in : World → Option TopicState → Option LogState → Option ℕ
 due_in w (Some t) (Some l) =
-    let start = retained_start (pos w.clock) t.config.retention_ms t.config.retention_bytes l.end l.batches in
+    let start = retained_start (pos w.clock) t.config.retention_ms t.config.retention_bytes l.start l.end l.batches in
     if nat_le start l.start then None else Some start
 due_in w None l = None
 due_in w (Some t) None = None
@@ -149,7 +186,7 @@ abbrev pub retained_from : World → Place → Option ℕ → World × Bool
 retained_from w place None = (w, false)
 retained_from w place (Some start) = moved_to w place start (step w.known (start_command (pos place.instance) (pos place.number) (pos start)))
 
--- The new start of a partition is recorded, and the batches below it go; and whether any goes.
+-- The new start of a partition is recorded, and the batches that end at most there go; and whether any goes.
 abbrev pub retain : World → Place → World × Bool
 retain w place = retained_from w place (due w place)
 

@@ -47,6 +47,12 @@ IsCatalogWant end a b catalog.Store = Failed a b
 IsCatalogWant end a b catalog.Memory = Unit {0}
 IsCatalogWant end a b _ = ⊥
 
+-- the same of a deletion of records, which the meta log records, that ends there: it is full, or the store failed
+abbrev pub IsDeletionWant : ℕ → Scene Seen → Scene Seen → PartitionFault → Type 0
+IsDeletionWant end a b partition.Store = Failed a b ⊎ (2 ^ 63 ≤ end + 1)
+IsDeletionWant end a b partition.Memory = Unit {0}
+IsDeletionWant end a b _ = ⊥
+
 -- An accepted call did what is defined. A refused one is refused by the definition, or for the want that its fault names.
 abbrev pub Tells : {T F : Type 0} → Scene Seen → Scene Seen → Type 0 → (F → Type 0) → Result T F → Type 0
 Tells a b P want (Ok x) = IsDone a b P

@@ -10,6 +10,7 @@ mod kept;
 mod logs;
 mod parts;
 mod place;
+mod records;
 mod retention;
 mod topics;
 

@@ -1,0 +1,71 @@
+use Rattle.std.proofs.Common.{◌∙◌, List, ◌<◌, ◌≤◌, ap, sym, subst, length, get_or}
+use Rattle.kb_api_data.specs.Layouts.{delete_records_topic_reply}
+use Rattle.kb_world.specs.Parts.{scene}
+use Rattle.kb_world.specs.Steps.{step_then, meets_then, meets_so}
+use Rattle.kb_world.specs.World.{World}
+use Rattle.kb_world.specs.declared.place.Place.{Place}
+use Rattle.kb_tenant.specs.DeleteRecords.{deleted_topic}
+use Rattle.kb_tenant.proofs.DeletedRecords.{all_told, kept_then, topics_fit, topic_fits}
+use Rattle.kb_tenant.proofs.Produced.{told_next}
+use Rattle.kb_tenant.proofs.Turning.{turn_over}
+use Rattle.kb_tenant.proofs.delete_records.delete_records.Goals as goal
+
+pub put_count-requires : goal.put_count-requires
+put_count-requires g c = topics_fit c.args.request.now c.len.result c.len.ensures c.requires.fits
+
+pub delete_in_topic-requires-clause-fits : goal.delete_in_topic-requires-clause-fits
+delete_in_topic-requires-clause-fits g c =
+    let i = c.loop-topic.topic-index in
+    topic_fits c.args.request.now i c.topic-item.result
+    (subst (λ ts. i < length ts) c.as_slice-topic-items.ensures c.loop-topic-test.true)
+    (c.topic-item.is ∙ ap (λ ts. get_or ts i c.topic-item.result) c.as_slice-topic-items.ensures)
+    c.requires.fits
+
+pub returns-in_err-delete_in_topic-clause-step : goal.returns-in_err-delete_in_topic-clause-step
+returns-in_err-delete_in_topic-clause-step g c =
+    let log = g.L.PartitionLog.log in
+    let disk = g.S.Store.disk in
+    let a = scene log disk c.args.parts.now c.args.shelf.now in
+    let b = scene log disk c.loop-topic.parts c.loop-topic.shelf in
+    let d = scene log disk c.delete_in_topic.new.parts c.delete_in_topic.new.shelf in
+    step_then a b d c.loop-topic.invariant.step c.delete_in_topic.ensures.step
+
+pub returns-in_err-delete_in_topic-clause-kept : goal.returns-in_err-delete_in_topic-clause-kept
+returns-in_err-delete_in_topic-clause-kept g c = kept_then c.args.touched.now.items c.loop-topic.touched.items c.delete_in_topic.new.touched.items c.loop-topic.invariant.kept c.delete_in_topic.ensures.kept
+
+pub loop-topic-preserved : goal.loop-topic-preserved
+loop-topic-preserved g c =
+    let log = g.L.PartitionLog.log in
+    let disk = g.S.Store.disk in
+    let a = scene log disk c.args.parts.now c.args.shelf.now in
+    let b = scene log disk c.loop-topic.parts c.loop-topic.shelf in
+    let d = scene log disk c.delete_in_topic.new.parts c.delete_in_topic.new.shelf in
+    let write = delete_records_topic_reply.written in
+    let p : World × List Place = (b.state.world, c.loop-topic.touched.items) in
+    let q : World × List Place = (d.state.world, c.delete_in_topic.new.touched.items) in
+    let i = c.loop-topic.topic-index in
+    record {
+      step = step_then a b d c.loop-topic.invariant.step c.delete_in_topic.ensures.step;
+      kept = kept_then c.args.touched.now.items c.loop-topic.touched.items c.delete_in_topic.new.touched.items c.loop-topic.invariant.kept c.delete_in_topic.ensures.kept;
+      told = meets_so a d _ _
+          (told_next write deleted_topic c.loop-topic.sink.bytes c.delete_in_topic.new.sink.bytes p q c.args.request.now.topics i c.topic-item.result _
+          (subst (λ ts. i < length ts) c.as_slice-topic-items.ensures c.loop-topic-test.true)
+          (c.topic-item.is ∙ ap (λ ts. get_or ts i c.topic-item.result) c.as_slice-topic-items.ensures))
+          (meets_then a b d _ _ c.loop-topic.invariant.step c.delete_in_topic.ensures.step c.loop-topic.invariant.told c.in_ok-delete_in_topic.ensures.meets);
+    }
+
+pub returns-clause-meets : goal.returns-clause-meets
+returns-clause-meets g c =
+    let log = g.L.PartitionLog.log in
+    let disk = g.S.Store.disk in
+    let a = scene log disk c.args.parts.now c.args.shelf.now in
+    let b = scene log disk c.loop-topic.parts c.loop-topic.shelf in
+    let request = c.args.request.now in
+    let p : World × List Place = (b.state.world, c.loop-topic.touched.items) in
+    let i = c.loop-topic.topic-index in
+    let over = turn_over delete_records_topic_reply.written deleted_topic c.loop-topic.sink.bytes p request.topics i (subst (λ ts. length ts ≤ i) c.as_slice-topic-items.ensures c.loop-topic-test.false) in
+    meets_so a b _ _
+    (λ told. all_told request a.state.world b.state.world c.args.touched.now.items c.loop-topic.touched.items c.len.result
+    c.args.sink.now.bytes c.put_i32.new.self.bytes c.put_count.new.self.bytes c.loop-topic.sink.bytes
+    c.len.ensures c.in_ok-put_i32.ensures.ok c.in_ok-put_count.ensures.ok (sym over ∙ told))
+    c.loop-topic.invariant.told

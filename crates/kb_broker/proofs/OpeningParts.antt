@@ -30,13 +30,14 @@ unfolding api_version int
 versions-fit vs lt = array_fits api_version vs lt (λ k d below. (tt, (tt, tt)))
 
 -- the table of both listings
-abbrev row : ℕ → ℕ → ℕ → ℕ → ℕ → ℤ × ℤ × ℤ × ℤ × ℤ
-row key least greatest stock_least stock_greatest = (pos key, pos least, pos greatest, pos stock_least, pos stock_greatest)
+abbrev listed_from : ℕ → ℕ → ℕ → ℕ → ℕ → ℤ × ℤ × ℤ × ℤ × ℤ
+listed_from key least greatest stock_least stock_greatest = (pos key, pos least, pos greatest, pos stock_least, pos stock_greatest)
 
 abbrev rows : List (ℤ × ℤ × ℤ × ℤ × ℤ)
 rows =
-    row 0 3 3 3 3 ∷ row 1 4 4 4 4 ∷ row 2 1 1 1 1 ∷ row 3 1 1 1 1 ∷ row 8 2 2 2 2 ∷ row 9 1 1 1 1 ∷ row 10 0 0 0 0 ∷ row 11 1 1 1 1 ∷
-    row 12 0 0 0 0 ∷ row 13 0 0 0 0 ∷ row 14 0 0 0 0 ∷ row 17 1 1 0 1 ∷ row 18 0 0 0 0 ∷ row 19 0 0 0 0 ∷ row 20 0 0 0 0 ∷ row 22 0 0 0 0 ∷ row 36 0 0 0 0 ∷ []
+    listed_from 0 3 3 3 3 ∷ listed_from 1 4 4 4 4 ∷ listed_from 2 1 1 1 1 ∷ listed_from 3 1 1 1 1 ∷ listed_from 8 2 2 2 2 ∷ listed_from 9 1 1 1 1 ∷
+    listed_from 10 0 0 0 0 ∷ listed_from 11 1 1 1 1 ∷ listed_from 12 0 0 0 0 ∷ listed_from 13 0 0 0 0 ∷ listed_from 14 0 0 0 0 ∷ listed_from 17 1 1 0 1 ∷
+    listed_from 18 0 0 0 0 ∷ listed_from 19 0 0 0 0 ∷ listed_from 20 0 0 0 0 ∷ listed_from 21 0 0 0 0 ∷ listed_from 22 0 0 0 0 ∷ listed_from 36 0 0 0 0 ∷ []
 
 -- from it each listing lists what it is to list
 pub all-listed : (listing : Listing) → map (listed_as listing) rows ≡ listed listing

@@ -27,7 +27,7 @@ use thiserror::Error;
 type Api = (i16, i16, i16, i16, i16);
 
 /// The APIs that are listed, by rising key (Kafka protocol guide, "Api Keys").
-const APIS: [Api; 17] = [
+const APIS: [Api; 18] = [
     (0, 3, 3, 3, 3), // Produce
     (1, 4, 4, 4, 4), // Fetch
     (2, 1, 1, 1, 1), // ListOffsets
@@ -43,6 +43,7 @@ const APIS: [Api; 17] = [
     (18, 0, 0, 0, 0), // ApiVersions
     (19, 0, 0, 0, 0), // CreateTopics
     (20, 0, 0, 0, 0), // DeleteTopics
+    (21, 0, 0, 0, 0), // DeleteRecords
     (22, 0, 0, 0, 0), // InitProducerId
     (36, 0, 0, 0, 0), // SaslAuthenticate
 ];

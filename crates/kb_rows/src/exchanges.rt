@@ -44,8 +44,9 @@ pub(crate) const ALTERNATING: [Step<'static>; 16] = [
 ];
 
 /// A fetch of `ann` waits, and so does what stands behind it. A batch of another tenant's topic of that name is nothing to it; one
-/// of her own topic ends the wait, in the same step.
-pub(crate) const FOR_A_BATCH: [Step<'static>; 18] = [
+/// of her own topic ends the wait, in the same step. Another fetch waits for more than there is. When the records that it asks for
+/// are deleted it ends; before, the other tenant's go, which is nothing to it.
+pub(crate) const FOR_A_BATCH: [Step<'static>; 22] = [
     Open(1),
     In(1, "handshake", "offered"),
     In(1, "ann", "welcome"),
@@ -64,11 +65,15 @@ pub(crate) const FOR_A_BATCH: [Step<'static>; 18] = [
     In(2, "append-yo", "appended-0"),
     Gets(1, "came served"),
     In(3, "append-hi", "appended-1"),
+    In(1, "wait-more", ""),
+    In(2, "delete-first", "deleted-first"),
+    Gets(1, "past-more"),
+    In(3, "delete-second", "deleted-second"),
 ];
 
 /// What happens on three connections: `ann` makes a topic and appends to it on the first and fetches on the third, both are members of a
-/// group, and nobody logs in on the second.
-pub(crate) const OF_ANN: [Step<'static>; 20] = [
+/// group, and nobody logs in on the second. At last the record is deleted.
+pub(crate) const OF_ANN: [Step<'static>; 22] = [
     Open(1),
     In(1, "handshake ann", "offered welcome"),
     Open(2),
@@ -88,12 +93,14 @@ pub(crate) const OF_ANN: [Step<'static>; 20] = [
     Close(1),
     Shut(2, "metadata", ""),
     In(3, "fetch leave-second", "fetched-hi gone"),
+    In(3, "fetch delete-second", "fetched-hi not-deleted"),
+    In(3, "delete-first fetch", "deleted-first past"),
     Shut(3, "00000007", ""),
 ];
 
 /// What happens on two connections of `bob`: his topic has the same name, and other bytes. His group has it too; its second member
-/// goes on alone where the first one closes.
-pub(crate) const OF_BOB: [Step<'static>; 19] = [
+/// goes on alone where the first one closes. His record is never deleted.
+pub(crate) const OF_BOB: [Step<'static>; 20] = [
     Open(1),
     Open(2),
     In(2, "handshake bob", "offered welcome"),
@@ -105,7 +112,7 @@ pub(crate) const OF_BOB: [Step<'static>; 19] = [
     In(2, "append-yo", "appended-0"),
     In(1, "bob", "welcome"),
     In(2, "fetch", "fetched-yo"),
-    In(1, "fetch", "fetched-yo"),
+    In(1, "fetch delete-second", "fetched-yo not-deleted"),
     In(2, "join sync beat", "joined shared-aa beaten"),
     In(1, "join-second", ""),
     Gets(1, "joined-second"),
@@ -113,6 +120,7 @@ pub(crate) const OF_BOB: [Step<'static>; 19] = [
     In(1, "ask-offset", "no-offset"),
     Close(2),
     In(1, "leave-second metadata", "gone described"),
+    In(1, "fetch", "fetched-yo"),
 ];
 
 /// Two tenants make a topic of one name. The store refuses the first one's batch, and takes it when it comes again.

@@ -310,7 +310,7 @@ fn first_reads_late<E: Server>(
     join(net, alloc, edge, &mut clients)?;
     let first = client_at(rt, &mut clients, 0);
     let (sent, written) = send_unread(edge, first, alloc, &requests);
-    let replies = (sent / 14).saturating_mul(116);
+    let replies = (sent / 14).saturating_mul(122);
     assert!(rt;
         written < replies as u64,
         "{written} of {replies} for {sent}"
@@ -371,7 +371,7 @@ fn one_too_many_is_closed(rt: HostRuntime) -> Result<(), Fail> {
         full == Turn {
             accepted: 1024,
             read: 1024 * 14,
-            written: 1024 * 116,
+            written: 1024 * 122,
             closed: 0,
             turned_away: 0,
             denied: 0

@@ -116,13 +116,13 @@ static void ask(int fd, const struct request *r) {
     receive(fd, r);
 }
 
-/* Makes the topic `t`, or deletes it. */
+/* Makes the topic `t`, which keeps its records for ever, since their timestamps are old; or deletes it. */
 static void topic(int is_made) {
     static struct request r;
     uint8_t *p = put(begin(&r, is_made ? 19 : 20, 0), 1, 4);
     p = put_bytes(p, "\0\1t", 3);
     if (is_made)
-        p = put_bytes(p, "\0\0\0\1\0\1\0\0\0\0\0\0\0\0", 14);
+        p = put_bytes(p, "\0\0\0\1\0\1\0\0\0\0\0\0\0\1\0\14retention.ms\0\2-1", 32);
     end(&r, put(p, 5000, 4), 17, 15);
     ask(sockets[0], &r);
 }

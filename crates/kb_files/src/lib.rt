@@ -10,4 +10,6 @@ mod folders;
 #[cfg(test)]
 mod headers;
 #[cfg(test)]
+mod logs;
+#[cfg(test)]
 mod segments;

@@ -10,13 +10,14 @@ use Rattle.kb_world.specs.Calls.{all_places, at_clock, retain, retain_all, retai
 use Rattle.kb_world.specs.Tied.{IsTied}
 use Rattle.kb_world.specs.World.{World, new_world}
 use Rattle.kb_world.specs.declared.place.Place.{Place}
+use Rattle.kb_tenant.specs.CreateTopics.{created_all, made_of}
 use Rattle.kb_tenant.specs.Fetch.{fetch_answer, places_in, places_of}
 use Rattle.kb_tenant.specs.OffsetCommit.{committed_all, refusal_of}
-use Rattle.kb_tenant.specs.Serve.{Outcome, of_produce, of_offset_commit, of_create_topics, of_delete_records, of_delete_topics, of_init_producer_id, served}
+use Rattle.kb_tenant.specs.Serve.{Outcome, of_produce, of_offset_commit, of_delete_records, of_delete_topics, of_init_producer_id, served}
 use Rattle.kb_tenant.specs.Waiting.{AreNamedApart, HasOwnNames}
 use Rattle.kb_tenant.specs.declared.node.Node.{Node}
 use Rattle.kb_tenant.proofs.Asked.{Finds, all_found}
-use Rattle.kb_tenant.proofs.ByRequest.{by_request}
+use Rattle.kb_tenant.proofs.ByRequest.{by_request, of_creations}
 use Rattle.kb_tenant.proofs.CommitMoves.{commit_moves, commit_names}
 use Rattle.kb_tenant.proofs.CreateMoves.{create_moves}
 use Rattle.kb_tenant.proofs.Losing.{create_apart, delete_loses, produce_loses}
@@ -77,8 +78,9 @@ served_again node w n key version body r deadline tied own waits =
       offset_commit = λ q read after. untold w (of_offset_commit w q).world (commit_moves w (refusal_of q.group_id q.generation_id) q) tied r deadline waits;
       offset_fetch = λ q read after. refl;
       find_coordinator = λ q read after. refl;
-      create_topics = λ q read after. untold w (of_create_topics w q).world (create_moves w q) tied r deadline waits;
-      delete_topics = λ q read after. places_back w (of_delete_topics w q).world ((delete_loses w q).before own) r deadline after;
+      create_topics = λ q read. of_creations (λ (o : Outcome). fetch_answer o.world r deadline ≡ None → places_of o.world r ≡ places_of w r) version w q (λ reaction after. refl)
+          (λ after. untold w (created_all w (made_of q)).0 (create_moves w (made_of q)) tied r deadline waits);
+      delete_topics = λ q read after. places_back w (of_delete_topics version w q).world ((delete_loses w q).before own) r deadline after;
       delete_records = λ q read after. same_places w (of_delete_records w q).world (records_alike w q).names r;
       init_producer_id = λ q read after. untold w (of_init_producer_id w q).world (init_moves w q) tied r deadline waits;
       shut = λ after. refl;
@@ -99,7 +101,7 @@ served_names node w n key version body own = by_request (λ (o : Outcome). HasOw
   offset_commit = λ q read. commit_names w (refusal_of q.group_id q.generation_id) q own;
   offset_fetch = λ q read. own;
   find_coordinator = λ q read. own;
-  create_topics = λ q read. create_apart w q own;
+  create_topics = λ q read. of_creations (λ (o : Outcome). HasOwnNames o.world) version w q (λ reaction. own) (create_apart w (made_of q) own);
   delete_topics = λ q read. (delete_loses w q).apart own;
   delete_records = λ q read. (records_alike w q).apart own;
   init_producer_id = λ q read. subst AreNamedApart (sym (init_topics w q)) own;

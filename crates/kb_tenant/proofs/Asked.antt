@@ -8,9 +8,9 @@ use Rattle.kb_batch.specs.Batch.{natural}
 use Rattle.kb_api_data.specs.declared.fetch.FetchPartition.{FetchPartition}
 use Rattle.kb_api_data.specs.declared.fetch.FetchTopic.{FetchTopic}
 use Rattle.kb_api_data.specs.declared.fetch.FetchRequest.{FetchRequest}
-use Rattle.kb_api_data.specs.declared.fetch.FetchPartitionReply.{FetchPartitionReply}
-use Rattle.kb_api_data.specs.declared.fetch.FetchTopicReply.{FetchTopicReply}
-use Rattle.kb_api_data.specs.declared.fetch.FetchReply.{FetchReply}
+use Rattle.kb_api_data.specs.declared.fetch_v5.FetchPartitionReplyV5.{FetchPartitionReplyV5}
+use Rattle.kb_api_data.specs.declared.fetch_v5.FetchTopicReplyV5.{FetchTopicReplyV5}
+use Rattle.kb_api_data.specs.declared.fetch_v5.FetchReplyV5.{FetchReplyV5}
 use Rattle.kb_topics.specs.Known.{named}
 use Rattle.kb_partitions.specs.Logs.{LogState}
 use Rattle.kb_world.specs.Calls.{at_clock, fetched_from}
@@ -78,8 +78,8 @@ place_is : (w : World) (name : List ℕ) (e : FetchPartition) (place : Place) �
 place_is w name e place topic number = ap (λ o. place_in o e.partition) topic ∙ ap (place_in (Some place.instance)) number
 
 -- what is answered of a log, if there is one
-abbrev answered_of : Given → FetchPartition → Option LogState → Given × FetchPartitionReply
-answered_of g e o = answered_by g e.partition (option_map (λ (l : LogState). pos l.end) o) (fetched_from e.fetch_offset (limit_of g e) g.first o)
+abbrev answered_of : Given → FetchPartition → Option LogState → Given × FetchPartitionReplyV5
+answered_of g e o = answered_by g e.partition (option_map (λ (l : LogState). (pos l.start, pos l.end)) o) (fetched_from e.fetch_offset (limit_of g e) g.first o)
 
 -- an entry whose answer is no error
 log_found : (w : World) (name : List ℕ) (g : Given) (e : FetchPartition) (place : Place) → place_in (named name w.known.topics) e.partition ≡ Some place
@@ -137,13 +137,13 @@ module _ (w v : World) (asked : Place → Type 0) (keeps : (name : List ℕ) (pl
   topic_answer t all g =
       let turns = turn_same (answered v (named t.topic v.known.topics)) (answered w (named t.topic w.known.topics)) t.partitions
       (each_then (IsAlike t.topic) (λ e. (s : Given) → answered v (named t.topic v.known.topics) s e ≡ answered w (named t.topic w.known.topics) s e) t.partitions (λ e a. a.answer) all) g in
-      ap (λ (r : Given × List FetchPartitionReply). (let both : Given × FetchTopicReply = (r.0, record { topic = t.topic; partitions = r.1 }) in both)) turns
+      ap (λ (r : Given × List FetchPartitionReplyV5). (let both : Given × FetchTopicReplyV5 = (r.0, record { topic = t.topic; partitions = r.1 }) in both)) turns
 
   fetched_alike : (r : FetchRequest) → AllByRecursion (λ t. AllByRecursion (IsAlike t.topic) t.partitions) r.topics → fetched v r ≡ fetched w r
   fetched_alike r all =
       let turns = turn_same (answered_topic v) (answered_topic w) r.topics
       (each_then (λ t. AllByRecursion (IsAlike t.topic) t.partitions) (λ t. (g : Given) → answered_topic v g t ≡ answered_topic w g t) r.topics topic_answer all) (begun r) in
-      ap (λ (f : Given × List FetchTopicReply). (let both : Given × FetchReply = (f.0, record { throttle_time_ms = pos 0; topics = f.1 }) in both)) turns
+      ap (λ (f : Given × List FetchTopicReplyV5). (let both : Given × FetchReplyV5 = (f.0, record { throttle_time_ms = pos 0; topics = f.1 }) in both)) turns
 
   topic_places : (name : List ℕ) (es : List FetchPartition) → AllByRecursion (IsAlike name) es → places_in (named name v.known.topics) es ≡ places_in (named name w.known.topics) es
   topic_places name [] all = refl
@@ -160,7 +160,7 @@ module _ (w v : World) (asked : Place → Type 0) (keeps : (name : List ℕ) (pl
 
 -- ---- a fetch that waits
 
-no_answer : (b : Bool) (reply : FetchReply) → (if b then Some reply else None) ≡ None → b ≡ false
+no_answer : (b : Bool) (reply : FetchReplyV5) → (if b then Some reply else None) ≡ None → b ≡ false
 no_answer true reply e = absurd cc
 no_answer false reply e = refl
 
@@ -183,7 +183,7 @@ last_changed false false true d x e f = absurd cc
 last_changed false false false d x e f = f
 
 module _ (w : World) (r : FetchRequest) (deadline : ℕ) (waits : fetch_answer w r deadline ≡ None) where
-  abbrev reply : FetchReply
+  abbrev reply : FetchReplyV5
   reply = (fetched w r).1
 
   -- the tests that are made of its reply
@@ -201,13 +201,13 @@ module _ (w : World) (r : FetchRequest) (deadline : ℕ) (waits : fetch_answer w
 
   pub all_found : AllByRecursion (λ t. AllByRecursion (λ e. Finds w t.topic e) t.partitions) r.topics
   all_found =
-      let is_bad = λ (p : FetchPartitionReply). is_error p.error_code in
-      let good : list_any (λ (t : FetchTopicReply). list_any is_bad t.partitions) reply.topics ≡ false = second_false nothing_asked some_error has_bytes (nat_le deadline w.clock) unready in
+      let is_bad = λ (p : FetchPartitionReplyV5). is_error p.error_code in
+      let good : list_any (λ (t : FetchTopicReplyV5). list_any is_bad t.partitions) reply.topics ≡ false = second_false nothing_asked some_error has_bytes (nat_le deadline w.clock) unready in
       each_then (λ t. (g : Given) × (list_any is_bad (answered_topic w g t).1.partitions ≡ false)) (λ t. AllByRecursion (λ e. Finds w t.topic e) t.partitions) r.topics
       (λ t one. each_then (λ e. (g : Given) × (is_error (answered w (named t.topic w.known.topics) g e).1.error_code ≡ false)) (λ e. Finds w t.topic e) t.partitions
       (λ e it. place_found w t.topic it.0 e (place_in (named t.topic w.known.topics) e.partition) refl it.1)
       (none_passes (answered w (named t.topic w.known.topics)) is_bad t.partitions one.0 one.1))
-      (none_passes (answered_topic w) (λ (t : FetchTopicReply). list_any is_bad t.partitions) r.topics (begun r) good)
+      (none_passes (answered_topic w) (λ (t : FetchTopicReplyV5). list_any is_bad t.partitions) r.topics (begun r) good)
 
   in_time : nat_le deadline w.clock ≡ false
   in_time = last_false nothing_asked some_error has_bytes (nat_le deadline w.clock) unready
@@ -219,7 +219,7 @@ module _ (w : World) (r : FetchRequest) (deadline : ℕ) (waits : fetch_answer w
   -- the same reply at a clock before a deadline
   still_unready : (v : World) (later : ℕ) → fetched v r ≡ fetched w r → nat_le later v.clock ≡ false → fetch_answer v r later ≡ None
   still_unready v later same early =
-      ap (λ (f : Given × FetchReply). (if is_ready v r f.1 later then Some f.1 else None)) same
+      ap (λ (f : Given × FetchReplyV5). (if is_ready v r f.1 later then Some f.1 else None)) same
       ∙ ap (λ b. (if b then Some reply else None)) (last_changed nothing_asked some_error has_bytes (nat_le deadline w.clock) (nat_le later v.clock) unready early)
 
   -- It waits on in each world that holds what it asks for, at the same clock.

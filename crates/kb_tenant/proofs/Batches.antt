@@ -3,22 +3,20 @@ use Rattle.std.proofs.Common.{◌≡◌, ◌∙◌, ◌≤ℤ◌, ◌<ℤ◌, �
 use Rattle.std.specs.Prelude.{nat_le, int_lt, option_map, if◌then◌else◌}
 use Rattle.std.specs.List.{concat}
 use Rattle.std.proofs.lemmas.Bool.Decides.{nat_tests}
-use Rattle.kb_wire.specs.Codec.{whole}
 use Rattle.kb_batch.specs.Batch.{natural}
 use Rattle.kb_log.specs.Log.{base_of, next_of, holds, from_holding, fitting, fetched as fetched_of}
-use Rattle.kb_api_data.specs.Layouts.{fetch_request, fetch_reply}
 use Rattle.kb_api_data.specs.declared.fetch.FetchPartition.{FetchPartition}
 use Rattle.kb_api_data.specs.declared.fetch.FetchTopic.{FetchTopic}
 use Rattle.kb_api_data.specs.declared.fetch.FetchRequest.{FetchRequest}
-use Rattle.kb_api_data.specs.declared.fetch.FetchReply.{FetchReply}
+use Rattle.kb_api_data.specs.declared.fetch_v5.FetchReplyV5.{FetchReplyV5}
 use Rattle.kb_topics.specs.Known.{named}
 use Rattle.kb_partitions.specs.Logs.{LogState}
 use Rattle.kb_partitions.specs.declared.fault.PartitionFault.TheVariants as ranges
 use Rattle.kb_world.specs.Calls.{fetched_from}
 use Rattle.kb_world.specs.World.{World, log_in, place_in}
 use Rattle.kb_world.specs.declared.place.Place.{Place}
-use Rattle.kb_tenant.specs.Batches.{BeginAt, GivesBatches, EachAnswered, IsPartitionAnswered, IsTopicAnswered, HasSmallLogs, HoldsBatches}
-use Rattle.kb_tenant.specs.Fetch.{answered, answered_at, answered_by, answered_topic, begun, fetch_answer, fetched, is_ready, limit_of, deadline_of}
+use Rattle.kb_tenant.specs.Batches.{BeginAt, GivesBatches, EachAnswered, IsPartitionAnswered, IsTopicAnswered, HasSmallLogs, HoldsBatches, Spells}
+use Rattle.kb_tenant.specs.Fetch.{answered, answered_at, answered_by, answered_topic, asked_fetch, begun, fetch_answer, fetched, has_starts, is_ready, limit_of, deadline_of, fetched_in}
 use Rattle.kb_tenant.specs.Replies.{Replies, Silent}
 use Rattle.kb_tenant.specs.Serve.{served, looked, looked_at, of_fetch, if_read, fetch_reaction}
 use Rattle.kb_tenant.specs.Turns.{in_turn}
@@ -73,7 +71,7 @@ begins-front offset (x ∷ xs) ys h = h
 -- ---- one partition
 
 gives : (w : World) (topic : Option ℕ) (asked : FetchPartition) (place : Place) (l : LogState) (n limit : ℕ) (first : Bool) → place_in topic asked.partition ≡ Some place → log_in w place ≡ Some l → asked.fetch_offset ≡ pos n
-    → GivesBatches w topic asked (Some (fetched_of n limit first l.batches))
+    → GivesBatches w topic asked (pos l.start) (Some (fetched_of n limit first l.batches))
 gives w topic asked place l n limit first there kept natural-offset =
     let from = holding n l.batches in
     let taken = fits limit first (from_holding n l.batches) in
@@ -83,28 +81,29 @@ gives w topic asked place l n limit first there kept natural-offset =
       batches = taken.these;
       there = there;
       kept = kept;
+      starts = refl;
       consecutive = record { before = from.skipped; after = taken.rest; split = from.split ∙ ap (λ xs. from.skipped ++ xs) taken.split };
       begins = begins-front asked.fetch_offset taken.these taken.rest (subst (λ xs. BeginAt asked.fetch_offset xs) taken.split (subst (λ z. BeginAt z (from_holding n l.batches)) (sym natural-offset) from.begins));
       whole = ap Some taken.joined;
     }
 
-no-error : (w : World) (topic : Option ℕ) (asked : FetchPartition) (records : Option (List ℕ)) (n : ℕ) → 0 < n → pos n ≡ pos 0 → GivesBatches w topic asked records
-no-error w topic asked records n up e = absurd (grind (arith, up, e))
+no-error : (w : World) (topic : Option ℕ) (asked : FetchPartition) (start : ℤ) (records : Option (List ℕ)) (n : ℕ) → 0 < n → pos n ≡ pos 0 → GivesBatches w topic asked start records
+no-error w topic asked start records n up e = absurd (grind (arith, up, e))
 
 module _ (w : World) (topic : Option ℕ) (g : Given) (asked : FetchPartition) where
   by-offset : (place : Place) (l : LogState) → place_in topic asked.partition ≡ Some place → log_in w place ≡ Some l → (o : ℤ) → asked.fetch_offset ≡ o → (out : Bool) → (int_lt o (pos l.start) || int_lt (pos l.end) o) ≡ out
-      → IsPartitionAnswered w topic asked (answered_by g asked.partition (Some (pos l.end)) (if out then Err ranges.Range else Ok (fetched_of (natural o) (limit_of g asked) g.first l.batches))).1
-  by-offset place l there kept o is true e = (refl, λ h. no-error w topic asked _ 1 (omega arith) h)
+      → IsPartitionAnswered w topic asked (answered_by g asked.partition (Some (pos l.start, pos l.end)) (if out then Err ranges.Range else Ok (fetched_of (natural o) (limit_of g asked) g.first l.batches))).1
+  by-offset place l there kept o is true e = (refl, λ h. no-error w topic asked _ _ 1 (omega arith) h)
   by-offset place l there kept (pos n) is false e = (refl, λ h. gives w topic asked place l n (limit_of g asked) g.first there kept is)
   by-offset place l there kept (negsuc n) is false e = absurd (cc)
 
   by-log : (place : Place) → place_in topic asked.partition ≡ Some place → (o : Option LogState) → log_in w place ≡ o
-      → IsPartitionAnswered w topic asked (answered_by g asked.partition (option_map (λ (l : LogState). pos l.end) o) (fetched_from asked.fetch_offset (limit_of g asked) g.first o)).1
-  by-log place there None kept = (refl, λ h. no-error w topic asked _ 3 (omega arith) h)
+      → IsPartitionAnswered w topic asked (answered_by g asked.partition (option_map (λ (l : LogState). (pos l.start, pos l.end)) o) (fetched_from asked.fetch_offset (limit_of g asked) g.first o)).1
+  by-log place there None kept = (refl, λ h. no-error w topic asked _ _ 3 (omega arith) h)
   by-log place there (Some l) kept = by-offset place l there kept asked.fetch_offset refl (int_lt asked.fetch_offset (pos l.start) || int_lt (pos l.end) asked.fetch_offset) refl
 
   by-place : (o : Option Place) → place_in topic asked.partition ≡ o → IsPartitionAnswered w topic asked (answered_at w g asked o).1
-  by-place None there = (refl, λ h. no-error w topic asked _ 3 (omega arith) h)
+  by-place None there = (refl, λ h. no-error w topic asked _ _ 3 (omega arith) h)
   by-place (Some place) there = by-log place there (log_in w place) refl
 
   partition-answered : IsPartitionAnswered w topic asked (answered w topic g asked).1
@@ -125,13 +124,13 @@ all-answered : (w : World) (r : FetchRequest) → EachAnswered (IsTopicAnswered 
 all-answered w r = each (answered_topic w) (IsTopicAnswered w) (λ s t. topic-answered w s t) (begun r) r.topics
 
 -- a fetch that has an answer has that one
-answer-is : (w : World) (r : FetchRequest) (deadline : ℕ) (reply : FetchReply) → fetch_answer w r deadline ≡ Some reply → reply ≡ (fetched w r).1
+answer-is : (w : World) (r : FetchRequest) (deadline : ℕ) (reply : FetchReplyV5) → fetch_answer w r deadline ≡ Some reply → reply ≡ (fetched w r).1
 answer-is w r deadline reply e = by (is_ready w r (fetched w r).1 deadline) refl
   where
-    same : {x y : FetchReply} → Some x ≡ Some y → x ≡ y
+    same : {x y : FetchReplyV5} → Some x ≡ Some y → x ≡ y
     same h = cc
 
-    none : {P : Type 0} {x : FetchReply} → None ≡ Some x → P
+    none : {P : Type 0} {x : FetchReplyV5} → None ≡ Some x → P
     none h = absurd (cc)
 
     by : (t : Bool) → is_ready w r (fetched w r).1 deadline ≡ t → reply ≡ (fetched w r).1
@@ -139,36 +138,36 @@ answer-is w r deadline reply e = by (is_ready w r (fetched w r).1 deadline) refl
     by false ready = none (sym (ap (λ t. if t then Some (fetched w r).1 else None) ready) ∙ e)
 
 -- what is written of a fetch's reply
-abbrev Spelled : World → FetchRequest → Type 0
-Spelled w r = fetch_reply.Spells (fetch_reply.written (fetched w r).1) (fetched w r).1
+abbrev Spelled : ℤ → World → FetchRequest → Type 0
+Spelled version w r = Spells (has_starts version) (fetched_in version (fetched w r).1) (fetched w r).1
 
-written-holds : (w : World) (r : FetchRequest) (deadline : ℕ) (reply : FetchReply) (bytes : List ℕ) → Spelled w r → fetch_answer w r deadline ≡ Some reply → bytes ≡ fetch_reply.written reply → HoldsBatches w r bytes
-written-holds w r deadline reply bytes spelled e is = record {
+written-holds : (version : ℤ) (w : World) (r : FetchRequest) (deadline : ℕ) (reply : FetchReplyV5) (bytes : List ℕ) → Spelled version w r → fetch_answer w r deadline ≡ Some reply → bytes ≡ fetched_in version reply → HoldsBatches version w r bytes
+written-holds version w r deadline reply bytes spelled e is = record {
   reply = (fetched w r).1;
-  spelled = subst (λ s. fetch_reply.Spells s (fetched w r).1) (sym (is ∙ ap (λ (x : FetchReply). fetch_reply.written x) (answer-is w r deadline reply e))) spelled;
+  spelled = subst (λ s. Spells (has_starts version) s (fetched w r).1) (sym (is ∙ ap (λ (x : FetchReplyV5). fetched_in version x) (answer-is w r deadline reply e))) spelled;
   answered = all-answered w r;
 }
 
 -- ---- at once, and after a wait
 
-reaction-holds : (w : World) (r : FetchRequest) (bytes : List ℕ) (answer : Option FetchReply) → Spelled w r → fetch_answer w r (deadline_of w r) ≡ answer → fetch_reaction w r answer ≡ Replies bytes → HoldsBatches w r bytes
-reaction-holds w r bytes None spelled e is = absurd (cc)
-reaction-holds w r bytes (Some reply) spelled e is = written-holds w r (deadline_of w r) reply bytes spelled e (sym (replied-is is))
+reaction-holds : (version : ℤ) (w : World) (r : FetchRequest) (bytes : List ℕ) (answer : Option FetchReplyV5) → Spelled version w r → fetch_answer w r (deadline_of w r) ≡ answer → fetch_reaction version w r answer ≡ Replies bytes → HoldsBatches version w r bytes
+reaction-holds version w r bytes None spelled e is = absurd (cc)
+reaction-holds version w r bytes (Some reply) spelled e is = written-holds version w r (deadline_of w r) reply bytes spelled e (sym (replied-is is))
   where
     replied-is : {x y : List ℕ} → Replies x ≡ Replies y → x ≡ y
     replied-is h = cc
 
-pub served-holds : (node : Node) (w : World) (n : ℕ) (version : ℤ) (body bytes : List ℕ) (r : FetchRequest) → HasSmallLogs w → whole fetch_request body ≡ Ok r → (served node w n (pos 1) version body).reaction ≡ Replies bytes → HoldsBatches w r bytes
+pub served-holds : (node : Node) (w : World) (n : ℕ) (version : ℤ) (body bytes : List ℕ) (r : FetchRequest) → HasSmallLogs w → asked_fetch version body ≡ Ok r → (served node w n (pos 1) version body).reaction ≡ Replies bytes → HoldsBatches version w r bytes
 unfolding served
-served-holds node w n version body bytes r small read replies = reaction-holds w r bytes (fetch_answer w r (deadline_of w r)) (reply_spelled w body r small read) refl (sym (ap (λ x. (if_read w x (of_fetch w)).reaction) read) ∙ replies)
+served-holds node w n version body bytes r small read replies = reaction-holds version w r bytes (fetch_answer w r (deadline_of w r)) (reply_spelled w (has_starts version) body r small read) refl (sym (ap (λ x. (if_read w x (of_fetch version w)).reaction) read) ∙ replies)
 
-look-holds : (w : World) (deadline : ℕ) (r : FetchRequest) (bytes : List ℕ) (answer : Option FetchReply) → Spelled w r → fetch_answer w r deadline ≡ answer → (elim answer [ Some reply ↦ Replies (fetch_reply.written reply) | None ↦ Silent ]) ≡ Replies bytes → HoldsBatches w r bytes
-look-holds w deadline r bytes None spelled e is = absurd (cc)
-look-holds w deadline r bytes (Some reply) spelled e is = written-holds w r deadline reply bytes spelled e (sym (replied-is is))
+look-holds : (version : ℤ) (w : World) (deadline : ℕ) (r : FetchRequest) (bytes : List ℕ) (answer : Option FetchReplyV5) → Spelled version w r → fetch_answer w r deadline ≡ answer → (elim answer [ Some reply ↦ Replies (fetched_in version reply) | None ↦ Silent ]) ≡ Replies bytes → HoldsBatches version w r bytes
+look-holds version w deadline r bytes None spelled e is = absurd (cc)
+look-holds version w deadline r bytes (Some reply) spelled e is = written-holds version w r deadline reply bytes spelled e (sym (replied-is is))
   where
     replied-is : {x y : List ℕ} → Replies x ≡ Replies y → x ≡ y
     replied-is h = cc
 
-pub looked-holds : (w : World) (deadline : ℕ) (version : ℤ) (body bytes : List ℕ) (r : FetchRequest) → HasSmallLogs w → whole fetch_request body ≡ Ok r → looked w deadline version body ≡ Replies bytes → HoldsBatches w r bytes
+pub looked-holds : (w : World) (deadline : ℕ) (version : ℤ) (body bytes : List ℕ) (r : FetchRequest) → HasSmallLogs w → asked_fetch version body ≡ Ok r → looked w deadline version body ≡ Replies bytes → HoldsBatches version w r bytes
 unfolding looked
-looked-holds w deadline version body bytes r small read replies = look-holds w deadline r bytes (fetch_answer w r deadline) (reply_spelled w body r small read) refl (sym (ap (looked_at w deadline) read) ∙ replies)
+looked-holds w deadline version body bytes r small read replies = look-holds version w deadline r bytes (fetch_answer w r deadline) (reply_spelled w (has_starts version) body r small read) refl (sym (ap (looked_at w deadline version) read) ∙ replies)

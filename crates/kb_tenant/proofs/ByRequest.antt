@@ -1,11 +1,11 @@
 -- What holds of a request, if it does for each API.
-use Rattle.std.proofs.Common.{◌≡◌, ℕ, ℤ, Bool, true, false, List, refl}
+use Rattle.std.proofs.Common.{◌≡◌, ℕ, ℤ, Bool, true, false, List, [], refl}
 use Rattle.std.specs.Prelude.{pos, Result, Ok, Err, if◌then◌else◌}
 use Rattle.std.specs.Ordering.{int_eq}
 use Rattle.kb_wire.specs.Codec.{whole}
 use Rattle.kb_wire.specs.declared.fault.WireFault.{WireFault}
-use Rattle.kb_api_data.specs.Layouts.{produce_request, fetch_request, list_offsets_request, metadata_request, create_topics_request, delete_records_request, delete_topics_request, init_producer_id_request}
-use Rattle.kb_api_data.specs.declared.create_topics.CreateTopicsRequest.{CreateTopicsRequest}
+use Rattle.kb_api_data.specs.Layouts.{produce_request, list_offsets_request, delete_records_request, delete_topics_request, init_producer_id_request}
+use Rattle.kb_api_data.specs.declared.create_topics_v1.CreateTopicsRequestV1.{CreateTopicsRequestV1}
 use Rattle.kb_api_data.specs.declared.delete_records.DeleteRecordsRequest.{DeleteRecordsRequest}
 use Rattle.kb_api_data.specs.declared.delete_topics.DeleteTopicsRequest.{DeleteTopicsRequest}
 use Rattle.kb_api_data.specs.declared.fetch.FetchRequest.{FetchRequest}
@@ -18,21 +18,24 @@ use Rattle.kb_api_group.specs.declared.find_coordinator.FindCoordinatorRequest.{
 use Rattle.kb_api_group.specs.declared.offset_commit.OffsetCommitRequest.{OffsetCommitRequest}
 use Rattle.kb_api_group.specs.declared.offset_fetch.OffsetFetchRequest.{OffsetFetchRequest}
 use Rattle.kb_world.specs.World.{World}
-use Rattle.kb_tenant.specs.Replies.{Shuts}
+use Rattle.kb_tenant.specs.CreateTopics.{asked_creations, checked_all, created_all, creations_in, made_of}
+use Rattle.kb_tenant.specs.Fetch.{asked_fetch}
+use Rattle.kb_tenant.specs.Metadata.{asked_metadata}
+use Rattle.kb_tenant.specs.Replies.{Reaction, Replies, Shuts}
 use Rattle.kb_tenant.specs.Serve.{Outcome, if_read, of_produce, of_fetch, of_list_offsets, of_metadata, of_offset_commit, of_offset_fetch, of_find_coordinator, of_create_topics, of_delete_records, of_delete_topics, of_init_producer_id, served, stays}
 use Rattle.kb_tenant.specs.declared.node.Node.{Node}
 
 -- It holds of what each API's request comes to, where the body is one, and of a connection that is shut.
-pub record Cases (P : Outcome → Type 0) (node : Node) (w : World) (body : List ℕ) : Type 0 where
+pub record Cases (P : Outcome → Type 0) (node : Node) (w : World) (version : ℤ) (body : List ℕ) : Type 0 where
   pub produce : (r : ProduceRequest) → whole produce_request body ≡ Ok r → P (of_produce w r)
-  pub fetch : (r : FetchRequest) → whole fetch_request body ≡ Ok r → P (of_fetch w r)
+  pub fetch : (r : FetchRequest) → asked_fetch version body ≡ Ok r → P (of_fetch version w r)
   pub list_offsets : (r : ListOffsetsRequest) → whole list_offsets_request body ≡ Ok r → P (of_list_offsets w r)
-  pub metadata : (r : MetadataRequest) → whole metadata_request body ≡ Ok r → P (of_metadata node w r)
+  pub metadata : (r : MetadataRequest) → asked_metadata version body ≡ Ok r → P (of_metadata node version w r)
   pub offset_commit : (r : OffsetCommitRequest) → whole offset_commit_request body ≡ Ok r → P (of_offset_commit w r)
   pub offset_fetch : (r : OffsetFetchRequest) → whole offset_fetch_request body ≡ Ok r → P (of_offset_fetch w r)
   pub find_coordinator : (r : FindCoordinatorRequest) → whole find_coordinator_request body ≡ Ok r → P (of_find_coordinator node w r)
-  pub create_topics : (r : CreateTopicsRequest) → whole create_topics_request body ≡ Ok r → P (of_create_topics w r)
-  pub delete_topics : (r : DeleteTopicsRequest) → whole delete_topics_request body ≡ Ok r → P (of_delete_topics w r)
+  pub create_topics : (r : CreateTopicsRequestV1) → asked_creations version body ≡ Ok r → P (of_create_topics version w r)
+  pub delete_topics : (r : DeleteTopicsRequest) → whole delete_topics_request body ≡ Ok r → P (of_delete_topics version w r)
   pub delete_records : (r : DeleteRecordsRequest) → whole delete_records_request body ≡ Ok r → P (of_delete_records w r)
   pub init_producer_id : (r : InitProducerIdRequest) → whole init_producer_id_request body ≡ Ok r → P (of_init_producer_id w r)
   pub shut : P (stays w Shuts)
@@ -45,20 +48,27 @@ either : (P : Outcome → Type 0) (b : Bool) (o p : Outcome) → P o → P p →
 either P true o p first second = first
 either P false o p first second = second
 
-pub by_request : (P : Outcome → Type 0) (node : Node) (w : World) (n : ℕ) (key version : ℤ) (body : List ℕ) → Cases P node w body → P (served node w n key version body)
+-- It holds of a request of CreateTopics, whether it is only checked or not.
+pub of_creations : (P : Outcome → Type 0) (version : ℤ) (w : World) (r : CreateTopicsRequestV1) → ((reaction : Reaction) → P (stays w reaction))
+    → P (record { world = (created_all w (made_of r)).0; touched = []; reaction = Replies (creations_in version (created_all w (made_of r)).1) }) → P (of_create_topics version w r)
+of_creations P version w r checked made =
+    either P r.validate_only (stays w (Replies (creations_in version (checked_all w r.topics))))
+    (record { world = (created_all w (made_of r)).0; touched = []; reaction = Replies (creations_in version (created_all w (made_of r)).1) }) (checked _) made
+
+pub by_request : (P : Outcome → Type 0) (node : Node) (w : World) (n : ℕ) (key version : ℤ) (body : List ℕ) → Cases P node w version body → P (served node w n key version body)
 unfolding served
 by_request P node w n key version body c =
     let shut : Outcome = stays w Shuts in
     let inits : Outcome = if_read w (whole init_producer_id_request body) (of_init_producer_id w) in
     let trims : Outcome = if_read w (whole delete_records_request body) (of_delete_records w) in
-    let deletes : Outcome = if_read w (whole delete_topics_request body) (of_delete_topics w) in
-    let creates : Outcome = if_read w (whole create_topics_request body) (of_create_topics w) in
+    let deletes : Outcome = if_read w (whole delete_topics_request body) (of_delete_topics version w) in
+    let creates : Outcome = if_read w (asked_creations version body) (of_create_topics version w) in
     let finds : Outcome = if_read w (whole find_coordinator_request body) (of_find_coordinator node w) in
     let asks : Outcome = if_read w (whole offset_fetch_request body) (of_offset_fetch w) in
     let commits : Outcome = if_read w (whole offset_commit_request body) (of_offset_commit w) in
-    let tells : Outcome = if_read w (whole metadata_request body) (of_metadata node w) in
+    let tells : Outcome = if_read w (asked_metadata version body) (of_metadata node version w) in
     let lists : Outcome = if_read w (whole list_offsets_request body) (of_list_offsets w) in
-    let fetches : Outcome = if_read w (whole fetch_request body) (of_fetch w) in
+    let fetches : Outcome = if_read w (asked_fetch version body) (of_fetch version w) in
     let produces : Outcome = if_read w (whole produce_request body) (of_produce w) in
     let from_22 : Outcome = if int_eq key (pos 22) then inits else shut in
     let from_21 : Outcome = if int_eq key (pos 21) then trims else from_22 in
@@ -71,13 +81,13 @@ by_request P node w n key version body c =
     let from_2 : Outcome = if int_eq key (pos 2) then lists else from_3 in
     let from_1 : Outcome = if int_eq key (pos 1) then fetches else from_2 in
     either P (int_eq key (pos 0)) produces from_1 (read_by P w (whole produce_request body) (of_produce w) c.produce c.shut)
-    (either P (int_eq key (pos 1)) fetches from_2 (read_by P w (whole fetch_request body) (of_fetch w) c.fetch c.shut)
+    (either P (int_eq key (pos 1)) fetches from_2 (read_by P w (asked_fetch version body) (of_fetch version w) c.fetch c.shut)
     (either P (int_eq key (pos 2)) lists from_3 (read_by P w (whole list_offsets_request body) (of_list_offsets w) c.list_offsets c.shut)
-    (either P (int_eq key (pos 3)) tells from_8 (read_by P w (whole metadata_request body) (of_metadata node w) c.metadata c.shut)
+    (either P (int_eq key (pos 3)) tells from_8 (read_by P w (asked_metadata version body) (of_metadata node version w) c.metadata c.shut)
     (either P (int_eq key (pos 8)) commits from_9 (read_by P w (whole offset_commit_request body) (of_offset_commit w) c.offset_commit c.shut)
     (either P (int_eq key (pos 9)) asks from_10 (read_by P w (whole offset_fetch_request body) (of_offset_fetch w) c.offset_fetch c.shut)
     (either P (int_eq key (pos 10)) finds from_19 (read_by P w (whole find_coordinator_request body) (of_find_coordinator node w) c.find_coordinator c.shut)
-    (either P (int_eq key (pos 19)) creates from_20 (read_by P w (whole create_topics_request body) (of_create_topics w) c.create_topics c.shut)
-    (either P (int_eq key (pos 20)) deletes from_21 (read_by P w (whole delete_topics_request body) (of_delete_topics w) c.delete_topics c.shut)
+    (either P (int_eq key (pos 19)) creates from_20 (read_by P w (asked_creations version body) (of_create_topics version w) c.create_topics c.shut)
+    (either P (int_eq key (pos 20)) deletes from_21 (read_by P w (whole delete_topics_request body) (of_delete_topics version w) c.delete_topics c.shut)
     (either P (int_eq key (pos 21)) trims from_22 (read_by P w (whole delete_records_request body) (of_delete_records w) c.delete_records c.shut)
     (either P (int_eq key (pos 22)) inits shut (read_by P w (whole init_producer_id_request body) (of_init_producer_id w) c.init_producer_id c.shut) c.shut))))))))))

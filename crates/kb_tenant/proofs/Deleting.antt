@@ -1,11 +1,12 @@
 -- One topic of a request of DeleteTopics.
 use Rattle.std.proofs.Common.{◌≡◌, ◌∙◌, sym, ap, refl, subst, ℤ, pos, ℕ, ◌+◌, ◌<◌, ◌≤◌, ◌^◌, Bool, true, false, List, [], ◌∷◌, ◌++◌, length, take, Option, Some, None, append_assoc, arith}
-use Rattle.std.specs.Prelude.{Result, Ok, Err, OnOk, is_err}
+use Rattle.std.specs.Prelude.{Result, Ok, Err, OnOk, is_err, if◌then◌else◌}
+use Rattle.std.specs.Ordering.{int_eq}
 use Rattle.std.proofs.lemmas.List.{append-nil, length-take, take-append-le}
 use Rattle.std.proofs.lemmas.List.FromFn.{map-range_with_len_more}
 use Rattle.std.proofs.Math.Seq.{take-append_seam}
-use Rattle.kb_wire.specs.Codec.{int, counted, sized, utf8, string, array}
-use Rattle.kb_api_data.specs.Layouts.{delete_topic_reply, delete_topics_request, delete_topics_reply}
+use Rattle.kb_wire.specs.Codec.{int, int32, counted, sized, utf8, string, array}
+use Rattle.kb_api_data.specs.Layouts.{delete_topic_reply, delete_topics_request, delete_topics_reply, delete_topics_reply_v1}
 use Rattle.kb_api_data.specs.declared.delete_topics.DeleteTopicsRequest.{DeleteTopicsRequest}
 use Rattle.kb_api_data.specs.declared.delete_topics.DeleteTopicReply.{DeleteTopicReply}
 use Rattle.kb_topics.specs.Known.{TopicState, named}
@@ -13,7 +14,7 @@ use Rattle.kb_topics.specs.declared.fault.CatalogFault.{CatalogFault}
 use Rattle.kb_topics.specs.declared.fault.CatalogFault.TheVariants as faults
 use Rattle.kb_world.specs.Calls.{delete, deleted_at}
 use Rattle.kb_tenant.specs.CreateTopics.{code_in}
-use Rattle.kb_tenant.specs.DeleteTopics.{place_at, places, places_in, places_at, places_named, told_if, deleted, deleted_topic}
+use Rattle.kb_tenant.specs.DeleteTopics.{place_at, places, places_in, places_at, places_named, told_if, deleted, deleted_topic, deletions_in, throttle_in}
 use Rattle.kb_world.specs.World.{World}
 use Rattle.kb_world.specs.declared.place.Place.{Place}
 
@@ -110,7 +111,18 @@ pub names_fit : (q : DeleteTopicsRequest) → delete_topics_request.Fits q → (
 unfolding delete_topics_request
 names_fit q fits = fits.0
 
--- the reply is the array of its topics
-pub deletions_written : (r : List DeleteTopicReply) → (array delete_topic_reply).written r ≡ delete_topics_reply.written (record { topics = r })
-unfolding delete_topics_reply
-deletions_written r = refl
+-- ---- the reply, by its version
+
+by_version : (b : Bool) (r : List DeleteTopicReply)
+    → (if b then int32.written (pos 0) else []) ++ (array delete_topic_reply).written r
+    ≡ (if b then delete_topics_reply_v1.written (record { throttle_time_ms = pos 0; topics = r }) else delete_topics_reply.written (record { topics = r }))
+unfolding delete_topics_reply delete_topics_reply_v1
+by_version true r = refl
+by_version false r = refl
+
+-- the topics behind what stands before them
+pub deletions_written : (version : ℤ) (start head end : List ℕ) (r : List DeleteTopicReply) → head ≡ start ++ throttle_in version → end ≡ head ++ (array delete_topic_reply).written r
+    → end ≡ start ++ deletions_in version (record { topics = r })
+deletions_written version start head end r before topics =
+    topics ∙ ap (λ s. s ++ (array delete_topic_reply).written r) before ∙ append_assoc start (throttle_in version) ((array delete_topic_reply).written r)
+    ∙ ap (λ s. start ++ s) (by_version (int_eq version (pos 1)) r)

@@ -1,20 +1,49 @@
 -- What is written of topics and partitions that are described, put after put.
-use Rattle.std.proofs.Common.{◌≡◌, ◌∙◌, sym, ap, refl, ℕ, ◌+◌, List, [], ◌∷◌, ◌++◌, length, map, append_assoc, arith, w32}
-use Rattle.std.specs.Prelude.{ℤ, pos, true, false, Option, Some, None}
+use Rattle.std.proofs.Common.{◌≡◌, ◌∙◌, ◌⊎◌, ⊎_elim, sym, subst, ap, refl, ℕ, ◌+◌, List, [], ◌∷◌, ◌++◌, length, map, append_assoc, arith, w32}
+use Rattle.std.specs.Prelude.{ℤ, pos, Bool, true, false, Option, Some, None, if◌then◌else◌}
+use Rattle.std.specs.Ordering.{int_eq}
 use Rattle.std.specs.Option.{option_and_then}
 use Rattle.std.specs.List.{flat_map, range_with_len}
-use Rattle.std.proofs.lemmas.List.{append-nil}
+use Rattle.std.proofs.lemmas.List.{append-nil, length-map}
+use Rattle.std.proofs.lemmas.List.Folds.{flat_map-map}
 use Rattle.std.proofs.lemmas.List.FromFn.{length-map-range_with_len, map-range_with_len_more}
-use Rattle.kb_wire.specs.Codec.{count, array, int16, int32, string, boolean}
-use Rattle.kb_api_data.specs.Layouts.{metadata_partition, metadata_topic, metadata_broker, metadata_reply}
+use Rattle.kb_wire.specs.Fits.{null_array_fits}
+use Rattle.kb_wire.specs.Codec.{count, counted, nullable, nullable_counted, sized, items, array, int16, int32, string, nullable_string, boolean}
+use Rattle.kb_api_data.specs.Layouts.{metadata_request, metadata_request_v0, metadata_request_v4}
+use Rattle.kb_api_data.specs.Layouts.{metadata_partition, metadata_topic, metadata_topic_v0, metadata_broker, metadata_broker_v0, metadata_reply, metadata_reply_v0, metadata_reply_v2, metadata_reply_v3}
 use Rattle.kb_api_data.specs.declared.metadata.MetadataBroker.{MetadataBroker}
 use Rattle.kb_api_data.specs.declared.metadata.MetadataRequest.{MetadataRequest}
+use Rattle.kb_api_data.specs.declared.metadata.MetadataTopic.{MetadataTopic}
+use Rattle.kb_api_data.specs.declared.metadata.MetadataReply.{MetadataReply}
+use Rattle.kb_api_data.specs.declared.metadata_versions.MetadataBrokerV0.{MetadataBrokerV0}
+use Rattle.kb_api_data.specs.declared.metadata_versions.MetadataRequestV0.{MetadataRequestV0}
+use Rattle.kb_api_data.specs.declared.metadata_versions.MetadataRequestV4.{MetadataRequestV4}
 use Rattle.kb_topics.specs.Known.{TopicState, named, topic_at}
 use Rattle.kb_topics.specs.Name.{is_legal}
-use Rattle.kb_tenant.specs.Metadata.{broker, partition_described, topic_described, topic_found, topic_asked, topics_asked, metadata_of}
+use Rattle.kb_tenant.specs.Metadata.{broker, broker_v0, internal_in, metadata_in, metadata_of, partition_described, reply_v3, topic_asked, topic_described, topic_found, topic_in, topic_v0, topics_asked, topics_in}
 use Rattle.kb_world.specs.World.{World}
 use Rattle.kb_tenant.specs.declared.node.Node.{Node}
 use Rattle.kb_tenant.proofs.Fitting.{array_written, written_both}
+
+-- ---- what was read can be written
+
+pub no_topics_fit : metadata_request.Fits (record { topics = None })
+unfolding metadata_request
+no_topics_fit = null_array_fits string
+
+pub topics_fit_v0 : (r : MetadataRequestV0) → metadata_request_v0.Fits r → metadata_request.Fits (record { topics = Some r.topics })
+unfolding metadata_request metadata_request_v0 nullable nullable_counted sized counted items
+topics_fit_v0 r fits = fits
+
+pub topics_fit_v4 : (r : MetadataRequestV4) → metadata_request_v4.Fits r → metadata_request.Fits (record { topics = r.topics })
+unfolding metadata_request metadata_request_v4
+topics_fit_v4 r fits = fits.0
+
+-- ---- what is written
+
+-- a topic by the layout of version 0, or by the later one
+abbrev topic_if : Bool → MetadataTopic → List ℕ
+topic_if b t = if b then metadata_topic_v0.written (topic_v0 t) else metadata_topic.written t
 
 pub partition_written : (p : ℕ) (error number : ℤ) (s0 s1 s2 s3 s4 s5 : List ℕ) → error ≡ pos 0 → number ≡ pos p
     → s1 ≡ s0 ++ int16.written error → s2 ≡ s1 ++ int32.written number → s3 ≡ s2 ++ int32.written (pos 0) → s4 ≡ s3 ++ (array int32).written (pos 0 ∷ []) → s5 ≡ s4 ++ (array int32).written (pos 0 ∷ [])
@@ -42,26 +71,40 @@ partitions_more p old s t a b =
     flat_map_snoc f [] x = append-nil (f x)
     flat_map_snoc f (y ∷ ys) x = ap (λ r. f y ++ r) (flat_map_snoc f ys x) ∙ sym (append_assoc (f y) (flat_map f ys) (f x))
 
-pub topic_written : (error wrote : ℤ) (name : List ℕ) (n : ℕ) (s0 s1 s2 s3 s4 s5 : List ℕ) → wrote ≡ error
-    → s1 ≡ s0 ++ int16.written wrote → s2 ≡ s1 ++ string.written name → s3 ≡ s2 ++ boolean.written false → s4 ≡ s3 ++ (count w32).written n
+-- its parts by either layout
+by_layout : (b : Bool) (error : ℤ) (name : List ℕ) (n : ℕ)
+    → int16.written error ++ (string.written name ++ ((if b then [] else boolean.written false) ++ (array metadata_partition).written (map partition_described (range_with_len 0 n)))) ≡ topic_if b (topic_described error name n)
+unfolding metadata_topic metadata_topic_v0
+by_layout true error name n = refl
+by_layout false error name n = refl
+
+pub topic_written : (version sent error wrote : ℤ) (name : List ℕ) (n : ℕ) (s0 s1 s2 s3 s4 s5 : List ℕ) → sent ≡ version → wrote ≡ error
+    → s1 ≡ s0 ++ int16.written wrote → s2 ≡ s1 ++ string.written name → s3 ≡ s2 ++ internal_in sent → s4 ≡ s3 ++ (count w32).written n
     → s5 ≡ s4 ++ flat_map metadata_partition.written (map partition_described (range_with_len 0 n))
-    → s5 ≡ s0 ++ metadata_topic.written (topic_described error name n)
-unfolding metadata_topic
-topic_written error wrote name n s0 s1 s2 s3 s4 s5 wrote_is a b c d e =
+    → s5 ≡ s0 ++ topic_in version (topic_described error name n)
+topic_written version sent error wrote name n s0 s1 s2 s3 s4 s5 sent_is wrote_is a b c d e =
     let partitions = map partition_described (range_with_len 0 n) in
     let all = (array metadata_partition).written partitions in
+    let internal = internal_in version in
     let one : s5 ≡ s3 ++ all =
     written_both s3 s4 s5 ((count w32).written n) (flat_map metadata_partition.written partitions) d e
     ∙ ap (λ x. s3 ++ x) (array_written metadata_partition partitions n (sym (length-map-range_with_len partition_described 0 n))) in
-    let two : s5 ≡ s2 ++ (boolean.written false ++ all) = written_both s2 s3 s5 (boolean.written false) all c one in
-    let three : s5 ≡ s1 ++ (string.written name ++ (boolean.written false ++ all)) = written_both s1 s2 s5 (string.written name) (boolean.written false ++ all) b two in
-    written_both s0 s1 s5 (int16.written error) (string.written name ++ (boolean.written false ++ all)) (a ∙ ap (λ z. s0 ++ int16.written z) wrote_is) three
+    let two : s5 ≡ s2 ++ (internal ++ all) = written_both s2 s3 s5 internal all (c ∙ ap (λ v. s2 ++ internal_in v) sent_is) one in
+    let three : s5 ≡ s1 ++ (string.written name ++ (internal ++ all)) = written_both s1 s2 s5 (string.written name) (internal ++ all) b two in
+    written_both s0 s1 s5 (int16.written error) (string.written name ++ (internal ++ all)) (a ∙ ap (λ z. s0 ++ int16.written z) wrote_is) three
+    ∙ ap (λ x. s0 ++ x) (by_layout (int_eq version (pos 0)) error name n)
 
 pub broker_written : (node : Node) (host : List ℕ) (port : ℤ) → host ≡ node.host → port ≡ pos node.port
     → metadata_broker.written (record { node_id = pos 0; host = host; port = port; rack = None }) ≡ metadata_broker.written (broker node)
 broker_written node host port h p =
     ap (λ x. metadata_broker.written (let b : MetadataBroker = record { node_id = pos 0; host = x; port = port; rack = None } in b)) h
     ∙ ap (λ x. metadata_broker.written (let b : MetadataBroker = record { node_id = pos 0; host = node.host; port = x; rack = None } in b)) p
+
+pub broker_v0_written : (node : Node) (host : List ℕ) (port : ℤ) → host ≡ node.host → port ≡ pos node.port
+    → metadata_broker_v0.written (record { node_id = pos 0; host = host; port = port }) ≡ metadata_broker_v0.written (broker_v0 (broker node))
+broker_v0_written node host port h p =
+    ap (λ x. metadata_broker_v0.written (let b : MetadataBrokerV0 = record { node_id = pos 0; host = x; port = port } in b)) h
+    ∙ ap (λ x. metadata_broker_v0.written (let b : MetadataBrokerV0 = record { node_id = pos 0; host = node.host; port = x } in b)) p
 
 -- ---- a topic that is asked by name
 
@@ -74,13 +117,83 @@ asked_gone ts name i legal some none = ap (topic_found name) none ∙ ap (λ o. 
 pub asked_known : (ts : List (ℕ × TopicState)) (name : List ℕ) (i : ℕ) (t : TopicState) → is_legal name ≡ true → Some i ≡ named name ts → Some t ≡ topic_at i ts → topic_described (pos 0) name (length t.partitions) ≡ topic_asked ts name
 asked_known ts name i t legal some there = ap (topic_found name) there ∙ ap (λ o. topic_found name (option_and_then (λ j. topic_at j ts) o)) some ∙ rw legal refl
 
--- the whole reply
-pub metadata_written : (w : World) (node : Node) (r : MetadataRequest) (asked : Option (List (List ℕ))) (old s1 s2 : List ℕ) → r.topics ≡ asked
-    → s1 ≡ old ++ ((array metadata_broker).written (broker node ∷ []) ++ int32.written (pos 0)) → s2 ≡ s1 ++ (array metadata_topic).written (topics_asked w.known.topics asked)
-    → s2 ≡ old ++ metadata_reply.written (metadata_of w node r)
+-- ---- the whole reply, by its version
+
+abbrev pub reply_with : Node → List MetadataTopic → MetadataReply
+reply_with node ts = record { brokers = broker node ∷ []; controller_id = pos 0; topics = ts }
+
+topics_old : (ts : List MetadataTopic) → topics_in (pos 0) ts ≡ (array metadata_topic_v0).written (map topic_v0 ts)
+unfolding sized items
+topics_old ts =
+    ap (λ n. (count w32).written n ++ flat_map (topic_if true) ts) (sym (length-map ts topic_v0))
+    ∙ ap (λ l. (count w32).written (length (map topic_v0 ts)) ++ l) (sym (flat_map-map metadata_topic_v0.written topic_v0 ts))
+
+topics_new : (version : ℤ) (ts : List MetadataTopic) → int_eq version (pos 0) ≡ false → topics_in version ts ≡ (array metadata_topic).written ts
+unfolding sized items
+topics_new version ts later = ap (λ b. (count w32).written (length ts) ++ flat_map (topic_if b) ts) later
+
+-- what was written, and the topics behind it
+behind : (old new front topics : List ℕ) → new ≡ old ++ front → new ++ topics ≡ old ++ (front ++ topics)
+behind old new front topics wrote = ap (λ s. s ++ topics) wrote ∙ append_assoc old front topics
+
+pub front_v0 : (node : Node) (ts : List MetadataTopic) (old new : List ℕ) → new ≡ old ++ (array metadata_broker_v0).written (broker_v0 (broker node) ∷ [])
+    → new ++ topics_in (pos 0) ts ≡ old ++ metadata_in (pos 0) (reply_with node ts)
+unfolding metadata_reply_v0
+front_v0 node ts old new wrote =
+    let brokers = (array metadata_broker_v0).written (broker_v0 (broker node) ∷ []) in
+    behind old new brokers (topics_in (pos 0) ts) wrote ∙ ap (λ x. old ++ (brokers ++ x)) (topics_old ts)
+
+pub front_v1 : (node : Node) (ts : List MetadataTopic) (version : ℤ) (old s1 new : List ℕ) → int_eq version (pos 0) ≡ false → int_eq version (pos 2) ≡ false → int_eq version (pos 3) ≡ false → int_eq version (pos 4) ≡ false
+    → s1 ≡ old ++ (array metadata_broker).written (broker node ∷ []) → new ≡ s1 ++ int32.written (pos 0)
+    → new ++ topics_in version ts ≡ old ++ metadata_in version (reply_with node ts)
 unfolding metadata_reply
-metadata_written w node r asked old s1 s2 is p q =
+front_v1 node ts version old s1 new not0 not2 not3 not4 first last =
     let brokers = (array metadata_broker).written (broker node ∷ []) in
     let self = int32.written (pos 0) in
-    let topics = (array metadata_topic).written (topics_asked w.known.topics r.topics) in
-    written_both old s1 s2 (brokers ++ self) topics p (q ∙ ap (λ o. s1 ++ (array metadata_topic).written (topics_asked w.known.topics o)) (sym is)) ∙ ap (λ x. old ++ x) (append_assoc brokers self topics)
+    let topics = topics_in version ts in
+    behind old new (brokers ++ self) topics (written_both old s1 new brokers self first last) ∙ ap (λ x. old ++ x) (append_assoc brokers self topics)
+    ∙ ap (λ x. old ++ (brokers ++ (self ++ x))) (topics_new version ts not0)
+    ∙ sym (ap (λ x. old ++ x) (rw (not0, not2, not3, not4) refl))
+
+clustered : (brokers cluster self topics : List ℕ) → (brokers ++ (cluster ++ self)) ++ topics ≡ brokers ++ (cluster ++ (self ++ topics))
+clustered brokers cluster self topics = append_assoc brokers (cluster ++ self) topics ∙ ap (λ x. brokers ++ x) (append_assoc cluster self topics)
+
+pub front_v2 : (node : Node) (ts : List MetadataTopic) (old new : List ℕ) → new ≡ old ++ ((array metadata_broker).written (broker node ∷ []) ++ (nullable_string.written None ++ int32.written (pos 0)))
+    → new ++ topics_in (pos 2) ts ≡ old ++ metadata_in (pos 2) (reply_with node ts)
+unfolding metadata_reply_v2
+front_v2 node ts old new wrote =
+    let brokers = (array metadata_broker).written (broker node ∷ []) in
+    let cluster = nullable_string.written None in
+    let self = int32.written (pos 0) in
+    let topics = topics_in (pos 2) ts in
+    behind old new (brokers ++ (cluster ++ self)) topics wrote ∙ ap (λ x. old ++ x) (clustered brokers cluster self topics)
+    ∙ ap (λ x. old ++ (brokers ++ (cluster ++ (self ++ x)))) (topics_new (pos 2) ts refl)
+
+front_v3 : (node : Node) (ts : List MetadataTopic) (old s1 new : List ℕ) → s1 ≡ old ++ int32.written (pos 0)
+    → new ≡ s1 ++ ((array metadata_broker).written (broker node ∷ []) ++ (nullable_string.written None ++ int32.written (pos 0)))
+    → new ++ (array metadata_topic).written ts ≡ old ++ metadata_reply_v3.written (reply_v3 (reply_with node ts))
+unfolding metadata_reply_v3
+front_v3 node ts old s1 new first wrote =
+    let brokers = (array metadata_broker).written (broker node ∷ []) in
+    let cluster = nullable_string.written None in
+    let self = int32.written (pos 0) in
+    let topics = (array metadata_topic).written ts in
+    behind old new (self ++ (brokers ++ (cluster ++ self))) topics (written_both old s1 new self (brokers ++ (cluster ++ self)) first wrote)
+    ∙ ap (λ x. old ++ x) (append_assoc self (brokers ++ (cluster ++ self)) topics ∙ ap (λ x. self ++ x) (clustered brokers cluster self topics))
+
+-- versions 3 and 4
+pub front_later : (node : Node) (ts : List MetadataTopic) (version : ℤ) (old s1 new : List ℕ) → (version ≡ pos 3) ⊎ (version ≡ pos 4) → s1 ≡ old ++ int32.written (pos 0)
+    → new ≡ s1 ++ ((array metadata_broker).written (broker node ∷ []) ++ (nullable_string.written None ++ int32.written (pos 0)))
+    → new ++ topics_in version ts ≡ old ++ metadata_in version (reply_with node ts)
+front_later node ts version old s1 new either first wrote =
+    let all = front_v3 node ts old s1 new first wrote in
+    ⊎_elim
+    (λ is. subst (λ v. new ++ topics_in v ts ≡ old ++ metadata_in v (reply_with node ts)) (sym is) (ap (λ x. new ++ x) (topics_new (pos 3) ts refl) ∙ all))
+    (λ is. subst (λ v. new ++ topics_in v ts ≡ old ++ metadata_in v (reply_with node ts)) (sym is) (ap (λ x. new ++ x) (topics_new (pos 4) ts refl) ∙ all))
+    either
+
+pub metadata_written : (w : World) (node : Node) (version : ℤ) (r : MetadataRequest) (asked : Option (List (List ℕ))) (old s1 s2 : List ℕ) → r.topics ≡ asked
+    → s1 ++ topics_in version (topics_asked w.known.topics asked) ≡ old ++ metadata_in version (reply_with node (topics_asked w.known.topics asked))
+    → s2 ≡ s1 ++ topics_in version (topics_asked w.known.topics asked) → s2 ≡ old ++ metadata_in version (metadata_of w node r)
+metadata_written w node version r asked old s1 s2 is front behind =
+    behind ∙ front ∙ ap (λ o. old ++ metadata_in version (reply_with node (topics_asked w.known.topics o))) (sym is)

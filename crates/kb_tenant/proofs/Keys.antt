@@ -1,22 +1,27 @@
 -- Requests by their keys, and a fetch that waits.
-use Rattle.std.proofs.Common.{◌≡◌, ℕ, ℤ, pos, List, Option, Some, None, ap}
+use Rattle.std.proofs.Common.{◌≡◌, ◌∙◌, ◌++◌, ℕ, ℤ, pos, Bool, true, false, List, [], Option, Some, None, ap, refl, subst, sym}
+use Rattle.std.specs.Prelude.{if◌then◌else◌}
 use Rattle.std.specs.declared.alloc.Global.{Global}
 use Rattle.std.specs.declared.vec.Vec.{Vec}
 use Rattle.kb_wire.specs.Codec.{whole}
-use Rattle.kb_api_data.specs.Layouts.{metadata_request}
 use Rattle.kb_api_group.specs.Layouts.{find_coordinator_request, offset_fetch_request}
+use Rattle.kb_api_data.specs.declared.create_topics_v1.CreateTopicsRequestV1.{CreateTopicsRequestV1}
 use Rattle.kb_world.specs.World.{World}
-use Rattle.kb_api_data.specs.declared.fetch.FetchReply.{FetchReply}
+use Rattle.kb_tenant.specs.CreateTopics.{checked_all, created_all, creations_in, made_of}
+use Rattle.kb_api_data.specs.declared.fetch_v5.FetchReplyV5.{FetchReplyV5}
 use Rattle.kb_api_data.specs.declared.fetch.FetchRequest.{FetchRequest}
 use Rattle.kb_world.specs.declared.place.Place.{Place}
-use Rattle.kb_tenant.specs.Fetch.{IsServed}
-use Rattle.kb_tenant.specs.Replies.{IsAnswer}
+use Rattle.kb_tenant.specs.Fetch.{has_starts, looked, reply_written, fetched_in, IsServed}
+use Rattle.kb_tenant.specs.Metadata.{asked_metadata}
+use Rattle.kb_tenant.specs.Replies.{begun, IsAnswer, Replies, Silent}
+use Rattle.kb_tenant.specs.Serve.{IsOutcome, Outcome, of_create_topics, stays}
 use Rattle.kb_tenant.specs.Serve.{fetch_reaction, if_read, of_find_coordinator, of_metadata, of_offset_fetch, served}
+use Rattle.kb_tenant.specs.declared.answer.Answer.{Answer}
 use Rattle.kb_tenant.specs.declared.answer.Answer.TheVariants as answers
 use Rattle.kb_tenant.specs.declared.fetch.waiting.Fetching.TheVariants as fetching
 use Rattle.kb_tenant.specs.declared.node.Node.{Node}
 
-pub served_metadata : (node : Node) (w : World) (n : ℕ) (key version : ℤ) (body : List ℕ) → key ≡ pos 3 → served node w n key version body ≡ if_read w (whole metadata_request body) (of_metadata node w)
+pub served_metadata : (node : Node) (w : World) (n : ℕ) (key version : ℤ) (body : List ℕ) → key ≡ pos 3 → served node w n key version body ≡ if_read w (asked_metadata version body) (of_metadata node version w)
 unfolding served
 served_metadata node w n key version body is = ap (λ k. served node w n k version body) is
 
@@ -28,8 +33,37 @@ pub served_find_coordinator : (node : Node) (w : World) (n : ℕ) (key version :
 unfolding served
 served_find_coordinator node w n key version body is = ap (λ k. served node w n k version body) is
 
+-- ---- CreateTopics: a request that is only checked, and one that is not
+
+pub checked_outcome : (id version : ℤ) (w : World) (r : CreateTopicsRequestV1) (answer : Answer) → r.validate_only ≡ true → IsAnswer id (Replies (creations_in version (checked_all w r.topics))) answer
+    → IsOutcome id (of_create_topics version w r) w [] answer
+checked_outcome id version w r answer is told =
+    let made : Outcome = record { world = (created_all w (made_of r)).0; touched = []; reaction = Replies (creations_in version (created_all w (made_of r)).1) } in
+    subst (λ b. IsOutcome id (if b then stays w (Replies (creations_in version (checked_all w r.topics))) else made) w [] answer) (sym is) (refl, refl, told)
+
+pub made_outcome : (id version : ℤ) (w v : World) (r : CreateTopicsRequestV1) (answer : Answer) → r.validate_only ≡ false → v ≡ (created_all w (made_of r)).0
+    → IsAnswer id (Replies (creations_in version (created_all w (made_of r)).1)) answer → IsOutcome id (of_create_topics version w r) v [] answer
+made_outcome id version w v r answer is world told =
+    let made : Outcome = record { world = (created_all w (made_of r)).0; touched = []; reaction = Replies (creations_in version (created_all w (made_of r)).1) } in
+    subst (λ b. IsOutcome id (if b then stays w (Replies (creations_in version (checked_all w r.topics))) else made) v [] answer) (sym is) (world, refl, told)
+
 -- a fetch that waits is a wait
-pub waits : (id : ℤ) (w : World) (r : FetchRequest) (o : Option FetchReply) (old new : List ℕ) (deadline : ℕ) (keys : Vec Place Global)
-    → IsServed w r o old (fetching.Wait deadline keys) new → IsAnswer id (fetch_reaction w r o) (answers.Wait deadline keys)
-waits id w r (Some reply) old new deadline keys h = h
-waits id w r None old new deadline keys h = (h.0, h.1)
+pub waits : (id version : ℤ) (starts : Bool) (w : World) (r : FetchRequest) (o : Option FetchReplyV5) (old new : List ℕ) (deadline : ℕ) (keys : Vec Place Global)
+    → IsServed starts w r o old (fetching.Wait deadline keys) new → IsAnswer id (fetch_reaction version w r o) (answers.Wait deadline keys)
+waits id version starts w r (Some reply) old new deadline keys h = h
+waits id version starts w r None old new deadline keys h = (h.0, h.1)
+
+-- a fetch that is answered is a reply
+pub replied : (id version : ℤ) (starts : Bool) (w : World) (r : FetchRequest) (o : Option FetchReplyV5) (old new : List ℕ) (answer : Answer) → starts ≡ has_starts version → old ≡ begun id
+    → IsServed starts w r o old fetching.Reply new → ((id : ℤ) (body : List ℕ) → new ≡ begun id ++ body → IsAnswer id (Replies body) answer) → IsAnswer id (fetch_reaction version w r o) answer
+replied id version starts w r (Some reply) old new answer is from h made =
+    made id (fetched_in version reply) (h ∙ ap (λ s. s ++ reply_written starts reply) from ∙ ap (λ b. begun id ++ reply_written b reply) is)
+replied id version starts w r None old new answer is from h made = absurd h
+
+-- so is one that waited
+pub woken : (id version : ℤ) (starts : Bool) (o : Option FetchReplyV5) (old new : List ℕ) (done : Bool) (answer : Answer) → starts ≡ has_starts version → old ≡ begun id → done ≡ true
+    → (done, new) ≡ looked starts old o → ((id : ℤ) (body : List ℕ) → new ≡ begun id ++ body → IsAnswer id (Replies body) answer)
+    → IsAnswer id (elim o [ Some reply ↦ Replies (fetched_in version reply) | None ↦ Silent ]) answer
+woken id version starts (Some reply) old new done answer is from over told made =
+    made id (fetched_in version reply) (ap (λ x. x.1) told ∙ ap (λ s. s ++ reply_written starts reply) from ∙ ap (λ b. begun id ++ reply_written b reply) is)
+woken id version starts None old new done answer is from over told made = let e : true ≡ false = sym over ∙ ap (λ x. x.0) told in absurd cc

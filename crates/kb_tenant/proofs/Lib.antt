@@ -1,7 +1,9 @@
+pub mod Acknowledging
 pub mod Again
 pub mod Asked
 pub mod Batches
 pub mod ByRequest
+pub mod Checking
 pub mod CommitMoves
 pub mod Committing
 pub mod Coordinator
@@ -19,6 +21,7 @@ pub mod Framing
 pub mod Keys
 pub mod LogMoves
 pub mod Losing
+pub mod Mapped
 pub mod Moves
 pub mod Names
 pub mod Offsets
@@ -40,4 +43,5 @@ pub mod Spelled
 pub mod Telling
 pub mod Tied
 pub mod Turning
+pub mod Versions
 pub mod Waiting

@@ -112,7 +112,7 @@ unfolding produce_reply sized items
 reply_spelled rs = refl
 
 -- a topic's name, the count and the answers are its reply
-topic_bytes : (due : Bool) (name : List ℕ) (n : ℕ) (rs : List ProducePartitionReply) (out : List ℕ) → n ≡ length rs
+pub topic_bytes : (due : Bool) (name : List ℕ) (n : ℕ) (rs : List ProducePartitionReply) (out : List ℕ) → n ≡ length rs
     → ((out ++ where_due due (string.written name)) ++ where_due due ((count w32).written n)) ++ flat_map (λ x. where_due due (produce_partition_reply.written x)) rs ≡ out ++ where_due due (produce_topic_reply.written (record { name = name; partitions = rs }))
 topic_bytes due name n rs out is =
     let answers : List ℕ = flat_map (λ x. where_due due (produce_partition_reply.written x)) rs in
@@ -138,7 +138,7 @@ topic_told due refusal topic p t name entries n out out1 out2 result nis eis lis
     ∙ ap (λ l. (r.0, l)) (ap (λ l. l ++ flat_map write r.1) before ∙ topic_bytes due t.name n r.1 out many)
 
 -- the count, the topics and the throttle time are the reply
-reply_bytes_are : (due : Bool) (n : ℕ) (rs : List ProduceTopicReply) (out : List ℕ) → n ≡ length rs
+pub reply_bytes_are : (due : Bool) (n : ℕ) (rs : List ProduceTopicReply) (out : List ℕ) → n ≡ length rs
     → ((out ++ where_due due ((count w32).written n)) ++ flat_map (λ x. where_due due (produce_topic_reply.written x)) rs) ++ where_due due (int32.written (pos 0)) ≡ out ++ where_due due (produce_reply.written (record { topics = rs; throttle_time_ms = pos 0 }))
 reply_bytes_are due n rs out is =
     ap (λ l. l ++ where_due due (int32.written (pos 0))) (all_due due produce_topic_reply.written out ((count w32).written n) rs)

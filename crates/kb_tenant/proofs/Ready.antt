@@ -9,15 +9,13 @@ use Rattle.kb_batch.specs.Batch.{natural}
 use Rattle.kb_api_data.specs.declared.fetch.FetchPartition.{FetchPartition}
 use Rattle.kb_api_data.specs.declared.fetch.FetchTopic.{FetchTopic}
 use Rattle.kb_api_data.specs.declared.fetch.FetchRequest.{FetchRequest}
-use Rattle.kb_api_data.specs.declared.fetch.FetchPartitionReply.{FetchPartitionReply}
-use Rattle.kb_api_data.specs.declared.fetch.FetchTopicReply.{FetchTopicReply}
-use Rattle.kb_api_data.specs.Layouts.{fetch_reply}
-use Rattle.kb_api_data.specs.declared.fetch.FetchReply.{FetchReply}
+use Rattle.kb_api_data.specs.declared.fetch_v5.FetchPartitionReplyV5.{FetchPartitionReplyV5}
+use Rattle.kb_api_data.specs.declared.fetch_v5.FetchTopicReplyV5.{FetchTopicReplyV5}
+use Rattle.kb_api_data.specs.declared.fetch_v5.FetchReplyV5.{FetchReplyV5}
 use Rattle.kb_topics.specs.Known.{named}
 use Rattle.kb_partitions.specs.declared.fault.PartitionFault.{PartitionFault}
 use Rattle.kb_partitions.specs.declared.fault.PartitionFault.TheVariants as partition
-use Rattle.kb_world.specs.Calls.{end_of}
-use Rattle.kb_tenant.specs.Fetch.{answered, answered_at, answered_by, answered_topic, fetched, fetched_at, refused, begun, has_enough, is_ready, records_size, is_error, looked, fetch_answer}
+use Rattle.kb_tenant.specs.Fetch.{answered, answered_at, answered_by, answered_topic, bounds_of, fetched, fetched_at, refused, begun, has_enough, is_ready, records_size, is_error, looked, fetch_answer, reply_written}
 use Rattle.kb_tenant.proofs.Fetching.{cut_back}
 use Rattle.kb_tenant.specs.Turns.{in_turn}
 use Rattle.kb_world.specs.World.{World, place_in}
@@ -62,10 +60,10 @@ in_turn_tells {A = A} size bad some f each g (e ∷ es) =
 
 -- ---- one partition
 
-abbrev is_refusal : FetchPartitionReply → Bool
+abbrev is_refusal : FetchPartitionReplyV5 → Bool
 is_refusal p = is_error p.error_code
 
-abbrev Partition : Given → Given × FetchPartitionReply → Type 0
+abbrev Partition : Given → Given × FetchPartitionReplyV5 → Type 0
 Partition g r = Tells records_size is_refusal (λ p. true) g r.0 r.1
 
 refusal_bad : (p : ℤ) (f : PartitionFault) (g : Given) → is_refusal (refused g p f).1 ≡ true
@@ -82,19 +80,19 @@ refused_tells g p f = record {
   asked = or_true g.is_asked;
 }
 
-by_tells : (g : Given) (p : ℤ) (o : Option ℤ) (r : Result (List ℕ) PartitionFault) → Partition g (answered_by g p o r)
+by_tells : (g : Given) (p : ℤ) (o : Option (ℤ × ℤ)) (r : Result (List ℕ) PartitionFault) → Partition g (answered_by g p o r)
 by_tells g p None r = refused_tells g p partition.Unknown
-by_tells g p (Some end) (Err f) = refused_tells g p f
-by_tells g p (Some end) (Ok records) = record { missing = refl; wrong = or_false g.is_wrong; asked = or_true g.is_asked }
+by_tells g p (Some bounds) (Err f) = refused_tells g p f
+by_tells g p (Some bounds) (Ok records) = record { missing = refl; wrong = or_false g.is_wrong; asked = or_true g.is_asked }
 
 at_tells : (w : World) (g : Given) (e : FetchPartition) (o : Option Place) → Partition g (answered_at w g e o)
 at_tells w g e None = refused_tells g e.partition partition.Unknown
-at_tells w g e (Some place) = by_tells g e.partition (end_of w place) (fetched_at w g e place)
+at_tells w g e (Some place) = by_tells g e.partition (bounds_of w place) (fetched_at w g e place)
 
 -- ---- the whole
 
 topic_tells : (w : World) (g : Given) (t : FetchTopic)
-    → Tells (λ (a : FetchTopicReply). sum_by records_size a.partitions) (λ a. list_any is_refusal a.partitions) (λ a. list_any (λ p. true) a.partitions) g (answered_topic w g t).0 (answered_topic w g t).1
+    → Tells (λ (a : FetchTopicReplyV5). sum_by records_size a.partitions) (λ a. list_any is_refusal a.partitions) (λ a. list_any (λ p. true) a.partitions) g (answered_topic w g t).0 (answered_topic w g t).1
 topic_tells w g t =
     let all = in_turn_tells records_size is_refusal (λ p. true) (answered w (named t.topic w.known.topics)) (λ h e. at_tells w h e (place_in (named t.topic w.known.topics) e.partition)) g t.partitions in
     record { missing = all.missing; wrong = all.wrong; asked = all.asked }
@@ -105,12 +103,12 @@ none_missing n s = grind (arith, nat_tests)
 -- what was counted on the way says whether the reply waits no longer
 pub ready_is : (w : World) (r : FetchRequest) (deadline : ℕ) → has_enough (fetched w r).0 w.clock deadline ≡ is_ready w r (fetched w r).1 deadline
 ready_is w r deadline =
-    let all = in_turn_tells (λ (a : FetchTopicReply). sum_by records_size a.partitions) (λ a. list_any is_refusal a.partitions) (λ a. list_any (λ p. true) a.partitions) (answered_topic w) (topic_tells w) (begun r) r.topics in
+    let all = in_turn_tells (λ (a : FetchTopicReplyV5). sum_by records_size a.partitions) (λ a. list_any is_refusal a.partitions) (λ a. list_any (λ p. true) a.partitions) (answered_topic w) (topic_tells w) (begun r) r.topics in
     let g = (fetched w r).0 in
     ap (λ b. not b || g.is_wrong || (g.missing == 0) || nat_le deadline w.clock) all.asked
     ∙ ap (λ b. not (list_any (λ a. list_any (λ p. true) a.partitions) (fetched w r).1.topics) || b || (g.missing == 0) || nat_le deadline w.clock) all.wrong
     ∙ ap (λ b. not (list_any (λ a. list_any (λ p. true) a.partitions) (fetched w r).1.topics) || list_any (λ a. list_any is_refusal a.partitions) (fetched w r).1.topics || b || nat_le deadline w.clock)
-    (ap (λ n. n == 0) all.missing ∙ none_missing (natural r.min_bytes) (sum_by (λ (a : FetchTopicReply). sum_by records_size a.partitions) (fetched w r).1.topics))
+    (ap (λ n. n == 0) all.missing ∙ none_missing (natural r.min_bytes) (sum_by (λ (a : FetchTopicReplyV5). sum_by records_size a.partitions) (fetched w r).1.topics))
 
 -- ---- what a look answers
 
@@ -118,20 +116,20 @@ done_is : (w v : World) (r : FetchRequest) (given : Given) (clock deadline : ℕ
 done_is w v r given clock deadline ready is at stays same =
     sym (ready_is w r deadline) ∙ sym (ap (λ g. has_enough g w.clock deadline) same) ∙ sym (ap (λ n. has_enough given n deadline) (at ∙ ap (λ u. u.clock) stays)) ∙ sym is
 
-when_done : (old : List ℕ) (reply : FetchReply) (b : Bool) → b ≡ true → (true, old ++ fetch_reply.written reply) ≡ looked old (if b then Some reply else None)
-when_done old reply true is = refl
-when_done old reply false is = absurd cc
+when_done : (starts : Bool) (old : List ℕ) (reply : FetchReplyV5) (b : Bool) → b ≡ true → (true, old ++ reply_written starts reply) ≡ looked starts old (if b then Some reply else None)
+when_done starts old reply true is = refl
+when_done starts old reply false is = absurd cc
 
-when_not : (old : List ℕ) (reply : FetchReply) (b : Bool) → b ≡ false → (false, old) ≡ looked old (if b then Some reply else None)
-when_not old reply true is = absurd cc
-when_not old reply false is = refl
+when_not : (starts : Bool) (old : List ℕ) (reply : FetchReplyV5) (b : Bool) → b ≡ false → (false, old) ≡ looked starts old (if b then Some reply else None)
+when_not starts old reply true is = absurd cc
+when_not starts old reply false is = refl
 
-pub looked_done : (w v : World) (r : FetchRequest) (given : Given) (clock deadline : ℕ) (ready : Bool) (old new : List ℕ) → ready ≡ has_enough given clock deadline → ready ≡ true → clock ≡ v.clock → v ≡ w
-    → (given ≡ (fetched w r).0) × (new ≡ old ++ fetch_reply.written (fetched w r).1) → (true, new) ≡ looked old (fetch_answer w r deadline)
-looked_done w v r given clock deadline ready old new is over at stays told =
-    ap (λ s. (true, s)) told.1 ∙ when_done old (fetched w r).1 (is_ready w r (fetched w r).1 deadline) (done_is w v r given clock deadline ready is at stays told.0 ∙ over)
+pub looked_done : (starts : Bool) (w v : World) (r : FetchRequest) (given : Given) (clock deadline : ℕ) (ready : Bool) (old new : List ℕ) → ready ≡ has_enough given clock deadline → ready ≡ true → clock ≡ v.clock → v ≡ w
+    → (given ≡ (fetched w r).0) × (new ≡ old ++ reply_written starts (fetched w r).1) → (true, new) ≡ looked starts old (fetch_answer w r deadline)
+looked_done starts w v r given clock deadline ready old new is over at stays told =
+    ap (λ s. (true, s)) told.1 ∙ when_done starts old (fetched w r).1 (is_ready w r (fetched w r).1 deadline) (done_is w v r given clock deadline ready is at stays told.0 ∙ over)
 
-pub looked_not : (w v : World) (r : FetchRequest) (given : Given) (clock deadline : ℕ) (ready : Bool) (old mid new : List ℕ) (n : ℕ) → ready ≡ has_enough given clock deadline → ready ≡ false → clock ≡ v.clock → v ≡ w
-    → (given ≡ (fetched w r).0) × (mid ≡ old ++ fetch_reply.written (fetched w r).1) → n ≡ length old → new ≡ take n mid → (false, new) ≡ looked old (fetch_answer w r deadline)
-looked_not w v r given clock deadline ready old mid new n is early at stays told len back =
-    ap (λ s. (false, s)) (back ∙ cut_back old (fetch_reply.written (fetched w r).1) mid n told.1 len) ∙ when_not old (fetched w r).1 (is_ready w r (fetched w r).1 deadline) (done_is w v r given clock deadline ready is at stays told.0 ∙ early)
+pub looked_not : (starts : Bool) (w v : World) (r : FetchRequest) (given : Given) (clock deadline : ℕ) (ready : Bool) (old mid new : List ℕ) (n : ℕ) → ready ≡ has_enough given clock deadline → ready ≡ false → clock ≡ v.clock → v ≡ w
+    → (given ≡ (fetched w r).0) × (mid ≡ old ++ reply_written starts (fetched w r).1) → n ≡ length old → new ≡ take n mid → (false, new) ≡ looked starts old (fetch_answer w r deadline)
+looked_not starts w v r given clock deadline ready old mid new n is early at stays told len back =
+    ap (λ s. (false, s)) (back ∙ cut_back old (reply_written starts (fetched w r).1) mid n told.1 len) ∙ when_not starts old (fetched w r).1 (is_ready w r (fetched w r).1 deadline) (done_is w v r given clock deadline ready is at stays told.0 ∙ early)

@@ -24,27 +24,29 @@ use Rattle.kb_tenant.proofs.RetainMoves.{IsAlike, alike_same, moved_moves, step_
 pub record Cases (P : World × Result ℤ PartitionFault → Type 0) (w : World) (place : Place) : Type 0 where
   pub refused : (f : PartitionFault) → P (w, Err f)
   pub stays : (start : ℤ) → P (w, Ok start)
-  pub moves : (start : ℤ) (k : Known) → step w.known (start_command (pos place.instance) (pos place.number) start) ≡ Some k → P (deleted_to w place start (Some k))
+  pub moves : (start : ℤ) (k : Known) (l : LogState) → log_in w place ≡ Some l → int_lt (pos l.end) start ≡ false → step w.known (start_command (pos place.instance) (pos place.number) start) ≡ Some k → P (deleted_to w place start (Some k))
 
 module _ (P : World × Result ℤ PartitionFault → Type 0) (w : World) (place : Place) (c : Cases P w place) where
-  by_step : (start : ℤ) (o : Option Known) → step w.known (start_command (pos place.instance) (pos place.number) start) ≡ o → P (deleted_to w place start o)
-  by_step start None e = c.refused partition.Unknown
-  by_step start (Some k) e = c.moves start k e
+  by_step : (start : ℤ) (l : LogState) → log_in w place ≡ Some l → int_lt (pos l.end) start ≡ false
+      → (o : Option Known) → step w.known (start_command (pos place.instance) (pos place.number) start) ≡ o → P (deleted_to w place start o)
+  by_step start l at within None e = c.refused partition.Unknown
+  by_step start l at within (Some k) e = c.moves start k l at within e
 
-  by_range : (start : ℤ) (l : LogState) (out above : Bool)
-      → P (cond out (w, Err partition.Range) (cond above (start_moved w place start) (w, Ok (pos l.start))))
-  by_range start l true above = c.refused partition.Range
-  by_range start l false true = by_step start (step w.known (start_command (pos place.instance) (pos place.number) start)) refl
-  by_range start l false false = c.stays (pos l.start)
+  by_range : (start : ℤ) (l : LogState) → log_in w place ≡ Some l → (below behind above : Bool) → int_lt (pos l.end) start ≡ behind
+      → P (cond (below || behind) (w, Err partition.Range) (cond above (start_moved w place start) (w, Ok (pos l.start))))
+  by_range start l at true behind above e = c.refused partition.Range
+  by_range start l at false true above e = c.refused partition.Range
+  by_range start l at false false true e = by_step start l at e (step w.known (start_command (pos place.instance) (pos place.number) start)) refl
+  by_range start l at false false false e = c.stays (pos l.start)
 
-  by_log : (offset : ℤ) (o : Option LogState) → P (deleted_from w place offset o)
-  by_log offset None = c.refused partition.Unknown
-  by_log offset (Some l) =
+  by_log : (offset : ℤ) (o : Option LogState) → log_in w place ≡ o → P (deleted_from w place offset o)
+  by_log offset None at = c.refused partition.Unknown
+  by_log offset (Some l) at =
       let start = start_asked offset (pos l.end) in
-      by_range start l (int_lt start (pos 0) || int_lt (pos l.end) start) (int_lt (pos l.start) start)
+      by_range start l at (int_lt start (pos 0)) (int_lt (pos l.end) start) (int_lt (pos l.start) start) refl
 
   pub by_deletion : (offset : ℤ) → P (delete_records w place offset)
-  by_deletion offset = by_log offset (log_in w place)
+  by_deletion offset = by_log offset (log_in w place) refl
 
 -- what tells a place more, or one that was told before
 wider : (w v : World) (more before : List Place) → Moves [] more w v → Moves before (before ++ more) w v
@@ -61,14 +63,14 @@ pub partition_moves : (w : World) (place : Place) (offset : ℤ) (before : List 
 partition_moves w place offset before = by_deletion (λ (r : World × Result ℤ PartitionFault). Moves before (told before place r.1) w r.0) w place (record {
   refused = λ f. stays_same w before;
   stays = λ start. stays_told w before (place ∷ []);
-  moves = λ start k e. wider w (deleted_to w place start (Some k)).0 (place ∷ []) before (moved_moves w place start k (step_alike w.known k place.instance place.number start e));
+  moves = λ start k l at within e. wider w (deleted_to w place start (Some k)).0 (place ∷ []) before (moved_moves w place start k (step_alike w.known k place.instance place.number start e));
 }) offset
 
 pub partition_alike : (w : World) (place : Place) (offset : ℤ) → IsAlike w.known (delete_records w place offset).0.known
 partition_alike w place offset = by_deletion (λ (r : World × Result ℤ PartitionFault). IsAlike w.known r.0.known) w place (record {
   refused = λ f. alike_same w.known;
   stays = λ start. alike_same w.known;
-  moves = λ start k e. step_alike w.known k place.instance place.number start e;
+  moves = λ start k l at within e. step_alike w.known k place.instance place.number start e;
 }) offset
 
 -- ---- all entries

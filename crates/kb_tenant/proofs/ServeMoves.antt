@@ -13,13 +13,14 @@ use Rattle.kb_world.specs.Calls.{issue, issued_unless, retain}
 use Rattle.kb_world.specs.Tied.{IsTied}
 use Rattle.kb_world.specs.World.{World}
 use Rattle.kb_world.specs.declared.place.Place.{Place}
+use Rattle.kb_tenant.specs.CreateTopics.{made_of}
 use Rattle.kb_tenant.specs.Fetch.{fetch_answer, places_of}
 use Rattle.kb_tenant.specs.InitProducerId.{id_given, id_refused, init_producer_id}
 use Rattle.kb_tenant.specs.OffsetCommit.{committed_all, refusal_of}
 use Rattle.kb_tenant.specs.Serve.{Outcome, served}
 use Rattle.kb_tenant.specs.Waiting.{AreApart, StillWaits}
 use Rattle.kb_tenant.specs.declared.node.Node.{Node}
-use Rattle.kb_tenant.proofs.ByRequest.{by_request}
+use Rattle.kb_tenant.proofs.ByRequest.{by_request, of_creations}
 use Rattle.kb_tenant.proofs.CommitMoves.{commit_moves}
 use Rattle.kb_tenant.proofs.CreateMoves.{create_moves}
 use Rattle.kb_tenant.proofs.DeleteMoves.{delete_moves}
@@ -78,7 +79,7 @@ serve_leaves node w n key version body = by_request (Leaves w) node w n key vers
   offset_commit = λ r read. commit_moves w (refusal_of r.group_id r.generation_id) r;
   offset_fetch = λ r read. stays_same w [];
   find_coordinator = λ r read. stays_same w [];
-  create_topics = λ r read. create_moves w r;
+  create_topics = λ r read. of_creations (Leaves w) version w r (λ reaction. stays_same w []) (create_moves w (made_of r));
   delete_topics = λ r read. delete_moves w r;
   delete_records = λ r read. records_moves w r;
   init_producer_id = λ r read. init_moves w r;

@@ -1,5 +1,5 @@
 -- Logs stay small through requests and retention.
-use Rattle.std.proofs.Common.{◌≡◌, ◌≤◌, ◌<◌, ◌^◌, ◌+◌, ℕ, ℤ, zero, suc, Bool, true, false, cond, List, [], ◌∷◌, length, Option, Some, None, Ok, Err, refl, sym, subst, arith}
+use Rattle.std.proofs.Common.{◌≡◌, ◌≤◌, ◌<◌, ◌^◌, ◌+◌, ℕ, ℤ, negsuc, zero, suc, Bool, true, false, cond, List, [], ◌∷◌, length, Option, Some, None, Ok, Err, ap, refl, sym, subst, arith, int_lt, nat_lt}
 use Rattle.std.specs.Prelude.{Result, All, nat_le, pos, is_some, replicate, slice_get, slice_set}
 use Rattle.std.specs.List.{AllByRecursion}
 use Rattle.std.specs.Option.{option_and_then}
@@ -11,9 +11,9 @@ use Rattle.std.specs.BTreeMap.{insert_entry, is_at}
 use Rattle.std.proofs.lemmas.Bool.Decides.{nat_tests}
 use Rattle.std.proofs.lemmas.List.Elements.{All-from_recursion, All-nil, All-push, All-replicate, All-set, recursion_from_All}
 use Rattle.kb_batch.specs.Batch.{IsBatch, count_of, first_fault, natural, stamped}
-use Rattle.kb_batch.specs.BatchLaws.{accepted_is, batch_long, batch_small, length-stamped}
+use Rattle.kb_batch.specs.BatchLaws.{accepted_is, base_offset_of-stamped, batch_long, batch_small, length-stamped}
 use Rattle.kb_batch.specs.declared.fault.BatchFault.{BatchFault}
-use Rattle.kb_log.specs.Log.{next_of, starting}
+use Rattle.kb_log.specs.Log.{base_of, first_base, is_old, kept_by_size, kept_by_time, next_of, retained, retained_start, size_of, starting, without_excess, without_old}
 use Rattle.kb_api_data.specs.declared.create_topics.CreateTopic.{CreateTopic}
 use Rattle.kb_api_data.specs.declared.create_topics.CreateTopicsRequest.{CreateTopicsRequest}
 use Rattle.kb_api_data.specs.declared.delete_records.DeleteRecordsPartition.{DeleteRecordsPartition}
@@ -30,7 +30,7 @@ use Rattle.kb_api_group.specs.declared.error_code.ErrorCode.TheVariants as codes
 use Rattle.kb_api_group.specs.declared.offset_commit.OffsetCommitRequest.{OffsetCommitRequest}
 use Rattle.kb_producers.specs.declared.verdict.Verdict.{Verdict}
 use Rattle.kb_producers.specs.declared.verdict.Verdict.TheVariants.{Append, Repeat, Refuse}
-use Rattle.kb_topics.specs.Known.{Known, named, step}
+use Rattle.kb_topics.specs.Known.{Known, TopicState, named, step, topic_at}
 use Rattle.kb_topics.specs.Catalog.{start_command}
 use Rattle.kb_topics.specs.Refusals.{create_refusal, issue_refusal}
 use Rattle.kb_topics.specs.declared.config.TopicConfig.{TopicConfig}
@@ -38,11 +38,11 @@ use Rattle.kb_topics.specs.declared.fault.CatalogFault.{CatalogFault}
 use Rattle.kb_partitions.specs.Logs.{LogState, Logs, appended, dropped, log_at, no_log, put_log, with_log, without_below}
 use Rattle.kb_partitions.specs.declared.fault.PartitionFault.{PartitionFault}
 use Rattle.kb_partitions.specs.declared.fault.PartitionFault.TheVariants as partition
-use Rattle.kb_world.specs.Calls.{appended_to, at_clock, created_unless, delete_records, deleted_at, due, issue, issued_unless, moved_to, retain, retained_from, with_log_at}
+use Rattle.kb_world.specs.Calls.{appended_to, at_clock, created_unless, delete_records, deleted_at, due, due_in, issue, issued_unless, moved_to, retain, retained_from, with_log_at}
 use Rattle.kb_world.specs.World.{World, log_in, new_world, place_in}
 use Rattle.kb_world.specs.declared.place.Place.{Place}
 use Rattle.kb_tenant.specs.Batches.{HasSmallLogs, IsSmall}
-use Rattle.kb_tenant.specs.CreateTopics.{created_all, created_topic, made_unless, made_with, refusal, settings_in, stands_twice}
+use Rattle.kb_tenant.specs.CreateTopics.{created_all, created_topic, made_of, made_unless, made_with, refusal, settings_in, stands_twice}
 use Rattle.kb_tenant.specs.DeleteRecords.{deleted as records_deleted, deleted_all as all_records_deleted, deleted_in, deleted_topic as topic_records_deleted}
 use Rattle.kb_tenant.specs.DeleteTopics.{deleted_all, deleted_topic}
 use Rattle.kb_tenant.specs.InitProducerId.{id_given, id_refused, init_producer_id}
@@ -51,7 +51,7 @@ use Rattle.kb_tenant.specs.OffsetCommit.{committed_all, refusal_of as commit_ref
 use Rattle.kb_tenant.specs.Serve.{Outcome, served as served_by_key}
 use Rattle.kb_tenant.specs.Turns.{in_turn}
 use Rattle.kb_tenant.specs.declared.node.Node.{Node}
-use Rattle.kb_tenant.proofs.ByRequest.{by_request}
+use Rattle.kb_tenant.proofs.ByRequest.{by_request, of_creations}
 use Rattle.kb_tenant.proofs.CommitMoves.{commit_logs}
 use Rattle.kb_tenant.proofs.RecordsMoves.{by_deletion}
 
@@ -123,30 +123,82 @@ put_small ls i p l small all = by (lookup (is_at (nat_cmp i)) ls) refl
     by (Some t) at =
         each_set AreSmall (is_at (nat_cmp i)) ls (slice_set t p l) (All-set IsSmall t p l small (each_found AreSmall (is_at (nat_cmp i)) ls t at all)) all
 
+abbrev IsBased : List ℕ → Type 0
+IsBased b = base_of b < 2 ^ 63
+
 appended_small : (batch : List ℕ) (l : LogState) → IsBatch batch → l.end + count_of batch < 2 ^ 63 → IsSmall l → IsSmall (appended batch l)
 appended_small batch l is lt small =
     let long = batch_long batch is in
     let same = length-stamped (pos l.end) batch (omega (arith, long)) in
+    let fits : l.end < 2 ^ 63 = small.end in
+    let based : base_of (stamped (pos l.end) batch) ≡ l.end = ap natural (base_offset_of-stamped (pos l.end) batch (record { sfits = fits })) in
     record {
+      start = small.start;
       end = lt;
+      bases = All-push IsBased l.batches (stamped (pos l.end) batch) small.bases (omega (arith, based, fits));
       batches = All-push (λ (b : List ℕ). length b ≤ 1048588) l.batches (stamped (pos l.end) batch) small.batches (omega (arith, same, batch_small batch is));
     }
 
-starting_small : (start : ℕ) (bs : List (List ℕ)) → AllByRecursion (λ (b : List ℕ). length b ≤ 1048588) bs → AllByRecursion (λ (b : List ℕ). length b ≤ 1048588) (starting start bs)
-starting_small start [] all = tt
-starting_small start (b ∷ bs) all = by (nat_le (next_of b) start) (starting_small start bs all.1)
-  where
-    by : (t : Bool) → AllByRecursion (λ (x : List ℕ). length x ≤ 1048588) (starting start bs) → AllByRecursion (λ (x : List ℕ). length x ≤ 1048588) (cond {A = List (List ℕ)} t (starting start bs) (b ∷ bs))
-    by true rest = rest
-    by false rest = all
+module _ (P : List ℕ → Type 0) where
+  starting_all : (start : ℕ) (bs : List (List ℕ)) → AllByRecursion P bs → AllByRecursion P (starting start bs)
+  starting_all start [] all = tt
+  starting_all start (b ∷ bs) all = by (nat_le (next_of b) start) (starting_all start bs all.1)
+    where
+      by : (t : Bool) → AllByRecursion P (starting start bs) → AllByRecursion P (cond {A = List (List ℕ)} t (starting start bs) (b ∷ bs))
+      by true rest = rest
+      by false rest = all
 
-dropped_small : (start : ℤ) (l : LogState) → IsSmall l → IsSmall (dropped start l)
-dropped_small start l small =
-    let P = λ (b : List ℕ). length b ≤ 1048588 in
-    record { end = small.end; batches = All-from_recursion P (starting (natural start) l.batches) (starting_small (natural start) l.batches (recursion_from_All P l.batches small.batches)) }
+  without_old_all : (clock ms : ℤ) (bs : List (List ℕ)) → AllByRecursion P bs → AllByRecursion P (without_old clock ms bs)
+  without_old_all clock ms [] all = tt
+  without_old_all clock ms (b ∷ bs) all = by (is_old clock ms b) (without_old_all clock ms bs all.1)
+    where
+      by : (t : Bool) → AllByRecursion P (without_old clock ms bs) → AllByRecursion P (cond {A = List (List ℕ)} t (without_old clock ms bs) (b ∷ bs))
+      by true rest = rest
+      by false rest = all
+
+  without_excess_all : (limit : ℕ) (bs : List (List ℕ)) → AllByRecursion P bs → AllByRecursion P (without_excess limit bs)
+  without_excess_all limit [] all = tt
+  without_excess_all limit (b ∷ []) all = all
+  without_excess_all limit (b ∷ c ∷ bs) all = by (nat_lt limit (size_of (b ∷ c ∷ bs))) (without_excess_all limit (c ∷ bs) all.1)
+    where
+      by : (t : Bool) → AllByRecursion P (without_excess limit (c ∷ bs)) → AllByRecursion P (cond {A = List (List ℕ)} t (without_excess limit (c ∷ bs)) (b ∷ c ∷ bs))
+      by true rest = rest
+      by false rest = all
+
+  by_time_all : (clock ms : ℤ) (bs : List (List ℕ)) → AllByRecursion P bs → AllByRecursion P (kept_by_time clock ms bs)
+  by_time_all clock (pos ms) bs all = without_old_all clock (pos ms) bs all
+  by_time_all clock (negsuc n) bs all = all
+
+  by_size_all : (bytes : ℤ) (bs : List (List ℕ)) → AllByRecursion P bs → AllByRecursion P (kept_by_size bytes bs)
+  by_size_all (pos limit) bs all = without_excess_all limit bs all
+  by_size_all (negsuc n) bs all = all
+
+  retained_all : (clock ms bytes : ℤ) (bs : List (List ℕ)) → AllByRecursion P bs → AllByRecursion P (retained clock ms bytes bs)
+  retained_all clock ms bytes bs all = by_size_all bytes (kept_by_time clock ms bs) (by_time_all clock ms bs all)
+
+  starting_each : (start : ℕ) (bs : List (List ℕ)) → All P bs → All P (starting start bs)
+  starting_each start bs all = All-from_recursion P (starting start bs) (starting_all start bs (recursion_from_All P bs all))
+
+first_base_small : (end : ℕ) (bs : List (List ℕ)) → end < 2 ^ 63 → AllByRecursion IsBased bs → first_base end bs < 2 ^ 63
+first_base_small end [] lt all = lt
+first_base_small end (b ∷ bs) lt all = all.0
+
+-- the start after retention
+retained_start_small : (clock ms bytes : ℤ) (l : LogState) → IsSmall l → retained_start clock ms bytes l.start l.end l.batches < 2 ^ 63
+retained_start_small clock ms bytes l small =
+    let base = first_base_small l.end (retained clock ms bytes l.batches) small.end (retained_all IsBased clock ms bytes l.batches (recursion_from_All IsBased l.batches small.bases)) in
+    omega (arith, small.start, base)
+
+dropped_small : (start : ℤ) (l : LogState) → natural start < 2 ^ 63 → IsSmall l → IsSmall (dropped start l)
+dropped_small start l lt small = record {
+  start = lt;
+  end = small.end;
+  bases = starting_each IsBased (natural start) l.batches small.bases;
+  batches = starting_each (λ (b : List ℕ). length b ≤ 1048588) (natural start) l.batches small.batches;
+}
 
 no_log_small : IsSmall no_log
-no_log_small = record { end = omega arith; batches = All-nil (λ (b : List ℕ). length b ≤ 1048588) }
+no_log_small = record { start = omega arith; end = omega arith; bases = All-nil IsBased; batches = All-nil (λ (b : List ℕ). length b ≤ 1048588) }
 
 -- ---- worlds
 
@@ -253,25 +305,46 @@ commit_keeps w refusal r all = subst AreAllSmall (sym (commit_logs w refusal r))
 
 -- ---- retention
 
-below_small : (i p : ℕ) (start : ℤ) (ls : Logs) (o : Option LogState) → log_at i p ls ≡ o → AreAllSmall ls → AreAllSmall (without_below i p start o ls)
-below_small i p start ls None at all = all
-below_small i p start ls (Some l) at all = put_small ls i p (dropped start l) (dropped_small start l (small_at ls i p l all at)) all
+below_small : (i p : ℕ) (start : ℤ) (ls : Logs) (o : Option LogState) → natural start < 2 ^ 63 → log_at i p ls ≡ o → AreAllSmall ls → AreAllSmall (without_below i p start o ls)
+below_small i p start ls None lt at all = all
+below_small i p start ls (Some l) lt at all = put_small ls i p (dropped start l) (dropped_small start l lt (small_at ls i p l all at)) all
 
-moved_keeps : (w : World) (place : Place) (start : ℕ) (o : Option Known) → Keeps w (moved_to w place start o).0
-moved_keeps w place start None all = all
-moved_keeps w place start (Some k) all = below_small place.instance place.number (pos start) w.logs (log_in w place) refl all
+moved_keeps : (w : World) (place : Place) (start : ℕ) (o : Option Known) → start < 2 ^ 63 → Keeps w (moved_to w place start o).0
+moved_keeps w place start None lt all = all
+moved_keeps w place start (Some k) lt all = below_small place.instance place.number (pos start) w.logs (log_in w place) lt refl all
 
-due_keeps : (w : World) (place : Place) (o : Option ℕ) → Keeps w (retained_from w place o).0
-due_keeps w place None all = all
-due_keeps w place (Some start) all = moved_keeps w place start (step w.known (start_command (pos place.instance) (pos place.number) (pos start))) all
+-- the new start of a log that is small
+due_small : (w : World) (t : Option TopicState) (o : Option LogState) (start : ℕ) → ((l : LogState) → o ≡ Some l → IsSmall l) → due_in w t o ≡ Some start → start < 2 ^ 63
+due_small w None o start small e = absurd cc
+due_small w (Some t) None start small e = absurd cc
+due_small w (Some t) (Some l) start small e = by (nat_le after l.start) e
+  where
+    after : ℕ
+    after = retained_start (pos w.clock) t.config.retention_ms t.config.retention_bytes l.start l.end l.batches
+
+    by : (b : Bool) → cond b None (Some after) ≡ Some start → start < 2 ^ 63
+    by true none = absurd cc
+    by false some = let same : after ≡ start = cc in subst (λ n. n < 2 ^ 63) same (retained_start_small (pos w.clock) t.config.retention_ms t.config.retention_bytes l (small l refl))
+
+due_keeps : (w : World) (place : Place) (o : Option ℕ) → due w place ≡ o → Keeps w (retained_from w place o).0
+due_keeps w place None is all = all
+due_keeps w place (Some start) is all = moved_keeps w place start (step w.known (start_command (pos place.instance) (pos place.number) (pos start)))
+    (due_small w (topic_at place.instance w.known.topics) (log_in w place) start (λ l at. small_at w.logs place.instance place.number l all at) is) all
 
 -- ---- DeleteRecords
+
+-- a start up to the end of a log
+start_small : (start : ℤ) (end : ℕ) → end < 2 ^ 63 → int_lt (pos end) start ≡ false → natural start < 2 ^ 63
+start_small (pos n) end lt within = let le : n ≤ end = grind (arith, nat_tests, within) in omega (arith, le, lt)
+start_small (negsuc n) end lt within = omega arith
 
 partition_keeps : (w : World) (place : Place) (offset : ℤ) → Keeps w (delete_records w place offset).0
 partition_keeps w place offset = by_deletion (λ (r : World × Result ℤ PartitionFault). Keeps w r.0) w place (record {
   refused = λ f all. all;
   stays = λ start all. all;
-  moves = λ start k e all. below_small place.instance place.number start w.logs (log_in w place) refl all;
+  moves = λ start k l at within e all.
+      let lt = start_small start l.end (small_at w.logs place.instance place.number l all at).end within in
+      below_small place.instance place.number start w.logs (log_in w place) lt refl all;
 }) offset
 
 deletion_keeps : (topic : Option ℕ) (s : World × List Place) (e : DeleteRecordsPartition) → Keeps s.0 (records_deleted topic s e).0.0
@@ -305,7 +378,7 @@ pub clock_small : (w : World) (now : ℕ) → HasSmallLogs w → HasSmallLogs (a
 clock_small w now small = small
 
 pub retained_small : (w : World) (place : Place) → HasSmallLogs w → HasSmallLogs (retain w place).0
-retained_small w place small = out_of (retain w place).0 (due_keeps w place (due w place) (into w small))
+retained_small w place small = out_of (retain w place).0 (due_keeps w place (due w place) refl (into w small))
 
 pub committed_small : (w : World) (refusal : Option ℤ) (r : OffsetCommitRequest) → HasSmallLogs w → HasSmallLogs (committed_all w refusal r).0
 committed_small w refusal r small = out_of (committed_all w refusal r).0 (commit_keeps w refusal r (into w small))
@@ -319,7 +392,7 @@ served_small node w n key version body small = out_of (served_by_key node w n ke
   offset_commit = λ r read. commit_keeps w (commit_refusal r.group_id r.generation_id) r;
   offset_fetch = λ r read all. all;
   find_coordinator = λ r read all. all;
-  create_topics = λ r read. create_keeps w r;
+  create_topics = λ r read. of_creations (λ (o : Outcome). Keeps w o.world) version w r (λ reaction all. all) (create_keeps w (made_of r));
   delete_topics = λ r read. delete_keeps w r;
   delete_records = λ r read. records_keeps w r;
   init_producer_id = λ r read. init_keeps w r;

@@ -1,24 +1,25 @@
 -- The reply of a fetch is in range, and its lengths and counts fit.
-use Rattle.std.proofs.Common.{◌≡◌, ◌≤◌, ◌<◌, ◌^◌, ◌-◌, ◌++◌, ◌||◌, ℕ, ℤ, pos, negsuc, Bool, true, false, List, [], ◌∷◌, length, max, Option, Some, None, Ok, Err, refl, sym, subst, arith, length-append, w16, w32, w64}
+use Rattle.std.proofs.Common.{◌≡◌, ◌∙◌, ◌≤◌, ◌<◌, ◌^◌, ◌-◌, ◌++◌, ◌||◌, ℕ, ℤ, pos, negsuc, Bool, true, false, List, [], ◌∷◌, length, map, max, Option, Some, None, Ok, Err, refl, sym, subst, arith, length-append, w16, w32, w64}
 use Rattle.std.specs.Prelude.{All, FitsSigned, if◌then◌else◌, int_lt, nat_le, option_map}
 use Rattle.std.specs.List.{AllByRecursion}
 use Rattle.std.proofs.lemmas.Bool.Decides.{nat_tests}
+use Rattle.std.proofs.lemmas.List.{length-map}
 use Rattle.std.proofs.lemmas.List.Elements.{All-from_recursion, recursion_from_All}
-use Rattle.kb_wire.specs.Codec.{count, int, items, nullable, nullable_counted, octets, sized, whole}
+use Rattle.kb_wire.specs.Codec.{count, int, items, nullable, nullable_counted, octets, sized}
 use Rattle.kb_wire.specs.Fits.{null_array_fits, nullable_blob_fits}
-use Rattle.kb_wire.specs.Laws.{bind_ok, guard_passed}
-use Rattle.kb_wire.specs.declared.fault.WireFault.TheVariants.{Bad}
 use Rattle.kb_batch.specs.Batch.{natural}
 use Rattle.kb_log.specs.Log.{fetched as fetched_of, fitting, from_holding, holds}
-use Rattle.kb_api_data.specs.FetchRecords.{answer_with}
-use Rattle.kb_api_data.specs.Lawful.{fetch_reply_lawful, fetch_request_lawful}
-use Rattle.kb_api_data.specs.Layouts.{aborted_transaction, fetch_partition, fetch_partition_reply, fetch_reply, fetch_request, fetch_topic, fetch_topic_reply}
+use Rattle.kb_api_data.specs.FetchRecords.{answer_with_v5}
+use Rattle.kb_api_data.specs.Lawful.{fetch_reply_lawful, fetch_reply_v5_lawful}
+use Rattle.kb_api_data.specs.Layouts.{aborted_transaction, fetch_partition, fetch_request, fetch_topic}
+use Rattle.kb_api_data.specs.Layouts.{fetch_partition_reply, fetch_partition_reply_v5, fetch_topic_reply, fetch_topic_reply_v5, fetch_reply, fetch_reply_v5}
 use Rattle.kb_api_data.specs.declared.fetch.FetchPartition.{FetchPartition}
-use Rattle.kb_api_data.specs.declared.fetch.FetchPartitionReply.{FetchPartitionReply}
+use Rattle.kb_api_data.specs.declared.fetch_v5.FetchPartitionReplyV5.{FetchPartitionReplyV5}
 use Rattle.kb_api_data.specs.declared.fetch.FetchRequest.{FetchRequest}
 use Rattle.kb_api_data.specs.declared.fetch.FetchTopic.{FetchTopic}
-use Rattle.kb_api_data.specs.declared.fetch.FetchTopicReply.{FetchTopicReply}
-use Rattle.kb_api_data.specs.declared.fetch_records.FetchPartitionFront.{FetchPartitionFront}
+use Rattle.kb_api_data.specs.declared.fetch_v5.FetchReplyV5.{FetchReplyV5}
+use Rattle.kb_api_data.specs.declared.fetch_v5.FetchTopicReplyV5.{FetchTopicReplyV5}
+use Rattle.kb_api_data.specs.declared.fetch_records_v5.FetchPartitionFrontV5.{FetchPartitionFrontV5}
 use Rattle.kb_partitions.specs.Fault.{code_of}
 use Rattle.kb_partitions.specs.Logs.{LogState}
 use Rattle.kb_partitions.specs.declared.fault.PartitionFault.{PartitionFault}
@@ -27,11 +28,14 @@ use Rattle.kb_topics.specs.Known.{named}
 use Rattle.kb_world.specs.Calls.{fetched_from}
 use Rattle.kb_world.specs.World.{World, log_in, place_in}
 use Rattle.kb_world.specs.declared.place.Place.{Place}
-use Rattle.kb_tenant.specs.Batches.{HasSmallLogs, IsSmall}
-use Rattle.kb_tenant.specs.Fetch.{answered, answered_at, answered_by, answered_topic, begun, fetched, front_of, limit_of, refusal_of}
+use Rattle.kb_tenant.specs.Batches.{HasSmallLogs, IsSmall, Spells}
+use Rattle.kb_tenant.specs.Fetch.{answered, answered_at, answered_by, answered_topic, begun, fetched, front_of, limit_of, read_as, refusal_of}
+use Rattle.kb_tenant.specs.Fetch.{reply_written, topic_without_starts, without_start, without_starts}
 use Rattle.kb_tenant.specs.Turns.{in_turn}
 use Rattle.kb_tenant.specs.declared.fetch.given.Given.{Given}
+use Rattle.kb_tenant.proofs.Mapped.{all-map}
 use Rattle.kb_tenant.proofs.Small.{small_in}
+use Rattle.kb_tenant.proofs.Versions.{read_so}
 
 -- ---- how many bytes are given
 
@@ -75,18 +79,25 @@ given_small offset limit first l small lt =
 
 -- ---- a partition's answer
 
--- it fits, and is in range
-record IsTold (p : FetchPartitionReply) : Type 0 where
-  fits : fetch_partition_reply.Fits p
-  in_range : fetch_partition_reply.InRange p
+-- It fits and is in range, with the log's start and without it.
+record IsTold (p : FetchPartitionReplyV5) : Type 0 where
+  fits : fetch_partition_reply_v5.Fits p
+  in_range : fetch_partition_reply_v5.InRange p
+  plain_fits : fetch_partition_reply.Fits (without_start p)
+  plain_in_range : fetch_partition_reply.InRange (without_start p)
 
-told : (f : FetchPartitionFront) (records : List ℕ) → FitsSigned w32 f.partition → FitsSigned w16 f.error_code → FitsSigned w64 f.high_watermark → FitsSigned w64 f.last_stable_offset
-    → length records < 2 ^ 31 → IsTold (answer_with f records)
-unfolding fetch_partition_reply int nullable nullable_counted octets
-told f records partition code high stable lt = record {
-  fits = (tt, (tt, (tt, (tt, (null_array_fits aborted_transaction, nullable_blob_fits records lt)))));
-  in_range = (partition, (code, (high, (stable, (tt, (tt, tt))))));
-}
+told : (f : FetchPartitionFrontV5) (records : List ℕ) → FitsSigned w32 f.partition → FitsSigned w16 f.error_code → FitsSigned w64 f.high_watermark → FitsSigned w64 f.last_stable_offset → FitsSigned w64 f.log_start_offset
+    → length records < 2 ^ 31 → IsTold (answer_with_v5 f records)
+unfolding fetch_partition_reply fetch_partition_reply_v5 int nullable nullable_counted octets
+told f records partition code high stable start lt =
+    let list = null_array_fits aborted_transaction in
+    let blob = nullable_blob_fits records lt in
+    record {
+      fits = (tt, (tt, (tt, (tt, (tt, (list, blob))))));
+      in_range = (partition, (code, (high, (stable, (start, (tt, (tt, tt)))))));
+      plain_fits = (tt, (tt, (tt, (tt, (list, blob)))));
+      plain_in_range = (partition, (code, (high, (stable, (tt, (tt, tt))))));
+    }
 
 small_code : (f : PartitionFault) → FitsSigned w16 (code_of f)
 small_code partition.Unknown = record { sfits = omega arith }
@@ -95,22 +106,22 @@ small_code partition.Full = record { sfits = omega arith }
 small_code partition.Store = record { sfits = omega arith }
 small_code partition.Memory = record { sfits = omega arith }
 
-refused_told : (p : ℤ) (f : PartitionFault) → FitsSigned w32 p → IsTold (answer_with (refusal_of p f) [])
-refused_told p f fits = told (refusal_of p f) [] fits (small_code f) (record { sfits = omega arith }) (record { sfits = omega arith }) (omega arith)
+refused_told : (p : ℤ) (f : PartitionFault) → FitsSigned w32 p → IsTold (answer_with_v5 (refusal_of p f) [])
+refused_told p f fits = told (refusal_of p f) [] fits (small_code f) (record { sfits = omega arith }) (record { sfits = omega arith }) (record { sfits = omega arith }) (omega arith)
 
-accepted_told : (p : ℤ) (end : ℕ) (records : List ℕ) → FitsSigned w32 p → end < 2 ^ 63 → length records < 2 ^ 31 → IsTold (answer_with (front_of p (pos end)) records)
-accepted_told p end records fits small lt = told (front_of p (pos end)) records fits (record { sfits = omega arith }) (record { sfits = small }) (record { sfits = small }) lt
+accepted_told : (p : ℤ) (l : LogState) (records : List ℕ) → FitsSigned w32 p → IsSmall l → length records < 2 ^ 31 → IsTold (answer_with_v5 (front_of p (pos l.start, pos l.end)) records)
+accepted_told p l records fits small lt = told (front_of p (pos l.start, pos l.end)) records fits (record { sfits = omega arith }) (record { sfits = small.end }) (record { sfits = small.end }) (record { sfits = small.start }) lt
 
 module _ (w : World) (small : HasSmallLogs w) (topic : Option ℕ) (g : Given) (asked : FetchPartition) (number : FitsSigned w32 asked.partition) (limited : limit_of g asked < 2 ^ 31) where
   by-offset : (l : LogState) → IsSmall l → (out : Bool)
-      → IsTold (answered_by g asked.partition (Some (pos l.end)) (if out then Err partition.Range else Ok (fetched_of (natural asked.fetch_offset) (limit_of g asked) g.first l.batches))).1
+      → IsTold (answered_by g asked.partition (Some (pos l.start, pos l.end)) (if out then Err partition.Range else Ok (fetched_of (natural asked.fetch_offset) (limit_of g asked) g.first l.batches))).1
   by-offset l is true = refused_told asked.partition partition.Range number
   by-offset l is false =
       let n : ℕ = natural asked.fetch_offset in
-      accepted_told asked.partition l.end (fetched_of n (limit_of g asked) g.first l.batches) number is.end (given_small n (limit_of g asked) g.first l is limited)
+      accepted_told asked.partition l (fetched_of n (limit_of g asked) g.first l.batches) number is (given_small n (limit_of g asked) g.first l is limited)
 
   by-log : (place : Place) (o : Option LogState) → log_in w place ≡ o
-      → IsTold (answered_by g asked.partition (option_map (λ (l : LogState). pos l.end) o) (fetched_from asked.fetch_offset (limit_of g asked) g.first o)).1
+      → IsTold (answered_by g asked.partition (option_map (λ (l : LogState). (pos l.start, pos l.end)) o) (fetched_from asked.fetch_offset (limit_of g asked) g.first o)).1
   by-log place None at = refused_told asked.partition partition.Unknown number
   by-log place (Some l) at = by-offset l (small_in w place l small at) (int_lt asked.fetch_offset (pos l.start) || int_lt (pos l.end) asked.fetch_offset)
 
@@ -139,49 +150,59 @@ module _ {S E A : Type 0} (f : S → E → S × A) where
   as_many s [] = refl
   as_many s (e ∷ es) = let rest = as_many (f s e).0 es in omega (arith, rest)
 
--- a topic's answer fits, and is in range
-record IsTopicTold (t : FetchTopicReply) : Type 0 where
-  fits : fetch_topic_reply.Fits t
-  in_range : fetch_topic_reply.InRange t
+-- A topic's answer fits and is in range, with the starts of the logs and without them.
+record IsTopicTold (t : FetchTopicReplyV5) : Type 0 where
+  fits : fetch_topic_reply_v5.Fits t
+  in_range : fetch_topic_reply_v5.InRange t
+  plain_fits : fetch_topic_reply.Fits (topic_without_starts t)
+  plain_in_range : fetch_topic_reply.InRange (topic_without_starts t)
 
 topic_told : (w : World) → HasSmallLogs w → (g : Given) (asked : FetchTopic) → fetch_topic.Fits asked × fetch_topic.InRange asked → IsTopicTold (answered_topic w g asked).1
-unfolding fetch_topic fetch_topic_reply sized items
+unfolding fetch_topic fetch_topic_reply fetch_topic_reply_v5 sized items
 topic_told w small g asked is =
     let topic = named asked.topic w.known.topics in
     let f = answered w topic in
-    let replies : List FetchPartitionReply = (in_turn f g asked.partitions).1 in
+    let replies : List FetchPartitionReplyV5 = (in_turn f g asked.partitions).1 in
+    let many : length replies ≡ length asked.partitions = as_many f g asked.partitions in
+    let plain_many : length (map without_start replies) ≡ length asked.partitions = length-map replies without_start ∙ many in
     let all = each f fetch_partition.InRange IsTold (λ s e. partition_told w small topic s e) g asked.partitions (recursion_from_All fetch_partition.InRange asked.partitions is.1.1.1) in
     let told_all = All-from_recursion IsTold replies all in
     record {
-      fits = (is.0.0, (subst (count w32).Fits (sym (as_many f g asked.partitions)) is.0.1.0, λ k d lt. (told_all k d lt).fits));
-      in_range = (is.1.0, (subst (count w32).InRange (sym (as_many f g asked.partitions)) is.1.1.0, λ k d lt. (told_all k d lt).in_range));
+      fits = (is.0.0, (subst (count w32).Fits (sym many) is.0.1.0, λ k d lt. (told_all k d lt).fits));
+      in_range = (is.1.0, (subst (count w32).InRange (sym many) is.1.1.0, λ k d lt. (told_all k d lt).in_range));
+      plain_fits = (is.0.0, (subst (count w32).Fits (sym plain_many) is.0.1.0, all-map without_start IsTold fetch_partition_reply.Fits (λ p told. told.plain_fits) replies told_all));
+      plain_in_range = (is.1.0, (subst (count w32).InRange (sym plain_many) is.1.1.0, all-map without_start IsTold fetch_partition_reply.InRange (λ p told. told.plain_in_range) replies told_all));
     }
 
--- a request that was read fits, and is in range
-read_so : (body : List ℕ) (r : FetchRequest) → whole fetch_request body ≡ Ok r → fetch_request.Fits r × fetch_request.InRange r
-read_so body r e =
-    let lawful = fetch_request_lawful in
-    let got = bind_ok (fetch_request.read body) _ r e in
-    let front = got.0 in
-    let same : front.0 ≡ r = (guard_passed _ Bad front.0 r got.2).1 in
-    let spelled = lawful.found body front.0 front.1 got.1 in
-    subst (λ (x : FetchRequest). fetch_request.Fits x × fetch_request.InRange x) same (lawful.fits spelled.0 front.0 spelled.2, lawful.in_range spelled.0 front.0 spelled.2)
+-- So does the whole reply.
+record IsReplyTold (r : FetchReplyV5) : Type 0 where
+  fits : fetch_reply_v5.Fits r
+  in_range : fetch_reply_v5.InRange r
+  plain_fits : fetch_reply.Fits (without_starts r)
+  plain_in_range : fetch_reply.InRange (without_starts r)
 
-reply_told : (w : World) (r : FetchRequest) → HasSmallLogs w → fetch_request.Fits r × fetch_request.InRange r → fetch_reply.Fits (fetched w r).1 × fetch_reply.InRange (fetched w r).1
-unfolding fetch_reply fetch_request int sized items
+reply_told : (w : World) (r : FetchRequest) → HasSmallLogs w → fetch_request.Fits r × fetch_request.InRange r → IsReplyTold (fetched w r).1
+unfolding fetch_reply fetch_reply_v5 fetch_request int sized items
 reply_told w r small is =
     let f = answered_topic w in
-    let replies : List FetchTopicReply = (in_turn f (begun r) r.topics).1 in
+    let replies : List FetchTopicReplyV5 = (in_turn f (begun r) r.topics).1 in
+    let many : length replies ≡ length r.topics = as_many f (begun r) r.topics in
+    let plain_many : length (map topic_without_starts replies) ≡ length r.topics = length-map replies topic_without_starts ∙ many in
     let P = λ (t : FetchTopic). fetch_topic.Fits t × fetch_topic.InRange t in
     let asked : All P r.topics = λ k d lt. (is.0.1.1.1.1.1.1 k d lt, is.1.1.1.1.1.1.1 k d lt) in
     let all = each f P IsTopicTold (topic_told w small) (begun r) r.topics (recursion_from_All P r.topics asked) in
-    let told_all = All-from_recursion IsTopicTold replies all in (
-      (tt, (subst (count w32).Fits (sym (as_many f (begun r) r.topics)) is.0.1.1.1.1.1.0, λ k d lt. (told_all k d lt).fits)),
-      (record { sfits = omega arith }, (subst (count w32).InRange (sym (as_many f (begun r) r.topics)) is.1.1.1.1.1.1.0, λ k d lt. (told_all k d lt).in_range)),
-    )
+    let told_all = All-from_recursion IsTopicTold replies all in
+    record {
+      fits = (tt, (subst (count w32).Fits (sym many) is.0.1.1.1.1.1.0, λ k d lt. (told_all k d lt).fits));
+      in_range = (record { sfits = omega arith }, (subst (count w32).InRange (sym many) is.1.1.1.1.1.1.0, λ k d lt. (told_all k d lt).in_range));
+      plain_fits = (tt, (subst (count w32).Fits (sym plain_many) is.0.1.1.1.1.1.0, all-map topic_without_starts IsTopicTold fetch_topic_reply.Fits (λ t told. told.plain_fits) replies told_all));
+      plain_in_range = (record { sfits = omega arith }, (subst (count w32).InRange (sym plain_many) is.1.1.1.1.1.1.0, all-map topic_without_starts IsTopicTold fetch_topic_reply.InRange (λ t told. told.plain_in_range) replies told_all));
+    }
+
+spelled_as : (starts : Bool) (r : FetchReplyV5) → IsReplyTold r → Spells starts (reply_written starts r) r
+spelled_as true r is = fetch_reply_v5_lawful.again r is.in_range is.fits
+spelled_as false r is = fetch_reply_lawful.again (without_starts r) is.plain_in_range is.plain_fits
 
 -- What is written of a fetch's reply spells that reply.
-pub reply_spelled : (w : World) (body : List ℕ) (r : FetchRequest) → HasSmallLogs w → whole fetch_request body ≡ Ok r → fetch_reply.Spells (fetch_reply.written (fetched w r).1) (fetched w r).1
-reply_spelled w body r small read =
-    let is = reply_told w r small (read_so body r read) in
-    fetch_reply_lawful.again (fetched w r).1 is.1 is.0
+pub reply_spelled : (w : World) (starts : Bool) (body : List ℕ) (r : FetchRequest) → HasSmallLogs w → read_as starts body ≡ Ok r → Spells starts (reply_written starts (fetched w r).1) (fetched w r).1
+reply_spelled w starts body r small read = spelled_as starts (fetched w r).1 (reply_told w r small (read_so starts body r read))

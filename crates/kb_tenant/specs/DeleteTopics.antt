@@ -1,12 +1,15 @@
--- What DeleteTopics makes of a world, and its reply (Kafka protocol guide, "The Messages: DeleteTopics", version 0).
-use Rattle.std.specs.Prelude.{ℕ, ℤ, List, [], ◌++◌, length, map, Option, Some, None, if◌then◌else◌}
+-- What DeleteTopics makes of a world, and its reply (Kafka protocol guide, "The Messages: DeleteTopics").
+use Rattle.std.specs.Prelude.{ℕ, ℤ, pos, List, [], ◌++◌, length, map, Option, Some, None, if◌then◌else◌}
 use Rattle.std.specs.List.{range_with_len}
 use Rattle.std.specs.Ordering.{int_eq}
+use Rattle.kb_wire.specs.Codec.{int32}
 use Rattle.kb_api_group.specs.ErrorCode.{code_of}
 use Rattle.kb_api_group.specs.declared.error_code.ErrorCode.TheVariants as codes
+use Rattle.kb_api_data.specs.Layouts.{delete_topics_reply, delete_topics_reply_v1}
 use Rattle.kb_api_data.specs.declared.delete_topics.DeleteTopicsRequest.{DeleteTopicsRequest}
 use Rattle.kb_api_data.specs.declared.delete_topics.DeleteTopicReply.{DeleteTopicReply}
 use Rattle.kb_api_data.specs.declared.delete_topics.DeleteTopicsReply.{DeleteTopicsReply}
+use Rattle.kb_api_data.specs.declared.delete_topics_v1.DeleteTopicsReplyV1.{DeleteTopicsReplyV1}
 use Rattle.kb_topics.specs.Known.{TopicState, named, topic_at}
 use Rattle.kb_world.specs.Calls.{delete}
 use Rattle.kb_tenant.specs.CreateTopics.{code_in}
@@ -51,3 +54,17 @@ deleted_topic s name = let r = deleted s name in (r.0, record { name = name; err
 -- The topics are deleted in order.
 abbrev pub deleted_all : World × List Place → DeleteTopicsRequest → (World × List Place) × DeleteTopicsReply
 deleted_all s q = let r = in_turn deleted_topic s q.names in (r.0, record { topics = r.1 })
+
+-- ---- version 1; any other is version 0
+
+-- Version 1 tells how long the client is held back, which is never.
+abbrev pub reply_v1 : DeleteTopicsReply → DeleteTopicsReplyV1
+reply_v1 r = record { throttle_time_ms = pos 0; topics = r.topics }
+
+-- the reply in bytes
+abbrev pub deletions_in : ℤ → DeleteTopicsReply → List ℕ
+deletions_in version r = if int_eq version (pos 1) then delete_topics_reply_v1.written (reply_v1 r) else delete_topics_reply.written r
+
+-- what it says before the topics
+abbrev pub throttle_in : ℤ → List ℕ
+throttle_in version = if int_eq version (pos 1) then int32.written (pos 0) else []

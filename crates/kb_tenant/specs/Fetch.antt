@@ -1,28 +1,73 @@
--- What a fetch is answered, and whether it waits (Kafka protocol guide, "The Messages: Fetch").
+-- What a fetch is answered, and whether it waits (Kafka protocol guide, "The Messages: Fetch"). From version 5 on a request tells
+-- where a follower's logs start, which nobody asks for here, and a reply where the partition's log does. All else is one.
 use Rattle.std.specs.Prelude.{ℕ, zero, suc, ℤ, pos, negsuc, Bool, true, false, List, [], Option, Some, None, Result, Ok, Err}
-use Rattle.std.specs.Prelude.{length, min, nat_le, not, ◌+◌, ◌-◌, ◌^◌, ◌≡◌, ◌++◌, ◌==◌, ◌&&◌, ◌||◌, if◌then◌else◌}
+use Rattle.std.specs.Prelude.{length, map, min, nat_le, int_le, not, option_map, ◌+◌, ◌-◌, ◌^◌, ◌≡◌, ◌++◌, ◌==◌, ◌&&◌, ◌||◌, if◌then◌else◌}
 use Rattle.std.specs.List.{filter_map, flat_map, list_any, sum_by}
+use Rattle.kb_wire.specs.Codec.{whole}
+use Rattle.kb_wire.specs.declared.fault.WireFault.{WireFault}
 use Rattle.kb_batch.specs.Batch.{natural}
-use Rattle.kb_api_data.specs.Layouts.{fetch_reply}
+use Rattle.kb_api_data.specs.Layouts.{fetch_request, fetch_request_v5}
+use Rattle.kb_api_data.specs.Layouts.{fetch_partition_reply, fetch_partition_reply_v5, fetch_topic_reply, fetch_topic_reply_v5, fetch_reply, fetch_reply_v5}
 use Rattle.kb_api_data.specs.declared.fetch.FetchPartition.{FetchPartition}
 use Rattle.kb_api_data.specs.declared.fetch.FetchTopic.{FetchTopic}
 use Rattle.kb_api_data.specs.declared.fetch.FetchRequest.{FetchRequest}
 use Rattle.kb_api_data.specs.declared.fetch.FetchPartitionReply.{FetchPartitionReply}
 use Rattle.kb_api_data.specs.declared.fetch.FetchTopicReply.{FetchTopicReply}
 use Rattle.kb_api_data.specs.declared.fetch.FetchReply.{FetchReply}
-use Rattle.kb_api_data.specs.declared.fetch_records.FetchPartitionFront.{FetchPartitionFront}
-use Rattle.kb_api_data.specs.FetchRecords.{answer_with}
+use Rattle.kb_api_data.specs.declared.fetch_v5.FetchPartitionV5.{FetchPartitionV5}
+use Rattle.kb_api_data.specs.declared.fetch_v5.FetchTopicV5.{FetchTopicV5}
+use Rattle.kb_api_data.specs.declared.fetch_v5.FetchRequestV5.{FetchRequestV5}
+use Rattle.kb_api_data.specs.declared.fetch_v5.FetchPartitionReplyV5.{FetchPartitionReplyV5}
+use Rattle.kb_api_data.specs.declared.fetch_v5.FetchTopicReplyV5.{FetchTopicReplyV5}
+use Rattle.kb_api_data.specs.declared.fetch_v5.FetchReplyV5.{FetchReplyV5}
+use Rattle.kb_api_data.specs.declared.fetch_records_v5.FetchPartitionFrontV5.{FetchPartitionFrontV5}
+use Rattle.kb_api_data.specs.FetchRecords.{answer_with_v5}
 use Rattle.kb_topics.specs.Known.{named}
 use Rattle.kb_partitions.specs.Fault.{code_of}
 use Rattle.kb_partitions.specs.declared.fault.PartitionFault.{PartitionFault}
 use Rattle.kb_partitions.specs.declared.fault.PartitionFault.TheVariants as partition
-use Rattle.kb_world.specs.Calls.{fetch, end_of}
+use Rattle.kb_partitions.specs.Logs.{LogState}
+use Rattle.kb_world.specs.Calls.{fetch}
 use Rattle.kb_tenant.specs.Turns.{in_turn}
-use Rattle.kb_world.specs.World.{World, place_in}
+use Rattle.kb_world.specs.World.{World, log_in, place_in}
 use Rattle.kb_tenant.specs.declared.fetch.given.Given.{Given}
 use Rattle.kb_tenant.specs.declared.fetch.waiting.Fetching.{Fetching}
 use Rattle.kb_tenant.specs.declared.fetch.waiting.Fetching.TheVariants as fetching
 use Rattle.kb_world.specs.declared.place.Place.{Place}
+
+-- ---- the versions
+
+abbrev pub has_starts : ℤ → Bool
+has_starts version = int_le (pos 5) version
+
+-- what is asked, without the starts of a follower's logs
+abbrev pub plain_partition : FetchPartitionV5 → FetchPartition
+plain_partition p = record { partition = p.partition; fetch_offset = p.fetch_offset; partition_max_bytes = p.partition_max_bytes }
+
+abbrev pub plain_topic : FetchTopicV5 → FetchTopic
+plain_topic t = record { topic = t.topic; partitions = map plain_partition t.partitions }
+
+abbrev pub plain : FetchRequestV5 → FetchRequest
+plain r = record {
+  replica_id = r.replica_id;
+  max_wait_ms = r.max_wait_ms;
+  min_bytes = r.min_bytes;
+  max_bytes = r.max_bytes;
+  isolation_level = r.isolation_level;
+  topics = map plain_topic r.topics;
+}
+
+abbrev pub plain_read : Result FetchRequestV5 WireFault → Result FetchRequest WireFault
+plain_read (Ok r) = Ok (plain r)
+plain_read (Err fault) = Err fault
+
+-- what a body asks, in a version with starts or in one without
+abbrev pub read_as : Bool → List ℕ → Result FetchRequest WireFault
+read_as true body = plain_read (whole fetch_request_v5 body)
+read_as false body = whole fetch_request body
+
+abbrev pub asked_fetch : ℤ → List ℕ → Result FetchRequest WireFault
+asked_fetch version body = read_as (has_starts version) body
 
 -- ---- the limits
 
@@ -51,47 +96,51 @@ limit_of g e = min (natural e.partition_max_bytes) g.left
 
 -- ---- one partition; the aborted transactions of each answer are null
 
--- It is refused: both watermarks are -1, and there are no records.
-abbrev pub refusal_of : ℤ → PartitionFault → FetchPartitionFront
-refusal_of p f = record { partition = p; error_code = code_of f; high_watermark = negsuc 0; last_stable_offset = negsuc 0 }
+-- It is refused: the watermarks and the log's start are -1, and there are no records.
+abbrev pub refusal_of : ℤ → PartitionFault → FetchPartitionFrontV5
+refusal_of p f = record { partition = p; error_code = code_of f; high_watermark = negsuc 0; last_stable_offset = negsuc 0; log_start_offset = negsuc 0 }
 
-abbrev pub refused : Given → ℤ → PartitionFault → Given × FetchPartitionReply
-refused g p f = (wrong g, answer_with (refusal_of p f) [])
+abbrev pub refused : Given → ℤ → PartitionFault → Given × FetchPartitionReplyV5
+refused g p f = (wrong g, answer_with_v5 (refusal_of p f) [])
 
--- the answer up to the records, of a log that ends there
-abbrev pub front_of : ℤ → ℤ → FetchPartitionFront
-front_of p end = record { partition = p; error_code = pos 0; high_watermark = end; last_stable_offset = end }
+-- where a log starts, and where it ends
+abbrev pub bounds_of : World → Place → Option (ℤ × ℤ)
+bounds_of w place = option_map (λ (l : LogState). (pos l.start, pos l.end)) (log_in w place)
 
--- It gives records: both watermarks are the log's end.
-abbrev pub accepted : Given → ℤ → ℤ → List ℕ → Given × FetchPartitionReply
-accepted g p end records = (less g (length records), answer_with (front_of p end) records)
+-- the answer up to the records, of a log with those bounds: both watermarks are its end
+abbrev pub front_of : ℤ → ℤ × ℤ → FetchPartitionFrontV5
+front_of p bounds = record { partition = p; error_code = pos 0; high_watermark = bounds.1; last_stable_offset = bounds.1; log_start_offset = bounds.0 }
 
-abbrev pub answered_by : Given → ℤ → Option ℤ → Result (List ℕ) PartitionFault → Given × FetchPartitionReply
-answered_by g p (Some end) (Ok records) = accepted g p end records
-answered_by g p (Some end) (Err f) = refused g p f
+-- It gives records.
+abbrev pub accepted : Given → ℤ → ℤ × ℤ → List ℕ → Given × FetchPartitionReplyV5
+accepted g p bounds records = (less g (length records), answer_with_v5 (front_of p bounds) records)
+
+abbrev pub answered_by : Given → ℤ → Option (ℤ × ℤ) → Result (List ℕ) PartitionFault → Given × FetchPartitionReplyV5
+answered_by g p (Some bounds) (Ok records) = accepted g p bounds records
+answered_by g p (Some bounds) (Err f) = refused g p f
 answered_by g p None r = refused g p partition.Unknown
 
 -- the records that it gives, within its limit
 abbrev pub fetched_at : World → Given → FetchPartition → Place → Result (List ℕ) PartitionFault
 fetched_at w g e place = fetch w place e.fetch_offset (limit_of g e) g.first
 
-abbrev pub answered_at : World → Given → FetchPartition → Option Place → Given × FetchPartitionReply
-answered_at w g e (Some place) = answered_by g e.partition (end_of w place) (fetched_at w g e place)
+abbrev pub answered_at : World → Given → FetchPartition → Option Place → Given × FetchPartitionReplyV5
+answered_at w g e (Some place) = answered_by g e.partition (bounds_of w place) (fetched_at w g e place)
 answered_at w g e None = refused g e.partition partition.Unknown
 
 -- an entry of a topic that has this instance, if it is there
-abbrev pub answered : World → Option ℕ → Given → FetchPartition → Given × FetchPartitionReply
+abbrev pub answered : World → Option ℕ → Given → FetchPartition → Given × FetchPartitionReplyV5
 answered w topic g e = answered_at w g e (place_in topic e.partition)
 
 -- ---- all partitions
 
-abbrev pub answered_topic : World → Given → FetchTopic → Given × FetchTopicReply
+abbrev pub answered_topic : World → Given → FetchTopic → Given × FetchTopicReplyV5
 answered_topic w g t =
     let r = in_turn (answered w (named t.topic w.known.topics)) g t.partitions in
     (r.0, record { topic = t.topic; partitions = r.1 })
 
 -- the partitions in order, each within what those before it left
-abbrev pub fetched : World → FetchRequest → Given × FetchReply
+abbrev pub fetched : World → FetchRequest → Given × FetchReplyV5
 fetched w r =
     let f = in_turn (answered_topic w) (begun r) r.topics in
     (f.0, record { throttle_time_ms = pos 0; topics = f.1 })
@@ -103,15 +152,15 @@ abbrev pub size_of : Option (List ℕ) → ℕ
 size_of None = 0
 size_of (Some records) = length records
 
-abbrev pub records_size : FetchPartitionReply → ℕ
+abbrev pub records_size : FetchPartitionReplyV5 → ℕ
 records_size p = size_of p.records
 
 -- the bytes of all records of a reply
-abbrev pub bytes_of : FetchReply → ℕ
+abbrev pub bytes_of : FetchReplyV5 → ℕ
 bytes_of reply = sum_by (λ t. sum_by records_size t.partitions) reply.topics
 
 -- some partition of a reply passes a test
-abbrev pub some_partition : (FetchPartitionReply → Bool) → FetchReply → Bool
+abbrev pub some_partition : (FetchPartitionReplyV5 → Bool) → FetchReplyV5 → Bool
 some_partition test reply = list_any (λ t. list_any test t.partitions) reply.topics
 
 abbrev pub is_error : ℤ → Bool
@@ -121,7 +170,7 @@ is_error (negsuc n) = true
 
 -- A fetch waits no longer for its reply: no partition is asked, or one is refused, or all records have the bytes that are
 -- wanted, or the time is over.
-abbrev pub is_ready : World → FetchRequest → FetchReply → ℕ → Bool
+abbrev pub is_ready : World → FetchRequest → FetchReplyV5 → ℕ → Bool
 is_ready w r reply deadline =
     not (some_partition (λ p. true) reply)
     || some_partition (λ p. is_error p.error_code) reply
@@ -137,7 +186,7 @@ abbrev pub deadline_of : World → FetchRequest → ℕ
 deadline_of w r = min (w.clock + natural r.max_wait_ms) (2 ^ 64 - 1)
 
 -- what a fetch is answered, where it waits no longer
-abbrev pub fetch_answer : World → FetchRequest → ℕ → Option FetchReply
+abbrev pub fetch_answer : World → FetchRequest → ℕ → Option FetchReplyV5
 fetch_answer w r deadline = let reply = (fetched w r).1 in if is_ready w r reply deadline then Some reply else None
 
 -- the partitions that a topic's entries ask for
@@ -148,17 +197,53 @@ places_in topic entries = filter_map (λ e. place_in topic e.partition) entries
 abbrev pub places_of : World → FetchRequest → List Place
 places_of w r = flat_map (λ t. places_in (named t.topic w.known.topics) t.partitions) r.topics
 
--- ---- what is written
+-- ---- what is written: the reply with the starts of the logs, or without them
+
+abbrev pub without_start : FetchPartitionReplyV5 → FetchPartitionReply
+without_start p = record {
+  partition = p.partition;
+  error_code = p.error_code;
+  high_watermark = p.high_watermark;
+  last_stable_offset = p.last_stable_offset;
+  aborted_transactions = p.aborted_transactions;
+  records = p.records;
+}
+
+abbrev pub topic_without_starts : FetchTopicReplyV5 → FetchTopicReply
+topic_without_starts t = record { topic = t.topic; partitions = map without_start t.partitions }
+
+abbrev pub without_starts : FetchReplyV5 → FetchReply
+without_starts r = record { throttle_time_ms = r.throttle_time_ms; topics = map topic_without_starts r.topics }
+
+abbrev pub partition_written : Bool → FetchPartitionReplyV5 → List ℕ
+partition_written true p = fetch_partition_reply_v5.written p
+partition_written false p = fetch_partition_reply.written (without_start p)
+
+-- an answer up to its records
+abbrev pub front_written : Bool → FetchPartitionFrontV5 → List ℕ
+front_written starts f = partition_written starts (answer_with_v5 f [])
+
+abbrev pub topic_written : Bool → FetchTopicReplyV5 → List ℕ
+topic_written true t = fetch_topic_reply_v5.written t
+topic_written false t = fetch_topic_reply.written (topic_without_starts t)
+
+abbrev pub reply_written : Bool → FetchReplyV5 → List ℕ
+reply_written true r = fetch_reply_v5.written r
+reply_written false r = fetch_reply.written (without_starts r)
+
+-- the reply in a version of the API
+abbrev pub fetched_in : ℤ → FetchReplyV5 → List ℕ
+fetched_in version r = reply_written (has_starts version) r
 
 -- The reply was written, or the fetch waits until then and for these partitions, and nothing was written.
-abbrev pub IsServed : World → FetchRequest → Option FetchReply → List ℕ → Fetching → List ℕ → Type 0
-IsServed w r (Some reply) old fetching.Reply new = new ≡ old ++ fetch_reply.written reply
-IsServed w r (Some reply) old (fetching.Wait deadline keys) new = ⊥
-IsServed w r None old fetching.Reply new = ⊥
-IsServed w r None old (fetching.Wait deadline keys) new =
+abbrev pub IsServed : Bool → World → FetchRequest → Option FetchReplyV5 → List ℕ → Fetching → List ℕ → Type 0
+IsServed starts w r (Some reply) old fetching.Reply new = new ≡ old ++ reply_written starts reply
+IsServed starts w r (Some reply) old (fetching.Wait deadline keys) new = ⊥
+IsServed starts w r None old fetching.Reply new = ⊥
+IsServed starts w r None old (fetching.Wait deadline keys) new =
     (deadline ≡ deadline_of w r) × (keys.items ≡ places_of w r) × (new ≡ old)
 
 -- The reply was written, or the fetch still waits, and nothing was written.
-abbrev pub looked : List ℕ → Option FetchReply → Bool × List ℕ
-looked old (Some reply) = (true, old ++ fetch_reply.written reply)
-looked old None = (false, old)
+abbrev pub looked : Bool → List ℕ → Option FetchReplyV5 → Bool × List ℕ
+looked starts old (Some reply) = (true, old ++ reply_written starts reply)
+looked starts old None = (false, old)

@@ -1,12 +1,23 @@
 -- The broker, and topics with their partitions (Kafka protocol guide, "The Messages: Metadata").
-use Rattle.std.specs.Prelude.{ℕ, ℤ, pos, false, List, [], ◌∷◌, length, map, Option, Some, None, if◌then◌else◌}
-use Rattle.std.specs.List.{range_with_len}
+use Rattle.std.specs.Prelude.{ℕ, ℤ, pos, false, List, [], ◌∷◌, ◌++◌, length, map, Option, Some, None, Result, Ok, if◌then◌else◌}
+use Rattle.std.specs.Int.{w32}
+use Rattle.std.specs.List.{flat_map, range_with_len}
 use Rattle.std.specs.Option.{option_and_then}
+use Rattle.std.specs.Ordering.{int_eq}
+use Rattle.kb_wire.specs.Codec.{boolean, count, whole, ◌>>=◌}
+use Rattle.kb_wire.specs.declared.fault.WireFault.{WireFault}
+use Rattle.kb_api_data.specs.Layouts.{metadata_request, metadata_request_v0, metadata_request_v4, metadata_topic, metadata_topic_v0}
+use Rattle.kb_api_data.specs.Layouts.{metadata_reply, metadata_reply_v0, metadata_reply_v2, metadata_reply_v3}
 use Rattle.kb_api_data.specs.declared.metadata.MetadataRequest.{MetadataRequest}
 use Rattle.kb_api_data.specs.declared.metadata.MetadataBroker.{MetadataBroker}
 use Rattle.kb_api_data.specs.declared.metadata.MetadataPartition.{MetadataPartition}
 use Rattle.kb_api_data.specs.declared.metadata.MetadataTopic.{MetadataTopic}
 use Rattle.kb_api_data.specs.declared.metadata.MetadataReply.{MetadataReply}
+use Rattle.kb_api_data.specs.declared.metadata_versions.MetadataBrokerV0.{MetadataBrokerV0}
+use Rattle.kb_api_data.specs.declared.metadata_versions.MetadataTopicV0.{MetadataTopicV0}
+use Rattle.kb_api_data.specs.declared.metadata_versions.MetadataReplyV0.{MetadataReplyV0}
+use Rattle.kb_api_data.specs.declared.metadata_versions.MetadataReplyV2.{MetadataReplyV2}
+use Rattle.kb_api_data.specs.declared.metadata_versions.MetadataReplyV3.{MetadataReplyV3}
 use Rattle.kb_api_group.specs.ErrorCode.{code_of as code}
 use Rattle.kb_api_group.specs.declared.error_code.ErrorCode.TheVariants as codes
 use Rattle.kb_topics.specs.ByName.{by_name}
@@ -62,3 +73,53 @@ metadata_of w node r = record {
   controller_id = pos 0;
   topics = topics_asked w.known.topics r.topics;
 }
+
+-- ---- versions 0 and 2 to 4; any other is version 1
+
+-- In version 0 no topics mean all topics.
+abbrev pub all_if_none : List (List ℕ) → MetadataRequest
+all_if_none [] = record { topics = None }
+all_if_none (name ∷ names) = record { topics = Some (name ∷ names) }
+
+-- A request, as the one of version 1 that asks the same. No topic is ever made by asking for it, whatever version 4 allows.
+abbrev pub asked_metadata : ℤ → List ℕ → Result MetadataRequest WireFault
+asked_metadata version body =
+    if int_eq version (pos 0) then whole metadata_request_v0 body >>= (λ r. Ok (all_if_none r.topics))
+    else if int_eq version (pos 4) then whole metadata_request_v4 body >>= (λ r. Ok (record { topics = r.topics }))
+    else whole metadata_request body
+
+-- Version 0 tells neither racks, nor the controller, nor which topics are internal.
+abbrev pub broker_v0 : MetadataBroker → MetadataBrokerV0
+broker_v0 b = record { node_id = b.node_id; host = b.host; port = b.port }
+
+abbrev pub topic_v0 : MetadataTopic → MetadataTopicV0
+topic_v0 t = record { error_code = t.error_code; name = t.name; partitions = t.partitions }
+
+abbrev pub reply_v0 : MetadataReply → MetadataReplyV0
+reply_v0 r = record { brokers = map broker_v0 r.brokers; topics = map topic_v0 r.topics }
+
+-- Versions from 2 on tell the cluster's id, which is null; from 3 on how long the client is held back, which is never.
+abbrev pub reply_v2 : MetadataReply → MetadataReplyV2
+reply_v2 r = record { brokers = r.brokers; cluster_id = None; controller_id = r.controller_id; topics = r.topics }
+
+abbrev pub reply_v3 : MetadataReply → MetadataReplyV3
+reply_v3 r = record { throttle_time_ms = pos 0; brokers = r.brokers; cluster_id = None; controller_id = r.controller_id; topics = r.topics }
+
+-- the reply in bytes
+abbrev pub metadata_in : ℤ → MetadataReply → List ℕ
+metadata_in version r =
+    if int_eq version (pos 0) then metadata_reply_v0.written (reply_v0 r)
+    else if int_eq version (pos 2) then metadata_reply_v2.written (reply_v2 r)
+    else if int_eq version (pos 3) then metadata_reply_v3.written (reply_v3 r)
+    else if int_eq version (pos 4) then metadata_reply_v3.written (reply_v3 r)
+    else metadata_reply.written r
+
+-- what it says of whether a topic is internal, of a topic, and of topics behind their count
+abbrev pub internal_in : ℤ → List ℕ
+internal_in version = if int_eq version (pos 0) then [] else boolean.written false
+
+abbrev pub topic_in : ℤ → MetadataTopic → List ℕ
+topic_in version t = if int_eq version (pos 0) then metadata_topic_v0.written (topic_v0 t) else metadata_topic.written t
+
+abbrev pub topics_in : ℤ → List MetadataTopic → List ℕ
+topics_in version ts = (count w32).written (length ts) ++ flat_map (topic_in version) ts

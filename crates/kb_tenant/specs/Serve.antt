@@ -5,14 +5,14 @@ use Rattle.kb_wire.specs.Codec.{whole}
 use Rattle.kb_wire.specs.declared.fault.WireFault.{WireFault}
 use Rattle.kb_wire.specs.declared.fault.ReadFault.{ReadFault}
 use Rattle.kb_wire.specs.declared.fault.ReadFault.TheVariants as faults
-use Rattle.kb_api_data.specs.Layouts.{produce_request, produce_reply, fetch_request, fetch_reply, list_offsets_request, list_offsets_reply, metadata_request, metadata_reply}
-use Rattle.kb_api_data.specs.Layouts.{create_topics_request, create_topics_reply, delete_topics_request, delete_topics_reply, delete_records_request, delete_records_reply, init_producer_id_request, init_producer_id_reply}
+use Rattle.kb_api_data.specs.Layouts.{produce_request, produce_reply, list_offsets_request, list_offsets_reply}
+use Rattle.kb_api_data.specs.Layouts.{delete_topics_request, delete_records_request, delete_records_reply, init_producer_id_request, init_producer_id_reply}
 use Rattle.kb_api_data.specs.declared.produce.ProduceRequest.{ProduceRequest}
 use Rattle.kb_api_data.specs.declared.fetch.FetchRequest.{FetchRequest}
-use Rattle.kb_api_data.specs.declared.fetch.FetchReply.{FetchReply}
+use Rattle.kb_api_data.specs.declared.fetch_v5.FetchReplyV5.{FetchReplyV5}
 use Rattle.kb_api_data.specs.declared.list_offsets.ListOffsetsRequest.{ListOffsetsRequest}
 use Rattle.kb_api_data.specs.declared.metadata.MetadataRequest.{MetadataRequest}
-use Rattle.kb_api_data.specs.declared.create_topics.CreateTopicsRequest.{CreateTopicsRequest}
+use Rattle.kb_api_data.specs.declared.create_topics_v1.CreateTopicsRequestV1.{CreateTopicsRequestV1}
 use Rattle.kb_api_data.specs.declared.delete_records.DeleteRecordsRequest.{DeleteRecordsRequest}
 use Rattle.kb_api_data.specs.declared.delete_topics.DeleteTopicsRequest.{DeleteTopicsRequest}
 use Rattle.kb_api_data.specs.declared.init_producer_id.InitProducerIdRequest.{InitProducerIdRequest}
@@ -22,14 +22,14 @@ use Rattle.kb_api_group.specs.declared.offset_commit.OffsetCommitRequest.{Offset
 use Rattle.kb_api_group.specs.declared.offset_fetch.OffsetFetchRequest.{OffsetFetchRequest}
 use Rattle.kb_world.specs.World.{World}
 use Rattle.kb_world.specs.declared.place.Place.{Place}
-use Rattle.kb_tenant.specs.CreateTopics.{created_all}
+use Rattle.kb_tenant.specs.CreateTopics.{asked_creations, checked_all, created_all, creations_in, made_of}
 use Rattle.kb_tenant.specs.DeleteRecords.{deleted_all as records_deleted}
-use Rattle.kb_tenant.specs.DeleteTopics.{deleted_all}
-use Rattle.kb_tenant.specs.Fetch.{deadline_of, fetch_answer, places_of}
+use Rattle.kb_tenant.specs.DeleteTopics.{deleted_all, deletions_in}
+use Rattle.kb_tenant.specs.Fetch.{asked_fetch, deadline_of, fetch_answer, places_of, fetched_in}
 use Rattle.kb_tenant.specs.FindCoordinator.{coordinator}
 use Rattle.kb_tenant.specs.InitProducerId.{init_producer_id}
 use Rattle.kb_tenant.specs.ListOffsets.{list_offsets}
-use Rattle.kb_tenant.specs.Metadata.{metadata_of}
+use Rattle.kb_tenant.specs.Metadata.{asked_metadata, metadata_in, metadata_of}
 use Rattle.kb_tenant.specs.OffsetCommit.{committed_all, refusal_of}
 use Rattle.kb_tenant.specs.OffsetFetch.{fetched_all}
 use Rattle.kb_tenant.specs.Produce.{produced, is_due}
@@ -56,18 +56,18 @@ of_produce w r =
     let p = produced w [] r in
     record { world = p.0.world; touched = p.0.touched; reaction = if is_due r.acks then Replies (produce_reply.written p.1) else Silent }
 
-abbrev pub fetch_reaction : World → FetchRequest → Option FetchReply → Reaction
-fetch_reaction w r (Some reply) = Replies (fetch_reply.written reply)
-fetch_reaction w r None = Waits (deadline_of w r) (places_of w r)
+abbrev pub fetch_reaction : ℤ → World → FetchRequest → Option FetchReplyV5 → Reaction
+fetch_reaction version w r (Some reply) = Replies (fetched_in version reply)
+fetch_reaction version w r None = Waits (deadline_of w r) (places_of w r)
 
-abbrev pub of_fetch : World → FetchRequest → Outcome
-of_fetch w r = stays w (fetch_reaction w r (fetch_answer w r (deadline_of w r)))
+abbrev pub of_fetch : ℤ → World → FetchRequest → Outcome
+of_fetch version w r = stays w (fetch_reaction version w r (fetch_answer w r (deadline_of w r)))
 
 abbrev pub of_list_offsets : World → ListOffsetsRequest → Outcome
 of_list_offsets w r = stays w (Replies (list_offsets_reply.written (list_offsets w r)))
 
-abbrev pub of_metadata : Node → World → MetadataRequest → Outcome
-of_metadata node w r = stays w (Replies (metadata_reply.written (metadata_of w node r)))
+abbrev pub of_metadata : Node → ℤ → World → MetadataRequest → Outcome
+of_metadata node version w r = stays w (Replies (metadata_in version (metadata_of w node r)))
 
 abbrev pub of_offset_commit : World → OffsetCommitRequest → Outcome
 of_offset_commit w r = let c = committed_all w (refusal_of r.group_id r.generation_id) r in record { world = c.0; touched = []; reaction = Replies (offset_commit_reply.written c.1) }
@@ -78,11 +78,14 @@ of_offset_fetch w r = stays w (Replies (offset_fetch_reply.written (fetched_all 
 abbrev pub of_find_coordinator : Node → World → FindCoordinatorRequest → Outcome
 of_find_coordinator node w r = stays w (Replies (find_coordinator_reply.written (coordinator node)))
 
-abbrev pub of_create_topics : World → CreateTopicsRequest → Outcome
-of_create_topics w r = let c = created_all w r in record { world = c.0; touched = []; reaction = Replies (create_topics_reply.written c.1) }
+-- Where the request is only checked the world stays.
+abbrev pub of_create_topics : ℤ → World → CreateTopicsRequestV1 → Outcome
+of_create_topics version w r =
+    if r.validate_only then stays w (Replies (creations_in version (checked_all w r.topics)))
+    else let c = created_all w (made_of r) in record { world = c.0; touched = []; reaction = Replies (creations_in version c.1) }
 
-abbrev pub of_delete_topics : World → DeleteTopicsRequest → Outcome
-of_delete_topics w r = let d = deleted_all (w, []) r in record { world = d.0.0; touched = d.0.1; reaction = Replies (delete_topics_reply.written d.1) }
+abbrev pub of_delete_topics : ℤ → World → DeleteTopicsRequest → Outcome
+of_delete_topics version w r = let d = deleted_all (w, []) r in record { world = d.0.0; touched = d.0.1; reaction = Replies (deletions_in version d.1) }
 
 abbrev pub of_delete_records : World → DeleteRecordsRequest → Outcome
 of_delete_records w r = let d = records_deleted (w, []) r in record { world = d.0.0; touched = d.0.1; reaction = Replies (delete_records_reply.written d.1) }
@@ -102,25 +105,25 @@ if_read w (Err fault) f = stays w Shuts
 unfoldable pub served : Node → World → ℕ → ℤ → ℤ → List ℕ → Outcome
 served node w n key version body =
     if int_eq key (pos 0) then if_read w (whole produce_request body) (of_produce w)
-    else if int_eq key (pos 1) then if_read w (whole fetch_request body) (of_fetch w)
+    else if int_eq key (pos 1) then if_read w (asked_fetch version body) (of_fetch version w)
     else if int_eq key (pos 2) then if_read w (whole list_offsets_request body) (of_list_offsets w)
-    else if int_eq key (pos 3) then if_read w (whole metadata_request body) (of_metadata node w)
+    else if int_eq key (pos 3) then if_read w (asked_metadata version body) (of_metadata node version w)
     else if int_eq key (pos 8) then if_read w (whole offset_commit_request body) (of_offset_commit w)
     else if int_eq key (pos 9) then if_read w (whole offset_fetch_request body) (of_offset_fetch w)
     else if int_eq key (pos 10) then if_read w (whole find_coordinator_request body) (of_find_coordinator node w)
-    else if int_eq key (pos 19) then if_read w (whole create_topics_request body) (of_create_topics w)
-    else if int_eq key (pos 20) then if_read w (whole delete_topics_request body) (of_delete_topics w)
+    else if int_eq key (pos 19) then if_read w (asked_creations version body) (of_create_topics version w)
+    else if int_eq key (pos 20) then if_read w (whole delete_topics_request body) (of_delete_topics version w)
     else if int_eq key (pos 21) then if_read w (whole delete_records_request body) (of_delete_records w)
     else if int_eq key (pos 22) then if_read w (whole init_producer_id_request body) (of_init_producer_id w)
     else stays w Shuts
 
 -- a waiting fetch, of that deadline, version and body: its reply, where it waits no longer
-abbrev pub looked_at : World → ℕ → Result FetchRequest WireFault → Reaction
-looked_at w deadline (Err fault) = Shuts
-looked_at w deadline (Ok r) = elim (fetch_answer w r deadline) [ Some reply ↦ Replies (fetch_reply.written reply) | None ↦ Silent ]
+abbrev pub looked_at : World → ℕ → ℤ → Result FetchRequest WireFault → Reaction
+looked_at w deadline version (Err fault) = Shuts
+looked_at w deadline version (Ok r) = elim (fetch_answer w r deadline) [ Some reply ↦ Replies (fetched_in version reply) | None ↦ Silent ]
 
 unfoldable pub looked : World → ℕ → ℤ → List ℕ → Reaction
-looked w deadline version body = looked_at w deadline (whole fetch_request body)
+looked w deadline version body = looked_at w deadline version (asked_fetch version body)
 
 -- ---- what the code answers
 

@@ -1,17 +1,25 @@
-//! CreateTopics, version 0 (Kafka protocol guide): topics are made, one after another.
-ghost use Rattle.std.specs.Prelude.{◌≡◌, ◌++◌, OnOk};
-ghost use Rattle.kb_api_data.specs.Layouts.{create_topics_request, create_topics_reply};
-ghost use Rattle.kb_tenant.specs.CreateTopics.{settings_in, refusal, code_in, made, created_all};
-ghost use Rattle.kb_world.specs.Parts.{scene};
+//! CreateTopics (Kafka protocol guide): topics are made, one after another. A request of version 1 may ask that they are only
+//! checked, and each answer has a message, which is null; any other version is answered as 0.
+ghost use Rattle.std.specs.Prelude.{◌≡◌, ◌++◌, ◌+◌, ◌<◌, ◌^◌, length, IfOk, OnOk};
+ghost use Rattle.kb_api_data.specs.Layouts.{create_topics_request_v1};
+ghost use Rattle.kb_store.specs.Disk.{Files};
+ghost use Rattle.kb_wire.specs.Codec.{string};
+ghost use Rattle.kb_wire.specs.Reads.{ReadsWhole};
+ghost use Rattle.kb_tenant.specs.CreateTopics.{asked_creations, checked_all, checked_unless, code_in, created_all, creation_in, creations_in, made, made_of, refusal, settings_in};
+ghost use Rattle.kb_world.specs.Parts.{scene, world_of};
 ghost use Rattle.kb_world.specs.Steps.{IsStep, Meets};
+ghost use Rattle.kb_world.specs.Tied.{IsTied};
 
 use crate::repeated::Repeated;
-use kb_api_data::{CreateConfig, CreateTopic, CreateTopicReply, CreateTopicsRequest};
+use kb_api_data::{
+    CreateConfig, CreateTopic, CreateTopicReply, CreateTopicReplyV1, CreateTopicsRequest,
+    CreateTopicsRequestV1,
+};
 use kb_api_group::ErrorCode;
 use kb_log::{PartitionLog, Shelf};
 use kb_store::Store;
 use kb_topics::{CatalogFault, ConfigReader, TopicConfig, is_legal_name};
-use kb_wire::{Layout, Sink, Text};
+use kb_wire::{Layout, ReadFault, Sink, Text};
 use kb_world::Parts;
 use std::alloc::{AllocError, Global};
 
@@ -89,33 +97,118 @@ fn create_topic<L: PartitionLog + Drop, S: Store>(
     code_in(parts.create(shelf, name, partitions, config))
 }
 
-/// Makes the topics of a request in order, and writes the reply behind what is in the sink.
+/// What making a topic would be answered where `count` topics are there, which it then counts too. Nothing is made.
+///
+/// The first cause is answered: one before the settings, a setting that a topic may not be given, 1,000 topics.
+fn check_topic(topic: &CreateTopic<'_>, repeated: bool, exists: bool, count: &mut usize) -> i16
+    ensures { (count.new, result) ≡ checked_unless count.old topic.now (refusal repeated exists topic.now) }
+{
+    if let Some(error) = refusal(topic, repeated, exists) {
+        return error.code();
+    }
+    if settings_in(topic.configs.as_slice()).is_none() {
+        return ErrorCode::InvalidConfig.code();
+    }
+    if *count >= 1000 {
+        return code_in(Err(CatalogFault::TooMany));
+    }
+    *count += 1;
+    ErrorCode::None.code()
+}
+
+/// The request that a body spells in a version. None of version 0 is only checked.
+#[tactic(auto, using(crate::proofs::Creating::request_fits))]
+pub fn read_create_topics<'a>(
+    alloc: Global,
+    version: i16,
+    body: &'a [u8],
+) -> Result<CreateTopicsRequestV1<'a>, ReadFault>
+    ensures exact { ReadsWhole (asked_creations version body.now) result }
+    ensures fits { IfOk result (λ r. create_topics_request_v1.Fits r) }
+{
+    if version == 1 {
+        return CreateTopicsRequestV1::read(alloc, body);
+    }
+    let CreateTopicsRequest { topics, timeout_ms } = CreateTopicsRequest::read(alloc, body)?;
+    Ok(CreateTopicsRequestV1 {
+        topics,
+        timeout_ms,
+        validate_only: false,
+    })
+}
+
+/// Writes what a topic is answered.
+#[tactic(auto, using(crate::proofs::Creating::answer_fits, crate::proofs::Creating::answer_fits_v1))]
+fn put_answer(version: i16, name: &str, error_code: i16, sink: &mut Sink) -> Result<(), AllocError>
+    requires { string.Fits name.now }
+    ensures { OnOk result (sink.new.bytes ≡ sink.old.bytes ++ creation_in version (record { name = name.now; error_code = error_code })) }
+{
+    let name = Text::new(name);
+    if version == 1 {
+        let reply = CreateTopicReplyV1 {
+            name,
+            error_code,
+            error_message: None,
+        };
+        return reply.write(sink);
+    }
+    let reply = CreateTopicReply { name, error_code };
+    reply.write(sink)
+}
+
+/// Checks the topics of a request in order, as if those before had been made, and writes the reply of a version behind what is
+/// in the sink. Nothing is made.
+pub fn check_topics<L: PartitionLog + Drop>(
+    alloc: Global,
+    parts: &Parts<L>,
+    version: i16,
+    request: &CreateTopicsRequestV1<'_>,
+    sink: &mut Sink,
+) -> Result<(), AllocError>
+    requires { create_topics_request_v1.Fits request.now }
+    ensures written { (files : Files) → OnOk result (sink.new.bytes ≡ sink.old.bytes ++ creations_in version (checked_all (world_of L.log parts.now files) request.now.topics)) }
+    // That is what making them would be answered, where an instance is left for each.
+    ensures foretold { (files : Files) → let w = world_of L.log parts.now files in IsTied w → w.known.creates + length request.now.topics < 2 ^ 63
+        → OnOk result (sink.new.bytes ≡ sink.old.bytes ++ creations_in version (created_all w (made_of request.now)).1) }
+{
+    let entries = request.topics.as_slice();
+    let repeated = Repeated::among(alloc, entries)?;
+    let mut count = parts.topic_count();
+    sink.put_count(entries.len())?;
+    for topic in entries {
+        let name = topic.name.as_str();
+        let exists = parts.topic_named(name).is_some();
+        let error_code = check_topic(topic, repeated.contains(name), exists, &mut count);
+        put_answer(version, name, error_code, sink)?;
+    }
+    Ok(())
+}
+
+/// Makes the topics of a request in order, and writes the reply of a version behind what is in the sink.
 ///
 /// A name that stands twice is refused each time. `timeout_ms` has no effect. An `Err` leaves the topics that were made.
 pub fn create_topics<L: PartitionLog + Drop, S: Store>(
     alloc: Global,
     parts: &mut Parts<L>,
     shelf: &mut Shelf<S>,
-    request: &CreateTopicsRequest<'_>,
+    version: i16,
+    request: &CreateTopicsRequestV1<'_>,
     sink: &mut Sink,
 ) -> Result<(), AllocError>
     requires sound { (scene L.log S.disk parts.old shelf.old).sound }
-    requires fits { create_topics_request.Fits request.now }
+    requires fits { create_topics_request_v1.Fits request.now }
     ensures step { IsStep (scene L.log S.disk parts.old shelf.old) (scene L.log S.disk parts.new shelf.new) }
     ensures meets { let a = scene L.log S.disk parts.old shelf.old in let b = scene L.log S.disk parts.new shelf.new in
-        OnOk result (Meets a b (let r = created_all a.state.world request.now in
-        (b.state.world ≡ r.0) × (sink.new.bytes ≡ sink.old.bytes ++ create_topics_reply.written r.1))) }
+        OnOk result (Meets a b (let r = created_all a.state.world (made_of request.now) in
+        (b.state.world ≡ r.0) × (sink.new.bytes ≡ sink.old.bytes ++ creations_in version r.1))) }
 {
     let topics = request.topics.as_slice();
     let repeated = Repeated::among(alloc, topics)?;
     sink.put_count(topics.len())?;
     for topic in topics {
         let name = topic.name.as_str();
-        let reply = CreateTopicReply {
-            name: Text::new(name),
-            error_code: create_topic(parts, shelf, topic, repeated.contains(name)),
-        };
-        reply.write(sink)?;
+        let error_code = create_topic(parts, shelf, topic, repeated.contains(name));
+        put_answer(version, name, error_code, sink)?;
     }
     Ok(())
 }

@@ -1,8 +1,9 @@
-//! DeleteTopics, version 0 (Kafka protocol guide): topics are deleted, one after another.
+//! DeleteTopics (Kafka protocol guide): topics are deleted, one after another. Version 1 also tells how long the client is held
+//! back, which is never; any other version is answered as 0.
 ghost use Rattle.std.specs.Prelude.{◌≡◌, ◌++◌, ◌<◌, ◌^◌, length, take, Some, OnOk, OnErr};
 ghost use Rattle.kb_store.specs.Disk.{Files};
-ghost use Rattle.kb_api_data.specs.Layouts.{delete_topics_request, delete_topics_reply};
-ghost use Rattle.kb_tenant.specs.DeleteTopics.{places_at, places_named, told_if, deleted, deleted_all};
+ghost use Rattle.kb_api_data.specs.Layouts.{delete_topics_request};
+ghost use Rattle.kb_tenant.specs.DeleteTopics.{places_at, places_named, told_if, deleted, deleted_all, deletions_in, throttle_in};
 ghost use Rattle.kb_world.specs.Parts.{scene, world_of};
 ghost use Rattle.kb_world.specs.Steps.{IsStep, Meets};
 
@@ -69,13 +70,24 @@ fn delete_topic<L: PartitionLog + Drop, S: Store>(
     }
 }
 
-/// Deletes the topics of a request in order, and writes the reply behind what is in the sink. What was deleted is told in
+/// Writes what stands before the topics.
+fn put_throttle(version: i16, sink: &mut Sink) -> Result<(), AllocError>
+    ensures { OnOk result (sink.new.bytes ≡ sink.old.bytes ++ throttle_in version) }
+{
+    if version == 1 {
+        return sink.put_i32(0);
+    }
+    Ok(())
+}
+
+/// Deletes the topics of a request in order, and writes the reply of a version behind what is in the sink. What was deleted is told in
 /// `touched`: each partition of each such topic.
 ///
 /// `timeout_ms` has no effect. An `Err` leaves the topics deleted that were, and told.
 pub fn delete_topics<L: PartitionLog + Drop, S: Store>(
     parts: &mut Parts<L>,
     shelf: &mut Shelf<S>,
+    version: i16,
     request: &DeleteTopicsRequest<'_>,
     touched: &mut Vec<Place>,
     sink: &mut Sink,
@@ -88,9 +100,10 @@ pub fn delete_topics<L: PartitionLog + Drop, S: Store>(
     ensures meets { let a = scene L.log S.disk parts.old shelf.old in let b = scene L.log S.disk parts.new shelf.new in
         OnOk result (Meets a b (let r = deleted_all (a.state.world, touched.old.items) request.now in
         (b.state.world ≡ r.0.0) × (touched.new.items ≡ r.0.1)
-        × (sink.new.bytes ≡ sink.old.bytes ++ delete_topics_reply.written r.1))) }
+        × (sink.new.bytes ≡ sink.old.bytes ++ deletions_in version r.1))) }
 {
     let names = request.names.as_slice();
+    put_throttle(version, sink)?;
     sink.put_count(names.len())?;
     for name in names {
         let name = name.as_str();

@@ -1,29 +1,34 @@
 //! A request of a tenant, by its key.
-ghost use Rattle.std.specs.Prelude.{◌≡◌, [], IfOk, OnErr};
+ghost use Rattle.std.specs.Prelude.{◌≡◌, [], pos, IfOk, OnErr};
 ghost use Rattle.kb_wire.specs.Codec.{string, whole};
-ghost use Rattle.kb_api_data.specs.Layouts.{produce_request, fetch_request, list_offsets_request, metadata_request, create_topics_request, delete_records_request, delete_topics_request, init_producer_id_request};
+ghost use Rattle.kb_api_data.specs.Layouts.{produce_request, list_offsets_request, metadata_request, create_topics_request, delete_records_request, delete_topics_request, init_producer_id_request};
 ghost use Rattle.kb_store.specs.Disk.{Files};
+ghost use Rattle.kb_partitions.specs.Scene.{WhereHonest};
 ghost use Rattle.kb_world.specs.Parts.{scene, world_of};
 ghost use Rattle.kb_world.specs.Steps.{IsStep, Meets};
+ghost use Rattle.kb_tenant.specs.CreateTopics.{asked_creations};
+ghost use Rattle.kb_tenant.specs.Fetch.{asked_fetch};
+ghost use Rattle.kb_tenant.specs.Metadata.{asked_metadata};
 ghost use Rattle.kb_tenant.specs.Replies.{IsAnswer};
+ghost use Rattle.kb_tenant.specs.Told.{Acknowledges};
 ghost use Rattle.kb_tenant.specs.Serve.{if_read, of_produce, of_fetch, of_list_offsets, of_metadata, of_create_topics, of_delete_records, of_delete_topics, of_init_producer_id, served, looked, stays, IsOutcome, IsServed};
 
 use crate::answer::{Answer, begin, finish};
-use crate::create_topics::create_topics;
+use crate::create_topics::{check_topics, create_topics, read_create_topics};
 use crate::delete_records::delete_records;
 use crate::delete_topics::delete_topics;
 use crate::fetch;
-use crate::fetch::{Fetching, serve_fetch};
+use crate::fetch::{Fetching, read_request, serve_fetch};
 use crate::group_offsets::{serve_find_coordinator, serve_offset_commit, serve_offset_fetch};
 use crate::init_producer_id::init_producer_id;
 use crate::list_offsets::list_offsets;
-use crate::metadata::metadata;
+use crate::metadata::{metadata, read_metadata};
 use crate::node::Node;
 use crate::produce::produce;
 use crate::request::{Request, Wait};
 use kb_api_data::{
-    CreateTopicsRequest, DeleteRecordsRequest, DeleteTopicsRequest, FetchRequest,
-    InitProducerIdRequest, ListOffsetsRequest, MetadataRequest, ProduceRequest,
+    DeleteRecordsRequest, DeleteTopicsRequest, InitProducerIdRequest, ListOffsetsRequest,
+    ProduceRequest,
 };
 use kb_log::{PartitionLog, Shelf};
 use kb_store::Store;
@@ -53,6 +58,8 @@ fn serve_produce<L: PartitionLog + Drop, S: Store>(
     ensures step { IsStep (scene L.log S.disk parts.old shelf.old) (scene L.log S.disk parts.new shelf.new) }
     ensures meets { let a = scene L.log S.disk parts.old shelf.old in let b = scene L.log S.disk parts.new shelf.new in
         Meets a b (IsServed request.now.correlation_id (if_read a.state.world (whole produce_request request.now.body.now) (of_produce a.state.world)) b.state.world touched.new.items result) }
+    ensures acknowledged { let a = scene L.log S.disk parts.old shelf.old in let b = scene L.log S.disk parts.new shelf.new in
+        IfOk result (λ answer. WhereHonest a b (Acknowledges request.now.correlation_id a.state.world request.now.body.now b.state.world touched.new.items answer)) }
 {
     let asked = ProduceRequest::read(alloc, request.body)?;
     let mut sink = begin(alloc, request.correlation_id)?;
@@ -73,11 +80,12 @@ fn serve_a_fetch<L: PartitionLog + Drop, S: Store>(
     requires { (scene L.log S.disk parts.old shelf.old).sound }
     ensures step { IsStep (scene L.log S.disk parts.old shelf.old) (scene L.log S.disk parts.new shelf.new) }
     ensures meets { let a = scene L.log S.disk parts.old shelf.old in let b = scene L.log S.disk parts.new shelf.new in
-        Meets a b (IsServed request.now.correlation_id (if_read a.state.world (whole fetch_request request.now.body.now) (of_fetch a.state.world)) b.state.world [] result) }
+        Meets a b (IsServed request.now.correlation_id (if_read a.state.world (asked_fetch request.now.api_version request.now.body.now) (of_fetch request.now.api_version a.state.world)) b.state.world [] result) }
 {
-    let asked = FetchRequest::read(alloc, request.body)?;
+    let has_starts = fetch::has_starts(request.api_version);
+    let asked = read_request(alloc, has_starts, request.body)?;
     let mut sink = begin(alloc, request.correlation_id)?;
-    match serve_fetch(alloc, parts, shelf, &asked, &mut sink)? {
+    match serve_fetch(alloc, parts, shelf, has_starts, &asked, &mut sink)? {
         Fetching::Reply => Ok(finish(sink)),
         Fetching::Wait { deadline, keys } => Ok(Answer::Wait { deadline, keys }),
     }
@@ -110,11 +118,11 @@ fn serve_metadata<L: PartitionLog + Drop>(
 ) -> Result<Answer, ReadFault>
     requires { string.Fits node.now.host }
     ensures { (files : Files) → let w = world_of L.log parts.now files in
-        IsServed request.now.correlation_id (if_read w (whole metadata_request request.now.body.now) (of_metadata node.now w)) w [] result }
+        IsServed request.now.correlation_id (if_read w (asked_metadata request.now.api_version request.now.body.now) (of_metadata node.now request.now.api_version w)) w [] result }
 {
-    let asked = MetadataRequest::read(alloc, request.body)?;
+    let asked = read_metadata(alloc, request.api_version, request.body)?;
     let mut sink = begin(alloc, request.correlation_id)?;
-    metadata(parts, node, &asked, &mut sink)?;
+    metadata(parts, node, request.api_version, &asked, &mut sink)?;
     Ok(finish(sink))
 }
 
@@ -128,11 +136,16 @@ fn serve_create_topics<L: PartitionLog + Drop, S: Store>(
     requires { (scene L.log S.disk parts.old shelf.old).sound }
     ensures step { IsStep (scene L.log S.disk parts.old shelf.old) (scene L.log S.disk parts.new shelf.new) }
     ensures meets { let a = scene L.log S.disk parts.old shelf.old in let b = scene L.log S.disk parts.new shelf.new in
-        Meets a b (IsServed request.now.correlation_id (if_read a.state.world (whole create_topics_request request.now.body.now) (of_create_topics a.state.world)) b.state.world [] result) }
+        Meets a b (IsServed request.now.correlation_id (if_read a.state.world (asked_creations request.now.api_version request.now.body.now) (of_create_topics request.now.api_version a.state.world)) b.state.world [] result) }
 {
-    let asked = CreateTopicsRequest::read(alloc, request.body)?;
+    let version = request.api_version;
+    let asked = read_create_topics(alloc, version, request.body)?;
     let mut sink = begin(alloc, request.correlation_id)?;
-    create_topics(alloc, parts, shelf, &asked, &mut sink)?;
+    if asked.validate_only {
+        check_topics(alloc, parts, version, &asked, &mut sink)?;
+        return Ok(finish(sink));
+    }
+    create_topics(alloc, parts, shelf, version, &asked, &mut sink)?;
     Ok(finish(sink))
 }
 
@@ -148,11 +161,18 @@ fn serve_delete_topics<L: PartitionLog + Drop, S: Store>(
     requires sound { (scene L.log S.disk parts.old shelf.old).sound }
     ensures step { IsStep (scene L.log S.disk parts.old shelf.old) (scene L.log S.disk parts.new shelf.new) }
     ensures meets { let a = scene L.log S.disk parts.old shelf.old in let b = scene L.log S.disk parts.new shelf.new in
-        Meets a b (IsServed request.now.correlation_id (if_read a.state.world (whole delete_topics_request request.now.body.now) (of_delete_topics a.state.world)) b.state.world touched.new.items result) }
+        Meets a b (IsServed request.now.correlation_id (if_read a.state.world (whole delete_topics_request request.now.body.now) (of_delete_topics request.now.api_version a.state.world)) b.state.world touched.new.items result) }
 {
     let asked = DeleteTopicsRequest::read(alloc, request.body)?;
     let mut sink = begin(alloc, request.correlation_id)?;
-    delete_topics(parts, shelf, &asked, touched, &mut sink)?;
+    delete_topics(
+        parts,
+        shelf,
+        request.api_version,
+        &asked,
+        touched,
+        &mut sink,
+    )?;
     Ok(finish(sink))
 }
 
@@ -210,6 +230,8 @@ fn serve_by_key<L: PartitionLog + Drop, S: Store>(
     ensures step { IsStep (scene L.log S.disk parts.old shelf.old) (scene L.log S.disk parts.new shelf.new) }
     ensures meets { let a = scene L.log S.disk parts.old shelf.old in let b = scene L.log S.disk parts.new shelf.new in
         Meets a b (IsServed request.now.correlation_id (served node.now a.state.world request.now.connection request.now.api_key request.now.api_version request.now.body.now) b.state.world touched.new.items result) }
+    ensures acknowledged { let a = scene L.log S.disk parts.old shelf.old in let b = scene L.log S.disk parts.new shelf.new in
+        request.now.api_key ≡ pos 0 → IfOk result (λ answer. WhereHonest a b (Acknowledges request.now.correlation_id a.state.world request.now.body.now b.state.world touched.new.items answer)) }
 {
     match request.api_key {
         0 => serve_produce(alloc, parts, shelf, request, touched),
@@ -244,17 +266,25 @@ pub fn serve<L: PartitionLog + Drop, S: Store>(
     ensures step { IsStep (scene L.log S.disk parts.old shelf.old) (scene L.log S.disk parts.new shelf.new) }
     ensures meets { let a = scene L.log S.disk parts.old shelf.old in let b = scene L.log S.disk parts.new shelf.new in
         Meets a b (IsOutcome request.now.correlation_id (served node.now a.state.world request.now.connection request.now.api_key request.now.api_version request.now.body.now) b.state.world result.touched.items result.answer) }
+    // A batch of a Produce that is answered with no error is in its partition's log, whatever else was refused.
+    ensures acknowledged { let a = scene L.log S.disk parts.old shelf.old in let b = scene L.log S.disk parts.new shelf.new in
+        request.now.api_key ≡ pos 0 → WhereHonest a b (Acknowledges request.now.correlation_id a.state.world request.now.body.now b.state.world result.touched.items result.answer) }
 {
     let mut touched = Vec::new(alloc);
-    let answer = match serve_by_key(alloc, parts, shelf, node, request, &mut touched) {
-        Ok(answer) => answer,
-        Err(ReadFault::Wire(_)) => Answer::Shut,
+    match serve_by_key(alloc, parts, shelf, node, request, &mut touched) {
+        Ok(answer) => Served { answer, touched },
+        Err(ReadFault::Wire(_)) => Served {
+            answer: Answer::Shut,
+            touched,
+        },
         Err(ReadFault::Memory) => {
             parts.refuse();
-            Answer::Shut
+            Served {
+                answer: Answer::Shut,
+                touched,
+            }
         }
-    };
-    Served { answer, touched }
+    }
 }
 
 /// Looks at a fetch that waits until its deadline at most.
@@ -272,9 +302,18 @@ fn look_at<L: PartitionLog + Drop, S: Store>(
     ensures meets { let a = scene L.log S.disk parts.old shelf.old in let b = scene L.log S.disk parts.new shelf.new in
         Meets a b (IsServed wait.now.correlation_id (stays a.state.world (looked a.state.world wait.now.deadline wait.now.api_version wait.now.body.now)) b.state.world [] result) }
 {
-    let asked = FetchRequest::read(alloc, wait.body)?;
+    let has_starts = fetch::has_starts(wait.api_version);
+    let asked = read_request(alloc, has_starts, wait.body)?;
     let mut sink = begin(alloc, wait.correlation_id)?;
-    if fetch::look(alloc, parts, shelf, &asked, wait.deadline, &mut sink)? {
+    if fetch::look(
+        alloc,
+        parts,
+        shelf,
+        has_starts,
+        &asked,
+        wait.deadline,
+        &mut sink,
+    )? {
         return Ok(finish(sink));
     }
     Ok(Answer::NoReply)

@@ -1,8 +1,10 @@
-//! Fetch, version 4 (Kafka protocol guide): records from offsets on, at once or once there are enough.
+//! Fetch, versions 4 and 5 (Kafka protocol guide): records from offsets on, at once or once there are enough.
 
 mod given;
 mod now;
 mod partition;
+mod version;
 mod waiting;
 
+pub(crate) use version::{has_starts, read_request};
 pub(crate) use waiting::{Fetching, look, serve_fetch};

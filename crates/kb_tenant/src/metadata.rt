@@ -1,25 +1,85 @@
-//! Metadata: the broker, and topics with their partitions.
-ghost use Rattle.std.specs.Prelude.{◌≡◌, ◌++◌, ◌<◌, ◌^◌, [], ◌∷◌, OnOk, map, pos, Some, None};
+//! Metadata: the broker, and topics with their partitions. Versions 0 to 4 differ only in their layouts (Kafka protocol guide,
+//! "The Messages: Metadata"); any other version is answered as 1.
+ghost use Rattle.std.specs.Prelude.{◌≡◌, ◌++◌, ◌<◌, ◌^◌, [], ◌∷◌, List, IfOk, OnOk, map, pos, Some, None};
 ghost use Rattle.std.specs.List.{flat_map, range_with_len};
-ghost use Rattle.kb_api_data.specs.Layouts.{metadata_broker, metadata_partition, metadata_topic, metadata_request, metadata_reply};
+ghost use Rattle.kb_api_data.specs.Layouts.{metadata_broker, metadata_broker_v0, metadata_partition, metadata_request};
+ghost use Rattle.kb_api_data.specs.declared.metadata.MetadataTopic.{MetadataTopic};
 ghost use Rattle.kb_store.specs.Disk.{Files};
-ghost use Rattle.kb_wire.specs.Codec.{array, int32, string};
-ghost use Rattle.kb_tenant.specs.Metadata.{broker, partition_described, topic_described, topic_known, topic_asked, topics_asked, metadata_of};
+ghost use Rattle.kb_wire.specs.Codec.{array, int32, nullable_string, string};
+ghost use Rattle.kb_wire.specs.Reads.{ReadsWhole};
+ghost use Rattle.kb_tenant.specs.Metadata.{asked_metadata, broker, broker_v0, internal_in, metadata_in, metadata_of, partition_described, topic_asked, topic_described, topic_in, topic_known, topics_asked, topics_in};
 ghost use Rattle.kb_world.specs.Parts.{world_of};
 
 use crate::node::Node;
-use kb_api_data::{MetadataBroker, MetadataRequest};
+use kb_api_data::{
+    MetadataBroker, MetadataBrokerV0, MetadataRequest, MetadataRequestV0, MetadataRequestV4,
+};
 use kb_api_group::ErrorCode;
 use kb_log::PartitionLog;
 use kb_topics::{Topic, is_legal_name};
-use kb_wire::{Layout, Sink, Text};
+use kb_wire::{Layout, ReadFault, Sink, Text};
 use kb_world::Parts;
-use std::alloc::AllocError;
+use std::alloc::{AllocError, Global};
 
-/// Writes the one broker and the controller, which is that broker.
-fn put_node(node: &Node<'_>, sink: &mut Sink) -> Result<(), AllocError>
+/// The request that a body of version 0 spells. No topics mean all topics.
+#[tactic(auto, using(crate::proofs::Described::no_topics_fit, crate::proofs::Described::topics_fit_v0))]
+fn read_v0<'a>(alloc: Global, body: &'a [u8]) -> Result<MetadataRequest<'a>, ReadFault>
+    ensures exact { ReadsWhole (asked_metadata (pos 0) body.now) result }
+    ensures fits { IfOk result (λ r. metadata_request.Fits r) }
+{
+    let MetadataRequestV0 { topics } = MetadataRequestV0::read(alloc, body)?;
+    if topics.is_empty() {
+        return Ok(MetadataRequest { topics: None });
+    }
+    Ok(MetadataRequest {
+        topics: Some(topics),
+    })
+}
+
+/// The request that a body of version 4 spells. No topic is made, whatever it allows.
+#[tactic(auto, using(crate::proofs::Described::topics_fit_v4))]
+fn read_v4<'a>(alloc: Global, body: &'a [u8]) -> Result<MetadataRequest<'a>, ReadFault>
+    ensures exact { ReadsWhole (asked_metadata (pos 4) body.now) result }
+    ensures fits { IfOk result (λ r. metadata_request.Fits r) }
+{
+    let MetadataRequestV4 { topics, .. } = MetadataRequestV4::read(alloc, body)?;
+    Ok(MetadataRequest { topics })
+}
+
+/// The request that a body spells in a version.
+pub fn read_metadata<'a>(
+    alloc: Global,
+    version: i16,
+    body: &'a [u8],
+) -> Result<MetadataRequest<'a>, ReadFault>
+    ensures exact { ReadsWhole (asked_metadata version body.now) result }
+    ensures fits { IfOk result (λ r. metadata_request.Fits r) }
+{
+    match version {
+        0 => read_v0(alloc, body),
+        4 => read_v4(alloc, body),
+        _ => MetadataRequest::read(alloc, body),
+    }
+}
+
+/// Writes the one broker by the layout of version 0.
+fn put_broker_v0(node: &Node<'_>, sink: &mut Sink) -> Result<(), AllocError>
     requires { string.Fits node.now.host }
-    ensures { OnOk result (sink.new.bytes ≡ sink.old.bytes ++ ((array metadata_broker).written (broker node.now ∷ []) ++ int32.written (pos 0))) }
+    ensures { OnOk result (sink.new.bytes ≡ sink.old.bytes ++ (array metadata_broker_v0).written (broker_v0 (broker node.now) ∷ [])) }
+{
+    sink.put_count(1)?;
+    let broker = MetadataBrokerV0 {
+        node_id: 0,
+        host: Text::new(node.host.as_str()),
+        port: i32::from(node.port),
+    };
+    broker.write(sink)
+}
+
+/// Writes the one broker.
+fn put_broker(node: &Node<'_>, sink: &mut Sink) -> Result<(), AllocError>
+    requires { string.Fits node.now.host }
+    ensures { OnOk result (sink.new.bytes ≡ sink.old.bytes ++ (array metadata_broker).written (broker node.now ∷ [])) }
 {
     sink.put_count(1)?;
     let broker = MetadataBroker {
@@ -28,8 +88,38 @@ fn put_node(node: &Node<'_>, sink: &mut Sink) -> Result<(), AllocError>
         port: i32::from(node.port),
         rack: None,
     };
-    broker.write(sink)?;
+    broker.write(sink)
+}
+
+/// Writes the one broker, the cluster's id, which is null, and the controller, which is that broker.
+fn put_cluster(node: &Node<'_>, sink: &mut Sink) -> Result<(), AllocError>
+    requires { string.Fits node.now.host }
+    ensures { OnOk result (sink.new.bytes ≡ sink.old.bytes ++ ((array metadata_broker).written (broker node.now ∷ []) ++ (nullable_string.written None ++ int32.written (pos 0)))) }
+{
+    put_broker(node, sink)?;
+    sink.put_nullable_string(&None)?;
     sink.put_i32(0)
+}
+
+/// Writes what stands before the topics.
+fn put_node(version: i16, node: &Node<'_>, sink: &mut Sink) -> Result<(), AllocError>
+    requires { string.Fits node.now.host }
+    // Topics behind it make the reply.
+    ensures { (topics : List MetadataTopic) → OnOk result (sink.new.bytes ++ topics_in version topics
+        ≡ sink.old.bytes ++ metadata_in version (record { brokers = broker node.now ∷ []; controller_id = pos 0; topics = topics })) }
+{
+    match version {
+        0 => put_broker_v0(node, sink),
+        2 => put_cluster(node, sink),
+        3 | 4 => {
+            sink.put_i32(0)?;
+            put_cluster(node, sink)
+        }
+        _ => {
+            put_broker(node, sink)?;
+            sink.put_i32(0)
+        }
+    }
 }
 
 /// Writes the brokers of a partition, which are the one broker.
@@ -63,34 +153,46 @@ fn put_partitions(partitions: usize, sink: &mut Sink) -> Result<(), AllocError>
     Ok(())
 }
 
+/// Writes that a topic is not internal, which version 0 does not tell.
+fn put_internal(version: i16, sink: &mut Sink) -> Result<(), AllocError>
+    ensures { OnOk result (sink.new.bytes ≡ sink.old.bytes ++ internal_in version) }
+{
+    if version == 0 {
+        return Ok(());
+    }
+    sink.put_boolean(false)
+}
+
 /// Writes a topic of that many partitions. More than an INT32 can count are refused as want of memory.
 fn put_topic(
+    version: i16,
     error_code: i16,
     name: &str,
     partitions: usize,
     sink: &mut Sink,
 ) -> Result<(), AllocError>
     requires { string.Fits name.now }
-    ensures { OnOk result (sink.new.bytes ≡ sink.old.bytes ++ metadata_topic.written (topic_described error_code name.now partitions)) }
+    ensures { OnOk result (sink.new.bytes ≡ sink.old.bytes ++ topic_in version (topic_described error_code name.now partitions)) }
 {
     if partitions > i32::MAX as usize {
         return Err(AllocError);
     }
     sink.put_i16(error_code)?;
     sink.put_string(name)?;
-    sink.put_boolean(false)?;
+    put_internal(version, sink)?;
     sink.put_count(partitions)?;
     put_partitions(partitions, sink)
 }
 
 /// Writes a topic that is there. A name that is longer than an INT16 can count is refused as want of memory.
-fn put_known(topic: &Topic, sink: &mut Sink) -> Result<(), AllocError>
-    ensures { OnOk result (sink.new.bytes ≡ sink.old.bytes ++ metadata_topic.written (topic_known topic.now)) }
+fn put_known(version: i16, topic: &Topic, sink: &mut Sink) -> Result<(), AllocError>
+    ensures { OnOk result (sink.new.bytes ≡ sink.old.bytes ++ topic_in version (topic_known topic.now)) }
 {
     if topic.name().len() > i16::MAX as usize {
         return Err(AllocError);
     }
     put_topic(
+        version,
         ErrorCode::None.code(),
         topic.name(),
         topic.partitions().len(),
@@ -101,43 +203,67 @@ fn put_known(topic: &Topic, sink: &mut Sink) -> Result<(), AllocError>
 /// Writes a topic that is asked by name.
 fn put_asked<L: PartitionLog + Drop>(
     parts: &Parts<L>,
+    version: i16,
     name: &str,
     sink: &mut Sink,
 ) -> Result<(), AllocError>
     requires { string.Fits name.now }
-    ensures { (files : Files) → OnOk result (sink.new.bytes ≡ sink.old.bytes ++ metadata_topic.written (topic_asked (world_of L.log parts.now files).known.topics name.now)) }
+    ensures { (files : Files) → OnOk result (sink.new.bytes ≡ sink.old.bytes ++ topic_in version (topic_asked (world_of L.log parts.now files).known.topics name.now)) }
 {
     if !is_legal_name(name) {
-        return put_topic(ErrorCode::InvalidTopic.code(), name, 0, sink);
+        return put_topic(version, ErrorCode::InvalidTopic.code(), name, 0, sink);
     }
     let Some(instance) = parts.topic_named(name) else {
-        return put_topic(ErrorCode::UnknownTopicOrPartition.code(), name, 0, sink);
+        return put_topic(
+            version,
+            ErrorCode::UnknownTopicOrPartition.code(),
+            name,
+            0,
+            sink,
+        );
     };
     let Some(topic) = parts.topic(instance) else {
-        return put_topic(ErrorCode::UnknownTopicOrPartition.code(), name, 0, sink);
+        return put_topic(
+            version,
+            ErrorCode::UnknownTopicOrPartition.code(),
+            name,
+            0,
+            sink,
+        );
     };
-    put_topic(ErrorCode::None.code(), name, topic.partitions().len(), sink)
+    put_topic(
+        version,
+        ErrorCode::None.code(),
+        name,
+        topic.partitions().len(),
+        sink,
+    )
 }
 
 /// Writes the topics that are asked, in their order.
 fn put_all_asked<L: PartitionLog + Drop>(
     parts: &Parts<L>,
+    version: i16,
     names: &[Text<'_>],
     sink: &mut Sink,
 ) -> Result<(), AllocError>
     requires { (array string).Fits names.now }
-    ensures { (files : Files) → OnOk result (sink.new.bytes ≡ sink.old.bytes ++ (array metadata_topic).written (topics_asked (world_of L.log parts.now files).known.topics (Some names.now))) }
+    ensures { (files : Files) → OnOk result (sink.new.bytes ≡ sink.old.bytes ++ topics_in version (topics_asked (world_of L.log parts.now files).known.topics (Some names.now))) }
 {
     sink.put_count(names.len())?;
     for name in names {
-        put_asked(parts, name.as_str(), sink)?;
+        put_asked(parts, version, name.as_str(), sink)?;
     }
     Ok(())
 }
 
 /// Writes all topics, in byte order of their names. More than an INT32 can count are refused as want of memory.
-fn put_all<L: PartitionLog + Drop>(parts: &Parts<L>, sink: &mut Sink) -> Result<(), AllocError>
-    ensures { (files : Files) → OnOk result (sink.new.bytes ≡ sink.old.bytes ++ (array metadata_topic).written (topics_asked (world_of L.log parts.now files).known.topics None)) }
+fn put_all<L: PartitionLog + Drop>(
+    parts: &Parts<L>,
+    version: i16,
+    sink: &mut Sink,
+) -> Result<(), AllocError>
+    ensures { (files : Files) → OnOk result (sink.new.bytes ≡ sink.old.bytes ++ topics_in version (topics_asked (world_of L.log parts.now files).known.topics None)) }
 {
     let count = parts.topics().count();
     if count > i32::MAX as usize {
@@ -145,27 +271,28 @@ fn put_all<L: PartitionLog + Drop>(parts: &Parts<L>, sink: &mut Sink) -> Result<
     }
     sink.put_count(count)?;
     for (_, topic) in parts.topics() {
-        put_known(topic, sink)?;
+        put_known(version, topic, sink)?;
     }
     Ok(())
 }
 
-/// Serves Metadata: writes the reply behind what the sink has.
+/// Serves Metadata: writes the reply of a version behind what the sink has.
 ///
 /// An `Err`, which is want of memory for the reply, leaves a part of it written.
 pub fn metadata<L: PartitionLog + Drop>(
     parts: &Parts<L>,
     node: &Node<'_>,
+    version: i16,
     request: &MetadataRequest<'_>,
     sink: &mut Sink,
 ) -> Result<(), AllocError>
     requires host { string.Fits node.now.host }
     requires fits { metadata_request.Fits request.now }
-    ensures { (files : Files) → OnOk result (sink.new.bytes ≡ sink.old.bytes ++ metadata_reply.written (metadata_of (world_of L.log parts.now files) node.now request.now)) }
+    ensures { (files : Files) → OnOk result (sink.new.bytes ≡ sink.old.bytes ++ metadata_in version (metadata_of (world_of L.log parts.now files) node.now request.now)) }
 {
-    put_node(node, sink)?;
+    put_node(version, node, sink)?;
     match &request.topics {
-        None => put_all(parts, sink),
-        Some(names) => put_all_asked(parts, names.as_slice(), sink),
+        None => put_all(parts, version, sink),
+        Some(names) => put_all_asked(parts, version, names.as_slice(), sink),
     }
 }

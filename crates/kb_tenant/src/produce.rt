@@ -1,10 +1,16 @@
 //! Produce (Kafka protocol guide, "The Messages: Produce").
-ghost use Rattle.std.specs.Prelude.{◌≡◌, ◌++◌, OnOk};
+ghost use Rattle.std.specs.Prelude.{◌≡◌, ◌++◌, List, OnOk};
+ghost use Rattle.std.specs.List.{flat_map};
+ghost use Rattle.kb_api_data.specs.declared.produce.ProducePartitionReply.{ProducePartitionReply};
+ghost use Rattle.kb_api_data.specs.declared.produce.ProduceReply.{ProduceReply};
+ghost use Rattle.kb_api_data.specs.declared.produce.ProduceTopicReply.{ProduceTopicReply};
+ghost use Rattle.kb_partitions.specs.Scene.{WhereHonest};
 ghost use Rattle.kb_api_data.specs.Layouts.{produce_request, produce_topic, produce_partition_reply, produce_topic_reply};
 ghost use Rattle.kb_world.specs.Parts.{scene};
 ghost use Rattle.kb_tenant.specs.Produce.{progress, refusal_of as refusal_for, is_due, served, served_topic, produced, where_due, written_next, reply_bytes};
 ghost use Rattle.kb_world.specs.Steps.{IsStep, Meets};
-ghost use Rattle.kb_tenant.specs.Turns.{in_turn, written_behind};
+ghost use Rattle.kb_tenant.specs.Told.{IsEntryTold, IsProduceTold, IsTopicTold};
+ghost use Rattle.kb_tenant.specs.Turns.{in_turn, written_behind, AreServed};
 
 mod batch;
 mod entry;
@@ -65,6 +71,9 @@ fn serve_entries<L: PartitionLog + Drop, S: Store>(
     ensures step { IsStep (scene L.log S.disk parts.old shelf.old) (scene L.log S.disk parts.new shelf.new) }
     ensures meets { OnOk result (let a = scene L.log S.disk parts.old shelf.old in let b = scene L.log S.disk parts.new shelf.new in
         Meets a b ((progress b.state.world touched.new.items, sink.new.bytes) ≡ written_behind (λ x. where_due terms.due (produce_partition_reply.written x)) sink.old.bytes (in_turn (served terms.refusal topic) (progress a.state.world touched.old.items) entries.now))) }
+    ensures told { OnOk result (let a = scene L.log S.disk parts.old shelf.old in let b = scene L.log S.disk parts.new shelf.new in
+        WhereHonest a b ((replies : List ProducePartitionReply) × ((sink.new.bytes ≡ sink.old.bytes ++ flat_map (λ x. where_due terms.due (produce_partition_reply.written x)) replies)
+        × AreServed (IsEntryTold terms.refusal topic) (progress a.state.world touched.old.items) entries.now (progress b.state.world touched.new.items) replies))) }
 {
     for entry in entries {
         let reply = serve_entry(parts, shelf, terms.refusal, topic, entry, touched);
@@ -87,6 +96,9 @@ fn serve_topic<L: PartitionLog + Drop, S: Store>(
     ensures step { IsStep (scene L.log S.disk parts.old shelf.old) (scene L.log S.disk parts.new shelf.new) }
     ensures meets { OnOk result (let a = scene L.log S.disk parts.old shelf.old in let b = scene L.log S.disk parts.new shelf.new in
         Meets a b ((progress b.state.world touched.new.items, sink.new.bytes) ≡ written_next (λ x. where_due terms.due (produce_topic_reply.written x)) sink.old.bytes (served_topic terms.refusal (progress a.state.world touched.old.items) topic.now))) }
+    ensures told { OnOk result (let a = scene L.log S.disk parts.old shelf.old in let b = scene L.log S.disk parts.new shelf.new in
+        WhereHonest a b ((reply : ProduceTopicReply) × ((sink.new.bytes ≡ sink.old.bytes ++ where_due terms.due (produce_topic_reply.written reply))
+        × IsTopicTold terms.refusal (progress a.state.world touched.old.items) topic.now (progress b.state.world touched.new.items) reply))) }
 {
     put_string(terms.due, topic.name.as_str(), sink)?;
     put_count(terms.due, topic.partitions.len(), sink)?;
@@ -119,6 +131,9 @@ pub(crate) fn produce<L: PartitionLog + Drop, S: Store>(
     ensures meets { OnOk result (let a = scene L.log S.disk parts.old shelf.old in let b = scene L.log S.disk parts.new shelf.new in
         let r = produced a.state.world touched.old.items request.now in
         Meets a b ((b.state.world ≡ r.0.world) × (touched.new.items ≡ r.0.touched) × (sink.new.bytes ≡ sink.old.bytes ++ reply_bytes request.now.acks r.1))) }
+    ensures told { OnOk result (let a = scene L.log S.disk parts.old shelf.old in let b = scene L.log S.disk parts.new shelf.new in
+        WhereHonest a b ((reply : ProduceReply) × ((sink.new.bytes ≡ sink.old.bytes ++ reply_bytes request.now.acks reply)
+        × IsProduceTold (progress a.state.world touched.old.items) request.now (progress b.state.world touched.new.items) reply))) }
 {
     let terms = terms_of(request);
     put_count(terms.due, request.topics.len(), sink)?;

@@ -1,8 +1,6 @@
 //! Laws about the definitions, each as the contract of a function with an empty body.
 ghost use Rattle.std.specs.Prelude.{◌≡◌, ◌<◌, ℕ, ℤ, pos, List, Option, Ok, None};
 ghost use Rattle.std.specs.List.{Contains};
-ghost use Rattle.kb_wire.specs.Codec.{whole};
-ghost use Rattle.kb_api_data.specs.Layouts.{fetch_request};
 ghost use Rattle.kb_api_data.specs.declared.fetch.FetchRequest.{FetchRequest};
 ghost use Rattle.kb_api_group.specs.declared.offset_commit.OffsetCommitRequest.{OffsetCommitRequest};
 ghost use Rattle.kb_world.specs.Tied.{IsTied};
@@ -10,7 +8,7 @@ ghost use Rattle.kb_world.specs.World.{World, new_world};
 ghost use Rattle.kb_world.specs.Calls.{at_clock, retain, retain_all};
 ghost use Rattle.kb_world.specs.declared.place.Place.{Place};
 ghost use Rattle.kb_tenant.specs.Batches.{HasSmallLogs, HoldsBatches};
-ghost use Rattle.kb_tenant.specs.Fetch.{fetch_answer, places_of};
+ghost use Rattle.kb_tenant.specs.Fetch.{asked_fetch, fetch_answer, places_of};
 ghost use Rattle.kb_tenant.specs.OffsetCommit.{committed_all};
 ghost use Rattle.kb_tenant.specs.Replies.{Replies};
 ghost use Rattle.kb_tenant.specs.Serve.{served, looked};
@@ -72,7 +70,7 @@ pub fn retention_again()
     ensures { (w : World) (r : FetchRequest) → places_of (retain_all w).0 r ≡ places_of w r }
 {}
 
-/// The ends and the batches of a world's logs are within their limits from the start on, whatever is asked, committed, dropped by
+/// The bounds and the batches of a world's logs are within their limits from the start on, whatever is asked, committed, dropped by
 /// retention, or the time.
 pub fn logs_stay_small()
     ensures begun { (clock : ℕ) → HasSmallLogs (at_clock new_world clock) }
@@ -84,10 +82,10 @@ pub fn logs_stay_small()
 
 /// What a fetch is answered, at once (its key is 1) or after a wait: the one reply that the bytes spell, in which each partition
 /// without an error gives whole batches of its log as it is at that moment, one after the other, from the one that holds the
-/// asked offset.
+/// asked offset, and from version 5 on tells where that log starts.
 pub fn fetches_give_whole_batches()
-    ensures served { (node : Node) (w : World) (n : ℕ) (version : ℤ) (body bytes : List ℕ) (r : FetchRequest) → HasSmallLogs w → whole fetch_request body ≡ Ok r
-        → (served node w n (pos 1) version body).reaction ≡ Replies bytes → HoldsBatches w r bytes }
-    ensures looked { (w : World) (deadline : ℕ) (version : ℤ) (body bytes : List ℕ) (r : FetchRequest) → HasSmallLogs w → whole fetch_request body ≡ Ok r
-        → looked w deadline version body ≡ Replies bytes → HoldsBatches w r bytes }
+    ensures served { (node : Node) (w : World) (n : ℕ) (version : ℤ) (body bytes : List ℕ) (r : FetchRequest) → HasSmallLogs w → asked_fetch version body ≡ Ok r
+        → (served node w n (pos 1) version body).reaction ≡ Replies bytes → HoldsBatches version w r bytes }
+    ensures looked { (w : World) (deadline : ℕ) (version : ℤ) (body bytes : List ℕ) (r : FetchRequest) → HasSmallLogs w → asked_fetch version body ≡ Ok r
+        → looked w deadline version body ≡ Replies bytes → HoldsBatches version w r bytes }
 {}

@@ -1,8 +1,7 @@
 //! A whole fetch, answered with what there is.
 ghost use Rattle.std.specs.Prelude.{◌≡◌, ◌++◌, IfOk, OnOk, All};
-ghost use Rattle.kb_api_data.specs.Layouts.{fetch_partition_reply, fetch_reply, fetch_request, fetch_topic};
-ghost use Rattle.kb_api_data.specs.Layouts.{fetch_topic_reply};
-ghost use Rattle.kb_tenant.specs.Fetch.{answered, answered_topic, fetched};
+ghost use Rattle.kb_api_data.specs.Layouts.{fetch_request, fetch_topic};
+ghost use Rattle.kb_tenant.specs.Fetch.{answered, answered_topic, fetched, partition_written, reply_written, topic_written};
 ghost use Rattle.kb_world.specs.Parts.{scene};
 ghost use Rattle.kb_world.specs.Steps.{IsStep, Meets};
 ghost use Rattle.kb_tenant.specs.Turns.{in_turn, written_behind};
@@ -16,11 +15,12 @@ use kb_wire::Sink;
 use kb_world::Parts;
 use std::alloc::{AllocError, Global};
 
-/// Answers a topic's entries in order.
+/// Answers a topic's entries in order. Here and below the reply is written with the starts of the logs, or without them.
 fn put_partitions<L: PartitionLog + Drop, S: Store>(
     alloc: Global,
     parts: &mut Parts<L>,
     shelf: &mut Shelf<S>,
+    has_starts: bool,
     topic: Option<u64>,
     entries: &[FetchPartition],
     given: &mut Given,
@@ -32,11 +32,11 @@ fn put_partitions<L: PartitionLog + Drop, S: Store>(
         b.disk.honest → a.agrees → b.state.world ≡ a.state.world }
     ensures meets { let a = scene L.log S.disk parts.old shelf.old in
         OnOk result (Meets a (scene L.log S.disk parts.new shelf.new)
-        ((given.new, sink.new.bytes) ≡ written_behind fetch_partition_reply.written sink.old.bytes
+        ((given.new, sink.new.bytes) ≡ written_behind (partition_written has_starts) sink.old.bytes
         (in_turn (answered a.state.world topic) given.old entries.now))) }
 {
     for entry in entries {
-        put_partition(alloc, parts, shelf, topic, entry, given, sink)?;
+        put_partition(alloc, parts, shelf, has_starts, topic, entry, given, sink)?;
     }
     Ok(())
 }
@@ -46,6 +46,7 @@ fn put_topic<L: PartitionLog + Drop, S: Store>(
     alloc: Global,
     parts: &mut Parts<L>,
     shelf: &mut Shelf<S>,
+    has_starts: bool,
     topic: &FetchTopic<'_>,
     given: &mut Given,
     sink: &mut Sink,
@@ -58,7 +59,7 @@ fn put_topic<L: PartitionLog + Drop, S: Store>(
     ensures meets { let a = scene L.log S.disk parts.old shelf.old in
         let r = answered_topic a.state.world given.old topic.now in
         OnOk result (Meets a (scene L.log S.disk parts.new shelf.new)
-        ((given.new ≡ r.0) × (sink.new.bytes ≡ sink.old.bytes ++ fetch_topic_reply.written r.1))) }
+        ((given.new ≡ r.0) × (sink.new.bytes ≡ sink.old.bytes ++ topic_written has_starts r.1))) }
 {
     let name = topic.topic.as_str();
     sink.put_string(name)?;
@@ -68,6 +69,7 @@ fn put_topic<L: PartitionLog + Drop, S: Store>(
         alloc,
         parts,
         shelf,
+        has_starts,
         instance,
         topic.partitions.as_slice(),
         given,
@@ -80,6 +82,7 @@ fn put_topics<L: PartitionLog + Drop, S: Store>(
     alloc: Global,
     parts: &mut Parts<L>,
     shelf: &mut Shelf<S>,
+    has_starts: bool,
     topics: &[FetchTopic<'_>],
     given: &mut Given,
     sink: &mut Sink,
@@ -91,11 +94,11 @@ fn put_topics<L: PartitionLog + Drop, S: Store>(
         b.disk.honest → a.agrees → b.state.world ≡ a.state.world }
     ensures meets { let a = scene L.log S.disk parts.old shelf.old in
         OnOk result (Meets a (scene L.log S.disk parts.new shelf.new)
-        ((given.new, sink.new.bytes) ≡ written_behind fetch_topic_reply.written sink.old.bytes
+        ((given.new, sink.new.bytes) ≡ written_behind (topic_written has_starts) sink.old.bytes
         (in_turn (answered_topic a.state.world) given.old topics.now))) }
 {
     for topic in topics {
-        put_topic(alloc, parts, shelf, topic, given, sink)?;
+        put_topic(alloc, parts, shelf, has_starts, topic, given, sink)?;
     }
     Ok(())
 }
@@ -107,6 +110,7 @@ pub(crate) fn fetch_now<L: PartitionLog + Drop, S: Store>(
     alloc: Global,
     parts: &mut Parts<L>,
     shelf: &mut Shelf<S>,
+    has_starts: bool,
     request: &FetchRequest<'_>,
     sink: &mut Sink,
 ) -> Result<Given, AllocError>
@@ -118,7 +122,7 @@ pub(crate) fn fetch_now<L: PartitionLog + Drop, S: Store>(
     ensures meets { let a = scene L.log S.disk parts.old shelf.old in
         let r = fetched a.state.world request.now in
         IfOk result (λ given. Meets a (scene L.log S.disk parts.new shelf.new)
-        ((given ≡ r.0) × (sink.new.bytes ≡ sink.old.bytes ++ fetch_reply.written r.1))) }
+        ((given ≡ r.0) × (sink.new.bytes ≡ sink.old.bytes ++ reply_written has_starts r.1))) }
 {
     let mut given = Given::begun(request);
     sink.put_i32(0)?;
@@ -127,6 +131,7 @@ pub(crate) fn fetch_now<L: PartitionLog + Drop, S: Store>(
         alloc,
         parts,
         shelf,
+        has_starts,
         request.topics.as_slice(),
         &mut given,
         sink,

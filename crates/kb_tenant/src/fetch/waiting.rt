@@ -74,6 +74,7 @@ pub(crate) fn look<L: PartitionLog + Drop, S: Store>(
     alloc: Global,
     parts: &mut Parts<L>,
     shelf: &mut Shelf<S>,
+    has_starts: bool,
     request: &FetchRequest<'_>,
     deadline: u64,
     sink: &mut Sink,
@@ -85,10 +86,10 @@ pub(crate) fn look<L: PartitionLog + Drop, S: Store>(
         b.disk.honest → a.agrees → b.state.world ≡ a.state.world }
     ensures meets { let a = scene L.log S.disk parts.old shelf.old in
         IfOk result (λ done. Meets a (scene L.log S.disk parts.new shelf.new)
-        ((done, sink.new.bytes) ≡ looked sink.old.bytes (fetch_answer a.state.world request.now deadline))) }
+        ((done, sink.new.bytes) ≡ looked has_starts sink.old.bytes (fetch_answer a.state.world request.now deadline))) }
 {
     let before = sink.len();
-    let given = fetch_now(alloc, parts, shelf, request, sink)?;
+    let given = fetch_now(alloc, parts, shelf, has_starts, request, sink)?;
     if given.is_ready(parts.clock(), deadline) {
         return Ok(true);
     }
@@ -103,6 +104,7 @@ pub(crate) fn serve_fetch<L: PartitionLog + Drop, S: Store>(
     alloc: Global,
     parts: &mut Parts<L>,
     shelf: &mut Shelf<S>,
+    has_starts: bool,
     request: &FetchRequest<'_>,
     sink: &mut Sink,
 ) -> Result<Fetching, AllocError>
@@ -113,12 +115,12 @@ pub(crate) fn serve_fetch<L: PartitionLog + Drop, S: Store>(
         b.disk.honest → a.agrees → b.state.world ≡ a.state.world }
     ensures meets { let a = scene L.log S.disk parts.old shelf.old in
         IfOk result (λ served. Meets a (scene L.log S.disk parts.new shelf.new)
-        (IsServed a.state.world request.now
+        (IsServed has_starts a.state.world request.now
         (fetch_answer a.state.world request.now (deadline_of a.state.world request.now))
         sink.old.bytes served sink.new.bytes)) }
 {
     let deadline = deadline(parts, request);
-    if look(alloc, parts, shelf, request, deadline, sink)? {
+    if look(alloc, parts, shelf, has_starts, request, deadline, sink)? {
         return Ok(Fetching::Reply);
     }
     Ok(Fetching::Wait {

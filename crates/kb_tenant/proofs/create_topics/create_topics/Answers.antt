@@ -1,16 +1,17 @@
-use Rattle.std.proofs.Common.{◌≡◌, ◌∙◌, ◌++◌, sym, ap, refl, subst, w16, List}
+use mir.Val.{to_z, of_z}
+use Rattle.std.proofs.Common.{◌≡◌, ◌∙◌, ◌++◌, sym, ap, subst, w16, List}
 use Rattle.std.proofs.lemmas.Int.{to_z-of_z}
 use Rattle.kb_wire.specs.Codec.{array}
-use Rattle.kb_api_data.specs.Layouts.{create_topic, create_topic_reply, create_topics_reply}
+use Rattle.kb_api_data.specs.Layouts.{create_topic}
 use Rattle.kb_api_data.specs.declared.create_topics.CreateTopic.{CreateTopic}
 use Rattle.kb_partitions.specs.Scene.{Scene}
-use Rattle.kb_tenant.specs.CreateTopics.{created_topic, stands_twice}
+use Rattle.kb_tenant.specs.CreateTopics.{created_topic, creations_in, stands_twice}
 use Rattle.kb_world.specs.Parts.{Seen, scene}
 use Rattle.kb_world.specs.Steps.{step_then, meets_then, meets_so}
 use Rattle.kb_tenant.specs.Turns.{in_turn}
 use Rattle.kb_world.specs.World.{World}
-use Rattle.kb_tenant.proofs.Creating.{created_is, created_fits, topics_fit, reply_written}
-use Rattle.kb_tenant.proofs.Replies.{entry_next, entries_over, count_fits, item_fits}
+use Rattle.kb_tenant.proofs.Creating.{answer_next, answers_over, created_is, name_fits, topics_fit}
+use Rattle.kb_tenant.proofs.Replies.{count_fits, item_fits}
 use Rattle.kb_tenant.proofs.create_topics.create_topics.Goals as goal
 
 pub put_count-requires : goal.put_count-requires
@@ -18,20 +19,20 @@ put_count-requires g c =
     let fits = subst (array create_topic).Fits (sym c.as_slice-topics.ensures) (topics_fit c.args.request.now c.requires.fits) in
     count_fits create_topic c.as_slice-topics.result.now fits
 
-pub write-requires : goal.write-requires
-write-requires g c =
+pub put_answer-requires : goal.put_answer-requires
+put_answer-requires g c =
     let fits = subst (array create_topic).Fits (sym c.as_slice-topics.ensures) (topics_fit c.args.request.now c.requires.fits) in
     let t = c.topic-item.result in
-    λ k. ((refl, tt), created_fits t _ _ (c.new.ensures ∙ c.as_str-name.ensures) (item_fits create_topic c.as_slice-topics.result.now c.loop-topic.topic-index t c.loop-topic-test.true c.topic-item.is fits))
+    name_fits t c.as_str-name.result.now c.as_str-name.ensures (item_fits create_topic c.as_slice-topics.result.now c.loop-topic.topic-index t c.loop-topic-test.true c.topic-item.is fits)
 
-pub returns-in_err-write-clause-step : goal.returns-in_err-write-clause-step
-returns-in_err-write-clause-step g c =
+pub returns-in_err-put_answer-clause-step : goal.returns-in_err-put_answer-clause-step
+returns-in_err-put_answer-clause-step g c =
     let log = g.L.PartitionLog.log in
     let disk = g.S.Store.disk in
     let a : Scene Seen = scene log disk c.args.parts.now c.args.shelf.now in
     let b : Scene Seen = scene log disk c.loop-topic.parts c.loop-topic.shelf in
-    let d : Scene Seen = scene log disk c.create_topic.new.parts c.create_topic.new.shelf in
-    step_then a b d c.loop-topic.invariant.step c.create_topic.ensures.step
+    let d : Scene Seen = scene log disk c.create_topic-error_code.new.parts c.create_topic-error_code.new.shelf in
+    step_then a b d c.loop-topic.invariant.step c.create_topic-error_code.ensures.step
 
 pub loop-topic-preserved : goal.loop-topic-preserved
 loop-topic-preserved g c =
@@ -39,17 +40,17 @@ loop-topic-preserved g c =
     let disk = g.S.Store.disk in
     let a : Scene Seen = scene log disk c.args.parts.now c.args.shelf.now in
     let b : Scene Seen = scene log disk c.loop-topic.parts c.loop-topic.shelf in
-    let d : Scene Seen = scene log disk c.create_topic.new.parts c.create_topic.new.shelf in
+    let d : Scene Seen = scene log disk c.create_topic-error_code.new.parts c.create_topic-error_code.new.shelf in
     let ts = c.as_slice-topics.result.now in
     let t = c.topic-item.result in
     let i = c.loop-topic.topic-index in
     let again = c.contains.ensures ∙ c.in_ok-repeated.ensures c.as_str-name.result.now ∙ ap (λ n. stands_twice n ts) c.as_str-name.ensures in
-    let sent = to_z-of_z w16 c.create_topic.result (record { sfits = c.create_topic.type_inv }) in
+    let sent = to_z-of_z w16 c.create_topic-error_code.result (record { sfits = c.create_topic-error_code.type_inv }) in
     record {
-      step = step_then a b d c.loop-topic.invariant.step c.create_topic.ensures.step;
-      told = meets_so a d _ _ (λ both. entry_next create_topic_reply (created_topic ts) c.loop-topic.sink.bytes c.write.new.sink.bytes b.state.world d.state.world _ ts i t _ c.loop-topic-test.true c.topic-item.is c.in_ok-write.ensures.ok
-          (created_is b.state.world d.state.world ts t c.new.result c.contains.result c.create_topic.result _ (c.new.ensures ∙ c.as_str-name.ensures) again both.1 sent) both.0)
-          (meets_then a b d _ _ c.loop-topic.invariant.step c.create_topic.ensures.step c.loop-topic.invariant.told c.create_topic.ensures.meets);
+      step = step_then a b d c.loop-topic.invariant.step c.create_topic-error_code.ensures.step;
+      told = meets_so a d _ _ (λ both. answer_next (to_z w16 (of_z w16 c.args.version)) (created_topic ts) c.loop-topic.sink.bytes c.put_answer.new.sink.bytes b.state.world d.state.world _ ts i t _ c.loop-topic-test.true c.topic-item.is c.in_ok-put_answer.ensures
+          (created_is b.state.world d.state.world ts t c.as_str-name.result.now c.contains.result c.create_topic-error_code.result _ c.as_str-name.ensures again both.1 sent) both.0)
+          (meets_then a b d _ _ c.loop-topic.invariant.step c.create_topic-error_code.ensures.step c.loop-topic.invariant.told c.create_topic-error_code.ensures.meets);
     }
 
 pub returns-clause-meets : goal.returns-clause-meets
@@ -63,7 +64,6 @@ returns-clause-meets g c = λ honest agrees calm.
     let end = c.loop-topic.sink.bytes in
     let w : World = a.state.world in
     let v : World = b.state.world in
-    let over = entries_over create_topic_reply (created_topic ts) start c.put_count.new.self.bytes end w v ts c.loop-topic.topic-index c.loop-topic-test.false c.in_ok-put_count.ensures.ok (c.loop-topic.invariant.told honest agrees calm) in
-    let whole : (v ≡ (in_turn (created_topic ts) w ts).0) × (end ≡ start ++ create_topics_reply.written (record { topics = (in_turn (created_topic ts) w ts).1 })) =
-    (over.0, over.1 ∙ ap (λ r. start ++ r) (reply_written (in_turn (created_topic ts) w ts).1)) in
-    subst (λ (xs : List CreateTopic). let r = in_turn (created_topic xs) w xs in (v ≡ r.0) × (end ≡ start ++ create_topics_reply.written (record { topics = r.1 }))) c.as_slice-topics.ensures whole
+    let same = to_z-of_z w16 c.args.version c.ranges.version in
+    let over = answers_over c.args.version (to_z w16 (of_z w16 c.args.version)) (created_topic ts) start c.put_count.new.self.bytes end w v ts c.loop-topic.topic-index same c.loop-topic-test.false c.in_ok-put_count.ensures.ok (c.loop-topic.invariant.told honest agrees calm) in
+    subst (λ (xs : List CreateTopic). let r = in_turn (created_topic xs) w xs in (v ≡ r.0) × (end ≡ start ++ creations_in c.args.version (record { topics = r.1 }))) c.as_slice-topics.ensures over

@@ -1,6 +1,5 @@
 use Rattle.std.proofs.Common.{◌≡◌, drop}
-use Rattle.kb_api_data.specs.Layouts.{create_topic_reply}
-use Rattle.kb_tenant.specs.CreateTopics.{created_topic}
+use Rattle.kb_tenant.specs.CreateTopics.{created_topic, creation_in}
 use Rattle.kb_world.specs.Parts.{scene}
 use Rattle.kb_world.specs.Steps.{IsStep, Meets}
 use Rattle.kb_tenant.specs.Turns.{in_turn, written_behind}
@@ -12,7 +11,8 @@ invariant-loop-topic g l =
     let a = scene g.L.PartitionLog.log g.S.Store.disk l.initial.parts l.initial.shelf in
     let b = scene g.L.PartitionLog.log g.S.Store.disk l.parts l.shelf in
     let f = created_topic l.topics in
+    let write = creation_in l.version in
     record {
       step : IsStep a b;
-      told : Meets a b (written_behind create_topic_reply.written l.sink.bytes (in_turn f b.state.world (drop l.topic-index l.topics)) ≡ written_behind create_topic_reply.written l.initial.sink.bytes (in_turn f a.state.world l.topics));
+      told : Meets a b (written_behind write l.sink.bytes (in_turn f b.state.world (drop l.topic-index l.topics)) ≡ written_behind write l.initial.sink.bytes (in_turn f a.state.world l.topics));
     }

@@ -1,11 +1,12 @@
 use Rattle.std.proofs.Common.{◌≡◌, ◌∙◌, ◌++◌, sym, ap, refl, subst, w16, ℕ, List}
 use Rattle.std.proofs.lemmas.Int.{to_z-of_z}
+use Rattle.std.proofs.Math.Seq.{take-length}
 use Rattle.kb_wire.specs.Codec.{string, array}
-use Rattle.kb_api_data.specs.Layouts.{delete_topic_reply, delete_topics_reply}
+use Rattle.kb_api_data.specs.Layouts.{delete_topic_reply}
 use Rattle.kb_partitions.specs.Scene.{Scene}
-use Rattle.kb_tenant.specs.DeleteTopics.{deleted_topic}
+use Rattle.kb_tenant.specs.DeleteTopics.{deleted_topic, deletions_in, throttle_in}
 use Rattle.kb_world.specs.Parts.{Seen, scene}
-use Rattle.kb_world.specs.Steps.{step_then, meets_then, meets_so}
+use Rattle.kb_world.specs.Steps.{step_same, step_then, meets_then, meets_so}
 use Rattle.kb_tenant.specs.Turns.{in_turn}
 use Rattle.kb_world.specs.World.{World}
 use Rattle.kb_world.specs.declared.place.Place.{Place}
@@ -43,6 +44,13 @@ pub returns-in_err-write-clause-kept : goal.returns-in_err-write-clause-kept
 returns-in_err-write-clause-kept g c =
     kept_more c.args.touched.now.items c.loop-name.touched.items c.delete_topic.new.touched.items _ (c.delete_topic.ensures.told (g.S.Store.disk c.loop-name.shelf.store).files) c.loop-name.invariant.kept
 
+pub loop-name-init : goal.loop-name-init
+loop-name-init g c = record {
+  step = step_same (scene g.L.PartitionLog.log g.S.Store.disk c.args.parts.now c.args.shelf.now) c.requires.sound;
+  kept = take-length c.args.touched.now.items;
+  told = λ honest agrees calm. refl;
+}
+
 pub loop-name-preserved : goal.loop-name-preserved
 loop-name-preserved g c =
     let log = g.L.PartitionLog.log in
@@ -72,11 +80,13 @@ returns-clause-meets g c = λ honest agrees calm.
     let b : Scene Seen = scene log disk c.loop-name.parts c.loop-name.shelf in
     let names = c.as_slice-names.result.now in
     let start = c.args.sink.now.bytes in
+    let head = c.put_throttle.new.sink.bytes in
     let end = c.loop-name.sink.bytes in
     let s : World × List Place = (a.state.world, c.args.touched.now.items) in
     let t : World × List Place = (b.state.world, c.loop-name.touched.items) in
-    let over = entries_over delete_topic_reply deleted_topic start c.put_count.new.self.bytes end s t names c.loop-name.name-index c.loop-name-test.false c.in_ok-put_count.ensures.ok (c.loop-name.invariant.told honest agrees calm) in
+    let over = entries_over delete_topic_reply deleted_topic head c.put_count.new.self.bytes end s t names c.loop-name.name-index c.loop-name-test.false c.in_ok-put_count.ensures.ok (c.loop-name.invariant.told honest agrees calm) in
     let world : t.0 ≡ (in_turn deleted_topic s names).0.0 = ap (λ (x : World × List Place). x.0) over.0 in
     let touched : t.1 ≡ (in_turn deleted_topic s names).0.1 = ap (λ (x : World × List Place). x.1) over.0 in
-    let bytes : end ≡ start ++ delete_topics_reply.written (record { topics = (in_turn deleted_topic s names).1 }) = over.1 ∙ ap (λ r. start ++ r) (deletions_written (in_turn deleted_topic s names).1) in
-    subst (λ (xs : List (List ℕ)). let r = in_turn deleted_topic s xs in (t.0 ≡ r.0.0) × (t.1 ≡ r.0.1) × (end ≡ start ++ delete_topics_reply.written (record { topics = r.1 }))) c.as_slice-names.ensures (world, touched, bytes)
+    let before : head ≡ start ++ throttle_in c.args.version = c.in_ok-put_throttle.ensures ∙ ap (λ v. start ++ throttle_in v) (to_z-of_z w16 c.args.version c.ranges.version) in
+    let bytes : end ≡ start ++ deletions_in c.args.version (record { topics = (in_turn deleted_topic s names).1 }) = deletions_written c.args.version start head end (in_turn deleted_topic s names).1 before over.1 in
+    subst (λ (xs : List (List ℕ)). let r = in_turn deleted_topic s xs in (t.0 ≡ r.0.0) × (t.1 ≡ r.0.1) × (end ≡ start ++ deletions_in c.args.version (record { topics = r.1 }))) c.as_slice-names.ensures (world, touched, bytes)

@@ -1,11 +1,31 @@
-use Rattle.std.proofs.Common.{[], Ok, sym, refl, subst}
+use Rattle.std.proofs.Common.{rules, [], ◌≡◌, ◌∙◌, Bool, Ok, ap, sym, refl, subst}
 use Rattle.kb_world.specs.Parts.{world_of}
 use Rattle.kb_tenant.specs.Fetch as fetch
-use Rattle.kb_tenant.specs.Fetch.{deadline_of, fetch_answer}
+use Rattle.kb_tenant.specs.Fetch.{asked_fetch, deadline_of, fetch_answer, has_starts, read_as}
+use Rattle.kb_tenant.specs.Replies.{begun}
 use Rattle.kb_tenant.specs.Serve.{if_read, of_fetch, IsServed}
 use Rattle.kb_tenant.specs.declared.answer.Answer.TheVariants as answers
-use Rattle.kb_tenant.proofs.Keys.{waits}
+use Rattle.kb_tenant.proofs.Keys.{replied, waits}
 use Rattle.kb_tenant.proofs.dispatch.serve_a_fetch.Goals as goal
+
+pub returns-in-Reply-clause-meets : goal.returns-in-Reply-clause-meets
+returns-in-Reply-clause-meets g c = λ honest agree calm.
+    let w = world_of g.L.PartitionLog.log c.args.parts.now (g.S.Store.disk c.args.shelf.now.store).files in
+    let after = world_of g.L.PartitionLog.log c.serve_fetch.new.parts (g.S.Store.disk c.serve_fetch.new.shelf.store).files in
+    let asked = c.in_ok-asked.asked in
+    let id = c.args.request.now.correlation_id in
+    let version = c.args.request.now.api_version in
+    let starts : Bool = c.has_starts-has_starts.result in
+    let same : starts ≡ has_starts version = search rules in
+    let from : c.in_ok-sink.sink.bytes ≡ begun id = search rules in
+    let read : asked_fetch version c.args.request.now.body.now ≡ Ok asked = ap (λ b. read_as b c.args.request.now.body.now) (sym same) ∙ c.in_ok-asked.ensures.exact in
+    subst (λ r. IsServed id (if_read w r (of_fetch version w)) after [] (Ok c.finish.result)) (sym read) (
+      c.serve_fetch.ensures.same honest agree,
+      refl,
+      replied id version starts w asked (fetch_answer w asked (deadline_of w asked)) c.in_ok-sink.sink.bytes c.serve_fetch.new.sink.bytes c.finish.result same from
+          (subst (λ f. fetch.IsServed starts w asked (fetch_answer w asked (deadline_of w asked)) c.in_ok-sink.sink.bytes f c.serve_fetch.new.sink.bytes) c.in-Reply.is (c.in_ok-serve_fetch.ensures.meets honest agree calm))
+          c.finish.ensures,
+    )
 
 pub returns-clause-meets : goal.returns-clause-meets
 returns-clause-meets g c = λ honest agree calm.
@@ -13,9 +33,13 @@ returns-clause-meets g c = λ honest agree calm.
     let after = world_of g.L.PartitionLog.log c.serve_fetch.new.parts (g.S.Store.disk c.serve_fetch.new.shelf.store).files in
     let asked = c.in_ok-asked.asked in
     let id = c.args.request.now.correlation_id in
-    subst (λ r. IsServed id (if_read w r (of_fetch w)) after [] (Ok (answers.Wait c.in-Wait.deadline c.in-Wait.keys))) (sym c.in_ok-asked.ensures.exact) (
+    let version = c.args.request.now.api_version in
+    let starts : Bool = c.has_starts-has_starts.result in
+    let same : starts ≡ has_starts version = search rules in
+    let read : asked_fetch version c.args.request.now.body.now ≡ Ok asked = ap (λ b. read_as b c.args.request.now.body.now) (sym same) ∙ c.in_ok-asked.ensures.exact in
+    subst (λ r. IsServed id (if_read w r (of_fetch version w)) after [] (Ok (answers.Wait c.in-Wait.deadline c.in-Wait.keys))) (sym read) (
       c.serve_fetch.ensures.same honest agree,
       refl,
-      waits id w asked (fetch_answer w asked (deadline_of w asked)) c.in_ok-sink.sink.bytes c.serve_fetch.new.sink.bytes c.in-Wait.deadline c.in-Wait.keys
-          (subst (λ f. fetch.IsServed w asked (fetch_answer w asked (deadline_of w asked)) c.in_ok-sink.sink.bytes f c.serve_fetch.new.sink.bytes) c.in-Wait.is (c.in_ok-serve_fetch.ensures.meets honest agree calm)),
+      waits id version starts w asked (fetch_answer w asked (deadline_of w asked)) c.in_ok-sink.sink.bytes c.serve_fetch.new.sink.bytes c.in-Wait.deadline c.in-Wait.keys
+          (subst (λ f. fetch.IsServed starts w asked (fetch_answer w asked (deadline_of w asked)) c.in_ok-sink.sink.bytes f c.serve_fetch.new.sink.bytes) c.in-Wait.is (c.in_ok-serve_fetch.ensures.meets honest agree calm)),
     )

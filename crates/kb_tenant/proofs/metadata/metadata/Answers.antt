@@ -1,10 +1,11 @@
-use Rattle.std.proofs.Common.{◌∙◌, sym, ap, subst, ◌++◌}
+use mir.Val.{to_z, of_z}
+use Rattle.std.proofs.Common.{◌∙◌, sym, ap, subst, ◌++◌, w16}
 use Rattle.std.specs.Prelude.{Some, None}
+use Rattle.std.proofs.lemmas.Int.{to_z-of_z}
 use Rattle.std.proofs.lemmas.Result.{on_ok_weaker}
 use Rattle.kb_wire.specs.Codec.{array, string}
-use Rattle.kb_api_data.specs.Layouts.{metadata_request, metadata_topic}
-use Rattle.kb_topics.specs.Catalog.{known}
-use Rattle.kb_tenant.specs.Metadata.{topics_asked}
+use Rattle.kb_api_data.specs.Layouts.{metadata_request}
+use Rattle.kb_tenant.specs.Metadata.{metadata_in, metadata_of, topics_asked, topics_in}
 use Rattle.kb_world.specs.Parts.{world_of}
 use Rattle.kb_tenant.proofs.Described.{metadata_written}
 use Rattle.kb_tenant.proofs.Fitting.{array_of_nullable}
@@ -16,9 +17,21 @@ put_all_asked-requires g c = subst (array string).Fits (sym c.as_slice.ensures) 
 
 pub returns-in-None : goal.returns-in-None
 returns-in-None g c files = on_ok_weaker c.put_all.result (λ told.
-    metadata_written (world_of g.L.PartitionLog.log c.args.parts.now files) c.args.node.now c.args.request.now None c.args.sink.now.bytes c.put_node.new.sink.bytes c.put_all.new.sink.bytes c.in-None.is c.in_ok-put_node.ensures told) (c.put_all.ensures files)
+    let w = world_of g.L.PartitionLog.log c.args.parts.now files in
+    let r = c.args.request.now in
+    let z = to_z w16 (of_z w16 c.args.version) in
+    let old = c.args.sink.now.bytes in
+    let ts = topics_asked w.known.topics None in
+    metadata_written w c.args.node.now z r None old c.put_node.new.sink.bytes c.put_all.new.sink.bytes c.in-None.is (c.in_ok-put_node.ensures ts) told
+    ∙ ap (λ v. old ++ metadata_in v (metadata_of w c.args.node.now r)) (to_z-of_z w16 c.args.version c.ranges.version)) (c.put_all.ensures files)
 
 pub returns-in-Some : goal.returns-in-Some
 returns-in-Some g c files = on_ok_weaker c.put_all_asked.result (λ told.
-    metadata_written (world_of g.L.PartitionLog.log c.args.parts.now files) c.args.node.now c.args.request.now (Some c.in-Some.names) c.args.sink.now.bytes c.put_node.new.sink.bytes c.put_all_asked.new.sink.bytes c.in-Some.is c.in_ok-put_node.ensures
-    (told ∙ ap (λ ns. c.put_node.new.sink.bytes ++ (array metadata_topic).written (topics_asked (known c.args.parts.now.catalog).topics (Some ns))) c.as_slice.ensures)) (c.put_all_asked.ensures files)
+    let w = world_of g.L.PartitionLog.log c.args.parts.now files in
+    let r = c.args.request.now in
+    let z = to_z w16 (of_z w16 c.args.version) in
+    let old = c.args.sink.now.bytes in
+    let ts = topics_asked w.known.topics (Some c.in-Some.names) in
+    metadata_written w c.args.node.now z r (Some c.in-Some.names) old c.put_node.new.sink.bytes c.put_all_asked.new.sink.bytes c.in-Some.is (c.in_ok-put_node.ensures ts)
+    (told ∙ ap (λ ns. c.put_node.new.sink.bytes ++ topics_in z (topics_asked w.known.topics (Some ns))) c.as_slice.ensures)
+    ∙ ap (λ v. old ++ metadata_in v (metadata_of w c.args.node.now r)) (to_z-of_z w16 c.args.version c.ranges.version)) (c.put_all_asked.ensures files)

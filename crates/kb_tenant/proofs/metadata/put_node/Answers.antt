@@ -1,31 +1,32 @@
-use mir.Val.{to_z, of_z}
-use Rattle.std.proofs.Common.{◌≡◌, ◌∙◌, sym, ap, refl, subst, ◌++◌, lit<, w32, ◌∷◌, []}
-use Rattle.std.specs.Prelude.{pos}
-use Rattle.std.proofs.lemmas.Int.{to_z-of_z}
+use Rattle.std.proofs.Common.{rules, ◌≡◌, ◌++◌, sym, subst}
+use Rattle.std.specs.Prelude.{pos, false, ◌⊎◌}
+use Rattle.std.specs.Ordering.{int_eq}
 use Rattle.std.proofs.lemmas.Result.{on_ok_weaker}
-use Rattle.kb_wire.specs.Codec.{int, string, count, array, int32}
-use Rattle.kb_wire.specs.Fits.{null_string_fits}
-use Rattle.kb_api_data.specs.Layouts.{metadata_broker}
-use Rattle.kb_tenant.specs.Metadata.{broker}
-use Rattle.kb_tenant.proofs.Described.{broker_written}
-use Rattle.kb_tenant.proofs.Fitting.{small_count, one_written, written_both}
+use Rattle.kb_tenant.specs.Metadata.{metadata_in, topics_in}
+use Rattle.kb_tenant.proofs.Described.{front_v0, front_v1, front_v2, front_later, reply_with}
 use Rattle.kb_tenant.proofs.metadata.put_node.Goals as goal
 
-pub put_count-requires : goal.put_count-requires
-put_count-requires c = small_count 1 (lit< tt)
+pub returns-in-0 : goal.returns-in-0
+returns-in-0 c = λ topics. on_ok_weaker c.put_broker_v0.result (λ wrote.
+    let version : c.args.version ≡ pos 0 = search rules in
+    subst (λ v. c.put_broker_v0.new.sink.bytes ++ topics_in v topics ≡ c.args.sink.now.bytes ++ metadata_in v (reply_with c.args.node.now topics)) (sym version)
+    (front_v0 c.args.node.now topics c.args.sink.now.bytes c.put_broker_v0.new.sink.bytes wrote)) c.put_broker_v0.ensures
 
-pub write-requires : goal.write-requires
-unfolding metadata_broker int
-write-requires c = λ k. ((refl, tt), (tt, (subst string.Fits (sym (c.new.ensures ∙ c.as_str.ensures)) c.requires, (tt, null_string_fits))))
+pub returns-in-2 : goal.returns-in-2
+returns-in-2 c = λ topics. on_ok_weaker c.put_cluster.result (λ wrote.
+    let version : c.args.version ≡ pos 2 = search rules in
+    subst (λ v. c.put_cluster.new.sink.bytes ++ topics_in v topics ≡ c.args.sink.now.bytes ++ metadata_in v (reply_with c.args.node.now topics)) (sym version)
+    (front_v2 c.args.node.now topics c.args.sink.now.bytes c.put_cluster.new.sink.bytes wrote)) c.put_cluster.ensures
 
-pub returns : goal.returns
-returns c = on_ok_weaker c.put_i32.result (λ last.
-    let old = c.args.sink.now.bytes in
-    let one = broker c.args.node.now in
-    let start = c.put_count.new.self.bytes in
-    let wrote : c.write.new.sink.bytes ≡ start ++ metadata_broker.written one =
-    c.in_ok-write.ensures.ok
-    ∙ ap (λ x. start ++ x) (broker_written c.args.node.now c.new.result (to_z w32 (of_z w32 c.from.result)) (c.new.ensures ∙ c.as_str.ensures) (to_z-of_z w32 c.from.result (record { sfits = c.from.type_inv }) ∙ c.from.ensures)) in
-    let first : c.write.new.sink.bytes ≡ old ++ (array metadata_broker).written (one ∷ []) =
-    written_both old start c.write.new.sink.bytes ((count w32).written 1) (metadata_broker.written one) c.in_ok-put_count.ensures.ok wrote ∙ ap (λ x. old ++ x) (one_written metadata_broker one) in
-    written_both old c.write.new.sink.bytes c.put_i32.new.self.bytes ((array metadata_broker).written (one ∷ [])) (int32.written (pos 0)) first last) c.put_i32.ensures.ok
+pub returns-in_ok-put_i32-in-3 : goal.returns-in_ok-put_i32-in-3
+returns-in_ok-put_i32-in-3 c = λ topics. on_ok_weaker c.put_cluster-in-3.result (λ wrote.
+    let version : (c.args.version ≡ pos 3) ⊎ (c.args.version ≡ pos 4) = search rules in
+    front_later c.args.node.now topics c.args.version c.args.sink.now.bytes c.put_i32.new.self.bytes c.put_cluster-in-3.new.sink.bytes version c.in_ok-put_i32-in-3.ensures.ok wrote) c.put_cluster-in-3.ensures
+
+pub returns-in_ok-put_broker-in_default : goal.returns-in_ok-put_broker-in_default
+returns-in_ok-put_broker-in_default c = λ topics. on_ok_weaker c.put_i32-in_default.result (λ wrote.
+    let not0 : int_eq c.args.version (pos 0) ≡ false = search rules in
+    let not2 : int_eq c.args.version (pos 2) ≡ false = search rules in
+    let not3 : int_eq c.args.version (pos 3) ≡ false = search rules in
+    let not4 : int_eq c.args.version (pos 4) ≡ false = search rules in
+    front_v1 c.args.node.now topics c.args.version c.args.sink.now.bytes c.put_broker.new.sink.bytes c.put_i32-in_default.new.self.bytes not0 not2 not3 not4 c.in_ok-put_broker-in_default.ensures wrote) c.put_i32-in_default.ensures.ok

@@ -1,10 +1,12 @@
-use Rattle.std.proofs.Common.{◌∙◌, ◌<◌, ◌≤◌, pos, ap, sym, refl, subst, length, get_or}
+use Rattle.std.proofs.Common.{◌∙◌, ◌++◌, ◌∷◌, [], ◌<◌, ◌≤◌, pos, ap, sym, refl, subst, length, get_or}
 use Rattle.std.proofs.lemmas.Result.{on_ok_weaker}
 use Rattle.kb_api_data.specs.Layouts.{produce_topic_reply}
 use Rattle.kb_api_data.specs.declared.produce.ProduceTopicReply.{ProduceTopicReply}
 use Rattle.kb_world.specs.Parts.{scene}
 use Rattle.kb_tenant.specs.Produce.{progress, served_topic, where_due}
 use Rattle.kb_world.specs.Steps.{step_then, meets_then, meets_so}
+use Rattle.kb_tenant.specs.Told.{IsTopicTold}
+use Rattle.kb_tenant.proofs.Acknowledging.{honest_then, produce_told_so, served_all, served_next, written_more}
 use Rattle.kb_tenant.proofs.Produced.{number_fits, topics_fit, topic_fits, told_next, produce_told}
 use Rattle.kb_tenant.proofs.Turning.{turn_over}
 use Rattle.kb_tenant.proofs.produce.produce.Goals as goal
@@ -52,6 +54,18 @@ loop-topic-preserved g c =
           (subst (λ ts. i < length ts) c.as_slice-topic-items.ensures c.loop-topic-test.true)
           (c.topic-item.is ∙ ap (λ ts. get_or ts i c.topic-item.result) c.as_slice-topic-items.ensures))
           (meets_then a b d _ _ c.loop-topic.invariant.step c.serve_topic.ensures.step c.loop-topic.invariant.told c.in_ok-serve_topic.ensures.meets);
+      answers = λ honest agree.
+          let both = honest_then a b d _ _ c.loop-topic.invariant.step c.serve_topic.ensures.step c.loop-topic.invariant.answers c.in_ok-serve_topic.ensures.told honest agree in
+          let before = both.0 in
+          let reply = both.1 in (
+            before.0 ++ reply.0 ∷ [],
+            (
+              written_more write c.put_count.new.sink.bytes c.loop-topic.sink.bytes c.serve_topic.new.sink.bytes before.0 reply.0 before.1.0 reply.1.0,
+              served_next (IsTopicTold terms.refusal) (progress a.state.world c.args.touched.now.items) p q c.args.request.now.topics i c.topic-item.result before.0 reply.0
+                  (subst (λ ts. i < length ts) c.as_slice-topic-items.ensures c.loop-topic-test.true)
+                  (c.topic-item.is ∙ ap (λ ts. get_or ts i c.topic-item.result) c.as_slice-topic-items.ensures) before.1.1 reply.1.1,
+            ),
+          );
     }
 
 pub returns-clause-meets : goal.returns-clause-meets
@@ -72,4 +86,23 @@ returns-clause-meets g c =
     c.args.sink.now.bytes c.put_count.new.sink.bytes c.loop-topic.sink.bytes c.put.new.sink.bytes
     c.terms_of-terms.ensures.refusal c.terms_of-terms.ensures.due c.len.ensures c.in_ok-put_count.ensures (sym over ∙ told) last)
     c.loop-topic.invariant.told)
+    c.put.ensures
+
+pub returns-clause-told : goal.returns-clause-told
+returns-clause-told g c =
+    let log = g.L.PartitionLog.log in
+    let disk = g.S.Store.disk in
+    let a = scene log disk c.args.parts.now c.args.shelf.now in
+    let b = scene log disk c.loop-topic.parts c.loop-topic.shelf in
+    let request = c.args.request.now in
+    let terms = c.terms_of-terms.result in
+    let p = progress a.state.world c.args.touched.now.items in
+    let q = progress b.state.world c.loop-topic.touched.items in
+    let i = c.loop-topic.topic-index in
+    on_ok_weaker c.put.result
+    (λ last honest agree.
+    let so = c.loop-topic.invariant.answers honest agree in
+    let all = served_all (IsTopicTold terms.refusal) p q request.topics i so.0 (subst (λ ts. length ts ≤ i) c.as_slice-topic-items.ensures c.loop-topic-test.false) so.1.1 in
+    produce_told_so terms request p q c.len.result c.args.sink.now.bytes c.put_count.new.sink.bytes c.loop-topic.sink.bytes c.put.new.sink.bytes
+    c.terms_of-terms.ensures.refusal c.terms_of-terms.ensures.due c.len.ensures c.in_ok-put_count.ensures (so.0, (so.1.0, all)) last)
     c.put.ensures

@@ -1,9 +1,13 @@
-use Rattle.std.proofs.Common.{◌≡◌, drop}
+use Rattle.std.proofs.Common.{◌≡◌, ◌++◌, List, drop, take}
+use Rattle.std.specs.List.{flat_map}
 use Rattle.kb_api_data.specs.Layouts.{produce_partition_reply}
+use Rattle.kb_api_data.specs.declared.produce.ProducePartitionReply.{ProducePartitionReply}
+use Rattle.kb_partitions.specs.Scene.{WhereHonest}
 use Rattle.kb_world.specs.Parts.{scene}
 use Rattle.kb_tenant.specs.Produce.{progress, served, where_due}
 use Rattle.kb_world.specs.Steps.{IsStep, Meets}
-use Rattle.kb_tenant.specs.Turns.{in_turn, written_behind}
+use Rattle.kb_tenant.specs.Told.{IsEntryTold}
+use Rattle.kb_tenant.specs.Turns.{in_turn, written_behind, AreServed}
 use Rattle.kb_tenant.proofs.produce.serve_entries.Given as goal
 
 -- what was answered, and what the rest is still to be answered, is the whole answer
@@ -16,4 +20,6 @@ invariant-loop-entry g l =
     record {
       step : IsStep a b;
       told : Meets a b (written_behind (λ x. where_due l.terms.due (produce_partition_reply.written x)) l.sink.bytes (in_turn (served l.terms.refusal l.topic) (progress b.state.world l.touched.items) (drop l.entry-index l.entries)) ≡ written_behind (λ x. where_due l.terms.due (produce_partition_reply.written x)) l.initial.sink.bytes (in_turn (served l.terms.refusal l.topic) (progress a.state.world l.initial.touched.items) l.entries));
+      answers : WhereHonest a b ((replies : List ProducePartitionReply) × ((l.sink.bytes ≡ l.initial.sink.bytes ++ flat_map (λ x. where_due l.terms.due (produce_partition_reply.written x)) replies)
+          × AreServed (IsEntryTold l.terms.refusal l.topic) (progress a.state.world l.initial.touched.items) (take l.entry-index l.entries) (progress b.state.world l.touched.items) replies));
     }

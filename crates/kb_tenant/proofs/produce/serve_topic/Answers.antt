@@ -4,6 +4,7 @@ use Rattle.kb_topics.specs.Known.{named}
 use Rattle.kb_world.specs.Parts.{scene}
 use Rattle.kb_tenant.specs.Produce.{progress}
 use Rattle.kb_world.specs.Steps.{meets_so}
+use Rattle.kb_tenant.proofs.Acknowledging.{topic_told_so}
 use Rattle.kb_tenant.proofs.Produced.{name_fits, entries_fit, topic_told}
 use Rattle.kb_tenant.proofs.produce.serve_topic.Goals as goal
 
@@ -28,3 +29,19 @@ returns-clause-meets g c =
     c.args.sink.now.bytes c.put_string.new.sink.bytes c.put_count.new.sink.bytes _
     c.as_str.ensures c.as_slice.ensures c.len.ensures named_so c.in_ok-put_string.ensures c.in_ok-put_count.ensures))
     c.serve_entries.ensures.meets
+
+pub returns-clause-told : goal.returns-clause-told
+returns-clause-told g c =
+    let log = g.L.PartitionLog.log in
+    let disk = g.S.Store.disk in
+    let a = scene log disk c.args.parts.now c.args.shelf.now in
+    let b = scene log disk c.serve_entries.new.parts c.serve_entries.new.shelf in
+    let p = progress a.state.world c.args.touched.now.items in
+    let q = progress b.state.world c.serve_entries.new.touched.items in
+    let terms = c.args.terms in
+    let named_so = c.topic_named-instance.ensures a.disk.files ∙ ap (λ n. named n a.state.world.known.topics) c.as_str-2.ensures in
+    on_ok_weaker c.serve_entries.result
+    (λ told honest agree. topic_told_so terms.due terms.refusal c.topic_named-instance.result p q c.args.topic.now c.as_str.result.now c.as_slice.result.now c.len.result
+    c.args.sink.now.bytes c.put_string.new.sink.bytes c.put_count.new.sink.bytes c.serve_entries.new.sink.bytes
+    c.as_str.ensures c.as_slice.ensures c.len.ensures named_so c.in_ok-put_string.ensures c.in_ok-put_count.ensures (told honest agree))
+    c.serve_entries.ensures.told

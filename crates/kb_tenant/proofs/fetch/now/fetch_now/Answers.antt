@@ -15,6 +15,6 @@ put_topics-requires-clause-fits g c = subst (λ ts. All fetch_topic.Fits ts) (sy
 pub returns-clause-meets : goal.returns-clause-meets
 returns-clause-meets g c = λ honest agrees calm.
     let files = (g.S.Store.disk c.args.shelf.now.store).files in
-    reply_told (world_of g.L.PartitionLog.log c.args.parts.now files) c.args.request.now c.begun-given.result c.put_topics.new.given c.len.result c.as_slice.result.now
+    reply_told c.args.has_starts (world_of g.L.PartitionLog.log c.args.parts.now files) c.args.request.now c.begun-given.result c.put_topics.new.given c.len.result c.as_slice.result.now
     c.args.sink.now.bytes c.put_i32.new.self.bytes c.put_count.new.self.bytes c.put_topics.new.sink.bytes c.begun-given.ensures c.len.ensures c.as_slice.ensures
     c.in_ok-put_i32.ensures.ok c.in_ok-put_count.ensures.ok (c.in_ok-put_topics.ensures.meets honest agrees calm)

@@ -1,6 +1,5 @@
 use Rattle.std.proofs.Common.{◌≡◌, drop}
-use Rattle.kb_api_data.specs.Layouts.{fetch_partition_reply}
-use Rattle.kb_tenant.specs.Fetch.{answered}
+use Rattle.kb_tenant.specs.Fetch.{answered, partition_written}
 use Rattle.kb_world.specs.Parts.{scene}
 use Rattle.kb_world.specs.Steps.{IsStep, Meets}
 use Rattle.kb_tenant.specs.Turns.{in_turn, written_behind}
@@ -12,8 +11,9 @@ invariant-loop-entry g l =
     let a = scene g.L.PartitionLog.log g.S.Store.disk l.initial.parts l.initial.shelf in
     let b = scene g.L.PartitionLog.log g.S.Store.disk l.parts l.shelf in
     let serve = answered a.state.world l.topic in
+    let write = partition_written l.has_starts in
     record {
       step : IsStep a b;
       same : b.disk.honest → a.agrees → b.state.world ≡ a.state.world;
-      told : Meets a b (written_behind fetch_partition_reply.written l.sink.bytes (in_turn serve l.given (drop l.entry-index l.entries)) ≡ written_behind fetch_partition_reply.written l.initial.sink.bytes (in_turn serve l.initial.given l.entries));
+      told : Meets a b (written_behind write l.sink.bytes (in_turn serve l.given (drop l.entry-index l.entries)) ≡ written_behind write l.initial.sink.bytes (in_turn serve l.initial.given l.entries));
     }

@@ -15,7 +15,7 @@ pub returns-clause-meets : goal.returns-clause-meets
 returns-clause-meets g c =
     let files = (g.S.Store.disk c.args.shelf.now.store).files in
     on_ok_weaker c.put_partitions.result
-    (λ met honest agrees calm. topic_told (world_of g.L.PartitionLog.log c.args.parts.now files) c.args.given.now c.put_partitions.new.given c.args.topic.now c.as_str-name.result.now c.len.result c.topic_named-instance.result c.as_slice.result.now
+    (λ met honest agrees calm. topic_told c.args.has_starts (world_of g.L.PartitionLog.log c.args.parts.now files) c.args.given.now c.put_partitions.new.given c.args.topic.now c.as_str-name.result.now c.len.result c.topic_named-instance.result c.as_slice.result.now
     c.args.sink.now.bytes c.put_string.new.self.bytes c.put_count.new.self.bytes c.put_partitions.new.sink.bytes c.as_str-name.ensures c.len.ensures (c.topic_named-instance.ensures files) c.as_slice.ensures
     c.in_ok-put_string.ensures.ok c.in_ok-put_count.ensures.ok (met honest agrees calm))
     c.put_partitions.ensures.meets

@@ -1,6 +1,5 @@
-use Rattle.kb_api_data.specs.Layouts.{fetch_topic_reply}
 use Rattle.kb_partitions.specs.Scene.{Scene}
-use Rattle.kb_tenant.specs.Fetch.{answered_topic}
+use Rattle.kb_tenant.specs.Fetch.{answered_topic, topic_written}
 use Rattle.kb_world.specs.Parts.{Seen, scene}
 use Rattle.kb_world.specs.Steps.{step_then}
 use Rattle.kb_tenant.proofs.Fetching.{same_then, loop_next}
@@ -23,6 +22,6 @@ loop-topic-preserved g c =
     record {
       step = step_then a b d before.step c.put_topic.ensures.step;
       same = same_then a b d before.step c.put_topic.ensures.step before.same c.put_topic.ensures.same;
-      told = loop_next fetch_topic_reply.written answered_topic a b d c.loop-topic.sink.bytes c.put_topic.new.sink.bytes c.loop-topic.given c.put_topic.new.given c.args.topics.now i c.topic-item.result _ c.loop-topic-test.true c.topic-item.is
+      told = loop_next (topic_written c.args.has_starts) answered_topic a b d c.loop-topic.sink.bytes c.put_topic.new.sink.bytes c.loop-topic.given c.put_topic.new.given c.args.topics.now i c.topic-item.result _ c.loop-topic-test.true c.topic-item.is
           before.step c.put_topic.ensures.step before.same before.told c.in_ok-put_topic.ensures.meets;
     }

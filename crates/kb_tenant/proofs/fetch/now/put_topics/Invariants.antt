@@ -1,6 +1,5 @@
 use Rattle.std.proofs.Common.{◌≡◌, drop}
-use Rattle.kb_api_data.specs.Layouts.{fetch_topic_reply}
-use Rattle.kb_tenant.specs.Fetch.{answered_topic}
+use Rattle.kb_tenant.specs.Fetch.{answered_topic, topic_written}
 use Rattle.kb_world.specs.Parts.{scene}
 use Rattle.kb_world.specs.Steps.{IsStep, Meets}
 use Rattle.kb_tenant.specs.Turns.{in_turn, written_behind}
@@ -12,8 +11,9 @@ invariant-loop-topic g l =
     let a = scene g.L.PartitionLog.log g.S.Store.disk l.initial.parts l.initial.shelf in
     let b = scene g.L.PartitionLog.log g.S.Store.disk l.parts l.shelf in
     let serve = answered_topic a.state.world in
+    let write = topic_written l.has_starts in
     record {
       step : IsStep a b;
       same : b.disk.honest → a.agrees → b.state.world ≡ a.state.world;
-      told : Meets a b (written_behind fetch_topic_reply.written l.sink.bytes (in_turn serve l.given (drop l.topic-index l.topics)) ≡ written_behind fetch_topic_reply.written l.initial.sink.bytes (in_turn serve l.initial.given l.topics));
+      told : Meets a b (written_behind write l.sink.bytes (in_turn serve l.given (drop l.topic-index l.topics)) ≡ written_behind write l.initial.sink.bytes (in_turn serve l.initial.given l.topics));
     }

@@ -7,12 +7,12 @@ pub returns-then-branch-clause-meets : goal.returns-then-branch-clause-meets
 returns-then-branch-clause-meets g c = λ honest agrees calm.
     let files = (g.S.Store.disk c.args.shelf.now.store).files in
     let w = world_of g.L.PartitionLog.log c.args.parts.now files in
-    reply_served w c.args.request.now c.deadline-deadline.result (fetch_answer w c.args.request.now) c.args.sink.now.bytes c.look.new.sink.bytes c.in_ok-look.field-0 c.if-branch.true (c.deadline-deadline.ensures files) (c.in_ok-look.ensures.meets honest agrees calm)
+    reply_served c.args.has_starts w c.args.request.now c.deadline-deadline.result (fetch_answer w c.args.request.now) c.args.sink.now.bytes c.look.new.sink.bytes c.in_ok-look.field-0 c.if-branch.true (c.deadline-deadline.ensures files) (c.in_ok-look.ensures.meets honest agrees calm)
 
 pub returns-clause-meets : goal.returns-clause-meets
 returns-clause-meets g c = λ honest agrees calm.
     let files = (g.S.Store.disk c.args.shelf.now.store).files in
     let later = (g.S.Store.disk c.look.new.shelf.store).files in
     let w = world_of g.L.PartitionLog.log c.args.parts.now files in
-    wait_served w (world_of g.L.PartitionLog.log c.look.new.parts later) c.args.request.now c.deadline-deadline.result (fetch_answer w c.args.request.now) c.args.sink.now.bytes c.look.new.sink.bytes c.in_ok-look.field-0 c.in_ok-places.field-0
+    wait_served c.args.has_starts w (world_of g.L.PartitionLog.log c.look.new.parts later) c.args.request.now c.deadline-deadline.result (fetch_answer w c.args.request.now) c.args.sink.now.bytes c.look.new.sink.bytes c.in_ok-look.field-0 c.in_ok-places.field-0
     c.if-branch.false (c.deadline-deadline.ensures files) (c.in_ok-look.ensures.meets honest agrees calm) (c.in_ok-places.ensures later) (c.look.ensures.same honest agrees)

@@ -1,0 +1,137 @@
+-- Entries that are told one after another, whatever memory and the store refuse.
+use Rattle.std.proofs.Common.{◌≡◌, ◌∙◌, sym, ap, refl, subst, ℕ, suc, ℤ, ◌+◌, ◌<◌, ◌≤◌, Bool, true, List, [], ◌∷◌, ◌++◌, length, take, get_or, Option, append_assoc, append-nil, inl, inr, ⊎_elim, w32}
+use Rattle.std.specs.Prelude.{pos, Err}
+use Rattle.std.specs.List.{flat_map}
+use Rattle.std.proofs.lemmas.List.{take_all, take_more}
+use Rattle.std.proofs.lemmas.Grind.{flat_map-append}
+use Rattle.kb_wire.specs.Codec.{count, int32, string}
+use Rattle.kb_api_data.specs.Layouts.{produce_partition_reply, produce_topic_reply, produce_reply}
+use Rattle.kb_api_data.specs.declared.produce.ProduceReply.{ProduceReply}
+use Rattle.kb_api_data.specs.declared.produce.ProduceRequest.{ProduceRequest}
+use Rattle.kb_api_data.specs.declared.produce.ProduceTopic.{ProduceTopic}
+use Rattle.kb_api_data.specs.declared.produce.ProduceTopicReply.{ProduceTopicReply}
+use Rattle.kb_api_data.specs.declared.produce.ProducePartition.{ProducePartition}
+use Rattle.kb_api_data.specs.declared.produce.ProducePartitionReply.{ProducePartitionReply}
+use Rattle.kb_partitions.specs.Scene.{Scene, WhereHonest}
+use Rattle.kb_world.specs.Parts.{Seen}
+use Rattle.kb_world.specs.Steps.{IsStep}
+use Rattle.kb_world.specs.World.{World}
+use Rattle.kb_world.specs.declared.place.Place.{Place}
+use Rattle.kb_topics.specs.Known.{named}
+use Rattle.kb_tenant.specs.Produce.{Progress, answer, is_due, progress, refusal_of, reply_bytes, served, where_due}
+use Rattle.kb_tenant.specs.Replies.{begun, IsAnswer, Replies}
+use Rattle.kb_tenant.specs.Told.{IsAcknowledged, IsAppendWant, IsEntryTold, IsProduceTold, IsTold, IsTopicTold, IsWanting}
+use Rattle.kb_tenant.specs.Turns.{AreServed}
+use Rattle.kb_tenant.specs.declared.answer.Answer.{Answer}
+use Rattle.kb_tenant.specs.declared.answer.Answer.TheVariants as answers
+use Rattle.kb_tenant.specs.declared.produce.Terms.{Terms}
+use Rattle.kb_tenant.proofs.Produced.{reply_bytes_are, topic_bytes}
+
+-- ---- one more
+
+module _ {S E A : Type 0} (R : S → E → S → A → Type 0) where
+  -- one entry more is served behind others
+  served_behind : (s t u : S) (es : List E) (e : E) (answers : List A) (a : A) → AreServed R s es t answers → R t e u a → AreServed R s (es ++ e ∷ []) u (answers ++ a ∷ [])
+  served_behind s t u [] e [] a h one = (u, (subst (λ x. R x e u a) h one, refl))
+  served_behind s t u [] e (b ∷ answers) a h one = absurd h
+  served_behind s t u (f ∷ es) e [] a h one = absurd h
+  served_behind s t u (f ∷ es) e (b ∷ answers) a h one = (h.0, (h.1.0, served_behind h.0 t u es e answers a h.1.1 one))
+
+  pub served_next : (s t u : S) (es : List E) (i : ℕ) (e : E) (answers : List A) (a : A) → i < length es → e ≡ get_or es i e → AreServed R s (take i es) t answers → R t e u a → AreServed R s (take (i + 1) es) u (answers ++ a ∷ [])
+  served_next s t u es i e answers a lt is h one =
+      let longer : take i es ++ e ∷ [] ≡ take (i + 1) es = ap (λ x. take i es ++ x ∷ []) is ∙ sym (take_more es i e lt) in
+      subst (λ xs. AreServed R s xs u (answers ++ a ∷ [])) longer (served_behind s t u (take i es) e answers a h one)
+
+  pub served_all : (s t : S) (es : List E) (i : ℕ) (answers : List A) → length es ≤ i → AreServed R s (take i es) t answers → AreServed R s es t answers
+  served_all s t es i answers le h = subst (λ xs. AreServed R s xs t answers) (take_all i es le) h
+
+  served_length : (s t : S) (es : List E) (answers : List A) → AreServed R s es t answers → length answers ≡ length es
+  served_length s t [] [] h = refl
+  served_length s t [] (a ∷ answers) h = absurd h
+  served_length s t (e ∷ es) [] h = absurd h
+  served_length s t (e ∷ es) (a ∷ answers) h = ap suc (served_length h.0 t es answers h.1.1)
+
+-- its answer is written behind those before it
+pub written_more : {A : Type 0} (write : A → List ℕ) (out old new : List ℕ) (xs : List A) (x : A) → old ≡ out ++ flat_map write xs → new ≡ old ++ write x → new ≡ out ++ flat_map write (xs ++ x ∷ [])
+written_more write out old new xs x before more =
+    more ∙ ap (λ s. s ++ write x) before ∙ append_assoc out (flat_map write xs) (write x)
+    ∙ ap (λ s. out ++ (flat_map write xs ++ s)) (sym (append-nil (write x)))
+    ∙ ap (λ s. out ++ s) (sym (flat_map-append write xs (x ∷ [])))
+
+-- ---- one entry
+
+wanting : (a b : Scene Seen) (old new : List Place) (e : ProducePartition) (x : ProducePartitionReply) → IsAppendWant a b old new x.error_code × (x ≡ answer e.index (Err x.error_code)) → IsWanting e x
+wanting a b old new e x want = ⊎_elim (λ store. inl (want.1 ∙ ap (λ code. answer e.index (Err code)) store.0)) (λ memory. inr (want.1 ∙ ap (λ code. answer e.index (Err code)) memory)) want.0.0
+
+pub entry_told_so : (a b : Scene Seen) (old new : List Place) (refusal : Option ℤ) (topic : Option ℕ) (e : ProducePartition) (x : ProducePartitionReply)
+    → IsTold a b ((progress b.state.world new, x) ≡ served refusal topic (progress a.state.world old) e) (IsAppendWant a b old new x.error_code × (x ≡ answer e.index (Err x.error_code)))
+    → WhereHonest a b (IsEntryTold refusal topic (progress a.state.world old) e (progress b.state.world new) x)
+entry_told_so a b old new refusal topic e x told honest agree = ⊎_elim (λ done. inl (done.met honest agree))
+    (λ refused. inr (ap (λ w. progress w new) (refused.stays honest agree) ∙ ap (progress a.state.world) refused.want.0.1, wanting a b old new e x refused.want)) told
+
+-- ---- a topic, and the whole
+
+-- a topic's name, the count of its entries and what they were answered
+pub topic_told_so : (due : Bool) (refusal : Option ℤ) (topic : Option ℕ) (p q : Progress) (t : ProduceTopic) (name : List ℕ) (entries : List ProducePartition) (n : ℕ) (out out1 out2 out3 : List ℕ)
+    → name ≡ t.name → entries ≡ t.partitions → n ≡ length t.partitions → topic ≡ named t.name p.world.known.topics
+    → out1 ≡ out ++ where_due due (string.written name) → out2 ≡ out1 ++ where_due due ((count w32).written n)
+    → (replies : List ProducePartitionReply) × ((out3 ≡ out2 ++ flat_map (λ x. where_due due (produce_partition_reply.written x)) replies) × AreServed (IsEntryTold refusal topic) p entries q replies)
+    → (reply : ProduceTopicReply) × ((out3 ≡ out ++ where_due due (produce_topic_reply.written reply)) × IsTopicTold refusal p t q reply)
+topic_told_so due refusal topic p q t name entries n out out1 out2 out3 nis eis lis tis first second told =
+    let instance = named t.name p.world.known.topics in
+    let replies : List ProducePartitionReply = told.0 in
+    let write : ProducePartitionReply → List ℕ = λ x. where_due due (produce_partition_reply.written x) in
+    let told_of : AreServed (IsEntryTold refusal instance) p t.partitions q replies =
+    subst (λ es. AreServed (IsEntryTold refusal instance) p es q replies) eis (subst (λ i. AreServed (IsEntryTold refusal i) p entries q replies) tis told.1.1) in
+    let many : n ≡ length replies = lis ∙ sym (served_length (IsEntryTold refusal instance) p q t.partitions replies told_of) in
+    let before : out2 ≡ (out ++ where_due due (string.written t.name)) ++ where_due due ((count w32).written n) =
+    second ∙ ap (λ l. l ++ where_due due ((count w32).written n)) (first ∙ ap (λ m. out ++ where_due due (string.written m)) nis) in
+    (record { name = t.name; partitions = replies }, (told.1.0 ∙ ap (λ l. l ++ flat_map write replies) before ∙ topic_bytes due t.name n replies out many, (refl, told_of)))
+
+-- the count of the topics, what they were answered, and the throttle time
+pub produce_told_so : (terms : Terms) (request : ProduceRequest) (p q : Progress) (n : ℕ) (out out1 out2 out3 : List ℕ)
+    → terms.refusal ≡ refusal_of request.transactional_id request.acks → terms.due ≡ is_due request.acks → n ≡ length request.topics
+    → out1 ≡ out ++ where_due terms.due ((count w32).written n)
+    → (replies : List ProduceTopicReply) × ((out2 ≡ out1 ++ flat_map (λ x. where_due terms.due (produce_topic_reply.written x)) replies) × AreServed (IsTopicTold terms.refusal) p request.topics q replies)
+    → out3 ≡ out2 ++ where_due terms.due (int32.written (pos 0))
+    → (reply : ProduceReply) × ((out3 ≡ out ++ reply_bytes request.acks reply) × IsProduceTold p request q reply)
+produce_told_so terms request p q n out out1 out2 out3 ris dis lis first told last =
+    let due : Bool = terms.due in
+    let replies : List ProduceTopicReply = told.0 in
+    let write : ProduceTopicReply → List ℕ = λ x. where_due due (produce_topic_reply.written x) in
+    let told_of : AreServed (IsTopicTold (refusal_of request.transactional_id request.acks)) p request.topics q replies = subst (λ r. AreServed (IsTopicTold r) p request.topics q replies) ris told.1.1 in
+    let many : n ≡ length replies = lis ∙ sym (served_length (IsTopicTold terms.refusal) p q request.topics replies told.1.1) in
+    let reply : ProduceReply = record { topics = replies; throttle_time_ms = pos 0 } in (
+      reply,
+      (
+        last ∙ ap (λ l. l ++ where_due due (int32.written (pos 0))) (told.1.0 ∙ ap (λ l. l ++ flat_map write replies) first) ∙ reply_bytes_are due n replies out many ∙ ap (λ d. out ++ where_due d (produce_reply.written reply)) dis,
+        (told_of, refl),
+      ),
+    )
+
+-- what holds where the store is honest, after one step more
+pub honest_then : (a b d : Scene Seen) (P Q : Type 0) → IsStep a b → IsStep b d → WhereHonest a b P → WhereHonest b d Q → WhereHonest a d (P × Q)
+honest_then a b d P Q p q first second honest agree =
+    let before = q.frame.others.honest honest in
+    (first before agree, second honest (p.frame.agrees before agree))
+
+-- ---- the answer
+
+-- the reply is sent as it stands behind what was begun
+pub acknowledged_by : (id : ℤ) (w : World) (r : ProduceRequest) (v : World) (old new : List Place) (s t : List ℕ) (answer : Answer) → s ≡ begun id → is_due r.acks ≡ true → old ≡ []
+    → (reply : ProduceReply) × ((t ≡ s ++ reply_bytes r.acks reply) × IsProduceTold (progress w old) r (progress v new) reply)
+    → ((id : ℤ) (body : List ℕ) → t ≡ begun id ++ body → IsAnswer id (Replies body) answer) → IsAcknowledged id w r v new answer
+acknowledged_by id w r v old new s t answer from due none told made =
+    by answer (made id (produce_reply.written reply) (told.1.0 ∙ ap (λ d. s ++ where_due d (produce_reply.written reply)) due ∙ ap (λ b. b ++ produce_reply.written reply) from))
+  where
+    reply : ProduceReply
+    reply = told.0
+
+    so : IsProduceTold (progress w []) r (progress v new) reply
+    so = subst (λ places. IsProduceTold (progress w places) r (progress v new) reply) none told.1.1
+
+    by : (x : Answer) → IsAnswer id (Replies (produce_reply.written reply)) x → IsAcknowledged id w r v new x
+    by (answers.Reply bytes) h = (reply, (h.1, so))
+    by (answers.Wait deadline keys) h = absurd h
+    by answers.NoReply h = absurd h
+    by answers.Shut h = tt

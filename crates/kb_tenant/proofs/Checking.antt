@@ -1,0 +1,294 @@
+-- A request of CreateTopics that is only checked is answered as one that makes its topics, where an instance is left for each.
+use Rattle.std.proofs.Common.{◌≡◌, ◌∙◌, ℕ, ℤ, ◌+◌, ◌-◌, ◌<◌, ◌≤◌, ◌^◌, Bool, true, false, cond, List, [], ◌∷◌, ◌++◌, length, Option, Some, None, refl, sym, subst, ap, append_assoc, arith}
+use Rattle.std.specs.Prelude.{pos, negsuc, ⊤, codes, is_none, is_some, nat_le, nat_lt, not, option_map, unwrap_or, ◌&&◌, if◌then◌else◌, Err}
+use Rattle.std.specs.Option.{option_and_then}
+use Rattle.std.specs.List.{count_by}
+use Rattle.std.specs.Ordering.{int_eq, nat_cmp, match_ordering, is_eq}
+use Rattle.std.specs.declared.cmp.Ordering.{Ordering}
+use Rattle.std.specs.declared.cmp.Ordering.TheVariants.{Less, Equal, Greater}
+use Rattle.std.specs.BTreeMap.{insert_entry}
+use Rattle.std.specs.Str.{bytes_eq}
+use Rattle.std.specs.Str.Parse.{digits_value}
+use Rattle.std.proofs.lemmas.List.Sums.{sum_by-append, sum_by-cons}
+use Rattle.std.proofs.lemmas.Slice.Eq.{bytes_eq-Decides}
+use Rattle.kb_batch.specs.Batch.{natural}
+use Rattle.kb_api_group.specs.ErrorCode.{code_of}
+use Rattle.kb_api_group.specs.declared.error_code.ErrorCode.{ErrorCode}
+use Rattle.kb_api_group.specs.declared.error_code.ErrorCode.TheVariants as codes_of
+use Rattle.kb_api_data.specs.declared.create_topics.CreateConfig.{CreateConfig}
+use Rattle.kb_api_data.specs.declared.create_topics.CreateTopic.{CreateTopic}
+use Rattle.kb_api_data.specs.declared.create_topics.CreateTopicsRequest.{CreateTopicsRequest}
+use Rattle.kb_api_data.specs.declared.create_topics.CreateTopicReply.{CreateTopicReply}
+use Rattle.kb_topics.specs.Config.{config_of, entry_of, is_numeral, limit_in, nothing_read, number_in, setting, with_entry}
+use Rattle.kb_topics.specs.Known.{TopicState, is_limit, is_partition_count, named, new_topic, topic_at}
+use Rattle.kb_topics.specs.Name.{is_legal}
+use Rattle.kb_topics.specs.Refusals.{create_refusal}
+use Rattle.kb_topics.specs.declared.config.ConfigEntry.{ConfigEntry}
+use Rattle.kb_topics.specs.declared.config.ConfigEntry.TheVariants.{RetentionMs, RetentionBytes, CleanupPolicy}
+use Rattle.kb_topics.specs.declared.config.ConfigReader.{ConfigReader}
+use Rattle.kb_topics.specs.declared.config.TopicConfig.{TopicConfig}
+use Rattle.kb_topics.specs.declared.fault.CatalogFault.{CatalogFault}
+use Rattle.kb_topics.specs.declared.fault.CatalogFault.TheVariants as faults
+use Rattle.kb_world.specs.Calls.{created_unless}
+use Rattle.kb_world.specs.Tied.{IsTied}
+use Rattle.kb_world.specs.World.{World}
+use Rattle.kb_tenant.specs.CreateTopics.{checked_all, checked_topic, checked_unless, checked_with, code_in, created_all, created_topic, made_unless, made_with, refusal, settings_in, stands_twice, with_settings}
+use Rattle.kb_tenant.specs.Turns.{in_turn}
+use Rattle.kb_tenant.proofs.Entries.{insert_other}
+use Rattle.kb_tenant.proofs.Names.{named_inserted}
+
+-- ---- the settings that a topic may be given are limits
+
+abbrev Limit : Option ℤ → Type 0
+Limit None = ⊤
+Limit (Some n) = is_limit n ≡ true
+
+number_limit : (text : List ℕ) → Limit (number_in text)
+number_limit text = by (nat_lt (digits_value 10 text) (2 ^ 63))
+  where
+    by : (b : Bool) → Limit (cond b (Some (pos (digits_value 10 text))) None)
+    by true = refl
+    by false = tt
+
+limit_limit : (text : List ℕ) → Limit (limit_in text)
+limit_limit text = by (bytes_eq text (codes "-1")) (is_numeral text) (number_limit text)
+  where
+    by : (b c : Bool) → Limit (number_in text) → Limit (cond b (Some (negsuc 0)) (cond c (number_in text) None))
+    by true c h = refl
+    by false true h = h
+    by false false h = tt
+
+abbrev EntryLimit : Option ConfigEntry → Type 0
+EntryLimit None = ⊤
+EntryLimit (Some (RetentionMs n)) = is_limit n ≡ true
+EntryLimit (Some (RetentionBytes n)) = is_limit n ≡ true
+EntryLimit (Some CleanupPolicy) = ⊤
+
+ms_limit : (o : Option ℤ) → Limit o → EntryLimit (option_map RetentionMs o)
+ms_limit None h = tt
+ms_limit (Some n) h = h
+
+bytes_limit : (o : Option ℤ) → Limit o → EntryLimit (option_map RetentionBytes o)
+bytes_limit None h = tt
+bytes_limit (Some n) h = h
+
+setting_limit : (name value : List ℕ) → EntryLimit (setting name value)
+setting_limit name value = by (bytes_eq name (codes "retention.ms")) (bytes_eq name (codes "retention.bytes")) (bytes_eq name (codes "cleanup.policy") && bytes_eq value (codes "delete"))
+  where
+    by : (a b c : Bool) → EntryLimit (cond a (option_map RetentionMs (limit_in value)) (cond b (option_map RetentionBytes (limit_in value)) (cond c (Some CleanupPolicy) None)))
+    by true b c = ms_limit (limit_in value) (limit_limit value)
+    by false true c = bytes_limit (limit_in value) (limit_limit value)
+    by false false true = tt
+    by false false false = tt
+
+entry_limit : (name : List ℕ) (value : Option (List ℕ)) → EntryLimit (entry_of name value)
+entry_limit name None = tt
+entry_limit name (Some value) = setting_limit name value
+
+abbrev Limits : Option ConfigReader → Type 0
+Limits None = ⊤
+Limits (Some r) = Limit r.retention_ms × Limit r.retention_bytes
+
+entry_keeps : (r : ConfigReader) (e : Option ConfigEntry) → Limits (Some r) → EntryLimit e → Limits (with_entry r e)
+entry_keeps r None h l = tt
+entry_keeps r (Some (RetentionMs n)) h l = by (is_none r.retention_ms)
+  where
+    by : (b : Bool) → Limits (cond b (Some (record r { retention_ms = Some n })) None)
+    by true = (l, h.1)
+    by false = tt
+entry_keeps r (Some (RetentionBytes n)) h l = by (is_none r.retention_bytes)
+  where
+    by : (b : Bool) → Limits (cond b (Some (record r { retention_bytes = Some n })) None)
+    by true = (h.0, l)
+    by false = tt
+entry_keeps r (Some CleanupPolicy) h l = by r.cleanup_policy
+  where
+    by : (b : Bool) → Limits (cond b None (Some (record r { cleanup_policy = true })))
+    by true = tt
+    by false = h
+
+settings_keep : (cs : List CreateConfig) (r : ConfigReader) → Limits (Some r) → Limits (with_settings r cs)
+settings_keep [] r h = h
+settings_keep (c ∷ cs) r h = by (with_entry r (entry_of c.name c.value)) (entry_keeps r (entry_of c.name c.value) h (entry_limit c.name c.value)) (λ x l. settings_keep cs x l)
+  where
+    by : (o : Option ConfigReader) → Limits o → ((x : ConfigReader) → Limits (Some x) → Limits (with_settings x cs)) → Limits (option_and_then (λ x. with_settings x cs) o)
+    by None l rest = tt
+    by (Some x) l rest = rest x l
+
+or_default : (o : Option ℤ) (d : ℤ) → Limit o → is_limit d ≡ true → is_limit (unwrap_or o d) ≡ true
+or_default None d h own = own
+or_default (Some n) d h own = h
+
+both : (a b : Bool) → a ≡ true → b ≡ true → (a && b) ≡ true
+both true b p q = q
+both false b p q = absurd cc
+
+abbrev HasLimits : TopicConfig → Type 0
+HasLimits config = (is_limit config.retention_ms && is_limit config.retention_bytes) ≡ true
+
+read_limits : (r : ConfigReader) → Limits (Some r) → HasLimits (config_of r)
+read_limits r h = both (is_limit (unwrap_or r.retention_ms (pos 604800000))) (is_limit (unwrap_or r.retention_bytes (negsuc 0)))
+    (or_default r.retention_ms (pos 604800000) h.0 refl) (or_default r.retention_bytes (negsuc 0) h.1 refl)
+
+settings_limits : (cs : List CreateConfig) (config : TopicConfig) → settings_in cs ≡ Some config → HasLimits config
+settings_limits cs config is = by (with_settings nothing_read cs) (settings_keep cs nothing_read (tt, tt)) is
+  where
+    by : (o : Option ConfigReader) → Limits o → option_map config_of o ≡ Some config → HasLimits config
+    by None l e = absurd cc
+    by (Some r) l e = let same : config_of r ≡ config = cc in subst HasLimits same (read_limits r l)
+
+-- ---- one entry
+
+abbrev HasNext : World → Type 0
+HasNext w = (i : ℕ) → w.known.creates ≤ i → topic_at i w.known.topics ≡ None
+
+-- What is foretold of a topic of that name is what making it comes to, and no other name is given by it.
+record Foretells (v : World) (name : List ℕ) (r : ℕ × ℤ) (m : World × ℤ) : Type 0 where
+  pub count : r.0 ≡ length m.0.known.topics
+  pub code : r.1 ≡ m.1
+  pub creates : m.0.known.creates ≤ v.known.creates + 1
+  pub next : HasNext v → HasNext m.0
+  pub names : HasNext v → (other : List ℕ) → bytes_eq other name ≡ false → named other m.0.known.topics ≡ named other v.known.topics
+
+nothing_made : (v : World) (name : List ℕ) (code : ℤ) → Foretells v name (length v.known.topics, code) (v, code)
+nothing_made v name code = record { count = refl; code = refl; creates = omega arith; next = λ h. h; names = λ h other apart. refl }
+
+length_inserted : (ts : List (ℕ × TopicState)) (n : ℕ) (t : TopicState) → topic_at n ts ≡ None → length (insert_entry nat_cmp ts n t) ≡ length ts + 1
+length_inserted [] n t none = refl
+length_inserted (e ∷ ts) n t none = by (nat_cmp n e.0) none (length_inserted ts n t)
+  where
+    by : (o : Ordering) → cond (is_eq o) (Some e.1) (topic_at n ts) ≡ None → (topic_at n ts ≡ None → length (insert_entry nat_cmp ts n t) ≡ length ts + 1)
+        → length (match_ordering {X = List (ℕ × TopicState)} o ((n, t) ∷ e ∷ ts) ((e.0, t) ∷ ts) (e ∷ insert_entry nat_cmp ts n t)) ≡ length (e ∷ ts) + 1
+    by Less gone rest = omega arith
+    by Equal gone rest = absurd cc
+    by Greater gone rest = let h = rest gone in omega (arith, h)
+
+-- what is left of the chain of refusals where none holds
+passed : (twice legal there count replica brokers : Bool)
+    → (if twice then Some codes_of.InvalidRequest
+    else (if not legal then Some codes_of.InvalidTopic
+    else (if there then Some codes_of.TopicAlreadyExists
+    else (if not count then Some codes_of.InvalidPartitions
+    else (if not replica then Some codes_of.InvalidReplicationFactor
+    else (if brokers then Some codes_of.InvalidReplicaAssignment else None)))))) ≡ None
+    → (legal ≡ true) × (there ≡ false) × (count ≡ true)
+passed true legal there count replica brokers e = absurd cc
+passed false false there count replica brokers e = absurd cc
+passed false true true count replica brokers e = absurd cc
+passed false true false false replica brokers e = absurd cc
+passed false true false true replica brokers e = (refl, refl, refl)
+
+-- all that the catalog can still refuse a topic for
+room_alone : (v : World) (t : CreateTopic) (twice : Bool) (config : TopicConfig) → refusal twice (is_some (named t.name v.known.topics)) t ≡ None → HasLimits config → v.known.creates < 2 ^ 63 - 1
+    → create_refusal v.known t.name t.num_partitions config ≡ (if nat_le 1000 (length v.known.topics) then Some faults.TooMany else None)
+room_alone v t twice config none limits left =
+    let p = passed twice (is_legal t.name) (is_some (named t.name v.known.topics)) (is_partition_count t.num_partitions) (int_eq t.replication_factor (pos 1)) (nat_le 1 (length t.assignments)) none in
+    let early : nat_le (2 ^ 63 - 1) v.known.creates ≡ false = grind (arith, left) in
+    rw (p.0, p.1, p.2, limits, early) refl
+
+one_more : (v : World) (name : List ℕ) (partitions : ℤ) (config : TopicConfig) → HasNext v
+    → let m = created_unless v name partitions config None in Foretells v name (length v.known.topics + 1, code_of codes_of.None) (m.0, code_in m.1)
+one_more v name partitions config next =
+    let t : TopicState = new_topic name (natural partitions) config in
+    let k = v.known.creates in
+    record {
+      count = sym (length_inserted v.known.topics k t (next k (omega arith)));
+      code = refl;
+      creates = omega arith;
+      next = λ h i le. insert_other v.known.topics k i t (λ same. omega (arith, same, le)) ∙ h i (omega (arith, le));
+      names = λ h other apart. named_inserted v.known.topics k t other (h k (omega arith)) apart;
+    }
+
+foretold_with : (v : World) (t : CreateTopic) (twice : Bool) (o : Option TopicConfig) → settings_in t.configs ≡ o → refusal twice (is_some (named t.name v.known.topics)) t ≡ None
+    → HasNext v → v.known.creates < 2 ^ 63 - 1 → Foretells v t.name (checked_with (length v.known.topics) o) (made_with v t o)
+foretold_with v t twice None is none next left = nothing_made v t.name (code_of codes_of.InvalidConfig)
+foretold_with v t twice (Some config) is none next left =
+    let refused = room_alone v t twice config none (settings_limits t.configs config is) left in
+    subst (λ (o : Option CatalogFault). let m = created_unless v t.name t.num_partitions config o in Foretells v t.name (checked_with (length v.known.topics) (Some config)) (m.0, code_in m.1)) (sym refused)
+    (by (nat_le 1000 (length v.known.topics)))
+  where
+    by : (b : Bool) → let m = created_unless v t.name t.num_partitions config (if b then Some faults.TooMany else None) in
+        Foretells v t.name (if b then (length v.known.topics, code_in (Err faults.TooMany)) else (length v.known.topics + 1, code_of codes_of.None)) (m.0, code_in m.1)
+    by true = nothing_made v t.name (code_in (Err faults.TooMany))
+    by false = one_more v t.name t.num_partitions config next
+
+foretold : (v : World) (t : CreateTopic) (twice : Bool) (o : Option ErrorCode) → refusal twice (is_some (named t.name v.known.topics)) t ≡ o
+    → HasNext v → v.known.creates < 2 ^ 63 - 1 → Foretells v t.name (checked_unless (length v.known.topics) t o) (made_unless v t o)
+foretold v t twice (Some e) is next left = nothing_made v t.name (code_of e)
+foretold v t twice None is next left = foretold_with v t twice (settings_in t.configs) refl is next left
+
+-- ---- the entries of a request
+
+abbrev is_named : List ℕ → CreateTopic → Bool
+is_named name t = bytes_eq name t.name
+
+abbrev times : List ℕ → List CreateTopic → ℕ
+times name ts = count_by (is_named name) ts
+
+times_both : (name : List ℕ) (xs ys : List CreateTopic) → times name (xs ++ ys) ≡ times name xs + times name ys
+times_both name xs ys = sum_by-append (λ t. cond (is_named name t) 1 0) xs ys
+
+times_cons : (name : List ℕ) (t : CreateTopic) (ts : List CreateTopic) → times name (t ∷ ts) ≡ cond (is_named name t) 1 0 + times name ts
+times_cons name t ts = sum_by-cons (λ x. cond (is_named name x) 1 0) t ts
+
+own_name : (name : List ℕ) → bytes_eq name name ≡ true
+own_name name = (bytes_eq-Decides name name).1 refl
+
+-- a name that does not stand twice does not stand before
+not_before : (ts done es : List CreateTopic) (t : CreateTopic) → ts ≡ done ++ t ∷ es → stands_twice t.name ts ≡ false → times t.name done ≡ 0
+not_before ts done es t split once =
+    let all : times t.name ts ≡ times t.name done + times t.name (t ∷ es) = ap (times t.name) split ∙ times_both t.name done (t ∷ es) in
+    let here : times t.name (t ∷ es) ≡ 1 + times t.name es = times_cons t.name t es ∙ ap (λ b. cond b 1 0 + times t.name es) (own_name t.name) in
+    grind (arith, all, here, once)
+
+-- a name that stands in none of them, nor in one more
+not_among : (name : List ℕ) (done : List CreateTopic) (t : CreateTopic) → times name (done ++ t ∷ []) ≡ 0 → (times name done ≡ 0) × (bytes_eq name t.name ≡ false)
+not_among name done t none =
+    let all = sym (times_both name done (t ∷ [])) ∙ none in
+    let last = times_cons name t [] in
+    (omega (arith, all), by (bytes_eq name t.name) (omega (arith, all, last)))
+  where
+    by : (b : Bool) → cond {A = ℕ} b 1 0 ≡ 0 → b ≡ false
+    by true e = absurd (omega (arith, e))
+    by false e = refl
+
+-- the names that stand in none of the entries before are those of the world before
+record Follows (w v : World) (done : List CreateTopic) : Type 0 where
+  pub next : HasNext v
+  pub names : (name : List ℕ) → times name done ≡ 0 → is_some (named name v.known.topics) ≡ is_some (named name w.known.topics)
+
+-- the refusal is the one by the names of the world before
+refusal_same : (w v : World) (ts done es : List CreateTopic) (t : CreateTopic) → ts ≡ done ++ t ∷ es → Follows w v done
+    → refusal (stands_twice t.name ts) (is_some (named t.name w.known.topics)) t ≡ refusal (stands_twice t.name ts) (is_some (named t.name v.known.topics)) t
+refusal_same w v ts done es t split follows = by (stands_twice t.name ts) refl
+  where
+    by : (b : Bool) → stands_twice t.name ts ≡ b → refusal b (is_some (named t.name w.known.topics)) t ≡ refusal b (is_some (named t.name v.known.topics)) t
+    by true is = refl
+    by false is = ap (λ b. refusal false b t) (sym (follows.names t.name (not_before ts done es t split is)))
+
+follows_more : (w v : World) (done : List CreateTopic) (t : CreateTopic) (r : ℕ × ℤ) (m : World × ℤ) → Follows w v done → Foretells v t.name r m → Follows w m.0 (done ++ t ∷ [])
+follows_more w v done t r m follows f = record {
+  next = f.next follows.next;
+  names = λ name none. let h = not_among name done t none in ap is_some (f.names follows.next name h.1) ∙ follows.names name h.0;
+}
+
+all_foretold : (w v : World) (ts done es : List CreateTopic) → ts ≡ done ++ es → Follows w v done → v.known.creates + length es < 2 ^ 63
+    → (in_turn (checked_topic ts w) (length v.known.topics) es).1 ≡ (in_turn (created_topic ts) v es).1
+all_foretold w v ts done [] split follows left = refl
+all_foretold w v ts done (t ∷ es) split follows left =
+    let twice = stands_twice t.name ts in
+    let count = length v.known.topics in
+    let ref : Option ErrorCode = refusal twice (is_some (named t.name v.known.topics)) t in
+    let f = foretold v t twice ref refl follows.next (omega (arith, left)) in
+    let m : World × ℤ = made_unless v t ref in
+    let r : ℕ × ℤ = checked_unless count t ref in
+    let answer = λ (code : ℤ). let x : CreateTopicReply = record { name = t.name; error_code = code } in x in
+    let rest = λ (n : ℕ). (in_turn (checked_topic ts w) n es).1 in
+    let later : rest (length m.0.known.topics) ≡ (in_turn (created_topic ts) m.0 es).1 =
+    all_foretold w m.0 ts (done ++ t ∷ []) es (split ∙ sym (append_assoc done (t ∷ []) es)) (follows_more w v done t r m follows f) (let c = f.creates in omega (arith, left, c)) in
+    ap (λ (o : Option ErrorCode). answer (checked_unless count t o).1 ∷ rest (checked_unless count t o).0) (refusal_same w v ts done es t split follows)
+    ∙ ap (λ z. answer z ∷ rest r.0) f.code ∙ ap (λ n. answer m.1 ∷ rest n) f.count ∙ ap (λ l. answer m.1 ∷ l) later
+
+pub checks_foretell : (w : World) (q : CreateTopicsRequest) → IsTied w → w.known.creates + length q.topics < 2 ^ 63 → checked_all w q.topics ≡ (created_all w q).1
+checks_foretell w q tied left =
+    ap (λ l. record { topics = l }) (all_foretold w w q.topics [] q.topics refl (record { next = tied.next; names = λ name none. refl }) left)

@@ -1,0 +1,87 @@
+//! A fetch as a version of the API asks it (Kafka protocol guide, "The Messages: Fetch").
+//!
+//! From version 5 on a request tells where a follower's logs start, which nobody asks for here, and a reply where the partition's
+//! log does.
+ghost use Rattle.std.specs.Prelude.{◌≡◌, map, IfOk};
+ghost use Rattle.kb_wire.specs.Reads.{ReadsWhole};
+ghost use Rattle.kb_api_data.specs.Layouts.{fetch_request};
+ghost use Rattle.kb_tenant.specs.Fetch.{has_starts, plain, plain_partition, plain_topic, read_as};
+
+use kb_api_data::{
+    FetchPartition, FetchPartitionV5, FetchRequest, FetchRequestV5, FetchTopic, FetchTopicV5,
+};
+use kb_wire::{Array, Layout, ReadFault, Text};
+use std::alloc::{AllocError, Global};
+
+/// Whether a version tells where logs start.
+pub(crate) fn has_starts(version: i16) -> bool
+    ensures { result ≡ has_starts version }
+{
+    version >= 5
+}
+
+/// A topic's entries without the starts of a follower's logs.
+fn plain_partitions(
+    alloc: Global,
+    entries: &[FetchPartitionV5],
+) -> Result<Array<FetchPartition>, AllocError>
+    ensures { IfOk result (λ plain. plain ≡ map plain_partition entries.now) }
+{
+    let mut plain = Array::new(alloc);
+    for entry in entries {
+        plain.push(FetchPartition {
+            partition: entry.partition,
+            fetch_offset: entry.fetch_offset,
+            partition_max_bytes: entry.partition_max_bytes,
+        })?;
+    }
+    Ok(plain)
+}
+
+/// The topics without the starts of a follower's logs.
+fn plain_topics<'a>(
+    alloc: Global,
+    topics: &[FetchTopicV5<'a>],
+) -> Result<Array<FetchTopic<'a>>, AllocError>
+    ensures { IfOk result (λ plain. plain ≡ map plain_topic topics.now) }
+{
+    let mut plain = Array::new(alloc);
+    for topic in topics {
+        plain.push(FetchTopic {
+            topic: Text::new(topic.topic.as_str()),
+            partitions: plain_partitions(alloc, topic.partitions.as_slice())?,
+        })?;
+    }
+    Ok(plain)
+}
+
+/// A request without the starts of a follower's logs.
+fn plain<'a>(alloc: Global, request: &FetchRequestV5<'a>) -> Result<FetchRequest<'a>, AllocError>
+    ensures { IfOk result (λ asked. asked ≡ plain request.now) }
+{
+    Ok(FetchRequest {
+        replica_id: request.replica_id,
+        max_wait_ms: request.max_wait_ms,
+        min_bytes: request.min_bytes,
+        max_bytes: request.max_bytes,
+        isolation_level: request.isolation_level,
+        topics: plain_topics(alloc, request.topics.as_slice())?,
+    })
+}
+
+/// Reads a whole body of a request.
+#[tactic(auto, using(crate::proofs::Versions::read_fits))]
+pub(crate) fn read_request<'a>(
+    alloc: Global,
+    has_starts: bool,
+    body: &'a [u8],
+) -> Result<FetchRequest<'a>, ReadFault>
+    ensures fits { IfOk result (λ asked. fetch_request.Fits asked) }
+    ensures exact { ReadsWhole (read_as has_starts body.now) result }
+{
+    if has_starts {
+        let asked = FetchRequestV5::read(alloc, body)?;
+        return Ok(plain(alloc, &asked)?);
+    }
+    FetchRequest::read(alloc, body)
+}

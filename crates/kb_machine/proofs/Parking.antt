@@ -4,9 +4,9 @@ use Rattle.std.specs.Prelude.{cond, Result, Ok, Err, if◌then◌else◌}
 use Rattle.std.specs.Ordering.{int_eq}
 use Rattle.kb_wire.specs.Codec.{whole}
 use Rattle.kb_wire.specs.declared.fault.WireFault.{WireFault}
-use Rattle.kb_api_data.specs.Layouts.{fetch_request, fetch_reply, produce_reply}
+use Rattle.kb_api_data.specs.Layouts.{produce_reply}
 use Rattle.kb_api_data.specs.declared.fetch.FetchRequest.{FetchRequest}
-use Rattle.kb_api_data.specs.declared.fetch.FetchReply.{FetchReply}
+use Rattle.kb_api_data.specs.declared.fetch_v5.FetchReplyV5.{FetchReplyV5}
 use Rattle.kb_api_group.specs.Layouts.{heartbeat_request, join_group_request, leave_group_request, offset_commit_request, sync_group_request}
 use Rattle.kb_coordinator.specs.Calls.{is_accepted, join_code, sync_answer}
 use Rattle.kb_coordinator.specs.Groups.{Groups, silent}
@@ -14,7 +14,8 @@ use Rattle.kb_groups.specs.declared.reply.SyncAnswer.{SyncAnswer}
 use Rattle.kb_groups.specs.declared.reply.SyncAnswer.TheVariants as sync
 use Rattle.kb_world.specs.World.{World}
 use Rattle.kb_world.specs.declared.place.Place.{Place}
-use Rattle.kb_tenant.specs.Fetch.{deadline_of, fetch_answer, places_of}
+use Rattle.kb_tenant.specs.CreateTopics.{checked_all, created_all, creations_in, made_of}
+use Rattle.kb_tenant.specs.Fetch.{asked_fetch, deadline_of, fetch_answer, places_of, fetched_in}
 use Rattle.kb_tenant.specs.Produce.{produced, is_due}
 use Rattle.kb_tenant.specs.Replies.{Reaction, Replies, Waits, Silent}
 use Rattle.kb_tenant.specs.Serve as tenant
@@ -29,13 +30,13 @@ use Rattle.kb_machine.specs.Tenant.{asked_in}
 -- 1. A request that is for no group
 
 -- what a look tells
-abbrev pub told_as : Option FetchReply → Reaction
-told_as o = elim o [ Some reply ↦ Replies (fetch_reply.written reply) | None ↦ Silent ]
+abbrev pub told_as : ℤ → Option FetchReplyV5 → Reaction
+told_as version o = elim o [ Some reply ↦ Replies (fetched_in version reply) | None ↦ Silent ]
 
 -- a request that is to wait would be told nothing at once, and waits for what it asks for
 pub record IsParked (version : ℤ) (body : List ℕ) (clock : ℕ) (v : World) (gs : Groups) (deadline : ℕ) (places : List Place) : Type 0 where
   pub silent : looked (world_at (kept_in v gs) clock) deadline version body ≡ Silent
-  pub asks : places ≡ asked_in v (whole fetch_request body)
+  pub asks : places ≡ asked_in v (asked_fetch version body)
 
 abbrev ParksPlain : ℤ → List ℕ → ℕ → Groups → tenant.Outcome → Type 0
 ParksPlain version body clock gs o = (deadline : ℕ) (places : List Place) → o.reaction ≡ Waits deadline places → IsParked version body clock o.world gs deadline places
@@ -44,17 +45,21 @@ produce-parks : (version : ℤ) (body : List ℕ) (clock : ℕ) (gs : Groups) (v
 produce-parks version body clock gs v touched reply true deadline places e = absurd (cc)
 produce-parks version body clock gs v touched reply false deadline places e = absurd (cc)
 
-fetch-parks : (k : Kept) (clock : ℕ) (gs : Groups) (version : ℤ) (body : List ℕ) (r : FetchRequest) → whole fetch_request body ≡ Ok r → ParksPlain version body clock gs (of_fetch (world_at k clock) r)
+plain-either : (version : ℤ) (body : List ℕ) (clock : ℕ) (gs : Groups) (b : Bool) (o p : tenant.Outcome) → ParksPlain version body clock gs o → ParksPlain version body clock gs p → ParksPlain version body clock gs (if b then o else p)
+plain-either version body clock gs true o p first second = first
+plain-either version body clock gs false o p first second = second
+
+fetch-parks : (k : Kept) (clock : ℕ) (gs : Groups) (version : ℤ) (body : List ℕ) (r : FetchRequest) → asked_fetch version body ≡ Ok r → ParksPlain version body clock gs (of_fetch version (world_at k clock) r)
 unfolding looked
 fetch-parks k clock gs version body r read = by (fetch_answer (world_at k clock) r (deadline_of (world_at k clock) r)) refl
   where
-    by : (o : Option FetchReply) → fetch_answer (world_at k clock) r (deadline_of (world_at k clock) r) ≡ o → ParksPlain version body clock gs (stays (world_at k clock) (fetch_reaction (world_at k clock) r o))
+    by : (o : Option FetchReplyV5) → fetch_answer (world_at k clock) r (deadline_of (world_at k clock) r) ≡ o → ParksPlain version body clock gs (stays (world_at k clock) (fetch_reaction version (world_at k clock) r o))
     by (Some reply) e deadline places f = absurd (cc)
     by None e deadline places f =
         let until : deadline_of (world_at k clock) r ≡ deadline = cc in
         let same : places_of (world_at k clock) r ≡ places = cc in
         record {
-          silent = ap (looked_at (world_at k clock) deadline) read ∙ ap told_as (subst (λ d. fetch_answer (world_at k clock) r d ≡ None) until e);
+          silent = ap (looked_at (world_at k clock) deadline version) read ∙ ap (told_as version) (subst (λ d. fetch_answer (world_at k clock) r d ≡ None) until e);
           asks = sym same ∙ sym (ap (asked_in (world_at k clock)) read);
         }
 
@@ -69,7 +74,10 @@ plain-parks node k clock n gs key version body =
       offset_commit = λ r read deadline places e. absurd (cc);
       offset_fetch = λ r read deadline places e. absurd (cc);
       find_coordinator = λ r read deadline places e. absurd (cc);
-      create_topics = λ r read deadline places e. absurd (cc);
+      create_topics = λ r read.
+          let made = created_all w (made_of r) in
+          plain-either version body clock gs r.validate_only (stays w (Replies (creations_in version (checked_all w r.topics)))) (record { world = made.0; touched = []; reaction = Replies (creations_in version made.1) })
+          (λ deadline places e. absurd (cc)) (λ deadline places e. absurd (cc));
       delete_topics = λ r read deadline places e. absurd (cc);
       delete_records = λ r read deadline places e. absurd (cc);
       init_producer_id = λ r read deadline places e. absurd (cc);

@@ -3,18 +3,16 @@
 use Rattle.std.proofs.Common.{◌≡◌, ◌+◌, eqb, ℕ, ℤ, List, [], ◌∷◌, length, true, false, Option, Some, None, refl, sym, ◌∙◌, ap, subst, arith}
 use Rattle.std.specs.Prelude.{nat_le, Result, Ok, Err}
 use Rattle.std.proofs.lemmas.Bool.Decides.{nat_tests}
-use Rattle.kb_wire.specs.Codec.{whole}
 use Rattle.kb_wire.specs.declared.fault.WireFault.{WireFault}
 use Rattle.kb_api_group.specs.Frames.{Front, Whole, Partial, TooSmall, TooLarge, front}
-use Rattle.kb_api_data.specs.Layouts.{fetch_request}
 use Rattle.kb_api_data.specs.declared.fetch.FetchRequest.{FetchRequest}
-use Rattle.kb_api_data.specs.declared.fetch.FetchReply.{FetchReply}
+use Rattle.kb_api_data.specs.declared.fetch_v5.FetchReplyV5.{FetchReplyV5}
 use Rattle.kb_coordinator.specs.Calls.{reply_among}
 use Rattle.kb_coordinator.specs.Groups.{Groups}
 use Rattle.kb_groups.specs.declared.reply.Release.{Release}
 use Rattle.kb_world.specs.World.{World}
 use Rattle.kb_world.specs.declared.place.Place.{Place}
-use Rattle.kb_tenant.specs.Fetch.{fetch_answer, places_of}
+use Rattle.kb_tenant.specs.Fetch.{asked_fetch, fetch_answer, places_of}
 use Rattle.kb_tenant.specs.Replies.{Replies, Waits, Silent, Shuts}
 use Rattle.kb_tenant.specs.Serve.{looked, looked_at}
 use Rattle.kb_service.specs.Hosted as hosted
@@ -42,17 +40,17 @@ use Rattle.kb_machine.proofs.Turns.{free-replied, free-without, changed, unready
 
 -- 1. What a look tells
 
-pub silent-none : (o : Option FetchReply) → told_as o ≡ Silent → o ≡ None
-silent-none (Some reply) h = absurd (cc)
-silent-none None h = refl
+pub silent-none : (version : ℤ) (o : Option FetchReplyV5) → told_as version o ≡ Silent → o ≡ None
+silent-none version (Some reply) h = absurd (cc)
+silent-none version None h = refl
 
 -- a fetch that is not ready is not ready in another world, if what its body asks has no answer there either
-silent-there : (w v : World) (deadline : ℕ) (version : ℤ) (body : List ℕ) → ((r : FetchRequest) → whole fetch_request body ≡ Ok r → fetch_answer w r deadline ≡ None → fetch_answer v r deadline ≡ None) → looked w deadline version body ≡ Silent → looked v deadline version body ≡ Silent
+silent-there : (w v : World) (deadline : ℕ) (version : ℤ) (body : List ℕ) → ((r : FetchRequest) → asked_fetch version body ≡ Ok r → fetch_answer w r deadline ≡ None → fetch_answer v r deadline ≡ None) → looked w deadline version body ≡ Silent → looked v deadline version body ≡ Silent
 unfolding looked
-silent-there w v deadline version body none e = by (whole fetch_request body) refl e
+silent-there w v deadline version body none e = by (asked_fetch version body) refl e
   where
-    by : (r : Result FetchRequest WireFault) → whole fetch_request body ≡ r → looked_at w deadline r ≡ Silent → looked_at v deadline r ≡ Silent
-    by (Ok r) read h = ap told_as (none r read (silent-none (fetch_answer w r deadline) h))
+    by : (r : Result FetchRequest WireFault) → asked_fetch version body ≡ r → looked_at w deadline version r ≡ Silent → looked_at v deadline version r ≡ Silent
+    by (Ok r) read h = ap (told_as version) (none r read (silent-none version (fetch_answer w r deadline) h))
     by (Err fault) read h = absurd (cc)
 
 -- the same, if nothing that has no answer here has one there
@@ -71,7 +69,7 @@ told-nothing n gs none = by gs.released none
 -- 2. Those that waited before
 
 -- what a fetch asks for, whatever the time
-asked-is : (k : Kept) (clock : ℕ) (version : ℤ) (body : List ℕ) (deadline : ℕ) (r : FetchRequest) → whole fetch_request body ≡ Ok r → asked_for k (Records version body deadline) ≡ places_of (world_at k clock) r
+asked-is : (k : Kept) (clock : ℕ) (version : ℤ) (body : List ℕ) (deadline : ℕ) (r : FetchRequest) → asked_fetch version body ≡ Ok r → asked_for k (Records version body deadline) ≡ places_of (world_at k clock) r
 asked-is k clock version body deadline r read = ap (asked_in (world_at k 0)) read
 
 -- a request that is not ready was not at the first moment
@@ -108,16 +106,16 @@ pub asked-again : (node : Node) (k l : Kept) (clock n : ℕ) (key version : ℤ)
 unfolding ready looked asked
 asked-again node k l clock n key version body m w tied own same before after = for w.awaited before after
   where
-    by : (deadline : ℕ) (r : Result FetchRequest WireFault) → looked_at (world_at k 0) deadline r ≡ Silent → looked_at (world_at l 0) deadline r ≡ Silent → asked_in (world_at l 0) r ≡ asked_in (world_at k 0) r
-    by deadline (Ok r) p q =
-        let old : fetch_answer (world_at k clock) r (clock + 1) ≡ None = waits_until (world_at k 0) r deadline (silent-none (fetch_answer (world_at k 0) r deadline) p) clock (clock + 1) (omega arith) in
-        let new : fetch_answer (world_at l clock) r (clock + 1) ≡ None = waits_until (world_at l 0) r deadline (silent-none (fetch_answer (world_at l 0) r deadline) q) clock (clock + 1) (omega arith) in
+    by : (deadline : ℕ) (asks : ℤ) (r : Result FetchRequest WireFault) → looked_at (world_at k 0) deadline asks r ≡ Silent → looked_at (world_at l 0) deadline asks r ≡ Silent → asked_in (world_at l 0) r ≡ asked_in (world_at k 0) r
+    by deadline asks (Ok r) p q =
+        let old : fetch_answer (world_at k clock) r (clock + 1) ≡ None = waits_until (world_at k 0) r deadline (silent-none asks (fetch_answer (world_at k 0) r deadline) p) clock (clock + 1) (omega arith) in
+        let new : fetch_answer (world_at l clock) r (clock + 1) ≡ None = waits_until (world_at l 0) r deadline (silent-none asks (fetch_answer (world_at l 0) r deadline) q) clock (clock + 1) (omega arith) in
         ap (λ x. places_of x r) same
         ∙ served_again node (world_at k clock) k.groups n key version body r (clock + 1) tied own old (subst (λ x. fetch_answer x r (clock + 1) ≡ None) same new)
-    by deadline (Err fault) p q = absurd (cc)
+    by deadline asks (Err fault) p q = absurd (cc)
 
     for : (x : Awaited) → ready_for k 0 m x ≡ Silent → ready_for l 0 m x ≡ Silent → asked_for l x ≡ asked_for k x
-    for (Records asks fetch deadline) p q = by deadline (whole fetch_request fetch) p q
+    for (Records asks fetch deadline) p q = by deadline asks (asked_fetch asks fetch) p q
     for Group p q = refl
 
 -- a moment changes nothing of what a request asks for
@@ -130,7 +128,7 @@ asked-passed clock k w = for w.awaited
     by (Err fault) = refl
 
     for : (x : Awaited) → asked_for (passed clock k) x ≡ asked_for k x
-    for (Records version body deadline) = by (whole fetch_request body)
+    for (Records version body deadline) = by (asked_fetch version body)
     for Group = refl
 
 -- what waits for its group asks for no partition
@@ -144,7 +142,7 @@ asked-group k id = refl
 pub asked-parks : (node : Node) (k : Kept) (clock n : ℕ) (key version : ℤ) (body : List ℕ) (deadline : ℕ) (places : List Place) (id : ℤ) → answer node k clock n key version body ≡ Plain (Waits deadline places) →
     places ≡ asked (kept_after node k clock n key version body) (record { correlation_id = id; awaited = Records version body deadline })
 unfolding answer kept_after asked
-asked-parks node k clock n key version body deadline places id e = (parks node k clock n key version body deadline places e).asks ∙ at (whole fetch_request body)
+asked-parks node k clock n key version body deadline places id e = (parks node k clock n key version body deadline places e).asks ∙ at (asked_fetch version body)
   where
     at : (r : Result FetchRequest WireFault) → asked_in (request node (world_at k clock) k.groups n key version body).world r ≡ asked_in (world_at (kept_after node k clock n key version body) 0) r
     at (Ok r) = refl

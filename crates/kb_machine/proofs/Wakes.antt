@@ -6,13 +6,11 @@ use Rattle.std.proofs.lemmas.Bool.Decides.{nat_tests}
 use Rattle.kb_world.specs.Steps.{IsCalm}
 use Rattle.kb_service.specs.Hosted as hosted
 use Rattle.kb_service.specs.Hosted.{Kept, TenantState, IsTurn, world_at}
-use Rattle.kb_tenant.specs.Fetch.{fetch_answer}
+use Rattle.kb_tenant.specs.Fetch.{asked_fetch, fetch_answer, fetched_in}
 use Rattle.kb_tenant.specs.Serve.{looked, looked_at}
-use Rattle.kb_wire.specs.Codec.{whole}
 use Rattle.kb_wire.specs.declared.fault.WireFault.{WireFault}
-use Rattle.kb_api_data.specs.Layouts.{fetch_request, fetch_reply}
 use Rattle.kb_api_data.specs.declared.fetch.FetchRequest.{FetchRequest}
-use Rattle.kb_api_data.specs.declared.fetch.FetchReply.{FetchReply}
+use Rattle.kb_api_data.specs.declared.fetch_v5.FetchReplyV5.{FetchReplyV5}
 use Rattle.kb_world.specs.declared.place.Place.{Place}
 use Rattle.kb_tenant.specs.Replies.{Reaction, Replies, Waits, Silent, Shuts}
 use Rattle.kb_groups.specs.declared.reply.Reply.{Reply}
@@ -159,20 +157,20 @@ never-waits : (kept : Kept) (clock n : ℕ) (w : Wait) (deadline : ℕ) (places 
 unfolding ready looked
 never-waits kept clock n w deadline places e = for w.awaited e
   where
-    answers : (o : Option FetchReply) → elim o [ Some reply ↦ Replies (fetch_reply.written reply) | None ↦ Silent ] ≡ Waits deadline places → ⊥
-    answers (Some reply) h = absurd (cc)
-    answers None h = absurd (cc)
+    answers : (version : ℤ) (o : Option FetchReplyV5) → elim o [ Some reply ↦ Replies (fetched_in version reply) | None ↦ Silent ] ≡ Waits deadline places → ⊥
+    answers version (Some reply) h = absurd (cc)
+    answers version None h = absurd (cc)
 
-    by : (until : ℕ) (r : Result FetchRequest WireFault) → looked_at (world_at kept clock) until r ≡ Waits deadline places → ⊥
-    by until (Ok r) h = answers (fetch_answer (world_at kept clock) r until) h
-    by until (Err fault) h = absurd (cc)
+    by : (until : ℕ) (version : ℤ) (r : Result FetchRequest WireFault) → looked_at (world_at kept clock) until version r ≡ Waits deadline places → ⊥
+    by until version (Ok r) h = answers version (fetch_answer (world_at kept clock) r until) h
+    by until version (Err fault) h = absurd (cc)
 
     tells : (o : Option Reply) → service.told o ≡ Waits deadline places → ⊥
     tells (Some reply) h = absurd (cc)
     tells None h = absurd (cc)
 
     for : (x : Awaited) → ready_for kept clock n x ≡ Waits deadline places → ⊥
-    for (Records version body until) h = by until (whole fetch_request body) h
+    for (Records version body until) h = by until version (asked_fetch version body) h
     for Group h = tells (reply_to n kept.groups) h
 
 -- what is left of a connection after a look waits no longer, or is not ready

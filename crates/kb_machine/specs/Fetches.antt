@@ -1,35 +1,34 @@
 -- What a connection gets for a fetch: whole batches of its tenant's partitions, as they are at the moment of answering.
 use Rattle.std.specs.Prelude.{◌≡◌, ◌⊎◌, ℕ, zero, suc, ℤ, pos, max, List, [], ◌∷◌, Option, Some, None, Ok, ⊤}
 use Rattle.std.specs.List.{AllByRecursion}
-use Rattle.kb_wire.specs.Codec.{whole}
 use Rattle.kb_api_group.specs.Frames.{Whole, front}
-use Rattle.kb_api_data.specs.Layouts.{fetch_request}
 use Rattle.kb_api_data.specs.declared.fetch.FetchRequest.{FetchRequest}
 use Rattle.kb_world.specs.World as tenants
 use Rattle.kb_tenant.specs.Batches.{HoldsBatches}
+use Rattle.kb_tenant.specs.Fetch.{asked_fetch}
 use Rattle.kb_service.specs.Hosted.{passed, world_at}
 use Rattle.kb_machine.specs.Requests.{Another, request}
 use Rattle.kb_machine.specs.Tenant.{Records}
 use Rattle.kb_machine.specs.Session.{Stage, Greets, BoundTo, Session, fed, replied, without_wait}
 use Rattle.kb_machine.specs.Machine.{Happening, Opens, Comes, Closes, Moment, Line, World, served, put, woken, kept_fed, find_line, each, on, first_able, all_woken, turn, work, step}
 
--- it got a reply that holds such batches, or no reply
-abbrev pub GetsBatches : tenants.World → FetchRequest → ℤ → Session → Session → Type 0
-GetsBatches world fetch id old new = ((reply : List ℕ) × HoldsBatches world fetch reply × (new ≡ replied id reply old)) ⊎ (new.output ≡ old.output)
+-- it got a reply that holds such batches, as that version tells them, or no reply
+abbrev pub GetsBatches : tenants.World → ℤ → FetchRequest → ℤ → Session → Session → Type 0
+GetsBatches world version fetch id old new = ((reply : List ℕ) × HoldsBatches version world fetch reply × (new ≡ replied id reply old)) ⊎ (new.output ≡ old.output)
 
 -- 1. One answer
 
 -- where a fetch stands in front of a connection, of number n, that takes its turn, the connection gets such batches
 abbrev pub ServesBatches : World → ℕ → Session → Type 0
 ServesBatches w n s = (frame rest : List ℕ) (version : ℤ) (body : List ℕ) (fetch : FetchRequest)
-    → front s.unread ≡ Whole frame rest → (request w.setup.versions frame).asked ≡ Another (pos 1) version body → whole fetch_request body ≡ Ok fetch
-    → GetsBatches (world_at w.kept w.clock) fetch (request w.setup.versions frame).correlation_id (record s { unread = rest }) (served w.setup w.kept w.clock n s)
+    → front s.unread ≡ Whole frame rest → (request w.setup.versions frame).asked ≡ Another (pos 1) version body → asked_fetch version body ≡ Ok fetch
+    → GetsBatches (world_at w.kept w.clock) version fetch (request w.setup.versions frame).correlation_id (record s { unread = rest }) (served w.setup w.kept w.clock n s)
 
 -- where a fetch waits on a connection, of number n, that is looked at, the connection gets such batches
 abbrev pub WakesWithBatches : World → ℕ → Session → Type 0
 WakesWithBatches w n s = (tenant : ℕ) (id version : ℤ) (body : List ℕ) (deadline : ℕ) (fetch : FetchRequest)
-    → s.stage ≡ BoundTo tenant (Some (record { correlation_id = id; awaited = Records version body deadline })) → whole fetch_request body ≡ Ok fetch
-    → GetsBatches (world_at w.kept w.clock) fetch id (record s { stage = without_wait s.stage }) (woken w.kept w.clock n s)
+    → s.stage ≡ BoundTo tenant (Some (record { correlation_id = id; awaited = Records version body deadline })) → asked_fetch version body ≡ Ok fetch
+    → GetsBatches (world_at w.kept w.clock) version fetch id (record s { stage = without_wait s.stage }) (woken w.kept w.clock n s)
 
 -- so does each that waits
 abbrev pub AllWakeWithBatches : World → Type 0

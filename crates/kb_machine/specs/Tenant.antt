@@ -1,12 +1,10 @@
 -- What a tenant's own requests mean to its machine.
 use Rattle.std.specs.Prelude.{ℕ, ℤ, List, [], Bool, true, false, nat_le, Result, Ok, Err}
-use Rattle.kb_wire.specs.Codec.{whole}
 use Rattle.kb_wire.specs.declared.fault.WireFault.{WireFault}
-use Rattle.kb_api_data.specs.Layouts.{fetch_request}
 use Rattle.kb_api_data.specs.declared.fetch.FetchRequest.{FetchRequest}
 use Rattle.kb_world.specs.World.{World}
 use Rattle.kb_world.specs.declared.place.Place.{Place}
-use Rattle.kb_tenant.specs.Fetch.{places_of}
+use Rattle.kb_tenant.specs.Fetch.{asked_fetch, places_of}
 use Rattle.kb_service.specs.Hosted.{Kept, world_at, kept_in}
 use Rattle.kb_tenant.specs.Replies as tenant
 use Rattle.kb_tenant.specs.Serve.{looked}
@@ -50,7 +48,7 @@ asked_in w (Ok r) = places_of w r
 asked_in w (Err fault) = []
 
 abbrev pub asked_for : Kept → Awaited → List Place
-asked_for kept (Records version body deadline) = asked_in (world_at kept 0) (whole fetch_request body)
+asked_for kept (Records version body deadline) = asked_in (world_at kept 0) (asked_fetch version body)
 asked_for kept Group = []
 
 -- the partitions that a waiting request asks for, which are the same at each time

@@ -2,15 +2,13 @@
 ghost use Rattle.std.specs.Prelude.{◌≡◌, ◌↔◌, ◌≤◌, ◌++◌, ◌∷◌, ℕ, ℤ, List, [], Bool, true, false, length, max, pos, Ok, Option, Some, None};
 ghost use Rattle.std.specs.List.{Contains};
 ghost use Rattle.kb_machine.specs.Session.{Session, Stage, Bare, BoundTo, LIMIT, fed, has_member, overruns, replied, shut_down, without_wait};
-ghost use Rattle.kb_wire.specs.Codec.{whole};
 ghost use Rattle.kb_api_group.specs.Frames.{Whole, front};
-ghost use Rattle.kb_api_data.specs.Layouts.{fetch_reply, fetch_request};
 ghost use Rattle.kb_api_data.specs.declared.fetch.FetchRequest.{FetchRequest};
 ghost use Rattle.kb_machine.specs.Requests.{Another, Authenticate, request};
 ghost use Rattle.kb_machine.specs.Tenant.{Records, Wait, ready};
 ghost use Rattle.kb_machine.specs.Fetches.{AllTurnsGiveBatches, AllWakeWithBatches, EventGivesBatches, FetchesGetBatches, GetsBatches, NextGivesBatches, ServesBatches, after_request};
 ghost use Rattle.kb_tenant.specs.Batches.{HasSmallLogs};
-ghost use Rattle.kb_tenant.specs.Fetch.{fetched};
+ghost use Rattle.kb_tenant.specs.Fetch.{asked_fetch, fetched, fetched_in};
 ghost use Rattle.kb_tenant.specs.Replies.{Replies};
 ghost use Rattle.kb_coordinator.specs.Calls.{left};
 ghost use Rattle.kb_service.specs.Hosted.{Kept, passed, world_at};
@@ -87,12 +85,12 @@ pub fn strangers_are_greeted()
 pub fn fetches_get_whole_batches()
     ensures at_once { (setup : Setup) (kept : Kept) (clock n : ℕ) (s : Session) (frame rest : List ℕ) (version : ℤ) (body : List ℕ) (fetch : FetchRequest)
         → HasSmallLogs (world_at kept clock) → front s.unread ≡ Whole frame rest
-        → (request setup.versions frame).asked ≡ Another (pos 1) version body → whole fetch_request body ≡ Ok fetch
-        → GetsBatches (world_at kept clock) fetch (request setup.versions frame).correlation_id (record s { unread = rest }) (served setup kept clock n s) }
+        → (request setup.versions frame).asked ≡ Another (pos 1) version body → asked_fetch version body ≡ Ok fetch
+        → GetsBatches (world_at kept clock) version fetch (request setup.versions frame).correlation_id (record s { unread = rest }) (served setup kept clock n s) }
     ensures after_a_wait { (kept : Kept) (clock n tenant : ℕ) (s : Session) (id version : ℤ) (body : List ℕ) (deadline : ℕ) (fetch : FetchRequest)
         → HasSmallLogs (world_at kept clock) → s.stage ≡ BoundTo tenant (Some (record { correlation_id = id; awaited = Records version body deadline }))
-        → whole fetch_request body ≡ Ok fetch
-        → GetsBatches (world_at kept clock) fetch id (record s { stage = without_wait s.stage }) (woken kept clock n s) }
+        → asked_fetch version body ≡ Ok fetch
+        → GetsBatches (world_at kept clock) version fetch id (record s { stage = without_wait s.stage }) (woken kept clock n s) }
 {}
 
 /// In a whole run of a machine each reply to a fetch, at once or after a wait, holds whole batches of each partition that it answers
@@ -125,14 +123,14 @@ pub fn batches_are_of_each_turn()
 /// reply ends its wait.
 pub fn fetches_end_at_their_deadline()
     ensures ready { (kept : Kept) (clock n : ℕ) (id version : ℤ) (body : List ℕ) (deadline : ℕ) (fetch : FetchRequest)
-        → whole fetch_request body ≡ Ok fetch → deadline ≤ clock
+        → asked_fetch version body ≡ Ok fetch → deadline ≤ clock
         → ready kept clock n (record { correlation_id = id; awaited = Records version body deadline })
-        ≡ Replies (fetch_reply.written (fetched (world_at kept clock) fetch).1) }
+        ≡ Replies (fetched_in version (fetched (world_at kept clock) fetch).1) }
     ensures answered { (kept : Kept) (clock n tenant : ℕ) (s : Session) (id version : ℤ) (body : List ℕ) (deadline : ℕ) (fetch : FetchRequest)
         → s.stage ≡ BoundTo tenant (Some (record { correlation_id = id; awaited = Records version body deadline }))
-        → whole fetch_request body ≡ Ok fetch → deadline ≤ clock
+        → asked_fetch version body ≡ Ok fetch → deadline ≤ clock
         → woken kept clock n s
-        ≡ replied id (fetch_reply.written (fetched (world_at kept clock) fetch).1) (record s { stage = without_wait s.stage }) }
+        ≡ replied id (fetched_in version (fetched (world_at kept clock) fetch).1) (record s { stage = without_wait s.stage }) }
 {}
 
 /// A connection never has more unread bytes than its limit, and one that was shut takes no piece.

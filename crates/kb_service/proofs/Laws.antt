@@ -1,14 +1,12 @@
 -- The laws of a tenant's requests, by those of its topics.
 use Rattle.std.proofs.Common.{◌≡◌, ◌∙◌, ℕ, ℤ, pos, List, None, Ok, ap, refl}
-use Rattle.kb_wire.specs.Codec.{whole}
-use Rattle.kb_api_data.specs.Layouts.{fetch_request}
 use Rattle.kb_api_data.specs.declared.fetch.FetchRequest.{FetchRequest}
 use Rattle.kb_coordinator.specs.Calls.{reply_among}
 use Rattle.kb_coordinator.specs.Groups.{Groups, silent}
 use Rattle.kb_world.specs.Tied.{IsTied}
 use Rattle.kb_world.specs.World.{World}
 use Rattle.kb_tenant.specs.Batches.{HasSmallLogs, HoldsBatches}
-use Rattle.kb_tenant.specs.Fetch.{fetch_answer, places_of}
+use Rattle.kb_tenant.specs.Fetch.{asked_fetch, fetch_answer, places_of}
 use Rattle.kb_tenant.specs.Replies as tenant_reaction
 use Rattle.kb_tenant.specs.Replies.{Replies, Silent}
 use Rattle.kb_tenant.specs.Waiting.{AreApart, HasOwnNames, StillWaits}
@@ -79,7 +77,7 @@ waits_unreleased node w gs n k key version body is = ap (told_to k) is ∙ silen
 same_plain : {x y : tenant_reaction.Reaction} → Plain x ≡ Plain y → x ≡ y
 same_plain h = cc
 
-pub served-holds : (node : Node) (w : World) (gs : Groups) (n : ℕ) (version : ℤ) (body bytes : List ℕ) (r : FetchRequest) → HasSmallLogs w → whole fetch_request body ≡ Ok r
-    → (served node w gs n (pos 1) version body).reaction ≡ replies bytes → HoldsBatches w r bytes
+pub served-holds : (node : Node) (w : World) (gs : Groups) (n : ℕ) (version : ℤ) (body bytes : List ℕ) (r : FetchRequest) → HasSmallLogs w → asked_fetch version body ≡ Ok r
+    → (served node w gs n (pos 1) version body).reaction ≡ replies bytes → HoldsBatches version w r bytes
 unfolding served
 served-holds node w gs n version body bytes r small read is = topics-hold node w n version body bytes r small read (same_plain is)

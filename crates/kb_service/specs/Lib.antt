@@ -1,3 +1,4 @@
+pub mod Acknowledged
 pub mod Hosted
 pub mod Replies
 pub mod Serve

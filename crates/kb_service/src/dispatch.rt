@@ -1,8 +1,10 @@
 //! A request of a tenant, by its key.
-ghost use Rattle.std.specs.Prelude.{◌≡◌, ◌≤◌, ◌^◌, []};
+ghost use Rattle.std.specs.Prelude.{◌≡◌, ◌≤◌, ◌^◌, [], pos, IfOk};
 ghost use Rattle.kb_wire.specs.Codec.{string};
+ghost use Rattle.kb_partitions.specs.Scene.{WhereHonest};
 ghost use Rattle.kb_world.specs.Parts.{scene};
 ghost use Rattle.kb_world.specs.Steps.{IsStep, Meets};
+ghost use Rattle.kb_service.specs.Acknowledged.{Acknowledges};
 ghost use Rattle.kb_service.specs.Serve.{has_released, served, AreGroupsAfter, AreGroupsBy, IsOutcome, IsServed};
 
 use crate::answer::{Answer, Served};
@@ -34,6 +36,8 @@ fn serve_by_key<L: PartitionLog + Drop, S: Store>(
     ensures step { IsStep (scene L.log S.disk parts.old shelf.old) (scene L.log S.disk parts.new shelf.new) }
     ensures meets { let a = scene L.log S.disk parts.old shelf.old in let b = scene L.log S.disk parts.new shelf.new in
         Meets a b (IsServed request.now.correlation_id (served node.now a.state.world groups.old request.now.connection request.now.api_key request.now.api_version request.now.body.now) b.state.world groups.new touched.new.items result) }
+    ensures acknowledged { let a = scene L.log S.disk parts.old shelf.old in let b = scene L.log S.disk parts.new shelf.new in
+        request.now.api_key ≡ pos 0 → IfOk result (λ answer. WhereHonest a b (Acknowledges request.now.correlation_id a.state.world request.now.body.now b.state.world touched.new.items answer)) }
     ensures groups { let a = scene L.log S.disk parts.old shelf.old in
         AreGroupsBy groups.old (served node.now a.state.world groups.old request.now.connection request.now.api_key request.now.api_version request.now.body.now).groups result groups.new }
 {
@@ -50,6 +54,20 @@ fn serve_by_key<L: PartitionLog + Drop, S: Store>(
             *touched = served.touched;
             Ok(Answer::Plain(served.answer))
         }
+    }
+}
+
+/// What became of a request after which its tenant has these groups.
+fn served_with(answer: Answer, touched: Vec<Place>, groups: &Coordinator) -> Served
+    ensures answer { result.answer ≡ answer }
+    ensures touched { result.touched ≡ touched }
+    ensures released { result.released ≡ has_released groups.now }
+{
+    let released = is_anyone_released(groups);
+    Served {
+        answer,
+        touched,
+        released,
     }
 }
 
@@ -72,23 +90,24 @@ pub fn serve<L: PartitionLog + Drop, S: Store>(
     ensures step { IsStep (scene L.log S.disk parts.old shelf.old) (scene L.log S.disk parts.new shelf.new) }
     ensures meets { let a = scene L.log S.disk parts.old shelf.old in let b = scene L.log S.disk parts.new shelf.new in
         Meets a b (IsOutcome request.now.correlation_id (served node.now a.state.world groups.old request.now.connection request.now.api_key request.now.api_version request.now.body.now) b.state.world groups.new result.touched.items result.answer) }
+    // A batch of a Produce that is answered with no error is in its partition's log, whatever else was refused.
+    ensures acknowledged { let a = scene L.log S.disk parts.old shelf.old in let b = scene L.log S.disk parts.new shelf.new in
+        request.now.api_key ≡ pos 0 → WhereHonest a b (Acknowledges request.now.correlation_id a.state.world request.now.body.now b.state.world result.touched.items result.answer) }
     ensures groups { let a = scene L.log S.disk parts.old shelf.old in
         AreGroupsAfter groups.old (served node.now a.state.world groups.old request.now.connection request.now.api_key request.now.api_version request.now.body.now).groups result.answer groups.new }
     ensures released { result.released ≡ has_released groups.new }
 {
     let mut touched = Vec::new(alloc);
-    let answer = match serve_by_key(alloc, parts, groups, shelf, node, request, &mut touched) {
-        Ok(answer) => answer,
-        Err(ReadFault::Wire(_)) => Answer::Plain(kb_tenant::Answer::Shut),
+    match serve_by_key(alloc, parts, groups, shelf, node, request, &mut touched) {
+        Ok(answer) => served_with(answer, touched, groups),
+        Err(ReadFault::Wire(_)) => served_with(
+            Answer::Plain(kb_tenant::Answer::Shut),
+            touched,
+            groups,
+        ),
         Err(ReadFault::Memory) => {
             parts.refuse();
-            Answer::Plain(kb_tenant::Answer::Shut)
+            served_with(Answer::Plain(kb_tenant::Answer::Shut), touched, groups)
         }
-    };
-    let released = is_anyone_released(groups);
-    Served {
-        answer,
-        touched,
-        released,
     }
 }

@@ -1,14 +1,12 @@
 //! Laws about the definitions, each as the contract of a function with an empty body. What they say of retention and of the time
 //! `kb_tenant`'s laws of the same names say.
 ghost use Rattle.std.specs.Prelude.{◌≡◌, ℕ, ℤ, pos, List, Ok, None};
-ghost use Rattle.kb_wire.specs.Codec.{whole};
-ghost use Rattle.kb_api_data.specs.Layouts.{fetch_request};
 ghost use Rattle.kb_api_data.specs.declared.fetch.FetchRequest.{FetchRequest};
 ghost use Rattle.kb_coordinator.specs.Groups.{Groups, silent};
 ghost use Rattle.kb_world.specs.Tied.{IsTied};
 ghost use Rattle.kb_world.specs.World.{World};
 ghost use Rattle.kb_tenant.specs.Batches.{HasSmallLogs, HoldsBatches};
-ghost use Rattle.kb_tenant.specs.Fetch.{fetch_answer, places_of};
+ghost use Rattle.kb_tenant.specs.Fetch.{asked_fetch, fetch_answer, places_of};
 ghost use Rattle.kb_tenant.specs.Replies.{Silent};
 ghost use Rattle.kb_tenant.specs.Waiting.{AreApart, HasOwnNames, StillWaits};
 ghost use Rattle.kb_tenant.specs.declared.node.Node.{Node};
@@ -45,14 +43,15 @@ pub fn group_waits_elsewhere()
         → told_to k (served node w gs n key version body).groups ≡ Silent }
 {}
 
-/// The ends and the batches of a world's logs stay within their limits, whatever is asked.
+/// The bounds and the batches of a world's logs stay within their limits, whatever is asked.
 pub fn logs_stay_small()
     ensures { (node : Node) (w : World) (gs : Groups) (n : ℕ) (key version : ℤ) (body : List ℕ) → HasSmallLogs w → HasSmallLogs (served node w gs n key version body).world }
 {}
 
 /// What a fetch (its key is 1) is answered at once: the one reply that the bytes spell, in which each partition without an error gives
-/// whole batches of its log as it is at that moment, one after the other, from the one that holds the asked offset.
+/// whole batches of its log as it is at that moment, one after the other, from the one that holds the asked offset, and from version 5
+/// on tells where that log starts.
 pub fn fetches_give_whole_batches()
-    ensures { (node : Node) (w : World) (gs : Groups) (n : ℕ) (version : ℤ) (body bytes : List ℕ) (r : FetchRequest) → HasSmallLogs w → whole fetch_request body ≡ Ok r
-        → (served node w gs n (pos 1) version body).reaction ≡ replies bytes → HoldsBatches w r bytes }
+    ensures { (node : Node) (w : World) (gs : Groups) (n : ℕ) (version : ℤ) (body bytes : List ℕ) (r : FetchRequest) → HasSmallLogs w → asked_fetch version body ≡ Ok r
+        → (served node w gs n (pos 1) version body).reaction ≡ replies bytes → HoldsBatches version w r bytes }
 {}

@@ -29,9 +29,9 @@ type Api = (i16, i16, i16, i16, i16);
 /// The APIs that are listed, by rising key (Kafka protocol guide, "Api Keys").
 const APIS: [Api; 18] = [
     (0, 3, 3, 3, 3), // Produce
-    (1, 4, 4, 4, 4), // Fetch
+    (1, 4, 5, 4, 5), // Fetch
     (2, 1, 1, 1, 1), // ListOffsets
-    (3, 1, 1, 1, 1), // Metadata
+    (3, 1, 1, 0, 4), // Metadata
     (8, 2, 2, 2, 2), // OffsetCommit
     (9, 1, 1, 1, 1), // OffsetFetch
     (10, 0, 0, 0, 0), // FindCoordinator
@@ -41,8 +41,8 @@ const APIS: [Api; 18] = [
     (14, 0, 0, 0, 0), // SyncGroup
     (17, 1, 1, 0, 1), // SaslHandshake
     (18, 0, 0, 0, 0), // ApiVersions
-    (19, 0, 0, 0, 0), // CreateTopics
-    (20, 0, 0, 0, 0), // DeleteTopics
+    (19, 0, 0, 0, 1), // CreateTopics
+    (20, 0, 0, 0, 1), // DeleteTopics
     (21, 0, 0, 0, 0), // DeleteRecords
     (22, 0, 0, 0, 0), // InitProducerId
     (36, 0, 0, 0, 0), // SaslAuthenticate
@@ -51,10 +51,11 @@ const APIS: [Api; 18] = [
 /// Which versions a broker lists, and so which it serves.
 #[derive(Clone, Copy, Debug, PartialEq, Eq)]
 pub enum Listing {
-    /// Each API at one version.
+    /// Each API at one version, but Fetch at 4 and 5.
     Served,
-    /// The same, and SaslHandshake from version 0 on. Older clients log in by that version, and librdkafka looks for it in the list
-    /// before it logs in by version 1.
+    /// The same, and what stock clients ask for beside: Metadata from 0 to 4, SaslHandshake from 0 on, and CreateTopics and
+    /// DeleteTopics up to 1. Older clients log in by SaslHandshake 0, and librdkafka looks for it in the list before it logs in by
+    /// version 1.
     StockClients,
 }
 

@@ -4,9 +4,9 @@ use Rattle.std.proofs.lemmas.List.Elements.{All-cons, All-nil}
 use Rattle.kb_wire.specs.Codec.{string, array, int}
 use Rattle.kb_wire.specs.Fits.{string_fits, array_fits, null_string_fits, blob_fits, nullable_blob_fits}
 use Rattle.kb_api_group.specs.Layouts.{request_header, sasl_handshake_request, sasl_authenticate_request}
-use Rattle.kb_api_data.specs.Layouts.{create_topics_request, create_topic, create_assignment, create_config, init_producer_id_request, produce_request, produce_topic, produce_partition, fetch_request, fetch_topic, fetch_partition}
-use Rattle.kb_api_data.specs.declared.fetch.FetchTopic.{FetchTopic}
-use Rattle.std.specs.Prelude.{pos}
+use Rattle.kb_api_data.specs.Layouts.{create_topics_request, create_topic, create_assignment, create_config, init_producer_id_request, produce_request, produce_topic, produce_partition, fetch_request_v5, fetch_topic_v5, fetch_partition_v5}
+use Rattle.kb_api_data.specs.declared.fetch_v5.FetchTopicV5.{FetchTopicV5}
+use Rattle.std.specs.Prelude.{pos, negsuc}
 use Rattle.kb_client.specs.Fetched.{fetch_topics}
 use Rattle.kb_api_data.specs.declared.create_topics.CreateTopic.{CreateTopic}
 use Rattle.kb_api_data.specs.declared.create_topics.CreateAssignment.{CreateAssignment}
@@ -56,15 +56,15 @@ unfolding produce_request int
 produce_fits t batch topics acks time short small is =
     (null_string_fits, (tt, (tt, subst (array produce_topic).Fits (sym is) (array_fits produce_topic _ (lit< tt) (All-cons produce_topic.Fits _ [] (produce_topic_fits t batch short small) (All-nil produce_topic.Fits))))))
 
-partition_asked : (index offset most : ℤ) → fetch_partition.Fits (record { partition = index; fetch_offset = offset; partition_max_bytes = most })
-unfolding fetch_partition int
-partition_asked index offset most = (tt, (tt, tt))
+partition_asked : (index offset start most : ℤ) → fetch_partition_v5.Fits (record { partition = index; fetch_offset = offset; log_start_offset = start; partition_max_bytes = most })
+unfolding fetch_partition_v5 int
+partition_asked index offset start most = (tt, (tt, (tt, tt)))
 
-topic_asked : (t : Target) (offset : ℤ) → length t.topic ≤ 255 → fetch_topic.Fits (record { topic = t.topic; partitions = record { partition = t.partition; fetch_offset = offset; partition_max_bytes = pos 1048576 } ∷ [] })
-unfolding fetch_topic
-topic_asked t offset short = (string_fits t.topic (omega (arith, short)), array_fits fetch_partition _ (lit< tt) (All-cons fetch_partition.Fits _ [] (partition_asked t.partition offset (pos 1048576)) (All-nil fetch_partition.Fits)))
+topic_asked : (t : Target) (offset : ℤ) → length t.topic ≤ 255 → fetch_topic_v5.Fits (record { topic = t.topic; partitions = record { partition = t.partition; fetch_offset = offset; log_start_offset = negsuc 0; partition_max_bytes = pos 1048576 } ∷ [] })
+unfolding fetch_topic_v5
+topic_asked t offset short = (string_fits t.topic (omega (arith, short)), array_fits fetch_partition_v5 _ (lit< tt) (All-cons fetch_partition_v5.Fits _ [] (partition_asked t.partition offset (negsuc 0) (pos 1048576)) (All-nil fetch_partition_v5.Fits)))
 
-pub fetch_fits : (t : Target) (offset replica wait least most level : ℤ) (topics : List FetchTopic) → length t.topic ≤ 255 → topics ≡ fetch_topics t offset → fetch_request.Fits (record { replica_id = replica; max_wait_ms = wait; min_bytes = least; max_bytes = most; isolation_level = level; topics = topics })
-unfolding fetch_request int
+pub fetch_fits : (t : Target) (offset replica wait least most level : ℤ) (topics : List FetchTopicV5) → length t.topic ≤ 255 → topics ≡ fetch_topics t offset → fetch_request_v5.Fits (record { replica_id = replica; max_wait_ms = wait; min_bytes = least; max_bytes = most; isolation_level = level; topics = topics })
+unfolding fetch_request_v5 int
 fetch_fits t offset replica wait least most level topics short is =
-    (tt, (tt, (tt, (tt, (tt, subst (array fetch_topic).Fits (sym is) (array_fits fetch_topic _ (lit< tt) (All-cons fetch_topic.Fits _ [] (topic_asked t offset short) (All-nil fetch_topic.Fits))))))))
+    (tt, (tt, (tt, (tt, (tt, subst (array fetch_topic_v5).Fits (sym is) (array_fits fetch_topic_v5 _ (lit< tt) (All-cons fetch_topic_v5.Fits _ [] (topic_asked t offset short) (All-nil fetch_topic_v5.Fits))))))))

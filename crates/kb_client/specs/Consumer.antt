@@ -3,7 +3,7 @@ use Rattle.std.specs.Prelude.{◌≡◌, ◌&&◌, ℕ, zero, suc, ℤ, pos, Boo
 use Rattle.std.specs.Ordering.{int_eq}
 use Rattle.kb_wire.specs.declared.fault.WireFault.{WireFault}
 use Rattle.kb_api_group.specs.Frames.{front}
-use Rattle.kb_api_data.specs.declared.fetch.FetchPartitionReply.{FetchPartitionReply}
+use Rattle.kb_api_data.specs.declared.fetch_v5.FetchPartitionReplyV5.{FetchPartitionReplyV5}
 use Rattle.kb_client.specs.declared.fault.ClientFault.{ClientFault}
 use Rattle.kb_client.specs.declared.fault.ClientFault.TheVariants as faults
 use Rattle.kb_client.specs.declared.stage.Ending.{Ending}
@@ -89,7 +89,7 @@ abbrev pub given : List ℕ → Consumer → Consumer
 given [] c = entered (at_end c.follow) c
 given (b ∷ records) c = with_found (found_in (b ∷ records) c.found) c
 
-abbrev pub fetched : Result FetchPartitionReply WireFault → Consumer → Consumer
+abbrev pub fetched : Result FetchPartitionReplyV5 WireFault → Consumer → Consumer
 fetched (Err fault) c = entered (stages.Ended endings.Protocol) c
 fetched (Ok reply) c = if int_eq reply.error_code (pos 0) then given (unwrap_or reply.records []) c else entered (stages.Ended (endings.Code reply.error_code)) c
 

@@ -5,17 +5,17 @@ use Rattle.kb_wire.specs.declared.fault.WireFault.{WireFault}
 use Rattle.kb_wire.specs.declared.fault.WireFault.TheVariants.{Bad}
 use Rattle.kb_wire.specs.Codec.{Codec, int32, string, count, whole, ◌⊗◌, ◌>>=◌}
 use Rattle.kb_api_group.specs.Frames.{Front, Whole, Partial, TooSmall, TooLarge}
-use Rattle.kb_api_data.specs.Layouts.{fetch_request, fetch_partition_reply}
-use Rattle.kb_api_data.specs.declared.fetch.FetchTopic.{FetchTopic}
-use Rattle.kb_api_data.specs.declared.fetch.FetchPartitionReply.{FetchPartitionReply}
+use Rattle.kb_api_data.specs.Layouts.{fetch_request_v5, fetch_partition_reply_v5}
+use Rattle.kb_api_data.specs.declared.fetch_v5.FetchTopicV5.{FetchTopicV5}
+use Rattle.kb_api_data.specs.declared.fetch_v5.FetchPartitionReplyV5.{FetchPartitionReplyV5}
 use Rattle.kb_client.specs.declared.arrival.Arrival.{Arrival}
 use Rattle.kb_client.specs.declared.arrival.Arrival.TheVariants as arrivals
 use Rattle.kb_client.specs.Sent.{Target}
 use Rattle.kb_client.specs.Requests.{request_text}
 
--- the topic of a Fetch request, with the partition: at most 1 MiB from an offset on
-abbrev pub fetch_topics : Target → ℤ → List FetchTopic
-fetch_topics t offset = record { topic = t.topic; partitions = record { partition = t.partition; fetch_offset = offset; partition_max_bytes = pos 1048576 } ∷ [] } ∷ []
+-- the topic of a Fetch request, with the partition: at most 1 MiB from an offset on, of one that has no log
+abbrev pub fetch_topics : Target → ℤ → List FetchTopicV5
+fetch_topics t offset = record { topic = t.topic; partitions = record { partition = t.partition; fetch_offset = offset; log_start_offset = negsuc 0; partition_max_bytes = pos 1048576 } ∷ [] } ∷ []
 
 -- how long a reply may wait for a byte
 abbrev pub patience : Bool → ℤ
@@ -24,7 +24,7 @@ patience false = pos 0
 
 -- Fetch of one partition, as a client that is no replica
 abbrev pub fetch_text : ℤ → Target → ℤ → Bool → List ℕ
-fetch_text id t offset follow = request_text (pos 1) (pos 4) id (fetch_request.written (record {
+fetch_text id t offset follow = request_text (pos 1) (pos 5) id (fetch_request_v5.written (record {
   replica_id = negsuc 0;
   max_wait_ms = patience follow;
   min_bytes = pos 1;
@@ -34,10 +34,10 @@ fetch_text id t offset follow = request_text (pos 1) (pos 4) id (fetch_request.w
 }))
 
 -- Fetch of one partition: an array of one topic, which has an array of one partition
-abbrev pub one_fetched : Codec (ℤ × (ℕ × (List ℕ × (ℕ × FetchPartitionReply))))
-one_fetched = int32 ⊗ count w32 ⊗ string ⊗ count w32 ⊗ fetch_partition_reply
+abbrev pub one_fetched : Codec (ℤ × (ℕ × (List ℕ × (ℕ × FetchPartitionReplyV5))))
+one_fetched = int32 ⊗ count w32 ⊗ string ⊗ count w32 ⊗ fetch_partition_reply_v5
 
-abbrev pub fetched_partition : List ℕ → Result FetchPartitionReply WireFault
+abbrev pub fetched_partition : List ℕ → Result FetchPartitionReplyV5 WireFault
 fetched_partition body = whole one_fetched body >>= λ v. if (v.1.0 == 1) && (v.1.1.1.0 == 1) then Ok v.1.1.1.1 else Err Bad
 
 -- What the bytes are that came since a request: nothing may stand behind the reply.

@@ -6,7 +6,7 @@ ghost use Rattle.kb_client.specs.Fetched.{fetched_partition};
 ghost use Rattle.kb_client.specs.Replies.{body_for, handshake_code, authenticate_code, create_code, identity, produce_code, PartitionAt};
 
 use crate::stage::ProducerId;
-use kb_api_data::{FetchPartitionReply, ProducePartitionReply};
+use kb_api_data::{FetchPartitionReplyV5, ProducePartitionReply};
 use kb_wire::{Cursor, Layout, ReadFault, WireFault};
 use std::alloc::Global;
 
@@ -113,7 +113,7 @@ fn partition(cursor: &mut Cursor<'_>) -> Result<ProducePartitionReply, WireFault
 pub fn fetched_partition<'a>(
     alloc: Global,
     body: &'a [u8],
-) -> Result<FetchPartitionReply<'a>, ReadFault>
+) -> Result<FetchPartitionReplyV5<'a>, ReadFault>
     ensures { ReadsWhole (fetched_partition body.now) result }
 {
     let mut cursor = Cursor::new(body);
@@ -121,7 +121,7 @@ pub fn fetched_partition<'a>(
     let topics = cursor.count()?;
     cursor.string()?;
     let partitions = cursor.count()?;
-    let reply = FetchPartitionReply::read_from(alloc, &mut cursor)?;
+    let reply = FetchPartitionReplyV5::read_from(alloc, &mut cursor)?;
     if !cursor.at_end() {
         return Err(ReadFault::Wire(WireFault::Bad));
     }

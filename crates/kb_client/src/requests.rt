@@ -8,7 +8,7 @@ use crate::line::Line;
 use crate::stage::ProducerId;
 use crate::target::Target;
 use kb_api_data::{
-    CreateTopic, CreateTopicsRequest, FetchPartition, FetchRequest, FetchTopic,
+    CreateTopic, CreateTopicsRequest, FetchPartitionV5, FetchRequestV5, FetchTopicV5,
     InitProducerIdRequest, ProducePartition, ProduceRequest, ProduceTopic,
 };
 use kb_api_group::{RequestHeader, SaslAuthenticateRequest, SaslHandshakeRequest};
@@ -36,6 +36,9 @@ const FETCH_FIELDS: usize = 64;
 
 /// The most bytes of records that are asked for.
 const MAX_FETCH_BYTES: i32 = 1_048_576;
+
+/// The start of a log of one's own, which only a replica has.
+const NO_LOG_START: i64 = -1;
 
 /// How long a reply may wait for a byte, in milliseconds, where more is waited for.
 const MAX_WAIT_MS: i32 = 500;
@@ -206,17 +209,18 @@ fn fetch_topics_of<'a>(
     alloc: Global,
     target: &'a Target,
     offset: i64,
-) -> Result<Array<FetchTopic<'a>>, AllocError>
+) -> Result<Array<FetchTopicV5<'a>>, AllocError>
     ensures { IfOk result (λ topics. topics ≡ fetch_topics target.now offset) }
 {
     let mut partitions = Array::new(alloc);
-    partitions.push(FetchPartition {
+    partitions.push(FetchPartitionV5 {
         partition: target.partition(),
         fetch_offset: offset,
+        log_start_offset: NO_LOG_START,
         partition_max_bytes: MAX_FETCH_BYTES,
     })?;
     let mut topics = Array::new(alloc);
-    topics.push(FetchTopic {
+    topics.push(FetchTopicV5 {
         topic: Text::new(target.topic()),
         partitions,
     })?;
@@ -240,7 +244,7 @@ pub fn fetch(
 ) -> Result<Vec<u8>, AllocError>
     ensures { IfOk result (λ text. text.items ≡ fetch_text id target.now offset follow) }
 {
-    let body = FetchRequest {
+    let body = FetchRequestV5 {
         replica_id: -1,
         max_wait_ms: patience(follow),
         min_bytes: 1,
@@ -249,5 +253,5 @@ pub fn fetch(
         topics: fetch_topics_of(alloc, target, offset)?,
     };
     let room = FETCH_FIELDS + target.topic().len();
-    request(alloc, (FETCH, 4), id, &body, room)
+    request(alloc, (FETCH, 5), id, &body, room)
 }

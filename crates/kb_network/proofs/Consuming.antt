@@ -513,35 +513,35 @@ abbrev offset_of : World → ℤ
 offset_of w = w.core.found.offset
 
 abbrev frame_of : World → List ℕ
-frame_of w = request_header.written (header (pos 1) (pos 4) (pos 3)) ++ fetch_body w.core.target (offset_of w) w.core.follow
+frame_of w = request_header.written (header (pos 1) (pos 5) (pos 3)) ++ fetch_body w.core.target (offset_of w) w.core.follow
 
 abbrev read_of : ℕ → World → List (List ℕ)
 read_of n w = answered (fitting n (offset_of w) w.batches) (offset_of w) w.batches
 
 abbrev body_of : ℕ → World → List ℕ
-body_of n w = fetched_reply (fetch_at w.core.target (offset_of w)) (pos (length w.batches)) (joined (read_of n w))
+body_of n w = fetched_reply (fetch_at w.core.target (offset_of w)) w.start (pos (length w.batches)) (joined (read_of n w))
 
 fetch_whole : (w : World) (text : List ℕ) → text ≡ fetch_text (pos 3) w.core.target (offset_of w) w.core.follow → IsTyped w.core.target → front text ≡ Whole (frame_of w) []
 unfolding fetch_body ask
-fetch_whole w text is typed = ap front is ∙ front_request (pos 1) (pos 4) (pos 3) (fetch_body w.core.target (offset_of w) w.core.follow) (fetch_short w.core.target (offset_of w) w.core.follow typed.short.topic)
+fetch_whole w text is typed = ap front is ∙ front_request (pos 1) (pos 5) (pos 3) (fetch_body w.core.target (offset_of w) w.core.follow) (fetch_short w.core.target (offset_of w) w.core.follow typed.short.topic)
 
 fetch_found : (w : World) → IsTyped w.core.target → FitsSigned w64 (offset_of w) → fetch_of (frame_of w) ≡ Some (fetch_at w.core.target (offset_of w))
 unfolding fetch_of header
-fetch_found w typed fits = ap fetch_in (header_read (pos 1) (pos 4) (pos 3) (fetch_body w.core.target (offset_of w) w.core.follow) (record { sfits = lit< tt }) (record { sfits = lit< tt }) (record { sfits = lit< tt })) ∙ fetch_asked w.core.target (offset_of w) w.core.follow typed.short.topic typed.topic typed.partition fits
+fetch_found w typed fits = ap fetch_in (header_read (pos 1) (pos 5) (pos 3) (fetch_body w.core.target (offset_of w) w.core.follow) (record { sfits = lit< tt }) (record { sfits = lit< tt }) (record { sfits = lit< tt })) ∙ fetch_asked w.core.target (offset_of w) w.core.follow typed.short.topic typed.topic typed.partition fits
 
 fetch_id : (w : World) → (request (frame_of w)).correlation_id ≡ pos 3
-fetch_id w = ap (λ q. q.correlation_id) (request_read (pos 1) (pos 4) (pos 3) (fetch_body w.core.target (offset_of w) w.core.follow) (record { sfits = lit< tt }) (record { sfits = lit< tt }) (record { sfits = lit< tt }))
+fetch_id w = ap (λ q. q.correlation_id) (request_read (pos 1) (pos 5) (pos 3) (fetch_body w.core.target (offset_of w) w.core.follow) (record { sfits = lit< tt }) (record { sfits = lit< tt }) (record { sfits = lit< tt }))
 
 fetch_hears : (n : ℕ) (w : World) → IsTyped w.core.target → length (joined (read_of n w)) ≤ 1048588 → FetchAs (int32.written (pos 3) ++ body_of n w) (read_of n w)
 unfolding partition_value
-fetch_hears n w typed small c at = hears_at stages.Fetch c (pos 3) (body_of n w) at refl (record { sfits = lit< tt }) ∙ ap (λ x. consumers.fetched x c) (fetched_heard (fetch_at w.core.target (offset_of w)) (pos (length w.batches)) (joined (read_of n w)) typed.short.topic typed.topic typed.partition small)
+fetch_hears n w typed small c at = hears_at stages.Fetch c (pos 3) (body_of n w) at refl (record { sfits = lit< tt }) ∙ ap (λ x. consumers.fetched x c) (fetched_heard (fetch_at w.core.target (offset_of w)) w.start (pos (length w.batches)) (joined (read_of n w)) typed.short.topic typed.topic typed.partition small)
 
 fetch_served : (offset : ℤ) (wanted : Option ℕ) (follow : Bool) (n : ℕ) (w : World) (h : Holds offset wanted follow w) → h.reply ≡ None → IsAsking w → w.core.stage ≡ stages.Fetch → w.greeter.unread ++ w.requests ≡ fetch_text (pos 3) w.core.target (offset_of w) w.core.follow → w.greeter.login ≡ LoggedIn → (to : List ℕ) → w.requests ≡ to → Holds offset wanted follow (served_at n (front w.greeter.unread) w)
 fetch_served offset wanted follow n w h none a at text ready (b ∷ to) left = part_served offset wanted follow n w (frame_of w) b to h (fetch_whole w (w.greeter.unread ++ w.requests) text h.typed) left
 fetch_served offset wanted follow n w h none a at text ready [] left =
     let whole : front w.greeter.unread ≡ Whole (frame_of w) [] = ap front (unread_is w left) ∙ fetch_whole w (w.greeter.unread ++ w.requests) text h.typed in
     let small : length (joined (read_of n w)) ≤ 1048588 = fitting_small n (offset_of w) w.start w.batches h.holds.log in
-    let len : length (body_of n w) ≡ 44 + length w.core.target.topic + length (joined (read_of n w)) = fetched_reply_len (fetch_at w.core.target (offset_of w)) (pos (length w.batches)) (joined (read_of n w)) in
+    let len : length (body_of n w) ≡ 52 + length w.core.target.topic + length (joined (read_of n w)) = fetched_reply_len (fetch_at w.core.target (offset_of w)) w.start (pos (length w.batches)) (joined (read_of n w)) in
     let is : served_at n (front w.greeter.unread) w ≡ record w { greeter = bare w.greeter; answers = w.answers ++ reply_text (pos 3) (Some (body_of n w)); met = length w.batches } =
     ap (λ f. served_at n f w) whole ∙ ap (λ o. served_by o n (frame_of w) (bare w.greeter) w) (fetch_found w h.typed h.fits) ∙ ap (λ i. fetched w.greeter.login n i (fetch_at w.core.target (offset_of w)) (bare w.greeter) w) (fetch_id w) ∙ ap (λ l. fetched l n (pos 3) (fetch_at w.core.target (offset_of w)) (bare w.greeter) w) ready in
     subst (Holds offset wanted follow) (sym is) (record {

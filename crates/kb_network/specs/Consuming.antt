@@ -8,10 +8,10 @@ use Rattle.kb_api_group.specs.Frames.{Front, Whole, Partial, TooSmall, TooLarge,
 use Rattle.kb_api_group.specs.Layouts.{request_header}
 use Rattle.kb_api_group.specs.declared.header.RequestHeader.{RequestHeader}
 use Rattle.kb_api_group.specs.declared.plain.PlainLogin.{PlainLogin}
-use Rattle.kb_api_data.specs.Layouts.{fetch_request, fetch_reply}
-use Rattle.kb_api_data.specs.declared.fetch.FetchRequest.{FetchRequest}
-use Rattle.kb_api_data.specs.declared.fetch.FetchTopic.{FetchTopic}
-use Rattle.kb_api_data.specs.declared.fetch.FetchPartition.{FetchPartition}
+use Rattle.kb_api_data.specs.Layouts.{fetch_request_v5, fetch_reply_v5}
+use Rattle.kb_api_data.specs.declared.fetch_v5.FetchRequestV5.{FetchRequestV5}
+use Rattle.kb_api_data.specs.declared.fetch_v5.FetchTopicV5.{FetchTopicV5}
+use Rattle.kb_api_data.specs.declared.fetch_v5.FetchPartitionV5.{FetchPartitionV5}
 use Rattle.kb_client.specs.declared.fault.ClientFault.{ClientFault}
 use Rattle.kb_client.specs.Sent.{Target, HasShortTexts}
 use Rattle.kb_client.specs.declared.fetching.Fetching.TheVariants as stages
@@ -60,23 +60,23 @@ pub record Fetch : Type 0 where
   pub index : ℤ
   pub offset : ℤ
 
-abbrev pub part_in : List ℕ → List FetchPartition → Option Fetch
+abbrev pub part_in : List ℕ → List FetchPartitionV5 → Option Fetch
 part_in topic [] = None
 part_in topic (p ∷ []) = Some (record { topic = topic; index = p.partition; offset = p.fetch_offset })
 part_in topic (p ∷ q ∷ ps) = None
 
-abbrev pub part_of : List FetchTopic → Option Fetch
+abbrev pub part_of : List FetchTopicV5 → Option Fetch
 part_of [] = None
 part_of (t ∷ []) = part_in t.topic t.partitions
 part_of (t ∷ u ∷ ts) = None
 
-abbrev pub if_fetch : Result FetchRequest WireFault → Option Fetch
+abbrev pub if_fetch : Result FetchRequestV5 WireFault → Option Fetch
 if_fetch (Err fault) = None
 if_fetch (Ok v) = part_of v.topics
 
 abbrev pub fetch_in : Result (RequestHeader × List ℕ) WireFault → Option Fetch
 fetch_in (Err fault) = None
-fetch_in (Ok h) = if int_eq h.0.api_key (pos 1) && int_eq h.0.api_version (pos 4) then if_fetch (whole fetch_request h.1) else None
+fetch_in (Ok h) = if int_eq h.0.api_key (pos 1) && int_eq h.0.api_version (pos 5) then if_fetch (whole fetch_request_v5 h.1) else None
 
 -- the fetch that a frame is, if it is one
 unfoldable pub fetch_of : List ℕ → Option Fetch
@@ -86,10 +86,11 @@ fetch_of frame = fetch_in (request_header.read frame)
 abbrev pub fitting : ℕ → ℤ → List (List ℕ) → ℕ
 fitting n offset batches = if nat_lt 1048588 (length (joined (answered n offset batches))) then 0 else n
 
-abbrev pub fetched_reply : Fetch → ℤ → List ℕ → List ℕ
-fetched_reply f end records = fetch_reply.written (record {
+-- the reply to a fetch of a log that begins at `start`
+abbrev pub fetched_reply : Fetch → ℤ → ℤ → List ℕ → List ℕ
+fetched_reply f start end records = fetch_reply_v5.written (record {
   throttle_time_ms = pos 0;
-  topics = record { topic = f.topic; partitions = record { partition = f.index; error_code = pos 0; high_watermark = end; last_stable_offset = end; aborted_transactions = None; records = Some records } ∷ [] } ∷ [];
+  topics = record { topic = f.topic; partitions = record { partition = f.index; error_code = pos 0; high_watermark = end; last_stable_offset = end; log_start_offset = start; aborted_transactions = None; records = Some records } ∷ [] } ∷ [];
 })
 
 abbrev pub with_outcome : ℤ → Outcome → World → World
@@ -97,7 +98,7 @@ with_outcome id o w = record w { greeter = o.receiver; answers = w.answers ++ re
 
 -- a fetch is answered to whoever is logged in: any other is shut
 abbrev pub fetched : Login → ℕ → ℤ → Fetch → Receiver → World → World
-fetched LoggedIn n id f r w = record w { greeter = r; answers = w.answers ++ reply_text id (Some (fetched_reply f (pos (length w.batches)) (joined (answered (fitting n f.offset w.batches) f.offset w.batches)))); met = length w.batches }
+fetched LoggedIn n id f r w = record w { greeter = r; answers = w.answers ++ reply_text id (Some (fetched_reply f w.start (pos (length w.batches)) (joined (answered (fitting n f.offset w.batches) f.offset w.batches)))); met = length w.batches }
 fetched Greets n id f r w = with_outcome id (shuts r) w
 fetched Shaken n id f r w = with_outcome id (shuts r) w
 fetched Shut n id f r w = with_outcome id (shuts r) w

@@ -23,8 +23,8 @@ pub(crate) enum Step<'a> {
     At(u64),
 }
 
-/// `ann` on connection 1 and `bob` on connection 2 make a topic of one name, append to it and fetch.
-pub(crate) const ALTERNATING: [Step<'static>; 16] = [
+/// `ann` on connection 1 and `bob` on connection 2 make a topic of one name, append to it and fetch, by both versions of Fetch.
+pub(crate) const ALTERNATING: [Step<'static>; 18] = [
     Open(1),
     Open(2),
     In(1, "handshake", "offered"),
@@ -41,6 +41,8 @@ pub(crate) const ALTERNATING: [Step<'static>; 16] = [
     In(2, "append-yo", "appended-0"),
     In(1, "fetch", "fetched-hi"),
     In(2, "fetch", "fetched-yo"),
+    In(1, "fetch-5", "fetched-5-hi"),
+    In(2, "fetch-5", "fetched-5-yo"),
 ];
 
 /// A fetch of `ann` waits, and so does what stands behind it. A batch of another tenant's topic of that name is nothing to it; one
@@ -92,7 +94,7 @@ pub(crate) const OF_ANN: [Step<'static>; 22] = [
     In(1, "share commit-of-2", "shared-nothing committed"),
     Close(1),
     Shut(2, "metadata", ""),
-    In(3, "fetch leave-second", "fetched-hi gone"),
+    In(3, "fetch-5 leave-second", "fetched-5-hi gone"),
     In(3, "fetch delete-second", "fetched-hi not-deleted"),
     In(3, "delete-first fetch", "deleted-first past"),
     Shut(3, "00000007", ""),
@@ -120,7 +122,7 @@ pub(crate) const OF_BOB: [Step<'static>; 20] = [
     In(1, "ask-offset", "no-offset"),
     Close(2),
     In(1, "leave-second metadata", "gone described"),
-    In(1, "fetch", "fetched-yo"),
+    In(1, "fetch-5", "fetched-5-yo"),
 ];
 
 /// Two tenants make a topic of one name. The store refuses the first one's batch, and takes it when it comes again.

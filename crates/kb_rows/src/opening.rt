@@ -16,9 +16,9 @@ type Visit = (&'static [&'static str], &'static str, bool);
 
 /// What stock clients are listed, and behind it what a user is told who is let in.
 const STOCK_LET_IN: &str =
-    "00000076 00000001 0000 00000012 0000 0003 0003 0001 0004 0004 0002 0001 0001 0003 0001 0001 \
+    "00000076 00000001 0000 00000012 0000 0003 0003 0001 0004 0005 0002 0001 0001 0003 0000 0004 \
     0008 0002 0002 0009 0001 0001 000a 0000 0000 000b 0001 0001 000c 0000 0000 000d 0000 0000 \
-    000e 0000 0000 0011 0000 0001 0012 0000 0000 0013 0000 0000 0014 0000 0000 0015 0000 0000 \
+    000e 0000 0000 0011 0000 0001 0012 0000 0000 0013 0000 0001 0014 0000 0001 0015 0000 0000 \
     0016 0000 0000 0024 0000 0000 offered welcome";
 
 /// SaslHandshake of `PLAIN` at version 0, behind which the message of PLAIN comes as a frame of its own.
@@ -58,14 +58,121 @@ const STOCK: [Visit; 6] = [
     ),
 ];
 
-/// Connections to a broker of one version each: a handshake of version 0 shuts, and one of version 2.
-const PLAIN_VISITS: [Visit; 2] = [
+/// Metadata of versions 0, with no topics, 2, of all topics and of none, 3, of all topics, and 4, of `t`.
+const METADATA_0: &str = "0000000e 0003 0000 0000000c ffff 00000000";
+
+const METADATA_2: &str = "0000000e 0003 0002 0000000c ffff ffffffff";
+
+const NONE_OF_METADATA_2: &str = "0000000e 0003 0002 0000000c ffff 00000000";
+
+const METADATA_3: &str = "0000000e 0003 0003 0000000c ffff ffffffff";
+
+const METADATA_4: &str = "00000012 0003 0004 0000000c ffff 00000001 0001 74 01";
+
+/// CreateTopics of version 1 for `t`, which is only checked, and which is made; and DeleteTopics of version 1.
+const CHECK_T: &str =
+    "00000024 0013 0001 0000000a ffff 00000001 0001 74 00000001 0001 00000000 00000000 00001388 01";
+
+const MAKE_T: &str =
+    "00000024 0013 0001 0000000a ffff 00000001 0001 74 00000001 0001 00000000 00000000 00001388 00";
+
+/// CreateTopics of version 1 that names `t` twice.
+const TWICE_T: &str =
+    "00000035 0013 0001 0000000a ffff 00000002 0001 74 00000001 0001 00000000 00000000 \
+    0001 74 00000001 0001 00000000 00000000 00001388 00";
+
+const DELETE_T: &str = "00000015 0014 0001 0000000d ffff 00000001 0001 74 00001388";
+
+/// A session by these versions. No topics of Metadata 0 are all, of which there is none at first. A topic that is only checked is
+/// answered as made, and is unknown. One that is made is told by each version in its layout: 0 without racks and controller, 2 with
+/// a cluster's id, 3 and 4 with a throttle time too. Then `t` is there, and checking says so; at last it is deleted.
+///
+/// Behind it a name that stands twice is refused, and no topic is made; and the version above the greatest of each of these APIs
+/// shuts.
+const SESSION: [Visit; 5] = [
+    (
+        &[
+            "handshake",
+            "ann",
+            METADATA_0,
+            CHECK_T,
+            METADATA_4,
+            MAKE_T,
+            METADATA_0,
+            METADATA_2,
+            NONE_OF_METADATA_2,
+            METADATA_3,
+            METADATA_4,
+            CHECK_T,
+            DELETE_T,
+        ],
+        "offered welcome \
+    0000001f 0000000c 00000001 00000000 0009 6c6f63616c686f7374 00002384 00000000 \
+    0000000f 0000000a 00000001 0001 74 0000 ffff \
+    00000035 0000000c 00000000 00000001 00000000 0009 6c6f63616c686f7374 00002384 ffff ffff 00000000 \
+    00000001 0003 0001 74 00 00000000 \
+    0000000f 0000000a 00000001 0001 74 0000 ffff \
+    00000042 0000000c 00000001 00000000 0009 6c6f63616c686f7374 00002384 \
+    00000001 0000 0001 74 00000001 0000 00000000 00000000 00000001 00000000 00000001 00000000 \
+    0000004b 0000000c 00000001 00000000 0009 6c6f63616c686f7374 00002384 ffff ffff 00000000 \
+    00000001 0000 0001 74 00 00000001 0000 00000000 00000000 00000001 00000000 00000001 00000000 \
+    00000027 0000000c 00000001 00000000 0009 6c6f63616c686f7374 00002384 ffff ffff 00000000 00000000 \
+    0000004f 0000000c 00000000 00000001 00000000 0009 6c6f63616c686f7374 00002384 ffff ffff 00000000 \
+    00000001 0000 0001 74 00 00000001 0000 00000000 00000000 00000001 00000000 00000001 00000000 \
+    0000004f 0000000c 00000000 00000001 00000000 0009 6c6f63616c686f7374 00002384 ffff ffff 00000000 \
+    00000001 0000 0001 74 00 00000001 0000 00000000 00000000 00000001 00000000 00000001 00000000 \
+    0000000f 0000000a 00000001 0001 74 0024 ffff \
+    00000011 0000000d 00000000 00000001 0001 74 0000",
+        false,
+    ),
+    (
+        &["handshake", "ann", TWICE_T, METADATA_0],
+        "offered welcome 00000016 0000000a 00000002 0001 74 002a ffff 0001 74 002a ffff \
+        0000001f 0000000c 00000001 00000000 0009 6c6f63616c686f7374 00002384 00000000",
+        false,
+    ),
+    (
+        &[
+            "handshake",
+            "ann",
+            "00000012 0003 0005 0000000c ffff 00000001 0001 74 01",
+        ],
+        "offered welcome",
+        true,
+    ),
+    (
+        &[
+            "handshake",
+            "ann",
+            "00000024 0013 0002 0000000a ffff 00000001 0001 74 00000001 0001 00000000 00000000 00001388 00",
+        ],
+        "offered welcome",
+        true,
+    ),
+    (
+        &[
+            "handshake",
+            "ann",
+            "00000015 0014 0002 0000000d ffff 00000001 0001 74 00001388",
+        ],
+        "offered welcome",
+        true,
+    ),
+];
+
+/// Connections to a broker of one version each: a handshake of version 0 shuts, and one of version 2. So do the versions that only
+/// stock clients are listed.
+const PLAIN_VISITS: [Visit; 6] = [
     (&[OLD_HANDSHAKE], "", true),
     (
         &["00000011 0011 0002 00000002 ffff 0005 504c41494e"],
         "",
         true,
     ),
+    (&["handshake", "ann", METADATA_0], "offered welcome", true),
+    (&["handshake", "ann", METADATA_4], "offered welcome", true),
+    (&["handshake", "ann", MAKE_T], "offered welcome", true),
+    (&["handshake", "ann", DELETE_T], "offered welcome", true),
 ];
 
 /// Each connection comes in turn, and gets what it is to get. Its pieces come cut to at most so many bytes.
@@ -162,6 +269,7 @@ fn stock_clients(rt: HostRuntime) -> Result<(), Fail> {
     let mut broker = opened(rt.alloc(), &settings, Listing::StockClients)?;
     for most in [usize::MAX, 3, 1] {
         are_visited(&rt, rt.alloc(), &mut broker, &STOCK, most)?;
+        are_visited(&rt, rt.alloc(), &mut broker, &SESSION, most)?;
     }
     Ok(())
 }

@@ -4,12 +4,13 @@
 use std::alloc::{AllocError, Global};
 use std::process::Abort;
 
-/// Requests and replies, one a line, each with a space and its digits: SaslHandshake of `PLAIN`, the logins of `ann` of tenant `a`
-/// and of `bob` of tenant `b`, a mechanism that is not known, a second login, one with a wrong password, ApiVersions, CreateTopics of `t` twice, Metadata of all topics, Produce to `t` of a batch of one
-/// record with value `hi` or `yo`, Fetch of `t` from 0 on, and one that waits for a second for what comes at 1. Behind them stand
-/// their replies. Then come a Fetch that waits for 100 bytes at 1, replies to what is out of range, and DeleteRecords of `t` to 1 and
-/// to 2, with theirs; OffsetCommit of 5 to `t`, and OffsetFetch, with theirs; and joins, heartbeats, syncs, a commit and a leave of
-/// the first and the second member of group `g`, with theirs. Generations are 1 and, once the second member is in, 2.
+/// Requests and replies, one a line, each with a space and its digits: SaslHandshake of `PLAIN`, the logins of `ann` of tenant
+/// `a` and of `bob` of tenant `b`, a mechanism that is not known, a second login, one with a wrong password, ApiVersions,
+/// CreateTopics of `t` twice, Metadata of all topics, Produce to `t` of a batch of one record with value `hi` or `yo`, Fetch of
+/// `t` from 0 on by version 4 and by 5, and one that waits for a second for what comes at 1. Behind them stand their replies.
+/// Then come a Fetch that waits for 100 bytes at 1, replies to what is out of range, and DeleteRecords of `t` to 1 and to 2, with
+/// theirs; OffsetCommit of 5 to `t`, and OffsetFetch, with theirs; and joins, heartbeats, syncs, a commit and a leave of the
+/// first and the second member of group `g`, with theirs. Generations are 1 and, once the second member is in, 2.
 const MESSAGES: &str = "\
     handshake 000000110011000100000002ffff0005504c41494e\n\
     offered 00000011000000020000000000010005504c41494e\n\
@@ -23,7 +24,7 @@ const MESSAGES: &str = "\
     bob 000000160024000000000003ffff0000000800626f6200707732\n\
     welcome 0000000c000000030000ffff00000000\n\
     versions 0000000a0012000000000001ffff\n\
-    served 0000007600000001000000000012000000030003000100040004000200010001000300010001000800020002000900010001000a00000\
+    served 0000007600000001000000000012000000030003000100040005000200010001000300010001000800020002000900010001000a00000\
     000000b00010001000c00000000000d00000000000e0000000000110001000100120000000000130000000000140000000000150000000000160\
     0000000002400000000\n\
     create 00000023001300000000000affff00000001000174000000010001000000000000000000001388\n\
@@ -49,6 +50,14 @@ const MESSAGES: &str = "\
     fetched-yo 000000770000001500000000000000010001740000000100000000000000000000000000010000000000000001ffffffff0000004\
     600000000000000000000003a0000000002cd8f11ea00000000000000000000000000050000000000000005ffffffffffffffffffffffffffff0\
     0000001100000000104796f00\n\
+    fetch-5 0000003e0001000500000047ffffffffffff000000000000000100100000000000000100017400000001000000000000000000000\
+    000ffffffffffffffff00100000\n\
+    fetched-5-hi 0000007f00000047000000000000000100017400000001000000000000000000000000000100000000000000010000000000\
+    000000ffffffff0000004600000000000000000000003a000000000271a3af2c00000000000000000000000000050000000000000005ffff\
+    ffffffffffffffffffffffff00000001100000000104686900\n\
+    fetched-5-yo 0000007f00000047000000000000000100017400000001000000000000000000000000000100000000000000010000000000\
+    000000ffffffff0000004600000000000000000000003a0000000002cd8f11ea00000000000000000000000000050000000000000005ffff\
+    ffffffffffffffffffffffff00000001100000000104796f00\n\
     wait 000000360001000400000016ffffffffffff000003e80000000100100000000000000100017400000001000000000000000000000001001\
     00000\n\
     nothing-came 00000031000000160000000000000001000174000000010000000000000000000000000001000000000000000\

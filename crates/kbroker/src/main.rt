@@ -86,7 +86,7 @@ fn command<'a>(alloc: Global) -> Result<Command<'a>, AllocError> {
         .arg(config(alloc))?;
     let stock_clients = Arg::new(alloc, "stock-clients")
         .long("stock-clients")
-        .help("Lists and serves SaslHandshake 0 too, which stock clients ask for")
+        .help("Lists and serves the versions too that only stock clients ask for")
         .action(ArgAction::SetTrue);
     let quiet = Arg::new(alloc, "quiet")
         .long("quiet")

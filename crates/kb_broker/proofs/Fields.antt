@@ -6,7 +6,7 @@ use Rattle.std.specs.FinMap as fin
 use Rattle.std.specs.List.{AllByRecursion, remove}
 use Rattle.std.proofs.Math.Seq.{take-suc}
 use Rattle.std.proofs.lemmas.Bool.Decides.{nat_tests}
-use Rattle.kb_waits.specs.Queue.{AreParked, Queue}
+use Rattle.kb_waits.specs.Queue.{Queue}
 use Rattle.kb_service.specs.Hosted.{TenantState}
 use Rattle.kb_machine.specs.Tenant.{Wait}
 use Rattle.kb_machine.specs.Session.{Stage, Greets, BoundTo, Session, fresh, is_free, fed, without_wait, shut_down}

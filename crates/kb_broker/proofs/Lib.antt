@@ -1,6 +1,7 @@
 pub mod Honest
 pub mod Left
 pub mod Placed
+pub mod Heard
 pub mod Handled
 pub mod Looked
 pub mod Parked

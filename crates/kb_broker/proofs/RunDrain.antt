@@ -1,5 +1,5 @@
 -- Taking the output of one connection after another.
-use Rattle.std.proofs.Common.{◌≡◌, ◌≢◌, ℕ, zero, suc, ◌<◌, ◌≤◌, List, [], ◌∷◌, ◌++◌, length, take, drop, get_or, eqb, true, false, Some, refl, ◌∙◌, ap, arith}
+use Rattle.std.proofs.Common.{◌≡◌, ◌≢◌, ℕ, zero, suc, ◌<◌, ◌≤◌, List, [], ◌∷◌, ◌++◌, length, take, drop, get_or, eqb, Bool, true, false, cond, Some, refl, sym, ◌∙◌, ap, arith}
 use Rattle.std.specs.List.{AllByRecursion}
 use Rattle.std.proofs.lemmas.Bool.Decides.{nat_tests}
 use Rattle.kb_machine.specs.Machine.{Line, Sent, sent, each, on}
@@ -9,6 +9,7 @@ use Rattle.kb_machine.specs.Calls.{without_output, taken, output_of, output_in}
 use Rattle.kb_machine.specs.Told.{quieted_lines}
 use Rattle.kb_broker.proofs.RunEvents.{same_sent}
 use Rattle.kb_machine.proofs.Sets.{IsAt, tail-at, no-at, rising-above, each-on_none}
+use Rattle.kb_machine.proofs.Parts.{eqb_same}
 
 -- the first of them are quiet
 abbrev pub quieted_to : ℕ → List Line → List Line
@@ -71,3 +72,21 @@ drained-at b old i l ls lt f e h = record { within = lt; here = h ∙ (ap (λ x.
 pub drained-sent : (b old : BrokerState) (i : ℕ) (l : Line) (w : Sent) → Rising 0 old.last old.lines → IsAt old.lines i l → b ≡ drained_to i old → w.number ≡ l.number → w.bytes ≡ output_of w.number b → w.shut ≡ l.session.shut → w ≡ sent l
 drained-sent b old i l w r a f n o s =
     same_sent w (sent l) n (o ∙ (ap (λ x. output_of w.number x) f ∙ (ap (λ k. output_of k (drained_to i old)) n ∙ ap output_in (quieted-find 0 old.last i old.lines l r a)))) s
+
+-- one that has no output is as it was
+pub drained-silent : (b old : BrokerState) (i n : ℕ) (l : Line) → Rising 0 old.last old.lines → IsAt old.lines i l → n ≡ l.number → b ≡ drained_to i old → l.session.output ≡ [] → output_of n b ≡ []
+drained-silent b old i n l r a e f none = ap (λ x. output_of n x) f ∙ (ap (λ k. output_of k (drained_to i old)) e ∙ (ap output_in (quieted-find 0 old.last i old.lines l r a) ∙ none))
+
+each-silent : (low last n : ℕ) (ls : List Line) → Rising low last ls → output_in (find_line n ls) ≡ [] → each (on n without_output) ls ≡ ls
+each-silent low last n [] r e = refl
+each-silent low last n (l ∷ ls) r e = by (eqb l.number n) refl (each-silent l.number last n ls r.1) e
+  where
+    by : (b : Bool) → eqb l.number n ≡ b → (output_in (find_line n ls) ≡ [] → each (on n without_output) ls ≡ ls) → output_in (cond b (Some l.session) (find_line n ls)) ≡ []
+        → (let m : Line = record { number = l.number; session = cond b (without_output l.session) l.session } in m) ∷ each (on n without_output) ls ≡ l ∷ ls
+    by true same rest none =
+        let same_tail = each-on_none n without_output ls (others-above l.number last n ls r.1 (let is = eqb_same l.number n same in omega (arith, is))) in
+        ap (λ o. (let m : Line = record { number = l.number; session = record l.session { output = o } } in m) ∷ each (on n without_output) ls) (sym none) ∙ ap (λ ks. l ∷ ks) same_tail
+    by false other rest none = ap (λ ks. l ∷ ks) (rest none)
+
+pub taken-silent : (b : BrokerState) (n : ℕ) → Rising 0 b.last b.lines → output_of n b ≡ [] → taken b n ≡ b
+taken-silent b n r none = ap (λ ls. record b { lines = ls }) (each-silent 0 b.last n b.lines r none)

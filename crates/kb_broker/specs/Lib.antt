@@ -5,3 +5,4 @@ pub mod Places
 pub mod Runs
 pub mod Script
 pub mod ScriptRun
+pub mod Speakers

@@ -16,7 +16,6 @@ use Rattle.kb_machine.specs.Machine.{Line, served, put, woken, first_able, work}
 use Rattle.kb_machine.specs.Broker.{BrokerState, IsSound, IsUnready, AreUnready, AnyWait, refusals_of}
 use Rattle.kb_machine.specs.Calls.{IsRefused}
 use Rattle.kb_machine.specs.declared.whom.Whom.{Whom}
-use Rattle.kb_machine.specs.declared.whom.Whom.TheVariants as whoms
 use Rattle.kb_machine.specs.Turned.{Scope, AreStill, IsGoing, SameOthers, Turned, Served, Waked, IsLookedFor, IsPassedOver}
 
 -- the numbers of the open connections, in order

@@ -17,6 +17,7 @@ mod promises;
 mod run;
 mod script;
 mod serving;
+mod speakers;
 
 pub use broker::Broker;
 pub use kb_settings::{Settings, User};

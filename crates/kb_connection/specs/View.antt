@@ -1,5 +1,5 @@
 -- What the code's types are in the machine's words.
-use Rattle.std.specs.Prelude.{◌≡◌, ◌≤◌, ℕ, List, [], length, Bool, true, Option, Some, None, Result, Ok, Err}
+use Rattle.std.specs.Prelude.{◌≡◌, ◌≤◌, ◌==◌, ◌||◌, ℕ, List, [], length, Bool, true, not, Option, Some, None, Result, Ok, Err}
 use Rattle.kb_wire.specs.declared.fault.ReadFault.{ReadFault}
 use Rattle.kb_wire.specs.declared.fault.ReadFault.TheVariants as faults
 use Rattle.kb_machine.specs.Tenant.{Awaited, Records, Group, Wait}
@@ -71,6 +71,10 @@ with_session l s = record { number = l.number; session = s }
 -- a connection without the request in front
 abbrev pub without_front : Session → Session
 without_front s = record s { unread = behind (front s.unread) s.unread }
+
+-- whether a connection has something to tell: output that was not taken, or that it was shut
+abbrev pub speaks : Session → Bool
+speaks s = not (length s.output == 0) || s.shut
 
 -- a connection has at most so many unread bytes, and one that was shut has none and waits for nothing
 abbrev pub IsLimited : List ℕ → Stage → Bool → Type 0

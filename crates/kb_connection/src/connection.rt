@@ -14,7 +14,7 @@ ghost use Rattle.kb_machine.specs.Calls.{without_output};
 ghost use Rattle.kb_machine.specs.Owners.{whose};
 ghost use Rattle.kb_connection.specs.TenantAnswers.{given, is_quiet, is_wait, wait_for, parked};
 ghost use Rattle.kb_connection.specs.Fronts.{IsOwn, IsAsked, is_tenants, is_tenants_at, asked_at};
-ghost use Rattle.kb_connection.specs.View.{greeting_of, stage_of, wait_of, with_session, without_front, IsLimited};
+ghost use Rattle.kb_connection.specs.View.{greeting_of, speaks, stage_of, wait_of, with_session, without_front, IsLimited};
 ghost use Rattle.kb_connection.specs.Reactions.{reacted, IfReacts};
 
 use crate::greeting::Greeting;
@@ -173,6 +173,13 @@ impl Connection {
         ensures { result ≡ self.now.session.shut }
     {
         self.shut
+    }
+
+    /// Whether it has something to tell: output that was not taken, or that it was shut.
+    pub fn speaks(&self) -> bool
+        ensures { result ≡ speaks self.now.session }
+    {
+        !self.output.is_empty() || self.shut
     }
 
     /// How many more bytes it takes.

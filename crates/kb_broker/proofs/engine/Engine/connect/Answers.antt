@@ -11,4 +11,4 @@ invariant_of-self g c =
     let H = is_honest g.S.Store.disk c.self.inside.tenants in
     let ts = tenants_in g.L.PartitionLog.log g.S.Store.disk c.self.inside.tenants in
     let q = c.self.inside.parking in
-    (c.self.invariant.0, subst (λ (ls : List Line). IsQueueOf H q ts ls) (sym c.in-Ok.ensures.items) (queue-opened H q ts c.self.inside.connections.items c.new.result c.self.invariant.1 (ap (λ (l : Line). deadline_at l.session.stage) c.new.ensures)))
+    (c.self.invariant.0, subst (λ (ls : List Line). IsQueueOf H q ts ls) (sym c.in-Ok.ensures.ok) (queue-opened H q ts c.self.inside.connections.items c.new-connection.result c.self.invariant.1 (ap (λ (l : Line). deadline_at l.session.stage) c.new-connection.ensures)), c.add.ensures.heard)

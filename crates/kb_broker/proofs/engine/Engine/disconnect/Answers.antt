@@ -1,16 +1,18 @@
-use Rattle.std.proofs.Common.{◌≡◌, arith, length, refl, sym, ◌∙◌, ap, subst}
+use Rattle.std.proofs.Common.{◌≡◌, ◌<◌, List, arith, get_or, length, refl, sym, ◌∙◌, ap, subst}
 use Rattle.std.specs.FinMap as fin
 use Rattle.kb_machine.specs.Session.{fresh}
 use Rattle.kb_machine.specs.Machine.{Line}
-use Rattle.kb_machine.specs.Broker.{BrokerState}
+use Rattle.kb_machine.specs.Broker.{BrokerState, Rising}
 use Rattle.kb_machine.specs.Calls.{left_by, output_in}
 use Rattle.kb_machine.proofs.Sets.{find-none}
-use Rattle.kb_broker.proofs.Placed.{IsLeft, left-found, find-found, closed-found, closed-none}
+use Rattle.kb_broker.proofs.Placed.{IsLeft, get-at, left-found, find-found, closed-found, closed-none}
 use Rattle.kb_tenants.specs.Tenants.{is_honest}
 use Rattle.kb_broker.specs.Hosts.{tenants_in}
 use Rattle.kb_broker.specs.Parked.{IsQueueOf}
+use Rattle.kb_broker.specs.Speakers.{IsHeard}
 use Rattle.kb_broker.proofs.Fields.{carried-on, queue-closed, rising-inside}
 use Rattle.kb_broker.proofs.Handled.{at-inside}
+use Rattle.kb_broker.proofs.Heard.{heard-removed, roomy-removed}
 use Rattle.kb_broker.proofs.Honest.{state-is, store-is, stands-on}
 use Rattle.kb_broker.proofs.engine.Engine.disconnect.Given as given
 use Rattle.kb_broker.proofs.engine.Engine.disconnect.Goals as goal
@@ -18,6 +20,19 @@ use Rattle.kb_broker.proofs.engine.Engine.disconnect.Goals as goal
 -- the connection, in the state in which a member that waited on it waits no longer
 gone : (g : given.Over) (c : goal.After-into_output g) → IsLeft c.leave.new.self.state c.args.self.now.state c.in-Some.i c.args.number c.remove.result
 gone g c = left-found _ c.leave.new.self.state c.args.self.now.state c.in-Some.i c.args.number c.remove.result (state-is _ _ c.self.view_is) c.leave.ensures.left c.in-Some.ensures.within c.in-Some.ensures.some c.remove.ensures.value
+
+pub note-requires : goal.note-requires
+note-requires g c =
+    let d : Line = record { number = 0; session = fresh } in
+    let b = c.args.self.now.state in
+    let i = c.in-Some.i in
+    let ls = c.self.inside.connections.items in
+    let l = get_or ls i d in
+    let inside = state-is _ _ c.self.view_is ∙ c.leave.ensures.left d in
+    let lines : ls ≡ b.lines = ap (λ (x : BrokerState). x.lines) inside in
+    let within = c.in-Some.ensures.within in
+    roomy-removed 0 b.last ls i l c.self.inside.speakers c.args.number c.self.invariant.2 (subst (Rising 0 b.last) (sym lines) c.requires.rising)
+    (get-at ls i d (subst (λ (xs : List Line). i < length xs) (sym lines) within)) (sym (ap (λ (xs : List Line). (get_or xs i d).number) lines ∙ c.in-Some.ensures.some d))
 
 pub remove-requires : goal.remove-requires
 remove-requires g c =
@@ -58,4 +73,6 @@ invariant_of-self g c =
       subst (IsQueueOf H p ts) (sym c.remove.ensures.items)
           (queue-closed H H q p ts ts 0 b.last ls i l c.self.invariant.1 (rising-inside _ left inside c.requires.rising) a
           (λ k ne. c.forget.ensures.others k (λ e. ne (e ∙ sym h.found.number))) (ap (fin.get p) h.found.number ∙ c.forget.ensures.gone) (λ honest. honest) (carried-on ts ls q)),
+      subst (IsHeard c.note.new.speakers) (sym c.remove.ensures.items)
+          (heard-removed 0 b.last ls i l c.self.inside.speakers c.note.new.speakers c.args.number c.self.invariant.2 (rising-inside _ left inside c.requires.rising) a (sym h.found.number) c.note.ensures.items c.note.ensures.capacity),
     )

@@ -38,6 +38,7 @@ invariant_of-self-in-Bound g c =
       c.refuse.ensures.kept,
       queue-tenants (is_honest disk old) (is_honest disk new) q ts vs ls c.self.invariant.1 (λ honest. subst (λ x. (disk x.store).honest) (c.refuse.ensures.shelf ∙ c.left.ensures.shelf) honest)
           (λ honest. carried-then ts us vs ls q first (carried-same us vs ls q c.refuse.ensures.turn.grows c.refuse.ensures.stays)),
+      c.self.invariant.2,
     )
 
 pub returns-in-Bound-clause-counted : goal.returns-in-Bound-clause-counted

@@ -8,8 +8,10 @@ use Rattle.kb_broker.specs.Hosts.{OnStore, tenants_in, IsLaterWith}
 use Rattle.kb_broker.specs.Places.{IsCountedAt, IsTakenAt}
 use Rattle.kb_broker.specs.Parked.{IsAllOf, IsLeftBy, IsLeftTo, IsOwnTo, IsQueueOf, IsServedFor}
 use Rattle.kb_broker.proofs.Placed.{at-read, number_at-is}
-use Rattle.kb_broker.proofs.Handled.{IsTaken, put_with, next-can, able-stage, taken-at, counts-counted, lines-counted, names-counted, others-put, refused-for, refused-taken, taken-going, served-refused, work-taken, work-refused}
+use Rattle.kb_broker.proofs.Handled.{at-inside, IsTaken, put_with, next-can, able-stage, taken-at, counts-counted, lines-counted, names-counted, others-put, refused-for, refused-taken, taken-going, served-refused, work-taken, work-refused}
 use Rattle.kb_broker.proofs.Going.{left-by, not-parked, queue-turn, refused-left, refused-own, served-by}
+use Rattle.kb_broker.proofs.Fields.{rising-inside}
+use Rattle.kb_broker.proofs.Heard.{heard-set, roomy}
 use Rattle.kb_broker.proofs.Honest.{later-by, later-on, state-is, store-is}
 use Rattle.kb_broker.proofs.engine.Engine.serve.Given as given
 use Rattle.kb_broker.proofs.engine.Engine.serve.Goals as goal
@@ -28,6 +30,14 @@ take_turn-taken-requires-clause-free g c =
     let at = at-read _ b c.args.i l here c.requires.next.within c.index_mut-connection.ensures.value in
     not-parked (is_honest g.S.Store.disk c.self.inside.tenants) c.self.inside.parking _ b c.args.i l here c.self.invariant.1 c.requires.next.sound at (next-can b c.args.i l c.requires.next at)
 
+pub note-requires : goal.note-requires
+note-requires g c =
+    let b = c.args.self.now.state in
+    let l = c.index_mut-connection.result.now in
+    let here = state-is _ _ c.self.view_is in
+    roomy 0 b.last c.self.inside.connections.items c.args.i l c.take_turn-taken.new.connection c.self.inside.speakers c.number-number.result c.speaks.result c.self.invariant.2 (rising-inside _ b here c.requires.next.sound.rising)
+    (at-inside _ b c.args.i l here (at-read _ b c.args.i l here c.requires.next.within c.index_mut-connection.ensures.value)) c.take_turn-taken.ensures.number c.number-number.ensures c.speaks.ensures
+
 -- the turn, where it was not refused
 taken-ok : (g : given.Over) (c : goal.In-Ok g) → IsTaken (is_honest g.S.Store.disk c.take_turn-taken.new.tenants) c.args.self.now.state c.args.i c.index_mut-connection.result.now c.take_turn-taken.new.connection (tenants_in g.L.PartitionLog.log g.S.Store.disk c.take_turn-taken.new.tenants)
 taken-ok g c =
@@ -42,6 +52,8 @@ invariant_of-self g c =
       t.hosted,
       queue-turn (is_honest disk c.self.inside.tenants) (is_honest disk new.tenants) c.self.inside.parking new.parking _ c.args.self.now.state c.args.i c.index_mut-connection.result.now new.connection (tenants_in g.L.PartitionLog.log disk new.tenants)
           (state-is _ _ c.self.view_is) c.self.invariant.1 (taken-ok g c) t.later.honest (λ honest. c.requires.unready (subst (λ s. (disk s).honest) (store-is _ _ c.self.view_is) honest)) t.asked t.parked t.dated t.owned t.keyed,
+      heard-set 0 c.args.self.now.state.last c.self.inside.connections.items c.args.i c.index_mut-connection.result.now new.connection c.self.inside.speakers c.note.new.speakers c.number-number.result c.speaks.result c.self.invariant.2 (rising-inside _ c.args.self.now.state (state-is _ _ c.self.view_is) c.requires.next.sound.rising)
+          (at-inside _ c.args.self.now.state c.args.i c.index_mut-connection.result.now (state-is _ _ c.self.view_is) (at-read _ c.args.self.now.state c.args.i c.index_mut-connection.result.now (state-is _ _ c.self.view_is) c.requires.next.within c.index_mut-connection.ensures.value)) t.number c.number-number.ensures c.speaks.ensures c.note.ensures.items c.note.ensures.capacity,
     )
 
 pub invariant_of-self-in-Err : goal.invariant_of-self-in-Err
@@ -52,6 +64,8 @@ invariant_of-self-in-Err g c =
       t.hosted,
       queue-turn (is_honest disk c.self.inside.tenants) (is_honest disk new.tenants) c.self.inside.parking new.parking _ c.args.self.now.state c.args.i c.index_mut-connection.result.now new.connection (tenants_in g.L.PartitionLog.log disk new.tenants)
           (state-is _ _ c.self.view_is) c.self.invariant.1 (taken-at (is_honest disk new.tenants) _ c.args.self.now.state c.args.i c.index_mut-connection.result.now new.connection (tenants_in g.L.PartitionLog.log disk new.tenants) (state-is _ _ c.self.view_is) c.requires.next c.index_mut-connection.ensures.value t.number t.spent t.turn) t.later.honest (λ honest. c.requires.unready (subst (λ s. (disk s).honest) (store-is _ _ c.self.view_is) honest)) t.asked t.parked t.dated t.owned t.keyed,
+      heard-set 0 c.args.self.now.state.last c.self.inside.connections.items c.args.i c.index_mut-connection.result.now new.connection c.self.inside.speakers c.note.new.speakers c.number-number.result c.speaks.result c.self.invariant.2 (rising-inside _ c.args.self.now.state (state-is _ _ c.self.view_is) c.requires.next.sound.rising)
+          (at-inside _ c.args.self.now.state c.args.i c.index_mut-connection.result.now (state-is _ _ c.self.view_is) (at-read _ c.args.self.now.state c.args.i c.index_mut-connection.result.now (state-is _ _ c.self.view_is) c.requires.next.within c.index_mut-connection.ensures.value)) t.number c.number-number.ensures c.speaks.ensures c.note.ensures.items c.note.ensures.capacity,
     )
 
 pub returns-in-Ok : goal.returns-in-Ok

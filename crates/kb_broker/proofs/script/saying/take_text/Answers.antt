@@ -2,11 +2,26 @@ use Rattle.std.proofs.Common.{◌≡◌, ◌+◌, ◌++◌, ◌&&◌, ◌<◌, n
 use Rattle.kb_machine.specs.Machine.{Sent, sent}
 use Rattle.kb_broker.specs.Script.{sent_text, step_text}
 use Rattle.kb_broker.specs.ScriptRun.{said_since}
-use Rattle.kb_broker.proofs.RunDrain.{drained-at, drained-more, drained-sent}
+use Rattle.kb_broker.proofs.RunDrain.{drained-at, drained-more, drained-sent, drained-silent}
+use Rattle.kb_broker.proofs.Heard.{silent-output}
 use Rattle.kb_broker.proofs.Honest.{state-is}
 use Rattle.kb_broker.proofs.ScriptSaid.{since-more, got-text}
 use Rattle.kb_broker.proofs.script.saying.take_text.Goals as goal
 use Rattle.kb_broker.proofs.script.saying.take_text.Goals.{then-is_shut, else-is_shut}
+
+pub take_output-output-requires-clause-rising : goal.take_output-output-requires-clause-rising
+take_output-output-requires-clause-rising c = c.connections.ensures.ready.sound.rising
+
+pub take_output-output-requires-clause-silent : goal.take_output-output-requires-clause-silent
+take_output-output-requires-clause-silent c = λ silent.
+    let old = c.args.broker.now.state in
+    let b = c.loop-i.broker.state in
+    let i = c.loop-i.i in
+    let v = c.loop-i.invariant in
+    let l = c.index-connections-i.result in
+    let lt : i < length old.lines = (let h = v.end in let t = c.loop-i-test.true in omega arith) in
+    let a = drained-at b old i l c.connections.result.now lt v.state c.connections.ensures.lines c.index-connections-i.is in
+    drained-silent b old i c.number-number.result l c.requires.ready.sound.rising a c.number-number.ensures v.state (silent-output l.session (sym c.speaks-has_words.ensures ∙ silent))
 
 pub loop-i-preserved : goal.loop-i-preserved
 loop-i-preserved c =

@@ -79,8 +79,6 @@ pub struct Edge<R: Net, S: Store> {
     can_accept: bool,
     /// The connections whose sockets can go on, each once.
     ready: Vec<u64>,
-    /// Those that wait for an answer, each once.
-    waiting: Vec<u64>,
     /// An empty list, to be filled while another is gone through.
     spare: Vec<u64>,
     /// How many bytes are taken from the broker and not written.
@@ -141,7 +139,7 @@ impl<R: Net, S: Store> Edge<R, S> {
                 broker,
             });
         };
-        let Ok((buffer, ready, waiting, spare, denied)) = buffers(alloc, limit as usize) else {
+        let Ok((buffer, ready, spare, denied)) = buffers(alloc, limit as usize) else {
             return Err(BindRefused {
                 fault: BindFault::Memory,
                 broker,
@@ -157,7 +155,6 @@ impl<R: Net, S: Store> Edge<R, S> {
             watch,
             can_accept: true,
             ready,
-            waiting,
             spare,
             output: 0,
             denied,
@@ -199,7 +196,7 @@ impl<R: Net, S: Store> Edge<R, S> {
     fn longest_wait(&self) -> Duration {
         let millis = if !self.ready.is_empty() && self.may_ask() {
             0
-        } else if self.ready.is_empty() && self.waiting.is_empty() && !self.can_accept {
+        } else if self.ready.is_empty() && !self.broker.may_wait() && !self.can_accept {
             LONG_WAIT
         } else {
             SHORT_WAIT
@@ -234,7 +231,7 @@ impl<R: Net, S: Store> Edge<R, S> {
         let mut turn = Turn::default();
         self.denied.clear();
         self.broker.moment(alloc, now);
-        self.look_at_waiting(alloc);
+        self.hear_speakers();
         if self.watch.is_none() {
             self.hear_all();
         }
@@ -244,7 +241,7 @@ impl<R: Net, S: Store> Edge<R, S> {
                 break;
             }
             self.serve(alloc, &mut turn);
-            self.look_at_waiting(alloc);
+            self.hear_speakers();
         }
         if turn.closed > 0 {
             self.sockets.retain(|socket| !socket.is_ended());
@@ -360,65 +357,35 @@ impl<R: Net, S: Store> Edge<R, S> {
             let _ = self.denied.push(socket.peer());
         }
         self.output = self.output.saturating_sub(before).saturating_add(after);
-        match next {
-            Next::Turn => self.queue(place),
-            Next::Answer => self.await_answer(place),
-            Next::System | Next::End => {}
-        }
-    }
-
-    /// The connection of the socket at a place waits for an answer.
-    fn await_answer(&mut self, place: usize) {
-        let Some(socket) = self.sockets.get_mut(place) else {
-            return;
-        };
-        // there is room for each socket once
-        if !socket.is_waiting && self.waiting.push(socket.connection()).is_ok() {
-            socket.is_waiting = true;
-        }
-    }
-
-    /// Those that waited for an answer, and do so no longer, can go on.
-    fn look_at_waiting(&mut self, alloc: Global) {
-        if self.waiting.is_empty() {
-            return;
-        }
-        let spare = mem::replace(&mut self.spare, Vec::new(alloc));
-        let mut waiting = mem::replace(&mut self.waiting, spare);
-        for number in &waiting {
-            self.look_at(*number);
-        }
-        waiting.clear();
-        self.spare = waiting;
-    }
-
-    /// A connection that waited for an answer waits on, or its socket can go on.
-    fn look_at(&mut self, number: u64) {
-        let Some(place) = self.place_of(number) else {
-            return;
-        };
-        let Some(socket) = self.sockets.get_mut(place) else {
-            return;
-        };
-        socket.is_waiting = false;
-        if self.broker.waits(number) {
-            self.await_answer(place);
-        } else {
+        if next == Next::Turn {
             self.queue(place);
+        }
+    }
+
+    /// The connections that the broker told something can go on, whoever asked for it. One that has still to be written what it was
+    /// told before waits for that.
+    fn hear_speakers(&mut self) {
+        for at in 0..self.broker.speakers().len() {
+            if let Some(number) = self.broker.speakers().get(at)
+                && let Some(place) = self.place_of(*number)
+                && let Some(socket) = self.sockets.get(place)
+                && socket.unwritten() == 0
+            {
+                self.queue(place);
+            }
         }
     }
 }
 
-type Buffers = (Vec<u8>, Vec<u64>, Vec<u64>, Vec<u64>, Vec<SocketAddr>);
+type Buffers = (Vec<u8>, Vec<u64>, Vec<u64>, Vec<SocketAddr>);
 
-/// What is read into, three empty lists with room for all connections, and one for addresses.
+/// What is read into, two empty lists with room for all connections, and one for addresses.
 fn buffers(alloc: Global, limit: usize) -> Result<Buffers, AllocError> {
     let buffer = vec![in alloc; 0u8; PIECE]?;
     let ready = Vec::with_capacity(alloc, limit)?;
-    let waiting = Vec::with_capacity(alloc, limit)?;
     let spare = Vec::with_capacity(alloc, limit)?;
     let denied = Vec::with_capacity(alloc, DENIED)?;
-    Ok((buffer, ready, waiting, spare, denied))
+    Ok((buffer, ready, spare, denied))
 }
 
 /// A listener that never waits, and its port.

@@ -47,9 +47,8 @@ pub struct Socket<T> {
     is_over: bool,
     /// Whether its connection is closed.
     is_ended: bool,
-    /// Whether its turn is to come, and whether its waiting request's answer is.
+    /// Whether its turn is to come.
     pub(crate) is_queued: bool,
-    pub(crate) is_waiting: bool,
     ghost within: { written ≤ vec_len output },
 }
 
@@ -71,7 +70,6 @@ impl<T: Read + Write + Drop> Socket<T> {
             is_over: false,
             is_ended: false,
             is_queued: false,
-            is_waiting: false,
         }
     }
 
@@ -124,7 +122,7 @@ impl<T: Read + Write + Drop> Socket<T> {
     /// is said to that. With `may_ask` false nothing is handed on.
     ///
     /// Where the peer is gone, or the connection is shut and all is written, the connection is closed. One that was answered
-    /// and shut had a login that failed.
+    /// and shut had a login that failed, and so had one that was shut at a login without a request around it.
     pub fn serve<S: Store>(
         &mut self,
         alloc: Global,
@@ -144,9 +142,10 @@ impl<T: Read + Write + Drop> Socket<T> {
     {
         self.write_output(alloc, broker, turn);
         if may_ask && self.can_ask(broker) {
+            let takes_login = broker.takes_login(self.connection);
             self.ask(alloc, broker, buffer, turn);
             self.write_output(alloc, broker, turn);
-            if !self.output.is_empty() && broker.shut(self.connection) {
+            if (takes_login || !self.output.is_empty()) && broker.shut(self.connection) {
                 turn.count_denied();
             }
         }

@@ -97,6 +97,8 @@ pub(crate) enum Move<'a> {
     Told(usize, &'a str),
     /// A client sends bytes, and is told others.
     Ask(usize, &'a str, &'a str),
+    /// A client sends bytes, by which one login fails.
+    Fails(usize, &'a str),
     /// A client sends no more.
     Ends(usize),
     /// The last client goes: just one socket is closed.
@@ -151,6 +153,15 @@ fn count_closed<E: Server>(edge: &mut E, alloc: Global, now: u32) -> u64 {
     closed
 }
 
+/// How many logins fail in the turns that follow.
+fn count_denied<E: Server>(edge: &mut E, alloc: Global, now: u32) -> u64 {
+    let mut denied = 0u64;
+    for _ in 0..TURNS {
+        denied = denied.saturating_add(edge.turn(alloc, now).denied);
+    }
+    denied
+}
+
 /// The client at a place.
 pub(crate) fn client_at<'a>(
     rt: &impl Abort,
@@ -180,11 +191,12 @@ fn happen_to<E: Server>(
             size,
         );
     }
-    if let Move::Ask(_, digits, _) = next {
+    if let Move::Ask(_, digits, _) | Move::Fails(_, digits) = next {
         client.stream.write_all(&bytes_of(rt, alloc, digits)?)?;
     }
     match next {
         Move::Ends(_) => client.stream.shutdown(Shutdown::Write)?,
+        Move::Fails(_, _) => assert!(rt; count_denied(edge, alloc, now) == 1),
         Move::Stays(_) => assert!(rt; !client.is_over),
         Move::Closed(_) => {
             hear(edge, client, alloc, now, 1)?;
@@ -227,6 +239,7 @@ pub(crate) fn join<E: Server>(
 fn place_of(next: Move<'_>) -> Option<usize> {
     match next {
         Move::Send(place, _, _) | Move::Told(place, _) | Move::Ask(place, _, _) => Some(place),
+        Move::Fails(place, _) => Some(place),
         Move::Ends(place) | Move::Closed(place) | Move::Stays(place) => Some(place),
         _ => None,
     }

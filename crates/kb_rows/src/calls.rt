@@ -2,7 +2,9 @@
 
 use crate::running::{LAST_MOMENT, new_broker, opens};
 use crate::words::bytes_of;
-use Call::{Asks, Calm, Closes, Opens, Passes, Room, Shut, Stays, Unknown, Zeros};
+use Call::{
+    Asks, Calm, Closes, Opens, Passes, Room, Sends, Shut, Speak, Stays, Takes, Unknown, Zeros,
+};
 use kb_broker::Broker;
 use kb_store::MemoryStore;
 use std::alloc::{AllocError, Global};
@@ -16,6 +18,12 @@ enum Call<'a> {
     Opens(u64),
     /// Bytes come on a connection, and that is its output then; no refusal is counted.
     Asks(u64, &'a str, &'a str),
+    /// Bytes come on a connection, whose output is left.
+    Sends(u64, &'a str),
+    /// That is a connection's output.
+    Takes(u64, &'a str),
+    /// These connections have something to tell, and no others.
+    Speak(&'a [u64]),
     /// So many zeros come on a connection.
     Zeros(u64, usize),
     /// A moment passes.
@@ -108,6 +116,50 @@ const MEMBER_OVER_THE_ROOM: [Call<'static>; 16] = [
     Calm,
 ];
 
+/// Who has something to tell: who was answered, at once, after a wait or at a moment, until the output is taken, and who was shut, until
+/// it is closed.
+const SPEAKERS: [Call<'static>; 35] = [
+    Opens(1),
+    Opens(2),
+    Opens(3),
+    Speak(&[]),
+    Sends(2, "handshake"),
+    Speak(&[2]),
+    Sends(1, "versions"),
+    Speak(&[1, 2]),
+    Takes(2, "offered"),
+    Speak(&[1]),
+    Sends(3, CUT),
+    Speak(&[1, 3]),
+    Takes(3, ""),
+    Speak(&[1, 3]),
+    Takes(1, "served"),
+    Speak(&[3]),
+    Closes(3),
+    Speak(&[]),
+    Asks(
+        1,
+        "handshake ann create append-hi",
+        "offered welcome created appended-0",
+    ),
+    Asks(2, "ann", "welcome"),
+    Asks(2, "wait", ""),
+    Passes(999),
+    Speak(&[]),
+    Passes(1_000),
+    Speak(&[2]),
+    Takes(2, "nothing-came"),
+    Speak(&[]),
+    Asks(2, "wait", ""),
+    Sends(1, "append-hi"),
+    Speak(&[1, 2]),
+    Takes(1, "appended-1"),
+    Speak(&[2]),
+    Takes(2, "came"),
+    Speak(&[]),
+    Calm,
+];
+
 /// A request before the login, sizes below 0, below a request's and above the greatest, and a header that is cut off.
 const SHUTTING: [&str; 5] = [
     "0000000e0003000100000001ffffffffffff",
@@ -136,6 +188,14 @@ fn make(
     match next {
         Call::Opens(number) => opens(rt, alloc, broker, number)?,
         Call::Asks(number, request, reply) => asks(rt, alloc, broker, number, request, reply)?,
+        Call::Sends(number, request) => {
+            broker.input(alloc, number, &bytes_of(rt, alloc, request)?);
+        }
+        Call::Takes(number, reply) => {
+            let output = broker.take_output(alloc, number);
+            assert!(rt; output == bytes_of(rt, alloc, reply)?);
+        }
+        Call::Speak(numbers) => assert!(rt; broker.speakers() == numbers),
         Call::Zeros(number, count) => broker.input(alloc, number, &vec![in alloc; 0; count]?),
         Call::Passes(now) => passes(rt, alloc, broker, now),
         Call::Closes(number) => closes(rt, alloc, broker, number),
@@ -196,6 +256,7 @@ fn calls_are_answered(rt: HostRuntime) -> Result<(), Fail> {
     makes(&rt, rt.alloc(), &ONE_CLOSES)?;
     makes(&rt, rt.alloc(), &OVER_THE_ROOM)?;
     makes(&rt, rt.alloc(), &MEMBER_OVER_THE_ROOM)?;
+    makes(&rt, rt.alloc(), &SPEAKERS)?;
     Ok(())
 }
 

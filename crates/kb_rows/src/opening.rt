@@ -194,6 +194,19 @@ fn are_visited(
     Ok(())
 }
 
+/// The same with whole pieces, by threes and byte by byte.
+fn are_visited_by_pieces(
+    rt: &impl Abort,
+    alloc: Global,
+    broker: &mut Broker<MemoryStore>,
+    visits: &[Visit],
+) -> Result<(), AllocError> {
+    for most in [usize::MAX, 3, 1] {
+        are_visited(rt, alloc, broker, visits, most)?;
+    }
+    Ok(())
+}
+
 /// A new connection.
 fn come(
     rt: &impl Abort,
@@ -267,11 +280,8 @@ fn a_broker_of_the_standard_settings(rt: HostRuntime) -> Result<(), Fail> {
 fn stock_clients(rt: HostRuntime) -> Result<(), Fail> {
     let settings = Settings::standard(rt.alloc())?;
     let mut broker = opened(rt.alloc(), &settings, Listing::StockClients)?;
-    for most in [usize::MAX, 3, 1] {
-        are_visited(&rt, rt.alloc(), &mut broker, &STOCK, most)?;
-        are_visited(&rt, rt.alloc(), &mut broker, &SESSION, most)?;
-    }
-    Ok(())
+    are_visited_by_pieces(&rt, rt.alloc(), &mut broker, &STOCK)?;
+    Ok(are_visited_by_pieces(&rt, rt.alloc(), &mut broker, &SESSION)?)
 }
 
 #[test]

@@ -2,10 +2,10 @@
 
 use crate::bench::{Client, Move, Server, client_at, edge_for, join, play};
 use crate::crowd::Crowd;
-use crate::running::new_broker;
+use crate::running::{new_broker, opened};
 use crate::words::bytes_of;
-use Move::{Ask, At, Closed, Ends, Idle, Join, Leave, Send, Stays, Told, Turns};
-use kb_broker::Broker;
+use Move::{Ask, At, Closed, Ends, Fails, Idle, Join, Leave, Send, Stays, Told, Turns};
+use kb_broker::{Broker, Listing, Settings};
 use kb_node::{BindFault, Edge, Turn};
 use kb_store::MemoryStore;
 use std::alloc::{AllocError, Global};
@@ -212,6 +212,28 @@ fn scenes_are_played(rt: HostRuntime) -> Result<(), Fail> {
         plays(&rt, &rt, rt.alloc(), new_broker(rt.alloc())?, name, moves)?;
     }
     Ok(())
+}
+
+/// Two logins of stock clients with a wrong password: within a request, and by itself after a handshake of version 0.
+const LOGINS_FAIL: [Move<'static>; 7] = [
+    Join,
+    Ask(0, "handshake", "offered"),
+    Fails(0, "ann-wrong"),
+    Join,
+    Ask(
+        1,
+        "00000011 0011 0000 00000002 ffff 0005 504c41494e",
+        "offered",
+    ),
+    Fails(1, "00000008 00 616e6e 00 707732"),
+    Closed(1),
+];
+
+#[test]
+fn failed_logins_are_counted(rt: HostRuntime) -> Result<(), Fail> {
+    let settings = Settings::standard(rt.alloc())?;
+    let broker = opened(rt.alloc(), &settings, Listing::StockClients)?;
+    plays(&rt, &rt, rt.alloc(), broker, "logins fail", &LOGINS_FAIL)
 }
 
 /// The last number is given to one client, and none is left for the next.

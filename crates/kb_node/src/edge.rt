@@ -2,6 +2,7 @@
 
 ghost use Rattle.std.specs.Prelude.{◌≡◌, ◌≤◌, ◌<◌, ◌^◌, IfErr, vec_len};
 
+use crate::login::Denied;
 use crate::socket::{Next, Socket};
 use crate::turn::Turn;
 use crate::watch::Watch;
@@ -18,7 +19,7 @@ use std::{io, mem};
 /// The most sockets that a turn accepts.
 const ACCEPTS: usize = 1024;
 
-/// How many addresses of failed logins a turn keeps.
+/// How many failed logins a turn keeps.
 const DENIED: usize = 16;
 
 /// How often a turn serves a socket at most: the sockets that can go on are served in turn, a request each.
@@ -83,8 +84,8 @@ pub struct Edge<R: Net, S: Store> {
     spare: Vec<u64>,
     /// How many bytes are taken from the broker and not written.
     output: usize,
-    /// From where the logins of this turn came that failed, the first ones.
-    denied: Vec<SocketAddr>,
+    /// The logins of this turn that failed, the first ones.
+    denied: Vec<Denied>,
     ghost within: { vec_len sockets ≤ limit },
 }
 
@@ -173,8 +174,8 @@ impl<R: Net, S: Store> Edge<R, S> {
         &self.broker
     }
 
-    /// From where the logins of the last turn came that failed: at most 16 of them.
-    pub fn denied(&self) -> &[SocketAddr] {
+    /// The logins of the last turn that failed, at most 16 of them.
+    pub fn denied(&self) -> &[Denied] {
         &self.denied
     }
 
@@ -354,7 +355,10 @@ impl<R: Net, S: Store> Edge<R, S> {
         let after = socket.unwritten();
         if turn.denied > denied && self.denied.len() < DENIED {
             // there is room for so many
-            let _ = self.denied.push(socket.peer());
+            let _ = self.denied.push(Denied {
+                address: socket.peer(),
+                name: socket.take_login(alloc),
+            });
         }
         self.output = self.output.saturating_sub(before).saturating_add(after);
         if next == Next::Turn {
@@ -377,9 +381,9 @@ impl<R: Net, S: Store> Edge<R, S> {
     }
 }
 
-type Buffers = (Vec<u8>, Vec<u64>, Vec<u64>, Vec<SocketAddr>);
+type Buffers = (Vec<u8>, Vec<u64>, Vec<u64>, Vec<Denied>);
 
-/// What is read into, two empty lists with room for all connections, and one for addresses.
+/// What is read into, two empty lists with room for all connections, and one for failed logins.
 fn buffers(alloc: Global, limit: usize) -> Result<Buffers, AllocError> {
     let buffer = vec![in alloc; 0u8; PIECE]?;
     let ready = Vec::with_capacity(alloc, limit)?;

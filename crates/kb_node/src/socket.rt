@@ -7,14 +7,15 @@ ghost use Rattle.kb_node.specs.Sockets.{can_ask, is_done};
 ghost use Rattle.kb_node.specs.declared.socket.Next.TheVariants.{End};
 
 use crate::input::Input;
+use crate::login::{name_in, text_of};
 use crate::turn::Turn;
 use kb_broker::Broker;
 use kb_store::Store;
 use mio::event::Event;
 use std::alloc::Global;
-use std::io;
 use std::io::{ErrorKind, Read, Write};
 use std::net::SocketAddr;
+use std::{io, mem};
 
 /// What a socket waits for.
 #[derive(Clone, Copy, Debug, PartialEq, Eq)]
@@ -39,6 +40,8 @@ pub struct Socket<T> {
     /// What the broker said last, of which the first `written` bytes have been written.
     output: Vec<u8>,
     written: usize,
+    /// The name in the login that was handed on last.
+    login: String,
     /// Whether a read may find something.
     can_read: bool,
     /// Whether the peer sends no more than what is there.
@@ -65,6 +68,7 @@ impl<T: Read + Write + Drop> Socket<T> {
             input: Input::new(alloc),
             output: Vec::new(alloc),
             written: 0,
+            login: String::new(alloc),
             can_read: true,
             is_half_closed: false,
             is_over: false,
@@ -83,6 +87,14 @@ impl<T: Read + Write + Drop> Socket<T> {
     /// Its other side.
     pub fn peer(&self) -> SocketAddr {
         self.peer
+    }
+
+    /// The name in the login that was handed on last, which is forgotten.
+    pub fn take_login(&mut self, alloc: Global) -> String
+        ensures connection { self.new.connection ≡ self.old.connection }
+        ensures ended { self.new.is_ended ≡ self.old.is_ended }
+    {
+        mem::replace(&mut self.login, String::new(alloc))
     }
 
     /// Whether its connection is closed.
@@ -269,8 +281,11 @@ impl<T: Read + Write + Drop> Socket<T> {
         ensures fits { turn.new.read ≤ turn.old.read + room_of self.old.connection broker.old.state }
     {
         let room = broker.room(self.connection);
+        let is_bare = broker.takes_login(self.connection);
         if !self.input.is_short() {
-            broker.input(alloc, self.connection, self.input.next(room));
+            let piece = self.input.next(room);
+            note_login(alloc, &mut self.login, piece, is_bare);
+            broker.input(alloc, self.connection, piece);
             self.input.tidy(alloc);
             return;
         }
@@ -280,6 +295,7 @@ impl<T: Read + Write + Drop> Socket<T> {
         let mut rest = &piece[..read];
         if self.input.is_empty() {
             let count = self.input.pass(rest, room);
+            note_login(alloc, &mut self.login, &rest[..count], is_bare);
             broker.input(alloc, self.connection, &rest[..count]);
             rest = &rest[count..];
         }
@@ -308,6 +324,13 @@ impl<T: Read + Write + Drop> Socket<T> {
             Err(_) => self.is_over = true,
         }
         0
+    }
+}
+
+/// Keeps the name in a login that is handed on, where there is memory for it.
+fn note_login(alloc: Global, login: &mut String, piece: &[u8], is_bare: bool) {
+    if let Some(name) = name_in(piece, is_bare) {
+        *login = text_of(alloc, name).unwrap_or(String::new(alloc));
     }
 }
 

@@ -143,8 +143,13 @@ fn tenants_of(alloc: Global, settings: &Settings) -> Result<Vec<Tenant>, AllocEr
 /// The logins of a turn that failed.
 fn tell_denied<R: Net, S: Store>(rt: &HostRuntime, edge: &Edge<R, S>, denied: u64, now: u64) {
     let time = time_of(rt, now);
-    for address in edge.denied() {
-        let _ = eprintln!(rt; "{time} login failed from {address}");
+    for login in edge.denied() {
+        let (address, name) = (login.address, &login.name);
+        let _ = if name.is_empty() {
+            eprintln!(rt; "{time} login failed from {address}")
+        } else {
+            eprintln!(rt; "{time} login failed from {address} as {name}")
+        };
     }
     let more = denied.saturating_sub(edge.denied().len() as u64);
     if more > 0 {

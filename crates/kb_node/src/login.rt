@@ -1,0 +1,61 @@
+//! Whose login a request is, and from where one came that failed.
+
+use std::alloc::{AllocError, Global};
+use std::net::SocketAddr;
+
+/// The most bytes of a name that are kept.
+const NAME: usize = 64;
+
+/// A login that failed.
+#[derive(Drop)]
+pub struct Denied {
+    /// From where it came.
+    pub address: SocketAddr,
+    /// The name that stood in it, at most 64 bytes, with a question mark for what is no printable ASCII; empty where it was not
+    /// there in one piece, or could not be kept.
+    pub name: String,
+}
+
+/// The name in a login: a whole request of SaslAuthenticate, its size in front (Kafka protocol guide, "The Messages:
+/// SaslAuthenticate"), or PLAIN's message as a frame by itself. Of anything else there is none.
+pub fn name_in(frame: &[u8], is_bare: bool) -> Option<&[u8]> {
+    let message = if is_bare {
+        frame.get(4..)?
+    } else {
+        message_in(frame)?
+    };
+    name_of(message)
+}
+
+/// PLAIN's message in a request of SaslAuthenticate: behind the header, with the client's id, and its own size.
+fn message_in(frame: &[u8]) -> Option<&[u8]> {
+    let [_, _, _, _, 0, 36, 0, 0, _, _, _, _, high, low, rest @ ..] = frame else {
+        return None;
+    };
+    let id = match u16::from_be_bytes([*high, *low]) {
+        u16::MAX => 0, // null
+        size => size as usize,
+    };
+    rest.get(id + 4..)
+}
+
+/// The name in PLAIN's message: between its first two bytes 0 (RFC 4616).
+fn name_of(message: &[u8]) -> Option<&[u8]> {
+    let start = message.iter().position(|byte| *byte == 0)? + 1;
+    let rest = message.get(start..)?;
+    let end = rest.iter().position(|byte| *byte == 0)?;
+    rest.get(..end.min(NAME))
+}
+
+/// A name as it is told.
+pub fn text_of(alloc: Global, name: &[u8]) -> Result<String, AllocError> {
+    let mut text = String::new(alloc);
+    for byte in name {
+        text.push(if byte.is_ascii_graphic() {
+            *byte as char
+        } else {
+            '?'
+        })?;
+    }
+    Ok(text)
+}

@@ -2,7 +2,7 @@
 
 use crate::words::bytes_of;
 use kb_broker::Broker;
-use kb_node::{BindFault, Edge, Turn};
+use kb_node::{BindFault, Denied, Edge, Turn};
 use kb_store::MemoryStore;
 use std::alloc::Global;
 use std::io;
@@ -23,6 +23,9 @@ pub(crate) trait Server {
 
     /// A turn at a moment.
     fn turn(&mut self, alloc: Global, now: u32) -> Turn;
+
+    /// The logins of the last turn that failed.
+    fn denied(&self) -> &[Denied];
 }
 
 impl Server for Edge<HostRuntime, MemoryStore> {
@@ -32,6 +35,10 @@ impl Server for Edge<HostRuntime, MemoryStore> {
 
     fn turn(&mut self, alloc: Global, now: u32) -> Turn {
         Edge::turn(self, alloc, u64::from(now))
+    }
+
+    fn denied(&self) -> &[Denied] {
+        Edge::denied(self)
     }
 }
 
@@ -97,7 +104,7 @@ pub(crate) enum Move<'a> {
     Told(usize, &'a str),
     /// A client sends bytes, and is told others.
     Ask(usize, &'a str, &'a str),
-    /// A client sends bytes, by which one login fails.
+    /// A client sends bytes, by which one login of `ann` fails.
     Fails(usize, &'a str),
     /// A client sends no more.
     Ends(usize),
@@ -153,11 +160,16 @@ fn count_closed<E: Server>(edge: &mut E, alloc: Global, now: u32) -> u64 {
     closed
 }
 
-/// How many logins fail in the turns that follow.
+/// How many logins of `ann` fail in the turns that follow.
 fn count_denied<E: Server>(edge: &mut E, alloc: Global, now: u32) -> u64 {
     let mut denied = 0u64;
     for _ in 0..TURNS {
-        denied = denied.saturating_add(edge.turn(alloc, now).denied);
+        edge.turn(alloc, now);
+        for login in edge.denied() {
+            if login.name.as_str() == "ann" {
+                denied = denied.saturating_add(1);
+            }
+        }
     }
     denied
 }

@@ -1,9 +1,10 @@
 /* Puts a load on a server over the loopback, and prints a line for each figure: what, and its two numbers, between bars.
 
-       load PORT PID broker|echo
+       load PORT PID broker|echo [waits]
 
    The server is `kbroker serve` with the user `ann`, or echo.c, which answers with as many bytes as it is asked for: then each
-   request has the broker's size, and the size of the broker's reply in the place of its key and version. */
+   request has the broker's size, and the size of the broker's reply in the place of its key and version. With `waits` there are
+   only the figures in which others wait. */
 #include <arpa/inet.h>
 #include <netinet/tcp.h>
 #include <stdint.h>
@@ -74,10 +75,11 @@ static size_t produce(struct request *r, int messages, int bytes) {
     return batch;
 }
 
-/* Fetches as many batches from an offset on, which stands 12 bytes before the request's end. */
-static void fetch(struct request *r, size_t batch, int batches) {
+/* Fetches as many batches from an offset on, which stands 12 bytes before the request's end. Where none is there yet it waits for
+   so many milliseconds. */
+static void fetch(struct request *r, size_t batch, int batches, int wait) {
     uint8_t *p = put(begin(r, 1, 4), -1, 4);
-    p = put(p, 0, 4);
+    p = put(p, wait, 4);
     p = put(p, 1, 4);
     p = put(p, batch * batches, 4);
     p = put_place(put(p, 0, 1));
@@ -182,8 +184,8 @@ static void throughput(int bytes) {
     double best[3] = {0};
     size_t batch = produce(&make, MESSAGES, bytes);
     int step = 1000000 / batch;
-    fetch(&one, batch, 1);
-    fetch(&many, batch, step);
+    fetch(&one, batch, 1, 0);
+    fetch(&many, batch, step, 0);
     for (int i = 0; i < RUNS; i++) {
         int batches = 0, fetched = 0;
         topic(1);
@@ -234,6 +236,46 @@ static void latency(const char *what, int connections, double pause) {
     fflush(stdout);
 }
 
+/* The median and the 99th percentile, in microseconds, of the time from a request of one message of 100 bytes until all have it that
+   wait for it, each by a fetch on a connection of its own. */
+static void woken(const char *what, int consumers) {
+    static struct request one, all;
+    static float took[SAMPLES];
+    struct timespec rest = {.tv_nsec = 5000000};
+    size_t batch = produce(&one, 1, 100);
+    int n = 0;
+    if (echo) {
+        printf("%s||\n", what);
+        return;
+    }
+    topic(0);
+    topic(1);
+    fetch(&all, batch, 1, 60000);
+    for (double end = now() + SECONDS; n < SAMPLES && now() < end; n++) {
+        put(all.bytes + all.size - 12, n, 8);
+        for (int k = 1; k <= consumers; k++)
+            send_all(sockets[k], all.bytes, all.size);
+        nanosleep(&rest, NULL);
+        double start = now();
+        send_all(sockets[0], one.bytes, one.size);
+        for (int k = 1; k <= consumers; k++)
+            receive(sockets[k], &all);
+        took[n] = (now() - start) * 1e6;
+        receive(sockets[0], &one);
+    }
+    qsort(took, n, sizeof *took, by_size);
+    printf("%s|%.0f|%.0f\n", what, took[n / 2], took[n - 1 - n / 100]);
+    fflush(stdout);
+}
+
+/* How long it takes to have that many connections more, each logged in, in microseconds a connection. */
+static void log_in_to(const char *what, int from, int connections) {
+    double start = now();
+    open_to(connections);
+    printf("%s|%.0f|\n", what, (now() - start) * 1e6 / (connections - from));
+    fflush(stdout);
+}
+
 /* The server's processor time so far, in seconds. */
 static double used(void) {
     char path[64], text[1024];
@@ -247,6 +289,39 @@ static double used(void) {
         fail("no such process");
     fclose(file);
     return (double)(user + system) / sysconf(_SC_CLK_TCK);
+}
+
+/* The server's memory, in MB. */
+static double memory(void) {
+    char path[64];
+    long size, pages = 0;
+    snprintf(path, sizeof path, "/proc/%d/statm", pid);
+    FILE *file = fopen(path, "r");
+    if (!file || fscanf(file, "%ld %ld", &size, &pages) != 2)
+        fail("no such process");
+    fclose(file);
+    return pages * (double)sysconf(_SC_PAGESIZE) * 1e-6;
+}
+
+/* Twenty clients ask for 8 MB forty times at once and read nothing: what one message takes of another client, and what is kept for
+   them, in MB. */
+static void unread(void) {
+    static struct request one, all;
+    static uint8_t asked[1 << 14];
+    int batches = 80;
+    size_t n = 0, batch = produce(&one, MESSAGES, 1000);
+    topic(0);
+    topic(1);
+    for (int k = 0; k < batches; k++)
+        ask(sockets[0], &one);
+    fetch(&all, batch, batches, 0);
+    for (int k = 0; k < 40; k++)
+        n = put_bytes(asked + n, (char *)all.bytes, all.size) - asked;
+    double before = memory();
+    for (int k = 1; k <= 20; k++)
+        send_all(sockets[k], asked, n);
+    latency("20 clients do not read", 1, 0);
+    printf("MB kept for 20 that do not read|%.0f|\n", memory() - before);
 }
 
 /* The percentage of a processor that the server takes while nobody asks. */
@@ -263,12 +338,22 @@ static void idle(const char *what) {
 }
 
 int main(int count, char **words) {
-    if (count != 4)
-        fail("load PORT PID broker|echo");
+    if (count != 4 && count != 5)
+        fail("load PORT PID broker|echo [waits]");
     port = atoi(words[1]);
     pid = atoi(words[2]);
     echo = !strcmp(words[3], "echo");
     prctl(PR_SET_TIMERSLACK, 1);
+    if (count == 5) {
+        open_to(1);
+        topic(1);
+        log_in_to("connect and log in", 1, MOST);
+        latency("one message among 1000 connections", 1, 0);
+        woken("a consumer waits", 1);
+        woken("999 consumers wait", MOST - 1);
+        unread();
+        return 0;
+    }
     idle("idle, no connection");
     open_to(1);
     throughput(100);
@@ -280,9 +365,11 @@ int main(int count, char **words) {
     open_to(100);
     latency("100 connections, one works", 1, 0);
     latency("100 connections, all in turn", 100, 0);
-    open_to(MOST);
+    log_in_to("connect and log in", 100, MOST);
     latency("1000 connections, one works", 1, 0);
     latency("1000 connections, all in turn", MOST, 0);
+    woken("a consumer waits", 1);
+    woken("999 consumers wait", MOST - 1);
     idle("idle, 1000 connections");
     return 0;
 }

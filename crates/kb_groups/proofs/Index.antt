@@ -93,6 +93,15 @@ unfolding first_place found
 found_at [] name i h = absurd (none-some i h)
 found_at (p ∷ ps) name i h = found_step p ps name i (found_at ps name) (bytes_eq p.name name) (first_place ps name) refl h
 
+-- The protocol in front is the first of its name.
+pub found_front : (ps : List Protocol) (p : Protocol) (text name : List ℕ) → Some p ≡ slice_get ps 0 → text ≡ p.name → bytes_eq text name ≡ true → Some p ≡ found ps name
+unfolding found
+found_front [] p text name front is same = absurd (none-some p (sym front))
+found_front (q ∷ ps) p text name front is same =
+    let e : p ≡ q = same_Some _ _ front in
+    let named : bytes_eq q.name name ≡ true = ap (λ l. bytes_eq l name) (sym (is ∙ ap (λ (r : Protocol). r.name) e)) ∙ same in
+    front ∙ sym (ap (λ b. if b then Some q else found ps name) named)
+
 none_step : (p : Protocol) (ps : List Protocol) (name : List ℕ) → (first_place ps name ≡ None → None ≡ found ps name) → (b : Bool) (o : Option ℕ) → first_place ps name ≡ o → (if b then Some 0 else option_map suc o) ≡ None → None ≡ (if b then Some p else found ps name)
 none_step p ps name further true o e h = absurd (none-some _ (sym h))
 none_step p ps name further false None e h = further e

@@ -75,9 +75,16 @@ impl ListedProtocols {
     }
 
     /// The first protocol of that name.
+    ///
+    /// Most members put the group's protocol first, so it is looked at before the index.
     pub(crate) fn find(&self, name: &[u8]) -> Option<&Protocol>
         ensures { option_copied result ≡ found self.now name.now }
     {
+        if let Some(first) = self.items.first() {
+            if first.name.as_slice() == name {
+                return Some(first);
+            }
+        }
         match self.places.get(name) {
             Some(place) => self.items.get(*place),
             None => None,

@@ -2,6 +2,7 @@
 
 ghost use Rattle.std.specs.Prelude.{◌≡◌, ◌≤◌, ◌<◌, ◌^◌, IfErr, vec_len};
 
+use crate::limits::Limits;
 use crate::login::Denied;
 use crate::socket::{Next, Socket};
 use crate::turn::Turn;
@@ -24,10 +25,6 @@ const DENIED: usize = 16;
 
 /// How often a turn serves a socket at most: the sockets that can go on are served in turn, a request each.
 const ROUNDS: usize = 16;
-
-/// How many bytes of output are kept until they are written, above which nothing more is handed on to the broker. A reply that
-/// was asked for below it may go past it.
-const OUTPUT: usize = 268_435_456;
 
 /// How long is waited where a waiting request may be due, and where nothing is, in milliseconds.
 const SHORT_WAIT: u64 = 5;
@@ -70,6 +67,8 @@ pub struct Edge<R: Net, S: Store> {
     port: u16,
     /// The most sockets at a time: more are closed at once.
     limit: usize,
+    /// How much output is kept at most before no more requests are taken.
+    output_limit: usize,
     broker: Broker<S>,
     /// By rising number of their connections.
     sockets: Vec<Socket<R::Stream>>,
@@ -90,18 +89,17 @@ pub struct Edge<R: Net, S: Store> {
 }
 
 impl<R: Net, S: Store> Edge<R, S> {
-    /// Listens on an address, `HOST:PORT`; at port 0 the system chooses one. At most `limit` sockets are open at a time. Each
-    /// turn looks at all of them.
+    /// Listens on an address, `HOST:PORT`; at port 0 the system chooses one. Each turn looks at all sockets.
     pub fn bind(
         net: &R,
         alloc: Global,
         broker: Broker<S>,
         address: &str,
-        limit: u32,
+        limits: Limits,
     ) -> Result<Self, BindRefused<S>>
         ensures { IfErr result (λ refused. refused.broker ≡ broker) }
     {
-        Edge::open(net, alloc, broker, address, limit, None)
+        Edge::open(net, alloc, broker, address, limits, None)
     }
 
     /// The same, where a turn serves the sockets that [`Edge::wait`] found to be ready. The sockets have to be the system's.
@@ -110,12 +108,12 @@ impl<R: Net, S: Store> Edge<R, S> {
         alloc: Global,
         broker: Broker<S>,
         address: &str,
-        limit: u32,
+        limits: Limits,
     ) -> Result<Self, BindRefused<S>>
         ensures { IfErr result (λ refused. refused.broker ≡ broker) }
     {
         match Watch::new(net, alloc) {
-            Ok(watch) => Edge::open(net, alloc, broker, address, limit, Some(watch)),
+            Ok(watch) => Edge::open(net, alloc, broker, address, limits, Some(watch)),
             Err(_) => Err(BindRefused {
                 fault: BindFault::Bind,
                 broker,
@@ -129,7 +127,7 @@ impl<R: Net, S: Store> Edge<R, S> {
         alloc: Global,
         broker: Broker<S>,
         address: &str,
-        limit: u32,
+        limits: Limits,
         watch: Option<Watch>,
     ) -> Result<Self, BindRefused<S>>
         ensures { IfErr result (λ refused. refused.broker ≡ broker) }
@@ -140,7 +138,7 @@ impl<R: Net, S: Store> Edge<R, S> {
                 broker,
             });
         };
-        let Ok((buffer, ready, spare, denied)) = buffers(alloc, limit as usize) else {
+        let Ok((buffer, ready, spare, denied)) = buffers(alloc, limits.sockets as usize) else {
             return Err(BindRefused {
                 fault: BindFault::Memory,
                 broker,
@@ -149,7 +147,8 @@ impl<R: Net, S: Store> Edge<R, S> {
         Ok(Edge {
             listener,
             port,
-            limit: limit as usize,
+            limit: limits.sockets as usize,
+            output_limit: limits.output_bytes as usize,
             broker,
             sockets: Vec::new(alloc),
             buffer,
@@ -207,7 +206,7 @@ impl<R: Net, S: Store> Edge<R, S> {
 
     /// Whether so little output is kept that more may be asked for.
     fn may_ask(&self) -> bool {
-        self.output < OUTPUT
+        self.output < self.output_limit
     }
 
     /// What the system tells of a socket or of the listener.

@@ -9,6 +9,7 @@
 mod edge;
 mod fault;
 mod input;
+mod limits;
 mod login;
 mod script;
 mod socket;
@@ -21,6 +22,7 @@ pub use fault::{NodeFault, StartFault};
 pub use kb_broker::{Listing, Settings};
 pub use kb_settings::tenant_names;
 pub use kb_store::Store;
+pub use limits::Limits;
 pub use login::Denied;
 pub use script::{play_script, play_script_with};
 pub use start::{read_settings, serving_broker};

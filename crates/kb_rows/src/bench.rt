@@ -2,7 +2,7 @@
 
 use crate::words::bytes_of;
 use kb_broker::Broker;
-use kb_node::{BindFault, Denied, Edge, Turn};
+use kb_node::{BindFault, Denied, Edge, Limits, Turn};
 use kb_store::MemoryStore;
 use std::alloc::Global;
 use std::io;
@@ -230,7 +230,7 @@ pub(crate) fn edge_for(
     alloc: Global,
     broker: Broker<MemoryStore>,
 ) -> Result<Edge<HostRuntime, MemoryStore>, BindFault> {
-    match Edge::bind(net, alloc, broker, "127.0.0.1:0", 1024) {
+    match Edge::bind(net, alloc, broker, "127.0.0.1:0", Limits::default()) {
         Ok(edge) => Ok(edge),
         Err(refused) => Err(refused.fault),
     }

@@ -6,7 +6,7 @@ use crate::running::{new_broker, opened};
 use crate::words::bytes_of;
 use Move::{Ask, At, Closed, Ends, Fails, Idle, Join, Leave, Send, Stays, Told, Turns};
 use kb_broker::{Broker, Listing, Settings};
-use kb_node::{BindFault, Edge, Turn};
+use kb_node::{BindFault, Edge, Limits, Turn};
 use kb_store::MemoryStore;
 use std::alloc::{AllocError, Global};
 use std::io;
@@ -358,7 +358,7 @@ fn refused(
     broker: Broker<MemoryStore>,
     address: &str,
 ) -> Option<(BindFault, u64)> {
-    match Edge::bind(net, alloc, broker, address, 1024) {
+    match Edge::bind(net, alloc, broker, address, Limits::default()) {
         Ok(_) => None,
         Err(refused) => Some((refused.fault, refused.broker.last_connection())),
     }
@@ -376,7 +376,7 @@ fn a_taken_port_is_refused(rt: HostRuntime) -> Result<(), Fail> {
 /// What the first turns of an edge with 1,025 clients at its door do.
 fn first_turns(alloc: Global, broker: Broker<MemoryStore>) -> Result<[Turn; 3], BindFault> {
     let crowd = Crowd { waiting: 1025 };
-    match Edge::bind(&crowd, alloc, broker, "127.0.0.1:9092", 1024) {
+    match Edge::bind(&crowd, alloc, broker, "127.0.0.1:9092", Limits::default()) {
         Ok(mut edge) => Ok([
             edge.turn(alloc, 0),
             edge.turn(alloc, 0),

@@ -3,7 +3,9 @@
 use crate::running::new_broker;
 use crate::words::bytes_of;
 use kb_broker::{Broker, OpenFault, Settings};
-use kb_node::{BindFault, BindRefused, Edge, Listing, StartFault, read_settings, serving_broker};
+use kb_node::{
+    BindFault, BindRefused, Edge, Limits, Listing, StartFault, read_settings, serving_broker,
+};
 use kb_settings::SettingsFault;
 use kb_store::MemoryStore;
 use std::alloc::{AllocError, Global};
@@ -96,7 +98,7 @@ fn bound(
 ) -> Result<Edge<HostRuntime, MemoryStore>, StartFault> {
     let settings = read_settings(alloc, TEXT)?;
     let broker = serving_broker(alloc, &settings, Listing::Served)?;
-    Ok(Edge::bind(net, alloc, broker, address, 1024)?)
+    Ok(Edge::bind(net, alloc, broker, address, Limits::default())?)
 }
 
 #[test]

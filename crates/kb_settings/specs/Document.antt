@@ -90,8 +90,8 @@ users_in _ = None
 
 abbrev pub settings_keys : List (List ℕ)
 settings_keys =
-    codes "host" ∷ codes "port" ∷ codes "segment_bytes" ∷ codes "cache_batches" ∷ codes "connections" ∷ codes "data"
-    ∷ codes "user" ∷ []
+    codes "host" ∷ codes "port" ∷ codes "segment_bytes" ∷ codes "cache_batches" ∷ codes "connections" ∷ codes "output_bytes"
+    ∷ codes "data" ∷ codes "user" ∷ []
 
 -- what is said at a key that may be missing
 abbrev pub said_or : {A : Type 0} → A → (Data → Option A) → Option Data → Option A
@@ -120,6 +120,7 @@ settings_in document =
     read_key document (codes "segment_bytes") 16777216 (number_in 4096 1073741824) λ segment_bytes.
     read_key document (codes "cache_batches") 1024 (number_in 1 65536) λ cache_batches.
     read_key document (codes "connections") 1024 (number_in 1 1000000) λ connections.
+    read_key document (codes "output_bytes") 268435456 (number_in 1048576 4294967295) λ output_bytes.
     read_key document (codes "data") None folder_in λ folder.
     go_on (codes "user") (option_and_then users_in (get_member (codes "user") document)) λ users.
     no_other (other_key settings_keys document) (record {
@@ -128,6 +129,7 @@ settings_in document =
       segment_bytes = segment_bytes;
       cache_batches = cache_batches;
       connections = connections;
+      output_bytes = output_bytes;
       folder = folder;
       users = users;
     })

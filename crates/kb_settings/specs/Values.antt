@@ -14,6 +14,7 @@ pub record Values : Type 0 where
   pub segment_bytes : ℕ
   pub cache_batches : ℕ
   pub connections : ℕ
+  pub output_bytes : ℕ
   pub folder : Option (List ℕ)
   pub users : List Account
 
@@ -27,6 +28,7 @@ values_of s = record {
   segment_bytes = s.segment_bytes;
   cache_batches = s.cache_batches;
   connections = s.connections;
+  output_bytes = s.output_bytes;
   folder = option_map string_bytes s.folder;
   users = map account_of s.users.items;
 }
@@ -39,7 +41,7 @@ bob = record { name = codes "bob"; password = codes "pw2"; tenant = codes "b" }
 
 -- the standard settings
 abbrev pub standard : Values
-standard = record { host = codes "localhost"; port = 9092; segment_bytes = 16777216; cache_batches = 1024; connections = 1024; folder = None; users = ann ∷ bob ∷ [] }
+standard = record { host = codes "localhost"; port = 9092; segment_bytes = 16777216; cache_batches = 1024; connections = 1024; output_bytes = 268435456; folder = None; users = ann ∷ bob ∷ [] }
 
 -- a text that names their two users
 abbrev pub standard_text : List ℕ

@@ -14,19 +14,21 @@ use std::alloc::{AllocError, Global};
 use toml::Table;
 
 /// The keys that there are.
-const KEYS: [&str; 7] = [
+const KEYS: [&str; 8] = [
     "host",
     "port",
     "segment_bytes",
     "cache_batches",
     "connections",
+    "output_bytes",
     "data",
     "user",
 ];
 
 impl Settings {
-    /// The settings of a TOML text: `host`, `port`, `segment_bytes`, `cache_batches`, `connections` and `data`, each
-    /// as in [`Settings::standard`] where it is missing, and an array of tables `user` with `name`, `password` and `tenant`.
+    /// The settings of a TOML text: `host`, `port`, `segment_bytes`, `cache_batches`, `connections`, `output_bytes` and
+    /// `data`, each as in [`Settings::standard`] where it is missing, and an array of tables `user` with `name`, `password` and
+    /// `tenant`.
     ///
     /// `Text` comes only where the text is no TOML document. `Field` names the first key that is wrong, in this order; keys
     /// that there are not come last, in byte order. Anything wrong with a user, or with the users together, is wrong with
@@ -64,6 +66,10 @@ fn in_document(alloc: Global, document: &Table) -> Result<Settings, SettingsFaul
     let Some(connections) = number(document, "connections", 1024, 1, 1_000_000) else {
         return Err(wrong(alloc, "connections"));
     };
+    let Some(output_bytes) = number(document, "output_bytes", 268_435_456, 1_048_576, u32::MAX)
+    else {
+        return Err(wrong(alloc, "output_bytes"));
+    };
     let Some(folder) = folder(document) else {
         return Err(wrong(alloc, "data"));
     };
@@ -79,6 +85,7 @@ fn in_document(alloc: Global, document: &Table) -> Result<Settings, SettingsFaul
         segment_bytes,
         cache_batches,
         connections,
+        output_bytes,
         folder: copied(alloc, folder)?,
         users,
     })

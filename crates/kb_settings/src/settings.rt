@@ -51,6 +51,8 @@ pub struct Settings {
     pub cache_batches: u32,
     /// How many clients are connected at most: 1 to 1,000,000.
     pub connections: u32,
+    /// How many bytes of output are kept at most before no more requests are taken: 1,048,576 to 4,294,967,295.
+    pub output_bytes: u32,
     /// The data folder, where there is one.
     pub folder: Option<String>,
     /// 1 to 1,000 users, no two of one name, of at most 256 different tenants.
@@ -60,6 +62,7 @@ pub struct Settings {
     pub ghost segment_bytes_fit: { (4096 ≤ segment_bytes) × (segment_bytes ≤ 1073741824) },
     pub ghost cache_batches_fit: { (1 ≤ cache_batches) × (cache_batches ≤ 65536) },
     pub ghost connections_fit: { (1 ≤ connections) × (connections ≤ 1000000) },
+    pub ghost output_bytes_fit: { 1048576 ≤ output_bytes },
     pub ghost users_fit: { (1 ≤ length users.items) × (length users.items ≤ 1000) },
     pub ghost names_differ: { IsTrue (are_different (map (λ u. string_bytes u.name) users.items)) },
     pub ghost tenants_fit: { length (in_order (map (λ u. string_bytes u.tenant) users.items)) ≤ 256 },
@@ -72,7 +75,7 @@ impl Settings {
 
     /// The settings of a text that names two users alone: `ann` with password `pw1` of tenant `a`, and `bob` with password
     /// `pw2` of tenant `b`. The host is `localhost`, the port 9092, a file has 16,777,216 bytes, 1,024 read batches are kept,
-    /// 1,024 clients are connected at most, and there is no folder.
+    /// 1,024 clients are connected at most, 268,435,456 bytes of output are kept, and there is no folder.
     pub fn standard(alloc: Global) -> Result<Settings, AllocError>
         ensures value { IfOk result (λ settings. values_of settings ≡ standard) }
         ensures text { IfOk result (λ settings. settings_of standard_text ≡ Some (Ok (values_of settings))) }
@@ -86,6 +89,7 @@ impl Settings {
             segment_bytes: 16_777_216,
             cache_batches: 1024,
             connections: 1024,
+            output_bytes: 268_435_456,
             folder: None,
             users,
         })

@@ -36,6 +36,7 @@ fn write_settings<W: Write>(
     writeln!(writer, "segment_bytes = {}", settings.segment_bytes)?;
     writeln!(writer, "cache_batches = {}", settings.cache_batches)?;
     writeln!(writer, "connections = {}", settings.connections)?;
+    writeln!(writer, "output_bytes = {}", settings.output_bytes)?;
     writeln!(writer, "data = {folder:?}")?;
     for user in &settings.users {
         writeln!(writer, "user {:?} of tenant {:?}", user.name, user.tenant)?;

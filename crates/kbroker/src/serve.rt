@@ -6,7 +6,7 @@ use crate::journal::Journal;
 use crate::{Fault, settings_of};
 use clap::ArgMatches;
 use kb_journal::moment_of;
-use kb_node::{Edge, Listing, NodeFault, StartFault, Store, serving_broker};
+use kb_node::{Edge, Limits, Listing, NodeFault, StartFault, Store, serving_broker};
 use std::net::Net;
 use std::time::SystemTime;
 
@@ -24,9 +24,9 @@ pub fn serve(rt: &HostRuntime, found: &ArgMatches<'_>) -> Result<(), Fault> {
     };
     let broker = serving_broker(alloc, &settings, listing)?;
     let address = format!(in alloc; "{}:{}", settings.host, settings.port)?;
-    let mut edge = Edge::watching(rt, alloc, broker, &address, settings.connections).map_err(
-        StartFault::from,
-    )?;
+    let limits = Limits::of(&settings);
+    let mut edge =
+        Edge::watching(rt, alloc, broker, &address, limits).map_err(StartFault::from)?;
     let mut journal = Journal::new(alloc, &settings, found.get_flag("quiet"))?;
     if println!(rt; "listening on {}:{}", settings.host, edge.port()).is_err() {
         return Err(Fault::Node(NodeFault::Write));

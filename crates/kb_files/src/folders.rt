@@ -15,7 +15,7 @@ use std::test::Fail;
 const OTHER: &str = "00000000000000000000.old";
 
 /// The store over a folder of the system's.
-fn opened(
+pub fn opened(
     files: &HostRuntime,
     path: &str,
 ) -> Result<FolderStore<HostFolder<HostRuntime>>, FolderFault> {
@@ -83,7 +83,7 @@ fn a_folder_is_what_it_was(rt: HostRuntime) -> Result<(), Fail> {
 }
 
 /// The path of a new folder among the temporary ones.
-fn folder_of_its_own(files: &HostRuntime) -> Result<String, Fail> {
+pub fn folder_of_its_own(files: &HostRuntime) -> Result<String, Fail> {
     let parent = std::env::temp_dir(files)?;
     for number in 0..1000u16 {
         let path = format!(in files.alloc(); "{}/kb-files-{number}", parent.as_str())?;

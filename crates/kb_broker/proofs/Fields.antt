@@ -1,11 +1,14 @@
 -- What the engine's calls on its own fields, and its looks, leave of the queue and of the broker.
-use Rattle.std.proofs.Common.{◌≡◌, ◌≢◌, ◌++◌, ◌+◌, ◌<◌, ℕ, List, [], ◌∷◌, length, get_or, take, eqb, nat_cmp, Option, Some, None, Result, Ok, Err, OnOk, OnErr, Bool, true, false, suc, inl, inr, refl, sym, ◌∙◌, ap, subst, arith}
-use Rattle.std.specs.Prelude.{not, ◌⊎◌, IfSome, IfNone, Contains}
+use Rattle.std.proofs.Common.{◌≡◌, ◌≢◌, ◌++◌, ◌+◌, ◌<◌, ℕ, List, [], ◌∷◌, length, get_or, take, cond, eqb, nat_cmp, Option, Some, None, Result, Ok, Err, OnOk, OnErr, Bool, true, false, suc, inl, inr, refl, sym, ◌∙◌, ap, subst, arith, true≢false}
+use Rattle.std.specs.Prelude.{not, ◌||◌, ◌⊎◌, IfSome, IfNone, Contains}
 use Rattle.std.specs.Option.{is_some}
+use Rattle.std.specs.Cmp.{nat_cmp_total}
 use Rattle.std.specs.FinMap as fin
 use Rattle.std.specs.List.{AllByRecursion, remove}
 use Rattle.std.proofs.Math.Seq.{take-suc}
+use Rattle.std.proofs.lemmas.Bool.{eqb-true}
 use Rattle.std.proofs.lemmas.Bool.Decides.{nat_tests}
+use Rattle.kb_waits.specs.Queue as queue
 use Rattle.kb_waits.specs.Queue.{Queue}
 use Rattle.kb_service.specs.Hosted.{TenantState}
 use Rattle.kb_machine.specs.Tenant.{Wait}
@@ -24,7 +27,7 @@ use Rattle.kb_machine.proofs.Parts.{eqb_same, eqb_other}
 use Rattle.kb_machine.proofs.Steps.{remove-those}
 use Rattle.kb_machine.proofs.Turns.{unready-same}
 use Rattle.kb_connection.specs.View.{with_session}
-use Rattle.kb_broker.specs.Places.{number_at, waits_in, IsPassed, ArePassed, AreWaked, IsLookedAt, IsOneMore}
+use Rattle.kb_broker.specs.Places.{number_at, waits_in, any_waits, IsPassed, ArePassed, AreWaked, IsLookedAt, IsOneMore}
 use Rattle.kb_broker.specs.Parked.{until, deadline_at, deadline_in, until_of, IsKeyedIn, IsOwnedIn, IsQueueOf, IsReadyAmong, IsUnreadyIn, IsUnreadyAt, AreSought, IsSoughtAt, IsSoughtIn, SameBut, AreMinded}
 use Rattle.kb_broker.proofs.Placed.{get-at, number_at-is}
 use Rattle.kb_broker.proofs.Handled.{put_with, fed-stage}
@@ -54,6 +57,55 @@ pub none-waits : (H : Type 0) (q : Queue) (a b : BrokerState) → a ≡ b → Is
 none-waits H q a b e v rising empty =
     each-find (λ n o. waits_in o ≡ false) 0 b.last b.lines rising (λ n.
     dateless (find_line n b.lines) (ap (λ (x : BrokerState). deadline_in (find_line n x.lines)) (sym e) ∙ nobody-waits H q a.tenants n a.lines v (empty-none q n empty)))
+
+-- what stands for nobody is not there
+untimed : (o : Option queue.Wait) → until_of o ≡ None → o ≡ None
+untimed None e = refl
+untimed (Some w) e = absurd (cc)
+
+undated : (o : Option Session) → waits_in o ≡ false → deadline_in o ≡ None
+undated None e = refl
+undated (Some s) e = at s.stage e
+  where
+    at : (st : Stage) → not (is_free st) ≡ false → deadline_at st ≡ None
+    at (Greets h) e = refl
+    at (BoundTo t None) e = refl
+    at (BoundTo t (Some w)) e = absurd (cc)
+
+neither : (a b : Bool) → (a || b) ≡ false → (a ≡ false) × (b ≡ false)
+neither false b e = (refl, e)
+neither true b e = absurd (cc)
+
+-- where none waits, each does not
+pub all-free : (ls : List Line) → any_waits ls ≡ false → AllByRecursion (λ (l : Line). waits_in (Some l.session) ≡ false) ls
+all-free [] e = tt
+all-free (l ∷ ls) e = let p = neither (waits_in (Some l.session)) (any_waits ls) e in (p.0, all-free ls p.1)
+
+none-any : (ls : List Line) → AllByRecursion (λ (l : Line). waits_in (Some l.session) ≡ false) ls → any_waits ls ≡ false
+none-any [] h = refl
+none-any (l ∷ ls) h = ap (λ b. b || any_waits ls) h.0 ∙ none-any ls h.1
+
+found-free : (n : ℕ) (ls : List Line) → any_waits ls ≡ false → waits_in (find_line n ls) ≡ false
+found-free n [] e = refl
+found-free n (l ∷ ls) e = let p = neither (waits_in (Some l.session)) (any_waits ls) e in each (eqb l.number n) p.0 (found-free n ls p.1)
+  where
+    each : (t : Bool) → waits_in (Some l.session) ≡ false → waits_in (find_line n ls) ≡ false → waits_in (cond t (Some l.session) (find_line n ls)) ≡ false
+    each true here rest = here
+    each false here rest = rest
+
+-- the queue is empty exactly where no connection waits
+pub queue-waits : (H : Type 0) (q : Queue) (a b : BrokerState) → a ≡ b → IsQueueOf H q a.tenants a.lines → Rising 0 b.last b.lines → not (eqb (fin.len q) 0) ≡ any_waits b.lines
+queue-waits H q a b e v rising = each (eqb (fin.len q) 0) (any_waits b.lines) refl refl
+  where
+    emptied : any_waits b.lines ≡ false → fin.len q ≡ 0
+    emptied free = ap fin.len (fin.same_map nat_cmp_total fin.nat_cmp-IsAntisymmetric q fin.empty (λ n.
+        untimed (fin.get q n) (v.dated n ∙ ap (λ (x : BrokerState). deadline_in (find_line n x.lines)) e ∙ undated (find_line n b.lines) (found-free n b.lines free)) ∙ sym (fin.get-empty nat_cmp n))) ∙ fin.len-empty nat_cmp queue.Wait
+
+    each : (t u : Bool) → eqb (fin.len q) 0 ≡ t → any_waits b.lines ≡ u → not t ≡ u
+    each true false s r = refl
+    each false true s r = refl
+    each true true s r = absurd (true≢false (sym r ∙ none-any b.lines (none-waits H q a b e v rising (eqb-true (fin.len q) 0 s))))
+    each false false s r = absurd (true≢false (sym (ap (λ n. eqb n 0) (emptied r)) ∙ s))
 
 -- and no wait is looked for
 pub none-passed : (whom : Whom) (b : BrokerState) → AllByRecursion (λ (l : Line). waits_in (Some l.session) ≡ false) b.lines → ArePassed whom b

@@ -166,6 +166,14 @@ silent-output s e = by s.output s.shut e
     by [] b e = refl
     by (x ∷ xs) b e = grind (arith, nat_tests, e)
 
+-- ... and is not shut
+pub silent-shut : (s : Session) → speaks s ≡ false → s.shut ≡ false
+silent-shut s e = by (not (length s.output == 0)) s.shut e
+  where
+    by : (a b : Bool) → (a || b) ≡ false → b ≡ false
+    by false b h = h
+    by true b h = absurd (cc)
+
 -- there is room for the connection at a place
 pub roomy : (low last : ℕ) (ls : List Line) (i : ℕ) (l m : Line) (ns : Vec ℕ Global) (n : ℕ) (b : Bool) → IsHeard ns ls → Rising low last ls → IsAt ls i l → m.number ≡ l.number → n ≡ l.number → b ≡ speaks m.session → IsRoomy n b ns
 roomy low last ls i l m ns n b h r at same number is =

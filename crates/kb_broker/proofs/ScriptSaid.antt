@@ -8,9 +8,11 @@ use Rattle.kb_machine.specs.Calls.{shut_in}
 use Rattle.kb_machine.specs.Told.{said}
 use Rattle.kb_machine.proofs.Sets.{IsAt, tail-at, no-at}
 use Rattle.kb_machine.proofs.Owned.{found}
+use Rattle.kb_connection.specs.View.{speaks}
 use Rattle.kb_broker.specs.Places.{numbers}
 use Rattle.kb_broker.specs.Script.{sent_text, step_text}
 use Rattle.kb_broker.specs.ScriptRun.{words, shut_marks, said_since}
+use Rattle.kb_broker.proofs.Heard.{silent-output, silent-shut}
 
 -- 1. By the marks of those that were shut
 
@@ -49,3 +51,8 @@ since-more (suc i) (b ∷ marks) (k ∷ ls) l a lt =
 -- what was taken of a connection is what it got
 pub got-text : (s : Sent) (l : Line) (was : Bool) → s ≡ sent l → sent_text s.number s.bytes (s.shut && not was) ≡ sent_text l.number l.session.output (l.session.shut && not was)
 got-text s l was e = ap (λ (x : Sent). sent_text x.number x.bytes (x.shut && not was)) e
+
+-- one that has nothing to tell is not spoken of
+pub silent-text : (l : Line) (was : Bool) → speaks l.session ≡ false → sent_text l.number l.session.output (l.session.shut && not was) ≡ []
+silent-text l was e =
+    ap (λ o. sent_text l.number o (l.session.shut && not was)) (silent-output l.session e) ∙ ap (λ b. sent_text l.number [] (b && not was)) (silent-shut l.session e)

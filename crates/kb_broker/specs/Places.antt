@@ -1,5 +1,5 @@
 -- A connection's place in the broker, its turns there, and the count of a refusal.
-use Rattle.std.specs.Prelude.{◌≡◌, ◌≢◌, ℕ, ◌<◌, ◌≤◌, List, length, take, map, get_or, Option, Some, None, Bool, true, false, not, ◌⊎◌, ⊤}
+use Rattle.std.specs.Prelude.{◌≡◌, ◌≢◌, ℕ, ◌<◌, ◌≤◌, List, [], ◌∷◌, length, take, map, get_or, Option, Some, None, Bool, true, false, not, ◌||◌, ◌⊎◌, ⊤}
 use Rattle.std.specs.List.{AllByRecursion}
 use Rattle.std.specs.declared.alloc.Global.{Global}
 use Rattle.std.specs.declared.vec.Vec.{Vec}
@@ -30,6 +30,11 @@ number_at i b = get_or (numbers b) i 0
 abbrev pub waits_in : Option Session → Bool
 waits_in None = false
 waits_in (Some s) = not (is_free s.stage)
+
+-- whether some connection does
+abbrev pub any_waits : List Line → Bool
+any_waits [] = false
+any_waits (l ∷ ls) = waits_in (Some l.session) || any_waits ls
 
 -- a connection at that stage waits for nothing that is looked for
 abbrev pub IsPassed : Whom → ℕ → Stage → Type 0

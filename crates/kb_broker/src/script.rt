@@ -196,7 +196,7 @@ fn pass<W: Write>(
     ensures ok { OnOk result (IsSpoken (Moment now) broker.old.state broker.new.state (W.contents writer.old) (W.contents writer.new)) }
     ensures err { IfErr result (λ fault. IsBroken (Plays (Moment now)) fault broker.old.state (W.contents writer.old) (W.contents writer.new)) }
 {
-    if broker.may_wait() {
+    if broker.any_waits() {
         let Ok(were_shut) = shut_places(alloc, broker) else {
             return Err(ScriptFault::Memory);
         };
@@ -222,7 +222,7 @@ fn give<W: Write>(
     ensures ok { OnOk result (IsSpoken (Comes connection piece.now) broker.old.state broker.new.state (W.contents writer.old) (W.contents writer.new)) }
     ensures err { IfErr result (λ fault. IsBroken (Plays (Comes connection piece.now)) fault broker.old.state (W.contents writer.old) (W.contents writer.new)) }
 {
-    if !broker.may_wait() {
+    if !broker.any_waits() {
         return give_alone(alloc, broker, writer, connection, piece);
     }
     let Ok(were_shut) = shut_places(alloc, broker) else {

@@ -196,7 +196,7 @@ impl<R: Net, S: Store> Edge<R, S> {
     fn longest_wait(&self) -> Duration {
         let millis = if !self.ready.is_empty() && self.may_ask() {
             0
-        } else if self.ready.is_empty() && !self.broker.may_wait() && !self.can_accept {
+        } else if self.ready.is_empty() && !self.broker.any_waits() && !self.can_accept {
             LONG_WAIT
         } else {
             SHORT_WAIT

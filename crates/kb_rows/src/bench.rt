@@ -224,13 +224,23 @@ fn happen_to<E: Server>(
     Ok(())
 }
 
-/// An edge for a broker, on a port of the system's choice, for 1,024 clients.
+/// An edge for a broker, on a port of the system's choice, with the standard limits.
 pub(crate) fn edge_for(
     net: &HostRuntime,
     alloc: Global,
     broker: Broker<MemoryStore>,
 ) -> Result<Edge<HostRuntime, MemoryStore>, BindFault> {
-    match Edge::bind(net, alloc, broker, "127.0.0.1:0", Limits::default()) {
+    edge_within(net, alloc, broker, Limits::default())
+}
+
+/// The same with other limits.
+pub(crate) fn edge_within(
+    net: &HostRuntime,
+    alloc: Global,
+    broker: Broker<MemoryStore>,
+    limits: Limits,
+) -> Result<Edge<HostRuntime, MemoryStore>, BindFault> {
+    match Edge::bind(net, alloc, broker, "127.0.0.1:0", limits) {
         Ok(edge) => Ok(edge),
         Err(refused) => Err(refused.fault),
     }

@@ -1,6 +1,6 @@
 //! Edges on the loopback, and one on a network of no system.
 
-use crate::bench::{Client, Move, Server, client_at, edge_for, join, play};
+use crate::bench::{Client, Move, Server, client_at, edge_for, edge_within, join, play};
 use crate::crowd::Crowd;
 use crate::running::{new_broker, opened};
 use crate::words::bytes_of;
@@ -348,6 +348,44 @@ fn first_reads_late<E: Server>(
 fn a_client_that_does_not_read_holds_nobody_up(rt: HostRuntime) -> Result<(), Fail> {
     let mut edge = edge_for(&rt, rt.alloc(), new_broker(rt.alloc())?)?;
     Ok(first_reads_late(&rt, &rt, rt.alloc(), &mut edge)?)
+}
+
+/// Two clients, of which the first does not read, where the edge keeps next to no output: nobody is served before the first has
+/// read, and then both get every reply.
+fn all_wait_for_the_first<E: Server>(
+    net: &HostRuntime,
+    rt: &impl Abort,
+    alloc: Global,
+    edge: &mut E,
+) -> io::Result<()> {
+    let requests = many_requests(rt, alloc)?;
+    let mut clients = Vec::new(alloc);
+    join(net, alloc, edge, &mut clients)?;
+    join(net, alloc, edge, &mut clients)?;
+    let (sent, _) = send_unread(edge, client_at(rt, &mut clients, 0), alloc, &requests);
+    let replies = (sent / 14).saturating_mul(122);
+    let request = bytes_of(rt, alloc, "versions")?;
+    let second = client_at(rt, &mut clients, 1);
+    assert!(rt; second.send_some(&request) == 14);
+    for _ in 0..8 {
+        edge.turn(alloc, 0);
+    }
+    assert!(rt; second.pass_over()? == 0);
+    let first = client_at(rt, &mut clients, 0);
+    assert!(rt; read_all(edge, first, alloc, replies)? == replies);
+    let second = client_at(rt, &mut clients, 1);
+    assert!(rt; read_all(edge, second, alloc, 122)? == 122);
+    Ok(())
+}
+
+#[test]
+fn no_more_is_asked_for_than_is_kept(rt: HostRuntime) -> Result<(), Fail> {
+    let limits = Limits {
+        output_bytes: 1,
+        ..Limits::default()
+    };
+    let mut edge = edge_within(&rt, rt.alloc(), new_broker(rt.alloc())?, limits)?;
+    Ok(all_wait_for_the_first(&rt, &rt, rt.alloc(), &mut edge)?)
 }
 
 /// Why an edge for a broker is not bound to an address, and the last connection of the broker that comes back. With none it is

@@ -1,9 +1,8 @@
 //! What is written of all connections.
 
-ghost use Rattle.std.specs.Prelude.{◌≡◌, [], false, length, IfOk, IfErr, OnOk};
+ghost use Rattle.std.specs.Prelude.{◌≡◌, length, IfOk, IfErr, OnOk};
 ghost use Rattle.std.specs.Io.KnownBytes.{Appends};
-ghost use Rattle.kb_machine.specs.Broker.{IsReady, Rising};
-ghost use Rattle.kb_machine.specs.Calls.{output_of, taken};
+ghost use Rattle.kb_machine.specs.Broker.{IsReady};
 ghost use Rattle.kb_broker.specs.Script.{step_text};
 ghost use Rattle.kb_broker.specs.ScriptRun.{hushed, shut_marks, said_since, IsUnwritten};
 
@@ -58,31 +57,14 @@ fn take_text(
     let mut text = Vec::new(alloc);
     for i in 0..broker.connections().len() {
         let connection = &broker.connections()[i];
+        if !connection.speaks() {
+            continue;
+        }
         let number = connection.number();
-        let has_words = connection.speaks();
         let is_shut = connection.is_shut() && !were_shut[i];
-        let output = take_output(alloc, broker, number, has_words);
+        let output = broker.take_output(alloc, number);
         let answer = answer_of(alloc, number, &output, is_shut)?;
         text.extend_from_slice(&answer)?;
     }
     Ok(text)
-}
-
-/// Takes the output of a connection. One that has nothing to tell is not sought for it.
-fn take_output(
-    alloc: Global,
-    broker: &mut Broker<MemoryStore>,
-    number: u64,
-    has_words: bool,
-) -> Vec<u8>
-    requires rising { Rising 0 broker.old.state.last broker.old.state.lines }
-    requires silent { has_words ≡ false → output_of number broker.old.state ≡ [] }
-    ensures state { broker.new ≡ record broker.old { state = taken broker.old.state number } }
-    ensures output { result.items ≡ output_of number broker.old.state }
-{
-    if has_words {
-        broker.take_output(alloc, number)
-    } else {
-        Vec::new(alloc)
-    }
 }

@@ -1,10 +1,14 @@
-use Rattle.std.proofs.Common.{◌≡◌, true, ◌∙◌}
+use Rattle.std.proofs.Common.{◌≡◌, true, sym, ◌∙◌}
 use Rattle.kb_machine.specs.Machine.{Comes}
 use Rattle.kb_machine.specs.Broker.{IsReady}
 use Rattle.kb_machine.specs.Calls.{is_calm}
+use Rattle.kb_broker.proofs.Fields.{all-free}
 use Rattle.kb_broker.proofs.Honest.{ready-of}
 use Rattle.kb_broker.proofs.ScriptEvents.{comes, spoken, unspoken}
 use Rattle.kb_broker.proofs.script.give.Goals as goal
+
+pub give_alone-requires-clause-alone : goal.give_alone-requires-clause-alone
+give_alone-requires-clause-alone g c = all-free c.args.broker.now.state.lines (sym c.any_waits.ensures ∙ c.if-not-any_waits.true)
 
 pub returns-clause-ok : goal.returns-clause-ok
 returns-clause-ok g c =

@@ -1,6 +1,6 @@
-use Rattle.std.proofs.Common.{◌≤◌, arith, length, rules}
+use Rattle.std.proofs.Common.{◌≤◌, ◌∙◌, arith, length, rules, sym}
 use Rattle.kb_machine.proofs.Turns.{going-then}
-use Rattle.kb_broker.proofs.Fields.{none-passed}
+use Rattle.kb_broker.proofs.Fields.{all-free, none-passed}
 use Rattle.kb_broker.proofs.Honest.{later-then}
 use Rattle.kb_broker.proofs.Looked.{passed-looked-all, passed-rest-all, waked-all}
 use Rattle.kb_broker.proofs.engine.Engine.wake_all.Goals as goal
@@ -20,11 +20,11 @@ loop-i-preserved g c =
       waked = λ honest. t.waked honest c.args.self.now.state (v.waked (t.later.honest honest));
     }
 
-pub returns-then-not-may_wait-clause-looked : goal.returns-then-not-may_wait-clause-looked
-returns-then-not-may_wait-clause-looked g c = λ honest. passed-looked-all c.args.whom c.args.self.now.state (none-passed c.args.whom c.args.self.now.state (c.may_wait.ensures c.if-not-may_wait.true))
+pub returns-then-not-any_waits-clause-looked : goal.returns-then-not-any_waits-clause-looked
+returns-then-not-any_waits-clause-looked g c = λ honest. passed-looked-all c.args.whom c.args.self.now.state (none-passed c.args.whom c.args.self.now.state (all-free _ (sym c.any_waits.ensures ∙ c.if-not-any_waits.true)))
 
-pub returns-then-not-may_wait-clause-rest : goal.returns-then-not-may_wait-clause-rest
-returns-then-not-may_wait-clause-rest g c = λ honest. passed-rest-all c.args.whom c.args.self.now.state (none-passed c.args.whom c.args.self.now.state (c.may_wait.ensures c.if-not-may_wait.true))
+pub returns-then-not-any_waits-clause-rest : goal.returns-then-not-any_waits-clause-rest
+returns-then-not-any_waits-clause-rest g c = λ honest. passed-rest-all c.args.whom c.args.self.now.state (none-passed c.args.whom c.args.self.now.state (all-free _ (sym c.any_waits.ensures ∙ c.if-not-any_waits.true)))
 
 pub returns-clause-looked : goal.returns-clause-looked
 returns-clause-looked g c = λ honest.

@@ -1,27 +1,14 @@
-use Rattle.std.proofs.Common.{◌≡◌, ◌+◌, ◌++◌, ◌&&◌, ◌<◌, not, false, length, take, get_or, sym, ◌∙◌, ap, arith, rules, add-one}
+use Rattle.std.proofs.Common.{◌≡◌, ◌+◌, ◌++◌, ◌&&◌, ◌<◌, not, false, length, take, get_or, refl, sym, ◌∙◌, ap, arith, rules, add-one, append-nil}
 use Rattle.kb_machine.specs.Machine.{Sent, sent}
+use Rattle.kb_connection.specs.View.{speaks}
 use Rattle.kb_broker.specs.Script.{sent_text, step_text}
 use Rattle.kb_broker.specs.ScriptRun.{said_since}
-use Rattle.kb_broker.proofs.RunDrain.{drained-at, drained-more, drained-sent, drained-silent}
+use Rattle.kb_broker.proofs.RunDrain.{drained-at, drained-more, drained-sent, drained-silent, taken-silent}
 use Rattle.kb_broker.proofs.Heard.{silent-output}
 use Rattle.kb_broker.proofs.Honest.{state-is}
-use Rattle.kb_broker.proofs.ScriptSaid.{since-more, got-text}
+use Rattle.kb_broker.proofs.ScriptSaid.{since-more, got-text, silent-text}
 use Rattle.kb_broker.proofs.script.saying.take_text.Goals as goal
 use Rattle.kb_broker.proofs.script.saying.take_text.Goals.{then-is_shut, else-is_shut}
-
-pub take_output-output-requires-clause-rising : goal.take_output-output-requires-clause-rising
-take_output-output-requires-clause-rising c = c.connections.ensures.ready.sound.rising
-
-pub take_output-output-requires-clause-silent : goal.take_output-output-requires-clause-silent
-take_output-output-requires-clause-silent c = λ silent.
-    let old = c.args.broker.now.state in
-    let b = c.loop-i.broker.state in
-    let i = c.loop-i.i in
-    let v = c.loop-i.invariant in
-    let l = c.index-connections-i.result in
-    let lt : i < length old.lines = (let h = v.end in let t = c.loop-i-test.true in omega arith) in
-    let a = drained-at b old i l c.connections.result.now lt v.state c.connections.ensures.lines c.index-connections-i.is in
-    drained-silent b old i c.number-number.result l c.requires.ready.sound.rising a c.number-number.ensures v.state (silent-output l.session (sym c.speaks-has_words.ensures ∙ silent))
 
 pub loop-i-preserved : goal.loop-i-preserved
 loop-i-preserved c =
@@ -45,4 +32,23 @@ loop-i-preserved c =
       end = v.end;
       state = state-is _ _ c.take_output-output.ensures.state ∙ rw add-one (drained-more b old i c.number-number.result l rising a c.number-number.ensures v.state);
       text = c.in_ok-extend_from_slice.ensures.items ∙ (ap (λ t. t ++ c.deref-in-loop-i.result.now) v.text ∙ (ap (λ t. before ++ t) (c.deref-in-loop-i.ensures.value ∙ spelled) ∙ more));
+    }
+
+pub loop-i-preserved-then-not-speaks : goal.loop-i-preserved-then-not-speaks
+loop-i-preserved-then-not-speaks c =
+    let old = c.args.broker.now.state in
+    let b = c.loop-i.broker.state in
+    let i = c.loop-i.i in
+    let v = c.loop-i.invariant in
+    let marks = c.args.were_shut.now in
+    let rising = c.requires.ready.sound.rising in
+    let l = c.index-connections-i.result in
+    let lt : i < length old.lines = (let h = v.end in let t = c.loop-i-test.true in omega arith) in
+    let a = drained-at b old i l c.connections.result.now lt v.state c.connections.ensures.lines c.index-connections-i.is in
+    let silent : speaks l.session ≡ false = sym c.speaks.ensures ∙ c.if-not-speaks.true in
+    let unsaid = drained-silent b old i l.number l rising a refl v.state (silent-output l.session silent) in
+    record {
+      end = v.end;
+      state = sym (taken-silent b l.number c.connections.ensures.ready.sound.rising unsaid) ∙ rw add-one (drained-more b old i l.number l rising a refl v.state);
+      text = v.text ∙ sym (rw add-one (since-more i marks old.lines l a (omega (arith, lt, c.requires.places))) ∙ ap (λ t. step_text (said_since (take i marks) (take i old.lines)) ++ t) (silent-text l (get_or marks i false) silent) ∙ append-nil _);
     }

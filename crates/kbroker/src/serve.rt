@@ -25,8 +25,7 @@ pub fn serve(rt: &HostRuntime, found: &ArgMatches<'_>) -> Result<(), Fault> {
     let broker = serving_broker(alloc, &settings, listing)?;
     let address = format!(in alloc; "{}:{}", settings.host, settings.port)?;
     let limits = Limits::of(&settings);
-    let mut edge =
-        Edge::watching(rt, alloc, broker, &address, limits).map_err(StartFault::from)?;
+    let mut edge = Edge::watching(rt, alloc, broker, &address, limits).map_err(StartFault::from)?;
     let mut journal = Journal::new(alloc, &settings, found.get_flag("quiet"))?;
     if println!(rt; "listening on {}:{}", settings.host, edge.port()).is_err() {
         return Err(Fault::Node(NodeFault::Write));

@@ -12,4 +12,6 @@ mod headers;
 #[cfg(test)]
 mod logs;
 #[cfg(test)]
+mod opened;
+#[cfg(test)]
 mod segments;

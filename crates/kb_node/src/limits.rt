@@ -1,5 +1,7 @@
 //! What an edge may hold at most.
 
+ghost use Rattle.std.specs.Prelude.{◌≡◌};
+
 use kb_broker::Settings;
 
 /// What an edge may hold at most.
@@ -14,7 +16,10 @@ pub struct Limits {
 
 impl Limits {
     /// What the settings allow.
-    pub fn of(settings: &Settings) -> Limits {
+    pub fn of(settings: &Settings) -> Limits
+        ensures sockets { result.sockets ≡ settings.now.connections }
+        ensures output { result.output_bytes ≡ settings.now.output_bytes }
+    {
         Limits {
             sockets: settings.connections,
             output_bytes: settings.output_bytes,
@@ -22,8 +27,10 @@ impl Limits {
     }
 }
 
-/// As in the standard settings.
+/// As in the standard settings: 1,024 sockets, and 256 MiB of output.
 impl Default for Limits {
+    ghost is_default = { λ x. x ≡ record { sockets = 1024; output_bytes = 268435456 } };
+
     fn default() -> Limits {
         Limits {
             sockets: 1024,

@@ -6,3 +6,4 @@ pub mod Made
 pub mod Placed
 pub mod Put
 pub mod Removed
+pub mod Restored

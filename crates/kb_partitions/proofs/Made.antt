@@ -28,11 +28,11 @@ each_at : {A : Type 0} (P : A → Type 0) (xs : List A) (k : ℕ) (x : A) → Al
 each_at P xs k x all at = subst P (get_or_from_slice_get xs k x x at) (all k x (slice_get_within xs k x at))
 
 -- an entry with its value seen
-abbrev seen : {A B : Type 0} → (A → B) → ℕ × A → ℕ × B
+abbrev pub seen : {A B : Type 0} → (A → B) → ℕ × A → ℕ × B
 seen f e = (e.0, f e.1)
 
 -- an entry is put in before its value is looked at, or after
-insert_mapped : {A B : Type 0} (f : A → B) (i : ℕ) (v : A) (es : List (ℕ × A)) → map (seen f) (insert_entry nat_cmp es i v) ≡ insert_entry nat_cmp (map (seen f) es) i (f v)
+pub insert_mapped : {A B : Type 0} (f : A → B) (i : ℕ) (v : A) (es : List (ℕ × A)) → map (seen f) (insert_entry nat_cmp es i v) ≡ insert_entry nat_cmp (map (seen f) es) i (f v)
 insert_mapped f i v [] = refl
 insert_mapped {A} {B} f i v (e ∷ es) = by (nat_cmp i e.0) (insert_mapped f i v es)
   where
@@ -57,7 +57,7 @@ remove_inserted {A} i v (e ∷ es) none = by (nat_cmp i e.0) refl none (remove_i
         ap (λ b. cond b (insert_entry nat_cmp es i v) (e ∷ remove_entry (is_at (nat_cmp i)) (insert_entry nat_cmp es i v))) past
         ∙ ap (λ rest. e ∷ rest) (h (sym (ap (λ b. cond b (Some e.1) (lookup (is_at (nat_cmp i)) es)) past) ∙ gone))
 
-counted_by : {A : Type 0} (f : A → ℕ) (n : ℕ) (x : A) (o : Option A) (b : Bool) → f x ≡ n → option_map f (cond b (Some x) o) ≡ cond b (Some n) (option_map f o)
+pub counted_by : {A : Type 0} (f : A → ℕ) (n : ℕ) (x : A) (o : Option A) (b : Bool) → f x ≡ n → option_map f (cond b (Some x) o) ≡ cond b (Some n) (option_map f o)
 counted_by f n x o true e = ap Some e
 counted_by f n x o false e = refl
 
@@ -66,7 +66,7 @@ none_counted : {A B : Type 0} (f : A → B) (o : Option A) → option_map f o �
 none_counted f None e = refl
 none_counted f (Some x) e = absurd cc
 
-unmade_here : {L : Type 0} (i : ℕ) (es : Entries L) → IsUnmade i es → lookup (is_at (nat_cmp i)) es ≡ None
+pub unmade_here : {L : Type 0} (i : ℕ) (es : Entries L) → IsUnmade i es → lookup (is_at (nat_cmp i)) es ≡ None
 unmade_here {L} i es unmade =
     let count : Vec (Partition L) Global → ℕ = λ t. length t.items in
     none_counted count (lookup (is_at (nat_cmp i)) es) (sym (lookup-map_values count (is_at (nat_cmp i)) es) ∙ unmade)

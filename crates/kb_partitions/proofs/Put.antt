@@ -14,7 +14,7 @@ pub cases : (b : Bool) → (b ≡ true) ⊎ (b ≡ false)
 cases true = inl refl
 cases false = inr refl
 
-same_number : (k i : ℕ) → is_at (nat_cmp k) i ≡ true → k ≡ i
+pub same_number : (k i : ℕ) → is_at (nat_cmp k) i ≡ true → k ≡ i
 same_number k i e = eqb-true k i (sym (unsigned_tied k i) ∙ e)
 
 pub own_number : (k : ℕ) → is_at (nat_cmp k) k ≡ true

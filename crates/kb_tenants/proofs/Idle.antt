@@ -1,5 +1,5 @@
 -- Up to when a moment leaves each tenant what it keeps.
-use Rattle.std.proofs.Common.{◌≡◌, ◌∙◌, ◌⊎◌, ⊎_elim, ◌≤◌, ◌<◌, ◌≤ℤ◌, ◌+◌, ℕ, ℤ, zero, suc, pos, Bool, true, false, cond, nat_le, List, [], ◌∷◌, ◌++◌, length, sym, ap, refl, subst, arith}
+use Rattle.std.proofs.Common.{◌≡◌, ◌∙◌, ◌⊎◌, ⊎_elim, ◌≤◌, ◌<◌, ◌≤ℤ◌, ◌+◌, ℕ, ℤ, zero, suc, pos, negsuc, Bool, true, false, cond, nat_le, List, [], ◌∷◌, ◌++◌, length, sym, ap, refl, subst, arith}
 use Rattle.std.proofs.lemmas.Bool.Decides.{nat_tests}
 use Rattle.std.proofs.lemmas.Int.{ints}
 use Rattle.std.specs.Prelude.{map}
@@ -76,6 +76,10 @@ quiet_kept w gs clock quiet early = ap (λ r. kept_in r.0 (groups.passed clock g
 -- where there is none
 pub idle_none : (until : ℤ) (ts : List TenantState) → ts ≡ [] → IsIdleUntil until ts
 idle_none until ts none t clock le = past_passed ts t clock (omega (arith, ap length none))
+
+-- where nothing is known of any
+pub idle_unknown : (ts : List TenantState) → IsIdleUntil (negsuc 0) ts
+idle_unknown ts t clock le = absurd (omega (arith, ints, le))
 
 -- where all keep what they kept
 pub idle_stays : (until : ℤ) (old new : List TenantState) → ((t : ℕ) → kept_of new t ≡ kept_of old t) → IsIdleUntil until old → IsIdleUntil until new

@@ -3,7 +3,7 @@ use Rattle.std.specs.Prelude.{◌≡◌, ◌≤ℤ◌, ℕ, ℤ, pos, List, Some
 use Rattle.kb_store.specs.Disk.{Disk, Table, Files}
 use Rattle.kb_log.specs.OnShelf.{Log}
 use Rattle.kb_coordinator.specs.Calls as groups
-use Rattle.kb_coordinator.specs.Groups.{Groups}
+use Rattle.kb_coordinator.specs.Groups.{Groups, none}
 use Rattle.kb_groups.specs.declared.reply.Release.{Release}
 use Rattle.kb_world.specs.Calls.{retain_all}
 use Rattle.kb_world.specs.Parts.{IsSound, Agrees, Owns, world_of}
@@ -38,6 +38,14 @@ is_honest disk ts = (disk ts.shelf.store).honest
 -- the tenants, by place
 abbrev pub hosted : {L S : Type 0} → (L → Log) → (S → Disk) → Tenants L S → List TenantState
 hosted log disk ts = map (state_of log (disk ts.shelf.store).files) ts.tenants.items
+
+-- none of those tenants has a file of these parts
+abbrev pub IsApart : {L : Type 0} → (L → Log) → List (Parts L) → Parts L → Type 0
+IsApart {L} log ps parts = (t : ℕ) (p : Parts L) → slice_get ps t ≡ Some p → (file : ℕ) → Owns log p file → Owns log parts file → ⊥
+
+-- a tenant of those parts, which has no groups, where the files are those
+abbrev pub restored_tenant : {L : Type 0} → (L → Log) → Files → List ℕ → Parts L → TenantState
+restored_tenant log files name parts = record { name = name; kept = kept_in (world_of log parts files) none; refusals = parts.refusals }
 
 -- ---- who is answered
 

@@ -2,6 +2,7 @@ pub mod Calls
 pub mod Dropping
 pub mod KeptUntil
 pub mod Parts
+pub mod Restored
 pub mod Steps
 pub mod Tied
 pub mod Told

@@ -1,5 +1,5 @@
 //! The parts of a tenant.
-ghost use Rattle.std.specs.Prelude.{◌≡◌, ◌⊎◌, ◌≤◌, ◌≤ℤ◌, ℕ, [], pos, false, length};
+ghost use Rattle.std.specs.Prelude.{◌≡◌, ◌⊎◌, ◌≤◌, ◌≤ℤ◌, ℕ, [], pos, negsuc, false, length};
 ghost use Rattle.std.specs.Option.{option_copied};
 ghost use Rattle.kb_store.specs.Disk.{Table, Files};
 ghost use Rattle.kb_topics.specs.ByName.{by_name};
@@ -7,6 +7,7 @@ ghost use Rattle.kb_topics.specs.Catalog.{known};
 ghost use Rattle.kb_topics.specs.Known.{named, topic_at};
 ghost use Rattle.kb_world.specs.Calls.{start_of, end_of, judged, committed, at_clock, retain_all};
 ghost use Rattle.kb_world.specs.Parts.{Agrees, IsSound, Owns, raised, refused, world_of};
+ghost use Rattle.kb_world.specs.Restored.{AreFitting, DoAgree, IsOfEither, restored_world};
 ghost use Rattle.kb_world.specs.World.{new_world};
 
 use crate::place::Place;
@@ -40,14 +41,40 @@ impl<L: PartitionLog> Parts<L> {
         ensures owns { (file : ℕ) → Owns L.log result file → ⊥ }
         ensures refusals { result.refusals ≡ 0 }
     {
+        let catalog = Catalog::new(alloc, meta_tenant, segment_bytes);
+        let partitions = Partitions::new(alloc);
+        let mut parts = Parts::restored(alloc, tenant, segment_bytes, catalog, partitions);
+        // there is nothing to drop
+        parts.kept_until = i64::MAX;
+        parts
+    }
+
+    /// A tenant of a catalog and of partitions that are there, at clock 0, to which nothing was refused. Files are to hold about
+    /// `segment_bytes`.
+    pub fn restored(
+        alloc: Global,
+        tenant: String,
+        segment_bytes: u64,
+        catalog: Catalog<L>,
+        partitions: Partitions<L>,
+    ) -> Self
+        ensures world { (files : Files) → world_of L.log result files ≡ restored_world L.log catalog partitions files }
+        ensures sound { (table : Table) (next : ℕ) → AreFitting L.log catalog partitions table next → IsSound L.log result table next }
+        ensures agrees { (files : Files) → DoAgree L.log catalog partitions files → Agrees L.log result files }
+        ensures owns { (file : ℕ) → Owns L.log result file → IsOfEither L.log catalog partitions file }
+        ensures owned { (file : ℕ) → IsOfEither L.log catalog partitions file → Owns L.log result file }
+        ensures refusals { result.refusals ≡ 0 }
+        ensures parts { result ≡ record { alloc = alloc; tenant = tenant; segment_bytes = segment_bytes; catalog = catalog; partitions = partitions; clock = 0; kept_until = negsuc 0; refusals = 0 } }
+    {
         Parts {
             alloc,
             tenant,
             segment_bytes,
-            catalog: Catalog::new(alloc, meta_tenant, segment_bytes),
-            partitions: Partitions::new(alloc),
+            catalog,
+            partitions,
             clock: 0,
-            kept_until: i64::MAX,
+            // when retention is due is not known yet, so it may be at each clock
+            kept_until: -1,
             refusals: 0,
         }
     }

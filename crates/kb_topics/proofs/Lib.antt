@@ -6,6 +6,7 @@ pub mod Committing
 pub mod KindWritten
 pub mod Links
 pub mod Numerals
+pub mod Replaying
 pub mod Said
 pub mod Sizes
 pub mod Steps

@@ -10,3 +10,4 @@ pub mod Linked
 pub mod MetaLog
 pub mod Name
 pub mod Refusals
+pub mod Replay

@@ -2,7 +2,8 @@
 //!
 //! [`Catalog`] records each change as one [`Command`] in the tenant's meta log before it makes it, so that the catalog is what the
 //! commands of its log come to, one after another (`specs/Known.antt`). A refused call leaves the catalog and the list of batches as
-//! they were and answers a [`CatalogFault`], which has one of Kafka's error codes. [`Topic`] and [`Partition`] are what is known of
+//! they were and answers a [`CatalogFault`], which has one of Kafka's error codes. A [`Replay`] takes the commands of a meta log in
+//! again, one after another, and [`Catalog::replayed`] goes on from there. [`Topic`] and [`Partition`] are what is known of
 //! each; [`TopicsByName`] gives the topics in byte order of their names (`specs/ByName.antt`).
 //!
 //! Names and settings are judged by [`is_legal_name`], [`config_entry`] and [`ConfigReader`] (Apache Kafka's rules for topic names and
@@ -18,6 +19,7 @@ mod config;
 mod contents;
 mod fault;
 mod name;
+mod replay;
 mod topic;
 
 pub use batch::meta_batch;
@@ -27,4 +29,5 @@ pub use command::{Command, CommitOffset, CreateTopic, MoveStart};
 pub use config::{ConfigEntry, ConfigReader, TopicConfig, config_entry};
 pub use fault::CatalogFault;
 pub use name::is_legal_name;
+pub use replay::Replay;
 pub use topic::{Committed, Partition, Topic};

@@ -11,14 +11,14 @@ use Rattle.kb_wire.specs.Fits.{array_fits, string_fits}
 use Rattle.kb_settings.specs.Settings.{is_host, is_within}
 use Rattle.kb_api_group.specs.Layouts.{api_version}
 use Rattle.kb_api_group.specs.declared.api_versions.ApiVersion.{ApiVersion}
-use Rattle.kb_service.specs.Hosted.{TenantState, new_tenant}
+use Rattle.kb_service.specs.Hosted.{TenantState, names_of, new_tenant}
 use Rattle.kb_machine.specs.Greeting.{User as Login, Setup}
 use Rattle.kb_machine.specs.Machine.{first_able}
 use Rattle.kb_machine.specs.Broker.{BrokerState, AreUnready, AnyWait, IsSound}
 use Rattle.kb_store.specs.Disk.{Disk}
 use Rattle.kb_broker.specs.Hosts.{OnStore, IsReadyOn}
 use Rattle.kb_settings.specs.Names.{place_of}
-use Rattle.kb_broker.specs.Opening.{tenant_of, tenants_of, login_of, opening_listing, opening_setup, listed, listed_as}
+use Rattle.kb_broker.specs.Opening.{tenant_of, tenants_of, login_of, opening_listing, opening_over, opening_setup, listed, listed_as}
 use Rattle.kb_broker.specs.declared.opening.Listing.{Listing}
 use Rattle.kb_broker.specs.declared.opening.Listing.TheVariants as listings
 use Rattle.kb_settings.specs.declared.settings.User.{User}
@@ -62,18 +62,19 @@ all-map : {X Y : Type 0} (P : Y → Type 0) (f : X → Y) (xs : List X) → AllB
 all-map P f [] all = tt
 all-map P f (x ∷ xs) all = (all.0, all-map P f xs all.1)
 
--- the broker at its start is ready for an event, on any store
-pub opening-ready : {S : Type 0} (disk : S → Disk) (listing : Listing) (s : Settings) (b : OnStore S) → b.state ≡ opening_listing listing s → IsReadyOn disk b
-opening-ready disk listing s b is =
+-- a broker at its start is ready for an event, on any store, where its tenants have the names that its users name
+pub over-ready : {S : Type 0} (disk : S → Disk) (listing : Listing) (s : Settings) (ts : List TenantState) (b : OnStore S) → names_of ts ≡ tenants_of s.users.items → b.state ≡ opening_over listing s ts → IsReadyOn disk b
+over-ready disk listing s ts b named is =
     let users : List User = s.users.items in
     let names : List (List ℕ) = tenants_of users in
-    let below : AllByRecursion (λ (u : User). place_of (tenant_of u) names < length (map new_tenant names)) users = recursion_from_All _ users (λ k d lt.
-    subst (λ (n : ℕ). place_of (tenant_of (get_or users k d)) names < n) (sym (length-map names new_tenant))
+    let many : length names ≡ length ts = sym (ap length named) ∙ length-map ts (λ (x : TenantState). x.name) in
+    let below : AllByRecursion (λ (u : User). place_of (tenant_of u) names < length ts) users = recursion_from_All _ users (λ k d lt.
+    subst (λ (n : ℕ). place_of (tenant_of (get_or users k d)) names < n) many
     (place-below names (tenant_of (get_or users k d)) (rises-in_order (map tenant_of users)) (tenant-in users k (get_or users k d) lt (get_or_default users k d (get_or users k d) lt)))) in
-    let sound : IsSound (opening_listing listing s) = record {
+    let sound : IsSound (opening_over listing s ts) = record {
       rising = lit≤ tt;
       in_range = tt;
-      users = all-map (λ (u : Login). u.tenant < length (map new_tenant names)) (login_of names) users below;
+      users = all-map (λ (u : Login). u.tenant < length ts) (login_of names) users below;
       clock = lit≤ tt;
     } in
     record {
@@ -81,6 +82,22 @@ opening-ready disk listing s b is =
       settled = ap (λ (x : BrokerState). first_able x.lines) is;
       unready = λ honest. subst (AreUnready AnyWait) (sym is) tt;
     }
+
+new-names : (names : List (List ℕ)) → names_of (map new_tenant names) ≡ names
+new-names [] = refl
+new-names (name ∷ names) = ap (λ (ns : List (List ℕ)). name ∷ ns) (new-names names)
+
+-- so it is where no tenant keeps anything
+pub opening-ready : {S : Type 0} (disk : S → Disk) (listing : Listing) (s : Settings) (b : OnStore S) → b.state ≡ opening_listing listing s → IsReadyOn disk b
+opening-ready disk listing s b is = over-ready disk listing s (map new_tenant (tenants_of s.users.items)) b (new-names (tenants_of s.users.items)) is
+
+-- of these parts a broker over those tenants is made
+pub over-made : (listing : Listing) (s : Settings) (ts : List TenantState) (setup : Setup) (b : BrokerState) → setup ≡ opening_setup listing s
+    → b ≡ record { setup = setup; tenants = ts; unbound_refusals = 0; clock = 0; last = 0; lines = [] }
+    → b ≡ opening_over listing s ts
+over-made listing s ts setup b fixed is =
+    let start : Setup → BrokerState = λ setup. record { setup = setup; tenants = ts; unbound_refusals = 0; clock = 0; last = 0; lines = [] } in
+    is ∙ ap start fixed
 
 map-twice : {X Y Z : Type 0} (f : X → Y) (g : Y → Z) (xs : List X) → map (λ x. g (f x)) xs ≡ map g (map f xs)
 map-twice f g [] = refl

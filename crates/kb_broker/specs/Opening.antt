@@ -2,7 +2,7 @@
 use Rattle.std.specs.Prelude.{◌≡◌, ℕ, ℤ, pos, List, [], ◌∷◌, map, string_bytes}
 use Rattle.kb_api_group.specs.declared.api_versions.ApiVersion.{ApiVersion}
 use Rattle.kb_machine.specs.Greeting.{Setup, User as Login}
-use Rattle.kb_service.specs.Hosted.{new_tenant}
+use Rattle.kb_service.specs.Hosted.{TenantState, new_tenant}
 use Rattle.kb_machine.specs.Broker.{BrokerState}
 use Rattle.kb_settings.specs.Names.{in_order, place_of}
 use Rattle.kb_settings.specs.declared.settings.User.{User}
@@ -65,16 +65,20 @@ opening_setup listing s = record {
   node = record { host = string_bytes s.host; port = s.port };
 }
 
--- nobody is connected, and no time has passed
-abbrev pub opening_listing : Listing → Settings → BrokerState
-opening_listing listing s = record {
+-- nobody is connected, and no time has passed, and the tenants are those
+abbrev pub opening_over : Listing → Settings → List TenantState → BrokerState
+opening_over listing s ts = record {
   setup = opening_setup listing s;
-  tenants = map new_tenant (tenants_of s.users.items);
+  tenants = ts;
   unbound_refusals = 0;
   clock = 0;
   last = 0;
   lines = [];
 }
+
+-- the tenants that the users name, none of which keeps anything
+abbrev pub opening_listing : Listing → Settings → BrokerState
+opening_listing listing s = opening_over listing s (map new_tenant (tenants_of s.users.items))
 
 -- each API is listed at one version
 abbrev pub opening : Settings → BrokerState

@@ -7,9 +7,9 @@ ghost use Rattle.kb_wire.specs.Codec.{array};
 ghost use Rattle.kb_api_group.specs.Layouts.{api_version};
 ghost use Rattle.kb_settings.specs.Names.{byte_order, in_order, place_of};
 ghost use Rattle.kb_store.specs.Disk.{Keeps};
-ghost use Rattle.kb_service.specs.Hosted.{new_tenant};
+ghost use Rattle.kb_service.specs.Hosted.{names_of, new_tenant};
 ghost use Rattle.kb_broker.specs.Hosts.{tenants_in, AreHosted};
-ghost use Rattle.kb_broker.specs.Opening.{listed, listed_as, opening, opening_listing, opening_setup, tenants_of, login_of, BlamesStore};
+ghost use Rattle.kb_broker.specs.Opening.{listed, listed_as, opening, opening_listing, opening_over, opening_setup, tenants_of, login_of, BlamesStore};
 
 use crate::broker::Broker;
 use crate::engine::Engine;
@@ -181,9 +181,40 @@ impl<S: Store, L: PartitionLog + Drop> Broker<S, L> {
             strays: Vec::new(alloc),
         })
     }
+
+    /// A broker of tenants that are there, to which nobody is connected, at moment 0. Its users are those of the settings, whose tenants
+    /// they are; it lists these versions.
+    ///
+    /// An `Err` is want of memory: the store comes back, with its files as they were.
+    pub fn over(
+        alloc: Global,
+        settings: &Settings,
+        listing: Listing,
+        tenants: Tenants<L, S>,
+    ) -> Result<Broker<S, L>, OpenRefused<S>>
+        requires hosted { AreHosted L.log S.disk tenants }
+        requires names { names_of (tenants_in L.log S.disk tenants) ≡ tenants_of settings.now.users.items }
+        ensures state { IfOk result (λ broker. broker.state ≡ opening_over listing settings.now (tenants_in L.log S.disk tenants)) }
+        ensures store { IfOk result (λ broker. broker.store ≡ tenants.shelf.store) }
+        ensures refused { IfErr result (λ refused. refused ≡ record { fault = OpenFault.Memory; store = tenants.shelf.store }) }
+    {
+        let Ok(setup) = setup_of(alloc, settings, listing) else {
+            return Err(OpenRefused::for_memory(tenants.into_shelf().into_store()));
+        };
+        let engine = Engine::new(alloc, setup, tenants);
+        Ok(Broker::new(engine))
+    }
 }
 
-/// What is fixed for that broker, where the names are those of its tenants.
+/// What is fixed for a broker of those settings.
+fn setup_of(alloc: Global, settings: &Settings, listing: Listing) -> Result<Setup, AllocError>
+    ensures { IfOk result (λ setup. setup ≡ opening_setup listing settings.now) }
+{
+    let names = tenant_names(alloc, &settings.users)?;
+    new_setup(alloc, settings, listing, &names)
+}
+
+/// What is fixed for a broker, where the names are those of its tenants.
 fn new_setup(
     alloc: Global,
     settings: &Settings,

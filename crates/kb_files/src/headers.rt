@@ -8,9 +8,10 @@ use std::alloc::Global;
 use std::test::Fail;
 
 /// Version 1, tenant `a`, partition 0 of instance 0, base 0.
-const FIRST: &str = "4b425347000100000000000000000000000000000000000000000000000161ebf66c4c";
+pub(crate) const FIRST: &str =
+    "4b425347000100000000000000000000000000000000000000000000000161ebf66c4c";
 /// Version 2, a catalog of tenant `a`, base 5, generation 3.
-const CATALOG: &str =
+pub(crate) const CATALOG: &str =
     "4b42534700020001000000000000000500000000000000000000000000016100000000000000035dee35a8";
 /// Version 2, a partition of tenant `a`.
 const PARTITION: &str =

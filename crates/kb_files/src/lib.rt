@@ -1,10 +1,12 @@
-//! Worked cases of segment files: their headers as bytes.
+//! Worked cases of segment files: their headers as bytes, and what is printed of them.
 //!
 //! There is nothing here but tests.
 #![tactic(auto)]
 
 #[cfg(test)]
 mod begun;
+#[cfg(test)]
+mod dumped;
 #[cfg(test)]
 mod folders;
 #[cfg(test)]

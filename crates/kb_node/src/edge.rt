@@ -8,6 +8,7 @@ use crate::socket::{Next, Socket};
 use crate::turn::Turn;
 use crate::watch::Watch;
 use kb_broker::Broker;
+use kb_log::{ListLog, PartitionLog};
 use kb_store::Store;
 use mio::event::Event;
 use std::alloc::{AllocError, Global};
@@ -48,28 +49,29 @@ pub enum BindFault {
 
 /// An edge that was not bound: its broker is handed back as it was.
 #[derive(Drop)]
-pub struct BindRefused<S: Store> {
+pub struct BindRefused<S: Store, L: PartitionLog = ListLog> {
     /// Why.
     pub fault: BindFault,
     /// The broker.
-    pub broker: Broker<S>,
+    pub broker: Broker<S, L>,
 }
 
-/// A broker and the sockets of its connections, under a listener.
+/// A broker and the sockets of its connections, under a listener. Its logs are of any kind: a [`ListLog`], in memory, where none
+/// is named.
 ///
 /// Each socket that is accepted is a new connection, of a number above all earlier ones. Its bytes are the connection's, in
 /// order, and the connection's output is what is written to it. They are handed on a request at a time, in turn among the
 /// connections, and only while the connection has no output to be written and waits for nothing: so a connection that asks and
 /// never reads has one reply kept.
 #[derive(Drop)]
-pub struct Edge<R: Net, S: Store> {
+pub struct Edge<R: Net, S: Store, L: PartitionLog = ListLog> {
     listener: R::Listener,
     port: u16,
     /// The most sockets at a time: more are closed at once.
     limit: usize,
     /// How much output is kept at most before no more requests are taken.
     output_limit: usize,
-    broker: Broker<S>,
+    broker: Broker<S, L>,
     /// By rising number of their connections.
     sockets: Vec<Socket<R::Stream>>,
     buffer: Vec<u8>,
@@ -88,15 +90,15 @@ pub struct Edge<R: Net, S: Store> {
     ghost within: { vec_len sockets ≤ limit },
 }
 
-impl<R: Net, S: Store> Edge<R, S> {
+impl<R: Net, S: Store, L: PartitionLog + Drop> Edge<R, S, L> {
     /// Listens on an address, `HOST:PORT`; at port 0 the system chooses one. Each turn looks at all sockets.
     pub fn bind(
         net: &R,
         alloc: Global,
-        broker: Broker<S>,
+        broker: Broker<S, L>,
         address: &str,
         limits: Limits,
-    ) -> Result<Self, BindRefused<S>>
+    ) -> Result<Self, BindRefused<S, L>>
         ensures { IfErr result (λ refused. refused.broker ≡ broker) }
     {
         Edge::open(net, alloc, broker, address, limits, None)
@@ -106,10 +108,10 @@ impl<R: Net, S: Store> Edge<R, S> {
     pub fn watching(
         net: &R,
         alloc: Global,
-        broker: Broker<S>,
+        broker: Broker<S, L>,
         address: &str,
         limits: Limits,
-    ) -> Result<Self, BindRefused<S>>
+    ) -> Result<Self, BindRefused<S, L>>
         ensures { IfErr result (λ refused. refused.broker ≡ broker) }
     {
         match Watch::new(net, alloc) {
@@ -125,11 +127,11 @@ impl<R: Net, S: Store> Edge<R, S> {
     fn open(
         net: &R,
         alloc: Global,
-        broker: Broker<S>,
+        broker: Broker<S, L>,
         address: &str,
         limits: Limits,
         watch: Option<Watch>,
-    ) -> Result<Self, BindRefused<S>>
+    ) -> Result<Self, BindRefused<S, L>>
         ensures { IfErr result (λ refused. refused.broker ≡ broker) }
     {
         let Ok((listener, port)) = listen(net, address, &watch) else {
@@ -167,7 +169,7 @@ impl<R: Net, S: Store> Edge<R, S> {
     }
 
     /// The broker.
-    pub fn broker(&self) -> &Broker<S>
+    pub fn broker(&self) -> &Broker<S, L>
         ensures { result.now ≡ self.now.broker }
     {
         &self.broker

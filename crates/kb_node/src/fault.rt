@@ -2,6 +2,7 @@
 
 use crate::edge::{BindFault, BindRefused};
 use kb_broker::{OpenFault, ScriptFault};
+use kb_log::PartitionLog;
 use kb_settings::SettingsFault;
 use kb_store::Store;
 use std::alloc::AllocError;
@@ -92,13 +93,13 @@ impl From<OpenFault> for StartFault {
     }
 }
 
-impl<S: Store + Drop> From<BindRefused<S>> for StartFault {
+impl<S: Store + Drop, L: PartitionLog + Drop> From<BindRefused<S, L>> for StartFault {
     ghost use Rattle.std.specs.Prelude.{◌≡◌};
     ghost use Rattle.kb_node.specs.Start.{of_bind};
 
     ghost from_gives = { λ r e. e ≡ of_bind r.fault };
 
-    fn from(refused: BindRefused<S>) -> StartFault {
+    fn from(refused: BindRefused<S, L>) -> StartFault {
         match refused.fault {
             BindFault::Bind => StartFault::Listen,
             BindFault::Memory => StartFault::Memory,

@@ -10,6 +10,7 @@ use crate::input::Input;
 use crate::login::{name_in, text_of};
 use crate::turn::Turn;
 use kb_broker::Broker;
+use kb_log::PartitionLog;
 use kb_store::Store;
 use mio::event::Event;
 use std::alloc::Global;
@@ -135,10 +136,10 @@ impl<T: Read + Write + Drop> Socket<T> {
     ///
     /// Where the peer is gone, or the connection is shut and all is written, the connection is closed. One that was answered
     /// and shut had a login that failed, and so had one that was shut at a login without a request around it.
-    pub fn serve<S: Store>(
+    pub fn serve<S: Store, L: PartitionLog + Drop>(
         &mut self,
         alloc: Global,
-        broker: &mut Broker<S>,
+        broker: &mut Broker<S, L>,
         buffer: &mut [u8],
         may_ask: bool,
         turn: &mut Turn,
@@ -169,7 +170,7 @@ impl<T: Read + Write + Drop> Socket<T> {
     }
 
     /// Whether a request may be handed on.
-    fn can_ask<S: Store>(&self, broker: &Broker<S>) -> bool
+    fn can_ask<S: Store, L: PartitionLog + Drop>(&self, broker: &Broker<S, L>) -> bool
         ensures { result ≡ can_ask self.now.is_over (vec_len self.now.output - self.now.written) self.now.connection broker.now.state }
     {
         !self.is_over
@@ -179,7 +180,7 @@ impl<T: Read + Write + Drop> Socket<T> {
     }
 
     /// Whether its connection is to be closed.
-    fn is_done<S: Store>(&self, broker: &Broker<S>) -> bool
+    fn is_done<S: Store, L: PartitionLog + Drop>(&self, broker: &Broker<S, L>) -> bool
         ensures { result ≡ is_done self.now.is_over self.now.is_half_closed (vec_len self.now.output - self.now.written) self.now.connection broker.now.state }
     {
         self.is_over
@@ -189,7 +190,12 @@ impl<T: Read + Write + Drop> Socket<T> {
 
     /// Closes its connection, and forgets what is not written.
     #[tactic(auto, using(crate::proofs::Closing::is_closed))]
-    fn end<S: Store>(&mut self, alloc: Global, broker: &mut Broker<S>, turn: &mut Turn)
+    fn end<S: Store, L: PartitionLog + Drop>(
+        &mut self,
+        alloc: Global,
+        broker: &mut Broker<S, L>,
+        turn: &mut Turn,
+    )
         requires { is_done self.now.is_over self.now.is_half_closed (vec_len self.now.output - self.now.written) self.now.connection broker.now.state ≡ true }
         ensures connection { self.new.connection ≡ self.old.connection }
         ensures ended { self.new.is_ended ≡ true }
@@ -204,7 +210,7 @@ impl<T: Read + Write + Drop> Socket<T> {
     }
 
     /// What it waits for, where its connection is open.
-    fn next<S: Store>(&self, broker: &Broker<S>) -> Next
+    fn next<S: Store, L: PartitionLog + Drop>(&self, broker: &Broker<S, L>) -> Next
         ensures { result ≢ End }
     {
         if self.unwritten() > 0 {
@@ -219,7 +225,12 @@ impl<T: Read + Write + Drop> Socket<T> {
     }
 
     /// Writes what the socket takes now of the output. New output is taken only once the earlier one is written.
-    fn write_output<S: Store>(&mut self, alloc: Global, broker: &mut Broker<S>, turn: &mut Turn)
+    fn write_output<S: Store, L: PartitionLog + Drop>(
+        &mut self,
+        alloc: Global,
+        broker: &mut Broker<S, L>,
+        turn: &mut Turn,
+    )
         ensures connection { self.new.connection ≡ self.old.connection }
         ensures ended { self.new.is_ended ≡ self.old.is_ended }
         ensures numbers { numbers broker.new.state ≡ numbers broker.old.state }
@@ -234,7 +245,11 @@ impl<T: Read + Write + Drop> Socket<T> {
 
     /// Takes what the connection has to say, once all is written that it said before.
     #[tactic(auto, using(crate::proofs::Closing::numbers_taken))]
-    fn take_output<S: Store>(&mut self, alloc: Global, broker: &mut Broker<S>)
+    fn take_output<S: Store, L: PartitionLog + Drop>(
+        &mut self,
+        alloc: Global,
+        broker: &mut Broker<S, L>,
+    )
         requires { self.now.written ≡ vec_len self.now.output }
         ensures connection { self.new.connection ≡ self.old.connection }
         ensures ended { self.new.is_ended ≡ self.old.is_ended }
@@ -267,10 +282,10 @@ impl<T: Read + Write + Drop> Socket<T> {
     }
 
     /// Hands on what is there of the request in front, and reads before that where nothing is: no more than there is room for.
-    fn ask<S: Store>(
+    fn ask<S: Store, L: PartitionLog + Drop>(
         &mut self,
         alloc: Global,
-        broker: &mut Broker<S>,
+        broker: &mut Broker<S, L>,
         buffer: &mut [u8],
         turn: &mut Turn,
     )

@@ -2,10 +2,12 @@
 //!
 //! `kbroker script` runs a script of events from standard input and writes what each connection gets to standard output.
 //! `kbroker serve` listens on the address of its settings and serves sockets until it is stopped. `kbroker check` says what
-//! settings come to. `kbroker topic` makes, deletes and lists topics of a broker that runs. Status 0 is done, 1 a fault with one line on standard error, 2 a fault of the command line with its usage.
+//! settings come to. `kbroker dump` prints what the files of a data folder hold. `kbroker topic` makes, deletes and lists topics of
+//! a broker that runs. Status 0 is done, 1 a fault with one line on standard error, 2 a fault of the command line with its usage.
 #![tactic(auto)]
 
 mod check;
+mod dump;
 mod journal;
 mod serve;
 mod topic;
@@ -34,6 +36,9 @@ enum Fault {
     Node(NodeFault),
     #[error("kbroker: {0}")]
     Topic(TopicFault),
+    /// There is no folder at this path.
+    #[error("kbroker: no folder {0}")]
+    NoFolder(String),
 }
 
 impl From<AllocError> for Fault {
@@ -106,6 +111,7 @@ fn command<'a>(alloc: Global) -> Result<Command<'a>, AllocError> {
         .subcommand(script)?
         .subcommand(serve)?
         .subcommand(check)?
+        .subcommand(dump::dump_command(alloc)?)?
         .subcommand(topic::topic_command(alloc)?)
 }
 
@@ -125,6 +131,7 @@ fn run(rt: &HostRuntime) -> Result<(), Fault> {
     match matches.subcommand() {
         Some(("serve", found)) => serve::serve(rt, found),
         Some(("check", found)) => check::check(rt, found),
+        Some(("dump", found)) => dump::dump(rt, found),
         Some(("topic", found)) => topic::topic(rt, found),
         Some((_, found)) => script(rt, found.get_str("config")),
         // A subcommand is asked for: no other line is taken.

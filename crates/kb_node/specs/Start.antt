@@ -35,7 +35,7 @@ IsUnread text faults.Store = ⊥
 IsUnread text faults.Listen = ⊥
 IsUnread text faults.Memory = Unit {0}
 
--- settings are not served: they name no data folder, or memory was refused (a store in memory refuses nothing else)
+-- settings are not served: they name no data folder, or memory was refused
 abbrev pub IsUnserved : Settings → StartFault → Type 0
 IsUnserved settings faults.Settings = ⊥
 IsUnserved settings (faults.Field key) = IsNone settings.folder × (string_bytes key ≡ codes "data")

@@ -2,8 +2,8 @@
 //!
 //! [`play_script`] runs a script over a broker with the standard settings, [`play_script_with`] over one with given settings:
 //! what is written is exactly what that broker says to the script, up to the fault that is answered. [`read_settings`] gives
-//! the settings of a text, [`serving_broker`] the broker that serves them, and [`Edge`] puts a broker on a network and is
-//! turned by hand.
+//! the settings of a text, [`data_folder`] the folder that they name, and [`Edge`] puts a broker on a network and is turned by
+//! hand.
 #![tactic(auto)]
 
 mod edge;
@@ -25,5 +25,5 @@ pub use kb_store::Store;
 pub use limits::Limits;
 pub use login::Denied;
 pub use script::{play_script, play_script_with};
-pub use start::{read_settings, serving_broker};
+pub use start::{data_folder, read_settings};
 pub use turn::Turn;

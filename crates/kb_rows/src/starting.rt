@@ -1,10 +1,10 @@
 //! What a program of the broker needs before it starts, and why it does not start.
 
-use crate::running::new_broker;
+use crate::running::{new_broker, opened};
 use crate::words::bytes_of;
 use kb_broker::{Broker, OpenFault, Settings};
 use kb_node::{
-    BindFault, BindRefused, Edge, Limits, Listing, StartFault, read_settings, serving_broker,
+    BindFault, BindRefused, Edge, Limits, Listing, StartFault, data_folder, read_settings,
 };
 use kb_settings::SettingsFault;
 use kb_store::MemoryStore;
@@ -40,7 +40,7 @@ fn lists(
     listing: Listing,
     listed: &str,
 ) -> Result<(), StartFault> {
-    let mut broker = serving_broker(alloc, settings, listing)?;
+    let mut broker = opened(alloc, settings, listing)?;
     let reply = versions_of(rt, alloc, &mut broker)?;
     let listed = bytes_of(rt, alloc, listed)?;
     assert!(rt; reply.get(HANDSHAKE..HANDSHAKE + 6) == Some(listed.as_slice()));
@@ -51,6 +51,7 @@ fn lists(
 fn a_broker_serves_its_settings(rt: HostRuntime) -> Result<(), Fail> {
     let alloc = rt.alloc();
     let settings = read_settings(alloc, TEXT)?;
+    assert!(rt; data_folder(alloc, &settings)? == "d");
     lists(&rt, alloc, &settings, Listing::Served, "001100010001")?;
     lists(&rt, alloc, &settings, Listing::StockClients, "001100000001")?;
     Ok(())
@@ -60,7 +61,7 @@ fn a_broker_serves_its_settings(rt: HostRuntime) -> Result<(), Fail> {
 fn a_data_folder_is_needed(rt: HostRuntime) -> Result<(), Fail> {
     let alloc = rt.alloc();
     let settings = Settings::standard(alloc)?;
-    match serving_broker(alloc, &settings, Listing::Served) {
+    match data_folder(alloc, &settings) {
         Ok(_) => panic!(rt; "there is no data folder"),
         Err(fault) => assert!(rt; fault == StartFault::Field(String::from_str(alloc, "data")?)),
     }
@@ -97,7 +98,7 @@ fn bound(
     address: &str,
 ) -> Result<Edge<HostRuntime, MemoryStore>, StartFault> {
     let settings = read_settings(alloc, TEXT)?;
-    let broker = serving_broker(alloc, &settings, Listing::Served)?;
+    let broker = opened(alloc, &settings, Listing::Served)?;
     Ok(Edge::bind(net, alloc, broker, address, Limits::default())?)
 }
 

@@ -1,0 +1,7 @@
+pub mod Catalog
+pub mod Directory
+pub mod Opened
+pub mod Owners
+pub mod Partition
+pub mod Tenant
+pub mod Topics

@@ -1,0 +1,48 @@
+-- What the files of a tenant come to, which are there when a broker opens.
+use Rattle.std.specs.Prelude.{◌≡◌, ◌++◌, ℕ, pos, List, [], ◌∷◌, length, max, Some, None}
+use Rattle.kb_store.specs.Disk.{Files}
+use Rattle.kb_batch.specs.Batch.{natural}
+use Rattle.kb_log.specs.Log.{starting}
+use Rattle.kb_segment_log.specs.Chain.{Chain, first_of}
+use Rattle.kb_topics.specs.declared.command.Command.{Command}
+use Rattle.kb_topics.specs.Known.{Known, PartitionState, partition_at, step}
+use Rattle.kb_topics.specs.MetaLog.{Says, IsFold}
+use Rattle.kb_partitions.specs.Logs.{LogState, Logs, log_at}
+use Rattle.kb_world.specs.Tied.{counted, partition_count}
+
+-- A log that those files come to, from a start that was recorded of it: it has the batches of their chain that do not end at its
+-- start or before it. Where the chain ends below the start, or there is no file, it is empty at the start.
+pub record IsLogOf (files : Files) (numbers : List ℕ) (start : ℕ) (l : LogState) : Type 0 where
+  pub bs : List (List ℕ)
+  pub chain : Chain files numbers start bs
+  pub starts : l.start ≡ max (first_of start chain.order) start
+  pub ends : l.end ≡ max chain.end start
+  pub batches : l.batches ≡ starting l.start bs
+
+-- The first of some batches records no command that is applicable to what is known; or there is none.
+abbrev pub EndsWith : List (List ℕ) → Known → Type 0
+EndsWith [] k = Unit {0}
+EndsWith (s ∷ ss) k = (c : Command) → Says s c → step k c ≡ None
+
+-- What the commands of some batches come to, up to the first batch that is no applicable command.
+pub record IsLongestFold (bs : List (List ℕ)) (k : Known) : Type 0 where
+  pub before : List (List ℕ)
+  pub behind : List (List ℕ)
+  pub split : bs ≡ before ++ behind
+  pub fold : IsFold before k
+  pub ends : EndsWith behind k
+
+-- Which files are of which log of a tenant: of its catalog, and of each partition, by its topic's instance and its number.
+pub record Owners : Type 0 where
+  pub catalog : List ℕ
+  pub partition : ℕ → ℕ → List ℕ
+
+-- What a tenant has from its files: the topics are what the chain of its catalog comes to, and each partition that they have is the
+-- log of its own files, from the start that the catalog recorded.
+pub record IsOpened (files : Files) (owners : Owners) (k : Known) (logs : Logs) : Type 0 where
+  pub commands : List (List ℕ)
+  pub chain : Chain files owners.catalog 0 commands
+  pub known : IsLongestFold commands k
+  pub tied : counted length logs ≡ counted partition_count k.topics
+  pub each : (i p : ℕ) (part : PartitionState) → partition_at k (pos i) (pos p) ≡ Some part
+      → (l : LogState) × (log_at i p logs ≡ Some l) × IsLogOf files (owners.partition i p) (natural part.start) l

@@ -1,0 +1,65 @@
+-- A tenant, opened from the files that a directory has of it.
+use Rattle.std.specs.Prelude.{◌≡◌, ◌≢◌, ◌<◌, ◌⊎◌, ◌++◌, ℕ, pos, nat_eq, List, [], Option, Some, None, IsSome, IsPermutation}
+use Rattle.std.specs.List.{All, Contains, IsDistinct}
+use Rattle.kb_store.specs.Disk.{Disk, Files, IsThere}
+use Rattle.kb_batch.specs.Batch.{natural}
+use Rattle.kb_segment_log.specs.SegmentLog.{segment_log}
+use Rattle.kb_segment_log.specs.Chain.{AreReadable}
+use Rattle.kb_segment_log.specs.declared.log.SegmentLog.{SegmentLog}
+use Rattle.kb_topics.specs.Catalog.{known}
+use Rattle.kb_topics.specs.Known.{Known, PartitionState, partition_at}
+use Rattle.kb_partitions.specs.Partitions.{logs_of}
+use Rattle.kb_world.specs.Parts.{Agrees, entries}
+use Rattle.kb_world.specs.declared.parts.Parts.{Parts}
+use Rattle.kb_opening.specs.Opened.{Owners, IsOpened}
+use Rattle.kb_opening.specs.Directory.{all_files, files_at}
+use Rattle.kb_opening.specs.declared.owner.Owner.{Owner}
+use Rattle.kb_opening.specs.declared.owner.Owner.TheVariants.{Catalog, Partition}
+use Rattle.kb_opening.specs.declared.directory.Directory.{Directory}
+
+-- the start that a catalog recorded of a partition
+abbrev pub recorded_start : PartitionState → ℕ
+recorded_start p = natural p.start
+
+-- the files of a tenant, by its logs
+abbrev pub owners_in : Directory → ℕ → Owners
+owners_in d t = record { catalog = files_at (Catalog t) d; partition = λ i p. files_at (Partition t i p) d }
+
+-- whose log an owner's is
+abbrev pub tenant_in : Owner → ℕ
+tenant_in (Catalog t) = t
+tenant_in (Partition t i p) = t
+
+-- the file is one of a tenant's
+pub record IsOfTenant (d : Directory) (t file : ℕ) : Type 0 where
+  pub owner : Owner
+  pub mine : tenant_in owner ≡ t
+  pub has : Contains (files_at owner d) file
+
+-- Each file of a directory is there and has a number that was given out, and none stands twice.
+pub record AreListed (d : Directory) (disk : Disk) (next : ℕ) : Type 0 where
+  pub there : All (λ n. IsThere disk n) (all_files d)
+  pub given_out : All (λ n. n < next) (all_files d)
+  pub once : IsDistinct nat_eq (all_files d)
+
+-- Each file that is of a log begins with a readable header.
+abbrev pub AreOwnedReadable : Files → Directory → Type 0
+AreOwnedReadable files d = (o : Owner) → AreReadable files (files_at o d)
+
+-- A tenant's files were taken out, but for those of partitions that its topics have not; the files of other tenants stay.
+pub record TakesTenant (t : ℕ) (k : Known) (old new : Directory) : Type 0 where
+  pub catalog : files_at (Catalog t) new ≡ []
+  pub known : (i p : ℕ) → IsSome (partition_at k (pos i) (pos p)) → files_at (Partition t i p) new ≡ []
+  pub unknown : (i p : ℕ) → partition_at k (pos i) (pos p) ≡ None → files_at (Partition t i p) new ≡ files_at (Partition t i p) old
+  pub others : (o : Owner) → tenant_in o ≢ t → files_at o new ≡ files_at o old
+  pub strays : new.strays.items ≡ old.strays.items
+
+-- some files were taken out
+pub record TakesSome (old new : Directory) : Type 0 where
+  pub taken : List ℕ
+  pub all : IsPermutation (all_files old) (taken ++ all_files new)
+
+-- The parts of a tenant that has what its files came to, as they were; they agree with what the files are now.
+pub record IsTenantOf (files : Files) (owners : Owners) (parts : Parts SegmentLog) (now : Files) : Type 0 where
+  pub agrees : Agrees segment_log parts now
+  pub opened : IsOpened files owners (known parts.catalog) (logs_of segment_log (entries parts) now)

@@ -141,7 +141,7 @@ no_topic t k n first from es mid left next now so_far none kept = record {
   agree = λ h. agree_stays es mid.files now.files (λ file own. kept.contents h file (λ no. no)) (so_far.agree (kept.honest h));
   logs = λ h i p part lt at.
       let stay = logs_stay es mid.files now.files (λ file own. kept.contents h file (λ no. no)) so_far.sound.ordered in
-      let was : i < n = elim (cases_lt i n) [ | inl less ↦ less | inr ge ↦ absurd (no_partition k n p none (subst (λ j. IsSome (partition_at k (pos j) (pos p))) (let is : i ≡ n = omega (arith, lt, ge) in is) (some_at _ part at))) ] in
+      let was : i < n = elim (cases_lt i n) [ inl less ↦ less | inr ge ↦ absurd (no_partition k n p none (subst (λ j. IsSome (partition_at k (pos j) (pos p))) (let is : i ≡ n = omega (arith, lt, ge) in is) (some_at _ part at))) ] in
       let l = so_far.logs (kept.honest h) i p part was at in
       (l.0, ap (log_at i p) stay ∙ l.1, l.2);
   none = λ i p lt some. so_far.none i p (before i p lt some) some;
@@ -162,5 +162,6 @@ no_topic t k n first from es mid left next now so_far none kept = record {
       | inl less ↦ less
       | inr ge ↦ absurd (no_partition k n p none (subst (λ j. IsSome (partition_at k (pos j) (pos p))) (let is : i ≡ n = omega (arith, lt, ge) in is) some))
     ]
+
     known_was : (file : ℕ) → IsOfKnown from t k (n + 1) file → IsOfKnown from t k n file
     known_was file o = record { instance = o.instance; number = o.number; below = before o.instance o.number o.below o.known; known = o.known; has = o.has }

@@ -15,7 +15,7 @@ pub all_parts : (P : ℕ → Type 0) (xs ys : List ℕ) → All P (xs ++ ys) →
 all_parts P xs ys all =
     let len : length (xs ++ ys) ≡ length xs + length ys = length-append xs ys in (
       λ k d lt. subst P (get_or_append_left xs ys d k lt) (all k d (omega arith)),
-      λ k d lt. subst P (get_or-append-add xs ys k d) (all (length xs + k) d (omega arith))
+      λ k d lt. subst P (get_or-append-add xs ys k d) (all (length xs + k) d (omega arith)),
     )
 
 each_part : (P : ℕ → Type 0) (xs ys : List ℕ) → AllByRecursion P (xs ++ ys) → AllByRecursion P xs × AllByRecursion P ys
@@ -42,7 +42,7 @@ pub taken_or_left : (owner : Owner) (old new : Directory) (taken : List ℕ) →
 taken_or_left owner old new taken takes file = (
   λ was. Contains-append_cases taken (all_files new) file (Contains-permutation (all_files old) (taken ++ all_files new) file takes.all was),
   λ is. Contains-permutation (taken ++ all_files new) (all_files old) file (IsPermutation-sym (all_files old) (taken ++ all_files new) takes.all)
-      (elim is [ inl here ↦ Contains-append_left taken (all_files new) file here | inr there ↦ Contains-append_right taken (all_files new) file there ])
+      (elim is [ inl here ↦ Contains-append_left taken (all_files new) file here | inr there ↦ Contains-append_right taken (all_files new) file there ]),
 )
 
 pub taken_apart : (owner : Owner) (old new : Directory) (taken : List ℕ) → Takes owner old taken new → IsDistinct nat_eq (all_files old)

@@ -85,9 +85,9 @@ module _ (t i n : ℕ) (old mid new : Directory) (lists : Lists) (taken : Vec �
   files_more p list at = ⊎_elim
       (λ was. so_far.files p list was)
       (λ (new : (p ≡ length lists) × (taken ≡ list)).
-          ap (λ (v : Vec ℕ Global). v.items) (sym new.1) ∙ takes.files
-          ∙ so_far.others (owners.Partition t i n) (λ q lt e. omega (arith, lt, same_number t i n q e))
-          ∙ ap (λ q. files_at (owners.Partition t i q) old) (sym so_far.count ∙ sym new.0))
+      ap (λ (v : Vec ℕ Global). v.items) (sym new.1) ∙ takes.files
+      ∙ so_far.others (owners.Partition t i n) (λ q lt e. omega (arith, lt, same_number t i n q e))
+      ∙ ap (λ q. files_at (owners.Partition t i q) old) (sym so_far.count ∙ sym new.0))
       (item_at lists taken list p at)
 
   none_more : (p : ℕ) → p < n + 1 → files_at (owners.Partition t i p) new ≡ []
@@ -103,8 +103,8 @@ module _ (t i n : ℕ) (old mid new : Directory) (lists : Lists) (taken : Vec �
   all_more =
       IsPermutation-trans _ _ _ so_far.all
       (IsPermutation-trans _ _ _ (IsPermutation-append_right (numbers_in lists) (all_files mid) (taken.items ++ all_files new) takes.all)
-        (same_files (numbers_in lists ++ (taken.items ++ all_files new)) (numbers_in (lists ++ taken ∷ []) ++ all_files new)
-          (sym (append_assoc (numbers_in lists) taken.items (all_files new)) ∙ ap (λ ns. ns ++ all_files new) (sym (numbers_more lists taken)))))
+      (same_files (numbers_in lists ++ (taken.items ++ all_files new)) (numbers_in (lists ++ taken ∷ []) ++ all_files new)
+      (sym (append_assoc (numbers_in lists) taken.items (all_files new)) ∙ ap (λ ns. ns ++ all_files new) (sym (numbers_more lists taken)))))
 
   pub more_taken : (ls : Lists) → ls ≡ lists ++ taken ∷ [] → TakesTopic t i (n + 1) old ls new
   more_taken ls e = subst (λ (vs : Lists). TakesTopic t i (n + 1) old vs new) (sym e) record {

@@ -101,6 +101,14 @@ ends_there l d e n at k same r =
       run = subst (λ (x : List (List ℕ)). IsRun (first_base l.end x) r.before at) (sym is) r.run;
     }
 
+-- where the log agreed with its files, it still does, and a batch begins where the commands end
+pub read_there : (l : Log) (k : Known) (d e : Disk) (n to at : ℕ) → to ≡ at → Keeps d e → (e.honest → l.agrees d.files → first_base l.end (l.batches d.files) ≡ l.start → IsReplay (l.batches d.files) l.end to k)
+    → e.honest → l.agrees d.files → first_base l.end (l.batches d.files) ≡ l.start → l.agrees e.files × IsBetween (moment l e n) at
+read_there l k d e n to at is kept read h was whole =
+    let same = kept.files h in
+    let r = subst (λ (x : ℕ). IsReplay (l.batches d.files) l.end x k) is (read h was whole) in
+    (subst (λ (x : Files). l.agrees x) (sym same) was, record { before = r.before; there = ends_there l d e n at k same r })
+
 pub catalog_from : (l : Log) (log : SegmentLog) (c : Catalog SegmentLog) (k : Known) (d e f : Disk) (n to at : ℕ) → to ≡ at → Keeps d e → (e.honest → l.agrees d.files → first_base l.end (l.batches d.files) ≡ l.start → IsReplay (l.batches d.files) l.end to k)
     → (f.honest → e.honest) → (f.honest → l.agrees e.files → IsBetween (moment l e n) at → (segment_log log).agrees f.files)
     → (f.honest → l.agrees e.files → (before : List (List ℕ)) → EndsThere (moment l e n) at before → (segment_log log).batches f.files ≡ before)

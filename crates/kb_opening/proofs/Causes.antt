@@ -72,3 +72,15 @@ pub misses_left_handed : {T U : Type 0} (old new : Disk) (next : ℕ) (As As' : 
 misses_left_handed old new next As As' e (Ok x) is weaker m = absurd is
 misses_left_handed {T} {U} old new next As As' e (Err f) is weaker m =
     subst (λ (g : LogFault). MissesShelf {T = U} old next As' (Err g) new) (sym is) (misses_left old new next As As' e weaker m)
+
+pub stores_handed : {T U : Type 0} (first old new : Disk) (As As' : Type 0) (e : LogFault) (r : Result U LogFault) → IsErrAnd r (λ f. f ≡ e) → (new.honest → As' → As) → first.failures ≤ old.failures
+    → MissesStore {T = T} old As (Err e) new → MissesStore {T = U} first As' r new
+stores_handed first old new As As' e (Ok x) is weaker before m = absurd is
+stores_handed {T} {U} first old new As As' e (Err f) is weaker before m =
+    let after = m.later in
+    subst (λ (g : LogFault). MissesStore {T = U} first As' (Err g) new) (sym is) record {
+      later = omega (arith, before, after);
+      store = λ h such same. grown first.failures old.failures new.failures (m.store h (weaker h such) (same_err U T e faults.Store same)) before;
+      range = λ same. m.range (same_err U T e faults.Range same);
+      full = λ same. m.full (same_err U T e faults.Full same);
+    }

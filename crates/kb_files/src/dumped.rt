@@ -5,7 +5,7 @@ use kb_batch::{BatchBuilder, stamp};
 use kb_dump::dump;
 use kb_log::Shelf;
 use kb_segment::SegmentHeader;
-use kb_store::MemoryStore;
+use kb_store::{MemoryStore, Store};
 use std::alloc::Global;
 use std::test::Fail;
 
@@ -70,8 +70,7 @@ fn later_catalog(alloc: Global) -> Result<Vec<u8>, Fail> {
 }
 
 /// Makes the next file, with these bytes.
-#[tactic(auto, using(kb_store::proofs::Disks::is_there_put))]
-fn put(shelf: &mut Shelf<MemoryStore>, bytes: &[u8]) -> Result<(), Fail> {
+fn put<S: Store>(shelf: &mut Shelf<S>, bytes: &[u8]) -> Result<(), Fail> {
     let file = shelf.create()?;
     shelf.append(file, bytes)?;
     Ok(())

@@ -1,45 +1,30 @@
 -- The topics of a tenant are opened one after another.
-use Rattle.std.proofs.Common.{◌≡◌, ◌≢◌, ◌∙◌, ◌⊎◌, ◌≤◌, ◌<◌, ◌+◌, ◌++◌, inl, inr, ⊎_elim, ℕ, zero, suc, Bool, true, false, cond, List, [], ◌∷◌, Option, Some, None, refl, sym, ap, subst, arith, map, length, append_assoc}
-use Rattle.std.specs.Prelude.{pos, nat_lt, nat_eq, slice_get, option_map, is_some, IsSome, unwrap_or, IsPermutation}
+use Rattle.std.proofs.Common.{◌≡◌, ◌∙◌, ◌⊎◌, ◌<◌, ◌+◌, inl, inr, ℕ, zero, suc, true, false, cond, List, [], ◌∷◌, Option, Some, None, refl, sym, ap, subst, arith, length}
+use Rattle.std.specs.Prelude.{pos, nat_lt, nat_eq, slice_get, option_map, is_some, IsSome}
 use Rattle.std.specs.Option.{option_and_then}
-use Rattle.std.specs.Ordering.{nat_cmp}
 use Rattle.std.specs.FinMap.{get}
 use Rattle.std.specs.List.{All, Contains}
 use Rattle.std.specs.List.Sorted.{IsStrictlySortedBy}
-use Rattle.std.specs.Map.{lookup}
-use Rattle.std.specs.BTreeMap.{insert_entry, is_at}
-use Rattle.std.specs.declared.alloc.Global.{Global}
-use Rattle.std.specs.declared.vec.Vec.{Vec}
 use Rattle.std.proofs.lemmas.Bool.{cases_lt, false≢true}
 use Rattle.std.proofs.lemmas.Bool.Decides.{nat_tests}
-use Rattle.std.proofs.lemmas.Option.{slice_get_within, slice_get-map, same_Some}
-use Rattle.std.proofs.lemmas.List.Elements.{All-contains, All-contains_itself}
-use Rattle.std.proofs.lemmas.List.Sorted.{IsPermutation-refl, IsPermutation-trans, IsPermutation-append_right}
-use Rattle.kb_store.specs.Disk.{Disk, Files, IsThere}
+use Rattle.std.proofs.lemmas.List.Elements.{All-contains_itself}
+use Rattle.std.proofs.lemmas.List.Sorted.{IsPermutation-refl}
+use Rattle.kb_store.specs.Disk.{Disk, IsThere}
 use Rattle.kb_log.specs.OnShelf.{no_file}
-use Rattle.kb_producers.specs.Batches.{kept_all}
-use Rattle.kb_segment_log.specs.SegmentLog.{segment_log, Clears}
+use Rattle.kb_segment_log.specs.SegmentLog.{Clears}
 use Rattle.kb_segment_log.specs.declared.log.SegmentLog.{SegmentLog}
 use Rattle.kb_topics.specs.Known.{Known, PartitionState, TopicState, topic_at, partition_at}
-use Rattle.kb_partitions.specs.Logs.{LogState, Logs, log_at}
-use Rattle.kb_partitions.specs.Partitions.{Entries, Owned, AreSound, Agree, log_state, logs_of, places_of, IsUnmade}
-use Rattle.kb_partitions.specs.Topic.{OwnedAmong}
-use Rattle.kb_partitions.specs.declared.partition.Partition.{Partition}
-use Rattle.kb_partitions.proofs.Put.{own_number, other_number, cases}
+use Rattle.kb_partitions.specs.Logs.{log_at}
+use Rattle.kb_partitions.specs.Partitions.{Entries, IsUnmade}
+use Rattle.kb_partitions.proofs.Put.{cases}
 use Rattle.kb_world.specs.Tied.{partition_count}
-use Rattle.kb_opening.specs.Opened.{IsLogOf}
 use Rattle.kb_opening.specs.Directory.{all_files, files_at}
-use Rattle.kb_opening.specs.Partition.{Lists, IsAmong, IsPartitionOf}
-use Rattle.kb_opening.specs.Tenant.{AreListed, TakesSome, recorded_start}
-use Rattle.kb_opening.specs.Topics.{numbers_in, TakesTopic, OpensTopic, OpensNone, IsOfKnown, OpensBelow}
+use Rattle.kb_opening.specs.Tenant.{AreListed}
+use Rattle.kb_opening.specs.Topics.{IsOfKnown, OpensBelow}
 use Rattle.kb_opening.specs.declared.directory.Directory.{Directory}
-use Rattle.kb_opening.specs.declared.owner.Owner.{Owner}
 use Rattle.kb_opening.specs.declared.owner.Owner.TheVariants as owners
-use Rattle.kb_opening.proofs.Entries.{same_files}
-use Rattle.kb_opening.proofs.Logged.{sound_stays, agree_stays, logs_stay, insert_other, insert_same, log_found, item_within}
-use Rattle.kb_opening.proofs.Moved.{log_of_stays}
-use Rattle.kb_opening.proofs.Openings.{clears_wider, clears_then}
-use Rattle.kb_opening.proofs.Taking.{same_instance, listed_at, stood, left_stood, not_left, left_listed}
+use Rattle.kb_opening.proofs.Logged.{sound_stays, agree_stays, logs_stay, item_within}
+use Rattle.kb_opening.proofs.Openings.{clears_then}
 
 -- ---- what a topic has
 

@@ -1,6 +1,5 @@
 -- What a refusal says, of a part of a call and of the whole.
-use Rattle.std.proofs.Common.{◌≡◌, ◌∙◌, ◌⊎◌, ◌≤◌, ◌<◌, ◌^◌, inl, inr, ⊎_elim, ℕ, Result, Ok, Err, refl, sym, ap, subst, arith, min}
-use Rattle.std.specs.Prelude.{IsErrOf}
+use Rattle.std.proofs.Common.{◌≡◌, ◌≤◌, ◌<◌, ◌^◌, inl, inr, ⊎_elim, ℕ, Result, Ok, Err, refl, sym, ap, subst, arith}
 use Rattle.std.specs.Result.{IsErrAnd}
 use Rattle.kb_store.specs.Disk.{Disk, Grew}
 use Rattle.kb_log.specs.declared.fault.LogFault.{LogFault}

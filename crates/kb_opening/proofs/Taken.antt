@@ -1,6 +1,6 @@
 -- What was taken out, and what is left.
-use Rattle.std.proofs.Common.{◌≡◌, ◌∙◌, ◌<◌, ◌+◌, ℕ, zero, suc, List, [], ◌∷◌, ◌++◌, length, get_or, length-append, false, inl, inr, sym, ap, subst, arith}
-use Rattle.std.specs.Prelude.{IsPermutation, nat_eq, ◌↔◌, ◌⊎◌}
+use Rattle.std.proofs.Common.{◌≡◌, ◌+◌, ℕ, zero, suc, List, [], ◌∷◌, ◌++◌, length, length-append, false, inl, inr, subst, arith}
+use Rattle.std.specs.Prelude.{nat_eq, ◌↔◌, ◌⊎◌}
 use Rattle.std.specs.List.{All, AllByRecursion, Contains, IsDistinct}
 use Rattle.std.proofs.lemmas.Bool.{eqb-false}
 use Rattle.std.proofs.lemmas.List.{get_or_append_left, get_or-append-add}

@@ -1,5 +1,5 @@
 -- The files of a topic's partitions are taken out one list after another.
-use Rattle.std.proofs.Common.{◌≡◌, ◌≢◌, ◌∙◌, ◌⊎◌, ◌<◌, ◌+◌, ◌++◌, inl, inr, ⊎_elim, ℕ, zero, suc, List, [], ◌∷◌, Some, refl, sym, ap, subst, arith, length, length-append, append_assoc, append-nil}
+use Rattle.std.proofs.Common.{◌≡◌, ◌≢◌, ◌∙◌, ◌<◌, ◌+◌, ◌++◌, inl, inr, ⊎_elim, ℕ, zero, suc, List, [], ◌∷◌, Some, refl, sym, ap, subst, arith, length, length-append, append_assoc, append-nil}
 use Rattle.std.specs.Prelude.{slice_get, nat_eq, IsPermutation}
 use Rattle.std.specs.List.{All, Contains, IsDistinct}
 use Rattle.std.specs.BTreeMap.{is_at}
@@ -8,11 +8,11 @@ use Rattle.std.specs.declared.vec.Vec.{Vec}
 use Rattle.std.proofs.lemmas.Bool.{cases_lt}
 use Rattle.std.proofs.lemmas.Option.{same_Some}
 use Rattle.std.proofs.lemmas.List.Elements.{All-contains, All-contains_itself, Contains-append_left, Contains-append_right}
-use Rattle.std.proofs.lemmas.List.Sorted.{IsPermutation-refl, IsPermutation-sym, IsPermutation-trans, IsPermutation-append_right, All-permutation, Contains-permutation}
+use Rattle.std.proofs.lemmas.List.Sorted.{IsPermutation-refl, IsPermutation-sym, IsPermutation-trans, IsPermutation-append_right, Contains-permutation}
 use Rattle.kb_store.specs.Disk.{Disk, IsThere}
 use Rattle.kb_segment_log.proofs.Opened.{distinct_moved}
 use Rattle.kb_opening.specs.Owners.{owner_cmp}
-use Rattle.kb_opening.specs.Directory.{all_files, files_at, items_of, owned_in, Takes}
+use Rattle.kb_opening.specs.Directory.{all_files, files_at, owned_in, Takes}
 use Rattle.kb_opening.specs.Partition.{Lists, IsAmong, AreGiven}
 use Rattle.kb_opening.specs.Tenant.{AreListed}
 use Rattle.kb_opening.specs.Topics.{numbers_in, TakesTopic}
@@ -21,7 +21,7 @@ use Rattle.kb_opening.specs.declared.owner.Owner.{Owner}
 use Rattle.kb_opening.specs.declared.owner.Owner.TheVariants as owners
 use Rattle.kb_opening.proofs.Entries.{same_files, owned_without}
 use Rattle.kb_opening.proofs.Openings.{item_at}
-use Rattle.kb_opening.proofs.Taken.{all_parts, distinct_parts}
+use Rattle.kb_opening.proofs.Taken.{distinct_parts}
 
 -- ---- owners
 

@@ -1,5 +1,5 @@
 -- What the files of a tenant come to, which are there when a broker opens.
-use Rattle.std.specs.Prelude.{◌≡◌, ◌++◌, ℕ, ℤ, pos, List, [], ◌∷◌, length, max, Some, None}
+use Rattle.std.specs.Prelude.{◌≡◌, ◌++◌, ℕ, pos, List, [], ◌∷◌, length, max, Some, None}
 use Rattle.kb_store.specs.Disk.{Files}
 use Rattle.kb_batch.specs.Batch.{natural}
 use Rattle.kb_log.specs.Log.{starting}

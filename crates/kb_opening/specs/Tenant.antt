@@ -1,5 +1,5 @@
 -- A tenant, opened from the files that a directory has of it.
-use Rattle.std.specs.Prelude.{◌≡◌, ◌≢◌, ◌<◌, ◌⊎◌, ◌++◌, ℕ, pos, nat_eq, List, [], Option, Some, None, IsSome, IsPermutation}
+use Rattle.std.specs.Prelude.{◌≡◌, ◌≢◌, ◌<◌, ◌++◌, ℕ, pos, nat_eq, List, [], None, IsSome, IsPermutation}
 use Rattle.std.specs.List.{All, Contains, IsDistinct}
 use Rattle.kb_store.specs.Disk.{Disk, Files, IsThere}
 use Rattle.kb_batch.specs.Batch.{natural}
@@ -45,6 +45,11 @@ pub record AreListed (d : Directory) (disk : Disk) (next : ℕ) : Type 0 where
 -- Each file that is of a log begins with a readable header.
 abbrev pub AreOwnedReadable : Files → Directory → Type 0
 AreOwnedReadable files d = (o : Owner) → AreReadable files (files_at o d)
+
+-- the owner is the tenant's catalog, or a partition that its topics have
+abbrev pub IsTaken : ℕ → Known → Owner → Type 0
+IsTaken t k (Catalog u) = u ≡ t
+IsTaken t k (Partition u i p) = (u ≡ t) × IsSome (partition_at k (pos i) (pos p))
 
 -- A tenant's files were taken out, but for those of partitions that its topics have not; the files of other tenants stay.
 pub record TakesTenant (t : ℕ) (k : Known) (old new : Directory) : Type 0 where

@@ -1,5 +1,5 @@
 -- The topics of a tenant, opened one after another by their instances.
-use Rattle.std.specs.Prelude.{◌≡◌, ◌≢◌, ◌<◌, ◌++◌, ℕ, nat_lt, pos, List, [], map, length, slice_get, Option, Some, None, IsSome, IsPermutation, if◌then◌else◌}
+use Rattle.std.specs.Prelude.{◌≡◌, ◌≢◌, ◌<◌, ◌++◌, ℕ, nat_lt, pos, List, [], map, length, slice_get, Some, None, IsSome, IsPermutation, if◌then◌else◌}
 use Rattle.std.specs.Option.{option_map}
 use Rattle.std.specs.List.{Contains, concat}
 use Rattle.std.specs.Map.{lookup}

@@ -1,0 +1,218 @@
+-- The tenants are opened one after another.
+use Rattle.std.proofs.Common.{◌≡◌, ◌∙◌, ◌⊎◌, ◌≤◌, ◌<◌, ◌+◌, ◌++◌, inl, inr, ⊎_elim, ℕ, zero, suc, true, false, List, [], ◌∷◌, Some, None, refl, sym, ap, subst, arith, length, length-append}
+use Rattle.std.specs.Prelude.{nat_eq, pos, slice_get, unwrap_or, IsSome, IsPermutation}
+use Rattle.std.specs.FinMap.{get}
+use Rattle.std.specs.List.{All, Contains, IsDistinct}
+use Rattle.std.proofs.lemmas.Bool.{eqb-true, eqb-false}
+use Rattle.std.proofs.lemmas.Option.{slice_get_within, same_Some}
+use Rattle.std.proofs.lemmas.List.Elements.{All-contains, All-contains_itself, All-nil, Contains-append_right}
+use Rattle.std.proofs.lemmas.List.Sorted.{IsPermutation-sym, Contains-permutation}
+use Rattle.kb_store.specs.Disk.{Disk, Files, IsThere}
+use Rattle.kb_batch.specs.Batch.{natural}
+use Rattle.kb_segment.specs.Header.{header_in}
+use Rattle.kb_segment_log.specs.SegmentLog.{segment_log, bytes_at, Clears}
+use Rattle.kb_segment_log.specs.SegmentLaws.{segment_lawful}
+use Rattle.kb_segment_log.specs.Chain.{AreReadable, IsAsBefore}
+use Rattle.kb_segment_log.specs.declared.log.SegmentLog.{SegmentLog}
+use Rattle.kb_segment_log.proofs.Opened.{distinct_moved}
+use Rattle.kb_topics.specs.Catalog.{known}
+use Rattle.kb_topics.specs.Known.{Known, partition_at}
+use Rattle.kb_partitions.specs.Logs.{Logs}
+use Rattle.kb_partitions.specs.Partitions.{logs_of}
+use Rattle.kb_world.specs.Parts.{IsSound, Owns, entries}
+use Rattle.kb_world.specs.declared.parts.Parts.{Parts}
+use Rattle.kb_tenants.proofs.Others.{still_sound, still_seen, still_agrees}
+use Rattle.kb_opening.specs.Opened.{Owners, IsOpened}
+use Rattle.kb_opening.specs.Directory.{all_files, files_at}
+use Rattle.kb_opening.specs.Tenant.{owners_in, tenant_in, AreListed, AreOwnedReadable, IsOfTenant, IsTaken, IsTenantOf, TakesSome, TakesTenant}
+use Rattle.kb_opening.specs.declared.directory.Directory.{Directory}
+use Rattle.kb_opening.specs.declared.owner.Owner.{Owner}
+use Rattle.kb_opening.specs.declared.owner.Owner.TheVariants.{Catalog, Partition}
+use Rattle.kb_opening.proofs.Moved.{chain_stays, log_of_stays}
+use Rattle.kb_restart.specs.Restart.{IsOfFirst, IsRestored, AreRestored}
+use Rattle.kb_restart.proofs.Owners.{distinct_parts, listed_at, tenants_apart}
+use Rattle.kb_restart.proofs.Steps.{clears_none, clears_then}
+
+-- ---- lists
+
+pub all_from : (P : ℕ → Type 0) (xs : List ℕ) → ((n : ℕ) → Contains xs n → P n) → All P xs
+all_from P xs each = λ k d lt. each _ (All-contains_itself xs k d lt)
+
+item_at : {A : Type 0} (xs : List A) (x y : A) (p : ℕ) → slice_get (xs ++ x ∷ []) p ≡ Some y → (slice_get xs p ≡ Some y) ⊎ ((p ≡ length xs) × (x ≡ y))
+item_at [] x y zero e = inr (refl, same_Some x y e)
+item_at [] x y (suc p) e = absurd cc
+item_at (z ∷ zs) x y zero e = inl e
+item_at (z ∷ zs) x y (suc p) e = ⊎_elim (λ a. inl a) (λ (h : (p ≡ length zs) × (x ≡ y)). inr (ap suc h.0, h.1)) (item_at zs x y p e)
+
+pub one_more : {A : Type 0} (xs ys : List A) (x : A) (n : ℕ) → ys ≡ xs ++ x ∷ [] → length xs ≡ n → length ys ≡ n + 1
+one_more xs ys x n grown count = ap length grown ∙ length-append xs (x ∷ []) ∙ ap (λ m. m + 1) count
+
+-- ---- what files come to stays where they do
+
+module _ (f g : Files) (of : Owners) (catalog : (n : ℕ) → Contains of.catalog n → get g n ≡ get f n) (partition : (i p n : ℕ) → Contains (of.partition i p) n → get g n ≡ get f n) where
+  pub opened_stays : (k : Known) (logs : Logs) → IsOpened f of k logs → IsOpened g of k logs
+  opened_stays k logs o = record {
+    commands = o.commands;
+    chain = chain_stays f g of.catalog catalog 0 o.commands o.chain;
+    known = o.known;
+    tied = o.tied;
+    each = λ i p part at. let l = o.each i p part at in (l.0, l.1, log_of_stays f g (of.partition i p) (partition i p) (natural part.start) l.0 l.2);
+  }
+
+-- ---- none yet
+
+pub none_restored : (d : Disk) (had : Directory) (next : ℕ) (ps : List (Parts SegmentLog)) → ps ≡ [] → AreListed had d next → AreRestored d had ps d next had
+none_restored d had next ps none listed = subst (λ (xs : List (Parts SegmentLog)). AreRestored d had xs d next had) (sym none) record {
+  each = λ t parts at. absurd cc;
+  others = λ o le. refl;
+  strays = refl;
+  fewer = λ file is. is;
+  listed = listed;
+  readable = λ h all. all;
+  clears = clears_none d;
+}
+
+-- ---- one more
+
+taken_tenant : (t : ℕ) (k : Known) (o : Owner) → IsTaken t k o → tenant_in o ≡ t
+taken_tenant t k (Catalog u) is = is
+taken_tenant t k (Partition u i p) is = is.0
+
+module _ (old : Disk) (had : Directory) (ps : List (Parts SegmentLog)) (mid : Disk) (next : ℕ) (has : Directory) (once : IsDistinct nat_eq (all_files had)) (before : AreRestored old had ps mid next has) where
+  -- the files of the next tenant are those that it had first
+  first_had : (file : ℕ) → IsOfTenant has (length ps) file → IsOfTenant had (length ps) file
+  first_had file o =
+      let mine = o.mine in
+      record { owner = o.owner; mine = mine; has = subst (λ ns. Contains ns file) (before.others o.owner (omega (arith, mine))) o.has }
+
+  -- they are no other tenant's
+  no_other : (t : ℕ) → t < length ps → (file : ℕ) → IsOfTenant had t file → IsOfTenant had (length ps) file → ⊥
+  no_other t lt file mine yours = tenants_apart had once t (length ps) file mine yours (λ e. omega (arith, lt, e))
+
+  -- also where the next tenant is refused
+  pub next_clears : (now : Disk) → Clears (IsOfTenant has (length ps)) mid now → Clears (IsOfFirst had (length ps + 1)) old now
+  next_clears now c = clears_then old mid now
+      (λ file f. let lt = f.first in record { tenant = f.tenant; first = omega (arith, lt); has = f.has })
+      (λ file o. record { tenant = length ps; first = omega arith; has = first_had file o })
+      before.clears c
+
+  module _ (p : Parts SegmentLog) (now : Disk) (left : Directory)
+      (sound : IsSound segment_log p now.table next)
+      (owned : (file : ℕ) → Owns segment_log p file → IsOfTenant has (length ps) file)
+      (opened : now.honest → IsTenantOf mid.files (owners_in has (length ps)) p now.files)
+      (calm : p.refusals ≡ 0)
+      (taken : TakesTenant (length ps) (known p.catalog) has left)
+      (some : TakesSome has left)
+      (stay : All (IsAsBefore mid now) (all_files left))
+      (gone : (o : Owner) → IsTaken (length ps) (known p.catalog) o → (file : ℕ) → Contains (files_at o has) file → Contains (all_files left) file → ⊥)
+      (clears : Clears (IsOfTenant has (length ps)) mid now) where
+    -- what is left stood there before
+    still : (file : ℕ) → Contains (all_files left) file → Contains (all_files has) file
+    still file is = Contains-permutation (some.taken ++ all_files left) (all_files has) file (IsPermutation-sym (all_files has) (some.taken ++ all_files left) some.all) (Contains-append_right some.taken (all_files left) file is)
+
+    -- a tenant before it
+    each_old : (t : ℕ) (q : Parts SegmentLog) → slice_get ps t ≡ Some q → IsRestored old had t q now next left
+    each_old t q at =
+        let lt = slice_get_within ps t q at in
+        let r = before.each t q at in
+        let apart : (file : ℕ) → Owns segment_log q file → IsOfTenant has (length ps) file → ⊥ = λ file own theirs. no_other t lt file (r.owned file own) (first_had file theirs) in
+        let lengths : (file : ℕ) → file < next → Owns segment_log q file → get now.table file ≡ get mid.table file = λ file below own. clears.lengths file (apart file own) in
+        let contents : now.honest → (file : ℕ) → file < next → Owns segment_log q file → get now.files file ≡ get mid.files file = λ h file below own. clears.contents h file (apart file own) in
+        record {
+          sound = still_sound segment_log segment_lawful q mid now next next r.sound (omega arith) lengths contents;
+          owned = r.owned;
+          opened = λ h.
+              let o = r.opened (clears.honest h) in
+              let seen = still_seen segment_log segment_lawful q mid now next next r.sound (omega arith) lengths contents h in
+              record {
+                agrees = still_agrees segment_log segment_lawful q mid now next next r.sound (omega arith) lengths contents h o.agrees;
+                opened = subst (λ (ls : Logs). IsOpened old.files (owners_in had t) (known q.catalog) ls) (sym (ap (λ w. w.logs) seen)) o.opened;
+              };
+          refusals = r.refusals;
+          gone = λ o is file was now. r.gone o is file was (still file now);
+          unknown = λ i n none. taken.others (Partition t i n) (λ e. omega (arith, lt, e)) ∙ r.unknown i n none;
+        }
+
+    same_owners : owners_in has (length ps) ≡ owners_in had (length ps)
+    same_owners = λ k. record { catalog = before.others (Catalog (length ps)) (omega arith) k; partition = λ i n. before.others (Partition (length ps) i n) (omega arith) k }
+
+    -- its files were as they were first
+    unchanged : now.honest → (o : Owner) → tenant_in o ≡ length ps → (file : ℕ) → Contains (files_at o had) file → get old.files file ≡ get mid.files file
+    unchanged h o mine file is = sym (before.clears.contents (clears.honest h) file (λ f. no_other f.tenant f.first file f.has (record { owner = o; mine = mine; has = is })))
+
+    each_new : IsRestored old had (length ps) p now next left
+    each_new = record {
+      sound = sound;
+      owned = λ file own. first_had file (owned file own);
+      opened = λ h.
+          let o = opened h in
+          let logs = logs_of segment_log (entries p) now.files in
+          record {
+            agrees = o.agrees;
+            opened = opened_stays mid.files old.files (owners_in had (length ps)) (λ n is. unchanged h (Catalog (length ps)) refl n is) (λ i q n is. unchanged h (Partition (length ps) i q) refl n is) (known p.catalog) logs
+                (subst (λ (of : Owners). IsOpened mid.files of (known p.catalog) logs) same_owners o.opened);
+          };
+      refusals = calm;
+      gone = λ o is file was now.
+          let mine = taken_tenant (length ps) (known p.catalog) o is in
+          gone o is file (subst (λ ns. Contains ns file) (sym (before.others o (omega (arith, mine)))) was) now;
+      unknown = λ i n none. taken.unknown i n none ∙ before.others (Partition (length ps) i n) (omega arith);
+    }
+
+    each_now : (t : ℕ) (q : Parts SegmentLog) → slice_get (ps ++ p ∷ []) t ≡ Some q → IsRestored old had t q now next left
+    each_now t q at = ⊎_elim
+        (λ was. each_old t q was)
+        (λ (e : (t ≡ length ps) × (p ≡ q)). subst (λ u. IsRestored old had u q now next left) (sym e.0) (subst (λ (v : Parts SegmentLog). IsRestored old had (length ps) v now next left) e.1 each_new))
+        (item_at ps p q t at)
+
+    same : (file : ℕ) → Contains (all_files left) file → IsAsBefore mid now file
+    same file is = All-contains (IsAsBefore mid now) (all_files left) file stay is
+
+    listed_now : AreListed left now next
+    listed_now = record {
+      there = all_from (λ n. IsThere now n) (all_files left) (λ n is. subst (λ o. IsSome o) (sym (same n is).length) (All-contains (λ n. IsThere mid n) (all_files has) n before.listed.there (still n is)));
+      given_out = all_from (λ n. n < next) (all_files left) (λ n is. All-contains (λ n. n < next) (all_files has) n before.listed.given_out (still n is));
+      once = (distinct_parts some.taken (all_files left) (distinct_moved (all_files has) (some.taken ++ all_files left) some.all before.listed.once)).1;
+    }
+
+    -- an owner has what it had, or nothing
+    abbrev IsKept : Owner → Type 0
+    IsKept o = (files_at o left ≡ []) ⊎ (files_at o left ≡ files_at o has)
+
+    kept_of_tenant : (i n : ℕ) → IsKept (Partition (length ps) i n)
+    kept_of_tenant i n = elim (partition_at (known p.catalog) (pos i) (pos n)) as (λ o. partition_at (known p.catalog) (pos i) (pos n) ≡ o → IsKept (Partition (length ps) i n)) [
+      | None ↦ λ e. inr (taken.unknown i n e)
+      | Some x ↦ λ e. inl (taken.known i n (subst (λ o. IsSome o) (sym e) refl))
+    ] refl
+
+    kept_each : (o : Owner) → IsKept o
+    kept_each (Catalog u) = elim (nat_eq u (length ps)) as (λ b. nat_eq u (length ps) ≡ b → IsKept (Catalog u)) [
+      | true ↦ λ e. inl (ap (λ v. files_at (Catalog v) left) (eqb-true u (length ps) e) ∙ taken.catalog)
+      | false ↦ λ e. inr (taken.others (Catalog u) (eqb-false u (length ps) e))
+    ] refl
+    kept_each (Partition u i n) = elim (nat_eq u (length ps)) as (λ b. nat_eq u (length ps) ≡ b → IsKept (Partition u i n)) [
+      | true ↦ λ e. subst (λ v. IsKept (Partition v i n)) (sym (eqb-true u (length ps) e)) (kept_of_tenant i n)
+      | false ↦ λ e. inr (taken.others (Partition u i n) (eqb-false u (length ps) e))
+    ] refl
+
+    readable_now : now.honest → AreOwnedReadable old.files had → AreOwnedReadable now.files left
+    readable_now h all o = ⊎_elim
+        (λ (none : files_at o left ≡ []). subst (λ ns. AreReadable now.files ns) (sym none) (All-nil (λ n. IsSome (header_in (bytes_at now.files n)))))
+        (λ (as_had : files_at o left ≡ files_at o has). all_from (λ n. IsSome (header_in (bytes_at now.files n))) (files_at o left) (λ n is.
+        subst (λ b. IsSome (header_in (unwrap_or b []))) (sym ((same n (listed_at o left n is)).bytes h))
+        (All-contains (λ n. IsSome (header_in (bytes_at mid.files n))) (files_at o has) n (before.readable (clears.honest h) all o) (subst (λ ns. Contains ns n) as_had is))))
+        (kept_each o)
+
+    many : length (ps ++ p ∷ []) ≡ length ps + 1
+    many = length-append ps (p ∷ [])
+
+    pub next_restored : (qs : List (Parts SegmentLog)) → qs ≡ ps ++ p ∷ [] → AreRestored old had qs now next left
+    next_restored qs grown = subst (λ (xs : List (Parts SegmentLog)). AreRestored old had xs now next left) (sym grown) record {
+      each = each_now;
+      others = λ o le. taken.others o (λ e. omega (arith, le, e, many)) ∙ before.others o (omega (arith, le, many));
+      strays = taken.strays ∙ before.strays;
+      fewer = λ file is. before.fewer file (still file is);
+      listed = listed_now;
+      readable = readable_now;
+      clears = subst (λ n. Clears (IsOfFirst had n) old now) (sym many) (next_clears now clears);
+    }

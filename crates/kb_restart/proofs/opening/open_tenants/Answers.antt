@@ -1,0 +1,78 @@
+use Rattle.std.proofs.Common.{◌∙◌, ℕ, Err, List, length, sym, ap, subst, arith}
+use Rattle.std.specs.List.{Contains}
+use Rattle.std.proofs.lemmas.Result.{err_from_is_err_and}
+use Rattle.kb_segment_log.specs.SegmentLog.{segment_log, Clears}
+use Rattle.kb_topics.specs.Catalog.{known}
+use Rattle.kb_world.specs.Parts.{IsSound, Owns}
+use Rattle.kb_opening.specs.Tenant.{owners_in, AreOwnedReadable, IsOfTenant, IsTaken, IsTenantOf, TakesTenant}
+use Rattle.kb_opening.specs.Directory.{all_files, files_at}
+use Rattle.kb_opening.specs.declared.owner.Owner.{Owner}
+use Rattle.kb_restart.proofs.Restored.{next_clears, next_restored, one_more}
+use Rattle.kb_restart.proofs.Steps.{missed_since, clears_wider}
+use Rattle.kb_restart.proofs.opening.open_tenants.Goals as goal
+
+pub returns-in_err-parts-clause-others : goal.returns-in_err-parts-clause-others
+returns-in_err-parts-clause-others g c =
+    let i = c.loop-tenant.invariant in
+    let ps = c.loop-tenant.tenants.items in
+    let has = c.loop-tenant.directory in
+    let first = g.S.Store.disk c.args.shelf.now.store in
+    let mid = g.S.Store.disk c.loop-tenant.shelf.store in
+    let now = g.S.Store.disk c.open_tenant.new.shelf.store in
+    let count = i.count in
+    clears_wider first now (λ file f. let lt = f.first in record { tenant = f.tenant; first = omega (arith, lt, count); has = f.has })
+    (next_clears first c.args.directory.now ps mid c.args.shelf.now.next has c.requires.once i.restored now (subst (λ n. Clears (IsOfTenant has n) mid now) (sym count) c.in_err-parts.ensures.others))
+
+pub returns-in_err-parts-clause-cause : goal.returns-in_err-parts-clause-cause
+returns-in_err-parts-clause-cause g c =
+    let i = c.loop-tenant.invariant in
+    let first = g.S.Store.disk c.args.shelf.now.store in
+    let mid = g.S.Store.disk c.loop-tenant.shelf.store in
+    let now = g.S.Store.disk c.open_tenant.new.shelf.store in
+    let e = c.in_err-parts.ensures in
+    let p = err_from_is_err_and c.from_residual-in_err-parts.result c.from_residual-in_err-parts.ensures.1 in
+    missed_since first mid now c.args.shelf.now.next c.loop-tenant.shelf.next (AreOwnedReadable first.files c.args.directory.now) (AreOwnedReadable mid.files c.loop-tenant.directory)
+    c.from_residual-in_err-parts.result c.in_err-parts.field-0.0 (p.1 ∙ ap Err p.2) i.next i.later (λ h all. i.restored.readable (e.others.honest h) all) e.cause
+
+pub returns-in_err-push-clause-others : goal.returns-in_err-push-clause-others
+returns-in_err-push-clause-others g c =
+    let i = c.loop-tenant.invariant in
+    let ps = c.loop-tenant.tenants.items in
+    let has = c.loop-tenant.directory in
+    let first = g.S.Store.disk c.args.shelf.now.store in
+    let mid = g.S.Store.disk c.loop-tenant.shelf.store in
+    let now = g.S.Store.disk c.open_tenant.new.shelf.store in
+    let count = i.count in
+    clears_wider first now (λ file f. let lt = f.first in record { tenant = f.tenant; first = omega (arith, lt, count); has = f.has })
+    (next_clears first c.args.directory.now ps mid c.args.shelf.now.next has c.requires.once i.restored now (subst (λ n. Clears (IsOfTenant has n) mid now) (sym count) c.in_ok-parts.ensures.others))
+
+pub loop-tenant-preserved : goal.loop-tenant-preserved
+loop-tenant-preserved g c =
+    let i = c.loop-tenant.invariant in
+    let ps = c.loop-tenant.tenants.items in
+    let has = c.loop-tenant.directory in
+    let left = c.open_tenant.new.directory in
+    let first = g.S.Store.disk c.args.shelf.now.store in
+    let mid = g.S.Store.disk c.loop-tenant.shelf.store in
+    let now = g.S.Store.disk c.open_tenant.new.shelf.store in
+    let p = c.in_ok-parts.parts in
+    let e = c.in_ok-parts.ensures in
+    let count = sym i.count in
+    let before = i.later in
+    let more = e.cause.later in
+    let grown = c.in_ok-push.ensures.items in
+    record {
+      next = e.next ∙ i.next;
+      later = omega (arith, before, more);
+      count = one_more ps c.push.new.self.items p c.loop-tenant.tenant grown i.count;
+      restored = next_restored first c.args.directory.now ps mid c.args.shelf.now.next has c.requires.once i.restored p now left
+          (subst (λ n. IsSound segment_log p now.table n) (e.next ∙ i.next) e.sound)
+          (λ file own. subst (λ n. IsOfTenant has n file) count (e.owned file own))
+          (λ h. subst (λ n. IsTenantOf mid.files (owners_in has n) p now.files) count (e.opened h))
+          e.refusals
+          (subst (λ n. TakesTenant n (known p.catalog) has left) count e.taken)
+          e.left e.stay
+          (subst (λ n. (o : Owner) → IsTaken n (known p.catalog) o → (file : ℕ) → Contains (files_at o has) file → Contains (all_files left) file → ⊥) count e.gone)
+          (subst (λ n. Clears (IsOfTenant has n) mid now) count e.others)
+          c.push.new.self.items grown;
+    }

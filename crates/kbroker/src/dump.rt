@@ -1,9 +1,10 @@
 //! `kbroker dump`: what the files of a data folder hold.
 
 use crate::Fault;
+use crate::folder::store_in;
 use clap::{Arg, ArgAction, ArgMatches, Command};
 use kb_dump::DumpFault;
-use kb_folder::{FolderFault, FolderStore, HostFolder};
+use kb_folder::FolderFault;
 use kb_node::{NodeFault, StartFault};
 use std::alloc::{AllocError, Global};
 use std::io::{BufWriter, Write};
@@ -47,7 +48,7 @@ pub fn dump(rt: &HostRuntime, found: &ArgMatches<'_>) -> Result<(), Fault> {
     if !is_folder(rt, path) {
         return Err(Fault::NoFolder(String::from_str(alloc, path)?));
     }
-    let mut store = FolderStore::new(alloc, HostFolder::new(*rt, path)?)?;
+    let mut store = store_in(rt, path)?;
     let Ok(mut writer) = BufWriter::new(alloc, io::writer(rt)) else {
         return Err(Fault::Node(NodeFault::Memory));
     };

@@ -3,6 +3,7 @@
 ghost use Rattle.std.specs.Prelude.{◌≤◌, ◌^◌};
 
 use kb_journal::{Pace, Tally, time_text};
+use kb_log::PartitionLog;
 use kb_node::{Edge, Settings, Store, Turn, tenant_names};
 use std::alloc::{AllocError, Global};
 use std::net::Net;
@@ -40,13 +41,13 @@ impl Journal {
         })
     }
 
-    /// The broker serves.
-    pub fn tell_start(&self, rt: &HostRuntime, now: u64) {
+    /// The broker serves. So many files of its folder are of no log.
+    pub fn tell_start(&self, rt: &HostRuntime, now: u64, strays: usize) {
         if !self.is_quiet {
             let (tenants, connections) = (self.tenants.len(), self.connections);
             let time = time_of(rt, now);
             let _ = eprintln!(rt;
-                "{time} start: tenants {tenants}, connections at most {connections}"
+                "{time} start: tenants {tenants}, stray files {strays}, connections at most {connections}"
             );
         }
     }
@@ -60,10 +61,10 @@ impl Journal {
     }
 
     /// What happened in a turn at a moment: logins that failed at once, and counts at most once a second.
-    pub fn tell<R: Net, S: Store>(
+    pub fn tell<R: Net, S: Store, L: PartitionLog + Drop>(
         &mut self,
         rt: &HostRuntime,
-        edge: &Edge<R, S>,
+        edge: &Edge<R, S, L>,
         turn: &Turn,
         now: u64,
     )
@@ -96,7 +97,12 @@ impl Journal {
     }
 
     /// How many requests were refused since the last line, by tenant.
-    fn tell_refusals<R: Net, S: Store>(&mut self, rt: &HostRuntime, edge: &Edge<R, S>, now: u64) {
+    fn tell_refusals<R: Net, S: Store, L: PartitionLog + Drop>(
+        &mut self,
+        rt: &HostRuntime,
+        edge: &Edge<R, S, L>,
+        now: u64,
+    ) {
         if edge.broker().is_calm() {
             return;
         }
@@ -111,10 +117,10 @@ impl Journal {
     }
 
     /// The tenants with refusals since the last line, and how many.
-    fn refusals<R: Net, S: Store>(
+    fn refusals<R: Net, S: Store, L: PartitionLog + Drop>(
         &mut self,
         alloc: Global,
-        edge: &Edge<R, S>,
+        edge: &Edge<R, S, L>,
     ) -> Result<String, AllocError> {
         let mut counts = String::new(alloc);
         for tenant in &mut self.tenants {
@@ -141,7 +147,12 @@ fn tenants_of(alloc: Global, settings: &Settings) -> Result<Vec<Tenant>, AllocEr
 }
 
 /// The logins of a turn that failed.
-fn tell_denied<R: Net, S: Store>(rt: &HostRuntime, edge: &Edge<R, S>, denied: u64, now: u64) {
+fn tell_denied<R: Net, S: Store, L: PartitionLog + Drop>(
+    rt: &HostRuntime,
+    edge: &Edge<R, S, L>,
+    denied: u64,
+    now: u64,
+) {
     let time = time_of(rt, now);
     for login in edge.denied() {
         let (address, name) = (login.address, &login.name);

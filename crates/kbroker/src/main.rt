@@ -8,6 +8,7 @@
 
 mod check;
 mod dump;
+mod folder;
 mod journal;
 mod serve;
 mod topic;
@@ -39,6 +40,9 @@ enum Fault {
     /// There is no folder at this path.
     #[error("kbroker: no folder {0}")]
     NoFolder(String),
+    /// Another process serves the folder at this path.
+    #[error("kbroker: another process serves {0}")]
+    Held(String),
 }
 
 impl From<AllocError> for Fault {

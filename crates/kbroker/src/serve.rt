@@ -2,11 +2,15 @@
 
 ghost use Rattle.std.specs.Prelude.{◌≤◌, ◌^◌};
 
+use crate::folder::{hold, store_in};
 use crate::journal::Journal;
 use crate::{Fault, settings_of};
 use clap::ArgMatches;
+use kb_broker::Opened;
 use kb_journal::moment_of;
-use kb_node::{Edge, Limits, Listing, NodeFault, StartFault, Store, serving_broker};
+use kb_log::PartitionLog;
+use kb_node::{Edge, Limits, Listing, NodeFault, StartFault, Store, data_folder};
+use kb_restart::open_broker;
 use std::net::Net;
 use std::time::SystemTime;
 
@@ -22,7 +26,12 @@ pub fn serve(rt: &HostRuntime, found: &ArgMatches<'_>) -> Result<(), Fault> {
     } else {
         Listing::Served
     };
-    let broker = serving_broker(alloc, &settings, listing)?;
+    let path = data_folder(alloc, &settings)?;
+    let _held = hold(rt, path)?;
+    let store = store_in(rt, path)?;
+    let Opened { broker, strays } = open_broker(alloc, &settings, listing, store).map_err(
+        |refused| StartFault::from(refused.fault),
+    )?;
     let address = format!(in alloc; "{}:{}", settings.host, settings.port)?;
     let limits = Limits::of(&settings);
     let mut edge = Edge::watching(rt, alloc, broker, &address, limits).map_err(StartFault::from)?;
@@ -30,14 +39,18 @@ pub fn serve(rt: &HostRuntime, found: &ArgMatches<'_>) -> Result<(), Fault> {
     if println!(rt; "listening on {}:{}", settings.host, edge.port()).is_err() {
         return Err(Fault::Node(NodeFault::Write));
     }
-    journal.tell_start(rt, now(rt));
+    journal.tell_start(rt, now(rt), strays.len());
     turn_on(rt, &mut edge, &mut journal);
     journal.tell_stop(rt, now(rt));
     Ok(())
 }
 
 /// Turns an edge until the turns are used up.
-fn turn_on<R: Net, S: Store>(rt: &HostRuntime, edge: &mut Edge<R, S>, journal: &mut Journal) {
+fn turn_on<R: Net, S: Store, L: PartitionLog + Drop>(
+    rt: &HostRuntime,
+    edge: &mut Edge<R, S, L>,
+    journal: &mut Journal,
+) {
     for _ in 0..TURNS {
         edge.wait();
         let now = now(rt);

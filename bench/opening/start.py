@@ -1,0 +1,33 @@
+"""Starts a broker, and says how many seconds it took until it listens. With `create` it makes a topic whose records are kept for ever.
+
+    start.py KBROKER SETTINGS create|open
+"""
+
+import socket
+import struct
+import subprocess
+import sys
+import time
+
+
+def ask(connection, key, version, body):
+    request = struct.pack(">hhih", key, version, 7, -1) + body
+    connection.sendall(struct.pack(">i", len(request)) + request)
+    connection.recv(65536)
+
+
+began = time.time()
+broker = subprocess.Popen([sys.argv[1], "serve", "--config", sys.argv[2], "--quiet"], stdout=subprocess.PIPE)
+line = broker.stdout.readline()
+took = time.time() - began
+if not line.startswith(b"listening"):
+    sys.exit("the broker did not start")
+if sys.argv[3] == "create":
+    connection = socket.create_connection(("127.0.0.1", 19292), timeout=10)
+    ask(connection, 17, 1, b"\0\5PLAIN")
+    ask(connection, 36, 0, struct.pack(">i", 8) + b"\0ann\0pw1")
+    config = struct.pack(">ih12sh2s", 1, 12, b"retention.ms", 2, b"-1")
+    ask(connection, 19, 0, struct.pack(">ih1sihi", 1, 1, b"t", 1, 1, 0) + config + struct.pack(">i", 5000))
+broker.kill()
+broker.wait()
+print(f"{took:.3f}")

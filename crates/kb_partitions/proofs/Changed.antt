@@ -1,5 +1,5 @@
 -- One partition among a tenant's becomes another.
-use Rattle.std.proofs.Common.{◌≡◌, ◌∙◌, ◌⊎◌, ◌<◌, inl, inr, ⊎_elim, ℕ, List, Option, Some, None, refl, sym, ap, subst, arith, length}
+use Rattle.std.proofs.Common.{◌≡◌, ◌∙◌, ◌⊎◌, ◌<◌, cond, inl, inr, ⊎_elim, ℕ, List, Option, Some, None, refl, sym, ap, subst, arith, length}
 use Rattle.std.specs.Prelude.{map, option_map, slice_get, slice_set, slice_index_or}
 use Rattle.std.specs.Option.{option_and_then}
 use Rattle.std.specs.Ordering.{nat_cmp}
@@ -17,13 +17,14 @@ use Rattle.std.proofs.lemmas.Option.{slice_get-map, slice_get-get_or, slice_get_
 use Rattle.kb_store.specs.Disk.{Disk, Files}
 use Rattle.kb_log.specs.Apart.{Stays, other_stays}
 use Rattle.kb_log.specs.OnShelf.{Log, Spares, Frames, IsLawfulLog}
+use Rattle.kb_log.specs.OnShelf as one
 use Rattle.kb_producers.specs.Batches.{kept_all}
 use Rattle.kb_partitions.specs.OneLog.{StaysTold}
 use Rattle.kb_partitions.specs.Logs.{LogState, log_at, with_log, put_log}
-use Rattle.kb_partitions.specs.Partitions.{Entries, Owned, AreSound, partition_at, places_of, log_state, logs_of, scene_on}
-use Rattle.kb_partitions.specs.Scene.{Frame}
+use Rattle.kb_partitions.specs.Partitions.{Entries, Owned, AreSound, AreNamed, partition_at, partition_identity, places_of, log_state, logs_of, scene_on}
+use Rattle.kb_partitions.specs.Scene.{Frame, Settles}
 use Rattle.kb_partitions.specs.declared.partition.Partition.{Partition}
-use Rattle.kb_partitions.proofs.Put.{get_put, map_same, map_put, put_same, lookup_put, values_put}
+use Rattle.kb_partitions.proofs.Put.{cases, found_put, get_here, get_kept, get_put, own_number, same_number, map_same, map_put, put_same, lookup_put, values_put}
 
 -- the partition at a place becomes another
 pub record Change {L : Type 0} (es es' : Entries L) (i p : ℕ) (x x' : Partition L) : Type 0 where
@@ -98,6 +99,25 @@ module _ {L : Type 0} (es es' : Entries L) (i p : ℕ) (x x' : Partition L) (c :
           (λ o. inr (ap (λ o. option_and_then (λ (t : Vec (Partition L) Global). slice_get t.items q) o) o.1 ∙ found, λ bad. o.0 bad.0))
           (lookup_put es i j c.topic (with_item c.topic p x') u c.there (subst (λ (fs : Entries L). lookup (is_at (nat_cmp j)) fs ≡ Some u) c.put e))
 
+  -- the new one is at the place
+  pub new_at : partition_at i p es' ≡ Some x'
+  new_at = found_at es' i p (Some (with_item c.topic p x')) (ap (λ (fs : Entries L). lookup (is_at (nat_cmp i)) fs) c.put
+      ∙ found_put es i i c.topic (with_item c.topic p x') c.there ∙ ap (λ b. cond b (Some (with_item c.topic p x')) (lookup (is_at (nat_cmp i)) es)) (own_number i))
+      ∙ get_here c.topic.items p x x' c.here
+
+  -- each partition that was there is the one that was put away, or still stands where it stood
+  pub kept_at : (j q : ℕ) (y : Partition L) → partition_at j q es ≡ Some y → (y ≡ x) ⊎ (partition_at j q es' ≡ Some y)
+  kept_at j q y at = elim (cases (is_at (nat_cmp i) j)) [
+    | inl e ↦
+        let was : slice_get c.topic.items q ≡ Some y = sym (found_at es j q (Some c.topic) (ap (λ k. lookup (is_at (nat_cmp k)) es) (sym (same_number i j e)) ∙ c.there)) ∙ at in
+        ⊎_elim (λ s. inl s) (λ o. inr (found_at es' j q (Some (with_item c.topic p x')) (found j (Some (with_item c.topic p x')) (ap (λ b. cond b (Some (with_item c.topic p x')) (lookup (is_at (nat_cmp j)) es)) e)) ∙ o))
+        (get_kept c.topic.items p q x x' y c.here was)
+    | inr e ↦ inr (found_at es' j q (lookup (is_at (nat_cmp j)) es) (found j (lookup (is_at (nat_cmp j)) es) (ap (λ b. cond b (Some (with_item c.topic p x')) (lookup (is_at (nat_cmp j)) es)) e)) ∙ at)
+  ]
+    where
+      found : (j : ℕ) (o : Option (Vec (Partition L) Global)) → cond (is_at (nat_cmp i) j) (Some (with_item c.topic p x')) (lookup (is_at (nat_cmp j)) es) ≡ o → lookup (is_at (nat_cmp j)) es' ≡ o
+      found j o e = ap (λ (fs : Entries L). lookup (is_at (nat_cmp j)) fs) c.put ∙ found_put es i j c.topic (with_item c.topic p x') c.there ∙ e
+
   -- what holds of the new partition and of the others holds of each
   pub each_partition : (P : ℕ → ℕ → Partition L → Type 0) → P i p x' → ((j q : ℕ) (y : Partition L) → partition_at j q es ≡ Some y → ((j ≡ i) × (q ≡ p) → ⊥) → P j q y) → (j q : ℕ) (y : Partition L) → partition_at j q es' ≡ Some y → P j q y
   each_partition P here other j q y at = ⊎_elim
@@ -164,6 +184,27 @@ module _ {L : Type 0} (es es' : Entries L) (i p : ℕ) (x x' : Partition L) (c :
       };
     }
 
+    -- each log is still the one that it was
+    pub changed_named : (tenant : List ℕ) (size : ℕ) → AreNamed log tenant size es → AreNamed log tenant size es'
+    changed_named tenant size named =
+        each_partition (λ j q y. (log y.log).identity ≡ partition_identity tenant j q size) (frames.identity ∙ named i p x old_at) (λ j q y at ne. named j q y at)
+
+    -- what a call that was refused nothing leaves
+    pub changed_settles : one.Settles (record { log = log x.log; disk = d; next = next }) (record { log = log x'.log; disk = d'; next = next' }) → Settles (scene_on log es d next) (scene_on log es' d' next')
+    changed_settles settles = record {
+      accounts = λ file there not.
+          let before = settles.accounts file there (λ own. not (record { instance = i; number = p; partition = x'; at = new_at; own = own })) in (
+            before.0,
+            λ o. ⊎_elim
+                (λ s. before.1 (subst (λ (v : Partition L). (log v.log).owns file) s o.own))
+                (λ at. not (record { instance = o.instance; number = o.number; partition = o.partition; at = at; own = o.own }))
+                (kept_at o.instance o.number o.partition o.at),
+          );
+      exact = λ exact. each_partition (λ j q y. (log y.log).exact d'.table) (settles.exact (exact i p x old_at)) (λ j q y at ne.
+          (law y.log).exact_stays d.table d'.table (exact j q y at) (λ file mine.
+          frames.others.lengths file ((law y.log).given_out d.table next (sound.each j q y at) file mine) (λ theirs. sound.apart j q i p y x at old_at ne file mine theirs)));
+    }
+
     same_state : d'.honest → (j q : ℕ) (y : Partition L) → partition_at j q es ≡ Some y → ((j ≡ i) × (q ≡ p) → ⊥) → log_state (log y.log) d'.files ≡ log_state (log y.log) d.files
     same_state honest j q y at ne = ap (λ bs. (let s : LogState = record { start = (log y.log).start; end = (log y.log).end; batches = bs } in s)) ((stays j q y at ne).list honest)
 
@@ -200,3 +241,12 @@ frame_same {L} log es es' d next e sound = subst (λ (fs : Entries L). Frame (sc
   failures = omega arith;
   agrees = λ honest agree. agree;
 })
+
+pub settles_same : {L : Type 0} (log : L → Log) (es es' : Entries L) (d : Disk) (next : ℕ) → es' ≡ es → Settles (scene_on log es d next) (scene_on log es' d next)
+settles_same {L} log es es' d next e = subst (λ (fs : Entries L). Settles (scene_on log es d next) (scene_on log fs d next)) (sym e) (record {
+  accounts = λ file there not. (there, not);
+  exact = λ exact. exact;
+})
+
+pub named_same : {L : Type 0} (log : L → Log) (es es' : Entries L) (tenant : List ℕ) (size : ℕ) → es' ≡ es → AreNamed log tenant size es → AreNamed log tenant size es'
+named_same {L} log es es' tenant size e named = subst (λ (fs : Entries L). AreNamed log tenant size fs) (sym e) named

@@ -8,9 +8,10 @@ use Rattle.std.proofs.lemmas.Result.{on_ok_weaker}
 use Rattle.kb_store.specs.Disk.{Disk, HasCause}
 use Rattle.kb_store.specs.declared.fault.StoreFault.{StoreFault}
 use Rattle.kb_log.specs.Apart.{other_stays}
-use Rattle.kb_log.specs.OnShelf.{Log, Spares, IsLawfulLog, no_file}
+use Rattle.kb_log.specs.OnShelf.{Log, Accounts, Spares, IsLawfulLog, no_file}
 use Rattle.kb_partitions.specs.Topic.{AreApartLogs, OwnedAmong}
 use Rattle.kb_partitions.specs.declared.partition.Partition.{Partition}
+use Rattle.kb_partitions.proofs.Put.{get_either}
 
 -- ---- an item behind a list
 
@@ -22,12 +23,6 @@ get_left (z ∷ zs) x y (suc p) a = get_left zs x y p a
 get_last : {A : Type 0} (xs : List A) (x : A) → slice_get (xs ++ x ∷ []) (length xs) ≡ Some x
 get_last [] x = refl
 get_last (z ∷ zs) x = get_last zs x
-
-get_either : {A : Type 0} (xs : List A) (x y : A) (p : ℕ) → slice_get (xs ++ x ∷ []) p ≡ Some y → (slice_get xs p ≡ Some y) ⊎ (y ≡ x)
-get_either [] x y zero a = inr (let e : x ≡ y = cc in sym e)
-get_either [] x y (suc p) a = absurd cc
-get_either (z ∷ zs) x y zero a = inl a
-get_either (z ∷ zs) x y (suc p) a = get_either zs x y p a
 
 -- ---- the cause of a refusal
 
@@ -70,6 +65,7 @@ pub record Discarding {L : Type 0} (log : L → Log) (all left : List (Partition
   pub among : (file : ℕ) → OwnedAmong log left file → OwnedAmong log all file
   pub others : Spares (OwnedAmong log all) no_file first now next next'
   pub gone : OnOk r ((file : ℕ) → OwnedAmong log all file → ((get now.table file ≡ None) × (OwnedAmong log left file → ⊥)) ⊎ OwnedAmong log left file)
+  pub accounts : OnOk r (Accounts (OwnedAmong log all) (OwnedAmong log left) first now)
   pub cause : HasCause first r now
 
 pub all_left : {L : Type 0} (log : L → Log) (all : List (Partition L)) (d : Disk) (next : ℕ) → AreApartLogs log all d.table next → Discarding log all all d d next next (Ok tt)
@@ -84,15 +80,20 @@ all_left log all d next sound = record {
     contents = λ honest file lt not. refl;
   };
   gone = λ file o. inr o;
+  accounts = λ file there not. (there, not);
   cause = record { later = omega arith; device = λ e. absurd cc };
 }
 
+nothing : {L : Type 0} (log : L → Log) (left : List (Partition L)) → length left ≡ 0 → (file : ℕ) → OwnedAmong log left file → ⊥
+nothing log left none file o = let within = slice_get_within left o.number o.partition o.at in omega (arith, within, none)
+
 pub none_left : {L : Type 0} (log : L → Log) (all left : List (Partition L)) (first now : Disk) (next next' : ℕ) (r : Result (Unit {0}) StoreFault) → Discarding log all left first now next next' r → length left ≡ 0
     → OnOk r ((file : ℕ) → OwnedAmong log all file → get now.table file ≡ None)
-none_left {L} log all left first now next next' r d none = on_ok_weaker r (λ done file o. ⊎_elim (λ g. g.0) (λ l. absurd (nothing file l)) (done file o)) d.gone
-  where
-    nothing : (file : ℕ) → OwnedAmong log left file → ⊥
-    nothing file o = let within = slice_get_within left o.number o.partition o.at in omega (arith, within, none)
+none_left log all left first now next next' r d none = on_ok_weaker r (λ done file o. ⊎_elim (λ g. g.0) (λ l. absurd (nothing log left none file l)) (done file o)) d.gone
+
+pub none_left_accounts : {L : Type 0} (log : L → Log) (all left : List (Partition L)) (first now : Disk) (next next' : ℕ) (r : Result (Unit {0}) StoreFault) → Discarding log all left first now next next' r → length left ≡ 0
+    → OnOk r (Accounts (OwnedAmong log all) no_file first now)
+none_left_accounts log all left first now next next' r d none = on_ok_weaker r (λ done file there not. done file there (nothing log left none file)) d.accounts
 
 -- ---- one is discarded
 
@@ -104,7 +105,7 @@ module _ {L : Type 0} (log : L → Log) (law : (l : L) → IsLawfulLog (log l)) 
     (first now now' : Disk) (next next' next'' : ℕ) (r s : Result (Unit {0}) StoreFault)
     (begun : AreApartLogs log all first.table next) (so_far : Discarding log all (left ++ x ∷ []) first now next next' r)
     (others : Spares (log x.log).owns no_file now now' next' next'')
-    (gone : OnOk s ((file : ℕ) → (log x.log).owns file → get now'.table file ≡ None)) (cause : HasCause now s now') where
+    (gone : OnOk s ((file : ℕ) → (log x.log).owns file → get now'.table file ≡ None)) (accounts : OnOk s (Accounts (log x.log).owns no_file now now')) (cause : HasCause now s now') where
   last_owns : (file : ℕ) → (log x.log).owns file → OwnedAmong log (left ++ x ∷ []) file
   last_owns file own = record { number = length left; partition = x; at = get_last left x; own = own }
 
@@ -149,9 +150,17 @@ module _ {L : Type 0} (log : L → Log) (law : (l : L) → IsLawfulLog (log l)) 
       (λ g. inl (others.lengths file (given_out file o) (λ own. g.1 (last_owns file own)) ∙ g.0, λ l. g.1 (still_owns file l)))
       (λ l. ⊎_elim
       (λ at. inr (record { number = l.number; partition = l.partition; at = at; own = l.own }))
-      (λ e. let own = subst (λ (v : Partition L). (log v.log).owns file) e l.own in inl (here file own, λ k. not_both file k own))
+      (λ e. let own = subst (λ (v : Partition L). (log v.log).owns file) e.1 l.own in inl (here file own, λ k. not_both file k own))
       (get_either left x l.partition l.number l.at))
       (done file o)
+
+  accounts_now : Accounts (OwnedAmong log all) (OwnedAmong log (left ++ x ∷ [])) first now → Accounts (log x.log).owns no_file now now' → Accounts (OwnedAmong log all) (OwnedAmong log left) first now'
+  accounts_now done here file there not =
+      let before = here file there (λ bad. bad) in
+      done file before.0 (λ o. ⊎_elim
+      (λ at. not (record { number = o.number; partition = o.partition; at = at; own = o.own }))
+      (λ e. before.1 (subst (λ (v : Partition L). (log v.log).owns file) e.1 o.own))
+      (get_either left x o.partition o.number o.at))
 
   -- where no call was refused, its answer is the answer
   pub discarded : true ≡ is_ok r → Discarding log all left first now' next next'' s
@@ -160,6 +169,7 @@ module _ {L : Type 0} (log : L → Log) (law : (l : L) → IsLawfulLog (log l)) 
     among = λ file o. so_far.among file (still_owns file o);
     others = taken;
     gone = on_ok_weaker s (λ here. gone_now (subst (λ (a : Result (Unit {0}) StoreFault). OnOk a ((file : ℕ) → OwnedAmong log all file → ((get now.table file ≡ None) × (OwnedAmong log (left ++ x ∷ []) file → ⊥)) ⊎ OwnedAmong log (left ++ x ∷ []) file)) (answered r e) so_far.gone) here) gone;
+    accounts = on_ok_weaker s (accounts_now (subst (λ (a : Result (Unit {0}) StoreFault). OnOk a (Accounts (OwnedAmong log all) (OwnedAmong log (left ++ x ∷ [])) first now)) (answered r e) so_far.accounts)) accounts;
     cause = later_cause first now now' s so_far.cause.later cause;
   }
 
@@ -170,5 +180,6 @@ module _ {L : Type 0} (log : L → Log) (law : (l : L) → IsLawfulLog (log l)) 
     among = λ file o. so_far.among file (still_owns file o);
     others = taken;
     gone = was_refused _ r e;
+    accounts = was_refused _ r e;
     cause = kept_cause first now now' r so_far.cause cause.later;
   }

@@ -1,6 +1,6 @@
 -- What the partitions of a tenant are after those of a topic were made.
-use Rattle.std.proofs.Common.{◌≡◌, ◌∙◌, ◌⊎◌, ⊎_elim, inl, inr, ℕ, Bool, true, false, cond, List, [], ◌∷◌, Option, Some, None, refl, sym, ap, subst, length}
-use Rattle.std.specs.Prelude.{map, option_map, replicate, slice_get}
+use Rattle.std.proofs.Common.{◌≡◌, ◌∙◌, ◌⊎◌, ◌++◌, ⊎_elim, inl, inr, ℕ, Bool, true, false, cond, List, [], ◌∷◌, Option, Some, None, refl, sym, ap, subst, length}
+use Rattle.std.specs.Prelude.{ℤ, pos, string_bytes, map, option_map, replicate, slice_get}
 use Rattle.std.specs.List.{All}
 use Rattle.std.specs.Option.{option_and_then}
 use Rattle.std.specs.Ordering.{nat_cmp, match_ordering, is_eq}
@@ -10,18 +10,20 @@ use Rattle.std.specs.declared.cmp.Ordering.TheVariants.{Less, Equal, Greater}
 use Rattle.std.specs.Map.{keys_of, lookup, remove_entry}
 use Rattle.std.specs.BTreeMap.{insert_entry, is_at}
 use Rattle.std.specs.declared.alloc.Global.{Global}
+use Rattle.std.specs.declared.string.String.{String}
 use Rattle.std.specs.declared.vec.Vec.{Vec}
 use Rattle.std.proofs.lemmas.Map.Made.{lookup-map_values}
 use Rattle.std.proofs.lemmas.List.Elements.{All-head, All-tail}
 use Rattle.std.proofs.lemmas.Option.{slice_get_within, get_or_from_slice_get}
 use Rattle.kb_store.specs.Disk.{Files}
-use Rattle.kb_log.specs.OnShelf.{Log}
+use Rattle.kb_log.specs.OnShelf.{Log, Identity, identity_of}
 use Rattle.kb_producers.specs.Batches.{kept_all}
 use Rattle.kb_partitions.specs.Logs.{LogState, no_log}
-use Rattle.kb_partitions.specs.Made.{IsEmptyPartition}
-use Rattle.kb_partitions.specs.Partitions.{Entries, partition_at, log_state, logs_of, places_of, IsMade, IsUnmade}
+use Rattle.kb_partitions.specs.Made.{AreNumbered, IsEmptyPartition}
+use Rattle.kb_partitions.specs.Partitions.{Entries, AreNamed, partition_at, partition_identity, log_state, logs_of, places_of, IsMade, IsUnmade}
 use Rattle.kb_partitions.specs.declared.partition.Partition.{Partition}
-use Rattle.kb_partitions.proofs.Put.{own_number}
+use Rattle.kb_partitions.proofs.Changed.{found_at}
+use Rattle.kb_partitions.proofs.Put.{cases, get_either, own_number, same_number}
 
 -- what holds of each item holds of the one at a place
 each_at : {A : Type 0} (P : A → Type 0) (xs : List A) (k : ℕ) (x : A) → All P xs → slice_get xs k ≡ Some x → P x
@@ -88,17 +90,69 @@ module _ {L : Type 0} (log : L → Log) where
       ap (λ l. l ∷ map (λ (y : Partition L). log_state (log y.log) files) xs) (seen_empty files x (All-head (IsEmptyPartition log) x xs all))
       ∙ ap (λ ls. no_log ∷ ls) (all_empty files xs (All-tail (IsEmptyPartition log) x xs all))
 
+abbrev identity_by : ℕ → List ℕ → ℤ → ℤ → Identity
+identity_by size tenant instance partition = record { tenant = tenant; kind = pos 0; instance = instance; partition = partition; segment_bytes = size }
+
+-- the identity of a partition's id
+pub partition_id : (name : String Global) (instance' partition' : ℤ) (tenant : List ℕ) (instance number size : ℕ) → string_bytes name ≡ tenant → instance' ≡ pos instance → partition' ≡ pos number
+    → identity_of (record { tenant = name; kind = pos 0; instance = instance'; partition = partition' }) size ≡ partition_identity tenant instance number size
+partition_id name instance' partition' tenant instance number size t i p =
+    ap (λ bs. identity_by size bs instance' partition') t ∙ ap (λ z. identity_by size tenant z partition') i ∙ ap (identity_by size tenant (pos instance)) p
+
+-- one more, of the next number
+pub numbered_more : {L : Type 0} (log : L → Log) (tenant : List ℕ) (instance size : ℕ) (xs : List (Partition L)) (x : Partition L) → AreNumbered log tenant instance size xs
+    → (log x.log).identity ≡ partition_identity tenant instance (length xs) size → AreNumbered log tenant instance size (xs ++ x ∷ [])
+numbered_more log tenant instance size xs x before next p y at = ⊎_elim
+    (λ was. before p y was)
+    (λ new. ap (λ z. (log z.log).identity) new.1 ∙ next ∙ ap (λ n. partition_identity tenant instance n size) (sym new.0))
+    (get_either xs x y p at)
+
+-- ---- a topic is put in
+
+module _ {L : Type 0} (instance : ℕ) (es es' : Entries L) (v : Vec (Partition L) Global)
+    (updates : (j : ℕ) → lookup (is_at (nat_cmp j)) es' ≡ cond (is_at (nat_cmp instance) j) (Some v) (lookup (is_at (nat_cmp j)) es)) where
+  -- under the instance stand those that are put in, and else what stood there
+  pub put_at : (j q : ℕ) → partition_at j q es' ≡ cond (is_at (nat_cmp instance) j) (slice_get v.items q) (partition_at j q es)
+  put_at j q = found_at es' j q _ (updates j) ∙ by (is_at (nat_cmp instance) j)
+    where
+      by : (b : Bool) → option_and_then (λ (t : Vec (Partition L) Global). slice_get t.items q) (cond b (Some v) (lookup (is_at (nat_cmp j)) es)) ≡ cond b (slice_get v.items q) (partition_at j q es)
+      by true = refl
+      by false = refl
+
+  -- each partition is one of those put in, or stands where it stood
+  pub taken_at : (j q : ℕ) (x : Partition L) → partition_at j q es' ≡ Some x → ((j ≡ instance) × (slice_get v.items q ≡ Some x)) ⊎ (partition_at j q es ≡ Some x)
+  taken_at j q x at = elim (cases (is_at (nat_cmp instance) j)) [
+    | inl e ↦ inl (sym (same_number instance j e), sym (put_at j q ∙ ap (λ b. cond b (slice_get v.items q) (partition_at j q es)) e) ∙ at)
+    | inr e ↦ inr (sym (put_at j q ∙ ap (λ b. cond b (slice_get v.items q) (partition_at j q es)) e) ∙ at)
+  ]
+
+  -- one that was there stays
+  pub kept_at : IsUnmade instance es → (j q : ℕ) (x : Partition L) → partition_at j q es ≡ Some x → partition_at j q es' ≡ Some x
+  kept_at unmade j q x at = elim (cases (is_at (nat_cmp instance) j)) [
+    | inl e ↦
+        let none : lookup (is_at (nat_cmp j)) es ≡ None = ap (λ k. lookup (is_at (nat_cmp k)) es) (sym (same_number instance j e)) ∙ unmade_here instance es unmade in
+        let gone : None ≡ Some x = sym (found_at es j q None none) ∙ at in
+        absurd cc
+    | inr e ↦ put_at j q ∙ ap (λ b. cond b (slice_get v.items q) (partition_at j q es)) e ∙ at
+  ]
+
 module _ {L : Type 0} (log : L → Log) (instance count : ℕ) (es es' : Entries L) (v : Vec (Partition L) Global)
     (len : length v.items ≡ count) (empty : All (IsEmptyPartition log) v.items) (entries : es' ≡ insert_entry nat_cmp es instance v)
     (unmade : IsUnmade instance es) (ordered : IsStrictlySortedBy nat_cmp (keys_of es'))
     (updates : (j : ℕ) → lookup (is_at (nat_cmp j)) es' ≡ cond (is_at (nat_cmp instance) j) (Some v) (lookup (is_at (nat_cmp j)) es)) where
   -- each partition is a new one, or stands where it stood
   made_at : (j q : ℕ) (x : Partition L) → partition_at j q es' ≡ Some x → IsEmptyPartition log x ⊎ (partition_at j q es ≡ Some x)
-  made_at j q x at = by (is_at (nat_cmp instance) j) (updates j)
-    where
-      by : (b : Bool) → lookup (is_at (nat_cmp j)) es' ≡ cond b (Some v) (lookup (is_at (nat_cmp j)) es) → IsEmptyPartition log x ⊎ (partition_at j q es ≡ Some x)
-      by true u = inl (each_at (IsEmptyPartition log) v.items q x empty (sym (ap (λ (o : Option (Vec (Partition L) Global)). option_and_then (λ (t : Vec (Partition L) Global). slice_get t.items q) o) u) ∙ at))
-      by false u = inr (sym (ap (λ (o : Option (Vec (Partition L) Global)). option_and_then (λ (t : Vec (Partition L) Global). slice_get t.items q) o) u) ∙ at)
+  made_at j q x at = ⊎_elim
+      (λ new. inl (each_at (IsEmptyPartition log) v.items q x empty new.1))
+      (λ was. inr was)
+      (taken_at instance es es' v updates j q x at)
+
+  -- each log is that of its own partition, where each of the new ones is
+  pub made_named : (tenant : List ℕ) (size : ℕ) → AreNumbered log tenant instance size v.items → AreNamed log tenant size es → AreNamed log tenant size es'
+  made_named tenant size numbered named j q x at = ⊎_elim
+      (λ new. numbered q x new.1 ∙ ap (λ i. partition_identity tenant i q size) (sym new.0))
+      (λ was. named j q x was)
+      (taken_at instance es es' v updates j q x at)
 
   pub made : IsMade log instance count es es'
   made = record {
@@ -106,6 +160,14 @@ module _ {L : Type 0} (log : L → Log) (instance count : ℕ) (es es' : Entries
         (λ (new : IsEmptyPartition log o.partition). absurd (new.begun.owns file o.own))
         (λ was. record { instance = o.instance; number = o.number; partition = o.partition; at = was; own = o.own })
         (made_at o.instance o.number o.partition o.at);
+    owned_old = λ file o. record {
+      instance = o.instance;
+      number = o.number;
+      partition = o.partition;
+      at = kept_at instance es es' v updates unmade o.instance o.number o.partition o.at;
+      own = o.own;
+    };
+    exact = λ table exact i p x at. ⊎_elim (λ (new : IsEmptyPartition log x). new.begun.exact table) (λ was. exact i p x was) (made_at i p x at);
     sound = λ table next s. record {
       ordered = ordered;
       each = λ i p x at. ⊎_elim (λ (new : IsEmptyPartition log x). new.begun.sound table next) (λ was. s.each i p x was) (made_at i p x at);

@@ -1,5 +1,5 @@
 -- What is found where a value was put at a place of a list, or under a key of a map.
-use Rattle.std.proofs.Common.{◌≡◌, ◌∙◌, ◌⊎◌, inl, inr, ⊎_elim, ℕ, zero, suc, Bool, true, false, cond, List, [], ◌∷◌, Option, Some, None, refl, sym, ap, subst, arith, eqb-true, eq-eqb}
+use Rattle.std.proofs.Common.{◌≡◌, ◌∙◌, ◌⊎◌, ◌++◌, length, inl, inr, ⊎_elim, ℕ, zero, suc, Bool, true, false, cond, List, [], ◌∷◌, Option, Some, None, refl, sym, ap, subst, arith, eqb-true, eq-eqb}
 use Rattle.std.specs.Prelude.{map, slice_get, slice_set, IsSome}
 use Rattle.std.specs.Ordering.{nat_cmp}
 use Rattle.std.specs.Cmp.{nat_cmp_total, unsigned_tied, eq_by_cmp_equiv}
@@ -33,6 +33,26 @@ get_put (w ∷ ws) (suc p) zero x y z a b = inr (λ bad. omega (arith, bad), b)
 get_put (w ∷ ws) (suc p) (suc q) x y z a b =
     ⊎_elim (λ s. inl (ap suc s.0, s.1)) (λ o. inr (λ bad. o.0 (omega (arith, bad)), o.1)) (get_put ws p q x y z a b)
 
+-- the item at a place is still there after another was put somewhere, or was the one that was put away
+pub get_kept : {A : Type 0} (xs : List A) (p q : ℕ) (x y z : A) → slice_get xs p ≡ Some x → slice_get xs q ≡ Some z → (z ≡ x) ⊎ (slice_get (slice_set xs p y) q ≡ Some z)
+get_kept [] p q x y z a b = absurd cc
+get_kept (w ∷ ws) zero zero x y z a b = inl (let e : w ≡ x = cc in let f : w ≡ z = cc in sym f ∙ e)
+get_kept (w ∷ ws) zero (suc q) x y z a b = inr b
+get_kept (w ∷ ws) (suc p) zero x y z a b = inr b
+get_kept (w ∷ ws) (suc p) (suc q) x y z a b = get_kept ws p q x y z a b
+
+pub get_here : {A : Type 0} (xs : List A) (p : ℕ) (x y : A) → slice_get xs p ≡ Some x → slice_get (slice_set xs p y) p ≡ Some y
+get_here [] p x y a = absurd cc
+get_here (w ∷ ws) zero x y a = refl
+get_here (w ∷ ws) (suc p) x y a = get_here ws p x y a
+
+-- an item of a longer list is one of those before, or the last
+pub get_either : {A : Type 0} (xs : List A) (x y : A) (p : ℕ) → slice_get (xs ++ x ∷ []) p ≡ Some y → (slice_get xs p ≡ Some y) ⊎ ((p ≡ length xs) × (y ≡ x))
+get_either [] x y zero a = inr (refl, let e : x ≡ y = cc in sym e)
+get_either [] x y (suc p) a = absurd cc
+get_either (z ∷ zs) x y zero a = inl a
+get_either (z ∷ zs) x y (suc p) a = ⊎_elim (λ h. inl h) (λ e. inr (ap suc e.0, e.1)) (get_either zs x y p a)
+
 pub map_same : {A B : Type 0} (f g : A → B) (xs : List A) → ((q : ℕ) (x : A) → slice_get xs q ≡ Some x → g x ≡ f x) → map g xs ≡ map f xs
 map_same f g [] h = refl
 map_same f g (x ∷ xs) h =
@@ -57,11 +77,14 @@ put_same (y ∷ ys) (suc p) x a = ap (λ zs. y ∷ zs) (put_same ys p x a)
 
 -- ---- a value under a key
 
+pub found_put : {A : Type 0} (es : List (ℕ × A)) (i j : ℕ) (t u : A) → lookup (is_at (nat_cmp i)) es ≡ Some t → lookup (is_at (nat_cmp j)) (set_value (is_at (nat_cmp i)) es u) ≡ cond (is_at (nat_cmp i) j) (Some u) (lookup (is_at (nat_cmp j)) es)
+found_put {A} es i j t u a =
+    let laws = eq_by_cmp_equiv nat_cmp_total in
+    lookup-set_value laws (is_at (nat_cmp i)) (λ x y. laws.congr i x y) j u es (subst (λ (o : Option A). IsSome o) (sym a) refl)
+
 pub lookup_put : {A : Type 0} (es : List (ℕ × A)) (i j : ℕ) (t u v : A) → lookup (is_at (nat_cmp i)) es ≡ Some t → lookup (is_at (nat_cmp j)) (set_value (is_at (nat_cmp i)) es u) ≡ Some v → ((j ≡ i) × (v ≡ u)) ⊎ ((j ≡ i → ⊥) × (lookup (is_at (nat_cmp j)) es ≡ Some v))
 lookup_put {A} es i j t u v a b =
-    let laws = eq_by_cmp_equiv nat_cmp_total in
-    let found : lookup (is_at (nat_cmp j)) (set_value (is_at (nat_cmp i)) es u) ≡ cond (is_at (nat_cmp i) j) (Some u) (lookup (is_at (nat_cmp j)) es) =
-    lookup-set_value laws (is_at (nat_cmp i)) (λ x y. laws.congr i x y) j u es (subst (λ (o : Option A). IsSome o) (sym a) refl) in
+    let found = found_put es i j t u a in
     elim (cases (is_at (nat_cmp i) j)) [
       | inl e ↦
           let here : Some u ≡ Some v = sym (found ∙ ap (λ c. cond c (Some u) (lookup (is_at (nat_cmp j)) es)) e) ∙ b in

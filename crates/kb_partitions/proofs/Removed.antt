@@ -1,5 +1,5 @@
 -- What the partitions of a tenant are without those of a topic.
-use Rattle.std.proofs.Common.{◌≡◌, ◌∙◌, ◌≤◌, inl, inr, ℕ, Bool, true, false, cond, List, [], ◌∷◌, Some, None, refl, sym, ap, length}
+use Rattle.std.proofs.Common.{◌≡◌, ◌∙◌, ◌⊎◌, ◌≤◌, inl, inr, ⊎_elim, ℕ, Bool, true, false, cond, List, [], ◌∷◌, Some, None, refl, sym, ap, length}
 use Rattle.std.specs.Prelude.{slice_get, Result, OnOk}
 use Rattle.std.specs.FinMap.{get}
 use Rattle.std.specs.Ordering.{nat_cmp}
@@ -12,15 +12,15 @@ use Rattle.std.proofs.lemmas.Result.{on_ok_weaker}
 use Rattle.kb_store.specs.Disk.{Disk, Table, Files}
 use Rattle.kb_store.specs.declared.fault.StoreFault.{StoreFault}
 use Rattle.kb_log.specs.Apart.{Stays, other_stays}
-use Rattle.kb_log.specs.OnShelf.{Log, Spares, IsLawfulLog, no_file}
+use Rattle.kb_log.specs.OnShelf.{Log, Accounts, Spares, IsLawfulLog, no_file}
 use Rattle.kb_producers.specs.Batches.{kept_all}
 use Rattle.kb_partitions.specs.Logs.{LogState, without_logs}
-use Rattle.kb_partitions.specs.Partitions.{Entries, Owned, OwnedBy, AreSound, partition_at, places_of, log_state, logs_of, scene_on}
-use Rattle.kb_partitions.specs.Scene.{Frame}
+use Rattle.kb_partitions.specs.Partitions.{Entries, Owned, OwnedBy, AreSound, AreNamed, partition_at, places_of, log_state, logs_of, scene_on}
+use Rattle.kb_partitions.specs.Scene.{Frame, Settles}
 use Rattle.kb_partitions.specs.Topic.{AreApartLogs, OwnedAmong}
 use Rattle.kb_partitions.specs.declared.partition.Partition.{Partition}
 use Rattle.kb_partitions.proofs.Changed.{found_at, shown}
-use Rattle.kb_partitions.proofs.Put.{cases, each_value, map_same, other_number, values_same}
+use Rattle.kb_partitions.proofs.Put.{cases, each_value, map_same, other_number, same_number, values_same}
 
 -- an entry is taken out before its value is looked at, or after
 remove_mapped : {A B : Type 0} (f : A → B) (test : ℕ → Bool) (es : List (ℕ × A)) → each_value f (remove_entry test es) ≡ remove_entry test (each_value f es)
@@ -68,6 +68,13 @@ module _ {L : Type 0} (log : L → Log) (i : ℕ) (es : Entries L) (t : Vec (Par
       | inr e ↦ (sym (found_at es' j q (lookup (is_at (nat_cmp j)) es) (updates j ∙ ap (λ b. cond b None (lookup (is_at (nat_cmp j)) es)) e)) ∙ at, other_number i j e)
     ]
 
+    -- each partition was one of the topic's, or still stands where it stood
+    left_at : (j q : ℕ) (y : Partition L) → partition_at j q es ≡ Some y → (slice_get t.items q ≡ Some y) ⊎ (partition_at j q es' ≡ Some y)
+    left_at j q y at = elim (cases (is_at (nat_cmp i) j)) [
+      | inl e ↦ inl (sym (found_at es j q (Some t) (ap (λ k. lookup (is_at (nat_cmp k)) es) (sym (same_number i j e)) ∙ there)) ∙ at)
+      | inr e ↦ inr (found_at es' j q (lookup (is_at (nat_cmp j)) es) (updates j ∙ ap (λ b. cond b None (lookup (is_at (nat_cmp j)) es)) e) ∙ at)
+    ]
+
     mine : (file : ℕ) → OwnedAmong log t.items file → Owned log es file
     mine file o = record { instance = i; number = o.number; partition = o.partition; at = at_place o.number o.partition o.at; own = o.own }
 
@@ -96,6 +103,26 @@ module _ {L : Type 0} (log : L → Log) (i : ℕ) (es : Entries L) (t : Vec (Par
         each = λ j q y at. (stays j q y at).agrees honest (agree.each j q y (rest_at j q y at).0);
         producers = λ j q y at. agree.producers j q y (rest_at j q y at).0 ∙ sym (ap kept_all ((stays j q y at).list honest));
       };
+    }
+
+    pub removed_named : (tenant : List ℕ) (size : ℕ) → AreNamed log tenant size es → AreNamed log tenant size es'
+    removed_named tenant size named j q y at = named j q y (rest_at j q y at).0
+
+    pub removed_settles : Accounts (OwnedAmong log t.items) no_file d d' → Settles (scene_on log es d next) (scene_on log es' d' next')
+    removed_settles accounts = record {
+      accounts = λ file here not.
+          let before = accounts file here (λ bad. bad) in (
+            before.0,
+            λ o. ⊎_elim
+                (λ at. before.1 (record { number = o.number; partition = o.partition; at = at; own = o.own }))
+                (λ at. not (record { instance = o.instance; number = o.number; partition = o.partition; at = at; own = o.own }))
+                (left_at o.instance o.number o.partition o.at),
+          );
+      exact = λ exact j q y at.
+          let rest = rest_at j q y at in
+          (law y.log).exact_stays d.table d'.table (exact j q y rest.0) (λ file theirs.
+          others.lengths file ((law y.log).given_out d.table next (sound.each j q y rest.0) file theirs)
+          (λ o. sound.apart j q i o.number y o.partition rest.0 (at_place o.number o.partition o.at) (λ bad. rest.1 bad.0) file theirs o.own));
     }
 
     same_state : d'.honest → (j q : ℕ) (y : Partition L) → partition_at j q es' ≡ Some y → log_state (log y.log) d'.files ≡ log_state (log y.log) d.files

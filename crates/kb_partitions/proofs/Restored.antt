@@ -12,9 +12,8 @@ use Rattle.kb_log.specs.OnShelf.{Log}
 use Rattle.kb_partitions.specs.Partitions.{Entries, Owned, partition_at, log_state, logs_of, places_of, IsRestored, IsUnmade}
 use Rattle.kb_partitions.specs.Topic.{OwnedAmong}
 use Rattle.kb_partitions.specs.declared.partition.Partition.{Partition}
-use Rattle.kb_partitions.proofs.Changed.{found_at}
-use Rattle.kb_partitions.proofs.Made.{counted_by, insert_mapped, unmade_here}
-use Rattle.kb_partitions.proofs.Put.{cases, own_number, same_number}
+use Rattle.kb_partitions.proofs.Made.{counted_by, insert_mapped, kept_at, put_at, taken_at}
+use Rattle.kb_partitions.proofs.Put.{own_number}
 
 module _ {L : Type 0} (log : L → Log) (instance : ℕ) (es es' : Entries L) (v : Vec (Partition L) Global)
     (entries : es' ≡ insert_entry nat_cmp es instance v) (unmade : IsUnmade instance es) (ordered : IsStrictlySortedBy nat_cmp (keys_of es'))
@@ -22,24 +21,15 @@ module _ {L : Type 0} (log : L → Log) (instance : ℕ) (es es' : Entries L) (v
   -- each partition is one of those taken in, or stands where it stood
   restored_at : (j q : ℕ) (x : Partition L) → partition_at j q es' ≡ Some x
       → ((j ≡ instance) × (slice_get v.items q ≡ Some x)) ⊎ (partition_at j q es ≡ Some x)
-  restored_at j q x at = elim (cases (is_at (nat_cmp instance) j)) [
-    | inl e ↦ inl (sym (same_number instance j e), sym (found_at es' j q (Some v) (updates j ∙ ap (λ b. cond b (Some v) (lookup (is_at (nat_cmp j)) es)) e)) ∙ at)
-    | inr e ↦ inr (sym (found_at es' j q (lookup (is_at (nat_cmp j)) es) (updates j ∙ ap (λ b. cond b (Some v) (lookup (is_at (nat_cmp j)) es)) e)) ∙ at)
-  ]
+  restored_at = taken_at instance es es' v updates
 
   -- one that is taken in stands under the instance
   new_at : (q : ℕ) (x : Partition L) → slice_get v.items q ≡ Some x → partition_at instance q es' ≡ Some x
-  new_at q x at = found_at es' instance q (Some v) (updates instance ∙ ap (λ b. cond b (Some v) (lookup (is_at (nat_cmp instance)) es)) (own_number instance)) ∙ at
+  new_at q x at = put_at instance es es' v updates instance q ∙ ap (λ b. cond b (slice_get v.items q) (partition_at instance q es)) (own_number instance) ∙ at
 
   -- one that was there stays
   old_at : (j q : ℕ) (x : Partition L) → partition_at j q es ≡ Some x → partition_at j q es' ≡ Some x
-  old_at j q x at = elim (cases (is_at (nat_cmp instance) j)) [
-    | inl e ↦
-        let none : lookup (is_at (nat_cmp j)) es ≡ None = ap (λ k. lookup (is_at (nat_cmp k)) es) (sym (same_number instance j e)) ∙ unmade_here instance es unmade in
-        let gone : None ≡ Some x = sym (found_at es j q None none) ∙ at in
-        absurd cc
-    | inr e ↦ found_at es' j q (lookup (is_at (nat_cmp j)) es) (updates j ∙ ap (λ b. cond b (Some v) (lookup (is_at (nat_cmp j)) es)) e) ∙ at
-  ]
+  old_at = kept_at instance es es' v updates unmade
 
   among : (file q : ℕ) (x : Partition L) → slice_get v.items q ≡ Some x → (log x.log).owns file → OwnedAmong log v.items file
   among file q x at own = record { number = q; partition = x; at = at; own = own }
@@ -49,6 +39,7 @@ module _ {L : Type 0} (log : L → Log) (instance : ℕ) (es es' : Entries L) (v
 
   pub restored : IsRestored log instance v.items es es'
   restored = record {
+    at = put_at instance es es' v updates;
     owned = λ file o. ⊎_elim
         (λ new. inr (among file o.number o.partition new.1 o.own))
         (λ was. inl (before file o.instance o.number o.partition was o.own))

@@ -1,13 +1,15 @@
 -- What some logs on a shelf are to their tenant, and how each call takes them from one moment to the next.
 use Rattle.std.specs.Prelude.{◌≤◌, ℕ}
 use Rattle.kb_store.specs.Disk.{Disk}
-use Rattle.kb_log.specs.OnShelf.{Spares}
+use Rattle.kb_log.specs.OnShelf.{Spares, Accounts}
 
--- Some logs at one moment: which files are theirs; what holds of the files' numbers and lengths on any store; what holds of their
--- bytes where the store is honest; the disk of the shelf and its next file number; and what the tenant sees of the logs.
+-- Some logs at one moment: which files are theirs; what holds of the files' numbers and lengths on any store; whether nothing but
+-- their batches is in the files, by their lengths; what holds of their bytes where the store is honest; the disk of the shelf and
+-- its next file number; and what the tenant sees of the logs.
 pub record Scene (W : Type 0) : Type 1 where
   pub owns : ℕ → Type 0
   pub sound : Type 0
+  pub exact : Type 0
   pub agrees : Type 0
   pub disk : Disk
   pub next : ℕ
@@ -23,3 +25,9 @@ pub record Frame {V W : Type 0} (a : Scene V) (b : Scene W) : Type 0 where
   pub others : Spares a.owns b.owns a.disk b.disk a.next b.next
   pub failures : a.disk.failures ≤ b.disk.failures
   pub agrees : b.disk.honest → a.agrees → b.agrees
+
+-- What a call that was refused nothing leaves: each file is accounted for, and logs that had nothing but their batches in their
+-- files still have nothing else.
+pub record Settles {V W : Type 0} (a : Scene V) (b : Scene W) : Type 0 where
+  pub accounts : Accounts a.owns b.owns a.disk b.disk
+  pub exact : a.exact → b.exact

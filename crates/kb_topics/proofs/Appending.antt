@@ -33,6 +33,7 @@ new_listed l n = n.sound empty 0
 -- nothing happened
 pub frames_same : (a : OnShelf) → IsSound a → Frames a a
 frames_same a s = record {
+  identity = refl;
   sound = s;
   others = record { later = omega arith; honest = λ h. h; owned = λ file o. inl o; lengths = λ file lt no. refl; contents = λ h file lt no. refl };
   failures = omega arith;

@@ -1,5 +1,6 @@
 -- A catalog: what is known, and the meta log.
 use Rattle.std.specs.Prelude.{ℕ, ℤ, pos, negsuc, List, Option, Some, None}
+use Rattle.kb_log.specs.OnShelf.{Identity}
 use Rattle.kb_topics.specs.declared.catalog.Catalog.{Catalog}
 use Rattle.kb_topics.specs.declared.config.TopicConfig.{TopicConfig}
 use Rattle.kb_topics.specs.declared.command.Command.{Command}
@@ -33,3 +34,7 @@ abbrev pub place_in : ℤ → ℤ → Option (ℕ × ℕ)
 place_in (pos i) (pos p) = Some (i, p)
 place_in (pos i) (negsuc p) = None
 place_in (negsuc i) p = None
+
+-- whose the meta log of a tenant is, with files of so many bytes
+abbrev pub catalog_identity : List ℕ → ℕ → Identity
+catalog_identity tenant size = record { tenant = tenant; kind = pos 1; instance = pos 0; partition = pos 0; segment_bytes = size }

@@ -1,5 +1,5 @@
 -- What the catalog answers where its log refuses, and the error codes of its refusals.
-use Rattle.std.specs.Prelude.{ℤ, pos, negsuc}
+use Rattle.std.specs.Prelude.{ℤ, pos, negsuc, Result, Err}
 use Rattle.kb_log.specs.declared.fault.LogFault.{LogFault}
 use Rattle.kb_log.specs.declared.fault.LogFault.TheVariants as log
 use Rattle.kb_topics.specs.declared.fault.CatalogFault.{CatalogFault}
@@ -28,3 +28,10 @@ code_of UsedUp = negsuc 0
 code_of Full = pos 56
 code_of Store = pos 56
 code_of Memory = negsuc 0
+
+-- memory or the store refused, or the log is full
+abbrev pub IsWant : {T : Type 0} → Result T CatalogFault → Type 0
+IsWant (Err Full) = Unit {0}
+IsWant (Err Store) = Unit {0}
+IsWant (Err Memory) = Unit {0}
+IsWant _ = ⊥

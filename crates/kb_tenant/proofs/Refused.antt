@@ -18,7 +18,17 @@ refused_step log a p d next step =
     let s = step.frame.sound in
     record {
       frame = record {
-        sound = record { catalog = s.catalog; logs = s.logs; apart = s.apart; few = s.few; unmade = s.unmade; small = s.small; tied = s.tied };
+        sound = record {
+          catalog = s.catalog;
+          logs = s.logs;
+          apart = s.apart;
+          few = s.few;
+          unmade = s.unmade;
+          small = s.small;
+          tied = s.tied;
+          catalog_named = s.catalog_named;
+          logs_named = s.logs_named;
+        };
         others = step.frame.others;
         failures = step.frame.failures;
         agrees = λ honest agree. let g = step.frame.agrees honest agree in record { catalog = g.catalog; fold = g.fold; logs = g.logs; until = g.until };

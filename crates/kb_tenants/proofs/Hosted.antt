@@ -401,7 +401,7 @@ module _ {L S : Type 0} (log : L → Log) (disk : S → Disk) (law : (l : L) →
   set_step =
       let a = scene log disk x.parts old.shelf in
       let same = ap (λ (v : Parts L). v.refusals) set in
-      recast log a x.parts q (disk old.shelf.store) old.shelf.next (ap (λ (v : Parts L). v.catalog) set) (ap (λ (v : Parts L). entries v) set) (ap (λ (v : Parts L). v.kept_until) set) (omega (arith, same)) (step_same a sound_here)
+      recast log a x.parts q (disk old.shelf.store) old.shelf.next (ap (λ (v : Parts L). v.catalog) set) (ap (λ (v : Parts L). v.tenant) set, ap (λ (v : Parts L). v.segment_bytes) set) (ap (λ (v : Parts L). entries v) set) (ap (λ (v : Parts L). v.kept_until) set) (omega (arith, same)) (step_same a sound_here)
 
   agrees_at : Agrees log x.parts (disk old.shelf.store).files → Agrees log (record x.parts { clock = clock }) (disk old.shelf.store).files
   agrees_at agree = record { catalog = agree.catalog; fold = agree.fold; logs = agree.logs; until = agree.until }

@@ -42,6 +42,8 @@ module _ {L : Type 0} (log : L → Log) (law : (l : L) → IsLawfulLog (log l)) 
     unmade = sound.unmade;
     small = sound.small;
     tied = sound.tied;
+    catalog_named = sound.catalog_named;
+    logs_named = sound.logs_named;
   }
 
   pub still_seen : e.honest → world_of log q e.files ≡ world_of log q d.files

@@ -1,5 +1,6 @@
 -- A topic is made: its partitions, and then its command.
 use Rattle.std.proofs.Common.{◌≡◌, ◌∙◌, ⊎_elim, inl, inr, ◌≤◌, ◌<◌, ◌+◌, ◌-◌, ◌^◌, ℕ, Bool, true, false, cond, Some, sym, ap, refl, arith, eqb-true}
+use Rattle.std.specs.Prelude.{string_bytes}
 use Rattle.std.specs.FinMap.{get}
 use Rattle.std.specs.Ordering.{nat_cmp}
 use Rattle.std.specs.Cmp.{unsigned_tied}
@@ -12,7 +13,7 @@ use Rattle.kb_topics.specs.Calls.{StaysFold}
 use Rattle.kb_topics.specs.Known.{TopicState}
 use Rattle.kb_topics.specs.declared.catalog.Catalog.{Catalog}
 use Rattle.kb_partitions.specs.Logs.{with_new_logs}
-use Rattle.kb_partitions.specs.Partitions.{Owned, IsMade, IsUnmade, logs_of, places_of}
+use Rattle.kb_partitions.specs.Partitions.{Owned, AreNamed, IsMade, IsUnmade, logs_of, places_of}
 use Rattle.kb_partitions.specs.declared.partitions.Partitions.{Partitions}
 use Rattle.kb_world.specs.Parts as parts
 use Rattle.kb_world.specs.Parts.{IsSound, meta, entries, world_of}
@@ -72,11 +73,12 @@ module _ {L : Type 0} (log : L → Log) (law : (l : L) → IsLawfulLog (log l)) 
       ∙ ap (λ n. insert_entry nat_cmp (counted partition_count (known p.catalog).topics) i n) (sym many)
       ∙ sym (counted_inserted partition_count (known p.catalog).topics i new) ∙ sym (ap (counted partition_count) topics)
 
-  pub create_step : StaysFold (on_shelf (meta log p) d next) (known p.catalog) (on_shelf (log (meta_log changed)) d' next') (known changed)
+  pub create_step : (AreNamed log (string_bytes p.tenant) p.segment_bytes (entries p) → AreNamed log (string_bytes p.tenant) p.segment_bytes ps.topics.entries)
+      → StaysFold (on_shelf (meta log p) d next) (known p.catalog) (on_shelf (log (meta_log changed)) d' next') (known changed)
       → (known changed).creates ≡ (known p.catalog).creates + 1 → (known p.catalog).creates < 2 ^ 63 - 1 → count ≤ 64
       → (new : TopicState) → (known changed).topics ≡ insert_entry nat_cmp (known p.catalog).topics (known p.catalog).creates new → partition_count new ≡ count
       → IsStep (parts.scene_on log p d next) (parts.scene_on log (record p { catalog = changed; partitions = ps }) d' next')
-  create_step fold more left few new topics many = record {
+  create_step named fold more left few new topics many = record {
     frame = record {
       sound = record {
         catalog = frames.sound;
@@ -86,6 +88,8 @@ module _ {L : Type 0} (log : L → Log) (law : (l : L) → IsLawfulLog (log l)) 
         unmade = λ i le. unmade i (omega (arith, more, le));
         small = small few;
         tied = tied new topics many;
+        catalog_named = frames.identity ∙ sound.catalog_named;
+        logs_named = named sound.logs_named;
       };
       others = record {
         later = frames.others.later;

@@ -31,7 +31,7 @@ use Rattle.kb_world.specs.declared.parts.Parts.{Parts}
 use Rattle.kb_world.proofs.StillKept.{as_before, as_deleted, kept_deleted}
 use Rattle.kb_world.proofs.Lifted.{parts_step}
 use Rattle.kb_world.proofs.Recorded.{on_shelf, recorded_logs, untied_step}
-use Rattle.kb_world.proofs.Tied.{counted_removed, untied_on}
+use Rattle.kb_world.proofs.Tied.{KeepNames, counted_removed, untied_on}
 
 mapped : {A B : Type 0} (f : A → B) (o : Option A) (x : A) (y : B) → o ≡ Some x → option_map f o ≡ Some y → y ≡ f x
 mapped f o x y here e = let is : Some y ≡ Some (f x) = sym e ∙ ap (option_map f) here in cc
@@ -84,10 +84,10 @@ module _ {L : Type 0} (log : L → Log) (law : (l : L) → IsLawfulLog (log l)) 
         ∙ sym (ap (λ k. counted partition_count k.topics) new)
 
     -- and the partitions are gone
-    pub delete_step : IsStep (parts.scene_on log old d next) (parts.scene_on log (record old { catalog = changed; partitions = ps }) e last)
-    delete_step =
+    pub delete_step : KeepNames log (entries old) ps.topics.entries → IsStep (parts.scene_on log old d next) (parts.scene_on log (record old { catalog = changed; partitions = ps }) e last)
+    delete_step named =
         step_then (parts.scene_on log old d next) (untied_on log (record old { catalog = changed }) d' next') (parts.scene_on log (record old { catalog = changed; partitions = ps }) e last) recorded
-        (parts_step log law (record old { catalog = changed }) (record old { catalog = changed; partitions = ps }) d' e next' last refl
+        (parts_step log law (record old { catalog = changed }) (record old { catalog = changed; partitions = ps }) d' e next' last refl (refl, refl) named
         (still_unmade i (entries old) ps.topics.entries sound.logs.ordered places) (still_small i (entries old) ps.topics.entries sound.logs.ordered places) (omega arith) tied
         recorded.frame.sound frame
         (λ honest agree. kept_deleted old.kept_until (world_of log (record old { catalog = changed }) d'.files) (world_of log (record old { catalog = changed; partitions = ps }) e.files) i gone

@@ -53,6 +53,8 @@ module _ {L : Type 0} (log : L → Log) (law : (l : L) → IsLawfulLog (log l)) 
         few = few;
         unmade = λ i le. sound.unmade i (omega (arith, more, le));
         small = sound.small;
+        catalog_named = frames.identity ∙ sound.catalog_named;
+        logs_named = sound.logs_named;
       };
       others = record {
         later = frames.others.later;

@@ -1,6 +1,6 @@
 -- How the partitions of a tenant stand to the topics of its catalog.
-use Rattle.std.proofs.Common.{◌≡◌, ◌∙◌, ◌≤◌, ◌<◌, ◌^◌, ℕ, ℤ, Bool, true, false, cond, List, [], ◌∷◌, length, Option, Some, None, refl, sym, ap}
-use Rattle.std.specs.Prelude.{int_le, option_map}
+use Rattle.std.proofs.Common.{◌≡◌, ◌∙◌, ◌≤◌, ◌<◌, ◌^◌, ℕ, ℤ, Bool, true, false, cond, List, [], ◌∷◌, length, Option, Some, None, refl, sym, ap, subst}
+use Rattle.std.specs.Prelude.{int_le, option_map, string_bytes}
 use Rattle.std.specs.Option.{option_and_then}
 use Rattle.std.specs.Ordering.{nat_cmp, match_ordering}
 use Rattle.std.specs.declared.cmp.Ordering.{Ordering}
@@ -11,11 +11,11 @@ use Rattle.std.proofs.lemmas.List.{length-map, length-set}
 use Rattle.std.proofs.lemmas.Map.Made.{lookup-map_values}
 use Rattle.kb_store.specs.Disk.{Disk, Files, Table}
 use Rattle.kb_batch.specs.Batch.{natural}
-use Rattle.kb_log.specs.OnShelf.{Log}
-use Rattle.kb_topics.specs.Catalog.{known, start_command}
+use Rattle.kb_log.specs.OnShelf.{Log, Identity}
+use Rattle.kb_topics.specs.Catalog.{known, catalog_identity, start_command}
 use Rattle.kb_topics.specs.Known.{Known, PartitionState, TopicState, put_topic, step, topic_at, with_part, with_partition, with_start}
 use Rattle.kb_topics.specs.Known as topics
-use Rattle.kb_partitions.specs.Partitions.{Entries, Owned, AreSound, IsUnmade, log_state, logs_of, places_of}
+use Rattle.kb_partitions.specs.Partitions.{Entries, Owned, AreSound, AreNamed, IsUnmade, log_state, logs_of, places_of}
 use Rattle.kb_partitions.specs.Scene.{Scene}
 use Rattle.kb_partitions.specs.declared.partition.Partition.{Partition}
 use Rattle.kb_world.specs.Parts.{IsSound, Seen, entries, meta, scene_on, world_of}
@@ -76,6 +76,28 @@ started_counts k new i p offset (Some q) e = by (int_le q.start offset) e
 pub start_counts : (k new : Known) (i p offset : ℤ) → step k (start_command i p offset) ≡ Some new → counted partition_count new.topics ≡ counted partition_count k.topics
 start_counts k new i p offset e = started_counts k new i p offset (topics.partition_at k i p) e
 
+-- ---- whose the logs are
+
+-- parts of the same tenant, with files of the same size
+abbrev pub AreOf : {L : Type 0} → Parts L → Parts L → Type 0
+AreOf q p = (q.tenant ≡ p.tenant) × (q.segment_bytes ≡ p.segment_bytes)
+
+-- the meta log is named as before, where it is the same tenant's
+pub meta_named : {L : Type 0} (p q : Parts L) (new old : Identity) → AreOf q p → new ≡ old → old ≡ catalog_identity (string_bytes p.tenant) p.segment_bytes
+    → new ≡ catalog_identity (string_bytes q.tenant) q.segment_bytes
+meta_named p q new old of same named =
+    same ∙ named ∙ sym (ap (λ t. catalog_identity (string_bytes t) q.segment_bytes) of.0 ∙ ap (catalog_identity (string_bytes p.tenant)) of.1)
+
+-- so are the partitions' logs
+pub named_as : {L : Type 0} (log : L → Log) (p q : Parts L) (es : Entries L) → AreOf q p
+    → AreNamed log (string_bytes p.tenant) p.segment_bytes es → AreNamed log (string_bytes q.tenant) q.segment_bytes es
+named_as log p q es of named =
+    subst (λ t. AreNamed log (string_bytes t) q.segment_bytes es) (sym of.0) (subst (λ n. AreNamed log (string_bytes p.tenant) n es) (sym of.1) named)
+
+-- the logs keep their names: where the old are a tenant's own, so are the new
+abbrev pub KeepNames : {L : Type 0} → (L → Log) → Entries L → Entries L → Type 0
+KeepNames log old new = (tenant : List ℕ) (size : ℕ) → AreNamed log tenant size old → AreNamed log tenant size new
+
 -- ---- between a command and the call for the partitions
 
 -- sound, whatever partitions the topics have
@@ -86,12 +108,23 @@ pub record IsUntied {L : Type 0} (log : L → Log) (p : Parts L) (table : Table)
   pub few : (known p.catalog).creates < 2 ^ 63
   pub unmade : (i : ℕ) → (known p.catalog).creates ≤ i → IsUnmade i (entries p)
   pub small : (i count : ℕ) → lookup (is_at (nat_cmp i)) (places_of (entries p)) ≡ Some count → count ≤ 64
+  pub catalog_named : (meta log p).identity ≡ catalog_identity (string_bytes p.tenant) p.segment_bytes
+  pub logs_named : AreNamed log (string_bytes p.tenant) p.segment_bytes (entries p)
 
 abbrev pub untied_on : {L : Type 0} → (L → Log) → Parts L → Disk → ℕ → Scene Seen
 untied_on log p d next = record (scene_on log p d next) { sound = IsUntied log p d.table next }
 
 pub untied : {L : Type 0} (log : L → Log) (p : Parts L) (table : Table) (next : ℕ) → IsSound log p table next → IsUntied log p table next
-untied log p table next s = record { catalog = s.catalog; logs = s.logs; apart = s.apart; few = s.few; unmade = s.unmade; small = s.small }
+untied log p table next s = record {
+  catalog = s.catalog;
+  logs = s.logs;
+  apart = s.apart;
+  few = s.few;
+  unmade = s.unmade;
+  small = s.small;
+  catalog_named = s.catalog_named;
+  logs_named = s.logs_named;
+}
 
 pub from_untied : {L : Type 0} (log : L → Log) (p : Parts L) (b : Scene Seen) (d : Disk) (next : ℕ) → IsStep (untied_on log p d next) b → IsStep (scene_on log p d next) b
 from_untied log p b d next step = record {
@@ -105,7 +138,17 @@ tie log a p d next tied step =
     let s = step.frame.sound in
     record {
       frame = record {
-        sound = record { catalog = s.catalog; logs = s.logs; apart = s.apart; few = s.few; unmade = s.unmade; small = s.small; tied = tied };
+        sound = record {
+          catalog = s.catalog;
+          logs = s.logs;
+          apart = s.apart;
+          few = s.few;
+          unmade = s.unmade;
+          small = s.small;
+          tied = tied;
+          catalog_named = s.catalog_named;
+          logs_named = s.logs_named;
+        };
         others = step.frame.others;
         failures = step.frame.failures;
         agrees = step.frame.agrees;

@@ -1,5 +1,5 @@
 -- The parts of a tenant on a shelf: its catalog over a meta log, and its partitions.
-use Rattle.std.specs.Prelude.{◌≡◌, ◌≤◌, ◌<◌, ◌+◌, ◌-◌, ◌^◌, ◌⊎◌, ℕ, Some, nat_lt, if◌then◌else◌, max}
+use Rattle.std.specs.Prelude.{◌≡◌, ◌≤◌, ◌<◌, ◌+◌, ◌-◌, ◌^◌, ◌⊎◌, ℕ, Some, nat_lt, string_bytes, if◌then◌else◌, max}
 use Rattle.std.specs.Ordering.{nat_cmp}
 use Rattle.std.specs.Map.{lookup}
 use Rattle.std.specs.BTreeMap.{is_at}
@@ -7,8 +7,8 @@ use Rattle.kb_store.specs.Disk.{Disk, Table, Files}
 use Rattle.kb_log.specs.OnShelf.{Log}
 use Rattle.kb_log.specs.Shelf.{Shelved}
 use Rattle.kb_topics.specs.MetaLog.{IsFold}
-use Rattle.kb_topics.specs.Catalog.{known, meta_log}
-use Rattle.kb_partitions.specs.Partitions.{Entries, Owned, AreSound, Agree, logs_of, places_of, IsUnmade}
+use Rattle.kb_topics.specs.Catalog.{known, meta_log, catalog_identity}
+use Rattle.kb_partitions.specs.Partitions.{Entries, Owned, AreSound, AreExact, AreNamed, Agree, logs_of, places_of, IsUnmade}
 use Rattle.kb_partitions.specs.Scene.{Scene}
 use Rattle.kb_topics.specs.declared.fault.CatalogFault.{CatalogFault}
 use Rattle.kb_topics.specs.declared.fault.CatalogFault.TheVariants as catalog
@@ -30,8 +30,8 @@ entries p = p.partitions.topics.entries
 abbrev pub Owns : {L : Type 0} → (L → Log) → Parts L → ℕ → Type 0
 Owns log p file = (meta log p).owns file ⊎ Owned log (entries p) file
 
--- Each log is sound, and no file is of two logs. No instance that is still to be given out has partitions, and no topic has more
--- than 64. Each topic has as many partitions as the catalog says, under its instance, and there are no others.
+-- Each log is sound and the tenant's own, and no file is of two logs. No instance that is still to be given out has partitions, and
+-- no topic has more than 64. Each topic has as many partitions as the catalog says, under its instance, and there are no others.
 pub record IsSound {L : Type 0} (log : L → Log) (p : Parts L) (table : Table) (next : ℕ) : Type 0 where
   pub catalog : (meta log p).sound table next
   pub logs : AreSound log (entries p) table next
@@ -40,6 +40,8 @@ pub record IsSound {L : Type 0} (log : L → Log) (p : Parts L) (table : Table) 
   pub unmade : (i : ℕ) → (known p.catalog).creates ≤ i → IsUnmade i (entries p)
   pub small : (i count : ℕ) → lookup (is_at (nat_cmp i)) (places_of (entries p)) ≡ Some count → count ≤ 64
   pub tied : places_of (entries p) ≡ counted partition_count (known p.catalog).topics
+  pub catalog_named : (meta log p).identity ≡ catalog_identity (string_bytes p.tenant) p.segment_bytes
+  pub logs_named : AreNamed log (string_bytes p.tenant) p.segment_bytes (entries p)
 
 -- what the tenant sees
 abbrev pub world_of : {L : Type 0} → (L → Log) → Parts L → Files → World
@@ -62,6 +64,7 @@ abbrev pub scene_on : {L : Type 0} → (L → Log) → Parts L → Disk → ℕ 
 scene_on log p d next = record {
   owns = Owns log p;
   sound = IsSound log p d.table next;
+  exact = (meta log p).exact d.table × AreExact log (entries p) d.table;
   agrees = Agrees log p d.files;
   disk = d;
   next = next;

@@ -1,5 +1,5 @@
 //! The parts of a tenant.
-ghost use Rattle.std.specs.Prelude.{◌≡◌, ◌⊎◌, ◌≤◌, ◌≤ℤ◌, ℕ, [], pos, negsuc, false, length};
+ghost use Rattle.std.specs.Prelude.{◌≡◌, ◌⊎◌, ◌≤◌, ◌≤ℤ◌, ℕ, [], pos, negsuc, false, length, string_bytes, IfOk};
 ghost use Rattle.std.specs.Option.{option_copied};
 ghost use Rattle.kb_store.specs.Disk.{Table, Files};
 ghost use Rattle.kb_topics.specs.ByName.{by_name};
@@ -16,7 +16,7 @@ use kb_log::PartitionLog;
 use kb_partitions::Partitions;
 use kb_producers::Verdict;
 use kb_topics::{Catalog, Committed, Topic, TopicsByName};
-use std::alloc::Global;
+use std::alloc::{AllocError, Global};
 
 /// A tenant's catalog and its partitions, the clock, a clock up to which no partition has anything to drop, and how many refusals of
 /// memory and of the store were counted for it.
@@ -33,20 +33,24 @@ pub struct Parts<L: PartitionLog> {
 }
 
 impl<L: PartitionLog> Parts<L> {
-    /// A tenant without topics, at clock 0. It makes no store call. Files are to hold about `segment_bytes`.
-    pub fn new(alloc: Global, tenant: String, meta_tenant: String, segment_bytes: u64) -> Self
-        ensures world { (files : Files) → world_of L.log result files ≡ new_world }
-        ensures sound { (table : Table) (next : ℕ) → IsSound L.log result table next }
-        ensures agrees { (files : Files) → Agrees L.log result files }
-        ensures owns { (file : ℕ) → Owns L.log result file → ⊥ }
-        ensures refusals { result.refusals ≡ 0 }
+    /// A tenant of that name without topics, at clock 0. It makes no store call. Files are to hold about `segment_bytes`.
+    pub fn new(alloc: Global, tenant: &str, segment_bytes: u64) -> Result<Self, AllocError>
+        ensures world { IfOk result (λ parts. (files : Files) → world_of L.log parts files ≡ new_world) }
+        ensures sound { IfOk result (λ parts. (table : Table) (next : ℕ) → IsSound L.log parts table next) }
+        ensures agrees { IfOk result (λ parts. (files : Files) → Agrees L.log parts files) }
+        ensures owns { IfOk result (λ parts. (file : ℕ) → Owns L.log parts file → ⊥) }
+        ensures named { IfOk result (λ parts. string_bytes parts.tenant ≡ tenant.now) }
+        ensures size { IfOk result (λ parts. parts.segment_bytes ≡ segment_bytes) }
+        ensures refusals { IfOk result (λ parts. parts.refusals ≡ 0) }
     {
+        let meta_tenant = String::from_str(alloc, tenant)?;
+        let tenant = String::from_str(alloc, tenant)?;
         let catalog = Catalog::new(alloc, meta_tenant, segment_bytes);
         let partitions = Partitions::new(alloc);
         let mut parts = Parts::restored(alloc, tenant, segment_bytes, catalog, partitions);
         // there is nothing to drop
         parts.kept_until = i64::MAX;
-        parts
+        Ok(parts)
     }
 
     /// A tenant of a catalog and of partitions that are there, at clock 0, to which nothing was refused. Files are to hold about
@@ -59,7 +63,7 @@ impl<L: PartitionLog> Parts<L> {
         partitions: Partitions<L>,
     ) -> Self
         ensures world { (files : Files) → world_of L.log result files ≡ restored_world L.log catalog partitions files }
-        ensures sound { (table : Table) (next : ℕ) → AreFitting L.log catalog partitions table next → IsSound L.log result table next }
+        ensures sound { (table : Table) (next : ℕ) → AreFitting L.log (string_bytes tenant) segment_bytes catalog partitions table next → IsSound L.log result table next }
         ensures agrees { (files : Files) → DoAgree L.log catalog partitions files → Agrees L.log result files }
         ensures owns { (file : ℕ) → Owns L.log result file → IsOfEither L.log catalog partitions file }
         ensures owned { (file : ℕ) → IsOfEither L.log catalog partitions file → Owns L.log result file }

@@ -49,7 +49,7 @@ impl Tenant {
         let shelf = Shelf::new(alloc, MemoryStore::new(alloc), 0)
             .ok()
             .ok_or("a shelf")?;
-        let parts = Parts::new(alloc, String::new(alloc), String::new(alloc), 1_048_576);
+        let parts = Parts::new(alloc, "a tenant", 1_048_576)?;
         Ok(Tenant { parts, shelf })
     }
 

@@ -29,12 +29,12 @@ pub(super) enum Step<'a> {
 }
 
 /// The parts of a tenant without topics.
-fn parts_at(alloc: Global, clock: u64) -> Parts<ListLog>
-    ensures { (table : Table) (next : ℕ) → IsSound list_log result table next }
+fn parts_at(alloc: Global, clock: u64) -> Result<Parts<ListLog>, Fail>
+    ensures { IfOk result (λ parts. (table : Table) (next : ℕ) → IsSound list_log parts table next) }
 {
-    let mut parts = Parts::new(alloc, String::new(alloc), String::new(alloc), 1_048_576);
+    let mut parts = Parts::new(alloc, "a tenant", 1_048_576)?;
     parts.set_clock(clock);
-    parts
+    Ok(parts)
 }
 
 /// A tenant and its files.
@@ -53,7 +53,7 @@ impl Tenant {
             .ok()
             .ok_or("a shelf")?;
         Ok(Tenant {
-            parts: parts_at(alloc, clock),
+            parts: parts_at(alloc, clock)?,
             shelf,
         })
     }

@@ -38,7 +38,7 @@ commit_code v w place group e offset text r code at beside is met =
     ap (λ z. (v, z)) is
     ∙ ap (λ (x : World × Result (Unit {0}) CatalogFault). (x.0, code_in x.1)) (met ∙ ap (λ z. commit w place group z text) at ∙ ap (λ s. commit w place group e.offset s) beside)
 
-fault_told : (a b : Scene Seen) (end : ℕ) (P Q : Type 0) (r : Result (Unit {0}) CatalogFault) (code : ℤ) → (P → Q) → code ≡ code_in r → Tells a b P (IsCatalogWant end a b) r → IsTold a b Q (IsFaultOf end a b code)
+pub fault_told : (a b : Scene Seen) (end : ℕ) (P Q : Type 0) (r : Result (Unit {0}) CatalogFault) (code : ℤ) → (P → Q) → code ≡ code_in r → Tells a b P (IsCatalogWant end a b) r → IsTold a b Q (IsFaultOf end a b code)
 fault_told a b end P Q (Ok u) code f is told = inl (done_so a b P Q f told)
 fault_told a b end P Q (Err g) code f is told =
     ⊎_elim
@@ -54,7 +54,7 @@ commit_told a b end place group e offset text r code at beside is told =
     (commit_code b.state.world a.state.world place group e offset text r code at beside is) is told
 
 -- each fault of the catalog has a code that is not 0
-fault_speaks : (f : CatalogFault) → fault_code f ≡ pos 0 → ⊥
+pub fault_speaks : (f : CatalogFault) → fault_code f ≡ pos 0 → ⊥
 fault_speaks catalog.Name e = absurd cc
 fault_speaks catalog.Exists e = absurd cc
 fault_speaks catalog.Partitions e = absurd cc

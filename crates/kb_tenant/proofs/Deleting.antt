@@ -1,6 +1,6 @@
 -- One topic of a request of DeleteTopics.
 use Rattle.std.proofs.Common.{◌≡◌, ◌∙◌, sym, ap, refl, subst, ℤ, pos, ℕ, ◌+◌, ◌<◌, ◌≤◌, ◌^◌, Bool, true, false, List, [], ◌∷◌, ◌++◌, length, take, Option, Some, None, append_assoc, arith}
-use Rattle.std.specs.Prelude.{Result, Ok, Err, OnOk, is_err, if◌then◌else◌}
+use Rattle.std.specs.Prelude.{Result, Ok, Err, OnErr, OnOk, is_err, if◌then◌else◌}
 use Rattle.std.specs.Ordering.{int_eq}
 use Rattle.std.proofs.lemmas.List.{append-nil, length-take, take-append-le}
 use Rattle.std.proofs.lemmas.List.FromFn.{map-range_with_len_more}
@@ -82,6 +82,11 @@ taken_back old told now ps n cut size more = cut ∙ ap (λ m. take m told) size
 pub unless_err : {X E P : Type 0} (r : Result X E) (b : Bool) → b ≡ is_err r → b ≡ false → OnOk r P → P
 unless_err (Ok x) b is not p = p
 unless_err (Err e) b is not p = absurd (subst (λ x. x ≡ false → ⊥) (sym is) (λ bad. cc) not)
+
+-- and what holds of a failure
+pub where_err : {X E P : Type 0} (r : Result X E) (b : Bool) → b ≡ is_err r → b ≡ true → OnErr r P → P
+where_err (Ok x) b is so p = absurd (subst (λ x. x ≡ true → ⊥) (sym is) (λ bad. cc) so)
+where_err (Err e) b is so p = p
 
 -- what was told before is still there
 pub kept_more : (start old new ps : List Place) → new ≡ old ++ ps → take (length start) old ≡ start → take (length start) new ≡ start

@@ -45,3 +45,4 @@ pub mod Tied
 pub mod Turning
 pub mod Versions
 pub mod Waiting
+pub mod Wanted

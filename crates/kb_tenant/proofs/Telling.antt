@@ -10,7 +10,7 @@ use Rattle.kb_world.specs.declared.place.Place.{Place}
 use Rattle.kb_tenant.specs.Produce.{Progress, answer, answered, batch_in, known_place, served, tried}
 use Rattle.kb_tenant.specs.Told.{IsAppendWant, IsTold}
 
-done_so : (a b : Scene Seen) (P Q : Type 0) → (P → Q) → IsDone a b P → IsDone a b Q
+pub done_so : (a b : Scene Seen) (P Q : Type 0) → (P → Q) → IsDone a b P → IsDone a b Q
 done_so a b P Q f is = record { counted = is.counted; met = λ honest agree. f (is.met honest agree) }
 
 -- what follows from what is defined

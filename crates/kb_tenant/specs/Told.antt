@@ -15,7 +15,7 @@ use Rattle.kb_partitions.specs.Scene.{Scene}
 use Rattle.kb_world.specs.Parts.{Seen}
 use Rattle.kb_topics.specs.CatalogFault.{code_of as fault_code}
 use Rattle.kb_topics.specs.declared.fault.CatalogFault.{CatalogFault}
-use Rattle.kb_world.specs.Told.{Failed, IsCatalogWant, IsDone, IsRefused}
+use Rattle.kb_world.specs.Told.{Failed, IsCatalogWant, IsDone, IsLeft, IsRefused}
 use Rattle.kb_topics.specs.Known.{named}
 use Rattle.kb_world.specs.World.{World}
 use Rattle.kb_world.specs.declared.place.Place.{Place}
@@ -42,6 +42,14 @@ pub record IsFaultOf (end : ℕ) (a b : Scene Seen) (code : ℤ) : Type 0 where
   pub fault : CatalogFault
   pub told : code ≡ fault_code fault
   pub want : IsCatalogWant end a b fault
+
+-- A deletion did what is defined, also where the removal of a file was refused.
+abbrev pub IsDeleted : Scene Seen → Scene Seen → Type 0 → Type 0
+IsDeleted a b P = IsDone a b P ⊎ IsLeft a b P
+
+-- A deletion did what is defined, or was refused for a want. A file is left behind only where it is answered with no error.
+abbrev pub IsDeletionTold : Scene Seen → Scene Seen → ℤ → Type 0 → Type 0 → Type 0
+IsDeletionTold a b code P Want = IsTold a b P Want ⊎ ((code ≡ code_of codes.None) × IsLeft a b P)
 
 -- ---- Produce
 

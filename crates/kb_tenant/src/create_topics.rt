@@ -1,14 +1,16 @@
 //! CreateTopics (Kafka protocol guide): topics are made, one after another. A request of version 1 may ask that they are only
 //! checked, and each answer has a message, which is null; any other version is answered as 0.
-ghost use Rattle.std.specs.Prelude.{◌≡◌, ◌++◌, ◌+◌, ◌<◌, ◌^◌, length, IfOk, OnOk};
+ghost use Rattle.std.specs.Prelude.{◌≡◌, ◌++◌, ◌+◌, ◌<◌, ◌^◌, length, pos, IfOk, OnOk};
 ghost use Rattle.kb_api_data.specs.Layouts.{create_topics_request_v1};
 ghost use Rattle.kb_store.specs.Disk.{Files};
 ghost use Rattle.kb_wire.specs.Codec.{string};
 ghost use Rattle.kb_wire.specs.Reads.{ReadsWhole};
 ghost use Rattle.kb_tenant.specs.CreateTopics.{asked_creations, checked_all, checked_unless, code_in, created_all, creation_in, creations_in, made, made_of, refusal, settings_in};
-ghost use Rattle.kb_world.specs.Parts.{scene, world_of};
+ghost use Rattle.kb_tenant.specs.Told.{IsFaultOf, IsTold};
+ghost use Rattle.kb_world.specs.Parts.{meta, scene, world_of};
 ghost use Rattle.kb_world.specs.Steps.{IsStep, Meets};
 ghost use Rattle.kb_world.specs.Tied.{IsTied};
+ghost use Rattle.kb_world.specs.Told.{IsDone};
 
 use crate::repeated::Repeated;
 use kb_api_data::{
@@ -84,6 +86,11 @@ fn create_topic<L: PartitionLog + Drop, S: Store>(
     ensures step { IsStep (scene L.log S.disk parts.old shelf.old) (scene L.log S.disk parts.new shelf.new) }
     ensures meets { let a = scene L.log S.disk parts.old shelf.old in let b = scene L.log S.disk parts.new shelf.new in
         Meets a b ((b.state.world, result) ≡ made repeated a.state.world topic.now) }
+    ensures told { let a = scene L.log S.disk parts.old shelf.old in let b = scene L.log S.disk parts.new shelf.new in
+        IsTold a b ((b.state.world, result) ≡ made repeated a.state.world topic.now) (IsFaultOf (meta L.log parts.old).end a b result) }
+    // A topic that is answered with no error is in the catalog, whatever else was refused.
+    ensures acknowledged { let a = scene L.log S.disk parts.old shelf.old in let b = scene L.log S.disk parts.new shelf.new in
+        result ≡ pos 0 → IsDone a b ((b.state.world, result) ≡ made repeated a.state.world topic.now) }
 {
     let name = topic.name.as_str();
     let exists = parts.topic_named(name).is_some();

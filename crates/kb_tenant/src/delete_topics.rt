@@ -1,10 +1,11 @@
 //! DeleteTopics (Kafka protocol guide): topics are deleted, one after another. Version 1 also tells how long the client is held
 //! back, which is never; any other version is answered as 0.
-ghost use Rattle.std.specs.Prelude.{◌≡◌, ◌++◌, ◌<◌, ◌^◌, length, take, Some, OnOk, OnErr};
+ghost use Rattle.std.specs.Prelude.{◌≡◌, ◌++◌, ◌<◌, ◌^◌, length, pos, take, Some, OnOk, OnErr};
 ghost use Rattle.kb_store.specs.Disk.{Files};
 ghost use Rattle.kb_api_data.specs.Layouts.{delete_topics_request};
 ghost use Rattle.kb_tenant.specs.DeleteTopics.{places_at, places_named, told_if, deleted, deleted_all, deletions_in, throttle_in};
-ghost use Rattle.kb_world.specs.Parts.{scene, world_of};
+ghost use Rattle.kb_tenant.specs.Told.{IsDeleted, IsDeletionTold, IsFaultOf};
+ghost use Rattle.kb_world.specs.Parts.{meta, scene, world_of};
 ghost use Rattle.kb_world.specs.Steps.{IsStep, Meets};
 
 use kb_api_data::{DeleteTopicReply, DeleteTopicsRequest};
@@ -52,6 +53,12 @@ fn delete_topic<L: PartitionLog + Drop, S: Store>(
         touched.new.items ≡ touched.old.items ++ told_if result (places_named (world_of L.log parts.old files) name.now) }
     ensures meets { let a = scene L.log S.disk parts.old shelf.old in let b = scene L.log S.disk parts.new shelf.new in
         Meets a b (((b.state.world, touched.new.items), result) ≡ deleted (a.state.world, touched.old.items) name.now) }
+    ensures answered { let a = scene L.log S.disk parts.old shelf.old in let b = scene L.log S.disk parts.new shelf.new in
+        IsDeletionTold a b result (((b.state.world, touched.new.items), result) ≡ deleted (a.state.world, touched.old.items) name.now)
+        (IsFaultOf (meta L.log parts.old).end a b result × (touched.new.items ≡ touched.old.items)) }
+    // A topic that is answered with no error is gone, whatever else was refused: the removal of a file, which is counted.
+    ensures acknowledged { let a = scene L.log S.disk parts.old shelf.old in let b = scene L.log S.disk parts.new shelf.new in
+        result ≡ pos 0 → IsDeleted a b (((b.state.world, touched.new.items), result) ≡ deleted (a.state.world, touched.old.items) name.now) }
 {
     let Some(instance) = parts.topic_named(name) else {
         return ErrorCode::UnknownTopicOrPartition.code();

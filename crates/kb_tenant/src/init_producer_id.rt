@@ -1,9 +1,11 @@
 //! InitProducerId: a producer asks for an id.
-ghost use Rattle.std.specs.Prelude.{◌≡◌, ◌++◌, OnOk};
+ghost use Rattle.std.specs.Prelude.{◌≡◌, ◌++◌, pos, OnOk};
 ghost use Rattle.kb_api_data.specs.Layouts.{init_producer_id_reply};
 ghost use Rattle.kb_tenant.specs.InitProducerId.{id_refused, init_producer_id};
-ghost use Rattle.kb_world.specs.Parts.{scene};
+ghost use Rattle.kb_tenant.specs.Told.{IsFaultOf, IsTold};
+ghost use Rattle.kb_world.specs.Parts.{meta, scene};
 ghost use Rattle.kb_world.specs.Steps.{IsStep, Meets};
+ghost use Rattle.kb_world.specs.Told.{IsDone};
 
 use kb_api_data::{InitProducerIdReply, InitProducerIdRequest};
 use kb_api_group::ErrorCode;
@@ -34,6 +36,12 @@ fn give_id<L: PartitionLog + Drop, S: Store>(
     ensures step { IsStep (scene L.log S.disk parts.old shelf.old) (scene L.log S.disk parts.new shelf.new) }
     ensures meets { let a = scene L.log S.disk parts.old shelf.old in let b = scene L.log S.disk parts.new shelf.new in
         Meets a b ((b.state.world, result) ≡ init_producer_id a.state.world request.now) }
+    ensures told { let a = scene L.log S.disk parts.old shelf.old in let b = scene L.log S.disk parts.new shelf.new in
+        IsTold a b ((b.state.world, result) ≡ init_producer_id a.state.world request.now)
+        (IsFaultOf (meta L.log parts.old).end a b result.error_code × (result ≡ id_refused result.error_code)) }
+    // An id that is answered with no error was given out, whatever else was refused.
+    ensures acknowledged { let a = scene L.log S.disk parts.old shelf.old in let b = scene L.log S.disk parts.new shelf.new in
+        result.error_code ≡ pos 0 → IsDone a b ((b.state.world, result) ≡ init_producer_id a.state.world request.now) }
 {
     if request.transactional_id.is_some() {
         return refused(ErrorCode::InvalidRequest.code());

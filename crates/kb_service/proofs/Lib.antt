@@ -3,3 +3,5 @@ pub mod Committing
 pub mod Joining
 pub mod Keys
 pub mod Laws
+pub mod Waiters
+pub mod WaitersServed

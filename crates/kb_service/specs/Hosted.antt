@@ -10,6 +10,7 @@ use Rattle.kb_world.specs.Calls.{retain_all}
 use Rattle.kb_world.specs.Parts.{END}
 use Rattle.kb_world.specs.World.{World}
 use Rattle.kb_world.specs.Steps.{IsCalm}
+use Rattle.kb_service.specs.Waiters.{AreTicked}
 
 -- what a tenant keeps from one request to the next: its topics with what is recorded of them, their logs, and its consumer groups
 pub record Kept : Type 0 where
@@ -79,11 +80,13 @@ IsMet t honest old new P = honest → IsCalm (refusals_of old t) (refusals_of ne
 
 -- ---- a moment of all of them
 
--- Names stay, and counts only rise; and on an honest store each to which nothing was refused keeps what a moment leaves at that time.
+-- Names stay, and counts only rise; and on an honest store each to which nothing was refused keeps what a moment leaves at that time, and
+-- of each, whatever was refused, no member more waits on any connection, nor one who was answered.
 pub record HavePassed (clock : ℕ) (honest : Type 0) (old new : List TenantState) : Type 0 where
   pub names : names_of new ≡ names_of old
   pub grows : (u : ℕ) → refusals_of old u ≤ refusals_of new u
   pub kept : honest → (u : ℕ) → IsCalm (refusals_of old u) (refusals_of new u) → kept_of new u ≡ passed clock (kept_of old u)
+  pub waits : honest → (u : ℕ) → AreTicked (kept_of old u).groups (kept_of new u).groups
 
 -- ---- counts
 

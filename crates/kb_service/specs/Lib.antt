@@ -2,3 +2,4 @@ pub mod Acknowledged
 pub mod Hosted
 pub mod Replies
 pub mod Serve
+pub mod Waiters

@@ -5,6 +5,7 @@ ghost use Rattle.kb_partitions.specs.Scene.{WhereHonest};
 ghost use Rattle.kb_world.specs.Parts.{scene};
 ghost use Rattle.kb_world.specs.Steps.{IsStep, Meets};
 ghost use Rattle.kb_service.specs.Acknowledged.{Acknowledges};
+ghost use Rattle.kb_service.specs.Waiters.{IsWaitTold, IsWaitToldBy};
 ghost use Rattle.kb_service.specs.Serve.{has_released, served, AreGroupsAfter, AreGroupsBy, IsOutcome, IsServed};
 
 use crate::answer::{Answer, Served};
@@ -40,6 +41,7 @@ fn serve_by_key<L: PartitionLog + Drop, S: Store>(
         request.now.api_key ≡ pos 0 → IfOk result (λ answer. WhereHonest a b (Acknowledges request.now.correlation_id a.state.world request.now.body.now b.state.world touched.new.items answer)) }
     ensures groups { let a = scene L.log S.disk parts.old shelf.old in
         AreGroupsBy groups.old (served node.now a.state.world groups.old request.now.connection request.now.api_key request.now.api_version request.now.body.now).groups result groups.new }
+    ensures waits { IsWaitToldBy request.now.connection groups.old result groups.new }
 {
     let clock = parts.clock();
     match request.api_key {
@@ -95,6 +97,7 @@ pub fn serve<L: PartitionLog + Drop, S: Store>(
         request.now.api_key ≡ pos 0 → WhereHonest a b (Acknowledges request.now.correlation_id a.state.world request.now.body.now b.state.world result.touched.items result.answer) }
     ensures groups { let a = scene L.log S.disk parts.old shelf.old in
         AreGroupsAfter groups.old (served node.now a.state.world groups.old request.now.connection request.now.api_key request.now.api_version request.now.body.now).groups result.answer groups.new }
+    ensures waits { IsWaitTold request.now.connection groups.old result.answer groups.new }
     ensures released { result.released ≡ has_released groups.new }
 {
     let mut touched = Vec::new(alloc);

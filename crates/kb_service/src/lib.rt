@@ -16,6 +16,6 @@ pub use answer::{Answer, Served};
 pub use dispatch::serve;
 pub use promises::{
     fetches_give_whole_batches, group_waits_elsewhere, logs_stay_small, names_stay_apart,
-    requests_again, requests_elsewhere, worlds_stay_tied,
+    one_more_waits, requests_again, requests_elsewhere, worlds_stay_tied,
 };
 pub use replies::tell;

@@ -2,12 +2,13 @@
 //!
 //! Each forgets the last replies first. The body is read and the reply begun, with room for what is always written, before the groups
 //! change: a want of memory there leaves them as they were.
-ghost use Rattle.std.specs.Prelude.{◌≡◌, ◌≤◌, ℤ, [], IfOk};
+ghost use Rattle.std.specs.Prelude.{◌≡◌, ◌≤◌, ℤ, [], IfOk, Ok};
 ghost use Rattle.kb_api_group.specs.Layouts.{heartbeat_request, join_group_request, leave_group_request, sync_group_request};
 ghost use Rattle.kb_tenant.specs.Replies.{begun};
 ghost use Rattle.kb_wire.specs.Codec.{whole};
 ghost use Rattle.kb_world.specs.World.{World};
 ghost use Rattle.kb_service.specs.Replies.{IsAnswer};
+ghost use Rattle.kb_service.specs.Waiters.{IsWaitToldBy};
 ghost use Rattle.kb_service.specs.Serve.{if_read, of_heartbeat, of_join, of_leave, of_sync, sync_reaction, AreGroupsBy, IsServed};
 
 use crate::answer::Answer;
@@ -36,6 +37,7 @@ pub(crate) fn join_group(
         IsServed request.now.correlation_id (if_read w groups.old (whole join_group_request request.now.body.now) (of_join w request.now.connection groups.old)) w groups.new [] result }
     ensures groups { (w : World) → w.clock ≡ clock →
         AreGroupsBy groups.old (if_read w groups.old (whole join_group_request request.now.body.now) (of_join w request.now.connection groups.old)).groups result groups.new }
+    ensures waits { IsWaitToldBy request.now.connection groups.old result groups.new }
 {
     groups.silence();
     let asked = JoinGroupRequest::read(alloc, request.body)?;
@@ -50,7 +52,8 @@ pub(crate) fn join_group(
 
 /// What a sync comes to whose reply is begun; one that waits has none yet.
 fn sync_answer(answer: &SyncAnswer, mut sink: Sink) -> Result<Answer, AllocError>
-    ensures { (id : ℤ) → sink.bytes ≡ begun id → IfOk result (λ answered. IsAnswer id (sync_reaction answer.now) answered) }
+    ensures answer { (id : ℤ) → sink.bytes ≡ begun id → IfOk result (λ answered. IsAnswer id (sync_reaction answer.now) answered) }
+    ensures waits { answer.now ≡ SyncAnswer.Waits → result ≡ Ok Answer.Rebalance }
 {
     if let SyncAnswer::Waits = answer {
         return Ok(Answer::Rebalance);
@@ -70,6 +73,7 @@ pub(crate) fn sync_group(
         IsServed request.now.correlation_id (if_read w groups.old (whole sync_group_request request.now.body.now) (of_sync w request.now.connection groups.old)) w groups.new [] result }
     ensures groups { (w : World) → w.clock ≡ clock →
         AreGroupsBy groups.old (if_read w groups.old (whole sync_group_request request.now.body.now) (of_sync w request.now.connection groups.old)).groups result groups.new }
+    ensures waits { IsWaitToldBy request.now.connection groups.old result groups.new }
 {
     groups.silence();
     let asked = SyncGroupRequest::read(alloc, request.body)?;

@@ -12,6 +12,7 @@ ghost use Rattle.kb_tenant.specs.Waiting.{AreApart, HasOwnNames, StillWaits};
 ghost use Rattle.kb_tenant.specs.declared.node.Node.{Node};
 ghost use Rattle.kb_service.specs.Replies.{replies, told_to};
 ghost use Rattle.kb_service.specs.Serve.{served};
+ghost use Rattle.kb_service.specs.Waiters.{AreServed, rebalances};
 
 /// The topics of a world stay tied to its logs, whatever is asked.
 pub fn worlds_stay_tied()
@@ -54,4 +55,11 @@ pub fn logs_stay_small()
 pub fn fetches_give_whole_batches()
     ensures { (node : Node) (w : World) (gs : Groups) (n : ℕ) (version : ℤ) (body bytes : List ℕ) (r : FetchRequest) → HasSmallLogs w → asked_fetch version body ≡ Ok r
         → (served node w gs n (pos 1) version body).reaction ≡ replies bytes → HoldsBatches version w r bytes }
+{}
+
+/// A request makes no member wait but on its own connection, and there one where it comes to a wait for its group. Who waited waits
+/// still, or was answered, and not both.
+pub fn one_more_waits()
+    ensures { (node : Node) (w : World) (gs : Groups) (n : ℕ) (key version : ℤ) (body : List ℕ)
+        → AreServed n (rebalances (served node w gs n key version body).reaction) gs (served node w gs n key version body).groups }
 {}

@@ -1,5 +1,5 @@
 //! The replies to requests that waited for their groups.
-ghost use Rattle.std.specs.Prelude.{◌≡◌, IfOk, length, nat_le};
+ghost use Rattle.std.specs.Prelude.{◌≡◌, IfOk, OnErr, length, nat_le};
 ghost use Rattle.std.specs.List.{flat_map};
 ghost use Rattle.kb_tenant.specs.Replies as tenant;
 ghost use Rattle.kb_service.specs.Replies.{told_to};
@@ -39,7 +39,8 @@ pub fn tell(
     connection: u64,
     correlation_id: i32,
 ) -> Result<kb_tenant::Answer, AllocError>
-    ensures { IfOk result (λ answer. tenant.IsAnswer correlation_id (told_to connection groups.now) answer) }
+    ensures ok { IfOk result (λ answer. tenant.IsAnswer correlation_id (told_to connection groups.now) answer) }
+    ensures err { OnErr result (told_to connection groups.now ≡ tenant.Silent → ⊥) }
 {
     match groups.reply_to(connection) {
         None => Ok(kb_tenant::Answer::NoReply),

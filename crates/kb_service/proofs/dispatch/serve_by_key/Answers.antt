@@ -1,8 +1,9 @@
-use Rattle.std.proofs.Common.{rules, ◌≡◌, ◌∙◌, pos, false, [], ap, sym, subst}
+use Rattle.std.proofs.Common.{inr, rules, ◌≡◌, ◌∙◌, pos, false, [], ap, sym, subst}
 use Rattle.std.specs.Ordering.{int_eq}
 use Rattle.kb_world.specs.Parts.{world_of}
 use Rattle.kb_service.specs.Serve.{served, AreGroupsBy, IsOutcome, IsServed}
 use Rattle.kb_service.specs.declared.answer.Answer.TheVariants as answers
+use Rattle.kb_service.proofs.WaitersServed.{commit_waits, heartbeat_waits, leave_waits_told, quiet_waits}
 use Rattle.kb_service.proofs.Keys.{served_commit, served_heartbeat, served_join, served_leave, served_sync, served_topics}
 use Rattle.kb_service.proofs.dispatch.serve_by_key.Goals as goal
 
@@ -130,3 +131,21 @@ returns-in_default-clause-groups g c =
     let not_14 : int_eq request.api_key (pos 14) ≡ false = search rules in
     c.silence.ensures
     ∙ ap (λ o. o.groups) (sym (served_topics c.args.node.now w gs request.connection request.api_key request.api_version request.body.now not_8 not_11 not_12 not_13 not_14))
+
+pub returns-in-8-clause-waits : goal.returns-in-8-clause-waits
+returns-in-8-clause-waits g c =
+    let w = world_of g.L.PartitionLog.log c.args.parts.now (g.S.Store.disk c.args.shelf.now.store).files in
+    commit_waits w c.args.request.now.connection c.args.groups.now c.commit_offsets.new.groups c.args.request.now.body.now c.commit_offsets.result c.commit_offsets.ensures.groups
+
+pub returns-in-12-clause-waits : goal.returns-in-12-clause-waits
+returns-in-12-clause-waits g c =
+    let w = world_of g.L.PartitionLog.log c.args.parts.now (g.S.Store.disk c.args.shelf.now.store).files in
+    heartbeat_waits w c.args.request.now.connection c.args.groups.now c.heartbeat.new.groups c.args.request.now.body.now c.heartbeat.result (c.heartbeat.ensures.groups w (sym c.clock-clock.ensures))
+
+pub returns-in-13-clause-waits : goal.returns-in-13-clause-waits
+returns-in-13-clause-waits g c =
+    let w = world_of g.L.PartitionLog.log c.args.parts.now (g.S.Store.disk c.args.shelf.now.store).files in
+    leave_waits_told w c.args.request.now.connection c.args.groups.now c.leave_group.new.groups c.args.request.now.body.now c.leave_group.result (c.leave_group.ensures.groups w (sym c.clock-clock.ensures))
+
+pub returns-in_default-clause-waits : goal.returns-in_default-clause-waits
+returns-in_default-clause-waits g c = inr (quiet_waits c.args.request.now.connection c.args.groups.now c.silence.new.self c.silence.ensures)

@@ -9,7 +9,7 @@ use Rattle.kb_service.specs.Hosted as hosted
 use Rattle.kb_service.specs.Hosted.{TenantState, IsTurn}
 use Rattle.kb_tenant.specs.Replies.{Silent}
 use Rattle.kb_machine.specs.Tenant.{Wait, ready}
-use Rattle.kb_machine.specs.Session.{Greeting, Stage, Greets, BoundTo, Session, fed, room, overruns, shut_down, without_wait, can}
+use Rattle.kb_machine.specs.Session.{Greeting, has_member, Stage, Greets, BoundTo, Session, fed, room, overruns, shut_down, without_wait, can}
 use Rattle.kb_machine.specs.Greeting.{Setup}
 use Rattle.kb_machine.specs.Machine.{Happening, Comes, Line, World, each, on, those, find_line, first_able, kept_fed, turns, stepped}
 use Rattle.kb_machine.specs.Owners.{Owns, Fits, whose, heard, destiny}
@@ -22,6 +22,8 @@ use Rattle.kb_machine.proofs.Leaving.{find-those, left_fed, names-fed, refusals-
 use Rattle.kb_machine.proofs.Owners.{IsBound, IsMine, heard-still, fate-bound, mine-bound, bound-same, those-on_other, stage-fed, stage-shut}
 use Rattle.kb_machine.proofs.Ranges.{range-same}
 use Rattle.kb_machine.proofs.Sets.{IsAt, all-at, all-map, all-those, all-still, rising-above, set-on, find-at, find-none, find-set_other, tail-at, no-at, each-on_none}
+use Rattle.kb_machine.specs.Stranded.{NoneStranded}
+use Rattle.kb_machine.proofs.Stranded.{stranded-fed, stranded-idle}
 use Rattle.kb_machine.proofs.Parts.{count, each-tenant, calm-left, calm-right, grows-same, calm-first, calm-then}
 use Rattle.kb_machine.proofs.Turns.{shut-unready, changed-quiet, changed-unready, changed, changed-going, changed-still, called-going, going-then, counted-then, counted-same, counted-tenant, counted-unbound, scope-tenant, tenant-later}
 use Rattle.kb_machine.proofs.Steps.{settled-turns, with_lines}
@@ -128,6 +130,7 @@ fed-kept b i l m piece ts s settled at n e is = subst (λ xs. IsFed l.number pie
           counted = counted-same (Of l.number) b (changed b i m ts b.unbound_refusals) counts refl;
           unready = λ u. changed-quiet AnyWait b i m ts b.unbound_refusals (λ t k w silent. ready-fed piece b.clock l.number l.session b.tenants t b.clock k w ∙ silent) u
               (subst (λ (x : Session). IsUnready AnyWait b m.number x.stage) (sym e) (unready-fed AnyWait b m.number piece l.session (subst (λ k. IsUnready AnyWait b k l.session.stage) (sym n) (all-at (λ x. IsUnready AnyWait b x.number x.session.stage) b.lines i l at u))));
+          held = λ k. stranded-fed b i l m piece b.unbound_refusals s at n e k;
           others = λ k ne. find-set_other k b.lines i l m at n ne;
           mine = λ t mine es k calm. record { now = comes-set b.setup t 0 b.last mine piece es b.lines i l m s.rising at n (comes-fed b.setup t mine piece es l m still n e) k.now; later = k.later };
           view = λ t mine es k calm.
@@ -152,6 +155,7 @@ fed-refused b i l m piece h x s settled at g n e up rises =
       still = fed-still b i l m b.tenants x settled n going;
       counted = counted-unbound (Of l.number) b i l m x s at (inl refl) none;
       unready = λ u. changed-unready AnyWait b i m b.tenants x (λ t. refl) u (subst (λ (y : Session). IsUnready AnyWait b m.number y.stage) (sym e) (shut-unready AnyWait b m.number l.session));
+      held = λ k. stranded-idle b i l m x s at n (ap has_member g) k;
       others = λ k ne. find-set_other k b.lines i l m at n ne;
       mine = λ t mine es k calm. absurd (rises calm);
       view = λ t mine es k calm. absurd (rises calm.unbound);
@@ -163,8 +167,8 @@ view-hidden w mine n f piece ls m e none =
 
 -- a bound connection's piece could not be kept: a refusal is counted for its tenant, whatever it keeps then, as long as nothing becomes ready
 pub fed-loud : (b : BrokerState) (i u : ℕ) (l m : Line) (piece : List ℕ) (w : Option Wait) (H : Type 0) (ts : List TenantState) → IsSound b → first_able b.lines ≡ None → IsAt b.lines i l → l.session.stage ≡ BoundTo u w → m.number ≡ l.number → m.session ≡ shut_down l.session →
-    IsTurn u H b.tenants ts → H → ((t k : ℕ) (w : Wait) → ready (kept_of b t) b.clock k w ≡ Silent → ready (hosted.kept_of ts t) b.clock k w ≡ Silent) → (IsCalm (count b.tenants u) (count ts u) → ⊥) → IsFed l.number piece b (changed b i m ts b.unbound_refusals)
-fed-loud b i u l m piece w H ts s settled at g n e turn honest quiet loud =
+    IsTurn u H b.tenants ts → H → ((t k : ℕ) (w : Wait) → ready (kept_of b t) b.clock k w ≡ Silent → ready (hosted.kept_of ts t) b.clock k w ≡ Silent) → (IsCalm (count b.tenants u) (count ts u) → ⊥) → (NoneStranded b → NoneStranded (changed b i m ts b.unbound_refusals)) → IsFed l.number piece b (changed b i m ts b.unbound_refusals)
+fed-loud b i u l m piece w H ts s settled at g n e turn honest quiet loud held =
     let p : IsBound u l.session = record { wait = w; is = g } in
     let same : without_wait m.session.stage ≡ without_wait l.session.stage = ap (λ (x : Session). without_wait x.stage) e ∙ stage-shut l.session in
     let q : IsBound u m.session = bound-same u l.session m.session p same in
@@ -176,6 +180,7 @@ fed-loud b i u l m piece w H ts s settled at g n e turn honest quiet loud =
       still = fed-still b i l m ts b.unbound_refusals settled n going;
       counted = counted-tenant (Of l.number) b new u (tenant-later (Of l.number) b new u going (scope-tenant (Of l.number) b i u l s at (inl refl) (ap whose g))) (λ t ne. turn.counts t ne) refl;
       unready = λ k. changed-quiet AnyWait b i m ts b.unbound_refusals quiet k (subst (λ (y : Session). IsUnready AnyWait b m.number y.stage) (sym e) (shut-unready AnyWait b m.number l.session));
+      held = held;
       others = λ k ne. find-set_other k b.lines i l m at n ne;
       mine = λ t mine es k calm. record { now = comes-set b.setup t 0 b.last mine piece es b.lines i l m s.rising at n (comes-bound b.setup t u mine piece es l m p q n) k.now; later = k.later };
       view = λ t mine es k calm. each-tenant (λ v. Mine v mine (Comes l.number piece ∷ es) b → IsCalm (count b.tenants v) (count ts v) → turns (view_of v mine new) ≡ stepped (mine l.number) (Comes l.number piece) (view_of v mine b)) u t (eqb u t) refl
@@ -191,9 +196,9 @@ fed-loud b i u l m piece w H ts s settled at g n e turn honest quiet loud =
 
 -- or its tenant keeps what it kept
 pub fed-bound : (b : BrokerState) (i u : ℕ) (l m : Line) (piece : List ℕ) (w : Option Wait) (H : Type 0) (ts : List TenantState) → IsSound b → first_able b.lines ≡ None → IsAt b.lines i l → l.session.stage ≡ BoundTo u w → m.number ≡ l.number → m.session ≡ shut_down l.session →
-    IsTurn u H b.tenants ts → H → ((t : ℕ) → hosted.kept_of ts t ≡ kept_of b t) → (IsCalm (count b.tenants u) (count ts u) → ⊥) → IsFed l.number piece b (changed b i m ts b.unbound_refusals)
-fed-bound b i u l m piece w H ts s settled at g n e turn honest stays loud =
-    fed-loud b i u l m piece w H ts s settled at g n e turn honest (λ t k x silent. ap (λ kept. ready kept b.clock k x) (stays t) ∙ silent) loud
+    IsTurn u H b.tenants ts → H → ((t : ℕ) → hosted.kept_of ts t ≡ kept_of b t) → (IsCalm (count b.tenants u) (count ts u) → ⊥) → (NoneStranded b → NoneStranded (changed b i m ts b.unbound_refusals)) → IsFed l.number piece b (changed b i m ts b.unbound_refusals)
+fed-bound b i u l m piece w H ts s settled at g n e turn honest stays loud held =
+    fed-loud b i u l m piece w H ts s settled at g n e turn honest (λ t k x silent. ap (λ kept. ready kept b.clock k x) (stays t) ∙ silent) loud held
 
 -- 3. The end of the event
 

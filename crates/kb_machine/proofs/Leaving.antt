@@ -55,13 +55,13 @@ refusals-with (suc t) kept (x ∷ xs) zero = refl
 refusals-with (suc t) kept (x ∷ xs) (suc u) = refusals-with t kept xs u
 
 -- one that there is not keeps nothing, before and after
-kept-with : (clock n t : ℕ) (ts : List TenantState) → kept_of (with_kept t (left clock n (kept_of ts t)) ts) t ≡ left clock n (kept_of ts t)
+pub kept-with : (clock n t : ℕ) (ts : List TenantState) → kept_of (with_kept t (left clock n (kept_of ts t)) ts) t ≡ left clock n (kept_of ts t)
 unfolding with_kept left
 kept-with clock n t [] = refl
 kept-with clock n zero (x ∷ xs) = refl
 kept-with clock n (suc t) (x ∷ xs) = kept-with clock n t xs
 
-kept-other : (t u : ℕ) (kept : Kept) (ts : List TenantState) → u ≢ t → kept_of (with_kept t kept ts) u ≡ kept_of ts u
+pub kept-other : (t u : ℕ) (kept : Kept) (ts : List TenantState) → u ≢ t → kept_of (with_kept t kept ts) u ≡ kept_of ts u
 unfolding with_kept
 kept-other t u kept [] ne = refl
 kept-other zero zero kept (x ∷ xs) ne = absurd (ne refl)

@@ -15,6 +15,7 @@ pub mod Ranges
 pub mod Runs
 pub mod Sets
 pub mod Steps
+pub mod Stranded
 pub mod Taken
 pub mod Turns
 pub mod Wakes

@@ -20,6 +20,8 @@ use Rattle.kb_machine.specs.Turned.{Scope, Of, Everybody, HasTenant, InScope, Is
 use Rattle.kb_machine.proofs.Owners.{IsBound, IsMine, SameFate, fate-same, fate-greeted, fate-bound, mine-bound, bound-same, owns-fates, those-on_other, view-greeting, view-served}
 use Rattle.kb_machine.proofs.Ranges.{range-greeted, range-same, range-without}
 use Rattle.kb_machine.proofs.Sets.{IsAt, all-at, all-map, all-set, pairwise-set, rising-set, numbers-set, set-on, set-at, find-at, find-set_other}
+use Rattle.kb_machine.specs.Stranded.{NoneStranded}
+use Rattle.kb_machine.proofs.Stranded.{stranded-greeted}
 use Rattle.kb_machine.proofs.Parts.{count, turn-length, turn-grows, eqb_same, calm-left, calm-right, grows-same, grows-then, calm-first, calm-then}
 
 -- 1. From one moment within an event to a later one
@@ -55,6 +57,7 @@ turned-same scope b s h = record {
   counted = counted-same scope b b (λ t. refl) refl;
   untouched = λ k e. refl;
   unready = λ u. u;
+  held = λ h. h;
   mine = λ t mine es m q. m;
   view = λ t mine es m q. refl;
 }
@@ -69,6 +72,7 @@ turned-then scope a b c p q =
       counted = counted-then scope a b c p.going q.going p.counted q.counted;
       untouched = untouched-then a b c p.untouched q.untouched;
       unready = λ u. q.unready (p.unready u);
+      held = λ h. q.held (p.held h);
       mine = λ t mine es m calm. q.mine t mine es
           (p.mine t mine es m (calm-left a.unbound_refusals b.unbound_refusals c.unbound_refusals g.unbound h.unbound calm))
           (calm-right a.unbound_refusals b.unbound_refusals c.unbound_refusals g.unbound h.unbound calm);
@@ -295,6 +299,7 @@ turned-greeting scope b i l m h s still at able c g n e =
       counted = counted-same scope b (changed b i m b.tenants b.unbound_refusals) (λ t. refl) refl;
       untouched = changed-untouched b i l m b.tenants b.unbound_refusals s at n (able-busy l.session c);
       unready = λ u. changed-unready AnyWait b i m b.tenants b.unbound_refusals (λ t. refl) u (free-unready AnyWait b m.number m.session.stage (ap (λ (x : Session). is_free x.stage) e ∙ free-greeted b.setup h l.session (ap is_free g)));
+      held = λ k. stranded-greeted b i l m b.unbound_refusals s at n (ap is_free g) k;
       mine = λ t mine es k calm. owns-fates b.setup t mine b.last es b.lines (set b.lines i m) (pairwise-set (SameFate b.setup) (fate-same b.setup) b.lines i l m at (fate-greeted b.setup h l m g n e)) k;
       view = λ t mine es k calm.
           let w = view_of t mine b in
@@ -315,6 +320,7 @@ refused-greeting scope b i l m h x s still at c g n e up rises =
       counted = counted-unbound scope b i l m x s at inside none;
       untouched = changed-untouched b i l m b.tenants x s at n (able-busy l.session c);
       unready = λ u. changed-unready AnyWait b i m b.tenants x (λ t. refl) u (subst (λ (y : Session). IsUnready AnyWait b m.number y.stage) (sym e) (shut-unready AnyWait b m.number l.session));
+      held = λ k. stranded-greeted b i l m x s at n (ap is_free g) k;
       mine = λ t mine es k calm. absurd (rises calm);
       view = λ t mine es k calm. absurd (rises calm.unbound);
     }
@@ -377,8 +383,8 @@ served-unready b i u m H ts turn honest q k =
 pub served-bound : (scope : Scope) (b : BrokerState) (i u : ℕ) (l m : Line) (w : Option Wait) (H : Type 0) (ts : List TenantState) → IsSound b → AreStill scope b → IsAt b.lines i l → first_able b.lines ≡ Some l → can l.session ≡ true →
     l.session.stage ≡ BoundTo u w → m.number ≡ l.number → without_wait m.session.stage ≡ without_wait l.session.stage → IsTurn u H b.tenants ts → H →
     (IsCalm (count b.tenants u) (count ts u) → (m.session ≡ served b.setup (kept_of b u) b.clock l.number l.session) × (hosted.kept_of ts u ≡ put b.setup (kept_of b u) b.clock l.number l.session.unread)) →
-    Served u scope b (changed b i m ts b.unbound_refusals)
-served-bound scope b i u l m w H ts s still at able c g n same turn honest meets =
+    (NoneStranded b → NoneStranded (changed b i m ts b.unbound_refusals)) → Served u scope b (changed b i m ts b.unbound_refusals)
+served-bound scope b i u l m w H ts s still at able c g n same turn honest meets held =
     let p : IsBound u l.session = record { wait = w; is = g } in
     let q : IsBound u m.session = bound-same u l.session m.session p same in
     let new = changed b i m ts b.unbound_refusals in
@@ -392,6 +398,7 @@ served-bound scope b i u l m w H ts s still at able c g n same turn honest meets
       untouched = changed-untouched b i l m ts b.unbound_refusals s at n (able-busy l.session c);
       tenants = tenant;
       unready = λ k. served-unready b i u m H ts turn honest q k;
+      held = held;
       mine = λ t mine es k. bound-mine b i u l m at p q n t mine es k;
       others = λ t mine es k ne. called-others b i u l m H ts s at p n turn honest t mine es k ne;
       view = λ mine es k calm.

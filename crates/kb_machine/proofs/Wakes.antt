@@ -24,6 +24,7 @@ use Rattle.kb_machine.specs.Broker.{BrokerState, IsSound, IsUnready, AreUnready,
 use Rattle.kb_machine.specs.declared.whom.Whom.{Whom}
 use Rattle.kb_machine.specs.declared.whom.Whom.TheVariants as whoms
 use Rattle.kb_machine.specs.Turned.{Scope, HasTenant, is_resting, Turned, Served, Concerns, Waked, IsLookedFor, IsPassedOver}
+use Rattle.kb_machine.specs.Stranded.{NoneStranded}
 use Rattle.kb_machine.proofs.Laws.{those-each}
 use Rattle.kb_machine.proofs.Owners.{IsBound, IsMine, mine-bound, bound-same}
 use Rattle.kb_machine.proofs.Sets.{IsAt, set-on}
@@ -47,7 +48,7 @@ told-twice kept clock n (Waits deadline places) id s e = e
 told-twice kept clock n Silent id s e = e
 told-twice kept clock n Shuts id s e = woken-free kept clock n (shut_down s) (free-without s.stage)
 
-woken-at : (kept : Kept) (clock n : ℕ) (s : Session) (u : ℕ) (w : Wait) → s.stage ≡ BoundTo u (Some w) → woken kept clock n s ≡ told (ready kept clock n w) w.correlation_id s
+pub woken-at : (kept : Kept) (clock n : ℕ) (s : Session) (u : ℕ) (w : Wait) → s.stage ≡ BoundTo u (Some w) → woken kept clock n s ≡ told (ready kept clock n w) w.correlation_id s
 unfolding woken_by
 woken-at kept clock n s u w e = ap (woken_by kept clock n s) e
 
@@ -70,6 +71,7 @@ waked-same whom b s = record {
   untouched = λ k e. refl;
   counts = λ t never. refl;
   kept = λ t. refl;
+  held = λ h. h;
   still = λ scope has still. still;
   mine = λ t mine es m. m;
   others = λ t mine es m never. refl;
@@ -86,6 +88,7 @@ waked-then whom a b c p q =
       untouched = untouched-then a b c p.untouched q.untouched;
       counts = λ t never. q.counts t never ∙ p.counts t never;
       kept = λ t. q.kept t ∙ p.kept t;
+      held = λ k. q.held (p.held k);
       still = λ scope has still. q.still scope (λ t is. tenant-later scope a b t p.going (has t is)) (p.still scope has still);
       mine = λ t mine es m. q.mine t mine es (p.mine t mine es m);
       others = λ t mine es m never. q.others t mine es (p.mine t mine es m) never ∙ p.others t mine es m never;
@@ -118,8 +121,8 @@ each-again kept clock n (l ∷ ls) = by (eqb l.number n) refl (each-again kept c
 pub waked-line : (whom : Whom) (b : BrokerState) (i u : ℕ) (l m : Line) (w : Wait) (H : Type 0) (ts : List TenantState) → IsSound b → IsAt b.lines i l → l.session.stage ≡ BoundTo u (Some w) → Concerns whom u →
     m.number ≡ l.number → without_wait m.session.stage ≡ without_wait l.session.stage → IsTurn u H b.tenants ts → H → ((t : ℕ) → hosted.kept_of ts t ≡ kept_of b t) →
     (IsCalm (count b.tenants u) (count ts u) → m.session ≡ woken (kept_of b u) b.clock l.number l.session) →
-    Waked whom b (changed b i m ts b.unbound_refusals)
-waked-line whom b i u l m w H ts s at g concerned n same turn honest stays meets =
+    (NoneStranded b → NoneStranded (changed b i m ts b.unbound_refusals)) → Waked whom b (changed b i m ts b.unbound_refusals)
+waked-line whom b i u l m w H ts s at g concerned n same turn honest stays meets held =
     let p : IsBound u l.session = record { wait = Some w; is = g } in
     let q : IsBound u m.session = bound-same u l.session m.session p same in
     let new = changed b i m ts b.unbound_refusals in
@@ -130,6 +133,7 @@ waked-line whom b i u l m w H ts s at g concerned n same turn honest stays meets
       untouched = changed-untouched b i l m ts b.unbound_refusals s at n (busy u w l.session g);
       counts = λ t never. turn.counts t (unconcerned whom t u concerned never);
       kept = stays;
+      held = held;
       still = λ scope has still. changed-still scope b i m ts b.unbound_refusals going still (λ c. inr (u, tenant-later scope b new u going (has u concerned), ap whose q.is));
       mine = λ t mine es k. bound-mine b i u l m at p q n t mine es k;
       others = λ t mine es k never. called-others b i u l m H ts s at p n turn honest t mine es k (unconcerned whom t u concerned never);
@@ -220,6 +224,7 @@ turned-served u scope a b c p q own rest =
       counted = counted-then scope a b c p.going q.going p.counted (counted-tenant scope b c u tenant (λ t ne. q.counts t ne) q.unbound);
       untouched = untouched-then a b c p.untouched q.untouched;
       unready = λ k. rest (unready-weaken (λ t w. t ≢ u) (IsPassedOver (whoms.Tenant u) b.clock) b (λ t w e. eqb_other u t (eqb-swap t u e)) (p.unready k));
+      held = λ k. q.held (p.held k);
       mine = λ t mine es m calm. q.mine t mine es (p.mine t mine es m);
       view = λ t mine es m calm. each-tenant (λ v. Mine v mine es a → IsCalm (refusals_of a v) (refusals_of c v) → turns (view_of v mine c) ≡ turns (view_of v mine a)) u t (eqb u t) refl
           (λ m' c'.
@@ -242,6 +247,7 @@ turned-quiet u scope a c p unready = record {
   counted = p.counted;
   untouched = p.untouched;
   unready = λ k. unready;
+  held = p.held;
   mine = λ t mine es m calm. p.mine t mine es m;
   view = λ t mine es m calm. each-tenant (λ v. Mine v mine es a → IsCalm (refusals_of a v) (refusals_of c v) → turns (view_of v mine c) ≡ turns (view_of v mine a)) u t (eqb u t) refl
       (λ m' c'. ap turns (sym (unready-view AnyWait c u mine es unready (λ w. tt) (p.mine u mine es m'))) ∙ p.view mine es m' c')

@@ -5,6 +5,7 @@ pub mod Owners
 pub mod Requests
 pub mod Session
 pub mod Tenant
+pub mod Stranded
 pub mod Turned
 pub mod Calls
 pub mod Told

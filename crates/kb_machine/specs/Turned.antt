@@ -8,6 +8,7 @@ use Rattle.kb_machine.specs.Owners.{whose}
 use Rattle.kb_world.specs.Steps.{IsCalm}
 use Rattle.kb_machine.specs.declared.whom.Whom.{Whom}
 use Rattle.kb_machine.specs.declared.whom.Whom.TheVariants as whoms
+use Rattle.kb_machine.specs.Stranded.{NoneStranded}
 use Rattle.kb_machine.specs.Broker.{BrokerState, IsSound, AreUnready, AnyWait, Grows, IsCalmFor, Mine, view_of, kept_of, refusals_of, bound_to}
 
 -- 1. Whose event it is
@@ -74,6 +75,7 @@ pub record Turned (scope : Scope) (old new : BrokerState) : Type 0 where
   pub counted : IsCountedIn scope old new
   pub untouched : AreUntouched old new
   pub unready : AreUnready AnyWait old → AreUnready AnyWait new
+  pub held : NoneStranded old → NoneStranded new
   pub mine : (t : ℕ) (mine : ℕ → Bool) (es : List Happening) → Mine t mine es old → IsCalm old.unbound_refusals new.unbound_refusals → Mine t mine es new
   pub view : (t : ℕ) (mine : ℕ → Bool) (es : List Happening) → Mine t mine es old → IsCalmFor t old new → turns (view_of t mine new) ≡ turns (view_of t mine old)
 
@@ -85,6 +87,7 @@ pub record Served (tenant : ℕ) (scope : Scope) (old new : BrokerState) : Type 
   pub untouched : AreUntouched old new
   pub tenants : HasTenant scope new tenant
   pub unready : AreUnready AnyWait old → AreUnready (λ t w. t ≢ tenant) new
+  pub held : NoneStranded old → NoneStranded new
   pub mine : (t : ℕ) (mine : ℕ → Bool) (es : List Happening) → Mine t mine es old → Mine t mine es new
   pub others : (t : ℕ) (mine : ℕ → Bool) (es : List Happening) → Mine t mine es old → t ≢ tenant → view_of t mine new ≡ view_of t mine old
   pub view : (mine : ℕ → Bool) (es : List Happening) → Mine tenant mine es old → IsCalm (refusals_of old tenant) (refusals_of new tenant) → turns (all_woken (view_of tenant mine new)) ≡ turns (view_of tenant mine old)
@@ -96,6 +99,7 @@ pub record IsFed (n : ℕ) (piece : List ℕ) (old new : BrokerState) : Type 0 w
   pub counted : IsCountedIn (Of n) old new
   pub others : SameOthers n old new
   pub unready : AreUnready AnyWait old → AreUnready AnyWait new
+  pub held : NoneStranded old → NoneStranded new
   pub mine : (t : ℕ) (mine : ℕ → Bool) (es : List Happening) → Mine t mine (Comes n piece ∷ es) old → IsCalm old.unbound_refusals new.unbound_refusals → Mine t mine es new
   pub view : (t : ℕ) (mine : ℕ → Bool) (es : List Happening) → Mine t mine (Comes n piece ∷ es) old → IsCalmFor t old new → turns (view_of t mine new) ≡ stepped (mine n) (Comes n piece) (view_of t mine old)
 
@@ -114,6 +118,7 @@ pub record Waked (whom : Whom) (old new : BrokerState) : Type 0 where
   pub untouched : AreUntouched old new
   pub counts : (t : ℕ) → (Concerns whom t → ⊥) → refusals_of new t ≡ refusals_of old t
   pub kept : (t : ℕ) → kept_of new t ≡ kept_of old t
+  pub held : NoneStranded old → NoneStranded new
   pub still : (scope : Scope) → ((t : ℕ) → Concerns whom t → HasTenant scope old t) → AreStill scope old → AreStill scope new
   pub mine : (t : ℕ) (mine : ℕ → Bool) (es : List Happening) → Mine t mine es old → Mine t mine es new
   pub others : (t : ℕ) (mine : ℕ → Bool) (es : List Happening) → Mine t mine es old → (Concerns whom t → ⊥) → view_of t mine new ≡ view_of t mine old

@@ -20,7 +20,7 @@ use Rattle.kb_world.specs.declared.place.Place.{Place}
 use Rattle.kb_topics.specs.Known.{named}
 use Rattle.kb_tenant.specs.Produce.{Progress, answer, is_due, progress, refusal_of, reply_bytes, served, where_due}
 use Rattle.kb_tenant.specs.Replies.{begun, IsAnswer, Replies}
-use Rattle.kb_tenant.specs.Told.{IsAcknowledged, IsAppendWant, IsEntryTold, IsProduceTold, IsTold, IsTopicTold, IsWanting}
+use Rattle.kb_tenant.specs.Told.{IsAcknowledged, IsAppendWant, IsEntryTold, IsProduceTold, IsReplied, IsTold, IsTopicTold, IsWanting}
 use Rattle.kb_tenant.specs.Turns.{AreServed}
 use Rattle.kb_tenant.specs.declared.answer.Answer.{Answer}
 use Rattle.kb_tenant.specs.declared.answer.Answer.TheVariants as answers
@@ -45,7 +45,7 @@ module _ {S E A : Type 0} (R : S → E → S → A → Type 0) where
   pub served_all : (s t : S) (es : List E) (i : ℕ) (answers : List A) → length es ≤ i → AreServed R s (take i es) t answers → AreServed R s es t answers
   served_all s t es i answers le h = subst (λ xs. AreServed R s xs t answers) (take_all i es le) h
 
-  served_length : (s t : S) (es : List E) (answers : List A) → AreServed R s es t answers → length answers ≡ length es
+  pub served_length : (s t : S) (es : List E) (answers : List A) → AreServed R s es t answers → length answers ≡ length es
   served_length s t [] [] h = refl
   served_length s t [] (a ∷ answers) h = absurd h
   served_length s t (e ∷ es) [] h = absurd h
@@ -132,6 +132,17 @@ acknowledged_by id w r v old new s t answer from due none told made =
 
     by : (x : Answer) → IsAnswer id (Replies (produce_reply.written reply)) x → IsAcknowledged id w r v new x
     by (answers.Reply bytes) h = (reply, (h.1, so))
+    by (answers.Wait deadline keys) h = absurd h
+    by answers.NoReply h = absurd h
+    by answers.Shut h = tt
+
+-- what a body tells that stands behind what was begun
+pub replied_by : (id : ℤ) (Told : List ℕ → Type 0) (s t body : List ℕ) (answer : Answer) → s ≡ begun id → t ≡ s ++ body → Told body
+    → ((id : ℤ) (body : List ℕ) → t ≡ begun id ++ body → IsAnswer id (Replies body) answer) → IsReplied id Told answer
+replied_by id Told s t body answer from more told made = by answer (made id body (more ∙ ap (λ b. b ++ body) from))
+  where
+    by : (x : Answer) → IsAnswer id (Replies body) x → IsReplied id Told x
+    by (answers.Reply bytes) h = (body, (h.1, told))
     by (answers.Wait deadline keys) h = absurd h
     by answers.NoReply h = absurd h
     by answers.Shut h = tt

@@ -113,3 +113,12 @@ answers_over {S} version sent f start out end s t es i same le counted told =
           ∙ ap (λ v. start ++ ((count w32).written (length r.1) ++ flat_map (creation_in v) r.1)) same
           ∙ ap (λ l. start ++ l) (by_version (int_eq version (pos 1)) r.1),
     )
+
+-- replies behind their count
+pub replies_written : (version sent : ℤ) (start mid end : List ℕ) (n : ℕ) (replies : List CreateTopicReply) → sent ≡ version → n ≡ length replies → mid ≡ start ++ (count w32).written n → end ≡ mid ++ flat_map (creation_in sent) replies
+    → end ≡ start ++ creations_in version (record { topics = replies })
+replies_written version sent start mid end n replies same many first last =
+    last ∙ ap (λ s. s ++ flat_map (creation_in sent) replies) first ∙ append_assoc start ((count w32).written n) (flat_map (creation_in sent) replies)
+    ∙ ap (λ m. start ++ ((count w32).written m ++ flat_map (creation_in sent) replies)) many
+    ∙ ap (λ v. start ++ ((count w32).written (length replies) ++ flat_map (creation_in v) replies)) same
+    ∙ ap (λ l. start ++ l) (by_version (int_eq version (pos 1)) replies)

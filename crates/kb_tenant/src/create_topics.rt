@@ -1,12 +1,15 @@
 //! CreateTopics (Kafka protocol guide): topics are made, one after another. A request of version 1 may ask that they are only
 //! checked, and each answer has a message, which is null; any other version is answered as 0.
-ghost use Rattle.std.specs.Prelude.{◌≡◌, ◌++◌, ◌+◌, ◌<◌, ◌^◌, length, pos, IfOk, OnOk};
+ghost use Rattle.std.specs.Prelude.{◌≡◌, ◌++◌, ◌+◌, ◌<◌, ◌^◌, length, pos, IfOk, List, OnOk};
 ghost use Rattle.kb_api_data.specs.Layouts.{create_topics_request_v1};
+ghost use Rattle.kb_api_data.specs.declared.create_topics.CreateTopicReply.{CreateTopicReply};
+ghost use Rattle.kb_partitions.specs.Scene.{WhereHonest};
 ghost use Rattle.kb_store.specs.Disk.{Files};
 ghost use Rattle.kb_wire.specs.Codec.{string};
 ghost use Rattle.kb_wire.specs.Reads.{ReadsWhole};
 ghost use Rattle.kb_tenant.specs.CreateTopics.{asked_creations, checked_all, checked_unless, code_in, created_all, creation_in, creations_in, made, made_of, refusal, settings_in};
-ghost use Rattle.kb_tenant.specs.Told.{IsFaultOf, IsTold};
+ghost use Rattle.kb_tenant.specs.Told.{IsCreationTold, IsFaultOf, IsTold};
+ghost use Rattle.kb_tenant.specs.Turns.{AreServed};
 ghost use Rattle.kb_world.specs.Parts.{meta, scene, world_of};
 ghost use Rattle.kb_world.specs.Steps.{IsStep, Meets};
 ghost use Rattle.kb_world.specs.Tied.{IsTied};
@@ -208,6 +211,10 @@ pub fn create_topics<L: PartitionLog + Drop, S: Store>(
     ensures meets { let a = scene L.log S.disk parts.old shelf.old in let b = scene L.log S.disk parts.new shelf.new in
         OnOk result (Meets a b (let r = created_all a.state.world (made_of request.now) in
         (b.state.world ≡ r.0) × (sink.new.bytes ≡ sink.old.bytes ++ creations_in version r.1))) }
+    // A topic that is answered with no error is in the catalog, whatever else was refused.
+    ensures told { OnOk result (let a = scene L.log S.disk parts.old shelf.old in let b = scene L.log S.disk parts.new shelf.new in
+        WhereHonest a b ((replies : List CreateTopicReply) × ((sink.new.bytes ≡ sink.old.bytes ++ creations_in version (record { topics = replies }))
+        × AreServed (IsCreationTold request.now.topics) a.state.world request.now.topics b.state.world replies))) }
 {
     let topics = request.topics.as_slice();
     let repeated = Repeated::among(alloc, topics)?;

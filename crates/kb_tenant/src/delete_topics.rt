@@ -1,10 +1,13 @@
 //! DeleteTopics (Kafka protocol guide): topics are deleted, one after another. Version 1 also tells how long the client is held
 //! back, which is never; any other version is answered as 0.
-ghost use Rattle.std.specs.Prelude.{◌≡◌, ◌++◌, ◌<◌, ◌^◌, length, pos, take, Some, OnOk, OnErr};
+ghost use Rattle.std.specs.Prelude.{◌≡◌, ◌++◌, ◌<◌, ◌^◌, length, pos, take, List, Some, OnOk, OnErr};
+ghost use Rattle.kb_api_data.specs.declared.delete_topics.DeleteTopicReply.{DeleteTopicReply};
+ghost use Rattle.kb_partitions.specs.Scene.{WhereHonest};
 ghost use Rattle.kb_store.specs.Disk.{Files};
 ghost use Rattle.kb_api_data.specs.Layouts.{delete_topics_request};
 ghost use Rattle.kb_tenant.specs.DeleteTopics.{places_at, places_named, told_if, deleted, deleted_all, deletions_in, throttle_in};
-ghost use Rattle.kb_tenant.specs.Told.{IsDeleted, IsDeletionTold, IsFaultOf};
+ghost use Rattle.kb_tenant.specs.Told.{IsDeleted, IsDeletionTold, IsFaultOf, IsRemovalTold};
+ghost use Rattle.kb_tenant.specs.Turns.{AreServed};
 ghost use Rattle.kb_world.specs.Parts.{meta, scene, world_of};
 ghost use Rattle.kb_world.specs.Steps.{IsStep, Meets};
 
@@ -108,6 +111,10 @@ pub fn delete_topics<L: PartitionLog + Drop, S: Store>(
         OnOk result (Meets a b (let r = deleted_all (a.state.world, touched.old.items) request.now in
         (b.state.world ≡ r.0.0) × (touched.new.items ≡ r.0.1)
         × (sink.new.bytes ≡ sink.old.bytes ++ deletions_in version r.1))) }
+    // A topic that is answered with no error is gone, whatever else was refused.
+    ensures told { OnOk result (let a = scene L.log S.disk parts.old shelf.old in let b = scene L.log S.disk parts.new shelf.new in
+        WhereHonest a b ((replies : List DeleteTopicReply) × ((sink.new.bytes ≡ sink.old.bytes ++ deletions_in version (record { topics = replies }))
+        × AreServed IsRemovalTold (a.state.world, touched.old.items) request.now.names (b.state.world, touched.new.items) replies))) }
 {
     let names = request.names.as_slice();
     put_throttle(version, sink)?;

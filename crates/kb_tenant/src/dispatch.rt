@@ -10,7 +10,7 @@ ghost use Rattle.kb_tenant.specs.CreateTopics.{asked_creations};
 ghost use Rattle.kb_tenant.specs.Fetch.{asked_fetch};
 ghost use Rattle.kb_tenant.specs.Metadata.{asked_metadata};
 ghost use Rattle.kb_tenant.specs.Replies.{IsAnswer};
-ghost use Rattle.kb_tenant.specs.Told.{Acknowledges};
+ghost use Rattle.kb_tenant.specs.Told.{Acknowledges, AcknowledgesCommits, AcknowledgesCreations, AcknowledgesIssue, AcknowledgesRemovals};
 ghost use Rattle.kb_tenant.specs.Serve.{if_read, of_produce, of_fetch, of_list_offsets, of_metadata, of_create_topics, of_delete_records, of_delete_topics, of_init_producer_id, served, looked, stays, IsOutcome, IsServed};
 
 use crate::answer::{Answer, begin, finish};
@@ -137,6 +137,8 @@ fn serve_create_topics<L: PartitionLog + Drop, S: Store>(
     ensures step { IsStep (scene L.log S.disk parts.old shelf.old) (scene L.log S.disk parts.new shelf.new) }
     ensures meets { let a = scene L.log S.disk parts.old shelf.old in let b = scene L.log S.disk parts.new shelf.new in
         Meets a b (IsServed request.now.correlation_id (if_read a.state.world (asked_creations request.now.api_version request.now.body.now) (of_create_topics request.now.api_version a.state.world)) b.state.world [] result) }
+    ensures acknowledged { let a = scene L.log S.disk parts.old shelf.old in let b = scene L.log S.disk parts.new shelf.new in
+        IfOk result (λ answer. WhereHonest a b (AcknowledgesCreations request.now.correlation_id request.now.api_version a.state.world request.now.body.now b.state.world answer)) }
 {
     let version = request.api_version;
     let asked = read_create_topics(alloc, version, request.body)?;
@@ -162,6 +164,8 @@ fn serve_delete_topics<L: PartitionLog + Drop, S: Store>(
     ensures step { IsStep (scene L.log S.disk parts.old shelf.old) (scene L.log S.disk parts.new shelf.new) }
     ensures meets { let a = scene L.log S.disk parts.old shelf.old in let b = scene L.log S.disk parts.new shelf.new in
         Meets a b (IsServed request.now.correlation_id (if_read a.state.world (whole delete_topics_request request.now.body.now) (of_delete_topics request.now.api_version a.state.world)) b.state.world touched.new.items result) }
+    ensures acknowledged { let a = scene L.log S.disk parts.old shelf.old in let b = scene L.log S.disk parts.new shelf.new in
+        IfOk result (λ answer. WhereHonest a b (AcknowledgesRemovals request.now.correlation_id request.now.api_version a.state.world request.now.body.now b.state.world touched.new.items answer)) }
 {
     let asked = DeleteTopicsRequest::read(alloc, request.body)?;
     let mut sink = begin(alloc, request.correlation_id)?;
@@ -207,6 +211,8 @@ fn serve_init_producer_id<L: PartitionLog + Drop, S: Store>(
     ensures step { IsStep (scene L.log S.disk parts.old shelf.old) (scene L.log S.disk parts.new shelf.new) }
     ensures meets { let a = scene L.log S.disk parts.old shelf.old in let b = scene L.log S.disk parts.new shelf.new in
         Meets a b (IsServed request.now.correlation_id (if_read a.state.world (whole init_producer_id_request request.now.body.now) (of_init_producer_id a.state.world)) b.state.world [] result) }
+    ensures acknowledged { let a = scene L.log S.disk parts.old shelf.old in let b = scene L.log S.disk parts.new shelf.new in
+        IfOk result (λ answer. WhereHonest a b (AcknowledgesIssue request.now.correlation_id a.state.world request.now.body.now b.state.world answer)) }
 {
     let asked = InitProducerIdRequest::read(alloc, request.body)?;
     let mut sink = begin(alloc, request.correlation_id)?;
@@ -232,6 +238,14 @@ fn serve_by_key<L: PartitionLog + Drop, S: Store>(
         Meets a b (IsServed request.now.correlation_id (served node.now a.state.world request.now.connection request.now.api_key request.now.api_version request.now.body.now) b.state.world touched.new.items result) }
     ensures acknowledged { let a = scene L.log S.disk parts.old shelf.old in let b = scene L.log S.disk parts.new shelf.new in
         request.now.api_key ≡ pos 0 → IfOk result (λ answer. WhereHonest a b (Acknowledges request.now.correlation_id a.state.world request.now.body.now b.state.world touched.new.items answer)) }
+    ensures created { let a = scene L.log S.disk parts.old shelf.old in let b = scene L.log S.disk parts.new shelf.new in
+        request.now.api_key ≡ pos 19 → IfOk result (λ answer. WhereHonest a b (AcknowledgesCreations request.now.correlation_id request.now.api_version a.state.world request.now.body.now b.state.world answer)) }
+    ensures removed { let a = scene L.log S.disk parts.old shelf.old in let b = scene L.log S.disk parts.new shelf.new in
+        request.now.api_key ≡ pos 20 → IfOk result (λ answer. WhereHonest a b (AcknowledgesRemovals request.now.correlation_id request.now.api_version a.state.world request.now.body.now b.state.world touched.new.items answer)) }
+    ensures issued { let a = scene L.log S.disk parts.old shelf.old in let b = scene L.log S.disk parts.new shelf.new in
+        request.now.api_key ≡ pos 22 → IfOk result (λ answer. WhereHonest a b (AcknowledgesIssue request.now.correlation_id a.state.world request.now.body.now b.state.world answer)) }
+    ensures committed { let a = scene L.log S.disk parts.old shelf.old in let b = scene L.log S.disk parts.new shelf.new in
+        request.now.api_key ≡ pos 8 → IfOk result (λ answer. WhereHonest a b (AcknowledgesCommits request.now.correlation_id a.state.world request.now.body.now b.state.world answer)) }
 {
     match request.api_key {
         0 => serve_produce(alloc, parts, shelf, request, touched),
@@ -269,6 +283,18 @@ pub fn serve<L: PartitionLog + Drop, S: Store>(
     // A batch of a Produce that is answered with no error is in its partition's log, whatever else was refused.
     ensures acknowledged { let a = scene L.log S.disk parts.old shelf.old in let b = scene L.log S.disk parts.new shelf.new in
         request.now.api_key ≡ pos 0 → WhereHonest a b (Acknowledges request.now.correlation_id a.state.world request.now.body.now b.state.world result.touched.items result.answer) }
+    // A topic of a CreateTopics that is answered with no error is in the catalog, whatever else was refused.
+    ensures created { let a = scene L.log S.disk parts.old shelf.old in let b = scene L.log S.disk parts.new shelf.new in
+        request.now.api_key ≡ pos 19 → WhereHonest a b (AcknowledgesCreations request.now.correlation_id request.now.api_version a.state.world request.now.body.now b.state.world result.answer) }
+    // A topic of a DeleteTopics that is answered with no error is gone.
+    ensures removed { let a = scene L.log S.disk parts.old shelf.old in let b = scene L.log S.disk parts.new shelf.new in
+        request.now.api_key ≡ pos 20 → WhereHonest a b (AcknowledgesRemovals request.now.correlation_id request.now.api_version a.state.world request.now.body.now b.state.world result.touched.items result.answer) }
+    // An id that an InitProducerId answers with no error was given out.
+    ensures issued { let a = scene L.log S.disk parts.old shelf.old in let b = scene L.log S.disk parts.new shelf.new in
+        request.now.api_key ≡ pos 22 → WhereHonest a b (AcknowledgesIssue request.now.correlation_id a.state.world request.now.body.now b.state.world result.answer) }
+    // An offset of an OffsetCommit that is answered with no error is what the catalog has.
+    ensures committed { let a = scene L.log S.disk parts.old shelf.old in let b = scene L.log S.disk parts.new shelf.new in
+        request.now.api_key ≡ pos 8 → WhereHonest a b (AcknowledgesCommits request.now.correlation_id a.state.world request.now.body.now b.state.world result.answer) }
 {
     let mut touched = Vec::new(alloc);
     match serve_by_key(alloc, parts, shelf, node, request, &mut touched) {

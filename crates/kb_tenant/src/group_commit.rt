@@ -1,10 +1,15 @@
 //! OffsetCommit, version 2 (Kafka protocol guide): a group records how far it has processed partitions.
-ghost use Rattle.std.specs.Prelude.{◌≡◌, ◌++◌, ◌<◌, ◌^◌, length, pos, OnOk};
+ghost use Rattle.std.specs.Prelude.{◌≡◌, ◌++◌, ◌<◌, ◌^◌, length, pos, List, OnOk};
+ghost use Rattle.std.specs.List.{flat_map};
 ghost use Rattle.kb_api_group.specs.Layouts.{commit_partition_reply, commit_topic, commit_topic_reply, offset_commit_request, offset_commit_reply};
+ghost use Rattle.kb_api_group.specs.declared.offset_commit.CommitPartitionReply.{CommitPartitionReply};
+ghost use Rattle.kb_api_group.specs.declared.offset_commit.CommitTopicReply.{CommitTopicReply};
+ghost use Rattle.kb_api_group.specs.declared.offset_commit.OffsetCommitReply.{OffsetCommitReply};
+ghost use Rattle.kb_partitions.specs.Scene.{WhereHonest};
 ghost use Rattle.kb_tenant.specs.OffsetCommit.{refusal_of as refusal_for, metadata_in as metadata_for, committed_at, committed, committed_entry, committed_topic, committed_all};
 ghost use Rattle.kb_tenant.specs.Produce.{written_next};
-ghost use Rattle.kb_tenant.specs.Told.{IsFaultOf, IsTold};
-ghost use Rattle.kb_tenant.specs.Turns.{in_turn, written_behind};
+ghost use Rattle.kb_tenant.specs.Told.{IsCommitTold, IsCommitTopicTold, IsFaultOf, IsTold};
+ghost use Rattle.kb_tenant.specs.Turns.{in_turn, written_behind, AreServed};
 ghost use Rattle.kb_wire.specs.Codec.{string};
 ghost use Rattle.kb_world.specs.Parts.{meta, scene};
 ghost use Rattle.kb_world.specs.Steps.{IsStep, Meets};
@@ -109,6 +114,9 @@ fn commit_entries<L: PartitionLog + Drop, S: Store>(
     ensures step { IsStep (scene L.log S.disk parts.old shelf.old) (scene L.log S.disk parts.new shelf.new) }
     ensures meets { OnOk result (let a = scene L.log S.disk parts.old shelf.old in let b = scene L.log S.disk parts.new shelf.new in
         Meets a b ((b.state.world, sink.new.bytes) ≡ written_behind commit_partition_reply.written sink.old.bytes (in_turn (committed_entry refusal group.now topic) a.state.world entries.now))) }
+    ensures told { OnOk result (let a = scene L.log S.disk parts.old shelf.old in let b = scene L.log S.disk parts.new shelf.new in
+        WhereHonest a b ((replies : List CommitPartitionReply) × ((sink.new.bytes ≡ sink.old.bytes ++ flat_map commit_partition_reply.written replies)
+        × AreServed (IsCommitTold refusal group.now topic) a.state.world entries.now b.state.world replies))) }
 {
     for entry in entries {
         let reply = CommitPartitionReply {
@@ -135,6 +143,9 @@ fn commit_topic<L: PartitionLog + Drop, S: Store>(
     ensures step { IsStep (scene L.log S.disk parts.old shelf.old) (scene L.log S.disk parts.new shelf.new) }
     ensures meets { OnOk result (let a = scene L.log S.disk parts.old shelf.old in let b = scene L.log S.disk parts.new shelf.new in
         Meets a b ((b.state.world, sink.new.bytes) ≡ written_next commit_topic_reply.written sink.old.bytes (committed_topic refusal group.now a.state.world topic.now))) }
+    ensures told { OnOk result (let a = scene L.log S.disk parts.old shelf.old in let b = scene L.log S.disk parts.new shelf.new in
+        WhereHonest a b ((reply : CommitTopicReply) × ((sink.new.bytes ≡ sink.old.bytes ++ commit_topic_reply.written reply)
+        × IsCommitTopicTold refusal group.now a.state.world topic.now b.state.world reply))) }
 {
     sink.put_string(topic.name.as_str())?;
     sink.put_count(topic.partitions.len())?;
@@ -163,6 +174,10 @@ pub fn offset_commit<L: PartitionLog + Drop, S: Store>(
     ensures meets { OnOk result (let a = scene L.log S.disk parts.old shelf.old in let b = scene L.log S.disk parts.new shelf.new in
         Meets a b (let r = committed_all a.state.world refusal request.now in
         (b.state.world ≡ r.0) × (sink.new.bytes ≡ sink.old.bytes ++ offset_commit_reply.written r.1))) }
+    // An offset that is answered with no error is what the catalog has, whatever else was refused.
+    ensures told { OnOk result (let a = scene L.log S.disk parts.old shelf.old in let b = scene L.log S.disk parts.new shelf.new in
+        WhereHonest a b ((reply : OffsetCommitReply) × ((sink.new.bytes ≡ sink.old.bytes ++ offset_commit_reply.written reply)
+        × AreServed (IsCommitTopicTold refusal request.now.group_id) a.state.world request.now.topics b.state.world reply.topics))) }
 {
     let group = request.group_id.as_str();
     sink.put_count(request.topics.len())?;

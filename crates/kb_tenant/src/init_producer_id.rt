@@ -1,8 +1,10 @@
 //! InitProducerId: a producer asks for an id.
 ghost use Rattle.std.specs.Prelude.{◌≡◌, ◌++◌, pos, OnOk};
 ghost use Rattle.kb_api_data.specs.Layouts.{init_producer_id_reply};
+ghost use Rattle.kb_api_data.specs.declared.init_producer_id.InitProducerIdReply.{InitProducerIdReply};
+ghost use Rattle.kb_partitions.specs.Scene.{WhereHonest};
 ghost use Rattle.kb_tenant.specs.InitProducerId.{id_refused, init_producer_id};
-ghost use Rattle.kb_tenant.specs.Told.{IsFaultOf, IsTold};
+ghost use Rattle.kb_tenant.specs.Told.{IsFaultOf, IsIssueTold, IsTold};
 ghost use Rattle.kb_world.specs.Parts.{meta, scene};
 ghost use Rattle.kb_world.specs.Steps.{IsStep, Meets};
 ghost use Rattle.kb_world.specs.Told.{IsDone};
@@ -72,6 +74,10 @@ pub fn init_producer_id<L: PartitionLog + Drop, S: Store>(
     ensures meets { let a = scene L.log S.disk parts.old shelf.old in let b = scene L.log S.disk parts.new shelf.new in
         OnOk result (Meets a b (let r = init_producer_id a.state.world request.now in
         (b.state.world ≡ r.0) × (sink.new.bytes ≡ sink.old.bytes ++ init_producer_id_reply.written r.1))) }
+    // An id that is answered with no error was given out, whatever else was refused.
+    ensures told { OnOk result (let a = scene L.log S.disk parts.old shelf.old in let b = scene L.log S.disk parts.new shelf.new in
+        WhereHonest a b ((reply : InitProducerIdReply) × ((sink.new.bytes ≡ sink.old.bytes ++ init_producer_id_reply.written reply)
+        × IsIssueTold a.state.world request.now b.state.world reply))) }
 {
     give_id(parts, shelf, request).write(sink)
 }

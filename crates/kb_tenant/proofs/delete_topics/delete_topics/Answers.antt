@@ -1,17 +1,23 @@
-use Rattle.std.proofs.Common.{◌≡◌, ◌∙◌, ◌++◌, sym, ap, refl, subst, w16, ℕ, List}
+use Rattle.std.proofs.Common.{◌≡◌, ◌∙◌, ◌++◌, [], ◌∷◌, append-nil, length, of_z, sym, ap, refl, subst, to_z, w16, w32, ℕ, List}
+use Rattle.std.specs.List.{flat_map}
 use Rattle.std.proofs.lemmas.Int.{to_z-of_z}
 use Rattle.std.proofs.Math.Seq.{take-length}
-use Rattle.kb_wire.specs.Codec.{string, array}
+use Rattle.kb_wire.specs.Codec.{count, string, array}
 use Rattle.kb_api_data.specs.Layouts.{delete_topic_reply}
+use Rattle.kb_api_data.specs.declared.delete_topics.DeleteTopicReply.{DeleteTopicReply}
 use Rattle.kb_partitions.specs.Scene.{Scene}
 use Rattle.kb_tenant.specs.DeleteTopics.{deleted_topic, deletions_in, throttle_in}
-use Rattle.kb_world.specs.Parts.{Seen, scene}
+use Rattle.kb_world.specs.Parts.{Seen, meta, scene}
 use Rattle.kb_world.specs.Steps.{step_same, step_then, meets_then, meets_so}
-use Rattle.kb_tenant.specs.Turns.{in_turn}
+use Rattle.kb_tenant.specs.Told.{IsRemovalTold}
+use Rattle.kb_tenant.specs.Turns.{in_turn, AreServed}
 use Rattle.kb_world.specs.World.{World}
 use Rattle.kb_world.specs.declared.place.Place.{Place}
+use Rattle.kb_tenant.proofs.Acknowledging.{honest_then, served_all, served_length, served_next, written_more}
 use Rattle.kb_tenant.proofs.Deleting.{answered_is, deleted_fits, name_short, names_fit, deletions_written, kept_more}
+use Rattle.kb_tenant.proofs.Fitting.{array_written, written_both}
 use Rattle.kb_tenant.proofs.Replies.{entry_next, entries_over, count_fits, item_fits}
+use Rattle.kb_tenant.proofs.Wanted.{removal_told_so}
 use Rattle.kb_tenant.proofs.delete_topics.delete_topics.Goals as goal
 
 pub put_count-requires : goal.put_count-requires
@@ -49,6 +55,7 @@ loop-name-init g c = record {
   step = step_same (scene g.L.PartitionLog.log g.S.Store.disk c.args.parts.now c.args.shelf.now) c.requires.sound;
   kept = take-length c.args.touched.now.items;
   told = λ honest agrees calm. refl;
+  answers = λ honest agree. ([], (sym (append-nil c.put_count.new.self.bytes), refl));
 }
 
 pub loop-name-preserved : goal.loop-name-preserved
@@ -70,6 +77,17 @@ loop-name-preserved g c =
       told = meets_so a d _ _ (λ both. entry_next delete_topic_reply deleted_topic c.loop-name.sink.bytes c.write.new.sink.bytes (b.state.world, old) (d.state.world, now) _ names i t _ c.loop-name-test.true c.name-item.is c.in_ok-write.ensures.ok
           (answered_is b.state.world d.state.world old now t c.as_str-name.result.now c.new.result c.delete_topic.result _ c.as_str-name.ensures c.new.ensures both.1 sent) both.0)
           (meets_then a b d _ _ c.loop-name.invariant.step c.delete_topic.ensures.step c.loop-name.invariant.told c.delete_topic.ensures.meets);
+      answers = λ honest agree.
+          let reply : DeleteTopicReply = record { name = c.new.result; error_code = to_z w16 (of_z w16 c.delete_topic.result) } in
+          let both = honest_then a b d _ _ c.loop-name.invariant.step c.delete_topic.ensures.step c.loop-name.invariant.answers
+          (removal_told_so b d (meta log c.loop-name.parts).end old now t c.as_str-name.result.now c.new.result c.delete_topic.result reply.error_code c.as_str-name.ensures c.new.ensures sent c.delete_topic.ensures.answered) honest agree in
+          let before = both.0 in (
+            before.0 ++ reply ∷ [],
+            (
+              written_more delete_topic_reply.written c.put_count.new.self.bytes c.loop-name.sink.bytes c.write.new.sink.bytes before.0 reply before.1.0 c.in_ok-write.ensures.ok,
+              served_next IsRemovalTold (a.state.world, c.args.touched.now.items) (b.state.world, old) (d.state.world, now) names i t before.0 reply c.loop-name-test.true c.name-item.is before.1.1 both.1,
+            ),
+          );
     }
 
 pub returns-clause-meets : goal.returns-clause-meets
@@ -90,3 +108,23 @@ returns-clause-meets g c = λ honest agrees calm.
     let before : head ≡ start ++ throttle_in c.args.version = c.in_ok-put_throttle.ensures ∙ ap (λ v. start ++ throttle_in v) (to_z-of_z w16 c.args.version c.ranges.version) in
     let bytes : end ≡ start ++ deletions_in c.args.version (record { topics = (in_turn deleted_topic s names).1 }) = deletions_written c.args.version start head end (in_turn deleted_topic s names).1 before over.1 in
     subst (λ (xs : List (List ℕ)). let r = in_turn deleted_topic s xs in (t.0 ≡ r.0.0) × (t.1 ≡ r.0.1) × (end ≡ start ++ deletions_in c.args.version (record { topics = r.1 }))) c.as_slice-names.ensures (world, touched, bytes)
+
+pub returns-clause-told : goal.returns-clause-told
+returns-clause-told g c = λ honest agree.
+    let log = g.L.PartitionLog.log in
+    let disk = g.S.Store.disk in
+    let a : Scene Seen = scene log disk c.args.parts.now c.args.shelf.now in
+    let b : Scene Seen = scene log disk c.loop-name.parts c.loop-name.shelf in
+    let names = c.as_slice-names.result.now in
+    let start = c.args.sink.now.bytes in
+    let head = c.put_throttle.new.sink.bytes in
+    let end = c.loop-name.sink.bytes in
+    let s : World × List Place = (a.state.world, c.args.touched.now.items) in
+    let t : World × List Place = (b.state.world, c.loop-name.touched.items) in
+    let so = c.loop-name.invariant.answers honest agree in
+    let all = served_all IsRemovalTold s t names c.loop-name.name-index so.0 c.loop-name-test.false so.1.1 in
+    let many = sym (served_length IsRemovalTold s t names so.0 all) in
+    let before : head ≡ start ++ throttle_in c.args.version = c.in_ok-put_throttle.ensures ∙ ap (λ v. start ++ throttle_in v) (to_z-of_z w16 c.args.version c.ranges.version) in
+    let bytes = deletions_written c.args.version start head end so.0 before (written_both head c.put_count.new.self.bytes end ((count w32).written (length names)) (flat_map delete_topic_reply.written so.0) c.in_ok-put_count.ensures.ok so.1.0
+    ∙ ap (λ x. head ++ x) (array_written delete_topic_reply so.0 (length names) many)) in
+    subst (λ (xs : List (List ℕ)). (replies : List DeleteTopicReply) × ((end ≡ start ++ deletions_in c.args.version (record { topics = replies })) × AreServed IsRemovalTold s xs t replies)) c.as_slice-names.ensures (so.0, (bytes, all))

@@ -1,9 +1,13 @@
-use Rattle.std.proofs.Common.{◌≡◌, drop}
+use Rattle.std.proofs.Common.{◌≡◌, ◌++◌, List, drop, take}
+use Rattle.std.specs.List.{flat_map}
 use Rattle.kb_api_group.specs.Layouts.{commit_partition_reply}
+use Rattle.kb_api_group.specs.declared.offset_commit.CommitPartitionReply.{CommitPartitionReply}
+use Rattle.kb_partitions.specs.Scene.{WhereHonest}
 use Rattle.kb_world.specs.Parts.{scene}
 use Rattle.kb_world.specs.Steps.{IsStep, Meets}
 use Rattle.kb_tenant.specs.OffsetCommit.{committed_entry}
-use Rattle.kb_tenant.specs.Turns.{in_turn, written_behind}
+use Rattle.kb_tenant.specs.Told.{IsCommitTold}
+use Rattle.kb_tenant.specs.Turns.{in_turn, written_behind, AreServed}
 use Rattle.kb_tenant.proofs.group_commit.commit_entries.Given as goal
 
 -- what was answered, and what the rest is still to be answered, is the whole answer
@@ -16,4 +20,6 @@ invariant-loop-entry g l =
     record {
       step : IsStep a b;
       told : Meets a b (written_behind write l.sink.bytes (in_turn f b.state.world (drop l.entry-index l.entries)) ≡ written_behind write l.initial.sink.bytes (in_turn f a.state.world l.entries));
+      answers : WhereHonest a b ((replies : List CommitPartitionReply) × ((l.sink.bytes ≡ l.initial.sink.bytes ++ flat_map write replies)
+          × AreServed (IsCommitTold l.refusal l.group l.topic) a.state.world (take l.entry-index l.entries) b.state.world replies));
     }

@@ -9,6 +9,7 @@ use Rattle.kb_world.specs.Steps.{meets_so}
 use Rattle.kb_world.specs.World.{World}
 use Rattle.kb_tenant.proofs.Committing.{entries_fit, name_fits, topic_told}
 use Rattle.kb_tenant.proofs.Fitting.{count_fits}
+use Rattle.kb_tenant.proofs.Wanted.{commit_topic_told_so}
 use Rattle.kb_tenant.proofs.group_commit.commit_topic.Goals as goal
 
 pub put_string-requires : goal.put_string-requires
@@ -30,3 +31,18 @@ returns-clause-meets g c =
     c.args.sink.now.bytes c.put_string.new.self.bytes c.put_count.new.self.bytes _
     c.as_str.ensures c.as_slice-entries.ensures c.len.ensures (c.topic_named-instance.ensures a.disk.files ∙ ap (λ n. named n w.known.topics) c.as_str-2.ensures) c.in_ok-put_string.ensures.ok c.in_ok-put_count.ensures.ok))
     c.commit_entries.ensures.meets
+
+pub returns-clause-told : goal.returns-clause-told
+returns-clause-told g c =
+    let log = g.L.PartitionLog.log in
+    let disk = g.S.Store.disk in
+    let a : Scene Seen = scene log disk c.args.parts.now c.args.shelf.now in
+    let b : Scene Seen = scene log disk c.commit_entries.new.parts c.commit_entries.new.shelf in
+    let w : World = a.state.world in
+    let t = c.args.topic.now in
+    on_ok_weaker c.commit_entries.result
+    (λ told honest agree. commit_topic_told_so c.args.refusal c.args.group.now c.topic_named-instance.result w b.state.world t c.as_str.result.now c.as_slice-entries.result.now c.len.result
+    c.args.sink.now.bytes c.put_string.new.self.bytes c.put_count.new.self.bytes _
+    c.as_str.ensures c.as_slice-entries.ensures c.len.ensures (c.topic_named-instance.ensures a.disk.files ∙ ap (λ n. named n w.known.topics) c.as_str-2.ensures) c.in_ok-put_string.ensures.ok c.in_ok-put_count.ensures.ok
+    (told honest agree))
+    c.commit_entries.ensures.told

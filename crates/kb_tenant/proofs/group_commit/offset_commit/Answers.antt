@@ -1,14 +1,17 @@
-use Rattle.std.proofs.Common.{◌∙◌, ◌<◌, ◌≤◌, ap, sym, refl, subst, length, get_or}
+use Rattle.std.proofs.Common.{[], ◌∷◌, ◌++◌, ◌∙◌, ◌<◌, ◌≤◌, ap, sym, refl, subst, length, get_or}
 use Rattle.kb_api_group.specs.Layouts.{commit_topic, commit_topic_reply}
 use Rattle.kb_partitions.specs.Scene.{Scene}
 use Rattle.kb_world.specs.Parts.{Seen, scene}
 use Rattle.kb_world.specs.Steps.{step_then, meets_then, meets_so}
 use Rattle.kb_tenant.specs.OffsetCommit.{committed_topic}
+use Rattle.kb_tenant.specs.Told.{IsCommitTopicTold}
+use Rattle.kb_tenant.proofs.Acknowledging.{honest_then, served_all, served_next, written_more}
 use Rattle.kb_tenant.proofs.Committing.{all_told, group_fits, topics_fit}
 use Rattle.kb_tenant.proofs.Deleting.{name_short}
 use Rattle.kb_tenant.proofs.Fitting.{count_fits, item_fits}
 use Rattle.kb_tenant.proofs.Produced.{told_next}
 use Rattle.kb_tenant.proofs.Turning.{turn_over}
+use Rattle.kb_tenant.proofs.Wanted.{commits_told_so}
 use Rattle.kb_tenant.proofs.group_commit.offset_commit.Goals as goal
 
 pub put_count-requires : goal.put_count-requires
@@ -49,6 +52,18 @@ loop-topic-preserved g c =
           (subst (λ ts. i < length ts) c.as_slice-topic-items.ensures c.loop-topic-test.true)
           (c.topic-item.is ∙ ap (λ ts. get_or ts i c.topic-item.result) c.as_slice-topic-items.ensures))
           (meets_then a b d _ _ c.loop-topic.invariant.step c.commit_topic.ensures.step c.loop-topic.invariant.told c.in_ok-commit_topic.ensures.meets);
+      answers = λ honest agree.
+          let both = honest_then a b d _ _ c.loop-topic.invariant.step c.commit_topic.ensures.step c.loop-topic.invariant.answers c.in_ok-commit_topic.ensures.told honest agree in
+          let before = both.0 in
+          let reply = both.1 in (
+            before.0 ++ reply.0 ∷ [],
+            (
+              written_more commit_topic_reply.written c.put_count.new.self.bytes c.loop-topic.sink.bytes c.commit_topic.new.sink.bytes before.0 reply.0 before.1.0 reply.1.0,
+              served_next (IsCommitTopicTold c.args.refusal c.as_str-group.result.now) a.state.world b.state.world d.state.world c.args.request.now.topics i c.topic-item.result before.0 reply.0
+                  (subst (λ ts. i < length ts) c.as_slice-topic-items.ensures c.loop-topic-test.true)
+                  (c.topic-item.is ∙ ap (λ ts. get_or ts i c.topic-item.result) c.as_slice-topic-items.ensures) before.1.1 reply.1.1,
+            ),
+          );
     }
 
 pub returns-clause-meets : goal.returns-clause-meets
@@ -66,3 +81,17 @@ returns-clause-meets g c =
     (λ told. all_told q a.state.world b.state.world refusal group q.topics c.len.result c.args.sink.now.bytes c.put_count.new.self.bytes c.loop-topic.sink.bytes
     c.as_str-group.ensures refl c.len.ensures c.in_ok-put_count.ensures.ok (sym over ∙ told))
     c.loop-topic.invariant.told
+
+pub returns-clause-told : goal.returns-clause-told
+returns-clause-told g c = λ honest agree.
+    let log = g.L.PartitionLog.log in
+    let disk = g.S.Store.disk in
+    let a : Scene Seen = scene log disk c.args.parts.now c.args.shelf.now in
+    let b : Scene Seen = scene log disk c.loop-topic.parts c.loop-topic.shelf in
+    let q = c.args.request.now in
+    let group = c.as_str-group.result.now in
+    let i = c.loop-topic.topic-index in
+    let so = c.loop-topic.invariant.answers honest agree in
+    let all = served_all (IsCommitTopicTold c.args.refusal group) a.state.world b.state.world q.topics i so.0 (subst (λ ts. length ts ≤ i) c.as_slice-topic-items.ensures c.loop-topic-test.false) so.1.1 in
+    commits_told_so q c.args.refusal group a.state.world b.state.world c.len.result c.args.sink.now.bytes c.put_count.new.self.bytes c.loop-topic.sink.bytes
+    c.as_str-group.ensures c.len.ensures c.in_ok-put_count.ensures.ok (so.0, (so.1.0, all))

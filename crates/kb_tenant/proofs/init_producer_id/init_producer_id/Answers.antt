@@ -2,10 +2,21 @@ use Rattle.std.proofs.Common.{◌∙◌, ap, ◌++◌}
 use Rattle.std.proofs.lemmas.Result.{on_ok_weaker}
 use Rattle.kb_api_data.specs.Layouts.{init_producer_id_reply}
 use Rattle.kb_api_data.specs.declared.init_producer_id.InitProducerIdReply.{InitProducerIdReply}
+use Rattle.kb_world.specs.Parts.{meta, scene}
 use Rattle.kb_world.specs.World.{World}
+use Rattle.kb_tenant.proofs.Wanted.{issue_told_so}
 use Rattle.kb_tenant.proofs.init_producer_id.init_producer_id.Goals as goal
 
 pub returns-clause-meets : goal.returns-clause-meets
 returns-clause-meets g c = on_ok_weaker c.write.result (λ wrote honest agree calm.
     let given = c.give_id.ensures.meets honest agree calm in
     (ap (λ (r : World × InitProducerIdReply). r.0) given, wrote ∙ ap (λ (r : World × InitProducerIdReply). c.args.sink.now.bytes ++ init_producer_id_reply.written r.1) given)) c.write.ensures.ok
+
+pub returns-clause-told : goal.returns-clause-told
+returns-clause-told g c =
+    let log = g.L.PartitionLog.log in
+    let disk = g.S.Store.disk in
+    let a = scene log disk c.args.parts.now c.args.shelf.now in
+    let b = scene log disk c.give_id.new.parts c.give_id.new.shelf in
+    on_ok_weaker c.write.result (λ wrote honest agree.
+    (c.give_id.result, (wrote, issue_told_so a b (meta log c.args.parts.now).end c.args.request.now c.give_id.result c.give_id.ensures.told honest agree))) c.write.ensures.ok

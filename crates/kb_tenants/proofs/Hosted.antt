@@ -334,6 +334,14 @@ module _ {L S : Type 0} (log : L → Log) (disk : S → Disk) (law : (l : L) →
         let is = kept_now log disk law old t x p gs old.shelf lt read kept counted_own ∙ ap (λ (v : Parts L). kept_in (world_of log v files) gs) counted in
         (ap (λ (k : Kept). k.known) is ∙ sym (ap (λ (k : Kept). k.known) was), ap (λ (k : Kept). k.logs) is ∙ sym (ap (λ (k : Kept). k.logs) was))
 
+    -- what holds of the groups before and now is seen
+    pub groups_counted : (P : Groups → Groups → Type 0) → P x.groups gs → P (kept_of (hosted log disk old) t).groups (kept_of (hosted log disk (after old t x p gs old.shelf)) t).groups
+    groups_counted P h =
+        let files = (disk old.shelf.store).files in
+        let was = kept_here log files old.tenants.items t x (found old.tenants.items t x (within (state_of log files) old.tenants.items t lt) read) in
+        subst (λ (k : Kept). P k.groups (kept_of (hosted log disk (after old t x p gs old.shelf)) t).groups) (sym was)
+        (subst (λ (k : Kept). P x.groups k.groups) (sym (kept_now log disk law old t x p gs old.shelf lt read kept counted_own)) h)
+
     -- a moment of the groups, where none was refused memory
     pub met_counted : (clock m : ℕ) → n ≡ min (x.parts.refusals + m) END → (m ≡ 0 → gs ≡ groups.passed clock x.groups)
         → IsMet t (disk old.shelf.store).honest (hosted log disk old) (hosted log disk (after old t x p gs old.shelf)) (λ k l. l ≡ regrouped clock k)
@@ -429,6 +437,13 @@ module _ {L S : Type 0} (log : L → Log) (disk : S → Disk) (law : (l : L) →
     -- what the tenant keeps now
     pub now_at : kept_of (hosted log disk (after old t x p gs shelf)) t ≡ kept_in (world_of log p (disk shelf.store).files) gs
     now_at = kept_now log disk law old t x p gs shelf lt read kept step_at
+
+    -- what holds of the groups before and now is seen
+    pub groups_at : (P : Groups → Groups → Type 0) → P x.groups gs → P (kept_of (hosted log disk old) t).groups (kept_of (hosted log disk (after old t x p gs shelf)) t).groups
+    groups_at P h =
+        let files = (disk old.shelf.store).files in
+        let was = kept_here log files old.tenants.items t x (found old.tenants.items t x (within (state_of log files) old.tenants.items t lt) read) in
+        subst (λ (k : Kept). P k.groups (kept_of (hosted log disk (after old t x p gs shelf)) t).groups) (sym was) (subst (λ (k : Kept). P x.groups k.groups) (sym now_at) h)
 
     -- what is met at that clock is what is seen
     pub met_at : (P : World → World → Type 0) (Q : Kept → Kept → Type 0)

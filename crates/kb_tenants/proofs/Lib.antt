@@ -6,4 +6,6 @@ pub mod Hosted
 pub mod Idle
 pub mod Others
 pub mod Passed
+pub mod Small
+pub mod SmallLog
 pub mod Tied

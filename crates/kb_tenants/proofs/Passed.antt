@@ -2,7 +2,8 @@
 use Rattle.std.proofs.Common.{◌≡◌, ◌∙◌, ⊎_elim, ◌≤◌, ◌<◌, ◌+◌, ℕ, Bool, true, false, ◌||◌, List, length, sym, ap, refl, subst, arith}
 use Rattle.std.proofs.lemmas.List.{length-map}
 use Rattle.kb_world.specs.Steps.{IsCalm, calm_then}
-use Rattle.kb_service.specs.Hosted.{TenantState, HavePassed, IsTurn, IsMet, kept_of, refusals_of, names_of, passed}
+use Rattle.kb_service.specs.Waiters.{AreTicked, members_on, replies_on}
+use Rattle.kb_service.specs.Hosted.{Kept, TenantState, HavePassed, IsTurn, IsMet, kept_of, refusals_of, names_of, passed}
 use Rattle.kb_tenant.proofs.LogMoves.{same_or_not}
 use Rattle.kb_tenants.specs.Tenants.{regrouped, retained}
 use Rattle.kb_tenants.proofs.Idle.{below_or_not, past_passed}
@@ -35,6 +36,7 @@ pub record HavePassedTo (clock i : ℕ) (honest : Type 0) (old new : List Tenant
   pub kept : honest → (u : ℕ) → u < i → IsCalm (refusals_of old u) (refusals_of new u) → kept_of new u ≡ passed clock (kept_of old u)
   pub counts : (u : ℕ) → i ≤ u → refusals_of new u ≡ refusals_of old u
   pub rest : honest → (u : ℕ) → i ≤ u → kept_of new u ≡ kept_of old u
+  pub waits : honest → (u : ℕ) → AreTicked (kept_of old u).groups (kept_of new u).groups
 
 -- as many tenants as names
 pub length_named : (ps qs : List TenantState) → names_of qs ≡ names_of ps → length qs ≡ length ps
@@ -48,11 +50,12 @@ passed_none clock H ps = record {
   kept = λ honest u lt calm. absurd (omega (arith, lt));
   counts = λ u le. refl;
   rest = λ honest u le. refl;
+  waits = λ honest u k. (omega arith, omega arith);
 }
 
 -- one tenant's turn
 module _ (clock i : ℕ) (H G : Type 0) (ps qs rs : List TenantState) (before : G → H) (done : HavePassedTo clock i H ps qs) (turn : IsTurn i G qs rs)
-    (met : IsMet i G qs rs (λ k l. l ≡ passed clock k)) where
+    (met : IsMet i G qs rs (λ k l. l ≡ passed clock k)) (ticked : AreTicked (kept_of qs i).groups (kept_of rs i).groups) where
   next_kept : G → (u : ℕ) → u < i + 1 → IsCalm (refusals_of ps u) (refusals_of rs u) → kept_of rs u ≡ passed clock (kept_of ps u)
   next_kept honest u lt calm = ⊎_elim
       (λ (same : u ≡ i).
@@ -63,6 +66,16 @@ module _ (clock i : ℕ) (H G : Type 0) (ps qs rs : List TenantState) (before : 
       turn.others honest u ne ∙ done.kept (before honest) u (omega (arith, lt, ne)) (subst (λ n. IsCalm (refusals_of ps u) n) (turn.counts u ne) calm))
       (same_or_not u i)
 
+  next_waits : G → (u : ℕ) → AreTicked (kept_of ps u).groups (kept_of rs u).groups
+  next_waits honest u k = ⊎_elim
+      (λ (same : u ≡ i).
+      let now : AreTicked (kept_of qs u).groups (kept_of rs u).groups = subst (λ v. AreTicked (kept_of qs v).groups (kept_of rs v).groups) (sym same) ticked in
+      let first : AreTicked (kept_of ps u).groups (kept_of qs u).groups = done.waits (before honest) u in
+      let a = (now k).0 in let b = (first k).0 in let c = (now k).1 in let d = (first k).1 in
+      (omega (arith, a, b), omega (arith, c, d)))
+      (λ (ne : u ≡ i → ⊥). subst (λ (x : Kept). AreTicked (kept_of ps u).groups x.groups) (sym (turn.others honest u ne)) (done.waits (before honest) u) k)
+      (same_or_not u i)
+
   pub passed_next : HavePassedTo clock (i + 1) G ps rs
   passed_next = record {
     names = turn.names ∙ done.names;
@@ -70,6 +83,7 @@ module _ (clock i : ℕ) (H G : Type 0) (ps qs rs : List TenantState) (before : 
     kept = next_kept;
     counts = λ u le. turn.counts u (λ same. omega (arith, le, same)) ∙ done.counts u (omega (arith, le));
     rest = λ honest u le. turn.others honest u (λ same. omega (arith, le, same)) ∙ done.rest (before honest) u (omega (arith, le));
+    waits = next_waits;
   }
 
 -- behind the last tenant
@@ -82,4 +96,5 @@ passed_over clock i H ps qs le done = record {
       (λ above.
       done.rest honest u above ∙ sym (past_passed ps u clock (omega (arith, le, above))))
       (below_or_not u i);
+  waits = done.waits;
 }

@@ -1,5 +1,5 @@
 -- All tenants of a broker on one shelf.
-use Rattle.std.specs.Prelude.{◌≡◌, ◌≤ℤ◌, ℕ, ℤ, pos, List, Some, map, slice_get, string_bytes, Contains}
+use Rattle.std.specs.Prelude.{◌≡◌, ◌≤ℤ◌, ◌++◌, ◌∷◌, [], ℕ, ℤ, pos, List, Some, map, slice_get, string_bytes, Contains}
 use Rattle.kb_store.specs.Disk.{Disk, Table, Files}
 use Rattle.kb_log.specs.OnShelf.{Log}
 use Rattle.kb_coordinator.specs.Calls as groups
@@ -26,6 +26,13 @@ Agree {L} log ps files = (t : ℕ) (p : Parts L) → slice_get ps t ≡ Some p �
 -- the parts of the tenants
 abbrev pub parts_of : {L : Type 0} → List (Tenant L) → List (Parts L)
 parts_of {L} ts = map (λ (x : Tenant L). x.parts) ts
+
+-- Parts were put behind the others: a tenant's of that name, whose files are to hold so many bytes.
+pub record AddsParts {L : Type 0} (name : List ℕ) (size : ℕ) (old new : List (Parts L)) : Type 0 where
+  pub parts : Parts L
+  pub added : new ≡ old ++ parts ∷ []
+  pub named : string_bytes parts.tenant ≡ name
+  pub size_is : parts.segment_bytes ≡ size
 
 -- a tenant, where the files are those: its name, what it keeps, and how many refusals were counted for it
 abbrev pub state_of : {L : Type 0} → (L → Log) → Files → Tenant L → TenantState

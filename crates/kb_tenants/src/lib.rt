@@ -2,6 +2,8 @@
 //! as it is, byte for byte, whatever it does and whatever is refused to it.
 #![tactic(auto)]
 
+mod promises;
 mod tenants;
 
+pub use promises::kept_logs_are_small;
 pub use tenants::Tenants;

@@ -1,9 +1,12 @@
-use Rattle.std.proofs.Common.{◌+◌, ap, arith, to_z, of_z, w64}
+use Rattle.std.proofs.Common.{◌+◌, ap, sym, subst, arith, to_z, of_z, w64}
 use Rattle.std.proofs.lemmas.Int.{ints}
 use Rattle.std.specs.Prelude.{min}
 use Rattle.kb_world.specs.Parts.{END}
-use Rattle.kb_service.specs.Hosted.{Kept}
-use Rattle.kb_tenants.proofs.Hosted.{accounted_counted, kept_counted, kept_own, met_counted, met_own, stays_own, topics_counted, turn_counted}
+use Rattle.kb_service.specs.Hosted.{Kept, kept_of}
+use Rattle.kb_service.specs.Waiters.{AreTicked}
+use Rattle.kb_service.proofs.WaitersServed.{passed_told}
+use Rattle.kb_tenants.specs.Tenants.{hosted}
+use Rattle.kb_tenants.proofs.Hosted.{accounted_counted, groups_counted, kept_counted, kept_own, met_counted, met_own, stays_own, topics_counted, turn_counted}
 use Rattle.kb_tenants.proofs.tenants.Tenants.pass_groups.Goals as goal
 
 -- ---- nothing was due
@@ -25,7 +28,21 @@ returns-in_default-clause-topics g c =
     c.requires.tenant c.index_mut-one.ensures.value c.requires.kept c.in_default.ensures.none.1 c.args.tenant in
     (ap (λ (k : Kept). k.known) same, ap (λ (k : Kept). k.logs) same)
 
+pub returns-in_default-clause-waits : goal.returns-in_default-clause-waits
+returns-in_default-clause-waits g c =
+    let same = stays_own g.L.PartitionLog.log g.S.Store.disk g.met.L.PartitionLog.lawful c.args.self.now c.args.tenant c.index_mut-one.result.now c.pass.new.self
+    c.requires.tenant c.index_mut-one.ensures.value c.requires.kept c.in_default.ensures.none.1 c.args.tenant in
+    let was = kept_of (hosted g.L.PartitionLog.log g.S.Store.disk c.args.self.now) c.args.tenant in
+    subst (λ (k : Kept). AreTicked was.groups k.groups) (sym same) (λ k. (omega arith, omega arith))
+
 -- ---- a moment
+
+pub returns-clause-waits : goal.returns-clause-waits
+returns-clause-waits g c =
+    groups_counted g.L.PartitionLog.log g.S.Store.disk g.met.L.PartitionLog.lawful c.args.self.now c.args.tenant c.index_mut-one.result.now c.pass.new.self
+    c.requires.tenant c.index_mut-one.ensures.value c.requires.kept c.count.new.parts
+    (min (c.refusals-before.result + c.in-Some.refused) END) c.count.ensures
+    AreTicked (passed_told c.args.clock c.index_mut-one.result.now.groups c.pass.new.self c.in-Some.refused c.in-Some.ensures.groups)
 
 pub returns-clause-topics : goal.returns-clause-topics
 returns-clause-topics g c =

@@ -2,6 +2,7 @@ use Rattle.std.proofs.Common.{◌≡◌, ◌∙◌, ◌++◌, ap, subst, sym}
 use Rattle.std.specs.Prelude.{Contains}
 use Rattle.std.proofs.lemmas.List.Elements.{Contains-append_left}
 use Rattle.kb_service.specs.Hosted.{Kept, kept_of}
+use Rattle.kb_service.specs.Waiters.{AreTicked}
 use Rattle.kb_tenants.specs.Tenants.{answered, hosted, is_honest}
 use Rattle.kb_tenants.proofs.Answered.{if_listed, quiet_listed, quiet_turn}
 use Rattle.kb_tenants.proofs.Passed.{met_both, turn_both}
@@ -57,3 +58,18 @@ returns-else-not-regrouped-clause-longer g c = λ known n there.
     let told = answered (kept_of (seen c.retain_one.new.self) c.args.tenant).groups in
     let listed : ns ≡ ks ++ told = if_listed c.push_answered.result c.is_ok.result _ c.is_ok.ensures.value known c.push_answered.ensures in
     subst (λ xs. Contains xs n) (sym listed) (Contains-append_left ks told n there)
+
+pub returns-then-retain_one-clause-waits : goal.returns-then-retain_one-clause-waits
+returns-then-retain_one-clause-waits g c =
+    let seen = hosted g.L.PartitionLog.log g.S.Store.disk in
+    subst (AreTicked (kept_of (seen c.args.self.now) c.args.tenant).groups) (sym c.retain_one.ensures.groups) c.pass_groups-regrouped.ensures.waits
+
+pub returns-then-not-regrouped-clause-waits : goal.returns-then-not-regrouped-clause-waits
+returns-then-not-regrouped-clause-waits g c =
+    let seen = hosted g.L.PartitionLog.log g.S.Store.disk in
+    subst (AreTicked (kept_of (seen c.args.self.now) c.args.tenant).groups) (sym c.retain_one.ensures.groups) c.pass_groups-regrouped.ensures.waits
+
+pub returns-else-not-regrouped-clause-waits : goal.returns-else-not-regrouped-clause-waits
+returns-else-not-regrouped-clause-waits g c =
+    let seen = hosted g.L.PartitionLog.log g.S.Store.disk in
+    subst (AreTicked (kept_of (seen c.args.self.now) c.args.tenant).groups) (sym c.retain_one.ensures.groups) c.pass_groups-regrouped.ensures.waits

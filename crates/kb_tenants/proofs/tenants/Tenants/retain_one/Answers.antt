@@ -5,7 +5,7 @@ use Rattle.kb_world.specs.Calls.{retain_all}
 use Rattle.kb_world.specs.Parts.{END}
 use Rattle.kb_service.specs.Hosted.{kept_in}
 use Rattle.kb_tenants.specs.Tenants.{retained}
-use Rattle.kb_tenants.proofs.Hosted.{accounted_at, sound_at, kept_at, turn_at, met_at, stays_at}
+use Rattle.kb_tenants.proofs.Hosted.{accounted_at, sound_at, groups_at, kept_at, turn_at, met_at, stays_at}
 use Rattle.kb_tenants.proofs.tenants.Tenants.retain_one.Goals as goal
 
 pub retain_all-dropped-requires-clause-sound : goal.retain_all-dropped-requires-clause-sound
@@ -46,3 +46,9 @@ returns-clause-accounted g c =
     c.requires.tenant c.index_mut-one.ensures.value c.requires.kept c.set_clock.ensures.parts c.retain_all-dropped.new.self c.count.new.parts (min (c.refusals-before.result + (c.failures.result - c.failures-failures.result)) END) c.index_mut-one.result.now.groups c.retain_all-dropped.new.shelf c.count.ensures c.retain_all-dropped.ensures.step
     (c.failures.result - c.failures-failures.result) (ap (λ k. min (k + (c.failures.result - c.failures-failures.result)) END) c.refusals-before.ensures)
     (omega (arith, c.failures.ensures, c.failures-failures.ensures, c.retain_all-dropped.ensures.step.frame.failures))
+
+pub returns-clause-groups : goal.returns-clause-groups
+returns-clause-groups g c =
+    groups_at g.L.PartitionLog.log g.S.Store.disk g.met.L.PartitionLog.lawful c.args.self.now c.args.tenant c.index_mut-one.result.now c.set_clock.new.self c.args.clock
+    c.requires.tenant c.index_mut-one.ensures.value c.requires.kept c.set_clock.ensures.parts c.retain_all-dropped.new.self c.count.new.parts (min (c.refusals-before.result + (c.failures.result - c.failures-failures.result)) END) c.index_mut-one.result.now.groups c.retain_all-dropped.new.shelf c.count.ensures c.retain_all-dropped.ensures.step
+    (λ a b. b ≡ a) refl

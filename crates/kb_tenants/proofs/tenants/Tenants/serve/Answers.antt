@@ -1,11 +1,13 @@
-use Rattle.std.proofs.Common.{◌+◌, ◌-◌, ◌∙◌, ◌≤◌, ◌^◌, ap, subst, sym, arith, to_z, of_z, w64}
+use Rattle.std.proofs.Common.{true, ◌+◌, ◌-◌, ◌∙◌, ◌≤◌, ◌^◌, ap, subst, sym, arith, to_z, of_z, w64}
 use Rattle.std.proofs.lemmas.Int.{ints}
 use Rattle.std.specs.Prelude.{min}
 use Rattle.kb_world.specs.Parts.{END, world_of}
 use Rattle.kb_service.specs.Hosted.{kept_in, world_at}
+use Rattle.kb_service.specs.Waiters.{AreServed, IsWaitTold}
+use Rattle.kb_service.proofs.WaitersServed.{after_told}
 use Rattle.kb_service.specs.Serve.{has_released, served, IsOutcome}
 use Rattle.kb_tenants.proofs.Clock.{served_clock}
-use Rattle.kb_tenants.proofs.Hosted.{accounted_at, sound_at, kept_at, turn_at, met_at, now_at}
+use Rattle.kb_tenants.proofs.Hosted.{accounted_at, sound_at, groups_at, kept_at, turn_at, met_at, now_at}
 use Rattle.kb_tenants.proofs.tenants.Tenants.serve.Goals as goal
 
 pub serve-served-requires-clause-sound : goal.serve-served-requires-clause-sound
@@ -58,3 +60,20 @@ returns-clause-accounted g c =
     c.requires.tenant c.index_mut-one.ensures.value c.requires.kept c.set_clock.ensures.parts c.serve-served.new.parts c.count.new.parts (min (c.refusals-before.result + (c.failures.result - c.failures-failures.result)) END) c.serve-served.new.groups c.serve-served.new.shelf c.count.ensures c.serve-served.ensures.step
     (c.failures.result - c.failures-failures.result) (ap (λ k. min (k + (c.failures.result - c.failures-failures.result)) END) c.refusals-before.ensures)
     (omega (arith, c.failures.ensures, c.failures-failures.ensures, c.serve-served.ensures.step.frame.failures))
+
+pub returns-clause-waits : goal.returns-clause-waits
+returns-clause-waits g c =
+    let r = c.args.request.now in
+    let gs = c.index_mut-one.result.now.groups in
+    let v = world_of g.L.PartitionLog.log c.set_clock.new.self (g.S.Store.disk c.args.self.now.shelf.store).files in
+    groups_at g.L.PartitionLog.log g.S.Store.disk g.met.L.PartitionLog.lawful c.args.self.now c.args.tenant c.index_mut-one.result.now c.set_clock.new.self c.args.clock
+    c.requires.tenant c.index_mut-one.ensures.value c.requires.kept c.set_clock.ensures.parts c.serve-served.new.parts c.count.new.parts (min (c.refusals-before.result + (c.failures.result - c.failures-failures.result)) END) c.serve-served.new.groups c.serve-served.new.shelf c.count.ensures c.serve-served.ensures.step
+    (AreServed r.connection true)
+    (after_told c.args.node.now v gs r.connection r.api_key r.api_version r.body.now c.serve-served.result.answer c.serve-served.new.groups c.serve-served.ensures.groups)
+
+pub returns-clause-told : goal.returns-clause-told
+returns-clause-told g c =
+    let n = c.args.request.now.connection in
+    groups_at g.L.PartitionLog.log g.S.Store.disk g.met.L.PartitionLog.lawful c.args.self.now c.args.tenant c.index_mut-one.result.now c.set_clock.new.self c.args.clock
+    c.requires.tenant c.index_mut-one.ensures.value c.requires.kept c.set_clock.ensures.parts c.serve-served.new.parts c.count.new.parts (min (c.refusals-before.result + (c.failures.result - c.failures-failures.result)) END) c.serve-served.new.groups c.serve-served.new.shelf c.count.ensures c.serve-served.ensures.step
+    (λ old new. IsWaitTold n old c.serve-served.result.answer new) c.serve-served.ensures.waits

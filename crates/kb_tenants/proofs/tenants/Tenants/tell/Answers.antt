@@ -1,4 +1,4 @@
-use Rattle.std.proofs.Common.{refl, sym, subst, w32}
+use Rattle.std.proofs.Common.{inl, inr, ap, ◌∙◌, refl, sym, subst, w32}
 use Rattle.std.specs.Prelude.{◌<◌}
 use Rattle.std.proofs.lemmas.Int.{to_z-of_z}
 use Rattle.std.proofs.lemmas.List.{length-map}
@@ -18,5 +18,24 @@ returns-in-Ok-clause-meets g c = λ honest calm.
     let seen = kept_here g.L.PartitionLog.log files ts.tenants.items c.args.tenant x (found ts.tenants.items c.args.tenant x lt c.index.ensures) in (
       refl,
       subst (λ k. IsAnswer c.args.correlation_id (told_to c.args.connection k.groups) c.in-Ok.answer) (sym seen)
-          (subst (λ z. IsAnswer z (told_to c.args.connection x.groups) c.in-Ok.answer) (to_z-of_z w32 c.args.correlation_id c.ranges.correlation_id) c.in-Ok.ensures),
+          (subst (λ z. IsAnswer z (told_to c.args.connection x.groups) c.in-Ok.answer) (to_z-of_z w32 c.args.correlation_id c.ranges.correlation_id) c.in-Ok.ensures.ok),
     )
+
+pub returns-in-Ok-clause-answers : goal.returns-in-Ok-clause-answers
+returns-in-Ok-clause-answers g c =
+    let ts = c.args.self.now in
+    let files = (g.S.Store.disk ts.shelf.store).files in
+    let x = c.index.result.now in
+    let lt = subst (λ n. c.args.tenant < n) (length-map ts.tenants.items (state_of g.L.PartitionLog.log files)) c.requires.tenant in
+    let seen = kept_here g.L.PartitionLog.log files ts.tenants.items c.args.tenant x (found ts.tenants.items c.args.tenant x lt c.index.ensures) in
+    inl (subst (λ k. IsAnswer c.args.correlation_id (told_to c.args.connection k.groups) c.in-Ok.answer) (sym seen)
+    (subst (λ z. IsAnswer z (told_to c.args.connection x.groups) c.in-Ok.answer) (to_z-of_z w32 c.args.correlation_id c.ranges.correlation_id) c.in-Ok.ensures.ok))
+
+pub returns-in-Err-clause-answers : goal.returns-in-Err-clause-answers
+returns-in-Err-clause-answers g c =
+    let ts = c.args.self.now in
+    let files = (g.S.Store.disk ts.shelf.store).files in
+    let x = c.index.result.now in
+    let lt = subst (λ n. c.args.tenant < n) (length-map ts.tenants.items (state_of g.L.PartitionLog.log files)) c.requires.tenant in
+    let seen = kept_here g.L.PartitionLog.log files ts.tenants.items c.args.tenant x (found ts.tenants.items c.args.tenant x lt c.index.ensures) in
+    inr (refl, λ silent. c.in-Err.ensures.err (sym (ap (λ k. told_to c.args.connection k.groups) seen) ∙ silent))

@@ -32,14 +32,15 @@ use Rattle.kb_machine.proofs.Owned.{found as found-all}
 use Rattle.kb_machine.proofs.Quiet.{first-silent}
 use Rattle.kb_machine.proofs.Turns.{going-same, going-then, turned-same, turned-then, unready-weaken}
 use Rattle.kb_machine.proofs.Wakes.{turned-served}
+use Rattle.kb_machine.specs.Stranded.{NoneStranded}
 use Rattle.kb_broker.specs.Hosts.{OnStore, is_honest, IsLater, IsReadyOn, NoneReady, StepsTo}
-use Rattle.kb_broker.specs.Places.{numbers, number_at, waits_in, AreIdle, IsNext, IsScoped, IsTakenAt, IsTurnAt}
+use Rattle.kb_broker.specs.Places.{numbers, number_at, waits_in, AreIdle, IsNext, IsScoped, IsMemberTurnAt, IsTakenAt, IsTurnAt}
 use Rattle.kb_broker.specs.Parked.{deadline_at, deadline_in, until_of, AreAllOf, AreAnswered, IsKeyedAt, IsKeyedIn, IsOwnedAt, IsOwnedIn, IsQueueOf, IsAskedOnAt, IsPassedOn, IsWhose, IsLeftBy, IsUnreadyIn, IsSoughtAt, IsSoughtIn, IsMinded, AreMinded, SameBut, IsServedFor, IsOwnTo, IsAllOf, IsLeftTo, IsReadyAmong, can_in, AreAmong}
 use Rattle.kb_broker.specs.declared.serving.Concerned.{Concerned}
 use Rattle.kb_broker.specs.declared.serving.Concerned.TheVariants as concerned
 use Rattle.kb_broker.proofs.Honest.{later-same, later-then, ready-of}
 use Rattle.kb_broker.proofs.Placed.{get-at, number_at-is}
-use Rattle.kb_broker.proofs.Handled.{HasBegun, IsMoved, IsTaken, idle-none, moved-going, moved-others, moved-step, moved-unready, put_with, unready-over, waked-still, next-can, scoped-turned, served-for, served-quiet, served-taken}
+use Rattle.kb_broker.proofs.Handled.{HasBegun, IsMoved, IsTaken, idle-none, moved-going, moved-held, moved-others, moved-step, moved-unready, put_with, unready-over, waked-still, next-can, scoped-turned, served-for, served-quiet, served-taken}
 use Rattle.kb_broker.proofs.Parked.{IsCarried, among, among-same, among-settled, carried-same, carried-turn, deadline-free, each-find, find-set, first-least, minded-all, queue-put, unready-at, waiting-on}
 
 -- 1. Numbers in a set
@@ -265,11 +266,11 @@ queue-turn H G q p a b i l m us e v k back unready asked parked dated owned keye
     (λ v' asked'. queue-taken H G q p b i l m us v' k back unready asked' parked dated owned keyed) v asked
 
 -- whose waiting requests are to be looked at after it
-pub served-by : (H : Type 0) → H → (c : Concerned) (scope : Scope) (b : BrokerState) (i : ℕ) (l m : Line) (us : List TenantState) (q : Queue) → AreStill scope b → AreUnready AnyWait b → IsTaken H b i l m us → IsTakenAt H b.setup b.clock l.number l.session.stage b.tenants us l.session m.session
+pub served-by : (H : Type 0) → H → (c : Concerned) (scope : Scope) (b : BrokerState) (i : ℕ) (l m : Line) (us : List TenantState) (q : Queue) → AreStill scope b → AreUnready AnyWait b → IsTaken H b i l m us → IsTakenAt H b.setup b.clock l.number l.session.stage b.tenants us l.session m.session → IsMemberTurnAt l.number l.session.stage b.tenants us m.session.stage
     → IsWhose c l.session.stage → IsLeftBy c b.setup b.clock l.session.stage l.number q b.tenants us l.session m.session → IsServedFor c scope b (put_with b i m us)
-served-by H honest concerned.Nobody scope b i l m us q still unready k is who left = served-quiet H honest scope b i l m us still unready k is left
-served-by H honest (concerned.These t ns) scope b i l m us q still unready k is who left = served-for (concerned.These t ns) l.session.stage scope b (put_with b i m us) (λ e. absurd (cc)) who (served-taken H honest scope b i l m us l.session.stage still k refl k.turn is)
-served-by H honest (concerned.All t) scope b i l m us q still unready k is who left = served-for (concerned.All t) l.session.stage scope b (put_with b i m us) (λ e. absurd (cc)) who (served-taken H honest scope b i l m us l.session.stage still k refl k.turn is)
+served-by H honest concerned.Nobody scope b i l m us q still unready k is member who left = served-quiet H honest scope b i l m us still unready k is member left
+served-by H honest (concerned.These t ns) scope b i l m us q still unready k is member who left = served-for (concerned.These t ns) l.session.stage scope b (put_with b i m us) (λ e. absurd (cc)) who (served-taken H honest scope b i l m us l.session.stage still k refl k.turn is member)
+served-by H honest (concerned.All t) scope b i l m us q still unready k is member who left = served-for (concerned.All t) l.session.stage scope b (put_with b i m us) (λ e. absurd (cc)) who (served-taken H honest scope b i l m us l.session.stage still k refl k.turn is member)
 
 -- the turn of a connection bound to a tenant leaves no wait of the tenant ready but among those
 record IsSpared (t : ℕ) (ns : List ℕ) (b : BrokerState) (l m : Line) (us : List TenantState) (d : BrokerState) : Type 0 where
@@ -430,6 +431,7 @@ pub record IsMovedOn {S : Type 0} (disk : S → Disk) (now : ℕ) (a d : OnStore
   pub last : d.state.last ≡ a.state.last
   pub numbers : numbers d.state ≡ numbers a.state
   pub others : is_honest disk d → (k : ℕ) → waits_in (find_line k a.state.lines) ≡ false → find_line k d.state.lines ≡ find_line k a.state.lines
+  pub held : is_honest disk d → NoneStranded a.state → NoneStranded d.state
 
 pub moved-on : {S : Type 0} (disk : S → Disk) (now : ℕ) (answered : Option (Vec ℕ Global)) (a s b d : OnStore S) → IsAwake disk now answered a s b → IsGoing b.state d.state → IsLater disk b d
     → (is_honest disk d → (scope : Scope) → AreStill scope b.state → Turned scope b.state d.state) → first_able d.state.lines ≡ None → IsMovedOn disk now a d
@@ -454,4 +456,5 @@ moved-on disk now answered a s b d h going later turned settled =
       last = gone.last;
       numbers = gone.numbers;
       others = λ honest. moved-others H (after.honest honest) now answered a.state s.state b.state d.state (moved honest);
+      held = λ honest. moved-held H (after.honest honest) now answered a.state s.state b.state d.state (moved honest);
     }

@@ -37,7 +37,9 @@ use Rattle.kb_tenants.proofs.Passed.{length_named}
 use Rattle.kb_machine.proofs.Turns.{changed-quiet, free-unready, going-then, unready-quiet, untouched-then, turned-greeting, called-going, greeting-going, refused-going, served-bound, refused-greeting}
 use Rattle.kb_machine.proofs.Feeds.{still-settled, fed-kept, fed-refused, fed-loud, step-comes, step-nothing, step-shut}
 use Rattle.kb_connection.specs.View.{with_session}
-use Rattle.kb_broker.specs.Places.{numbers, number_at, waits_in, Leaves, IsSpent, IsTakenAt, IsTurnAt, AreIdle, IsNext, IsScoped, IsCountedAt, IsCountedFor, IsServedAt, IsQuietAt}
+use Rattle.kb_machine.specs.Stranded.{NoneStranded}
+use Rattle.kb_machine.proofs.Stranded.{left-nobody, spared-left, spared-served, stranded-begun, stranded-left, stranded-over, stranded-served}
+use Rattle.kb_broker.specs.Places.{numbers, number_at, waits_in, Leaves, IsSpent, IsTakenAt, IsMemberTurnAt, IsWaitTurnAt, IsTurnAt, AreIdle, IsNext, IsScoped, IsCountedAt, IsCountedFor, IsServedAt, IsQuietAt}
 use Rattle.kb_broker.specs.Parked.{deadline_at, IsReadyAmong, IsServedFor, IsWhose, IsAllOf}
 use Rattle.kb_broker.specs.declared.serving.Concerned.{Concerned}
 use Rattle.kb_broker.specs.declared.serving.Concerned.TheVariants as concerned
@@ -107,6 +109,7 @@ pub record IsTaken (H : Type 0) (b : BrokerState) (i : ℕ) (l m : Line) (us : L
   pub number : m.number ≡ l.number
   pub spent : IsSpent l.session m.session
   pub turn : IsTurnAt H l.session.stage b.tenants us
+  pub waits : IsWaitTurnAt l.number l.session.stage b.tenants us
 
 first-can : (ls : List Line) (l : Line) → first_able ls ≡ Some l → can l.session ≡ true
 first-can [] l e = absurd (cc)
@@ -123,8 +126,8 @@ pub next-can : (b : BrokerState) (i : ℕ) (l : Line) → IsNext i b → IsAt b.
 next-can b i l next at = first-can b.lines l (first-at b i l next at)
 
 -- the same, where a is what the broker's own fields are
-pub taken-at : (H : Type 0) (a b : BrokerState) (i : ℕ) (l m : Line) (us : List TenantState) → a ≡ b → IsNext i b → l ≡ get_or a.lines i l → m.number ≡ l.number → IsSpent l.session m.session → IsTurnAt H l.session.stage a.tenants us → IsTaken H b i l m us
-taken-at H a b i l m us e next read n spent turn =
+pub taken-at : (H : Type 0) (a b : BrokerState) (i : ℕ) (l m : Line) (us : List TenantState) → a ≡ b → IsNext i b → l ≡ get_or a.lines i l → m.number ≡ l.number → IsSpent l.session m.session → IsTurnAt H l.session.stage a.tenants us → IsWaitTurnAt l.number l.session.stage a.tenants us → IsTaken H b i l m us
+taken-at H a b i l m us e next read n spent turn waits =
     let at = at-read a b i l e next.within read in
     record {
       next = next;
@@ -133,6 +136,7 @@ taken-at H a b i l m us e next read n spent turn =
       number = n;
       spent = spent;
       turn = subst (λ (x : BrokerState). IsTurnAt H l.session.stage x.tenants us) e turn;
+      waits = subst (λ (x : BrokerState). IsWaitTurnAt l.number l.session.stage x.tenants us) e waits;
     }
 
 -- one that can take a turn does not wait
@@ -154,10 +158,13 @@ taken-going H b i l m us (Greets h) k s turn is = subst (λ ts. IsGoing b (put_w
 taken-going H b i l m us (BoundTo t w) k s turn is = called-going b i t l m H us k.next.sound k.at (record { wait = w; is = s }) k.number (k.spent.stage t w s) turn
 
 -- nothing was refused to the connection
-pub served-taken : (H : Type 0) → H → (scope : Scope) (b : BrokerState) (i : ℕ) (l m : Line) (us : List TenantState) (st : Stage) → AreStill scope b → IsTaken H b i l m us → l.session.stage ≡ st → IsTurnAt H st b.tenants us → IsTakenAt H b.setup b.clock l.number st b.tenants us l.session m.session →
+pub served-taken : (H : Type 0) → H → (scope : Scope) (b : BrokerState) (i : ℕ) (l m : Line) (us : List TenantState) (st : Stage) → AreStill scope b → IsTaken H b i l m us → l.session.stage ≡ st → IsTurnAt H st b.tenants us → IsTakenAt H b.setup b.clock l.number st b.tenants us l.session m.session → IsMemberTurnAt l.number l.session.stage b.tenants us m.session.stage →
     IsServedAt st scope b (put_with b i m us)
-served-taken H honest scope b i l m us (Greets h) still k s turn is = subst (λ ts. Turned scope b (put_with b i m ts)) (sym turn) (turned-greeting scope b i l m h k.next.sound still k.at (first-at b i l k.next k.at) k.able s k.number is)
-served-taken H honest scope b i l m us (BoundTo t w) still k s turn is = served-bound scope b i t l m w H us k.next.sound still k.at (first-at b i l k.next k.at) k.able s k.number (k.spent.stage t w s) turn honest (is honest)
+served-taken H honest scope b i l m us (Greets h) still k s turn is member = subst (λ ts. Turned scope b (put_with b i m ts)) (sym turn) (turned-greeting scope b i l m h k.next.sound still k.at (first-at b i l k.next k.at) k.able s k.number is)
+served-taken H honest scope b i l m us (BoundTo t w) still k s turn is member = served-bound scope b i t l m w H us k.next.sound still k.at (first-at b i l k.next k.at) k.able s k.number (k.spent.stage t w s) turn honest (is honest)
+    (λ held. stranded-served b i t l m us b.unbound_refusals k.next.sound k.at k.number (able-free l.session k.able) (λ u ne. turn.others honest u ne)
+    (spared-served b i t l (hosted.kept_of us t).groups k.next.sound k.at (able-free l.session k.able) held (subst (λ st. IsWaitTurnAt l.number st b.tenants us) s k.waits))
+    (subst (λ st. IsMemberTurnAt l.number st b.tenants us m.session.stage) s member) held)
 
 -- it made nothing ready that waits
 quiet-at : (H : Type 0) → H → (scope : Scope) (b : BrokerState) (i : ℕ) (l m : Line) (us : List TenantState) (st : Stage) → AreUnready AnyWait b → IsTaken H b i l m us → l.session.stage ≡ st → IsTurnAt H st b.tenants us → IsServedAt st scope b (put_with b i m us) → IsQuietAt b.setup b.clock l.number st b.tenants us l.session m.session →
@@ -174,9 +181,9 @@ quiet-at H honest scope b i l m us (BoundTo t w) unready k s turn served quiet =
     by (inl none) = quiet-turn b i t l m us H turn honest unready k.at (able-free l.session k.able) (ap without_wait s) k.number (k.spent.stage t w s) quiet.session quiet.kept none quiet.ready
     by (inr free) = changed-quiet AnyWait b i m us b.unbound_refusals others unready (free-unready AnyWait b m.number m.session.stage free)
 
-pub served-quiet : (H : Type 0) → H → (scope : Scope) (b : BrokerState) (i : ℕ) (l m : Line) (us : List TenantState) → AreStill scope b → AreUnready AnyWait b → IsTaken H b i l m us → IsTakenAt H b.setup b.clock l.number l.session.stage b.tenants us l.session m.session →
+pub served-quiet : (H : Type 0) → H → (scope : Scope) (b : BrokerState) (i : ℕ) (l m : Line) (us : List TenantState) → AreStill scope b → AreUnready AnyWait b → IsTaken H b i l m us → IsTakenAt H b.setup b.clock l.number l.session.stage b.tenants us l.session m.session → IsMemberTurnAt l.number l.session.stage b.tenants us m.session.stage →
     IsQuietAt b.setup b.clock l.number l.session.stage b.tenants us l.session m.session → Turned scope b (put_with b i m us)
-served-quiet H honest scope b i l m us still unready k is quiet = quiet-at H honest scope b i l m us l.session.stage unready k refl k.turn (served-taken H honest scope b i l m us l.session.stage still k refl k.turn is) quiet
+served-quiet H honest scope b i l m us still unready k is member quiet = quiet-at H honest scope b i l m us l.session.stage unready k refl k.turn (served-taken H honest scope b i l m us l.session.stage still k refl k.turn is member) quiet
 
 -- whose waiting requests are then looked at
 pub served-for : (c : Concerned) (st : Stage) (scope : Scope) (b d : BrokerState) → (c ≡ concerned.Nobody → ⊥) → IsWhose c st → IsServedAt st scope b d → IsServedFor c scope b d
@@ -242,7 +249,8 @@ fed-counted : (b c : BrokerState) (i : ℕ) (l m : Line) (piece : List ℕ) (st 
 fed-counted b c i l m piece (Greets h) sound settled at s n e r =
     subst (λ x. IsFed l.number piece b x) (sym r.is) (fed-refused b i l m piece h c.unbound_refusals sound settled at s n e r.grows r.counted)
 fed-counted b c i l m piece (BoundTo t w) sound settled at s n e r =
-    subst (λ x. IsFed l.number piece b x) (sym r.is) (fed-loud b i t l m piece w (Unit {0}) c.tenants sound settled at s n e r.turn tt (λ u k x. ready-counted t l.number (put_at b i m) c r u b.clock k x) r.counted)
+    subst (λ x. IsFed l.number piece b x) (sym r.is) (fed-loud b i t l m piece w (Unit {0}) c.tenants sound settled at s n e r.turn tt (λ u k x. ready-counted t l.number (put_at b i m) c r u b.clock k x) r.counted
+    (λ held. stranded-left b i t l m w c.tenants b.unbound_refusals b.clock sound at n s (λ u ne. r.turn.others tt u ne) r.left held))
 
 -- names stay, and each tenant is still one of the broker's
 length-fed : (piece : List ℕ) (clock n : ℕ) (s : Session) (ts : List TenantState) → length (left_fed piece clock n s ts) ≡ length ts
@@ -270,8 +278,8 @@ range-fed a b i l piece st sound left e =
 
 -- what the piece leaves then, where it is counted for the connection's tenant, is left of the state before
 fed-since : (b c : BrokerState) (i u : ℕ) (l : Line) (w : Option Wait) (piece : List ℕ) → let d = record b { tenants = left_fed piece b.clock l.number l.session b.tenants } in
-    IsAt b.lines i l → l.session.stage ≡ BoundTo u w → (IsCalm (refusals_of d.tenants u) (refusals_of c.tenants u) → ⊥) → IsFed l.number piece d c → IsFed l.number piece b c
-fed-since b c i u l w piece at bound loud f = record {
+    IsSound b → IsAt b.lines i l → l.session.stage ≡ BoundTo u w → (IsCalm (refusals_of d.tenants u) (refusals_of c.tenants u) → ⊥) → IsFed l.number piece d c → IsFed l.number piece b c
+fed-since b c i u l w piece sound at bound loud f = record {
   going = record {
     sound = g.sound;
     grows = record { setup = g.grows.setup; names = g.grows.names ∙ names-fed piece b.clock l.number l.session b.tenants; own = λ t. (let up = g.grows.own t in let same = counts t in omega (arith, up, same)); unbound = g.grows.unbound };
@@ -286,6 +294,7 @@ fed-since b c i u l w piece at bound loud f = record {
   unready = λ unready. f.unready
       (all-map (λ (k : Line). IsUnready AnyWait b k.number k.session.stage) (λ (k : Line). IsUnready AnyWait d k.number k.session.stage)
       (λ k. unready-quiet AnyWait b d refl (λ t n x silent. ready-fed piece b.clock l.number l.session b.tenants t b.clock n x ∙ silent) k.number k.session.stage) b.lines unready);
+  held = λ held. f.held (stranded-over b i l piece sound at held);
   mine = f.mine;
   view = λ t mine es k calm. seen t mine es k (record { own = subst (λ n. IsCalm n (refusals_of c.tenants t)) (sym (counts t)) calm.own; unbound = calm.unbound });
 }
@@ -318,21 +327,21 @@ fed-since b c i u l w piece at bound loud f = record {
 
 -- a greeting one has no tenant, so nothing changes first
 fed-from : (b c : BrokerState) (i : ℕ) (l m : Line) (piece : List ℕ) (st : Stage) → let d = record b { tenants = left_fed piece b.clock l.number l.session b.tenants } in
-    IsAt b.lines i l → l.session.stage ≡ st → IsCountedAt l.number st (put_at d i m) c → IsFed l.number piece d c → IsFed l.number piece b c
-fed-from b c i l m piece (Greets h) at s counted f =
+    IsSound b → IsAt b.lines i l → l.session.stage ≡ st → IsCountedAt l.number st (put_at d i m) c → IsFed l.number piece d c → IsFed l.number piece b c
+fed-from b c i l m piece (Greets h) sound at s counted f =
     let same : (x : Bool) → cond x (left_by b.clock l.number (Greets h) b.tenants) b.tenants ≡ b.tenants = λ x. either x b.tenants in
     subst (λ ts. IsFed l.number piece (record b { tenants = ts }) c) (ap (λ st. cond (overruns piece l.session) (left_by b.clock l.number st b.tenants) b.tenants) s ∙ same (overruns piece l.session)) f
   where
     either : (x : Bool) (ts : List TenantState) → cond x ts ts ≡ ts
     either true ts = refl
     either false ts = refl
-fed-from b c i l m piece (BoundTo u w) at s counted f = fed-since b c i u l w piece at s counted.counted f
+fed-from b c i l m piece (BoundTo u w) sound at s counted f = fed-since b c i u l w piece sound at s counted.counted f
 
 pub fed-shut : (b c : BrokerState) (i : ℕ) (l m : Line) (piece : List ℕ) → IsSound b → first_able b.lines ≡ None → IsShut (record b { tenants = left_fed piece b.clock l.number l.session b.tenants }) c i l m → IsFed (number_at i b) piece b c
 fed-shut b c i l m piece sound settled h =
     let d = record b { tenants = left_fed piece b.clock l.number l.session b.tenants } in
     let first = fed-counted d c i l m piece l.session.stage (sound-fed b piece l sound) settled h.at refl (ap (λ (x : Line). x.number) h.is) (ap (λ (x : Line). x.session) h.is) h.counted in
-    subst (λ n. IsFed n piece b c) (sym (number_at-is b i l h.at)) (fed-from b c i l m piece l.session.stage h.at refl h.counted first)
+    subst (λ n. IsFed n piece b c) (sym (number_at-is b i l h.at)) (fed-from b c i l m piece l.session.stage sound h.at refl h.counted first)
 
 -- a piece leaves a wait as it is, or ends it
 pub fed-stage : (piece : List ℕ) (s : Session) → ((fed piece s).stage ≡ s.stage) ⊎ (deadline_at (fed piece s).stage ≡ None)
@@ -374,7 +383,12 @@ served-refused H honest scope b c i l m us (Greets h) still k s e turn r =
     subst (λ x. Turned scope b x) (sym r.is) g
 served-refused H honest scope b c i l m us (BoundTo t w) still k s e turn r =
     let f = served-bound scope b i t l m w H c.tenants k.next.sound still k.at (first-at b i l k.next k.at) k.able s k.number (k.spent.stage t w s) (turn-refused H t l.number b c i m us turn r) honest
-    (λ calm. absurd (r.counted (calm-right (count b.tenants t) (count us t) (count c.tenants t) (turn.grows t) (r.turn.grows t) calm))) in
+    (λ calm. absurd (r.counted (calm-right (count b.tenants t) (count us t) (count c.tenants t) (turn.grows t) (r.turn.grows t) calm)))
+    (λ held. let nobody = left-nobody b.clock l.number (hosted.kept_of us t) (hosted.kept_of c.tenants t) r.left in
+    stranded-served b i t l m c.tenants b.unbound_refusals k.next.sound k.at k.number (able-free l.session k.able) (λ u ne. (turn-refused H t l.number b c i m us turn r).others honest u ne)
+    (spared-left b t l.number b.clock (hosted.kept_of us t) (hosted.kept_of c.tenants t)
+    (spared-served b i t l (hosted.kept_of us t).groups k.next.sound k.at (able-free l.session k.able) held (subst (λ st. IsWaitTurnAt l.number st b.tenants us) s k.waits)) r.left)
+    (inr (omega (arith, nobody))) held) in
     subst (λ x. Served t scope b x) (sym r.is) f
 
 pub work-refused : (H : Type 0) (b c : BrokerState) (i : ℕ) (l m : Line) (us : List TenantState) (st : Stage) → IsTaken H b i l m us → IsCountedAt l.number st (put_with b i m us) c → work c.lines < work b.lines
@@ -647,6 +661,9 @@ module _ (H : Type 0) (honest : H) (now : ℕ) (answered : Option (Vec ℕ Globa
 
   pub moved-step : IsStep (Moment now) a c
   moved-step = step-moment now whoms.All a b c s.tenants H honest m.begun.passed waked unready turned m.none
+
+  pub moved-held : NoneStranded a → NoneStranded c
+  moved-held held = turned.held (waked.held (stranded-begun a now (max a.clock now) H s.tenants honest m.begun.passed held))
 
   pub moved-unready : AreUnready AnyWait c
   moved-unready = turned.unready unready

@@ -6,6 +6,8 @@ use Rattle.kb_machine.specs.Broker.{BrokerState, AreUnready, AnyWait, IsSound, I
 use Rattle.kb_machine.specs.Calls.{IsRefused, opened, closed, taken}
 use Rattle.kb_machine.proofs.Steps.{sound-opened, settled-opened, unready-opened, step-opened, step-unopened, sound-closed, settled-closed, unready-closed, step-closed}
 use Rattle.kb_machine.proofs.Taken.{sound-taken, settled-taken, unready-taken}
+use Rattle.kb_machine.specs.Stranded.{NoneStranded}
+use Rattle.kb_machine.proofs.Stranded.{stranded-closed, stranded-opened, stranded-taken, stranded-unopened}
 use Rattle.kb_broker.specs.Hosts.{OnStore, is_honest, IsLater, IsReadyOn, StepsTo}
 use Rattle.kb_broker.proofs.Honest.{later-is, later-on}
 
@@ -64,3 +66,14 @@ pub disconnected-later : {S : Type 0} (disk : S → Disk) (a c : OnStore S) (n :
 disconnected-later disk a c n h =
     let grows = (left-step a c n h).grows in
     later-on disk a.store c.store a.state.tenants c.state.tenants (ap (λ (x : OnStore _). x.store) h) grows.names grows.own
+
+-- what a call leaves of the members that wait: the engine's own a is the one that clauses see, b
+pub connected-held : {S A E : Type 0} (r : Result A E) (a b c : OnStore S) (n : ℕ) → a ≡ b → OnOk r (c.state ≡ opened a.state n) → OnErr r (IsRefused a.state c.state) → NoneStranded b.state → NoneStranded c.state
+connected-held (Ok x) a b c n e ok err held = subst NoneStranded (sym ok) (stranded-opened a.state n (subst (λ (y : OnStore _). NoneStranded y.state) (sym e) held))
+connected-held (Err x) a b c n e ok err held = subst NoneStranded (sym err.is) (stranded-unopened a.state c.state.unbound_refusals (subst (λ (y : OnStore _). NoneStranded y.state) (sym e) held))
+
+pub disconnected-held : {S : Type 0} (a b c : OnStore S) (n : ℕ) → a ≡ b → c ≡ record a { state = closed a.state n } → NoneStranded b.state → NoneStranded c.state
+disconnected-held a b c n e h held = subst (λ (y : OnStore _). NoneStranded y.state) (sym h) (stranded-closed a.state n (subst (λ (y : OnStore _). NoneStranded y.state) (sym e) held))
+
+pub drained-held : {S : Type 0} (a b c : OnStore S) (n : ℕ) → a ≡ b → c ≡ record a { state = taken a.state n } → NoneStranded b.state → NoneStranded c.state
+drained-held a b c n e h held = subst (λ (y : OnStore _). NoneStranded y.state) (sym h) (stranded-taken a.state n (subst (λ (y : OnStore _). NoneStranded y.state) (sym e) held))

@@ -23,6 +23,7 @@ pub mod ScriptWords
 pub mod ScriptHush
 pub mod ScriptSaid
 pub mod ScriptTells
+pub mod Stranded
 pub mod ScriptEvents
 pub mod ScriptPlay
 pub mod ScriptOpening

@@ -11,6 +11,7 @@ use Rattle.kb_machine.specs.declared.whom.Whom.TheVariants as whoms
 use Rattle.kb_machine.specs.Turned.{Concerns, IsGoing, Waked, IsLookedFor, IsPassedOver}
 use Rattle.kb_machine.proofs.Sets.{IsAt, all-at, all-set, all-map, tail-at, no-at, work-set}
 use Rattle.kb_machine.proofs.Wakes.{waked-same, waked-then, waked-line}
+use Rattle.kb_machine.proofs.Stranded.{stranded-looked}
 use Rattle.kb_broker.specs.Places.{numbers, IsPassed, ArePassed, IsPassedBy, IsLookedAt, AreWaked, IsOneMore}
 use Rattle.kb_machine.proofs.Turns.{unready-same, weaken, called-going}
 use Rattle.kb_machine.proofs.Parts.{eqb_same}
@@ -36,6 +37,7 @@ looked-waked H honest whom b i l m us (Greets h) s at e p = passed-waked whom b 
 looked-waked H honest whom b i l m us (BoundTo t None) s at e p = passed-waked whom b i l m us s at p
 looked-waked H honest whom b i l m us (BoundTo t (Some w)) s at e (inl p) = passed-waked whom b i l m us s at p.1
 looked-waked H honest whom b i l m us (BoundTo t (Some w)) s at e (inr p) = let k = p.1 in waked-line whom b i t l m w H us s at e (concerned whom b.clock t w p.0) k.number k.stage k.turn honest (k.stays honest) (λ calm. k.meets honest calm)
+    (λ held. stranded-looked b i t l m w us b.unbound_refusals b.clock s at k.number e (k.stays honest) (λ own. k.member honest w e own) held)
 
 passed-stage : (l m : Line) (st : Stage) → l.session.stage ≡ st → m ≡ l → m.session.stage ≡ st
 passed-stage l m st e same = ap (λ (x : Line). x.session.stage) same ∙ e

@@ -1,5 +1,5 @@
 -- What a tenant's call is to the connection that it is for.
-use Rattle.std.proofs.Common.{◌≡◌, ◌≤◌, false, Some, inl, inr, ℕ, ℤ, List, [], length, Bool, true, Result, Ok, Err, OnOk, OnErr, refl, sym, ap, subst, ◌∙◌, arith}
+use Rattle.std.proofs.Common.{◌≡◌, ◌≤◌, false, None, Some, inl, inr, ℕ, ℤ, List, [], length, Bool, true, Result, Ok, Err, OnOk, OnErr, refl, sym, ap, subst, ◌∙◌, arith}
 use Rattle.kb_coordinator.specs.Groups.{Groups, silent}
 use Rattle.kb_world.specs.Tied.{IsTied}
 use Rattle.kb_world.specs.World.{World}
@@ -9,21 +9,24 @@ use Rattle.kb_world.specs.Steps.{IsCalm}
 use Rattle.kb_world.specs.declared.place.Place.{Place}
 use Rattle.kb_service.specs.Hosted.{Kept, nothing, TenantState, IsTurn, IsMet, kept_in, kept_of, refusals_of, world_at}
 use Rattle.kb_tenant.specs.Replies as plain
-use Rattle.kb_tenant.specs.Replies.{Shuts}
+use Rattle.kb_tenant.specs.Replies.{Replies, Waits, Silent, Shuts}
 use Rattle.kb_tenant.specs.declared.answer.Answer.{Answer as Plain}
-use Rattle.kb_service.specs.Replies.{Reaction, IsAnswer, told_to}
+use Rattle.kb_service.specs.Replies.{Reaction, Rebalances, IsAnswer, told_to}
+use Rattle.kb_service.specs.declared.answer.Answer.TheVariants as group
+use Rattle.kb_machine.specs.Stranded.{IsMembersAt}
 use Rattle.kb_service.specs.Serve.{Outcome, IsOutcome, has_released, served}
 use Rattle.kb_service.specs.declared.answer.Answer.{Answer}
 use Rattle.kb_tenant.specs.declared.answer.Answer.TheVariants as answers
 use Rattle.kb_tenant.specs.declared.node.Node.{Node}
-use Rattle.kb_machine.specs.Tenant.{Awaited, Records, Group, Wait, answer, asked, ready, ready_for, kept_after}
-use Rattle.kb_machine.specs.Session.{Greeting, Greets, BoundTo, Session, can, shut_down, without_wait}
+use Rattle.kb_machine.specs.Tenant.{Awaited, Records, Group, Wait, is_members, answer, asked, ready, ready_for, kept_after}
+use Rattle.kb_machine.specs.Session.{Greeting, Greets, BoundTo, Session, can, shut_down, waiting, without_wait}
 use Rattle.kb_machine.specs.Greeting.{Setup, greeted}
 use Rattle.kb_machine.specs.Machine.{Line, answered, told, woken, woken_by, served as served_by_turn, put}
 use Rattle.kb_machine.proofs.Laws.{can-turn, some-left, greeted-less, served-less}
 use Rattle.kb_machine.proofs.Owners.{stage-served, stage-shut}
 use Rattle.kb_connection.specs.Fronts.{IsAsked}
 use Rattle.kb_connection.specs.View.{with_session, without_front}
+use Rattle.kb_connection.specs.TenantAnswers.{is_quiet}
 use Rattle.kb_tenants.proofs.Tied.{kept_names, kept_tied}
 use Rattle.kb_tenants.proofs.Answered.{untold}
 use Rattle.kb_tenants.specs.Tenants.{is_honest}
@@ -43,7 +46,7 @@ use Rattle.kb_machine.specs.declared.whom.Whom.{Whom}
 use Rattle.kb_machine.specs.Turned.{IsLookedFor}
 use Rattle.kb_machine.specs.Broker.{BrokerState, IsUnready, AnyWait}
 use Rattle.kb_machine.proofs.Turns.{shut-unready}
-use Rattle.kb_machine.proofs.Wakes.{unready-woken}
+use Rattle.kb_machine.proofs.Wakes.{unready-woken, woken-at}
 use Rattle.std.proofs.lemmas.Bool.Decides.{nat_tests}
 use Rattle.kb_machine.proofs.Parts.{turn-then, calm-right}
 
@@ -157,6 +160,11 @@ spent-greeted (Ok x) setup h l new greets able ok err =
     record { less = omega (arith, less, left); stage = λ t w e. (let none : Greets h ≡ BoundTo t w = sym greets ∙ e in absurd (cc)) }
 spent-greeted (Err x) setup h l new greets able ok err = spent-shut l new able err
 
+-- a member more waits on the connection only where the connection waits for its group then
+pub member-told : (t : ℕ) (l new : Line) (r : Answer) (id version : ℤ) (body : List ℕ) (P : Type 0) → l.session.stage ≡ BoundTo t None → (r ≡ group.Rebalance → new ≡ with_session l (answered Rebalances id version body (without_front l.session))) → (r ≡ group.Rebalance) ⊎ P → IsMembersAt t new.session.stage ⊎ P
+member-told t l new r id version body P bound is (inl e) = inl (subst (λ (x : Line). IsMembersAt t x.session.stage) (sym (is e)) (subst (λ st. IsMembersAt t (waiting (record { correlation_id = id; awaited = Group }) st)) (sym bound) (refl, refl)))
+member-told t l new r id version body P bound is (inr p) = inr p
+
 -- 3. A look at a waiting request
 
 -- what the tenant answers to it is what the machine tells
@@ -172,12 +180,24 @@ met-looked H honest (Ok x) clock t ts us l new w r stage meets ok calm =
     let is = ok w.correlation_id (ready k clock l.number w) done.1 in
     ap (λ (x : Line). x.session) is ∙ sym (ap (woken_by k clock l.number l.session) stage)
 
+calm-by : (x y : ℕ) {P : Type 0} (b : Bool) → (eqb y x && nat_lt x END) ≡ b → (IsCalm x y → P) → ((IsCalm x y → ⊥) → P) → P
+calm-by x y true e calm loud = calm (record { same = grind (arith, nat_tests, e); below = grind (arith, nat_tests, e) })
+calm-by x y false e calm loud = loud (λ h. let s = h.same in let l = h.below in grind (arith, nat_tests, e, s, l))
+
+-- nothing was refused, or something was
+pub calm-or : (x y : ℕ) {P : Type 0} → (IsCalm x y → P) → ((IsCalm x y → ⊥) → P) → P
+calm-or x y calm loud = calm-by x y (eqb y x && nat_lt x END) refl calm loud
+
+-- what a waiting request is answered: what it is told; or its connection is shut, and a member of a group was told something
+abbrev pub AreAnswers : ℕ → ℕ → List TenantState → ℕ → Wait → Plain → Type 0
+AreAnswers clock t ts n w r = plain.IsAnswer w.correlation_id (ready (kept_of ts t) clock n w) r ⊎ ((r ≡ answers.Shut) × (is_members w.awaited ≡ true → ready (kept_of ts t) clock n w ≡ Silent → ⊥))
+
 -- a look that was not refused is told by its answer, and one that was shuts the connection
 pub looked-ok : {A E : Type 0} (H : Type 0) (result : Result A E) (whom : Whom) (clock t : ℕ) (ts us : List TenantState) (l new : Line) (w : Wait) (r : Plain) → l.session.stage ≡ BoundTo t (Some w) → IsLookedFor whom clock t w → IsTurn t H ts us
-    → (H → (u : ℕ) → kept_of us u ≡ kept_of ts u) → IsMet t H ts us (λ k m. (m ≡ k) × plain.IsAnswer w.correlation_id (ready k clock l.number w) r) → ((IsCalm (refusals_of ts t) (refusals_of us t) → ⊥) → r ≡ answers.Shut)
+    → (H → (u : ℕ) → kept_of us u ≡ kept_of ts u) → IsMet t H ts us (λ k m. (m ≡ k) × plain.IsAnswer w.correlation_id (ready k clock l.number w) r) → (H → AreAnswers clock t ts l.number w r)
     → ((id : ℤ) (reaction : plain.Reaction) → plain.IsAnswer id reaction r → OnOk result (new ≡ with_session l (told reaction id l.session)))
     → new.number ≡ l.number → without_wait new.session.stage ≡ without_wait l.session.stage → length new.session.unread ≤ length l.session.unread → is_err result ≡ false → IsLookedAt H whom clock l.session.stage ts us l new
-looked-ok H result whom clock t ts us l new w r stage yours turn stays meets shut ok number same unread good =
+looked-ok H result whom clock t ts us l new w r stage yours turn stays meets says ok number same unread good =
     let met = λ (honest : H) (calm : IsCalm (refusals_of ts t) (refusals_of us t)). let h : OnOk result (new.session ≡ woken (kept_of ts t) clock l.number l.session) = met-looked H honest result clock t ts us l new w r stage meets ok calm in from_ok result false (new.session ≡ woken (kept_of ts t) clock l.number l.session) (sym good) refl h in
     subst (λ st. IsLookedAt H whom clock st ts us l new) (sym stage)
     (inr (
@@ -189,27 +209,52 @@ looked-ok H result whom clock t ts us l new w r stage yours turn stays meets shu
         turn = turn;
         stays = stays;
         meets = met;
-        unready = λ honest b is now. calm-or (refusals_of ts t) (refusals_of us t)
-            (λ calm. unready-met b t w l new stage (met honest calm ∙ (ap (λ k. woken k clock l.number l.session) (ap (λ x. kept_of x t) (sym is)) ∙ ap (λ n. woken (kept_of b.tenants t) n l.number l.session) (sym now))))
-            (λ loud. let is-shut = from_ok result false (new ≡ with_session l (shut_down l.session)) (sym good) refl (ok w.correlation_id Shuts (subst (plain.IsAnswer w.correlation_id Shuts) (sym (shut loud)) tt)) in subst (λ (x : Line). IsUnready AnyWait b l.number x.session.stage) (sym is-shut) (shut-unready AnyWait b l.number l.session));
+        unready = λ honest b is now. left b is now (is-told honest);
+        member = λ honest x at own. members x at own (is-told honest);
       },
     ))
   where
     unready-met : (b : BrokerState) (t : ℕ) (w : Wait) (l new : Line) → l.session.stage ≡ BoundTo t (Some w) → new.session ≡ woken (kept_of b.tenants t) b.clock l.number l.session → IsUnready AnyWait b l.number new.session.stage
     unready-met b t w l new stage is = subst (λ (s : Session). IsUnready AnyWait b l.number s.stage) (sym is) (unready-woken AnyWait b l.number l.session t w stage)
 
-    by : (x y : ℕ) {P : Type 0} (b : Bool) → (eqb y x && nat_lt x END) ≡ b → (IsCalm x y → P) → ((IsCalm x y → ⊥) → P) → P
-    by x y true e calm loud = calm (record { same = grind (arith, nat_tests, e); below = grind (arith, nat_tests, e) })
-    by x y false e calm loud = loud (λ h. let s = h.same in let l = h.below in grind (arith, nat_tests, e, s, l))
+    is-of : (reaction : plain.Reaction) → plain.IsAnswer w.correlation_id reaction r → new ≡ with_session l (told reaction w.correlation_id l.session)
+    is-of reaction answers = from_ok result false (new ≡ with_session l (told reaction w.correlation_id l.session)) (sym good) refl (ok w.correlation_id reaction answers)
 
-    calm-or : (x y : ℕ) {P : Type 0} → (IsCalm x y → P) → ((IsCalm x y → ⊥) → P) → P
-    calm-or x y calm loud = by x y (eqb y x && nat_lt x END) refl calm loud
+    is-shut : r ≡ answers.Shut → new ≡ with_session l (shut_down l.session)
+    is-shut e = is-of Shuts (subst (plain.IsAnswer w.correlation_id Shuts) (sym e) tt)
+
+    is-told : H → AreAnswers clock t ts l.number w r
+    is-told honest = says honest
+
+    left : (b : BrokerState) → b.tenants ≡ ts → b.clock ≡ clock → AreAnswers clock t ts l.number w r → IsUnready AnyWait b l.number new.session.stage
+    left b is now (inl says) = unready-met b t w l new stage
+        (ap (λ (x : Line). x.session) (is-of (ready (kept_of ts t) clock l.number w) says)
+        ∙ (sym (woken-at (kept_of ts t) clock l.number l.session t w stage)
+        ∙ (ap (λ k. woken k clock l.number l.session) (ap (λ x. kept_of x t) (sym is)) ∙ ap (λ n. woken (kept_of b.tenants t) n l.number l.session) (sym now))))
+    left b is now (inr gone) = subst (λ (x : Line). IsUnready AnyWait b l.number x.session.stage) (sym (is-shut gone.0)) (shut-unready AnyWait b l.number l.session)
+
+    members : (x : Wait) → l.session.stage ≡ BoundTo t (Some x) → is_members x.awaited ≡ true → AreAnswers clock t ts l.number w r → (new.session.stage ≡ l.session.stage) ⊎ (ready (kept_of ts t) clock l.number x ≡ Silent → ⊥)
+    members x at own says = subst (λ (y : Wait). (new.session.stage ≡ l.session.stage) ⊎ (ready (kept_of ts t) clock l.number y ≡ Silent → ⊥)) alike (by says)
+      where
+        alike : w ≡ x
+        alike = let both : BoundTo t (Some w) ≡ BoundTo t (Some x) = sym stage ∙ at in cc
+
+        told-stage : (reaction : plain.Reaction) → ready (kept_of ts t) clock l.number w ≡ reaction → plain.IsAnswer w.correlation_id reaction r → (new.session.stage ≡ l.session.stage) ⊎ (ready (kept_of ts t) clock l.number w ≡ Silent → ⊥)
+        told-stage (Replies reply) e answers = inr (λ none. let no : Replies reply ≡ Silent = sym e ∙ none in absurd (cc))
+        told-stage (Waits deadline places) e answers = inl (ap (λ (x : Line). x.session.stage) (is-of (Waits deadline places) answers))
+        told-stage Silent e answers = inl (ap (λ (x : Line). x.session.stage) (is-of Silent answers))
+        told-stage Shuts e answers = inr (λ none. let no : Shuts ≡ Silent = sym e ∙ none in absurd (cc))
+
+        by : AreAnswers clock t ts l.number w r → (new.session.stage ≡ l.session.stage) ⊎ (ready (kept_of ts t) clock l.number w ≡ Silent → ⊥)
+        by (inl answers) = told-stage (ready (kept_of ts t) clock l.number w) refl answers
+        by (inr gone) = inr (gone.1 (ap (λ (y : Wait). is_members y.awaited) alike ∙ own))
 
 -- the reply could not be kept: the connection is shut, and a refusal was counted
 pub looked-err : (H : Type 0) (whom : Whom) (clock t : ℕ) (ts us vs : List TenantState) (l new : Line) (w : Wait) → l.session.stage ≡ BoundTo t (Some w) → IsLookedFor whom clock t w → IsTurn t H ts us → IsTurn t (Unit {0}) us vs
     → (H → (u : ℕ) → kept_of us u ≡ kept_of ts u) → ((u : ℕ) → kept_of vs u ≡ kept_of us u) → (IsCalm (refusals_of us t) (refusals_of vs t) → ⊥) → new ≡ with_session l (shut_down l.session)
-    → new.number ≡ l.number → without_wait new.session.stage ≡ without_wait l.session.stage → length new.session.unread ≤ length l.session.unread → IsLookedAt H whom clock l.session.stage ts vs l new
-looked-err H whom clock t ts us vs l new w stage yours first then stays again counted is number same unread =
+    → new.number ≡ l.number → without_wait new.session.stage ≡ without_wait l.session.stage → length new.session.unread ≤ length l.session.unread → (r : Plain) → (H → AreAnswers clock t ts l.number w r) → (is_quiet r ≡ true → new ≡ l)
+    → IsLookedAt H whom clock l.session.stage ts vs l new
+looked-err H whom clock t ts us vs l new w stage yours first then stays again counted is number same unread r says quiet =
     subst (λ st. IsLookedAt H whom clock st ts vs l new) (sym stage)
     (inr (
       yours,
@@ -221,5 +266,28 @@ looked-err H whom clock t ts us vs l new w stage yours first then stays again co
         stays = λ honest u. again u ∙ stays honest u;
         meets = λ honest calm. absurd (counted (calm-right (refusals_of ts t) (refusals_of us t) (refusals_of vs t) (first.grows t) (then.grows t) calm));
         unready = λ honest b e now. subst (λ (x : Line). IsUnready AnyWait b l.number x.session.stage) (sym is) (shut-unready AnyWait b l.number l.session);
+        member = λ honest x at own. members x at own (says honest);
       },
     ))
+  where
+    members : (x : Wait) → l.session.stage ≡ BoundTo t (Some x) → is_members x.awaited ≡ true → AreAnswers clock t ts l.number w r → (new.session.stage ≡ l.session.stage) ⊎ (ready (kept_of ts t) clock l.number x ≡ Silent → ⊥)
+    members x at own says = subst (λ (y : Wait). (new.session.stage ≡ l.session.stage) ⊎ (ready (kept_of ts t) clock l.number y ≡ Silent → ⊥)) alike (by says)
+      where
+        alike : w ≡ x
+        alike = let both : BoundTo t (Some w) ≡ BoundTo t (Some x) = sym stage ∙ at in cc
+
+        silent : (a : Plain) → plain.IsAnswer w.correlation_id Silent a → is_quiet a ≡ true
+        silent (answers.Reply reply) h = absurd h
+        silent (answers.Wait deadline places) h = absurd h
+        silent answers.NoReply h = refl
+        silent answers.Shut h = absurd h
+
+        told-stage : (reaction : plain.Reaction) → ready (kept_of ts t) clock l.number w ≡ reaction → plain.IsAnswer w.correlation_id reaction r → (new.session.stage ≡ l.session.stage) ⊎ (ready (kept_of ts t) clock l.number w ≡ Silent → ⊥)
+        told-stage (Replies reply) e h = inr (λ none. let no : Replies reply ≡ Silent = sym e ∙ none in absurd (cc))
+        told-stage (Waits deadline places) e h = inr (λ none. let no : Waits deadline places ≡ Silent = sym e ∙ none in absurd (cc))
+        told-stage Silent e h = inl (ap (λ (y : Line). y.session.stage) (quiet (silent r h)))
+        told-stage Shuts e h = inr (λ none. let no : Shuts ≡ Silent = sym e ∙ none in absurd (cc))
+
+        by : AreAnswers clock t ts l.number w r → (new.session.stage ≡ l.session.stage) ⊎ (ready (kept_of ts t) clock l.number w ≡ Silent → ⊥)
+        by (inl h) = told-stage (ready (kept_of ts t) clock l.number w) refl h
+        by (inr gone) = inr (gone.1 (ap (λ (y : Wait). is_members y.awaited) alike ∙ own))

@@ -2,11 +2,12 @@
 use Rattle.std.specs.Prelude.{◌≡◌, ◌≤◌, ℕ, List, None}
 use Rattle.kb_store.specs.Disk.{Disk}
 use Rattle.kb_log.specs.OnShelf.{Log}
-use Rattle.kb_service.specs.Hosted.{TenantState, IsAccounted, refusals_of}
+use Rattle.kb_tenant.specs.Batches.{HasSmallLogs}
+use Rattle.kb_service.specs.Hosted.{TenantState, IsAccounted, refusals_of, world_at}
 use Rattle.kb_tenants.specs.Tenants.{AreKept, hosted}
 use Rattle.kb_tenants.specs.declared.tenants.Tenants.{Tenants}
 use Rattle.kb_machine.specs.Machine.{Happening, first_able}
-use Rattle.kb_machine.specs.Broker.{BrokerState, AreUnready, AnyWait, IsSound, IsStep}
+use Rattle.kb_machine.specs.Broker.{BrokerState, AreUnready, AnyWait, IsSound, IsStep, kept_of}
 
 -- 1. The tenants
 
@@ -51,6 +52,10 @@ StepsTo disk e old new = is_honest disk new → IsStep e old.state new.state
 -- nothing that waits is ready, unless the store lied
 abbrev pub NoneReady : {S : Type 0} → (S → Disk) → OnStore S → Type 0
 NoneReady disk b = is_honest disk b → AreUnready AnyWait b.state
+
+-- the logs of each tenant are within their limits, unless the store lied
+abbrev pub AreSmall : {S : Type 0} → (S → Disk) → OnStore S → Type 0
+AreSmall disk b = is_honest disk b → (t : ℕ) → HasSmallLogs (world_at (kept_of b.state t) b.state.clock)
 
 -- what holds between the events
 pub record IsReadyOn {S : Type 0} (disk : S → Disk) (b : OnStore S) : Type 0 where

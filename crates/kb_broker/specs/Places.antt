@@ -9,7 +9,9 @@ use Rattle.kb_service.specs.Hosted as hosted
 use Rattle.kb_service.specs.Hosted.{TenantState, IsTurn, IsMet}
 use Rattle.kb_service.specs.Serve.{has_released}
 use Rattle.kb_tenant.specs.Replies.{Silent}
-use Rattle.kb_machine.specs.Tenant.{Wait, ready}
+use Rattle.kb_service.specs.Waiters.{AreServed}
+use Rattle.kb_machine.specs.Stranded.{IsMembersAt, members_of}
+use Rattle.kb_machine.specs.Tenant.{Wait, is_members, ready}
 use Rattle.kb_machine.specs.Session.{Stage, Greets, BoundTo, Session, without_wait, is_free, can}
 use Rattle.kb_machine.specs.Greeting.{Setup, greeted}
 use Rattle.kb_machine.specs.Machine.{Line, served, put, woken, first_able, work}
@@ -74,6 +76,17 @@ abbrev pub IsTakenAt : Type 0 → Setup → ℕ → ℕ → Stage → List Tenan
 IsTakenAt honest setup clock n (Greets handshaken) old new s r = r ≡ greeted setup handshaken s
 IsTakenAt honest setup clock n (BoundTo tenant wait) old new s r = IsMet tenant honest old new (λ k l. (r ≡ served setup k clock n s) × (l ≡ put setup k clock n s.unread))
 
+-- The turn of a connection of number n at that stage, also where it is refused, leaves no member more waiting but on that connection, and of
+-- those who waited each waits still or was answered; or it leaves the tenant's groups as they were.
+abbrev pub IsWaitTurnAt : ℕ → Stage → List TenantState → List TenantState → Type 0
+IsWaitTurnAt n (Greets handshaken) old new = ⊤
+IsWaitTurnAt n (BoundTo tenant wait) old new = AreServed n true (hosted.kept_of old tenant).groups (hosted.kept_of new tenant).groups ⊎ ((hosted.kept_of new tenant).groups ≡ (hosted.kept_of old tenant).groups)
+
+-- where the turn was not refused, a member more waits on the connection only if it waits for its group; r is its stage then
+abbrev pub IsMemberTurnAt : ℕ → Stage → List TenantState → List TenantState → Stage → Type 0
+IsMemberTurnAt n (Greets handshaken) old new r = ⊤
+IsMemberTurnAt n (BoundTo tenant wait) old new r = IsMembersAt tenant r ⊎ (members_of new tenant n ≤ members_of old tenant n)
+
 -- the turn of a connection of number n bound to that tenant, of whose session s it leaves r, was not refused, the connection waits for nothing then, or the
 -- groups answer nobody who waited, and what waits and was not ready is not ready
 pub record IsQuietTurn (setup : Setup) (t clock n : ℕ) (old new : List TenantState) (s r : Session) : Type 0 where
@@ -109,6 +122,10 @@ abbrev pub IsServedAt : Stage → Scope → BrokerState → BrokerState → Type
 IsServedAt (Greets handshaken) scope old new = Turned scope old new
 IsServedAt (BoundTo tenant wait) scope old new = Served tenant scope old new
 
+-- a member that waits on the connection l waits on, or was answered by its group
+abbrev pub IsAnsweredMember : List TenantState → ℕ → ℕ → Wait → Line → Line → Type 0
+IsAnsweredMember old clock t w l m = is_members w.awaited ≡ true → (m.session.stage ≡ l.session.stage) ⊎ (ready (hosted.kept_of old t) clock l.number w ≡ Silent → ⊥)
+
 -- a look at what waits of that tenant left this of the connection l and of the tenants; unless the store lied what they keep stays, and it waits no longer, or is not ready
 pub record IsLooked (honest : Type 0) (t clock : ℕ) (old new : List TenantState) (l m : Line) : Type 0 where
   pub number : m.number ≡ l.number
@@ -118,6 +135,7 @@ pub record IsLooked (honest : Type 0) (t clock : ℕ) (old new : List TenantStat
   pub stays : honest → (u : ℕ) → hosted.kept_of new u ≡ hosted.kept_of old u
   pub meets : IsMet t honest old new (λ k n. m.session ≡ woken k clock l.number l.session)
   pub unready : honest → (b : BrokerState) → b.tenants ≡ old → b.clock ≡ clock → IsUnready AnyWait b l.number m.session.stage
+  pub member : honest → (w : Wait) → l.session.stage ≡ BoundTo t (Some w) → IsAnsweredMember old clock t w l m
 
 -- nothing was looked at
 abbrev pub IsPassedBy : List TenantState → List TenantState → Line → Line → Type 0

@@ -1,8 +1,12 @@
 //! Laws about whole runs, each as the contract of a function with an empty body.
 
-ghost use Rattle.std.specs.Prelude.{◌≡◌, ℕ, List, map};
+ghost use Rattle.std.specs.Prelude.{◌≡◌, ◌≢◌, ℕ, List, Some, true, false, map};
 ghost use Rattle.kb_settings.specs.declared.settings.Settings.{Settings};
-ghost use Rattle.kb_machine.specs.Broker.{BrokerState, IsCalmFor, IsRun};
+ghost use Rattle.kb_machine.specs.Broker.{BrokerState, IsCalmFor, IsRun, bound_to};
+ghost use Rattle.kb_machine.specs.Calls.{is_open, is_shut};
+ghost use Rattle.kb_machine.specs.Machine.{find_line};
+ghost use Rattle.kb_machine.specs.Stranded.{NoneStranded, members_of};
+ghost use Rattle.kb_connection.specs.View.{IsLimitedIn};
 ghost use Rattle.kb_machine.specs.Isolation.{IsIsolated, own_events, own_sent};
 ghost use Rattle.kb_broker.specs.declared.opening.Listing.{Listing};
 ghost use Rattle.kb_broker.specs.declared.run.Event.{Event};
@@ -30,4 +34,14 @@ pub fn opened_alone_is_the_same()
         → map sent_of own_written ≡ own_sent t (happenings events) shared (map sent_of written) }
     ensures run { (t : ℕ) (events fewer : List Event) (shared : BrokerState) → happenings fewer ≡ own_events t (happenings events) shared
         → IsRun shared.last (happenings events) → IsRun shared.last (happenings fewer) }
+{}
+
+/// No member of a group is left waiting where nobody answers, which each call of the broker keeps (`held`): none of any tenant waits on a
+/// connection that is gone, on one that was shut, which waits for nothing (`limited` of `Broker::room`), or on one that is not bound
+/// to the tenant. At the broker's start nobody waits.
+pub fn nobody_is_stranded()
+    ensures first { (listing : Listing) (settings : Settings) → NoneStranded (opening_listing listing settings) }
+    ensures gone { (t n : ℕ) (b : BrokerState) → NoneStranded b → is_open n b ≡ false → members_of b.tenants t n ≡ 0 }
+    ensures shut { (t n : ℕ) (b : BrokerState) → NoneStranded b → IsLimitedIn (find_line n b.lines) → is_shut n b ≡ true → members_of b.tenants t n ≡ 0 }
+    ensures elsewhere { (t n : ℕ) (b : BrokerState) → NoneStranded b → bound_to n b ≢ Some t → members_of b.tenants t n ≡ 0 }
 {}

@@ -4,10 +4,9 @@ ghost use Rattle.std.specs.Prelude.{◌≡◌, ◌+◌, ◌≤◌, ℕ, List, []
 ghost use Rattle.std.specs.Vec.{vec_len, vec_capacity};
 ghost use Rattle.kb_machine.specs.Machine.{Closes, Sent, those_sent, by_number, sent, leaving};
 ghost use Rattle.kb_machine.specs.Calls.{closed};
+ghost use Rattle.kb_machine.specs.Stranded.{NoneStranded};
 ghost use Rattle.kb_world.specs.Steps.{IsCalm};
-ghost use Rattle.kb_machine.specs.Broker.{IsCalmFor, IsRun, IsUnowned, alone_unowned, kept_of, last_after, only, owned_by, view_of};
-ghost use Rattle.kb_tenant.specs.Batches.{HasSmallLogs};
-ghost use Rattle.kb_service.specs.Hosted.{world_at};
+ghost use Rattle.kb_machine.specs.Broker.{IsCalmFor, IsRun, IsUnowned, alone_unowned, last_after, only, owned_by, view_of};
 ghost use Rattle.kb_machine.specs.Fetches.{FetchesGetBatches};
 ghost use Rattle.kb_machine.specs.Isolation.{IsIsolated, LeavesWorlds, AreAlike, own_events, own_sent};
 ghost use Rattle.kb_machine.specs.Alone.{HasToItself};
@@ -64,13 +63,14 @@ impl<S: Store, L: PartitionLog + Drop> Broker<S, L> {
             those_sent (only n) (map sent_of written.items) ≡ by_number (alone_unowned n (happenings events.now) self.old.state)) }
         ensures greeted { IfOk result (λ written. is_honest S.disk self.new → (n : ℕ) → IsUnowned n (happenings events.now) self.old.state → IsCalm self.old.state.unbound_refusals self.new.state.unbound_refusals →
             those_sent (only n) (map sent_of written.items) ≡ greeted_alone n (happenings events.now) self.old.state) }
-        ensures fetches { (t : ℕ) → HasSmallLogs (world_at (kept_of self.old.state t) self.old.state.clock) →
+        ensures fetches { is_honest S.disk self.old → (t : ℕ) →
             FetchesGetBatches (own_events t (happenings events.now) self.old.state) (view_of t (owned_by t (happenings events.now) self.old.state) self.old.state) }
         ensures left { IfOk result (λ written. is_honest S.disk self.new → LeavesWorlds (happenings events.now) self.old.state self.new.state (map sent_of written.items)) }
         ensures connections { IfOk result (λ written. map (λ (w : Written). w.conn) written.items ≡ connections_of (happenings events.now) self.old.state) }
         ensures history { IfOk result (λ written. (got : List Sent) × (map sent_of written.items ≡ by_number got) × Passes (is_honest S.disk self.new) (happenings events.now) self.old.state self.new.state got) }
         ensures later { IsLater S.disk self.old self.new }
         ensures memory { OnErr result (self.new ≡ self.old) }
+        ensures held { is_honest S.disk self.new → NoneStranded self.old.state → NoneStranded self.new.state }
     {
         // an entry for each connection that is open or opens, so that no event is left half done for want of memory
         let open = self.connections().len();
@@ -92,6 +92,7 @@ impl<S: Store, L: PartitionLog + Drop> Broker<S, L> {
         ensures ready { IsReadyOn S.disk self.new }
         ensures later { IsLater S.disk self.old self.new }
         ensures last { self.new.state.last ≤ last_after (happening_of event.now) self.old.state.last }
+        ensures held { is_honest S.disk self.new → NoneStranded self.old.state → NoneStranded self.new.state }
         ensures passed { (ended : List Sent) × (map sent_of written.new.items ≡ map sent_of written.old.items ++ ended) × IsPassed (is_honest S.disk self.new) (happening_of event.now) self.old.state self.new.state ended }
         ensures capacity { vec_capacity written.new ≡ vec_capacity written.old }
     {
@@ -117,6 +118,7 @@ impl<S: Store, L: PartitionLog + Drop> Broker<S, L> {
         requires room { vec_len written.old + length self.old.state.lines ≤ vec_capacity written.old }
         ensures step { StepsTo S.disk (Closes conn) self.old self.new }
         ensures state { self.new ≡ record self.old { state = closed self.old.state conn } }
+        ensures held { NoneStranded self.old.state → NoneStranded self.new.state }
         ensures left { map sent_of written.new.items ≡ map sent_of written.old.items ++ leaving (Closes conn) self.old.state.lines }
         ensures capacity { vec_capacity written.new ≡ vec_capacity written.old }
     {

@@ -5,6 +5,7 @@ ghost use Rattle.std.specs.Io.BufRead.{strip_last};
 ghost use Rattle.kb_machine.specs.Machine.{Opens, Comes, Closes, Moment};
 ghost use Rattle.kb_machine.specs.Broker.{IsReady};
 ghost use Rattle.kb_machine.specs.Calls.{is_calm, is_shut};
+ghost use Rattle.kb_broker.specs.Hosts.{is_honest};
 ghost use Rattle.kb_broker.specs.Opening.{opening};
 ghost use Rattle.kb_broker.specs.Script.{Plays, script, told, told_of, course_of, is_placed};
 ghost use Rattle.kb_broker.specs.ScriptRun.{IsQuiet, NoneWaits, HappensSilently, IsSpoken, IsDone, IsBroken, IsPlayed, IsEnded, here};
@@ -16,8 +17,9 @@ mod saying;
 
 use crate::broker::Broker;
 use answer::{answer_of, write_all};
+use kb_log::PartitionLog;
 use kb_settings::Settings;
-use kb_store::MemoryStore;
+use kb_store::{MemoryStore, Store};
 use line::Line;
 use reading::next_line;
 use saying::{say, shut_places};
@@ -49,15 +51,16 @@ pub enum ScriptFault {
     /// The writer failed.
     #[error("write fault")]
     Write,
-    /// Memory was refused.
+    /// Memory was refused, or the store refused.
     #[error("out of memory")]
     Memory,
 }
 
-/// Plays a script on a new broker of those settings: reads its lines and writes what the broker says after each.
+/// Plays a script on a new broker of those settings, with logs of any kind on a store in memory: reads its lines and writes what the
+/// broker says after each.
 ///
 /// A fault ends it; what the lines before it said has been written. The script is read a line at a time.
-pub fn run_script<R: BufRead, W: Write>(
+pub fn run_script<L: PartitionLog + Drop, R: BufRead, W: Write>(
     alloc: Global,
     settings: &Settings,
     reader: &mut R,
@@ -66,24 +69,29 @@ pub fn run_script<R: BufRead, W: Write>(
     ensures ok { OnOk result (IfSome (R.remaining reader.old) (λ text. IsPlayed (opening settings.now) (script (opening settings.now) text) (W.contents writer.old) (W.contents writer.new))) }
     ensures err { IfErr result (λ fault. IfSome (R.remaining reader.old) (λ text. IsEnded (opening settings.now) (script (opening settings.now) text) fault (W.contents writer.old) (W.contents writer.new))) }
 {
-    let Ok(mut opened) = Broker::open(alloc, settings, MemoryStore::new(alloc)) else {
+    let Ok(mut opened) = Broker::<MemoryStore, L>::open(alloc, settings, MemoryStore::new(alloc))
+    else {
         return Err(ScriptFault::Memory);
     };
-    play(alloc, &mut opened.broker, reader, writer)
+    run_script_on(alloc, &mut opened.broker, reader, writer)
 }
 
-/// Plays a script on a broker, a line at a time.
-fn play<R: BufRead, W: Write>(
+/// Plays a script on a broker that is at rest: no output is untaken, and nothing was refused. It reads its lines and writes what the
+/// broker says after each, over any store and logs of any kind.
+///
+/// A fault ends it; what the lines before it said has been written. The script is read a line at a time.
+pub fn run_script_on<S: Store, L: PartitionLog + Drop, R: BufRead, W: Write>(
     alloc: Global,
-    broker: &mut Broker<MemoryStore>,
+    broker: &mut Broker<S, L>,
     reader: &mut R,
     writer: &mut W,
 ) -> Result<(), ScriptFault>
-    requires calm { is_calm broker.old.state ≡ true }
-    requires quiet { IsQuiet broker.old.state }
-    requires ready { IsReady broker.old.state }
-    ensures ok { OnOk result (IfSome (R.remaining reader.old) (λ text. IsPlayed broker.old.state (script broker.old.state text) (W.contents writer.old) (W.contents writer.new))) }
-    ensures err { IfErr result (λ fault. IfSome (R.remaining reader.old) (λ text. IsEnded broker.old.state (script broker.old.state text) fault (W.contents writer.old) (W.contents writer.new))) }
+    requires calm { is_honest S.disk broker.old → is_calm broker.old.state ≡ true }
+    requires quiet { is_honest S.disk broker.old → IsQuiet broker.old.state }
+    requires ready { is_honest S.disk broker.old → IsReady broker.old.state }
+    ensures honest { is_honest S.disk broker.new → is_honest S.disk broker.old }
+    ensures ok { is_honest S.disk broker.new → OnOk result (IfSome (R.remaining reader.old) (λ text. IsPlayed broker.old.state (script broker.old.state text) (W.contents writer.old) (W.contents writer.new))) }
+    ensures err { is_honest S.disk broker.new → IfErr result (λ fault. IfSome (R.remaining reader.old) (λ text. IsEnded broker.old.state (script broker.old.state text) fault (W.contents writer.old) (W.contents writer.new))) }
 {
     let mut text = Vec::new(alloc);
     let mut room = SCRIPT_BYTES;
@@ -100,18 +108,19 @@ fn play<R: BufRead, W: Write>(
 }
 
 /// Plays a line, with its line feed or without.
-fn play_line<W: Write>(
+fn play_line<S: Store, L: PartitionLog + Drop, W: Write>(
     alloc: Global,
-    broker: &mut Broker<MemoryStore>,
+    broker: &mut Broker<S, L>,
     writer: &mut W,
     text: &[u8],
     number: u64,
 ) -> Result<(), ScriptFault>
-    requires calm { is_calm broker.old.state ≡ true }
-    requires quiet { IsQuiet broker.old.state }
-    requires ready { IsReady broker.old.state }
-    ensures ok { OnOk result (IsDone (course_of (here number broker.old.state) (told (strip_last 10 text.now))) broker.old.state broker.new.state (W.contents writer.old) (W.contents writer.new)) }
-    ensures err { IfErr result (λ fault. IsBroken (course_of (here number broker.old.state) (told (strip_last 10 text.now))) fault broker.old.state (W.contents writer.old) (W.contents writer.new)) }
+    requires calm { is_honest S.disk broker.old → is_calm broker.old.state ≡ true }
+    requires quiet { is_honest S.disk broker.old → IsQuiet broker.old.state }
+    requires ready { is_honest S.disk broker.old → IsReady broker.old.state }
+    ensures honest { is_honest S.disk broker.new → is_honest S.disk broker.old }
+    ensures ok { is_honest S.disk broker.new → OnOk result (IsDone (course_of (here number broker.old.state) (told (strip_last 10 text.now))) broker.old.state broker.new.state (W.contents writer.old) (W.contents writer.new)) }
+    ensures err { is_honest S.disk broker.new → IfErr result (λ fault. IsBroken (course_of (here number broker.old.state) (told (strip_last 10 text.now))) fault broker.old.state (W.contents writer.old) (W.contents writer.new)) }
 {
     let Ok(line) = Line::read(alloc, without_feed(text)) else {
         return Err(ScriptFault::Memory);
@@ -139,7 +148,7 @@ fn without_feed(line: &[u8]) -> &[u8]
 }
 
 /// Whether a line says nothing, or what may happen now.
-fn is_in_place(broker: &Broker<MemoryStore>, line: &Line) -> bool
+fn is_in_place<S: Store, L: PartitionLog + Drop>(broker: &Broker<S, L>, line: &Line) -> bool
     ensures { result ≡ is_placed (here 0 broker.now.state) (told_of line.now) }
 {
     match line {
@@ -152,12 +161,17 @@ fn is_in_place(broker: &Broker<MemoryStore>, line: &Line) -> bool
 }
 
 /// A connection opens.
-fn open(alloc: Global, broker: &mut Broker<MemoryStore>, connection: u64) -> Result<(), ScriptFault>
-    requires calm { is_calm broker.old.state ≡ true }
-    requires quiet { IsQuiet broker.old.state }
-    requires ready { IsReady broker.old.state }
+fn open<S: Store, L: PartitionLog + Drop>(
+    alloc: Global,
+    broker: &mut Broker<S, L>,
+    connection: u64,
+) -> Result<(), ScriptFault>
+    requires calm { is_honest S.disk broker.old → is_calm broker.old.state ≡ true }
+    requires quiet { is_honest S.disk broker.old → IsQuiet broker.old.state }
+    requires ready { is_honest S.disk broker.old → IsReady broker.old.state }
     requires above { broker.old.state.last < connection }
-    ensures ok { OnOk result (HappensSilently (Opens connection) broker.old.state broker.new.state) }
+    ensures honest { is_honest S.disk broker.new → is_honest S.disk broker.old }
+    ensures ok { is_honest S.disk broker.new → OnOk result (HappensSilently (Opens connection) broker.old.state broker.new.state) }
     ensures err { IfErr result (λ fault. fault ≡ ScriptFault.Memory) }
 {
     match broker.connect(alloc, connection) {
@@ -167,15 +181,16 @@ fn open(alloc: Global, broker: &mut Broker<MemoryStore>, connection: u64) -> Res
 }
 
 /// A connection closes. It has no output.
-fn close(
+fn close<S: Store, L: PartitionLog + Drop>(
     alloc: Global,
-    broker: &mut Broker<MemoryStore>,
+    broker: &mut Broker<S, L>,
     connection: u64,
 ) -> Result<(), ScriptFault>
-    requires calm { is_calm broker.old.state ≡ true }
-    requires quiet { IsQuiet broker.old.state }
-    requires ready { IsReady broker.old.state }
-    ensures ok { OnOk result (HappensSilently (Closes connection) broker.old.state broker.new.state) }
+    requires calm { is_honest S.disk broker.old → is_calm broker.old.state ≡ true }
+    requires quiet { is_honest S.disk broker.old → IsQuiet broker.old.state }
+    requires ready { is_honest S.disk broker.old → IsReady broker.old.state }
+    ensures honest { is_honest S.disk broker.new → is_honest S.disk broker.old }
+    ensures ok { is_honest S.disk broker.new → OnOk result (HappensSilently (Closes connection) broker.old.state broker.new.state) }
     ensures err { IfErr result (λ fault. fault ≡ ScriptFault.Memory) }
 {
     broker.disconnect(alloc, connection);
@@ -183,18 +198,19 @@ fn close(
 }
 
 /// A moment passes, and what the broker says is written. Where nobody waits it says nothing.
-fn pass<W: Write>(
+fn pass<S: Store, L: PartitionLog + Drop, W: Write>(
     alloc: Global,
-    broker: &mut Broker<MemoryStore>,
+    broker: &mut Broker<S, L>,
     writer: &mut W,
     now: u64,
 ) -> Result<(), ScriptFault>
-    requires calm { is_calm broker.old.state ≡ true }
-    requires quiet { IsQuiet broker.old.state }
-    requires ready { IsReady broker.old.state }
+    requires calm { is_honest S.disk broker.old → is_calm broker.old.state ≡ true }
+    requires quiet { is_honest S.disk broker.old → IsQuiet broker.old.state }
+    requires ready { is_honest S.disk broker.old → IsReady broker.old.state }
     requires in_time { now ≤ 2 ^ 62 }
-    ensures ok { OnOk result (IsSpoken (Moment now) broker.old.state broker.new.state (W.contents writer.old) (W.contents writer.new)) }
-    ensures err { IfErr result (λ fault. IsBroken (Plays (Moment now)) fault broker.old.state (W.contents writer.old) (W.contents writer.new)) }
+    ensures honest { is_honest S.disk broker.new → is_honest S.disk broker.old }
+    ensures ok { is_honest S.disk broker.new → OnOk result (IsSpoken (Moment now) broker.old.state broker.new.state (W.contents writer.old) (W.contents writer.new)) }
+    ensures err { is_honest S.disk broker.new → IfErr result (λ fault. IsBroken (Plays (Moment now)) fault broker.old.state (W.contents writer.old) (W.contents writer.new)) }
 {
     if broker.any_waits() {
         let Ok(were_shut) = shut_places(alloc, broker) else {
@@ -209,18 +225,19 @@ fn pass<W: Write>(
 }
 
 /// Gives a piece to a connection, and writes what the broker says, to this connection and to those that wait.
-fn give<W: Write>(
+fn give<S: Store, L: PartitionLog + Drop, W: Write>(
     alloc: Global,
-    broker: &mut Broker<MemoryStore>,
+    broker: &mut Broker<S, L>,
     writer: &mut W,
     connection: u64,
     piece: &[u8],
 ) -> Result<(), ScriptFault>
-    requires calm { is_calm broker.old.state ≡ true }
-    requires quiet { IsQuiet broker.old.state }
-    requires ready { IsReady broker.old.state }
-    ensures ok { OnOk result (IsSpoken (Comes connection piece.now) broker.old.state broker.new.state (W.contents writer.old) (W.contents writer.new)) }
-    ensures err { IfErr result (λ fault. IsBroken (Plays (Comes connection piece.now)) fault broker.old.state (W.contents writer.old) (W.contents writer.new)) }
+    requires calm { is_honest S.disk broker.old → is_calm broker.old.state ≡ true }
+    requires quiet { is_honest S.disk broker.old → IsQuiet broker.old.state }
+    requires ready { is_honest S.disk broker.old → IsReady broker.old.state }
+    ensures honest { is_honest S.disk broker.new → is_honest S.disk broker.old }
+    ensures ok { is_honest S.disk broker.new → OnOk result (IsSpoken (Comes connection piece.now) broker.old.state broker.new.state (W.contents writer.old) (W.contents writer.new)) }
+    ensures err { is_honest S.disk broker.new → IfErr result (λ fault. IsBroken (Plays (Comes connection piece.now)) fault broker.old.state (W.contents writer.old) (W.contents writer.new)) }
 {
     if !broker.any_waits() {
         return give_alone(alloc, broker, writer, connection, piece);
@@ -234,19 +251,20 @@ fn give<W: Write>(
 }
 
 /// Gives a piece to a connection where none waits, and writes what the broker says: it says nothing to any other.
-fn give_alone<W: Write>(
+fn give_alone<S: Store, L: PartitionLog + Drop, W: Write>(
     alloc: Global,
-    broker: &mut Broker<MemoryStore>,
+    broker: &mut Broker<S, L>,
     writer: &mut W,
     connection: u64,
     piece: &[u8],
 ) -> Result<(), ScriptFault>
-    requires calm { is_calm broker.old.state ≡ true }
-    requires quiet { IsQuiet broker.old.state }
-    requires ready { IsReady broker.old.state }
+    requires calm { is_honest S.disk broker.old → is_calm broker.old.state ≡ true }
+    requires quiet { is_honest S.disk broker.old → IsQuiet broker.old.state }
+    requires ready { is_honest S.disk broker.old → IsReady broker.old.state }
     requires alone { NoneWaits broker.old.state }
-    ensures ok { OnOk result (IsSpoken (Comes connection piece.now) broker.old.state broker.new.state (W.contents writer.old) (W.contents writer.new)) }
-    ensures err { IfErr result (λ fault. IsBroken (Plays (Comes connection piece.now)) fault broker.old.state (W.contents writer.old) (W.contents writer.new)) }
+    ensures honest { is_honest S.disk broker.new → is_honest S.disk broker.old }
+    ensures ok { is_honest S.disk broker.new → OnOk result (IsSpoken (Comes connection piece.now) broker.old.state broker.new.state (W.contents writer.old) (W.contents writer.new)) }
+    ensures err { is_honest S.disk broker.new → IfErr result (λ fault. IsBroken (Plays (Comes connection piece.now)) fault broker.old.state (W.contents writer.old) (W.contents writer.new)) }
 {
     let was_shut = broker.shut(connection);
     broker.input(alloc, connection, piece);
@@ -260,14 +278,18 @@ fn give_alone<W: Write>(
 }
 
 /// Whether a connection is shut that was not.
-fn is_newly_shut(broker: &Broker<MemoryStore>, connection: u64, was_shut: bool) -> bool
+fn is_newly_shut<S: Store, L: PartitionLog + Drop>(
+    broker: &Broker<S, L>,
+    connection: u64,
+    was_shut: bool,
+) -> bool
     ensures { result ≡ (is_shut connection broker.now.state && not was_shut) }
 {
     broker.shut(connection) && !was_shut
 }
 
 /// An `Err` where a refusal has been counted.
-fn calm(broker: &Broker<MemoryStore>) -> Result<(), ScriptFault>
+fn calm<S: Store, L: PartitionLog + Drop>(broker: &Broker<S, L>) -> Result<(), ScriptFault>
     ensures ok { OnOk result (is_calm broker.now.state ≡ true) }
     ensures err { IfErr result (λ fault. fault ≡ ScriptFault.Memory) }
 {

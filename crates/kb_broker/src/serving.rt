@@ -4,7 +4,6 @@ ghost use Rattle.std.specs.Prelude.{◌≡◌, ◌≢◌, ◌<◌, ◌≤◌, �
 ghost use Rattle.std.specs.FinMap as fin;
 ghost use Rattle.kb_api_group.specs.Frames.{front};
 ghost use Rattle.kb_service.specs.Hosted.{IsTurn, IsMet, kept_of, refusals_of};
-ghost use Rattle.kb_world.specs.Steps.{IsCalm};
 ghost use Rattle.kb_service.specs.Replies.{Reaction, IsAnswer};
 ghost use Rattle.kb_service.specs.declared.answer.Answer.TheVariants as any;
 ghost use Rattle.kb_tenant.specs.Replies as plain;
@@ -12,13 +11,14 @@ ghost use Rattle.kb_tenant.specs.declared.answer.Answer.TheVariants as answers;
 ghost use Rattle.kb_machine.specs.Session.{BoundTo, shut_down, can};
 ghost use Rattle.kb_machine.specs.Machine.{answered, served, put};
 ghost use Rattle.kb_machine.specs.Broker.{InRange};
-ghost use Rattle.kb_machine.specs.Tenant.{answer, kept_after, is_past, ready};
+ghost use Rattle.kb_machine.specs.Tenant.{answer, kept_after, is_members, is_past, ready};
 ghost use Rattle.kb_machine.specs.Turned.{is_looked_for};
 ghost use Rattle.kb_tenants.specs.Tenants.{is_honest};
 ghost use Rattle.kb_connection.specs.Fronts.{is_tenants_at, IsAsked};
 ghost use Rattle.kb_connection.specs.View.{awaited_of, wait_of, with_session, without_front};
 ghost use Rattle.kb_broker.specs.Hosts.{tenants_in, AreHosted, AreLater};
-ghost use Rattle.kb_broker.specs.Places.{IsSpent, IsTakenAt, IsTurnAt, IsLookedAt};
+ghost use Rattle.kb_service.specs.Waiters.{AreServed, IsWaitTold};
+ghost use Rattle.kb_broker.specs.Places.{IsSpent, IsTakenAt, IsTurnAt, IsLookedAt, IsMemberTurnAt, IsWaitTurnAt};
 ghost use Rattle.kb_broker.specs.Parked.{parked_for, until_of, deadline_at, IsKeyedAt, IsOwnedAt, IsAskedOn, IsAskedOnAt, IsTouchedBy, IsTouchedTurnBy, AreConcerned, AreWaitingFor, IsConcern, IsLeftBy, IsOwnTo, IsWhose};
 
 use crate::parking::Parking;
@@ -85,6 +85,8 @@ pub fn take_turn<L: PartitionLog + Drop, S: Store>(
     ensures whose { IfOk result (λ c. IsWhose c connection.old.session.stage) }
     ensures own { IfOk result (λ c. IsOwnTo c connection.old.number) }
     ensures left { is_honest S.disk tenants.new → IfOk result (λ c. IsLeftBy c setup.now clock connection.old.session.stage connection.old.number parking.old (tenants_in L.log S.disk tenants.old) (tenants_in L.log S.disk tenants.new) connection.old.session connection.new.session) }
+    ensures waits { IsWaitTurnAt connection.old.number connection.old.session.stage (tenants_in L.log S.disk tenants.old) (tenants_in L.log S.disk tenants.new) }
+    ensures member { OnOk result (IsMemberTurnAt connection.old.number connection.old.session.stage (tenants_in L.log S.disk tenants.old) (tenants_in L.log S.disk tenants.new) connection.new.session.stage) }
     ensures err { OnErr result (connection.new ≡ with_session connection.old (shut_down connection.old.session)) }
 {
     match connection.phase() {
@@ -198,6 +200,8 @@ fn serve_bound<L: PartitionLog + Drop, S: Store>(
     ensures ok { OnOk result (IsMet tenant (is_honest S.disk tenants.new) (tenants_in L.log S.disk tenants.old) (tenants_in L.log S.disk tenants.new)
         (λ k l. (connection.new.session ≡ served setup.now k clock connection.old.number connection.old.session) × (l ≡ put setup.now k clock connection.old.number connection.old.session.unread))) }
     ensures touched { IfOk result (λ touched. is_honest S.disk tenants.new → IsTouchedTurnBy touched setup.now tenant clock connection.old.number (tenants_in L.log S.disk tenants.old) (tenants_in L.log S.disk tenants.new) connection.old.session connection.new.session) }
+    ensures waits { IsWaitTurnAt connection.old.number (BoundTo tenant None) (tenants_in L.log S.disk tenants.old) (tenants_in L.log S.disk tenants.new) }
+    ensures member { OnOk result (IsMemberTurnAt connection.old.number (BoundTo tenant None) (tenants_in L.log S.disk tenants.old) (tenants_in L.log S.disk tenants.new) connection.new.session.stage) }
     ensures err { OnErr result (connection.new ≡ with_session connection.old (shut_down connection.old.session)) }
 {
     let (answer, touched) = match connection.request(alloc, setup) {
@@ -309,6 +313,8 @@ fn ask<L: PartitionLog + Drop, S: Store>(
         × IsAnswer request.now.correlation_id (answer setup.now.node k clock request.now.connection request.now.api_key request.now.api_version request.now.body.now) result.0) }
     ensures asked { is_honest S.disk tenants.new → IsAskedOn tenant (tenants_in L.log S.disk tenants.old) (tenants_in L.log S.disk tenants.new) }
     ensures touched { is_honest S.disk tenants.new → IsTouchedBy result.1 tenant clock (tenants_in L.log S.disk tenants.old) (tenants_in L.log S.disk tenants.new) }
+    ensures waits { AreServed request.now.connection true (kept_of (tenants_in L.log S.disk tenants.old) tenant).groups (kept_of (tenants_in L.log S.disk tenants.new) tenant).groups }
+    ensures told { IsWaitTold request.now.connection (kept_of (tenants_in L.log S.disk tenants.old) tenant).groups result.0 (kept_of (tenants_in L.log S.disk tenants.new) tenant).groups }
 {
     let before = tenants.refusals(tenant);
     let node = setup.node();
@@ -375,7 +381,8 @@ fn ask_again<L: PartitionLog + Drop, S: Store>(
     ensures meets { IsMet tenant (is_honest S.disk tenants.new) (tenants_in L.log S.disk tenants.old) (tenants_in L.log S.disk tenants.new)
         (λ k l. (l ≡ k) × plain.IsAnswer waiting.now.correlation_id (ready k clock number (wait_of waiting.now)) result) }
     ensures stays { is_honest S.disk tenants.new → (t : ℕ) → kept_of (tenants_in L.log S.disk tenants.new) t ≡ kept_of (tenants_in L.log S.disk tenants.old) t }
-    ensures shut { (IsCalm (refusals_of (tenants_in L.log S.disk tenants.old) tenant) (refusals_of (tenants_in L.log S.disk tenants.new) tenant) → ⊥) → result ≡ answers.Shut }
+    ensures answers { is_honest S.disk tenants.new → let told = ready (kept_of (tenants_in L.log S.disk tenants.old) tenant) clock number (wait_of waiting.now) in
+        plain.IsAnswer waiting.now.correlation_id told result ⊎ ((result ≡ answers.Shut) × (is_members (wait_of waiting.now).awaited ≡ true → told ≡ plain.Silent → ⊥)) }
 {
     match &waiting.awaited {
         Awaited::Records {

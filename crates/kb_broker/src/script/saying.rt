@@ -2,19 +2,23 @@
 
 ghost use Rattle.std.specs.Prelude.{◌≡◌, length, IfOk, IfErr, OnOk};
 ghost use Rattle.std.specs.Io.KnownBytes.{Appends};
-ghost use Rattle.kb_machine.specs.Broker.{IsReady};
+ghost use Rattle.kb_broker.specs.Hosts.{IsReadyOn};
 ghost use Rattle.kb_broker.specs.Script.{step_text};
 ghost use Rattle.kb_broker.specs.ScriptRun.{hushed, shut_marks, said_since, IsUnwritten};
 
 use super::ScriptFault;
 use super::answer::{answer_of, write_all};
 use crate::broker::Broker;
-use kb_store::MemoryStore;
+use kb_log::PartitionLog;
+use kb_store::Store;
 use std::alloc::{AllocError, Global};
 use std::io::Write;
 
 /// Whether each connection is shut, by place.
-pub fn shut_places(alloc: Global, broker: &Broker<MemoryStore>) -> Result<Vec<bool>, AllocError>
+pub fn shut_places<S: Store, L: PartitionLog + Drop>(
+    alloc: Global,
+    broker: &Broker<S, L>,
+) -> Result<Vec<bool>, AllocError>
     ensures { IfOk result (λ marks. marks.items ≡ shut_marks broker.now.state.lines) }
 {
     broker
@@ -25,14 +29,15 @@ pub fn shut_places(alloc: Global, broker: &Broker<MemoryStore>) -> Result<Vec<bo
 }
 
 /// Takes the output of all connections, and writes what each got and whether it is shut where it was not, by rising number.
-pub fn say<W: Write>(
+pub fn say<S: Store, L: PartitionLog + Drop, W: Write>(
     alloc: Global,
-    broker: &mut Broker<MemoryStore>,
+    broker: &mut Broker<S, L>,
     writer: &mut W,
     were_shut: &[bool],
 ) -> Result<(), ScriptFault>
-    requires ready { IsReady broker.old.state }
+    requires ready { IsReadyOn S.disk broker.old }
     requires places { length were_shut.now ≡ length broker.old.state.lines }
+    ensures store { broker.new.store ≡ broker.old.store }
     ensures state { OnOk result (broker.new.state ≡ hushed broker.old.state) }
     ensures text { OnOk result (Appends (W.contents writer.old) (W.contents writer.new) (step_text (said_since were_shut.now broker.old.state.lines))) }
     ensures err { IfErr result (λ fault. IsUnwritten fault (step_text (said_since were_shut.now broker.old.state.lines)) (W.contents writer.old) (W.contents writer.new)) }
@@ -44,13 +49,14 @@ pub fn say<W: Write>(
 }
 
 /// Takes the output of all connections, and spells it.
-fn take_text(
+fn take_text<S: Store, L: PartitionLog + Drop>(
     alloc: Global,
-    broker: &mut Broker<MemoryStore>,
+    broker: &mut Broker<S, L>,
     were_shut: &[bool],
 ) -> Result<Vec<u8>, AllocError>
-    requires ready { IsReady broker.old.state }
+    requires ready { IsReadyOn S.disk broker.old }
     requires places { length were_shut.now ≡ length broker.old.state.lines }
+    ensures store { broker.new.store ≡ broker.old.store }
     ensures state { OnOk result (broker.new.state ≡ hushed broker.old.state) }
     ensures text { IfOk result (λ text. text.items ≡ step_text (said_since were_shut.now broker.old.state.lines)) }
 {

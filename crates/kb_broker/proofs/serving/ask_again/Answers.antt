@@ -1,12 +1,13 @@
-use Rattle.std.proofs.Common.{FitsSigned, of_z, rules, subst, sym, to_z, w16, w32}
+use Rattle.std.proofs.Common.{⊎_elim, inl, inr, ap, ◌≡◌, ◌∙◌, true, false, FitsSigned, of_z, rules, subst, sym, to_z, w16, w32}
 use Rattle.std.proofs.lemmas.Int.{to_z-of_z}
-use Rattle.kb_service.specs.Hosted.{kept_of, world_at}
+use Rattle.kb_service.specs.Hosted.{kept_of, refusals_of, world_at}
 use Rattle.kb_service.specs.Replies.{told_to}
-use Rattle.kb_tenant.specs.Replies.{IsAnswer}
+use Rattle.kb_tenant.specs.Replies.{IsAnswer, Silent}
 use Rattle.kb_tenant.specs.Serve.{looked}
-use Rattle.kb_machine.specs.Tenant.{ready_for, ready}
+use Rattle.kb_machine.specs.Tenant.{is_members, ready_for, ready}
 use Rattle.kb_connection.specs.View.{awaited_of}
 use Rattle.kb_broker.specs.Hosts.{tenants_in}
+use Rattle.kb_broker.proofs.TenantTurns.{calm-or}
 use Rattle.kb_broker.proofs.serving.ask_again.Goals as goal
 
 pub returns-in-Records-clause-meets : goal.returns-in-Records-clause-meets
@@ -32,3 +33,22 @@ returns-in-Group-clause-meets g c = λ honest calm.
     let fits : FitsSigned w32 w.correlation_id = search rules in
     let met = c.tell.ensures.meets honest calm in
     (met.0, subst (λ x. IsAnswer w.correlation_id (ready_for k a.clock a.number (awaited_of x)) c.tell.result) (sym c.in-Group.is) (subst (λ z. IsAnswer z (told_to a.number k.groups) c.tell.result) (to_z-of_z w32 w.correlation_id fits) met.1))
+
+pub returns-in-Records-clause-answers : goal.returns-in-Records-clause-answers
+returns-in-Records-clause-answers g c = λ honest.
+    let t = c.args.tenant in
+    calm-or (refusals_of (tenants_in g.L.PartitionLog.log g.S.Store.disk c.args.tenants.now) t) (refusals_of (tenants_in g.L.PartitionLog.log g.S.Store.disk c.look.new.self) t)
+    (λ calm. inl (returns-in-Records-clause-meets g c honest calm).1)
+    (λ loud. inr (c.look.ensures.shut loud, λ own none. (let no : false ≡ true = sym (ap (λ x. is_members (awaited_of x)) c.in-Records.is) ∙ own in absurd (cc))))
+
+pub returns-in-Group-clause-answers : goal.returns-in-Group-clause-answers
+unfolding ready
+returns-in-Group-clause-answers g c = λ honest.
+    let a = c.args in
+    let w = a.waiting.now in
+    let k = kept_of (tenants_in g.L.PartitionLog.log g.S.Store.disk a.tenants.now) a.tenant in
+    let fits : FitsSigned w32 w.correlation_id = search rules in
+    ⊎_elim
+    (λ says. inl (subst (λ x. IsAnswer w.correlation_id (ready_for k a.clock a.number (awaited_of x)) c.tell.result) (sym c.in-Group.is) (subst (λ z. IsAnswer z (told_to a.number k.groups) c.tell.result) (to_z-of_z w32 w.correlation_id fits) says)))
+    (λ gone. inr (gone.0, λ own none. gone.1 (subst (λ x. ready_for k a.clock a.number (awaited_of x) ≡ Silent) c.in-Group.is none)))
+    c.tell.ensures.answers

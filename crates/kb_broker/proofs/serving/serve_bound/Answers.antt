@@ -1,15 +1,16 @@
-use Rattle.std.proofs.Common.{◌≡◌, ap, subst}
+use Rattle.std.proofs.Common.{arith, inl, inr, refl, sym, true, ◌≡◌, ap, subst}
 use Rattle.std.specs.Prelude.{IfNone, IfSome}
 use Rattle.std.specs.FinMap as fin
 use Rattle.kb_service.specs.Hosted.{kept_of, nothing, IsMet}
-use Rattle.kb_service.specs.Replies.{IsAnswer}
+use Rattle.kb_service.specs.Replies.{IsAnswer, Rebalances}
+use Rattle.kb_service.specs.Waiters.{AreServed, IsWaitTold}
 use Rattle.kb_tenant.specs.declared.request.Request.{Request}
 use Rattle.kb_machine.specs.Machine.{Line}
 use Rattle.kb_machine.specs.Tenant.{answer, kept_after}
 use Rattle.kb_connection.specs.Fronts.{IsAsked, IsOwn}
 use Rattle.kb_tenants.specs.Tenants.{is_honest}
 use Rattle.kb_broker.specs.Hosts.{tenants_in}
-use Rattle.kb_broker.proofs.TenantTurns.{spent-shut, spent-served, asked-now}
+use Rattle.kb_broker.proofs.TenantTurns.{member-told, spent-shut, spent-served, asked-now}
 use Rattle.kb_broker.proofs.Served.{dated-none, keyed-answered, keyed-none, owned-none, owned-shut, own-free, own-touched, turned-touched}
 use Rattle.kb_broker.proofs.serving.serve_bound.Goals as goal
 
@@ -82,3 +83,43 @@ pub returns-clause-touched : goal.returns-clause-touched
 returns-clause-touched g c =
     let a = c.args in
     turned-touched (is_honest g.S.Store.disk c.ask.new.tenants) a.setup.now a.tenant a.clock a.connection.now.number (tenants_in g.L.PartitionLog.log g.S.Store.disk a.tenants.now) (tenants_in g.L.PartitionLog.log g.S.Store.disk c.ask.new.tenants) a.connection.now.session c.hand_over.new.connection.session c.ask.result.1 c.ask.ensures.touched (returns-clause-ok g c)
+
+-- 2. Members that wait
+
+pub returns-in_err-serve-in-Ok-None-clause-waits : goal.returns-in_err-serve-in-Ok-None-clause-waits
+returns-in_err-serve-in-Ok-None-clause-waits g c = inr refl
+
+pub returns-in-Ok-None-clause-waits : goal.returns-in-Ok-None-clause-waits
+returns-in-Ok-None-clause-waits g c = inr refl
+
+pub returns-in-Ok-None-clause-member : goal.returns-in-Ok-None-clause-member
+returns-in-Ok-None-clause-member g c = inr (omega arith)
+
+pub returns-in-Err-clause-waits : goal.returns-in-Err-clause-waits
+returns-in-Err-clause-waits g c = inr refl
+
+pub returns-clause-waits : goal.returns-clause-waits
+returns-clause-waits g c =
+    let a = c.args in
+    let t = a.tenant in
+    let same = subst (λ found. IfSome found (λ (r : Request). r.connection ≡ a.connection.now.number)) c.in-Ok-Some.field-0-is c.in-Ok-Some.ensures.number in
+    inl (subst (λ n. AreServed n true (kept_of (tenants_in g.L.PartitionLog.log g.S.Store.disk a.tenants.now) t).groups (kept_of (tenants_in g.L.PartitionLog.log g.S.Store.disk c.ask.new.tenants) t).groups) same c.ask.ensures.waits)
+
+pub returns-in_err-hand_over-clause-waits : goal.returns-in_err-hand_over-clause-waits
+returns-in_err-hand_over-clause-waits g c =
+    let a = c.args in
+    let t = a.tenant in
+    let same = subst (λ found. IfSome found (λ (r : Request). r.connection ≡ a.connection.now.number)) c.in-Ok-Some.field-0-is c.in-Ok-Some.ensures.number in
+    inl (subst (λ n. AreServed n true (kept_of (tenants_in g.L.PartitionLog.log g.S.Store.disk a.tenants.now) t).groups (kept_of (tenants_in g.L.PartitionLog.log g.S.Store.disk c.ask.new.tenants) t).groups) same c.ask.ensures.waits)
+
+pub returns-clause-member : goal.returns-clause-member
+returns-clause-member g c =
+    let a = c.args in
+    let t = a.tenant in
+    let q = c.in-Ok-Some.request in
+    let s = a.connection.now.session in
+    let asked = subst (λ found. IfSome found (λ (r : Request). IsAsked a.setup.now s r.api_key r.api_version r.correlation_id r.body.now)) c.in-Ok-Some.field-0-is c.in-Ok-Some.ensures.asked in
+    let same = subst (λ found. IfSome found (λ (r : Request). r.connection ≡ a.connection.now.number)) c.in-Ok-Some.field-0-is c.in-Ok-Some.ensures.number in
+    let told = subst (λ n. IsWaitTold n (kept_of (tenants_in g.L.PartitionLog.log g.S.Store.disk a.tenants.now) t).groups c.ask.result.0 (kept_of (tenants_in g.L.PartitionLog.log g.S.Store.disk c.ask.new.tenants) t).groups) same c.ask.ensures.told in
+    member-told a.tenant a.connection.now c.hand_over.new.connection c.ask.result.0 q.correlation_id q.api_version q.body.now _ c.requires.bound
+    (λ rebalance. c.in_ok-hand_over.ensures.ok q.api_key q.api_version q.correlation_id q.body.now Rebalances asked (subst (IsAnswer q.correlation_id Rebalances) (sym rebalance) tt)) told

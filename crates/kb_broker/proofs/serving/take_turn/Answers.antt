@@ -3,6 +3,7 @@ use Rattle.std.specs.FinMap as fin
 use Rattle.kb_tenants.specs.Tenants.{is_honest}
 use Rattle.kb_connection.specs.View.{greeting_of}
 use Rattle.kb_broker.specs.Hosts.{tenants_in}
+use Rattle.kb_broker.specs.Places.{IsMemberTurnAt, IsWaitTurnAt}
 use Rattle.kb_broker.proofs.Handled.{able-stage}
 use Rattle.kb_broker.specs.Parked.{IsConcern}
 use Rattle.kb_broker.proofs.Served.{dated-none, greeted-free, keyed-none, left-by, own-concern, owned-none, owned-shut}
@@ -59,3 +60,42 @@ returns-in_ok-touched-in-Bound-clause-own g c =
     let touched = c.in_ok-touched-in-Bound.touched in
     own-concern c.whom_it_concerns.result t c.args.connection.now.number us p touched
     (subst (λ n. IsConcern c.whom_it_concerns.result t n us p touched) (c.number-number.ensures ∙ c.serve_bound.ensures.number) c.whom_it_concerns.ensures)
+
+pub returns-in_err-greet-in-Greets-clause-waits : goal.returns-in_err-greet-in-Greets-clause-waits
+returns-in_err-greet-in-Greets-clause-waits g c =
+    let a = c.args in
+    let ts = tenants_in g.L.PartitionLog.log g.S.Store.disk a.tenants.now in
+    let greets = sym (able-stage a.connection.now.session c.requires.able) ∙ sym c.in-Greets.ensures in
+    subst (λ st. IsWaitTurnAt a.connection.now.number st ts ts) (sym greets) tt
+
+pub returns-in_ok-greet-in-Greets-clause-waits : goal.returns-in_ok-greet-in-Greets-clause-waits
+returns-in_ok-greet-in-Greets-clause-waits g c =
+    let a = c.args in
+    let ts = tenants_in g.L.PartitionLog.log g.S.Store.disk a.tenants.now in
+    let greets = sym (able-stage a.connection.now.session c.requires.able) ∙ sym c.in-Greets.ensures in
+    subst (λ st. IsWaitTurnAt a.connection.now.number st ts ts) (sym greets) tt
+
+pub returns-in_ok-greet-in-Greets-clause-member : goal.returns-in_ok-greet-in-Greets-clause-member
+returns-in_ok-greet-in-Greets-clause-member g c =
+    let a = c.args in
+    let ts = tenants_in g.L.PartitionLog.log g.S.Store.disk a.tenants.now in
+    let greets = sym (able-stage a.connection.now.session c.requires.able) ∙ sym c.in-Greets.ensures in
+    subst (λ st. IsMemberTurnAt a.connection.now.number st ts ts c.greet.new.self.session.stage) (sym greets) tt
+
+pub returns-in_err-touched-in-Bound-clause-waits : goal.returns-in_err-touched-in-Bound-clause-waits
+returns-in_err-touched-in-Bound-clause-waits g c =
+    let a = c.args in
+    let bound = sym (able-stage a.connection.now.session c.requires.able) ∙ sym c.in-Bound.ensures in
+    subst (λ st. IsWaitTurnAt a.connection.now.number st (tenants_in g.L.PartitionLog.log g.S.Store.disk a.tenants.now) (tenants_in g.L.PartitionLog.log g.S.Store.disk c.serve_bound.new.tenants)) (sym bound) c.serve_bound.ensures.waits
+
+pub returns-in_ok-touched-in-Bound-clause-waits : goal.returns-in_ok-touched-in-Bound-clause-waits
+returns-in_ok-touched-in-Bound-clause-waits g c =
+    let a = c.args in
+    let bound = sym (able-stage a.connection.now.session c.requires.able) ∙ sym c.in-Bound.ensures in
+    subst (λ st. IsWaitTurnAt a.connection.now.number st (tenants_in g.L.PartitionLog.log g.S.Store.disk a.tenants.now) (tenants_in g.L.PartitionLog.log g.S.Store.disk c.serve_bound.new.tenants)) (sym bound) c.serve_bound.ensures.waits
+
+pub returns-in_ok-touched-in-Bound-clause-member : goal.returns-in_ok-touched-in-Bound-clause-member
+returns-in_ok-touched-in-Bound-clause-member g c =
+    let a = c.args in
+    let bound = sym (able-stage a.connection.now.session c.requires.able) ∙ sym c.in-Bound.ensures in
+    subst (λ st. IsMemberTurnAt a.connection.now.number st (tenants_in g.L.PartitionLog.log g.S.Store.disk a.tenants.now) (tenants_in g.L.PartitionLog.log g.S.Store.disk c.serve_bound.new.tenants) c.serve_bound.new.connection.session.stage) (sym bound) c.in_ok-touched-in-Bound.ensures.member

@@ -11,6 +11,8 @@ use Rattle.kb_machine.specs.Isolation.{own_events}
 use Rattle.kb_machine.proofs.FetchRuns.{run-gives}
 use Rattle.kb_machine.proofs.Runs.{those-by_number}
 use Rattle.kb_machine.proofs.Owned.{owned-mine, run-after, run-first, unowned-mine, calm-nobody}
+use Rattle.kb_machine.specs.Stranded.{NoneStranded}
+use Rattle.kb_machine.proofs.Stranded.{stranded-emptied}
 use Rattle.kb_broker.specs.declared.run.Written.{Written}
 use Rattle.kb_broker.specs.Hosts.{is_honest, IsLater}
 use Rattle.kb_broker.specs.Runs.{happening_of, happenings, sent_of, connections_of, Passes}
@@ -31,6 +33,7 @@ loop-event-init g c =
     record {
       ready = c.connections-open.ensures.ready;
       later = later-same g.S.Store.disk c.args.self.now;
+      held = λ honest held. held;
       rises = c.requires;
       room = omega (arith, lines, sum, c.openings.ensures, length-connections es b, c.in_ok-written.ensures.len, c.in_ok-written.ensures.capacity);
       passes = λ last honest new got p. rw c.in_ok-written.ensures.items p;
@@ -81,6 +84,7 @@ loop-event-preserved g c =
     record {
       ready = c.happen.ensures.ready;
       later = later-then disk c.args.self.now before after v.later c.happen.ensures.later;
+      held = λ honest held. c.happen.ensures.held honest (v.held (c.happen.ensures.later.honest honest) held);
       rises = rw add-one (run-after d.last b.last e hs c.happen.ensures.last (rw next at v.rises));
       room = rw add-one (omega (arith, v.room, ap (λ es. length (connections_of es b)) next, room-leads e hs b d ended passed.leads, longer, ws.ok.0, vs.ok.0, c.happen.ensures.capacity));
       passes = rw add-one (continues-next disk (happenings all) hs e c.args.self.now before after (map sent_of ws.items) ended (map sent_of vs.items) c.happen.ensures.later.honest added passed (rw next at v.passes));
@@ -166,10 +170,14 @@ pub returns-in_err-written-clause-fetches : goal.returns-in_err-written-clause-f
 returns-in_err-written-clause-fetches g c =
     let es = happenings c.args.events.now in
     let b = c.args.self.now.state in
-    λ t small. run-gives (own_events t es b) (view_of t (owned_by t es b) b) small
+    λ honest t. run-gives (own_events t es b) (view_of t (owned_by t es b) b) (c.connections-open.ensures.small honest t)
 
 pub returns-clause-fetches : goal.returns-clause-fetches
 returns-clause-fetches g c =
     let es = happenings c.args.events.now in
     let b = c.args.self.now.state in
-    λ t small. run-gives (own_events t es b) (view_of t (owned_by t es b) b) small
+    λ honest t. run-gives (own_events t es b) (view_of t (owned_by t es b) b) (c.connections-open.ensures.small honest t)
+
+pub returns-clause-held : goal.returns-clause-held
+returns-clause-held g c = λ honest held.
+    subst NoneStranded (sym (state-is _ _ c.drain.ensures.state)) (stranded-emptied c.loop-event.self.state (c.loop-event.invariant.held ((drained-later g c).honest honest) held))

@@ -58,4 +58,5 @@ returns g c =
       last = going.last;
       numbers = going.numbers;
       others = λ honest. others-taken a b d i n l c.args.piece.now (ready-of disk c.args.self.now c.requires (before honest)) f given (turned honest);
+      held = λ honest held. (turned honest (Of (number_at i a)) given.still).held (given.held held);
     }

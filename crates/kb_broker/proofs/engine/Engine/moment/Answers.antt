@@ -97,7 +97,7 @@ returns-in-Some g c =
     } in
     let t = c.run_among.ensures in
     let h = subst (IsMovedOn disk now a) (sym c.self-in-Some.view_is) (moved-on disk now answered a s b c.run_among.new.self awake t.going t.later t.turned t.settled) in
-    record { ready = h.ready; later = h.later; step = h.step; clock = h.clock; last = h.last; numbers = h.numbers; others = h.others }
+    record { ready = h.ready; later = h.later; step = h.step; clock = h.clock; last = h.last; numbers = h.numbers; others = h.others; held = h.held }
 
 pub returns-in-None : goal.returns-in-None
 returns-in-None g c =
@@ -120,4 +120,4 @@ returns-in-None g c =
     } in
     let t = c.run_all_turns.ensures in
     let h = moved-on disk now answered a s b c.run_all_turns.new.self awake t.going t.later t.turned t.settled in
-    record { ready = h.ready; later = h.later; step = h.step; clock = h.clock; last = h.last; numbers = h.numbers; others = h.others }
+    record { ready = h.ready; later = h.later; step = h.step; clock = h.clock; last = h.last; numbers = h.numbers; others = h.others; held = h.held }

@@ -5,7 +5,7 @@ use Rattle.kb_machine.specs.Turned.{IsGoing}
 use Rattle.kb_connection.specs.View.{stage_of}
 use Rattle.kb_tenants.specs.Tenants.{is_honest}
 use Rattle.kb_broker.specs.Hosts.{OnStore, tenants_in, IsLaterWith}
-use Rattle.kb_broker.specs.Places.{IsCountedAt, IsTakenAt}
+use Rattle.kb_broker.specs.Places.{IsCountedAt, IsMemberTurnAt, IsTakenAt}
 use Rattle.kb_broker.specs.Parked.{IsAllOf, IsLeftBy, IsLeftTo, IsOwnTo, IsQueueOf, IsServedFor}
 use Rattle.kb_broker.proofs.Placed.{at-read, number_at-is}
 use Rattle.kb_broker.proofs.Handled.{at-inside, IsTaken, put_with, next-can, able-stage, taken-at, counts-counted, lines-counted, names-counted, others-put, refused-for, refused-taken, taken-going, served-refused, work-taken, work-refused}
@@ -42,7 +42,7 @@ note-requires g c =
 taken-ok : (g : given.Over) (c : goal.In-Ok g) → IsTaken (is_honest g.S.Store.disk c.take_turn-taken.new.tenants) c.args.self.now.state c.args.i c.index_mut-connection.result.now c.take_turn-taken.new.connection (tenants_in g.L.PartitionLog.log g.S.Store.disk c.take_turn-taken.new.tenants)
 taken-ok g c =
     let t = c.take_turn-taken.ensures in
-    taken-at (is_honest g.S.Store.disk c.take_turn-taken.new.tenants) _ c.args.self.now.state c.args.i c.index_mut-connection.result.now c.take_turn-taken.new.connection (tenants_in g.L.PartitionLog.log g.S.Store.disk c.take_turn-taken.new.tenants) (state-is _ _ c.self.view_is) c.requires.next c.index_mut-connection.ensures.value t.number t.spent t.turn
+    taken-at (is_honest g.S.Store.disk c.take_turn-taken.new.tenants) _ c.args.self.now.state c.args.i c.index_mut-connection.result.now c.take_turn-taken.new.connection (tenants_in g.L.PartitionLog.log g.S.Store.disk c.take_turn-taken.new.tenants) (state-is _ _ c.self.view_is) c.requires.next c.index_mut-connection.ensures.value t.number t.spent t.turn t.waits
 
 pub invariant_of-self : goal.invariant_of-self
 invariant_of-self g c =
@@ -63,7 +63,7 @@ invariant_of-self-in-Err g c =
     let new = c.take_turn-taken.new in (
       t.hosted,
       queue-turn (is_honest disk c.self.inside.tenants) (is_honest disk new.tenants) c.self.inside.parking new.parking _ c.args.self.now.state c.args.i c.index_mut-connection.result.now new.connection (tenants_in g.L.PartitionLog.log disk new.tenants)
-          (state-is _ _ c.self.view_is) c.self.invariant.1 (taken-at (is_honest disk new.tenants) _ c.args.self.now.state c.args.i c.index_mut-connection.result.now new.connection (tenants_in g.L.PartitionLog.log disk new.tenants) (state-is _ _ c.self.view_is) c.requires.next c.index_mut-connection.ensures.value t.number t.spent t.turn) t.later.honest (λ honest. c.requires.unready (subst (λ s. (disk s).honest) (store-is _ _ c.self.view_is) honest)) t.asked t.parked t.dated t.owned t.keyed,
+          (state-is _ _ c.self.view_is) c.self.invariant.1 (taken-at (is_honest disk new.tenants) _ c.args.self.now.state c.args.i c.index_mut-connection.result.now new.connection (tenants_in g.L.PartitionLog.log disk new.tenants) (state-is _ _ c.self.view_is) c.requires.next c.index_mut-connection.ensures.value t.number t.spent t.turn t.waits) t.later.honest (λ honest. c.requires.unready (subst (λ s. (disk s).honest) (store-is _ _ c.self.view_is) honest)) t.asked t.parked t.dated t.owned t.keyed,
       heard-set 0 c.args.self.now.state.last c.self.inside.connections.items c.args.i c.index_mut-connection.result.now new.connection c.self.inside.speakers c.note.new.speakers c.number-number.result c.speaks.result c.self.invariant.2 (rising-inside _ c.args.self.now.state (state-is _ _ c.self.view_is) c.requires.next.sound.rising)
           (at-inside _ c.args.self.now.state c.args.i c.index_mut-connection.result.now (state-is _ _ c.self.view_is) (at-read _ c.args.self.now.state c.args.i c.index_mut-connection.result.now (state-is _ _ c.self.view_is) c.requires.next.within c.index_mut-connection.ensures.value)) t.number c.number-number.ensures c.speaks.ensures c.note.ensures.items c.note.ensures.capacity,
     )
@@ -86,12 +86,14 @@ returns-in-Ok g c =
     let taken = taken-ok g c in
     let is : IsTakenAt H b.setup b.clock l.number l.session.stage b.tenants us l.session m.session =
     subst (λ (x : BrokerState). IsTakenAt H x.setup x.clock l.number l.session.stage x.tenants us l.session m.session) here c.in-Ok.ensures.ok in
+    let member : IsMemberTurnAt l.number l.session.stage b.tenants us m.session.stage =
+    subst (λ (x : BrokerState). IsMemberTurnAt l.number l.session.stage x.tenants us m.session.stage) here c.in-Ok.ensures.member in
     let left : H → IsLeftBy who b.setup b.clock l.session.stage l.number q b.tenants us l.session m.session = λ honest.
     subst (λ (x : BrokerState). IsLeftBy who x.setup x.clock l.session.stage l.number q x.tenants us l.session m.session) here (c.in-Ok.ensures.left honest) in
     record {
       going = subst (λ (x : BrokerState). IsGoing b (put_with x i m us)) (sym here) (taken-going H b i l m us l.session.stage taken refl taken.turn is);
       later = earlier;
-      served = λ honest scope still. subst (λ (x : BrokerState). IsServedFor who scope b (put_with x i m us)) (sym here) (served-by H honest who scope b i l m us q still (c.requires.unready (earlier.honest honest)) taken is c.in-Ok.ensures.whose (left honest));
+      served = λ honest scope still. subst (λ (x : BrokerState). IsServedFor who scope b (put_with x i m us)) (sym here) (served-by H honest who scope b i l m us q still (c.requires.unready (earlier.honest honest)) taken is member c.in-Ok.ensures.whose (left honest));
       left = λ honest. subst (λ (x : BrokerState). IsLeftTo who (put_with x i m us)) (sym here)
           (left-by H honest G (t.later.honest honest) who b i l m us q (c.requires.unready (earlier.honest honest)) taken c.in-Ok.ensures.whose (subst (λ (x : BrokerState). IsQueueOf G q x.tenants x.lines) here c.self.invariant.1) (left honest));
       own = subst (IsOwnTo who) (sym (number_at-is b i l taken.at)) c.in-Ok.ensures.own;
@@ -112,7 +114,7 @@ returns-in-Err g c =
     let here = state-is _ _ c.self.view_is in
     let end = c.refuse.new.self.state in
     let who = c.all_of.result in
-    let taken = taken-at H _ b i l m us here c.requires.next c.index_mut-connection.ensures.value t.number t.spent t.turn in
+    let taken = taken-at H _ b i l m us here c.requires.next c.index_mut-connection.ensures.value t.number t.spent t.turn t.waits in
     let phase : stage_of c.phase-phase.result ≡ l.session.stage = c.phase-phase.ensures ∙ able-stage l.session taken.able in
     let all : IsAllOf who l.session.stage = subst (IsAllOf who) phase c.all_of.ensures in
     let counted : IsCountedAt l.number l.session.stage (put_with b i m us) end =

@@ -6,7 +6,8 @@ use Rattle.kb_broker.proofs.script.saying.take_text.Given as goal
 
 -- the output of the first of them was taken, and is spelled
 abbrev pub invariant-loop-i : goal.invariant-loop-i
-invariant-loop-i l = record {
+invariant-loop-i g l = record {
+  store : l.broker.store ≡ l.fn.broker.store;
   end : l.i-end ≡ length l.fn.broker.state.lines;
   state : l.broker.state ≡ drained_to l.i l.fn.broker.state;
   text : l.text.items ≡ step_text (said_since (take l.i l.were_shut) (take l.i l.fn.broker.state.lines));

@@ -1,0 +1,65 @@
+-- Members that wait, as the broker's users see it.
+use Rattle.std.proofs.Common.{◌≡◌, ◌≢◌, ◌<◌, ◌≤◌, ℕ, zero, suc, List, [], ◌∷◌, map, Bool, true, false, Option, Some, None, refl, sym, ◌∙◌, ap, subst, arith}
+use Rattle.kb_service.specs.Hosted.{kept_of, new_tenant, nothing}
+use Rattle.kb_service.specs.Waiters.{members_on, replies_on}
+use Rattle.kb_settings.specs.declared.settings.Settings.{Settings}
+use Rattle.kb_machine.specs.Tenant.{Wait}
+use Rattle.kb_machine.specs.Session.{Stage, Greets, BoundTo, Session, is_free}
+use Rattle.kb_machine.specs.Machine.{find_line}
+use Rattle.kb_machine.specs.Broker.{BrokerState, bound_as, bound_to}
+use Rattle.kb_machine.specs.Owners.{whose}
+use Rattle.kb_machine.specs.Calls.{is_open, is_shut, open_in, shut_in}
+use Rattle.kb_machine.specs.Stranded.{IsMembersAt, IsMembersIn, NoneStranded, members_of}
+use Rattle.kb_connection.specs.View.{IsLimitedIn}
+use Rattle.kb_broker.specs.declared.opening.Listing.{Listing}
+use Rattle.kb_broker.specs.Opening.{opening_listing, tenants_of}
+
+kept-new : (names : List (List ℕ)) (t : ℕ) → kept_of (map new_tenant names) t ≡ nothing
+kept-new [] t = refl
+kept-new (name ∷ names) zero = refl
+kept-new (name ∷ names) (suc t) = kept-new names t
+
+-- a broker whose tenants keep nothing yet
+pub stranded-first : (listing : Listing) (s : Settings) → NoneStranded (opening_listing listing s)
+stranded-first listing s =
+    let none : (t : ℕ) → kept_of (opening_listing listing s).tenants t ≡ nothing = kept-new (tenants_of s.users.items) in
+    record {
+      held = λ t n some. absurd (let zero = ap (λ k. members_on n k.groups) (none t) in omega (arith, some, zero));
+      once = λ t n. (let a = ap (λ k. members_on n k.groups) (none t) in let c = ap (λ k. replies_on n k.groups) (none t) in omega (arith, a, c));
+    }
+
+-- where no member may wait none does
+none-held : (m : ℕ) → (0 < m → ⊥) → m ≡ 0
+none-held zero h = refl
+none-held (suc m) h = absurd (h (omega arith))
+
+pub stranded-gone : (t n : ℕ) (b : BrokerState) → NoneStranded b → is_open n b ≡ false → members_of b.tenants t n ≡ 0
+stranded-gone t n b h shut = none-held (members_of b.tenants t n) (λ some. by (find_line n b.lines) shut (h.held t n some))
+  where
+    by : (o : Option Session) → open_in o ≡ false → IsMembersIn t o → ⊥
+    by None e m = m
+    by (Some s) e m = let no : true ≡ false = e in absurd (cc)
+
+waits-somewhere : (t : ℕ) (st : Stage) → is_free st ≡ true → IsMembersAt t st → ⊥
+waits-somewhere t (Greets g) e m = m
+waits-somewhere t (BoundTo u None) e m = m
+waits-somewhere t (BoundTo u (Some w)) e m = let no : false ≡ true = e in absurd (cc)
+
+pub stranded-elsewhere : (t n : ℕ) (b : BrokerState) → NoneStranded b → bound_to n b ≢ Some t → members_of b.tenants t n ≡ 0
+stranded-elsewhere t n b h other = none-held (members_of b.tenants t n) (λ some. other (by (find_line n b.lines) (h.held t n some)))
+  where
+    at : (st : Stage) → IsMembersAt t st → whose st ≡ Some t
+    at (Greets g) m = absurd m
+    at (BoundTo u None) m = absurd m
+    at (BoundTo u (Some w)) m = ap Some m.0
+
+    by : (o : Option Session) → IsMembersIn t o → bound_as o ≡ Some t
+    by None m = absurd m
+    by (Some s) m = at s.stage m
+
+pub stranded-shut : (t n : ℕ) (b : BrokerState) → NoneStranded b → IsLimitedIn (find_line n b.lines) → is_shut n b ≡ true → members_of b.tenants t n ≡ 0
+stranded-shut t n b h limited shut = none-held (members_of b.tenants t n) (λ some. by (find_line n b.lines) limited shut (h.held t n some))
+  where
+    by : (o : Option Session) → IsLimitedIn o → shut_in o ≡ true → IsMembersIn t o → ⊥
+    by None l e m = m
+    by (Some s) l e m = waits-somewhere t s.stage (l.2 e) m

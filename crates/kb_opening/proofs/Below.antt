@@ -68,17 +68,18 @@ counts_at k n = ap (λ b. cond b (option_map partition_count (topic_at n k.topic
 
 -- ---- no topic yet
 
-pub unmade : (t : ℕ) (k : Known) (n : ℕ) (first : Disk) (from : Directory) (es : Entries SegmentLog) (now : Disk) (left : Directory) (next : ℕ) → OpensBelow t k n first from es now left next → IsUnmade n es
-unmade t k n first from es now left next o = o.places n ∙ counts_at k n
+pub unmade : (t : ℕ) (name : List ℕ) (size : ℕ) (k : Known) (n : ℕ) (first : Disk) (from : Directory) (es : Entries SegmentLog) (now : Disk) (left : Directory) (next : ℕ) → OpensBelow t name size k n first from es now left next → IsUnmade n es
+unmade t name size k n first from es now left next o = o.places n ∙ counts_at k n
 
-pub none_below : (t : ℕ) (k : Known) (d : Disk) (from : Directory) (es : Entries SegmentLog) (next : ℕ) → es ≡ [] → AreListed from d next → OpensBelow t k 0 d from es d from next
+pub none_below : (t : ℕ) (name : List ℕ) (size : ℕ) (k : Known) (d : Disk) (from : Directory) (es : Entries SegmentLog) (next : ℕ) → es ≡ [] → AreListed from d next → OpensBelow t name size k 0 d from es d from next
 unfolding IsStrictlySortedBy
-none_below t k d from es next e listed = subst (λ (fs : Entries SegmentLog). OpensBelow t k 0 d from fs d from next) (sym e) record {
+none_below t name size k d from es next e listed = subst (λ (fs : Entries SegmentLog). OpensBelow t name size k 0 d from fs d from next) (sym e) record {
   sound = record { ordered = tt; each = λ i p x at. absurd cc; apart = λ i p j q x y at there. absurd cc };
   owned = λ file o. let at = o.at in absurd cc;
   places = λ j. sym (ap (λ b. cond b (option_map partition_count (topic_at j k.topics)) None) (let no : nat_lt j 0 ≡ false = grind (arith, nat_tests) in no));
-  agree = λ h. record { each = λ i p x at. absurd cc; producers = λ i p x at. absurd cc };
-  logs = λ h i p part lt at. absurd (omega (arith, lt));
+  named = λ i p x at. absurd cc;
+  agree = λ h own. record { each = λ i p x at. absurd cc; producers = λ i p x at. absurd cc };
+  logs = λ h own i p part lt at. absurd (omega (arith, lt));
   none = λ i p lt. absurd (omega (arith, lt));
   same = λ o apart. refl;
   strays = refl;
@@ -113,9 +114,9 @@ logs_next P n below here i lt = elim (cases_lt i n) [
 pub all_moved : (old new : Disk) (numbers : List ℕ) → ((file : ℕ) → Contains numbers file → get new.table file ≡ get old.table file) → All (λ n. IsThere old n) numbers → All (λ n. IsThere new n) numbers
 all_moved old new numbers same all = λ i d lt. subst (λ (o : Option ℕ). IsSome o) (sym (same _ (All-contains_itself numbers i d lt))) (all i d lt)
 
-pub no_topic : (t : ℕ) (k : Known) (n : ℕ) (first : Disk) (from : Directory) (es : Entries SegmentLog) (mid : Disk) (left : Directory) (next : ℕ) (now : Disk)
-    → OpensBelow t k n first from es mid left next → topic_at n k.topics ≡ None → Clears no_file mid now → OpensBelow t k (n + 1) first from es now left next
-no_topic t k n first from es mid left next now so_far none kept = record {
+pub no_topic : (t : ℕ) (name : List ℕ) (size : ℕ) (k : Known) (n : ℕ) (first : Disk) (from : Directory) (es : Entries SegmentLog) (mid : Disk) (left : Directory) (next : ℕ) (now : Disk)
+    → OpensBelow t name size k n first from es mid left next → topic_at n k.topics ≡ None → Clears no_file mid now → OpensBelow t name size k (n + 1) first from es now left next
+no_topic t name size k n first from es mid left next now so_far none kept = record {
   sound = sound_stays es mid.table now.table next (λ file own. kept.lengths file (λ no. no)) so_far.sound;
   owned = λ file own. known_wider from t k n file (so_far.owned file own);
   places = λ j. so_far.places j ∙ elim (cases (nat_eq j n)) [
@@ -123,11 +124,12 @@ no_topic t k n first from es mid left next now so_far none kept = record {
         ap (counts_below k n) is ∙ counts_at k n ∙ sym (ap (option_map partition_count) none) ∙ sym (counts_here k n) ∙ sym (ap (counts_below k (n + 1)) is)
     | inr e ↦ counts_same k n j (λ is. let same : nat_eq j n ≡ true = grind (arith, nat_tests) in absurd cc)
   ];
-  agree = λ h. agree_stays es mid.files now.files (λ file own. kept.contents h file (λ no. no)) (so_far.agree (kept.honest h));
-  logs = λ h i p part lt at.
+  named = so_far.named;
+  agree = λ h own. agree_stays es mid.files now.files (λ file own. kept.contents h file (λ no. no)) (so_far.agree (kept.honest h) own);
+  logs = λ h own i p part lt at.
       let stay = logs_stay es mid.files now.files (λ file own. kept.contents h file (λ no. no)) so_far.sound.ordered in
       let was : i < n = elim (cases_lt i n) [ inl less ↦ less | inr ge ↦ absurd (no_partition k n p none (subst (λ j. IsSome (partition_at k (pos j) (pos p))) (let is : i ≡ n = omega (arith, lt, ge) in is) (some_at _ part at))) ] in
-      let l = so_far.logs (kept.honest h) i p part was at in
+      let l = so_far.logs (kept.honest h) own i p part was at in
       (l.0, ap (log_at i p) stay ∙ l.1, l.2);
   none = λ i p lt some. so_far.none i p (before i p lt some) some;
   same = λ o apart. so_far.same o (λ i p lt. apart i p (omega (arith, lt)));

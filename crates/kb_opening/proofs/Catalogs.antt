@@ -34,7 +34,7 @@ starting_all at (b ∷ bs) end r =
     ap (λ t. cond t (starting at bs) (b ∷ bs)) (not_le (next_of b) at (omega (arith, next_is at b r.1, batch_counted b r.0)))
 
 -- a chain is a run
-chain_run : (at : ℕ) (fs : List Part) (bs : List (List ℕ)) (end n : ℕ) → IsChain at fs bs end n → IsRun at bs end
+pub chain_run : (at : ℕ) (fs : List Part) (bs : List (List ℕ)) (end n : ℕ) → IsChain at fs bs end n → IsRun at bs end
 chain_run at [] bs end n c = subst (λ (x : List (List ℕ)). IsRun at x end) (sym c.0) c.1
 chain_run at (f ∷ fs) bs end n c = ⊎_elim
     (λ (s : StopsAt at f bs end n). subst (λ (x : List (List ℕ)). IsRun at x end) (sym s.none) s.ends)

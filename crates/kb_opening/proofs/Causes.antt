@@ -1,5 +1,6 @@
 -- What a refusal says, of a part of a call and of the whole.
-use Rattle.std.proofs.Common.{◌≡◌, ◌≤◌, ◌<◌, ◌^◌, inl, inr, ⊎_elim, ℕ, Result, Ok, Err, refl, sym, ap, subst, arith}
+use Rattle.std.proofs.Common.{◌≡◌, ◌≤◌, ◌<◌, ◌^◌, ◌⊎◌, inl, inr, ⊎_elim, ℕ, Result, Ok, Err, refl, sym, ap, subst, arith}
+use Rattle.std.specs.Prelude.{IsErrOf}
 use Rattle.std.specs.Result.{IsErrAnd}
 use Rattle.kb_store.specs.Disk.{Disk, Grew}
 use Rattle.kb_log.specs.declared.fault.LogFault.{LogFault}
@@ -82,4 +83,32 @@ stores_handed {T} {U} first old new As As' e (Err f) is weaker before m =
       store = λ h such same. grown first.failures old.failures new.failures (m.store h (weaker h such) (same_err U T e faults.Store same)) before;
       range = λ same. m.range (same_err U T e faults.Range same);
       full = λ same. m.full (same_err U T e faults.Full same);
+    }
+
+-- the store of a log is blamed, whatever file numbers are left
+pub misses_store_handed : {T U : Type 0} (old new : Disk) (next : ℕ) (As As' : Type 0) (e : LogFault) (r : Result U LogFault) → IsErrAnd r (λ f. f ≡ e) → (As' → As)
+    → MissesStore {T = T} old As (Err e) new → MissesShelf {T = U} old next As' r new
+misses_store_handed old new next As As' e (Ok x) is weaker m = absurd is
+misses_store_handed {T} {U} old new next As As' e (Err f) is weaker m =
+    subst (λ (g : LogFault). MissesShelf {T = U} old next As' (Err g) new) (sym is) record {
+      later = m.later;
+      store = λ h such same. inl (m.store h (weaker such) (same_err U T e faults.Store same));
+      range = λ same. m.range (same_err U T e faults.Range same);
+      full = λ same. m.full (same_err U T e faults.Full same);
+    }
+
+-- a call on a log that agrees with its files
+pub misses_blamed : {T U : Type 0} (first old new : Disk) (next next' : ℕ) (Agreed As' : Type 0) (e : LogFault) (r : Result U LogFault) → IsErrAnd r (λ f. f ≡ e) → next' ≡ next → first.failures ≤ old.failures → old.failures ≤ new.failures
+    → (new.honest → As' → Agreed) → (new.honest → Agreed → IsErrOf (refused T e) faults.Store → Grew old.failures new.failures ⊎ (2 ^ 64 ≤ next'))
+    → (refused T e ≡ Err faults.Range → ⊥) → (refused T e ≡ Err faults.Full → ⊥) → MissesShelf {T = U} first next As' r new
+misses_blamed first old new next next' Agreed As' e (Ok x) is left before after weaker store range full = absurd is
+misses_blamed {T} {U} first old new next next' Agreed As' e (Err f) is left before after weaker store range full =
+    subst (λ (g : LogFault). MissesShelf {T = U} first next As' (Err g) new) (sym is) record {
+      later = omega (arith, before, after);
+      store = λ h such same. ⊎_elim
+          (λ g. inl (grown first.failures old.failures new.failures g before))
+          (λ none. inr (subst (λ (n : ℕ). 2 ^ 64 ≤ n) left none))
+          (store h (weaker h such) (same_err U T e faults.Store same));
+      range = λ same. range (same_err U T e faults.Range same);
+      full = λ same. full (same_err U T e faults.Full same);
     }

@@ -3,6 +3,7 @@ pub mod Catalogs
 pub mod Causes
 pub mod Counted
 pub mod Entries
+pub mod Identities
 pub mod Instance
 pub mod Kept
 pub mod Keys
@@ -16,3 +17,4 @@ pub mod Stepped
 pub mod Taken
 pub mod Taking
 pub mod Whole
+pub mod Unique

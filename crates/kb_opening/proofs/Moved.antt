@@ -7,6 +7,8 @@ use Rattle.std.proofs.lemmas.List.Elements.{All-head, All-tail, All-contains_its
 use Rattle.std.proofs.lemmas.List.Sorted.{All-permutation, IsPermutation-map}
 use Rattle.kb_store.specs.Disk.{Files}
 use Rattle.kb_segment.specs.Header.{header_in}
+use Rattle.kb_log.specs.OnShelf.{Identity}
+use Rattle.kb_segment_log.specs.SegmentLog.{IsNamed}
 use Rattle.kb_segment_log.specs.Chain.{Chain, Part, base_said, behind_header, part_at, place_at, parts_at, first_of, IsChain, AreInOrder}
 use Rattle.kb_segment_log.proofs.Chained.{all_unmap}
 use Rattle.kb_partitions.specs.Logs.{LogState}
@@ -44,6 +46,10 @@ part_stays f g n e = ap (λ o. part_of (unwrap_or o [])) e
 
 place_stays : (f g : Files) (n : ℕ) → get g n ≡ get f n → place_at g n ≡ place_at f n
 place_stays f g n e = ap (λ o. record { base = base_said (header_in (unwrap_or o [])); file = n }) e
+
+-- it is still named as it was
+pub named_stays : (who : Identity) (f g : Files) (n : ℕ) → get g n ≡ get f n → IsNamed who f n → IsNamed who g n
+named_stays who f g n e i = record { header = i.header; read = ap (λ o. header_in (unwrap_or o [])) e ∙ i.read; names = i.names }
 
 -- ---- the chain
 

@@ -1,6 +1,6 @@
 -- The partitions of a topic are opened one after another.
 use Rattle.std.proofs.Common.{◌≡◌, ◌∙◌, ◌⊎◌, ◌≤◌, ◌<◌, ◌+◌, ◌-◌, ◌^◌, ◌++◌, inl, inr, ⊎_elim, ℕ, zero, suc, List, [], ◌∷◌, Some, refl, sym, ap, subst, arith, length, length-append, get_or, min}
-use Rattle.std.specs.Prelude.{slice_get, string_bytes, pos, IsSome, unwrap_or, Result, Err, IsErrOf}
+use Rattle.std.specs.Prelude.{slice_get, IsSome, Result, Err, IsErrOf}
 use Rattle.std.specs.FinMap.{get}
 use Rattle.std.specs.List.{All, Contains}
 use Rattle.std.specs.declared.alloc.Global.{Global}
@@ -9,25 +9,23 @@ use Rattle.std.proofs.Math.Nat.{min-le_left, min-le_right, le-min}
 use Rattle.std.proofs.lemmas.Option.{slice_get_within, slice_get_read, slice_get-get_or, same_Some}
 use Rattle.std.proofs.lemmas.List.Elements.{All-contains_itself}
 use Rattle.kb_store.specs.Disk.{Disk, Files, IsThere}
-use Rattle.kb_segment.specs.Header.{header_in}
-use Rattle.kb_log.specs.OnShelf.{Log}
-use Rattle.kb_log.specs.declared.log.LogId.{LogId}
+use Rattle.kb_log.specs.OnShelf.{Log, Identity}
 use Rattle.kb_log.specs.declared.fault.LogFault.{LogFault}
 use Rattle.kb_log.specs.declared.fault.LogFault.TheVariants.{Range, Full, Store, Memory}
 use Rattle.kb_producers.specs.Batches.{kept_all}
 use Rattle.kb_producers.specs.Table.{TableState}
 use Rattle.kb_producers.specs.declared.kept.Kept.{Kept}
-use Rattle.kb_segment_log.specs.Chain.{AreReadable, Opens}
+use Rattle.kb_segment_log.specs.Chain.{Opens}
 use Rattle.kb_segment_log.specs.SegmentLaws.{segment_lawful}
-use Rattle.kb_segment_log.specs.SegmentLog.{segment_log, bytes_at, Clears}
+use Rattle.kb_segment_log.specs.SegmentLog.{segment_log, AreNamed, Clears}
 use Rattle.kb_segment_log.specs.declared.log.SegmentLog.{SegmentLog}
 use Rattle.kb_partitions.specs.Logs.{LogState}
-use Rattle.kb_partitions.specs.Partitions.{log_state}
+use Rattle.kb_partitions.specs.Partitions.{log_state, partition_identity}
 use Rattle.kb_partitions.specs.Topic.{AreApartLogs, OwnedAmong}
 use Rattle.kb_partitions.specs.declared.partition.Partition.{Partition}
 use Rattle.kb_opening.specs.Opened.{IsLogOf}
-use Rattle.kb_opening.specs.Partition.{IsPartitionOf, MissesShelf, Lists, IsAmong, AreGiven, AreAllReadable, ArePartitionsOf, IsNamed, AreNamed}
-use Rattle.kb_opening.proofs.Moved.{Agree, log_of_stays}
+use Rattle.kb_opening.specs.Partition.{IsPartitionOf, MissesShelf, Lists, IsAmong, AreGiven, AreAllNamed, ArePartitionsOf, AreNumbered}
+use Rattle.kb_opening.proofs.Moved.{Agree, named_stays, log_of_stays}
 
 -- ---- an item behind a list
 
@@ -60,6 +58,12 @@ missed_since first mid now next next' As As' s f is same le gives m =
       range = λ e. m.range (let t : f ≡ Range = cc in ap Err t);
       full = λ e. m.full (let t : f ≡ Full = cc in ap Err t);
     }
+
+-- The same of files that are to name a log, where it is said of them by another name of the log.
+pub missed_named : {T U : Type 0} (first mid now : Disk) (next next' : ℕ) (As : Type 0) (own who : Identity) (numbers : List ℕ) (s : Result U LogFault) (f : LogFault) → MissesShelf {T = T} mid next' (AreNamed who mid.files numbers) (Err f) now
+    → own ≡ who → s ≡ Err f → next' ≡ next → first.failures ≤ mid.failures → (now.honest → As → AreNamed own mid.files numbers) → MissesShelf first next As s now
+missed_named first mid now next next' As own who numbers s f m e is same le gives =
+    missed_since first mid now next next' As (AreNamed who mid.files numbers) s f is same le (λ h such. subst (λ (w : Identity). AreNamed w mid.files numbers) e (gives h such)) m
 
 -- Memory is no fault of the store's.
 pub missed_none : {T : Type 0} (first now : Disk) (next : ℕ) (As : Type 0) (s : Result T LogFault) → s ≡ Err Memory → first.failures ≤ now.failures → MissesShelf first next As s now
@@ -95,9 +99,9 @@ Said files numbers start log kept now = (segment_log log).agrees now × (kept �
 
 -- a log that was opened, and what was read of producers in it
 pub of_opened : (files : Files) (numbers : List ℕ) (start : ℕ) (log : SegmentLog) (producers : TableState) (x : Opened) (mid now : Files) → x.log ≡ log → x.producers ≡ producers → now ≡ mid
-    → Opens files numbers start (segment_log log) mid → producers.kept ≡ kept_all ((segment_log log).batches mid) → IsPartitionOf files numbers start x now
-of_opened files numbers start log producers x mid now its with same o told =
-    let begun : Said files numbers start log producers.kept mid = (o.agrees, told, record { bs = o.bs; chain = o.chain; starts = o.starts; ends = o.ends; batches = o.batches }) in
+    → Opens files numbers start (segment_log log) mid → (segment_log log).agrees mid → producers.kept ≡ kept_all ((segment_log log).batches mid) → IsPartitionOf files numbers start x now
+of_opened files numbers start log producers x mid now its with same o agrees told =
+    let begun : Said files numbers start log producers.kept mid = (agrees, told, record { bs = o.bs; chain = o.chain; starts = o.starts; ends = o.ends; batches = o.batches }) in
     let moved : Said files numbers start log producers.kept now = subst (λ (fs : Files). Said files numbers start log producers.kept fs) (sym same) begun in
     let is : Said files numbers start x.log producers.kept now = subst (λ (l : SegmentLog). Said files numbers start l producers.kept now) (sym its) moved in
     record { agrees = is.0; told = ap (λ (t : TableState). t.kept) with ∙ is.1; log = is.2 }
@@ -157,32 +161,33 @@ among_first lists count file o = record { number = o.number; list = o.its.list; 
 pub among_at : (lists : Lists) (p : ℕ) (list : Vec ℕ Global) → slice_get lists p ≡ Some list → (file : ℕ) → Contains list.items file → IsAmong lists file
 among_at lists p list at file has = record { number = p; list = list; at = at; has = has }
 
--- The first partitions are opened, and the files of all others are as they were.
-pub record Opening (lists : Lists) (starts : List ℕ) (xs : List Opened) (first now : Disk) (next : ℕ) : Type 0 where
+-- The first partitions are opened, and the files of all others are as they were. What they have is known where the files are as
+-- was said.
+pub record Opening (As : Type 0) (lists : Lists) (starts : List ℕ) (xs : List Opened) (first now : Disk) (next : ℕ) : Type 0 where
   pub sound : AreApartLogs segment_log xs now.table next
   pub owned : (p : ℕ) (x : Opened) → slice_get xs p ≡ Some x → (file : ℕ) → (segment_log x.log).owns file → IsOf lists p file
-  pub opened : now.honest → ArePartitionsOf first.files lists starts xs now.files
+  pub opened : now.honest → As → ArePartitionsOf first.files lists starts xs now.files
   pub others : Clears (IsOfFirst lists (length xs)) first now
 
-pub among_owned : (lists : Lists) (starts : List ℕ) (xs : List Opened) (first now : Disk) (next : ℕ) → Opening lists starts xs first now next → (file : ℕ) → OwnedAmong segment_log xs file → IsAmong lists file
-among_owned lists starts xs first now next so_far file o =
+pub among_owned : (As : Type 0) (lists : Lists) (starts : List ℕ) (xs : List Opened) (first now : Disk) (next : ℕ) → Opening As lists starts xs first now next → (file : ℕ) → OwnedAmong segment_log xs file → IsAmong lists file
+among_owned As lists starts xs first now next so_far file o =
     let its = so_far.owned o.number o.partition o.at file o.own in
     record { number = o.number; list = its.list; at = its.at; has = its.has }
 
-pub none_opened : (lists : Lists) (starts : List ℕ) (xs : List Opened) (d : Disk) (next : ℕ) → xs ≡ [] → Opening lists starts xs d d next
-none_opened lists starts xs d next none =
+pub none_opened : (As : Type 0) (lists : Lists) (starts : List ℕ) (xs : List Opened) (d : Disk) (next : ℕ) → xs ≡ [] → Opening As lists starts xs d d next
+none_opened As lists starts xs d next none =
     let nothing : (p : ℕ) (x : Opened) → slice_get xs p ≡ Some x → ⊥ = λ p x at. absurd (let e : slice_get {X = Opened} [] p ≡ Some x = subst (λ (ys : List Opened). slice_get ys p ≡ Some x) none at in cc) in
     record {
       sound = record { each = λ p x at. absurd (nothing p x at); apart = λ p q x y at there differ file own other. nothing p x at };
       owned = λ p x at. absurd (nothing p x at);
-      opened = λ h p x list start at. absurd (nothing p x at);
+      opened = λ h such p x list start at. absurd (nothing p x at);
       others = record { honest = λ h. h; lengths = λ file not. refl; contents = λ h file not. refl };
     }
 
 -- ---- the next one
 
-module _ (lists : Lists) (starts : List ℕ) (xs : List Opened) (list : Vec ℕ Global) (first mid : Disk) (next : ℕ)
-    (given : AreGiven lists first next) (so_far : Opening lists starts xs first mid next) (at : slice_get lists (length xs) ≡ Some list) where
+module _ (As : Type 0) (lists : Lists) (starts : List ℕ) (xs : List Opened) (list : Vec ℕ Global) (first mid : Disk) (next : ℕ)
+    (given : AreGiven lists first next) (so_far : Opening As lists starts xs first mid next) (at : slice_get lists (length xs) ≡ Some list) where
   -- its files are of no partition before it
   no_earlier : (file : ℕ) → Contains list.items file → IsOfFirst lists (length xs) file → ⊥
   no_earlier file has o =
@@ -198,18 +203,16 @@ module _ (lists : Lists) (starts : List ℕ) (xs : List Opened) (list : Vec ℕ 
   pub next_there : All (λ n. IsThere mid n) list.items
   next_there = λ k d l. subst (λ o. IsSome o) (sym (agree_table _ (All-contains_itself list.items k d l))) (given.there (length xs) list at k d l)
 
-  pub next_readable : mid.honest → AreAllReadable first.files lists → AreReadable mid.files list.items
-  next_readable h all = λ k d l. subst (λ (bytes : List ℕ). IsSome (header_in bytes)) (sym (same_bytes _ (agree_files h _ (All-contains_itself list.items k d l)))) (all (length xs) list at k d l)
-    where
-      same_bytes : (n : ℕ) → get mid.files n ≡ get first.files n → bytes_at mid.files n ≡ bytes_at first.files n
-      same_bytes n e = ap (λ o. unwrap_or o []) e
+  pub next_headed : (tenant : List ℕ) (instance size : ℕ) → mid.honest → AreAllNamed tenant instance size first.files lists → AreNamed (partition_identity tenant instance (length xs) size) mid.files list.items
+  next_headed tenant instance size h all = λ k d l.
+      named_stays (partition_identity tenant instance (length xs) size) first.files mid.files _ (agree_files h _ (All-contains_itself list.items k d l)) (all (length xs) list at k d l)
 
   pub now_others : (now : Disk) → Clears (Contains list.items) mid now → Clears (IsAmong lists) first now
   now_others now others = clears_then first mid now (among_first lists (length xs)) (among_at lists (length xs) list at) so_far.others others
 
   module _ (x : Opened) (start : ℕ) (now : Disk) (starts_at : slice_get starts (length xs) ≡ Some start) (others : Clears (Contains list.items) mid now)
       (sound : (segment_log x.log).sound now.table next) (owns : (file : ℕ) → (segment_log x.log).owns file → Contains list.items file)
-      (is : now.honest → IsPartitionOf mid.files list.items start x now.files) where
+      (is : now.honest → As → IsPartitionOf mid.files list.items start x now.files) where
     apart_from : (p : ℕ) (y : Opened) → slice_get xs p ≡ Some y → (file : ℕ) → (segment_log y.log).owns file → Contains list.items file → ⊥
     apart_from p y there file own has = no_earlier file has (record { number = p; below = slice_get_within xs p y there; its = so_far.owned p y there file own })
 
@@ -241,16 +244,16 @@ module _ (lists : Lists) (starts : List ℕ) (xs : List Opened) (list : Vec ℕ 
         })
         (item_at xs x y p there)
 
-    openeds : now.honest → ArePartitionsOf first.files lists starts (xs ++ x ∷ []) now.files
-    openeds h p y numbers from there listed begun = ⊎_elim
-        (λ was. partition_stays first.files numbers.items from y mid.files now.files (λ file own. others.contents h file (apart_from p y was file own)) (so_far.opened (others.honest h) p y numbers from was listed begun))
+    openeds : now.honest → As → ArePartitionsOf first.files lists starts (xs ++ x ∷ []) now.files
+    openeds h such p y numbers from there listed begun = ⊎_elim
+        (λ was. partition_stays first.files numbers.items from y mid.files now.files (λ file own. others.contents h file (apart_from p y was file own)) (so_far.opened (others.honest h) such p y numbers from was listed begun))
         (λ (new : (p ≡ length xs) × (x ≡ y)).
         let same_list : list ≡ numbers = same_Some list numbers (sym at ∙ ap (λ k. slice_get lists k) (sym new.0) ∙ listed) in
         let same_start : start ≡ from = same_Some start from (sym starts_at ∙ ap (λ k. slice_get starts k) (sym new.0) ∙ begun) in
         subst (λ (z : Opened). IsPartitionOf first.files numbers.items from z now.files) new.1
         (subst (λ (v : Vec ℕ Global). IsPartitionOf first.files v.items from x now.files) same_list
         (subst (λ (s : ℕ). IsPartitionOf first.files list.items s x now.files) same_start
-        (partition_of_old first.files mid.files list.items start x now.files (agree_files (others.honest h)) (is h)))))
+        (partition_of_old first.files mid.files list.items start x now.files (agree_files (others.honest h)) (is h such)))))
         (item_at xs x y p there)
 
     more : (file : ℕ) → IsOfFirst lists (length xs) file → IsOfFirst lists (length (xs ++ x ∷ [])) file
@@ -259,8 +262,8 @@ module _ (lists : Lists) (starts : List ℕ) (xs : List Opened) (list : Vec ℕ 
     last : (file : ℕ) → Contains list.items file → IsOfFirst lists (length (xs ++ x ∷ [])) file
     last file has = record { number = length xs; below = omega (arith, length-append xs (x ∷ [])); its = record { list = list; at = at; has = has } }
 
-    pub next_opened : (ys : List Opened) → ys ≡ xs ++ x ∷ [] → Opening lists starts ys first now next
-    next_opened ys e = subst (λ (zs : List Opened). Opening lists starts zs first now next) (sym e) record {
+    pub next_opened : (ys : List Opened) → ys ≡ xs ++ x ∷ [] → Opening As lists starts ys first now next
+    next_opened ys e = subst (λ (zs : List Opened). Opening As lists starts zs first now next) (sym e) record {
       sound = sounds;
       owned = owneds;
       opened = openeds;
@@ -269,21 +272,12 @@ module _ (lists : Lists) (starts : List ℕ) (xs : List Opened) (list : Vec ℕ 
 
 -- ---- under which names
 
-pub next_named : (tenant : List ℕ) (instance size : ℕ) (xs ys : List Opened) (x : Opened) (id : LogId) (n : ℕ) → ys ≡ xs ++ x ∷ [] → length xs ≡ n → x.log.id ≡ id → string_bytes id.tenant ≡ tenant → id.kind ≡ pos 0 → id.instance ≡ pos instance → id.partition ≡ pos n
-    → x.log.segment_bytes ≡ size → AreNamed tenant instance size xs → AreNamed tenant instance size ys
-next_named tenant instance size xs ys x id n grown count its whose kind topic partition bytes named p y at =
+pub next_numbered : (tenant : List ℕ) (instance size : ℕ) (xs ys : List Opened) (x : Opened) (n : ℕ) → ys ≡ xs ++ x ∷ [] → length xs ≡ n → (segment_log x.log).identity ≡ partition_identity tenant instance n size
+    → AreNumbered tenant instance size xs → AreNumbered tenant instance size ys
+next_numbered tenant instance size xs ys x n grown count its numbered p y at =
     ⊎_elim
-    (λ was. named p y was)
+    (λ was. numbered p y was)
     (λ (new : (p ≡ length xs) × (x ≡ y)).
     let place : n ≡ p = sym count ∙ sym new.0 in
-    subst (λ (z : Opened). IsNamed tenant instance p size z) new.1 (subst (λ (q : ℕ). IsNamed tenant instance q size x) place here))
+    ap (λ (z : Opened). (segment_log z.log).identity) (sym new.1) ∙ its ∙ ap (λ (q : ℕ). partition_identity tenant instance q size) place)
     (item_at xs x y p (subst (λ (zs : List Opened). slice_get zs p ≡ Some y) grown at))
-  where
-    here : IsNamed tenant instance n size x
-    here = record {
-      whose = ap (λ (i : LogId). string_bytes i.tenant) its ∙ whose;
-      kind = ap (λ (i : LogId). i.kind) its ∙ kind;
-      topic = ap (λ (i : LogId). i.instance) its ∙ topic;
-      partition = ap (λ (i : LogId). i.partition) its ∙ partition;
-      size = bytes;
-    }

@@ -1,5 +1,5 @@
 -- What the files of a tenant come to, which are there when a broker opens.
-use Rattle.std.specs.Prelude.{◌≡◌, ◌++◌, ℕ, pos, List, [], ◌∷◌, length, max, Some, None}
+use Rattle.std.specs.Prelude.{◌≡◌, ◌++◌, ℕ, pos, List, [], ◌∷◌, length, max, Some, None, IsSome}
 use Rattle.kb_store.specs.Disk.{Files}
 use Rattle.kb_batch.specs.Batch.{natural}
 use Rattle.kb_log.specs.Log.{starting}
@@ -46,3 +46,14 @@ pub record IsOpened (files : Files) (owners : Owners) (k : Known) (logs : Logs) 
   pub tied : counted length logs ≡ counted partition_count k.topics
   pub each : (i p : ℕ) (part : PartitionState) → partition_at k (pos i) (pos p) ≡ Some part
       → (l : LogState) × (log_at i p logs ≡ Some l) × IsLogOf files (owners.partition i p) (natural part.start) l
+
+-- ---- one world
+
+-- One world has the topics of another, and of each of their partitions the log.
+pub record IsSame (k : Known) (logs : Logs) (k' : Known) (logs' : Logs) : Type 0 where
+  pub topics : k' ≡ k
+  pub each : (i p : ℕ) → IsSome (partition_at k (pos i) (pos p)) → log_at i p logs' ≡ log_at i p logs
+
+-- Each world that the files come to is that one.
+abbrev pub IsOnly : Files → Owners → Known → Logs → Type 0
+IsOnly files owners k logs = (k' : Known) (logs' : Logs) → IsOpened files owners k' logs' → IsSame k logs k' logs'

@@ -1,5 +1,5 @@
 -- The partitions of a topic, opened from the files that are there.
-use Rattle.std.specs.Prelude.{◌≡◌, ◌≤◌, ◌<◌, ◌^◌, ◌⊎◌, ℕ, nat_eq, pos, List, Some, slice_get, string_bytes, Result, Err, IsErrOf}
+use Rattle.std.specs.Prelude.{◌≡◌, ◌≤◌, ◌<◌, ◌^◌, ◌⊎◌, ℕ, nat_eq, List, Some, slice_get, Result, Err, IsErrOf}
 use Rattle.std.specs.List.{All, Contains, IsDistinct}
 use Rattle.std.specs.declared.alloc.Global.{Global}
 use Rattle.std.specs.declared.vec.Vec.{Vec}
@@ -7,10 +7,9 @@ use Rattle.kb_store.specs.Disk.{Disk, Files, IsThere, Grew}
 use Rattle.kb_log.specs.declared.fault.LogFault.{LogFault}
 use Rattle.kb_log.specs.declared.fault.LogFault.TheVariants as faults
 use Rattle.kb_producers.specs.Batches.{kept_all}
-use Rattle.kb_segment_log.specs.SegmentLog.{segment_log}
-use Rattle.kb_segment_log.specs.Chain.{AreReadable}
+use Rattle.kb_segment_log.specs.SegmentLog.{segment_log, AreNamed}
 use Rattle.kb_segment_log.specs.declared.log.SegmentLog.{SegmentLog}
-use Rattle.kb_partitions.specs.Partitions.{log_state}
+use Rattle.kb_partitions.specs.Partitions.{log_state, partition_identity}
 use Rattle.kb_partitions.specs.declared.partition.Partition.{Partition}
 use Rattle.kb_opening.specs.Opened.{IsLogOf}
 
@@ -22,14 +21,6 @@ pub record IsPartitionOf (files : Files) (numbers : List ℕ) (start : ℕ) (x :
   pub agrees : (segment_log x.log).agrees now
   pub told : x.producers.kept ≡ kept_all ((segment_log x.log).batches now)
   pub log : IsLogOf files numbers start (log_state (segment_log x.log) now)
-
--- The files that its log makes are that tenant's, of that partition of that instance, and have about so many bytes.
-pub record IsNamed (tenant : List ℕ) (instance number segment_bytes : ℕ) (x : Partition SegmentLog) : Type 0 where
-  pub whose : string_bytes x.log.id.tenant ≡ tenant
-  pub kind : x.log.id.kind ≡ pos 0
-  pub topic : x.log.id.instance ≡ pos instance
-  pub partition : x.log.id.partition ≡ pos number
-  pub size : x.log.segment_bytes ≡ segment_bytes
 
 -- Where the store is honest and the files are as was said, the store is blamed only where its failures grew, or no file number is
 -- left; and no offset is.
@@ -60,15 +51,15 @@ pub record AreGiven (lists : Lists) (disk : Disk) (next : ℕ) : Type 0 where
   pub apart : (p q : ℕ) (list other : Vec ℕ Global) → slice_get lists p ≡ Some list → slice_get lists q ≡ Some other → (p ≡ q → ⊥)
       → (file : ℕ) → Contains list.items file → Contains other.items file → ⊥
 
--- Each of the files begins with a readable header.
-abbrev pub AreAllReadable : Files → Lists → Type 0
-AreAllReadable files lists = (p : ℕ) (list : Vec ℕ Global) → slice_get lists p ≡ Some list → AreReadable files list.items
+-- The header of each of the files names its partition, of the topic of that instance.
+abbrev pub AreAllNamed : List ℕ → ℕ → ℕ → Files → Lists → Type 0
+AreAllNamed tenant instance size files lists = (p : ℕ) (list : Vec ℕ Global) → slice_get lists p ≡ Some list → AreNamed (partition_identity tenant instance p size) files list.items
 
 -- Each partition is that of its own files from its own start on.
 abbrev pub ArePartitionsOf : Files → Lists → List ℕ → List (Partition SegmentLog) → Files → Type 0
 ArePartitionsOf files lists starts xs now = (p : ℕ) (x : Partition SegmentLog) (list : Vec ℕ Global) (start : ℕ)
     → slice_get xs p ≡ Some x → slice_get lists p ≡ Some list → slice_get starts p ≡ Some start → IsPartitionOf files list.items start x now
 
--- Each partition is named by its number.
-abbrev pub AreNamed : List ℕ → ℕ → ℕ → List (Partition SegmentLog) → Type 0
-AreNamed tenant instance segment_bytes xs = (p : ℕ) (x : Partition SegmentLog) → slice_get xs p ≡ Some x → IsNamed tenant instance p segment_bytes x
+-- Each log is that of the partition of its number, of the topic of that instance.
+abbrev pub AreNumbered : List ℕ → ℕ → ℕ → List (Partition SegmentLog) → Type 0
+AreNumbered tenant instance size xs = (p : ℕ) (x : Partition SegmentLog) → slice_get xs p ≡ Some x → (segment_log x.log).identity ≡ partition_identity tenant instance p size

@@ -3,12 +3,12 @@ use Rattle.std.specs.Prelude.{◌≡◌, ◌≢◌, ◌<◌, ◌++◌, ℕ, pos,
 use Rattle.std.specs.List.{All, Contains, IsDistinct}
 use Rattle.kb_store.specs.Disk.{Disk, Files, IsThere}
 use Rattle.kb_batch.specs.Batch.{natural}
-use Rattle.kb_segment_log.specs.SegmentLog.{segment_log}
-use Rattle.kb_segment_log.specs.Chain.{AreReadable}
+use Rattle.kb_log.specs.OnShelf.{Identity}
+use Rattle.kb_segment_log.specs.SegmentLog.{segment_log, AreNamed}
 use Rattle.kb_segment_log.specs.declared.log.SegmentLog.{SegmentLog}
-use Rattle.kb_topics.specs.Catalog.{known}
+use Rattle.kb_topics.specs.Catalog.{known, catalog_identity}
 use Rattle.kb_topics.specs.Known.{Known, PartitionState, partition_at}
-use Rattle.kb_partitions.specs.Partitions.{logs_of}
+use Rattle.kb_partitions.specs.Partitions.{logs_of, partition_identity}
 use Rattle.kb_world.specs.Parts.{Agrees, entries}
 use Rattle.kb_world.specs.declared.parts.Parts.{Parts}
 use Rattle.kb_opening.specs.Opened.{Owners, IsOpened}
@@ -42,9 +42,14 @@ pub record AreListed (d : Directory) (disk : Disk) (next : ℕ) : Type 0 where
   pub given_out : All (λ n. n < next) (all_files d)
   pub once : IsDistinct nat_eq (all_files d)
 
--- Each file that is of a log begins with a readable header.
-abbrev pub AreOwnedReadable : Files → Directory → Type 0
-AreOwnedReadable files d = (o : Owner) → AreReadable files (files_at o d)
+-- whose log an owner's is, of a tenant of that name
+abbrev pub identity_in : List ℕ → ℕ → Owner → Identity
+identity_in name size (Catalog t) = catalog_identity name size
+identity_in name size (Partition t i p) = partition_identity name i p size
+
+-- The header of each file of a tenant names the log that it is of.
+abbrev pub AreOwnNamed : List ℕ → ℕ → ℕ → Files → Directory → Type 0
+AreOwnNamed name size t files d = (o : Owner) → tenant_in o ≡ t → AreNamed (identity_in name size o) files (files_at o d)
 
 -- the owner is the tenant's catalog, or a partition that its topics have
 abbrev pub IsTaken : ℕ → Known → Owner → Type 0

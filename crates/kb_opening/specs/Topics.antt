@@ -13,14 +13,14 @@ use Rattle.kb_segment_log.specs.SegmentLog.{segment_log, Clears}
 use Rattle.kb_segment_log.specs.declared.log.SegmentLog.{SegmentLog}
 use Rattle.kb_topics.specs.Known.{Known, PartitionState, TopicState, topic_at, partition_at}
 use Rattle.kb_partitions.specs.Logs.{LogState, log_at}
-use Rattle.kb_partitions.specs.Partitions.{Entries, Owned, AreSound, Agree, logs_of, places_of, IsRestored}
+use Rattle.kb_partitions.specs.Partitions.{Entries, Owned, AreSound, AreNamed, Agree, logs_of, places_of, IsRestored}
 use Rattle.kb_partitions.specs.Topic.{AreApartLogs, OwnedAmong}
 use Rattle.kb_partitions.specs.declared.partition.Partition.{Partition}
 use Rattle.kb_world.specs.Tied.{partition_count}
 use Rattle.kb_opening.specs.Opened.{IsLogOf}
 use Rattle.kb_opening.specs.Directory.{all_files, files_at}
-use Rattle.kb_opening.specs.Partition.{Lists, IsAmong, ArePartitionsOf}
-use Rattle.kb_opening.specs.Tenant.{AreListed, TakesSome, recorded_start}
+use Rattle.kb_opening.specs.Partition.{Lists, IsAmong, AreAllNamed, ArePartitionsOf, AreNumbered}
+use Rattle.kb_opening.specs.Tenant.{AreListed, AreOwnNamed, TakesSome, recorded_start}
 use Rattle.kb_opening.specs.declared.directory.Directory.{Directory}
 use Rattle.kb_opening.specs.declared.owner.Owner.{Owner}
 use Rattle.kb_opening.specs.declared.owner.Owner.TheVariants as owners
@@ -41,13 +41,14 @@ pub record TakesTopic (t i n : ℕ) (old : Directory) (lists : Lists) (new : Dir
   pub all : IsPermutation (all_files old) (numbers_in lists ++ all_files new)
 
 -- The partitions of a topic were opened, each from the files that the directory had of it, and were taken in.
-pub record OpensTopic (t i : ℕ) (topic : TopicState) (first : Disk) (from : Directory) (old : Entries SegmentLog) (now : Disk) (left : Directory) (new : Entries SegmentLog) (next : ℕ) : Type 0 where
+pub record OpensTopic (t : ℕ) (name : List ℕ) (size i : ℕ) (topic : TopicState) (first : Disk) (from : Directory) (old : Entries SegmentLog) (now : Disk) (left : Directory) (new : Entries SegmentLog) (next : ℕ) : Type 0 where
   pub lists : Lists
   pub xs : List (Partition SegmentLog)
   pub takes : TakesTopic t i (partition_count topic) from lists left
   pub count : length xs ≡ length lists
   pub apart : AreApartLogs segment_log xs now.table next
-  pub opened : now.honest → ArePartitionsOf first.files lists (map recorded_start topic.partitions) xs now.files
+  pub named : AreNumbered name i size xs
+  pub opened : now.honest → AreAllNamed name i size first.files lists → ArePartitionsOf first.files lists (map recorded_start topic.partitions) xs now.files
   pub owned : (file : ℕ) → OwnedAmong segment_log xs file → IsAmong lists file
   pub others : Clears (IsAmong lists) first now
   pub restored : IsRestored segment_log i xs old new
@@ -69,12 +70,13 @@ pub record IsOfKnown (d : Directory) (t : ℕ) (k : Known) (n file : ℕ) : Type
   pub has : Contains (files_at (owners.Partition t instance number) d) file
 
 -- The topics of the instances below one are opened, from what the disk and the directory were first.
-pub record OpensBelow (t : ℕ) (k : Known) (n : ℕ) (first : Disk) (from : Directory) (es : Entries SegmentLog) (now : Disk) (left : Directory) (next : ℕ) : Type 0 where
+pub record OpensBelow (t : ℕ) (name : List ℕ) (size : ℕ) (k : Known) (n : ℕ) (first : Disk) (from : Directory) (es : Entries SegmentLog) (now : Disk) (left : Directory) (next : ℕ) : Type 0 where
   pub sound : AreSound segment_log es now.table next
   pub owned : (file : ℕ) → Owned segment_log es file → IsOfKnown from t k n file
   pub places : (j : ℕ) → lookup (is_at (nat_cmp j)) (places_of es) ≡ (if nat_lt j n then option_map partition_count (topic_at j k.topics) else None)
-  pub agree : now.honest → Agree segment_log es now.files
-  pub logs : now.honest → (i p : ℕ) (part : PartitionState) → i < n → partition_at k (pos i) (pos p) ≡ Some part
+  pub named : AreNamed segment_log name size es
+  pub agree : now.honest → AreOwnNamed name size t first.files from → Agree segment_log es now.files
+  pub logs : now.honest → AreOwnNamed name size t first.files from → (i p : ℕ) (part : PartitionState) → i < n → partition_at k (pos i) (pos p) ≡ Some part
       → (l : LogState) × (log_at i p (logs_of segment_log es now.files) ≡ Some l) × IsLogOf first.files (files_at (owners.Partition t i p) from) (recorded_start part) l
   pub none : (i p : ℕ) → i < n → IsSome (partition_at k (pos i) (pos p)) → files_at (owners.Partition t i p) left ≡ []
   pub same : (o : Owner) → ((i p : ℕ) → i < n → IsSome (partition_at k (pos i) (pos p)) → o ≢ owners.Partition t i p) → files_at o left ≡ files_at o from

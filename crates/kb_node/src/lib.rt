@@ -1,9 +1,9 @@
 //! The broker at work: what its programs do, over any reader and writer, and over any network.
 //!
-//! [`play_script`] runs a script over a broker with the standard settings, [`play_script_with`] over one with given settings:
-//! what is written is exactly what that broker says to the script, up to the fault that is answered. [`read_settings`] gives
-//! the settings of a text, [`data_folder`] the folder that they name, and [`Edge`] puts a broker on a network and is turned by
-//! hand.
+//! [`play_script`] runs a script over a broker with the standard settings, [`play_script_with`] over one with given settings, and
+//! [`play_script_on`] over one that is there: what is written is exactly what that broker says to the script, up to the fault that
+//! is answered. [`read_settings`] gives the settings of a text, [`data_folder`] the folder that they name, and [`Edge`] puts a broker
+//! on a network and is turned by hand.
 #![tactic(auto)]
 
 mod edge;
@@ -24,6 +24,6 @@ pub use kb_settings::tenant_names;
 pub use kb_store::Store;
 pub use limits::Limits;
 pub use login::Denied;
-pub use script::{play_script, play_script_with};
+pub use script::{play_script, play_script_on, play_script_with};
 pub use start::{data_folder, read_settings};
 pub use turn::Turn;

@@ -1,14 +1,19 @@
 //! A script of events.
 
-ghost use Rattle.std.specs.Prelude.{IfSome, IfErr, OnOk, IsOk};
+ghost use Rattle.std.specs.Prelude.{◌≡◌, true, IfSome, IfErr, OnOk, IsOk};
 ghost use Rattle.std.specs.Io.KnownBytes.{Keeps};
+ghost use Rattle.kb_machine.specs.Broker.{IsReady};
+ghost use Rattle.kb_machine.specs.Calls.{is_calm};
+ghost use Rattle.kb_broker.specs.Hosts.{is_honest};
 ghost use Rattle.kb_broker.specs.Opening.{opening};
 ghost use Rattle.kb_broker.specs.Script.{script};
-ghost use Rattle.kb_broker.specs.ScriptRun.{IsPlayed};
+ghost use Rattle.kb_broker.specs.ScriptRun.{IsPlayed, IsQuiet};
 ghost use Rattle.kb_node.specs.Node.{IsHalted, IsScriptPlayed, IsScriptEnded, IsFaultOf};
 
 use crate::fault::NodeFault;
-use kb_broker::{ScriptFault, Settings, run_script};
+use kb_broker::{Broker, ScriptFault, Settings, run_script, run_script_on};
+use kb_log::{ListLog, PartitionLog};
+use kb_store::Store;
 use std::alloc::Global;
 use std::io::{BufRead, Write};
 
@@ -25,12 +30,12 @@ pub fn play_script<R: BufRead, W: Write>(
     ensures err { IfErr result (λ fault. IfSome (R.remaining reader.old) (λ text. IsScriptEnded text fault (W.contents writer.old) (W.contents writer.new))) }
 {
     let settings = Settings::standard(alloc)?;
-    play_script_with(alloc, &settings, reader, writer)
+    play_script_with::<ListLog, _, _>(alloc, &settings, reader, writer)
 }
 
-/// Runs a script over a broker of those settings, which keeps nothing on a disk: what is written is what [`play_script`] says,
-/// of that broker.
-pub fn play_script_with<R: BufRead, W: Write>(
+/// Runs a script over a broker of those settings with logs of any kind, which keeps nothing on a disk: what is written is what
+/// [`play_script`] says, of that broker.
+pub fn play_script_with<L: PartitionLog + Drop, R: BufRead, W: Write>(
     alloc: Global,
     settings: &Settings,
     reader: &mut R,
@@ -39,7 +44,26 @@ pub fn play_script_with<R: BufRead, W: Write>(
     ensures ok { OnOk result (IfSome (R.remaining reader.old) (λ text. IsPlayed (opening settings.now) (script (opening settings.now) text) (W.contents writer.old) (W.contents writer.new))) }
     ensures err { IfErr result (λ fault. IfSome (R.remaining reader.old) (λ text. IsHalted (opening settings.now) (script (opening settings.now) text) fault (W.contents writer.old) (W.contents writer.new))) }
 {
-    let ran = run_script(alloc, settings, reader, writer);
+    let ran = run_script::<L, _, _>(alloc, settings, reader, writer);
+    hand_on(writer, ran)
+}
+
+/// Runs a script over a broker that is at rest, on any store and with logs of any kind: what is written is what [`play_script`] says,
+/// of that broker, while the store is honest.
+pub fn play_script_on<S: Store, L: PartitionLog + Drop, R: BufRead, W: Write>(
+    alloc: Global,
+    broker: &mut Broker<S, L>,
+    reader: &mut R,
+    writer: &mut W,
+) -> Result<(), NodeFault>
+    requires calm { is_honest S.disk broker.old → is_calm broker.old.state ≡ true }
+    requires quiet { is_honest S.disk broker.old → IsQuiet broker.old.state }
+    requires ready { is_honest S.disk broker.old → IsReady broker.old.state }
+    ensures honest { is_honest S.disk broker.new → is_honest S.disk broker.old }
+    ensures ok { is_honest S.disk broker.new → OnOk result (IfSome (R.remaining reader.old) (λ text. IsPlayed broker.old.state (script broker.old.state text) (W.contents writer.old) (W.contents writer.new))) }
+    ensures err { is_honest S.disk broker.new → IfErr result (λ fault. IfSome (R.remaining reader.old) (λ text. IsHalted broker.old.state (script broker.old.state text) fault (W.contents writer.old) (W.contents writer.new))) }
+{
+    let ran = run_script_on(alloc, broker, reader, writer);
     hand_on(writer, ran)
 }
 

@@ -1,9 +1,9 @@
 pub mod Blamed
+pub mod Headed
 pub mod Hosting
 pub mod Listed
 pub mod Owners
 pub mod Read
 pub mod Reopened
 pub mod Restored
-pub mod Steps
 pub mod Strays

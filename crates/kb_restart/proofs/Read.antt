@@ -1,10 +1,10 @@
 -- A directory that was read: its files are those of logs, and those of none.
 use Rattle.std.proofs.Common.{◌≡◌, ◌∙◌, ◌⊎◌, inl, inr, ⊎_elim, ◌≤◌, ◌<◌, ◌+◌, ◌++◌, ℕ, zero, suc, Bool, true, false, not, cond, List, [], ◌∷◌, Option, Some, None, refl, sym, ap, subst, arith, length, get_or}
-use Rattle.std.specs.Prelude.{◌&&◌, nat_eq, pos, slice_get, IsSome, IsPermutation}
+use Rattle.std.specs.Prelude.{◌&&◌, nat_eq, pos, slice_get, string_bytes, map, option_map, IsSome, IsPermutation}
 use Rattle.std.specs.List.{All, Contains, IsDistinct, filter, list_any}
 use Rattle.std.specs.Str.{bytes_eq}
 use Rattle.std.proofs.lemmas.Bool.{and_parts, false≢true}
-use Rattle.std.proofs.lemmas.Option.{slice_get-get_or, get_or_from_slice_get, slice_get_within}
+use Rattle.std.proofs.lemmas.Option.{slice_get-get_or, get_or_from_slice_get, slice_get_within, slice_get-map, same_Some}
 use Rattle.std.proofs.lemmas.List.Elements.{All-contains, All-contains_itself, All-filter, filter_passes, Contains-append_left, Contains-append_right}
 use Rattle.std.proofs.lemmas.List.Folds.{list_any_at}
 use Rattle.std.proofs.lemmas.List.Sorted.{All-permutation, IsPermutation-sym, Contains-permutation}
@@ -19,14 +19,14 @@ use Rattle.kb_tenants.specs.Tenants.{AreSound}
 use Rattle.kb_opening.specs.Opened.{Owners}
 use Rattle.kb_opening.specs.Owners.{is_of_catalog, is_of_partition, is_of_one, passes, says, strays_of}
 use Rattle.kb_opening.specs.Directory.{all_files, files_at, owned_in, IsDirectory}
-use Rattle.kb_opening.specs.Tenant.{owners_in, tenant_in, AreListed, AreOwnedReadable, IsOfTenant, IsTenantOf}
+use Rattle.kb_opening.specs.Tenant.{owners_in, tenant_in, AreListed, AreOwnNamed, IsOfTenant, IsTenantOf}
 use Rattle.kb_opening.specs.declared.directory.Directory.{Directory}
 use Rattle.kb_opening.specs.declared.owner.Owner.{Owner}
 use Rattle.kb_opening.specs.declared.owner.Owner.TheVariants.{Catalog, Partition}
-use Rattle.kb_restart.specs.Restart.{owners_of, AreOpened, AreRestored, IsLeft, IsOfFirst, IsOfLog, IsOfNone}
-use Rattle.kb_restart.proofs.Owners.{distinct_parts, in_owned, listed_at, tenants_apart}
+use Rattle.kb_opening.proofs.Openings.{clears_then, clears_wider}
+use Rattle.kb_restart.specs.Restart.{owners_of, names_in, AreOpened, AreOwnedNamed, AreRestored, IsLeft, IsOfFirst, IsOfLog, IsOfNone}
+use Rattle.kb_restart.proofs.Owners.{listed_at, tenants_apart}
 use Rattle.kb_restart.proofs.Restored.{all_from}
-use Rattle.kb_restart.proofs.Steps.{clears_then, clears_wider}
 
 -- ---- what a filter keeps
 
@@ -87,16 +87,6 @@ module _ (old : Disk) (numbers : List ℕ) (next : ℕ) (there : All (λ n. IsTh
     pub listed : (file : ℕ) → Contains (all_files d) file → Contains numbers file
     listed file is = Contains-permutation (all_files d) numbers file (IsPermutation-sym numbers (all_files d) all) is
 
-    -- a file without a readable header is nobody's
-    readable_at : (o : Owner) (n : ℕ) → Contains (files_at o d) n → (h : Option Header) → header_in (bytes_at old.files n) ≡ h → IsSome (header_in (bytes_at old.files n))
-    readable_at o n is (Some h) e = subst (λ o. IsSome o) (sym e) refl
-    readable_at o n is None e =
-        absurd ((distinct_parts (owned_in d.owned.entries) d.strays.items read_once).2 n (in_owned o d.owned.entries n is)
-        (subst (λ ns. Contains ns n) (sym dir.strays) (in_filter (λ n. not (says old.files (is_of_one names) n)) numbers n (listed n (listed_at o d n is)) (ap (λ o. not (passes (is_of_one names) o)) e))))
-
-    pub read_readable : AreOwnedReadable old.files d
-    read_readable o = all_from (λ n. IsSome (header_in (bytes_at old.files n))) (files_at o d) (λ n is. readable_at o n is (header_in (bytes_at old.files n)) refl)
-
     not_stray : (test : Header → Bool) → ((h : Header) → test h ≡ true → is_of_one names h ≡ true) → (file : ℕ) → says old.files test file ≡ true → Contains (strays_of old.files names numbers) file → ⊥
     not_stray test weaker file is stray =
         let one = passes_weaker test (is_of_one names) weaker (header_in (bytes_at old.files file)) is in
@@ -117,9 +107,6 @@ module _ (old : Disk) (numbers : List ℕ) (next : ℕ) (there : All (λ n. IsTh
 
     pub of_first : (file : ℕ) → IsOfFirst d (length names) file → IsOfLog old.files numbers names file
     of_first file f = let lt = f.first in let mine = f.has.mine in of_owner f.has.owner file (omega (arith, lt, mine)) f.has.has
-
-    pub readable_then : (mid : Disk) → Keeps old mid → mid.honest → AreOwnedReadable mid.files d
-    readable_then mid kept honest = subst (λ (fs : Files). AreOwnedReadable fs d) (sym (kept.files honest)) read_readable
 
     pub cleared : (mid now : Disk) (count : ℕ) → Keeps old mid → count ≡ length names → Clears (IsOfFirst d count) mid now → Clears (IsOfLog old.files numbers names) old now
     cleared mid now count kept many c = clears_kept (IsOfLog old.files numbers names) old mid now kept (clears_wider mid now of_first (subst (λ n. Clears (IsOfFirst d n) mid now) many c))
@@ -143,10 +130,19 @@ module _ (old : Disk) (numbers : List ℕ) (next : ℕ) (there : All (λ n. IsTh
       was : mid.honest
       was = restored.clears.honest honest
 
-      pub are_opened : AreOpened old.files numbers names ps now.files
-      are_opened t name p at here =
+      -- at the place of a name stand the parts of that name
+      name_is : names_in ps ≡ names → (t : ℕ) (name : List ℕ) (p : Parts SegmentLog) → slice_get names t ≡ Some name → slice_get ps t ≡ Some p → name ≡ string_bytes p.tenant
+      name_is same t name p at here =
+          let named : Parts SegmentLog → List ℕ = λ p. string_bytes p.tenant in
+          same_Some name (named p) (sym at ∙ ap (λ ns. slice_get ns t) (sym same) ∙ slice_get-map named ps t ∙ ap (option_map named) here)
+
+      pub are_opened : names_in ps ≡ names → ((size : ℕ) → AreOwnedNamed names size old.files d) → AreOpened old.files numbers names ps now.files
+      are_opened same headed t name p at here =
+          let its : AreOwnNamed name p.segment_bytes t old.files d = headed p.segment_bytes t name at in
+          let own : AreOwnNamed (string_bytes p.tenant) p.segment_bytes t old.files d = subst (λ (n : List ℕ). AreOwnNamed n p.segment_bytes t old.files d) (name_is same t name p at here) its in
+          let was_own : AreOwnNamed (string_bytes p.tenant) p.segment_bytes t mid.files d = subst (λ (fs : Files). AreOwnNamed (string_bytes p.tenant) p.segment_bytes t fs d) (sym (kept.files was)) own in
           subst (λ (fs : Files). IsTenantOf fs (owners_of old.files numbers name) p now.files) (kept.files was)
-          (subst (λ (of : Owners). IsTenantOf mid.files of p now.files) (same_owners names dir t name at) ((restored.each t p here).opened honest))
+          (subst (λ (of : Owners). IsTenantOf mid.files of p now.files) (same_owners names dir t name at) ((restored.each t p here).opened honest was_own))
 
       -- what is of no log is left
       pub left_all : (file : ℕ) → IsLeft old.files numbers names ps file → Contains (all_files left) file

@@ -17,7 +17,8 @@ use Rattle.kb_world.specs.Parts.{Agrees, world_of}
 use Rattle.kb_world.specs.declared.parts.Parts.{Parts}
 use Rattle.kb_service.specs.Hosted.{Kept, TenantState, kept_in, kept_of, names_of, nothing}
 use Rattle.kb_tenants.specs.Tenants.{restored_tenant, Agree}
-use Rattle.kb_restart.specs.Restart.{AreOpened, AreReopened, IsLeft, IsOfLog, IsOfNone, IsReopened, IsStray, IsUnknown, have_nothing_refused, tenants_restored}
+use Rattle.kb_opening.proofs.Unique.{only_opened}
+use Rattle.kb_restart.specs.Restart.{owners_of, AreOnly, AreOpened, AreReopened, IsLeft, IsOfLog, IsOfNone, IsReopened, IsStray, IsUnknown, have_nothing_refused, tenants_restored}
 use Rattle.kb_restart.proofs.Hosting.{zip_at, zip_firsts}
 
 pub item_within : {A : Type 0} (xs : List A) (p : ℕ) → p < length xs → (x : A) × (slice_get xs p ≡ Some x)
@@ -85,6 +86,10 @@ module _ (now : Files) (names : List (List ℕ)) (ps : List (Parts SegmentLog)) 
           has = none_has.has;
           unknown = sym (ap (λ (k : Kept). partition_at k.known (pos none_has.instance) (pos none_has.partition)) (kept_at none_has.tenant none_has.name p.0 none_has.named p.1)) ∙ none_has.unknown;
         }
+
+pub only_reopened : (files : Files) (numbers : List ℕ) (names : List (List ℕ)) (ts : List TenantState) → AreReopened files numbers names ts → AreOnly files numbers names ts
+only_reopened files numbers names ts reopened t name at =
+    only_opened files (owners_of files numbers name) (kept_of ts t).known (kept_of ts t).logs (reopened.each t name at).opened
 
 pub none_counted : (now : Files) (names : List (List ℕ)) (ps : List (Parts SegmentLog)) → All (λ (p : Parts SegmentLog). p.refusals ≡ 0) ps → have_nothing_refused (tenants_restored now names ps)
 none_counted now [] ps all = All-nil (λ (x : TenantState). x.refusals ≡ 0)

@@ -1,18 +1,17 @@
 -- The tenants are opened one after another.
-use Rattle.std.proofs.Common.{◌≡◌, ◌∙◌, ◌⊎◌, ◌≤◌, ◌<◌, ◌+◌, ◌++◌, inl, inr, ⊎_elim, ℕ, zero, suc, true, false, List, [], ◌∷◌, Some, None, refl, sym, ap, subst, arith, length, length-append}
-use Rattle.std.specs.Prelude.{nat_eq, pos, slice_get, unwrap_or, IsSome, IsPermutation}
+use Rattle.std.proofs.Common.{◌≡◌, ◌∙◌, ◌⊎◌, ◌≤◌, ◌<◌, ◌+◌, ◌++◌, inl, inr, ⊎_elim, ℕ, zero, suc, List, [], ◌∷◌, Some, None, refl, sym, ap, subst, arith, length, length-append, map, take, get_or, Bor, Result, Err}
+use Rattle.std.specs.Prelude.{nat_eq, pos, slice_get, string_bytes, option_map, IsSome, IsPermutation}
 use Rattle.std.specs.FinMap.{get}
 use Rattle.std.specs.List.{All, Contains, IsDistinct}
-use Rattle.std.proofs.lemmas.Bool.{eqb-true, eqb-false}
-use Rattle.std.proofs.lemmas.Option.{slice_get_within, same_Some}
-use Rattle.std.proofs.lemmas.List.Elements.{All-contains, All-contains_itself, All-nil, Contains-append_right}
+use Rattle.std.proofs.lemmas.List.{map-append}
+use Rattle.std.proofs.lemmas.Option.{slice_get_within, slice_get-map, slice_get-get_or, same_Some}
+use Rattle.std.proofs.lemmas.List.Elements.{All-contains, All-contains_itself, All-push, Contains-append_right}
 use Rattle.std.proofs.lemmas.List.Sorted.{IsPermutation-sym, Contains-permutation}
 use Rattle.kb_store.specs.Disk.{Disk, Files, IsThere}
 use Rattle.kb_batch.specs.Batch.{natural}
-use Rattle.kb_segment.specs.Header.{header_in}
-use Rattle.kb_segment_log.specs.SegmentLog.{segment_log, bytes_at, Clears}
+use Rattle.kb_segment_log.specs.SegmentLog.{segment_log, AreNamed, Clears}
 use Rattle.kb_segment_log.specs.SegmentLaws.{segment_lawful}
-use Rattle.kb_segment_log.specs.Chain.{AreReadable, IsAsBefore}
+use Rattle.kb_segment_log.specs.Chain.{IsAsBefore}
 use Rattle.kb_segment_log.specs.declared.log.SegmentLog.{SegmentLog}
 use Rattle.kb_segment_log.proofs.Opened.{distinct_moved}
 use Rattle.kb_topics.specs.Catalog.{known}
@@ -24,14 +23,18 @@ use Rattle.kb_world.specs.declared.parts.Parts.{Parts}
 use Rattle.kb_tenants.proofs.Others.{still_sound, still_seen, still_agrees}
 use Rattle.kb_opening.specs.Opened.{Owners, IsOpened}
 use Rattle.kb_opening.specs.Directory.{all_files, files_at}
-use Rattle.kb_opening.specs.Tenant.{owners_in, tenant_in, AreListed, AreOwnedReadable, IsOfTenant, IsTaken, IsTenantOf, TakesSome, TakesTenant}
+use Rattle.kb_opening.specs.Tenant.{owners_in, tenant_in, identity_in, AreListed, AreOwnNamed, IsOfTenant, IsTaken, IsTenantOf, TakesSome, TakesTenant}
 use Rattle.kb_opening.specs.declared.directory.Directory.{Directory}
 use Rattle.kb_opening.specs.declared.owner.Owner.{Owner}
 use Rattle.kb_opening.specs.declared.owner.Owner.TheVariants.{Catalog, Partition}
-use Rattle.kb_opening.proofs.Moved.{chain_stays, log_of_stays}
-use Rattle.kb_restart.specs.Restart.{IsOfFirst, IsRestored, AreRestored}
+use Rattle.kb_opening.proofs.Causes.{clears_none}
+use Rattle.kb_opening.proofs.Moved.{chain_stays, log_of_stays, named_stays}
+use Rattle.kb_opening.proofs.Openings.{clears_then, missed_since}
+use Rattle.kb_opening.specs.Partition.{MissesShelf}
+use Rattle.kb_log.specs.declared.fault.LogFault.{LogFault}
+use Rattle.kb_broker.proofs.OpeningParts.{mapped-more}
+use Rattle.kb_restart.specs.Restart.{names_in, AreOwnedNamed, IsOfFirst, IsRestored, AreRestored}
 use Rattle.kb_restart.proofs.Owners.{distinct_parts, listed_at, tenants_apart}
-use Rattle.kb_restart.proofs.Steps.{clears_none, clears_then}
 
 -- ---- lists
 
@@ -46,6 +49,22 @@ item_at (z ∷ zs) x y (suc p) e = ⊎_elim (λ a. inl a) (λ (h : (p ≡ length
 
 pub one_more : {A : Type 0} (xs ys : List A) (x : A) (n : ℕ) → ys ≡ xs ++ x ∷ [] → length xs ≡ n → length ys ≡ n + 1
 one_more xs ys x n grown count = ap length grown ∙ length-append xs (x ∷ []) ∙ ap (λ m. m + 1) count
+
+pub names_more : (names : List (Bor (List ℕ))) (t : ℕ) (d : Bor (List ℕ)) (ps qs : List (Parts SegmentLog)) (p : Parts SegmentLog) → t < length names → names_in ps ≡ map (λ name. name.now) (take t names) → qs ≡ ps ++ p ∷ []
+    → string_bytes p.tenant ≡ (get_or names t d).now → names_in qs ≡ map (λ name. name.now) (take (t + 1) names)
+names_more names t d ps qs p lt so_far grown its =
+    mapped-more (λ (name : Bor (List ℕ)). name.now) names t d (names_in ps) (names_in qs) lt so_far
+    (ap (λ (xs : List (Parts SegmentLog)). names_in xs) grown ∙ map-append (λ (x : Parts SegmentLog). string_bytes x.tenant) ps (p ∷ []) ∙ ap (λ n. names_in ps ++ n ∷ []) its)
+
+pub all_more : {A : Type 0} (P : A → Type 0) (xs ys : List A) (x : A) → All P xs → ys ≡ xs ++ x ∷ [] → P x → All P ys
+all_more P xs ys x all grown is = subst (All P) (sym grown) (All-push P xs x all is)
+
+-- ---- the cause of a refusal
+
+-- a part's, after what came before it
+pub passed_on : {T U : Type 0} (first mid now : Disk) (next next' : ℕ) (As As' : Type 0) (s : Result U LogFault) (f : LogFault) → MissesShelf {T = T} mid next' As' (Err f) now → s ≡ Err f → next' ≡ next → first.failures ≤ mid.failures → (now.honest → As → As')
+    → MissesShelf first next As s now
+passed_on first mid now next next' As As' s f m is same le gives = missed_since first mid now next next' As As' s f is same le gives m
 
 -- ---- what files come to stays where they do
 
@@ -68,7 +87,6 @@ none_restored d had next ps none listed = subst (λ (xs : List (Parts SegmentLog
   strays = refl;
   fewer = λ file is. is;
   listed = listed;
-  readable = λ h all. all;
   clears = clears_none d;
 }
 
@@ -89,6 +107,25 @@ module _ (old : Disk) (had : Directory) (ps : List (Parts SegmentLog)) (mid : Di
   no_other : (t : ℕ) → t < length ps → (file : ℕ) → IsOfTenant had t file → IsOfTenant had (length ps) file → ⊥
   no_other t lt file mine yours = tenants_apart had once t (length ps) file mine yours (λ e. omega (arith, lt, e))
 
+  -- they are as they were first
+  as_first : mid.honest → (o : Owner) → tenant_in o ≡ length ps → (file : ℕ) → Contains (files_at o had) file → get mid.files file ≡ get old.files file
+  as_first h o mine file is = before.clears.contents h file (λ f. no_other f.tenant f.first file f.has (record { owner = o; mine = mine; has = is }))
+
+  -- and are named as they were
+  pub next_headed : (name : List ℕ) (size : ℕ) → mid.honest → AreOwnNamed name size (length ps) old.files had → AreOwnNamed name size (length ps) mid.files has
+  next_headed name size h own o mine =
+      let who = identity_in name size o in
+      let headed = own o mine in
+      subst (λ ns. AreNamed who mid.files ns) (sym (before.others o (omega (arith, mine))))
+      (λ k d lt. named_stays who old.files mid.files _ (as_first h o mine _ (All-contains_itself (files_at o had) k d lt)) (headed k d lt))
+
+  pub next_own : (names : List (Bor (List ℕ))) (size t : ℕ) (d : Bor (List ℕ)) → length ps ≡ t → t < length names → mid.honest → AreOwnedNamed (map (λ name. name.now) names) size old.files had → AreOwnNamed (get_or names t d).now size t mid.files has
+  next_own names size t d count lt h all =
+      let name = (get_or names t d).now in
+      let shown : Bor (List ℕ) → List ℕ = λ name. name.now in
+      let at : slice_get (map shown names) t ≡ Some name = slice_get-map shown names t ∙ ap (option_map shown) (slice_get-get_or names t d lt) in
+      subst (λ n. AreOwnNamed name size n mid.files has) count (next_headed name size h (subst (λ n. AreOwnNamed name size n old.files had) (sym count) (all t name at)))
+
   -- also where the next tenant is refused
   pub next_clears : (now : Disk) → Clears (IsOfTenant has (length ps)) mid now → Clears (IsOfFirst had (length ps + 1)) old now
   next_clears now c = clears_then old mid now
@@ -99,7 +136,7 @@ module _ (old : Disk) (had : Directory) (ps : List (Parts SegmentLog)) (mid : Di
   module _ (p : Parts SegmentLog) (now : Disk) (left : Directory)
       (sound : IsSound segment_log p now.table next)
       (owned : (file : ℕ) → Owns segment_log p file → IsOfTenant has (length ps) file)
-      (opened : now.honest → IsTenantOf mid.files (owners_in has (length ps)) p now.files)
+      (opened : now.honest → AreOwnNamed (string_bytes p.tenant) p.segment_bytes (length ps) mid.files has → IsTenantOf mid.files (owners_in has (length ps)) p now.files)
       (calm : p.refusals ≡ 0)
       (taken : TakesTenant (length ps) (known p.catalog) has left)
       (some : TakesSome has left)
@@ -121,8 +158,8 @@ module _ (old : Disk) (had : Directory) (ps : List (Parts SegmentLog)) (mid : Di
         record {
           sound = still_sound segment_log segment_lawful q mid now next next r.sound (omega arith) lengths contents;
           owned = r.owned;
-          opened = λ h.
-              let o = r.opened (clears.honest h) in
+          opened = λ h own.
+              let o = r.opened (clears.honest h) own in
               let seen = still_seen segment_log segment_lawful q mid now next next r.sound (omega arith) lengths contents h in
               record {
                 agrees = still_agrees segment_log segment_lawful q mid now next next r.sound (omega arith) lengths contents h o.agrees;
@@ -138,14 +175,14 @@ module _ (old : Disk) (had : Directory) (ps : List (Parts SegmentLog)) (mid : Di
 
     -- its files were as they were first
     unchanged : now.honest → (o : Owner) → tenant_in o ≡ length ps → (file : ℕ) → Contains (files_at o had) file → get old.files file ≡ get mid.files file
-    unchanged h o mine file is = sym (before.clears.contents (clears.honest h) file (λ f. no_other f.tenant f.first file f.has (record { owner = o; mine = mine; has = is })))
+    unchanged h o mine file is = sym (as_first (clears.honest h) o mine file is)
 
     each_new : IsRestored old had (length ps) p now next left
     each_new = record {
       sound = sound;
       owned = λ file own. first_had file (owned file own);
-      opened = λ h.
-          let o = opened h in
+      opened = λ h own.
+          let o = opened h (next_headed (string_bytes p.tenant) p.segment_bytes (clears.honest h) own) in
           let logs = logs_of segment_log (entries p) now.files in
           record {
             agrees = o.agrees;
@@ -175,34 +212,6 @@ module _ (old : Disk) (had : Directory) (ps : List (Parts SegmentLog)) (mid : Di
       once = (distinct_parts some.taken (all_files left) (distinct_moved (all_files has) (some.taken ++ all_files left) some.all before.listed.once)).1;
     }
 
-    -- an owner has what it had, or nothing
-    abbrev IsKept : Owner → Type 0
-    IsKept o = (files_at o left ≡ []) ⊎ (files_at o left ≡ files_at o has)
-
-    kept_of_tenant : (i n : ℕ) → IsKept (Partition (length ps) i n)
-    kept_of_tenant i n = elim (partition_at (known p.catalog) (pos i) (pos n)) as (λ o. partition_at (known p.catalog) (pos i) (pos n) ≡ o → IsKept (Partition (length ps) i n)) [
-      | None ↦ λ e. inr (taken.unknown i n e)
-      | Some x ↦ λ e. inl (taken.known i n (subst (λ o. IsSome o) (sym e) refl))
-    ] refl
-
-    kept_each : (o : Owner) → IsKept o
-    kept_each (Catalog u) = elim (nat_eq u (length ps)) as (λ b. nat_eq u (length ps) ≡ b → IsKept (Catalog u)) [
-      | true ↦ λ e. inl (ap (λ v. files_at (Catalog v) left) (eqb-true u (length ps) e) ∙ taken.catalog)
-      | false ↦ λ e. inr (taken.others (Catalog u) (eqb-false u (length ps) e))
-    ] refl
-    kept_each (Partition u i n) = elim (nat_eq u (length ps)) as (λ b. nat_eq u (length ps) ≡ b → IsKept (Partition u i n)) [
-      | true ↦ λ e. subst (λ v. IsKept (Partition v i n)) (sym (eqb-true u (length ps) e)) (kept_of_tenant i n)
-      | false ↦ λ e. inr (taken.others (Partition u i n) (eqb-false u (length ps) e))
-    ] refl
-
-    readable_now : now.honest → AreOwnedReadable old.files had → AreOwnedReadable now.files left
-    readable_now h all o = ⊎_elim
-        (λ (none : files_at o left ≡ []). subst (λ ns. AreReadable now.files ns) (sym none) (All-nil (λ n. IsSome (header_in (bytes_at now.files n)))))
-        (λ (as_had : files_at o left ≡ files_at o has). all_from (λ n. IsSome (header_in (bytes_at now.files n))) (files_at o left) (λ n is.
-        subst (λ b. IsSome (header_in (unwrap_or b []))) (sym ((same n (listed_at o left n is)).bytes h))
-        (All-contains (λ n. IsSome (header_in (bytes_at mid.files n))) (files_at o has) n (before.readable (clears.honest h) all o) (subst (λ ns. Contains ns n) as_had is))))
-        (kept_each o)
-
     many : length (ps ++ p ∷ []) ≡ length ps + 1
     many = length-append ps (p ∷ [])
 
@@ -213,6 +222,5 @@ module _ (old : Disk) (had : Directory) (ps : List (Parts SegmentLog)) (mid : Di
       strays = taken.strays ∙ before.strays;
       fewer = λ file is. before.fewer file (still file is);
       listed = listed_now;
-      readable = readable_now;
       clears = subst (λ n. Clears (IsOfFirst had n) old now) (sym many) (next_clears now clears);
     }

@@ -25,7 +25,7 @@ use Rattle.kb_restart.proofs.Reopened.{item_within}
 
 -- ---- a readable header is of a partition or of a catalog
 
-legal_in : (s : List ℕ) (h : Header) → header_in s ≡ Some h → is_legal h ≡ true
+pub legal_in : (s : List ℕ) (h : Header) → header_in s ≡ Some h → is_legal h ≡ true
 unfolding header_in
 legal_in s h =
     let front = take 106 s in
@@ -37,7 +37,7 @@ legal_in s h =
       | Err fault ↦ λ e. absurd (none-some h e)
     ]
 
-one_of_both : (h : Header) → is_legal h ≡ true → (is_partition h.kind h.instance h.partition h.generation ≡ true) ⊎ (is_meta h.kind h.instance h.partition h.generation ≡ true)
+pub one_of_both : (h : Header) → is_legal h ≡ true → (is_partition h.kind h.instance h.partition h.generation ≡ true) ⊎ (is_meta h.kind h.instance h.partition h.generation ≡ true)
 one_of_both h legal = or_cases _ _ (and_parts (is_tenant h.tenant && is_not_negative h.base) _ legal).1
 
 own_number : (z : ℤ) → is_not_negative z ≡ true → is_natural (natural z) z ≡ true

@@ -1,9 +1,11 @@
 -- What a broker has that opens with the files of its store.
-use Rattle.std.specs.Prelude.{◌≡◌, ◌≤◌, ◌<◌, ◌^◌, ◌⊎◌, ℕ, pos, List, Some, None, length, map, slice_get}
+use Rattle.std.specs.Prelude.{◌≡◌, ◌≤◌, ◌<◌, ◌^◌, ◌⊎◌, ℕ, pos, List, Some, None, length, map, slice_get, string_bytes}
 use Rattle.std.specs.FinMap.{keys}
 use Rattle.std.specs.List.{All, Contains, zip}
 use Rattle.kb_coordinator.specs.Groups.{none}
-use Rattle.kb_store.specs.Disk.{Disk, Files}
+use Rattle.kb_store.specs.Disk.{Disk, Files, Grew}
+use Rattle.kb_store.specs.declared.fault.StoreFault.{StoreFault}
+use Rattle.kb_store.specs.declared.fault.StoreFault.TheVariants as store_faults
 use Rattle.kb_log.specs.Shelf.{one_above}
 use Rattle.kb_log.specs.declared.fault.LogFault.{LogFault}
 use Rattle.kb_log.specs.declared.fault.LogFault.TheVariants as log_faults
@@ -15,10 +17,10 @@ use Rattle.kb_world.specs.Parts.{IsSound, Owns}
 use Rattle.kb_world.specs.declared.parts.Parts.{Parts}
 use Rattle.kb_service.specs.Hosted.{Kept, TenantState, kept_of, names_of}
 use Rattle.kb_tenants.specs.Tenants.{restored_tenant}
-use Rattle.kb_opening.specs.Opened.{Owners, IsOpened}
+use Rattle.kb_opening.specs.Opened.{Owners, IsOpened, IsOnly}
 use Rattle.kb_opening.specs.Owners.{catalog_of, partition_of, strays_of}
 use Rattle.kb_opening.specs.Directory.{all_files, files_at}
-use Rattle.kb_opening.specs.Tenant.{owners_in, tenant_in, AreListed, AreOwnedReadable, IsOfTenant, IsTaken, IsTenantOf}
+use Rattle.kb_opening.specs.Tenant.{owners_in, tenant_in, AreListed, AreOwnNamed, IsOfTenant, IsTaken, IsTenantOf}
 use Rattle.kb_opening.specs.declared.directory.Directory.{Directory}
 use Rattle.kb_opening.specs.declared.owner.Owner.{Owner}
 use Rattle.kb_opening.specs.declared.owner.Owner.TheVariants as owners
@@ -38,6 +40,10 @@ pub record IsReopened (files : Files) (numbers name : List ℕ) (kept : Kept) : 
 pub record AreReopened (files : Files) (numbers : List ℕ) (names : List (List ℕ)) (ts : List TenantState) : Type 0 where
   pub names_are : names_of ts ≡ names
   pub each : (t : ℕ) (name : List ℕ) → slice_get names t ≡ Some name → IsReopened files numbers name (kept_of ts t)
+
+-- Each world that a tenant's files come to is the one that it keeps.
+abbrev pub AreOnly : Files → List ℕ → List (List ℕ) → List TenantState → Type 0
+AreOnly files numbers names ts = (t : ℕ) (name : List ℕ) → slice_get names t ≡ Some name → IsOnly files (owners_of files numbers name) (kept_of ts t).known (kept_of ts t).logs
 
 abbrev pub have_nothing_refused : List TenantState → Type 0
 have_nothing_refused ts = All (λ (x : TenantState). x.refusals ≡ 0) ts
@@ -62,9 +68,14 @@ pub record IsOfLog (files : Files) (numbers : List ℕ) (names : List (List ℕ)
   pub listed : Contains numbers file
   pub no_stray : Contains (strays_of files names numbers) file → ⊥
 
--- `Store` is answered where the store is honest only where it has failed, or no file number is left
+-- `Store` is answered where the store is honest only where its failures grew, or no file number is left
 abbrev pub BlamesShelf : Disk → OpenFault → Disk → Type 0
-BlamesShelf old fault new = new.honest → fault ≡ faults.Store → (1 ≤ new.failures) ⊎ (2 ^ 64 ≤ one_above (keys old.table))
+BlamesShelf old fault new = new.honest → fault ≡ faults.Store → Grew old.failures new.failures ⊎ (2 ^ 64 ≤ one_above (keys old.table))
+
+-- what is answered for a refusal of the store
+abbrev pub store_fault : StoreFault → OpenFault
+store_fault store_faults.Device = faults.Store
+store_fault store_faults.Memory = faults.Memory
 
 -- ---- the tenants, one after another
 
@@ -84,10 +95,18 @@ pub record IsOfFirst (d : Directory) (count file : ℕ) : Type 0 where
 pub record IsRestored (old : Disk) (had : Directory) (tenant : ℕ) (parts : Parts SegmentLog) (new : Disk) (next : ℕ) (has : Directory) : Type 0 where
   pub sound : IsSound segment_log parts new.table next
   pub owned : (file : ℕ) → Owns segment_log parts file → IsOfTenant had tenant file
-  pub opened : new.honest → IsTenantOf old.files (owners_in had tenant) parts new.files
+  pub opened : new.honest → AreOwnNamed (string_bytes parts.tenant) parts.segment_bytes tenant old.files had → IsTenantOf old.files (owners_in had tenant) parts new.files
   pub refusals : parts.refusals ≡ 0
   pub gone : (o : Owner) → IsTaken tenant (known parts.catalog) o → (file : ℕ) → Contains (files_at o had) file → Contains (all_files has) file → ⊥
   pub unknown : (i p : ℕ) → partition_at (known parts.catalog) (pos i) (pos p) ≡ None → files_at (owners.Partition tenant i p) has ≡ files_at (owners.Partition tenant i p) had
+
+-- The header of each file of a named tenant names the log that it is of.
+abbrev pub AreOwnedNamed : List (List ℕ) → ℕ → Files → Directory → Type 0
+AreOwnedNamed names size files d = (t : ℕ) (name : List ℕ) → slice_get names t ≡ Some name → AreOwnNamed name size t files d
+
+-- the names of some tenants, by their parts
+abbrev pub names_in : List (Parts SegmentLog) → List (List ℕ)
+names_in tenants = map (λ p. string_bytes p.tenant) tenants
 
 -- So are those of the first tenants. Of the others the directory has what it had, and none of the files that it has was changed.
 pub record AreRestored (old : Disk) (had : Directory) (tenants : List (Parts SegmentLog)) (new : Disk) (next : ℕ) (has : Directory) : Type 0 where
@@ -96,7 +115,6 @@ pub record AreRestored (old : Disk) (had : Directory) (tenants : List (Parts Seg
   pub strays : has.strays.items ≡ had.strays.items
   pub fewer : (file : ℕ) → Contains (all_files has) file → Contains (all_files had) file
   pub listed : AreListed has new next
-  pub readable : new.honest → AreOwnedReadable old.files had → AreOwnedReadable new.files has
   pub clears : Clears (IsOfFirst had (length tenants)) old new
 
 -- Each has what the files of its name came to, as they were; it agrees with what the files are now.

@@ -1,11 +1,13 @@
-use Rattle.std.proofs.Common.{◌∙◌, ℕ, Err, List, length, map, sym, ap}
+use Rattle.std.proofs.Common.{◌∙◌, ℕ, Err, List, length, map, sym, ap, subst}
 use Rattle.std.proofs.lemmas.Result.{err_from_is_err_and}
 use Rattle.std.proofs.lemmas.List.{length-map}
 use Rattle.std.proofs.lemmas.List.Sorted.{Contains-permutation, IsPermutation-sym}
+use Rattle.kb_store.specs.Disk.{Files}
 use Rattle.kb_opening.specs.Directory.{all_files}
-use Rattle.kb_opening.specs.Tenant.{AreOwnedReadable}
-use Rattle.kb_restart.proofs.Read.{listed, read_listed, readable_then, cleared, are_sound, none_refused, are_opened, left_all}
-use Rattle.kb_restart.proofs.Steps.{missed_since}
+use Rattle.kb_restart.proofs.Read.{listed, read_listed, cleared, are_sound, none_refused, are_opened, left_all}
+use Rattle.kb_opening.proofs.Openings.{missed_since}
+use Rattle.kb_restart.specs.Restart.{AreOwnedNamed}
+use Rattle.kb_restart.proofs.Headed.{all_headed}
 use Rattle.kb_restart.proofs.Strays.{only_left}
 use Rattle.kb_restart.proofs.opening.open_all.Goals as goal
 
@@ -42,8 +44,8 @@ returns-in_err-parts-clause-cause g c =
     let q = c.requires in
     let p = err_from_is_err_and c.from_residual-in_err-parts.result c.from_residual-in_err-parts.ensures.1 in
     let f = c.in_err-parts.ensures in
-    missed_since first mid now next c.read.new.shelf.next (Unit {0}) (AreOwnedReadable mid.files d) c.from_residual-in_err-parts.result c.in_err-parts.field-0.0 (p.1 ∙ ap Err p.2) e.next e.cause.later
-    (λ h u. readable_then first files next q.there q.given_out q.once d e.all names (e.what (f.others.honest h)) mid e.kept (f.others.honest h)) f.cause
+    missed_since first mid now next c.read.new.shelf.next (Unit {0}) (AreOwnedNamed names c.args.segment_bytes mid.files d) c.from_residual-in_err-parts.result c.in_err-parts.field-0.0 (p.1 ∙ ap Err p.2) e.next e.cause.later
+    (λ h u. subst (λ (fs : Files). AreOwnedNamed names c.args.segment_bytes fs d) (sym (e.kept.files (f.others.honest h))) (all_headed first.files names files d (e.what (f.others.honest h)) c.args.segment_bytes)) f.cause
 
 pub returns-in_err-strays-clause-others : goal.returns-in_err-strays-clause-others
 returns-in_err-strays-clause-others g c =
@@ -82,7 +84,8 @@ returns-clause-opened g c =
     let d = c.in_ok-directory.directory in
     let e = c.in_ok-directory.ensures in
     let q = c.requires in
-    λ h. are_opened first files next q.there q.given_out q.once d e.all mid c.in_ok-parts.parts.items now c.open_tenants.new.shelf.next c.open_tenants.new.directory e.kept c.in_ok-parts.ensures.restored names h (e.what (c.in_ok-parts.ensures.others.honest h))
+    λ h. are_opened first files next q.there q.given_out q.once d e.all mid c.in_ok-parts.parts.items now c.open_tenants.new.shelf.next c.open_tenants.new.directory e.kept c.in_ok-parts.ensures.restored names h (e.what (c.in_ok-parts.ensures.others.honest h)) c.in_ok-parts.ensures.names
+    (all_headed first.files names files d (e.what (c.in_ok-parts.ensures.others.honest h)))
 
 pub returns-clause-refusals : goal.returns-clause-refusals
 returns-clause-refusals g c =

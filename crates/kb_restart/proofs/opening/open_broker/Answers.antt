@@ -1,4 +1,4 @@
-use Rattle.std.proofs.Common.{◌∙◌, ℕ, Bor, Err, IfErr, List, length, map, sym, ap, subst}
+use Rattle.std.proofs.Common.{◌∙◌, ℕ, Bor, Err, IfErr, List, length, map, sym, ap, subst, arith}
 use Rattle.std.specs.Ordering.{nat_cmp}
 use Rattle.std.specs.Cmp.Lexicographic.{slice_cmp}
 use Rattle.std.specs.FinMap.{keys}
@@ -13,7 +13,7 @@ use Rattle.kb_broker.specs.declared.opening.OpenRefused.{OpenRefused}
 use Rattle.kb_restart.specs.Restart.{BlamesShelf, IsOfLog, have_nothing_refused, tenants_restored}
 use Rattle.kb_restart.proofs.Blamed.{shelf_blamed}
 use Rattle.kb_restart.proofs.Listed.{all_shelved, all_given_out, listed_apart}
-use Rattle.kb_restart.proofs.Reopened.{agree_all, names_restored, none_counted, keeps_then, cleared_since, reopened_since, strays_since, left_since}
+use Rattle.kb_restart.proofs.Reopened.{agree_all, names_restored, none_counted, keeps_then, cleared_since, only_reopened, reopened_since, strays_since, left_since}
 use Rattle.kb_restart.proofs.opening.open_broker.Goals as goal
 
 pub open_all-requires-clause-there : goal.open_all-requires-clause-there
@@ -156,6 +156,33 @@ returns-in-Ok-open_all-clause-state g c =
     let now = subst (λ (s : g.row.S.Denot). (g.S.Store.disk s).honest) back h in
     reopened_since d0 d2 d3 kept numbers same names whole named ps many ts hosts ((e.others now).honest now) (e.opened now)
 
+pub returns-in-Ok-open_all-clause-only : goal.returns-in-Ok-open_all-clause-only
+returns-in-Ok-open_all-clause-only g c =
+    let d0 = g.S.Store.disk c.args.store in
+    let d1 = g.S.Store.disk c.list.new.self in
+    let d2 = g.S.Store.disk c.in-Ok-new.shelf.store in
+    let d3 = g.S.Store.disk c.open_all.new.shelf.store in
+    let k1 = c.in-Ok-list.ensures.kept in
+    let k2 = c.in-Ok-new.ensures.kept in
+    let numbers = c.deref-3.result.now in
+    let same = c.deref-3.ensures.value ∙ c.in-Ok-list.ensures.numbers in
+    let names = map (λ (name : Bor (List ℕ)). name.now) c.deref-2.result.now in
+    let whole = tenants_of c.args.settings.now.users.items in
+    let own = c.in-Ok.ensures ∙ ap tenants_of c.deref.ensures.value in
+    let named = ap (map (λ (name : Bor (List ℕ)). name.now)) c.deref-2.ensures.value ∙ own in
+    let ps = c.in-Ok-open_all.parts.items in
+    let e = c.in-Ok-open_all.ensures in
+    let many = e.count ∙ sym (length-map c.deref-2.result.now (λ (name : Bor (List ℕ)). name.now)) in
+    let kept = keeps_then d0 d1 d2 k1 k2 in
+    let again = ap (map (λ (name : Bor (List ℕ)). name.now)) c.deref-in-Ok-open_all.ensures.value ∙ sym (ap (map (λ (name : Bor (List ℕ)). name.now)) c.deref-2.ensures.value) in
+    let hosts = ap (λ s. s.tenants) c.in_ok-broker-in-Ok-open_all.ensures.state ∙ c.in_ok-tenants-in-Ok-open_all.ensures.hosted ∙ ap (λ ns. tenants_restored d3.files ns ps) again in
+    let back = c.in_ok-broker-in-Ok-open_all.ensures.store ∙ ap (λ s. s.store) c.in_ok-tenants-in-Ok-open_all.ensures.shelf in
+    let ts = c.in_ok-broker-in-Ok-open_all.broker.state.tenants in
+    λ h.
+    let now = subst (λ (s : g.row.S.Denot). (g.S.Store.disk s).honest) back h in
+    only_reopened d0.files (keys d0.table) whole ts
+    (reopened_since d0 d2 d3 kept numbers same names whole named ps many ts hosts ((e.others now).honest now) (e.opened now))
+
 pub returns-in-Ok-open_all-clause-strays : goal.returns-in-Ok-open_all-clause-strays
 returns-in-Ok-open_all-clause-strays g c =
     let d0 = g.S.Store.disk c.args.store in
@@ -215,5 +242,7 @@ returns-clause-cause g c =
     let d2 = g.S.Store.disk c.in-Ok-new.shelf.store in
     let d3 = g.S.Store.disk c.open_all.new.shelf.store in
     let fault = c.in-Err-open_all.fault in
-    let blamed = shelf_blamed d0 d1 d2 d3 c.in-Ok-new.shelf.next fault c.in-Ok-list.ensures.kept c.in-Ok-new.ensures.next c.in-Err-open_all.ensures.cause in
+    let listed = c.in-Ok-list.ensures.cause.later in
+    let shelved = c.in-Ok-new.ensures.later in
+    let blamed = shelf_blamed d0 d1 d2 d3 c.in-Ok-new.shelf.next fault c.in-Ok-list.ensures.kept (omega (arith, listed, shelved)) c.in-Ok-new.ensures.next c.in-Err-open_all.ensures.cause in
     subst (λ (s : g.row.S.Denot). BlamesShelf d0 c.fault_of.result (g.S.Store.disk s)) (sym c.into_store.ensures) (subst (λ f. BlamesShelf d0 f d3) (sym c.fault_of.ensures) blamed)

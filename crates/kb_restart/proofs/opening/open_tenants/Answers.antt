@@ -1,14 +1,17 @@
-use Rattle.std.proofs.Common.{◌∙◌, ℕ, Err, List, length, sym, ap, subst, arith}
+use Rattle.std.proofs.Common.{◌≡◌, ◌∙◌, ℕ, Err, List, length, map, string_bytes, sym, ap, subst, arith}
 use Rattle.std.specs.List.{Contains}
 use Rattle.std.proofs.lemmas.Result.{err_from_is_err_and}
 use Rattle.kb_segment_log.specs.SegmentLog.{segment_log, Clears}
 use Rattle.kb_topics.specs.Catalog.{known}
 use Rattle.kb_world.specs.Parts.{IsSound, Owns}
-use Rattle.kb_opening.specs.Tenant.{owners_in, AreOwnedReadable, IsOfTenant, IsTaken, IsTenantOf, TakesTenant}
+use Rattle.kb_segment_log.specs.declared.log.SegmentLog.{SegmentLog}
+use Rattle.kb_world.specs.declared.parts.Parts.{Parts}
+use Rattle.kb_opening.specs.Tenant.{owners_in, AreOwnNamed, IsOfTenant, IsTaken, IsTenantOf, TakesTenant}
 use Rattle.kb_opening.specs.Directory.{all_files, files_at}
 use Rattle.kb_opening.specs.declared.owner.Owner.{Owner}
-use Rattle.kb_restart.proofs.Restored.{next_clears, next_restored, one_more}
-use Rattle.kb_restart.proofs.Steps.{missed_since, clears_wider}
+use Rattle.kb_restart.proofs.Restored.{next_clears, next_own, next_restored, one_more, names_more, all_more, passed_on}
+use Rattle.kb_restart.specs.Restart.{AreOwnedNamed}
+use Rattle.kb_opening.proofs.Openings.{clears_wider}
 use Rattle.kb_restart.proofs.opening.open_tenants.Goals as goal
 
 pub returns-in_err-parts-clause-others : goal.returns-in_err-parts-clause-others
@@ -31,8 +34,12 @@ returns-in_err-parts-clause-cause g c =
     let now = g.S.Store.disk c.open_tenant.new.shelf.store in
     let e = c.in_err-parts.ensures in
     let p = err_from_is_err_and c.from_residual-in_err-parts.result c.from_residual-in_err-parts.ensures.1 in
-    missed_since first mid now c.args.shelf.now.next c.loop-tenant.shelf.next (AreOwnedReadable first.files c.args.directory.now) (AreOwnedReadable mid.files c.loop-tenant.directory)
-    c.from_residual-in_err-parts.result c.in_err-parts.field-0.0 (p.1 ∙ ap Err p.2) i.next i.later (λ h all. i.restored.readable (e.others.honest h) all) e.cause
+    let next = c.args.shelf.now.next in
+    let had = c.args.directory.now in
+    let has = c.loop-tenant.directory in
+    let all = AreOwnedNamed (map (λ name. name.now) c.args.names.now) c.args.segment_bytes first.files had in
+    passed_on first mid now next c.loop-tenant.shelf.next all _ c.from_residual-in_err-parts.result c.in_err-parts.field-0.0 e.cause (p.1 ∙ ap Err p.2) i.next i.later
+    (λ h own. next_own first had c.loop-tenant.tenants.items mid next has c.requires.once i.restored c.args.names.now c.args.segment_bytes c.loop-tenant.tenant _ i.count (omega arith) (e.others.honest h) own)
 
 pub returns-in_err-push-clause-others : goal.returns-in_err-push-clause-others
 returns-in_err-push-clause-others g c =
@@ -65,10 +72,15 @@ loop-tenant-preserved g c =
       next = e.next ∙ i.next;
       later = omega (arith, before, more);
       count = one_more ps c.push.new.self.items p c.loop-tenant.tenant grown i.count;
+      names = names_more c.args.names.now c.loop-tenant.tenant _ ps c.push.new.self.items p (omega arith) i.names grown e.name;
+      sizes = all_more (λ (x : Parts SegmentLog). x.segment_bytes ≡ c.args.segment_bytes) ps c.push.new.self.items p i.sizes grown e.size;
       restored = next_restored first c.args.directory.now ps mid c.args.shelf.now.next has c.requires.once i.restored p now left
           (subst (λ n. IsSound segment_log p now.table n) (e.next ∙ i.next) e.sound)
           (λ file own. subst (λ n. IsOfTenant has n file) count (e.owned file own))
-          (λ h. subst (λ n. IsTenantOf mid.files (owners_in has n) p now.files) count (e.opened h))
+          (λ h own. subst (λ n. IsTenantOf mid.files (owners_in has n) p now.files) count
+          (e.opened h (subst (λ ns. AreOwnNamed ns c.args.segment_bytes c.loop-tenant.tenant mid.files has) e.name
+          (subst (λ n. AreOwnNamed (string_bytes p.tenant) n c.loop-tenant.tenant mid.files has) e.size
+          (subst (λ n. AreOwnNamed (string_bytes p.tenant) p.segment_bytes n mid.files has) (sym count) own)))))
           e.refusals
           (subst (λ n. TakesTenant n (known p.catalog) has left) count e.taken)
           e.left e.stay

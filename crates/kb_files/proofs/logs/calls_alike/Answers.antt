@@ -3,5 +3,5 @@ use Rattle.kb_files.proofs.logs.calls_alike.Goals as goal
 pub loop-call-init : goal.loop-call-init
 loop-call-init g c = record {
   log = c.requires.log;
-  list = c.create-list.ensures.sound (g.S.Store.disk c.args.shelf.now.store).table 0;
+  list = c.create-list.ensures.new.sound (g.S.Store.disk c.args.shelf.now.store).table 0;
 }

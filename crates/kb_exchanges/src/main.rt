@@ -1,5 +1,6 @@
-//! Plays worked exchanges, each on a broker of its own, by the call that `kbroker script` makes: the bytes come whole, by threes,
-//! and one by one. It prints the name of each exchange that said what is wanted, and what was said in place of it for another.
+//! Plays worked exchanges, each on a broker of its own, by the call that `kbroker script` makes: with logs in memory, where the bytes
+//! come whole, by threes, and one by one; and with logs in files, where they come whole. It prints the name of each exchange that
+//! said what is wanted, and what was said in place of it for another.
 //!
 //! Its arguments name the files of exchanges, which are read one behind another. A line of them is one of these:
 //!

@@ -3,9 +3,26 @@
 ghost use Rattle.std.specs.Prelude.{◌<◌};
 
 use crate::line::Line;
-use kb_node::{play_script, play_script_with, read_settings};
+use kb_log::{ListLog, PartitionLog};
+use kb_node::{Settings, play_script, play_script_with, read_settings};
+use kb_segment_log::SegmentLog;
 use std::alloc::{AllocError, Global};
 use std::fmt::Display;
+
+/// What the logs of a broker are kept in: memory, or the files of a store in memory.
+#[derive(Clone, Copy, Debug, PartialEq, Eq)]
+enum Logs {
+    Memory,
+    Files,
+}
+
+/// How an exchange is played: on which logs, and cut to at most so many digits.
+const WAYS: [(Logs, usize); 4] = [
+    (Logs::Memory, usize::MAX),
+    (Logs::Files, usize::MAX),
+    (Logs::Memory, 6),
+    (Logs::Memory, 2),
+];
 
 /// An exchange: the settings of its broker, its script, and what that is to say, with the fault that is to end it. With no settings
 /// they are the standard ones.
@@ -33,14 +50,14 @@ impl<'a> Exchange<'a> {
     /// Adds the name of the exchange to a text, where it says what is wanted; else also what it says. One that ends in a fault is
     /// played whole alone, since the fault names a line.
     pub fn play(&self, alloc: Global, said: &mut String) -> Result<(), AllocError> {
-        for most in [usize::MAX, 6, 2] {
+        for (logs, most) in WAYS {
             if self.has_fault && most < usize::MAX {
                 break;
             }
-            let told = self.told(alloc, most)?;
+            let told = self.told(alloc, logs, most)?;
             if told != self.wanted {
-                said.push_str("WRONG, cut to so many digits: ")?;
-                said.push_str(&format!(in alloc; "{most}\n")?)?;
+                said.push_str("WRONG, with logs in ")?;
+                said.push_str(&format!(in alloc; "{logs:?}, cut to so many digits: {most}\n")?)?;
                 said.push_str(str::from_utf8(&told).unwrap_or(""))?;
                 break;
             }
@@ -49,8 +66,8 @@ impl<'a> Exchange<'a> {
         said.push('\n')
     }
 
-    /// What a new broker says to it, where pieces have at most so many digits, and the line of the fault behind it.
-    fn told(&self, alloc: Global, most: usize) -> Result<Vec<u8>, AllocError>
+    /// What a new broker with these logs says to it, where pieces have at most so many digits, and the line of the fault behind it.
+    fn told(&self, alloc: Global, logs: Logs, most: usize) -> Result<Vec<u8>, AllocError>
         requires { 0 < most }
     {
         let mut script = Vec::new(alloc);
@@ -58,21 +75,33 @@ impl<'a> Exchange<'a> {
             line.put(&mut script, most)?;
         }
         let mut told = Vec::new(alloc);
-        if self.settings.is_empty() {
-            let played = play_script(alloc, &mut script.as_slice(), &mut told);
-            say_fault(alloc, &mut told, played)?;
-        } else {
-            self.tell(alloc, &script, &mut told)?;
+        match logs {
+            Logs::Memory if self.settings.is_empty() => {
+                let played = play_script(alloc, &mut script.as_slice(), &mut told);
+                say_fault(alloc, &mut told, played)?;
+            }
+            Logs::Memory => self.tell::<ListLog>(alloc, &script, &mut told)?,
+            Logs::Files => self.tell::<SegmentLog>(alloc, &script, &mut told)?,
         }
         Ok(told)
     }
 
     /// Adds what a new broker of its settings says to a script, and the line of the fault behind it.
-    fn tell(&self, alloc: Global, script: &[u8], told: &mut Vec<u8>) -> Result<(), AllocError> {
+    fn tell<L: PartitionLog + Drop>(
+        &self,
+        alloc: Global,
+        script: &[u8],
+        told: &mut Vec<u8>,
+    ) -> Result<(), AllocError> {
         let mut reader = script;
-        match read_settings(alloc, &self.settings) {
+        let settings = if self.settings.is_empty() {
+            Ok(Settings::standard(alloc)?)
+        } else {
+            read_settings(alloc, &self.settings)
+        };
+        match settings {
             Ok(settings) => {
-                let played = play_script_with(alloc, &settings, &mut reader, told);
+                let played = play_script_with::<L, _, _>(alloc, &settings, &mut reader, told);
                 say_fault(alloc, told, played)
             }
             Err(fault) => say_fault(alloc, told, Err(fault)),

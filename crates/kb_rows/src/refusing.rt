@@ -14,18 +14,22 @@ use std::test::Fail;
 /// A broker whose logs write to a store in memory with a fuse.
 type Fused = Broker<FusedStore<MemoryStore>, WrittenLog>;
 
-/// Each call of the exchange of two tenants after the list of files, and one more: two calls make each topic, and two take each
-/// batch. Beside it are the refusals that are counted for the tenants and for nobody where it alone is refused.
-const CALLS: [(u64, [u64; 3]); 9] = [
+/// Each call of the exchange of two tenants after the list of files, and one more: three calls make each topic, and three take
+/// each batch. Beside it are the refusals that are counted for the tenants and for nobody where it alone is refused.
+const CALLS: [(u64, [u64; 3]); 13] = [
     (2, [1, 0, 0]),
     (3, [1, 0, 0]),
-    (4, [0, 1, 0]),
+    (4, [1, 0, 0]),
     (5, [0, 1, 0]),
-    (6, [1, 0, 0]),
-    (7, [1, 0, 0]),
-    (8, [0, 1, 0]),
-    (9, [0, 1, 0]),
-    (10, [0, 0, 0]),
+    (6, [0, 1, 0]),
+    (7, [0, 1, 0]),
+    (8, [1, 0, 0]),
+    (9, [1, 0, 0]),
+    (10, [1, 0, 0]),
+    (11, [0, 1, 0]),
+    (12, [0, 1, 0]),
+    (13, [0, 1, 0]),
+    (14, [0, 0, 0]),
 ];
 
 /// Opens a broker of the standard settings. Of a refused append the first two bytes are left.
@@ -90,8 +94,8 @@ fn refuses_once(rt: &impl Abort, alloc: Global, call: u64, steps: &[Step<'_>]) -
 /// next batch. The other tenant sees nothing of it. A refused commit leaves its group what it had.
 #[test]
 fn a_refused_append_is_its_tenants_own(rt: HostRuntime) -> Result<(), Fail> {
-    refuses_once(&rt, rt.alloc(), 7, &REFUSED_ONCE)?;
-    refuses_once(&rt, rt.alloc(), 4, &COMMIT_REFUSED_ONCE)
+    refuses_once(&rt, rt.alloc(), 9, &REFUSED_ONCE)?;
+    refuses_once(&rt, rt.alloc(), 5, &COMMIT_REFUSED_ONCE)
 }
 
 /// Whichever call is refused, alone or with all that follow.

@@ -1,6 +1,7 @@
 //! Scripts that are read three bytes at a time: how they end, and what is said before a bad line.
 
 use kb_broker::{ScriptFault, Settings, run_script};
+use kb_log::ListLog;
 use std::alloc::Global;
 use std::io::BufReader;
 use std::process::Abort;
@@ -40,7 +41,7 @@ fn say(rt: &impl Abort, alloc: Global, scripts: &[Row], told: &str) -> Result<()
         let settings = Settings::standard(alloc)?;
         let mut reader = BufReader::with_capacity(alloc, CAPACITY, script.as_bytes())?;
         let mut writer: Vec<u8> = Vec::new(alloc);
-        let found = run_script(alloc, &settings, &mut reader, &mut writer);
+        let found = run_script::<ListLog, _, _>(alloc, &settings, &mut reader, &mut writer);
         assert!(rt; found == *played, "{script}");
         assert!(rt; str::from_utf8(&writer) == Ok(told), "{script}");
     }

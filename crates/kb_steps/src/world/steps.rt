@@ -52,10 +52,8 @@ impl Tenant {
         let shelf = Shelf::new(alloc, MemoryStore::new(alloc), 0)
             .ok()
             .ok_or("a shelf")?;
-        Ok(Tenant {
-            parts: parts_at(alloc, clock)?,
-            shelf,
-        })
+        let parts = parts_at(alloc, clock)?;
+        Ok(Tenant { parts, shelf })
     }
 
     /// Takes a step, and answers whether it has the answer that is wanted.

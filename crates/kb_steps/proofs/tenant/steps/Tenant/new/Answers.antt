@@ -1,4 +1,4 @@
 use Rattle.kb_steps.proofs.tenant.steps.Tenant.new.Goals as goal
 
 pub returns : goal.returns
-returns c = c.new-parts.ensures.sound _ _
+returns c = c.in_ok-parts.ensures.sound _ _

@@ -1,4 +1,4 @@
-//! The data folder of `kbroker serve`.
+//! The data folder of `kbroker serve` and `kbroker script`.
 
 use crate::Fault;
 use kb_folder::{FolderStore, HostFolder};

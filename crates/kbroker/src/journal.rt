@@ -1,7 +1,8 @@
-//! What `kbroker serve` tells on standard error: a line each, with the time.
+//! What is told on standard error while a data folder is open: a line each, with the time.
 
 ghost use Rattle.std.specs.Prelude.{◌≤◌, ◌^◌};
 
+use kb_broker::Broker;
 use kb_journal::{Pace, Tally, time_text};
 use kb_log::PartitionLog;
 use kb_node::{Edge, Settings, Store, Turn, tenant_names};
@@ -41,15 +42,29 @@ impl Journal {
         })
     }
 
-    /// The broker serves. So many files of its folder are of no log.
+    /// The broker serves what was found in its folder, of whose files so many are of no log.
     pub fn tell_start(&self, rt: &HostRuntime, now: u64, strays: usize) {
         if !self.is_quiet {
-            let (tenants, connections) = (self.tenants.len(), self.connections);
+            let connections = self.connections;
             let time = time_of(rt, now);
-            let _ = eprintln!(rt;
-                "{time} start: tenants {tenants}, stray files {strays}, connections at most {connections}"
-            );
+            let holds = self.found_text(rt.alloc(), strays);
+            let _ = eprintln!(rt; "{time} start: {holds}, connections at most {connections}");
         }
+    }
+
+    /// This was found in the folder, of whose files so many are of no log.
+    pub fn tell_found(&self, rt: &HostRuntime, now: u64, strays: usize) {
+        if !self.is_quiet {
+            let time = time_of(rt, now);
+            let holds = self.found_text(rt.alloc(), strays);
+            let _ = eprintln!(rt; "{time} found: {holds}");
+        }
+    }
+
+    /// What was found, which is empty where there is no memory for it.
+    fn found_text(&self, alloc: Global, strays: usize) -> String {
+        let tenants = self.tenants.len();
+        format!(in alloc; "tenants {tenants}, stray files {strays}").unwrap_or(String::new(alloc))
     }
 
     /// The broker serves no longer.
@@ -79,7 +94,7 @@ impl Journal {
         self.turned_away = self.turned_away.saturating_add(turn.turned_away);
         if self.pace.is_due(now) {
             self.tell_turned_away(rt, now);
-            self.tell_refusals(rt, edge, now);
+            self.tell_refusals(rt, edge.broker(), now);
         }
     }
 
@@ -97,17 +112,17 @@ impl Journal {
     }
 
     /// How many requests were refused since the last line, by tenant.
-    fn tell_refusals<R: Net, S: Store, L: PartitionLog + Drop>(
+    pub fn tell_refusals<S: Store, L: PartitionLog + Drop>(
         &mut self,
         rt: &HostRuntime,
-        edge: &Edge<R, S, L>,
+        broker: &Broker<S, L>,
         now: u64,
     ) {
-        if edge.broker().is_calm() {
+        if self.is_quiet || broker.is_calm() {
             return;
         }
-        let unbound = self.unbound.grown(edge.broker().refusals_unbound());
-        let Ok(counts) = self.refusals(rt.alloc(), edge) else {
+        let unbound = self.unbound.grown(broker.refusals_unbound());
+        let Ok(counts) = self.refusals(rt.alloc(), broker) else {
             return;
         };
         if unbound > 0 || !counts.is_empty() {
@@ -117,14 +132,14 @@ impl Journal {
     }
 
     /// The tenants with refusals since the last line, and how many.
-    fn refusals<R: Net, S: Store, L: PartitionLog + Drop>(
+    fn refusals<S: Store, L: PartitionLog + Drop>(
         &mut self,
         alloc: Global,
-        edge: &Edge<R, S, L>,
+        broker: &Broker<S, L>,
     ) -> Result<String, AllocError> {
         let mut counts = String::new(alloc);
         for tenant in &mut self.tenants {
-            let grown = tenant.refusals.grown(edge.broker().refusals(&tenant.name));
+            let grown = tenant.refusals.grown(broker.refusals(&tenant.name));
             if grown > 0 {
                 let name = tenant.name.as_str();
                 counts.push_str(&format!(in alloc; ", tenant {name} {grown}")?)?;

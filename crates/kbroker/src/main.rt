@@ -1,15 +1,18 @@
 //! The broker's program.
 //!
-//! `kbroker script` runs a script of events from standard input and writes what each connection gets to standard output.
+//! `kbroker script` runs a script of events from standard input and writes what each connection gets to standard output, with logs
+//! in memory or in the files of a data folder.
 //! `kbroker serve` listens on the address of its settings and serves sockets until it is stopped. `kbroker check` says what
 //! settings come to. `kbroker dump` prints what the files of a data folder hold. `kbroker topic` makes, deletes and lists topics of
 //! a broker that runs. Status 0 is done, 1 a fault with one line on standard error, 2 a fault of the command line with its usage.
 #![tactic(auto)]
 
 mod check;
+mod clock;
 mod dump;
 mod folder;
 mod journal;
+mod script;
 mod serve;
 mod topic;
 mod words;
@@ -17,9 +20,8 @@ mod words;
 use clap::error::ErrorKind;
 use clap::{Arg, ArgAction, ArgMatches, Command};
 use kb_admin::AdminFault;
-use kb_node::{NodeFault, Settings, StartFault, play_script, play_script_with, read_settings};
+use kb_node::{NodeFault, Settings, StartFault, read_settings};
 use std::alloc::{AllocError, AllocFailed, Global};
-use std::io::{BufReader, BufWriter};
 use std::process::ExitCode;
 use std::{fs, io};
 use thiserror::Error;
@@ -90,9 +92,6 @@ impl From<clap::Error> for Fault {
 
 /// The command line.
 fn command<'a>(alloc: Global) -> Result<Command<'a>, AllocError> {
-    let script = Command::new(alloc, "script")
-        .about("Runs a script of events from standard input")
-        .arg(config(alloc))?;
     let stock_clients = Arg::new(alloc, "stock-clients")
         .long("stock-clients")
         .help("Lists and serves the versions too that only stock clients ask for")
@@ -112,7 +111,7 @@ fn command<'a>(alloc: Global) -> Result<Command<'a>, AllocError> {
     Command::new(alloc, "kbroker")
         .about("A message broker for many tenants that speaks the Kafka protocol")
         .subcommand_required(true)
-        .subcommand(script)?
+        .subcommand(script::script_command(alloc)?)?
         .subcommand(serve)?
         .subcommand(check)?
         .subcommand(dump::dump_command(alloc)?)?
@@ -137,7 +136,7 @@ fn run(rt: &HostRuntime) -> Result<(), Fault> {
         Some(("check", found)) => check::check(rt, found),
         Some(("dump", found)) => dump::dump(rt, found),
         Some(("topic", found)) => topic::topic(rt, found),
-        Some((_, found)) => script(rt, found.get_str("config")),
+        Some((_, found)) => script::script(rt, found),
         // A subcommand is asked for: no other line is taken.
         None => Ok(()),
     }
@@ -150,25 +149,6 @@ fn settings_of(rt: &HostRuntime, path: &str) -> Result<Settings, StartFault> {
         Err(e) if e.kind() == io::ErrorKind::OutOfMemory => Err(StartFault::Memory),
         Err(_) => Err(StartFault::Settings),
     }
-}
-
-/// Runs a script from standard input to standard output.
-fn script(rt: &HostRuntime, config: Option<&str>) -> Result<(), Fault> {
-    let settings = match config {
-        Some(path) => Some(settings_of(rt, path)?),
-        None => None,
-    };
-    let Ok(mut reader) = BufReader::new(rt.alloc(), rt.reader()) else {
-        return Err(Fault::Node(NodeFault::Memory));
-    };
-    let Ok(mut writer) = BufWriter::new(rt.alloc(), io::writer(rt)) else {
-        return Err(Fault::Node(NodeFault::Memory));
-    };
-    match settings {
-        Some(settings) => play_script_with(rt.alloc(), &settings, &mut reader, &mut writer)?,
-        None => play_script(rt.alloc(), &mut reader, &mut writer)?,
-    }
-    Ok(())
 }
 
 fn main(rt: HostRuntime) -> ExitCode {

@@ -1,18 +1,15 @@
 //! `kbroker serve`: serves sockets, and tells of it.
 
-ghost use Rattle.std.specs.Prelude.{◌≤◌, ◌^◌};
-
+use crate::clock::now;
 use crate::folder::{hold, store_in};
 use crate::journal::Journal;
 use crate::{Fault, settings_of};
 use clap::ArgMatches;
 use kb_broker::Opened;
-use kb_journal::moment_of;
 use kb_log::PartitionLog;
 use kb_node::{Edge, Limits, Listing, NodeFault, StartFault, Store, data_folder};
 use kb_restart::open_broker;
 use std::net::Net;
-use std::time::SystemTime;
 
 /// How often the edge is turned at most.
 const TURNS: u64 = 9_223_372_036_854_775_807;
@@ -56,18 +53,5 @@ fn turn_on<R: Net, S: Store, L: PartitionLog + Drop>(
         let now = now(rt);
         let turn = edge.turn(rt.alloc(), now);
         journal.tell(rt, edge, &turn, now);
-    }
-}
-
-/// The time since 1970 in milliseconds, at least 0 and at most 2^62.
-fn now(rt: &HostRuntime) -> u64
-    ensures { result ≤ 2 ^ 62 }
-{
-    let Ok(time) = SystemTime::now(rt) else {
-        return 0;
-    };
-    match time.duration_since(SystemTime::UNIX_EPOCH) {
-        Ok(since) => moment_of(since),
-        Err(_) => 0,
     }
 }

@@ -1,0 +1,24 @@
+-- A broker that has just opened is at rest.
+use Rattle.std.proofs.Common.{◌≡◌, ◌==◌, ◌&&◌, true, List, [], ◌∷◌, refl, sym, subst}
+use Rattle.std.specs.List.{AllByRecursion}
+use Rattle.std.proofs.lemmas.List.Elements.{recursion_from_All}
+use Rattle.kb_service.specs.Hosted.{TenantState, all_calm}
+use Rattle.kb_machine.specs.Broker.{BrokerState}
+use Rattle.kb_machine.specs.Calls.{is_calm}
+use Rattle.kb_settings.specs.declared.settings.Settings.{Settings}
+use Rattle.kb_broker.specs.declared.opening.Listing.{Listing}
+use Rattle.kb_broker.specs.Opening.{opening_over}
+use Rattle.kb_broker.specs.ScriptRun.{IsQuiet}
+use Rattle.kb_restart.specs.Restart.{have_nothing_refused}
+
+calm-each : (ts : List TenantState) → AllByRecursion (λ (x : TenantState). x.refusals ≡ 0) ts → all_calm ts ≡ true
+calm-each [] none = refl
+calm-each (x ∷ ts) none = subst (λ n. (n == 0 && all_calm ts) ≡ true) (sym none.0) (calm-each ts none.1)
+
+-- no refusal has been counted
+pub calm-opened : (listing : Listing) (s : Settings) (b : BrokerState) → b ≡ opening_over listing s b.tenants → have_nothing_refused b.tenants → is_calm b ≡ true
+calm-opened listing s b is none = subst (λ (x : BrokerState). is_calm x ≡ true) (sym is) (calm-each b.tenants (recursion_from_All _ b.tenants none))
+
+-- nobody is connected, who would have output
+pub quiet-opened : (listing : Listing) (s : Settings) (b : BrokerState) → b ≡ opening_over listing s b.tenants → IsQuiet b
+quiet-opened listing s b is = subst IsQuiet (sym is) tt

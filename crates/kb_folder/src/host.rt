@@ -20,6 +20,8 @@ const MOST_OPEN: usize = 256;
 pub struct HostFolder<R: Files<File = File> + AllocGlobal + Clone + Drop> {
     rt: R,
     path: String,
+    /// Whether files are opened for writing, too.
+    writes: bool,
     open: LruCache<u64, File>,
 }
 
@@ -33,11 +35,22 @@ impl<R: Files<File = File> + AllocGlobal + Clone + Drop> HostFolder<R> {
     /// The folder at a path. Where there is none it is made.
     pub fn new(rt: R, path: &str) -> Result<Self, FolderFault> {
         fs::create_dir_all(&rt, path)?;
+        HostFolder::at(rt, path, true)
+    }
+
+    /// The folder at a path, to be read alone: files are not opened for writing, and no folder is made. Calls that write are refused.
+    pub fn to_read(rt: R, path: &str) -> Result<Self, FolderFault> {
+        HostFolder::at(rt, path, false)
+    }
+
+    /// The folder at a path, with no file open.
+    fn at(rt: R, path: &str, writes: bool) -> Result<Self, FolderFault> {
         let alloc = rt.alloc();
         let most = NonZeroUsize::new(MOST_OPEN).unwrap_or(NonZeroUsize::MIN);
         Ok(HostFolder {
             rt,
             path: String::from_str(alloc, path)?,
+            writes,
             open: LruCache::new(alloc, most)?,
         })
     }
@@ -58,7 +71,7 @@ impl<R: Files<File = File> + AllocGlobal + Clone + Drop> HostFolder<R> {
             let path = self.path(file)?;
             let opened = OpenOptions::new()
                 .read(true)
-                .write(true)
+                .write(self.writes)
                 .open(&self.rt, path.as_str())?;
             self.open.put(file, opened)?;
         }
@@ -89,6 +102,9 @@ impl<R: Files<File = File> + AllocGlobal + Clone + Drop> Folder for HostFolder<R
     }
 
     fn create(&mut self, file: u64) -> Result<(), FolderFault> {
+        if !self.writes {
+            return Err(FolderFault::Refused);
+        }
         let path = self.path(file)?;
         let made = File::create_new(&self.rt, path.as_str())?;
         // Where there is no room for the handle the file is opened again when it is used.
@@ -109,6 +125,9 @@ impl<R: Files<File = File> + AllocGlobal + Clone + Drop> Folder for HostFolder<R
     }
 
     fn remove(&mut self, file: u64) -> Result<(), FolderFault> {
+        if !self.writes {
+            return Err(FolderFault::Refused);
+        }
         self.open.pop(&file);
         let path = self.path(file)?;
         Ok(fs::remove_file(&self.rt, path.as_str())?)

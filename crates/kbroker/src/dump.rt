@@ -1,7 +1,7 @@
 //! `kbroker dump`: what the files of a data folder hold.
 
 use crate::Fault;
-use crate::folder::store_in;
+use crate::folder::store_to_read;
 use clap::{Arg, ArgAction, ArgMatches, Command};
 use kb_dump::DumpFault;
 use kb_folder::FolderFault;
@@ -48,7 +48,7 @@ pub fn dump(rt: &HostRuntime, found: &ArgMatches<'_>) -> Result<(), Fault> {
     if !is_folder(rt, path) {
         return Err(Fault::NoFolder(String::from_str(alloc, path)?));
     }
-    let mut store = store_in(rt, path)?;
+    let mut store = store_to_read(rt, path)?;
     let Ok(mut writer) = BufWriter::new(alloc, io::writer(rt)) else {
         return Err(Fault::Node(NodeFault::Memory));
     };

@@ -23,6 +23,14 @@ pub fn hold(rt: &HostRuntime, path: &str) -> Result<File, Fault> {
     }
 }
 
+/// The store of the files in a folder that is there, to be read alone.
+pub fn store_to_read(
+    rt: &HostRuntime,
+    path: &str,
+) -> Result<FolderStore<HostFolder<HostRuntime>>, Fault> {
+    Ok(FolderStore::new(rt.alloc(), HostFolder::to_read(*rt, path)?)?)
+}
+
 /// The store of the files in a folder.
 pub fn store_in(
     rt: &HostRuntime,

@@ -63,16 +63,16 @@ performed (tasks.Create topic) body = passed hears.Done (created_code body)
 performed (tasks.Delete name) body = passed hears.Done (deleted_code body)
 performed tasks.List body = told (listed_topics body)
 
-abbrev pub answered : Stage → Task → Result (List ℕ) WireFault → Result Heard AdminFault
-answered stage task (Err fault) = Err faults.Protocol
-answered stages.Handshake task (Ok body) = passed hears.Next (handshake_code body)
-answered stages.Authenticate task (Ok body) = passed hears.Next (authenticate_code body)
-answered stages.Perform task (Ok body) = performed task body
-answered stages.Ended task (Ok body) = Err faults.Protocol
+abbrev pub step_answered : Stage → Task → Result (List ℕ) WireFault → Result Heard AdminFault
+step_answered stage task (Err fault) = Err faults.Protocol
+step_answered stages.Handshake task (Ok body) = passed hears.Next (handshake_code body)
+step_answered stages.Authenticate task (Ok body) = passed hears.Next (authenticate_code body)
+step_answered stages.Perform task (Ok body) = performed task body
+step_answered stages.Ended task (Ok body) = Err faults.Protocol
 
 -- the reply to its request
 abbrev pub replied : List ℕ → Session → Result Heard AdminFault
-replied frame s = answered s.stage s.task (body_for (correlation s.stage) frame)
+replied frame s = step_answered s.stage s.task (body_for (correlation s.stage) frame)
 
 -- ---- what bytes come to
 

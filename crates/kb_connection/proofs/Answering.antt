@@ -13,7 +13,7 @@ use Rattle.kb_service.specs.Replies.{Plain, Rebalances}
 use Rattle.kb_service.specs.declared.answer.Answer.{Answer as AnyAnswer}
 use Rattle.kb_service.specs.declared.answer.Answer.TheVariants as any
 use Rattle.kb_machine.specs.Session.{Session, shut_down, replied, without_wait, is_free}
-use Rattle.kb_machine.specs.Machine.{Line, answered, plainly, told}
+use Rattle.kb_machine.specs.Machine.{Line, after_reaction, plainly, told}
 use Rattle.kb_machine.proofs.Owners.{stage-shut}
 use Rattle.kb_machine.proofs.Turns.{free-without}
 use Rattle.kb_connection.specs.Fronts.{is_tenants_at}
@@ -60,12 +60,12 @@ answer_is id version body Shuts (answers.Wait d k) s no_wait h = absurd h
 answer_is id version body Shuts answers.NoReply s no_wait h = absurd h
 answer_is id version body Shuts answers.Shut s no_wait h = refl
 
-served_is : (id version : ℤ) (body : List ℕ) (reaction : service.Reaction) (answer : Answer) (s : Session) → IsNoWait answer → service.IsAnswer id reaction (any.Plain answer) → given answer s ≡ answered reaction id version body s
+served_is : (id version : ℤ) (body : List ℕ) (reaction : service.Reaction) (answer : Answer) (s : Session) → IsNoWait answer → service.IsAnswer id reaction (any.Plain answer) → given answer s ≡ after_reaction reaction id version body s
 served_is id version body (Plain reaction) answer s no_wait h = answer_is id version body reaction answer s no_wait h
 served_is id version body Rebalances answer s no_wait h = absurd h
 
 pub gives : {E : Type 0} (result : Result (Unit {0}) E) (l m new : Line) (id version : ℤ) (body : List ℕ) (reaction : service.Reaction) (all : AnyAnswer) (answer : Answer) → all ≡ any.Plain answer → IsNoWait answer → m ≡ with_session l (without_front l.session)
-    → OnOk result (new ≡ with_session m (given answer m.session)) → service.IsAnswer id reaction all → OnOk result (new ≡ with_session l (answered reaction id version body (without_front l.session)))
+    → OnOk result (new ≡ with_session m (given answer m.session)) → service.IsAnswer id reaction all → OnOk result (new ≡ with_session l (after_reaction reaction id version body (without_front l.session)))
 gives (Ok u) l m new id version body reaction all answer is no_wait left done h =
     done ∙ ap (λ (x : Line). with_session x (given answer x.session)) left ∙ ap (with_session l) (served_is id version body reaction answer (without_front l.session) no_wait (subst (service.IsAnswer id reaction) is h))
 gives (Err fault) l m new id version body reaction all answer is no_wait left done h = tt

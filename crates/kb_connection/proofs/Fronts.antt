@@ -8,7 +8,7 @@ use Rattle.kb_service.specs.Hosted.{Kept}
 use Rattle.kb_machine.specs.Requests.{Asked, Versions, OtherVersions, Handshake, Authenticate, Another, Unread, Request, request}
 use Rattle.kb_machine.specs.Session.{Session}
 use Rattle.kb_machine.specs.Greeting.{Setup}
-use Rattle.kb_machine.specs.Machine.{served, served_at, served_by, put, kept_at, kept_by}
+use Rattle.kb_machine.specs.Machine.{after_turn, served_at, served_by, put, kept_at, kept_by}
 use Rattle.kb_machine.proofs.Laws.{front-rest}
 use Rattle.kb_connection.specs.declared.request.Asked.{Asked as Read}
 use Rattle.kb_connection.specs.declared.request.Asked.TheVariants as asked
@@ -92,7 +92,7 @@ asked_whole versions bytes TooSmall e = cc
 asked_whole versions bytes TooLarge e = cc
 
 is_asked : (setup : Setup) (s : Session) (bytes : List ℕ) (key version id : ℤ) (body : List ℕ) → answers.Frame bytes ≡ answer (front s.unread) → request setup.versions bytes ≡ record { correlation_id = id; asked = Another key version body } → IsAsked setup s key version id body
-unfolding served served_by put
+unfolding after_turn served_by put
 is_asked setup s bytes key version id body e is = record {
   tenants = at_frame setup.versions bytes (Another key version body) (front s.unread) e (ap (λ (q : Request). q.asked) is);
   asked = asked_whole setup.versions bytes (front s.unread) e ∙ ap (λ (q : Request). asked_under q.correlation_id q.asked) is;

@@ -8,7 +8,7 @@ use Rattle.kb_machine.specs.Requests.{request}
 use Rattle.kb_machine.specs.Session.{Greeting, Session, shut_down}
 use Rattle.kb_service.specs.Hosted.{Kept}
 use Rattle.kb_machine.specs.Greeting.{Setup, greeted, greeted_at, greeted_frame}
-use Rattle.kb_machine.specs.Machine.{Line, served, served_at, served_by}
+use Rattle.kb_machine.specs.Machine.{Line, after_turn, served_at, served_by}
 use Rattle.kb_connection.specs.declared.reaction.Reaction.{Reaction}
 use Rattle.kb_connection.specs.View.{with_session, without_front}
 use Rattle.kb_connection.specs.Reactions.{reacted, IfReacts}
@@ -31,8 +31,8 @@ pub greet_more : (setup : Setup) (greeting : Greeting) (l : Line) (unread : List
 unfolding greeted
 greet_more setup greeting l unread same e = ap (with_session l) (greeted_more setup greeting l.session (front l.session.unread) (e ∙ ap (λ bytes. answer (front bytes)) same))
 
-pub serve_more : (setup : Setup) (kept : Kept) (clock n : ℕ) (l : Line) (unread : List ℕ) → unread ≡ l.session.unread → answers.More ≡ answer (front unread) → l ≡ with_session l (served setup kept clock n l.session)
-unfolding served
+pub serve_more : (setup : Setup) (kept : Kept) (clock n : ℕ) (l : Line) (unread : List ℕ) → unread ≡ l.session.unread → answers.More ≡ answer (front unread) → l ≡ with_session l (after_turn setup kept clock n l.session)
+unfolding after_turn
 serve_more setup kept clock n l unread same e = ap (with_session l) (served_more setup kept clock n l.session (front l.session.unread) (e ∙ ap (λ bytes. answer (front bytes)) same))
 
 -- 2. A bad size: the connection is shut
@@ -64,8 +64,8 @@ pub greet_bad : (setup : Setup) (greeting : Greeting) (l new : Line) (next : Nex
 unfolding greeted
 greet_bad setup greeting l new next unread same e bad is = is ∙ ap (with_session l) (greeted_bad setup greeting l.session (front l.session.unread) (bad_front next unread l.session.unread same e bad))
 
-pub serve_bad : (setup : Setup) (kept : Kept) (clock n : ℕ) (l new : Line) (next : Next) (unread : List ℕ) → unread ≡ l.session.unread → next ≡ answer (front unread) → IsBad next → new ≡ with_session l (shut_down l.session) → new ≡ with_session l (served setup kept clock n l.session)
-unfolding served
+pub serve_bad : (setup : Setup) (kept : Kept) (clock n : ℕ) (l new : Line) (next : Next) (unread : List ℕ) → unread ≡ l.session.unread → next ≡ answer (front unread) → IsBad next → new ≡ with_session l (shut_down l.session) → new ≡ with_session l (after_turn setup kept clock n l.session)
+unfolding after_turn
 serve_bad setup kept clock n l new next unread same e bad is = is ∙ ap (with_session l) (served_bad setup kept clock n l.session (front l.session.unread) (bad_front next unread l.session.unread same e bad))
 
 -- 3. A whole frame is taken: its request is served, or it is PLAIN's message
@@ -94,8 +94,8 @@ greet_frame setup greeting l new result reaction unread frame bytes same e read 
     let in_front : answers.Frame bytes ≡ answer (front l.session.unread) = ap answers.Frame read ∙ e ∙ ap (λ b. answer (front b)) same in
     reacts setup l new result reaction (greeted_frame setup greeting bytes) (greeted_at setup greeting l.session (front l.session.unread)) is (greeted_whole setup greeting l.session bytes (front l.session.unread) in_front) h
 
-pub serve_frame : {E : Type 0} (setup : Setup) (kept : Kept) (clock n : ℕ) (l new : Line) (result : Result (Unit {0}) E) (reaction : Result (ℤ × Reaction) AllocError) (unread frame bytes : List ℕ) → unread ≡ l.session.unread → answers.Frame frame ≡ answer (front unread) → bytes ≡ frame → IfOk reaction (λ done. (kept : Kept) (clock n : ℕ) (s : Session) → reacted setup done.1 done.0 s ≡ served_by setup kept clock n (request setup.versions bytes).correlation_id (request setup.versions bytes).asked s) → OnOk result (IfReacts reaction (λ id what. new ≡ with_session l (reacted setup what id (without_front l.session)))) → OnOk result (new ≡ with_session l (served setup kept clock n l.session))
-unfolding served
+pub serve_frame : {E : Type 0} (setup : Setup) (kept : Kept) (clock n : ℕ) (l new : Line) (result : Result (Unit {0}) E) (reaction : Result (ℤ × Reaction) AllocError) (unread frame bytes : List ℕ) → unread ≡ l.session.unread → answers.Frame frame ≡ answer (front unread) → bytes ≡ frame → IfOk reaction (λ done. (kept : Kept) (clock n : ℕ) (s : Session) → reacted setup done.1 done.0 s ≡ served_by setup kept clock n (request setup.versions bytes).correlation_id (request setup.versions bytes).asked s) → OnOk result (IfReacts reaction (λ id what. new ≡ with_session l (reacted setup what id (without_front l.session)))) → OnOk result (new ≡ with_session l (after_turn setup kept clock n l.session))
+unfolding after_turn
 serve_frame setup kept clock n l new result reaction unread frame bytes same e read is h =
     let in_front : answers.Frame bytes ≡ answer (front l.session.unread) = ap answers.Frame read ∙ e ∙ ap (λ b. answer (front b)) same in
     reacts setup l new result reaction (served_by setup kept clock n (request setup.versions bytes).correlation_id (request setup.versions bytes).asked) (served_at setup kept clock n l.session (front l.session.unread)) (for_this reaction is) (served_whole setup kept clock n l.session bytes (front l.session.unread) in_front) h

@@ -7,7 +7,7 @@ use Rattle.kb_machine.specs.Requests.{Asked, Versions, OtherVersions, Handshake,
 use Rattle.kb_machine.specs.Session.{Session}
 use Rattle.kb_machine.specs.Tenant.{answer, kept_after}
 use Rattle.kb_machine.specs.Greeting.{Setup}
-use Rattle.kb_machine.specs.Machine.{answered, served, put}
+use Rattle.kb_machine.specs.Machine.{after_reaction, after_turn, put}
 use Rattle.kb_connection.specs.View.{without_front}
 
 abbrev pub is_tenants : Asked → Bool
@@ -49,5 +49,5 @@ pub record IsOwn (setup : Setup) (s : Session) : Type 0 where
 pub record IsAsked (setup : Setup) (s : Session) (key version id : ℤ) (body : List ℕ) : Type 0 where
   pub tenants : is_tenants_at setup.versions (front s.unread) ≡ true
   pub asked : asked_at setup.versions (front s.unread) ≡ Some (id, key, version, body)
-  pub served : (kept : Kept) (clock n : ℕ) → served setup kept clock n s ≡ answered (answer setup.node kept clock n key version body) id version body (without_front s)
+  pub served : (kept : Kept) (clock n : ℕ) → after_turn setup kept clock n s ≡ after_reaction (answer setup.node kept clock n key version body) id version body (without_front s)
   pub put : (kept : Kept) (clock n : ℕ) → put setup kept clock n s.unread ≡ kept_after setup.node kept clock n key version body

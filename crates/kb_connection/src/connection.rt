@@ -9,7 +9,7 @@ ghost use Rattle.kb_tenant.specs.Replies.{framed, reply_size};
 ghost use Rattle.kb_machine.specs.Requests.{request};
 ghost use Rattle.kb_machine.specs.Session.{Session, Greets, BoundTo, fresh, room, overruns, fed, replied, shut_down, without_wait, waiting, has_member, is_free, can};
 ghost use Rattle.kb_machine.specs.Greeting.{Setup, greeted, greeted_frame};
-ghost use Rattle.kb_machine.specs.Machine.{answered, served, served_by, told};
+ghost use Rattle.kb_machine.specs.Machine.{after_reaction, after_turn, served_by, told};
 ghost use Rattle.kb_machine.specs.Calls.{without_output};
 ghost use Rattle.kb_machine.specs.Owners.{whose};
 ghost use Rattle.kb_connection.specs.TenantAnswers.{given, is_quiet, is_wait, wait_for, parked};
@@ -327,7 +327,7 @@ impl Connection {
     /// takes to answer the request is kept until `wake` ends the wait. Where memory is refused it is shut.
     #[tactic(auto, using(crate::proofs::Answering::gives, crate::proofs::Answering::less_given, crate::proofs::Answering::less_parked, crate::proofs::Answering::free_given))]
     pub fn answer(&mut self, alloc: Global, setup: &Setup, answer: Answer) -> Result<(), AllocError>
-        ensures ok { (key version id : ℤ) (body : List ℕ) (reaction : Reacts) → IsAsked setup.now self.old.session key version id body → IsAnswer id reaction answer → OnOk result (self.new ≡ with_session self.old (answered reaction id version body (without_front self.old.session))) }
+        ensures ok { (key version id : ℤ) (body : List ℕ) (reaction : Reacts) → IsAsked setup.now self.old.session key version id body → IsAnswer id reaction answer → OnOk result (self.new ≡ with_session self.old (after_reaction reaction id version body (without_front self.old.session))) }
         ensures err { OnErr result (self.new ≡ with_session self.old (shut_down self.old.session)) }
         // whatever the answer is, also where a refusal spoiled it
         ensures number { self.new.number ≡ self.old.number }
@@ -468,7 +468,7 @@ impl Connection {
     /// it is shut.
     pub fn serve(&mut self, alloc: Global, setup: &Setup) -> Result<(), AllocError>
         requires { IsOwn setup.now self.old.session }
-        ensures ok { (kept : Kept) (clock n : ℕ) → OnOk result (self.new ≡ with_session self.old (served setup.now kept clock n self.old.session)) }
+        ensures ok { (kept : Kept) (clock n : ℕ) → OnOk result (self.new ≡ with_session self.old (after_turn setup.now kept clock n self.old.session)) }
         ensures err { OnErr result (self.new ≡ with_session self.old (shut_down self.old.session)) }
     {
         match self.unread.next() {

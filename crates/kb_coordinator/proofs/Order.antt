@@ -13,7 +13,7 @@ use Rattle.kb_groups.specs.declared.borrowed.SyncAssignment.{SyncAssignment}
 use Rattle.kb_groups.specs.declared.reply.Reply.{Reply}
 use Rattle.kb_groups.specs.declared.reply.Release.{Release}
 use Rattle.kb_groups.specs.declared.reply.SyncAnswer.TheVariants.{Refused}
-use Rattle.kb_groups.specs.Answers.{answered, answers, place, placed, refusal, sync_refused, turned_away, waiter_of}
+use Rattle.kb_groups.specs.Answers.{waiter_answered, answers, place, placed, refusal, sync_refused, turned_away, waiter_of}
 use Rattle.kb_groups.specs.Members.{Roster, has_none, member}
 use Rattle.kb_groups.specs.Rebalance.{Step, all_join, ended, ended_by, is_joining, looked_at, next_leader, opened, opened_unless}
 use Rattle.kb_groups.specs.Calls.{assigned_reply, entered, gone, is_fine, is_that, join, join_code, joined, leave, left, number_of, sync, sync_known, sync_step, synced, unmoved}
@@ -51,7 +51,7 @@ place_rises r (x ∷ xs) h = by (nat_lt x.connection r.connection) refl (place_r
     by true e rest = let below : x.connection ≤ r.connection = grind (arith, e) in (place_least x.connection r xs below h.0, rest)
     by false e rest = let above : r.connection ≤ x.connection = grind (arith, e) in ((above, lower r.connection x.connection xs above h.0), h)
 
-answered_rises : (o : Option Waiter) (f : Asked → Option Reply) (out : List Release) → Rises out → Rises (answered o f out)
+answered_rises : (o : Option Waiter) (f : Asked → Option Reply) (out : List Release) → Rises out → Rises (waiter_answered o f out)
 answered_rises None f out h = h
 answered_rises (Some w) f out h = by (f w.asked)
   where
@@ -62,7 +62,7 @@ answered_rises (Some w) f out h = by (f w.asked)
 answers_rise : (f : ℕ → Member → Asked → Option Reply) (ms : Roster) (out : List Release) → Rises out → Rises (answers f ms out)
 unfolding answers
 answers_rise f [] out h = h
-answers_rise f (e ∷ ms) out h = answers_rise f ms (answered e.1.waiter (f e.0 e.1) out) (answered_rises e.1.waiter (f e.0 e.1) out h)
+answers_rise f (e ∷ ms) out h = answers_rise f ms (waiter_answered e.1.waiter (f e.0 e.1) out) (answered_rises e.1.waiter (f e.0 e.1) out h)
 
 turned_rises : (code : Code) (n : ℕ) (ms : Roster) (out : List Release) → Rises out → Rises (turned_away code n ms out)
 turned_rises code n ms out h = answered_rises (waiter_of (member ms n)) (λ asked. Some (refusal code n asked)) out h

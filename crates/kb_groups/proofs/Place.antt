@@ -6,7 +6,7 @@ use Rattle.kb_groups.specs.declared.reply.Release.{Release}
 use Rattle.kb_groups.specs.declared.member.Member.{Member}
 use Rattle.kb_groups.specs.declared.member.Asked.{Asked}
 use Rattle.kb_groups.specs.declared.reply.Reply.{Reply}
-use Rattle.kb_groups.specs.Answers.{place, answers, answered}
+use Rattle.kb_groups.specs.Answers.{place, answers, waiter_answered}
 use Rattle.kb_groups.specs.Members.{Roster}
 
 -- The first i are below c.
@@ -39,14 +39,14 @@ insert_here r zero (y ∷ xs) x b g h = let e : y.connection ≡ x.connection = 
 insert_here r (suc i) (y ∷ xs) x b g h = let e : nat_lt y.connection r.connection ≡ true = grind (arith, b.0) in rw e (ap (λ l. y ∷ l) (insert_here r i xs x b.1 g h))
 
 -- One member further.
-answers_suc : (f : ℕ → Member → Asked → Option Reply) (i : ℕ) (es : Roster) (n : ℕ) (m : Member) (out : List Release) → slice_get es i ≡ Some (n, m) → answers f (drop i es) out ≡ answers f (drop (suc i) es) (answered m.waiter (f n m) out)
+answers_suc : (f : ℕ → Member → Asked → Option Reply) (i : ℕ) (es : Roster) (n : ℕ) (m : Member) (out : List Release) → slice_get es i ≡ Some (n, m) → answers f (drop i es) out ≡ answers f (drop (suc i) es) (waiter_answered m.waiter (f n m) out)
 unfolding answers
 answers_suc f zero [] n m out h = absurd (none-some (n, m) h)
-answers_suc f zero (e ∷ es) n m out h = ap (λ p. answers f es (answered p.1.waiter (f p.0 p.1) out)) (same_Some _ _ h)
+answers_suc f zero (e ∷ es) n m out h = ap (λ p. answers f es (waiter_answered p.1.waiter (f p.0 p.1) out)) (same_Some _ _ h)
 answers_suc f (suc i) [] n m out h = absurd (none-some (n, m) h)
 answers_suc f (suc i) (e ∷ es) n m out h = answers_suc f i es n m out h
 
-pub answers_more : (f : ℕ → Member → Asked → Option Reply) (i : ℕ) (es : Roster) (n : ℕ) (m : Member) (out : List Release) → slice_get es i ≡ Some (n, m) → answers f (drop i es) out ≡ answers f (drop (i + 1) es) (answered m.waiter (f n m) out)
+pub answers_more : (f : ℕ → Member → Asked → Option Reply) (i : ℕ) (es : Roster) (n : ℕ) (m : Member) (out : List Release) → slice_get es i ≡ Some (n, m) → answers f (drop i es) out ≡ answers f (drop (i + 1) es) (waiter_answered m.waiter (f n m) out)
 answers_more f i es n m out h = rw (← suc-eq-add-one i) (answers_suc f i es n m out h)
 
 pub answers_end : (f : ℕ → Member → Asked → Option Reply) (i : ℕ) (es : Roster) (out : List Release) → length es ≤ i → answers f (drop i es) out ≡ out
@@ -57,5 +57,5 @@ answers_end f zero (e ∷ es) out h = absurd (omega (arith, h))
 answers_end f (suc i) (e ∷ es) out h = answers_end f i es out (omega (arith, h))
 
 -- A step of the loop over the members, whose list so far becomes `next`.
-pub answers_step : (f : ℕ → Member → Asked → Option Reply) (i : ℕ) (es : Roster) (n : ℕ) (m : Member) (out next all : List Release) → answers f (drop i es) out ≡ all → Some (n, m) ≡ slice_get es i → next ≡ answered m.waiter (f n m) out → answers f (drop (i + 1) es) next ≡ all
+pub answers_step : (f : ℕ → Member → Asked → Option Reply) (i : ℕ) (es : Roster) (n : ℕ) (m : Member) (out next all : List Release) → answers f (drop i es) out ≡ all → Some (n, m) ≡ slice_get es i → next ≡ waiter_answered m.waiter (f n m) out → answers f (drop (i + 1) es) next ≡ all
 answers_step f i es n m out next all inv at e = rw e (sym (answers_more f i es n m out (sym at)) ∙ inv)

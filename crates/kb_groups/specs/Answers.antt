@@ -54,14 +54,14 @@ abbrev pub placed : ℕ → Option Reply → List Release → List Release
 placed connection None out = out
 placed connection (Some r) out = place (record { connection = connection; reply = r }) out
 
-abbrev pub answered : Option Waiter → (Asked → Option Reply) → List Release → List Release
-answered None reply out = out
-answered (Some w) reply out = placed w.connection (reply w.asked) out
+abbrev pub waiter_answered : Option Waiter → (Asked → Option Reply) → List Release → List Release
+waiter_answered None reply out = out
+waiter_answered (Some w) reply out = placed w.connection (reply w.asked) out
 
 -- The waiting requests get their replies.
 unfoldable pub answers : (ℕ → Member → Asked → Option Reply) → Roster → List Release → List Release
 answers reply [] out = out
-answers reply (e ∷ ms) out = answers reply ms (answered e.1.waiter (reply e.0 e.1) out)
+answers reply (e ∷ ms) out = answers reply ms (waiter_answered e.1.waiter (reply e.0 e.1) out)
 
 -- Waiting syncs are refused with 27.
 abbrev pub sync_refused : ℕ → Member → Asked → Option Reply
@@ -73,4 +73,4 @@ waiter_of (Some m) = m.waiter
 
 -- The member's waiting request, if it has one, is refused with that code.
 abbrev pub turned_away : Code → ℕ → Roster → List Release → List Release
-turned_away code n ms out = answered (waiter_of (member ms n)) (λ asked. Some (refusal code n asked)) out
+turned_away code n ms out = waiter_answered (waiter_of (member ms n)) (λ asked. Some (refusal code n asked)) out

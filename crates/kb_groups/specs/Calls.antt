@@ -47,9 +47,9 @@ abbrev pub number_of : Join → ℕ
 number_of j = unwrap_or j.member j.new_member
 
 -- A timeout below 0 counts as 0.
-abbrev pub natural : ℤ → ℕ
-natural (pos n) = n
-natural (negsuc _) = 0
+abbrev pub at_least_zero : ℤ → ℕ
+at_least_zero (pos n) = n
+at_least_zero (negsuc _) = 0
 
 abbrev pub kept : JoinProtocol → Protocol
 kept p = record { name = p.name; metadata = p.metadata }
@@ -62,8 +62,8 @@ asked_of (Some _) = Rejoin
 abbrev pub joining : ℕ → Join → Member
 joining clock j = record {
   protocols = map kept j.protocols.now;
-  session_timeout = natural j.session_timeout;
-  rebalance_timeout = natural j.rebalance_timeout;
+  session_timeout = at_least_zero j.session_timeout;
+  rebalance_timeout = at_least_zero j.rebalance_timeout;
   assignment = [];
   waiter = Some (record { connection = j.connection; asked = asked_of j.member });
   session_start = clock;

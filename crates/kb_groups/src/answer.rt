@@ -4,7 +4,7 @@ ghost use Rattle.std.specs.Prelude.{◌≡◌, ℕ, Option, OnOk, IfOk, Some};
 ghost use Rattle.kb_groups.specs.declared.member.Member.{Member};
 ghost use Rattle.kb_groups.specs.declared.member.Asked.{Asked};
 ghost use Rattle.kb_groups.specs.declared.reply.Reply.{Reply};
-ghost use Rattle.kb_groups.specs.Answers.{place, answers, answered, sync_refused, refusal, turned_away};
+ghost use Rattle.kb_groups.specs.Answers.{place, answers, waiter_answered, sync_refused, refusal, turned_away};
 ghost use Rattle.kb_groups.specs.Protocols.{listing};
 ghost use Rattle.kb_groups.specs.Rebalance.{joined_reply};
 
@@ -128,7 +128,7 @@ fn answer_one<A: Answer>(
     member: &Member,
     out: &mut Vec<Release>,
 ) -> Result<(), AllocError>
-    ensures { OnOk result (out.new.items ≡ answered member.now.waiter (A.reply how.now number member.now) out.old.items) }
+    ensures { OnOk result (out.new.items ≡ waiter_answered member.now.waiter (A.reply how.now number member.now) out.old.items) }
 {
     if let Some(waiter) = member.waiter {
         if let Some(reply) = how.reply_to(alloc, number, member, waiter.asked)? {

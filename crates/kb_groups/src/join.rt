@@ -1,7 +1,7 @@
 //! Members join.
 
 ghost use Rattle.std.specs.Prelude.{◌≡◌, ◌≤◌, ℕ, IfOk, OnErr, OnOk};
-ghost use Rattle.kb_groups.specs.Calls.{agrees, is_stranger, join, join_code, joined, joining, natural, number_of, others};
+ghost use Rattle.kb_groups.specs.Calls.{agrees, is_stranger, join, join_code, joined, joining, at_least_zero, number_of, others};
 ghost use Rattle.kb_groups.specs.Rebalance.{ended, looked_at, opened_unless};
 
 use crate::answer::{NewGeneration, SyncsRefused};
@@ -22,8 +22,8 @@ const MAX_SESSION_TIMEOUT: i32 = 1_800_000;
 const MAX_MEMBERS: usize = 200;
 
 /// A timeout below 0 counts as 0.
-fn natural(timeout: i32) -> u32
-    ensures { result ≡ natural timeout }
+fn at_least_zero(timeout: i32) -> u32
+    ensures { result ≡ at_least_zero timeout }
 {
     if timeout < 0 { 0 } else { timeout as u32 }
 }
@@ -46,8 +46,8 @@ impl<'a> Join<'a> {
         };
         Ok(Member {
             protocols: Protocols::copy_of(alloc, self.protocols)?,
-            session_timeout: natural(self.session_timeout),
-            rebalance_timeout: natural(self.rebalance_timeout),
+            session_timeout: at_least_zero(self.session_timeout),
+            rebalance_timeout: at_least_zero(self.rebalance_timeout),
             assignment: SharedBytes::new(),
             waiter: Some(Waiter {
                 connection: self.connection,

@@ -11,7 +11,7 @@ use Rattle.kb_tenant.specs.Replies.{Silent}
 use Rattle.kb_machine.specs.Tenant.{Wait, ready}
 use Rattle.kb_machine.specs.Session.{Greeting, has_member, Stage, Greets, BoundTo, Session, fed, room, overruns, shut_down, without_wait, can}
 use Rattle.kb_machine.specs.Greeting.{Setup}
-use Rattle.kb_machine.specs.Machine.{Happening, Comes, Line, World, each, on, those, find_line, first_able, kept_fed, turns, stepped}
+use Rattle.kb_machine.specs.Machine.{Happening, Comes, Line, View, each, on, those, find_line, first_able, kept_fed, turns, stepped}
 use Rattle.kb_machine.specs.Owners.{Owns, Fits, whose, heard, destiny}
 use Rattle.kb_machine.specs.Calls.{left_by}
 use Rattle.kb_machine.specs.Broker.{BrokerState, IsUnready, AnyWait, kept_of, IsReady, IsSound, IsStep, IsUntaken, Rising, Mine, view_of}
@@ -86,7 +86,7 @@ still-settled scope b h = all-map (λ l. can l.session ≡ false) (IsStill scope
 fed-still : (b : BrokerState) (i : ℕ) (l m : Line) (ps : List TenantState) (x : ℕ) → first_able b.lines ≡ None → m.number ≡ l.number → IsGoing b (changed b i m ps x) → AreStill (Of l.number) (changed b i m ps x)
 fed-still b i l m ps x none n g = changed-still (Of l.number) b i m ps x g (still-settled (Of l.number) b none) (λ c. inl n)
 
-view-fed : (w : World) (mine : ℕ → Bool) (n : ℕ) (piece : List ℕ) (ls : List Line) (kept : Kept) (yes : Bool) → mine n ≡ yes → w.lines ≡ those mine ls → first_able ls ≡ None → (yes ≡ true → kept ≡ kept_fed piece w.clock n (find_line n w.lines) w.kept) → (yes ≡ false → kept ≡ w.kept)
+view-fed : (w : View) (mine : ℕ → Bool) (n : ℕ) (piece : List ℕ) (ls : List Line) (kept : Kept) (yes : Bool) → mine n ≡ yes → w.lines ≡ those mine ls → first_able ls ≡ None → (yes ≡ true → kept ≡ kept_fed piece w.clock n (find_line n w.lines) w.kept) → (yes ≡ false → kept ≡ w.kept)
     → turns (record w { kept = kept; lines = those mine (each (on n (fed piece)) ls) }) ≡ stepped yes (Comes n piece) w
 view-fed w mine n piece ls kept true m f none own other =
     ap (λ k. turns (record w { kept = k; lines = those mine (each (on n (fed piece)) ls) })) (own refl)
@@ -161,7 +161,7 @@ fed-refused b i l m piece h x s settled at g n e up rises =
       view = λ t mine es k calm. absurd (rises calm.unbound);
     }
 
-view-hidden : (w : World) (mine : ℕ → Bool) (n : ℕ) (f : Session → Session) (piece : List ℕ) (ls : List Line) → mine n ≡ false → w.lines ≡ those mine ls → first_able ls ≡ None → turns (with_lines w (those mine (each (on n f) ls))) ≡ stepped (mine n) (Comes n piece) w
+view-hidden : (w : View) (mine : ℕ → Bool) (n : ℕ) (f : Session → Session) (piece : List ℕ) (ls : List Line) → mine n ≡ false → w.lines ≡ those mine ls → first_able ls ≡ None → turns (with_lines w (those mine (each (on n f) ls))) ≡ stepped (mine n) (Comes n piece) w
 view-hidden w mine n f piece ls m e none =
     ap (λ x. turns (with_lines w x)) (those-on_other mine n f ls m ∙ sym e) ∙ (turns-none w (ap first_able e ∙ none-those mine ls none) ∙ sym (ap (λ y. stepped y (Comes n piece) w) m))
 

@@ -13,13 +13,13 @@ use Rattle.kb_machine.specs.Requests.{Asked, Versions, OtherVersions, Handshake,
 use Rattle.kb_machine.specs.Tenant.{kept_after}
 use Rattle.kb_machine.specs.Session.{Stage, Greets, BoundTo, Session, fed, overruns, has_member}
 use Rattle.kb_machine.specs.Greeting.{Setup}
-use Rattle.kb_machine.specs.Machine.{Happening, Opens, Comes, Closes, Moment, Line, World, put, kept_by, kept_at, each, on, find_line, first_able, all_woken, turn_at, turn_of, turn, again, work, turns, kept_without, kept_closed, kept_fed, step}
+use Rattle.kb_machine.specs.Machine.{Happening, Opens, Comes, Closes, Moment, Line, View, put, kept_by, kept_at, each, on, find_line, first_able, all_woken, turn_at, turn_of, turn, again, work, turns, kept_without, kept_closed, kept_fed, step}
 use Rattle.kb_machine.specs.Isolation.{last_world}
 use Rattle.kb_machine.specs.Fetches.{ServesBatches, WakesWithBatches, AllWakeWithBatches, after_request, TurnGivesBatches, NextGivesBatches, TurnsGiveBatches, EventGivesBatches, FetchesGetBatches}
 use Rattle.kb_machine.proofs.Fetches.{served-batches, woken-batches}
 
 -- the logs of what the tenant keeps are within their limits
-abbrev IsSmall : World → Type 0
+abbrev IsSmall : View → Type 0
 IsSmall w = HasSmallLogs (world_at w.kept w.clock)
 
 -- 1. Logs stay within their limits
@@ -70,27 +70,27 @@ small-put : (setup : Setup) (kept : Kept) (clock n : ℕ) (unread : List ℕ) �
 unfolding put
 small-put setup kept clock n unread small = small-at setup kept clock n (front unread) small
 
-small-turn_at : (w : World) (n : ℕ) (unread : List ℕ) (stage : Stage) → IsSmall w → IsSmall (turn_at w n unread stage)
+small-turn_at : (w : View) (n : ℕ) (unread : List ℕ) (stage : Stage) → IsSmall w → IsSmall (turn_at w n unread stage)
 small-turn_at w n unread (Greets greeting) small = small
 small-turn_at w n unread (BoundTo tenant wait) small = small-put w.setup w.kept w.clock n unread small
 
-small-turn_of : (w : World) (o : Option Line) → IsSmall w → IsSmall (turn_of w o)
+small-turn_of : (w : View) (o : Option Line) → IsSmall w → IsSmall (turn_of w o)
 small-turn_of w None small = small
 small-turn_of w (Some l) small = small-turn_at w l.number l.session.unread l.session.stage small
 
-small-turn : (w : World) → IsSmall w → IsSmall (turn w)
+small-turn : (w : View) → IsSmall w → IsSmall (turn w)
 unfolding turn
 small-turn w small = small-turn_of w (first_able w.lines) small
 
-small-again : (n : ℕ) (w : World) → IsSmall w → IsSmall (again turn n w)
+small-again : (n : ℕ) (w : View) → IsSmall w → IsSmall (again turn n w)
 small-again zero w small = small
 small-again (suc n) w small = small-again n (turn w) (small-turn w small)
 
-small-turns : (w : World) → IsSmall w → IsSmall (turns w)
+small-turns : (w : View) → IsSmall w → IsSmall (turns w)
 unfolding turns
 small-turns w small = small-again (work w.lines) w small
 
-small-step : (e : Happening) (w : World) → IsSmall w → IsSmall (step e w)
+small-step : (e : Happening) (w : View) → IsSmall w → IsSmall (step e w)
 small-step (Opens n) w small = small
 small-step (Comes n piece) w small =
     let o = find_line n w.lines in
@@ -100,38 +100,38 @@ small-step (Moment now) w small =
     let clock = max w.clock now in
     small-turns (all_woken (record w { kept = passed clock w.kept; clock = clock })) (small-passed clock w.kept small)
 
-pub small-last : (es : List Happening) (w : World) → IsSmall w → IsSmall (last_world es w)
+pub small-last : (es : List Happening) (w : View) → IsSmall w → IsSmall (last_world es w)
 small-last [] w small = small
 small-last (e ∷ es) w small = small-last es (step e w) (small-step e w small)
 
 -- 2. Answers
 
-serves : (w : World) (n : ℕ) (s : Session) → IsSmall w → ServesBatches w n s
+serves : (w : View) (n : ℕ) (s : Session) → IsSmall w → ServesBatches w n s
 serves w n s small frame rest version body fetch at asks read = served-batches w.setup w.kept w.clock n s frame rest version body fetch small at asks read
 
-wakes : (w : World) (n : ℕ) (s : Session) → IsSmall w → WakesWithBatches w n s
+wakes : (w : View) (n : ℕ) (s : Session) → IsSmall w → WakesWithBatches w n s
 wakes w n s small tenant id version body deadline fetch waits read = woken-batches w.kept w.clock n tenant s id version body deadline fetch small waits read
 
 each-line : (P : Line → Type 0) → ((l : Line) → P l) → (ls : List Line) → AllByRecursion P ls
 each-line P all [] = tt
 each-line P all (l ∷ ls) = (all l, each-line P all ls)
 
-all-wake : (w : World) → IsSmall w → AllWakeWithBatches w
+all-wake : (w : View) → IsSmall w → AllWakeWithBatches w
 all-wake w small = each-line (λ (l : Line). WakesWithBatches w l.number l.session) (λ l. wakes w l.number l.session small) w.lines
 
-turn-gives : (w : World) (l : Line) (stage : Stage) → IsSmall w → TurnGivesBatches w l stage
+turn-gives : (w : View) (l : Line) (stage : Stage) → IsSmall w → TurnGivesBatches w l stage
 turn-gives w l (Greets greeting) small = tt
 turn-gives w l (BoundTo tenant wait) small = (serves w l.number l.session small, all-wake (after_request w l) (small-put w.setup w.kept w.clock l.number l.session.unread small))
 
-next-gives : (w : World) (o : Option Line) → IsSmall w → NextGivesBatches w o
+next-gives : (w : View) (o : Option Line) → IsSmall w → NextGivesBatches w o
 next-gives w None small = tt
 next-gives w (Some l) small = turn-gives w l l.session.stage small
 
-turns-give : (n : ℕ) (w : World) → IsSmall w → TurnsGiveBatches n w
+turns-give : (n : ℕ) (w : View) → IsSmall w → TurnsGiveBatches n w
 turns-give zero w small = tt
 turns-give (suc n) w small = (next-gives w (first_able w.lines) small, turns-give n (turn w) (small-turn w small))
 
-event-gives : (e : Happening) (w : World) → IsSmall w → EventGivesBatches e w
+event-gives : (e : Happening) (w : View) → IsSmall w → EventGivesBatches e w
 event-gives (Opens n) w small = tt
 event-gives (Comes n piece) w small =
     let o = find_line n w.lines in
@@ -145,6 +145,6 @@ event-gives (Moment now) w small =
     (all-wake after kept, turns-give (work (all_woken after).lines) (all_woken after) kept)
 
 -- a whole run
-pub run-gives : (es : List Happening) (w : World) → IsSmall w → FetchesGetBatches es w
+pub run-gives : (es : List Happening) (w : View) → IsSmall w → FetchesGetBatches es w
 run-gives [] w small = tt
 run-gives (e ∷ es) w small = (event-gives e w small, run-gives es (step e w) (small-step e w small))

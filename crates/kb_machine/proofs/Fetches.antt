@@ -14,7 +14,7 @@ use Rattle.kb_machine.specs.Requests.{Another, request}
 use Rattle.kb_machine.specs.Tenant.{Wait, Records, answer, ready}
 use Rattle.kb_machine.specs.Session.{BoundTo, Session, without_wait}
 use Rattle.kb_machine.specs.Greeting.{Setup}
-use Rattle.kb_machine.specs.Machine.{answered, served_by, served_at, served, told, woken_by, woken}
+use Rattle.kb_machine.specs.Machine.{after_reaction, served_by, served_at, after_turn, told, woken_by, woken}
 use Rattle.kb_machine.specs.Fetches.{GetsBatches}
 
 answer-holds : (setup : Setup) (kept : Kept) (clock n : ℕ) (version : ℤ) (body reply : List ℕ) (r : FetchRequest) → HasSmallLogs (world_at kept clock) → asked_fetch version body ≡ Ok r → answer setup.node kept clock n (pos 1) version body ≡ Plain (Replies reply) → HoldsBatches version (world_at kept clock) r reply
@@ -26,7 +26,7 @@ ready-holds : (kept : Kept) (clock n : ℕ) (id version : ℤ) (body : List ℕ)
 unfolding ready
 ready-holds kept clock n id version body deadline reply r small read e = looked-holds (world_at kept clock) deadline version body reply r small read e
 
-answered_by : (setup : Setup) (kept : Kept) (clock n : ℕ) (id version : ℤ) (body : List ℕ) (s : Session) (r : FetchRequest) → HasSmallLogs (world_at kept clock) → asked_fetch version body ≡ Ok r → (x : Reaction) → answer setup.node kept clock n (pos 1) version body ≡ x → GetsBatches (world_at kept clock) version r id s (answered x id version body s)
+answered_by : (setup : Setup) (kept : Kept) (clock n : ℕ) (id version : ℤ) (body : List ℕ) (s : Session) (r : FetchRequest) → HasSmallLogs (world_at kept clock) → asked_fetch version body ≡ Ok r → (x : Reaction) → answer setup.node kept clock n (pos 1) version body ≡ x → GetsBatches (world_at kept clock) version r id s (after_reaction x id version body s)
 answered_by setup kept clock n id version body s r small read (Plain (Replies reply)) e = inl (reply, answer-holds setup kept clock n version body reply r small read e, refl)
 answered_by setup kept clock n id version body s r small read (Plain (Waits deadline places)) e = inr refl
 answered_by setup kept clock n id version body s r small read (Plain Silent) e = inr refl
@@ -35,12 +35,12 @@ answered_by setup kept clock n id version body s r small read Rebalances e = inr
 
 -- a fetch that takes its turn
 pub served-batches : (setup : Setup) (kept : Kept) (clock n : ℕ) (s : Session) (frame rest : List ℕ) (version : ℤ) (body : List ℕ) (r : FetchRequest) → HasSmallLogs (world_at kept clock) → front s.unread ≡ Whole frame rest → (request setup.versions frame).asked ≡ Another (pos 1) version body → asked_fetch version body ≡ Ok r
-    → GetsBatches (world_at kept clock) version r (request setup.versions frame).correlation_id (record s { unread = rest }) (served setup kept clock n s)
-unfolding served served_by
+    → GetsBatches (world_at kept clock) version r (request setup.versions frame).correlation_id (record s { unread = rest }) (after_turn setup kept clock n s)
+unfolding after_turn served_by
 served-batches setup kept clock n s frame rest version body r small at asks read =
     let id = (request setup.versions frame).correlation_id in
     let from : Session = record s { unread = rest } in
-    let is : served_at setup kept clock n s (front s.unread) ≡ answered (answer setup.node kept clock n (pos 1) version body) id version body from =
+    let is : served_at setup kept clock n s (front s.unread) ≡ after_reaction (answer setup.node kept clock n (pos 1) version body) id version body from =
     ap (served_at setup kept clock n s) at ∙ ap (λ a. served_by setup kept clock n id a from) asks in
     subst (GetsBatches (world_at kept clock) version r id from) (sym is) (answered_by setup kept clock n id version body from r small read (answer setup.node kept clock n (pos 1) version body) refl)
 

@@ -7,7 +7,7 @@ use Rattle.kb_api_group.specs.Frames.{front}
 use Rattle.kb_service.specs.Hosted.{Kept, passed}
 use Rattle.kb_machine.specs.Session.{Greeting, Stage, Greets, BoundTo, Session, fresh, overruns, fed, can, is_turn}
 use Rattle.kb_machine.specs.Greeting.{Setup, greeted}
-use Rattle.kb_machine.specs.Machine.{Happening, Opens, Comes, Closes, Moment, Line, World, Sent, woken_by, those, each, on, first_able, turn_at, turn, turns, again, kept_without, kept_closed, kept_fed, step, run, sent, by_number, find_line}
+use Rattle.kb_machine.specs.Machine.{Happening, Opens, Comes, Closes, Moment, Line, View, Sent, woken_by, those, each, on, first_able, turn_at, turn, turns, again, kept_without, kept_closed, kept_fed, step, run, sent, by_number, find_line}
 use Rattle.kb_machine.specs.Owners.{greet_turn, greet_turn_at, heard, whose, destiny, unborn, fate_from, purge}
 use Rattle.kb_machine.specs.Broker.{BrokerState, Rising, IsRun, IsReady, IsUnowned, view_of, only, alone_unowned}
 use Rattle.kb_machine.specs.Greetings.{pieces_of, greeting, once_opened, greeted_from, sent_by, greeted_alone}
@@ -18,10 +18,10 @@ use Rattle.kb_machine.proofs.Sets.{rising-last}
 
 -- 1. A world of one connection that is never bound
 
-abbrev lone : World → ℕ → Session → World
+abbrev lone : View → ℕ → Session → View
 lone w n s = record w { lines = record { number = n; session = s } ∷ [] }
 
-abbrev empty : World → World
+abbrev empty : View → View
 empty w = record w { lines = [] }
 
 eqb-self : (n : ℕ) → eqb n n ≡ true
@@ -37,7 +37,7 @@ unbound : {P : Type 0} (t : ℕ) (s : Session) (w : Option _) → s.stage ≡ Bo
 unbound t s w e h = let k : Some t ≡ None = sym (ap whose e) ∙ h in absurd (cc)
 
 -- its turn is that of the greeting
-turn-lone_by : (w : World) (n : ℕ) (s : Session) (h : Greeting) (b : Bool) → s.stage ≡ Greets h → can s ≡ b → turn (lone w n s) ≡ lone w n (greet_turn w.setup s)
+turn-lone_by : (w : View) (n : ℕ) (s : Session) (h : Greeting) (b : Bool) → s.stage ≡ Greets h → can s ≡ b → turn (lone w n s) ≡ lone w n (greet_turn w.setup s)
 unfolding greet_turn can
 turn-lone_by w n s h true e c =
     turn-some (lone w n s) (record { number = n; session = s }) (able-lone n s true c)
@@ -48,7 +48,7 @@ turn-lone_by w n s h false e c =
     let f : is_turn (front s.unread) ≡ false = grind (arith, e, c) in
     turn-none (lone w n s) (able-lone n s false c) ∙ ap (lone w n) (sym (ap (greet_turn_at w.setup s) e ∙ greeted-still w.setup h s f))
 
-turn-lone : (w : World) (n : ℕ) (s : Session) (st : Stage) → s.stage ≡ st → whose st ≡ None → turn (lone w n s) ≡ lone w n (greet_turn w.setup s)
+turn-lone : (w : View) (n : ℕ) (s : Session) (st : Stage) → s.stage ≡ st → whose st ≡ None → turn (lone w n s) ≡ lone w n (greet_turn w.setup s)
 turn-lone w n s (Greets h) e u = turn-lone_by w n s h (can s) e refl
 turn-lone w n s (BoundTo t x) e u = absurd (cc)
 
@@ -62,12 +62,12 @@ before-unbound : (setup : Setup) (k : ℕ) (s : Session) (st : Stage) → s.stag
 before-unbound setup k s (Greets h) e u = refl
 before-unbound setup k s (BoundTo t w) e u = unbound t s w e (sym (ap (λ (x : Session). whose x.stage) (again-bound setup k s t w e)) ∙ u)
 
-again-lone : (w : World) (n k : ℕ) (s : Session) → whose (again (greet_turn w.setup) k s).stage ≡ None → again turn k (lone w n s) ≡ lone w n (again (greet_turn w.setup) k s)
+again-lone : (w : View) (n k : ℕ) (s : Session) → whose (again (greet_turn w.setup) k s).stage ≡ None → again turn k (lone w n s) ≡ lone w n (again (greet_turn w.setup) k s)
 again-lone w n zero s u = refl
 again-lone w n (suc k) s u =
     ap (again turn k) (turn-lone w n s s.stage refl (before-unbound w.setup (suc k) s s.stage refl u)) ∙ again-lone w n k (greet_turn w.setup s) u
 
-turns-lone : (w : World) (n : ℕ) (s : Session) → whose (heard w.setup s).stage ≡ None → turns (lone w n s) ≡ lone w n (heard w.setup s)
+turns-lone : (w : View) (n : ℕ) (s : Session) → whose (heard w.setup s).stage ≡ None → turns (lone w n s) ≡ lone w n (heard w.setup s)
 unfolding turns heard
 turns-lone w n s u =
     let all : length s.unread + 0 ≡ length s.unread = omega arith in
@@ -79,12 +79,12 @@ unfolding woken_by
 woken-lone kept clock n s (Greets h) u = refl
 woken-lone kept clock n s (BoundTo t w) u = absurd (cc)
 
-moment-lone : (w : World) (n : ℕ) (s : Session) (now : ℕ) → whose s.stage ≡ None → can s ≡ false
+moment-lone : (w : View) (n : ℕ) (s : Session) (now : ℕ) → whose s.stage ≡ None → can s ≡ false
     → step (Moment now) (lone w n s) ≡ lone (record w { kept = passed (max w.clock now) w.kept; clock = max w.clock now }) n s
 moment-lone w n s now u c =
     let clock = max w.clock now in
     let kept = passed clock w.kept in
-    let v : World = record w { kept = kept; clock = clock } in
+    let v : View = record w { kept = kept; clock = clock } in
     ap (λ x. turns (lone v n x)) (woken-lone kept clock n s s.stage u) ∙ turns-none (lone v n s) (able-lone n s false c)
 
 -- nor does a piece that is longer than its room
@@ -99,16 +99,16 @@ kept-lone piece clock m s (Greets h) kept true e u = ap (λ x. cond (overruns pi
 
 -- 2. A world of no connection, where none of that number opens any more
 
-moment-empty : (w : World) (now : ℕ) → step (Moment now) (empty w) ≡ empty (record w { kept = passed (max w.clock now) w.kept; clock = max w.clock now })
+moment-empty : (w : View) (now : ℕ) → step (Moment now) (empty w) ≡ empty (record w { kept = passed (max w.clock now) w.kept; clock = max w.clock now })
 moment-empty w now = let clock = max w.clock now in turns-none (empty (record w { kept = passed clock w.kept; clock = clock })) refl
 
-comes-empty : (w : World) (n : ℕ) (piece : List ℕ) → step (Comes n piece) (empty w) ≡ empty w
+comes-empty : (w : View) (n : ℕ) (piece : List ℕ) → step (Comes n piece) (empty w) ≡ empty w
 comes-empty w n piece = turns-none (empty w) refl
 
 other-number : (n m last : ℕ) → n ≤ last → last < m → eqb m n ≡ false
 other-number n m last le lt = grind (arith, nat_tests)
 
-run-gone : (n last : ℕ) (es : List Happening) (w : World) → n ≤ last → IsRun last es → run (purge (only n) es) (empty w) ≡ []
+run-gone : (n last : ℕ) (es : List Happening) (w : View) → n ≤ last → IsRun last es → run (purge (only n) es) (empty w) ≡ []
 run-gone n last [] w le r = refl
 run-gone n last (Opens m ∷ es) w le r =
     ap (λ b. run (cond b (Opens m ∷ purge (only n) es) (purge (only n) es)) (empty w)) (other-number n m last le r.0) ∙ run-gone n m es w (let lt = r.0 in omega arith) r.1
@@ -137,17 +137,17 @@ cond-none true x y e = (λ h. e, λ h. absurd (cc))
 cond-none false x y e = (λ h. absurd (cc), λ h. e)
 
 -- heard, it can take no turn
-settled-heard : (w : World) (n : ℕ) (s : Session) → whose (heard w.setup s).stage ≡ None → can (heard w.setup s) ≡ false
+settled-heard : (w : View) (n : ℕ) (s : Session) → whose (heard w.setup s).stage ≡ None → can (heard w.setup s) ≡ false
 settled-heard w n s u = by (can (heard w.setup s)) refl
   where
     by : (b : Bool) → can (heard w.setup s) ≡ b → b ≡ false
     by false e = refl
     by true e =
-        let none : first_able (lone w n (heard w.setup s)).lines ≡ None = sym (ap (λ (v : World). first_able v.lines) (turns-lone w n s u)) ∙ turns-settled (lone w n s) in
+        let none : first_able (lone w n (heard w.setup s)).lines ≡ None = sym (ap (λ (v : View). first_able v.lines) (turns-lone w n s u)) ∙ turns-settled (lone w n s) in
         let some : first_able (lone w n (heard w.setup s)).lines ≡ Some (record { number = n; session = heard w.setup s }) = able-lone n (heard w.setup s) true e in
         absurd (cc)
 
-run-lone : (n last : ℕ) (es : List Happening) (w : World) (s : Session) → n ≤ last → IsRun last es → can s ≡ false → destiny w.setup n s es ≡ None
+run-lone : (n last : ℕ) (es : List Happening) (w : View) (s : Session) → n ≤ last → IsRun last es → can s ≡ false → destiny w.setup n s es ≡ None
     → run (purge (only n) es) (lone w n s) ≡ sent_by n (Some (greeting w.setup s (pieces_of n es)))
 run-lone n last [] w s le r c d = refl
 run-lone n last (Opens m ∷ es) w s le r c d =
@@ -183,7 +183,7 @@ fresh-still : can fresh ≡ false
 unfolding can front int
 fresh-still = refl
 
-run-unborn : (n last : ℕ) (es : List Happening) (w : World) → IsRun last es → unborn w.setup n es ≡ None → run (purge (only n) es) (empty w) ≡ sent_by n (once_opened w.setup n es)
+run-unborn : (n last : ℕ) (es : List Happening) (w : View) → IsRun last es → unborn w.setup n es ≡ None → run (purge (only n) es) (empty w) ≡ sent_by n (once_opened w.setup n es)
 run-unborn n last [] w r d = refl
 run-unborn n last (Opens m ∷ es) w r d = by (eqb m n) refl (run-unborn n m es w r.1)
   where
@@ -248,7 +248,7 @@ idle-at low last n (l ∷ ls) r f = by (eqb l.number n) refl (can l.session) ref
     }
     by false e false h rest = rest (subst (λ x. cond x (Some l) (first_able ls) ≡ None) h f)
 
-run-found : (n last : ℕ) (es : List Happening) (w : World) (o : Option Session) → IsRun last es → IsIdleAt n last o → fate_from w.setup n o es ≡ None
+run-found : (n last : ℕ) (es : List Happening) (w : View) (o : Option Session) → IsRun last es → IsIdleAt n last o → fate_from w.setup n o es ≡ None
     → run (purge (only n) es) (record w { lines = lines_of n o }) ≡ sent_by n (greeted_from w.setup n o es)
 run-found n last es w None r i d = run-unborn n last es w r d
 run-found n last es w (Some s) r i d =

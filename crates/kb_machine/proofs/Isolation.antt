@@ -1,6 +1,6 @@
 -- Two runs that are alike for a tenant give its connections the same.
 use Rattle.std.proofs.Common.{◌≡◌, ℕ, List, [], ◌∷◌, ◌++◌, Bool, true, false, cond, sym, ◌∙◌, ap, refl}
-use Rattle.kb_machine.specs.Machine.{Happening, World, Sent, run, stepped, those, those_sent, by_number}
+use Rattle.kb_machine.specs.Machine.{Happening, View, Sent, run, stepped, those, those_sent, by_number}
 use Rattle.kb_machine.specs.Owners.{concerns, purge}
 use Rattle.kb_machine.specs.Broker.{BrokerState, IsCalmFor, Mine, view_of, kept_of, owned_by, alone}
 use Rattle.kb_machine.specs.Told.{quieted}
@@ -9,10 +9,10 @@ use Rattle.kb_machine.specs.Isolation.{IsIsolated, StartsAlike, AreAlike, own_ev
 view-alike : (t : ℕ) (es fs : List Happening) (a b : BrokerState) → StartsAlike t es fs a b → view_of t (owned_by t fs b) b ≡ view_of t (owned_by t es a) a
 view-alike t es fs a b s =
     let lines = own_lines t fs b in
-    ap (λ x. let w : World = record { setup = x; kept = kept_of b t; clock = b.clock; lines = lines } in w) s.setup
-    ∙ (ap (λ x. let w : World = record { setup = a.setup; kept = x; clock = b.clock; lines = lines } in w) s.kept
-    ∙ (ap (λ x. let w : World = record { setup = a.setup; kept = kept_of a t; clock = x; lines = lines } in w) s.clock
-    ∙ ap (λ x. let w : World = record { setup = a.setup; kept = kept_of a t; clock = a.clock; lines = x } in w) s.lines))
+    ap (λ x. let w : View = record { setup = x; kept = kept_of b t; clock = b.clock; lines = lines } in w) s.setup
+    ∙ (ap (λ x. let w : View = record { setup = a.setup; kept = x; clock = b.clock; lines = lines } in w) s.kept
+    ∙ (ap (λ x. let w : View = record { setup = a.setup; kept = kept_of a t; clock = x; lines = lines } in w) s.clock
+    ∙ ap (λ x. let w : View = record { setup = a.setup; kept = kept_of a t; clock = a.clock; lines = x } in w) s.lines))
 
 alone-alike : (t : ℕ) (es fs : List Happening) (a after_a b after_b : BrokerState) → AreAlike t es fs a after_a b after_b → alone t fs b ≡ alone t es a
 alone-alike t es fs a after_a b after_b h =
@@ -33,7 +33,7 @@ starts-empty t es fs b e = record {
 }
 
 -- the last world after one event more in front
-pub last-step : (mine : ℕ → Bool) (e : Happening) (es : List Happening) (w : World) → last_world (purge mine es) (stepped (concerns mine e) e w) ≡ last_world (purge mine (e ∷ es)) w
+pub last-step : (mine : ℕ → Bool) (e : Happening) (es : List Happening) (w : View) → last_world (purge mine es) (stepped (concerns mine e) e w) ≡ last_world (purge mine (e ∷ es)) w
 last-step mine e es w = by (concerns mine e)
   where
     by : (b : Bool) → last_world (purge mine es) (stepped b e w) ≡ last_world (cond b (e ∷ purge mine es) (purge mine es)) w

@@ -13,7 +13,7 @@ use Rattle.kb_service.specs.Replies.{Reaction, Plain, Rebalances}
 use Rattle.kb_machine.specs.Tenant.{answer, ready}
 use Rattle.kb_machine.specs.Session.{Greeting, Unshaken, Shaken, Bare, Stage, Greets, BoundTo, Session, replied, is_turn, can}
 use Rattle.kb_machine.specs.Greeting.{Setup, greeted_by, greeted_frame, greeted_at, greeted, greeting_after, shaken, authenticated, logged_in, bare_login, login}
-use Rattle.kb_machine.specs.Machine.{Line, World, plainly, answered, served_by, served_at, served, put, told, woken_by, woken, each, on, those, first_able, turn_at, turn_of, turn, again, work, turns}
+use Rattle.kb_machine.specs.Machine.{Line, View, plainly, after_reaction, served_by, served_at, after_turn, put, told, woken_by, woken, each, on, those, first_able, turn_at, turn_of, turn, again, work, turns}
 
 -- 1. Lists of connections
 
@@ -100,7 +100,7 @@ plainly-le (Waits deadline places) id version body s = omega arith
 plainly-le Silent id version body s = omega arith
 plainly-le Shuts id version body s = omega arith
 
-answered-le : (r : Reaction) (id version : ℤ) (body : List ℕ) (s : Session) → length (answered r id version body s).unread ≤ length s.unread
+answered-le : (r : Reaction) (id version : ℤ) (body : List ℕ) (s : Session) → length (after_reaction r id version body s).unread ≤ length s.unread
 answered-le (Plain r) id version body s = plainly-le r id version body s
 answered-le Rebalances id version body s = omega arith
 
@@ -158,8 +158,8 @@ served_at-less setup kept clock n s TooLarge e t = some-left s.unread (ap is_tur
 served_at-less setup kept clock n s Partial e t = cc
 
 -- a bound connection's turn takes bytes
-pub served-less : (setup : Setup) (kept : Kept) (clock n : ℕ) (s : Session) → is_turn (front s.unread) ≡ true → length (served setup kept clock n s).unread < length s.unread
-unfolding served
+pub served-less : (setup : Setup) (kept : Kept) (clock n : ℕ) (s : Session) → is_turn (front s.unread) ≡ true → length (after_turn setup kept clock n s).unread < length s.unread
+unfolding after_turn
 served-less setup kept clock n s t = served_at-less setup kept clock n s (front s.unread) refl t
 
 served_at-still : (setup : Setup) (kept : Kept) (clock n : ℕ) (s : Session) (f : Front) → is_turn f ≡ false → served_at setup kept clock n s f ≡ s
@@ -168,8 +168,8 @@ served_at-still setup kept clock n s TooSmall t = cc
 served_at-still setup kept clock n s TooLarge t = cc
 served_at-still setup kept clock n s Partial t = refl
 
-served-still : (setup : Setup) (kept : Kept) (clock n : ℕ) (s : Session) → is_turn (front s.unread) ≡ false → served setup kept clock n s ≡ s
-unfolding served
+served-still : (setup : Setup) (kept : Kept) (clock n : ℕ) (s : Session) → is_turn (front s.unread) ≡ false → after_turn setup kept clock n s ≡ s
+unfolding after_turn
 served-still setup kept clock n s t = served_at-still setup kept clock n s (front s.unread) t
 
 pub can-turn : (s : Session) → can s ≡ true → is_turn (front s.unread) ≡ true
@@ -191,9 +191,9 @@ greeted-takes setup h = record {
   less = λ s c. greeted-less setup h s (can-turn s c);
 }
 
-pub served-takes : (setup : Setup) (kept : Kept) (clock n : ℕ) → Takes (served setup kept clock n)
+pub served-takes : (setup : Setup) (kept : Kept) (clock n : ℕ) → Takes (after_turn setup kept clock n)
 served-takes setup kept clock n = record {
-  le = λ s. le_by (is_turn (front s.unread)) (served setup kept clock n s) s (served-less setup kept clock n s) (served-still setup kept clock n s);
+  le = λ s. le_by (is_turn (front s.unread)) (after_turn setup kept clock n s) s (served-less setup kept clock n s) (served-still setup kept clock n s);
   less = λ s c. served-less setup kept clock n s (can-turn s c);
 }
 
@@ -229,33 +229,33 @@ pub work-woken : (kept : Kept) (clock : ℕ) (ls : List Line) → work (each (λ
 work-woken kept clock [] = omega arith
 work-woken kept clock (l ∷ ls) = let h = woken_by-le kept clock l.number l.session l.session.stage in omega (arith, h, work-woken kept clock ls)
 
-work-turn_at : (w : World) (l : Line) (st : Stage) → first_able w.lines ≡ Some l → work (turn_at w l.number l.session.unread st).lines < work w.lines
+work-turn_at : (w : View) (l : Line) (st : Stage) → first_able w.lines ≡ Some l → work (turn_at w l.number l.session.unread st).lines < work w.lines
 work-turn_at w l (Greets h) f = work-on l.number (greeted w.setup h) (greeted-takes w.setup h) w.lines l f refl
 work-turn_at w l (BoundTo u wait) f =
-    let e = work-woken (put w.setup w.kept w.clock l.number l.session.unread) w.clock (each (on l.number (served w.setup w.kept w.clock l.number)) w.lines) in
-    let lt = work-on l.number (served w.setup w.kept w.clock l.number) (served-takes w.setup w.kept w.clock l.number) w.lines l f refl in
+    let e = work-woken (put w.setup w.kept w.clock l.number l.session.unread) w.clock (each (on l.number (after_turn w.setup w.kept w.clock l.number)) w.lines) in
+    let lt = work-on l.number (after_turn w.setup w.kept w.clock l.number) (served-takes w.setup w.kept w.clock l.number) w.lines l f refl in
     omega (arith, e, lt)
 
 -- 3. The turn of a world
 
-pub turn-none : (w : World) → first_able w.lines ≡ None → turn w ≡ w
+pub turn-none : (w : View) → first_able w.lines ≡ None → turn w ≡ w
 unfolding turn
 turn-none w h = ap (turn_of w) h
 
-pub turn-some : (w : World) (l : Line) → first_able w.lines ≡ Some l → turn w ≡ turn_at w l.number l.session.unread l.session.stage
+pub turn-some : (w : View) (l : Line) → first_able w.lines ≡ Some l → turn w ≡ turn_at w l.number l.session.unread l.session.stage
 unfolding turn
 turn-some w l h = ap (turn_of w) h
 
-pub work-turn : (w : World) (l : Line) → first_able w.lines ≡ Some l → work (turn w).lines < work w.lines
+pub work-turn : (w : View) (l : Line) → first_able w.lines ≡ Some l → work (turn w).lines < work w.lines
 work-turn w l h = rw (turn-some w l h) (work-turn_at w l l.session.stage h)
 
 -- where no connection can take a turn, turns change nothing
-pub again-none : (n : ℕ) (w : World) → first_able w.lines ≡ None → again turn n w ≡ w
+pub again-none : (n : ℕ) (w : View) → first_able w.lines ≡ None → again turn n w ≡ w
 again-none zero w h = refl
 again-none (suc n) w h = ap (again turn n) (turn-none w h) ∙ again-none n w h
 
 -- more turns than unread bytes are as good
-enough_by : (n m : ℕ) (w : World) (o : Option Line) → first_able w.lines ≡ o → work w.lines ≤ n → work w.lines ≤ m → again turn n w ≡ again turn m w
+enough_by : (n m : ℕ) (w : View) (o : Option Line) → first_able w.lines ≡ o → work w.lines ≤ n → work w.lines ≤ m → again turn n w ≡ again turn m w
 enough_by n m w None h p q = again-none n w h ∙ sym (again-none m w h)
 enough_by zero m w (Some l) h p q = absurd (omega (arith, work-turn w l h))
 enough_by (suc n) zero w (Some l) h p q = absurd (omega (arith, work-turn w l h))
@@ -263,12 +263,12 @@ enough_by (suc n) (suc m) w (Some l) h p q =
     let lt = work-turn w l h in
     enough_by n m (turn w) (first_able (turn w).lines) refl (omega (arith, lt)) (omega (arith, lt))
 
-pub turns-none : (w : World) → first_able w.lines ≡ None → turns w ≡ w
+pub turns-none : (w : View) → first_able w.lines ≡ None → turns w ≡ w
 unfolding turns
 turns-none w h = again-none (work w.lines) w h
 
 -- a turn is the first of the turns
-turns-turn_by : (w : World) (o : Option Line) → first_able w.lines ≡ o → turns (turn w) ≡ turns w
+turns-turn_by : (w : View) (o : Option Line) → first_able w.lines ≡ o → turns (turn w) ≡ turns w
 unfolding turns
 turns-turn_by w None h = ap turns (turn-none w h)
 turns-turn_by w (Some l) h =
@@ -276,5 +276,5 @@ turns-turn_by w (Some l) h =
     enough_by (work (turn w).lines) (work w.lines) (turn w) (first_able (turn w).lines) refl (omega arith) (omega (arith, lt))
     ∙ enough_by (suc (work w.lines)) (work w.lines) w (Some l) h (omega arith) (omega arith)
 
-pub turns-turn : (w : World) → turns (turn w) ≡ turns w
+pub turns-turn : (w : View) → turns (turn w) ≡ turns w
 turns-turn w = turns-turn_by w (first_able w.lines) refl

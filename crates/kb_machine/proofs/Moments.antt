@@ -11,7 +11,7 @@ use Rattle.kb_tenant.specs.Serve.{looked, looked_at}
 use Rattle.kb_service.specs.Hosted.{Kept, world_at}
 use Rattle.kb_machine.specs.Tenant.{Records, Wait, ready}
 use Rattle.kb_machine.specs.Session.{BoundTo, Session, replied, without_wait}
-use Rattle.kb_machine.specs.Machine.{World, Line, Happening, again, all_woken, first_able, told, turn, turn_at, turns, woken, woken_by, work}
+use Rattle.kb_machine.specs.Machine.{View, Line, Happening, again, all_woken, first_able, told, turn, turn_at, turns, woken, woken_by, work}
 use Rattle.kb_machine.specs.Owners.{concerns, purge}
 use Rattle.kb_machine.specs.Fetches.{AllTurnsGiveBatches, AllWakeWithBatches, NextGivesBatches, ServesBatches, TurnGivesBatches, TurnsGiveBatches, after_request}
 use Rattle.kb_machine.proofs.Laws.{turn-some}
@@ -21,44 +21,44 @@ use Rattle.kb_machine.proofs.Pinned.{again-settled}
 -- 1. Turns
 
 -- the turn after that many gives batches
-abbrev GivesAfter : World → ℕ → Type 0
+abbrev GivesAfter : View → ℕ → Type 0
 GivesAfter w count = NextGivesBatches (again turn count w) (first_able (again turn count w).lines)
 
-early-turn : (n count : ℕ) (w : World) → count < n → TurnsGiveBatches n w → GivesAfter w count
+early-turn : (n count : ℕ) (w : View) → count < n → TurnsGiveBatches n w → GivesAfter w count
 early-turn zero count w early all = absurd (omega (arith, early))
 early-turn (suc n) zero w early all = all.0
 early-turn (suc n) (suc count) w early all = early-turn n count (turn w) (omega (arith, early)) all.1
 
-late-turn : (count : ℕ) (w : World) → work w.lines ≤ count → GivesAfter w count
+late-turn : (count : ℕ) (w : View) → work w.lines ≤ count → GivesAfter w count
 late-turn count w late = subst (NextGivesBatches (again turn count w)) (sym (again-settled count w late)) tt
 
-some-turn : (count : ℕ) (w : World) (b : Bool) → nat_lt count (work w.lines) ≡ b → TurnsGiveBatches (work w.lines) w → GivesAfter w count
+some-turn : (count : ℕ) (w : View) (b : Bool) → nat_lt count (work w.lines) ≡ b → TurnsGiveBatches (work w.lines) w → GivesAfter w count
 some-turn count w true e all = early-turn (work w.lines) count w (grind (arith, nat_tests, e)) all
 some-turn count w false e all = late-turn count w (grind (arith, nat_tests, e))
 
-pub each-turn : (w : World) → AllTurnsGiveBatches w → (count : ℕ) → GivesAfter w count
+pub each-turn : (w : View) → AllTurnsGiveBatches w → (count : ℕ) → GivesAfter w count
 each-turn w all count = some-turn count w (nat_lt count (work w.lines)) refl all
 
-so-many-turns : (n : ℕ) (w : World) → ((count : ℕ) → GivesAfter w count) → TurnsGiveBatches n w
+so-many-turns : (n : ℕ) (w : View) → ((count : ℕ) → GivesAfter w count) → TurnsGiveBatches n w
 so-many-turns zero w each = tt
 so-many-turns (suc n) w each = (each 0, so-many-turns n (turn w) (λ count. each (suc count)))
 
-pub all-turns : (w : World) → ((count : ℕ) → GivesAfter w count) → AllTurnsGiveBatches w
+pub all-turns : (w : View) → ((count : ℕ) → GivesAfter w count) → AllTurnsGiveBatches w
 all-turns w each = so-many-turns (work w.lines) w each
 
-pub turns-again : (w : World) → turns w ≡ again turn (work w.lines) w
+pub turns-again : (w : View) → turns w ≡ again turn (work w.lines) w
 unfolding turns
 turns-again w = refl
 
 -- the turn of a bound connection
-pub turn-bound : (w : World) (l : Line) (tenant : ℕ) (wait : Option Wait) → first_able w.lines ≡ Some l → l.session.stage ≡ BoundTo tenant wait → turn w ≡ all_woken (after_request w l)
+pub turn-bound : (w : View) (l : Line) (tenant : ℕ) (wait : Option Wait) → first_able w.lines ≡ Some l → l.session.stage ≡ BoundTo tenant wait → turn w ≡ all_woken (after_request w l)
 turn-bound w l tenant wait first bound = turn-some w l first ∙ ap (turn_at w l.number l.session.unread) bound
 
-pub next-serves : (w : World) (l : Line) (tenant : ℕ) (wait : Option Wait) → first_able w.lines ≡ Some l → l.session.stage ≡ BoundTo tenant wait
+pub next-serves : (w : View) (l : Line) (tenant : ℕ) (wait : Option Wait) → first_able w.lines ≡ Some l → l.session.stage ≡ BoundTo tenant wait
     → NextGivesBatches w (first_able w.lines) → ServesBatches w l.number l.session × AllWakeWithBatches (after_request w l)
 next-serves w l tenant wait first bound gives = subst (TurnGivesBatches w l) bound (subst (NextGivesBatches w) first gives)
 
-pub serves-next : (w : World) (l : Line) (tenant : ℕ) (wait : Option Wait) → first_able w.lines ≡ Some l → l.session.stage ≡ BoundTo tenant wait
+pub serves-next : (w : View) (l : Line) (tenant : ℕ) (wait : Option Wait) → first_able w.lines ≡ Some l → l.session.stage ≡ BoundTo tenant wait
     → ServesBatches w l.number l.session × AllWakeWithBatches (after_request w l) → NextGivesBatches w (first_able w.lines)
 serves-next w l tenant wait first bound both = subst (NextGivesBatches w) (sym first) (subst (TurnGivesBatches w l) (sym bound) both)
 

@@ -12,7 +12,7 @@ use Rattle.kb_service.specs.Replies.{Reaction, Plain, Rebalances}
 use Rattle.kb_machine.specs.Tenant.{Wait, Records, Group, answer}
 use Rattle.kb_machine.specs.Session.{Greeting, Stage, Greets, BoundTo, Session, fed, shut_down, without_wait, waiting, can, is_turn, room, replied}
 use Rattle.kb_machine.specs.Greeting.{Setup, greeted}
-use Rattle.kb_machine.specs.Machine.{Happening, Opens, Comes, Closes, Moment, Line, World, plainly, answered, served_by, served_at, served, put, each, on, those, first_able, all_woken, turn_at, turn, turns, again}
+use Rattle.kb_machine.specs.Machine.{Happening, Opens, Comes, Closes, Moment, Line, View, plainly, after_reaction, served_by, served_at, after_turn, put, each, on, those, first_able, all_woken, turn_at, turn, turns, again}
 use Rattle.kb_machine.specs.Owners.{greet_turn, greet_turn_at, heard, destiny, whose, Fits, Owns, Pairwise}
 use Rattle.kb_machine.proofs.Laws.{those-each, first-those, turn-some, turns-turn, greeted-less, greeted-still}
 
@@ -125,7 +125,7 @@ stage-plainly (Waits deadline places) id version body s = stage-waiting (record 
 stage-plainly Silent id version body s = refl
 stage-plainly Shuts id version body s = stage-shut s
 
-pub stage-answered : (r : Reaction) (id version : ℤ) (body : List ℕ) (s : Session) → without_wait (answered r id version body s).stage ≡ without_wait s.stage
+pub stage-answered : (r : Reaction) (id version : ℤ) (body : List ℕ) (s : Session) → without_wait (after_reaction r id version body s).stage ≡ without_wait s.stage
 stage-answered (Plain r) id version body s = stage-plainly r id version body s
 stage-answered Rebalances id version body s = stage-waiting (record { correlation_id = id; awaited = Group }) s.stage
 
@@ -139,8 +139,8 @@ stage-served_by setup kept clock n id (Another k v b) s = stage-answered (answer
 stage-served_by setup kept clock n id Unread s = stage-shut s
 
 -- a bound connection's turn leaves it bound
-pub stage-served : (setup : Setup) (kept : Kept) (clock n : ℕ) (s : Session) → without_wait (served setup kept clock n s).stage ≡ without_wait s.stage
-unfolding served
+pub stage-served : (setup : Setup) (kept : Kept) (clock n : ℕ) (s : Session) → without_wait (after_turn setup kept clock n s).stage ≡ without_wait s.stage
+unfolding after_turn
 stage-served setup kept clock n s = by (front s.unread)
   where
     by : (f : Front) → without_wait (served_at setup kept clock n s f).stage ≡ without_wait s.stage
@@ -213,7 +213,7 @@ those-on_other mine n f (l ∷ ls) h = let rest = those-on_other mine n f ls h i
 -- 6. The steps of the whole broker, cut down to a tenant
 
 -- a greeting turn is the machine's turn, or nothing
-pub view-greeting : (mine : ℕ → Bool) (w : World) (all : List Line) (l : Line) (h : Greeting) (b : Bool) → mine l.number ≡ b → first_able all ≡ Some l → l.session.stage ≡ Greets h → w.lines ≡ those mine all →
+pub view-greeting : (mine : ℕ → Bool) (w : View) (all : List Line) (l : Line) (h : Greeting) (b : Bool) → mine l.number ≡ b → first_able all ≡ Some l → l.session.stage ≡ Greets h → w.lines ≡ those mine all →
     turns (record w { lines = those mine (each (on l.number (greeted w.setup h)) all) }) ≡ turns w
 view-greeting mine w all l h false m f g e = ap (λ ls. turns (record w { lines = ls })) (those-on_other mine l.number (greeted w.setup h) all m ∙ sym e)
 view-greeting mine w all l h true m f g e =
@@ -223,10 +223,10 @@ view-greeting mine w all l h true m f g e =
     ap (λ ls. turns (record w { lines = ls })) lines ∙ (ap turns (sym taken) ∙ turns-turn w)
 
 -- a turn for the tenant itself is the machine's turn
-pub view-served : (mine : ℕ → Bool) (w : World) (all : List Line) (l : Line) (t : ℕ) (wait : Option Wait) → first_able all ≡ Some l → l.session.stage ≡ BoundTo t wait → w.lines ≡ those mine all → mine l.number ≡ true →
-    turns (all_woken (record w { kept = put w.setup w.kept w.clock l.number l.session.unread; lines = those mine (each (on l.number (served w.setup w.kept w.clock l.number)) all) })) ≡ turns w
+pub view-served : (mine : ℕ → Bool) (w : View) (all : List Line) (l : Line) (t : ℕ) (wait : Option Wait) → first_able all ≡ Some l → l.session.stage ≡ BoundTo t wait → w.lines ≡ those mine all → mine l.number ≡ true →
+    turns (all_woken (record w { kept = put w.setup w.kept w.clock l.number l.session.unread; lines = those mine (each (on l.number (after_turn w.setup w.kept w.clock l.number)) all) })) ≡ turns w
 view-served mine w all l t wait f g e m =
     let able : first_able w.lines ≡ Some l = ap first_able e ∙ first-those mine all l f m in
-    let lines : those mine (each (on l.number (served w.setup w.kept w.clock l.number)) all) ≡ each (on l.number (served w.setup w.kept w.clock l.number)) w.lines = those-each mine (on l.number (served w.setup w.kept w.clock l.number)) all ∙ ap (each (on l.number (served w.setup w.kept w.clock l.number))) (sym e) in
+    let lines : those mine (each (on l.number (after_turn w.setup w.kept w.clock l.number)) all) ≡ each (on l.number (after_turn w.setup w.kept w.clock l.number)) w.lines = those-each mine (on l.number (after_turn w.setup w.kept w.clock l.number)) all ∙ ap (each (on l.number (after_turn w.setup w.kept w.clock l.number))) (sym e) in
     let taken : turn w ≡ turn_at w l.number l.session.unread (BoundTo t wait) = turn-some w l able ∙ ap (turn_at w l.number l.session.unread) g in
     ap (λ ls. turns (all_woken (record w { kept = put w.setup w.kept w.clock l.number l.session.unread; lines = ls }))) lines ∙ (ap turns (sym taken) ∙ turns-turn w)

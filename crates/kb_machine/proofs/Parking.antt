@@ -63,7 +63,7 @@ fetch-parks k clock gs version body r read = by (fetch_answer (world_at k clock)
           asks = sym same ∙ sym (ap (asked_in (world_at k clock)) read);
         }
 
-plain-parks : (node : Node) (k : Kept) (clock n : ℕ) (gs : Groups) (key version : ℤ) (body : List ℕ) → ParksPlain version body clock gs (tenant.served node (world_at k clock) n key version body)
+plain-parks : (node : Node) (k : Kept) (clock n : ℕ) (gs : Groups) (key version : ℤ) (body : List ℕ) → ParksPlain version body clock gs (tenant.plainly_served node (world_at k clock) n key version body)
 plain-parks node k clock n gs key version body =
     let w = world_at k clock in
     by_request (ParksPlain version body clock gs) node w n key version body (record {
@@ -107,15 +107,15 @@ sync-parks version body clock w gs (sync.Got assignment) deadline places e = abs
 sync-parks version body clock w gs sync.Waits deadline places e = absurd (cc)
 
 -- one that is for no group
-topics-parks : (node : Node) (k : Kept) (clock n : ℕ) (key version : ℤ) (body : List ℕ) → Parks version body clock (of_topics k.groups (tenant.served node (world_at k clock) n key version body))
-topics-parks node k clock n key version body deadline places e = (let f : (tenant.served node (world_at k clock) n key version body).reaction ≡ Waits deadline places = cc in plain-parks node k clock n (silent k.groups) key version body deadline places f)
+topics-parks : (node : Node) (k : Kept) (clock n : ℕ) (key version : ℤ) (body : List ℕ) → Parks version body clock (of_topics k.groups (tenant.plainly_served node (world_at k clock) n key version body))
+topics-parks node k clock n key version body deadline places e = (let f : (tenant.plainly_served node (world_at k clock) n key version body).reaction ≡ Waits deadline places = cc in plain-parks node k clock n (silent k.groups) key version body deadline places f)
 
 pub parks : (node : Node) (k : Kept) (clock n : ℕ) (key version : ℤ) (body : List ℕ) → Parks version body clock (served node (world_at k clock) k.groups n key version body)
 unfolding served
 parks node k clock n key version body =
     let w = world_at k clock in
     let gs = k.groups in
-    let others : Outcome = of_topics gs (tenant.served node w n key version body) in
+    let others : Outcome = of_topics gs (tenant.plainly_served node w n key version body) in
     let syncs : Outcome = if_read w gs (whole sync_group_request body) (of_sync w n gs) in
     let leaves : Outcome = if_read w gs (whole leave_group_request body) (of_leave w gs) in
     let beats : Outcome = if_read w gs (whole heartbeat_request body) (of_heartbeat w gs) in

@@ -8,7 +8,7 @@ use Rattle.kb_machine.specs.Requests.{Another, Authenticate}
 use Rattle.kb_coordinator.specs.Calls as groups
 use Rattle.kb_service.specs.Hosted.{Kept, left}
 use Rattle.kb_machine.specs.Greeting.{Setup, greeted, greeted_by, greeted_at, logged_in, bare_login, login}
-use Rattle.kb_machine.specs.Machine.{World, Closes, Line, find_line, first_able, turn, turns, again, work, served, kept_without, kept_closed, kept_fed, step}
+use Rattle.kb_machine.specs.Machine.{View, Closes, Line, find_line, first_able, turn, turns, again, work, after_turn, kept_without, kept_closed, kept_fed, step}
 use Rattle.kb_machine.specs.Owners.{whose}
 use Rattle.kb_machine.proofs.Laws.{work-turn, again-none}
 use Rattle.kb_machine.proofs.Owners.{stage-served}
@@ -42,19 +42,19 @@ whose-without_wait : (st : Stage) → whose (without_wait st) ≡ whose st
 whose-without_wait (Greets h) = refl
 whose-without_wait (BoundTo t w) = refl
 
-pub whose-served : (setup : Setup) (kept : Kept) (clock n tenant : ℕ) (s : Session) → whose s.stage ≡ Some tenant → whose (served setup kept clock n s).stage ≡ Some tenant
-whose-served setup kept clock n tenant s e = sym (whose-without_wait (served setup kept clock n s).stage) ∙ ap whose (stage-served setup kept clock n s) ∙ whose-without_wait s.stage ∙ e
+pub whose-served : (setup : Setup) (kept : Kept) (clock n tenant : ℕ) (s : Session) → whose s.stage ≡ Some tenant → whose (after_turn setup kept clock n s).stage ≡ Some tenant
+whose-served setup kept clock n tenant s e = sym (whose-without_wait (after_turn setup kept clock n s).stage) ∙ ap whose (stage-served setup kept clock n s) ∙ whose-without_wait s.stage ∙ e
 
-settled_by : (n : ℕ) (w : World) (o : Option Line) → first_able w.lines ≡ o → work w.lines ≤ n → first_able (again turn n w).lines ≡ None
-settled_by n w None h p = ap (λ (v : World). first_able v.lines) (again-none n w h) ∙ h
+settled_by : (n : ℕ) (w : View) (o : Option Line) → first_able w.lines ≡ o → work w.lines ≤ n → first_able (again turn n w).lines ≡ None
+settled_by n w None h p = ap (λ (v : View). first_able v.lines) (again-none n w h) ∙ h
 settled_by zero w (Some l) h p = absurd (omega (arith, work-turn w l h))
 settled_by (suc n) w (Some l) h p = let lt = work-turn w l h in settled_by n (turn w) (first_able (turn w).lines) refl (omega (arith, lt, p))
 
 -- so many turns as there are unread bytes, or more
-pub again-settled : (n : ℕ) (w : World) → work w.lines ≤ n → first_able (again turn n w).lines ≡ None
+pub again-settled : (n : ℕ) (w : View) → work w.lines ≤ n → first_able (again turn n w).lines ≡ None
 again-settled n w enough = settled_by n w (first_able w.lines) refl enough
 
-pub turns-settled : (w : World) → first_able (turns w).lines ≡ None
+pub turns-settled : (w : View) → first_able (turns w).lines ≡ None
 unfolding turns
 turns-settled w = settled_by (work w.lines) w (first_able w.lines) refl (omega arith)
 
@@ -63,13 +63,13 @@ gone-groups : (clock n : ℕ) (stage : Stage) (kept : Kept) → has_member stage
 unfolding left
 gone-groups clock n stage kept waits = ap (λ (b : Bool). let k : Kept = cond b (left clock n kept) kept in k.groups) waits
 
-pub closed-groups : (n : ℕ) (s : Session) (w : World) → find_line n w.lines ≡ Some s → has_member s.stage ≡ true → (step (Closes n) w).kept.groups ≡ groups.left w.clock n w.kept.groups
+pub closed-groups : (n : ℕ) (s : Session) (w : View) → find_line n w.lines ≡ Some s → has_member s.stage ≡ true → (step (Closes n) w).kept.groups ≡ groups.left w.clock n w.kept.groups
 closed-groups n s w found waits = ap (λ o. (kept_closed w.clock n o w.kept).groups) found ∙ gone-groups w.clock n s.stage w.kept waits
 
-pub closed-others : (n : ℕ) (s : Session) (w : World) → find_line n w.lines ≡ Some s → has_member s.stage ≡ false → (step (Closes n) w).kept ≡ w.kept
+pub closed-others : (n : ℕ) (s : Session) (w : View) → find_line n w.lines ≡ Some s → has_member s.stage ≡ false → (step (Closes n) w).kept ≡ w.kept
 closed-others n s w found none = ap (λ o. kept_closed w.clock n o w.kept) found ∙ ap (λ (b : Bool). cond b (left w.clock n w.kept) w.kept) none
 
-pub overrun-groups : (n : ℕ) (piece : List ℕ) (s : Session) (w : World) → find_line n w.lines ≡ Some s → has_member s.stage ≡ true → overruns piece s ≡ true
+pub overrun-groups : (n : ℕ) (piece : List ℕ) (s : Session) (w : View) → find_line n w.lines ≡ Some s → has_member s.stage ≡ true → overruns piece s ≡ true
     → (fed piece s ≡ shut_down s) × ((kept_fed piece w.clock n (find_line n w.lines) w.kept).groups ≡ groups.left w.clock n w.kept.groups)
 unfolding fed
 overrun-groups n piece s w found waits over =

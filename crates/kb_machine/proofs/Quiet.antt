@@ -32,7 +32,7 @@ use Rattle.kb_machine.specs.Requests.{Asked, Versions, OtherVersions, Handshake,
 use Rattle.kb_machine.specs.Requests as requests
 use Rattle.kb_machine.specs.Session.{Stage, Greets, BoundTo, Session, waiting, without_wait, is_free}
 use Rattle.kb_machine.specs.Broker.{BrokerState, AnyWait, AreUnready, IsUnready, kept_of}
-use Rattle.kb_machine.specs.Machine.{Line, answered, served_by, served_at, served, kept_by, kept_at, put}
+use Rattle.kb_machine.specs.Machine.{Line, after_reaction, served_by, served_at, after_turn, kept_by, kept_at, put}
 use Rattle.kb_machine.proofs.Parking.{told_as, parks}
 use Rattle.kb_machine.proofs.Parts.{each-tenant}
 use Rattle.kb_machine.proofs.Sets.{IsAt, all-map, all-set}
@@ -164,7 +164,7 @@ unfolding ready
 group-silent clock kept n id none = told-nothing n kept.groups none
 
 answered-idle : (clock : ℕ) (kept : Kept) (n : ℕ) (r : Reaction) (id version : ℤ) (body : List ℕ) (s : Session) → is_free s.stage ≡ true → has_released kept.groups ≡ false
-    → ((deadline : ℕ) (places : List Place) → r ≡ Plain (Waits deadline places) → ready kept clock n (record { correlation_id = id; awaited = Records version body deadline }) ≡ Silent) → IsIdle clock kept n (answered r id version body s).stage
+    → ((deadline : ℕ) (places : List Place) → r ≡ Plain (Waits deadline places) → ready kept clock n (record { correlation_id = id; awaited = Records version body deadline }) ≡ Silent) → IsIdle clock kept n (after_reaction r id version body s).stage
 answered-idle clock kept n (Plain (Replies reply)) id version body s free none silent = free-idle clock kept n _ (free-replied id reply s free)
 answered-idle clock kept n (Plain (Waits deadline places)) id version body s free none silent = waiting-idle clock kept n (record { correlation_id = id; awaited = Records version body deadline }) s.stage (silent deadline places refl)
 answered-idle clock kept n (Plain Silent) id version body s free none silent = free-idle clock kept n s.stage free
@@ -189,8 +189,8 @@ at-idle setup kept clock n s TooLarge free none = free-idle clock kept n _ (free
 at-idle setup kept clock n s Partial free none = free-idle clock kept n s.stage free
 
 -- what a connection waits for after its turn is not ready, where the turn answered nobody who waited for a group
-pub served-idle : (setup : Setup) (kept : Kept) (clock n : ℕ) (s : Session) → is_free s.stage ≡ true → has_released (put setup kept clock n s.unread).groups ≡ false → IsIdle clock (put setup kept clock n s.unread) n (served setup kept clock n s).stage
-unfolding served put
+pub served-idle : (setup : Setup) (kept : Kept) (clock n : ℕ) (s : Session) → is_free s.stage ≡ true → has_released (put setup kept clock n s.unread).groups ≡ false → IsIdle clock (put setup kept clock n s.unread) n (after_turn setup kept clock n s).stage
+unfolding after_turn put
 served-idle setup kept clock n s free none = at-idle setup kept clock n s (front s.unread) free none
 
 -- 4. The turn of a bound connection
@@ -208,18 +208,18 @@ module _ (b : BrokerState) (i u : ℕ) (l m : Line) (us : List TenantState) (H :
 
   -- what the connection itself waits for then is not ready, where the turn answered nobody who waited for a group
   pub own-turn : IsAt b.lines i l → is_free l.session.stage ≡ true → without_wait l.session.stage ≡ BoundTo u None → m.number ≡ l.number → without_wait m.session.stage ≡ without_wait l.session.stage
-      → m.session ≡ served b.setup (kept_of b u) b.clock l.number l.session → hosted.kept_of us u ≡ put b.setup (kept_of b u) b.clock l.number l.session.unread → has_released (hosted.kept_of us u).groups ≡ false
+      → m.session ≡ after_turn b.setup (kept_of b u) b.clock l.number l.session → hosted.kept_of us u ≡ put b.setup (kept_of b u) b.clock l.number l.session.unread → has_released (hosted.kept_of us u).groups ≡ false
       → IsUnready AnyWait (changed b i m us b.unbound_refusals) m.number m.session.stage
   own-turn at free bound number same is after none =
       let kept = put b.setup (kept_of b u) b.clock l.number l.session.unread in
-      let there : IsIdle b.clock kept l.number (served b.setup (kept_of b u) b.clock l.number l.session).stage =
+      let there : IsIdle b.clock kept l.number (after_turn b.setup (kept_of b u) b.clock l.number l.session).stage =
       served-idle b.setup (kept_of b u) b.clock l.number l.session free (subst (λ (k : Kept). has_released k.groups ≡ false) after none) in
       let idle : IsIdle b.clock (hosted.kept_of us u) l.number m.session.stage = subst (λ (k : Kept). IsIdle b.clock k l.number m.session.stage) (sym after) (subst (λ (s : Session). IsIdle b.clock kept l.number s.stage) (sym is) there) in
       own-unready m.number m.session.stage (same ∙ bound) (subst (λ n. IsIdle b.clock (hosted.kept_of us u) n m.session.stage) (sym number) idle)
 
   -- a turn that touched no partition and answered nobody leaves nothing ready, where nothing was before
   pub quiet-turn : AreUnready AnyWait b → IsAt b.lines i l → is_free l.session.stage ≡ true → without_wait l.session.stage ≡ BoundTo u None → m.number ≡ l.number → without_wait m.session.stage ≡ without_wait l.session.stage
-      → m.session ≡ served b.setup (kept_of b u) b.clock l.number l.session → hosted.kept_of us u ≡ put b.setup (kept_of b u) b.clock l.number l.session.unread → has_released (hosted.kept_of us u).groups ≡ false
+      → m.session ≡ after_turn b.setup (kept_of b u) b.clock l.number l.session → hosted.kept_of us u ≡ put b.setup (kept_of b u) b.clock l.number l.session.unread → has_released (hosted.kept_of us u).groups ≡ false
       → ((n : ℕ) (w : Wait) → ready (kept_of b u) b.clock n w ≡ Silent → ready (hosted.kept_of us u) b.clock n w ≡ Silent) → AreUnready AnyWait (changed b i m us b.unbound_refusals)
   quiet-turn unready at free bound number same is after none quiet =
       let c = changed b i m us b.unbound_refusals in

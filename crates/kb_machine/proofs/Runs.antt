@@ -2,7 +2,7 @@
 use Rattle.std.proofs.Common.{◌≡◌, ℕ, List, [], ◌∷◌, ◌++◌, eqb, Bool, true, false, refl, sym, ◌∙◌, ap, arith, ◌<◌, ◌≤◌}
 use Rattle.std.specs.Prelude.{map, cond, nat_lt, ⊤}
 use Rattle.std.proofs.lemmas.Bool.Decides.{nat_tests}
-use Rattle.kb_machine.specs.Machine.{Happening, Opens, Comes, Closes, Moment, Line, World, those, stepped, step, run, leaving, sent, Sent, those_sent, place, by_number}
+use Rattle.kb_machine.specs.Machine.{Happening, Opens, Comes, Closes, Moment, Line, View, those, stepped, step, run, leaving, sent, Sent, those_sent, place, by_number}
 use Rattle.kb_machine.specs.Owners.{concerns, purge}
 
 pub those_sent-map : (mine : ℕ → Bool) (ls : List Line) → those_sent mine (map sent ls) ≡ map sent (those mine ls)
@@ -34,7 +34,7 @@ leaving-not mine (Comes n piece) ls h = refl
 leaving-not mine (Closes n) ls h = those_sent-map mine (those (λ k. eqb k n) ls) ∙ ap (map sent) (those-not mine n ls h)
 leaving-not mine (Moment now) ls h = refl
 
-run-step_by : (mine : ℕ → Bool) (e : Happening) (es : List Happening) (w : World) (ls : List Line) (b : Bool) → concerns mine e ≡ b → w.lines ≡ those mine ls → those_sent mine (leaving e ls) ++ run (purge mine es) (stepped b e w) ≡ run (purge mine (e ∷ es)) w
+run-step_by : (mine : ℕ → Bool) (e : Happening) (es : List Happening) (w : View) (ls : List Line) (b : Bool) → concerns mine e ≡ b → w.lines ≡ those mine ls → those_sent mine (leaving e ls) ++ run (purge mine es) (stepped b e w) ≡ run (purge mine (e ∷ es)) w
 run-step_by mine e es w ls true h f =
     let left : those_sent mine (leaving e ls) ≡ leaving e w.lines = leaving-those mine e ls ∙ ap (leaving e) (sym f) in
     ap (λ x. x ++ run (purge mine es) (step e w)) left ∙ sym (ap (λ x. run x w) (ap (λ (c : Bool). cond c (e ∷ purge mine es) (purge mine es)) h))
@@ -42,7 +42,7 @@ run-step_by mine e es w ls false h f =
     ap (λ x. x ++ run (purge mine es) w) (leaving-not mine e ls h) ∙ sym (ap (λ x. run x w) (ap (λ (c : Bool). cond c (e ∷ purge mine es) (purge mine es)) h))
 
 -- the first event of a run
-pub run-step : (mine : ℕ → Bool) (e : Happening) (es : List Happening) (w next : World) (ls : List Line) → w.lines ≡ those mine ls → next ≡ stepped (concerns mine e) e w → those_sent mine (leaving e ls) ++ run (purge mine es) next ≡ run (purge mine (e ∷ es)) w
+pub run-step : (mine : ℕ → Bool) (e : Happening) (es : List Happening) (w next : View) (ls : List Line) → w.lines ≡ those mine ls → next ≡ stepped (concerns mine e) e w → those_sent mine (leaving e ls) ++ run (purge mine es) next ≡ run (purge mine (e ∷ es)) w
 run-step mine e es w next ls f g = ap (λ x. those_sent mine (leaving e ls) ++ run (purge mine es) x) g ∙ run-step_by mine e es w ls (concerns mine e) refl f
 
 -- 2. By rising number

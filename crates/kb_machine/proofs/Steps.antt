@@ -15,7 +15,7 @@ use Rattle.kb_tenant.proofs.Asked.{waits_at}
 use Rattle.kb_machine.specs.Tenant.{Wait, Awaited, Records, Group, is_past, ready, ready_for}
 use Rattle.kb_machine.specs.Session.{Stage, Greets, BoundTo, fresh, can}
 use Rattle.kb_machine.specs.Greeting.{Setup, User}
-use Rattle.kb_machine.specs.Machine.{Happening, Opens, Closes, Moment, Line, World, those, find_line, first_able, all_woken, kept_closed, turns, stepped}
+use Rattle.kb_machine.specs.Machine.{Happening, Opens, Closes, Moment, Line, View, those, find_line, first_able, all_woken, kept_closed, turns, stepped}
 use Rattle.kb_machine.specs.Owners.{Owns, Fits, whose, heard, destiny, unborn}
 use Rattle.kb_machine.specs.Broker.{BrokerState, InRange, Grows, IsSound, IsUnready, AreUnready, AnyWait, kept_of, IsStep, Rising, Mine, view_of}
 use Rattle.kb_machine.specs.Calls.{opened, closed, moved, other_than}
@@ -35,7 +35,7 @@ pub settled-turns : (t : ℕ) (mine : ℕ → Bool) (b : BrokerState) → first_
 settled-turns t mine b h = turns-none (view_of t mine b) (none-those mine b.lines h)
 
 -- the same world with other connections
-abbrev pub with_lines : World → List Line → World
+abbrev pub with_lines : View → List Line → View
 with_lines w ls = record w { lines = ls }
 
 -- 1. A new connection
@@ -84,7 +84,7 @@ settled-opened b n settled = first-push b.lines (record { number = n; session = 
 pub unready-opened : (b : BrokerState) (n : ℕ) → AreUnready AnyWait b → AreUnready AnyWait (opened b n)
 unready-opened b n unready = all-push (λ l. IsUnready AnyWait b l.number l.session.stage) b.lines (record { number = n; session = fresh }) unready tt
 
-view-opened : (w : World) (n : ℕ) (mine : ℕ → Bool) (yes : Bool) → mine n ≡ yes → with_lines w (w.lines ++ those mine (record { number = n; session = fresh } ∷ [])) ≡ stepped yes (Opens n) w
+view-opened : (w : View) (n : ℕ) (mine : ℕ → Bool) (yes : Bool) → mine n ≡ yes → with_lines w (w.lines ++ those mine (record { number = n; session = fresh } ∷ [])) ≡ stepped yes (Opens n) w
 view-opened w n mine true e = ap (λ (x : List Line). with_lines w (w.lines ++ x)) (grind (arith, e))
 view-opened w n mine false e =
     let none : those mine (record { number = n; session = fresh } ∷ []) ≡ [] = grind (arith, e) in
@@ -159,7 +159,7 @@ closes-others setup t n mine es (l ∷ ls) h = closes-others_by setup t n mine e
     closes-others_by setup t n mine es l ls true e p h = rw e h
     closes-others_by setup t n mine es l ls false e p h = let ne : eqb n l.number ≡ false = grind (arith, nat_tests) in rw e (subst (Fits t (mine l.number)) (ap (λ (b : Bool). cond b (whose (heard setup l.session).stage) (destiny setup l.number (heard setup l.session) es)) ne) p, h)
 
-view-closed : (w : World) (n : ℕ) (mine : ℕ → Bool) (ls : List Line) (kept : Kept) (yes : Bool) → w.lines ≡ those mine ls → mine n ≡ yes → (yes ≡ true → kept ≡ kept_closed w.clock n (find_line n w.lines) w.kept) → (yes ≡ false → kept ≡ w.kept)
+view-closed : (w : View) (n : ℕ) (mine : ℕ → Bool) (ls : List Line) (kept : Kept) (yes : Bool) → w.lines ≡ those mine ls → mine n ≡ yes → (yes ≡ true → kept ≡ kept_closed w.clock n (find_line n w.lines) w.kept) → (yes ≡ false → kept ≡ w.kept)
     → record w { kept = kept; lines = those mine (those (other_than n) ls) } ≡ stepped yes (Closes n) w
 view-closed w n mine ls kept true f e own other =
     ap (λ k. record w { kept = k; lines = those mine (those (other_than n) ls) }) (own refl)

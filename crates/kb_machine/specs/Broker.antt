@@ -8,7 +8,7 @@ use Rattle.kb_tenant.specs.Replies.{Silent}
 use Rattle.kb_machine.specs.Tenant.{Wait, ready}
 use Rattle.kb_machine.specs.Session.{Stage, Greets, BoundTo, Session}
 use Rattle.kb_machine.specs.Greeting.{Setup, User}
-use Rattle.kb_machine.specs.Machine.{Happening, Opens, Comes, Closes, Moment, Line, World, Sent, those, first_able, stepped, run, find_line}
+use Rattle.kb_machine.specs.Machine.{Happening, Opens, Comes, Closes, Moment, Line, View, Sent, those, first_able, stepped, run, find_line}
 use Rattle.kb_machine.specs.Owners.{Owns, concerns, purge, owner, owned, whose}
 
 -- the broker: what is fixed, the tenants in byte order of names, the refusals that were counted for no tenant, the clock,
@@ -30,7 +30,7 @@ abbrev pub refusals_of : BrokerState → ℕ → ℕ
 refusals_of b t = hosted.refusals_of b.tenants t
 
 -- the world of a tenant whose connections are those
-abbrev pub view_of : ℕ → (ℕ → Bool) → BrokerState → World
+abbrev pub view_of : ℕ → (ℕ → Bool) → BrokerState → View
 view_of t mine b = record { setup = b.setup; kept = kept_of b t; clock = b.clock; lines = those mine b.lines }
 
 -- those are the tenant's connections, if these events are still to come

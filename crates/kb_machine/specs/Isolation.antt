@@ -1,6 +1,6 @@
 -- What isolation is to a tenant: what its connections get depends on its own events and the moments, and on nothing that others do.
 use Rattle.std.specs.Prelude.{◌≡◌, ℕ, List, [], ◌∷◌, ◌++◌, Bool}
-use Rattle.kb_machine.specs.Machine.{Happening, Line, World, Sent, those, those_sent, step, run, by_number}
+use Rattle.kb_machine.specs.Machine.{Happening, Line, View, Sent, those, those_sent, step, run, by_number}
 use Rattle.kb_machine.specs.Owners.{purge}
 use Rattle.kb_machine.specs.Broker.{BrokerState, IsCalmFor, Mine, kept_of, owned_by, view_of, alone}
 use Rattle.kb_machine.specs.Told.{quieted}
@@ -46,7 +46,7 @@ pub record AreAlike (t : ℕ) (es fs : List Happening) (a after_a b after_b : Br
 -- 4. What a run leaves
 
 -- the machine's last world
-abbrev pub last_world : List Happening → World → World
+abbrev pub last_world : List Happening → View → View
 last_world [] w = w
 last_world (e ∷ es) w = last_world es (step e w)
 

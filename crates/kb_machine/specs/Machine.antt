@@ -17,7 +17,7 @@ pub record Line : Type 0 where
   pub session : Session
 
 -- the world of a tenant: what is fixed, what it keeps, the clock, and its connections by rising number
-pub record World : Type 0 where
+pub record View : Type 0 where
   pub setup : Setup
   pub kept : Kept
   pub clock : ℕ
@@ -40,9 +40,9 @@ plainly Silent id version body s = s
 plainly Shuts id version body s = shut_down s
 
 -- what a request of that version and body comes to
-abbrev pub answered : Reaction → ℤ → ℤ → List ℕ → Session → Session
-answered (Plain reaction) id version body s = plainly reaction id version body s
-answered Rebalances id version body s = record s { stage = waiting (record { correlation_id = id; awaited = Group }) s.stage }
+abbrev pub after_reaction : Reaction → ℤ → ℤ → List ℕ → Session → Session
+after_reaction (Plain reaction) id version body s = plainly reaction id version body s
+after_reaction Rebalances id version body s = record s { stage = waiting (record { correlation_id = id; awaited = Group }) s.stage }
 
 -- what a request of a bound connection, of number n, does to it; s is the connection without the request
 unfoldable pub served_by : Setup → Kept → ℕ → ℕ → ℤ → Asked → Session → Session
@@ -50,7 +50,7 @@ served_by setup kept clock n id Versions s = replied id (versions_reply setup.ve
 served_by setup kept clock n id OtherVersions s = replied id (versions_reply setup.versions errors.UnsupportedVersion) s
 served_by setup kept clock n id (Handshake version mechanism) s = replied id (handshake_reply errors.IllegalSaslState) s
 served_by setup kept clock n id (Authenticate message) s = replied id illegal_state s
-served_by setup kept clock n id (Another key version body) s = answered (answer setup.node kept clock n key version body) id version body s
+served_by setup kept clock n id (Another key version body) s = after_reaction (answer setup.node kept clock n key version body) id version body s
 served_by setup kept clock n id Unread s = shut_down s
 
 abbrev pub served_at : Setup → Kept → ℕ → ℕ → Session → Front → Session
@@ -60,8 +60,8 @@ served_at setup kept clock n s TooLarge = shut_down s
 served_at setup kept clock n s Partial = s
 
 -- the turn of a bound connection
-unfoldable pub served : Setup → Kept → ℕ → ℕ → Session → Session
-served setup kept clock n s = served_at setup kept clock n s (front s.unread)
+unfoldable pub after_turn : Setup → Kept → ℕ → ℕ → Session → Session
+after_turn setup kept clock n s = served_at setup kept clock n s (front s.unread)
 
 abbrev pub kept_by : Setup → Kept → ℕ → ℕ → Asked → Kept
 kept_by setup kept clock n Versions = kept
@@ -124,20 +124,20 @@ first_able (l ∷ ls) = if can l.session then Some l else first_able ls
 -- 4. Turns
 
 -- all waits that are ready are answered
-abbrev pub all_woken : World → World
+abbrev pub all_woken : View → View
 all_woken w = record w { lines = each (λ k s. woken w.kept w.clock k s) w.lines }
 
 -- a bound connection's request: what is kept changes, then all waits that became ready are answered
-abbrev pub turn_at : World → ℕ → List ℕ → Stage → World
+abbrev pub turn_at : View → ℕ → List ℕ → Stage → View
 turn_at w n unread (Greets greeting) = record w { lines = each (on n (greeted w.setup greeting)) w.lines }
-turn_at w n unread (BoundTo tenant wait) = all_woken (record w { kept = put w.setup w.kept w.clock n unread; lines = each (on n (served w.setup w.kept w.clock n)) w.lines })
+turn_at w n unread (BoundTo tenant wait) = all_woken (record w { kept = put w.setup w.kept w.clock n unread; lines = each (on n (after_turn w.setup w.kept w.clock n)) w.lines })
 
-abbrev pub turn_of : World → Option Line → World
+abbrev pub turn_of : View → Option Line → View
 turn_of w None = w
 turn_of w (Some l) = turn_at w l.number l.session.unread l.session.stage
 
 -- one request is served: that of the least-numbered connection that can take a turn, if any can
-unfoldable pub turn : World → World
+unfoldable pub turn : View → View
 turn w = turn_of w (first_able w.lines)
 
 abbrev pub again : {A : Type 0} → (A → A) → ℕ → A → A
@@ -150,7 +150,7 @@ work [] = 0
 work (l ∷ ls) = length l.session.unread + work ls
 
 -- turns until none is left: each takes at least one unread byte, and where no connection can take one a turn changes nothing
-unfoldable pub turns : World → World
+unfoldable pub turns : View → View
 turns w = again turn (work w.lines) w
 
 -- 5. Events
@@ -170,14 +170,14 @@ kept_fed piece clock n None kept = kept
 kept_fed piece clock n (Some s) kept = if overruns piece s then kept_without clock n s.stage kept else kept
 
 -- one event: at a moment the clock, then the tenant's own part, then the waits that are ready, then turns; a moment before the clock acts as one at the clock
-abbrev pub step : Happening → World → World
+abbrev pub step : Happening → View → View
 step (Opens n) w = record w { lines = w.lines ++ record { number = n; session = fresh } ∷ [] }
 step (Comes n piece) w = turns (record w { kept = kept_fed piece w.clock n (find_line n w.lines) w.kept; lines = each (on n (fed piece)) w.lines })
 step (Closes n) w = record w { kept = kept_closed w.clock n (find_line n w.lines) w.kept; lines = those (λ k. not (k == n)) w.lines }
 step (Moment now) w = let clock = max w.clock now in turns (all_woken (record w { kept = passed clock w.kept; clock = clock }))
 
 -- an event that concerns the tenant is a step, any other is nothing
-abbrev pub stepped : Bool → Happening → World → World
+abbrev pub stepped : Bool → Happening → View → View
 stepped true e w = step e w
 stepped false e w = w
 
@@ -200,7 +200,7 @@ leaving (Closes n) lines = map sent (those (λ k. k == n) lines)
 leaving (Moment now) lines = []
 
 -- what each connection got: those that were closed, in order, and then those that are still open
-abbrev pub run : List Happening → World → List Sent
+abbrev pub run : List Happening → View → List Sent
 run [] w = map sent w.lines
 run (e ∷ es) w = leaving e w.lines ++ run es (step e w)
 

@@ -1,7 +1,7 @@
 -- What a machine says event by event, where its output is taken after each.
 use Rattle.std.specs.Prelude.{◌≡◌, ℕ, ◌<◌, List, [], ◌∷◌, map, not, ◌&&◌, length, Bool, ⊤}
 use Rattle.std.specs.List.{AllByRecursion}
-use Rattle.kb_machine.specs.Machine.{Happening, Line, World, Sent, each, stepped, those_sent, find_line}
+use Rattle.kb_machine.specs.Machine.{Happening, Line, View, Sent, each, stepped, those_sent, find_line}
 use Rattle.kb_machine.specs.Owners.{concerns}
 use Rattle.kb_machine.specs.Broker.{BrokerState, view_of, owned_by, only, IsUnowned}
 use Rattle.kb_machine.specs.Calls.{without_output, shut_in}
@@ -10,7 +10,7 @@ use Rattle.kb_machine.specs.Calls.{without_output, shut_in}
 abbrev pub quieted_lines : List Line → List Line
 quieted_lines lines = each (λ k s. without_output s) lines
 
-abbrev pub quieted : World → World
+abbrev pub quieted : View → View
 quieted w = record w { lines = quieted_lines w.lines }
 
 -- what each connection got in one step, and whether it was shut in this step
@@ -18,7 +18,7 @@ abbrev pub said : List Line → List Line → List Sent
 said old new = map (λ (l : Line). record { number = l.number; bytes = l.session.output; shut = l.session.shut && not (shut_in (find_line l.number old)) }) new
 
 -- what the machine says to its connections at each event, and at an event of another's, where it does nothing
-abbrev pub tell : (ℕ → Bool) → List Happening → World → List (List Sent)
+abbrev pub tell : (ℕ → Bool) → List Happening → View → List (List Sent)
 tell mine [] w = []
 tell mine (e ∷ es) w = let next = stepped (concerns mine e) e w in said w.lines next.lines ∷ tell mine es (quieted next)
 

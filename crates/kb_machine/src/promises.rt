@@ -13,7 +13,7 @@ ghost use Rattle.kb_tenant.specs.Replies.{Replies};
 ghost use Rattle.kb_coordinator.specs.Calls.{left};
 ghost use Rattle.kb_service.specs.Hosted.{Kept, passed, world_at};
 ghost use Rattle.kb_machine.specs.Greeting.{Setup, greeted, greeted_by, login};
-ghost use Rattle.kb_machine.specs.Machine.{World, Line, Happening, Opens, Comes, Closes, Moment, Sent, again, all_woken, each, on, first_able, turn, turns, work, those, those_sent, find_line, served, kept_fed, step, stepped, leaving, run, by_number, woken};
+ghost use Rattle.kb_machine.specs.Machine.{View, Line, Happening, Opens, Comes, Closes, Moment, Sent, again, all_woken, each, on, first_able, turn, turns, work, those, those_sent, find_line, after_turn, kept_fed, step, stepped, leaving, run, by_number, woken};
 ghost use Rattle.kb_machine.specs.Owners.{whose, concerns, purge};
 ghost use Rattle.kb_machine.specs.Broker.{BrokerState, IsCalmFor, IsReady, IsRun, IsUnowned, Mine, Rising, alone_unowned, owned_by, view_of};
 ghost use Rattle.kb_machine.specs.Greetings.{greeted_alone};
@@ -86,7 +86,7 @@ pub fn fetches_get_whole_batches()
     ensures at_once { (setup : Setup) (kept : Kept) (clock n : ℕ) (s : Session) (frame rest : List ℕ) (version : ℤ) (body : List ℕ) (fetch : FetchRequest)
         → HasSmallLogs (world_at kept clock) → front s.unread ≡ Whole frame rest
         → (request setup.versions frame).asked ≡ Another (pos 1) version body → asked_fetch version body ≡ Ok fetch
-        → GetsBatches (world_at kept clock) version fetch (request setup.versions frame).correlation_id (record s { unread = rest }) (served setup kept clock n s) }
+        → GetsBatches (world_at kept clock) version fetch (request setup.versions frame).correlation_id (record s { unread = rest }) (after_turn setup kept clock n s) }
     ensures after_a_wait { (kept : Kept) (clock n tenant : ℕ) (s : Session) (id version : ℤ) (body : List ℕ) (deadline : ℕ) (fetch : FetchRequest)
         → HasSmallLogs (world_at kept clock) → s.stage ≡ BoundTo tenant (Some (record { correlation_id = id; awaited = Records version body deadline }))
         → asked_fetch version body ≡ Ok fetch
@@ -97,24 +97,24 @@ pub fn fetches_get_whole_batches()
 /// without an error, as the partition is at that moment, one after the other, from the one that holds the asked offset. The logs of
 /// what the tenant keeps are within their limits before the run, and then after it too.
 pub fn fetches_get_batches_in_runs()
-    ensures run { (es : List Happening) (w : World) → HasSmallLogs (world_at w.kept w.clock) → FetchesGetBatches es w }
-    ensures later { (es : List Happening) (w : World) → HasSmallLogs (world_at w.kept w.clock) → HasSmallLogs (world_at (last_world es w).kept (last_world es w).clock) }
+    ensures run { (es : List Happening) (w : View) → HasSmallLogs (world_at w.kept w.clock) → FetchesGetBatches es w }
+    ensures later { (es : List Happening) (w : View) → HasSmallLogs (world_at w.kept w.clock) → HasSmallLogs (world_at (last_world es w).kept (last_world es w).clock) }
 {}
 
 /// What is said of the fetches of an event is said of the very worlds through which the machine's step goes: those of each of its
 /// turns, from the world after the piece or the moment on; and in a turn of a bound connection that after its request, whose waits
 /// are looked at.
 pub fn batches_are_of_each_turn()
-    ensures piece { (n : ℕ) (piece : List ℕ) (w : World)
-        → let fed_world : World = record w { kept = kept_fed piece w.clock n (find_line n w.lines) w.kept; lines = each (on n (fed piece)) w.lines } in
+    ensures piece { (n : ℕ) (piece : List ℕ) (w : View)
+        → let fed_world : View = record w { kept = kept_fed piece w.clock n (find_line n w.lines) w.kept; lines = each (on n (fed piece)) w.lines } in
         (step (Comes n piece) w ≡ turns fed_world) × (EventGivesBatches (Comes n piece) w ↔ AllTurnsGiveBatches fed_world) }
-    ensures moment { (now : ℕ) (w : World)
-        → let passed_world : World = record w { kept = passed (max w.clock now) w.kept; clock = max w.clock now } in
+    ensures moment { (now : ℕ) (w : View)
+        → let passed_world : View = record w { kept = passed (max w.clock now) w.kept; clock = max w.clock now } in
         (step (Moment now) w ≡ turns (all_woken passed_world))
         × (EventGivesBatches (Moment now) w ↔ (AllWakeWithBatches passed_world × AllTurnsGiveBatches (all_woken passed_world))) }
-    ensures turns { (w : World) → (turns w ≡ again turn (work w.lines) w)
+    ensures turns { (w : View) → (turns w ≡ again turn (work w.lines) w)
         × (AllTurnsGiveBatches w ↔ ((count : ℕ) → NextGivesBatches (again turn count w) (first_able (again turn count w).lines))) }
-    ensures request { (w : World) (l : Line) (tenant : ℕ) (wait : Option Wait)
+    ensures request { (w : View) (l : Line) (tenant : ℕ) (wait : Option Wait)
         → first_able w.lines ≡ Some l → l.session.stage ≡ BoundTo tenant wait → (turn w ≡ all_woken (after_request w l))
         × (NextGivesBatches w (first_able w.lines) ↔ (ServesBatches w l.number l.session × AllWakeWithBatches (after_request w l))) }
 {}
@@ -142,11 +142,11 @@ pub fn room_is_kept()
 /// A member of a group waits no longer on a connection that is gone: once it closes, or is shut since a piece is longer than its room,
 /// its group stands as after a connection that ends. A connection on which no member waited leaves what is kept as it was.
 pub fn members_wait_no_longer()
-    ensures closed { (n : ℕ) (s : Session) (w : World) → find_line n w.lines ≡ Some s → has_member s.stage ≡ true
+    ensures closed { (n : ℕ) (s : Session) (w : View) → find_line n w.lines ≡ Some s → has_member s.stage ≡ true
         → (step (Closes n) w).kept.groups ≡ left w.clock n w.kept.groups }
-    ensures overrun { (n : ℕ) (piece : List ℕ) (s : Session) (w : World) → find_line n w.lines ≡ Some s → has_member s.stage ≡ true → overruns piece s ≡ true
+    ensures overrun { (n : ℕ) (piece : List ℕ) (s : Session) (w : View) → find_line n w.lines ≡ Some s → has_member s.stage ≡ true → overruns piece s ≡ true
         → (fed piece s ≡ shut_down s) × ((kept_fed piece w.clock n (find_line n w.lines) w.kept).groups ≡ left w.clock n w.kept.groups) }
-    ensures others { (n : ℕ) (s : Session) (w : World) → find_line n w.lines ≡ Some s → has_member s.stage ≡ false → (step (Closes n) w).kept ≡ w.kept }
+    ensures others { (n : ℕ) (s : Session) (w : View) → find_line n w.lines ≡ Some s → has_member s.stage ≡ false → (step (Closes n) w).kept ≡ w.kept }
 {}
 
 /// Before authentication a request of a tenant shuts the connection; a login that names no user with its password shuts it. After a
@@ -163,18 +163,18 @@ pub fn nothing_before_login()
 /// A connection stays its tenant's for good, whatever it asks.
 pub fn bound_for_good()
     ensures { (setup : Setup) (kept : Kept) (clock n tenant : ℕ) (s : Session) → whose s.stage ≡ Some tenant
-        → whose (served setup kept clock n s).stage ≡ Some tenant }
+        → whose (after_turn setup kept clock n s).stage ≡ Some tenant }
 {}
 
 /// Turns come to an end: then no connection can take one.
 pub fn turns_end()
-    ensures { (w : World) → first_able (turns w).lines ≡ None }
+    ensures { (w : View) → first_able (turns w).lines ≡ None }
 {}
 
 /// A run is for a tenant what the run of its own events is: one event that is a step of its machine, or nothing, and then
 /// the others.
 pub fn first_event()
-    ensures { (mine : ℕ → Bool) (e : Happening) (es : List Happening) (w next : World) (lines : List Line)
+    ensures { (mine : ℕ → Bool) (e : Happening) (es : List Happening) (w next : View) (lines : List Line)
         → w.lines ≡ those mine lines → next ≡ stepped (concerns mine e) e w
         → those_sent mine (leaving e lines) ++ run (purge mine es) next ≡ run (purge mine (e ∷ es)) w }
 {}

@@ -23,8 +23,8 @@ use Rattle.kb_client.specs.Consumer.{Consumer, fault_at, entered, restarted, con
 use Rattle.kb_network.specs.Receiver as receivers
 use Rattle.kb_network.specs.Receiver.{Receiver, Login, Greets, Shaken, LoggedIn, Shut, Asked, Handshake, Authenticate, Request, request, Outcome, outcome, replies, handshake_reply, authenticate_reply, knows, logs_in, shakes}
 use Rattle.kb_network.specs.Sending.{arrived, cut, if_given, if_come, reply_text}
-use Rattle.kb_network.specs.Partition.{IsLog, joined, answered}
-use Rattle.kb_network.specs.Consuming.{World, Event, Appends, Sends, Arrives, Serves, Returns, Takes, Reconnects, fetch_of, fetch_in, fitting, fetched_reply, fetched, with_outcome, served_by, served_at, Steps, Runs, IsTyped, IsGiven, begun}
+use Rattle.kb_network.specs.Partition.{IsLog, joined, batches_given}
+use Rattle.kb_network.specs.Consuming.{Reading, Event, Appends, Sends, Arrives, Serves, Returns, Takes, Reconnects, fetch_of, fetch_in, fitting, fetched_reply, fetched, with_outcome, served_by, served_at, Steps, Runs, IsTyped, IsGiven, begun}
 use Rattle.kb_network.proofs.Texts.{header, header_read, request_read, front_request, front_reply, front_nothing, front_part}
 use Rattle.kb_network.proofs.Asking.{handshake_body, handshake_short, handshake_asked, authenticate_body, authenticate_short, authenticate_asked}
 use Rattle.kb_network.proofs.Hearing.{body_read, handshake_heard, handshake_reply_len, authenticate_heard, authenticate_reply_len}
@@ -34,7 +34,7 @@ use Rattle.kb_network.proofs.Giving as giving
 use Rattle.kb_network.proofs.Giving.{holds-grown, holds-connected, holds-entered, holds-taken, holds-replied, holds-same, holds-come, holds-begun, is_given}
 
 -- the consumer, with a reply's batches as a value
-abbrev under : Option (List (List ℕ)) → World → giving.World
+abbrev under : Option (List (List ℕ)) → Reading → giving.World
 under reply w = record { core = w.core; taken = w.taken; reply = reply; start = w.start; batches = w.batches; met = w.met }
 
 -- ---- how far the two are
@@ -47,7 +47,7 @@ Ready stages.Fetch login = login ≡ LoggedIn
 Ready stages.Finished login = Unit {0}
 Ready (stages.Ended ending) login = Unit {0}
 
-record IsQuiet (w : World) : Type 0 where
+record IsQuiet (w : Reading) : Type 0 where
   idle : w.core.asked ≡ false
   unread : w.core.unread ≡ []
   read : w.greeter.unread ≡ []
@@ -55,7 +55,7 @@ record IsQuiet (w : World) : Type 0 where
   none_back : w.answers ≡ []
   ready : Ready w.core.stage w.greeter.login
 
-record IsAsking (w : World) : Type 0 where
+record IsAsking (w : Reading) : Type 0 where
   asked : w.core.asked ≡ true
   unread : w.core.unread ≡ []
   request : IsRequest w.core.stage w.core (w.greeter.unread ++ w.requests)
@@ -79,7 +79,7 @@ abbrev IsReply : Option (List (List ℕ)) → Fetching → Login → List ℕ �
 IsReply None stage login frame = IsLoginReply stage login frame
 IsReply (Some read) stage login frame = (stage ≡ stages.Fetch) × (login ≡ LoggedIn) × FetchAs frame read
 
-record IsAnswered (reply : Option (List (List ℕ))) (w : World) : Type 0 where
+record IsAnswered (reply : Option (List (List ℕ))) (w : Reading) : Type 0 where
   asked : w.core.asked ≡ true
   going : fault_at w.core.stage ≡ None
   read : w.greeter.unread ≡ []
@@ -88,10 +88,10 @@ record IsAnswered (reply : Option (List (List ℕ))) (w : World) : Type 0 where
   whole : front (w.core.unread ++ w.answers) ≡ Whole frame []
   comes : IsReply reply w.core.stage w.greeter.login frame
 
-abbrev Phase : Option (List (List ℕ)) → World → Type 0
+abbrev Phase : Option (List (List ℕ)) → Reading → Type 0
 Phase reply w = ((reply ≡ None) × IsQuiet w) ⊎ (((reply ≡ None) × IsAsking w) ⊎ IsAnswered reply w)
 
-record Holds (offset : ℤ) (wanted : Option ℕ) (follow : Bool) (w : World) : Type 0 where
+record Holds (offset : ℤ) (wanted : Option ℕ) (follow : Bool) (w : Reading) : Type 0 where
   typed : IsTyped w.core.target
   fits : FitsSigned w64 w.core.found.offset
   reply : Option (List (List ℕ))
@@ -128,12 +128,12 @@ not_nothing b rest e = absurd cc
 
 -- ---- a batch is added
 
-grown_phase : (reply : Option (List (List ℕ))) (b : List ℕ) (w : World) → Phase reply w → Phase reply (record w { batches = w.batches ++ b ∷ [] })
+grown_phase : (reply : Option (List (List ℕ))) (b : List ℕ) (w : Reading) → Phase reply w → Phase reply (record w { batches = w.batches ++ b ∷ [] })
 grown_phase reply b w (inl h) = inl (h.0, record { idle = h.1.idle; unread = h.1.unread; read = h.1.read; none_to = h.1.none_to; none_back = h.1.none_back; ready = h.1.ready })
 grown_phase reply b w (inr (inl h)) = inr (inl (h.0, record { asked = h.1.asked; unread = h.1.unread; request = h.1.request; none_back = h.1.none_back; ready = h.1.ready }))
 grown_phase reply b w (inr (inr h)) = inr (inr (record { asked = h.asked; going = h.going; read = h.read; none_to = h.none_to; frame = h.frame; whole = h.whole; comes = h.comes }))
 
-keeps-grown : (offset : ℤ) (wanted : Option ℕ) (follow : Bool) (b : List ℕ) (w : World) → IsLog w.start (w.batches ++ b ∷ []) → Holds offset wanted follow w → Holds offset wanted follow (record w { batches = w.batches ++ b ∷ [] })
+keeps-grown : (offset : ℤ) (wanted : Option ℕ) (follow : Bool) (b : List ℕ) (w : Reading) → IsLog w.start (w.batches ++ b ∷ []) → Holds offset wanted follow w → Holds offset wanted follow (record w { batches = w.batches ++ b ∷ [] })
 keeps-grown offset wanted follow b w log h = record { typed = h.typed; fits = h.fits; reply = h.reply; holds = holds-grown offset wanted follow b (under h.reply w) log h.holds; phase = grown_phase h.reply b w h.phase }
 
 -- ---- lines are taken
@@ -146,15 +146,15 @@ taken_request stages.Fetch c text h = h
 taken_request stages.Finished c text h = h
 taken_request (stages.Ended ending) c text h = h
 
-abbrev took : World → World
+abbrev took : Reading → Reading
 took w = record w { core = without_text w.core; taken = w.taken ++ w.core.found.text }
 
-took_phase : (reply : Option (List (List ℕ))) (w : World) → Phase reply w → Phase reply (took w)
+took_phase : (reply : Option (List (List ℕ))) (w : Reading) → Phase reply w → Phase reply (took w)
 took_phase reply w (inl h) = inl (h.0, record { idle = h.1.idle; unread = h.1.unread; read = h.1.read; none_to = h.1.none_to; none_back = h.1.none_back; ready = h.1.ready })
 took_phase reply w (inr (inl h)) = inr (inl (h.0, record { asked = h.1.asked; unread = h.1.unread; request = taken_request w.core.stage w.core (w.greeter.unread ++ w.requests) h.1.request; none_back = h.1.none_back; ready = h.1.ready }))
 took_phase reply w (inr (inr h)) = inr (inr (record { asked = h.asked; going = h.going; read = h.read; none_to = h.none_to; frame = h.frame; whole = h.whole; comes = h.comes }))
 
-keeps-taken : (offset : ℤ) (wanted : Option ℕ) (follow : Bool) (w : World) → Holds offset wanted follow w → Holds offset wanted follow (took w)
+keeps-taken : (offset : ℤ) (wanted : Option ℕ) (follow : Bool) (w : Reading) → Holds offset wanted follow w → Holds offset wanted follow (took w)
 keeps-taken offset wanted follow w h = record { typed = h.typed; fits = h.fits; reply = h.reply; holds = holds-taken offset wanted follow (under h.reply w) h.holds; phase = took_phase h.reply w h.phase }
 
 -- ---- another connection begins
@@ -168,7 +168,7 @@ restart_ready stages.Fetch = refl
 restart_ready stages.Finished = tt
 restart_ready (stages.Ended ending) = tt
 
-keeps-connected : (offset : ℤ) (wanted : Option ℕ) (follow : Bool) (w : World) → Holds offset wanted follow w → Holds offset wanted follow (record w { core = connected w.core; requests = []; answers = []; greeter = cut w.greeter })
+keeps-connected : (offset : ℤ) (wanted : Option ℕ) (follow : Bool) (w : Reading) → Holds offset wanted follow w → Holds offset wanted follow (record w { core = connected w.core; requests = []; answers = []; greeter = cut w.greeter })
 keeps-connected offset wanted follow w h = record {
   typed = h.typed;
   fits = h.fits;
@@ -190,10 +190,10 @@ asked_request (stages.Ended ending) c text h = h
 not_due : (c : Consumer) → c.asked ≡ true → is_due c ≡ true → ⊥
 not_due c asked due = let no : false ≡ true = sym (ap (λ b. cond b false (has_request c.stage)) asked) ∙ due in absurd cc
 
-abbrev sent : List ℕ → World → World
+abbrev sent : List ℕ → Reading → Reading
 sent text w = record w { core = record w.core { asked = true }; requests = w.requests ++ text }
 
-sent_phase : (reply : Option (List (List ℕ))) (w : World) (text : List ℕ) → is_due w.core ≡ true → IsRequest w.core.stage w.core text → Phase reply w → Phase reply (sent text w)
+sent_phase : (reply : Option (List (List ℕ))) (w : Reading) (text : List ℕ) → is_due w.core ≡ true → IsRequest w.core.stage w.core text → Phase reply w → Phase reply (sent text w)
 sent_phase reply w text due is (inl h) = inr (inl (
   h.0,
   record {
@@ -207,15 +207,15 @@ sent_phase reply w text due is (inl h) = inr (inl (
 sent_phase reply w text due is (inr (inl h)) = absurd (not_due w.core h.1.asked due)
 sent_phase reply w text due is (inr (inr h)) = absurd (not_due w.core h.asked due)
 
-keeps-sent : (offset : ℤ) (wanted : Option ℕ) (follow : Bool) (w : World) (text : List ℕ) → is_due w.core ≡ true → IsRequest w.core.stage w.core text → Holds offset wanted follow w → Holds offset wanted follow (sent text w)
+keeps-sent : (offset : ℤ) (wanted : Option ℕ) (follow : Bool) (w : Reading) (text : List ℕ) → is_due w.core ≡ true → IsRequest w.core.stage w.core text → Holds offset wanted follow w → Holds offset wanted follow (sent text w)
 keeps-sent offset wanted follow w text due is h = record { typed = h.typed; fits = h.fits; reply = h.reply; holds = holds-same offset wanted follow true w.core.unread (under h.reply w) h.holds; phase = sent_phase h.reply w text due is h.phase }
 
 -- ---- bytes come to the broker
 
-abbrev moved : ℕ → World → World
+abbrev moved : ℕ → Reading → Reading
 moved n w = record w { requests = drop n w.requests; greeter = arrived n w.greeter w.requests }
 
-moved_phase : (reply : Option (List (List ℕ))) (n : ℕ) (w : World) → Phase reply w → Phase reply (moved n w)
+moved_phase : (reply : Option (List (List ℕ))) (n : ℕ) (w : Reading) → Phase reply w → Phase reply (moved n w)
 moved_phase reply n w (inl h) = inl (h.0, record { idle = h.1.idle; unread = h.1.unread; read = both_nothing w.greeter.unread (take n w.requests) h.1.read (taken_nothing n w.requests h.1.none_to); none_to = dropped_nothing n w.requests h.1.none_to; none_back = h.1.none_back; ready = h.1.ready })
 moved_phase reply n w (inr (inl h)) = inr (inl (
   h.0,
@@ -229,7 +229,7 @@ moved_phase reply n w (inr (inl h)) = inr (inl (
 ))
 moved_phase reply n w (inr (inr h)) = inr (inr (record { asked = h.asked; going = h.going; read = both_nothing w.greeter.unread (take n w.requests) h.read (taken_nothing n w.requests h.none_to); none_to = dropped_nothing n w.requests h.none_to; frame = h.frame; whole = h.whole; comes = h.comes }))
 
-keeps-moved : (offset : ℤ) (wanted : Option ℕ) (follow : Bool) (n : ℕ) (w : World) → Holds offset wanted follow w → Holds offset wanted follow (moved n w)
+keeps-moved : (offset : ℤ) (wanted : Option ℕ) (follow : Bool) (n : ℕ) (w : Reading) → Holds offset wanted follow w → Holds offset wanted follow (moved n w)
 keeps-moved offset wanted follow n w h = record { typed = h.typed; fits = h.fits; reply = h.reply; holds = h.holds; phase = moved_phase h.reply n w h.phase }
 
 -- ---- bytes come to the consumer
@@ -255,10 +255,10 @@ fed_part c piece going asked part = fed_asked c piece going asked ∙ ap (λ f. 
 fed_whole : (c : Consumer) (piece frame : List ℕ) → fault_at c.stage ≡ None → c.asked ≡ true → front (c.unread ++ piece) ≡ Whole frame [] → fed piece c ≡ heard frame (record c { unread = [] })
 fed_whole c piece frame going asked whole = fed_asked c piece going asked ∙ ap (λ f. read_at (arrival_of f) (c.unread ++ piece) c) whole
 
-abbrev returned : ℕ → World → World
+abbrev returned : ℕ → Reading → Reading
 returned n w = record w { core = fed (take n w.answers) w.core; answers = drop n w.answers }
 
-returned_nothing : (n : ℕ) (w : World) → fed (take n w.answers) w.core ≡ w.core → w.answers ≡ [] → returned n w ≡ w
+returned_nothing : (n : ℕ) (w : Reading) → fed (take n w.answers) w.core ≡ w.core → w.answers ≡ [] → returned n w ≡ w
 returned_nothing n w same e = ap (λ c. record w { core = c; answers = drop n w.answers }) same ∙ ap (λ a. record w { answers = a }) (dropped_nothing n w.answers e ∙ sym e)
 
 request_going : (stage : Fetching) (c : Consumer) (text : List ℕ) → IsRequest stage c text → fault_at stage ≡ None
@@ -302,10 +302,10 @@ gone : (s : List ℕ) (c : Consumer) → IsGone s c
 gone [] c = record { idle = refl; unread = refl; same = refl; ready = end_ready c.follow }
 gone (b ∷ s) c = let f = found_by (found_in (b ∷ s) c.found) c in record { idle = f.idle; unread = f.unread; same = f.same; ready = f.ready }
 
-abbrev hushed : World → Consumer
+abbrev hushed : Reading → Consumer
 hushed w = record w.core { unread = [] }
 
-returned_all : (offset : ℤ) (wanted : Option ℕ) (follow : Bool) (n : ℕ) (w : World) (reply : Option (List (List ℕ))) → IsTyped w.core.target → FitsSigned w64 w.core.found.offset → giving.Holds offset wanted follow (under reply w) → (a : IsAnswered reply w) → IsReply reply w.core.stage w.greeter.login a.frame → drop n w.answers ≡ [] → Holds offset wanted follow (record w { core = heard a.frame (hushed w); answers = drop n w.answers })
+returned_all : (offset : ℤ) (wanted : Option ℕ) (follow : Bool) (n : ℕ) (w : Reading) (reply : Option (List (List ℕ))) → IsTyped w.core.target → FitsSigned w64 w.core.found.offset → giving.Holds offset wanted follow (under reply w) → (a : IsAnswered reply w) → IsReply reply w.core.stage w.greeter.login a.frame → drop n w.answers ≡ [] → Holds offset wanted follow (record w { core = heard a.frame (hushed w); answers = drop n w.answers })
 returned_all offset wanted follow n w None typed fits h a x rest =
     subst (λ c. Holds offset wanted follow (record w { core = c; answers = drop n w.answers })) (sym (x.hears (hushed w) refl)) (record {
       typed = typed;
@@ -325,14 +325,14 @@ returned_all offset wanted follow n w (Some read) typed fits h a x rest =
       phase = inl (refl, record { idle = g.idle; unread = g.unread; read = a.read; none_to = a.none_to; none_back = rest; ready = subst (Ready (given (joined read) (hushed w)).stage) (sym x.1) g.ready });
     })
 
-returned_full : (offset : ℤ) (wanted : Option ℕ) (follow : Bool) (n : ℕ) (w : World) (h : Holds offset wanted follow w) → IsAnswered h.reply w → drop n w.answers ≡ [] → Holds offset wanted follow (returned n w)
+returned_full : (offset : ℤ) (wanted : Option ℕ) (follow : Bool) (n : ℕ) (w : Reading) (h : Holds offset wanted follow w) → IsAnswered h.reply w → drop n w.answers ≡ [] → Holds offset wanted follow (returned n w)
 returned_full offset wanted follow n w h a rest =
     let piece : List ℕ = take n w.answers in
     let all : piece ≡ w.answers = sym (append-nil piece) ∙ ap (λ d. piece ++ d) (sym rest) ∙ take-append-drop n w.answers in
     let whole : front (w.core.unread ++ piece) ≡ Whole a.frame [] = ap (λ b. front (w.core.unread ++ b)) all ∙ a.whole in
     subst (λ c. Holds offset wanted follow (record w { core = c; answers = drop n w.answers })) (sym (fed_whole w.core piece a.frame a.going a.asked whole)) (returned_all offset wanted follow n w h.reply h.typed h.fits h.holds a a.comes rest)
 
-returned_part : (offset : ℤ) (wanted : Option ℕ) (follow : Bool) (n : ℕ) (w : World) (b : ℕ) (rest : List ℕ) (h : Holds offset wanted follow w) → IsAnswered h.reply w → drop n w.answers ≡ b ∷ rest → Holds offset wanted follow (returned n w)
+returned_part : (offset : ℤ) (wanted : Option ℕ) (follow : Bool) (n : ℕ) (w : Reading) (b : ℕ) (rest : List ℕ) (h : Holds offset wanted follow w) → IsAnswered h.reply w → drop n w.answers ≡ b ∷ rest → Holds offset wanted follow (returned n w)
 returned_part offset wanted follow n w b rest h a left =
     let piece : List ℕ = take n w.answers in
     let joined : (w.core.unread ++ piece) ++ drop n w.answers ≡ w.core.unread ++ w.answers = append_assoc w.core.unread piece (drop n w.answers) ∙ ap (λ x. w.core.unread ++ x) (take-append-drop n w.answers) in
@@ -346,11 +346,11 @@ returned_part offset wanted follow n w b rest h a left =
       phase = inr (inr (record { asked = a.asked; going = a.going; read = a.read; none_to = a.none_to; frame = a.frame; whole = whole; comes = a.comes }));
     })
 
-returned_by : (offset : ℤ) (wanted : Option ℕ) (follow : Bool) (n : ℕ) (w : World) (rest : List ℕ) (h : Holds offset wanted follow w) → IsAnswered h.reply w → drop n w.answers ≡ rest → Holds offset wanted follow (returned n w)
+returned_by : (offset : ℤ) (wanted : Option ℕ) (follow : Bool) (n : ℕ) (w : Reading) (rest : List ℕ) (h : Holds offset wanted follow w) → IsAnswered h.reply w → drop n w.answers ≡ rest → Holds offset wanted follow (returned n w)
 returned_by offset wanted follow n w [] h a left = returned_full offset wanted follow n w h a left
 returned_by offset wanted follow n w (b ∷ rest) h a left = returned_part offset wanted follow n w b rest h a left
 
-returned_in : (offset : ℤ) (wanted : Option ℕ) (follow : Bool) (n : ℕ) (w : World) (h : Holds offset wanted follow w) → Phase h.reply w → Holds offset wanted follow (returned n w)
+returned_in : (offset : ℤ) (wanted : Option ℕ) (follow : Bool) (n : ℕ) (w : Reading) (h : Holds offset wanted follow w) → Phase h.reply w → Holds offset wanted follow (returned n w)
 returned_in offset wanted follow n w h (inl q) =
     let same : fed (take n w.answers) w.core ≡ w.core = ap (λ b. fed b w.core) (taken_nothing n w.answers q.1.none_back) ∙ fed_quiet w.core q.1.idle in
     subst (Holds offset wanted follow) (sym (returned_nothing n w same q.1.none_back)) h
@@ -362,7 +362,7 @@ returned_in offset wanted follow n w h (inr (inl a)) =
     subst (Holds offset wanted follow) (sym (returned_nothing n w same a.1.none_back)) h
 returned_in offset wanted follow n w h (inr (inr a)) = returned_by offset wanted follow n w (drop n w.answers) h a refl
 
-keeps-returned : (offset : ℤ) (wanted : Option ℕ) (follow : Bool) (n : ℕ) (w : World) → Holds offset wanted follow w → Holds offset wanted follow (returned n w)
+keeps-returned : (offset : ℤ) (wanted : Option ℕ) (follow : Bool) (n : ℕ) (w : Reading) → Holds offset wanted follow w → Holds offset wanted follow (returned n w)
 keeps-returned offset wanted follow n w h = returned_in offset wanted follow n w h h.phase
 
 -- ---- a request is served
@@ -378,7 +378,7 @@ unfolding heard
 hears_at stage c id body is same fits = ap (λ s. heard_by s (body_for (correlation s) (int32.written id ++ body)) c) is ∙ ap (λ i. heard_by stage (body_for i (int32.written id ++ body)) c) same ∙ ap (λ r. heard_by stage r c) (body_read id body fits)
 
 -- a request of the login is answered
-record Greeted (w : World) (text : List ℕ) : Type 0 where
+record Greeted (w : Reading) (text : List ℕ) : Type 0 where
   m : List ℕ
   whole : front text ≡ Whole m []
   other : fetch_of m ≡ None
@@ -410,7 +410,7 @@ not_fetch e = cc
 not_denied : stages.Ended endings.Denied ≡ stages.Finished → ⊥
 not_denied e = cc
 
-greeted_handshake : (w : World) (text : List ℕ) → w.core.stage ≡ stages.Handshake → text ≡ handshake_text (pos 1) → w.greeter.login ≡ Greets → Greeted w text
+greeted_handshake : (w : Reading) (text : List ℕ) → w.core.stage ≡ stages.Handshake → text ≡ handshake_text (pos 1) → w.greeter.login ≡ Greets → Greeted w text
 unfolding handshake_body header Ready
 greeted_handshake w text at is ready = record {
   m = request_header.written (header (pos 17) (pos 1) (pos 1)) ++ handshake_body;
@@ -433,7 +433,7 @@ greeted_handshake w text at is ready = record {
   };
 }
 
-greeted_login : (known : Bool) (w : World) (text : List ℕ) → w.core.stage ≡ stages.Authenticate → text ≡ authenticate_text (pos 2) w.core.target → w.greeter.login ≡ Shaken → knows w.greeter.users (plain_message w.core.target) ≡ known → IsTyped w.core.target → Greeted w text
+greeted_login : (known : Bool) (w : Reading) (text : List ℕ) → w.core.stage ≡ stages.Authenticate → text ≡ authenticate_text (pos 2) w.core.target → w.greeter.login ≡ Shaken → knows w.greeter.users (plain_message w.core.target) ≡ known → IsTyped w.core.target → Greeted w text
 unfolding authenticate_body header Ready
 greeted_login true w text at is ready login typed = record {
   m = request_header.written (header (pos 36) (pos 0) (pos 2)) ++ authenticate_body w.core.target;
@@ -476,18 +476,18 @@ greeted_login false w text at is ready login typed = record {
   };
 }
 
-unread_is : (w : World) → w.requests ≡ [] → w.greeter.unread ≡ w.greeter.unread ++ w.requests
+unread_is : (w : Reading) → w.requests ≡ [] → w.greeter.unread ≡ w.greeter.unread ++ w.requests
 unread_is w e = sym (append-nil w.greeter.unread) ∙ ap (λ t. w.greeter.unread ++ t) (sym e)
 
-replied_front : (w : World) (id : ℤ) (body : List ℕ) → w.core.unread ≡ [] → w.answers ≡ [] → 4 ≤ length body → length body ≤ 2000000 → front (w.core.unread ++ (w.answers ++ reply_text id (Some body))) ≡ Whole (int32.written id ++ body) []
+replied_front : (w : Reading) (id : ℤ) (body : List ℕ) → w.core.unread ≡ [] → w.answers ≡ [] → 4 ≤ length body → length body ≤ 2000000 → front (w.core.unread ++ (w.answers ++ reply_text id (Some body))) ≡ Whole (int32.written id ++ body) []
 replied_front w id body unread back least most = ap front (ap (λ u. u ++ (w.answers ++ reply_text id (Some body))) unread ∙ ap (λ b. b ++ reply_text id (Some body)) back) ∙ front_reply id body least most
 
-part_served : (offset : ℤ) (wanted : Option ℕ) (follow : Bool) (n : ℕ) (w : World) (m : List ℕ) (b : ℕ) (to : List ℕ) → Holds offset wanted follow w → front (w.greeter.unread ++ w.requests) ≡ Whole m [] → w.requests ≡ b ∷ to → Holds offset wanted follow (served_at n (front w.greeter.unread) w)
+part_served : (offset : ℤ) (wanted : Option ℕ) (follow : Bool) (n : ℕ) (w : Reading) (m : List ℕ) (b : ℕ) (to : List ℕ) → Holds offset wanted follow w → front (w.greeter.unread ++ w.requests) ≡ Whole m [] → w.requests ≡ b ∷ to → Holds offset wanted follow (served_at n (front w.greeter.unread) w)
 part_served offset wanted follow n w m b to h whole left =
     let part : front w.greeter.unread ≡ Partial = front_part w.greeter.unread w.requests m whole (λ e. not_nothing b to (sym left ∙ e)) in
     subst (Holds offset wanted follow) (sym (ap (λ f. served_at n f w) part)) h
 
-greeted_served : (offset : ℤ) (wanted : Option ℕ) (follow : Bool) (n : ℕ) (w : World) (h : Holds offset wanted follow w) → h.reply ≡ None → IsAsking w → Greeted w (w.greeter.unread ++ w.requests) → (to : List ℕ) → w.requests ≡ to → Holds offset wanted follow (served_at n (front w.greeter.unread) w)
+greeted_served : (offset : ℤ) (wanted : Option ℕ) (follow : Bool) (n : ℕ) (w : Reading) (h : Holds offset wanted follow w) → h.reply ≡ None → IsAsking w → Greeted w (w.greeter.unread ++ w.requests) → (to : List ℕ) → w.requests ≡ to → Holds offset wanted follow (served_at n (front w.greeter.unread) w)
 greeted_served offset wanted follow n w h none a g (b ∷ to) left = part_served offset wanted follow n w g.m b to h g.whole left
 greeted_served offset wanted follow n w h none a g [] left =
     let whole : front w.greeter.unread ≡ Whole g.m [] = ap front (unread_is w left) ∙ g.whole in
@@ -509,34 +509,34 @@ greeted_served offset wanted follow n w h none a g [] left =
       }));
     })
 
-abbrev offset_of : World → ℤ
+abbrev offset_of : Reading → ℤ
 offset_of w = w.core.found.offset
 
-abbrev frame_of : World → List ℕ
+abbrev frame_of : Reading → List ℕ
 frame_of w = request_header.written (header (pos 1) (pos 5) (pos 3)) ++ fetch_body w.core.target (offset_of w) w.core.follow
 
-abbrev read_of : ℕ → World → List (List ℕ)
-read_of n w = answered (fitting n (offset_of w) w.batches) (offset_of w) w.batches
+abbrev read_of : ℕ → Reading → List (List ℕ)
+read_of n w = batches_given (fitting n (offset_of w) w.batches) (offset_of w) w.batches
 
-abbrev body_of : ℕ → World → List ℕ
+abbrev body_of : ℕ → Reading → List ℕ
 body_of n w = fetched_reply (fetch_at w.core.target (offset_of w)) w.start (pos (length w.batches)) (joined (read_of n w))
 
-fetch_whole : (w : World) (text : List ℕ) → text ≡ fetch_text (pos 3) w.core.target (offset_of w) w.core.follow → IsTyped w.core.target → front text ≡ Whole (frame_of w) []
+fetch_whole : (w : Reading) (text : List ℕ) → text ≡ fetch_text (pos 3) w.core.target (offset_of w) w.core.follow → IsTyped w.core.target → front text ≡ Whole (frame_of w) []
 unfolding fetch_body ask
 fetch_whole w text is typed = ap front is ∙ front_request (pos 1) (pos 5) (pos 3) (fetch_body w.core.target (offset_of w) w.core.follow) (fetch_short w.core.target (offset_of w) w.core.follow typed.short.topic)
 
-fetch_found : (w : World) → IsTyped w.core.target → FitsSigned w64 (offset_of w) → fetch_of (frame_of w) ≡ Some (fetch_at w.core.target (offset_of w))
+fetch_found : (w : Reading) → IsTyped w.core.target → FitsSigned w64 (offset_of w) → fetch_of (frame_of w) ≡ Some (fetch_at w.core.target (offset_of w))
 unfolding fetch_of header
 fetch_found w typed fits = ap fetch_in (header_read (pos 1) (pos 5) (pos 3) (fetch_body w.core.target (offset_of w) w.core.follow) (record { sfits = lit< tt }) (record { sfits = lit< tt }) (record { sfits = lit< tt })) ∙ fetch_asked w.core.target (offset_of w) w.core.follow typed.short.topic typed.topic typed.partition fits
 
-fetch_id : (w : World) → (request (frame_of w)).correlation_id ≡ pos 3
+fetch_id : (w : Reading) → (request (frame_of w)).correlation_id ≡ pos 3
 fetch_id w = ap (λ q. q.correlation_id) (request_read (pos 1) (pos 5) (pos 3) (fetch_body w.core.target (offset_of w) w.core.follow) (record { sfits = lit< tt }) (record { sfits = lit< tt }) (record { sfits = lit< tt }))
 
-fetch_hears : (n : ℕ) (w : World) → IsTyped w.core.target → length (joined (read_of n w)) ≤ 1048588 → FetchAs (int32.written (pos 3) ++ body_of n w) (read_of n w)
+fetch_hears : (n : ℕ) (w : Reading) → IsTyped w.core.target → length (joined (read_of n w)) ≤ 1048588 → FetchAs (int32.written (pos 3) ++ body_of n w) (read_of n w)
 unfolding partition_value
 fetch_hears n w typed small c at = hears_at stages.Fetch c (pos 3) (body_of n w) at refl (record { sfits = lit< tt }) ∙ ap (λ x. consumers.fetched x c) (fetched_heard (fetch_at w.core.target (offset_of w)) w.start (pos (length w.batches)) (joined (read_of n w)) typed.short.topic typed.topic typed.partition small)
 
-fetch_served : (offset : ℤ) (wanted : Option ℕ) (follow : Bool) (n : ℕ) (w : World) (h : Holds offset wanted follow w) → h.reply ≡ None → IsAsking w → w.core.stage ≡ stages.Fetch → w.greeter.unread ++ w.requests ≡ fetch_text (pos 3) w.core.target (offset_of w) w.core.follow → w.greeter.login ≡ LoggedIn → (to : List ℕ) → w.requests ≡ to → Holds offset wanted follow (served_at n (front w.greeter.unread) w)
+fetch_served : (offset : ℤ) (wanted : Option ℕ) (follow : Bool) (n : ℕ) (w : Reading) (h : Holds offset wanted follow w) → h.reply ≡ None → IsAsking w → w.core.stage ≡ stages.Fetch → w.greeter.unread ++ w.requests ≡ fetch_text (pos 3) w.core.target (offset_of w) w.core.follow → w.greeter.login ≡ LoggedIn → (to : List ℕ) → w.requests ≡ to → Holds offset wanted follow (served_at n (front w.greeter.unread) w)
 fetch_served offset wanted follow n w h none a at text ready (b ∷ to) left = part_served offset wanted follow n w (frame_of w) b to h (fetch_whole w (w.greeter.unread ++ w.requests) text h.typed) left
 fetch_served offset wanted follow n w h none a at text ready [] left =
     let whole : front w.greeter.unread ≡ Whole (frame_of w) [] = ap front (unread_is w left) ∙ fetch_whole w (w.greeter.unread ++ w.requests) text h.typed in
@@ -560,7 +560,7 @@ fetch_served offset wanted follow n w h none a at text ready [] left =
       }));
     })
 
-served_stage : (offset : ℤ) (wanted : Option ℕ) (follow : Bool) (n : ℕ) (w : World) (stage : Fetching) (h : Holds offset wanted follow w) → h.reply ≡ None → IsAsking w → w.core.stage ≡ stage → IsRequest stage w.core (w.greeter.unread ++ w.requests) → Ready stage w.greeter.login → Holds offset wanted follow (served_at n (front w.greeter.unread) w)
+served_stage : (offset : ℤ) (wanted : Option ℕ) (follow : Bool) (n : ℕ) (w : Reading) (stage : Fetching) (h : Holds offset wanted follow w) → h.reply ≡ None → IsAsking w → w.core.stage ≡ stage → IsRequest stage w.core (w.greeter.unread ++ w.requests) → Ready stage w.greeter.login → Holds offset wanted follow (served_at n (front w.greeter.unread) w)
 unfolding Ready
 served_stage offset wanted follow n w stages.Closed h none a at is ready = absurd is
 served_stage offset wanted follow n w stages.Handshake h none a at is ready = greeted_served offset wanted follow n w h none a (greeted_handshake w (w.greeter.unread ++ w.requests) at is ready) w.requests refl
@@ -569,24 +569,24 @@ served_stage offset wanted follow n w stages.Fetch h none a at is ready = fetch_
 served_stage offset wanted follow n w stages.Finished h none a at is ready = absurd is
 served_stage offset wanted follow n w (stages.Ended ending) h none a at is ready = absurd is
 
-served_nothing : (offset : ℤ) (wanted : Option ℕ) (follow : Bool) (n : ℕ) (w : World) → Holds offset wanted follow w → w.greeter.unread ≡ [] → Holds offset wanted follow (served_at n (front w.greeter.unread) w)
+served_nothing : (offset : ℤ) (wanted : Option ℕ) (follow : Bool) (n : ℕ) (w : Reading) → Holds offset wanted follow w → w.greeter.unread ≡ [] → Holds offset wanted follow (served_at n (front w.greeter.unread) w)
 served_nothing offset wanted follow n w h e = subst (Holds offset wanted follow) (sym (ap (λ f. served_at n f w) (ap front e ∙ front_nothing))) h
 
-served_in : (offset : ℤ) (wanted : Option ℕ) (follow : Bool) (n : ℕ) (w : World) (h : Holds offset wanted follow w) → Phase h.reply w → Holds offset wanted follow (served_at n (front w.greeter.unread) w)
+served_in : (offset : ℤ) (wanted : Option ℕ) (follow : Bool) (n : ℕ) (w : Reading) (h : Holds offset wanted follow w) → Phase h.reply w → Holds offset wanted follow (served_at n (front w.greeter.unread) w)
 served_in offset wanted follow n w h (inl q) = served_nothing offset wanted follow n w h q.1.read
 served_in offset wanted follow n w h (inr (inl a)) = served_stage offset wanted follow n w w.core.stage h a.0 a.1 refl a.1.request a.1.ready
 served_in offset wanted follow n w h (inr (inr a)) = served_nothing offset wanted follow n w h a.read
 
 -- ---- whole runs
 
-sent_by : (offset : ℤ) (wanted : Option ℕ) (follow : Bool) (old new : World) (text : List ℕ) (due : Bool) → is_due old.core ≡ due → IsOutput due old.core text new.core → new ≡ record old { core = new.core; requests = old.requests ++ text } → Holds offset wanted follow old → Holds offset wanted follow new
+sent_by : (offset : ℤ) (wanted : Option ℕ) (follow : Bool) (old new : Reading) (text : List ℕ) (due : Bool) → is_due old.core ≡ due → IsOutput due old.core text new.core → new ≡ record old { core = new.core; requests = old.requests ++ text } → Holds offset wanted follow old → Holds offset wanted follow new
 sent_by offset wanted follow old new text true due o e h = subst (Holds offset wanted follow) (sym (e ∙ ap (λ c. record old { core = c; requests = old.requests ++ text }) o.1)) (keeps-sent offset wanted follow old text due o.0 h)
 sent_by offset wanted follow old new text false due o e h = subst (Holds offset wanted follow) (sym (e ∙ ap (λ c. record old { core = c; requests = old.requests ++ text }) o.1 ∙ ap (λ t. record old { requests = old.requests ++ t }) o.0 ∙ ap (λ q. record old { requests = q }) (append-nil old.requests))) h
 
-not_sent : (offset : ℤ) (wanted : Option ℕ) (follow : Bool) (old new : World) → new.core ≡ old.core → new ≡ record old { core = new.core; requests = old.requests ++ [] } → Holds offset wanted follow old → Holds offset wanted follow new
+not_sent : (offset : ℤ) (wanted : Option ℕ) (follow : Bool) (old new : Reading) → new.core ≡ old.core → new ≡ record old { core = new.core; requests = old.requests ++ [] } → Holds offset wanted follow old → Holds offset wanted follow new
 not_sent offset wanted follow old new same e h = subst (Holds offset wanted follow) (sym (e ∙ ap (λ c. record old { core = c; requests = old.requests ++ [] }) same ∙ ap (λ q. record old { requests = q }) (append-nil old.requests))) h
 
-after_output : (offset : ℤ) (wanted : Option ℕ) (follow : Bool) (old new : World) (result : Result (List ℕ) ClientFault) → OutputsText (λ text. text) old.core result new.core → new ≡ record old { core = new.core; requests = old.requests ++ if_given result } → Holds offset wanted follow old → Holds offset wanted follow new
+after_output : (offset : ℤ) (wanted : Option ℕ) (follow : Bool) (old new : Reading) (result : Result (List ℕ) ClientFault) → OutputsText (λ text. text) old.core result new.core → new ≡ record old { core = new.core; requests = old.requests ++ if_given result } → Holds offset wanted follow old → Holds offset wanted follow new
 after_output offset wanted follow old new (Ok text) t e h = sent_by offset wanted follow old new text (is_due old.core) refl t.1 e h
 after_output offset wanted follow old new (Err faults.Memory) t e h = not_sent offset wanted follow old new t.2 e h
 after_output offset wanted follow old new (Err faults.Denied) t e h = not_sent offset wanted follow old new t.1 e h
@@ -594,10 +594,10 @@ after_output offset wanted follow old new (Err (faults.Code code)) t e h = not_s
 after_output offset wanted follow old new (Err faults.Protocol) t e h = not_sent offset wanted follow old new t.1 e h
 after_output offset wanted follow old new (Err faults.LineTooLong) t e h = absurd t
 
-came : (offset : ℤ) (wanted : Option ℕ) (follow : Bool) (old new : World) (n : ℕ) → new.core ≡ fed (take n old.answers) old.core → new ≡ record old { core = new.core; answers = drop n old.answers } → Holds offset wanted follow old → Holds offset wanted follow new
+came : (offset : ℤ) (wanted : Option ℕ) (follow : Bool) (old new : Reading) (n : ℕ) → new.core ≡ fed (take n old.answers) old.core → new ≡ record old { core = new.core; answers = drop n old.answers } → Holds offset wanted follow old → Holds offset wanted follow new
 came offset wanted follow old new n is e h = subst (Holds offset wanted follow) (sym (e ∙ ap (λ c. record old { core = c; answers = drop n old.answers }) is)) (keeps-returned offset wanted follow n old h)
 
-after_input : (offset : ℤ) (wanted : Option ℕ) (follow : Bool) (old new : World) (n : ℕ) (result : Result (Unit {0}) ClientFault) → Inputs old.core (take n old.answers) result new.core → new ≡ record old { core = new.core; answers = if_come result n old.answers } → Holds offset wanted follow old → Holds offset wanted follow new
+after_input : (offset : ℤ) (wanted : Option ℕ) (follow : Bool) (old new : Reading) (n : ℕ) (result : Result (Unit {0}) ClientFault) → Inputs old.core (take n old.answers) result new.core → new ≡ record old { core = new.core; answers = if_come result n old.answers } → Holds offset wanted follow old → Holds offset wanted follow new
 after_input offset wanted follow old new n (Ok u) t e h = came offset wanted follow old new n t.0 e h
 after_input offset wanted follow old new n (Err faults.Memory) t e h = subst (Holds offset wanted follow) (sym (e ∙ ap (λ c. record old { core = c }) t.0)) h
 after_input offset wanted follow old new n (Err faults.Denied) t e h = came offset wanted follow old new n t.0 e h
@@ -605,7 +605,7 @@ after_input offset wanted follow old new n (Err (faults.Code code)) t e h = came
 after_input offset wanted follow old new n (Err faults.Protocol) t e h = came offset wanted follow old new n t.0 e h
 after_input offset wanted follow old new n (Err faults.LineTooLong) t e h = absurd t
 
-after : (offset : ℤ) (wanted : Option ℕ) (follow : Bool) (e : Event) (old new : World) → Steps e old new → Holds offset wanted follow old → Holds offset wanted follow new
+after : (offset : ℤ) (wanted : Option ℕ) (follow : Bool) (e : Event) (old new : Reading) → Steps e old new → Holds offset wanted follow old → Holds offset wanted follow new
 after offset wanted follow (Appends b) old new s h = subst (Holds offset wanted follow) (sym s.1) (keeps-grown offset wanted follow b old s.0 h)
 after offset wanted follow (Sends result) old new s h = after_output offset wanted follow old new result s.0 s.1 h
 after offset wanted follow (Arrives n) old new s h = subst (Holds offset wanted follow) (sym s) (keeps-moved offset wanted follow n old h)
@@ -614,7 +614,7 @@ after offset wanted follow (Returns n result) old new s h = after_input offset w
 after offset wanted follow Takes old new s h = subst (Holds offset wanted follow) (sym s) (keeps-taken offset wanted follow old h)
 after offset wanted follow Reconnects old new s h = subst (Holds offset wanted follow) (sym s) (keeps-connected offset wanted follow old h)
 
-after_all : (offset : ℤ) (wanted : Option ℕ) (follow : Bool) (es : List Event) (first last : World) → Runs es first last → Holds offset wanted follow first → Holds offset wanted follow last
+after_all : (offset : ℤ) (wanted : Option ℕ) (follow : Bool) (es : List Event) (first last : Reading) → Runs es first last → Holds offset wanted follow first → Holds offset wanted follow last
 after_all offset wanted follow [] first last r h = subst (Holds offset wanted follow) (sym r) h
 after_all offset wanted follow (e ∷ es) first last r h = after_all offset wanted follow es r.0 last r.2 (after offset wanted follow e first r.0 r.1 h)
 
@@ -633,10 +633,10 @@ keeps-begun target offset wanted follow users start batches typed fits log = rec
   phase = inl (refl, record { idle = refl; unread = refl; read = refl; none_to = refl; none_back = refl; ready = first_ready wanted });
 }
 
-given_in : (offset : ℤ) (wanted : Option ℕ) (follow : Bool) (reply : Option (List (List ℕ))) (w : World) → giving.IsGivenBy offset wanted follow (under reply w) → IsGiven offset wanted follow w
+given_in : (offset : ℤ) (wanted : Option ℕ) (follow : Bool) (reply : Option (List (List ℕ))) (w : Reading) → giving.IsGivenBy offset wanted follow (under reply w) → IsGiven offset wanted follow w
 given_in offset wanted follow reply w g = record { records = g.records; others = g.others; in_order = g.in_order; lines = g.lines; within = g.within; finished = g.finished }
 
-pub lines_read : (target : Target) (offset : ℤ) (wanted : Option ℕ) (follow : Bool) (users : List PlainLogin) (start : ℤ) (batches : List (List ℕ)) (es : List Event) (last : World) → IsTyped target → FitsSigned w64 offset → IsLog start batches → Runs es (begun target offset wanted follow users start batches) last → IsGiven offset wanted follow last
+pub lines_read : (target : Target) (offset : ℤ) (wanted : Option ℕ) (follow : Bool) (users : List PlainLogin) (start : ℤ) (batches : List (List ℕ)) (es : List Event) (last : Reading) → IsTyped target → FitsSigned w64 offset → IsLog start batches → Runs es (begun target offset wanted follow users start batches) last → IsGiven offset wanted follow last
 lines_read target offset wanted follow users start batches es last typed fits log r =
     let h = after_all offset wanted follow es (begun target offset wanted follow users start batches) last r (keeps-begun target offset wanted follow users start batches typed fits log) in
     given_in offset wanted follow h.reply last (is_given offset wanted follow (under h.reply last) h.holds)

@@ -13,14 +13,14 @@ use Rattle.kb_client.specs.Sent.{Line, Target}
 use Rattle.kb_client.specs.Requests.{plain_message}
 use Rattle.kb_client.specs.Producer.{Producer, fed, is_due, is_idle, IsOutput, TakesLine, Inputs, OutputsText}
 use Rattle.kb_network.specs.Receiver.{Stored, knows}
-use Rattle.kb_network.specs.Sending.{World, Event, Hands, Sends, Arrives, Serves, Returns, Reconnects, Steps, Runs, IsTyped, IsDelivered, IsTaken, IsDone, HasNoFault, begun, values, if_taken, if_given, if_come}
+use Rattle.kb_network.specs.Sending.{Delivery, Event, Hands, Sends, Arrives, Serves, Returns, Reconnects, Steps, Runs, IsTyped, IsDelivered, IsTaken, IsDone, HasNoFault, begun, values, if_taken, if_given, if_come}
 use Rattle.kb_network.proofs.Invariant.{stored_by, IsStored, Counts, Holds, holds_going}
 use Rattle.kb_network.proofs.Steps.{holds-handed, holds-sent, holds-arrived, holds-returned, holds-connected}
 use Rattle.kb_network.proofs.Serving.{holds-served}
 
 -- ---- each event leaves what holds
 
-after_line : (known : Bool) (old new : World) (line : Line) (result : Result (Unit {0}) ClientFault) → TakesLine old.core line result new.core → new ≡ record old { core = new.core; handed = if_taken result line old.handed } → Holds known old → Holds known new
+after_line : (known : Bool) (old new : Delivery) (line : Line) (result : Result (Unit {0}) ClientFault) → TakesLine old.core line result new.core → new ≡ record old { core = new.core; handed = if_taken result line old.handed } → Holds known old → Holds known new
 after_line known old new line (Ok u) t e h = subst (Holds known) (sym (e ∙ ap (λ c. record old { core = c; handed = old.handed ++ line ∷ [] }) t.2)) (holds-handed known old line h)
 after_line known old new line (Err faults.LineTooLong) t e h = subst (Holds known) (sym (e ∙ ap (λ c. record old { core = c }) t.2)) h
 after_line known old new line (Err faults.Memory) t e h = subst (Holds known) (sym (e ∙ ap (λ c. record old { core = c }) t.2)) h
@@ -28,14 +28,14 @@ after_line known old new line (Err faults.Denied) t e h = subst (Holds known) (s
 after_line known old new line (Err (faults.Code code)) t e h = subst (Holds known) (sym (e ∙ ap (λ c. record old { core = c }) t.1)) h
 after_line known old new line (Err faults.Protocol) t e h = subst (Holds known) (sym (e ∙ ap (λ c. record old { core = c }) t.1)) h
 
-sent_by : (known : Bool) (old new : World) (text : List ℕ) (due : Bool) → is_due old.core ≡ due → IsOutput due old.core text new.core → new ≡ record old { core = new.core; requests = old.requests ++ text } → Holds known old → Holds known new
+sent_by : (known : Bool) (old new : Delivery) (text : List ℕ) (due : Bool) → is_due old.core ≡ due → IsOutput due old.core text new.core → new ≡ record old { core = new.core; requests = old.requests ++ text } → Holds known old → Holds known new
 sent_by known old new text true due o e h = subst (Holds known) (sym (e ∙ ap (λ c. record old { core = c; requests = old.requests ++ text }) o.1)) (holds-sent known old text due o.0 h)
 sent_by known old new text false due o e h = subst (Holds known) (sym (e ∙ ap (λ c. record old { core = c; requests = old.requests ++ text }) o.1 ∙ ap (λ t. record old { requests = old.requests ++ t }) o.0 ∙ ap (λ q. record old { requests = q }) (append-nil old.requests))) h
 
-not_sent : (known : Bool) (old new : World) → new.core ≡ old.core → new ≡ record old { core = new.core; requests = old.requests ++ [] } → Holds known old → Holds known new
+not_sent : (known : Bool) (old new : Delivery) → new.core ≡ old.core → new ≡ record old { core = new.core; requests = old.requests ++ [] } → Holds known old → Holds known new
 not_sent known old new same e h = subst (Holds known) (sym (e ∙ ap (λ c. record old { core = c; requests = old.requests ++ [] }) same ∙ ap (λ q. record old { requests = q }) (append-nil old.requests))) h
 
-after_output : (known : Bool) (old new : World) (result : Result (List ℕ) ClientFault) → OutputsText (λ text. text) old.core result new.core → new ≡ record old { core = new.core; requests = old.requests ++ if_given result } → Holds known old → Holds known new
+after_output : (known : Bool) (old new : Delivery) (result : Result (List ℕ) ClientFault) → OutputsText (λ text. text) old.core result new.core → new ≡ record old { core = new.core; requests = old.requests ++ if_given result } → Holds known old → Holds known new
 after_output known old new (Ok text) t e h = sent_by known old new text (is_due old.core) refl t.1 e h
 after_output known old new (Err faults.Memory) t e h = not_sent known old new t.2 e h
 after_output known old new (Err faults.Denied) t e h = not_sent known old new t.1 e h
@@ -43,10 +43,10 @@ after_output known old new (Err (faults.Code code)) t e h = not_sent known old n
 after_output known old new (Err faults.Protocol) t e h = not_sent known old new t.1 e h
 after_output known old new (Err faults.LineTooLong) t e h = absurd t
 
-come : (known : Bool) (old new : World) (n : ℕ) → new.core ≡ fed (take n old.answers) old.core → new ≡ record old { core = new.core; answers = drop n old.answers } → Holds known old → Holds known new
+come : (known : Bool) (old new : Delivery) (n : ℕ) → new.core ≡ fed (take n old.answers) old.core → new ≡ record old { core = new.core; answers = drop n old.answers } → Holds known old → Holds known new
 come known old new n is e h = subst (Holds known) (sym (e ∙ ap (λ c. record old { core = c; answers = drop n old.answers }) is)) (holds-returned known n old h)
 
-after_input : (known : Bool) (old new : World) (n : ℕ) (result : Result (Unit {0}) ClientFault) → Inputs old.core (take n old.answers) result new.core → new ≡ record old { core = new.core; answers = if_come result n old.answers } → Holds known old → Holds known new
+after_input : (known : Bool) (old new : Delivery) (n : ℕ) (result : Result (Unit {0}) ClientFault) → Inputs old.core (take n old.answers) result new.core → new ≡ record old { core = new.core; answers = if_come result n old.answers } → Holds known old → Holds known new
 after_input known old new n (Ok u) t e h = come known old new n t.0 e h
 after_input known old new n (Err faults.Memory) t e h = subst (Holds known) (sym (e ∙ ap (λ c. record old { core = c }) t.0)) h
 after_input known old new n (Err faults.Denied) t e h = come known old new n t.0 e h
@@ -54,7 +54,7 @@ after_input known old new n (Err (faults.Code code)) t e h = come known old new 
 after_input known old new n (Err faults.Protocol) t e h = come known old new n t.0 e h
 after_input known old new n (Err faults.LineTooLong) t e h = absurd t
 
-after : (known : Bool) (e : Event) (old new : World) → Steps e old new → Holds known old → Holds known new
+after : (known : Bool) (e : Event) (old new : Delivery) → Steps e old new → Holds known old → Holds known new
 after known (Hands line result) old new s h = after_line known old new line result s.0 s.1 h
 after known (Sends result) old new s h = after_output known old new result s.0 s.1 h
 after known (Arrives n) old new s h = subst (Holds known) (sym s) (holds-arrived known n old h)
@@ -62,7 +62,7 @@ after known Serves old new s h = subst (Holds known) (sym s) (holds-served known
 after known (Returns n result) old new s h = after_input known old new n result s.0 s.1 h
 after known Reconnects old new s h = subst (Holds known) (sym s) (holds-connected known old h)
 
-after_all : (known : Bool) (es : List Event) (first last : World) → Runs es first last → Holds known first → Holds known last
+after_all : (known : Bool) (es : List Event) (first last : Delivery) → Runs es first last → Holds known first → Holds known last
 after_all known [] first last r h = subst (Holds known) (sym r) h
 after_all known (e ∷ es) first last r h = after_all known es r.0 last r.2 (after known e first r.0 r.1 h)
 
@@ -100,7 +100,7 @@ idle_lines (stages.Ended ending) lines e = absurd cc
 no_more : (line : Line) (rest lines : List Line) (P : Type 0) → lines ≡ line ∷ rest → lines ≡ [] → P
 no_more line rest lines P e f = let no : ◌≡◌ {A = List Line} (line ∷ rest) [] = sym e ∙ f in absurd cc
 
-delivered_by : (w : World) (c : Counts w.core.producer w.core.acknowledged w.core.lines w.handed w.receiver.stored) → IsStored c.id c.done w.core.lines w.receiver.stored → IsDelivered w
+delivered_by : (w : Delivery) (c : Counts w.core.producer w.core.acknowledged w.core.lines w.handed w.receiver.stored) → IsStored c.id c.done w.core.lines w.receiver.stored → IsDelivered w
 delivered_by w c (inl e) =
     let are : values w ≡ map (λ (l : Line). l.value) c.done = ap (map (λ (s : Stored). s.value)) e ∙ values_by c.id c.done in
     let len : length (values w) ≡ length c.done = ap length are ∙ length-map c.done (λ (l : Line). l.value) in
@@ -124,7 +124,7 @@ delivered_by w c (inr h) =
       idle = λ i. no_more h.0 h.1 w.core.lines _ h.2 (idle_lines w.core.stage w.core.lines i);
     }
 
-pub delivered : (target : Target) (create : Option ℤ) (users : List PlainLogin) (created : Bool) (next_id : ℕ) (es : List Event) (last : World) → IsTyped target create → Runs es (begun target create users created next_id) last → IsDelivered last
+pub delivered : (target : Target) (create : Option ℤ) (users : List PlainLogin) (created : Bool) (next_id : ℕ) (es : List Event) (last : Delivery) → IsTyped target create → Runs es (begun target create users created next_id) last → IsDelivered last
 delivered target create users created next_id es last typed r =
     let h = after_all (knows users (plain_message target)) es (begun target create users created next_id) last r (holds-begun (knows users (plain_message target)) target create users created next_id typed refl) in
     delivered_by last h.counts h.counts.some
@@ -158,7 +158,7 @@ done_input old new piece (Err (faults.Code code)) going t = clash (fault_of new.
 done_input old new piece (Err faults.Protocol) going t = clash (fault_of new.stage) faults.Protocol going t.1
 done_input old new piece (Err faults.LineTooLong) going t = t
 
-no_fault_in : (es : List Event) (first last : World) → Runs es first last → Holds true first → HasNoFault es
+no_fault_in : (es : List Event) (first last : Delivery) → Runs es first last → Holds true first → HasNoFault es
 no_fault_in [] first last r h = tt
 no_fault_in (Hands line result ∷ es) first last r h = (taken_line first.core r.0.core line result (holds_going first h) r.1.0, no_fault_in es r.0 last r.2 (after true (Hands line result) first r.0 r.1 h))
 no_fault_in (Sends result ∷ es) first last r h = (done_output first.core r.0.core result (holds_going first h) r.1.0, no_fault_in es r.0 last r.2 (after true (Sends result) first r.0 r.1 h))
@@ -169,5 +169,5 @@ no_fault_in (Returns n result ∷ es) first last r h =
     (done_input first.core r.0.core (take n first.answers) result (holds_going r.0 next) r.1.0, no_fault_in es r.0 last r.2 next)
 no_fault_in (Reconnects ∷ es) first last r h = no_fault_in es r.0 last r.2 (after true Reconnects first r.0 r.1 h)
 
-pub no_fault : (target : Target) (create : Option ℤ) (users : List PlainLogin) (created : Bool) (next_id : ℕ) (es : List Event) (last : World) → IsTyped target create → knows users (plain_message target) ≡ true → Runs es (begun target create users created next_id) last → HasNoFault es
+pub no_fault : (target : Target) (create : Option ℤ) (users : List PlainLogin) (created : Bool) (next_id : ℕ) (es : List Event) (last : Delivery) → IsTyped target create → knows users (plain_message target) ≡ true → Runs es (begun target create users created next_id) last → HasNoFault es
 no_fault target create users created next_id es last typed is r = no_fault_in es (begun target create users created next_id) last r (holds-begun true target create users created next_id typed is)

@@ -15,7 +15,7 @@ use Rattle.kb_batch.specs.BatchLaws.{batch_counted, batch_long, batch_small, fro
 use Rattle.kb_client.specs.Lines.{Found, batches_in, is_ahead, with_batch, with_batches, found_in, above, end_of, less, at_most, records_from, line_text}
 use Rattle.kb_network.specs.Consuming.{fitting}
 use Rattle.std.proofs.lemmas.Bool.{ltb-false}
-use Rattle.kb_network.specs.Partition.{IsLog, from_holding, records_of_log, joined, answered}
+use Rattle.kb_network.specs.Partition.{IsLog, from_holding, records_of_log, joined, batches_given}
 
 -- ---- offsets
 
@@ -189,25 +189,25 @@ skipped f b bs read le next =
       later = λ from between more whole. next.later (end_of b) between more whole.3;
     }
 
-answered_by : (t : Bool) (n : ℕ) (f : Found) (b : List ℕ) (bs : List (List ℕ)) → int_lt f.offset (end_of b) ≡ t → (from : ℤ) → IsLog from (b ∷ bs) → Finds f bs (answered n f.offset bs) → Finds f (b ∷ bs) (take (suc n) (cond t (b ∷ bs) (from_holding f.offset bs)))
+answered_by : (t : Bool) (n : ℕ) (f : Found) (b : List ℕ) (bs : List (List ℕ)) → int_lt f.offset (end_of b) ≡ t → (from : ℤ) → IsLog from (b ∷ bs) → Finds f bs (batches_given n f.offset bs) → Finds f (b ∷ bs) (take (suc n) (cond t (b ∷ bs) (from_holding f.offset bs)))
 answered_by true n f b bs e from log next = finds_first f b bs (take n bs) (omega (arith, ints)) log.2 log.3 (finds_some n (with_batch b f) (end_of b) bs (omega (arith, ints)) log.3)
-answered_by false n f b bs e from log next = skipped f b bs (answered n f.offset bs) (omega (arith, ints)) next
+answered_by false n f b bs e from log next = skipped f b bs (batches_given n f.offset bs) (omega (arith, ints)) next
 
 some_batches : (b : List ℕ) (bs : List (List ℕ)) (P : Type 0) → ◌≡◌ {A = List (List ℕ)} (b ∷ bs) [] → P
 some_batches b bs P e = absurd cc
 
-held_by : (t : Bool) (n : ℕ) (off : ℤ) (b : List ℕ) (bs : List (List ℕ)) → int_lt off (end_of b) ≡ t → take (suc n) (cond t (b ∷ bs) (from_holding off bs)) ≡ [] → (answered n off bs ≡ [] → records_of_log off bs ≡ []) → records_of_log off (b ∷ bs) ≡ []
+held_by : (t : Bool) (n : ℕ) (off : ℤ) (b : List ℕ) (bs : List (List ℕ)) → int_lt off (end_of b) ≡ t → take (suc n) (cond t (b ∷ bs) (from_holding off bs)) ≡ [] → (batches_given n off bs ≡ [] → records_of_log off bs ≡ []) → records_of_log off (b ∷ bs) ≡ []
 held_by true n off b bs t e next = some_batches b (take n bs) (records_of_log off (b ∷ bs) ≡ []) e
 held_by false n off b bs t e next = ap (λ x. x ++ records_of_log off bs) (nothing_from off b (omega (arith, ints))) ∙ next e
 
 -- what a fetch is answered
-pub finds_answered : (n : ℕ) (f : Found) (from : ℤ) (bs : List (List ℕ)) → IsLog from bs → Finds f bs (answered n f.offset bs)
+pub finds_answered : (n : ℕ) (f : Found) (from : ℤ) (bs : List (List ℕ)) → IsLog from bs → Finds f bs (batches_given n f.offset bs)
 unfolding from_holding
 finds_answered n f from [] log = finds_none f []
 finds_answered n f from (b ∷ bs) log = answered_by (int_lt f.offset (end_of b)) n f b bs refl from log (finds_answered n f (end_of b) bs log.3)
 
 -- an answer with no batch: the end was met
-pub nothing_held : (n : ℕ) (off : ℤ) (bs : List (List ℕ)) → answered n off bs ≡ [] → records_of_log off bs ≡ []
+pub nothing_held : (n : ℕ) (off : ℤ) (bs : List (List ℕ)) → batches_given n off bs ≡ [] → records_of_log off bs ≡ []
 unfolding from_holding
 nothing_held n off [] e = refl
 nothing_held n off (b ∷ bs) e = held_by (int_lt off (end_of b)) n off b bs refl e (nothing_held n off bs)
@@ -246,11 +246,11 @@ are_taken zero from (b ∷ bs) log = tt
 are_taken (suc n) from [] log = tt
 are_taken (suc n) from (b ∷ bs) log = (log.0, are_taken n (end_of b) bs log.3)
 
-are_by : (t : Bool) (n : ℕ) (off : ℤ) (b : List ℕ) (bs : List (List ℕ)) (from : ℤ) → IsLog from (b ∷ bs) → AreBatches (answered n off bs) → AreBatches (take (suc n) (cond t (b ∷ bs) (from_holding off bs)))
+are_by : (t : Bool) (n : ℕ) (off : ℤ) (b : List ℕ) (bs : List (List ℕ)) (from : ℤ) → IsLog from (b ∷ bs) → AreBatches (batches_given n off bs) → AreBatches (take (suc n) (cond t (b ∷ bs) (from_holding off bs)))
 are_by true n off b bs from log next = (log.0, are_taken n (end_of b) bs log.3)
 are_by false n off b bs from log next = next
 
-are_answered : (n : ℕ) (off from : ℤ) (bs : List (List ℕ)) → IsLog from bs → AreBatches (answered n off bs)
+are_answered : (n : ℕ) (off from : ℤ) (bs : List (List ℕ)) → IsLog from bs → AreBatches (batches_given n off bs)
 unfolding from_holding
 are_answered n off from [] log = tt
 are_answered n off from (b ∷ bs) log = are_by (int_lt off (end_of b)) n off b bs from log (are_answered n off (end_of b) bs log.3)
@@ -260,10 +260,10 @@ joined_len [] are = omega arith
 joined_len (b ∷ bs) are = omega (arith, length-append b (joined bs), batch_long b are.0, joined_len bs are.1)
 
 -- the bytes of an answer are found as its batches
-pub found_answered : (n : ℕ) (f : Found) (from : ℤ) (bs : List (List ℕ)) → IsLog from bs → found_in (joined (answered n f.offset bs)) f ≡ with_batches (answered n f.offset bs) f
+pub found_answered : (n : ℕ) (f : Found) (from : ℤ) (bs : List (List ℕ)) → IsLog from bs → found_in (joined (batches_given n f.offset bs)) f ≡ with_batches (batches_given n f.offset bs) f
 found_answered n f from bs log =
-    let are : AreBatches (answered n f.offset bs) = are_answered n f.offset from bs log in
-    ap (λ o. option_and_then (λ batches. with_batches batches f) o) (batches_joined (length (joined (answered n f.offset bs))) (answered n f.offset bs) are (joined_len (answered n f.offset bs) are))
+    let are : AreBatches (batches_given n f.offset bs) = are_answered n f.offset from bs log in
+    ap (λ o. option_and_then (λ batches. with_batches batches f) o) (batches_joined (length (joined (batches_given n f.offset bs))) (batches_given n f.offset bs) are (joined_len (batches_given n f.offset bs) are))
 
 -- an answer with a batch has bytes
 pub joined_some : (b : List ℕ) (bs : List (List ℕ)) → AreBatches (b ∷ bs) → joined (b ∷ bs) ≡ [] → ⊥
@@ -271,22 +271,22 @@ joined_some b bs are e =
     let none : length (joined (b ∷ bs)) ≡ 0 = ap length e in
     absurd (omega (arith, length-append b (joined bs), batch_long b are.0, none))
 
-pub answered_some : (n : ℕ) (off from : ℤ) (bs : List (List ℕ)) (b : List ℕ) (read : List (List ℕ)) → IsLog from bs → answered n off bs ≡ b ∷ read → joined (answered n off bs) ≡ [] → ⊥
+pub answered_some : (n : ℕ) (off from : ℤ) (bs : List (List ℕ)) (b : List ℕ) (read : List (List ℕ)) → IsLog from bs → batches_given n off bs ≡ b ∷ read → joined (batches_given n off bs) ≡ [] → ⊥
 answered_some n off from bs b read log is none = joined_some b read (subst AreBatches is (are_answered n off from bs log)) (sym (ap joined is) ∙ none)
 
 -- a fetch is answered no more than a frame has room for
-one_small : (t : Bool) (off : ℤ) (b : List ℕ) (bs : List (List ℕ)) → IsBatch b → length (joined (answered 0 off bs)) ≤ 1048588 → length (joined (take 1 (cond t (b ∷ bs) (from_holding off bs)))) ≤ 1048588
+one_small : (t : Bool) (off : ℤ) (b : List ℕ) (bs : List (List ℕ)) → IsBatch b → length (joined (batches_given 0 off bs)) ≤ 1048588 → length (joined (take 1 (cond t (b ∷ bs) (from_holding off bs)))) ≤ 1048588
 one_small true off b bs is next = omega (arith, ap length (append-nil b), batch_small b is)
 one_small false off b bs is next = next
 
-first_small : (off from : ℤ) (bs : List (List ℕ)) → IsLog from bs → length (joined (answered 0 off bs)) ≤ 1048588
+first_small : (off from : ℤ) (bs : List (List ℕ)) → IsLog from bs → length (joined (batches_given 0 off bs)) ≤ 1048588
 unfolding from_holding
 first_small off from [] log = omega arith
 first_small off from (b ∷ bs) log = one_small (int_lt off (end_of b)) off b bs log.0 (first_small off (end_of b) bs log.3)
 
-fitting_by : (t : Bool) (n : ℕ) (off from : ℤ) (bs : List (List ℕ)) → IsLog from bs → ltb 1048588 (length (joined (answered n off bs))) ≡ t → length (joined (answered (cond t 0 n) off bs)) ≤ 1048588
+fitting_by : (t : Bool) (n : ℕ) (off from : ℤ) (bs : List (List ℕ)) → IsLog from bs → ltb 1048588 (length (joined (batches_given n off bs))) ≡ t → length (joined (batches_given (cond t 0 n) off bs)) ≤ 1048588
 fitting_by true n off from bs log e = first_small off from bs log
 fitting_by false n off from bs log e = ltb-false _ _ e
 
-pub fitting_small : (n : ℕ) (off from : ℤ) (bs : List (List ℕ)) → IsLog from bs → length (joined (answered (fitting n off bs) off bs)) ≤ 1048588
-fitting_small n off from bs log = fitting_by (ltb 1048588 (length (joined (answered n off bs)))) n off from bs log refl
+pub fitting_small : (n : ℕ) (off from : ℤ) (bs : List (List ℕ)) → IsLog from bs → length (joined (batches_given (fitting n off bs) off bs)) ≤ 1048588
+fitting_small n off from bs log = fitting_by (ltb 1048588 (length (joined (batches_given n off bs)))) n off from bs log refl

@@ -11,7 +11,7 @@ use Rattle.kb_client.specs.declared.fetching.Fetching.TheVariants as stages
 use Rattle.kb_client.specs.Sent.{Target}
 use Rattle.kb_client.specs.Lines.{found_in, less, at_most, records_from, line_text}
 use Rattle.kb_client.specs.Consumer.{Consumer, fresh, connected, restarted, entered, given, with_found, wanting, at_end, without_text}
-use Rattle.kb_network.specs.Partition.{IsLog, records_of_log, joined, answered}
+use Rattle.kb_network.specs.Partition.{IsLog, records_of_log, joined, batches_given}
 use Rattle.kb_network.specs.Consuming.{IsWithin, IsFull}
 use Rattle.kb_network.proofs.Finding.{Finds, finds_answered, found_answered, answered_some, nothing_held, less_more, found_text, no_lines, none_less}
 
@@ -54,7 +54,7 @@ pub record IsReply (offset : ℤ) (records : List RecordView) (w : World) (r : L
   pub is : w.batches ≡ old ++ more
   pub there : w.met ≡ length old
   pub log : IsLog w.start old
-  pub batches : r ≡ answered n w.core.found.offset old
+  pub batches : r ≡ batches_given n w.core.found.offset old
   pub split : records_of_log offset old ≡ records ++ records_of_log w.core.found.offset old
 
 abbrev pub MayReply : ℤ → List RecordView → World → Option (List (List ℕ)) → Type 0
@@ -176,7 +176,7 @@ holds-taken offset wanted follow w h = record {
 fetches : (stage : Fetching) (P : Type 0) → stage ≡ stages.Fetch → stage ≡ stages.Finished → P
 fetches stage P e f = let no : stages.Fetch ≡ stages.Finished = sym e ∙ f in absurd cc
 
-pub holds-replied : (offset : ℤ) (wanted : Option ℕ) (follow : Bool) (n : ℕ) (w : World) → w.core.stage ≡ stages.Fetch → Holds offset wanted follow w → Holds offset wanted follow (record w { reply = Some (answered n w.core.found.offset w.batches); met = length w.batches })
+pub holds-replied : (offset : ℤ) (wanted : Option ℕ) (follow : Bool) (n : ℕ) (w : World) → w.core.stage ≡ stages.Fetch → Holds offset wanted follow w → Holds offset wanted follow (record w { reply = Some (batches_given n w.core.found.offset w.batches); met = length w.batches })
 holds-replied offset wanted follow n w at h = record {
   log = h.log;
   records = h.records;
@@ -221,7 +221,7 @@ wanting_finished (Some zero) e = refl
 wanting_finished (Some (suc n)) e = absurd cc
 
 -- batches are in it
-came_found : (offset : ℤ) (wanted : Option ℕ) (follow : Bool) (w : World) (r : List (List ℕ)) → (h : Holds offset wanted follow w) → (x : IsReply offset h.records w r) → (f : Finds w.core.found x.old (answered x.n w.core.found.offset x.old)) → Holds offset wanted follow (came (with_found (Some f.after) w.core) w)
+came_found : (offset : ℤ) (wanted : Option ℕ) (follow : Bool) (w : World) (r : List (List ℕ)) → (h : Holds offset wanted follow w) → (x : IsReply offset h.records w r) → (f : Finds w.core.found x.old (batches_given x.n w.core.found.offset x.old)) → Holds offset wanted follow (came (with_found (Some f.after) w.core) w)
 came_found offset wanted follow w r h x f =
     let off = w.core.found.offset in
     let same : IsLog w.start (x.old ++ ([] ++ x.more)) = subst (λ bs. IsLog w.start bs) x.is h.log in
@@ -248,8 +248,8 @@ given_some (b ∷ s) c some = refl
 given_is : (offset : ℤ) (wanted : Option ℕ) (follow : Bool) (w : World) (r : List (List ℕ)) (h : Holds offset wanted follow w) (x : IsReply offset h.records w r) (b : List ℕ) (read : List (List ℕ)) → r ≡ b ∷ read → given (joined r) w.core ≡ with_found (Some (finds_answered x.n w.core.found w.start x.old x.log).after) w.core
 given_is offset wanted follow w r h x b read e =
     let f = finds_answered x.n w.core.found w.start x.old x.log in
-    let some : joined (answered x.n w.core.found.offset x.old) ≡ [] → ⊥ = answered_some x.n w.core.found.offset w.start x.old b read x.log (sym x.batches ∙ e) in
-    ap (λ bs. given (joined bs) w.core) x.batches ∙ given_some (joined (answered x.n w.core.found.offset x.old)) w.core some ∙ ap (λ o. with_found o w.core) (found_answered x.n w.core.found w.start x.old x.log ∙ f.reads)
+    let some : joined (batches_given x.n w.core.found.offset x.old) ≡ [] → ⊥ = answered_some x.n w.core.found.offset w.start x.old b read x.log (sym x.batches ∙ e) in
+    ap (λ bs. given (joined bs) w.core) x.batches ∙ given_some (joined (batches_given x.n w.core.found.offset x.old)) w.core some ∙ ap (λ o. with_found o w.core) (found_answered x.n w.core.found w.start x.old x.log ∙ f.reads)
 
 came_by : (offset : ℤ) (wanted : Option ℕ) (follow : Bool) (w : World) (r : List (List ℕ)) (h : Holds offset wanted follow w) (x : IsReply offset h.records w r) (read : List (List ℕ)) → r ≡ read → Holds offset wanted follow (came (given (joined r) w.core) w)
 came_by offset wanted follow w r h x [] e = subst (λ bs. Holds offset wanted follow (came (given (joined bs) w.core) w)) (sym e) (came_end offset wanted follow w r h x e)

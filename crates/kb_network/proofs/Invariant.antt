@@ -12,7 +12,7 @@ use Rattle.kb_client.specs.Sent.{Line, Target}
 use Rattle.kb_client.specs.Requests.{plain_message}
 use Rattle.kb_client.specs.Producer.{Producer, heard, IsRequest}
 use Rattle.kb_network.specs.Receiver.{Receiver, Stored, Login, Greets, Shaken, LoggedIn, knows}
-use Rattle.kb_network.specs.Sending.{World, IsTyped}
+use Rattle.kb_network.specs.Sending.{Delivery, IsTyped}
 
 -- ---- which lines are stored
 
@@ -91,7 +91,7 @@ pub record IsAnswered (known : Bool) (p : Producer) (handed : List Line) (r : Re
 abbrev pub Phase : Bool → Producer → List Line → Receiver → List ℕ → List ℕ → Type 0
 Phase known p handed r to back = (IsQuiet p r to back × Ready known p.stage p.producer r.login) ⊎ (IsAsking known p r to back ⊎ IsAnswered known p handed r to back)
 
-pub record Holds (known : Bool) (w : World) : Type 0 where
+pub record Holds (known : Bool) (w : Delivery) : Type 0 where
   pub login : knows w.receiver.users (plain_message w.core.target) ≡ known
   pub typed : IsTyped w.core.target w.core.create
   pub counts : Counts w.core.producer w.core.acknowledged w.core.lines w.handed w.receiver.stored
@@ -122,5 +122,5 @@ phase_going p handed r to back (inl h) = ready_going p.stage p.producer r.login 
 phase_going p handed r to back (inr (inl h)) = request_going p.stage p (r.unread ++ to) h.request
 phase_going p handed r to back (inr (inr h)) = h.going
 
-pub holds_going : (w : World) → Holds true w → fault_of w.core.stage ≡ None
+pub holds_going : (w : Delivery) → Holds true w → fault_of w.core.stage ≡ None
 holds_going w h = phase_going w.core w.handed w.receiver w.requests w.answers h.phase

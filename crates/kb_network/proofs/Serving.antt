@@ -22,7 +22,7 @@ use Rattle.kb_client.specs.Producer as producers
 use Rattle.kb_client.specs.Producer.{Producer, heard, heard_by, correlation, sequence, entered, ended, after_login, IsRequest, IsProduce}
 use Rattle.kb_network.specs.Receiver as receivers
 use Rattle.kb_network.specs.Receiver.{Receiver, Stored, Login, Greets, Shaken, LoggedIn, Shut, Asked, Handshake, Authenticate, Create, Identify, Produce, Request, request, Outcome, outcome, replies, handshake_reply, authenticate_reply, create_reply, identify_reply, stored_reply, Part, part_of, value_in, value_of, producer_of, is_by, count_by, Verdict, Next, Repeated, OutOfOrder, verdict, last_by, stores, stores_batch, stores_part, knows, shakes, logs_in, logged_in_only, creates}
-use Rattle.kb_network.specs.Sending.{World, IsTyped, served_at, with_outcome, reply_text}
+use Rattle.kb_network.specs.Sending.{Delivery, IsTyped, served_at, with_outcome, reply_text}
 use Rattle.kb_network.proofs.Texts.{int_same, int_apart, header, request_read, front_request, front_reply, front_nothing, front_part}
 use Rattle.kb_network.proofs.Asking.{topic_of, handshake_body, handshake_short, handshake_asked, authenticate_body, authenticate_short, authenticate_asked, create_body, create_short, create_asked, identify_body, identify_short, identify_asked, produce_ask, produce_body, produce_short, produce_asked}
 use Rattle.kb_network.proofs.Hearing.{body_read, handshake_heard, handshake_reply_len, authenticate_heard, authenticate_reply_len, create_heard, create_reply_len, given_id, identify_heard, identify_reply_len, stored_heard, stored_reply_len}
@@ -372,10 +372,10 @@ reacts known (stages.Ended ending) p handed r text at h ready login typed c = ab
 
 -- ---- the step
 
-served_whole : (w : World) (m : List ℕ) (id : ℤ) (asked : Asked) (body : List ℕ) (after : Receiver) → front w.receiver.unread ≡ Whole m [] → request m ≡ asks id asked → outcome asked (bare w.receiver) ≡ replies body after → served_at (front w.receiver.unread) w ≡ record w { receiver = after; answers = w.answers ++ reply_text id (Some body) }
+served_whole : (w : Delivery) (m : List ℕ) (id : ℤ) (asked : Asked) (body : List ℕ) (after : Receiver) → front w.receiver.unread ≡ Whole m [] → request m ≡ asks id asked → outcome asked (bare w.receiver) ≡ replies body after → served_at (front w.receiver.unread) w ≡ record w { receiver = after; answers = w.answers ++ reply_text id (Some body) }
 served_whole w m id asked body after whole reads comes = ap (λ f. served_at f w) whole ∙ ap (λ q. with_outcome q.correlation_id (outcome q.asked (bare w.receiver)) w) reads ∙ ap (λ o. with_outcome id o w) comes
 
-answered : (known : Bool) (w : World) → Holds known w → (a : IsAsking known w.core w.receiver w.requests w.answers) → w.requests ≡ [] → Reacts known w.core w.handed w.receiver (w.receiver.unread ++ w.requests) → Holds known (served_at (front w.receiver.unread) w)
+answered : (known : Bool) (w : Delivery) → Holds known w → (a : IsAsking known w.core w.receiver w.requests w.answers) → w.requests ≡ [] → Reacts known w.core w.handed w.receiver (w.receiver.unread ++ w.requests) → Holds known (served_at (front w.receiver.unread) w)
 answered known w h a none x =
     let all : w.receiver.unread ≡ w.receiver.unread ++ w.requests = sym (append-nil w.receiver.unread) ∙ ap (λ t. w.receiver.unread ++ t) (sym none) in
     let is : served_at (front w.receiver.unread) w ≡ record w { receiver = x.after; answers = w.answers ++ reply_text x.id (Some x.body) } = served_whole w x.m x.id x.asked x.body x.after (ap front all ∙ x.whole) x.reads x.comes in
@@ -403,19 +403,19 @@ bytes b rest = b ∷ rest
 not_nothing : (b : ℕ) (rest : List ℕ) → bytes b rest ≡ [] → ⊥
 not_nothing b rest e = absurd cc
 
-served_by : (known : Bool) (w : World) (to : List ℕ) → Holds known w → (a : IsAsking known w.core w.receiver w.requests w.answers) → w.requests ≡ to → Reacts known w.core w.handed w.receiver (w.receiver.unread ++ w.requests) → Holds known (served_at (front w.receiver.unread) w)
+served_by : (known : Bool) (w : Delivery) (to : List ℕ) → Holds known w → (a : IsAsking known w.core w.receiver w.requests w.answers) → w.requests ≡ to → Reacts known w.core w.handed w.receiver (w.receiver.unread ++ w.requests) → Holds known (served_at (front w.receiver.unread) w)
 served_by known w [] h a left x = answered known w h a left x
 served_by known w (b ∷ to) h a left x =
     let part : front w.receiver.unread ≡ Partial = front_part w.receiver.unread w.requests x.m x.whole (λ e. not_nothing b to (sym left ∙ e)) in
     subst (Holds known) (sym (ap (λ f. served_at f w) part)) h
 
-served_nothing : (known : Bool) (w : World) → Holds known w → w.receiver.unread ≡ [] → Holds known (served_at (front w.receiver.unread) w)
+served_nothing : (known : Bool) (w : Delivery) → Holds known w → w.receiver.unread ≡ [] → Holds known (served_at (front w.receiver.unread) w)
 served_nothing known w h e = subst (Holds known) (sym (ap (λ f. served_at f w) (ap front e ∙ front_nothing))) h
 
-served_in : (known : Bool) (w : World) → Holds known w → Phase known w.core w.handed w.receiver w.requests w.answers → Holds known (served_at (front w.receiver.unread) w)
+served_in : (known : Bool) (w : Delivery) → Holds known w → Phase known w.core w.handed w.receiver w.requests w.answers → Holds known (served_at (front w.receiver.unread) w)
 served_in known w h (inl q) = served_nothing known w h q.0.read
 served_in known w h (inr (inl a)) = served_by known w w.requests h a refl (reacts known w.core.stage w.core w.handed w.receiver (w.receiver.unread ++ w.requests) refl a.request a.ready h.login h.typed h.counts)
 served_in known w h (inr (inr a)) = served_nothing known w h a.read
 
-pub holds-served : (known : Bool) (w : World) → Holds known w → Holds known (served_at (front w.receiver.unread) w)
+pub holds-served : (known : Bool) (w : Delivery) → Holds known w → Holds known (served_at (front w.receiver.unread) w)
 holds-served known w h = served_in known w h h.phase

@@ -11,7 +11,7 @@ use Rattle.kb_client.specs.Sent.{Line, Target}
 use Rattle.kb_client.specs.Producer.{Producer, heard, IsRequest, IsProduce, with_line, connected, restarted, fed, fed_by, read_at, unasked, is_due, has_request}
 use Rattle.kb_client.specs.Requests.{plain_message}
 use Rattle.kb_network.specs.Receiver.{Receiver, Stored, Login, Greets, knows}
-use Rattle.kb_network.specs.Sending.{World, arrived, cut}
+use Rattle.kb_network.specs.Sending.{Delivery, arrived, cut}
 use Rattle.kb_network.proofs.Texts.{front_nothing, front_part}
 use Rattle.kb_network.proofs.Invariant.{Counts, IsStored, Ready, IsAnswered, IsSettled, HearsAs, Phase, Holds, request_going}
 
@@ -100,7 +100,7 @@ more_phase known p handed r to back line (inr (inr h)) = inr (inr (record {
   settled = more_settled known p.target h.next handed r line h.settled;
 }))
 
-pub holds-handed : (known : Bool) (w : World) (line : Line) → Holds known w → Holds known (record w { core = with_line line w.core; handed = w.handed ++ line ∷ [] })
+pub holds-handed : (known : Bool) (w : Delivery) (line : Line) → Holds known w → Holds known (record w { core = with_line line w.core; handed = w.handed ++ line ∷ [] })
 holds-handed known w line h = record {
   login = h.login;
   typed = h.typed;
@@ -137,7 +137,7 @@ sent_phase known p handed r to back text due is (inl h) = inr (inl (record {
 sent_phase known p handed r to back text due is (inr (inl h)) = absurd (not_due p h.asked due)
 sent_phase known p handed r to back text due is (inr (inr h)) = absurd (not_due p h.asked due)
 
-pub holds-sent : (known : Bool) (w : World) (text : List ℕ) → is_due w.core ≡ true → IsRequest w.core.stage w.core text → Holds known w → Holds known (record w { core = record w.core { asked = true }; requests = w.requests ++ text })
+pub holds-sent : (known : Bool) (w : Delivery) (text : List ℕ) → is_due w.core ≡ true → IsRequest w.core.stage w.core text → Holds known w → Holds known (record w { core = record w.core { asked = true }; requests = w.requests ++ text })
 holds-sent known w text due is h = record {
   login = h.login;
   typed = h.typed;
@@ -177,7 +177,7 @@ arrived_phase known n p handed r to back (inr (inr h)) = inr (inr (record {
   settled = record { idle = h.settled.idle; unread = h.settled.unread; same = h.settled.same; typed = h.settled.typed; ready = h.settled.ready; counts = h.settled.counts };
 }))
 
-pub holds-arrived : (known : Bool) (n : ℕ) (w : World) → Holds known w → Holds known (record w { requests = drop n w.requests; receiver = arrived n w.receiver w.requests })
+pub holds-arrived : (known : Bool) (n : ℕ) (w : Delivery) → Holds known w → Holds known (record w { requests = drop n w.requests; receiver = arrived n w.receiver w.requests })
 holds-arrived known n w h = record {
   login = h.login;
   typed = h.typed;
@@ -208,17 +208,17 @@ fed_part p piece going asked part = fed_asked p piece going asked ∙ ap (λ f. 
 fed_whole : (p : Producer) (piece frame : List ℕ) → fault_of p.stage ≡ None → p.asked ≡ true → front (p.unread ++ piece) ≡ Whole frame [] → fed piece p ≡ heard frame (record p { unread = p.unread ++ piece })
 fed_whole p piece frame going asked whole = fed_asked p piece going asked ∙ ap (λ f. read_at f (record p { unread = p.unread ++ piece })) whole
 
-abbrev returned : ℕ → World → World
+abbrev returned : ℕ → Delivery → Delivery
 returned n w = record w { core = fed (take n w.answers) w.core; answers = drop n w.answers }
 
 -- where nothing is under way, nothing comes
-returned_nothing : (n : ℕ) (w : World) → fed (take n w.answers) w.core ≡ w.core → w.answers ≡ [] → returned n w ≡ w
+returned_nothing : (n : ℕ) (w : Delivery) → fed (take n w.answers) w.core ≡ w.core → w.answers ≡ [] → returned n w ≡ w
 returned_nothing n w same e = ap (λ c. record w { core = c; answers = drop n w.answers }) same ∙ ap (λ a. record w { answers = a }) (dropped_nothing n w.answers e ∙ sym e)
 
 hears_now : (frame u : List ℕ) (p q : Producer) → HearsAs frame p q → heard frame (record p { unread = u }) ≡ q
 hears_now frame u p q h = ap (λ ls. heard frame (record p { unread = u; lines = ls })) (sym (append-nil p.lines)) ∙ h u [] ∙ ap (λ ls. record q { lines = ls }) (append-nil q.lines)
 
-settles : (known : Bool) (n : ℕ) (w : World) → Holds known w → (a : IsAnswered known w.core w.handed w.receiver w.requests w.answers) → drop n w.answers ≡ [] → Holds known (record w { core = a.next; answers = drop n w.answers })
+settles : (known : Bool) (n : ℕ) (w : Delivery) → Holds known w → (a : IsAnswered known w.core w.handed w.receiver w.requests w.answers) → drop n w.answers ≡ [] → Holds known (record w { core = a.next; answers = drop n w.answers })
 settles known n w h a rest = record {
   login = ap (λ t. knows w.receiver.users (plain_message t)) a.settled.same ∙ h.login;
   typed = a.settled.typed;
@@ -226,7 +226,7 @@ settles known n w h a rest = record {
   phase = inl (record { idle = a.settled.idle; unread = a.settled.unread; read = a.read; none_to = a.none_to; none_back = rest }, a.settled.ready);
 }
 
-returned_all : (known : Bool) (n : ℕ) (w : World) → Holds known w → IsAnswered known w.core w.handed w.receiver w.requests w.answers → drop n w.answers ≡ [] → Holds known (returned n w)
+returned_all : (known : Bool) (n : ℕ) (w : Delivery) → Holds known w → IsAnswered known w.core w.handed w.receiver w.requests w.answers → drop n w.answers ≡ [] → Holds known (returned n w)
 returned_all known n w h a rest =
     let piece : List ℕ = take n w.answers in
     let all : piece ≡ w.answers = sym (append-nil piece) ∙ ap (λ d. piece ++ d) (sym rest) ∙ take-append-drop n w.answers in
@@ -241,7 +241,7 @@ some b rest = b ∷ rest
 not_nothing : (b : ℕ) (rest : List ℕ) → some b rest ≡ none → ⊥
 not_nothing b rest e = absurd cc
 
-returned_part : (known : Bool) (n : ℕ) (w : World) (b : ℕ) (rest : List ℕ) → Holds known w → IsAnswered known w.core w.handed w.receiver w.requests w.answers → drop n w.answers ≡ b ∷ rest → Holds known (returned n w)
+returned_part : (known : Bool) (n : ℕ) (w : Delivery) (b : ℕ) (rest : List ℕ) → Holds known w → IsAnswered known w.core w.handed w.receiver w.requests w.answers → drop n w.answers ≡ b ∷ rest → Holds known (returned n w)
 returned_part known n w b rest h a left =
     let piece : List ℕ = take n w.answers in
     let joined : (w.core.unread ++ piece) ++ drop n w.answers ≡ w.core.unread ++ w.answers = append_assoc w.core.unread piece (drop n w.answers) ∙ ap (λ x. w.core.unread ++ x) (take-append-drop n w.answers) in
@@ -265,11 +265,11 @@ returned_part known n w b rest h a left =
       }));
     })
 
-returned_by : (known : Bool) (n : ℕ) (w : World) (rest : List ℕ) → Holds known w → IsAnswered known w.core w.handed w.receiver w.requests w.answers → drop n w.answers ≡ rest → Holds known (returned n w)
+returned_by : (known : Bool) (n : ℕ) (w : Delivery) (rest : List ℕ) → Holds known w → IsAnswered known w.core w.handed w.receiver w.requests w.answers → drop n w.answers ≡ rest → Holds known (returned n w)
 returned_by known n w [] h a left = returned_all known n w h a left
 returned_by known n w (b ∷ rest) h a left = returned_part known n w b rest h a left
 
-returned_in : (known : Bool) (n : ℕ) (w : World) → Holds known w → Phase known w.core w.handed w.receiver w.requests w.answers → Holds known (returned n w)
+returned_in : (known : Bool) (n : ℕ) (w : Delivery) → Holds known w → Phase known w.core w.handed w.receiver w.requests w.answers → Holds known (returned n w)
 returned_in known n w h (inl q) =
     let same : fed (take n w.answers) w.core ≡ w.core = ap (λ b. fed b w.core) (taken_nothing n w.answers q.0.none_back) ∙ fed_quiet w.core q.0.idle in
     subst (Holds known) (sym (returned_nothing n w same q.0.none_back)) h
@@ -281,7 +281,7 @@ returned_in known n w h (inr (inl a)) =
     subst (Holds known) (sym (returned_nothing n w same a.none_back)) h
 returned_in known n w h (inr (inr a)) = returned_by known n w (drop n w.answers) h a refl
 
-pub holds-returned : (known : Bool) (n : ℕ) (w : World) → Holds known w → Holds known (record w { core = fed (take n w.answers) w.core; answers = drop n w.answers })
+pub holds-returned : (known : Bool) (n : ℕ) (w : Delivery) → Holds known w → Holds known (record w { core = fed (take n w.answers) w.core; answers = drop n w.answers })
 holds-returned known n w h = returned_in known n w h h.phase
 
 -- ---- another connection begins
@@ -309,7 +309,7 @@ restart known p handed r to back (inl h) = restart_ready known p.stage p.produce
 restart known p handed r to back (inr (inl h)) = restart_ready known p.stage p.producer r.login h.ready
 restart known p handed r to back (inr (inr h)) = restart_going known p.stage p.producer h.going
 
-pub holds-connected : (known : Bool) (w : World) → Holds known w → Holds known (record w { core = connected w.core; requests = []; answers = []; receiver = cut w.receiver })
+pub holds-connected : (known : Bool) (w : Delivery) → Holds known w → Holds known (record w { core = connected w.core; requests = []; answers = []; receiver = cut w.receiver })
 holds-connected known w h = record {
   login = h.login;
   typed = h.typed;

@@ -21,9 +21,9 @@ use Rattle.std.specs.List.{flat_map}
 use Rattle.kb_client.specs.Consumer.{Consumer, fresh, connected, without_text, Inputs, OutputsText}
 use Rattle.kb_network.specs.Receiver.{Receiver, Login, Greets, Shaken, LoggedIn, Shut, Outcome, shuts, request, outcome}
 use Rattle.kb_network.specs.Sending.{if_given, if_come, reply_text, arrived, cut}
-use Rattle.kb_network.specs.Partition.{IsLog, records_of_log, joined, answered}
+use Rattle.kb_network.specs.Partition.{IsLog, records_of_log, joined, batches_given}
 
-pub record World : Type 0 where
+pub record Reading : Type 0 where
   pub core : Consumer
   -- the text of the lines that were taken
   pub taken : List ℕ
@@ -84,7 +84,7 @@ fetch_of frame = fetch_in (request_header.read frame)
 
 -- the batches that a fetch is answered: at most 1,048,588 bytes, or the first alone
 abbrev pub fitting : ℕ → ℤ → List (List ℕ) → ℕ
-fitting n offset batches = if nat_lt 1048588 (length (joined (answered n offset batches))) then 0 else n
+fitting n offset batches = if nat_lt 1048588 (length (joined (batches_given n offset batches))) then 0 else n
 
 -- the reply to a fetch of a log that begins at `start`
 abbrev pub fetched_reply : Fetch → ℤ → ℤ → List ℕ → List ℕ
@@ -93,29 +93,29 @@ fetched_reply f start end records = fetch_reply_v5.written (record {
   topics = record { topic = f.topic; partitions = record { partition = f.index; error_code = pos 0; high_watermark = end; last_stable_offset = end; log_start_offset = start; aborted_transactions = None; records = Some records } ∷ [] } ∷ [];
 })
 
-abbrev pub with_outcome : ℤ → Outcome → World → World
+abbrev pub with_outcome : ℤ → Outcome → Reading → Reading
 with_outcome id o w = record w { greeter = o.receiver; answers = w.answers ++ reply_text id o.reply }
 
 -- a fetch is answered to whoever is logged in: any other is shut
-abbrev pub fetched : Login → ℕ → ℤ → Fetch → Receiver → World → World
-fetched LoggedIn n id f r w = record w { greeter = r; answers = w.answers ++ reply_text id (Some (fetched_reply f w.start (pos (length w.batches)) (joined (answered (fitting n f.offset w.batches) f.offset w.batches)))); met = length w.batches }
+abbrev pub fetched : Login → ℕ → ℤ → Fetch → Receiver → Reading → Reading
+fetched LoggedIn n id f r w = record w { greeter = r; answers = w.answers ++ reply_text id (Some (fetched_reply f w.start (pos (length w.batches)) (joined (batches_given (fitting n f.offset w.batches) f.offset w.batches)))); met = length w.batches }
 fetched Greets n id f r w = with_outcome id (shuts r) w
 fetched Shaken n id f r w = with_outcome id (shuts r) w
 fetched Shut n id f r w = with_outcome id (shuts r) w
 
 -- any other request is one of the login
-abbrev pub served_by : Option Fetch → ℕ → List ℕ → Receiver → World → World
+abbrev pub served_by : Option Fetch → ℕ → List ℕ → Receiver → Reading → Reading
 served_by (Some f) n frame r w = fetched r.login n (request frame).correlation_id f r w
 served_by None n frame r w = with_outcome (request frame).correlation_id (outcome (request frame).asked r) w
 
-abbrev pub served_at : ℕ → Front → World → World
+abbrev pub served_at : ℕ → Front → Reading → Reading
 served_at n (Whole frame rest) w = served_by (fetch_of frame) n frame (record w.greeter { unread = rest }) w
 served_at n Partial w = w
 served_at n TooSmall w = record w { greeter = record w.greeter { login = Shut } }
 served_at n TooLarge w = record w { greeter = record w.greeter { login = Shut } }
 
 -- Each call of the consumer is what its contract says.
-abbrev pub Steps : Event → World → World → Type 0
+abbrev pub Steps : Event → Reading → Reading → Type 0
 Steps (Appends batch) old new = IsLog old.start (old.batches ++ batch ∷ []) × (new ≡ record old { batches = old.batches ++ batch ∷ [] })
 Steps (Sends result) old new = OutputsText (λ text. text) old.core result new.core × (new ≡ record old { core = new.core; requests = old.requests ++ if_given result })
 Steps (Arrives n) old new = new ≡ record old { requests = drop n old.requests; greeter = arrived n old.greeter old.requests }
@@ -124,9 +124,9 @@ Steps (Returns n result) old new = Inputs old.core (take n old.answers) result n
 Steps Takes old new = new ≡ record old { core = without_text old.core; taken = old.taken ++ old.core.found.text }
 Steps Reconnects old new = new ≡ record old { core = connected old.core; requests = []; answers = []; greeter = cut old.greeter }
 
-abbrev pub Runs : List Event → World → World → Type 0
+abbrev pub Runs : List Event → Reading → Reading → Type 0
 Runs [] first last = last ≡ first
-Runs (e ∷ es) first last = (next : World) × Steps e first next × Runs es next last
+Runs (e ∷ es) first last = (next : Reading) × Steps e first next × Runs es next last
 
 -- the texts and numbers are values of their Rust types
 pub record IsTyped (target : Target) : Type 0 where
@@ -134,7 +134,7 @@ pub record IsTyped (target : Target) : Type 0 where
   pub topic : IsUtf8 target.topic
   pub partition : FitsSigned w32 target.partition
 
-abbrev pub begun : Target → ℤ → Option ℕ → Bool → List PlainLogin → ℤ → List (List ℕ) → World
+abbrev pub begun : Target → ℤ → Option ℕ → Bool → List PlainLogin → ℤ → List (List ℕ) → Reading
 begun target offset wanted follow users start batches = record {
   core = fresh target offset wanted follow;
   taken = [];
@@ -157,7 +157,7 @@ IsFull None n = ⊥
 IsFull (Some wanted) n = n ≡ wanted
 
 -- The lines that were found, taken or not, are those of the first records from the asked offset on, each once and in order.
-pub record IsGiven (offset : ℤ) (wanted : Option ℕ) (follow : Bool) (w : World) : Type 0 where
+pub record IsGiven (offset : ℤ) (wanted : Option ℕ) (follow : Bool) (w : Reading) : Type 0 where
   pub records : List RecordView
   pub others : List RecordView
   pub in_order : records_of_log offset w.batches ≡ records ++ others

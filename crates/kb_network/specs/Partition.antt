@@ -25,5 +25,5 @@ abbrev pub joined : List (List ℕ) → List ℕ
 joined batches = flat_map (λ batch. batch) batches
 
 -- what a fetch from an offset is answered: one batch, and so many more
-abbrev pub answered : ℕ → ℤ → List (List ℕ) → List (List ℕ)
-answered n offset batches = take (suc n) (from_holding offset batches)
+abbrev pub batches_given : ℕ → ℤ → List (List ℕ) → List (List ℕ)
+batches_given n offset batches = take (suc n) (from_holding offset batches)

@@ -12,7 +12,7 @@ use Rattle.kb_network.specs.Receiver.{Receiver, Greets, Shut, Outcome, request, 
 
 -- 1. The world
 
-pub record World : Type 0 where
+pub record Delivery : Type 0 where
   pub core : Producer
   -- the lines that were handed in and taken, in order
   pub handed : List Line
@@ -64,11 +64,11 @@ reply_text id (Some body) = blob.written (int32.written id ++ body)
 abbrev pub arrived : ℕ → Receiver → List ℕ → Receiver
 arrived n r bytes = record r { unread = r.unread ++ take n bytes }
 
-abbrev pub with_outcome : ℤ → Outcome → World → World
+abbrev pub with_outcome : ℤ → Outcome → Delivery → Delivery
 with_outcome id o w = record w { receiver = o.receiver; answers = w.answers ++ reply_text id o.reply }
 
 -- a bad size shuts the connection
-abbrev pub served_at : Front → World → World
+abbrev pub served_at : Front → Delivery → Delivery
 served_at (Whole frame rest) w = with_outcome (request frame).correlation_id (outcome (request frame).asked (record w.receiver { unread = rest })) w
 served_at Partial w = w
 served_at TooSmall w = record w { receiver = record w.receiver { login = Shut } }
@@ -79,7 +79,7 @@ abbrev pub cut : Receiver → Receiver
 cut r = record r { login = Greets; unread = [] }
 
 -- Each call of the producer is what its contract says.
-abbrev pub Steps : Event → World → World → Type 0
+abbrev pub Steps : Event → Delivery → Delivery → Type 0
 Steps (Hands line result) old new = TakesLine old.core line result new.core × (new ≡ record old { core = new.core; handed = if_taken result line old.handed })
 Steps (Sends result) old new = OutputsText (λ text. text) old.core result new.core × (new ≡ record old { core = new.core; requests = old.requests ++ if_given result })
 Steps (Arrives n) old new = new ≡ record old { requests = drop n old.requests; receiver = arrived n old.receiver old.requests }
@@ -87,9 +87,9 @@ Steps Serves old new = new ≡ served_at (front old.receiver.unread) old
 Steps (Returns n result) old new = Inputs old.core (take n old.answers) result new.core × (new ≡ record old { core = new.core; answers = if_come result n old.answers })
 Steps Reconnects old new = new ≡ record old { core = connected old.core; requests = []; answers = []; receiver = cut old.receiver }
 
-abbrev pub Runs : List Event → World → World → Type 0
+abbrev pub Runs : List Event → Delivery → Delivery → Type 0
 Runs [] first last = last ≡ first
-Runs (e ∷ es) first last = (next : World) × Steps e first next × Runs es next last
+Runs (e ∷ es) first last = (next : Delivery) × Steps e first next × Runs es next last
 
 -- 3. Where it begins
 
@@ -101,7 +101,7 @@ pub record IsTyped (target : Target) (create : Option ℤ) : Type 0 where
   pub partitions : (n : ℤ) → create ≡ Some n → FitsSigned w32 n
 
 -- nothing was handed in, and nothing is stored
-abbrev pub begun : Target → Option ℤ → List PlainLogin → Bool → ℕ → World
+abbrev pub begun : Target → Option ℤ → List PlainLogin → Bool → ℕ → Delivery
 begun target create users created next_id = record {
   core = fresh target create;
   handed = [];
@@ -112,11 +112,11 @@ begun target create users created next_id = record {
 
 -- 4. What is promised
 
-abbrev pub values : World → List (List ℕ)
+abbrev pub values : Delivery → List (List ℕ)
 values w = map (λ s. s.value) w.receiver.stored
 
 -- The values are the first of the lines that were handed in, in order, each once: those that are acknowledged and at most one more.
-pub record IsDelivered (w : World) : Type 0 where
+pub record IsDelivered (w : Delivery) : Type 0 where
   pub in_order : values w ≡ take (length (values w)) (map (λ l. l.value) w.handed)
   pub acknowledged : w.core.acknowledged ≤ length (values w)
   pub one_more : length (values w) ≤ w.core.acknowledged + 1

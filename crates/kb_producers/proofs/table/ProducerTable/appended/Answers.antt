@@ -12,4 +12,4 @@ returns c =
     let is : c.at.result ≡ kept_of (stamped c.args.base c.args.batch.now) =
     c.at.ensures ∙ ap (λ (b : ℤ). let k : Kept = record c.kept_of.result { base_offset = b } in k) base
     ∙ ap (λ (k : Kept). record k { base_offset = c.args.base }) c.kept_of.ensures.kept ∙ kept_of_stamped c.args.base c.args.batch.now c.ranges.base long in
-    c.append.ensures ∙ ap (λ k. c.args.self.now.kept ++ filter is_idempotent (k ∷ [])) is
+    c.noted.ensures ∙ ap (λ k. c.args.self.now.kept ++ filter is_idempotent (k ∷ [])) is

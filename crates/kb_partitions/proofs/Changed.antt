@@ -21,7 +21,7 @@ use Rattle.kb_log.specs.OnShelf as one
 use Rattle.kb_producers.specs.Batches.{kept_all}
 use Rattle.kb_partitions.specs.OneLog.{StaysTold}
 use Rattle.kb_partitions.specs.Logs.{LogState, log_at, with_log, put_log}
-use Rattle.kb_partitions.specs.Partitions.{Entries, Owned, AreSound, AreNamed, partition_at, partition_identity, places_of, log_state, logs_of, scene_on}
+use Rattle.kb_partitions.specs.Partitions.{Entries, Owned, AreSound, AreNamed, AreStarted, Restarts, partition_at, partition_identity, places_of, log_state, logs_of, scene_on}
 use Rattle.kb_partitions.specs.Scene.{Frame, Settles}
 use Rattle.kb_partitions.specs.declared.partition.Partition.{Partition}
 use Rattle.kb_partitions.proofs.Put.{cases, found_put, get_here, get_kept, get_put, own_number, same_number, map_same, map_put, put_same, lookup_put, values_put}
@@ -189,6 +189,18 @@ module _ {L : Type 0} (es es' : Entries L) (i p : ℕ) (x x' : Partition L) (c :
     changed_named tenant size named =
         each_partition (λ j q y. (log y.log).identity ≡ partition_identity tenant j q size) (frames.identity ∙ named i p x old_at) (λ j q y at ne. named j q y at)
 
+    -- each log would still start where it does, where the changed one would
+    pub changed_resumes : (recorded : ℕ → ℕ → ℕ) → ((start : ℕ) → (log x.log).resumes start → (log x'.log).resumes start) → AreStarted log recorded es → AreStarted log recorded es'
+    changed_resumes recorded keeps started =
+        each_partition (λ j q y. (log y.log).resumes (recorded j q)) (keeps (recorded i p) (started i p x old_at)) (λ j q y at ne. started j q y at)
+
+    -- so it would where the changed one's start is recorded
+    pub changed_restarts : (old new : ℕ → ℕ → ℕ) (start : ℕ) → (log x'.log).start ≡ start → Restarts old i p start new → AreStarted log old es → AreStarted log new es'
+    changed_restarts old new start is restarts started =
+        each_partition (λ j q y. (log y.log).resumes (new j q))
+        (subst (λ n. (log x'.log).resumes n) (is ∙ sym restarts.here) ((law x'.log).resumes_start d'.table next' frames.sound))
+        (λ j q y at ne. subst (λ n. (log y.log).resumes n) (sym (restarts.others j q ne)) (started j q y at))
+
     -- what a call that was refused nothing leaves
     pub changed_settles : one.Settles (record { log = log x.log; disk = d; next = next }) (record { log = log x'.log; disk = d'; next = next' }) → Settles (scene_on log es d next) (scene_on log es' d' next')
     changed_settles settles = record {
@@ -250,3 +262,14 @@ settles_same {L} log es es' d next e = subst (λ (fs : Entries L). Settles (scen
 
 pub named_same : {L : Type 0} (log : L → Log) (es es' : Entries L) (tenant : List ℕ) (size : ℕ) → es' ≡ es → AreNamed log tenant size es → AreNamed log tenant size es'
 named_same {L} log es es' tenant size e named = subst (λ (fs : Entries L). AreNamed log tenant size fs) (sym e) named
+
+pub started_same : {L : Type 0} (log : L → Log) (es es' : Entries L) (recorded : ℕ → ℕ → ℕ) → es' ≡ es → AreStarted log recorded es → AreStarted log recorded es'
+started_same {L} log es es' recorded e started = subst (λ (fs : Entries L). AreStarted log recorded fs) (sym e) started
+
+-- where there is no partition whose start is recorded
+pub restarts_unknown : {L : Type 0} (log : L → Log) (es es' : Entries L) (i p start : ℕ) (old new : ℕ → ℕ → ℕ) → partition_at i p es ≡ None → es' ≡ es → Restarts old i p start new
+    → AreStarted log old es → AreStarted log new es'
+restarts_unknown {L} log es es' i p start old new none e restarts started = started_same log es es' new e (λ j q y at.
+    let other : (j ≡ i) × (q ≡ p) → ⊥ = λ same.
+    let gone : None ≡ Some y = sym none ∙ sym (ap (λ k. partition_at i k es) same.1) ∙ sym (ap (λ k. partition_at k q es) same.0) ∙ at in absurd cc in
+    subst (λ n. (log y.log).resumes n) (sym (restarts.others j q other)) (started j q y at))

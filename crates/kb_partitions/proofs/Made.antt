@@ -3,6 +3,7 @@ use Rattle.std.proofs.Common.{◌≡◌, ◌∙◌, ◌⊎◌, ◌++◌, ⊎_eli
 use Rattle.std.specs.Prelude.{ℤ, pos, string_bytes, map, option_map, replicate, slice_get}
 use Rattle.std.specs.List.{All}
 use Rattle.std.specs.Option.{option_and_then}
+use Rattle.std.specs.FinMap as map
 use Rattle.std.specs.Ordering.{nat_cmp, match_ordering, is_eq}
 use Rattle.std.specs.List.Sorted.{IsStrictlySortedBy}
 use Rattle.std.specs.declared.cmp.Ordering.{Ordering}
@@ -16,11 +17,11 @@ use Rattle.std.proofs.lemmas.Map.Made.{lookup-map_values}
 use Rattle.std.proofs.lemmas.List.Elements.{All-head, All-tail}
 use Rattle.std.proofs.lemmas.Option.{slice_get_within, get_or_from_slice_get}
 use Rattle.kb_store.specs.Disk.{Files}
-use Rattle.kb_log.specs.OnShelf.{Log, Identity, identity_of}
+use Rattle.kb_log.specs.OnShelf.{Log, Identity, IsLawfulLog, identity_of}
 use Rattle.kb_producers.specs.Batches.{kept_all}
 use Rattle.kb_partitions.specs.Logs.{LogState, no_log}
 use Rattle.kb_partitions.specs.Made.{AreNumbered, IsEmptyPartition}
-use Rattle.kb_partitions.specs.Partitions.{Entries, AreNamed, partition_at, partition_identity, log_state, logs_of, places_of, IsMade, IsUnmade}
+use Rattle.kb_partitions.specs.Partitions.{Entries, AreNamed, AreStarted, partition_at, partition_identity, log_state, logs_of, places_of, IsMade, IsUnmade}
 use Rattle.kb_partitions.specs.declared.partition.Partition.{Partition}
 use Rattle.kb_partitions.proofs.Changed.{found_at}
 use Rattle.kb_partitions.proofs.Put.{cases, get_either, own_number, same_number}
@@ -152,6 +153,16 @@ module _ {L : Type 0} (log : L → Log) (instance count : ℕ) (es es' : Entries
   made_named tenant size numbered named j q x at = ⊎_elim
       (λ new. numbered q x new.1 ∙ ap (λ i. partition_identity tenant i q size) (sym new.0))
       (λ was. named j q x was)
+      (taken_at instance es es' v updates j q x at)
+
+  -- each log would start where it does, where no start is recorded of the new ones
+  pub made_started : ((l : L) → IsLawfulLog (log l)) → (recorded : ℕ → ℕ → ℕ) → ((p : ℕ) → recorded instance p ≡ 0) → AreStarted log recorded es → AreStarted log recorded es'
+  made_started law recorded none started j q x at = ⊎_elim
+      (λ new.
+      let fresh : IsEmptyPartition log x = each_at (IsEmptyPartition log) v.items q x empty new.1 in
+      let here : recorded j q ≡ 0 = ap (λ i. recorded i q) new.0 ∙ none q in
+      subst (λ n. (log x.log).resumes n) (fresh.begun.start ∙ sym here) ((law x.log).resumes_start map.empty 0 (fresh.begun.sound map.empty 0)))
+      (λ was. started j q x was)
       (taken_at instance es es' v updates j q x at)
 
   pub made : IsMade log instance count es es'

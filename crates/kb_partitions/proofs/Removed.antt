@@ -15,7 +15,7 @@ use Rattle.kb_log.specs.Apart.{Stays, other_stays}
 use Rattle.kb_log.specs.OnShelf.{Log, Accounts, Spares, IsLawfulLog, no_file}
 use Rattle.kb_producers.specs.Batches.{kept_all}
 use Rattle.kb_partitions.specs.Logs.{LogState, without_logs}
-use Rattle.kb_partitions.specs.Partitions.{Entries, Owned, OwnedBy, AreSound, AreNamed, partition_at, places_of, log_state, logs_of, scene_on}
+use Rattle.kb_partitions.specs.Partitions.{Entries, Owned, OwnedBy, AreSound, AreNamed, AreStarted, partition_at, places_of, log_state, logs_of, scene_on}
 use Rattle.kb_partitions.specs.Scene.{Frame, Settles}
 use Rattle.kb_partitions.specs.Topic.{AreApartLogs, OwnedAmong}
 use Rattle.kb_partitions.specs.declared.partition.Partition.{Partition}
@@ -107,6 +107,9 @@ module _ {L : Type 0} (log : L → Log) (i : ℕ) (es : Entries L) (t : Vec (Par
 
     pub removed_named : (tenant : List ℕ) (size : ℕ) → AreNamed log tenant size es → AreNamed log tenant size es'
     removed_named tenant size named j q y at = named j q y (rest_at j q y at).0
+
+    pub removed_started : (recorded : ℕ → ℕ → ℕ) → AreStarted log recorded es → AreStarted log recorded es'
+    removed_started recorded started j q y at = started j q y (rest_at j q y at).0
 
     pub removed_settles : Accounts (OwnedAmong log t.items) no_file d d' → Settles (scene_on log es d next) (scene_on log es' d' next')
     removed_settles accounts = record {

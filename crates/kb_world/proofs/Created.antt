@@ -1,29 +1,34 @@
 -- A topic is made: its partitions, and then its command.
-use Rattle.std.proofs.Common.{◌≡◌, ◌∙◌, ⊎_elim, inl, inr, ◌≤◌, ◌<◌, ◌+◌, ◌-◌, ◌^◌, ℕ, Bool, true, false, cond, Some, sym, ap, refl, arith, eqb-true}
-use Rattle.std.specs.Prelude.{string_bytes}
+use Rattle.std.proofs.Common.{◌≡◌, ◌∙◌, ◌⊎◌, ⊎_elim, inl, inr, ◌≤◌, ◌<◌, ◌+◌, ◌-◌, ◌^◌, ℕ, Bool, true, false, cond, Some, None, length, sym, ap, refl, arith, eqb-true}
+use Rattle.std.specs.Prelude.{replicate, string_bytes}
 use Rattle.std.specs.FinMap.{get}
 use Rattle.std.specs.Ordering.{nat_cmp}
 use Rattle.std.specs.Cmp.{unsigned_tied}
 use Rattle.std.specs.Map.{lookup}
 use Rattle.std.specs.BTreeMap.{insert_entry, is_at}
+use Rattle.std.proofs.lemmas.List.{length-replicate}
 use Rattle.kb_store.specs.Disk.{Disk}
 use Rattle.kb_log.specs.OnShelf.{Log, Frames, IsLawfulLog}
+use Rattle.kb_log.specs.OnShelf as one
 use Rattle.kb_topics.specs.Catalog.{known, meta_log}
 use Rattle.kb_topics.specs.Calls.{StaysFold}
-use Rattle.kb_topics.specs.Known.{TopicState}
+use Rattle.kb_topics.specs.Known.{TopicState, new_partition, topic_at}
 use Rattle.kb_topics.specs.declared.catalog.Catalog.{Catalog}
 use Rattle.kb_partitions.specs.Logs.{with_new_logs}
-use Rattle.kb_partitions.specs.Partitions.{Owned, AreNamed, IsMade, IsUnmade, logs_of, places_of}
+use Rattle.kb_partitions.specs.Partitions.{Owned, AreNamed, AreStarted, IsMade, IsUnmade, logs_of, places_of}
+use Rattle.kb_partitions.specs.Scene.{Settles}
 use Rattle.kb_partitions.specs.declared.partitions.Partitions.{Partitions}
 use Rattle.kb_world.specs.Parts as parts
-use Rattle.kb_world.specs.Parts.{IsSound, meta, entries, world_of}
+use Rattle.kb_world.specs.Parts.{IsSound, meta, entries, recorded_start, world_of}
 use Rattle.kb_world.specs.Steps.{IsStep}
 use Rattle.kb_world.specs.Tied.{counted, partition_count}
 use Rattle.kb_world.specs.declared.parts.Parts.{Parts}
 use Rattle.kb_world.proofs.StillKept.{kept_created}
-use Rattle.kb_world.proofs.Recorded.{on_shelf}
+use Rattle.kb_world.proofs.Moves.{IsMove, as_step}
+use Rattle.kb_world.proofs.Recorded.{Resume, on_shelf}
 use Rattle.kb_world.proofs.Spared as spared
-use Rattle.kb_world.proofs.Tied.{counted_inserted}
+use Rattle.kb_world.proofs.Starts.{create_starts, new_starts, still_started}
+use Rattle.kb_world.proofs.Tied.{counted_inserted, tied_world}
 
 same_number : (k i : ℕ) → is_at (nat_cmp k) i ≡ true → k ≡ i
 same_number k i e = eqb-true k i (sym (unsigned_tied k i) ∙ e)
@@ -73,12 +78,16 @@ module _ {L : Type 0} (log : L → Log) (law : (l : L) → IsLawfulLog (log l)) 
       ∙ ap (λ n. insert_entry nat_cmp (counted partition_count (known p.catalog).topics) i n) (sym many)
       ∙ sym (counted_inserted partition_count (known p.catalog).topics i new) ∙ sym (ap (counted partition_count) topics)
 
-  pub create_step : (AreNamed log (string_bytes p.tenant) p.segment_bytes (entries p) → AreNamed log (string_bytes p.tenant) p.segment_bytes ps.topics.entries)
-      → StaysFold (on_shelf (meta log p) d next) (known p.catalog) (on_shelf (log (meta_log changed)) d' next') (known changed)
+  none : topic_at (known p.catalog).creates (known p.catalog).topics ≡ None
+  none = (tied_world log p d.table next d.files sound).next (known p.catalog).creates (omega arith)
+
+  create_move : (AreNamed log (string_bytes p.tenant) p.segment_bytes (entries p) → AreNamed log (string_bytes p.tenant) p.segment_bytes ps.topics.entries)
+      → ((recorded : ℕ → ℕ → ℕ) → ((q : ℕ) → recorded (known p.catalog).creates q ≡ 0) → AreStarted log recorded (entries p) → AreStarted log recorded ps.topics.entries)
+      → StaysFold (on_shelf (meta log p) d next) (known p.catalog) (on_shelf (log (meta_log changed)) d' next') (known changed) → Resume (meta log p) (log (meta_log changed))
       → (known changed).creates ≡ (known p.catalog).creates + 1 → (known p.catalog).creates < 2 ^ 63 - 1 → count ≤ 64
-      → (new : TopicState) → (known changed).topics ≡ insert_entry nat_cmp (known p.catalog).topics (known p.catalog).creates new → partition_count new ≡ count
-      → IsStep (parts.scene_on log p d next) (parts.scene_on log (record p { catalog = changed; partitions = ps }) d' next')
-  create_step named fold more left few new topics many = record {
+      → (new : TopicState) → (known changed).topics ≡ insert_entry nat_cmp (known p.catalog).topics (known p.catalog).creates new → new.partitions ≡ replicate count new_partition
+      → IsMove (parts.scene_on log p d next) (parts.scene_on log (record p { catalog = changed; partitions = ps }) d' next')
+  create_move named begun fold resumes more left few new topics many = record {
     frame = record {
       sound = record {
         catalog = frames.sound;
@@ -87,7 +96,7 @@ module _ {L : Type 0} (log : L → Log) (law : (l : L) → IsLawfulLog (log l)) 
         few = omega (arith, more, left);
         unmade = λ i le. unmade i (omega (arith, more, le));
         small = small few;
-        tied = tied new topics many;
+        tied = tied new topics (ap (λ ps. length ps) many ∙ length-replicate count new_partition);
         catalog_named = frames.identity ∙ sound.catalog_named;
         logs_named = named sound.logs_named;
       };
@@ -103,8 +112,31 @@ module _ {L : Type 0} (log : L → Log) (law : (l : L) → IsLawfulLog (log l)) 
         catalog = frames.agrees honest agree.catalog;
         fold = fold honest agree.catalog agree.fold;
         logs = spared.spared_agree log law ps.topics.entries d d' next next' (made.sound d.table next sound.logs) frames.others.later lengths contents honest (made.agrees d.files agree.logs);
+        started = begun (recorded_start (known changed)) (new_starts (known p.catalog) (known changed) count new topics many)
+            (still_started log (entries p) (recorded_start (known p.catalog)) (recorded_start (known changed)) (create_starts (known p.catalog) (known changed) count new none topics many) agree.started);
+        meta_started = resumes 0 agree.meta_started;
         until = kept_created p.kept_until (world_of log p d.files) (world_of log (record p { catalog = changed; partitions = ps }) d'.files) (known p.catalog).creates count new topics (created_logs honest) agree.until;
       };
     };
+    named = refl;
     grows = omega arith;
   }
+
+  create_settles : one.Settles (on_shelf (meta log p) d next) (on_shelf (log (meta_log changed)) d' next') → Settles (parts.scene_on log p d next) (parts.scene_on log (record p { catalog = changed; partitions = ps }) d' next')
+  create_settles settles = record {
+    accounts = λ file there not.
+        let before = settles.accounts file there (λ own. not (inl own)) in
+        (before.0, λ own. ⊎_elim (λ mine. before.1 mine) (λ theirs. not (inr (made.owned_old file theirs))) own);
+    exact = λ exact. (settles.exact exact.0, spared.spared_exact log law ps.topics.entries d d' next next' (made.sound d.table next sound.logs) frames.others.later lengths contents (made.exact d.table exact.1));
+  }
+
+  pub create_step : (AreNamed log (string_bytes p.tenant) p.segment_bytes (entries p) → AreNamed log (string_bytes p.tenant) p.segment_bytes ps.topics.entries)
+      → ((recorded : ℕ → ℕ → ℕ) → ((q : ℕ) → recorded (known p.catalog).creates q ≡ 0) → AreStarted log recorded (entries p) → AreStarted log recorded ps.topics.entries)
+      → StaysFold (on_shelf (meta log p) d next) (known p.catalog) (on_shelf (log (meta_log changed)) d' next') (known changed) → Resume (meta log p) (log (meta_log changed))
+      → ⊥ ⊎ one.Settles (on_shelf (meta log p) d next) (on_shelf (log (meta_log changed)) d' next')
+      → (known changed).creates ≡ (known p.catalog).creates + 1 → (known p.catalog).creates < 2 ^ 63 - 1 → count ≤ 64
+      → (new : TopicState) → (known changed).topics ≡ insert_entry nat_cmp (known p.catalog).topics (known p.catalog).creates new → new.partitions ≡ replicate count new_partition
+      → IsStep (parts.scene_on log p d next) (parts.scene_on log (record p { catalog = changed; partitions = ps }) d' next')
+  create_step named begun fold resumes settled more left few new topics many =
+      as_step (parts.scene_on log p d next) (parts.scene_on log (record p { catalog = changed; partitions = ps }) d' next')
+      (create_move named begun fold resumes more left few new topics many) (λ calm. ⊎_elim (λ bad. absurd bad) create_settles settled)

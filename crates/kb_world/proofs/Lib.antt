@@ -1,3 +1,4 @@
+pub mod Begun
 pub mod Committed
 pub mod Created
 pub mod Creating
@@ -5,10 +6,12 @@ pub mod Deleted
 pub mod Issued
 pub mod KeptEach
 pub mod Lifted
+pub mod Moves
 pub mod Recorded
 pub mod Retained
 pub mod RetainedAll
 pub mod Spared
+pub mod Starts
 pub mod StillKept
 pub mod Telling
 pub mod Tied

@@ -1,29 +1,39 @@
 -- A call for the catalog, as a step of the parts.
-use Rattle.std.proofs.Common.{◌≡◌, ◌∙◌, ⊎_elim, inl, inr, ◌≤◌, ◌<◌, ◌^◌, ℕ, Option, Some, None, Err, sym, ap, refl, arith}
+use Rattle.std.proofs.Common.{◌≡◌, ◌∙◌, ◌⊎◌, ⊎_elim, inl, inr, ◌≤◌, ◌<◌, ◌^◌, ℕ, Option, Some, None, Err, sym, ap, refl, arith}
 use Rattle.std.specs.Prelude.{Result}
 use Rattle.std.specs.FinMap.{get}
 use Rattle.kb_store.specs.Disk.{Disk, Files}
 use Rattle.kb_log.specs.OnShelf.{Log, OnShelf, Frames, IsLawfulLog}
+use Rattle.kb_log.specs.OnShelf as one
 use Rattle.kb_topics.specs.Catalog.{known, meta_log}
 use Rattle.kb_topics.specs.Calls.{StaysFold, IsLogCause, IsCause}
+use Rattle.kb_topics.specs.CatalogFault.{IsWant}
+use Rattle.kb_topics.specs.Known.{Known}
 use Rattle.kb_topics.specs.declared.fault.CatalogFault.{CatalogFault}
 use Rattle.kb_topics.specs.declared.fault.CatalogFault.TheVariants as catalog
 use Rattle.kb_topics.specs.declared.catalog.Catalog.{Catalog}
 use Rattle.kb_partitions.specs.Partitions.{Owned, logs_of}
+use Rattle.kb_partitions.specs.Scene.{Settles}
 use Rattle.kb_world.specs.Parts as parts
-use Rattle.kb_world.specs.Parts.{IsSound, Agrees, meta, entries, world_of, counted_for_catalog}
+use Rattle.kb_world.specs.Parts.{IsSound, Agrees, meta, entries, recorded_start, world_of, counted_for_catalog}
 use Rattle.kb_world.specs.Steps.{IsStep, IsCalm}
 use Rattle.kb_world.specs.Tied.{counted, partition_count}
 use Rattle.kb_world.specs.World.{World}
 use Rattle.kb_world.specs.declared.parts.Parts.{Parts}
-use Rattle.kb_world.proofs.StillKept.{WereThere, kept_by}
-use Rattle.kb_world.proofs.Lifted.{loud}
+use Rattle.kb_world.proofs.StillKept.{WereThere, as_before, kept_by}
+use Rattle.kb_world.proofs.Lifted.{counted_step_catalog, loud, recast_move, recast_settles}
+use Rattle.kb_world.proofs.Moves.{IsMove, as_step}
 use Rattle.kb_world.proofs.Spared as spared
-use Rattle.kb_world.proofs.Tied.{tie, untied_on}
+use Rattle.kb_world.proofs.Starts.{SameStarts, same_topics}
+use Rattle.kb_world.proofs.Tied.{AreOf, tie, untied_on}
 
 -- the meta log at a moment
 abbrev pub on_shelf : Log → Disk → ℕ → OnShelf
 on_shelf l d next = record { log = l; disk = d; next = next }
+
+-- a log would still start where the other did, if it were opened again
+abbrev pub Resume : Log → Log → Type 0
+Resume old new = (start : ℕ) → old.resumes start → new.resumes start
 
 module _ {L : Type 0} (log : L → Log) (law : (l : L) → IsLawfulLog (log l)) (p : Parts L) (changed : Catalog L) (d d' : Disk) (next next' : ℕ)
     (sound : IsSound log p d.table next)
@@ -40,11 +50,11 @@ module _ {L : Type 0} (log : L → Log) (law : (l : L) → IsLawfulLog (log l)) 
   below : (file : ℕ) → Owned log (entries p) file → file < next
   below file o = (law o.partition.log).given_out d.table next (sound.logs.each o.instance o.number o.partition o.at) file o.own
 
-  -- whatever partitions the topics have by then
-  pub untied_step : StaysFold (on_shelf (meta log p) d next) (known p.catalog) (on_shelf (log (meta_log changed)) d' next') (known changed)
-      → (known p.catalog).creates ≤ (known changed).creates → (known changed).creates < 2 ^ 63 → WereThere (known p.catalog) (known changed)
-      → IsStep (parts.scene_on log p d next) (untied_on log (record p { catalog = changed }) d' next')
-  untied_step fold more few were = record {
+  -- whatever partitions the topics have by then, and wherever they are to start
+  pub untied_move : StaysFold (on_shelf (meta log p) d next) (known p.catalog) (on_shelf (log (meta_log changed)) d' next') (known changed)
+      → (known p.catalog).creates ≤ (known changed).creates → (known changed).creates < 2 ^ 63 → WereThere (known p.catalog) (known changed) → Resume (meta log p) (log (meta_log changed))
+      → IsMove (parts.scene_on log p d next) (untied_on log (recorded_start (known p.catalog)) (record p { catalog = changed }) d' next')
+  untied_move fold more few were resumes = record {
     frame = record {
       sound = record {
         catalog = frames.sound;
@@ -68,18 +78,56 @@ module _ {L : Type 0} (log : L → Log) (law : (l : L) → IsLawfulLog (log l)) 
         catalog = frames.agrees honest agree.catalog;
         fold = fold honest agree.catalog agree.fold;
         logs = spared.spared_agree log law (entries p) d d' next next' sound.logs frames.others.later lengths contents honest agree.logs;
+        started = agree.started;
+        meta_started = resumes 0 agree.meta_started;
         until = kept_by p.kept_until (world_of log p d.files) (world_of log (record p { catalog = changed }) d'.files) were (recorded_logs honest) agree.until;
       };
     };
+    named = refl;
     grows = omega arith;
   }
 
-  -- each topic has as many partitions as before
+  -- each topic has as many partitions as before, which start where they did
+  pub catalog_move : StaysFold (on_shelf (meta log p) d next) (known p.catalog) (on_shelf (log (meta_log changed)) d' next') (known changed)
+      → counted partition_count (known changed).topics ≡ counted partition_count (known p.catalog).topics
+      → (known p.catalog).creates ≤ (known changed).creates → (known changed).creates < 2 ^ 63 → WereThere (known p.catalog) (known changed) → SameStarts (known p.catalog) (known changed)
+      → Resume (meta log p) (log (meta_log changed)) → IsMove (parts.scene_on log p d next) (parts.scene_on log (record p { catalog = changed }) d' next')
+  catalog_move fold counts more few were starts resumes =
+      tie log (parts.scene_on log p d next) (recorded_start (known p.catalog)) (record p { catalog = changed }) d' next' (sound.tied ∙ sym counts) starts (untied_move fold more few were resumes)
+
+  -- what the call leaves where it was refused nothing
+  pub catalog_settles : one.Settles (on_shelf (meta log p) d next) (on_shelf (log (meta_log changed)) d' next') → Settles (parts.scene_on log p d next) (parts.scene_on log (record p { catalog = changed }) d' next')
+  catalog_settles settles = record {
+    accounts = λ file there not.
+        let before = settles.accounts file there (λ own. not (inl own)) in
+        (before.0, λ own. ⊎_elim (λ mine. before.1 mine) (λ theirs. not (inr theirs)) own);
+    exact = λ exact. (settles.exact exact.0, spared.spared_exact log law (entries p) d d' next next' sound.logs frames.others.later lengths contents exact.1);
+  }
+
   pub catalog_step : StaysFold (on_shelf (meta log p) d next) (known p.catalog) (on_shelf (log (meta_log changed)) d' next') (known changed)
       → counted partition_count (known changed).topics ≡ counted partition_count (known p.catalog).topics
-      → (known p.catalog).creates ≤ (known changed).creates → (known changed).creates < 2 ^ 63 → WereThere (known p.catalog) (known changed)
+      → (known p.catalog).creates ≤ (known changed).creates → (known changed).creates < 2 ^ 63 → WereThere (known p.catalog) (known changed) → SameStarts (known p.catalog) (known changed)
+      → Resume (meta log p) (log (meta_log changed)) → ⊥ ⊎ one.Settles (on_shelf (meta log p) d next) (on_shelf (log (meta_log changed)) d' next')
       → IsStep (parts.scene_on log p d next) (parts.scene_on log (record p { catalog = changed }) d' next')
-  catalog_step fold counts more few were = tie log (parts.scene_on log p d next) (record p { catalog = changed }) d' next' (sound.tied ∙ sym counts) (untied_step fold more few were)
+  catalog_step fold counts more few were starts resumes settled =
+      as_step (parts.scene_on log p d next) (parts.scene_on log (record p { catalog = changed }) d' next') (catalog_move fold counts more few were starts resumes)
+      (λ calm. ⊎_elim (λ bad. absurd bad) catalog_settles settled)
+
+  -- a call that was refused, and whose refusal is counted: what is known is as before
+  pub refused_catalog : (T : Type 0) (q : Parts L) → q.catalog ≡ changed → AreOf q p → entries q ≡ entries p → q.kept_until ≡ p.kept_until → p.refusals ≤ q.refusals
+      → (f : CatalogFault) → StaysFold (on_shelf (meta log p) d next) (known p.catalog) (on_shelf (log (meta_log changed)) d' next') (known changed)
+      → known changed ≡ known p.catalog → Resume (meta log p) (log (meta_log changed)) → IsWant {T = T} (Err f) ⊎ one.Settles (on_shelf (meta log p) d next) (on_shelf (log (meta_log changed)) d' next')
+      → IsStep (parts.scene_on log p d next) (parts.scene_on log (counted_for_catalog f q) d' next')
+  refused_catalog T q catalog of e until le f fold same resumes settled =
+      let a = parts.scene_on log p d next in
+      let mid = record p { catalog = changed } in
+      let creates = ap (λ (k : Known). k.creates) same in
+      let topics = ap (λ (k : Known). k.topics) same in
+      counted_step_catalog T log a q d' next' f
+      (recast_move log a mid q d' next' catalog of e until le
+      (catalog_move fold (ap (λ (k : Known). counted partition_count k.topics) same) (omega (arith, creates)) (omega (arith, creates, sound.few))
+      (as_before (known p.catalog) (known changed) topics) (same_topics (known p.catalog) (known changed) topics) resumes))
+      (⊎_elim (λ want. inl want) (λ settles. inr (recast_settles log a mid q d' next' catalog e (catalog_settles settles))) settled)
 
 -- ---- refusals
 

@@ -5,7 +5,7 @@ use Rattle.kb_store.specs.Disk.{Disk}
 use Rattle.kb_log.specs.OnShelf.{Log, IsLawfulLog}
 use Rattle.kb_producers.specs.Batches.{kept_all}
 use Rattle.kb_partitions.specs.Logs.{LogState}
-use Rattle.kb_partitions.specs.Partitions.{Entries, Owned, AreSound, Agree, partition_at, log_state, logs_of}
+use Rattle.kb_partitions.specs.Partitions.{Entries, Owned, AreSound, AreExact, Agree, partition_at, log_state, logs_of}
 use Rattle.kb_partitions.specs.declared.partition.Partition.{Partition}
 use Rattle.kb_partitions.proofs.Changed.{found_at, shown}
 use Rattle.kb_partitions.proofs.Put.{map_same, values_same}
@@ -29,6 +29,9 @@ module _ {L : Type 0} (log : L → Log) (law : (l : L) → IsLawfulLog (log l)) 
     each = λ i p x at. (law x.log).sound_stays d.table d'.table next next' (sound.each i p x at) later (λ file own. lengths file (below i p x at file own) (mine i p x at file own));
     apart = sound.apart;
   }
+
+  pub spared_exact : AreExact log es d.table → AreExact log es d'.table
+  spared_exact exact i p x at = (law x.log).exact_stays d.table d'.table (exact i p x at) (λ file own. lengths file (below i p x at file own) (mine i p x at file own))
 
   list : d'.honest → (i p : ℕ) (x : Partition L) → partition_at i p es ≡ Some x → (log x.log).batches d'.files ≡ (log x.log).batches d.files
   list honest i p x at = (law x.log).batches_stay d.files d'.files (there honest i p x at)

@@ -32,7 +32,7 @@ not_at i j k here ne = elim (cases (is_at (nat_cmp j) k)) [
 
 -- ---- entries
 
-other_removed : {A : Type 0} (i j : ℕ) (es : List (ℕ × A)) → (j ≡ i → ⊥) → lookup (is_at (nat_cmp j)) (remove_entry (is_at (nat_cmp i)) es) ≡ lookup (is_at (nat_cmp j)) es
+pub other_removed : {A : Type 0} (i j : ℕ) (es : List (ℕ × A)) → (j ≡ i → ⊥) → lookup (is_at (nat_cmp j)) (remove_entry (is_at (nat_cmp i)) es) ≡ lookup (is_at (nat_cmp j)) es
 other_removed i j [] ne = refl
 other_removed i j (e ∷ es) ne = by (is_at (nat_cmp i) e.0) refl (other_removed i j es ne)
   where
@@ -41,7 +41,7 @@ other_removed i j (e ∷ es) ne = by (is_at (nat_cmp i) e.0) refl (other_removed
     by true here h = sym (ap (λ b. cond b (Some e.1) (lookup (is_at (nat_cmp j)) es)) (not_at i j e.0 here ne))
     by false here h = ap (λ o. cond (is_at (nat_cmp j) e.0) (Some e.1) o) h
 
-inserted_here : {A : Type 0} (n : ℕ) (v : A) (es : List (ℕ × A)) → lookup (is_at (nat_cmp n)) (insert_entry nat_cmp es n v) ≡ Some v
+pub inserted_here : {A : Type 0} (n : ℕ) (v : A) (es : List (ℕ × A)) → lookup (is_at (nat_cmp n)) (insert_entry nat_cmp es n v) ≡ Some v
 inserted_here n v [] = ap (λ b. cond b (Some v) None) (own_number n)
 inserted_here n v (e ∷ es) = by (nat_cmp n e.0) refl (inserted_here n v es)
   where
@@ -51,7 +51,7 @@ inserted_here n v (e ∷ es) = by (nat_cmp n e.0) refl (inserted_here n v es)
     by Equal s h = ap (λ b. cond b (Some v) (lookup (is_at (nat_cmp n)) es)) (ap is_eq s)
     by Greater s h = ap (λ b. cond b (Some e.1) (lookup (is_at (nat_cmp n)) (insert_entry nat_cmp es n v))) (ap is_eq s) ∙ h
 
-inserted_other : {A : Type 0} (n j : ℕ) (v : A) (es : List (ℕ × A)) → (j ≡ n → ⊥) → lookup (is_at (nat_cmp j)) (insert_entry nat_cmp es n v) ≡ lookup (is_at (nat_cmp j)) es
+pub inserted_other : {A : Type 0} (n j : ℕ) (v : A) (es : List (ℕ × A)) → (j ≡ n → ⊥) → lookup (is_at (nat_cmp j)) (insert_entry nat_cmp es n v) ≡ lookup (is_at (nat_cmp j)) es
 inserted_other n j v [] ne = ap (λ b. cond b (Some v) None) (not_at n j n (own_number n) ne)
 inserted_other n j v (e ∷ es) ne = by (nat_cmp n e.0) refl (inserted_other n j v es ne)
   where

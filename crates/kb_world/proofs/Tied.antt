@@ -15,13 +15,16 @@ use Rattle.kb_log.specs.OnShelf.{Log, Identity}
 use Rattle.kb_topics.specs.Catalog.{known, catalog_identity, start_command}
 use Rattle.kb_topics.specs.Known.{Known, PartitionState, TopicState, put_topic, step, topic_at, with_part, with_partition, with_start}
 use Rattle.kb_topics.specs.Known as topics
-use Rattle.kb_partitions.specs.Partitions.{Entries, Owned, AreSound, AreNamed, IsUnmade, log_state, logs_of, places_of}
+use Rattle.kb_topics.specs.MetaLog.{IsFold}
+use Rattle.kb_partitions.specs.Partitions.{Entries, Owned, Agree, AreSound, AreNamed, AreStarted, IsUnmade, log_state, logs_of, places_of}
 use Rattle.kb_partitions.specs.Scene.{Scene}
 use Rattle.kb_partitions.specs.declared.partition.Partition.{Partition}
-use Rattle.kb_world.specs.Parts.{IsSound, Seen, entries, meta, scene_on, world_of}
-use Rattle.kb_world.specs.Steps.{IsStep}
+use Rattle.kb_world.specs.KeptUntil.{AreAllKept}
+use Rattle.kb_world.specs.Parts.{IsSound, Seen, entries, meta, recorded_start, scene_on, world_of}
 use Rattle.kb_world.specs.Tied.{IsTied, counted, partition_count}
 use Rattle.kb_world.specs.declared.parts.Parts.{Parts}
+use Rattle.kb_world.proofs.Moves.{IsMove}
+use Rattle.kb_world.proofs.Starts.{still_started}
 
 -- ---- how many items there are
 
@@ -98,6 +101,10 @@ named_as log p q es of named =
 abbrev pub KeepNames : {L : Type 0} → (L → Log) → Entries L → Entries L → Type 0
 KeepNames log old new = (tenant : List ℕ) (size : ℕ) → AreNamed log tenant size old → AreNamed log tenant size new
 
+-- each log would still start where it does
+abbrev pub KeepStarts : {L : Type 0} → (L → Log) → Entries L → Entries L → Type 0
+KeepStarts log old new = (recorded : ℕ → ℕ → ℕ) → AreStarted log recorded old → AreStarted log recorded new
+
 -- ---- between a command and the call for the partitions
 
 -- sound, whatever partitions the topics have
@@ -111,8 +118,17 @@ pub record IsUntied {L : Type 0} (log : L → Log) (p : Parts L) (table : Table)
   pub catalog_named : (meta log p).identity ≡ catalog_identity (string_bytes p.tenant) p.segment_bytes
   pub logs_named : AreNamed log (string_bytes p.tenant) p.segment_bytes (entries p)
 
-abbrev pub untied_on : {L : Type 0} → (L → Log) → Parts L → Disk → ℕ → Scene Seen
-untied_on log p d next = record (scene_on log p d next) { sound = IsUntied log p d.table next }
+-- in agreement, with those starts recorded of the partitions
+pub record AgreesBy {L : Type 0} (log : L → Log) (recorded : ℕ → ℕ → ℕ) (p : Parts L) (files : Files) : Type 0 where
+  pub catalog : (meta log p).agrees files
+  pub fold : IsFold ((meta log p).batches files) (known p.catalog)
+  pub logs : Agree log (entries p) files
+  pub started : AreStarted log recorded (entries p)
+  pub meta_started : (meta log p).resumes 0
+  pub until : AreAllKept p.kept_until (world_of log p files)
+
+abbrev pub untied_on : {L : Type 0} → (L → Log) → (ℕ → ℕ → ℕ) → Parts L → Disk → ℕ → Scene Seen
+untied_on log recorded p d next = record (scene_on log p d next) { sound = IsUntied log p d.table next; agrees = AgreesBy log recorded p d.files }
 
 pub untied : {L : Type 0} (log : L → Log) (p : Parts L) (table : Table) (next : ℕ) → IsSound log p table next → IsUntied log p table next
 untied log p table next s = record {
@@ -126,16 +142,29 @@ untied log p table next s = record {
   logs_named = s.logs_named;
 }
 
-pub from_untied : {L : Type 0} (log : L → Log) (p : Parts L) (b : Scene Seen) (d : Disk) (next : ℕ) → IsStep (untied_on log p d next) b → IsStep (scene_on log p d next) b
-from_untied log p b d next step = record {
-  frame = record { sound = step.frame.sound; others = step.frame.others; failures = step.frame.failures; agrees = step.frame.agrees };
-  grows = step.grows;
+pub from_untied : {L : Type 0} (log : L → Log) (p : Parts L) (b : Scene Seen) (d : Disk) (next : ℕ) → IsMove (untied_on log (recorded_start (known p.catalog)) p d next) b → IsMove (scene_on log p d next) b
+from_untied log p b d next move = record {
+  frame = record {
+    sound = move.frame.sound;
+    others = move.frame.others;
+    failures = move.frame.failures;
+    agrees = λ honest agree. move.frame.agrees honest (record {
+      catalog = agree.catalog;
+      fold = agree.fold;
+      logs = agree.logs;
+      started = agree.started;
+      meta_started = agree.meta_started;
+      until = agree.until;
+    });
+  };
+  named = move.named;
+  grows = move.grows;
 }
 
-pub tie : {L : Type 0} (log : L → Log) (a : Scene Seen) (p : Parts L) (d : Disk) (next : ℕ) → places_of (entries p) ≡ counted partition_count (known p.catalog).topics
-    → IsStep a (untied_on log p d next) → IsStep a (scene_on log p d next)
-tie log a p d next tied step =
-    let s = step.frame.sound in
+pub tie : {L : Type 0} (log : L → Log) (a : Scene Seen) (recorded : ℕ → ℕ → ℕ) (p : Parts L) (d : Disk) (next : ℕ) → places_of (entries p) ≡ counted partition_count (known p.catalog).topics
+    → ((i q : ℕ) → recorded_start (known p.catalog) i q ≡ recorded i q) → IsMove a (untied_on log recorded p d next) → IsMove a (scene_on log p d next)
+tie log a recorded p d next tied same move =
+    let s = move.frame.sound in
     record {
       frame = record {
         sound = record {
@@ -149,11 +178,19 @@ tie log a p d next tied step =
           catalog_named = s.catalog_named;
           logs_named = s.logs_named;
         };
-        others = step.frame.others;
-        failures = step.frame.failures;
-        agrees = step.frame.agrees;
+        others = move.frame.others;
+        failures = move.frame.failures;
+        agrees = λ honest agree. let g = move.frame.agrees honest agree in record {
+          catalog = g.catalog;
+          fold = g.fold;
+          logs = g.logs;
+          started = still_started log (entries p) recorded (recorded_start (known p.catalog)) same g.started;
+          meta_started = g.meta_started;
+          until = g.until;
+        };
       };
-      grows = step.grows;
+      named = move.named;
+      grows = move.grows;
     }
 
 -- ---- what the tenant sees

@@ -1,14 +1,16 @@
 -- The parts of a tenant on a shelf: its catalog over a meta log, and its partitions.
-use Rattle.std.specs.Prelude.{◌≡◌, ◌≤◌, ◌<◌, ◌+◌, ◌-◌, ◌^◌, ◌⊎◌, ℕ, Some, nat_lt, string_bytes, if◌then◌else◌, max}
+use Rattle.std.specs.Prelude.{◌≡◌, ◌≤◌, ◌<◌, ◌+◌, ◌-◌, ◌^◌, ◌⊎◌, ℕ, pos, List, Option, Some, None, nat_lt, string_bytes, if◌then◌else◌, max}
 use Rattle.std.specs.Ordering.{nat_cmp}
 use Rattle.std.specs.Map.{lookup}
 use Rattle.std.specs.BTreeMap.{is_at}
 use Rattle.kb_store.specs.Disk.{Disk, Table, Files}
 use Rattle.kb_log.specs.OnShelf.{Log}
 use Rattle.kb_log.specs.Shelf.{Shelved}
+use Rattle.kb_batch.specs.Batch.{natural}
+use Rattle.kb_topics.specs.Known.{Known, PartitionState, partition_at}
 use Rattle.kb_topics.specs.MetaLog.{IsFold}
 use Rattle.kb_topics.specs.Catalog.{known, meta_log, catalog_identity}
-use Rattle.kb_partitions.specs.Partitions.{Entries, Owned, AreSound, AreExact, AreNamed, Agree, logs_of, places_of, IsUnmade}
+use Rattle.kb_partitions.specs.Partitions.{Entries, Owned, AreSound, AreExact, AreStarted, AreNamed, Agree, logs_of, places_of, IsUnmade}
 use Rattle.kb_partitions.specs.Scene.{Scene}
 use Rattle.kb_topics.specs.declared.fault.CatalogFault.{CatalogFault}
 use Rattle.kb_topics.specs.declared.fault.CatalogFault.TheVariants as catalog
@@ -47,15 +49,27 @@ pub record IsSound {L : Type 0} (log : L → Log) (p : Parts L) (table : Table) 
 abbrev pub world_of : {L : Type 0} → (L → Log) → Parts L → Files → World
 world_of log p files = record { known = known p.catalog; logs = logs_of log (entries p) files; clock = p.clock }
 
--- Each log agrees with its files, the catalog is what its meta log comes to, and up to a clock no partition has anything to drop.
+-- the start that is recorded of a partition, 0 where there is none
+abbrev pub start_said : Option PartitionState → ℕ
+start_said None = 0
+start_said (Some p) = natural p.start
+
+abbrev pub recorded_start : Known → ℕ → ℕ → ℕ
+recorded_start k i p = start_said (partition_at k (pos i) (pos p))
+
+-- Each log agrees with its files, and would start where it does if it were opened from them again; the catalog is what its meta log
+-- comes to; and up to a clock no partition has anything to drop.
 pub record Agrees {L : Type 0} (log : L → Log) (p : Parts L) (files : Files) : Type 0 where
   pub catalog : (meta log p).agrees files
   pub fold : IsFold ((meta log p).batches files) (known p.catalog)
   pub logs : Agree log (entries p) files
+  pub started : AreStarted log (recorded_start (known p.catalog)) (entries p)
+  pub meta_started : (meta log p).resumes 0
   pub until : AreAllKept p.kept_until (world_of log p files)
 
--- what the tenant sees, and how many refusals were counted for it
+-- whose the parts are, what the tenant sees, and how many refusals were counted for it
 pub record Seen : Type 0 where
+  pub tenant : List ℕ
   pub world : World
   pub refusals : ℕ
 
@@ -68,7 +82,7 @@ scene_on log p d next = record {
   agrees = Agrees log p d.files;
   disk = d;
   next = next;
-  state = record { world = world_of log p d.files; refusals = p.refusals };
+  state = record { tenant = string_bytes p.tenant; world = world_of log p d.files; refusals = p.refusals };
 }
 
 -- the parts and their shelf at one moment

@@ -8,8 +8,9 @@ use Rattle.kb_log.specs.OnShelf.{Log}
 use Rattle.kb_topics.specs.MetaLog.{IsFold}
 use Rattle.kb_topics.specs.Catalog.{known, meta_log, catalog_identity}
 use Rattle.kb_topics.specs.declared.catalog.Catalog.{Catalog}
-use Rattle.kb_partitions.specs.Partitions.{Owned, AreSound, AreNamed, Agree, logs_of, places_of, IsUnmade}
+use Rattle.kb_partitions.specs.Partitions.{Owned, AreSound, AreStarted, AreNamed, Agree, logs_of, places_of, IsUnmade}
 use Rattle.kb_partitions.specs.declared.partitions.Partitions.{Partitions}
+use Rattle.kb_world.specs.Parts.{recorded_start}
 use Rattle.kb_world.specs.Tied.{counted, partition_count}
 use Rattle.kb_world.specs.World.{World}
 
@@ -35,8 +36,11 @@ pub record AreFitting {L : Type 0} (log : L → Log) (tenant : List ℕ) (size :
   pub catalog_named : (log (meta_log c)).identity ≡ catalog_identity tenant size
   pub logs_named : AreNamed log tenant size ps.topics.entries
 
--- Each log agrees with its files, and the catalog is what its meta log comes to.
+-- Each log agrees with its files, and would start where it does if it were opened from them again; and the catalog is what its meta
+-- log comes to.
 pub record DoAgree {L : Type 0} (log : L → Log) (c : Catalog L) (ps : Partitions L) (files : Files) : Type 0 where
   pub catalog : (log (meta_log c)).agrees files
   pub fold : IsFold ((log (meta_log c)).batches files) (known c)
   pub logs : Agree log ps.topics.entries files
+  pub started : AreStarted log (recorded_start (known c)) ps.topics.entries
+  pub meta_started : (log (meta_log c)).resumes 0

@@ -3,18 +3,22 @@ use Rattle.std.specs.Prelude.{◌≡◌, ◌≤◌, ◌<◌, ℕ}
 use Rattle.std.proofs.Common.{◌∙◌, sym, refl, subst, inl, inr, ⊎_elim, arith}
 use Rattle.kb_store.specs.Disk.{Disk}
 use Rattle.kb_log.specs.OnShelf.{Spares}
-use Rattle.kb_partitions.specs.Scene.{Scene, Frame}
+use Rattle.kb_partitions.specs.Scene.{Scene, Frame, Settles}
 use Rattle.kb_world.specs.Parts.{Seen, END}
-
--- What each call keeps, also where it is refused: the files of all others are as they were, and the count of refusals only rises.
-pub record IsStep (a b : Scene Seen) : Type 0 where
-  pub frame : Frame a b
-  pub grows : a.state.refusals ≤ b.state.refusals
 
 -- nothing was refused: the count is as before, and can still rise
 pub record IsCalm (old new : ℕ) : Type 0 where
   pub same : new ≡ old
   pub below : old < END
+
+-- What each call keeps, also where it is refused: whose the parts are; the files of all others are as they were; and the count of
+-- refusals only rises.
+-- Where nothing was refused each file is accounted for, and nothing but batches is in the files if it was so before.
+pub record IsStep (a b : Scene Seen) : Type 0 where
+  pub frame : Frame a b
+  pub named : b.state.tenant ≡ a.state.tenant
+  pub grows : a.state.refusals ≤ b.state.refusals
+  pub settles : IsCalm a.state.refusals b.state.refusals → Settles a b
 
 -- what holds where nothing was refused and the store is honest
 abbrev pub Meets : Scene Seen → Scene Seen → Type 0 → Type 0
@@ -23,7 +27,7 @@ Meets a b P = b.disk.honest → a.agrees → IsCalm a.state.refusals b.state.ref
 -- ---- laws
 
 -- files of others that two calls leave as they were
-spares_then : (o p q : ℕ → Type 0) (d e f : Disk) (k l m : ℕ) → Spares o p d e k l → Spares p q e f l m → Spares o q d f k m
+pub spares_then : (o p q : ℕ → Type 0) (d e f : Disk) (k l m : ℕ) → Spares o p d e k l → Spares p q e f l m → Spares o q d f k m
 spares_then o p q d e f k l m x y = record {
   later = omega (arith, x.later, y.later);
   honest = λ h. x.honest (y.honest h);
@@ -47,7 +51,22 @@ step_same a sound = record {
     failures = omega arith;
     agrees = λ honest agree. agree;
   };
+  named = refl;
   grows = omega arith;
+  settles = λ calm. record { accounts = λ file there not. (there, not); exact = λ exact. exact };
+}
+
+-- where nothing was refused in two steps, nothing was in either
+pub calm_then : (a b c : ℕ) → a ≤ b → b ≤ c → IsCalm a c → IsCalm a b × IsCalm b c
+calm_then a b c p q calm =
+    let here : b ≡ a = omega (arith, p, q, calm.same) in
+    (record { same = here; below = calm.below }, record { same = calm.same ∙ sym here; below = subst (λ n. n < END) (sym here) calm.below })
+
+-- what settles in one step and then in another
+pub settles_then : (a b c : Scene Seen) → Settles a b → Settles b c → Settles a c
+settles_then a b c p q = record {
+  accounts = λ file there not. let mid = q.accounts file there not in p.accounts file mid.0 mid.1;
+  exact = λ exact. q.exact (p.exact exact);
 }
 
 -- one step and then another
@@ -59,14 +78,10 @@ step_then a b c p q = record {
     failures = omega (arith, p.frame.failures, q.frame.failures);
     agrees = λ honest agree. q.frame.agrees honest (p.frame.agrees (q.frame.others.honest honest) agree);
   };
+  named = q.named ∙ p.named;
   grows = omega (arith, p.grows, q.grows);
+  settles = λ calm. let calms = calm_then a.state.refusals b.state.refusals c.state.refusals p.grows q.grows calm in settles_then a b c (p.settles calms.0) (q.settles calms.1);
 }
-
--- where nothing was refused in two steps, nothing was in either
-pub calm_then : (a b c : ℕ) → a ≤ b → b ≤ c → IsCalm a c → IsCalm a b × IsCalm b c
-calm_then a b c p q calm =
-    let here : b ≡ a = omega (arith, p, q, calm.same) in
-    (record { same = here; below = calm.below }, record { same = calm.same ∙ sym here; below = subst (λ n. n < END) (sym here) calm.below })
 
 -- what each of two steps meets
 pub meets_then : (a b c : Scene Seen) (P Q : Type 0) → IsStep a b → IsStep b c → Meets a b P → Meets b c Q → Meets a c (P × Q)

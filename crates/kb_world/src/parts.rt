@@ -6,7 +6,8 @@ ghost use Rattle.kb_topics.specs.ByName.{by_name};
 ghost use Rattle.kb_topics.specs.Catalog.{known};
 ghost use Rattle.kb_topics.specs.Known.{named, topic_at};
 ghost use Rattle.kb_world.specs.Calls.{start_of, end_of, judged, committed, at_clock, retain_all};
-ghost use Rattle.kb_world.specs.Parts.{Agrees, IsSound, Owns, raised, refused, world_of};
+ghost use Rattle.kb_partitions.specs.Partitions.{AreExact};
+ghost use Rattle.kb_world.specs.Parts.{Agrees, IsSound, Owns, entries, meta, raised, refused, world_of};
 ghost use Rattle.kb_world.specs.Restored.{AreFitting, DoAgree, IsOfEither, restored_world};
 ghost use Rattle.kb_world.specs.World.{new_world};
 
@@ -42,6 +43,8 @@ impl<L: PartitionLog> Parts<L> {
         ensures named { IfOk result (λ parts. string_bytes parts.tenant ≡ tenant.now) }
         ensures size { IfOk result (λ parts. parts.segment_bytes ≡ segment_bytes) }
         ensures refusals { IfOk result (λ parts. parts.refusals ≡ 0) }
+        // Nothing but its batches is in the files of a log that has none.
+        ensures exact { IfOk result (λ parts. (table : Table) → (meta L.log parts).exact table × AreExact L.log (entries parts) table) }
     {
         let meta_tenant = String::from_str(alloc, tenant)?;
         let tenant = String::from_str(alloc, tenant)?;

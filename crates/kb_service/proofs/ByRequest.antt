@@ -18,7 +18,7 @@ use Rattle.kb_service.specs.Serve.{Outcome, if_read, of_groups, of_heartbeat, of
 pub record Cases (P : Outcome → Type 0) (node : Node) (w : World) (gs : Groups) (n : ℕ) (key version : ℤ) (body : List ℕ) : Type 0 where
   pub stays : (after : Groups) (reaction : Reaction) → P (of_groups w after reaction)
   pub commit : (r : OffsetCommitRequest) → P (of_offset_commit w gs r)
-  pub topics : P (of_topics gs (tenant.served node w n key version body))
+  pub topics : P (of_topics gs (tenant.plainly_served node w n key version body))
 
 read_by : {A : Type 0} (P : Outcome → Type 0) (w : World) (gs : Groups) (r : Result A WireFault) (f : A → Outcome) → ((a : A) → P (f a)) → P (of_groups w (silent gs) (Plain Shuts)) → P (if_read w gs r f)
 read_by P w gs (Ok a) f each shut = each a
@@ -32,7 +32,7 @@ pub by_request : (P : Outcome → Type 0) (node : Node) (w : World) (gs : Groups
 unfolding served
 by_request P node w gs n key version body c =
     let shut = c.stays (silent gs) (Plain Shuts) in
-    let others : Outcome = of_topics gs (tenant.served node w n key version body) in
+    let others : Outcome = of_topics gs (tenant.plainly_served node w n key version body) in
     let syncs : Outcome = if_read w gs (whole sync_group_request body) (of_sync w n gs) in
     let leaves : Outcome = if_read w gs (whole leave_group_request body) (of_leave w gs) in
     let beats : Outcome = if_read w gs (whole heartbeat_request body) (of_heartbeat w gs) in

@@ -36,7 +36,7 @@ skips false o p q h e = e
 
 -- a key that is none of these
 pub served_topics : (node : Node) (w : World) (gs : Groups) (n : ℕ) (key version : ℤ) (body : List ℕ) → int_eq key (pos 8) ≡ false → int_eq key (pos 11) ≡ false → int_eq key (pos 12) ≡ false → int_eq key (pos 13) ≡ false → int_eq key (pos 14) ≡ false
-    → served node w gs n key version body ≡ of_topics gs (tenant.served node w n key version body)
+    → served node w gs n key version body ≡ of_topics gs (tenant.plainly_served node w n key version body)
 unfolding served
 served_topics node w gs n key version body a b c d e =
     skips (int_eq key (pos 8)) _ _ _ a (skips (int_eq key (pos 11)) _ _ _ b (skips (int_eq key (pos 12)) _ _ _ c (skips (int_eq key (pos 13)) _ _ _ d (skips (int_eq key (pos 14)) _ _ _ e refl))))

@@ -15,7 +15,7 @@ use Rattle.kb_groups.specs.declared.reply.Release.{Release}
 use Rattle.kb_groups.specs.declared.reply.Reply.{Reply}
 use Rattle.kb_groups.specs.declared.borrowed.Join.{Join}
 use Rattle.kb_groups.specs.declared.borrowed.SyncAssignment.{SyncAssignment}
-use Rattle.kb_groups.specs.Answers.{answered, refusal, answers, is_sync, place, placed, sync_refused, turned_away, waiter_of, waits_join, waits_on, waits_sync}
+use Rattle.kb_groups.specs.Answers.{waiter_answered, refusal, answers, is_sync, place, placed, sync_refused, turned_away, waiter_of, waits_join, waits_on, waits_sync}
 use Rattle.kb_groups.specs.Members.{Roster, changed, each, has_none, keeping, member, put, without}
 use Rattle.kb_groups.specs.Rebalance.{Step, all_join, joined_reply, next_generation, completed, ended, ended_by, freed, is_joining, looked_at, next_leader, opened, opened_unless, sync_freed}
 use Rattle.kb_groups.specs.Protocols.{chosen}
@@ -36,7 +36,7 @@ given_placed k r (x ∷ xs) = by (nat_lt x.connection r.connection) (given_place
     by true h = omega (arith, h)
     by false h = refl
 
-given_answered : (k : ℕ) (o : Option Waiter) (reply : Asked → Option Reply) (out : List Release) → given k (answered o reply out) ≤ once (waits_on k o) + given k out
+given_answered : (k : ℕ) (o : Option Waiter) (reply : Asked → Option Reply) (out : List Release) → given k (waiter_answered o reply out) ≤ once (waits_on k o) + given k out
 given_answered k None reply out = omega arith
 given_answered k (Some w) reply out = by (reply w.asked)
   where
@@ -46,12 +46,12 @@ given_answered k (Some w) reply out = by (reply w.asked)
 
 -- members that wait on, or are answered
 abbrev Passes : ℕ → (ℕ → Member → Member) → (ℕ → Member → Asked → Option Reply) → Type 0
-Passes k f reply = (n : ℕ) (m : Member) (out : List Release) → once (waits_on k (f n m).waiter) + given k (answered m.waiter (reply n m) out) ≤ once (waits_on k m.waiter) + given k out
+Passes k f reply = (n : ℕ) (m : Member) (out : List Release) → once (waits_on k (f n m).waiter) + given k (waiter_answered m.waiter (reply n m) out) ≤ once (waits_on k m.waiter) + given k out
 
 each_answered : (k : ℕ) (f : ℕ → Member → Member) (reply : ℕ → Member → Asked → Option Reply) → Passes k f reply → (ms : Roster) (out : List Release) → waiting k (each f ms) + given k (answers reply ms out) ≤ waiting k ms + given k out
 unfolding each answers
 each_answered k f reply h [] out = omega arith
-each_answered k f reply h (e ∷ ms) out = omega (arith, each_answered k f reply h ms (answered e.1.waiter (reply e.0 e.1) out), h e.0 e.1 out)
+each_answered k f reply h (e ∷ ms) out = omega (arith, each_answered k f reply h ms (waiter_answered e.1.waiter (reply e.0 e.1) out), h e.0 e.1 out)
 
 freed_passes : (k : ℕ) (f : ℕ → Member → Member) (reply : ℕ → Member → Asked → Option Reply) → ((n : ℕ) (m : Member) → (f n m).waiter ≡ None) → Passes k f reply
 freed_passes k f reply free n m out =
@@ -61,13 +61,13 @@ freed_passes k f reply free n m out =
 syncs_pass : (k clock : ℕ) → Passes k (λ n m. sync_freed clock m) sync_refused
 syncs_pass k clock n m out = by (waits_sync m.waiter) refl
   where
-    stays : (o : Option Waiter) → waits_sync o ≡ false → answered o (sync_refused n m) out ≡ out
+    stays : (o : Option Waiter) → waits_sync o ≡ false → waiter_answered o (sync_refused n m) out ≡ out
     stays None e = refl
     stays (Some w) e = rw e refl
 
-    by : (b : Bool) → waits_sync m.waiter ≡ b → once (waits_on k (if b then freed clock m else m).waiter) + given k (answered m.waiter (sync_refused n m) out) ≤ once (waits_on k m.waiter) + given k out
+    by : (b : Bool) → waits_sync m.waiter ≡ b → once (waits_on k (if b then freed clock m else m).waiter) + given k (waiter_answered m.waiter (sync_refused n m) out) ≤ once (waits_on k m.waiter) + given k out
     by true e = omega (arith, given_answered k m.waiter (sync_refused n m) out)
-    by false e = let same : given k (answered m.waiter (sync_refused n m) out) ≡ given k out = ap (given k) (stays m.waiter e) in omega (arith, same)
+    by false e = let same : given k (waiter_answered m.waiter (sync_refused n m) out) ≡ given k out = ap (given k) (stays m.waiter e) in omega (arith, same)
 
 -- 2. Rosters
 
@@ -77,7 +77,7 @@ put_waits k n c m [] out = omega arith
 put_waits k n c m (e ∷ ms) out = by (nat_eq n e.0) (put_waits k n c m ms out)
   where
     by : (b : Bool) → waiting k (put n m ms) + given k (turned_away c n ms out) ≤ waiting k ms + once (waits_on k m.waiter) + given k out
-        → waiting k (if b then (e.0, m) ∷ ms else e ∷ put n m ms) + given k (answered (waiter_of (if b then Some e.1 else member ms n)) (λ asked. Some (refusal c n asked)) out) ≤ once (waits_on k e.1.waiter) + waiting k ms + once (waits_on k m.waiter) + given k out
+        → waiting k (if b then (e.0, m) ∷ ms else e ∷ put n m ms) + given k (waiter_answered (waiter_of (if b then Some e.1 else member ms n)) (λ asked. Some (refusal c n asked)) out) ≤ once (waits_on k e.1.waiter) + waiting k ms + once (waits_on k m.waiter) + given k out
     by true h = omega (arith, given_answered k e.1.waiter (λ asked. Some (refusal c n asked)) out)
     by false h = omega (arith, h)
 
@@ -87,7 +87,7 @@ changed_waits k n c f o is [] out = omega arith
 changed_waits k n c f o is (e ∷ ms) out = by (nat_eq n e.0) (changed_waits k n c f o is ms out)
   where
     by : (b : Bool) → waiting k (changed n f ms) + given k (turned_away c n ms out) ≤ waiting k ms + once (waits_on k o) + given k out
-        → waiting k (if b then (e.0, f e.1) ∷ ms else e ∷ changed n f ms) + given k (answered (waiter_of (if b then Some e.1 else member ms n)) (λ asked. Some (refusal c n asked)) out) ≤ once (waits_on k e.1.waiter) + waiting k ms + once (waits_on k o) + given k out
+        → waiting k (if b then (e.0, f e.1) ∷ ms else e ∷ changed n f ms) + given k (waiter_answered (waiter_of (if b then Some e.1 else member ms n)) (λ asked. Some (refusal c n asked)) out) ≤ once (waits_on k e.1.waiter) + waiting k ms + once (waits_on k o) + given k out
     by true h =
         let now : once (waits_on k (f e.1).waiter) ≡ once (waits_on k o) = ap (λ x. once (waits_on k x)) (is e.1) in
         omega (arith, now, given_answered k e.1.waiter (λ asked. Some (refusal c n asked)) out)
@@ -99,7 +99,7 @@ without_waits k n c [] out = omega arith
 without_waits k n c (e ∷ ms) out = by (nat_eq n e.0) (without_waits k n c ms out)
   where
     by : (b : Bool) → waiting k (without n ms) + given k (turned_away c n ms out) ≤ waiting k ms + given k out
-        → waiting k (if b then ms else e ∷ without n ms) + given k (answered (waiter_of (if b then Some e.1 else member ms n)) (λ asked. Some (refusal c n asked)) out) ≤ once (waits_on k e.1.waiter) + waiting k ms + given k out
+        → waiting k (if b then ms else e ∷ without n ms) + given k (waiter_answered (waiter_of (if b then Some e.1 else member ms n)) (λ asked. Some (refusal c n asked)) out) ≤ once (waits_on k e.1.waiter) + waiting k ms + given k out
     by true h = omega (arith, given_answered k e.1.waiter (λ asked. Some (refusal c n asked)) out)
     by false h = omega (arith, h)
 

@@ -140,7 +140,7 @@ either n gs false o p first second = second
 pub served_told : (node : Node) (w : World) (gs : Groups) (n : ℕ) (key version : ℤ) (body : List ℕ) → AreServed n (rebalances (served node w gs n key version body).reaction) gs (served node w gs n key version body).groups
 unfolding served
 served_told node w gs n key version body =
-    let others : Outcome = of_topics gs (tenant.served node w n key version body) in
+    let others : Outcome = of_topics gs (tenant.plainly_served node w n key version body) in
     let syncs : Outcome = if_read w gs (whole sync_group_request body) (of_sync w n gs) in
     let leaves : Outcome = if_read w gs (whole leave_group_request body) (of_leave w gs) in
     let beats : Outcome = if_read w gs (whole heartbeat_request body) (of_heartbeat w gs) in

@@ -7,6 +7,6 @@ use Rattle.kb_service.specs.declared.answer.Answer.{Answer}
 use Rattle.kb_service.specs.declared.answer.Answer.TheVariants as answers
 
 -- Each entry of the body, in order, did what is defined, or was refused for a want; and the answer tells that.
-abbrev pub Acknowledges : ℤ → World → List ℕ → World → List Place → Answer → Type 0
-Acknowledges id w body v touched (answers.Plain answer) = tenant.Acknowledges id w body v touched answer
-Acknowledges id w body v touched answers.Rebalance = ⊥
+abbrev pub Acknowledges : Type 0 → ℤ → World → List ℕ → World → List Place → Answer → Type 0
+Acknowledges failed id w body v touched (answers.Plain answer) = tenant.Acknowledges failed id w body v touched answer
+Acknowledges failed id w body v touched answers.Rebalance = ⊥

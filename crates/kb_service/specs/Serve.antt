@@ -96,7 +96,7 @@ served node w gs n key version body =
     else if int_eq key (pos 12) then if_read w gs (whole heartbeat_request body) (of_heartbeat w gs)
     else if int_eq key (pos 13) then if_read w gs (whole leave_group_request body) (of_leave w gs)
     else if int_eq key (pos 14) then if_read w gs (whole sync_group_request body) (of_sync w n gs)
-    else of_topics gs (tenant.served node w n key version body)
+    else of_topics gs (tenant.plainly_served node w n key version body)
 
 -- whether the last request or moment answered requests that waited
 abbrev pub has_released : Groups → Bool

@@ -4,6 +4,7 @@ ghost use Rattle.kb_wire.specs.Codec.{string};
 ghost use Rattle.kb_partitions.specs.Scene.{WhereHonest};
 ghost use Rattle.kb_world.specs.Parts.{scene};
 ghost use Rattle.kb_world.specs.Steps.{IsStep, Meets};
+ghost use Rattle.kb_tenant.specs.Told.{HasFailed};
 ghost use Rattle.kb_service.specs.Acknowledged.{Acknowledges};
 ghost use Rattle.kb_service.specs.Waiters.{IsWaitTold, IsWaitToldBy};
 ghost use Rattle.kb_service.specs.Serve.{has_released, served, AreGroupsAfter, AreGroupsBy, IsOutcome, IsServed};
@@ -38,7 +39,7 @@ fn serve_by_key<L: PartitionLog + Drop, S: Store>(
     ensures meets { let a = scene L.log S.disk parts.old shelf.old in let b = scene L.log S.disk parts.new shelf.new in
         Meets a b (IsServed request.now.correlation_id (served node.now a.state.world groups.old request.now.connection request.now.api_key request.now.api_version request.now.body.now) b.state.world groups.new touched.new.items result) }
     ensures acknowledged { let a = scene L.log S.disk parts.old shelf.old in let b = scene L.log S.disk parts.new shelf.new in
-        request.now.api_key ≡ pos 0 → IfOk result (λ answer. WhereHonest a b (Acknowledges request.now.correlation_id a.state.world request.now.body.now b.state.world touched.new.items answer)) }
+        request.now.api_key ≡ pos 0 → IfOk result (λ answer. WhereHonest a b (Acknowledges (HasFailed a b) request.now.correlation_id a.state.world request.now.body.now b.state.world touched.new.items answer)) }
     ensures groups { let a = scene L.log S.disk parts.old shelf.old in
         AreGroupsBy groups.old (served node.now a.state.world groups.old request.now.connection request.now.api_key request.now.api_version request.now.body.now).groups result groups.new }
     ensures waits { IsWaitToldBy request.now.connection groups.old result groups.new }
@@ -94,7 +95,7 @@ pub fn serve<L: PartitionLog + Drop, S: Store>(
         Meets a b (IsOutcome request.now.correlation_id (served node.now a.state.world groups.old request.now.connection request.now.api_key request.now.api_version request.now.body.now) b.state.world groups.new result.touched.items result.answer) }
     // A batch of a Produce that is answered with no error is in its partition's log, whatever else was refused.
     ensures acknowledged { let a = scene L.log S.disk parts.old shelf.old in let b = scene L.log S.disk parts.new shelf.new in
-        request.now.api_key ≡ pos 0 → WhereHonest a b (Acknowledges request.now.correlation_id a.state.world request.now.body.now b.state.world result.touched.items result.answer) }
+        request.now.api_key ≡ pos 0 → WhereHonest a b (Acknowledges (HasFailed a b) request.now.correlation_id a.state.world request.now.body.now b.state.world result.touched.items result.answer) }
     ensures groups { let a = scene L.log S.disk parts.old shelf.old in
         AreGroupsAfter groups.old (served node.now a.state.world groups.old request.now.connection request.now.api_key request.now.api_version request.now.body.now).groups result.answer groups.new }
     ensures waits { IsWaitTold request.now.connection groups.old result.answer groups.new }

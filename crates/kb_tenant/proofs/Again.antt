@@ -13,7 +13,7 @@ use Rattle.kb_world.specs.declared.place.Place.{Place}
 use Rattle.kb_tenant.specs.CreateTopics.{created_all, made_of}
 use Rattle.kb_tenant.specs.Fetch.{fetch_answer, places_in, places_of}
 use Rattle.kb_tenant.specs.OffsetCommit.{committed_all, refusal_of}
-use Rattle.kb_tenant.specs.Serve.{Outcome, of_produce, of_offset_commit, of_delete_records, of_delete_topics, of_init_producer_id, served}
+use Rattle.kb_tenant.specs.Serve.{Outcome, of_produce, of_offset_commit, of_delete_records, of_delete_topics, of_init_producer_id, plainly_served}
 use Rattle.kb_tenant.specs.Waiting.{AreNamedApart, HasOwnNames}
 use Rattle.kb_tenant.specs.declared.node.Node.{Node}
 use Rattle.kb_tenant.proofs.Asked.{Finds, all_found}
@@ -68,7 +68,7 @@ untold : (w v : World) → Moves [] [] w v → IsTied w → (r : FetchRequest) (
 untold w v moves tied r deadline waits = (waits_through [] w v moves tied r deadline waits (λ place asked none. nowhere place none)).1
 
 pub served_again : (node : Node) (w : World) (n : ℕ) (key version : ℤ) (body : List ℕ) (r : FetchRequest) (deadline : ℕ) → IsTied w → HasOwnNames w → fetch_answer w r deadline ≡ None
-    → fetch_answer (served node w n key version body).world r deadline ≡ None → places_of (served node w n key version body).world r ≡ places_of w r
+    → fetch_answer (plainly_served node w n key version body).world r deadline ≡ None → places_of (plainly_served node w n key version body).world r ≡ places_of w r
 served_again node w n key version body r deadline tied own waits =
     by_request (λ (o : Outcome). fetch_answer o.world r deadline ≡ None → places_of o.world r ≡ places_of w r) node w n key version body (record {
       produce = λ q read after. places_back w (of_produce w q).world ((produce_loses w q).before own) r deadline after;
@@ -92,7 +92,7 @@ pub committed_again : (w : World) (refusal : Option ℤ) (q : OffsetCommitReques
 committed_again w refusal q r deadline tied own waits after = (committed_waits w refusal q r deadline tied waits).1
 
 -- the names of topics stay apart
-pub served_names : (node : Node) (w : World) (n : ℕ) (key version : ℤ) (body : List ℕ) → HasOwnNames w → HasOwnNames (served node w n key version body).world
+pub served_names : (node : Node) (w : World) (n : ℕ) (key version : ℤ) (body : List ℕ) → HasOwnNames w → HasOwnNames (plainly_served node w n key version body).world
 served_names node w n key version body own = by_request (λ (o : Outcome). HasOwnNames o.world) node w n key version body (record {
   produce = λ q read. (produce_loses w q).apart own;
   fetch = λ q read. own;

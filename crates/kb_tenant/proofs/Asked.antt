@@ -16,7 +16,7 @@ use Rattle.kb_partitions.specs.Logs.{LogState}
 use Rattle.kb_world.specs.Calls.{at_clock, fetched_from}
 use Rattle.kb_world.specs.World.{World, log_in, place_in}
 use Rattle.kb_world.specs.declared.place.Place.{Place}
-use Rattle.kb_tenant.specs.Fetch.{answered, answered_at, answered_by, answered_topic, begun, bytes_of, fetch_answer, fetched, is_error, is_ready, limit_of, places_in, places_of, some_partition}
+use Rattle.kb_tenant.specs.Fetch.{fetch_answered, answered_at, answered_by, answered_topic, begun, bytes_of, fetch_answer, fetched, is_error, is_ready, limit_of, places_in, places_of, some_partition}
 use Rattle.kb_tenant.specs.Turns.{in_turn}
 use Rattle.kb_tenant.specs.Waiting.{StillWaits}
 use Rattle.kb_tenant.specs.declared.fetch.given.Given.{Given}
@@ -98,7 +98,7 @@ place_found w name g e (Some place) at good = log_found w name g e place at (log
 module _ (w v : World) (asked : Place → Type 0) (keeps : (name : List ℕ) (place : Place) (log : LogState) → asked place → IsHeld w name place log → IsHeld v name place log) where
   -- an entry that is answered alike, and asks for the same place
   record IsAlike (name : List ℕ) (e : FetchPartition) : Type 0 where
-    pub answer : (g : Given) → answered v (named name v.known.topics) g e ≡ answered w (named name w.known.topics) g e
+    pub answer : (g : Given) → fetch_answered v (named name v.known.topics) g e ≡ fetch_answered w (named name w.known.topics) g e
     pub place : place_in (named name v.known.topics) e.partition ≡ place_in (named name w.known.topics) e.partition
 
   alike : (name : List ℕ) (e : FetchPartition) (f : Finds w name e) → asked f.place → IsAlike name e
@@ -135,8 +135,8 @@ module _ (w v : World) (asked : Place → Type 0) (keeps : (name : List ℕ) (pl
 
   topic_answer : (t : FetchTopic) → AllByRecursion (IsAlike t.topic) t.partitions → (g : Given) → answered_topic v g t ≡ answered_topic w g t
   topic_answer t all g =
-      let turns = turn_same (answered v (named t.topic v.known.topics)) (answered w (named t.topic w.known.topics)) t.partitions
-      (each_then (IsAlike t.topic) (λ e. (s : Given) → answered v (named t.topic v.known.topics) s e ≡ answered w (named t.topic w.known.topics) s e) t.partitions (λ e a. a.answer) all) g in
+      let turns = turn_same (fetch_answered v (named t.topic v.known.topics)) (fetch_answered w (named t.topic w.known.topics)) t.partitions
+      (each_then (IsAlike t.topic) (λ e. (s : Given) → fetch_answered v (named t.topic v.known.topics) s e ≡ fetch_answered w (named t.topic w.known.topics) s e) t.partitions (λ e a. a.answer) all) g in
       ap (λ (r : Given × List FetchPartitionReplyV5). (let both : Given × FetchTopicReplyV5 = (r.0, record { topic = t.topic; partitions = r.1 }) in both)) turns
 
   fetched_alike : (r : FetchRequest) → AllByRecursion (λ t. AllByRecursion (IsAlike t.topic) t.partitions) r.topics → fetched v r ≡ fetched w r
@@ -204,9 +204,9 @@ module _ (w : World) (r : FetchRequest) (deadline : ℕ) (waits : fetch_answer w
       let is_bad = λ (p : FetchPartitionReplyV5). is_error p.error_code in
       let good : list_any (λ (t : FetchTopicReplyV5). list_any is_bad t.partitions) reply.topics ≡ false = second_false nothing_asked some_error has_bytes (nat_le deadline w.clock) unready in
       each_then (λ t. (g : Given) × (list_any is_bad (answered_topic w g t).1.partitions ≡ false)) (λ t. AllByRecursion (λ e. Finds w t.topic e) t.partitions) r.topics
-      (λ t one. each_then (λ e. (g : Given) × (is_error (answered w (named t.topic w.known.topics) g e).1.error_code ≡ false)) (λ e. Finds w t.topic e) t.partitions
+      (λ t one. each_then (λ e. (g : Given) × (is_error (fetch_answered w (named t.topic w.known.topics) g e).1.error_code ≡ false)) (λ e. Finds w t.topic e) t.partitions
       (λ e it. place_found w t.topic it.0 e (place_in (named t.topic w.known.topics) e.partition) refl it.1)
-      (none_passes (answered w (named t.topic w.known.topics)) is_bad t.partitions one.0 one.1))
+      (none_passes (fetch_answered w (named t.topic w.known.topics)) is_bad t.partitions one.0 one.1))
       (none_passes (answered_topic w) (λ (t : FetchTopicReplyV5). list_any is_bad t.partitions) r.topics (begun r) good)
 
   in_time : nat_le deadline w.clock ≡ false

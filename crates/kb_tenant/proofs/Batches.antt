@@ -16,9 +16,9 @@ use Rattle.kb_world.specs.Calls.{fetched_from}
 use Rattle.kb_world.specs.World.{World, log_in, place_in}
 use Rattle.kb_world.specs.declared.place.Place.{Place}
 use Rattle.kb_tenant.specs.Batches.{BeginAt, GivesBatches, EachAnswered, IsPartitionAnswered, IsTopicAnswered, HasSmallLogs, HoldsBatches, Spells}
-use Rattle.kb_tenant.specs.Fetch.{answered, answered_at, answered_by, answered_topic, asked_fetch, begun, fetch_answer, fetched, has_starts, is_ready, limit_of, deadline_of, fetched_in}
+use Rattle.kb_tenant.specs.Fetch.{fetch_answered, answered_at, answered_by, answered_topic, asked_fetch, begun, fetch_answer, fetched, has_starts, is_ready, limit_of, deadline_of, fetched_in}
 use Rattle.kb_tenant.specs.Replies.{Replies, Silent}
-use Rattle.kb_tenant.specs.Serve.{served, looked, looked_at, of_fetch, if_read, fetch_reaction}
+use Rattle.kb_tenant.specs.Serve.{plainly_served, looked, looked_at, of_fetch, if_read, fetch_reaction}
 use Rattle.kb_tenant.specs.Turns.{in_turn}
 use Rattle.kb_tenant.specs.declared.fetch.given.Given.{Given}
 use Rattle.kb_tenant.specs.declared.node.Node.{Node}
@@ -106,7 +106,7 @@ module _ (w : World) (topic : Option ℕ) (g : Given) (asked : FetchPartition) w
   by-place None there = (refl, λ h. no-error w topic asked _ _ 3 (omega arith) h)
   by-place (Some place) there = by-log place there (log_in w place) refl
 
-  partition-answered : IsPartitionAnswered w topic asked (answered w topic g asked).1
+  partition-answered : IsPartitionAnswered w topic asked (fetch_answered w topic g asked).1
   partition-answered = by-place (place_in topic asked.partition) refl
 
 -- ---- all of them
@@ -118,7 +118,7 @@ each f P one s (e ∷ es) = (one s e, each f P one (f s e).0 es)
 topic-answered : (w : World) (g : Given) (asked : FetchTopic) → IsTopicAnswered w asked (answered_topic w g asked).1
 topic-answered w g asked =
     let topic = named asked.topic w.known.topics in
-    (refl, each (answered w topic) (IsPartitionAnswered w topic) (λ s e. partition-answered w topic s e) g asked.partitions)
+    (refl, each (fetch_answered w topic) (IsPartitionAnswered w topic) (λ s e. partition-answered w topic s e) g asked.partitions)
 
 all-answered : (w : World) (r : FetchRequest) → EachAnswered (IsTopicAnswered w) r.topics (fetched w r).1.topics
 all-answered w r = each (answered_topic w) (IsTopicAnswered w) (λ s t. topic-answered w s t) (begun r) r.topics
@@ -157,8 +157,8 @@ reaction-holds version w r bytes (Some reply) spelled e is = written-holds versi
     replied-is : {x y : List ℕ} → Replies x ≡ Replies y → x ≡ y
     replied-is h = cc
 
-pub served-holds : (node : Node) (w : World) (n : ℕ) (version : ℤ) (body bytes : List ℕ) (r : FetchRequest) → HasSmallLogs w → asked_fetch version body ≡ Ok r → (served node w n (pos 1) version body).reaction ≡ Replies bytes → HoldsBatches version w r bytes
-unfolding served
+pub served-holds : (node : Node) (w : World) (n : ℕ) (version : ℤ) (body bytes : List ℕ) (r : FetchRequest) → HasSmallLogs w → asked_fetch version body ≡ Ok r → (plainly_served node w n (pos 1) version body).reaction ≡ Replies bytes → HoldsBatches version w r bytes
+unfolding plainly_served
 served-holds node w n version body bytes r small read replies = reaction-holds version w r bytes (fetch_answer w r (deadline_of w r)) (reply_spelled w (has_starts version) body r small read) refl (sym (ap (λ x. (if_read w x (of_fetch version w)).reaction) read) ∙ replies)
 
 look-holds : (version : ℤ) (w : World) (deadline : ℕ) (r : FetchRequest) (bytes : List ℕ) (answer : Option FetchReplyV5) → Spelled version w r → fetch_answer w r deadline ≡ answer → (elim answer [ Some reply ↦ Replies (fetched_in version reply) | None ↦ Silent ]) ≡ Replies bytes → HoldsBatches version w r bytes

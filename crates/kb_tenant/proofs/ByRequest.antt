@@ -22,7 +22,7 @@ use Rattle.kb_tenant.specs.CreateTopics.{asked_creations, checked_all, created_a
 use Rattle.kb_tenant.specs.Fetch.{asked_fetch}
 use Rattle.kb_tenant.specs.Metadata.{asked_metadata}
 use Rattle.kb_tenant.specs.Replies.{Reaction, Replies, Shuts}
-use Rattle.kb_tenant.specs.Serve.{Outcome, if_read, of_produce, of_fetch, of_list_offsets, of_metadata, of_offset_commit, of_offset_fetch, of_find_coordinator, of_create_topics, of_delete_records, of_delete_topics, of_init_producer_id, served, stays}
+use Rattle.kb_tenant.specs.Serve.{Outcome, if_read, of_produce, of_fetch, of_list_offsets, of_metadata, of_offset_commit, of_offset_fetch, of_find_coordinator, of_create_topics, of_delete_records, of_delete_topics, of_init_producer_id, plainly_served, stays}
 use Rattle.kb_tenant.specs.declared.node.Node.{Node}
 
 -- It holds of what each API's request comes to, where the body is one, and of a connection that is shut.
@@ -55,8 +55,8 @@ of_creations P version w r checked made =
     either P r.validate_only (stays w (Replies (creations_in version (checked_all w r.topics))))
     (record { world = (created_all w (made_of r)).0; touched = []; reaction = Replies (creations_in version (created_all w (made_of r)).1) }) (checked _) made
 
-pub by_request : (P : Outcome → Type 0) (node : Node) (w : World) (n : ℕ) (key version : ℤ) (body : List ℕ) → Cases P node w version body → P (served node w n key version body)
-unfolding served
+pub by_request : (P : Outcome → Type 0) (node : Node) (w : World) (n : ℕ) (key version : ℤ) (body : List ℕ) → Cases P node w version body → P (plainly_served node w n key version body)
+unfolding plainly_served
 by_request P node w n key version body c =
     let shut : Outcome = stays w Shuts in
     let inits : Outcome = if_read w (whole init_producer_id_request body) (of_init_producer_id w) in

@@ -19,7 +19,7 @@ use Rattle.kb_partitions.specs.Scene.{Scene}
 use Rattle.kb_partitions.specs.declared.fault.PartitionFault.{PartitionFault}
 use Rattle.kb_partitions.specs.declared.fault.PartitionFault.TheVariants as partition
 use Rattle.kb_world.specs.Calls.{IsGiven}
-use Rattle.kb_tenant.specs.Fetch.{answered, answered_at, answered_by, answered_topic, begun, bounds_of, fetched, fetched_at, front_of, less, refused}
+use Rattle.kb_tenant.specs.Fetch.{fetch_answered, answered_at, answered_by, answered_topic, begun, bounds_of, fetched, fetched_at, front_of, less, refused}
 use Rattle.kb_tenant.specs.Fetch.{front_written, partition_written, reply_written, topic_written, topic_without_starts, without_start}
 use Rattle.kb_world.specs.Parts.{Seen}
 use Rattle.kb_world.specs.Steps.{IsStep, Meets, calm_then}
@@ -56,7 +56,7 @@ none_mapped f None e = refl
 none_mapped f (Some x) e = absurd cc
 
 -- a place that has no log
-pub unknown_is : (w : World) (topic : Option ℕ) (g : Given) (e : FetchPartition) (place : Place) → Some place ≡ place_in topic e.partition → None ≡ option_map (front_of e.partition) (bounds_of w place) → refused g e.partition partition.Unknown ≡ answered w topic g e
+pub unknown_is : (w : World) (topic : Option ℕ) (g : Given) (e : FetchPartition) (place : Place) → Some place ≡ place_in topic e.partition → None ≡ option_map (front_of e.partition) (bounds_of w place) → refused g e.partition partition.Unknown ≡ fetch_answered w topic g e
 unknown_is w topic g e place is none =
     ap (λ o. answered_by g e.partition o (fetched_at w g e place)) (none_mapped (front_of e.partition) (bounds_of w place) none)
     ∙ ap (answered_at w g e) is
@@ -183,14 +183,14 @@ entries_told {A = A} write whole is f head s s' es n s0 s1 s2 s3 len first secon
 pub topic_told : (starts : Bool) (w : World) (g g' : Given) (t : FetchTopic) (name : List ℕ) (n : ℕ) (topic : Option ℕ) (entries : List FetchPartition) (s0 s1 s2 s3 : List ℕ)
     → name ≡ t.topic → n ≡ length t.partitions → topic ≡ named name w.known.topics → entries ≡ t.partitions
     → s1 ≡ s0 ++ string.written name → s2 ≡ s1 ++ (count w32).written n
-    → (g', s3) ≡ written_behind (partition_written starts) s2 (in_turn (answered w topic) g entries)
+    → (g', s3) ≡ written_behind (partition_written starts) s2 (in_turn (fetch_answered w topic) g entries)
     → (g' ≡ (answered_topic w g t).0) × (s3 ≡ s0 ++ topic_written starts (answered_topic w g t).1)
 topic_told starts w g g' t name n topic entries s0 s1 s2 s3 same len at list first second told =
     let write = partition_written starts in
     let here : topic ≡ named t.topic w.known.topics = at ∙ ap (λ x. named x w.known.topics) same in
-    let all = entries_told write (partitions_written starts) (partitions_are starts) (answered w (named t.topic w.known.topics)) (string.written t.topic) g g' t.partitions n s0 s1 s2 s3 len
+    let all = entries_told write (partitions_written starts) (partitions_are starts) (fetch_answered w (named t.topic w.known.topics)) (string.written t.topic) g g' t.partitions n s0 s1 s2 s3 len
     (first ∙ ap (λ x. s0 ++ string.written x) same) second
-    (told ∙ ap (λ x. written_behind write s2 (in_turn (answered w x) g entries)) here ∙ ap (λ es. written_behind write s2 (in_turn (answered w (named t.topic w.known.topics)) g es)) list) in
+    (told ∙ ap (λ x. written_behind write s2 (in_turn (fetch_answered w x) g entries)) here ∙ ap (λ es. written_behind write s2 (in_turn (fetch_answered w (named t.topic w.known.topics)) g es)) list) in
     (all.0, all.1 ∙ ap (λ x. s0 ++ x) (sym (topic_is starts (answered_topic w g t).1)))
 
 pub reply_told : (starts : Bool) (w : World) (r : FetchRequest) (g g' : Given) (n : ℕ) (topics : List FetchTopic) (s0 s1 s2 s3 : List ℕ)

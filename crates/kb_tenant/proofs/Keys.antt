@@ -11,27 +11,27 @@ use Rattle.kb_tenant.specs.CreateTopics.{checked_all, created_all, creations_in,
 use Rattle.kb_api_data.specs.declared.fetch_v5.FetchReplyV5.{FetchReplyV5}
 use Rattle.kb_api_data.specs.declared.fetch.FetchRequest.{FetchRequest}
 use Rattle.kb_world.specs.declared.place.Place.{Place}
-use Rattle.kb_tenant.specs.Fetch.{has_starts, looked, reply_written, fetched_in, IsServed}
+use Rattle.kb_tenant.specs.Fetch.{has_starts, look_written, reply_written, fetched_in, IsServed}
 use Rattle.kb_tenant.specs.Metadata.{asked_metadata}
 use Rattle.kb_tenant.specs.Replies.{begun, IsAnswer, Replies, Silent}
 use Rattle.kb_tenant.specs.Serve.{IsOutcome, Outcome, of_create_topics, stays}
-use Rattle.kb_tenant.specs.Serve.{fetch_reaction, if_read, of_find_coordinator, of_metadata, of_offset_fetch, served}
+use Rattle.kb_tenant.specs.Serve.{fetch_reaction, if_read, of_find_coordinator, of_metadata, of_offset_fetch, plainly_served}
 use Rattle.kb_tenant.specs.declared.answer.Answer.{Answer}
 use Rattle.kb_tenant.specs.declared.answer.Answer.TheVariants as answers
 use Rattle.kb_tenant.specs.declared.fetch.waiting.Fetching.TheVariants as fetching
 use Rattle.kb_tenant.specs.declared.node.Node.{Node}
 
-pub served_metadata : (node : Node) (w : World) (n : ℕ) (key version : ℤ) (body : List ℕ) → key ≡ pos 3 → served node w n key version body ≡ if_read w (asked_metadata version body) (of_metadata node version w)
-unfolding served
-served_metadata node w n key version body is = ap (λ k. served node w n k version body) is
+pub served_metadata : (node : Node) (w : World) (n : ℕ) (key version : ℤ) (body : List ℕ) → key ≡ pos 3 → plainly_served node w n key version body ≡ if_read w (asked_metadata version body) (of_metadata node version w)
+unfolding plainly_served
+served_metadata node w n key version body is = ap (λ k. plainly_served node w n k version body) is
 
-pub served_offset_fetch : (node : Node) (w : World) (n : ℕ) (key version : ℤ) (body : List ℕ) → key ≡ pos 9 → served node w n key version body ≡ if_read w (whole offset_fetch_request body) (of_offset_fetch w)
-unfolding served
-served_offset_fetch node w n key version body is = ap (λ k. served node w n k version body) is
+pub served_offset_fetch : (node : Node) (w : World) (n : ℕ) (key version : ℤ) (body : List ℕ) → key ≡ pos 9 → plainly_served node w n key version body ≡ if_read w (whole offset_fetch_request body) (of_offset_fetch w)
+unfolding plainly_served
+served_offset_fetch node w n key version body is = ap (λ k. plainly_served node w n k version body) is
 
-pub served_find_coordinator : (node : Node) (w : World) (n : ℕ) (key version : ℤ) (body : List ℕ) → key ≡ pos 10 → served node w n key version body ≡ if_read w (whole find_coordinator_request body) (of_find_coordinator node w)
-unfolding served
-served_find_coordinator node w n key version body is = ap (λ k. served node w n k version body) is
+pub served_find_coordinator : (node : Node) (w : World) (n : ℕ) (key version : ℤ) (body : List ℕ) → key ≡ pos 10 → plainly_served node w n key version body ≡ if_read w (whole find_coordinator_request body) (of_find_coordinator node w)
+unfolding plainly_served
+served_find_coordinator node w n key version body is = ap (λ k. plainly_served node w n k version body) is
 
 -- ---- CreateTopics: a request that is only checked, and one that is not
 
@@ -62,7 +62,7 @@ replied id version starts w r None old new answer is from h made = absurd h
 
 -- so is one that waited
 pub woken : (id version : ℤ) (starts : Bool) (o : Option FetchReplyV5) (old new : List ℕ) (done : Bool) (answer : Answer) → starts ≡ has_starts version → old ≡ begun id → done ≡ true
-    → (done, new) ≡ looked starts old o → ((id : ℤ) (body : List ℕ) → new ≡ begun id ++ body → IsAnswer id (Replies body) answer)
+    → (done, new) ≡ look_written starts old o → ((id : ℤ) (body : List ℕ) → new ≡ begun id ++ body → IsAnswer id (Replies body) answer)
     → IsAnswer id (elim o [ Some reply ↦ Replies (fetched_in version reply) | None ↦ Silent ]) answer
 woken id version starts (Some reply) old new done answer is from over told made =
     made id (fetched_in version reply) (ap (λ x. x.1) told ∙ ap (λ s. s ++ reply_written starts reply) from ∙ ap (λ b. begun id ++ reply_written b reply) is)

@@ -30,12 +30,12 @@ pub mod OffsetsKept
 pub mod ProduceMoves
 pub mod Produced
 pub mod Ready
-pub mod Refused
 pub mod Refusing
 pub mod Repeats
 pub mod Replies
 pub mod RecordsMoves
 pub mod RetainMoves
+pub mod Room
 pub mod ServeMoves
 pub mod Serving
 pub mod Small

@@ -25,7 +25,7 @@ use Rattle.kb_world.specs.World.{World, log_in, place_in}
 use Rattle.kb_world.specs.declared.place.Place.{Place}
 use Rattle.kb_tenant.specs.CreateTopics.{created_all, created_topic, made_unless, made_with, refusal, settings_in, stands_twice}
 use Rattle.kb_tenant.specs.DeleteTopics.{deleted_all, deleted_topic}
-use Rattle.kb_tenant.specs.Produce.{Progress, appended_at, batch_in, decided, known_place, offered_unless, produced, progress, refusal_of, served, served_topic, tried, verdict_on}
+use Rattle.kb_tenant.specs.Produce.{Progress, appended_at, batch_in, decided, known_place, offered_unless, produced, progress, refusal_of, entry_served, served_topic, tried, verdict_on}
 use Rattle.kb_tenant.specs.Turns.{in_turn}
 use Rattle.kb_tenant.specs.Waiting.{AreNamedApart, HasOwnNames}
 use Rattle.kb_tenant.proofs.OwnNames.{apart_inserted, apart_removed, named_before}
@@ -80,7 +80,7 @@ tried_keeps : (p : Progress) (o : Option Place) (records : Option (List ℕ)) �
 tried_keeps p None records = refl
 tried_keeps p (Some place) records = offered_keeps p place (batch_in records)
 
-entry_keeps : (refusal : Option ℤ) (topic : Option ℕ) (p : Progress) (e : ProducePartition) → Knows p.world (served refusal topic p e).0.world
+entry_keeps : (refusal : Option ℤ) (topic : Option ℕ) (p : Progress) (e : ProducePartition) → Knows p.world (entry_served refusal topic p e).0.world
 entry_keeps (Some code) topic p e = refl
 entry_keeps None topic p e = tried_keeps p (known_place p.world (place_in topic e.index)) e.records
 
@@ -88,7 +88,7 @@ all_keep : {E A : Type 0} (f : Progress → E → Progress × A) → ((p : Progr
 all_keep f each p es = turns_keep Knows (λ w. refl) (λ w v u x y. y ∙ x) (λ (s : Progress). s.world) f each p es
 
 topic_keeps : (refusal : Option ℤ) (p : Progress) (t : ProduceTopic) → Knows p.world (served_topic refusal p t).0.world
-topic_keeps refusal p t = let topic = named t.name p.world.known.topics in all_keep (served refusal topic) (entry_keeps refusal topic) p t.partitions
+topic_keeps refusal p t = let topic = named t.name p.world.known.topics in all_keep (entry_served refusal topic) (entry_keeps refusal topic) p t.partitions
 
 produce_keeps : (w : World) (r : ProduceRequest) → Knows w (produced w [] r).0.world
 produce_keeps w r = let refusal = refusal_of r.transactional_id r.acks in all_keep (served_topic refusal) (topic_keeps refusal) (progress w []) r.topics

@@ -13,7 +13,7 @@ use Rattle.kb_api_data.specs.declared.produce.ProduceRequest.{ProduceRequest}
 use Rattle.kb_world.specs.Calls.{appended_to, with_log_at}
 use Rattle.kb_world.specs.World.{World, log_in, place_in}
 use Rattle.kb_world.specs.declared.place.Place.{Place}
-use Rattle.kb_tenant.specs.Produce.{Progress, appended_at, batch_in, decided, known_place, offered_unless, produced, progress, refusal_of, served, served_topic, tried, verdict_on}
+use Rattle.kb_tenant.specs.Produce.{Progress, appended_at, batch_in, decided, known_place, offered_unless, produced, progress, refusal_of, entry_served, served_topic, tried, verdict_on}
 use Rattle.kb_tenant.proofs.LogMoves.{with_log_moves}
 use Rattle.kb_tenant.proofs.Moves.{Moves, stays_same, turns_move}
 
@@ -46,14 +46,14 @@ tried_goes : (p : Progress) (o : Option Place) (records : Option (List ℕ)) →
 tried_goes p None records = same p
 tried_goes p (Some place) records = offered_goes p place (batch_in records)
 
-entry_goes : (refusal : Option ℤ) (topic : Option ℕ) (p : Progress) (e : ProducePartition) → Goes p (served refusal topic p e).0
+entry_goes : (refusal : Option ℤ) (topic : Option ℕ) (p : Progress) (e : ProducePartition) → Goes p (entry_served refusal topic p e).0
 entry_goes (Some code) topic p e = same p
 entry_goes None topic p e = tried_goes p (known_place p.world (place_in topic e.index)) e.records
 
 topic_goes : (refusal : Option ℤ) (p : Progress) (t : ProduceTopic) → Goes p (served_topic refusal p t).0
 topic_goes refusal p t =
     let topic = named t.name p.world.known.topics in
-    turns_move (λ (s : Progress). s.world) (λ (s : Progress). s.touched) (served refusal topic) (entry_goes refusal topic) p t.partitions
+    turns_move (λ (s : Progress). s.world) (λ (s : Progress). s.touched) (entry_served refusal topic) (entry_goes refusal topic) p t.partitions
 
 pub produce_moves : (w : World) (r : ProduceRequest) → Moves [] (produced w [] r).0.touched w (produced w [] r).0.world
 produce_moves w r =

@@ -23,7 +23,7 @@ use Rattle.kb_api_data.specs.declared.produce.ProduceTopicReply.{ProduceTopicRep
 use Rattle.kb_world.specs.World.{World}
 use Rattle.kb_world.specs.Calls.{judged}
 use Rattle.kb_tenant.specs.Turns.{in_turn, written_behind}
-use Rattle.kb_tenant.specs.Produce.{Progress, progress, batch_in, read_unless, is_issued, verdict_on, offered, tried, refusal_of, served, served_topic, produced, where_due, is_due, reply_bytes, written_next}
+use Rattle.kb_tenant.specs.Produce.{Progress, progress, batch_in, read_unless, is_issued, verdict_on, offered, tried, refusal_of, entry_served, served_topic, produced, where_due, is_due, reply_bytes, written_next}
 use Rattle.kb_tenant.specs.declared.produce.Terms.{Terms}
 use Rattle.kb_world.specs.declared.place.Place.{Place}
 use Rattle.kb_tenant.proofs.Turning.{turn_next, turn_length}
@@ -124,17 +124,17 @@ topic_bytes due name n rs out is =
 pub topic_told : (due : Bool) (refusal : Option ℤ) (topic : Option ℕ) (p : Progress) (t : ProduceTopic) (name : List ℕ) (entries : List ProducePartition) (n : ℕ) (out out1 out2 : List ℕ) (result : Progress × List ℕ)
     → name ≡ t.name → entries ≡ t.partitions → n ≡ length t.partitions → topic ≡ named t.name p.world.known.topics
     → out1 ≡ out ++ where_due due (string.written name) → out2 ≡ out1 ++ where_due due ((count w32).written n)
-    → result ≡ written_behind (λ x. where_due due (produce_partition_reply.written x)) out2 (in_turn (served refusal topic) p entries)
+    → result ≡ written_behind (λ x. where_due due (produce_partition_reply.written x)) out2 (in_turn (entry_served refusal topic) p entries)
     → result ≡ written_next (λ x. where_due due (produce_topic_reply.written x)) out (served_topic refusal p t)
 topic_told due refusal topic p t name entries n out out1 out2 result nis eis lis tis first second is =
-    let r = in_turn (served refusal (named t.name p.world.known.topics)) p t.partitions in
+    let r = in_turn (entry_served refusal (named t.name p.world.known.topics)) p t.partitions in
     let write : ProducePartitionReply → List ℕ = λ x. where_due due (produce_partition_reply.written x) in
-    let many : n ≡ length r.1 = lis ∙ sym (turn_length (served refusal (named t.name p.world.known.topics)) p t.partitions) in
+    let many : n ≡ length r.1 = lis ∙ sym (turn_length (entry_served refusal (named t.name p.world.known.topics)) p t.partitions) in
     let before : out2 ≡ (out ++ where_due due (string.written t.name)) ++ where_due due ((count w32).written n) =
     second ∙ ap (λ l. l ++ where_due due ((count w32).written n)) (first ∙ ap (λ m. out ++ where_due due (string.written m)) nis) in
     is
-    ∙ ap (λ es. written_behind write out2 (in_turn (served refusal topic) p es)) eis
-    ∙ ap (λ i. written_behind write out2 (in_turn (served refusal i) p t.partitions)) tis
+    ∙ ap (λ es. written_behind write out2 (in_turn (entry_served refusal topic) p es)) eis
+    ∙ ap (λ i. written_behind write out2 (in_turn (entry_served refusal i) p t.partitions)) tis
     ∙ ap (λ l. (r.0, l)) (ap (λ l. l ++ flat_map write r.1) before ∙ topic_bytes due t.name n r.1 out many)
 
 -- the count, the topics and the throttle time are the reply

@@ -15,7 +15,7 @@ use Rattle.kb_api_data.specs.declared.fetch_v5.FetchReplyV5.{FetchReplyV5}
 use Rattle.kb_topics.specs.Known.{named}
 use Rattle.kb_partitions.specs.declared.fault.PartitionFault.{PartitionFault}
 use Rattle.kb_partitions.specs.declared.fault.PartitionFault.TheVariants as partition
-use Rattle.kb_tenant.specs.Fetch.{answered, answered_at, answered_by, answered_topic, bounds_of, fetched, fetched_at, refused, begun, has_enough, is_ready, records_size, is_error, looked, fetch_answer, reply_written}
+use Rattle.kb_tenant.specs.Fetch.{fetch_answered, answered_at, answered_by, answered_topic, bounds_of, fetched, fetched_at, refused, begun, has_enough, is_ready, records_size, is_error, look_written, fetch_answer, reply_written}
 use Rattle.kb_tenant.proofs.Fetching.{cut_back}
 use Rattle.kb_tenant.specs.Turns.{in_turn}
 use Rattle.kb_world.specs.World.{World, place_in}
@@ -94,7 +94,7 @@ at_tells w g e (Some place) = by_tells g e.partition (bounds_of w place) (fetche
 topic_tells : (w : World) (g : Given) (t : FetchTopic)
     → Tells (λ (a : FetchTopicReplyV5). sum_by records_size a.partitions) (λ a. list_any is_refusal a.partitions) (λ a. list_any (λ p. true) a.partitions) g (answered_topic w g t).0 (answered_topic w g t).1
 topic_tells w g t =
-    let all = in_turn_tells records_size is_refusal (λ p. true) (answered w (named t.topic w.known.topics)) (λ h e. at_tells w h e (place_in (named t.topic w.known.topics) e.partition)) g t.partitions in
+    let all = in_turn_tells records_size is_refusal (λ p. true) (fetch_answered w (named t.topic w.known.topics)) (λ h e. at_tells w h e (place_in (named t.topic w.known.topics) e.partition)) g t.partitions in
     record { missing = all.missing; wrong = all.wrong; asked = all.asked }
 
 none_missing : (n s : ℕ) → ((n - s) == 0) ≡ nat_le n s
@@ -116,20 +116,20 @@ done_is : (w v : World) (r : FetchRequest) (given : Given) (clock deadline : ℕ
 done_is w v r given clock deadline ready is at stays same =
     sym (ready_is w r deadline) ∙ sym (ap (λ g. has_enough g w.clock deadline) same) ∙ sym (ap (λ n. has_enough given n deadline) (at ∙ ap (λ u. u.clock) stays)) ∙ sym is
 
-when_done : (starts : Bool) (old : List ℕ) (reply : FetchReplyV5) (b : Bool) → b ≡ true → (true, old ++ reply_written starts reply) ≡ looked starts old (if b then Some reply else None)
+when_done : (starts : Bool) (old : List ℕ) (reply : FetchReplyV5) (b : Bool) → b ≡ true → (true, old ++ reply_written starts reply) ≡ look_written starts old (if b then Some reply else None)
 when_done starts old reply true is = refl
 when_done starts old reply false is = absurd cc
 
-when_not : (starts : Bool) (old : List ℕ) (reply : FetchReplyV5) (b : Bool) → b ≡ false → (false, old) ≡ looked starts old (if b then Some reply else None)
+when_not : (starts : Bool) (old : List ℕ) (reply : FetchReplyV5) (b : Bool) → b ≡ false → (false, old) ≡ look_written starts old (if b then Some reply else None)
 when_not starts old reply true is = absurd cc
 when_not starts old reply false is = refl
 
 pub looked_done : (starts : Bool) (w v : World) (r : FetchRequest) (given : Given) (clock deadline : ℕ) (ready : Bool) (old new : List ℕ) → ready ≡ has_enough given clock deadline → ready ≡ true → clock ≡ v.clock → v ≡ w
-    → (given ≡ (fetched w r).0) × (new ≡ old ++ reply_written starts (fetched w r).1) → (true, new) ≡ looked starts old (fetch_answer w r deadline)
+    → (given ≡ (fetched w r).0) × (new ≡ old ++ reply_written starts (fetched w r).1) → (true, new) ≡ look_written starts old (fetch_answer w r deadline)
 looked_done starts w v r given clock deadline ready old new is over at stays told =
     ap (λ s. (true, s)) told.1 ∙ when_done starts old (fetched w r).1 (is_ready w r (fetched w r).1 deadline) (done_is w v r given clock deadline ready is at stays told.0 ∙ over)
 
 pub looked_not : (starts : Bool) (w v : World) (r : FetchRequest) (given : Given) (clock deadline : ℕ) (ready : Bool) (old mid new : List ℕ) (n : ℕ) → ready ≡ has_enough given clock deadline → ready ≡ false → clock ≡ v.clock → v ≡ w
-    → (given ≡ (fetched w r).0) × (mid ≡ old ++ reply_written starts (fetched w r).1) → n ≡ length old → new ≡ take n mid → (false, new) ≡ looked starts old (fetch_answer w r deadline)
+    → (given ≡ (fetched w r).0) × (mid ≡ old ++ reply_written starts (fetched w r).1) → n ≡ length old → new ≡ take n mid → (false, new) ≡ look_written starts old (fetch_answer w r deadline)
 looked_not starts w v r given clock deadline ready old mid new n is early at stays told len back =
     ap (λ s. (false, s)) (back ∙ cut_back old (reply_written starts (fetched w r).1) mid n told.1 len) ∙ when_not starts old (fetched w r).1 (is_ready w r (fetched w r).1 deadline) (done_is w v r given clock deadline ready is at stays told.0 ∙ early)

@@ -17,7 +17,7 @@ use Rattle.kb_tenant.specs.CreateTopics.{made_of}
 use Rattle.kb_tenant.specs.Fetch.{fetch_answer, places_of}
 use Rattle.kb_tenant.specs.InitProducerId.{id_given, id_refused, init_producer_id}
 use Rattle.kb_tenant.specs.OffsetCommit.{committed_all, refusal_of}
-use Rattle.kb_tenant.specs.Serve.{Outcome, served}
+use Rattle.kb_tenant.specs.Serve.{Outcome, plainly_served}
 use Rattle.kb_tenant.specs.Waiting.{AreApart, StillWaits}
 use Rattle.kb_tenant.specs.declared.node.Node.{Node}
 use Rattle.kb_tenant.proofs.ByRequest.{by_request, of_creations}
@@ -70,7 +70,7 @@ init_topics w r = given_topics w r.transactional_id
 abbrev Leaves : World → Outcome → Type 0
 Leaves w o = Moves [] o.touched w o.world
 
-pub serve_leaves : (node : Node) (w : World) (n : ℕ) (key version : ℤ) (body : List ℕ) → Leaves w (served node w n key version body)
+pub serve_leaves : (node : Node) (w : World) (n : ℕ) (key version : ℤ) (body : List ℕ) → Leaves w (plainly_served node w n key version body)
 serve_leaves node w n key version body = by_request (Leaves w) node w n key version body (record {
   produce = λ r read. produce_moves w r;
   fetch = λ r read. stays_same w [];
@@ -93,14 +93,14 @@ pub nowhere : (place : Place) → Contains [] place → ⊥
 nowhere place c = omega (arith, c.1)
 
 -- a request keeps a world tied
-pub served_tied : (node : Node) (w : World) (n : ℕ) (key version : ℤ) (body : List ℕ) → IsTied w → IsTied (served node w n key version body).world
+pub served_tied : (node : Node) (w : World) (n : ℕ) (key version : ℤ) (body : List ℕ) → IsTied w → IsTied (plainly_served node w n key version body).world
 served_tied node w n key version body = (serve_leaves node w n key version body).tied
 
 -- a fetch waits on through a request that touches none of its places
 pub served_waits : (node : Node) (w : World) (n : ℕ) (key version : ℤ) (body : List ℕ) (r : FetchRequest) (deadline : ℕ) → IsTied w → fetch_answer w r deadline ≡ None
-    → AreApart (places_of w r) (served node w n key version body).touched → StillWaits w (served node w n key version body).world r deadline
+    → AreApart (places_of w r) (plainly_served node w n key version body).touched → StillWaits w (plainly_served node w n key version body).world r deadline
 served_waits node w n key version body r deadline tied waits none =
-    let o = served node w n key version body in
+    let o = plainly_served node w n key version body in
     waits_through o.touched w o.world (serve_leaves node w n key version body) tied r deadline waits none
 
 -- it waits on through each commit

@@ -46,9 +46,9 @@ use Rattle.kb_tenant.specs.CreateTopics.{created_all, created_topic, made_of, ma
 use Rattle.kb_tenant.specs.DeleteRecords.{deleted as records_deleted, deleted_all as all_records_deleted, deleted_in, deleted_topic as topic_records_deleted}
 use Rattle.kb_tenant.specs.DeleteTopics.{deleted_all, deleted_topic}
 use Rattle.kb_tenant.specs.InitProducerId.{id_given, id_refused, init_producer_id}
-use Rattle.kb_tenant.specs.Produce.{Progress, appended_at, decided, known_place, offered_unless, produced, progress, read_unless, refusal_of, served, served_topic, tried, verdict_on}
+use Rattle.kb_tenant.specs.Produce.{Progress, appended_at, decided, known_place, offered_unless, produced, progress, read_unless, refusal_of, entry_served, served_topic, tried, verdict_on}
 use Rattle.kb_tenant.specs.OffsetCommit.{committed_all, refusal_of as commit_refusal}
-use Rattle.kb_tenant.specs.Serve.{Outcome, served as served_by_key}
+use Rattle.kb_tenant.specs.Serve.{Outcome, plainly_served as served_by_key}
 use Rattle.kb_tenant.specs.Turns.{in_turn}
 use Rattle.kb_tenant.specs.declared.node.Node.{Node}
 use Rattle.kb_tenant.proofs.ByRequest.{by_request, of_creations}
@@ -240,14 +240,14 @@ tried_keeps p (Some place) (Some bytes) all = by (first_fault bytes) refl
     by None e = decided_keeps p place bytes (accepted_is bytes e) (verdict_on p.world place bytes) all
     by (Some f) e = all
 
-entry_keeps : (refusal : Option ℤ) (topic : Option ℕ) (p : Progress) (e : ProducePartition) → Keeps p.world (served refusal topic p e).0.world
+entry_keeps : (refusal : Option ℤ) (topic : Option ℕ) (p : Progress) (e : ProducePartition) → Keeps p.world (entry_served refusal topic p e).0.world
 entry_keeps (Some code) topic p e all = all
 entry_keeps None topic p e all = tried_keeps p (known_place p.world (place_in topic e.index)) e.records all
 
 topic_keeps : (refusal : Option ℤ) (p : Progress) (t : ProduceTopic) → Keeps p.world (served_topic refusal p t).0.world
 topic_keeps refusal p t =
     let topic = named t.name p.world.known.topics in
-    turns_keep (λ (s : Progress). s.world) (served refusal topic) (entry_keeps refusal topic) p t.partitions
+    turns_keep (λ (s : Progress). s.world) (entry_served refusal topic) (entry_keeps refusal topic) p t.partitions
 
 produce_keeps : (w : World) (r : ProduceRequest) → Keeps w (produced w [] r).0.world
 produce_keeps w r =

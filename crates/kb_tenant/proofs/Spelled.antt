@@ -29,7 +29,7 @@ use Rattle.kb_world.specs.Calls.{fetched_from}
 use Rattle.kb_world.specs.World.{World, log_in, place_in}
 use Rattle.kb_world.specs.declared.place.Place.{Place}
 use Rattle.kb_tenant.specs.Batches.{HasSmallLogs, IsSmall, Spells}
-use Rattle.kb_tenant.specs.Fetch.{answered, answered_at, answered_by, answered_topic, begun, fetched, front_of, limit_of, read_as, refusal_of}
+use Rattle.kb_tenant.specs.Fetch.{fetch_answered, answered_at, answered_by, answered_topic, begun, fetched, front_of, limit_of, read_as, refusal_of}
 use Rattle.kb_tenant.specs.Fetch.{reply_written, topic_without_starts, without_start, without_starts}
 use Rattle.kb_tenant.specs.Turns.{in_turn}
 use Rattle.kb_tenant.specs.declared.fetch.given.Given.{Given}
@@ -134,7 +134,7 @@ limit_small : (z : ℤ) (n : ℕ) → FitsSigned w32 z → n ≤ natural z → n
 limit_small (pos m) n fits le = let lt : m < 2 ^ 31 = fits.sfits in omega (arith, le, lt)
 limit_small (negsuc m) n fits le = omega (arith, le)
 
-partition_told : (w : World) → HasSmallLogs w → (topic : Option ℕ) (g : Given) (asked : FetchPartition) → fetch_partition.InRange asked → IsTold (answered w topic g asked).1
+partition_told : (w : World) → HasSmallLogs w → (topic : Option ℕ) (g : Given) (asked : FetchPartition) → fetch_partition.InRange asked → IsTold (fetch_answered w topic g asked).1
 unfolding fetch_partition int
 partition_told w small topic g asked range =
     by-place w small topic g asked range.0 (limit_small asked.partition_max_bytes (limit_of g asked) range.1.1 (omega arith)) (place_in topic asked.partition)
@@ -161,7 +161,7 @@ topic_told : (w : World) → HasSmallLogs w → (g : Given) (asked : FetchTopic)
 unfolding fetch_topic fetch_topic_reply fetch_topic_reply_v5 sized items
 topic_told w small g asked is =
     let topic = named asked.topic w.known.topics in
-    let f = answered w topic in
+    let f = fetch_answered w topic in
     let replies : List FetchPartitionReplyV5 = (in_turn f g asked.partitions).1 in
     let many : length replies ≡ length asked.partitions = as_many f g asked.partitions in
     let plain_many : length (map without_start replies) ≡ length asked.partitions = length-map replies without_start ∙ many in

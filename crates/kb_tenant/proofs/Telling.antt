@@ -7,7 +7,7 @@ use Rattle.kb_world.specs.Parts.{Seen}
 use Rattle.kb_world.specs.Told.{IsDone, Tells}
 use Rattle.kb_world.specs.World.{place_in}
 use Rattle.kb_world.specs.declared.place.Place.{Place}
-use Rattle.kb_tenant.specs.Produce.{Progress, answer, answered, batch_in, known_place, served, tried}
+use Rattle.kb_tenant.specs.Produce.{Progress, answer, produce_answered, batch_in, known_place, entry_served, tried}
 use Rattle.kb_tenant.specs.Told.{IsAppendWant, IsTold}
 
 pub done_so : (a b : Scene Seen) (P Q : Type 0) → (P → Q) → IsDone a b P → IsDone a b Q
@@ -25,20 +25,20 @@ tried_nothing p at place records code there read = rw (there, read) refl
 -- the reply for what was tried
 pub answer_told : (a b : Scene Seen) (old new : List Place) (q : Progress) (index : ℤ) (r : Result ℤ ℤ) (x : Progress × Result ℤ ℤ)
     → Tells a b ((q, r) ≡ x) (IsAppendWant a b old new) r
-    → IsTold a b ((q, answer index r) ≡ answered index x) (IsAppendWant a b old new (answer index r).error_code × (answer index r ≡ answer index (Err (answer index r).error_code)))
-answer_told a b old new q index (Ok base) x is = inl (done_so a b ((q, Ok base) ≡ x) ((q, answer index (Ok base)) ≡ answered index x) (λ e. ap (answered index) e) is)
+    → IsTold a b ((q, answer index r) ≡ produce_answered index x) (IsAppendWant a b old new (answer index r).error_code × (answer index r ≡ answer index (Err (answer index r).error_code)))
+answer_told a b old new q index (Ok base) x is = inl (done_so a b ((q, Ok base) ≡ x) ((q, answer index (Ok base)) ≡ produce_answered index x) (λ e. ap (produce_answered index) e) is)
 answer_told a b old new q index (Err code) x is =
     ⊎_elim
-    (λ own. inl (done_so a b ((q, Err code) ≡ x) ((q, answer index (Err code)) ≡ answered index x) (λ e. ap (answered index) e) own))
+    (λ own. inl (done_so a b ((q, Err code) ≡ x) ((q, answer index (Err code)) ≡ produce_answered index x) (λ e. ap (produce_answered index) e) own))
     (λ wanted. inr (record { want = (wanted.want, refl); counted = wanted.counted; stays = wanted.stays }))
     is
 
 -- the reply for an entry of a request that is not refused as a whole
 pub entry_told : (a b : Scene Seen) (old new : List Place) (p q : Progress) (refusal : Option ℤ) (topic : Option ℕ) (e : ProducePartition) (reply : ProducePartitionReply) (r : Result ℤ ℤ)
     → refusal ≡ None → reply ≡ answer e.index r → Tells a b ((q, r) ≡ tried p (known_place p.world (place_in topic e.index)) e.records) (IsAppendWant a b old new) r
-    → IsTold a b ((q, reply) ≡ served refusal topic p e) (IsAppendWant a b old new reply.error_code × (reply ≡ answer e.index (Err reply.error_code)))
+    → IsTold a b ((q, reply) ≡ entry_served refusal topic p e) (IsAppendWant a b old new reply.error_code × (reply ≡ answer e.index (Err reply.error_code)))
 entry_told a b old new p q refusal topic e reply r none is told =
     let x : Progress × Result ℤ ℤ = tried p (known_place p.world (place_in topic e.index)) e.records in
-    subst (λ (o : Option ℤ). IsTold a b ((q, reply) ≡ served o topic p e) (IsAppendWant a b old new reply.error_code × (reply ≡ answer e.index (Err reply.error_code)))) (sym none)
-    (subst (λ (z : ProducePartitionReply). IsTold a b ((q, z) ≡ answered e.index x) (IsAppendWant a b old new z.error_code × (z ≡ answer e.index (Err z.error_code)))) (sym is)
+    subst (λ (o : Option ℤ). IsTold a b ((q, reply) ≡ entry_served o topic p e) (IsAppendWant a b old new reply.error_code × (reply ≡ answer e.index (Err reply.error_code)))) (sym none)
+    (subst (λ (z : ProducePartitionReply). IsTold a b ((q, z) ≡ produce_answered e.index x) (IsAppendWant a b old new z.error_code × (z ≡ answer e.index (Err z.error_code)))) (sym is)
     (answer_told a b old new q e.index r x told))

@@ -16,9 +16,9 @@ use Rattle.kb_world.specs.declared.place.Place.{Place}
 use Rattle.kb_tenant.specs.Turns.{in_turn}
 
 -- A partition's answer has its start, or where it is refused -1.
-abbrev pub answered : ℤ → Result ℤ PartitionFault → DeleteRecordsPartitionReply
-answered p (Ok start) = record { partition = p; low_watermark = start; error_code = pos 0 }
-answered p (Err f) = record { partition = p; low_watermark = negsuc 0; error_code = code_of f }
+abbrev pub deletion_answered : ℤ → Result ℤ PartitionFault → DeleteRecordsPartitionReply
+deletion_answered p (Ok start) = record { partition = p; low_watermark = start; error_code = pos 0 }
+deletion_answered p (Err f) = record { partition = p; low_watermark = negsuc 0; error_code = code_of f }
 
 -- its place is told, unless it is refused
 abbrev pub told : List Place → Place → Result ℤ PartitionFault → List Place
@@ -34,7 +34,7 @@ deleted_in s (Some place) offset = deleted_at s place offset
 
 -- an entry of the topic of an instance
 abbrev pub deleted : Option ℕ → World × List Place → DeleteRecordsPartition → (World × List Place) × DeleteRecordsPartitionReply
-deleted topic s e = let r = deleted_in s (place_in topic e.partition) e.offset in (r.0, answered e.partition r.1)
+deleted topic s e = let r = deleted_in s (place_in topic e.partition) e.offset in (r.0, deletion_answered e.partition r.1)
 
 abbrev pub deleted_topic : World × List Place → DeleteRecordsTopic → (World × List Place) × DeleteRecordsTopicReply
 deleted_topic s t =

@@ -129,14 +129,14 @@ answered_at w g e (Some place) = answered_by g e.partition (bounds_of w place) (
 answered_at w g e None = refused g e.partition partition.Unknown
 
 -- an entry of a topic that has this instance, if it is there
-abbrev pub answered : World → Option ℕ → Given → FetchPartition → Given × FetchPartitionReplyV5
-answered w topic g e = answered_at w g e (place_in topic e.partition)
+abbrev pub fetch_answered : World → Option ℕ → Given → FetchPartition → Given × FetchPartitionReplyV5
+fetch_answered w topic g e = answered_at w g e (place_in topic e.partition)
 
 -- ---- all partitions
 
 abbrev pub answered_topic : World → Given → FetchTopic → Given × FetchTopicReplyV5
 answered_topic w g t =
-    let r = in_turn (answered w (named t.topic w.known.topics)) g t.partitions in
+    let r = in_turn (fetch_answered w (named t.topic w.known.topics)) g t.partitions in
     (r.0, record { topic = t.topic; partitions = r.1 })
 
 -- the partitions in order, each within what those before it left
@@ -244,6 +244,6 @@ IsServed starts w r None old (fetching.Wait deadline keys) new =
     (deadline ≡ deadline_of w r) × (keys.items ≡ places_of w r) × (new ≡ old)
 
 -- The reply was written, or the fetch still waits, and nothing was written.
-abbrev pub looked : Bool → List ℕ → Option FetchReplyV5 → Bool × List ℕ
-looked starts old (Some reply) = (true, old ++ reply_written starts reply)
-looked starts old None = (false, old)
+abbrev pub look_written : Bool → List ℕ → Option FetchReplyV5 → Bool × List ℕ
+look_written starts old (Some reply) = (true, old ++ reply_written starts reply)
+look_written starts old None = (false, old)

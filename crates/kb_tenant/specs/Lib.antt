@@ -12,6 +12,7 @@ pub mod OffsetFetch
 pub mod Produce
 pub mod Repeated
 pub mod Replies
+pub mod Room
 pub mod Serve
 pub mod Told
 pub mod Turns

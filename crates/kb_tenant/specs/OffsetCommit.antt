@@ -39,11 +39,11 @@ abbrev pub committed : Option ℤ → List ℕ → Option ℕ → World → Comm
 committed (Some code) group topic w e = (w, code)
 committed None group topic w e = committed_at w (place_in topic e.partition) group e
 
-abbrev pub answered : ℤ → World × ℤ → World × CommitPartitionReply
-answered partition r = (r.0, record { partition = partition; error_code = r.1 })
+abbrev pub commit_answered : ℤ → World × ℤ → World × CommitPartitionReply
+commit_answered partition r = (r.0, record { partition = partition; error_code = r.1 })
 
 abbrev pub committed_entry : Option ℤ → List ℕ → Option ℕ → World → CommitPartition → World × CommitPartitionReply
-committed_entry refusal group topic w e = answered e.partition (committed refusal group topic w e)
+committed_entry refusal group topic w e = commit_answered e.partition (committed refusal group topic w e)
 
 -- ---- all of them, in turn
 

@@ -12,13 +12,13 @@ use Rattle.kb_topics.specs.Known.{CommittedOffset, named}
 use Rattle.kb_world.specs.Calls.{committed}
 use Rattle.kb_world.specs.World.{World, place_in}
 
-abbrev pub answered : ℤ → ℤ → List ℕ → OffsetFetchPartitionReply
-answered partition offset metadata = record { partition = partition; offset = offset; metadata = Some metadata; error_code = code_of codes.None }
+abbrev pub committed_answered : ℤ → ℤ → List ℕ → OffsetFetchPartitionReply
+committed_answered partition offset metadata = record { partition = partition; offset = offset; metadata = Some metadata; error_code = code_of codes.None }
 
 -- a committed offset and what stands beside it; where nothing is committed, offset -1 and an empty text. Neither is an error.
 abbrev pub told : ℤ → Option CommittedOffset → OffsetFetchPartitionReply
-told partition (Some c) = answered partition c.offset c.metadata
-told partition None = answered partition (negsuc 0) []
+told partition (Some c) = committed_answered partition c.offset c.metadata
+told partition None = committed_answered partition (negsuc 0) []
 
 -- what a group committed to a partition of the topic of an instance; nothing, where there is no such topic or partition
 abbrev pub kept : World → List ℕ → Option ℕ → ℤ → Option CommittedOffset

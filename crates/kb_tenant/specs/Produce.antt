@@ -109,13 +109,13 @@ abbrev pub answer : ℤ → Result ℤ ℤ → ProducePartitionReply
 answer index (Ok base) = record { index = index; error_code = code_of error.None; base_offset = base; log_append_time_ms = negsuc 0 }
 answer index (Err code) = record { index = index; error_code = code; base_offset = negsuc 0; log_append_time_ms = negsuc 0 }
 
-abbrev pub answered : ℤ → Progress × Result ℤ ℤ → Progress × ProducePartitionReply
-answered index r = (r.0, answer index r.1)
+abbrev pub produce_answered : ℤ → Progress × Result ℤ ℤ → Progress × ProducePartitionReply
+produce_answered index r = (r.0, answer index r.1)
 
 -- An entry of a topic: its partition gets the batch, unless the whole request is refused.
-abbrev pub served : Option ℤ → Option ℕ → Progress → ProducePartition → Progress × ProducePartitionReply
-served (Some code) topic p e = (p, answer e.index (Err code))
-served None topic p e = answered e.index (tried p (known_place p.world (place_in topic e.index)) e.records)
+abbrev pub entry_served : Option ℤ → Option ℕ → Progress → ProducePartition → Progress × ProducePartitionReply
+entry_served (Some code) topic p e = (p, answer e.index (Err code))
+entry_served None topic p e = produce_answered e.index (tried p (known_place p.world (place_in topic e.index)) e.records)
 
 -- ---- all of them, in turn
 
@@ -123,7 +123,7 @@ abbrev pub answered_topic : List ℕ → Progress × List ProducePartitionReply 
 answered_topic name r = (r.0, record { name = name; partitions = r.1 })
 
 abbrev pub served_topic : Option ℤ → Progress → ProduceTopic → Progress × ProduceTopicReply
-served_topic refusal p t = answered_topic t.name (in_turn (served refusal (named t.name p.world.known.topics)) p t.partitions)
+served_topic refusal p t = answered_topic t.name (in_turn (entry_served refusal (named t.name p.world.known.topics)) p t.partitions)
 
 abbrev pub replied : Progress × List ProduceTopicReply → Progress × ProduceReply
 replied r = (r.0, record { topics = r.1; throttle_time_ms = pos 0 })

@@ -102,8 +102,8 @@ if_read w (Err fault) f = stays w Shuts
 
 -- a request on the connection of number n; 0 is Produce, 1 Fetch, 2 ListOffsets, 3 Metadata, 8 OffsetCommit, 9 OffsetFetch,
 -- 10 FindCoordinator, 19 CreateTopics, 20 DeleteTopics, 21 DeleteRecords, 22 InitProducerId
-unfoldable pub served : Node → World → ℕ → ℤ → ℤ → List ℕ → Outcome
-served node w n key version body =
+unfoldable pub plainly_served : Node → World → ℕ → ℤ → ℤ → List ℕ → Outcome
+plainly_served node w n key version body =
     if int_eq key (pos 0) then if_read w (whole produce_request body) (of_produce w)
     else if int_eq key (pos 1) then if_read w (asked_fetch version body) (of_fetch version w)
     else if int_eq key (pos 2) then if_read w (whole list_offsets_request body) (of_list_offsets w)

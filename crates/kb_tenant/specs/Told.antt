@@ -1,6 +1,6 @@
 -- What each entry of a request is answered, whatever memory and the store refuse: what is defined, or else a code that names
 -- what refused it.
-use Rattle.std.specs.Prelude.{◌≡◌, ◌⊎◌, ℕ, ℤ, pos, false, List, [], Option, Ok, Err, ⊤}
+use Rattle.std.specs.Prelude.{◌≡◌, ◌≤◌, ◌+◌, ◌^◌, ◌⊎◌, ℕ, ℤ, pos, false, List, [], Option, Ok, Err, ⊤}
 use Rattle.kb_wire.specs.Codec.{whole}
 use Rattle.kb_api_data.specs.Layouts.{delete_topics_request, init_producer_id_reply, init_producer_id_request, produce_reply, produce_request}
 use Rattle.kb_api_data.specs.declared.create_topics.CreateTopic.{CreateTopic}
@@ -25,6 +25,7 @@ use Rattle.kb_api_group.specs.declared.offset_commit.CommitPartition.{CommitPart
 use Rattle.kb_api_group.specs.declared.offset_commit.CommitPartitionReply.{CommitPartitionReply}
 use Rattle.kb_api_group.specs.declared.offset_commit.CommitTopic.{CommitTopic}
 use Rattle.kb_api_group.specs.declared.offset_commit.CommitTopicReply.{CommitTopicReply}
+use Rattle.kb_store.specs.Disk.{Grew}
 use Rattle.kb_partitions.specs.Scene.{Scene}
 use Rattle.kb_world.specs.Parts.{Seen}
 use Rattle.kb_topics.specs.CatalogFault.{code_of as fault_code}
@@ -37,8 +38,9 @@ use Rattle.kb_tenant.specs.CreateTopics.{asked_creations, created_topic, creatio
 use Rattle.kb_tenant.specs.DeleteTopics.{deleted_topic, deletions_in}
 use Rattle.kb_tenant.specs.InitProducerId.{id_refused, init_producer_id}
 use Rattle.kb_tenant.specs.OffsetCommit.{committed_entry, refusal_of as commit_refusal}
-use Rattle.kb_tenant.specs.Produce.{Progress, answer, progress, refusal_of, served}
+use Rattle.kb_tenant.specs.Produce.{Progress, answer, progress, refusal_of, entry_served}
 use Rattle.kb_tenant.specs.Replies.{framed}
+use Rattle.kb_tenant.specs.Room.{reply_length}
 use Rattle.kb_tenant.specs.Turns.{AreServed}
 use Rattle.kb_tenant.specs.declared.answer.Answer.{Answer}
 use Rattle.kb_tenant.specs.declared.answer.Answer.TheVariants as answers
@@ -97,32 +99,47 @@ IsCommitTopicTold refusal group w t v x = (x.name ≡ t.name) × AreServed (IsCo
 
 -- ---- Produce
 
--- An entry is refused since the store failed, or for want of memory.
-abbrev pub IsWanting : ProducePartition → ProducePartitionReply → Type 0
-IsWanting e x = (x ≡ answer e.index (Err (code_of codes.KafkaStorageError))) ⊎ (x ≡ answer e.index (Err (code_of codes.UnknownServerError)))
+-- The store's failures grew from one count to another, or that next file number is past the last.
+abbrev pub FailedBy : ℕ → ℕ → ℕ → Type 0
+FailedBy before now next = Grew before now ⊎ (2 ^ 64 ≤ next)
+
+-- they grew from one moment to another, or no file number is left then
+abbrev pub HasFailed : Scene Seen → Scene Seen → Type 0
+HasFailed a b = FailedBy a.disk.failures b.disk.failures b.next
+
+-- An entry is refused since the store failed, which it did, or for want of memory.
+abbrev pub IsWanting : Type 0 → ProducePartition → ProducePartitionReply → Type 0
+IsWanting failed e x = ((x ≡ answer e.index (Err (code_of codes.KafkaStorageError))) × failed) ⊎ (x ≡ answer e.index (Err (code_of codes.UnknownServerError)))
 
 -- An entry does what is defined, on what those before it left; or it is refused for such a want, and changes nothing.
-abbrev pub IsEntryTold : Option ℤ → Option ℕ → Progress → ProducePartition → Progress → ProducePartitionReply → Type 0
-IsEntryTold refusal topic p e q x = ((q, x) ≡ served refusal topic p e) ⊎ ((q ≡ p) × IsWanting e x)
+abbrev pub IsEntryTold : Type 0 → Option ℤ → Option ℕ → Progress → ProducePartition → Progress → ProducePartitionReply → Type 0
+IsEntryTold failed refusal topic p e q x = ((q, x) ≡ entry_served refusal topic p e) ⊎ ((q ≡ p) × IsWanting failed e x)
 
-abbrev pub IsTopicTold : Option ℤ → Progress → ProduceTopic → Progress → ProduceTopicReply → Type 0
-IsTopicTold refusal p t q x = (x.name ≡ t.name) × AreServed (IsEntryTold refusal (named t.name p.world.known.topics)) p t.partitions q x.partitions
+abbrev pub IsTopicTold : Type 0 → Option ℤ → Progress → ProduceTopic → Progress → ProduceTopicReply → Type 0
+IsTopicTold failed refusal p t q x = (x.name ≡ t.name) × AreServed (IsEntryTold failed refusal (named t.name p.world.known.topics)) p t.partitions q x.partitions
 
 -- A produce, whose entries are so told one after another, comes to that reply.
-abbrev pub IsProduceTold : Progress → ProduceRequest → Progress → ProduceReply → Type 0
-IsProduceTold p r q reply = AreServed (IsTopicTold (refusal_of r.transactional_id r.acks)) p r.topics q reply.topics × (reply.throttle_time_ms ≡ pos 0)
+abbrev pub IsProduceTold : Type 0 → Progress → ProduceRequest → Progress → ProduceReply → Type 0
+IsProduceTold failed p r q reply = AreServed (IsTopicTold failed (refusal_of r.transactional_id r.acks)) p r.topics q reply.topics × (reply.throttle_time_ms ≡ pos 0)
 
 -- Its answer is that reply's bytes, or none where none is due.
-abbrev pub IsAcknowledged : ℤ → World → ProduceRequest → World → List Place → Answer → Type 0
-IsAcknowledged id w r v touched (answers.Reply bytes) =
-    (reply : ProduceReply) × ((bytes.items ≡ framed id (produce_reply.written reply)) × IsProduceTold (progress w []) r (progress v touched) reply)
-IsAcknowledged id w r v touched (answers.Wait deadline keys) = ⊥
-IsAcknowledged id w r v touched answers.NoReply = (reply : ProduceReply) × IsProduceTold (progress w []) r (progress v touched) reply
-IsAcknowledged id w r v touched answers.Shut = ⊤
+abbrev pub IsAcknowledged : Type 0 → ℤ → World → ProduceRequest → World → List Place → Answer → Type 0
+IsAcknowledged failed id w r v touched (answers.Reply bytes) =
+    (reply : ProduceReply) × ((bytes.items ≡ framed id (produce_reply.written reply)) × IsProduceTold failed (progress w []) r (progress v touched) reply)
+IsAcknowledged failed id w r v touched (answers.Wait deadline keys) = ⊥
+IsAcknowledged failed id w r v touched answers.NoReply = (reply : ProduceReply) × IsProduceTold failed (progress w []) r (progress v touched) reply
+IsAcknowledged failed id w r v touched answers.Shut = ⊤
 
 -- The same of a body, where it is a request of Produce.
-abbrev pub Acknowledges : ℤ → World → List ℕ → World → List Place → Answer → Type 0
-Acknowledges id w body v touched a = (r : ProduceRequest) → whole produce_request body ≡ Ok r → IsAcknowledged id w r v touched a
+abbrev pub Acknowledges : Type 0 → ℤ → World → List ℕ → World → List Place → Answer → Type 0
+Acknowledges failed id w body v touched a = (r : ProduceRequest) → whole produce_request body ≡ Ok r → IsAcknowledged failed id w r v touched a
+
+-- A produce after which the connection is shut has changed nothing, unless its reply is too long for the INT32 of its size.
+abbrev pub IsSpared : World → List ℕ → World → Answer → Type 0
+IsSpared w body v (answers.Reply bytes) = ⊤
+IsSpared w body v (answers.Wait deadline keys) = ⊤
+IsSpared w body v answers.NoReply = ⊤
+IsSpared w body v answers.Shut = (v ≡ w) ⊎ ((r : ProduceRequest) × ((whole produce_request body ≡ Ok r) × (2 ^ 31 ≤ 4 + reply_length r)))
 
 -- ---- replies
 

@@ -1,7 +1,7 @@
 //! DeleteRecords, version 0 (Kafka protocol guide): the starts of partitions move, one after another.
 ghost use Rattle.std.specs.Prelude.{◌≡◌, ◌++◌, ℕ, List, length, take, OnOk};
 ghost use Rattle.kb_api_data.specs.Layouts.{delete_records_partition_reply, delete_records_reply, delete_records_request, delete_records_topic, delete_records_topic_reply};
-ghost use Rattle.kb_tenant.specs.DeleteRecords.{answered as answered_with, deleted, deleted_all, deleted_at, deleted_topic, told};
+ghost use Rattle.kb_tenant.specs.DeleteRecords.{deletion_answered as answered_with, deleted, deleted_all, deleted_at, deleted_topic, told};
 ghost use Rattle.kb_tenant.specs.Turns.{in_turn, written_behind};
 ghost use Rattle.kb_world.specs.Parts.{meta, scene};
 ghost use Rattle.kb_world.specs.Steps.{IsStep, Meets};

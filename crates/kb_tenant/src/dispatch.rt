@@ -10,8 +10,8 @@ ghost use Rattle.kb_tenant.specs.CreateTopics.{asked_creations};
 ghost use Rattle.kb_tenant.specs.Fetch.{asked_fetch};
 ghost use Rattle.kb_tenant.specs.Metadata.{asked_metadata};
 ghost use Rattle.kb_tenant.specs.Replies.{IsAnswer};
-ghost use Rattle.kb_tenant.specs.Told.{Acknowledges, AcknowledgesCommits, AcknowledgesCreations, AcknowledgesIssue, AcknowledgesRemovals};
-ghost use Rattle.kb_tenant.specs.Serve.{if_read, of_produce, of_fetch, of_list_offsets, of_metadata, of_create_topics, of_delete_records, of_delete_topics, of_init_producer_id, served, looked, stays, IsOutcome, IsServed};
+ghost use Rattle.kb_tenant.specs.Told.{HasFailed, Acknowledges, AcknowledgesCommits, AcknowledgesCreations, AcknowledgesIssue, AcknowledgesRemovals, IsSpared};
+ghost use Rattle.kb_tenant.specs.Serve.{if_read, of_produce, of_fetch, of_list_offsets, of_metadata, of_create_topics, of_delete_records, of_delete_topics, of_init_producer_id, plainly_served, looked, stays, IsOutcome, IsServed};
 
 use crate::answer::{Answer, begin, finish};
 use crate::create_topics::{check_topics, create_topics, read_create_topics};
@@ -59,7 +59,11 @@ fn serve_produce<L: PartitionLog + Drop, S: Store>(
     ensures meets { let a = scene L.log S.disk parts.old shelf.old in let b = scene L.log S.disk parts.new shelf.new in
         Meets a b (IsServed request.now.correlation_id (if_read a.state.world (whole produce_request request.now.body.now) (of_produce a.state.world)) b.state.world touched.new.items result) }
     ensures acknowledged { let a = scene L.log S.disk parts.old shelf.old in let b = scene L.log S.disk parts.new shelf.new in
-        IfOk result (λ answer. WhereHonest a b (Acknowledges request.now.correlation_id a.state.world request.now.body.now b.state.world touched.new.items answer)) }
+        IfOk result (λ answer. WhereHonest a b (Acknowledges (HasFailed a b) request.now.correlation_id a.state.world request.now.body.now b.state.world touched.new.items answer)) }
+    ensures spared { let a = scene L.log S.disk parts.old shelf.old in let b = scene L.log S.disk parts.new shelf.new in
+        OnErr result (b.state.world ≡ a.state.world) }
+    ensures shut { let a = scene L.log S.disk parts.old shelf.old in let b = scene L.log S.disk parts.new shelf.new in
+        IfOk result (λ answer. IsSpared a.state.world request.now.body.now b.state.world answer) }
 {
     let asked = ProduceRequest::read(alloc, request.body)?;
     let mut sink = begin(alloc, request.correlation_id)?;
@@ -221,7 +225,7 @@ fn serve_init_producer_id<L: PartitionLog + Drop, S: Store>(
 }
 
 /// Serves a request by its key. A key that is not a tenant's shuts the connection.
-#[tactic(auto, unfolding(crate::specs::Serve::served))]
+#[tactic(auto, unfolding(crate::specs::Serve::plainly_served))]
 fn serve_by_key<L: PartitionLog + Drop, S: Store>(
     alloc: Global,
     parts: &mut Parts<L>,
@@ -235,9 +239,13 @@ fn serve_by_key<L: PartitionLog + Drop, S: Store>(
     requires sound { (scene L.log S.disk parts.old shelf.old).sound }
     ensures step { IsStep (scene L.log S.disk parts.old shelf.old) (scene L.log S.disk parts.new shelf.new) }
     ensures meets { let a = scene L.log S.disk parts.old shelf.old in let b = scene L.log S.disk parts.new shelf.new in
-        Meets a b (IsServed request.now.correlation_id (served node.now a.state.world request.now.connection request.now.api_key request.now.api_version request.now.body.now) b.state.world touched.new.items result) }
+        Meets a b (IsServed request.now.correlation_id (plainly_served node.now a.state.world request.now.connection request.now.api_key request.now.api_version request.now.body.now) b.state.world touched.new.items result) }
     ensures acknowledged { let a = scene L.log S.disk parts.old shelf.old in let b = scene L.log S.disk parts.new shelf.new in
-        request.now.api_key ≡ pos 0 → IfOk result (λ answer. WhereHonest a b (Acknowledges request.now.correlation_id a.state.world request.now.body.now b.state.world touched.new.items answer)) }
+        request.now.api_key ≡ pos 0 → IfOk result (λ answer. WhereHonest a b (Acknowledges (HasFailed a b) request.now.correlation_id a.state.world request.now.body.now b.state.world touched.new.items answer)) }
+    ensures spared { let a = scene L.log S.disk parts.old shelf.old in let b = scene L.log S.disk parts.new shelf.new in
+        request.now.api_key ≡ pos 0 → OnErr result (b.state.world ≡ a.state.world) }
+    ensures shut { let a = scene L.log S.disk parts.old shelf.old in let b = scene L.log S.disk parts.new shelf.new in
+        request.now.api_key ≡ pos 0 → IfOk result (λ answer. IsSpared a.state.world request.now.body.now b.state.world answer) }
     ensures created { let a = scene L.log S.disk parts.old shelf.old in let b = scene L.log S.disk parts.new shelf.new in
         request.now.api_key ≡ pos 19 → IfOk result (λ answer. WhereHonest a b (AcknowledgesCreations request.now.correlation_id request.now.api_version a.state.world request.now.body.now b.state.world answer)) }
     ensures removed { let a = scene L.log S.disk parts.old shelf.old in let b = scene L.log S.disk parts.new shelf.new in
@@ -267,7 +275,7 @@ fn serve_by_key<L: PartitionLog + Drop, S: Store>(
 ///
 /// A body that is not the API's, a key that is not a tenant's and a reply whose size does not fit an INT32 shut the
 /// connection. So does want of memory for the read request, the reply or the wait, which is counted; changes that were made
-/// stay. The host is to fit a STRING.
+/// stay. A Produce makes none before it has the memory for its whole reply. The host is to fit a STRING.
 pub fn serve<L: PartitionLog + Drop, S: Store>(
     alloc: Global,
     parts: &mut Parts<L>,
@@ -279,10 +287,13 @@ pub fn serve<L: PartitionLog + Drop, S: Store>(
     requires sound { (scene L.log S.disk parts.old shelf.old).sound }
     ensures step { IsStep (scene L.log S.disk parts.old shelf.old) (scene L.log S.disk parts.new shelf.new) }
     ensures meets { let a = scene L.log S.disk parts.old shelf.old in let b = scene L.log S.disk parts.new shelf.new in
-        Meets a b (IsOutcome request.now.correlation_id (served node.now a.state.world request.now.connection request.now.api_key request.now.api_version request.now.body.now) b.state.world result.touched.items result.answer) }
+        Meets a b (IsOutcome request.now.correlation_id (plainly_served node.now a.state.world request.now.connection request.now.api_key request.now.api_version request.now.body.now) b.state.world result.touched.items result.answer) }
     // A batch of a Produce that is answered with no error is in its partition's log, whatever else was refused.
     ensures acknowledged { let a = scene L.log S.disk parts.old shelf.old in let b = scene L.log S.disk parts.new shelf.new in
-        request.now.api_key ≡ pos 0 → WhereHonest a b (Acknowledges request.now.correlation_id a.state.world request.now.body.now b.state.world result.touched.items result.answer) }
+        request.now.api_key ≡ pos 0 → WhereHonest a b (Acknowledges (HasFailed a b) request.now.correlation_id a.state.world request.now.body.now b.state.world result.touched.items result.answer) }
+    // A Produce whose connection is shut for want of memory has appended nothing.
+    ensures spared { let a = scene L.log S.disk parts.old shelf.old in let b = scene L.log S.disk parts.new shelf.new in
+        request.now.api_key ≡ pos 0 → IsSpared a.state.world request.now.body.now b.state.world result.answer }
     // A topic of a CreateTopics that is answered with no error is in the catalog, whatever else was refused.
     ensures created { let a = scene L.log S.disk parts.old shelf.old in let b = scene L.log S.disk parts.new shelf.new in
         request.now.api_key ≡ pos 19 → WhereHonest a b (AcknowledgesCreations request.now.correlation_id request.now.api_version a.state.world request.now.body.now b.state.world result.answer) }

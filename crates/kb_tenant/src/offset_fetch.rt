@@ -4,7 +4,7 @@ ghost use Rattle.std.specs.List.{flat_map};
 ghost use Rattle.std.specs.Option.{option_copied};
 ghost use Rattle.kb_store.specs.Disk.{Files};
 ghost use Rattle.kb_api_group.specs.Layouts.{offset_fetch_topic, offset_fetch_request, offset_fetch_partition_reply, offset_fetch_topic_reply, offset_fetch_reply};
-ghost use Rattle.kb_tenant.specs.OffsetFetch.{answered, told, kept, fetched, fetched_topic, fetched_all};
+ghost use Rattle.kb_tenant.specs.OffsetFetch.{committed_answered, told, kept, fetched, fetched_topic, fetched_all};
 ghost use Rattle.kb_world.specs.Parts.{world_of};
 
 use kb_api_group::{ErrorCode, OffsetFetchPartitionReply, OffsetFetchRequest, OffsetFetchTopic};
@@ -34,7 +34,7 @@ fn put_answer(
     metadata: &str,
     sink: &mut Sink,
 ) -> Result<(), AllocError>
-    ensures { OnOk result (sink.new.bytes ≡ sink.old.bytes ++ offset_fetch_partition_reply.written (answered partition offset metadata.now)) }
+    ensures { OnOk result (sink.new.bytes ≡ sink.old.bytes ++ offset_fetch_partition_reply.written (committed_answered partition offset metadata.now)) }
 {
     if metadata.len() > i16::MAX as usize {
         return Err(AllocError);

@@ -1,5 +1,5 @@
 //! Produce (Kafka protocol guide, "The Messages: Produce").
-ghost use Rattle.std.specs.Prelude.{◌≡◌, ◌++◌, List, OnOk};
+ghost use Rattle.std.specs.Prelude.{◌≡◌, ◌≤◌, ◌++◌, ℕ, List, OnErr, OnOk};
 ghost use Rattle.std.specs.List.{flat_map};
 ghost use Rattle.kb_api_data.specs.declared.produce.ProducePartitionReply.{ProducePartitionReply};
 ghost use Rattle.kb_api_data.specs.declared.produce.ProduceReply.{ProduceReply};
@@ -7,17 +7,20 @@ ghost use Rattle.kb_api_data.specs.declared.produce.ProduceTopicReply.{ProduceTo
 ghost use Rattle.kb_partitions.specs.Scene.{WhereHonest};
 ghost use Rattle.kb_api_data.specs.Layouts.{produce_request, produce_topic, produce_partition_reply, produce_topic_reply};
 ghost use Rattle.kb_world.specs.Parts.{scene};
-ghost use Rattle.kb_tenant.specs.Produce.{progress, refusal_of as refusal_for, is_due, served, served_topic, produced, where_due, written_next, reply_bytes};
+ghost use Rattle.kb_tenant.specs.Produce.{progress, refusal_of as refusal_for, is_due, entry_served, served_topic, produced, where_due, written_next, reply_bytes};
 ghost use Rattle.kb_world.specs.Steps.{IsStep, Meets};
-ghost use Rattle.kb_tenant.specs.Told.{IsEntryTold, IsProduceTold, IsTopicTold};
+ghost use Rattle.kb_tenant.specs.Room.{entries_length, length_due, reply_length, topic_length, IsLonger, IsPut};
+ghost use Rattle.kb_tenant.specs.Told.{FailedBy, HasFailed, IsEntryTold, IsProduceTold, IsTopicTold};
 ghost use Rattle.kb_tenant.specs.Turns.{in_turn, written_behind, AreServed};
 
 mod batch;
 mod entry;
 mod reply;
+mod room;
 
 use crate::produce::entry::serve_entry;
 use crate::produce::reply::{put, put_count, put_string};
+use crate::produce::room::make_room;
 use kb_api_data::{ProducePartition, ProduceRequest, ProduceTopic};
 use kb_api_group::ErrorCode;
 use kb_log::{PartitionLog, Shelf};
@@ -70,10 +73,11 @@ fn serve_entries<L: PartitionLog + Drop, S: Store>(
     requires sound { (scene L.log S.disk parts.old shelf.old).sound }
     ensures step { IsStep (scene L.log S.disk parts.old shelf.old) (scene L.log S.disk parts.new shelf.new) }
     ensures meets { OnOk result (let a = scene L.log S.disk parts.old shelf.old in let b = scene L.log S.disk parts.new shelf.new in
-        Meets a b ((progress b.state.world touched.new.items, sink.new.bytes) ≡ written_behind (λ x. where_due terms.due (produce_partition_reply.written x)) sink.old.bytes (in_turn (served terms.refusal topic) (progress a.state.world touched.old.items) entries.now))) }
+        Meets a b ((progress b.state.world touched.new.items, sink.new.bytes) ≡ written_behind (λ x. where_due terms.due (produce_partition_reply.written x)) sink.old.bytes (in_turn (entry_served terms.refusal topic) (progress a.state.world touched.old.items) entries.now))) }
     ensures told { OnOk result (let a = scene L.log S.disk parts.old shelf.old in let b = scene L.log S.disk parts.new shelf.new in
-        WhereHonest a b ((replies : List ProducePartitionReply) × ((sink.new.bytes ≡ sink.old.bytes ++ flat_map (λ x. where_due terms.due (produce_partition_reply.written x)) replies)
-        × AreServed (IsEntryTold terms.refusal topic) (progress a.state.world touched.old.items) entries.now (progress b.state.world touched.new.items) replies))) }
+        (before now next : ℕ) → before ≤ a.disk.failures → b.disk.failures ≤ now → b.next ≤ next → WhereHonest a b ((replies : List ProducePartitionReply) × ((sink.new.bytes ≡ sink.old.bytes ++ flat_map (λ x. where_due terms.due (produce_partition_reply.written x)) replies)
+        × AreServed (IsEntryTold (FailedBy before now next) terms.refusal topic) (progress a.state.world touched.old.items) entries.now (progress b.state.world touched.new.items) replies))) }
+    ensures put { IsPut (length_due terms.due (entries_length entries.now)) sink.old result sink.new }
 {
     for entry in entries {
         let reply = serve_entry(parts, shelf, terms.refusal, topic, entry, touched);
@@ -97,8 +101,9 @@ fn serve_topic<L: PartitionLog + Drop, S: Store>(
     ensures meets { OnOk result (let a = scene L.log S.disk parts.old shelf.old in let b = scene L.log S.disk parts.new shelf.new in
         Meets a b ((progress b.state.world touched.new.items, sink.new.bytes) ≡ written_next (λ x. where_due terms.due (produce_topic_reply.written x)) sink.old.bytes (served_topic terms.refusal (progress a.state.world touched.old.items) topic.now))) }
     ensures told { OnOk result (let a = scene L.log S.disk parts.old shelf.old in let b = scene L.log S.disk parts.new shelf.new in
-        WhereHonest a b ((reply : ProduceTopicReply) × ((sink.new.bytes ≡ sink.old.bytes ++ where_due terms.due (produce_topic_reply.written reply))
-        × IsTopicTold terms.refusal (progress a.state.world touched.old.items) topic.now (progress b.state.world touched.new.items) reply))) }
+        (before now next : ℕ) → before ≤ a.disk.failures → b.disk.failures ≤ now → b.next ≤ next → WhereHonest a b ((reply : ProduceTopicReply) × ((sink.new.bytes ≡ sink.old.bytes ++ where_due terms.due (produce_topic_reply.written reply))
+        × IsTopicTold (FailedBy before now next) terms.refusal (progress a.state.world touched.old.items) topic.now (progress b.state.world touched.new.items) reply))) }
+    ensures put { IsPut (length_due terms.due (topic_length topic.now)) sink.old result sink.new }
 {
     put_string(terms.due, topic.name.as_str(), sink)?;
     put_count(terms.due, topic.partitions.len(), sink)?;
@@ -117,7 +122,8 @@ fn serve_topic<L: PartitionLog + Drop, S: Store>(
 /// Serves a produce: each entry's batch is appended to its partition, or is refused, in the order of the request.
 ///
 /// The reply is written behind what is in the sink; with acks 0 there is none. The places where batches were appended are
-/// added to `touched`. An `Err` leaves what was served, and some front of the reply.
+/// added to `touched`. Room for the whole reply is made before the first append, so that no batch is kept whose answer is
+/// lost for want of memory: after an `Err` nothing was appended.
 pub(crate) fn produce<L: PartitionLog + Drop, S: Store>(
     parts: &mut Parts<L>,
     shelf: &mut Shelf<S>,
@@ -133,9 +139,14 @@ pub(crate) fn produce<L: PartitionLog + Drop, S: Store>(
         Meets a b ((b.state.world ≡ r.0.world) × (touched.new.items ≡ r.0.touched) × (sink.new.bytes ≡ sink.old.bytes ++ reply_bytes request.now.acks r.1))) }
     ensures told { OnOk result (let a = scene L.log S.disk parts.old shelf.old in let b = scene L.log S.disk parts.new shelf.new in
         WhereHonest a b ((reply : ProduceReply) × ((sink.new.bytes ≡ sink.old.bytes ++ reply_bytes request.now.acks reply)
-        × IsProduceTold (progress a.state.world touched.old.items) request.now (progress b.state.world touched.new.items) reply))) }
+        × IsProduceTold (HasFailed a b) (progress a.state.world touched.old.items) request.now (progress b.state.world touched.new.items) reply))) }
+    ensures longer { OnOk result (IsLonger (length_due (is_due request.now.acks) (reply_length request.now)) sink.old.bytes sink.new.bytes) }
+    // A produce that is refused has appended nothing.
+    ensures spared { let a = scene L.log S.disk parts.old shelf.old in let b = scene L.log S.disk parts.new shelf.new in
+        OnErr result (b.state.world ≡ a.state.world) }
 {
     let terms = terms_of(request);
+    make_room(terms.due, request, sink)?;
     put_count(terms.due, request.topics.len(), sink)?;
     for topic in request.topics.as_slice() {
         serve_topic(parts, shelf, terms, topic, touched, sink)?;

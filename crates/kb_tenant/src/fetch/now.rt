@@ -1,7 +1,7 @@
 //! A whole fetch, answered with what there is.
 ghost use Rattle.std.specs.Prelude.{◌≡◌, ◌++◌, IfOk, OnOk, All};
 ghost use Rattle.kb_api_data.specs.Layouts.{fetch_request, fetch_topic};
-ghost use Rattle.kb_tenant.specs.Fetch.{answered, answered_topic, fetched, partition_written, reply_written, topic_written};
+ghost use Rattle.kb_tenant.specs.Fetch.{fetch_answered, answered_topic, fetched, partition_written, reply_written, topic_written};
 ghost use Rattle.kb_world.specs.Parts.{scene};
 ghost use Rattle.kb_world.specs.Steps.{IsStep, Meets};
 ghost use Rattle.kb_tenant.specs.Turns.{in_turn, written_behind};
@@ -33,7 +33,7 @@ fn put_partitions<L: PartitionLog + Drop, S: Store>(
     ensures meets { let a = scene L.log S.disk parts.old shelf.old in
         OnOk result (Meets a (scene L.log S.disk parts.new shelf.new)
         ((given.new, sink.new.bytes) ≡ written_behind (partition_written has_starts) sink.old.bytes
-        (in_turn (answered a.state.world topic) given.old entries.now))) }
+        (in_turn (fetch_answered a.state.world topic) given.old entries.now))) }
 {
     for entry in entries {
         put_partition(alloc, parts, shelf, has_starts, topic, entry, given, sink)?;

@@ -2,7 +2,7 @@
 ghost use Rattle.std.specs.Prelude.{◌≡◌, ◌++◌, IfOk, OnOk};
 ghost use Rattle.kb_store.specs.Disk.{Files};
 ghost use Rattle.kb_api_data.specs.Layouts.{fetch_request};
-ghost use Rattle.kb_tenant.specs.Fetch.{deadline_of, fetch_answer, looked, places_in, places_of, IsServed};
+ghost use Rattle.kb_tenant.specs.Fetch.{deadline_of, fetch_answer, look_written, places_in, places_of, IsServed};
 ghost use Rattle.kb_world.specs.Parts.{scene, world_of};
 ghost use Rattle.kb_world.specs.Steps.{IsStep, Meets};
 
@@ -86,7 +86,7 @@ pub(crate) fn look<L: PartitionLog + Drop, S: Store>(
         b.disk.honest → a.agrees → b.state.world ≡ a.state.world }
     ensures meets { let a = scene L.log S.disk parts.old shelf.old in
         IfOk result (λ done. Meets a (scene L.log S.disk parts.new shelf.new)
-        ((done, sink.new.bytes) ≡ looked has_starts sink.old.bytes (fetch_answer a.state.world request.now deadline))) }
+        ((done, sink.new.bytes) ≡ look_written has_starts sink.old.bytes (fetch_answer a.state.world request.now deadline))) }
 {
     let before = sink.len();
     let given = fetch_now(alloc, parts, shelf, has_starts, request, sink)?;

@@ -1,8 +1,9 @@
 //! The parts of a reply that is written only where one is due.
-ghost use Rattle.std.specs.Prelude.{◌≡◌, ◌++◌, OnOk};
+ghost use Rattle.std.specs.Prelude.{◌≡◌, ◌+◌, ◌++◌, length, OnOk};
 ghost use Rattle.std.specs.Int.{w32};
 ghost use Rattle.kb_wire.specs.Codec.{count, string};
 ghost use Rattle.kb_tenant.specs.Produce.{where_due};
+ghost use Rattle.kb_tenant.specs.Room.{length_due, IsPut};
 
 use kb_wire::{Layout, Sink};
 use std::alloc::AllocError;
@@ -10,7 +11,8 @@ use std::alloc::AllocError;
 /// The count of an array.
 pub(super) fn put_count(due: bool, n: usize, sink: &mut Sink) -> Result<(), AllocError>
     requires { (count w32).Fits n }
-    ensures { OnOk result (sink.new.bytes ≡ sink.old.bytes ++ where_due due ((count w32).written n)) }
+    ensures bytes { OnOk result (sink.new.bytes ≡ sink.old.bytes ++ where_due due ((count w32).written n)) }
+    ensures put { IsPut (length_due due 4) sink.old result sink.new }
 {
     if !due {
         return Ok(());
@@ -21,7 +23,8 @@ pub(super) fn put_count(due: bool, n: usize, sink: &mut Sink) -> Result<(), Allo
 /// A text.
 pub(super) fn put_string(due: bool, text: &str, sink: &mut Sink) -> Result<(), AllocError>
     requires { string.Fits text.now }
-    ensures { OnOk result (sink.new.bytes ≡ sink.old.bytes ++ where_due due (string.written text.now)) }
+    ensures bytes { OnOk result (sink.new.bytes ≡ sink.old.bytes ++ where_due due (string.written text.now)) }
+    ensures put { IsPut (length_due due (2 + length text.now)) sink.old result sink.new }
 {
     if !due {
         return Ok(());
@@ -36,7 +39,8 @@ pub(super) fn put<'a, T: Layout<'a>>(
     sink: &mut Sink,
 ) -> Result<(), AllocError>
     requires { T.codec.Fits value.now }
-    ensures { OnOk result (sink.new.bytes ≡ sink.old.bytes ++ where_due due (T.codec.written value.now)) }
+    ensures bytes { OnOk result (sink.new.bytes ≡ sink.old.bytes ++ where_due due (T.codec.written value.now)) }
+    ensures put { IsPut (length_due due (length (T.codec.written value.now))) sink.old result sink.new }
 {
     if !due {
         return Ok(());

@@ -1,14 +1,17 @@
-use Rattle.std.proofs.Common.{◌∙◌, ◌++◌, ◌∷◌, [], ◌<◌, ◌≤◌, pos, ap, sym, refl, subst, length, get_or}
+use Rattle.std.proofs.Common.{◌∙◌, ◌++◌, ◌∷◌, [], ◌<◌, ◌≤◌, arith, OnOk, Ok, pos, ap, sym, refl, subst, length, get_or, w32}
 use Rattle.std.proofs.lemmas.Result.{on_ok_weaker}
+use Rattle.kb_wire.specs.Codec.{count}
 use Rattle.kb_api_data.specs.Layouts.{produce_topic_reply}
 use Rattle.kb_api_data.specs.declared.produce.ProduceTopicReply.{ProduceTopicReply}
 use Rattle.kb_world.specs.Parts.{scene}
 use Rattle.kb_tenant.specs.Produce.{progress, served_topic, where_due}
+use Rattle.kb_tenant.specs.Room.{length_due, reply_length, IsLonger}
 use Rattle.kb_world.specs.Steps.{step_then, meets_then, meets_so}
-use Rattle.kb_tenant.specs.Told.{IsTopicTold}
-use Rattle.kb_tenant.proofs.Acknowledging.{honest_then, produce_told_so, served_all, served_next, written_more}
+use Rattle.kb_tenant.specs.Told.{FailedBy, HasFailed, IsTopicTold}
+use Rattle.kb_tenant.proofs.Acknowledging.{failures_by, failures_since, honest_then, next_by, produce_told_so, served_all, served_next, written_more}
 use Rattle.kb_tenant.proofs.Produced.{number_fits, topics_fit, topic_fits, told_next, produce_told}
 use Rattle.kb_tenant.proofs.Turning.{turn_over}
+use Rattle.kb_tenant.proofs.Room.{never_refused, number_length, reply_put, topic_within, topics_put}
 use Rattle.kb_tenant.proofs.produce.produce.Goals as goal
 
 pub put_count-requires : goal.put_count-requires
@@ -54,18 +57,24 @@ loop-topic-preserved g c =
           (subst (λ ts. i < length ts) c.as_slice-topic-items.ensures c.loop-topic-test.true)
           (c.topic-item.is ∙ ap (λ ts. get_or ts i c.topic-item.result) c.as_slice-topic-items.ensures))
           (meets_then a b d _ _ c.loop-topic.invariant.step c.serve_topic.ensures.step c.loop-topic.invariant.told c.in_ok-serve_topic.ensures.meets);
-      answers = λ honest agree.
-          let both = honest_then a b d _ _ c.loop-topic.invariant.step c.serve_topic.ensures.step c.loop-topic.invariant.answers c.in_ok-serve_topic.ensures.told honest agree in
-          let before = both.0 in
+      answers = λ before now next since until later honest agree.
+          let first = c.loop-topic.invariant.step in
+          let second = c.serve_topic.ensures.step in
+          let both = honest_then a b d _ _ first second (c.loop-topic.invariant.answers before now next since (failures_by b d now second until) (next_by b d next second later))
+          (c.in_ok-serve_topic.ensures.told before now next (failures_since a b before first since) until later) honest agree in
+          let earlier = both.0 in
           let reply = both.1 in (
-            before.0 ++ reply.0 ∷ [],
+            earlier.0 ++ reply.0 ∷ [],
             (
-              written_more write c.put_count.new.sink.bytes c.loop-topic.sink.bytes c.serve_topic.new.sink.bytes before.0 reply.0 before.1.0 reply.1.0,
-              served_next (IsTopicTold terms.refusal) (progress a.state.world c.args.touched.now.items) p q c.args.request.now.topics i c.topic-item.result before.0 reply.0
+              written_more write c.put_count.new.sink.bytes c.loop-topic.sink.bytes c.serve_topic.new.sink.bytes earlier.0 reply.0 earlier.1.0 reply.1.0,
+              served_next (IsTopicTold (FailedBy before now next) terms.refusal) (progress a.state.world c.args.touched.now.items) p q c.args.request.now.topics i c.topic-item.result earlier.0 reply.0
                   (subst (λ ts. i < length ts) c.as_slice-topic-items.ensures c.loop-topic-test.true)
-                  (c.topic-item.is ∙ ap (λ ts. get_or ts i c.topic-item.result) c.as_slice-topic-items.ensures) before.1.1 reply.1.1,
+                  (c.topic-item.is ∙ ap (λ ts. get_or ts i c.topic-item.result) c.as_slice-topic-items.ensures) earlier.1.1 reply.1.1,
             ),
           );
+      put = topics_put terms.due c.args.request.now.topics i c.topic-item.result c.put_count.new.sink c.loop-topic.sink c.serve_topic.new.sink (Ok tt)
+          (subst (λ ts. i < length ts) c.as_slice-topic-items.ensures c.loop-topic-test.true)
+          (c.topic-item.is ∙ ap (λ ts. get_or ts i c.topic-item.result) c.as_slice-topic-items.ensures) c.loop-topic.invariant.put c.in_ok-serve_topic.ensures.put;
     }
 
 pub returns-clause-meets : goal.returns-clause-meets
@@ -84,9 +93,9 @@ returns-clause-meets g c =
     (λ last. meets_so a b _ _
     (λ told. produce_told terms request a.state.world b.state.world c.args.touched.now.items c.loop-topic.touched.items c.len.result
     c.args.sink.now.bytes c.put_count.new.sink.bytes c.loop-topic.sink.bytes c.put.new.sink.bytes
-    c.terms_of-terms.ensures.refusal c.terms_of-terms.ensures.due c.len.ensures c.in_ok-put_count.ensures (sym over ∙ told) last)
+    c.terms_of-terms.ensures.refusal c.terms_of-terms.ensures.due c.len.ensures (c.in_ok-put_count.ensures.bytes ∙ ap (λ s. s ++ where_due terms.due ((count w32).written c.len.result)) c.in_ok-make_room.ensures.bytes) (sym over ∙ told) last)
     c.loop-topic.invariant.told)
-    c.put.ensures
+    c.put.ensures.bytes
 
 pub returns-clause-told : goal.returns-clause-told
 returns-clause-told g c =
@@ -101,8 +110,37 @@ returns-clause-told g c =
     let i = c.loop-topic.topic-index in
     on_ok_weaker c.put.result
     (λ last honest agree.
-    let so = c.loop-topic.invariant.answers honest agree in
-    let all = served_all (IsTopicTold terms.refusal) p q request.topics i so.0 (subst (λ ts. length ts ≤ i) c.as_slice-topic-items.ensures c.loop-topic-test.false) so.1.1 in
-    produce_told_so terms request p q c.len.result c.args.sink.now.bytes c.put_count.new.sink.bytes c.loop-topic.sink.bytes c.put.new.sink.bytes
-    c.terms_of-terms.ensures.refusal c.terms_of-terms.ensures.due c.len.ensures c.in_ok-put_count.ensures (so.0, (so.1.0, all)) last)
-    c.put.ensures
+    let so = c.loop-topic.invariant.answers a.disk.failures b.disk.failures b.next (omega arith) (omega arith) (omega arith) honest agree in
+    let all = served_all (IsTopicTold (HasFailed a b) terms.refusal) p q request.topics i so.0 (subst (λ ts. length ts ≤ i) c.as_slice-topic-items.ensures c.loop-topic-test.false) so.1.1 in
+    produce_told_so (HasFailed a b) terms request p q c.len.result c.args.sink.now.bytes c.put_count.new.sink.bytes c.loop-topic.sink.bytes c.put.new.sink.bytes
+    c.terms_of-terms.ensures.refusal c.terms_of-terms.ensures.due c.len.ensures (c.in_ok-put_count.ensures.bytes ∙ ap (λ s. s ++ where_due terms.due ((count w32).written c.len.result)) c.in_ok-make_room.ensures.bytes) (so.0, (so.1.0, all)) last)
+    c.put.ensures.bytes
+
+pub returns-in_err-serve_topic-clause-spared : goal.returns-in_err-serve_topic-clause-spared
+returns-in_err-serve_topic-clause-spared g c =
+    let i = c.loop-topic.topic-index in
+    absurd (topic_within c.terms_of-terms.result.due c.args.request.now i c.topic-item.result c.make_room.new.sink c.put_count.new.sink c.loop-topic.sink c.serve_topic.new.sink _
+    (subst (λ ts. i < length ts) c.as_slice-topic-items.ensures c.loop-topic-test.true)
+    (c.topic-item.is ∙ ap (λ ts. get_or ts i c.topic-item.result) c.as_slice-topic-items.ensures)
+    c.in_ok-make_room.ensures.room c.in_ok-put_count.ensures.put c.loop-topic.invariant.put c.in_err-serve_topic.ensures.put)
+
+pub returns-clause-spared : goal.returns-clause-spared
+returns-clause-spared g c =
+    let i = c.loop-topic.topic-index in
+    let due = c.terms_of-terms.result.due in
+    let request = c.args.request.now in
+    never_refused _ (length_due due (reply_length request)) c.make_room.new.sink c.put.new.sink c.put.result c.in_ok-make_room.ensures.room
+    (reply_put due request i _ c.make_room.new.sink c.put_count.new.sink c.loop-topic.sink c.put.new.sink c.put.result
+    (subst (λ ts. length ts ≤ i) c.as_slice-topic-items.ensures c.loop-topic-test.false) (number_length (pos 0))
+    c.in_ok-put_count.ensures.put c.loop-topic.invariant.put c.put.ensures.put)
+
+pub returns-clause-longer : goal.returns-clause-longer
+returns-clause-longer g c =
+    let i = c.loop-topic.topic-index in
+    let request = c.args.request.now in
+    let new = c.put.new.sink.bytes in
+    subst (λ d. OnOk c.put.result (IsLonger (length_due d (reply_length request)) c.args.sink.now.bytes new)) c.terms_of-terms.ensures.due
+    (subst (λ s. OnOk c.put.result (IsLonger (length_due c.terms_of-terms.result.due (reply_length request)) s new)) c.in_ok-make_room.ensures.bytes
+    (reply_put c.terms_of-terms.result.due request i _ c.make_room.new.sink c.put_count.new.sink c.loop-topic.sink c.put.new.sink c.put.result
+    (subst (λ ts. length ts ≤ i) c.as_slice-topic-items.ensures c.loop-topic-test.false) (number_length (pos 0))
+    c.in_ok-put_count.ensures.put c.loop-topic.invariant.put c.put.ensures.put).longer)

@@ -1,12 +1,13 @@
-use Rattle.std.proofs.Common.{◌≡◌, ◌++◌, List, drop, take}
-use Rattle.std.specs.List.{flat_map}
+use Rattle.std.proofs.Common.{◌≡◌, ◌≤◌, ◌++◌, ℕ, List, Ok, drop, take}
+use Rattle.std.specs.List.{flat_map, sum_by}
 use Rattle.kb_api_data.specs.Layouts.{produce_topic_reply}
 use Rattle.kb_api_data.specs.declared.produce.ProduceTopicReply.{ProduceTopicReply}
 use Rattle.kb_partitions.specs.Scene.{WhereHonest}
 use Rattle.kb_world.specs.Parts.{scene}
 use Rattle.kb_tenant.specs.Produce.{progress, served_topic, where_due}
+use Rattle.kb_tenant.specs.Room.{length_due, topic_length, IsPut}
 use Rattle.kb_world.specs.Steps.{IsStep, Meets}
-use Rattle.kb_tenant.specs.Told.{IsTopicTold}
+use Rattle.kb_tenant.specs.Told.{FailedBy, IsTopicTold}
 use Rattle.kb_tenant.specs.Turns.{in_turn, written_behind, AreServed}
 use Rattle.kb_tenant.proofs.produce.produce.Given as goal
 
@@ -20,6 +21,7 @@ invariant-loop-topic g l =
     record {
       step : IsStep a b;
       told : Meets a b (written_behind (λ x. where_due l.terms.due (produce_topic_reply.written x)) l.sink.bytes (in_turn (served_topic l.terms.refusal) (progress b.state.world l.touched.items) (drop l.topic-index l.request.topics)) ≡ written_behind (λ x. where_due l.terms.due (produce_topic_reply.written x)) l.initial.sink.bytes (in_turn (served_topic l.terms.refusal) (progress a.state.world l.initial.touched.items) l.request.topics));
-      answers : WhereHonest a b ((replies : List ProduceTopicReply) × ((l.sink.bytes ≡ l.initial.sink.bytes ++ flat_map (λ x. where_due l.terms.due (produce_topic_reply.written x)) replies)
-          × AreServed (IsTopicTold l.terms.refusal) (progress a.state.world l.initial.touched.items) (take l.topic-index l.request.topics) (progress b.state.world l.touched.items) replies));
+      answers : (before now next : ℕ) → before ≤ a.disk.failures → b.disk.failures ≤ now → b.next ≤ next → WhereHonest a b ((replies : List ProduceTopicReply) × ((l.sink.bytes ≡ l.initial.sink.bytes ++ flat_map (λ x. where_due l.terms.due (produce_topic_reply.written x)) replies)
+          × AreServed (IsTopicTold (FailedBy before now next) l.terms.refusal) (progress a.state.world l.initial.touched.items) (take l.topic-index l.request.topics) (progress b.state.world l.touched.items) replies));
+      put : IsPut (length_due l.terms.due (sum_by topic_length (take l.topic-index l.request.topics))) l.initial.sink (Ok tt) l.sink;
     }

@@ -1,12 +1,14 @@
-use Rattle.std.proofs.Common.{◌++◌, ◌∷◌, [], refl}
+use Rattle.std.proofs.Common.{◌++◌, ◌∷◌, [], IsErr, Ok, refl, rules}
 use Rattle.kb_api_data.specs.Layouts.{produce_partition_reply}
 use Rattle.kb_api_data.specs.declared.produce.ProducePartitionReply.{ProducePartitionReply}
 use Rattle.kb_world.specs.Parts.{scene}
-use Rattle.kb_tenant.specs.Produce.{progress, served, where_due}
+use Rattle.kb_tenant.specs.Produce.{progress, entry_served, where_due}
+use Rattle.kb_tenant.specs.Room.{entries_length, length_due}
 use Rattle.kb_world.specs.Steps.{step_then, meets_then, meets_so}
-use Rattle.kb_tenant.specs.Told.{IsEntryTold}
-use Rattle.kb_tenant.proofs.Acknowledging.{entry_told_so, honest_then, served_all, served_next, written_more}
+use Rattle.kb_tenant.specs.Told.{FailedBy, IsEntryTold}
+use Rattle.kb_tenant.proofs.Acknowledging.{entry_told_so, failures_by, failures_since, honest_then, next_by, served_all, served_next, written_more}
 use Rattle.kb_tenant.proofs.Produced.{entry_reply_fits, told_next, written_one}
+use Rattle.kb_tenant.proofs.Room.{entries_put, entry_put, entry_refused, handed_on}
 use Rattle.kb_tenant.proofs.produce.serve_entries.Goals as goal
 
 pub put-requires : goal.put-requires
@@ -29,33 +31,45 @@ loop-entry-preserved g c =
     let b = scene log disk c.loop-entry.parts c.loop-entry.shelf in
     let d = scene log disk c.serve_entry-reply.new.parts c.serve_entry-reply.new.shelf in
     let write : ProducePartitionReply → _ = λ x. where_due c.args.terms.due (produce_partition_reply.written x) in
-    let f = served c.args.terms.refusal c.args.topic in
+    let f = entry_served c.args.terms.refusal c.args.topic in
     let p = progress b.state.world c.loop-entry.touched.items in
     let q = progress d.state.world c.serve_entry-reply.new.touched.items in
     record {
       step = step_then a b d c.loop-entry.invariant.step c.serve_entry-reply.ensures.step;
       told = meets_so a d _ _
           (λ both. told_next write f c.loop-entry.sink.bytes c.put.new.sink.bytes p q c.args.entries.now c.loop-entry.entry-index c.entry-item.result _ c.loop-entry-test.true c.entry-item.is
-          (both.0, written_one write c.loop-entry.sink.bytes c.put.new.sink.bytes q c.serve_entry-reply.result (f p c.entry-item.result) c.in_ok-put.ensures both.1))
+          (both.0, written_one write c.loop-entry.sink.bytes c.put.new.sink.bytes q c.serve_entry-reply.result (f p c.entry-item.result) c.in_ok-put.ensures.bytes both.1))
           (meets_then a b d _ _ c.loop-entry.invariant.step c.serve_entry-reply.ensures.step c.loop-entry.invariant.told c.serve_entry-reply.ensures.meets);
-      answers = λ honest agree.
-          let both = honest_then a b d _ _ c.loop-entry.invariant.step c.serve_entry-reply.ensures.step c.loop-entry.invariant.answers
-          (entry_told_so b d c.loop-entry.touched.items c.serve_entry-reply.new.touched.items c.args.terms.refusal c.args.topic c.entry-item.result c.serve_entry-reply.result c.serve_entry-reply.ensures.told) honest agree in
-          let before = both.0 in (
-            before.0 ++ c.serve_entry-reply.result ∷ [],
+      answers = λ before now next since until later honest agree.
+          let first = c.loop-entry.invariant.step in
+          let second = c.serve_entry-reply.ensures.step in
+          let both = honest_then a b d _ _ first second (c.loop-entry.invariant.answers before now next since (failures_by b d now second until) (next_by b d next second later))
+          (entry_told_so before now next b d c.loop-entry.touched.items c.serve_entry-reply.new.touched.items c.args.terms.refusal c.args.topic c.entry-item.result c.serve_entry-reply.result second (failures_since a b before first since) until later c.serve_entry-reply.ensures.told) honest agree in
+          let earlier = both.0 in (
+            earlier.0 ++ c.serve_entry-reply.result ∷ [],
             (
-              written_more write c.args.sink.now.bytes c.loop-entry.sink.bytes c.put.new.sink.bytes before.0 c.serve_entry-reply.result before.1.0 c.in_ok-put.ensures,
-              served_next (IsEntryTold c.args.terms.refusal c.args.topic) (progress a.state.world c.args.touched.now.items) p q c.args.entries.now c.loop-entry.entry-index c.entry-item.result before.0 c.serve_entry-reply.result
-                  c.loop-entry-test.true c.entry-item.is before.1.1 both.1,
+              written_more write c.args.sink.now.bytes c.loop-entry.sink.bytes c.put.new.sink.bytes earlier.0 c.serve_entry-reply.result earlier.1.0 c.in_ok-put.ensures.bytes,
+              served_next (IsEntryTold (FailedBy before now next) c.args.terms.refusal c.args.topic) (progress a.state.world c.args.touched.now.items) p q c.args.entries.now c.loop-entry.entry-index c.entry-item.result earlier.0 c.serve_entry-reply.result
+                  c.loop-entry-test.true c.entry-item.is earlier.1.1 both.1,
             ),
           );
+      put = entry_put c.args.terms.due c.args.entries.now c.loop-entry.entry-index c.entry-item.result c.serve_entry-reply.result c.args.sink.now c.loop-entry.sink c.put.new.sink (Ok tt) c.loop-entry-test.true c.loop-entry.invariant.put c.in_ok-put.ensures.put;
     }
 
 pub returns-clause-told : goal.returns-clause-told
-returns-clause-told g c = λ honest agree.
+returns-clause-told g c = λ before now next since until later honest agree.
     let log = g.L.PartitionLog.log in
     let disk = g.S.Store.disk in
     let a = scene log disk c.args.parts.now c.args.shelf.now in
     let b = scene log disk c.loop-entry.parts c.loop-entry.shelf in
-    let so = c.loop-entry.invariant.answers honest agree in
-    (so.0, (so.1.0, served_all (IsEntryTold c.args.terms.refusal c.args.topic) (progress a.state.world c.args.touched.now.items) (progress b.state.world c.loop-entry.touched.items) c.args.entries.now c.loop-entry.entry-index so.0 c.loop-entry-test.false so.1.1))
+    let so = c.loop-entry.invariant.answers before now next since until later honest agree in
+    (so.0, (so.1.0, served_all (IsEntryTold (FailedBy before now next) c.args.terms.refusal c.args.topic) (progress a.state.world c.args.touched.now.items) (progress b.state.world c.loop-entry.touched.items) c.args.entries.now c.loop-entry.entry-index so.0 c.loop-entry-test.false so.1.1))
+
+pub returns-in_err-put-clause-put : goal.returns-in_err-put-clause-put
+returns-in_err-put-clause-put g c =
+    let err : IsErr c.from_residual.result = search rules in
+    handed_on (length_due c.args.terms.due (entries_length c.args.entries.now)) c.args.sink.now c.put.new.sink _ c.from_residual.result err
+    (entry_refused c.args.terms.due c.args.entries.now c.loop-entry.entry-index c.entry-item.result c.serve_entry-reply.result c.args.sink.now c.loop-entry.sink c.put.new.sink c.put.new.sink _ c.loop-entry-test.true c.loop-entry.invariant.put c.in_err-put.ensures.put)
+
+pub returns-clause-put : goal.returns-clause-put
+returns-clause-put g c = entries_put c.args.terms.due c.args.entries.now c.loop-entry.entry-index c.args.sink.now c.loop-entry.sink c.loop-entry-test.false c.loop-entry.invariant.put

@@ -1,12 +1,13 @@
-use Rattle.std.proofs.Common.{◌≡◌, ◌++◌, List, drop, take}
+use Rattle.std.proofs.Common.{◌≡◌, ◌≤◌, ◌++◌, ℕ, List, Ok, drop, take}
 use Rattle.std.specs.List.{flat_map}
 use Rattle.kb_api_data.specs.Layouts.{produce_partition_reply}
 use Rattle.kb_api_data.specs.declared.produce.ProducePartitionReply.{ProducePartitionReply}
 use Rattle.kb_partitions.specs.Scene.{WhereHonest}
 use Rattle.kb_world.specs.Parts.{scene}
-use Rattle.kb_tenant.specs.Produce.{progress, served, where_due}
+use Rattle.kb_tenant.specs.Produce.{progress, entry_served, where_due}
+use Rattle.kb_tenant.specs.Room.{entries_length, length_due, IsPut}
 use Rattle.kb_world.specs.Steps.{IsStep, Meets}
-use Rattle.kb_tenant.specs.Told.{IsEntryTold}
+use Rattle.kb_tenant.specs.Told.{FailedBy, IsEntryTold}
 use Rattle.kb_tenant.specs.Turns.{in_turn, written_behind, AreServed}
 use Rattle.kb_tenant.proofs.produce.serve_entries.Given as goal
 
@@ -19,7 +20,8 @@ invariant-loop-entry g l =
     let b = scene log disk l.parts l.shelf in
     record {
       step : IsStep a b;
-      told : Meets a b (written_behind (λ x. where_due l.terms.due (produce_partition_reply.written x)) l.sink.bytes (in_turn (served l.terms.refusal l.topic) (progress b.state.world l.touched.items) (drop l.entry-index l.entries)) ≡ written_behind (λ x. where_due l.terms.due (produce_partition_reply.written x)) l.initial.sink.bytes (in_turn (served l.terms.refusal l.topic) (progress a.state.world l.initial.touched.items) l.entries));
-      answers : WhereHonest a b ((replies : List ProducePartitionReply) × ((l.sink.bytes ≡ l.initial.sink.bytes ++ flat_map (λ x. where_due l.terms.due (produce_partition_reply.written x)) replies)
-          × AreServed (IsEntryTold l.terms.refusal l.topic) (progress a.state.world l.initial.touched.items) (take l.entry-index l.entries) (progress b.state.world l.touched.items) replies));
+      told : Meets a b (written_behind (λ x. where_due l.terms.due (produce_partition_reply.written x)) l.sink.bytes (in_turn (entry_served l.terms.refusal l.topic) (progress b.state.world l.touched.items) (drop l.entry-index l.entries)) ≡ written_behind (λ x. where_due l.terms.due (produce_partition_reply.written x)) l.initial.sink.bytes (in_turn (entry_served l.terms.refusal l.topic) (progress a.state.world l.initial.touched.items) l.entries));
+      answers : (before now next : ℕ) → before ≤ a.disk.failures → b.disk.failures ≤ now → b.next ≤ next → WhereHonest a b ((replies : List ProducePartitionReply) × ((l.sink.bytes ≡ l.initial.sink.bytes ++ flat_map (λ x. where_due l.terms.due (produce_partition_reply.written x)) replies)
+          × AreServed (IsEntryTold (FailedBy before now next) l.terms.refusal l.topic) (progress a.state.world l.initial.touched.items) (take l.entry-index l.entries) (progress b.state.world l.touched.items) replies));
+      put : IsPut (length_due l.terms.due (entries_length (take l.entry-index l.entries))) l.initial.sink (Ok tt) l.sink;
     }

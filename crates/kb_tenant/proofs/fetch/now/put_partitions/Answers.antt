@@ -1,5 +1,5 @@
 use Rattle.kb_partitions.specs.Scene.{Scene}
-use Rattle.kb_tenant.specs.Fetch.{answered, partition_written}
+use Rattle.kb_tenant.specs.Fetch.{fetch_answered, partition_written}
 use Rattle.kb_world.specs.Parts.{Seen, scene}
 use Rattle.kb_world.specs.Steps.{step_then}
 use Rattle.kb_tenant.proofs.Fetching.{same_then, loop_next, get_or_any}
@@ -22,6 +22,6 @@ loop-entry-preserved g c =
     record {
       step = step_then a b d before.step c.put_partition.ensures.step;
       same = same_then a b d before.step c.put_partition.ensures.step before.same c.put_partition.ensures.same;
-      told = loop_next (partition_written c.args.has_starts) (λ w. answered w c.args.topic) a b d c.loop-entry.sink.bytes c.put_partition.new.sink.bytes c.loop-entry.given c.put_partition.new.given c.args.entries.now i _ _ c.loop-entry-test.true (get_or_any c.args.entries.now i _ _ c.loop-entry-test.true)
+      told = loop_next (partition_written c.args.has_starts) (λ w. fetch_answered w c.args.topic) a b d c.loop-entry.sink.bytes c.put_partition.new.sink.bytes c.loop-entry.given c.put_partition.new.given c.args.entries.now i _ _ c.loop-entry-test.true (get_or_any c.args.entries.now i _ _ c.loop-entry-test.true)
           before.step c.put_partition.ensures.step before.same before.told c.in_ok-put_partition.ensures.meets;
     }

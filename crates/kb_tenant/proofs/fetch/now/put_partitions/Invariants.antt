@@ -1,5 +1,5 @@
 use Rattle.std.proofs.Common.{◌≡◌, drop}
-use Rattle.kb_tenant.specs.Fetch.{answered, partition_written}
+use Rattle.kb_tenant.specs.Fetch.{fetch_answered, partition_written}
 use Rattle.kb_world.specs.Parts.{scene}
 use Rattle.kb_world.specs.Steps.{IsStep, Meets}
 use Rattle.kb_tenant.specs.Turns.{in_turn, written_behind}
@@ -10,7 +10,7 @@ abbrev pub invariant-loop-entry : goal.invariant-loop-entry
 invariant-loop-entry g l =
     let a = scene g.L.PartitionLog.log g.S.Store.disk l.initial.parts l.initial.shelf in
     let b = scene g.L.PartitionLog.log g.S.Store.disk l.parts l.shelf in
-    let serve = answered a.state.world l.topic in
+    let serve = fetch_answered a.state.world l.topic in
     let write = partition_written l.has_starts in
     record {
       step : IsStep a b;

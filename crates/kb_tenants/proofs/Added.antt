@@ -1,16 +1,19 @@
 -- One more tenant, without groups.
-use Rattle.std.proofs.Common.{◌≡◌, ◌∙◌, ◌⊎◌, ⊎_elim, inl, inr, ℕ, zero, suc, List, [], ◌∷◌, ◌++◌, Some, sym, ap, refl, subst}
-use Rattle.std.specs.Prelude.{length, map, slice_get, string_bytes}
+use Rattle.std.proofs.Common.{◌≡◌, ◌∙◌, ◌⊎◌, ⊎_elim, inl, inr, ℕ, zero, suc, List, [], ◌∷◌, ◌++◌, Option, Some, None, sym, ap, refl, subst, arith}
+use Rattle.std.specs.Prelude.{Contains, IsSome, length, map, slice_get, string_bytes}
+use Rattle.std.specs.declared.alloc.Global.{Global}
+use Rattle.std.specs.declared.vec.Vec.{Vec}
+use Rattle.kb_partitions.specs.Partitions.{AreExact}
 use Rattle.std.proofs.lemmas.List.{map_push}
 use Rattle.kb_coordinator.specs.Groups.{none}
 use Rattle.kb_store.specs.Disk.{Disk, Table, Files}
 use Rattle.kb_log.specs.OnShelf.{Log}
 use Rattle.kb_log.specs.Shelf.{Shelved}
-use Rattle.kb_world.specs.Parts.{Agrees, IsSound, Owns, world_of}
+use Rattle.kb_world.specs.Parts.{Agrees, IsSound, Owns, entries, meta, world_of}
 use Rattle.kb_world.specs.World.{World, new_world}
 use Rattle.kb_world.specs.declared.parts.Parts.{Parts}
 use Rattle.kb_service.specs.Hosted.{TenantState, kept_in, new_tenant}
-use Rattle.kb_tenants.specs.Tenants.{AreKept, AreSound, Agree, IsApart, IsIdleUntil, hosted, is_honest, parts_of, restored_tenant, state_of}
+use Rattle.kb_tenants.specs.Tenants.{AreKept, AreSettled, AreSound, Agree, HaveNothingRefused, IsApart, IsIdleUntil, IsLeftAlone, hosted, shelf_is_honest, parts_of, restored_tenant, state_of, strays_of}
 use Rattle.kb_tenants.specs.declared.tenants.Tenant.{Tenant}
 use Rattle.kb_tenants.specs.declared.tenants.Tenants.{Tenants}
 use Rattle.kb_tenants.proofs.Idle.{idle_added}
@@ -21,6 +24,29 @@ pushed_place [] y zero z e = inr ((let same : y ≡ z = cc in sym same), refl)
 pushed_place [] y (suc u) z e = absurd cc
 pushed_place (x ∷ xs) y zero z e = inl e
 pushed_place (x ∷ xs) y (suc u) z e = ⊎_elim (λ old. inl old) (λ last. inr (last.0, ap suc last.1)) (pushed_place xs y u z e)
+
+-- there is none in an empty list
+pub no_tenant : {A : Type 0} (xs : List A) → xs ≡ [] → (u : ℕ) (z : A) → slice_get xs u ≡ Some z → ⊥
+no_tenant [] none u z at = absurd cc
+no_tenant (x ∷ xs) none u z at = absurd cc
+
+-- an item stands there also in a longer list
+still_place : {A : Type 0} (xs : List A) (y : A) (u : ℕ) (z : A) → slice_get xs u ≡ Some z → slice_get (xs ++ y ∷ []) u ≡ Some z
+still_place [] y u z e = absurd cc
+still_place (x ∷ xs) y zero z e = e
+still_place (x ∷ xs) y (suc u) z e = still_place xs y u z e
+
+-- where it is not known which files are left alone, none is
+pub unknown : (strays : Option (Vec ℕ Global)) → strays ≡ None → IsSome strays → ⊥
+unknown None early known = absurd cc
+unknown (Some files) early known = absurd cc
+
+pub unknown_strays : (strays : Option (Vec ℕ Global)) → strays ≡ None → (file : ℕ) → Contains (strays_of strays) file → ⊥
+unknown_strays strays early file stray = let h = (subst (λ o. Contains (strays_of o) file) early stray).1 in omega (arith, h)
+
+-- nothing but its batches is in each log's files
+abbrev pub IsExact : {L : Type 0} → (L → Log) → Parts L → Table → Type 0
+IsExact log p table = (meta log p).exact table × AreExact log (entries p) table
 
 module _ {L : Type 0} (log : L → Log) (ps : List (Parts L)) (p : Parts L) where
   sound_pushed : (table : Table) (next : ℕ) → AreSound log ps table next → IsSound log p table next → IsApart log ps p → AreSound log (ps ++ p ∷ []) table next
@@ -49,8 +75,35 @@ module _ {L : Type 0} (log : L → Log) (ps : List (Parts L)) (p : Parts L) wher
       (λ new. subst (λ (v : Parts L). Agrees log v files) (sym new.0) one)
       (pushed_place ps p u q at)
 
+  -- a file that none of them has, and not the new one either
+  alone_pushed : (next file : ℕ) → (Owns log p file → ⊥) → IsLeftAlone log ps next file → IsLeftAlone log (ps ++ p ∷ []) next file
+  alone_pushed next file free alone = record {
+    given_out = alone.given_out;
+    nobodys = λ some. ⊎_elim
+        (λ old. alone.nobodys (record { tenant = some.tenant; parts = some.parts; at = old; owns = some.owns }))
+        (λ new. free (subst (λ (v : Parts L). Owns log v file) new.0 some.owns))
+        (pushed_place ps p some.tenant some.parts some.at);
+  }
+
+  nothing_pushed : HaveNothingRefused (ps ++ p ∷ []) → HaveNothingRefused ps
+  nothing_pushed none u q at = none u q (still_place ps p u q at)
+
+  settled_pushed : (disk : Disk) (strays : List ℕ) → IsExact log p disk.table → AreSettled log ps strays disk → AreSettled log (ps ++ p ∷ []) strays disk
+  settled_pushed disk strays one settled = record {
+    accounts = λ file there not. settled.accounts file there
+        (λ some. not (record { tenant = some.tenant; parts = some.parts; at = still_place ps p some.tenant some.parts some.at; owns = some.owns }));
+    meta_exact = λ u q at. ⊎_elim
+        (λ old. settled.meta_exact u q old)
+        (λ new. subst (λ (v : Parts L). (meta log v).exact disk.table) (sym new.0) one.0)
+        (pushed_place ps p u q at);
+    exact = λ u q at. ⊎_elim
+        (λ old. settled.exact u q old)
+        (λ new. subst (λ (v : Parts L). AreExact log (entries v) disk.table) (sym new.0) one.1)
+        (pushed_place ps p u q at);
+  }
+
 -- nothing was added
-module _ {L S : Type 0} (log : L → Log) (disk : S → Disk) (old new : Tenants L S) (left : new.tenants.items ≡ old.tenants.items) (same : new.shelf ≡ old.shelf) (until : new.kept_until ≡ old.kept_until) where
+module _ {L S : Type 0} (log : L → Log) (disk : S → Disk) (old new : Tenants L S) (left : new.tenants.items ≡ old.tenants.items) (same : new.shelf ≡ old.shelf) (until : new.kept_until ≡ old.kept_until) (strays : new.strays ≡ old.strays) where
   pub hosted_left : hosted log disk new ≡ hosted log disk old
   hosted_left = ap (λ (s : Shelved S). map (state_of log (disk s.store).files) new.tenants.items) same ∙ ap (map (state_of log (disk old.shelf.store).files)) left
 
@@ -58,6 +111,13 @@ module _ {L S : Type 0} (log : L → Log) (disk : S → Disk) (old new : Tenants
   kept_left kept = record {
     sound = subst (λ (s : Shelved S). AreSound log (parts_of new.tenants.items) (disk s.store).table s.next) (sym same)
         (subst (λ (xs : List (Tenant L)). AreSound log (parts_of xs) (disk old.shelf.store).table old.shelf.next) (sym left) kept.sound);
+    named = subst (λ (xs : List (Tenant L)). (t : ℕ) (x : Tenant L) → slice_get xs t ≡ Some x → string_bytes x.parts.tenant ≡ string_bytes x.name) (sym left) kept.named;
+    apart = subst (λ (o : Option (Vec ℕ Global)). (file : ℕ) → Contains (strays_of o) file → IsLeftAlone log (parts_of new.tenants.items) new.shelf.next file) (sym strays)
+        (subst (λ (s : Shelved S). (file : ℕ) → Contains (strays_of old.strays) file → IsLeftAlone log (parts_of new.tenants.items) s.next file) (sym same)
+        (subst (λ (xs : List (Tenant L)). (file : ℕ) → Contains (strays_of old.strays) file → IsLeftAlone log (parts_of xs) old.shelf.next file) (sym left) kept.apart));
+    settled = subst (λ (o : Option (Vec ℕ Global)). IsSome o → HaveNothingRefused (parts_of new.tenants.items) → AreSettled log (parts_of new.tenants.items) (strays_of o) (disk new.shelf.store)) (sym strays)
+        (subst (λ (s : Shelved S). IsSome old.strays → HaveNothingRefused (parts_of new.tenants.items) → AreSettled log (parts_of new.tenants.items) (strays_of old.strays) (disk s.store)) (sym same)
+        (subst (λ (xs : List (Tenant L)). IsSome old.strays → HaveNothingRefused (parts_of xs) → AreSettled log (parts_of xs) (strays_of old.strays) (disk old.shelf.store)) (sym left) kept.settled));
     agree = λ honest. subst (λ (s : Shelved S). Agree log (parts_of new.tenants.items) (disk s.store).files) (sym same)
         (subst (λ (xs : List (Tenant L)). Agree log (parts_of xs) (disk old.shelf.store).files) (sym left) (kept.agree (subst (λ (s : Shelved S). (disk s.store).honest) same honest)));
     until = λ honest. subst (λ z. IsIdleUntil z (hosted log disk new)) (sym until)
@@ -66,7 +126,7 @@ module _ {L S : Type 0} (log : L → Log) (disk : S → Disk) (old new : Tenants
 
 -- a tenant of parts that were there was added behind the others
 module _ {L S : Type 0} (log : L → Log) (disk : S → Disk) (old new : Tenants L S) (x : Tenant L)
-    (pushed : new.tenants.items ≡ old.tenants.items ++ x ∷ []) (same : new.shelf ≡ old.shelf)
+    (pushed : new.tenants.items ≡ old.tenants.items ++ x ∷ []) (same : new.shelf ≡ old.shelf) (strays : new.strays ≡ old.strays)
     (name : List ℕ) (named : string_bytes x.name ≡ name) (bare : x.groups ≡ none) where
   pub parts_pushed : parts_of new.tenants.items ≡ parts_of old.tenants.items ++ x.parts ∷ []
   parts_pushed = ap parts_of pushed ∙ map_push (λ (z : Tenant L). z.parts) old.tenants.items x
@@ -82,14 +142,27 @@ module _ {L S : Type 0} (log : L → Log) (disk : S → Disk) (old new : Tenants
       ∙ ap (λ (s : TenantState). map (state_of log files) old.tenants.items ++ s ∷ []) one
 
   pub kept_pushed : IsSound log x.parts (disk old.shelf.store).table old.shelf.next → IsApart log (parts_of old.tenants.items) x.parts
-      → (is_honest disk old → Agrees log x.parts (disk old.shelf.store).files) → (is_honest disk old → IsIdleUntil new.kept_until (hosted log disk new))
+      → string_bytes x.parts.tenant ≡ name → ((file : ℕ) → Contains (strays_of old.strays) file → Owns log x.parts file → ⊥) → (IsSome old.strays → IsExact log x.parts (disk old.shelf.store).table)
+      → (shelf_is_honest disk old → Agrees log x.parts (disk old.shelf.store).files) → (shelf_is_honest disk old → IsIdleUntil new.kept_until (hosted log disk new))
       → AreKept log disk old → AreKept log disk new
-  kept_pushed sound alone agrees idle kept =
-      let before : is_honest disk new → is_honest disk old = subst (λ (s : Shelved S). (disk s.store).honest) same in
+  kept_pushed sound alone own free exact agrees idle kept =
+      let before : shelf_is_honest disk new → shelf_is_honest disk old = subst (λ (s : Shelved S). (disk s.store).honest) same in
       record {
         sound = subst (λ (s : Shelved S). AreSound log (parts_of new.tenants.items) (disk s.store).table s.next) (sym same)
             (subst (λ ps. AreSound log ps (disk old.shelf.store).table old.shelf.next) (sym parts_pushed)
             (sound_pushed log (parts_of old.tenants.items) x.parts (disk old.shelf.store).table old.shelf.next kept.sound sound alone));
+        named = λ u y at. ⊎_elim
+            (λ there. kept.named u y there)
+            (λ last. subst (λ (z : Tenant L). string_bytes z.parts.tenant ≡ string_bytes z.name) (sym last.0) (own ∙ sym named))
+            (pushed_place old.tenants.items x u y (subst (λ (xs : List (Tenant L)). slice_get xs u ≡ Some y) pushed at));
+        apart = subst (λ (o : Option (Vec ℕ Global)). (file : ℕ) → Contains (strays_of o) file → IsLeftAlone log (parts_of new.tenants.items) new.shelf.next file) (sym strays)
+            (subst (λ (s : Shelved S). (file : ℕ) → Contains (strays_of old.strays) file → IsLeftAlone log (parts_of new.tenants.items) s.next file) (sym same)
+            (subst (λ ps. (file : ℕ) → Contains (strays_of old.strays) file → IsLeftAlone log ps old.shelf.next file) (sym parts_pushed)
+            (λ file stray. alone_pushed log (parts_of old.tenants.items) x.parts old.shelf.next file (free file stray) (kept.apart file stray))));
+        settled = subst (λ (o : Option (Vec ℕ Global)). IsSome o → HaveNothingRefused (parts_of new.tenants.items) → AreSettled log (parts_of new.tenants.items) (strays_of o) (disk new.shelf.store)) (sym strays)
+            (subst (λ (s : Shelved S). IsSome old.strays → HaveNothingRefused (parts_of new.tenants.items) → AreSettled log (parts_of new.tenants.items) (strays_of old.strays) (disk s.store)) (sym same)
+            (subst (λ ps. IsSome old.strays → HaveNothingRefused ps → AreSettled log ps (strays_of old.strays) (disk old.shelf.store)) (sym parts_pushed)
+            (λ known none. settled_pushed log (parts_of old.tenants.items) x.parts (disk old.shelf.store) (strays_of old.strays) (exact known) (kept.settled known (nothing_pushed log (parts_of old.tenants.items) x.parts none)))));
         agree = λ honest. subst (λ (s : Shelved S). Agree log (parts_of new.tenants.items) (disk s.store).files) (sym same)
             (subst (λ ps. Agree log ps (disk old.shelf.store).files) (sym parts_pushed)
             (agree_pushed log (parts_of old.tenants.items) x.parts (disk old.shelf.store).files (kept.agree (before honest)) (agrees (before honest))));
@@ -98,17 +171,18 @@ module _ {L S : Type 0} (log : L → Log) (disk : S → Disk) (old new : Tenants
 
 -- a tenant without files was added behind the others
 module _ {L S : Type 0} (log : L → Log) (disk : S → Disk) (old new : Tenants L S) (x : Tenant L)
-    (pushed : new.tenants.items ≡ old.tenants.items ++ x ∷ []) (same : new.shelf ≡ old.shelf) (until : new.kept_until ≡ old.kept_until)
+    (pushed : new.tenants.items ≡ old.tenants.items ++ x ∷ []) (same : new.shelf ≡ old.shelf) (until : new.kept_until ≡ old.kept_until) (strays : new.strays ≡ old.strays)
     (name : List ℕ) (named : string_bytes x.name ≡ name) (world : (files : Files) → world_of log x.parts files ≡ new_world) (calm : x.parts.refusals ≡ 0) (bare : x.groups ≡ none) where
   pub hosted_added : hosted log disk new ≡ hosted log disk old ++ new_tenant name ∷ []
   hosted_added =
       let files = (disk old.shelf.store).files in
       let kept = ap (λ (w : World). kept_in w none) (world files) in
       let one : restored_tenant log files name x.parts ≡ new_tenant name = (λ i. record { name = name; kept = kept i; refusals = calm i }) in
-      hosted_pushed log disk old new x pushed same name named bare ∙ ap (λ (s : TenantState). hosted log disk old ++ s ∷ []) one
+      hosted_pushed log disk old new x pushed same strays name named bare ∙ ap (λ (s : TenantState). hosted log disk old ++ s ∷ []) one
 
-  pub kept_added : ((table : Table) (next : ℕ) → IsSound log x.parts table next) → ((files : Files) → Agrees log x.parts files) → ((file : ℕ) → Owns log x.parts file → ⊥) → AreKept log disk old → AreKept log disk new
-  kept_added sound agrees none kept = kept_pushed log disk old new x pushed same name named bare
-      (sound (disk old.shelf.store).table old.shelf.next) (λ t p at file own theirs. none file theirs) (λ honest. agrees (disk old.shelf.store).files)
+  pub kept_added : ((table : Table) (next : ℕ) → IsSound log x.parts table next) → ((files : Files) → Agrees log x.parts files) → ((file : ℕ) → Owns log x.parts file → ⊥)
+      → string_bytes x.parts.tenant ≡ name → ((table : Table) → IsExact log x.parts table) → AreKept log disk old → AreKept log disk new
+  kept_added sound agrees none own exact kept = kept_pushed log disk old new x pushed same strays name named bare
+      (sound (disk old.shelf.store).table old.shelf.next) (λ t p at file own theirs. none file theirs) own (λ file stray theirs. none file theirs) (λ known. exact (disk old.shelf.store).table) (λ honest. agrees (disk old.shelf.store).files)
       (λ honest. subst (λ z. IsIdleUntil z (hosted log disk new)) (sym until) (subst (IsIdleUntil old.kept_until) (sym hosted_added) (idle_added old.kept_until (hosted log disk old) name (kept.until honest))))
       kept

@@ -1,7 +1,7 @@
 -- Whom the groups of a tenant answered.
-use Rattle.std.proofs.Common.{◌≡◌, ◌∙◌, ℕ, suc, Bool, true, false, ◌&&◌, List, [], ◌∷◌, ◌++◌, map, length, Some, nat_eq, if◌then◌else◌, inl, inr, refl, sym, ap, subst, arith}
+use Rattle.std.proofs.Common.{◌≡◌, ◌∙◌, ℕ, suc, Bool, true, false, ◌&&◌, List, [], ◌∷◌, ◌++◌, map, Some, nat_eq, if◌then◌else◌, inl, inr, refl, sym, ap, subst, arith}
 use Rattle.std.specs.Prelude.{Contains, Result, Ok, Err, OnOk, is_ok, ◌⊎◌}
-use Rattle.std.proofs.lemmas.List.Elements.{Contains-append_left, Contains-append_right}
+use Rattle.std.proofs.lemmas.List.Elements.{Contains-append_right}
 use Rattle.std.proofs.lemmas.Bool.Decides.{nat_tests}
 use Rattle.kb_coordinator.specs.Calls.{reply_among}
 use Rattle.kb_coordinator.specs.Groups.{Groups}
@@ -10,13 +10,13 @@ use Rattle.kb_tenant.specs.Replies.{Silent}
 use Rattle.kb_service.specs.Hosted.{Kept, TenantState, IsTurn, kept_of}
 use Rattle.kb_service.specs.Replies.{told, told_to}
 use Rattle.kb_tenant.proofs.LogMoves.{same_or_not}
-use Rattle.kb_tenants.specs.Tenants.{AreQuietBut, IsQuietBut, answered, connection_of}
+use Rattle.kb_tenants.specs.Tenants.{AreQuietBut, IsQuietBut, answered_connections, connection_of}
 
 same_number : (a b : ℕ) → nat_eq a b ≡ true → a ≡ b
 same_number a b h = grind (arith, nat_tests)
 
 -- a request on any other connection is told nothing
-pub untold : (k : ℕ) (gs : Groups) → (Contains (answered gs) k → ⊥) → told_to k gs ≡ Silent
+pub untold : (k : ℕ) (gs : Groups) → (Contains (answered_connections gs) k → ⊥) → told_to k gs ≡ Silent
 unfolding reply_among
 untold k gs apart = by gs.released apart
   where
@@ -46,11 +46,11 @@ pub quiet_then : (ns : List ℕ) (k l m : Kept) → IsQuietBut ns k l → IsQuie
 quiet_then ns k l m p q = record { known = q.known ∙ p.known; logs = q.logs ∙ p.logs; told = λ n apart silent. q.told n apart (p.told n apart silent) }
 
 -- the groups had their moment, and whom they answered is listed
-pub quiet_listed : (ns ms : List ℕ) (k l : Kept) → l.known ≡ k.known → l.logs ≡ k.logs → ms ≡ ns ++ answered l.groups → IsQuietBut ms k l
+pub quiet_listed : (ns ms : List ℕ) (k l : Kept) → l.known ≡ k.known → l.logs ≡ k.logs → ms ≡ ns ++ answered_connections l.groups → IsQuietBut ms k l
 quiet_listed ns ms k l known logs listed = record {
   known = known;
   logs = logs;
-  told = λ n apart silent. untold n l.groups (λ c. apart (subst (λ xs. Contains xs n) (sym listed) (Contains-append_right ns (answered l.groups) n c)));
+  told = λ n apart silent. untold n l.groups (λ c. apart (subst (λ xs. Contains xs n) (sym listed) (Contains-append_right ns (answered_connections l.groups) n c)));
 }
 
 -- a call for a tenant leaves the others as they were
@@ -70,3 +70,8 @@ if_listed (Err x) b P e t h = let no : false ≡ true = sym e ∙ t in absurd cc
 pub both : (a b : Bool) → (a && b) ≡ true → (a ≡ true) × (b ≡ true)
 both true b e = (refl, e)
 both false b e = absurd cc
+
+-- one of them does not
+pub not_both : (a b : Bool) → (a && b) ≡ false → (a ≡ false) ⊎ (b ≡ false)
+not_both true b e = inr e
+not_both false b e = inl refl

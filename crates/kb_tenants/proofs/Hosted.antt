@@ -17,18 +17,20 @@ use Rattle.kb_log.specs.Shelf.{Shelved}
 use Rattle.kb_world.specs.Calls.{at_clock}
 use Rattle.kb_world.specs.Parts.{Agrees, IsSound, END, scene, world_of, entries, raised, refused}
 use Rattle.kb_world.specs.Steps.{IsStep, IsCalm, Meets, step_same, step_then}
+use Rattle.kb_world.specs.Told.{counted_once}
 use Rattle.kb_world.specs.World.{World}
 use Rattle.kb_world.specs.declared.parts.Parts.{Parts}
 use Rattle.kb_world.proofs.Lifted.{clocked, recast, loud, raised_meets, raised_step, refused_step}
 use Rattle.kb_service.specs.Hosted.{TenantState, Kept, IsAccounted, IsTurn, IsMet, nothing, kept_in, kept_of, left, passed, refusals_of, names_of, with_kept, all_calm}
+use Rattle.kb_partitions.proofs.Put.{get_put}
 use Rattle.kb_tenant.proofs.LogMoves.{same_or_not}
-use Rattle.kb_tenants.specs.Tenants.{AreKept, IsIdleUntil, hosted, parts_of, regrouped, state_of}
+use Rattle.kb_tenants.specs.Tenants.{AreKept, AreLeftAlone, AreSettled, HaveNothingRefused, IsIdleUntil, IsLeftAlone, hosted, parts_of, regrouped, state_of, strays_of}
 use Rattle.kb_tenants.specs.Turns.{IsShelfTurn, seen_at}
 use Rattle.kb_tenants.specs.declared.tenants.Tenant.{Tenant}
 use Rattle.kb_tenants.specs.declared.tenants.Tenants.{Tenants}
 use Rattle.kb_tenants.proofs.Accounted.{accounted_rises, accounted_turn}
 use Rattle.kb_tenants.proofs.Idle.{IsQuiet, idle_stays, idle_turn}
-use Rattle.kb_tenants.proofs.Others.{found, turn}
+use Rattle.kb_tenants.proofs.Others.{alone_stays, bytes_stay, found, put_here, settled_stays, turn}
 use Rattle.kb_tenants.proofs.Passed.{length_named}
 
 -- ---- lists
@@ -109,16 +111,11 @@ module _ {L : Type 0} (log : L → Log) (files : Files) where
       ap (λ (z : Tenant L). (let s : TenantState = record { name = string_bytes z.name; kept = kept_in (world_of log x.parts files) gs; refusals = z.parts.refusals } in s) ∷ map (state_of log files) ts) (sym same)
   put_groups (y ∷ ts) (suc t) x gs at = ap (λ ss. state_of log files y ∷ ss) (put_groups ts t x gs at)
 
-put_here : {A : Type 0} (xs : List A) (t : ℕ) (x y : A) → slice_get xs t ≡ Some x → slice_get (slice_set xs t y) t ≡ Some y
-put_here [] t x y at = absurd cc
-put_here (z ∷ xs) zero x y at = refl
-put_here (z ∷ xs) (suc t) x y at = put_here xs t x y at
-
 -- ---- a step of one tenant
 
 -- the tenants after a call that left the tenant at a place these parts and groups, and this shelf
 abbrev pub after : {L S : Type 0} → Tenants L S → ℕ → Tenant L → Parts L → Groups → Shelved S → Tenants L S
-after ts t x p gs shelf = record { tenants = with_item ts.tenants t (record x { parts = p; groups = gs }); shelf = shelf; kept_until = ts.kept_until }
+after ts t x p gs shelf = record { tenants = with_item ts.tenants t (record x { parts = p; groups = gs }); shelf = shelf; kept_until = ts.kept_until; strays = ts.strays }
 
 -- what is due for a tenant is what it is seen to be
 pub idle_here : {L : Type 0} (log : L → Log) (files : Files) (ts : List (Tenant L)) (t : ℕ) (x : Tenant L) (until : ℤ) → slice_get ts t ≡ Some x → Agrees log x.parts files → IsQuiet log x until
@@ -138,14 +135,34 @@ module _ {L S : Type 0} (log : L → Log) (disk : S → Disk) (law : (l : L) →
   there_after : slice_get (after old t x p gs shelf).tenants.items t ≡ Some (record x { parts = p; groups = gs })
   there_after = put_here old.tenants.items t x (record x { parts = p; groups = gs }) there
 
+  parts_after : parts_of (after old t x p gs shelf).tenants.items ≡ slice_set (parts_of old.tenants.items) t p
+  parts_after = map-set (λ (z : Tenant L). z.parts) old.tenants.items t (record x { parts = p; groups = gs })
+
   shelf_turn : IsShelfTurn log t (parts_of old.tenants.items) (parts_of (after old t x p gs shelf).tenants.items) (disk old.shelf.store) (disk shelf.store) old.shelf.next shelf.next
   shelf_turn =
-      subst (λ qs. IsShelfTurn log t (parts_of old.tenants.items) qs (disk old.shelf.store) (disk shelf.store) old.shelf.next shelf.next)
-      (sym (map-set (λ (z : Tenant L). z.parts) old.tenants.items t (record x { parts = p; groups = gs })))
+      subst (λ qs. IsShelfTurn log t (parts_of old.tenants.items) qs (disk old.shelf.store) (disk shelf.store) old.shelf.next shelf.next) (sym parts_after)
       (turn log law (parts_of old.tenants.items) t x.parts p (disk old.shelf.store) (disk shelf.store) old.shelf.next shelf.next parts_there kept.sound step)
 
   kept_until : (until : ℤ) → ((disk shelf.store).honest → IsIdleUntil until (hosted log disk (after old t x p gs shelf))) → AreKept log disk (record (after old t x p gs shelf) { kept_until = until })
-  kept_until until idle = record { sound = shelf_turn.sound; agree = λ honest. shelf_turn.agree honest (kept.agree (shelf_turn.honest honest)); until = idle }
+  kept_until until idle = record {
+    sound = shelf_turn.sound;
+    named = λ u y here. ⊎_elim
+        (λ s. subst (λ (z : Tenant L). string_bytes z.parts.tenant ≡ string_bytes z.name) (sym s.1) (step.named ∙ kept.named t x there))
+        (λ o. kept.named u y o.1)
+        (get_put old.tenants.items t u x (record x { parts = p; groups = gs }) y there here);
+    apart = λ file stray. subst (λ qs. IsLeftAlone log qs shelf.next file) (sym parts_after)
+        (alone_stays log law (parts_of old.tenants.items) t x.parts p (disk old.shelf.store) (disk shelf.store) old.shelf.next shelf.next parts_there kept.sound step file (kept.apart file stray));
+    settled = λ known none. subst (λ qs. AreSettled log qs (strays_of old.strays) (disk shelf.store)) (sym parts_after)
+        (settled_stays log law (parts_of old.tenants.items) t x.parts p (disk old.shelf.store) (disk shelf.store) old.shelf.next shelf.next parts_there kept.sound step (strays_of old.strays)
+        (subst (λ qs. HaveNothingRefused qs) parts_after none) (kept.settled known));
+    agree = λ honest. shelf_turn.agree honest (kept.agree (shelf_turn.honest honest));
+    until = idle;
+  }
+
+  -- the files that are left alone have the bytes that they had
+  pub alone_after : AreLeftAlone (strays_of old.strays) (disk old.shelf.store) (disk shelf.store)
+  alone_after honest file stray =
+      bytes_stay log law (parts_of old.tenants.items) t x.parts p (disk old.shelf.store) (disk shelf.store) old.shelf.next shelf.next parts_there kept.sound step honest file (kept.apart file stray)
 
   counts_after : counts_in (after old t x p gs shelf).tenants.items ≡ slice_set (counts_in old.tenants.items) t p.refusals
   unfolding counts_in
@@ -280,6 +297,14 @@ module _ {L S : Type 0} (log : L → Log) (disk : S → Disk) (law : (l : L) →
       loud x.parts.refusals x.parts (omega arith)
       (subst (λ (v : Parts L). IsCalm x.parts.refusals v.refusals) counted (calm_here log disk law old t x p x.groups old.shelf lt read kept refused_at calm))
 
+  -- it is one refusal more, short of the end
+  pub once_refused : refusals_of (hosted log disk (after old t x p x.groups old.shelf)) t ≡ counted_once (refusals_of (hosted log disk old) t)
+  once_refused =
+      let files = (disk old.shelf.store).files in
+      let was = refusals_here log files old.tenants.items t x (there log disk law old t x p x.groups old.shelf lt read kept refused_at) in
+      let is = refusals_here log files (after old t x p x.groups old.shelf).tenants.items t (record x { parts = p }) (there_after log disk law old t x p x.groups old.shelf lt read kept refused_at) in
+      is ∙ ap (λ (v : Parts L). v.refusals) counted ∙ sym (ap counted_once was)
+
   pub accounted_refused : IsAccounted (hosted log disk old) (hosted log disk (after old t x p x.groups old.shelf)) (disk old.shelf.store).failures (disk old.shelf.store).failures
   accounted_refused =
       accounted_rises (hosted log disk old) (hosted log disk (after old t x p x.groups old.shelf)) (disk old.shelf.store).failures
@@ -412,7 +437,7 @@ module _ {L S : Type 0} (log : L → Log) (disk : S → Disk) (law : (l : L) →
       recast log a x.parts q (disk old.shelf.store) old.shelf.next (ap (λ (v : Parts L). v.catalog) set) (ap (λ (v : Parts L). v.tenant) set, ap (λ (v : Parts L). v.segment_bytes) set) (ap (λ (v : Parts L). entries v) set) (ap (λ (v : Parts L). v.kept_until) set) (omega (arith, same)) (step_same a sound_here)
 
   agrees_at : Agrees log x.parts (disk old.shelf.store).files → Agrees log (record x.parts { clock = clock }) (disk old.shelf.store).files
-  agrees_at agree = record { catalog = agree.catalog; fold = agree.fold; logs = agree.logs; until = agree.until }
+  agrees_at agree = record { catalog = agree.catalog; fold = agree.fold; logs = agree.logs; started = agree.started; meta_started = agree.meta_started; until = agree.until }
 
   module _ (mid p : Parts L) (n : ℕ) (gs : Groups) (shelf : Shelved S) (counted : p ≡ raised mid n) (step : IsStep (scene log disk q old.shelf) (scene log disk mid shelf)) where
     counted_at : IsStep (scene log disk q old.shelf) (scene log disk p shelf)
@@ -430,6 +455,9 @@ module _ {L S : Type 0} (log : L → Log) (disk : S → Disk) (law : (l : L) →
     -- where the tenant is looked at
     pub kept_at : (until : ℤ) → until ≤ℤ old.kept_until → IsQuiet log (record x { parts = p; groups = gs }) until → AreKept log disk (record (after old t x p gs shelf) { kept_until = until })
     kept_at = kept_after log disk law old t x p gs shelf lt read kept step_at
+
+    pub alone_at : AreLeftAlone (strays_of old.strays) (disk old.shelf.store) (disk shelf.store)
+    alone_at = alone_after log disk law old t x p gs shelf lt read kept step_at
 
     pub turn_at : IsTurn t (disk shelf.store).honest (hosted log disk old) (hosted log disk (after old t x p gs shelf))
     turn_at = turn_after log disk law old t x p gs shelf lt read kept step_at

@@ -1,9 +1,11 @@
 pub mod Accounted
 pub mod Added
+pub mod Alone
 pub mod Answered
 pub mod Clock
 pub mod Hosted
 pub mod Idle
+pub mod KeptIn
 pub mod Others
 pub mod Passed
 pub mod Small

@@ -1,6 +1,7 @@
--- What a tenant's own call leaves of the other tenants.
+-- What a tenant's own call leaves of the other tenants, and of the files that are left alone.
 use Rattle.std.proofs.Common.{◌≡◌, ◌∙◌, ◌⊎◌, ⊎_elim, inl, inr, ◌≤◌, ◌<◌, ℕ, zero, suc, List, [], ◌∷◌, Option, Some, None, sym, ap, refl, subst, arith, length, get_or}
 use Rattle.std.specs.Prelude.{slice_get, slice_set, option_map}
+use Rattle.kb_partitions.specs.Partitions.{AreExact}
 use Rattle.std.specs.FinMap.{get}
 use Rattle.kb_store.specs.Disk.{Disk}
 use Rattle.kb_log.specs.OnShelf.{Log, IsLawfulLog}
@@ -10,13 +11,14 @@ use Rattle.std.proofs.lemmas.List.{length-set}
 use Rattle.kb_partitions.proofs.Put.{get_put}
 use Rattle.kb_world.specs.KeptUntil.{AreAllKept}
 use Rattle.kb_world.specs.Parts as parts
-use Rattle.kb_world.specs.Parts.{IsSound, Agrees, Owns, entries, meta, world_of}
-use Rattle.kb_world.specs.Steps.{IsStep, Meets}
+use Rattle.kb_world.specs.Parts.{IsSound, Agrees, Owns, END, entries, meta, world_of}
+use Rattle.kb_world.specs.Steps.{IsStep, IsCalm, Meets}
 use Rattle.kb_world.specs.World.{World}
 use Rattle.kb_world.specs.declared.parts.Parts.{Parts}
 use Rattle.kb_world.proofs.Spared as spared
-use Rattle.kb_tenants.specs.Tenants.{AreSound}
+use Rattle.kb_tenants.specs.Tenants.{AreSettled, AreSound, HaveNothingRefused, IsLeftAlone}
 use Rattle.kb_tenants.specs.Turns.{IsShelfTurn, IsShelfMet}
+use Rattle.kb_tenant.proofs.LogMoves.{same_or_not}
 
 -- ---- a tenant whose files were left as they were
 
@@ -56,8 +58,17 @@ module _ {L : Type 0} (log : L → Log) (law : (l : L) → IsLawfulLog (log l)) 
     catalog = lawful.agrees_stays d.files e.files agree.catalog (there honest);
     fold = subst (λ bs. IsFold bs (known q.catalog)) (sym (lawful.batches_stay d.files e.files (there honest))) agree.fold;
     logs = spared.spared_agree log law (entries q) d e next last sound.logs later (λ file lt own. lengths file lt (inr own)) (λ h file lt own. contents h file lt (inr own)) honest agree.logs;
+    started = agree.started;
+    meta_started = agree.meta_started;
     until = subst (AreAllKept q.kept_until) (sym (still_seen honest)) agree.until;
   }
+
+  pub still_exact : (meta log q).exact d.table → (meta log q).exact e.table
+  still_exact exact = lawful.exact_stays d.table e.table exact (λ file own. lengths file (below file own) (inl own))
+
+  pub still_exact_logs : AreExact log (entries q) d.table → AreExact log (entries q) e.table
+  still_exact_logs =
+      spared.spared_exact log law (entries q) d e next last sound.logs later (λ file lt own. lengths file lt (inr own)) (λ honest file lt own. contents honest file lt (inr own))
 
 -- ---- all tenants
 
@@ -68,6 +79,11 @@ other_at (x ∷ xs) zero zero y ne = absurd (ne refl)
 other_at (x ∷ xs) zero (suc u) y ne = refl
 other_at (x ∷ xs) (suc t) zero y ne = refl
 other_at (x ∷ xs) (suc t) (suc u) y ne = other_at xs t u y (λ e. ne (ap suc e))
+
+pub put_here : {A : Type 0} (xs : List A) (t : ℕ) (x y : A) → slice_get xs t ≡ Some x → slice_get (slice_set xs t y) t ≡ Some y
+put_here [] t x y at = absurd cc
+put_here (z ∷ xs) zero x y at = refl
+put_here (z ∷ xs) (suc t) x y at = put_here xs t x y at
 
 le_same : (n : ℕ) → n ≤ n
 le_same n = omega arith
@@ -150,6 +166,65 @@ module _ {L : Type 0} (log : L → Log) (law : (l : L) → IsLawfulLog (log l)) 
         (λ o. subst (λ (v : Parts L). q.refusals ≤ v.refusals) (one_item q r (sym here ∙ o.1)) (le_same q.refusals))
         (either u r now);
   }
+
+  -- ---- the files that are left alone
+
+  -- none of them is the tenant's
+  not_own : (file : ℕ) → IsLeftAlone log ps next file → Owns log p file → ⊥
+  not_own file alone own = alone.nobodys (record { tenant = t; parts = p; at = at; owns = own })
+
+  pub alone_stays : (file : ℕ) → IsLeftAlone log ps next file → IsLeftAlone log (slice_set ps t p') last file
+  alone_stays file alone = record {
+    given_out = omega (arith, alone.given_out, step.frame.others.later);
+    nobodys = λ some. ⊎_elim
+        (λ s. ⊎_elim
+        (λ old. not_own file alone old)
+        (λ le. omega (arith, le, alone.given_out))
+        (step.frame.others.owned file (subst (λ (v : Parts L). Owns log v file) s.1 some.owns)))
+        (λ o. alone.nobodys (record { tenant = some.tenant; parts = some.parts; at = o.1; owns = some.owns }))
+        (either some.tenant some.parts some.at);
+  }
+
+  pub bytes_stay : e.honest → (file : ℕ) → IsLeftAlone log ps next file → get e.files file ≡ get d.files file
+  bytes_stay honest file alone = step.frame.others.contents honest file alone.given_out (not_own file alone)
+
+  -- ---- what is in the files, where nothing was ever refused
+
+  nothing_before : HaveNothingRefused (slice_set ps t p') → HaveNothingRefused ps
+  nothing_before none u q here = ⊎_elim
+      (λ is. let more : p.refusals ≤ p'.refusals = step.grows in
+      let now = none t p' (put_here ps t p p' at) in
+      ap (λ (v : Parts L). v.refusals) (sym (same_item ps t u p q at here is)) ∙ omega (arith, more, now))
+      (λ ne. none u q (other_at ps t u p' ne ∙ here))
+      (same_or_not u t)
+
+  calm_step : HaveNothingRefused (slice_set ps t p') → IsCalm p.refusals p'.refusals
+  calm_step none =
+      let now = none t p' (put_here ps t p p' at) in
+      let was = nothing_before none t p at in
+      record { same = now ∙ sym was; below = omega (arith, was) }
+
+  pub settled_stays : (strays : List ℕ) → HaveNothingRefused (slice_set ps t p') → (HaveNothingRefused ps → AreSettled log ps strays d) → AreSettled log (slice_set ps t p') strays e
+  settled_stays strays none before =
+      let old = before (nothing_before none) in
+      let settles = step.settles (calm_step none) in
+      let own = settles.exact (old.meta_exact t p at, old.exact t p at) in
+      record {
+        accounts = λ file there not.
+            let was = settles.accounts file there (λ mine. not (record { tenant = t; parts = p'; at = put_here ps t p p' at; owns = mine })) in
+            old.accounts file was.0 (λ some. ⊎_elim
+            (λ is. was.1 (subst (λ (v : Parts L). Owns log v file) (sym (same_item ps t some.tenant p some.parts at some.at is)) some.owns))
+            (λ ne. not (record { tenant = some.tenant; parts = some.parts; at = other_at ps t some.tenant p' ne ∙ some.at; owns = some.owns }))
+            (same_or_not some.tenant t));
+        meta_exact = λ u q here. ⊎_elim
+            (λ s. subst (λ (v : Parts L). (meta log v).exact e.table) (sym s.1) own.0)
+            (λ o. still_exact log law q d e next last (sound.each u q o.1) step.frame.others.later (lengths u q o.1 o.0) (contents u q o.1 o.0) (old.meta_exact u q o.1))
+            (either u q here);
+        exact = λ u q here. ⊎_elim
+            (λ s. subst (λ (v : Parts L). AreExact log (entries v) e.table) (sym s.1) own.1)
+            (λ o. still_exact_logs log law q d e next last (sound.each u q o.1) step.frame.others.later (lengths u q o.1 o.0) (contents u q o.1 o.0) (old.exact u q o.1))
+            (either u q here);
+      }
 
   -- what the step meets is what the turn meets
   pub met : (P : World → World → Type 0) → Meets (parts.scene_on log p d next) (parts.scene_on log p' e last) (P (world_of log p d.files) (world_of log p' e.files)) → IsShelfMet log t ps (slice_set ps t p') d e next last P

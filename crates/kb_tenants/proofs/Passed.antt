@@ -1,12 +1,34 @@
 -- A moment of the tenants in turn.
-use Rattle.std.proofs.Common.{◌≡◌, ◌∙◌, ⊎_elim, ◌≤◌, ◌<◌, ◌+◌, ℕ, Bool, true, false, ◌||◌, List, length, sym, ap, refl, subst, arith}
+use Rattle.std.proofs.Common.{◌≡◌, ◌∙◌, ◌⊎◌, ⊎_elim, inl, inr, ◌≤◌, ◌<◌, ◌+◌, ℕ, Bool, true, List, length, sym, ap, refl, subst, arith}
 use Rattle.std.proofs.lemmas.List.{length-map}
+use Rattle.kb_world.specs.Calls.{retain_all}
+use Rattle.kb_world.specs.Parts.{END}
 use Rattle.kb_world.specs.Steps.{IsCalm, calm_then}
-use Rattle.kb_service.specs.Waiters.{AreTicked, members_on, replies_on}
+use Rattle.kb_service.specs.Waiters.{AreTicked}
 use Rattle.kb_service.specs.Hosted.{Kept, TenantState, HavePassed, IsTurn, IsMet, kept_of, refusals_of, names_of, passed}
 use Rattle.kb_tenant.proofs.LogMoves.{same_or_not}
-use Rattle.kb_tenants.specs.Tenants.{regrouped, retained}
+use Rattle.kb_tenants.specs.Tenants.{IsDisturbed, drops, regrouped, retained}
 use Rattle.kb_tenants.proofs.Idle.{below_or_not, past_passed}
+
+-- ---- a call and then another
+
+-- nothing was done
+pub turn_same : (t : ℕ) (H : Type 0) (ps : List TenantState) → IsTurn t H ps ps
+turn_same t H ps = record { names = refl; grows = λ u. omega arith; counts = λ u ne. refl; others = λ honest u ne. refl }
+
+-- what holds of any store holds of an honest one
+pub turn_where : (t : ℕ) (H : Type 0) (ps qs : List TenantState) → IsTurn t (Unit {0}) ps qs → IsTurn t H ps qs
+turn_where t H ps qs turn = record { names = turn.names; grows = turn.grows; counts = turn.counts; others = λ honest. turn.others tt }
+
+-- a count shows a refusal, or none
+calm_or_not : (m n : ℕ) → IsCalm m n ⊎ (IsCalm m n → ⊥)
+calm_or_not m n = ⊎_elim
+    (λ same. ⊎_elim
+    (λ below. inl (record { same = same; below = below }))
+    (λ ended. inr (λ calm. let below = calm.below in omega (arith, below, ended)))
+    (below_or_not m END))
+    (λ ne. inr (λ calm. ne calm.same))
+    (same_or_not n m)
 
 -- ---- a moment of one tenant: its groups', and then retention
 
@@ -21,11 +43,32 @@ module _ (clock t : ℕ) (H G : Type 0) (ps qs rs : List TenantState) (before : 
   }
 
   -- and what both meet is the moment
-  pub met_both : IsMet t H ps qs (λ k l. l ≡ regrouped clock k) → IsMet t G qs rs (λ k l. l ≡ retained clock k) → IsMet t G ps rs (λ k l. l ≡ passed clock k)
+  pub met_both : (dropped : Bool) → IsMet t H ps qs (λ k l. l ≡ regrouped clock k) → IsMet t G qs rs (λ k l. (l ≡ retained clock k) × (dropped ≡ drops clock k)) → IsMet t G ps rs (λ k l. l ≡ passed clock k)
   unfolding passed retained
-  met_both groups topics honest calm =
+  met_both dropped groups topics honest calm =
       let calms = calm_then (refusals_of ps t) (refusals_of qs t) (refusals_of rs t) (first.grows t) (second.grows t) calm in
-      topics honest calms.1 ∙ ap (retained clock) (groups (before honest) calms.0)
+      (topics honest calms.1).0 ∙ ap (retained clock) (groups (before honest) calms.0)
+
+  -- batches were dropped, or a refusal was counted
+  pub disturbed_both : (dropped : Bool) → dropped ≡ true → IsMet t G qs rs (λ k l. (l ≡ retained clock k) × (dropped ≡ drops clock k))
+      → ((kept_of qs t).known ≡ (kept_of ps t).known) × ((kept_of qs t).logs ≡ (kept_of ps t).logs) → G → IsDisturbed clock t ps rs
+  disturbed_both dropped so topics same honest = ⊎_elim
+      (λ calm.
+      let calms = calm_then (refusals_of ps t) (refusals_of qs t) (refusals_of rs t) (first.grows t) (second.grows t) calm in
+      let seen : drops clock (kept_of qs t) ≡ drops clock (kept_of ps t) = (λ i. (retain_all (record { known = same.0 i; logs = same.1 i; clock = clock })).1) in
+      inl (sym seen ∙ sym (topics honest calms.1).1 ∙ so))
+      (λ loud. inr loud)
+      (calm_or_not (refusals_of ps t) (refusals_of rs t))
+
+  -- a refusal in the second call is one of both
+  pub loud_both : (IsCalm (refusals_of qs t) (refusals_of rs t) → ⊥) → IsCalm (refusals_of ps t) (refusals_of rs t) → ⊥
+  loud_both loud calm = loud (calm_then (refusals_of ps t) (refusals_of qs t) (refusals_of rs t) (first.grows t) (second.grows t) calm).1
+
+  -- where the second leaves what is kept, what the first met is met
+  pub met_still : (P : Kept → Kept → Type 0) → IsMet t H ps qs P → ((u : ℕ) → kept_of rs u ≡ kept_of qs u) → IsMet t G ps rs P
+  met_still P met stays honest calm =
+      let calms = calm_then (refusals_of ps t) (refusals_of qs t) (refusals_of rs t) (first.grows t) (second.grows t) calm in
+      subst (λ (k : Kept). P (kept_of ps t) k) (sym (stays t)) (met (before honest) calms.0)
 
 -- ---- a moment of all of them
 
@@ -85,6 +128,20 @@ module _ (clock i : ℕ) (H G : Type 0) (ps qs rs : List TenantState) (before : 
     rest = λ honest u le. turn.others honest u (λ same. omega (arith, le, same)) ∙ done.rest (before honest) u (omega (arith, le));
     waits = next_waits;
   }
+
+  -- what disturbed a tenant before disturbs it still
+  pub still_disturbed : (u : ℕ) → u < i → IsDisturbed clock u ps qs → IsDisturbed clock u ps rs
+  still_disturbed u lt disturbed = ⊎_elim
+      (λ dropped. inl dropped)
+      (λ loud. inr (subst (λ n. IsCalm (refusals_of ps u) n → ⊥) (sym (turn.counts u (λ same. omega (arith, lt, same)))) loud))
+      disturbed
+
+  -- what disturbs this one
+  pub disturbed_now : H → IsDisturbed clock i qs rs → IsDisturbed clock i ps rs
+  disturbed_now honest disturbed = ⊎_elim
+      (λ dropped. inl (sym (ap (drops clock) (done.rest honest i (omega arith))) ∙ dropped))
+      (λ loud. inr (subst (λ n. IsCalm n (refusals_of rs i) → ⊥) (done.counts i (omega arith)) loud))
+      disturbed
 
 -- behind the last tenant
 pub passed_over : (clock i : ℕ) (H : Type 0) (ps qs : List TenantState) → length ps ≤ i → HavePassedTo clock i H ps qs → HavePassed clock H ps qs

@@ -23,7 +23,7 @@ use Rattle.kb_partitions.specs.declared.partition.Partition.{Partition}
 use Rattle.kb_world.specs.Parts.{entries}
 use Rattle.kb_tenant.specs.Batches.{HasSmallLogs, IsSmall}
 use Rattle.kb_service.specs.Hosted.{kept_of, world_at}
-use Rattle.kb_tenants.specs.Tenants.{AreKept, hosted, is_honest, state_of}
+use Rattle.kb_tenants.specs.Tenants.{AreKept, hosted, shelf_is_honest, state_of}
 use Rattle.kb_tenants.specs.declared.tenants.Tenant.{Tenant}
 use Rattle.kb_tenants.specs.declared.tenants.Tenants.{Tenants}
 
@@ -85,7 +85,7 @@ module _ {L : Type 0} (log : L → Log) (law : (l : L) → IsLawfulLog (log l)) 
   small_kept files (x ∷ ts) zero each = each 0 x refl
   small_kept files (x ∷ ts) (suc t) each = small_kept files ts t (λ u y at. each (suc u) y at)
 
-  pub small_hosted : {S : Type 0} (disk : S → Disk) (ts : Tenants L S) → AreKept log disk ts → is_honest disk ts → (t clock : ℕ) → HasSmallLogs (world_at (kept_of (hosted log disk ts) t) clock)
+  pub small_hosted : {S : Type 0} (disk : S → Disk) (ts : Tenants L S) → AreKept log disk ts → shelf_is_honest disk ts → (t clock : ℕ) → HasSmallLogs (world_at (kept_of (hosted log disk ts) t) clock)
   small_hosted disk ts kept honest t clock =
       let d = disk ts.shelf.store in
       small_kept d.files ts.tenants.items t (λ u x at.

@@ -11,7 +11,7 @@ use Rattle.kb_service.specs.Hosted.{kept_of, world_at}
 use Rattle.kb_tenant.proofs.Tied.{clock_tied, new_tied}
 use Rattle.kb_tenant.specs.Waiting.{HasOwnNames}
 use Rattle.kb_tenant.proofs.Folding.{agreed_names}
-use Rattle.kb_tenants.specs.Tenants.{Agree, is_honest, AreKept, hosted, parts_of, state_of}
+use Rattle.kb_tenants.specs.Tenants.{Agree, shelf_is_honest, AreKept, hosted, parts_of, state_of}
 use Rattle.kb_tenants.specs.declared.tenants.Tenant.{Tenant}
 use Rattle.kb_tenants.specs.declared.tenants.Tenants.{Tenants}
 
@@ -30,5 +30,5 @@ named_among log files clock [] each t = tt
 named_among log files clock (x ∷ xs) each zero = agreed_names log x.parts files (each 0 x.parts refl)
 named_among log files clock (x ∷ xs) each (suc t) = named_among log files clock xs (λ u p at. each (suc u) p at) t
 
-pub kept_names : {L S : Type 0} (log : L → Log) (disk : S → Disk) (ts : Tenants L S) → AreKept log disk ts → is_honest disk ts → (t clock : ℕ) → HasOwnNames (world_at (kept_of (hosted log disk ts) t) clock)
+pub kept_names : {L S : Type 0} (log : L → Log) (disk : S → Disk) (ts : Tenants L S) → AreKept log disk ts → shelf_is_honest disk ts → (t clock : ℕ) → HasOwnNames (world_at (kept_of (hosted log disk ts) t) clock)
 kept_names log disk ts kept honest t clock = named_among log (disk ts.shelf.store).files clock ts.tenants.items (kept.agree honest) t

@@ -1,14 +1,20 @@
 -- All tenants of a broker on one shelf.
-use Rattle.std.specs.Prelude.{◌≡◌, ◌≤ℤ◌, ◌++◌, ◌∷◌, [], ℕ, ℤ, pos, List, Some, map, slice_get, string_bytes, Contains}
-use Rattle.kb_store.specs.Disk.{Disk, Table, Files}
+use Rattle.std.specs.Prelude.{◌≡◌, ◌<◌, ◌≤ℤ◌, ◌++◌, ◌∷◌, ◌⊎◌, [], ℕ, ℤ, pos, Bool, true, List, Option, Some, IsSome, option_map, unwrap_or, map, slice_get, string_bytes, Contains}
+use Rattle.std.specs.FinMap.{get}
+use Rattle.std.specs.declared.alloc.Global.{Global}
+use Rattle.std.specs.declared.vec.Vec.{Vec}
+use Rattle.kb_store.specs.Disk.{Disk, Table, Files, IsThere}
 use Rattle.kb_log.specs.OnShelf.{Log}
 use Rattle.kb_coordinator.specs.Calls as groups
 use Rattle.kb_coordinator.specs.Groups.{Groups, none}
 use Rattle.kb_groups.specs.declared.reply.Release.{Release}
 use Rattle.kb_world.specs.Calls.{retain_all}
-use Rattle.kb_world.specs.Parts.{IsSound, Agrees, Owns, world_of}
+use Rattle.kb_topics.specs.Catalog.{known}
+use Rattle.kb_partitions.specs.Partitions.{AreExact, logs_of}
+use Rattle.kb_world.specs.Parts.{IsSound, Agrees, Owns, entries, meta, world_of}
+use Rattle.kb_world.specs.Steps.{IsCalm}
 use Rattle.kb_world.specs.declared.parts.Parts.{Parts}
-use Rattle.kb_service.specs.Hosted.{Kept, TenantState, kept_in, kept_of, passed, world_at}
+use Rattle.kb_service.specs.Hosted.{Kept, TenantState, kept_in, kept_of, names_of, passed, refusals_of, world_at}
 use Rattle.kb_service.specs.Replies.{told_to}
 use Rattle.kb_tenant.specs.Replies.{Silent}
 use Rattle.kb_tenants.specs.declared.tenants.Tenant.{Tenant}
@@ -39,8 +45,8 @@ abbrev pub state_of : {L : Type 0} → (L → Log) → Files → Tenant L → Te
 state_of log files x = record { name = string_bytes x.name; kept = kept_in (world_of log x.parts files) x.groups; refusals = x.parts.refusals }
 
 -- whether the store has told the truth so far
-abbrev pub is_honest : {L S : Type 0} → (S → Disk) → Tenants L S → Type 0
-is_honest disk ts = (disk ts.shelf.store).honest
+abbrev pub shelf_is_honest : {L S : Type 0} → (S → Disk) → Tenants L S → Type 0
+shelf_is_honest disk ts = (disk ts.shelf.store).honest
 
 -- the tenants, by place
 abbrev pub hosted : {L S : Type 0} → (L → Log) → (S → Disk) → Tenants L S → List TenantState
@@ -60,8 +66,8 @@ abbrev pub connection_of : Release → ℕ
 connection_of r = r.connection
 
 -- the connections whose requests waited and were answered by the last request or moment, in the order of the replies
-abbrev pub answered : Groups → List ℕ
-answered gs = map connection_of gs.released
+abbrev pub answered_connections : Groups → List ℕ
+answered_connections gs = map connection_of gs.released
 
 -- of what a tenant keeps at most its groups have changed, and a request that they told nothing is told nothing, but on those connections
 pub record IsQuietBut (ns : List ℕ) (old new : Kept) : Type 0 where
@@ -83,13 +89,79 @@ regrouped clock kept = record kept { groups = groups.passed clock kept.groups }
 unfoldable pub retained : ℕ → Kept → Kept
 retained clock kept = kept_in (retain_all (world_at kept clock)).0 kept.groups
 
+-- whether there is anything that it drops then
+abbrev pub drops : ℕ → Kept → Bool
+drops clock kept = (retain_all (world_at kept clock)).1
+
+-- batches of that tenant were dropped then, or a refusal was counted for it
+abbrev pub IsDisturbed : (clock t : ℕ) (old new : List TenantState) → Type 0
+IsDisturbed clock t old new = (drops clock (kept_of old t) ≡ true) ⊎ (IsCalm (refusals_of old t) (refusals_of new t) → ⊥)
+
+-- of some tenant
+abbrev pub IsSomeDisturbed : ℕ → (old new : List TenantState) → Type 0
+IsSomeDisturbed clock old new = (t : ℕ) × IsDisturbed clock t old new
+
 -- at each clock up to that one a moment leaves each tenant what it keeps
 abbrev pub IsIdleUntil : ℤ → List TenantState → Type 0
 IsIdleUntil until ts = (t clock : ℕ) → pos clock ≤ℤ until → passed clock (kept_of ts t) ≡ kept_of ts t
 
--- What holds between the calls: the parts are sound on the shelf; and on an honest store they agree with their files, and up to a
--- clock a moment leaves each tenant what it keeps.
+-- ---- the files
+
+-- the numbers of files, where it is known which these are
+abbrev pub numbers_in : Option (Vec ℕ Global) → Option (List ℕ)
+numbers_in files = option_map (λ (v : Vec ℕ Global). v.items) files
+
+-- the files that are of no log, as far as they are known
+abbrev pub strays_of : Option (Vec ℕ Global) → List ℕ
+strays_of files = unwrap_or (numbers_in files) []
+
+-- the file is of some tenant's log
+pub record IsOfSome {L : Type 0} (log : L → Log) (ps : List (Parts L)) (file : ℕ) : Type 0 where
+  pub tenant : ℕ
+  pub parts : Parts L
+  pub at : slice_get ps tenant ≡ Some parts
+  pub owns : Owns log parts file
+
+-- a file of no tenant, whose number was given out
+pub record IsLeftAlone {L : Type 0} (log : L → Log) (ps : List (Parts L)) (next file : ℕ) : Type 0 where
+  pub given_out : file < next
+  pub nobodys : IsOfSome log ps file → ⊥
+
+-- the files that are left alone have the bytes that they had
+abbrev pub AreLeftAlone : List ℕ → Disk → Disk → Type 0
+AreLeftAlone strays old new = new.honest → (file : ℕ) → Contains strays file → get new.files file ≡ get old.files file
+
+-- Each file that is there and of no tenant's log is left alone; and nothing but its batches is in the files of a log.
+pub record AreSettled {L : Type 0} (log : L → Log) (ps : List (Parts L)) (strays : List ℕ) (disk : Disk) : Type 0 where
+  pub accounts : (file : ℕ) → IsThere disk file → (IsOfSome log ps file → ⊥) → Contains strays file
+  pub meta_exact : (t : ℕ) (p : Parts L) → slice_get ps t ≡ Some p → (meta log p).exact disk.table
+  pub exact : (t : ℕ) (p : Parts L) → slice_get ps t ≡ Some p → AreExact log (entries p) disk.table
+
+-- nothing was ever refused to any of them
+abbrev pub HaveNothingRefused : {L : Type 0} → List (Parts L) → Type 0
+HaveNothingRefused {L} ps = (t : ℕ) (p : Parts L) → slice_get ps t ≡ Some p → p.refusals ≡ 0
+
+-- What tenants have is in the files of a disk, on which some are left alone: each has what its parts come to, and nothing else is there.
+pub record AreKeptIn {L : Type 0} (log : L → Log) (disk : Disk) (strays : List ℕ) (ts : List TenantState) : Type 0 where
+  pub parts : List (Parts L)
+  pub next : ℕ
+  pub sound : AreSound log parts disk.table next
+  pub agree : Agree log parts disk.files
+  pub settled : AreSettled log parts strays disk
+  pub apart : (file : ℕ) → Contains strays file → IsLeftAlone log parts next file
+  pub named : names_of ts ≡ map (λ p. string_bytes p.tenant) parts
+  pub known_is : (t : ℕ) (p : Parts L) → slice_get parts t ≡ Some p → (kept_of ts t).known ≡ known p.catalog
+  pub logs_are : (t : ℕ) (p : Parts L) → slice_get parts t ≡ Some p → (kept_of ts t).logs ≡ logs_of log (entries p) disk.files
+
+-- ---- between the calls
+
+-- What holds between the calls: the parts are sound on the shelf, each under its tenant's name; on an honest store they agree with
+-- their files, and up to a clock a moment leaves each tenant what it keeps. The files that are left alone are no tenant's; and where
+-- they are known, and nothing was ever refused, each other file is of a log, and has nothing but its batches.
 pub record AreKept {L S : Type 0} (log : L → Log) (disk : S → Disk) (ts : Tenants L S) : Type 0 where
   pub sound : AreSound log (parts_of ts.tenants.items) (disk ts.shelf.store).table ts.shelf.next
-  pub agree : is_honest disk ts → Agree log (parts_of ts.tenants.items) (disk ts.shelf.store).files
-  pub until : is_honest disk ts → IsIdleUntil ts.kept_until (hosted log disk ts)
+  pub named : (t : ℕ) (x : Tenant L) → slice_get ts.tenants.items t ≡ Some x → string_bytes x.parts.tenant ≡ string_bytes x.name
+  pub apart : (file : ℕ) → Contains (strays_of ts.strays) file → IsLeftAlone log (parts_of ts.tenants.items) ts.shelf.next file
+  pub settled : IsSome ts.strays → HaveNothingRefused (parts_of ts.tenants.items) → AreSettled log (parts_of ts.tenants.items) (strays_of ts.strays) (disk ts.shelf.store)
+  pub agree : shelf_is_honest disk ts → Agree log (parts_of ts.tenants.items) (disk ts.shelf.store).files
+  pub until : shelf_is_honest disk ts → IsIdleUntil ts.kept_until (hosted log disk ts)

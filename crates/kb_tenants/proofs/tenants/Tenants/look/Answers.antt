@@ -4,7 +4,7 @@ use Rattle.kb_world.specs.Parts.{END}
 use Rattle.kb_service.specs.Hosted.{kept_in, world_at}
 use Rattle.kb_tenant.specs.Replies.{IsAnswer}
 use Rattle.kb_tenant.specs.Serve.{looked}
-use Rattle.kb_tenants.proofs.Hosted.{accounted_at, sound_at, kept_stay_at, turn_at, met_at, stays_at, calm_at, calm_from}
+use Rattle.kb_tenants.proofs.Hosted.{accounted_at, alone_at, sound_at, kept_stay_at, turn_at, met_at, stays_at, calm_at, calm_from}
 use Rattle.kb_tenants.proofs.tenants.Tenants.look.Goals as goal
 use Rattle.kb_tenants.proofs.tenants.Tenants.look.Goals.{else-refusals-before-via-then-refusals-before+else-before-lt18446744073709551615, else-refusals-before-via-else-refusals-before}
 
@@ -23,6 +23,11 @@ returns-then-before-lt18446744073709551615-clause-kept g c =
 pub returns-then-before-lt18446744073709551615-clause-turn : goal.returns-then-before-lt18446744073709551615-clause-turn
 returns-then-before-lt18446744073709551615-clause-turn g c =
     turn_at g.L.PartitionLog.log g.S.Store.disk g.met.L.PartitionLog.lawful c.args.self.now c.args.tenant c.index_mut.result.now c.set_clock.new.self c.args.clock
+    c.requires.tenant c.index_mut.ensures.value c.requires.kept c.set_clock.ensures.parts c.look-answer.new.parts c.count.new.parts (min (c.refusals-before.result + (c.failures.result - c.failures-failures.result)) END) c.index_mut.result.now.groups c.look-answer.new.shelf c.count.ensures c.look-answer.ensures.step
+
+pub returns-then-before-lt18446744073709551615-clause-left_alone : goal.returns-then-before-lt18446744073709551615-clause-left_alone
+returns-then-before-lt18446744073709551615-clause-left_alone g c =
+    alone_at g.L.PartitionLog.log g.S.Store.disk g.met.L.PartitionLog.lawful c.args.self.now c.args.tenant c.index_mut.result.now c.set_clock.new.self c.args.clock
     c.requires.tenant c.index_mut.ensures.value c.requires.kept c.set_clock.ensures.parts c.look-answer.new.parts c.count.new.parts (min (c.refusals-before.result + (c.failures.result - c.failures-failures.result)) END) c.index_mut.result.now.groups c.look-answer.new.shelf c.count.ensures c.look-answer.ensures.step
 
 pub returns-then-before-lt18446744073709551615-clause-meets : goal.returns-then-before-lt18446744073709551615-clause-meets
@@ -66,6 +71,11 @@ returns-else-refusals-before-clause-kept g c =
 pub returns-else-refusals-before-clause-turn : goal.returns-else-refusals-before-clause-turn
 returns-else-refusals-before-clause-turn g c =
     turn_at g.L.PartitionLog.log g.S.Store.disk g.met.L.PartitionLog.lawful c.args.self.now c.args.tenant c.index_mut.result.now c.set_clock.new.self c.args.clock
+    c.requires.tenant c.index_mut.ensures.value c.requires.kept c.set_clock.ensures.parts c.look-answer.new.parts c.count.new.parts (min (c.refusals-before.result + (c.failures.result - c.failures-failures.result)) END) c.index_mut.result.now.groups c.look-answer.new.shelf c.count.ensures c.look-answer.ensures.step
+
+pub returns-else-refusals-before-clause-left_alone : goal.returns-else-refusals-before-clause-left_alone
+returns-else-refusals-before-clause-left_alone g c =
+    alone_at g.L.PartitionLog.log g.S.Store.disk g.met.L.PartitionLog.lawful c.args.self.now c.args.tenant c.index_mut.result.now c.set_clock.new.self c.args.clock
     c.requires.tenant c.index_mut.ensures.value c.requires.kept c.set_clock.ensures.parts c.look-answer.new.parts c.count.new.parts (min (c.refusals-before.result + (c.failures.result - c.failures-failures.result)) END) c.index_mut.result.now.groups c.look-answer.new.shelf c.count.ensures c.look-answer.ensures.step
 
 pub returns-else-refusals-before-clause-meets : goal.returns-else-refusals-before-clause-meets

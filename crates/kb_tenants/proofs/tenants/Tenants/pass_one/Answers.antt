@@ -1,11 +1,13 @@
-use Rattle.std.proofs.Common.{◌≡◌, ◌∙◌, ◌++◌, ap, subst, sym}
+use Rattle.std.proofs.Common.{◌≡◌, ◌∙◌, ◌++◌, inr, ap, subst, sym}
 use Rattle.std.specs.Prelude.{Contains}
 use Rattle.std.proofs.lemmas.List.Elements.{Contains-append_left}
-use Rattle.kb_service.specs.Hosted.{Kept, kept_of}
+use Rattle.kb_service.specs.Hosted.{Kept, kept_of, passed}
 use Rattle.kb_service.specs.Waiters.{AreTicked}
-use Rattle.kb_tenants.specs.Tenants.{answered, hosted, is_honest}
-use Rattle.kb_tenants.proofs.Answered.{if_listed, quiet_listed, quiet_turn}
-use Rattle.kb_tenants.proofs.Passed.{met_both, turn_both}
+use Rattle.kb_tenants.specs.Tenants.{answered_connections, hosted, shelf_is_honest}
+use Rattle.kb_tenants.proofs.Accounted.{accounted_then}
+use Rattle.kb_tenants.proofs.Alone.{alone_since, alone_still, honest_before}
+use Rattle.kb_tenants.proofs.Answered.{quiet_listed, quiet_turn}
+use Rattle.kb_tenants.proofs.Passed.{disturbed_both, loud_both, met_both, met_still, turn_both, turn_where}
 use Rattle.kb_tenants.proofs.tenants.Tenants.pass_one.Goals as goal
 
 pub returns-then-retain_one-clause-meets : goal.returns-then-retain_one-clause-meets
@@ -14,8 +16,8 @@ returns-then-retain_one-clause-meets g c =
     let mid = c.pass_groups-regrouped.new.self in
     let new = c.retain_one.new.self in
     let seen = hosted g.L.PartitionLog.log disk in
-    met_both c.args.clock c.args.tenant (is_honest disk mid) (is_honest disk new) (seen c.args.self.now) (seen mid) (seen new) c.retain_one.ensures.honest
-    c.pass_groups-regrouped.ensures.turn c.retain_one.ensures.turn c.pass_groups-regrouped.ensures.meets c.retain_one.ensures.meets
+    met_both c.args.clock c.args.tenant (shelf_is_honest disk mid) (shelf_is_honest disk new) (seen c.args.self.now) (seen mid) (seen new) c.retain_one.ensures.honest
+    c.pass_groups-regrouped.ensures.turn c.retain_one.ensures.turn c.retain_one.result c.pass_groups-regrouped.ensures.meets c.retain_one.ensures.meets
 
 pub returns-then-not-regrouped-clause-meets : goal.returns-then-not-regrouped-clause-meets
 returns-then-not-regrouped-clause-meets g c =
@@ -23,41 +25,8 @@ returns-then-not-regrouped-clause-meets g c =
     let mid = c.pass_groups-regrouped.new.self in
     let new = c.retain_one.new.self in
     let seen = hosted g.L.PartitionLog.log disk in
-    met_both c.args.clock c.args.tenant (is_honest disk mid) (is_honest disk new) (seen c.args.self.now) (seen mid) (seen new) c.retain_one.ensures.honest
-    c.pass_groups-regrouped.ensures.turn c.retain_one.ensures.turn c.pass_groups-regrouped.ensures.meets c.retain_one.ensures.meets
-
-pub returns-else-not-regrouped-clause-meets : goal.returns-else-not-regrouped-clause-meets
-returns-else-not-regrouped-clause-meets g c =
-    let disk = g.S.Store.disk in
-    let mid = c.pass_groups-regrouped.new.self in
-    let new = c.retain_one.new.self in
-    let seen = hosted g.L.PartitionLog.log disk in
-    met_both c.args.clock c.args.tenant (is_honest disk mid) (is_honest disk new) (seen c.args.self.now) (seen mid) (seen new) c.retain_one.ensures.honest
-    c.pass_groups-regrouped.ensures.turn c.retain_one.ensures.turn c.pass_groups-regrouped.ensures.meets c.retain_one.ensures.meets
-
-pub returns-else-not-regrouped-clause-quiet : goal.returns-else-not-regrouped-clause-quiet
-returns-else-not-regrouped-clause-quiet g c = λ known honest.
-    let disk = g.S.Store.disk in
-    let t = c.args.tenant in
-    let mid = c.pass_groups-regrouped.new.self in
-    let new = c.retain_one.new.self in
-    let seen = hosted g.L.PartitionLog.log disk in
-    let ks = c.args.answered.now.items in
-    let ns = c.push_answered.new.numbers.items in
-    let turn = turn_both c.args.clock t (is_honest disk mid) (is_honest disk new) (seen c.args.self.now) (seen mid) (seen new) c.retain_one.ensures.honest c.pass_groups-regrouped.ensures.turn c.retain_one.ensures.turn in
-    let same = c.retain_one.ensures.stays c.if-retain_one.false honest t in
-    let listed : ns ≡ ks ++ answered (kept_of (seen new) t).groups = if_listed c.push_answered.result c.is_ok.result _ c.is_ok.ensures.value known c.push_answered.ensures in
-    quiet_turn (is_honest disk new) honest t ns (seen c.args.self.now) (seen new) turn
-    (quiet_listed ks ns (kept_of (seen c.args.self.now) t) (kept_of (seen new) t) (ap (λ (k : Kept). k.known) same ∙ c.pass_groups-regrouped.ensures.topics.0) (ap (λ (k : Kept). k.logs) same ∙ c.pass_groups-regrouped.ensures.topics.1) listed)
-
-pub returns-else-not-regrouped-clause-longer : goal.returns-else-not-regrouped-clause-longer
-returns-else-not-regrouped-clause-longer g c = λ known n there.
-    let seen = hosted g.L.PartitionLog.log g.S.Store.disk in
-    let ks = c.args.answered.now.items in
-    let ns = c.push_answered.new.numbers.items in
-    let told = answered (kept_of (seen c.retain_one.new.self) c.args.tenant).groups in
-    let listed : ns ≡ ks ++ told = if_listed c.push_answered.result c.is_ok.result _ c.is_ok.ensures.value known c.push_answered.ensures in
-    subst (λ xs. Contains xs n) (sym listed) (Contains-append_left ks told n there)
+    met_both c.args.clock c.args.tenant (shelf_is_honest disk mid) (shelf_is_honest disk new) (seen c.args.self.now) (seen mid) (seen new) c.retain_one.ensures.honest
+    c.pass_groups-regrouped.ensures.turn c.retain_one.ensures.turn c.retain_one.result c.pass_groups-regrouped.ensures.meets c.retain_one.ensures.meets
 
 pub returns-then-retain_one-clause-waits : goal.returns-then-retain_one-clause-waits
 returns-then-retain_one-clause-waits g c =
@@ -69,7 +38,129 @@ returns-then-not-regrouped-clause-waits g c =
     let seen = hosted g.L.PartitionLog.log g.S.Store.disk in
     subst (AreTicked (kept_of (seen c.args.self.now) c.args.tenant).groups) (sym c.retain_one.ensures.groups) c.pass_groups-regrouped.ensures.waits
 
+pub returns-then-retain_one-clause-left_alone : goal.returns-then-retain_one-clause-left_alone
+returns-then-retain_one-clause-left_alone g c =
+    alone_since g.S.Store.disk c.args.self.now c.pass_groups-regrouped.new.self c.retain_one.new.self c.pass_groups-regrouped.ensures.strays c.pass_groups-regrouped.ensures.shelf c.retain_one.ensures.left_alone
+
+pub returns-then-not-regrouped-clause-left_alone : goal.returns-then-not-regrouped-clause-left_alone
+returns-then-not-regrouped-clause-left_alone g c =
+    alone_since g.S.Store.disk c.args.self.now c.pass_groups-regrouped.new.self c.retain_one.new.self c.pass_groups-regrouped.ensures.strays c.pass_groups-regrouped.ensures.shelf c.retain_one.ensures.left_alone
+
+pub returns-then-retain_one-clause-unsure : goal.returns-then-retain_one-clause-unsure
+returns-then-retain_one-clause-unsure g c = λ no honest.
+    let disk = g.S.Store.disk in
+    let t = c.args.tenant in
+    let old = c.args.self.now in
+    let mid = c.pass_groups-regrouped.new.self in
+    let ret = c.retain_one.new.self in
+    let seen = hosted g.L.PartitionLog.log disk in
+    disturbed_both c.args.clock t (shelf_is_honest disk mid) (shelf_is_honest disk ret) (seen old) (seen mid) (seen ret) c.retain_one.ensures.honest c.pass_groups-regrouped.ensures.turn c.retain_one.ensures.turn
+    c.retain_one.result c.if-retain_one.true c.retain_one.ensures.meets c.pass_groups-regrouped.ensures.topics honest
+
+-- ---- whom the groups answered is listed
+
+pub returns-else-not-regrouped-clause-turn : goal.returns-else-not-regrouped-clause-turn
+returns-else-not-regrouped-clause-turn g c =
+    let disk = g.S.Store.disk in
+    let t = c.args.tenant in
+    let old = c.args.self.now in
+    let mid = c.pass_groups-regrouped.new.self in
+    let ret = c.retain_one.new.self in
+    let new = c.list_answered.new.self in
+    let seen = hosted g.L.PartitionLog.log disk in
+    let before = honest_before disk old ret new c.list_answered.ensures.shelf in
+    let both = turn_both c.args.clock t (shelf_is_honest disk mid) (shelf_is_honest disk ret) (seen old) (seen mid) (seen ret) c.retain_one.ensures.honest c.pass_groups-regrouped.ensures.turn c.retain_one.ensures.turn in
+    let last = turn_where t (shelf_is_honest disk new) (seen ret) (seen new) c.list_answered.ensures.turn in
+    turn_both c.args.clock t (shelf_is_honest disk ret) (shelf_is_honest disk new) (seen old) (seen ret) (seen new) before both last
+
+pub returns-else-not-regrouped-clause-meets : goal.returns-else-not-regrouped-clause-meets
+returns-else-not-regrouped-clause-meets g c =
+    let disk = g.S.Store.disk in
+    let t = c.args.tenant in
+    let old = c.args.self.now in
+    let mid = c.pass_groups-regrouped.new.self in
+    let ret = c.retain_one.new.self in
+    let new = c.list_answered.new.self in
+    let seen = hosted g.L.PartitionLog.log disk in
+    let before = honest_before disk old ret new c.list_answered.ensures.shelf in
+    let both = turn_both c.args.clock t (shelf_is_honest disk mid) (shelf_is_honest disk ret) (seen old) (seen mid) (seen ret) c.retain_one.ensures.honest c.pass_groups-regrouped.ensures.turn c.retain_one.ensures.turn in
+    let last = turn_where t (shelf_is_honest disk new) (seen ret) (seen new) c.list_answered.ensures.turn in
+    met_still c.args.clock t (shelf_is_honest disk ret) (shelf_is_honest disk new) (seen old) (seen ret) (seen new) before both last (λ k l. l ≡ passed c.args.clock k)
+    (met_both c.args.clock t (shelf_is_honest disk mid) (shelf_is_honest disk ret) (seen old) (seen mid) (seen ret) c.retain_one.ensures.honest c.pass_groups-regrouped.ensures.turn c.retain_one.ensures.turn
+    c.retain_one.result c.pass_groups-regrouped.ensures.meets c.retain_one.ensures.meets) c.list_answered.ensures.stays
+
+pub returns-else-not-regrouped-clause-left_alone : goal.returns-else-not-regrouped-clause-left_alone
+returns-else-not-regrouped-clause-left_alone g c =
+    let old = c.args.self.now in
+    let ret = c.retain_one.new.self in
+    alone_still g.S.Store.disk old ret c.list_answered.new.self c.list_answered.ensures.shelf
+    (alone_since g.S.Store.disk old c.pass_groups-regrouped.new.self ret c.pass_groups-regrouped.ensures.strays c.pass_groups-regrouped.ensures.shelf c.retain_one.ensures.left_alone)
+
+pub returns-else-not-regrouped-clause-honest : goal.returns-else-not-regrouped-clause-honest
+returns-else-not-regrouped-clause-honest g c = λ honest.
+    let disk = g.S.Store.disk in
+    let t = c.args.tenant in
+    let old = c.args.self.now in
+    let mid = c.pass_groups-regrouped.new.self in
+    let ret = c.retain_one.new.self in
+    let new = c.list_answered.new.self in
+    let seen = hosted g.L.PartitionLog.log disk in
+    honest_before disk old old mid c.pass_groups-regrouped.ensures.shelf (c.retain_one.ensures.honest (honest_before disk old ret new c.list_answered.ensures.shelf honest))
+
+pub returns-else-not-regrouped-clause-accounted : goal.returns-else-not-regrouped-clause-accounted
+returns-else-not-regrouped-clause-accounted g c =
+    let disk = g.S.Store.disk in
+    let t = c.args.tenant in
+    let old = c.args.self.now in
+    let mid = c.pass_groups-regrouped.new.self in
+    let ret = c.retain_one.new.self in
+    let new = c.list_answered.new.self in
+    let seen = hosted g.L.PartitionLog.log disk in
+    accounted_then (seen old) (seen ret) (seen new) (disk old.shelf.store).failures (disk ret.shelf.store).failures (disk new.shelf.store).failures c.list_answered.ensures.turn.grows
+    (accounted_then (seen old) (seen mid) (seen ret) (disk old.shelf.store).failures (disk mid.shelf.store).failures (disk ret.shelf.store).failures c.retain_one.ensures.turn.grows
+    c.pass_groups-regrouped.ensures.accounted c.retain_one.ensures.accounted) c.list_answered.ensures.accounted
+
+pub returns-else-not-regrouped-clause-quiet : goal.returns-else-not-regrouped-clause-quiet
+returns-else-not-regrouped-clause-quiet g c = λ known honest.
+    let disk = g.S.Store.disk in
+    let t = c.args.tenant in
+    let old = c.args.self.now in
+    let mid = c.pass_groups-regrouped.new.self in
+    let ret = c.retain_one.new.self in
+    let new = c.list_answered.new.self in
+    let seen = hosted g.L.PartitionLog.log disk in
+    let before = honest_before disk old ret new c.list_answered.ensures.shelf in
+    let both = turn_both c.args.clock t (shelf_is_honest disk mid) (shelf_is_honest disk ret) (seen old) (seen mid) (seen ret) c.retain_one.ensures.honest c.pass_groups-regrouped.ensures.turn c.retain_one.ensures.turn in
+    let last = turn_where t (shelf_is_honest disk new) (seen ret) (seen new) c.list_answered.ensures.turn in
+    let ks = c.args.answered.now.items in
+    let ns = c.list_answered.new.numbers.items in
+    let same = c.list_answered.ensures.stays t ∙ c.retain_one.ensures.stays c.if-retain_one.false (before honest) t in
+    let listed : ns ≡ ks ++ answered_connections (kept_of (seen new) t).groups = c.list_answered.ensures.listed known ∙ sym (ap (λ (k : Kept). ks ++ answered_connections k.groups) (c.list_answered.ensures.stays t)) in
+    quiet_turn (shelf_is_honest disk new) honest t ns (seen old) (seen new) (turn_both c.args.clock t (shelf_is_honest disk ret) (shelf_is_honest disk new) (seen old) (seen ret) (seen new) before both last)
+    (quiet_listed ks ns (kept_of (seen old) t) (kept_of (seen new) t) (ap (λ (k : Kept). k.known) same ∙ c.pass_groups-regrouped.ensures.topics.0) (ap (λ (k : Kept). k.logs) same ∙ c.pass_groups-regrouped.ensures.topics.1) listed)
+
+pub returns-else-not-regrouped-clause-longer : goal.returns-else-not-regrouped-clause-longer
+returns-else-not-regrouped-clause-longer g c = λ known n there.
+    let seen = hosted g.L.PartitionLog.log g.S.Store.disk in
+    let ks = c.args.answered.now.items in
+    let told = answered_connections (kept_of (seen c.retain_one.new.self) c.args.tenant).groups in
+    subst (λ xs. Contains xs n) (sym (c.list_answered.ensures.listed known)) (Contains-append_left ks told n there)
+
+pub returns-else-not-regrouped-clause-unsure : goal.returns-else-not-regrouped-clause-unsure
+returns-else-not-regrouped-clause-unsure g c = λ no honest.
+    let disk = g.S.Store.disk in
+    let t = c.args.tenant in
+    let old = c.args.self.now in
+    let mid = c.pass_groups-regrouped.new.self in
+    let ret = c.retain_one.new.self in
+    let new = c.list_answered.new.self in
+    let seen = hosted g.L.PartitionLog.log disk in
+    let before = honest_before disk old ret new c.list_answered.ensures.shelf in
+    let both = turn_both c.args.clock t (shelf_is_honest disk mid) (shelf_is_honest disk ret) (seen old) (seen mid) (seen ret) c.retain_one.ensures.honest c.pass_groups-regrouped.ensures.turn c.retain_one.ensures.turn in
+    let last = turn_where t (shelf_is_honest disk new) (seen ret) (seen new) c.list_answered.ensures.turn in
+    inr (loud_both c.args.clock t (shelf_is_honest disk ret) (shelf_is_honest disk new) (seen old) (seen ret) (seen new) before both last (c.list_answered.ensures.counted no))
+
 pub returns-else-not-regrouped-clause-waits : goal.returns-else-not-regrouped-clause-waits
 returns-else-not-regrouped-clause-waits g c =
     let seen = hosted g.L.PartitionLog.log g.S.Store.disk in
-    subst (AreTicked (kept_of (seen c.args.self.now) c.args.tenant).groups) (sym c.retain_one.ensures.groups) c.pass_groups-regrouped.ensures.waits
+    subst (AreTicked (kept_of (seen c.args.self.now) c.args.tenant).groups) (sym (ap (λ (k : Kept). k.groups) (c.list_answered.ensures.stays c.args.tenant) ∙ c.retain_one.ensures.groups)) c.pass_groups-regrouped.ensures.waits

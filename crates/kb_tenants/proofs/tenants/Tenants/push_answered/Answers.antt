@@ -1,9 +1,9 @@
 use Rattle.std.proofs.Common.{◌≡◌, ◌∙◌, ◌++◌, ap, arith, map, subst, sym, take}
-use Rattle.std.specs.Prelude.{length, ◌<◌}
+use Rattle.std.specs.Prelude.{◌<◌}
 use Rattle.std.specs.List.{flat_map}
 use Rattle.std.proofs.lemmas.List.{length-map, take_all}
 use Rattle.kb_service.specs.Hosted.{Kept}
-use Rattle.kb_tenants.specs.Tenants.{answered, connection_of, state_of}
+use Rattle.kb_tenants.specs.Tenants.{answered_connections, connection_of, state_of}
 use Rattle.kb_tenants.proofs.Hosted.{kept_here}
 use Rattle.kb_tenants.proofs.Others.{found}
 use Rattle.kb_tenants.proofs.tenants.Tenants.push_answered.Goals as goal
@@ -20,4 +20,4 @@ returns g c =
     let all : take c.loop-replies.replies-index rs ≡ rs = take_all c.loop-replies.replies-index rs (omega (arith, c.loop-replies-test.false)) in
     c.loop-replies.invariant
     ∙ ap (λ xs. c.args.numbers.now.items ++ map connection_of xs) (ap (flat_map (λ v. v.items)) all ∙ c.released-released.ensures)
-    ∙ sym (ap (λ (k : Kept). c.args.numbers.now.items ++ answered k.groups) kept)
+    ∙ sym (ap (λ (k : Kept). c.args.numbers.now.items ++ answered_connections k.groups) kept)

@@ -4,8 +4,8 @@ use Rattle.std.specs.Prelude.{min}
 use Rattle.kb_world.specs.Calls.{retain_all}
 use Rattle.kb_world.specs.Parts.{END}
 use Rattle.kb_service.specs.Hosted.{kept_in}
-use Rattle.kb_tenants.specs.Tenants.{retained}
-use Rattle.kb_tenants.proofs.Hosted.{accounted_at, sound_at, groups_at, kept_at, turn_at, met_at, stays_at}
+use Rattle.kb_tenants.specs.Tenants.{drops, retained}
+use Rattle.kb_tenants.proofs.Hosted.{accounted_at, alone_at, sound_at, groups_at, kept_at, turn_at, met_at, stays_at}
 use Rattle.kb_tenants.proofs.tenants.Tenants.retain_one.Goals as goal
 
 pub retain_all-dropped-requires-clause-sound : goal.retain_all-dropped-requires-clause-sound
@@ -25,13 +25,18 @@ returns-clause-turn g c =
     turn_at g.L.PartitionLog.log g.S.Store.disk g.met.L.PartitionLog.lawful c.args.self.now c.args.tenant c.index_mut-one.result.now c.set_clock.new.self c.args.clock
     c.requires.tenant c.index_mut-one.ensures.value c.requires.kept c.set_clock.ensures.parts c.retain_all-dropped.new.self c.count.new.parts (min (c.refusals-before.result + (c.failures.result - c.failures-failures.result)) END) c.index_mut-one.result.now.groups c.retain_all-dropped.new.shelf c.count.ensures c.retain_all-dropped.ensures.step
 
+pub returns-clause-left_alone : goal.returns-clause-left_alone
+returns-clause-left_alone g c =
+    alone_at g.L.PartitionLog.log g.S.Store.disk g.met.L.PartitionLog.lawful c.args.self.now c.args.tenant c.index_mut-one.result.now c.set_clock.new.self c.args.clock
+    c.requires.tenant c.index_mut-one.ensures.value c.requires.kept c.set_clock.ensures.parts c.retain_all-dropped.new.self c.count.new.parts (min (c.refusals-before.result + (c.failures.result - c.failures-failures.result)) END) c.index_mut-one.result.now.groups c.retain_all-dropped.new.shelf c.count.ensures c.retain_all-dropped.ensures.step
+
 pub returns-clause-meets : goal.returns-clause-meets
 unfolding retained
 returns-clause-meets g c =
     met_at g.L.PartitionLog.log g.S.Store.disk g.met.L.PartitionLog.lawful c.args.self.now c.args.tenant c.index_mut-one.result.now c.set_clock.new.self c.args.clock
     c.requires.tenant c.index_mut-one.ensures.value c.requires.kept c.set_clock.ensures.parts c.retain_all-dropped.new.self c.count.new.parts (min (c.refusals-before.result + (c.failures.result - c.failures-failures.result)) END) c.index_mut-one.result.now.groups c.retain_all-dropped.new.shelf c.count.ensures c.retain_all-dropped.ensures.step
-    (λ v u. (u, c.retain_all-dropped.result) ≡ retain_all v) (λ k l. l ≡ retained c.args.clock k)
-    (λ done. ap (λ r. kept_in r.0 c.index_mut-one.result.now.groups) done)
+    (λ v u. (u, c.retain_all-dropped.result) ≡ retain_all v) (λ k l. (l ≡ retained c.args.clock k) × (c.retain_all-dropped.result ≡ drops c.args.clock k))
+    (λ done. (ap (λ r. kept_in r.0 c.index_mut-one.result.now.groups) done, ap (λ r. r.1) done))
     c.retain_all-dropped.ensures.meets
 
 pub returns-clause-stays : goal.returns-clause-stays

@@ -7,7 +7,7 @@ use Rattle.kb_service.specs.Waiters.{AreServed, IsWaitTold}
 use Rattle.kb_service.proofs.WaitersServed.{after_told}
 use Rattle.kb_service.specs.Serve.{has_released, served, IsOutcome}
 use Rattle.kb_tenants.proofs.Clock.{served_clock}
-use Rattle.kb_tenants.proofs.Hosted.{accounted_at, sound_at, groups_at, kept_at, turn_at, met_at, now_at}
+use Rattle.kb_tenants.proofs.Hosted.{accounted_at, alone_at, sound_at, groups_at, kept_at, turn_at, met_at, now_at}
 use Rattle.kb_tenants.proofs.tenants.Tenants.serve.Goals as goal
 
 pub serve-served-requires-clause-sound : goal.serve-served-requires-clause-sound
@@ -28,6 +28,11 @@ returns-clause-kept g c =
 pub returns-clause-turn : goal.returns-clause-turn
 returns-clause-turn g c =
     turn_at g.L.PartitionLog.log g.S.Store.disk g.met.L.PartitionLog.lawful c.args.self.now c.args.tenant c.index_mut-one.result.now c.set_clock.new.self c.args.clock
+    c.requires.tenant c.index_mut-one.ensures.value c.requires.kept c.set_clock.ensures.parts c.serve-served.new.parts c.count.new.parts (min (c.refusals-before.result + (c.failures.result - c.failures-failures.result)) END) c.serve-served.new.groups c.serve-served.new.shelf c.count.ensures c.serve-served.ensures.step
+
+pub returns-clause-left_alone : goal.returns-clause-left_alone
+returns-clause-left_alone g c =
+    alone_at g.L.PartitionLog.log g.S.Store.disk g.met.L.PartitionLog.lawful c.args.self.now c.args.tenant c.index_mut-one.result.now c.set_clock.new.self c.args.clock
     c.requires.tenant c.index_mut-one.ensures.value c.requires.kept c.set_clock.ensures.parts c.serve-served.new.parts c.count.new.parts (min (c.refusals-before.result + (c.failures.result - c.failures-failures.result)) END) c.serve-served.new.groups c.serve-served.new.shelf c.count.ensures c.serve-served.ensures.step
 
 pub returns-clause-meets : goal.returns-clause-meets

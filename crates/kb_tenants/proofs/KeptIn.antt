@@ -1,0 +1,61 @@
+-- What the tenants have is in the files, where nothing was ever refused.
+use Rattle.std.proofs.Common.{◌≡◌, ◌∙◌, ℕ, zero, suc, true, List, [], ◌∷◌, Some, eqb, sym, ap, refl, eqb-true}
+use Rattle.std.specs.Prelude.{IsSome, map, slice_get, string_bytes}
+use Rattle.kb_store.specs.Disk.{Disk, Files}
+use Rattle.kb_log.specs.OnShelf.{Log}
+use Rattle.kb_topics.specs.Catalog.{known}
+use Rattle.kb_partitions.specs.Partitions.{logs_of}
+use Rattle.kb_world.specs.Parts.{entries}
+use Rattle.kb_world.specs.declared.parts.Parts.{Parts}
+use Rattle.kb_service.specs.Hosted.{all_calm, kept_of, names_of}
+use Rattle.kb_tenants.specs.Tenants.{AreKept, AreKeptIn, HaveNothingRefused, hosted, parts_of, shelf_is_honest, state_of, strays_of}
+use Rattle.kb_tenants.specs.declared.tenants.Tenant.{Tenant}
+use Rattle.kb_tenants.specs.declared.tenants.Tenants.{Tenants}
+use Rattle.kb_tenants.proofs.Answered.{both}
+
+module _ {L : Type 0} (log : L → Log) (files : Files) where
+  named_in : (ts : List (Tenant L)) → ((t : ℕ) (x : Tenant L) → slice_get ts t ≡ Some x → string_bytes x.parts.tenant ≡ string_bytes x.name)
+      → names_of (map (state_of log files) ts) ≡ map (λ (p : Parts L). string_bytes p.tenant) (parts_of ts)
+  named_in [] each = refl
+  named_in (x ∷ ts) each =
+      let here = sym (each 0 x refl) in
+      let rest = named_in ts (λ t y at. each (suc t) y at) in
+      λ i. here i ∷ rest i
+
+  known_in : (ts : List (Tenant L)) (t : ℕ) (p : Parts L) → slice_get (parts_of ts) t ≡ Some p → (kept_of (map (state_of log files) ts) t).known ≡ known p.catalog
+  known_in [] t p at = absurd cc
+  known_in (x ∷ ts) zero p at = let same : x.parts ≡ p = cc in ap (λ (v : Parts L). known v.catalog) same
+  known_in (x ∷ ts) (suc t) p at = known_in ts t p at
+
+  logs_in : (ts : List (Tenant L)) (t : ℕ) (p : Parts L) → slice_get (parts_of ts) t ≡ Some p → (kept_of (map (state_of log files) ts) t).logs ≡ logs_of log (entries p) files
+  logs_in [] t p at = absurd cc
+  logs_in (x ∷ ts) zero p at = let same : x.parts ≡ p = cc in ap (λ (v : Parts L). logs_of log (entries v) files) same
+  logs_in (x ∷ ts) (suc t) p at = logs_in ts t p at
+
+  nothing_refused : (ts : List (Tenant L)) → all_calm (map (state_of log files) ts) ≡ true → HaveNothingRefused (parts_of ts)
+  nothing_refused [] calm t p at = absurd cc
+  nothing_refused (x ∷ ts) calm zero p at =
+      let same : x.parts ≡ p = cc in
+      let each = both (eqb x.parts.refusals 0) (all_calm (map (state_of log files) ts)) calm in
+      ap (λ (v : Parts L). v.refusals) (sym same) ∙ eqb-true x.parts.refusals 0 each.0
+  nothing_refused (x ∷ ts) calm (suc t) p at =
+      let each = both (eqb x.parts.refusals 0) (all_calm (map (state_of log files) ts)) calm in
+      nothing_refused ts each.1 t p at
+
+-- where it is known which files are left alone
+pub are_kept_in : {L S : Type 0} (log : L → Log) (disk : S → Disk) (ts : Tenants L S) → AreKept log disk ts → shelf_is_honest disk ts → IsSome ts.strays → all_calm (hosted log disk ts) ≡ true
+    → AreKeptIn log (disk ts.shelf.store) (strays_of ts.strays) (hosted log disk ts)
+are_kept_in log disk ts kept honest known calm =
+    let files = (disk ts.shelf.store).files in
+    let items = ts.tenants.items in
+    record {
+      parts = parts_of items;
+      next = ts.shelf.next;
+      sound = kept.sound;
+      agree = kept.agree honest;
+      settled = kept.settled known (nothing_refused log files items calm);
+      apart = kept.apart;
+      named = named_in log files items kept.named;
+      known_is = known_in log files items;
+      logs_are = logs_in log files items;
+    }

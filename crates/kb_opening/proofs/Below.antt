@@ -11,11 +11,11 @@ use Rattle.std.proofs.lemmas.List.Elements.{All-contains_itself}
 use Rattle.std.proofs.lemmas.List.Sorted.{IsPermutation-refl}
 use Rattle.kb_store.specs.Disk.{Disk, IsThere}
 use Rattle.kb_log.specs.OnShelf.{no_file}
-use Rattle.kb_segment_log.specs.SegmentLog.{Clears}
+use Rattle.kb_segment_log.specs.SegmentLog.{segment_log, Clears}
 use Rattle.kb_segment_log.specs.declared.log.SegmentLog.{SegmentLog}
 use Rattle.kb_topics.specs.Known.{Known, PartitionState, TopicState, topic_at, partition_at}
 use Rattle.kb_partitions.specs.Logs.{log_at}
-use Rattle.kb_partitions.specs.Partitions.{Entries, IsUnmade}
+use Rattle.kb_partitions.specs.Partitions.{Entries, Owned, IsUnmade}
 use Rattle.kb_partitions.proofs.Put.{cases}
 use Rattle.kb_world.specs.Tied.{partition_count}
 use Rattle.kb_opening.specs.Directory.{all_files, files_at}
@@ -23,7 +23,7 @@ use Rattle.kb_opening.specs.Tenant.{AreListed}
 use Rattle.kb_opening.specs.Topics.{IsOfKnown, OpensBelow}
 use Rattle.kb_opening.specs.declared.directory.Directory.{Directory}
 use Rattle.kb_opening.specs.declared.owner.Owner.TheVariants as owners
-use Rattle.kb_opening.proofs.Logged.{sound_stays, agree_stays, logs_stay, item_within}
+use Rattle.kb_opening.proofs.Logged.{sound_stays, exact_stays, agree_stays, logs_stay, item_within}
 use Rattle.kb_opening.proofs.Openings.{clears_then}
 
 -- ---- what a topic has
@@ -87,6 +87,9 @@ none_below t name size k d from es next e listed = subst (λ (fs : Entries Segme
   gone = λ file o. let lt = o.below in absurd (omega (arith, lt));
   others = record { honest = λ h. h; lengths = λ file not. refl; contents = λ h file not. refl };
   listed = listed;
+  started = λ i p x at. absurd cc;
+  exact = λ i p x at. absurd cc;
+  accounts = λ file has. inr (inr has);
 }
 
 -- ---- one instance more
@@ -142,6 +145,9 @@ no_topic t name size k n first from es mid left next now so_far none kept = reco
     given_out = so_far.listed.given_out;
     once = so_far.listed.once;
   };
+  started = so_far.started;
+  exact = exact_stays es mid.table now.table (λ file own. kept.lengths file (λ no. no)) so_far.exact;
+  accounts = λ file has. subst (λ (o : Option ℕ). Owned segment_log es file ⊎ (o ≡ None) ⊎ Contains (all_files left) file) (sym (kept.lengths file (λ no. no))) (so_far.accounts file has);
 }
   where
     before : (i p : ℕ) → i < n + 1 → IsSome (partition_at k (pos i) (pos p)) → i < n

@@ -28,7 +28,7 @@ not_le : (a b : ℕ) → b < a → nat_le a b ≡ false
 not_le a b l = grind (arith, nat_tests)
 
 -- a run from the start on is left whole
-starting_all : (at : ℕ) (bs : List (List ℕ)) (end : ℕ) → IsRun at bs end → starting at bs ≡ bs
+pub starting_all : (at : ℕ) (bs : List (List ℕ)) (end : ℕ) → IsRun at bs end → starting at bs ≡ bs
 starting_all at [] end r = refl
 starting_all at (b ∷ bs) end r =
     ap (λ t. cond t (starting at bs) (b ∷ bs)) (not_le (next_of b) at (omega (arith, next_is at b r.1, batch_counted b r.0)))
@@ -65,11 +65,11 @@ all_there a before law agrees t =
     let none = none_left a.log.end t.behind (run_left from a.log.end a.log.end before t.behind t.run all) in
     t.split ∙ ap (λ x. before ++ x) none ∙ append-nil before
 
-max_zero : (a : ℕ) → max a 0 ≡ a
+pub max_zero : (a : ℕ) → max a 0 ≡ a
 max_zero a = omega arith
 
 -- from 0 on the whole chain is opened
-opened_all : (files : Files) (numbers : List ℕ) (log : Log) (now : Files) (o : Opens files numbers 0 log now) → log.batches now ≡ o.bs
+pub opened_all : (files : Files) (numbers : List ℕ) (log : Log) (now : Files) (o : Opens files numbers 0 log now) → log.batches now ≡ o.bs
 opened_all files numbers log now o =
     let first = first_of 0 o.chain.order in
     o.batches ∙ ap (λ n. starting n o.bs) (o.starts ∙ max_zero first) ∙ starting_all first o.bs o.chain.end (chain_run first (parts_at files o.chain.order) o.bs o.chain.end o.chain.count o.chain.chain)
@@ -87,7 +87,7 @@ opened_whole files numbers log now o =
 
 -- ---- a catalog
 
-ends_with : (bs : List (List ℕ)) (k : Known) → replay.StopsAt bs k → EndsWith bs k
+pub ends_with : (bs : List (List ℕ)) (k : Known) → replay.StopsAt bs k → EndsWith bs k
 ends_with [] k e = tt
 ends_with (b ∷ bs) k e = e
 

@@ -1,3 +1,4 @@
+pub mod Accounted
 pub mod Below
 pub mod Catalogs
 pub mod Causes
@@ -8,11 +9,16 @@ pub mod Instance
 pub mod Kept
 pub mod Keys
 pub mod Logged
+pub mod Lost
+pub mod LostCommands
+pub mod LostTenant
+pub mod LostTopics
 pub mod Moved
 pub mod Named
 pub mod NextTopic
 pub mod Openings
 pub mod Owned
+pub mod Settled
 pub mod Stepped
 pub mod Taken
 pub mod Taking

@@ -15,7 +15,7 @@ use Rattle.kb_segment_log.specs.SegmentLog.{segment_log}
 use Rattle.kb_segment_log.specs.SegmentLaws.{segment_lawful}
 use Rattle.kb_segment_log.specs.declared.log.SegmentLog.{SegmentLog}
 use Rattle.kb_partitions.specs.Logs.{LogState, Logs, log_at}
-use Rattle.kb_partitions.specs.Partitions.{Entries, Owned, AreSound, Agree, partition_at, log_state, logs_of}
+use Rattle.kb_partitions.specs.Partitions.{Entries, Owned, AreSound, AreExact, Agree, partition_at, log_state, logs_of}
 use Rattle.kb_partitions.specs.declared.partition.Partition.{Partition}
 use Rattle.kb_partitions.proofs.Changed.{found_at, shown}
 use Rattle.kb_partitions.proofs.Put.{own_number, same_number, map_same, values_same}
@@ -32,6 +32,9 @@ module _ (es : Entries SegmentLog) where
     each = λ i p x at. (segment_lawful x.log).sound_stays old new next next (s.each i p x at) (omega arith) (λ file own. same file (here i p x at file own));
     apart = s.apart;
   }
+
+  pub exact_stays : (old new : Table) → ((file : ℕ) → Owned segment_log es file → get new file ≡ get old file) → AreExact segment_log es old → AreExact segment_log es new
+  exact_stays old new same e i p x at = (segment_lawful x.log).exact_stays old new (e i p x at) (λ file own. same file (here i p x at file own))
 
   pub agree_stays : (old new : Files) → ((file : ℕ) → Owned segment_log es file → get new file ≡ get old file) → Agree segment_log es old → Agree segment_log es new
   agree_stays old new same a = record {

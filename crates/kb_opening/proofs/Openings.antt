@@ -6,6 +6,7 @@ use Rattle.std.specs.List.{All, Contains}
 use Rattle.std.specs.declared.alloc.Global.{Global}
 use Rattle.std.specs.declared.vec.Vec.{Vec}
 use Rattle.std.proofs.Math.Nat.{min-le_left, min-le_right, le-min}
+use Rattle.std.proofs.lemmas.Bool.{cases_lt}
 use Rattle.std.proofs.lemmas.Option.{slice_get_within, slice_get_read, slice_get-get_or, same_Some}
 use Rattle.std.proofs.lemmas.List.Elements.{All-contains_itself}
 use Rattle.kb_store.specs.Disk.{Disk, Files, IsThere}
@@ -15,7 +16,7 @@ use Rattle.kb_log.specs.declared.fault.LogFault.TheVariants.{Range, Full, Store,
 use Rattle.kb_producers.specs.Batches.{kept_all}
 use Rattle.kb_producers.specs.Table.{TableState}
 use Rattle.kb_producers.specs.declared.kept.Kept.{Kept}
-use Rattle.kb_segment_log.specs.Chain.{Opens}
+use Rattle.kb_segment_log.specs.Chain.{Opens, LosesNothing}
 use Rattle.kb_segment_log.specs.SegmentLaws.{segment_lawful}
 use Rattle.kb_segment_log.specs.SegmentLog.{segment_log, AreNamed, Clears}
 use Rattle.kb_segment_log.specs.declared.log.SegmentLog.{SegmentLog}
@@ -24,7 +25,8 @@ use Rattle.kb_partitions.specs.Partitions.{log_state, partition_identity}
 use Rattle.kb_partitions.specs.Topic.{AreApartLogs, OwnedAmong}
 use Rattle.kb_partitions.specs.declared.partition.Partition.{Partition}
 use Rattle.kb_opening.specs.Opened.{IsLogOf}
-use Rattle.kb_opening.specs.Partition.{IsPartitionOf, MissesShelf, Lists, IsAmong, AreGiven, AreAllNamed, ArePartitionsOf, AreNumbered}
+use Rattle.kb_opening.specs.Partition.{LoseNothing, IsPartitionOf, MissesShelf, Lists, IsAmong, AreGiven, AreAllNamed, ArePartitionsOf, AreNumbered}
+use Rattle.kb_opening.proofs.Lost.{log_else, log_then, log_from}
 use Rattle.kb_opening.proofs.Moved.{Agree, named_stays, log_of_stays}
 
 -- ---- an item behind a list
@@ -81,6 +83,10 @@ list_at all n k x same lt is = ap (λ m. slice_get all m) same ∙ slice_get_rea
 
 pub number_at : (all : List ℕ) (n k : ℕ) → k ≡ n → n < length all → slice_get all k ≡ Some (get_or all n 0)
 number_at all n k same lt = ap (λ m. slice_get all m) same ∙ slice_get-get_or all n 0 lt
+
+-- the start at a place
+pub begun_is : (starts : List ℕ) (n k start : ℕ) → k ≡ n → n < length starts → slice_get starts k ≡ Some start → get_or starts n 0 ≡ start
+begun_is starts n k start same lt at = same_Some (get_or starts n 0) start (sym (number_at starts n k same lt) ∙ at)
 
 pub one_more : {A : Type 0} (xs ys : List A) (x : A) (n : ℕ) → ys ≡ xs ++ x ∷ [] → length xs ≡ n → length ys ≡ n + 1
 one_more xs ys x n grown count = ap length grown ∙ length-append xs (x ∷ []) ∙ ap (λ m. m + 1) count
@@ -168,6 +174,7 @@ pub record Opening (As : Type 0) (lists : Lists) (starts : List ℕ) (xs : List 
   pub owned : (p : ℕ) (x : Opened) → slice_get xs p ≡ Some x → (file : ℕ) → (segment_log x.log).owns file → IsOf lists p file
   pub opened : now.honest → As → ArePartitionsOf first.files lists starts xs now.files
   pub others : Clears (IsOfFirst lists (length xs)) first now
+  pub lost : now.honest → (p : ℕ) (list : Vec ℕ Global) (start : ℕ) → p < length xs → slice_get lists p ≡ Some list → slice_get starts p ≡ Some start → LosesNothing list.items start first now
 
 pub among_owned : (As : Type 0) (lists : Lists) (starts : List ℕ) (xs : List Opened) (first now : Disk) (next : ℕ) → Opening As lists starts xs first now next → (file : ℕ) → OwnedAmong segment_log xs file → IsAmong lists file
 among_owned As lists starts xs first now next so_far file o =
@@ -182,7 +189,16 @@ none_opened As lists starts xs d next none =
       owned = λ p x at. absurd (nothing p x at);
       opened = λ h such p x list start at. absurd (nothing p x at);
       others = record { honest = λ h. h; lengths = λ file not. refl; contents = λ h file not. refl };
+      lost = λ h p list start below. absurd (omega (arith, below, ap length none));
     }
+
+-- of none of the others anything changed
+pub so_far_lost : (As : Type 0) (lists : Lists) (starts : List ℕ) (xs : List Opened) (first now : Disk) (next : ℕ) → AreGiven lists first next → Opening As lists starts xs first now next → now.honest → LoseNothing lists starts first now
+so_far_lost As lists starts xs first now next given so_far h p list start there begun = elim (cases_lt p (length xs)) [
+  | inl below ↦ so_far.lost h p list start below there begun
+  | inr above ↦ log_else (IsOfFirst lists (length xs)) list.items start first now (given.there p list there) so_far.others
+      (λ file has o. let below = o.below in given.apart p o.number list o.its.list there o.its.at (λ e. omega (arith, below, above, e)) file has o.its.has) h
+]
 
 -- ---- the next one
 
@@ -207,12 +223,37 @@ module _ (As : Type 0) (lists : Lists) (starts : List ℕ) (xs : List Opened) (l
   next_headed tenant instance size h all = λ k d l.
       named_stays (partition_identity tenant instance (length xs) size) first.files mid.files _ (agree_files h _ (All-contains_itself list.items k d l)) (all (length xs) list at k d l)
 
+  -- what others are of is none of its files
+  other_list : (p : ℕ) (other : Vec ℕ Global) → slice_get lists p ≡ Some other → (p ≡ length xs → ⊥) → (file : ℕ) → Contains other.items file → Contains list.items file → ⊥
+  other_list p other there differ file has its = given.apart p (length xs) other list there at differ file has its
+
+  -- of the logs that are not opened yet nothing changed
+  not_yet : (p : ℕ) (other : Vec ℕ Global) → slice_get lists p ≡ Some other → length xs ≤ p → (file : ℕ) → Contains other.items file → IsOfFirst lists (length xs) file → ⊥
+  not_yet p other there above file has o =
+      let below = o.below in
+      given.apart p o.number other o.its.list there o.its.at (λ e. omega (arith, below, above, e)) file has o.its.has
+
+  -- one step more loses nothing of any
+  pub none_lost : (now : Disk) → Clears (Contains list.items) mid now → (now.honest → (start : ℕ) → slice_get starts (length xs) ≡ Some start → LosesNothing list.items start mid now) → now.honest → LoseNothing lists starts first now
+  none_lost now others lost h p other start there begun = elim (cases_lt p (length xs)) [
+    | inl below ↦ log_then (Contains list.items) other.items start first mid now others (other_list p other there (λ e. omega (arith, below, e))) h (so_far.lost (others.honest h) p other start below there begun)
+    | inr above ↦ elim (cases_lt (length xs) p) [
+      | inl more ↦ log_then (Contains list.items) other.items start first mid now others (other_list p other there (λ e. omega (arith, more, e))) h
+          (log_else (IsOfFirst lists (length xs)) other.items start first mid (given.there p other there) so_far.others (not_yet p other there (omega (arith, above))) (others.honest h))
+      | inr no_more ↦
+          let is : p ≡ length xs = omega (arith, above, no_more) in
+          let same_list : list ≡ other = same_Some list other (sym at ∙ ap (λ k. slice_get lists k) (sym is) ∙ there) in
+          subst (λ (v : Vec ℕ Global). LosesNothing v.items start first now) same_list
+          (log_from (IsOfFirst lists (length xs)) list.items start first mid now so_far.others no_earlier (others.honest h) (lost h start (ap (λ k. slice_get starts k) (sym is) ∙ begun)))
+    ]
+  ]
+
   pub now_others : (now : Disk) → Clears (Contains list.items) mid now → Clears (IsAmong lists) first now
   now_others now others = clears_then first mid now (among_first lists (length xs)) (among_at lists (length xs) list at) so_far.others others
 
   module _ (x : Opened) (start : ℕ) (now : Disk) (starts_at : slice_get starts (length xs) ≡ Some start) (others : Clears (Contains list.items) mid now)
       (sound : (segment_log x.log).sound now.table next) (owns : (file : ℕ) → (segment_log x.log).owns file → Contains list.items file)
-      (is : now.honest → As → IsPartitionOf mid.files list.items start x now.files) where
+      (is : now.honest → As → IsPartitionOf mid.files list.items start x now.files) (loses : now.honest → LosesNothing list.items start mid now) where
     apart_from : (p : ℕ) (y : Opened) → slice_get xs p ≡ Some y → (file : ℕ) → (segment_log y.log).owns file → Contains list.items file → ⊥
     apart_from p y there file own has = no_earlier file has (record { number = p; below = slice_get_within xs p y there; its = so_far.owned p y there file own })
 
@@ -268,6 +309,8 @@ module _ (As : Type 0) (lists : Lists) (starts : List ℕ) (xs : List Opened) (l
       owned = owneds;
       opened = openeds;
       others = clears_then first mid now more last so_far.others others;
+      lost = λ h p numbers from below there begun.
+          none_lost now others (λ honest begin begun_at. subst (λ (n : ℕ). LosesNothing list.items n mid now) (same_Some start begin (sym starts_at ∙ begun_at)) (loses honest)) h p numbers from there begun;
     }
 
 -- ---- under which names

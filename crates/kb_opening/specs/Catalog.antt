@@ -1,13 +1,14 @@
 -- The catalog that the files of its log come to.
 use Rattle.std.specs.Prelude.{◌≡◌, ℕ, List}
-use Rattle.kb_store.specs.Disk.{Files}
+use Rattle.kb_store.specs.Disk.{Disk, Files}
 use Rattle.kb_log.specs.Log.{first_base}
-use Rattle.kb_log.specs.OnShelf.{OnShelf, batches_of}
+use Rattle.kb_log.specs.OnShelf.{OnShelf, Agrees, batches_of}
 use Rattle.kb_segment_log.specs.SegmentLog.{segment_log}
-use Rattle.kb_segment_log.specs.Chain.{Chain}
+use Rattle.kb_segment_log.specs.Chain.{Chain, remaining}
 use Rattle.kb_segment_log.specs.declared.log.SegmentLog.{SegmentLog}
 use Rattle.kb_topics.specs.declared.catalog.Catalog.{Catalog}
 use Rattle.kb_topics.specs.Catalog.{known, meta_log}
+use Rattle.kb_topics.specs.Known.{Known}
 use Rattle.kb_topics.specs.MetaLog.{IsFold}
 use Rattle.kb_opening.specs.Opened.{IsLongestFold}
 
@@ -28,3 +29,20 @@ pub record IsCatalogOf (files : Files) (numbers : List ℕ) (c : Catalog Segment
   pub commands : List (List ℕ)
   pub chain : Chain files numbers 0 commands
   pub known : IsLongestFold commands (known c)
+
+-- ---- what is left
+
+-- What the files of a catalog come to.
+pub record ComesToKnown (files : Files) (numbers : List ℕ) (k : Known) : Type 0 where
+  pub commands : List (List ℕ)
+  pub chain : Chain files numbers 0 commands
+  pub known : IsLongestFold commands k
+
+-- Of a catalog nothing is lost: what its files came to, those of them that are still there come to.
+abbrev pub LosesNoCommand : List ℕ → Disk → Disk → Type 0
+LosesNoCommand numbers old new = (k : Known) → ComesToKnown old.files numbers k → ComesToKnown new.files (remaining new.table numbers) k
+
+-- The same of a log that had nothing but its batches in its files, by what its batches record.
+abbrev pub KeepsKnown : OnShelf → List ℕ → Disk → Type 0
+KeepsKnown a numbers new = new.honest → Agrees a → StartsWhole a → a.log.exact a.disk.table → a.log.resumes 0 → (k : Known) → IsLongestFold (batches_of a) k
+    → ComesToKnown new.files (remaining new.table numbers) k

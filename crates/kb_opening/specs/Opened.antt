@@ -1,23 +1,17 @@
 -- What the files of a tenant come to, which are there when a broker opens.
-use Rattle.std.specs.Prelude.{◌≡◌, ◌++◌, ℕ, pos, List, [], ◌∷◌, length, max, Some, None, IsSome}
-use Rattle.kb_store.specs.Disk.{Files}
+use Rattle.std.specs.Prelude.{◌≡◌, ◌++◌, ℕ, pos, List, [], ◌∷◌, length, Some, None, IsSome}
+use Rattle.kb_store.specs.Disk.{Disk, Table, Files}
 use Rattle.kb_batch.specs.Batch.{natural}
-use Rattle.kb_log.specs.Log.{starting}
-use Rattle.kb_segment_log.specs.Chain.{Chain, first_of}
+use Rattle.kb_segment_log.specs.Chain.{Chain, ComesTo, remaining}
 use Rattle.kb_topics.specs.declared.command.Command.{Command}
 use Rattle.kb_topics.specs.Known.{Known, PartitionState, partition_at, step}
 use Rattle.kb_topics.specs.MetaLog.{Says, IsFold}
 use Rattle.kb_partitions.specs.Logs.{LogState, Logs, log_at}
 use Rattle.kb_world.specs.Tied.{counted, partition_count}
 
--- A log that those files come to, from a start that was recorded of it: it has the batches of their chain that do not end at its
--- start or before it. Where the chain ends below the start, or there is no file, it is empty at the start.
-pub record IsLogOf (files : Files) (numbers : List ℕ) (start : ℕ) (l : LogState) : Type 0 where
-  pub bs : List (List ℕ)
-  pub chain : Chain files numbers start bs
-  pub starts : l.start ≡ max (first_of start chain.order) start
-  pub ends : l.end ≡ max chain.end start
-  pub batches : l.batches ≡ starting l.start bs
+-- A log that those files come to, from a start that was recorded of it.
+abbrev pub IsLogOf : Files → List ℕ → ℕ → LogState → Type 0
+IsLogOf files numbers start l = ComesTo files numbers start l.start l.end l.batches
 
 -- The first of some batches records no command that is applicable to what is known; or there is none.
 abbrev pub EndsWith : List (List ℕ) → Known → Type 0
@@ -46,6 +40,16 @@ pub record IsOpened (files : Files) (owners : Owners) (k : Known) (logs : Logs) 
   pub tied : counted length logs ≡ counted partition_count k.topics
   pub each : (i p : ℕ) (part : PartitionState) → partition_at k (pos i) (pos p) ≡ Some part
       → (l : LogState) × (log_at i p logs ≡ Some l) × IsLogOf files (owners.partition i p) (natural part.start) l
+
+-- ---- what is left
+
+-- of a tenant's files, by its logs, those that are there
+abbrev pub remaining_of : Table → Owners → Owners
+remaining_of table owners = record { catalog = remaining table owners.catalog; partition = λ i p. remaining table (owners.partition i p) }
+
+-- Of a tenant nothing is lost: what its files came to, those of them that are still there come to.
+abbrev pub TenantLosesNothing : Owners → Disk → Disk → Type 0
+TenantLosesNothing owners old new = (k : Known) (logs : Logs) → IsOpened old.files owners k logs → IsOpened new.files (remaining_of new.table owners) k logs
 
 -- ---- one world
 

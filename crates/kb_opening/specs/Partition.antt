@@ -8,6 +8,7 @@ use Rattle.kb_log.specs.declared.fault.LogFault.{LogFault}
 use Rattle.kb_log.specs.declared.fault.LogFault.TheVariants as faults
 use Rattle.kb_producers.specs.Batches.{kept_all}
 use Rattle.kb_segment_log.specs.SegmentLog.{segment_log, AreNamed}
+use Rattle.kb_segment_log.specs.Chain.{LosesNothing}
 use Rattle.kb_segment_log.specs.declared.log.SegmentLog.{SegmentLog}
 use Rattle.kb_partitions.specs.Partitions.{log_state, partition_identity}
 use Rattle.kb_partitions.specs.declared.partition.Partition.{Partition}
@@ -63,3 +64,7 @@ ArePartitionsOf files lists starts xs now = (p : ℕ) (x : Partition SegmentLog)
 -- Each log is that of the partition of its number, of the topic of that instance.
 abbrev pub AreNumbered : List ℕ → ℕ → ℕ → List (Partition SegmentLog) → Type 0
 AreNumbered tenant instance size xs = (p : ℕ) (x : Partition SegmentLog) → slice_get xs p ≡ Some x → (segment_log x.log).identity ≡ partition_identity tenant instance p size
+
+-- Of no partition anything is lost, where each is opened from its own start on.
+abbrev pub LoseNothing : Lists → List ℕ → Disk → Disk → Type 0
+LoseNothing lists starts old new = (p : ℕ) (list : Vec ℕ Global) (start : ℕ) → slice_get lists p ≡ Some list → slice_get starts p ≡ Some start → LosesNothing list.items start old new

@@ -1,10 +1,11 @@
 -- A tenant, opened from the files that a directory has of it.
-use Rattle.std.specs.Prelude.{◌≡◌, ◌≢◌, ◌<◌, ◌++◌, ℕ, pos, nat_eq, List, [], None, IsSome, IsPermutation}
+use Rattle.std.specs.Prelude.{◌≡◌, ◌≢◌, ◌<◌, ◌++◌, ℕ, pos, nat_eq, List, [], Some, None, IsSome, IsPermutation}
 use Rattle.std.specs.List.{All, Contains, IsDistinct}
 use Rattle.kb_store.specs.Disk.{Disk, Files, IsThere}
 use Rattle.kb_batch.specs.Batch.{natural}
 use Rattle.kb_log.specs.OnShelf.{Identity}
 use Rattle.kb_segment_log.specs.SegmentLog.{segment_log, AreNamed}
+use Rattle.kb_segment_log.specs.Chain.{LosesNothing}
 use Rattle.kb_segment_log.specs.declared.log.SegmentLog.{SegmentLog}
 use Rattle.kb_topics.specs.Catalog.{known, catalog_identity}
 use Rattle.kb_topics.specs.Known.{Known, PartitionState, partition_at}
@@ -73,3 +74,7 @@ pub record TakesSome (old new : Directory) : Type 0 where
 pub record IsTenantOf (files : Files) (owners : Owners) (parts : Parts SegmentLog) (now : Files) : Type 0 where
   pub agrees : Agrees segment_log parts now
   pub opened : IsOpened files owners (known parts.catalog) (logs_of segment_log (entries parts) now)
+
+-- Of no partition that a tenant's topics have anything is lost, where each is opened from the start that the catalog recorded.
+abbrev pub PartitionsLoseNothing : ℕ → Known → Directory → Disk → Disk → Type 0
+PartitionsLoseNothing t k d old new = (i p : ℕ) (part : PartitionState) → partition_at k (pos i) (pos p) ≡ Some part → LosesNothing (files_at (Partition t i p) d) (recorded_start part) old new

@@ -13,13 +13,15 @@ use Rattle.kb_segment_log.specs.SegmentLog.{segment_log, Clears}
 use Rattle.kb_segment_log.specs.declared.log.SegmentLog.{SegmentLog}
 use Rattle.kb_topics.specs.Known.{Known, PartitionState, TopicState, topic_at, partition_at}
 use Rattle.kb_partitions.specs.Logs.{LogState, log_at}
-use Rattle.kb_partitions.specs.Partitions.{Entries, Owned, AreSound, AreNamed, Agree, logs_of, places_of, IsRestored}
+use Rattle.kb_partitions.specs.Partitions.{Entries, Owned, AreSound, AreExact, AreStarted, AreNamed, Agree, logs_of, places_of, IsRestored}
 use Rattle.kb_partitions.specs.Topic.{AreApartLogs, OwnedAmong}
 use Rattle.kb_partitions.specs.declared.partition.Partition.{Partition}
+use Rattle.kb_world.specs.Parts as parts
 use Rattle.kb_world.specs.Tied.{partition_count}
 use Rattle.kb_opening.specs.Opened.{IsLogOf}
 use Rattle.kb_opening.specs.Directory.{all_files, files_at}
 use Rattle.kb_opening.specs.Partition.{Lists, IsAmong, AreAllNamed, ArePartitionsOf, AreNumbered}
+use Rattle.kb_opening.specs.Settled.{AreSettledFrom, AreAccounted}
 use Rattle.kb_opening.specs.Tenant.{AreListed, AreOwnNamed, TakesSome, recorded_start}
 use Rattle.kb_opening.specs.declared.directory.Directory.{Directory}
 use Rattle.kb_opening.specs.declared.owner.Owner.{Owner}
@@ -51,6 +53,7 @@ pub record OpensTopic (t : ℕ) (name : List ℕ) (size i : ℕ) (topic : TopicS
   pub opened : now.honest → AreAllNamed name i size first.files lists → ArePartitionsOf first.files lists (map recorded_start topic.partitions) xs now.files
   pub owned : (file : ℕ) → OwnedAmong segment_log xs file → IsAmong lists file
   pub others : Clears (IsAmong lists) first now
+  pub settled : AreSettledFrom lists (map recorded_start topic.partitions) xs now
   pub restored : IsRestored segment_log i xs old new
 
 -- nothing changed
@@ -85,3 +88,6 @@ pub record OpensBelow (t : ℕ) (name : List ℕ) (size : ℕ) (k : Known) (n : 
   pub gone : (file : ℕ) → IsOfKnown from t k n file → Contains (all_files left) file → ⊥
   pub others : Clears (IsOfKnown from t k n) first now
   pub listed : AreListed left now next
+  pub started : AreStarted segment_log (parts.recorded_start k) es
+  pub exact : AreExact segment_log es now.table
+  pub accounts : AreAccounted from (Owned segment_log es) now left

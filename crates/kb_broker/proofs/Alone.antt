@@ -8,7 +8,7 @@ use Rattle.kb_machine.specs.Broker.{BrokerState, IsCalmFor, IsRun, owned_by}
 use Rattle.kb_machine.specs.Isolation.{IsIsolated, own_events, own_sent}
 use Rattle.kb_machine.specs.Alone.{HasToItself}
 use Rattle.kb_machine.proofs.Alone.{sent-alone, owners-alone, unused-alone, run-own}
-use Rattle.kb_broker.specs.Runs.{sent_of, numbers, opening, connections_of}
+use Rattle.kb_broker.specs.Runs.{sent_of, numbers_of_lines, opening, connections_of}
 use Rattle.kb_broker.specs.declared.run.Written.{Written}
 
 -- 1. Numbers that are the tenant's
@@ -16,11 +16,11 @@ use Rattle.kb_broker.specs.declared.run.Written.{Written}
 abbrev AreOwn : (ℕ → Bool) → List ℕ → Type 0
 AreOwn p ns = AllByRecursion (λ n. p n ≡ true) ns
 
-own-numbers : (p : ℕ → Bool) (ls : List Line) → AreOwn p (numbers (those p ls))
+own-numbers : (p : ℕ → Bool) (ls : List Line) → AreOwn p (numbers_of_lines (those p ls))
 own-numbers p [] = tt
 own-numbers p (l ∷ ls) = by (p l.number) refl (own-numbers p ls)
   where
-    by : (b : Bool) → p l.number ≡ b → AreOwn p (numbers (those p ls)) → AreOwn p (numbers (cond b (l ∷ those p ls) (those p ls)))
+    by : (b : Bool) → p l.number ≡ b → AreOwn p (numbers_of_lines (those p ls)) → AreOwn p (numbers_of_lines (cond b (l ∷ those p ls) (those p ls)))
     by true h rest = (h, rest)
     by false h rest = rest
 
@@ -59,8 +59,8 @@ all-sent p (s ∷ ss) h = let here = h.0 in let rest = all-sent p ss h.1 in grin
 
 own-connections : (t : ℕ) (es : List Happening) (shared own : BrokerState) → HasToItself t es shared own → AreOwn (owned_by t es shared) (connections_of (own_events t es shared) own)
 own-connections t es shared own h =
-    own-both (owned_by t es shared) (numbers own.lines) (opening (own_events t es shared))
-    (subst (λ ls. AreOwn (owned_by t es shared) (numbers ls)) (sym h.lines) (own-numbers (owned_by t es shared) shared.lines))
+    own-both (owned_by t es shared) (numbers_of_lines own.lines) (opening (own_events t es shared))
+    (subst (λ ls. AreOwn (owned_by t es shared) (numbers_of_lines ls)) (sym h.lines) (own-numbers (owned_by t es shared) shared.lines))
     (own-opening (owned_by t es shared) es)
 
 -- all that is written to the connections that there are

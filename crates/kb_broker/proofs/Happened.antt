@@ -58,14 +58,14 @@ drained-ready disk a c n ready h =
     ready-on disk a c (ap (λ (x : OnStore _). x.store) h) (taken a.state n) (ap (λ (x : OnStore _). x.state) h) ready (sound-taken a.state n ready.sound) (settled-taken a.state n ready.settled) (unready-taken a.state n)
 
 -- a connection that opens, or cannot be kept, or closes, leaves the store and the tenants' counts as they are
-pub connected-later : {S A E : Type 0} (disk : S → Disk) (r : Result A E) (a c : OnStore S) (n : ℕ) → c.store ≡ a.store → OnOk r (c.state ≡ opened a.state n) → OnErr r (IsRefused a.state c.state) → IsLater disk a c
-connected-later disk (Ok x) a c n same ok err = later-is disk a c same (ap (λ (b : BrokerState). b.tenants) ok)
-connected-later disk (Err x) a c n same ok err = later-is disk a c same (ap (λ (b : BrokerState). b.tenants) err.is)
+pub connected-later : {S A E : Type 0} (disk : S → Disk) (r : Result A E) (a c : OnStore S) (n : ℕ) → c.store ≡ a.store → c.strays ≡ a.strays → OnOk r (c.state ≡ opened a.state n) → OnErr r (IsRefused a.state c.state) → IsLater disk a c
+connected-later disk (Ok x) a c n same left ok err = later-is disk a c same left (ap (λ (b : BrokerState). b.tenants) ok)
+connected-later disk (Err x) a c n same left ok err = later-is disk a c same left (ap (λ (b : BrokerState). b.tenants) err.is)
 
 pub disconnected-later : {S : Type 0} (disk : S → Disk) (a c : OnStore S) (n : ℕ) → c ≡ record a { state = closed a.state n } → IsLater disk a c
 disconnected-later disk a c n h =
     let grows = (left-step a c n h).grows in
-    later-on disk a.store c.store a.state.tenants c.state.tenants (ap (λ (x : OnStore _). x.store) h) grows.names grows.own
+    later-on disk a.store c.store a.strays c.strays a.state.tenants c.state.tenants (ap (λ (x : OnStore _). x.store) h) (ap (λ (x : OnStore _). x.strays) h) grows.names grows.own
 
 -- what a call leaves of the members that wait: the engine's own a is the one that clauses see, b
 pub connected-held : {S A E : Type 0} (r : Result A E) (a b c : OnStore S) (n : ℕ) → a ≡ b → OnOk r (c.state ≡ opened a.state n) → OnErr r (IsRefused a.state c.state) → NoneStranded b.state → NoneStranded c.state

@@ -1,5 +1,5 @@
 -- What may be said where a store has told the truth.
-use Rattle.std.proofs.Common.{◌≡◌, ◌≤◌, ◌∙◌, ℕ, List, ap, sym, subst, arith}
+use Rattle.std.proofs.Common.{◌≡◌, ◌≤◌, ◌∙◌, ℕ, List, [], Option, Contains, refl, ap, sym, subst, arith, unwrap_or}
 use Rattle.kb_store.specs.Disk.{Disk}
 use Rattle.kb_service.specs.Hosted.{TenantState, names_of, refusals_of}
 use Rattle.kb_tenants.proofs.Accounted.{accounted_rises, accounted_same, accounted_then}
@@ -12,35 +12,47 @@ pub ready-of : {S : Type 0} (disk : S → Disk) (b : OnStore S) → IsReadyOn di
 ready-of disk b r honest = record { sound = r.sound; settled = r.settled; unready = r.unready honest }
 
 -- nothing was asked of the store
-pub later-none : (d : Disk) (ts : List TenantState) → IsLaterWith d d ts ts
-later-none d ts = record { honest = λ h. h; failures = omega arith; counts = λ t. omega arith; accounted = accounted_same ts d.failures }
+pub later-none : (d : Disk) (strays : Option (List ℕ)) (ts : List TenantState) → IsLaterWith d d strays strays ts ts
+later-none d strays ts = record { honest = λ h. h; failures = omega arith; counts = λ t. omega arith; accounted = accounted_same ts d.failures; strays_are = refl; left_alone = λ honest file c. refl }
 
 -- and refusals were counted
-pub later-counted : (d : Disk) (ts us : List TenantState) → names_of us ≡ names_of ts → ((t : ℕ) → refusals_of ts t ≤ refusals_of us t) → IsLaterWith d d ts us
-later-counted d ts us names counts = record { honest = λ h. h; failures = omega arith; counts = counts; accounted = accounted_rises ts us d.failures (length_named ts us names) counts }
+pub later-counted : (d : Disk) (strays : Option (List ℕ)) (ts us : List TenantState) → names_of us ≡ names_of ts → ((t : ℕ) → refusals_of ts t ≤ refusals_of us t) → IsLaterWith d d strays strays ts us
+later-counted d strays ts us names counts = record {
+  honest = λ h. h;
+  failures = omega arith;
+  counts = counts;
+  accounted = accounted_rises ts us d.failures (length_named ts us names) counts;
+  strays_are = refl;
+  left_alone = λ honest file c. refl;
+}
 
-pub later-by : (d e f : Disk) (ps qs rs : List TenantState) → IsLaterWith d e ps qs → IsLaterWith e f qs rs → IsLaterWith d f ps rs
-later-by d e f ps qs rs p q = record {
+pub later-by : (d e f : Disk) (x y z : Option (List ℕ)) (ps qs rs : List TenantState) → IsLaterWith d e x y ps qs → IsLaterWith e f y z qs rs → IsLaterWith d f x z ps rs
+later-by d e f x y z ps qs rs p q = record {
   honest = λ h. p.honest (q.honest h);
   failures = (let first = p.failures in let then = q.failures in omega (arith, first, then));
   counts = λ t. (let first = p.counts t in let then = q.counts t in omega (arith, first, then));
   accounted = accounted_then ps qs rs d.failures e.failures f.failures q.counts p.accounted q.accounted;
+  strays_are = q.strays_are ∙ p.strays_are;
+  left_alone = λ honest file c. q.left_alone honest file (subst (λ o. Contains (unwrap_or o []) file) (sym p.strays_are) c) ∙ p.left_alone (q.honest honest) file c;
 }
 
--- the store is the same, and refusals were counted
-pub later-on : {S : Type 0} (disk : S → Disk) (s t : S) (ts us : List TenantState) → t ≡ s → names_of us ≡ names_of ts → ((t : ℕ) → refusals_of ts t ≤ refusals_of us t) → IsLaterWith (disk s) (disk t) ts us
-later-on disk s t ts us e names counts = subst (λ x. IsLaterWith (disk s) (disk x) ts us) (sym e) (later-counted (disk s) ts us names counts)
+-- the store and the files that are left alone are the same, and refusals were counted
+pub later-on : {S : Type 0} (disk : S → Disk) (s t : S) (x y : Option (List ℕ)) (ts us : List TenantState) → t ≡ s → y ≡ x → names_of us ≡ names_of ts → ((t : ℕ) → refusals_of ts t ≤ refusals_of us t) → IsLaterWith (disk s) (disk t) x y ts us
+later-on disk s t x y ts us e f names counts =
+    subst (λ z. IsLaterWith (disk s) (disk z) x y ts us) (sym e) (subst (λ o. IsLaterWith (disk s) (disk s) x o ts us) (sym f) (later-counted (disk s) x ts us names counts))
 
 pub later-same : {S : Type 0} (disk : S → Disk) (a : OnStore S) → IsLater disk a a
-later-same disk a = later-none (disk a.store) a.state.tenants
+later-same disk a = later-none (disk a.store) a.strays a.state.tenants
 
 pub later-then : {S : Type 0} (disk : S → Disk) (a b c : OnStore S) → IsLater disk a b → IsLater disk b c → IsLater disk a c
-later-then disk a b c p q = later-by (disk a.store) (disk b.store) (disk c.store) a.state.tenants b.state.tenants c.state.tenants p q
+later-then disk a b c p q = later-by (disk a.store) (disk b.store) (disk c.store) a.strays b.strays c.strays a.state.tenants b.state.tenants c.state.tenants p q
 
--- the store is the same, and no count has changed
-pub later-is : {S : Type 0} (disk : S → Disk) (a b : OnStore S) → b.store ≡ a.store → b.state.tenants ≡ a.state.tenants → IsLater disk a b
-later-is disk a b store tenants =
-    subst (λ s. IsLaterWith (disk a.store) (disk s) a.state.tenants b.state.tenants) (sym store) (subst (IsLaterWith (disk a.store) (disk a.store) a.state.tenants) (sym tenants) (later-same disk a))
+-- the store and the files that are left alone are the same, and no count has changed
+pub later-is : {S : Type 0} (disk : S → Disk) (a b : OnStore S) → b.store ≡ a.store → b.strays ≡ a.strays → b.state.tenants ≡ a.state.tenants → IsLater disk a b
+later-is disk a b store strays tenants =
+    subst (λ s. IsLaterWith (disk a.store) (disk s) a.strays b.strays a.state.tenants b.state.tenants) (sym store)
+    (subst (λ o. IsLaterWith (disk a.store) (disk a.store) a.strays o a.state.tenants b.state.tenants) (sym strays)
+    (subst (IsLaterWith (disk a.store) (disk a.store) a.strays a.strays a.state.tenants) (sym tenants) (later-same disk a)))
 
 pub state-is : {S : Type 0} (a b : OnStore S) → a ≡ b → a.state ≡ b.state
 state-is a b e = ap (λ (x : OnStore _). x.state) e
@@ -48,6 +60,12 @@ state-is a b e = ap (λ (x : OnStore _). x.state) e
 pub store-is : {S : Type 0} (a b : OnStore S) → a ≡ b → a.store ≡ b.store
 store-is a b e = ap (λ (x : OnStore _). x.store) e
 
+pub strays-is : {S : Type 0} (a b : OnStore S) → a ≡ b → a.strays ≡ b.strays
+strays-is a b e = ap (λ (x : OnStore _). x.strays) e
+
 -- another state on the same store
-pub stands-on : {S : Type 0} (b : OnStore S) (x y : BrokerState) (store : S) → x ≡ y → store ≡ b.store → (let a : OnStore S = record { state = x; store = store } in a) ≡ record b { state = y }
-stands-on b x y store e f = ap (λ z. let a : OnStore _ = record { state = z; store = store } in a) e ∙ ap (λ s. let a : OnStore _ = record { state = y; store = s } in a) f
+pub stands-on : {S : Type 0} (b : OnStore S) (x y : BrokerState) (store : S) (strays : Option (List ℕ)) → x ≡ y → store ≡ b.store → strays ≡ b.strays → (let a : OnStore S = record { state = x; store = store; strays = strays } in a) ≡ record b { state = y }
+stands-on b x y store strays e f g =
+    ap (λ z. let a : OnStore _ = record { state = z; store = store; strays = strays } in a) e
+    ∙ (ap (λ s. let a : OnStore _ = record { state = y; store = s; strays = strays } in a) f
+    ∙ ap (λ o. let a : OnStore _ = record { state = y; store = b.store; strays = o } in a) g)

@@ -1,4 +1,5 @@
 pub mod Honest
+pub mod InFiles
 pub mod Left
 pub mod Placed
 pub mod Heard
@@ -7,6 +8,7 @@ pub mod Looked
 pub mod Parked
 pub mod Fields
 pub mod Going
+pub mod Counted
 pub mod Served
 pub mod Happened
 pub mod OpeningParts

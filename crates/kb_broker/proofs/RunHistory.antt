@@ -18,7 +18,7 @@ use Rattle.kb_broker.specs.declared.run.Event.{Event}
 use Rattle.kb_broker.specs.declared.run.Event.TheVariants as events
 use Rattle.kb_store.specs.Disk.{Disk}
 use Rattle.kb_broker.specs.Hosts.{OnStore, is_honest}
-use Rattle.kb_broker.specs.Runs.{happening_of, happenings, is_opening, numbers, opening, connections_of, Leads, emptied, IsPassed, Passes}
+use Rattle.kb_broker.specs.Runs.{happening_of, happenings, is_opening, numbers_of_lines, opening, connections_of, Leads, emptied, IsPassed, Passes}
 use Rattle.kb_broker.proofs.RunOrder.{AreRising, numbered}
 
 -- 1. What a tenant's connections got
@@ -57,39 +57,39 @@ run-passes honest t mine (e ∷ es) old new got h p m q =
 same-permutation : {X : Type 0} (xs ys : List X) → xs ≡ ys → IsPermutation xs ys
 same-permutation xs ys e = subst (IsPermutation xs) e (IsPermutation-refl xs)
 
-numbered-sent : (ls : List Line) → numbered (map sent ls) ≡ numbers ls
+numbered-sent : (ls : List Line) → numbered (map sent ls) ≡ numbers_of_lines ls
 numbered-sent ls = map-map (λ (s : Sent). s.number) sent ls
 
 -- the connections before an event and in it are those that it ends, and those after it
 pub numbers-leads : (e : Happening) (es : List Happening) (old new : BrokerState) (ended : List Sent) → Leads e old new ended → IsPermutation (connections_of (e ∷ es) old) (numbered ended ++ connections_of es new)
 numbers-leads (Opens n) es old new ended h = elim h [
-  | inl k ↦ same-permutation (numbers old.lines ++ n ∷ opening es) (numbered ended ++ connections_of es new) (
-      sym (append_assoc (numbers old.lines) (n ∷ []) (opening es))
+  | inl k ↦ same-permutation (numbers_of_lines old.lines ++ n ∷ opening es) (numbered ended ++ connections_of es new) (
+      sym (append_assoc (numbers_of_lines old.lines) (n ∷ []) (opening es))
       ∙ (ap (λ xs. xs ++ opening es) (sym (map-append (λ (l : Line). l.number) old.lines (record { number = n; session = fresh } ∷ [])))
       ∙ (ap (connections_of es) (sym k.0) ∙ ap (λ ss. numbered ss ++ connections_of es new) (sym k.1))))
-  | inr k ↦ subst (IsPermutation (numbers old.lines ++ n ∷ opening es)) (
-      ap (λ ls. n ∷ (numbers ls ++ opening es)) (sym (ap (λ (b : BrokerState). b.lines) k.0.is))
-      ∙ ap (λ ss. numbered ss ++ connections_of es new) (sym k.1)) (IsPermutation-middle (numbers old.lines) n (opening es))
+  | inr k ↦ subst (IsPermutation (numbers_of_lines old.lines ++ n ∷ opening es)) (
+      ap (λ ls. n ∷ (numbers_of_lines ls ++ opening es)) (sym (ap (λ (b : BrokerState). b.lines) k.0.is))
+      ∙ ap (λ ss. numbered ss ++ connections_of es new) (sym k.1)) (IsPermutation-middle (numbers_of_lines old.lines) n (opening es))
 ]
 numbers-leads (Comes n piece) es old new ended h = same-permutation (connections_of es old) (numbered ended ++ connections_of es new) (
     ap (λ xs. xs ++ opening es) (sym h.0) ∙ ap (λ ss. numbered ss ++ connections_of es new) (sym h.1))
 numbers-leads (Closes n) es old new ended h =
     let p : Line → Bool = λ l. eqb l.number n in
     let q : Line → Bool = λ l. not (eqb l.number n) in
-    let all : numbers (filter p old.lines ++ filter q old.lines) ≡ numbered (map sent (filter p old.lines)) ++ numbers (filter q old.lines) =
-    map-append (λ (l : Line). l.number) (filter p old.lines) (filter q old.lines) ∙ ap (λ xs. xs ++ numbers (filter q old.lines)) (sym (numbered-sent (filter p old.lines))) in
+    let all : numbers_of_lines (filter p old.lines ++ filter q old.lines) ≡ numbered (map sent (filter p old.lines)) ++ numbers_of_lines (filter q old.lines) =
+    map-append (λ (l : Line). l.number) (filter p old.lines) (filter q old.lines) ∙ ap (λ xs. xs ++ numbers_of_lines (filter q old.lines)) (sym (numbered-sent (filter p old.lines))) in
     let here = IsPermutation-map (λ (l : Line). l.number) old.lines (filter p old.lines ++ filter q old.lines) (IsPermutation-filter_both p q (λ l. refl) old.lines) in
     subst (IsPermutation (connections_of es old)) (
     ap (λ xs. xs ++ opening es) all
-    ∙ (append_assoc (numbered (map sent (filter p old.lines))) (numbers (filter q old.lines)) (opening es)
+    ∙ (append_assoc (numbered (map sent (filter p old.lines))) (numbers_of_lines (filter q old.lines)) (opening es)
     ∙ (ap (λ b. numbered (map sent (filter p old.lines)) ++ connections_of es b) (sym h.0)
     ∙ ap (λ ss. numbered ss ++ connections_of es new) (sym h.1))))
-    (IsPermutation-append_left (opening es) (numbers old.lines) (numbers (filter p old.lines ++ filter q old.lines)) here)
+    (IsPermutation-append_left (opening es) (numbers_of_lines old.lines) (numbers_of_lines (filter p old.lines ++ filter q old.lines)) here)
 numbers-leads (Moment now) es old new ended h = same-permutation (connections_of es old) (numbered ended ++ connections_of es new) (
     ap (λ xs. xs ++ opening es) (sym h.0) ∙ ap (λ ss. numbered ss ++ connections_of es new) (sym h.1))
 
 pub numbers-passes : (honest : Type 0) (es : List Happening) (old new : BrokerState) (got : List Sent) → Passes honest es old new got → IsPermutation (connections_of es old) (numbered got)
-numbers-passes honest [] old new got p = same-permutation (numbers old.lines ++ []) (numbered got) (append-nil (numbers old.lines) ∙ (sym (numbered-sent old.lines) ∙ ap numbered (sym p.1)))
+numbers-passes honest [] old new got p = same-permutation (numbers_of_lines old.lines ++ []) (numbered got) (append-nil (numbers_of_lines old.lines) ∙ (sym (numbered-sent old.lines) ∙ ap numbered (sym p.1)))
 numbers-passes honest (e ∷ es) old new got p =
     let next = p.0 in
     IsPermutation-trans (connections_of (e ∷ es) old) (numbered p.1 ++ connections_of es next) (numbered got) (numbers-leads e es old next p.1 p.3.leads)
@@ -105,7 +105,7 @@ rising-opening low last (Comes n piece ∷ es) h r = rising-opening low last es 
 rising-opening low last (Closes n ∷ es) h r = rising-opening low last es h r
 rising-opening low last (Moment now ∷ es) h r = rising-opening low last es h r.1
 
-rising-lines : (low last : ℕ) (ls : List Line) (es : List Happening) → Rising low last ls → IsRun last es → AreRising low (numbers ls ++ opening es)
+rising-lines : (low last : ℕ) (ls : List Line) (es : List Happening) → Rising low last ls → IsRun last es → AreRising low (numbers_of_lines ls ++ opening es)
 rising-lines low last [] es r run = rising-opening low last es r run
 rising-lines low last (l ∷ ls) es r run = (r.0, rising-lines l.number last ls es r.1 run)
 
@@ -125,7 +125,7 @@ length-opening (events.Close n ∷ es) = let rest = length-opening es in let mor
 length-opening (events.At now ∷ es) = let rest = length-opening es in let more = counted (events.At now) es in omega arith
 
 pub length-connections : (es : List Event) (b : BrokerState) → length (connections_of (happenings es) b) ≡ length b.lines + count_by is_opening es
-length-connections es b = length-append (numbers b.lines) (opening (happenings es)) ∙ (ap (λ n. n + length (opening (happenings es))) (length-map b.lines (λ (l : Line). l.number)) ∙ ap (λ n. length b.lines + n) (length-opening es))
+length-connections es b = length-append (numbers_of_lines b.lines) (opening (happenings es)) ∙ (ap (λ n. n + length (opening (happenings es))) (length-map b.lines (λ (l : Line). l.number)) ∙ ap (λ n. length b.lines + n) (length-opening es))
 
 opening-first : (e : Happening) (es : List Happening) → length (opening (e ∷ [])) ≤ length (opening (e ∷ es))
 opening-first (Opens n) es = omega arith
@@ -134,7 +134,7 @@ opening-first (Closes n) es = omega arith
 opening-first (Moment now) es = omega arith
 
 pub connections-first : (e : Happening) (es : List Happening) (b : BrokerState) → length (connections_of (e ∷ []) b) ≤ length (connections_of (e ∷ es) b)
-connections-first e es b = omega (arith, length-append (numbers b.lines) (opening (e ∷ [])), length-append (numbers b.lines) (opening (e ∷ es)), opening-first e es)
+connections-first e es b = omega (arith, length-append (numbers_of_lines b.lines) (opening (e ∷ [])), length-append (numbers_of_lines b.lines) (opening (e ∷ es)), opening-first e es)
 
 pub room-leads : (e : Happening) (es : List Happening) (old new : BrokerState) (ended : List Sent) → Leads e old new ended → length ended + length (connections_of es new) ≡ length (connections_of (e ∷ es) old)
 room-leads e es old new ended h =

@@ -13,8 +13,8 @@ use Rattle.kb_machine.proofs.Steps.{sound-opened, settled-opened, unready-opened
 use Rattle.kb_broker.specs.declared.script.ScriptFault.{ScriptFault}
 use Rattle.kb_broker.specs.declared.script.ScriptFault.TheVariants as faults
 use Rattle.kb_broker.specs.Places.{numbers}
-use Rattle.kb_broker.specs.Script.{Told, Event, Plays, Stops, is_in_place, course_of, sent_text, step_text}
-use Rattle.kb_broker.specs.ScriptRun.{IsQuiet, hushed, here, Happens, HappensSilently, IsSpoken, IsUnwritten, IsDone, IsBroken, words, shut_marks, said_since}
+use Rattle.kb_broker.specs.Script.{Told, Event, Plays, Stops, here, is_in_place, course_of, sent_text, step_text}
+use Rattle.kb_broker.specs.ScriptRun.{IsQuiet, hushed, Happens, HappensSilently, IsSpoken, IsUnwritten, IsDone, IsBroken, words, shut_marks, said_since}
 use Rattle.kb_broker.proofs.Left.{left-cases}
 use Rattle.kb_broker.proofs.ScriptWords.{silent-opened, silent-closed, silent-same, quiet-opened, quiet-closed, quiet-same, said-one, taken-hushed, hushed-quiet, open-opened, open-closed, open-stays}
 use Rattle.kb_broker.proofs.ScriptSaid.{words-since}
@@ -95,14 +95,8 @@ unspoken (Ok x) e b new marks from to ready happens same is h = tt
 unspoken (Err fault) e b new marks from to ready happens same is h = broken-off fault e b new marks from to ready happens same is h
 
 -- a line, by what it says
-placed-here : (number : ℕ) (b : BrokerState) (e : Happening) → is_in_place (here number b) e ≡ is_in_place (here 0 b) e
-placed-here number b (Opens n) = refl
-placed-here number b (Comes n piece) = refl
-placed-here number b (Closes n) = refl
-placed-here number b (Moment now) = refl
-
-course-plays : (number : ℕ) (b : BrokerState) (t : Told) (e : Happening) → t ≡ Event e → is_in_place (here 0 b) e ≡ true → course_of (here number b) t ≡ Plays e
-course-plays number b t e is placed = ap (course_of (here number b)) is ∙ ap (λ a. cond a (Plays e) (Stops (faults.BadLine number))) (placed-here number b e ∙ placed)
+course-plays : (number : ℕ) (b : BrokerState) (t : Told) (e : Happening) → t ≡ Event e → is_in_place (here b) e ≡ true → course_of number (here b) t ≡ Plays e
+course-plays number b t e is placed = ap (course_of number (here b)) is ∙ ap (λ a. cond a (Plays e) (Stops (faults.BadLine number))) placed
 
 pub on-any : {A E : Type 0} (r : Result A E) (P : Type 0) → P → OnOk r P
 on-any (Ok x) P h = h
@@ -116,10 +110,14 @@ pub if-err : {A E : Type 0} (r : Result A E) (P Q : E → Type 0) → ((e : E) �
 if-err (Ok x) P Q f h = tt
 if-err (Err e) P Q f h = f e h
 
-pub done-silently : {A E : Type 0} (r : Result A E) (number : ℕ) (b new : BrokerState) (t : Told) (e : Happening) (w : Option (List ℕ)) → t ≡ Event e → is_in_place (here 0 b) e ≡ true → OnOk r (HappensSilently e b new)
-    → OnOk r (IsDone (course_of (here number b) t) b new w w)
+pub if-err-both : {A E : Type 0} (r : Result A E) (P Q : E → Type 0) {S : Type 0} → ((e : E) → P e → S → Q e) → IfErr r P → OnErr r S → IfErr r Q
+if-err-both (Ok x) P Q f h s = tt
+if-err-both (Err e) P Q f h s = f e h s
+
+pub done-silently : {A E : Type 0} (r : Result A E) (number : ℕ) (b new : BrokerState) (t : Told) (e : Happening) (w : Option (List ℕ)) → t ≡ Event e → is_in_place (here b) e ≡ true → OnOk r (HappensSilently e b new)
+    → OnOk r (IsDone (course_of number (here b) t) b new w w)
 done-silently r number b new t e w is placed h =
-    on-ok r (HappensSilently e b new) (IsDone (course_of (here number b) t) b new w w)
+    on-ok r (HappensSilently e b new) (IsDone (course_of number (here b) t) b new w w)
     (λ s. subst (λ k. IsDone k b new w w) (sym (course-plays number b t e is placed)) (spoken-silently e b new w s)) h
 
 -- the writer failed

@@ -2,7 +2,7 @@
 use Rattle.std.proofs.Common.{◌≡◌, ℕ, zero, suc, ◌&&◌, Bool, true, false, not, cond, eqb, List, [], ◌∷◌, ◌++◌, length, map, refl, sym, ap, subst, ◌∙◌, arith, lit<, Some, append_assoc, append-nil}
 use Rattle.std.specs.List.{AllByRecursion}
 use Rattle.std.proofs.lemmas.Bool.Decides.{nat_tests}
-use Rattle.kb_machine.specs.Machine.{Happening, Line, Sent, World, those, those_sent, stepped}
+use Rattle.kb_machine.specs.Machine.{Happening, Line, Sent, View, those, those_sent, stepped}
 use Rattle.kb_machine.specs.Owners.{concerns}
 use Rattle.kb_machine.specs.Machine.{find_line}
 use Rattle.kb_world.specs.Steps.{IsCalm}
@@ -102,7 +102,7 @@ tells t mine b c (e ∷ es) (s ∷ ss) r calm m =
     let view : view_of t mine new ≡ stepped (concerns mine e) e (view_of t mine b) = happens.step.view t mine es m quiet in
     let owns : Mine t mine es new = happens.step.mine t mine es m quiet.unbound in
     let head : those_sent mine s ≡ said (view_of t mine b).lines (stepped (concerns mine e) e (view_of t mine b)).lines =
-    ap (those_sent mine) r.2 ∙ those-said mine b.lines new.lines ∙ ap (λ (w : World). said (view_of t mine b).lines w.lines) view in
+    ap (those_sent mine) r.2 ∙ those-said mine b.lines new.lines ∙ ap (λ (w : View). said (view_of t mine b).lines w.lines) view in
     let tail : map (those_sent mine) ss ≡ tell mine es (quieted (stepped (concerns mine e) e (view_of t mine b))) =
     tells t mine (hushed new) c es ss r.3 happens.calm (mine-hushed t mine es new owns) ∙ ap (tell mine es) (view-hushed t mine new ∙ ap quieted view) in
     ap (λ x. x ∷ map (those_sent mine) ss) head ∙ ap (λ x. said (view_of t mine b).lines (stepped (concerns mine e) e (view_of t mine b)).lines ∷ x) tail

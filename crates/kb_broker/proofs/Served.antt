@@ -27,7 +27,7 @@ use Rattle.kb_api_group.specs.declared.api_versions.ApiVersion.{ApiVersion}
 use Rattle.kb_machine.specs.Requests.{Asked, Versions, OtherVersions, Handshake, Authenticate, Another, Unread}
 use Rattle.kb_machine.specs.Session.{Greeting, Stage, Greets, BoundTo, Session, shut_down, waiting, without_wait, is_free}
 use Rattle.kb_machine.specs.Greeting.{Setup, greeted}
-use Rattle.kb_machine.specs.Machine.{Line, answered, served, served_by, served_at, put}
+use Rattle.kb_machine.specs.Machine.{Line, after_reaction, after_turn, served_by, served_at, put}
 use Rattle.kb_machine.proofs.Owners.{stage-shut}
 use Rattle.kb_machine.proofs.Quiet.{asked-group, asked-parks}
 use Rattle.kb_machine.proofs.Turns.{free-greeted, free-replied, free-without}
@@ -80,15 +80,15 @@ own_at setup kept clock n s TooLarge own free = free-without s.stage
 own_at setup kept clock n s Partial own free = free
 
 -- a turn that is a matter of the connection alone waits for nothing
-free-own : (setup : Setup) (kept : Kept) (clock n : ℕ) (s : Session) → IsOwn setup s → is_free s.stage ≡ true → is_free (served setup kept clock n s).stage ≡ true
-unfolding served
+free-own : (setup : Setup) (kept : Kept) (clock n : ℕ) (s : Session) → IsOwn setup s → is_free s.stage ≡ true → is_free (after_turn setup kept clock n s).stage ≡ true
+unfolding after_turn
 free-own setup kept clock n s own free = own_at setup kept clock n s (front s.unread) own.own free
 
-pub own-free : (setup : Setup) (t : ℕ) (l new : Line) → l.session.stage ≡ BoundTo t None → IsOwn setup l.session → ((kept : Kept) (clock n : ℕ) → new ≡ with_session l (served setup kept clock n l.session)) → is_free new.session.stage ≡ true
+pub own-free : (setup : Setup) (t : ℕ) (l new : Line) → l.session.stage ≡ BoundTo t None → IsOwn setup l.session → ((kept : Kept) (clock n : ℕ) → new ≡ with_session l (after_turn setup kept clock n l.session)) → is_free new.session.stage ≡ true
 own-free setup t l new bound own is = ap (λ (x : Line). is_free x.session.stage) (is nothing 0 0) ∙ free-own setup nothing 0 0 l.session own (ap is_free bound)
 
 -- it touches nothing of the tenant's
-pub own-touched : (setup : Setup) (t clock n : ℕ) (ts : List TenantState) (l new : Line) (places : List Place) → l.session.stage ≡ BoundTo t None → IsOwn setup l.session → ((kept : Kept) (clock n : ℕ) → new ≡ with_session l (served setup kept clock n l.session))
+pub own-touched : (setup : Setup) (t clock n : ℕ) (ts : List TenantState) (l new : Line) (places : List Place) → l.session.stage ≡ BoundTo t None → IsOwn setup l.session → ((kept : Kept) (clock n : ℕ) → new ≡ with_session l (after_turn setup kept clock n l.session))
     → IsTouchedTurn setup t clock n ts ts l.session new.session places
 own-touched setup t clock n ts l new places bound own is = record {
   session = ap (λ (x : Line). x.session) (is (kept_of ts t) clock n);
@@ -142,21 +142,21 @@ dated-waiting : (t : ℕ) (st : Stage) (id : ℤ) (awaited : Awaited) → st ≡
 dated-waiting t st id awaited e = ap (λ x. deadline_at (waiting (record { correlation_id = id; awaited = awaited }) x)) e
 
 pub dated-answered : {A E : Type 0} (setup : Setup) (result : Result A E) (q p : Queue) (t n : ℕ) (l new : Line) (r : Answer) (key version id : ℤ) (body : List ℕ) → IsParkedBy q p t n r → l.session.stage ≡ BoundTo t None → IsAsked setup l.session key version id body
-    → ((key version id : ℤ) (body : List ℕ) (reaction : Reaction) → IsAsked setup l.session key version id body → IsAnswer id reaction r → OnOk result (new ≡ with_session l (answered reaction id version body (without_front l.session))))
+    → ((key version id : ℤ) (body : List ℕ) (reaction : Reaction) → IsAsked setup l.session key version id body → IsAnswer id reaction r → OnOk result (new ≡ with_session l (after_reaction reaction id version body (without_front l.session))))
     → (is_wait r ≡ false → is_free l.session.stage ≡ true → is_free new.session.stage ≡ true) → is_err result ≡ false → until_of (fin.get p n) ≡ deadline_at new.session.stage
 dated-answered setup result q p t n l new r key version id body parked bound asks ok free good = ap until_of parked.own ∙ by r ok free
   where
-    by : (r : Answer) → ((key version id : ℤ) (body : List ℕ) (reaction : Reaction) → IsAsked setup l.session key version id body → IsAnswer id reaction r → OnOk result (new ≡ with_session l (answered reaction id version body (without_front l.session))))
+    by : (r : Answer) → ((key version id : ℤ) (body : List ℕ) (reaction : Reaction) → IsAsked setup l.session key version id body → IsAnswer id reaction r → OnOk result (new ≡ with_session l (after_reaction reaction id version body (without_front l.session))))
         → (is_wait r ≡ false → is_free l.session.stage ≡ true → is_free new.session.stage ≡ true) → until_of (parked_for t r) ≡ deadline_at new.session.stage
     by (answers.Plain (plain.Reply reply)) ok free = sym (deadline-free new.session.stage (free refl (ap is_free bound)))
     by (answers.Plain (plain.Wait deadline places)) ok free =
         let reaction : Reaction = Plain (Waits deadline places.items) in
-        let is = from_ok result false (new ≡ with_session l (answered reaction id version body (without_front l.session))) (sym good) refl (ok key version id body reaction asks (refl, refl)) in
+        let is = from_ok result false (new ≡ with_session l (after_reaction reaction id version body (without_front l.session))) (sym good) refl (ok key version id body reaction asks (refl, refl)) in
         sym (ap (λ (x : Line). deadline_at x.session.stage) is ∙ dated-waiting t l.session.stage id (Records version body deadline) bound)
     by (answers.Plain plain.NoReply) ok free = sym (deadline-free new.session.stage (free refl (ap is_free bound)))
     by (answers.Plain plain.Shut) ok free = sym (deadline-free new.session.stage (free refl (ap is_free bound)))
     by answers.Rebalance ok free =
-        let is = from_ok result false (new ≡ with_session l (answered Rebalances id version body (without_front l.session))) (sym good) refl (ok key version id body Rebalances asks tt) in
+        let is = from_ok result false (new ≡ with_session l (after_reaction Rebalances id version body (without_front l.session))) (sym good) refl (ok key version id body Rebalances asks tt) in
         sym (ap (λ (x : Line). deadline_at x.session.stage) is ∙ dated-waiting t l.session.stage id Group bound)
 
 -- and it stands there under its tenant
@@ -191,7 +191,7 @@ keyed-waiting : (us : List TenantState) (t n : ℕ) (st : Stage) (w : Wait) (o :
 keyed-waiting us t n st w o bound is = subst (λ x. IsKeyedAt us n (waiting w x) o) (sym bound) (λ calm silent. is)
 
 keyed-by : (node : Node) (us : List TenantState) (t clock n : ℕ) (k : Kept) (key version id : ℤ) (body : List ℕ) (s : Session) (is : Reaction) (r : Answer) → answer node k clock n key version body ≡ is → kept_of us t ≡ kept_after node k clock n key version body → s.stage ≡ BoundTo t None
-    → IsAnswer id is r → IsKeyedAt us n (answered is id version body s).stage (parked_for t r)
+    → IsAnswer id is r → IsKeyedAt us n (after_reaction is id version body s).stage (parked_for t r)
 keyed-by node us t clock n k key version id body s (Plain (Replies reply)) r e kept bound told = keyed-none us n _ (parked_for t r) (free-replied id reply s (ap is_free bound))
 keyed-by node us t clock n k key version id body s (Plain (Waits deadline places)) (answers.Plain (plain.Reply reply)) e kept bound told = absurd told
 keyed-by node us t clock n k key version id body s (Plain (Waits deadline places)) (answers.Plain (plain.Wait late parts)) e kept bound told =
@@ -210,7 +210,7 @@ keyed-by node us t clock n k key version id body s Rebalances answers.Rebalance 
 -- the connection that was answered stands in the queue under what it asks
 pub keyed-answered : (H : Type 0) → H → (setup : Setup) (t clock n : ℕ) (ts us : List TenantState) (l new : Line) (key version id : ℤ) (body : List ℕ) (r : Answer) (o : Option queue.Wait) → l.session.stage ≡ BoundTo t None → IsSpent l.session new.session → IsAsked setup l.session key version id body → IsTurn t H ts us
     → IsMet t H ts us (λ k m. (m ≡ kept_after setup.node k clock n key version body) × IsAnswer id (answer setup.node k clock n key version body) r)
-    → ((key version id : ℤ) (body : List ℕ) (reaction : Reaction) → IsAsked setup l.session key version id body → IsAnswer id reaction r → new ≡ with_session l (answered reaction id version body (without_front l.session)))
+    → ((key version id : ℤ) (body : List ℕ) (reaction : Reaction) → IsAsked setup l.session key version id body → IsAnswer id reaction r → new ≡ with_session l (after_reaction reaction id version body (without_front l.session)))
     → o ≡ parked_for t r → IsKeyedAt us n new.session.stage o
 keyed-answered H honest setup t clock n ts us l new key version id body r o bound spent asks turn meets ok parked =
     keyed-calm us t n new.session.stage o (spent.stage t None bound ∙ ap without_wait bound)
@@ -226,7 +226,7 @@ keyed-answered H honest setup t clock n ts us l new key version id body r o boun
 
 -- what the tenant was asked is the turn
 pub turned-touched : (H : Type 0) (setup : Setup) (t clock n : ℕ) (ts us : List TenantState) (s r : Session) (touched : Touched) → (H → IsTouchedBy touched t clock ts us)
-    → IsMet t H ts us (λ k l. (r ≡ served setup k clock n s) × (l ≡ put setup k clock n s.unread)) → H → IsTouchedTurnBy touched setup t clock n ts us s r
+    → IsMet t H ts us (λ k l. (r ≡ after_turn setup k clock n s) × (l ≡ put setup k clock n s.unread)) → H → IsTouchedTurnBy touched setup t clock n ts us s r
 turned-touched H setup t clock n ts us s r (touches.Partitions places) touched meets honest =
     let h = touched honest in
     let both = meets honest h.calm in
@@ -301,7 +301,7 @@ pub own-concern : (c : Concerned) (t n : ℕ) (ts : List TenantState) (q : Queue
 own-concern concerned.Nobody t n ts q touched concern = tt
 own-concern (concerned.All u) t n ts q touched concern = tt
 own-concern (concerned.These u ns) t n ts q touches.Unknown concern = (concern.1 n).1 (inr refl)
-own-concern (concerned.These u ns) t n ts q touches.Groups concern = subst (λ ks. Contains ks n) (sym concern.1) (Contains-push (tenants.answered (kept_of ts t).groups) n)
+own-concern (concerned.These u ns) t n ts q touches.Groups concern = subst (λ ks. Contains ks n) (sym concern.1) (Contains-push (tenants.answered_connections (kept_of ts t).groups) n)
 own-concern (concerned.These u ns) t n ts q (touches.Partitions places) concern = by concern.1
   where
     by : AreConcerned t n ts q (touches.Partitions places) ns.items → Contains ns.items n
@@ -323,7 +323,7 @@ left-by H honest c setup t clock n q p ts us s r st touched bound others concern
     by (concerned.These u ns) touches.Groups concern turn = subst (λ x. IsLeftBy (concerned.These x ns) setup clock (BoundTo t None) n q ts us s r) (sym concern.0) (inr (inr these))
       where
         told : List ℕ
-        told = tenants.answered (kept_of us t).groups
+        told = tenants.answered_connections (kept_of us t).groups
 
         these : AreAnswered t clock n ts us ns.items
         these = record {

@@ -1,6 +1,6 @@
 -- Members that wait, as the broker's users see it.
 use Rattle.std.proofs.Common.{◌≡◌, ◌≢◌, ◌<◌, ◌≤◌, ℕ, zero, suc, List, [], ◌∷◌, map, Bool, true, false, Option, Some, None, refl, sym, ◌∙◌, ap, subst, arith}
-use Rattle.kb_service.specs.Hosted.{kept_of, new_tenant, nothing}
+use Rattle.kb_service.specs.Hosted.{Kept, TenantState, kept_of, new_tenant, nothing}
 use Rattle.kb_service.specs.Waiters.{members_on, replies_on}
 use Rattle.kb_settings.specs.declared.settings.Settings.{Settings}
 use Rattle.kb_machine.specs.Tenant.{Wait}
@@ -12,7 +12,14 @@ use Rattle.kb_machine.specs.Calls.{is_open, is_shut, open_in, shut_in}
 use Rattle.kb_machine.specs.Stranded.{IsMembersAt, IsMembersIn, NoneStranded, members_of}
 use Rattle.kb_connection.specs.View.{IsLimitedIn}
 use Rattle.kb_broker.specs.declared.opening.Listing.{Listing}
-use Rattle.kb_broker.specs.Opening.{opening_listing, tenants_of}
+use Rattle.kb_broker.specs.Opening.{opening_listing, opening_over, tenants_of, HaveNoGroups}
+
+-- a broker whose tenants have no groups
+pub stranded-over : (listing : Listing) (s : Settings) (ts : List TenantState) → HaveNoGroups ts → NoneStranded (opening_over listing s ts)
+stranded-over listing s ts none = record {
+  held = λ t n some. absurd (let zero = ap (members_on n) (none t) in omega (arith, some, zero));
+  once = λ t n. (let a = ap (members_on n) (none t) in let c = ap (replies_on n) (none t) in omega (arith, a, c));
+}
 
 kept-new : (names : List (List ℕ)) (t : ℕ) → kept_of (map new_tenant names) t ≡ nothing
 kept-new [] t = refl
@@ -21,12 +28,7 @@ kept-new (name ∷ names) (suc t) = kept-new names t
 
 -- a broker whose tenants keep nothing yet
 pub stranded-first : (listing : Listing) (s : Settings) → NoneStranded (opening_listing listing s)
-stranded-first listing s =
-    let none : (t : ℕ) → kept_of (opening_listing listing s).tenants t ≡ nothing = kept-new (tenants_of s.users.items) in
-    record {
-      held = λ t n some. absurd (let zero = ap (λ k. members_on n k.groups) (none t) in omega (arith, some, zero));
-      once = λ t n. (let a = ap (λ k. members_on n k.groups) (none t) in let c = ap (λ k. replies_on n k.groups) (none t) in omega (arith, a, c));
-    }
+stranded-first listing s = stranded-over listing s (map new_tenant (tenants_of s.users.items)) (λ t. ap (λ (k : Kept). k.groups) (kept-new (tenants_of s.users.items) t))
 
 -- where no member may wait none does
 none-held : (m : ℕ) → (0 < m → ⊥) → m ≡ 0

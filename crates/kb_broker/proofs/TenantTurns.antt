@@ -21,7 +21,7 @@ use Rattle.kb_tenant.specs.declared.node.Node.{Node}
 use Rattle.kb_machine.specs.Tenant.{Awaited, Records, Group, Wait, is_members, answer, asked, ready, ready_for, kept_after}
 use Rattle.kb_machine.specs.Session.{Greeting, Greets, BoundTo, Session, can, shut_down, waiting, without_wait}
 use Rattle.kb_machine.specs.Greeting.{Setup, greeted}
-use Rattle.kb_machine.specs.Machine.{Line, answered, told, woken, woken_by, served as served_by_turn, put}
+use Rattle.kb_machine.specs.Machine.{Line, after_reaction, told, woken, woken_by, after_turn as served_by_turn, put}
 use Rattle.kb_machine.proofs.Laws.{can-turn, some-left, greeted-less, served-less}
 use Rattle.kb_machine.proofs.Owners.{stage-served, stage-shut}
 use Rattle.kb_connection.specs.Fronts.{IsAsked}
@@ -29,7 +29,7 @@ use Rattle.kb_connection.specs.View.{with_session, without_front}
 use Rattle.kb_connection.specs.TenantAnswers.{is_quiet}
 use Rattle.kb_tenants.proofs.Tied.{kept_names, kept_tied}
 use Rattle.kb_tenants.proofs.Answered.{untold}
-use Rattle.kb_tenants.specs.Tenants.{is_honest}
+use Rattle.kb_tenants.specs.Tenants.{shelf_is_honest}
 use Rattle.kb_machine.proofs.Quiet.{apart-ready, asked-again}
 use Rattle.kb_tenant.specs.Waiting.{AreApart}
 use Rattle.kb_broker.specs.Parked.{IsReleased, IsTouched, IsAskedOn}
@@ -62,7 +62,7 @@ answered-now node k l clock n id key version body touched r h =
 
 -- what stands in front was asked, and answered so: the connection is the machine's
 pub asked-now : (setup : Setup) (clock n : ℕ) (k m : Kept) (l new : Line) (key version id : ℤ) (body : List ℕ) (r : Answer) → IsAsked setup l.session key version id body → m ≡ kept_after setup.node k clock n key version body → IsAnswer id (answer setup.node k clock n key version body) r
-    → ((key' version' id' : ℤ) (body' : List ℕ) (reaction : Reaction) → IsAsked setup l.session key' version' id' body' → IsAnswer id' reaction r → new ≡ with_session l (answered reaction id' version' body' (without_front l.session)))
+    → ((key' version' id' : ℤ) (body' : List ℕ) (reaction : Reaction) → IsAsked setup l.session key' version' id' body' → IsAnswer id' reaction r → new ≡ with_session l (after_reaction reaction id' version' body' (without_front l.session)))
     → (new.session ≡ served_by_turn setup k clock n l.session) × (m ≡ put setup k clock n l.session.unread)
 asked-now setup clock n k m l new key version id body r asked kept told ok =
     let is = ok key version id body (answer setup.node k clock n key version body) asked told in
@@ -121,7 +121,7 @@ released-now log disk H honest node hosts us clock t n id key version body touch
     by o gs after same some (inr quiet) = let no : has_released (silent gs) ≡ true = subst (λ x. has_released x ≡ true) (same ∙ quiet) some in absurd (cc)
 
 -- where nothing was ever refused to the tenant, a fetch that still waits asks for the same
-pub asked-on : {L S : Type 0} (log : L → Log) (disk : S → Disk) (H : Type 0) → H → (hosts : Tenants L S) → is_honest disk hosts → (node : Node) (us : List TenantState) (clock t n : ℕ) (id key version : ℤ) (body : List ℕ) (touched : List Place) (r : Answer) → AreHosted log disk hosts
+pub asked-on : {L S : Type 0} (log : L → Log) (disk : S → Disk) (H : Type 0) → H → (hosts : Tenants L S) → shelf_is_honest disk hosts → (node : Node) (us : List TenantState) (clock t n : ℕ) (id key version : ℤ) (body : List ℕ) (touched : List Place) (r : Answer) → AreHosted log disk hosts
     → IsTurn t H (tenants_in log disk hosts) us
     → IsMet t H (tenants_in log disk hosts) us (λ k l. IsOutcome id (served node (world_at k clock) k.groups n key version body) (world_at l clock) l.groups touched r)
     → IsAskedOn t (tenants_in log disk hosts) us
@@ -161,7 +161,7 @@ spent-greeted (Ok x) setup h l new greets able ok err =
 spent-greeted (Err x) setup h l new greets able ok err = spent-shut l new able err
 
 -- a member more waits on the connection only where the connection waits for its group then
-pub member-told : (t : ℕ) (l new : Line) (r : Answer) (id version : ℤ) (body : List ℕ) (P : Type 0) → l.session.stage ≡ BoundTo t None → (r ≡ group.Rebalance → new ≡ with_session l (answered Rebalances id version body (without_front l.session))) → (r ≡ group.Rebalance) ⊎ P → IsMembersAt t new.session.stage ⊎ P
+pub member-told : (t : ℕ) (l new : Line) (r : Answer) (id version : ℤ) (body : List ℕ) (P : Type 0) → l.session.stage ≡ BoundTo t None → (r ≡ group.Rebalance → new ≡ with_session l (after_reaction Rebalances id version body (without_front l.session))) → (r ≡ group.Rebalance) ⊎ P → IsMembersAt t new.session.stage ⊎ P
 member-told t l new r id version body P bound is (inl e) = inl (subst (λ (x : Line). IsMembersAt t x.session.stage) (sym (is e)) (subst (λ st. IsMembersAt t (waiting (record { correlation_id = id; awaited = Group }) st)) (sym bound) (refl, refl)))
 member-told t l new r id version body P bound is (inr p) = inr p
 

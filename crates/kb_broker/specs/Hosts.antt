@@ -1,10 +1,10 @@
 -- A broker on its store, and its tenants there.
-use Rattle.std.specs.Prelude.{◌≡◌, ◌≤◌, ℕ, List, None}
+use Rattle.std.specs.Prelude.{◌≡◌, ◌≤◌, ℕ, true, List, [], Option, Some, None, unwrap_or}
 use Rattle.kb_store.specs.Disk.{Disk}
 use Rattle.kb_log.specs.OnShelf.{Log}
 use Rattle.kb_tenant.specs.Batches.{HasSmallLogs}
-use Rattle.kb_service.specs.Hosted.{TenantState, IsAccounted, refusals_of, world_at}
-use Rattle.kb_tenants.specs.Tenants.{AreKept, hosted}
+use Rattle.kb_service.specs.Hosted.{TenantState, IsAccounted, all_calm, refusals_of, world_at}
+use Rattle.kb_tenants.specs.Tenants.{AreKept, AreKeptIn, AreLeftAlone, hosted, numbers_in}
 use Rattle.kb_tenants.specs.declared.tenants.Tenants.{Tenants}
 use Rattle.kb_machine.specs.Machine.{Happening, first_able}
 use Rattle.kb_machine.specs.Broker.{BrokerState, AreUnready, AnyWait, IsSound, IsStep, kept_of}
@@ -20,22 +20,26 @@ abbrev pub AreHosted : {L S : Type 0} → (L → Log) → (S → Disk) → Tenan
 AreHosted log disk hosts = AreKept log disk hosts
 
 -- At a later moment the store has told the truth only if it had before, and its failures are no fewer. No tenant's count of
--- refusals is smaller, and the counts together have risen by at least as much as the failures, unless one has come to its end.
-pub record IsLaterWith (old new : Disk) (ts us : List TenantState) : Type 0 where
+-- refusals is smaller, and the counts together have risen by at least as much as the failures, unless one has come to its end. The
+-- files that are left alone are the same, and have the bytes that they had.
+pub record IsLaterWith (old new : Disk) (strays left : Option (List ℕ)) (ts us : List TenantState) : Type 0 where
   pub honest : new.honest → old.honest
   pub failures : old.failures ≤ new.failures
   pub counts : (t : ℕ) → refusals_of ts t ≤ refusals_of us t
   pub accounted : IsAccounted ts us old.failures new.failures
+  pub strays_are : left ≡ strays
+  pub left_alone : AreLeftAlone (unwrap_or strays []) old new
 
 abbrev pub AreLater : {L S : Type 0} → (L → Log) → (S → Disk) → Tenants L S → Tenants L S → Type 0
-AreLater log disk old new = IsLaterWith (disk old.shelf.store) (disk new.shelf.store) (tenants_in log disk old) (tenants_in log disk new)
+AreLater log disk old new = IsLaterWith (disk old.shelf.store) (disk new.shelf.store) (numbers_in old.strays) (numbers_in new.strays) (tenants_in log disk old) (tenants_in log disk new)
 
 -- 2. The broker
 
--- a broker, and the store on which it stands
+-- a broker, the store on which it stands, and the files there that are of no log and are left alone, where it is known which they are
 pub record OnStore (S : Type 0) : Type 0 where
   pub state : BrokerState
   pub store : S
+  pub strays : Option (List ℕ)
 
 -- whether the store has told the truth so far
 abbrev pub is_honest : {S : Type 0} → (S → Disk) → OnStore S → Type 0
@@ -43,7 +47,12 @@ is_honest disk b = (disk b.store).honest
 
 -- a broker at a later moment
 abbrev pub IsLater : {S : Type 0} → (S → Disk) → OnStore S → OnStore S → Type 0
-IsLater disk old new = IsLaterWith (disk old.store) (disk new.store) old.state.tenants new.state.tenants
+IsLater disk old new = IsLaterWith (disk old.store) (disk new.store) old.strays new.strays old.state.tenants new.state.tenants
+
+-- Where it is known which files are of no log, and nothing was ever refused to a tenant, what the tenants have is in the files of the
+-- store, unless it lied: opened again the files come to the same.
+abbrev pub IsInFiles : {L S : Type 0} → (L → Log) → (S → Disk) → OnStore S → Type 0
+IsInFiles log disk b = is_honest disk b → (strays : List ℕ) → b.strays ≡ Some strays → all_calm b.state.tenants ≡ true → AreKeptIn log (disk b.store) strays b.state.tenants
 
 -- an event is a step, unless the store lied
 abbrev pub StepsTo : {S : Type 0} → (S → Disk) → Happening → OnStore S → OnStore S → Type 0

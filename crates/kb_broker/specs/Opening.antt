@@ -2,12 +2,15 @@
 use Rattle.std.specs.Prelude.{◌≡◌, ℕ, ℤ, pos, List, [], ◌∷◌, map, string_bytes}
 use Rattle.kb_api_group.specs.declared.api_versions.ApiVersion.{ApiVersion}
 use Rattle.kb_machine.specs.Greeting.{Setup, User as Login}
-use Rattle.kb_service.specs.Hosted.{TenantState, new_tenant}
+use Rattle.kb_coordinator.specs.Groups.{none}
+use Rattle.kb_service.specs.Hosted.{TenantState, kept_of, new_tenant}
 use Rattle.kb_machine.specs.Broker.{BrokerState}
 use Rattle.kb_settings.specs.Names.{in_order, place_of}
 use Rattle.kb_settings.specs.declared.settings.User.{User}
 use Rattle.kb_settings.specs.declared.settings.Settings.{Settings}
 use Rattle.kb_store.specs.Disk.{Disk, Grew}
+use Rattle.kb_store.specs.declared.fault.StoreFault.{StoreFault}
+use Rattle.kb_store.specs.declared.fault.StoreFault.TheVariants as refusals
 use Rattle.kb_broker.specs.declared.opening.Listing.{Listing}
 use Rattle.kb_broker.specs.declared.opening.Listing.TheVariants as listings
 use Rattle.kb_broker.specs.declared.opening.OpenFault.{OpenFault}
@@ -87,3 +90,12 @@ opening = opening_listing listings.Served
 -- `Store` is answered only where the store's failures grew
 abbrev pub BlamesStore : Disk → OpenFault → Disk → Type 0
 BlamesStore old fault new = fault ≡ faults.Store → Grew old.failures new.failures
+
+-- the store's device is the store's fault, and its want of memory is ours
+abbrev pub fault_for : StoreFault → OpenFault
+fault_for refusals.Device = faults.Store
+fault_for refusals.Memory = faults.Memory
+
+-- no tenant has consumer groups
+abbrev pub HaveNoGroups : List TenantState → Type 0
+HaveNoGroups ts = (t : ℕ) → (kept_of ts t).groups ≡ none

@@ -13,7 +13,7 @@ use Rattle.kb_service.specs.Hosted.{TenantState}
 use Rattle.kb_service.specs.Serve.{has_released}
 use Rattle.kb_tenant.specs.Replies.{Silent}
 use Rattle.kb_tenant.specs.Waiting.{AreApart}
-use Rattle.kb_tenants.specs.Tenants.{answered}
+use Rattle.kb_tenants.specs.Tenants.{answered_connections}
 use Rattle.kb_world.specs.Steps.{IsCalm}
 use Rattle.kb_tenant.specs.declared.answer.Answer.TheVariants as plain
 use Rattle.kb_service.specs.declared.answer.Answer.{Answer}
@@ -21,7 +21,7 @@ use Rattle.kb_service.specs.declared.answer.Answer.TheVariants as answers
 use Rattle.kb_machine.specs.Tenant.{Awaited, Records, Group, Wait, ready, asked}
 use Rattle.kb_machine.specs.Session.{Stage, Greets, BoundTo, Session, can, is_free}
 use Rattle.kb_machine.specs.Greeting.{Setup}
-use Rattle.kb_machine.specs.Machine.{Line, served, put}
+use Rattle.kb_machine.specs.Machine.{Line, after_turn, put}
 use Rattle.kb_machine.specs.Owners.{whose}
 use Rattle.kb_machine.specs.Machine.{find_line}
 use Rattle.kb_machine.specs.Broker.{BrokerState, IsUnready, AnyWait}
@@ -129,7 +129,7 @@ IsAskedOnAt (BoundTo t wait) old new = IsAskedOn t old new
 -- after the turn of a connection with that number and session s, which is r then, of a tenant to which nothing was ever refused:
 -- what waits and was not ready is not ready, if the queue has it under what it asks and its connection is not among those
 pub record IsPassedOn (setup : Setup) (t clock n : ℕ) (q : Queue) (old new : List TenantState) (s r : Session) (ns : List ℕ) : Type 0 where
-  pub session : r ≡ served setup (hosted.kept_of old t) clock n s
+  pub session : r ≡ after_turn setup (hosted.kept_of old t) clock n s
   pub kept : hosted.kept_of new t ≡ put setup (hosted.kept_of old t) clock n s.unread
   pub calm : hosted.refusals_of new t ≡ 0
   pub own : Contains ns n
@@ -154,7 +154,7 @@ pub record IsTouched (t clock : ℕ) (old new : List TenantState) (places : List
 -- nothing was refused to a tenant, and what waits and was not ready is not ready, if its groups do not answer it
 pub record IsReleased (t clock : ℕ) (old new : List TenantState) : Type 0 where
   pub calm : IsCalm (hosted.refusals_of old t) (hosted.refusals_of new t)
-  pub ready : (k : ℕ) (w : Wait) → (Contains (answered (hosted.kept_of new t).groups) k → ⊥) → ready (hosted.kept_of old t) clock k w ≡ Silent → ready (hosted.kept_of new t) clock k w ≡ Silent
+  pub ready : (k : ℕ) (w : Wait) → (Contains (answered_connections (hosted.kept_of new t).groups) k → ⊥) → ready (hosted.kept_of old t) clock k w ≡ Silent → ready (hosted.kept_of new t) clock k w ≡ Silent
 
 -- what a request of a tenant touched, where that is known
 abbrev pub IsTouchedBy : Touched → ℕ → ℕ → List TenantState → List TenantState → Type 0
@@ -165,7 +165,7 @@ IsTouchedBy touches.Unknown t clock old new = ⊤
 -- the turn of a connection of number n bound to that tenant, of whose session s it leaves r, was not refused; the connection waits for
 -- nothing then, or the groups answer nobody who waited; and what waits and was not ready is not ready, if it asks none of those partitions
 pub record IsTouchedTurn (setup : Setup) (t clock n : ℕ) (old new : List TenantState) (s r : Session) (places : List Place) : Type 0 where
-  pub session : r ≡ served setup (hosted.kept_of old t) clock n s
+  pub session : r ≡ after_turn setup (hosted.kept_of old t) clock n s
   pub kept : hosted.kept_of new t ≡ put setup (hosted.kept_of old t) clock n s.unread
   pub own : (has_released (hosted.kept_of new t).groups ≡ false) ⊎ (is_free r.stage ≡ true)
   pub ready : (k : ℕ) (w : Wait) → AreApart (asked (hosted.kept_of old t) w) places → ready (hosted.kept_of old t) clock k w ≡ Silent → ready (hosted.kept_of new t) clock k w ≡ Silent
@@ -195,7 +195,7 @@ AreWaitingFor t ts q places ns = ((hosted.refusals_of ts t ≡ 0) × AreParked q
 -- where that is not known, or what the waits ask, all of the tenant's
 abbrev pub AreConcerned : ℕ → ℕ → List TenantState → Queue → Touched → List ℕ → Type 0
 AreConcerned t n ts q (touches.Partitions places) ns = AreUnder t n ts q places.items ns ⊎ AreTheTenants t n q ns
-AreConcerned t n ts q touches.Groups ns = ns ≡ answered (hosted.kept_of ts t).groups ++ n ∷ []
+AreConcerned t n ts q touches.Groups ns = ns ≡ answered_connections (hosted.kept_of ts t).groups ++ n ∷ []
 AreConcerned t n ts q touches.Unknown ns = AreTheTenants t n q ns
 
 abbrev pub IsConcern : Concerned → ℕ → ℕ → List TenantState → Queue → Touched → Type 0
@@ -204,6 +204,12 @@ IsConcern concerned.Nobody t n ts q touches.Groups = ⊥
 IsConcern concerned.Nobody t n ts q touches.Unknown = ⊥
 IsConcern (concerned.These u ns) t n ts q touched = (u ≡ t) × AreConcerned t n ts q touched ns.items
 IsConcern (concerned.All u) t n ts q touched = u ≡ t
+
+-- where it is not known whose waits a turn of a tenant concerns, that was counted for the tenant; else the tenants are as they were
+abbrev pub IsKnownOrCounted : Concerned → ℕ → List TenantState → List TenantState → Type 0
+IsKnownOrCounted concerned.Nobody t old new = new ≡ old
+IsKnownOrCounted (concerned.These u ns) t old new = new ≡ old
+IsKnownOrCounted (concerned.All u) t old new = IsCalm (hosted.refusals_of old t) (hosted.refusals_of new t) → ⊥
 
 -- whose waits a turn at that stage concerns
 abbrev pub IsWhose : Concerned → Stage → Type 0
@@ -241,7 +247,7 @@ IsSoughtIn whom clock (Some s) = IsSoughtAt whom clock s.stage
 -- answered, or all that wait
 abbrev pub AreSought : Queue → Option (Vec ℕ Global) → ℕ → List ℕ → Type 0
 AreSought q None clock ns = AreParked q queue.IsAny ns
-AreSought q (Some answered) clock ns = (k : ℕ) → Contains ns k ↔ (IsSomeAnd (get q k) (queue.IsDue clock) ⊎ Contains answered.items k)
+AreSought q (Some answered_connections) clock ns = (k : ℕ) → Contains ns k ↔ (IsSomeAnd (get q k) (queue.IsDue clock) ⊎ Contains answered_connections.items k)
 
 -- what waits is ready only where it is due or on those connections; where it is not known on which, any may be
 abbrev pub IsReadyAmong : Option (Vec ℕ Global) → BrokerState → Type 0

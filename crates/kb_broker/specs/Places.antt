@@ -14,7 +14,7 @@ use Rattle.kb_machine.specs.Stranded.{IsMembersAt, members_of}
 use Rattle.kb_machine.specs.Tenant.{Wait, is_members, ready}
 use Rattle.kb_machine.specs.Session.{Stage, Greets, BoundTo, Session, without_wait, is_free, can}
 use Rattle.kb_machine.specs.Greeting.{Setup, greeted}
-use Rattle.kb_machine.specs.Machine.{Line, served, put, woken, first_able, work}
+use Rattle.kb_machine.specs.Machine.{Line, after_turn, put, woken, first_able, work}
 use Rattle.kb_machine.specs.Broker.{BrokerState, IsSound, IsUnready, AreUnready, AnyWait, refusals_of}
 use Rattle.kb_machine.specs.Calls.{IsRefused}
 use Rattle.kb_machine.specs.declared.whom.Whom.{Whom}
@@ -74,7 +74,7 @@ IsTurnAt honest (BoundTo tenant wait) old new = IsTurn tenant honest old new
 -- the turn of a connection of number n at that stage that was not refused: of its session s it leaves r
 abbrev pub IsTakenAt : Type 0 → Setup → ℕ → ℕ → Stage → List TenantState → List TenantState → Session → Session → Type 0
 IsTakenAt honest setup clock n (Greets handshaken) old new s r = r ≡ greeted setup handshaken s
-IsTakenAt honest setup clock n (BoundTo tenant wait) old new s r = IsMet tenant honest old new (λ k l. (r ≡ served setup k clock n s) × (l ≡ put setup k clock n s.unread))
+IsTakenAt honest setup clock n (BoundTo tenant wait) old new s r = IsMet tenant honest old new (λ k l. (r ≡ after_turn setup k clock n s) × (l ≡ put setup k clock n s.unread))
 
 -- The turn of a connection of number n at that stage, also where it is refused, leaves no member more waiting but on that connection, and of
 -- those who waited each waits still or was answered; or it leaves the tenant's groups as they were.
@@ -90,7 +90,7 @@ IsMemberTurnAt n (BoundTo tenant wait) old new r = IsMembersAt tenant r ⊎ (mem
 -- the turn of a connection of number n bound to that tenant, of whose session s it leaves r, was not refused, the connection waits for nothing then, or the
 -- groups answer nobody who waited, and what waits and was not ready is not ready
 pub record IsQuietTurn (setup : Setup) (t clock n : ℕ) (old new : List TenantState) (s r : Session) : Type 0 where
-  pub session : r ≡ served setup (hosted.kept_of old t) clock n s
+  pub session : r ≡ after_turn setup (hosted.kept_of old t) clock n s
   pub kept : hosted.kept_of new t ≡ put setup (hosted.kept_of old t) clock n s.unread
   pub own : (has_released (hosted.kept_of new t).groups ≡ false) ⊎ (is_free r.stage ≡ true)
   pub ready : (k : ℕ) (w : Wait) → ready (hosted.kept_of old t) clock k w ≡ Silent → ready (hosted.kept_of new t) clock k w ≡ Silent

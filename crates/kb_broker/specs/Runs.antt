@@ -24,8 +24,8 @@ sent_of w = record { number = w.conn; bytes = w.bytes.items; shut = w.shut }
 
 -- 2. Numbers
 
-abbrev pub numbers : List Line → List ℕ
-numbers lines = map (λ (l : Line). l.number) lines
+abbrev pub numbers_of_lines : List Line → List ℕ
+numbers_of_lines lines = map (λ (l : Line). l.number) lines
 
 -- of the connections that events open
 abbrev pub opening : List Happening → List ℕ
@@ -43,7 +43,7 @@ is_opening (events.At now) = false
 
 -- of the connections open at entry, and then of those that events open
 abbrev pub connections_of : List Happening → BrokerState → List ℕ
-connections_of es b = numbers b.lines ++ opening es
+connections_of es b = numbers_of_lines b.lines ++ opening es
 
 -- 3. The states in between
 
@@ -54,9 +54,9 @@ unkept n = record { number = n; bytes = []; shut = true }
 -- where an event leads, and which connections it ends: one that cannot be kept, and one that closes
 abbrev pub Leads : Happening → BrokerState → BrokerState → List Sent → Type 0
 Leads (Opens n) old new ended = ((new ≡ opened old n) × (ended ≡ [])) ⊎ (IsRefused old new × (ended ≡ unkept n ∷ []))
-Leads (Comes n piece) old new ended = (numbers new.lines ≡ numbers old.lines) × (ended ≡ [])
+Leads (Comes n piece) old new ended = (numbers_of_lines new.lines ≡ numbers_of_lines old.lines) × (ended ≡ [])
 Leads (Closes n) old new ended = (new ≡ closed old n) × (ended ≡ leaving (Closes n) old.lines)
-Leads (Moment now) old new ended = (numbers new.lines ≡ numbers old.lines) × (ended ≡ [])
+Leads (Moment now) old new ended = (numbers_of_lines new.lines ≡ numbers_of_lines old.lines) × (ended ≡ [])
 
 -- the output of every connection was taken
 abbrev pub emptied : BrokerState → BrokerState

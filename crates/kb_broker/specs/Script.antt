@@ -1,6 +1,6 @@
 -- Scripts: what a text says, line by line, and what is written of the steps of a broker.
-use Rattle.std.specs.Prelude.{◌≡◌, ◌≢◌, ℕ, ◌+◌, ◌-◌, ◌^◌, ◌==◌, ◌&&◌, ◌||◌, List, [], ◌∷◌, ◌++◌, length, drop, codes, decimal, nat_lt, nat_le, Bool, true, false, not, if◌then◌else◌, Option, Some, None, Result, Ok, Err, bytes_eq}
-use Rattle.std.specs.List.{before_first, position_or_len}
+use Rattle.std.specs.Prelude.{◌≡◌, ◌≢◌, ℕ, ◌+◌, ◌^◌, ◌==◌, ◌&&◌, ◌||◌, List, [], ◌∷◌, ◌++◌, length, drop, codes, decimal, nat_lt, nat_le, Bool, true, false, not, if◌then◌else◌, Option, Some, None, Result, Ok, Err, bytes_eq}
+use Rattle.std.specs.List.{before_first, concat, position_or_len}
 use Rattle.std.specs.Str.{all_ascii_digits}
 use Rattle.std.specs.Str.Parse.{digits_value}
 use Rattle.std.specs.Io.BufRead.{strip_last}
@@ -73,12 +73,14 @@ told_of lines.Bad = Wrong
 
 -- 2. Where a script stands
 
--- the number of the next line, how many more bytes are taken, which connections are open, and the greatest number that one has had
+-- which connections are open, and the greatest number that one has had
 pub record Place : Type 0 where
-  pub line : ℕ
-  pub room : ℕ
   pub open_now : ℕ → Bool
   pub last : ℕ
+
+-- that of a broker
+abbrev pub here : BrokerState → Place
+here b = record { open_now = λ k. is_open k b; last = b.last }
 
 -- whether an event may happen there
 abbrev pub is_in_place : Place → Happening → Bool
@@ -105,19 +107,46 @@ pub data Course : Type 0 where
   Passes : Course
   Stops : (fault : ScriptFault) → Course
 
-abbrev pub LINE : ℕ
-LINE = 8400000
+abbrev pub course_of : ℕ → Place → Told → Course
+course_of number p Nothing = Passes
+course_of number p Wrong = Stops (faults.BadLine number)
+course_of number p (Event e) = if is_in_place p e then Plays e else Stops (faults.BadLine number)
 
--- the last line has no room
-abbrev pub room_at : Place → ℕ
-room_at p = if nat_lt 1000000 p.line then 0 else p.room
+abbrev pub after_course : Course → Place → Place
+after_course (Plays e) p = after_event e p
+after_course Passes p = p
+after_course (Stops fault) p = p
 
--- a line, with its line feed or without: bad if its first byte past the longest line is still taken, else too long if a byte is not
-abbrev pub length_fault : ℕ → ℕ → List ℕ → Option ScriptFault
-length_fault number room line =
-    if nat_lt LINE (length (strip_last 10 line)) && nat_lt LINE room then Some (faults.BadLine number)
-    else if nat_lt room (length line) then Some faults.TooLong
-    else None
+-- 3. How long a script may be
+
+-- the most lines, the most bytes, and the most bytes of a line without its line feed
+abbrev pub MOST_LINES : ℕ
+MOST_LINES = 1000000
+
+abbrev pub MOST_BYTES : ℕ
+MOST_BYTES = 1073741824
+
+abbrev pub LONGEST_LINE : ℕ
+LONGEST_LINE = 8400000
+
+-- whether a script may have one line more behind those lines, of so many bytes
+abbrev pub has_room : List (List ℕ) → ℕ → Bool
+has_room before bytes = nat_lt (length before) MOST_LINES && nat_le (length (concat before) + bytes) MOST_BYTES
+
+-- a line, with its line feed or without, by which lengths have room: it is bad where it is longer than a line may be and its first byte past that has room, else the script is too long where the line has none
+abbrev pub fault_where : ℕ → (ℕ → Bool) → List ℕ → Option ScriptFault
+fault_where number fits line =
+    if nat_lt LONGEST_LINE (length (strip_last 10 line)) && fits (LONGEST_LINE + 1) then Some (faults.BadLine number)
+    else if fits (length line) then None
+    else Some faults.TooLong
+
+-- a line behind those lines
+abbrev pub length_fault : List (List ℕ) → List ℕ → Option ScriptFault
+length_fault before line = fault_where (length before + 1) (has_room before) line
+
+-- a line that is taken where so many bytes are left
+abbrev pub fault_within : ℕ → ℕ → List ℕ → Option ScriptFault
+fault_within number room line = fault_where number (λ bytes. nat_le bytes room) line
 
 -- what a fault in taking a line says: of the reader and of memory nothing
 abbrev pub IsLengthFault : Option ScriptFault → ScriptFault → Type 0
@@ -135,27 +164,7 @@ IsNoRoom room xs faults.Read = Unit {0}
 IsNoRoom room xs faults.Write = ⊥
 IsNoRoom room xs faults.Memory = Unit {0}
 
-abbrev pub course_of : Place → Told → Course
-course_of p Nothing = Passes
-course_of p Wrong = Stops (faults.BadLine p.line)
-course_of p (Event e) = if is_in_place p e then Plays e else Stops (faults.BadLine p.line)
-
-abbrev pub course_by : Place → List ℕ → Option ScriptFault → Course
-course_by p line (Some fault) = Stops fault
-course_by p line None = course_of p (told (strip_last 10 line))
-
-unfoldable pub course : Place → List ℕ → Course
-course p line = course_by p line (length_fault p.line (room_at p) line)
-
-abbrev pub after_course : Course → Place → Place
-after_course (Plays e) p = after_event e p
-after_course Passes p = p
-after_course (Stops fault) p = p
-
-abbrev pub after_line : Place → List ℕ → Place
-after_line p line = after_course (course p line) (record p { line = p.line + 1; room = p.room - length line })
-
--- 3. A whole script
+-- 4. A whole script
 
 -- its lines, each with its line feed: the last may have none
 abbrev pub onto : ℕ → List (List ℕ) → List (List ℕ)
@@ -176,18 +185,26 @@ and_then (Plays e) rest = record { events = e ∷ rest.events; fault = rest.faul
 and_then Passes rest = rest
 and_then (Stops fault) rest = record { events = []; fault = Some fault }
 
-unfoldable pub read_from : Place → List (List ℕ) → Script
-read_from p [] = record { events = []; fault = None }
-read_from p (line ∷ rest) = and_then (course p line) (read_from (after_line p line) rest)
+abbrev pub course_by : ℕ → Place → List ℕ → Option ScriptFault → Course
+course_by number p line (Some fault) = Stops fault
+course_by number p line None = course_of number p (told (strip_last 10 line))
 
--- where a script starts on a broker
-abbrev pub start : BrokerState → Place
-start b = record { line = 1; room = 1073741824; open_now = λ k. is_open k b; last = b.last }
+-- a line behind those lines, at that place
+unfoldable pub course : List (List ℕ) → Place → List ℕ → Course
+course before p line = course_by (length before + 1) p line (length_fault before line)
+
+unfoldable pub read_from : List (List ℕ) → Place → List (List ℕ) → Script
+read_from before p [] = record { events = []; fault = None }
+read_from before p (line ∷ rest) = and_then (course before p line) (read_from (before ++ line ∷ []) (after_course (course before p line) p) rest)
+
+-- what lines say to a broker, and what a text does
+abbrev pub said_by : BrokerState → List (List ℕ) → Script
+said_by b lines = read_from [] (here b) lines
 
 abbrev pub script : BrokerState → List ℕ → Script
-script b text = read_from (start b) (pieces text)
+script b text = said_by b (pieces text)
 
--- 4. What is written
+-- 5. What is written
 
 abbrev pub out_line : ℕ → List ℕ → List ℕ
 out_line n bytes = if length bytes == 0 then [] else codes "out " ++ decimal n ++ codes " " ++ encode_lower bytes ++ codes "\n"

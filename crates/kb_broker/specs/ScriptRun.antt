@@ -1,7 +1,8 @@
 -- What a script does to a broker, and what is written then.
-use Rattle.std.specs.Prelude.{◌≡◌, ℕ, List, [], ◌∷◌, ◌++◌, map, Bool, true, false, not, ◌&&◌, Option, Some, None}
+use Rattle.std.specs.Prelude.{◌≡◌, ◌≢◌, ℕ, ◌+◌, List, [], ◌∷◌, ◌++◌, length, map, All, Bool, true, false, not, ◌&&◌, Option, Some, None}
 use Rattle.std.specs.List.{AllByRecursion}
-use Rattle.std.specs.Io.KnownBytes.{Appends}
+use Rattle.std.specs.Io.BufRead.{take_through}
+use Rattle.std.specs.Io.KnownBytes.{Appends, Consumes}
 use Rattle.kb_machine.specs.Machine.{Happening, Line, Sent}
 use Rattle.kb_machine.specs.Broker.{BrokerState, IsReady, IsStep}
 use Rattle.kb_machine.specs.Calls.{is_open, is_calm}
@@ -9,7 +10,7 @@ use Rattle.kb_machine.specs.Told.{quieted_lines, said, Tells}
 use Rattle.kb_broker.specs.declared.script.ScriptFault.{ScriptFault}
 use Rattle.kb_broker.specs.declared.script.ScriptFault.TheVariants as faults
 use Rattle.kb_broker.specs.Places.{waits_in}
-use Rattle.kb_broker.specs.Script.{Place, Course, Plays, Passes, Stops, Script, after_event, step_text, script_text}
+use Rattle.kb_broker.specs.Script.{Place, Course, Plays, Passes, Stops, Script, after_event, here, pieces, said_by, step_text, script_text}
 
 -- 1. One event
 
@@ -25,10 +26,6 @@ hushed b = record b { lines = quieted_lines b.lines }
 abbrev pub NoneWaits : BrokerState → Type 0
 NoneWaits b = AllByRecursion (λ (l : Line). waits_in (Some l.session) ≡ false) b.lines
 
--- where a script stands, for that line, on a broker
-abbrev pub here : ℕ → BrokerState → Place
-here number b = record { line = number; room = 0; open_now = λ k. is_open k b; last = b.last }
-
 pub record IsAt (p : Place) (b : BrokerState) : Type 0 where
   pub open_now : (k : ℕ) → p.open_now k ≡ is_open k b
   pub last : p.last ≡ b.last
@@ -38,7 +35,7 @@ pub record Happens (e : Happening) (old new : BrokerState) : Type 0 where
   pub step : IsStep e old new
   pub ready : IsReady new
   pub calm : is_calm new ≡ true
-  pub stands : IsAt (after_event e (here 0 old)) new
+  pub stands : IsAt (after_event e (here old)) new
 
 -- what the broker said at an event
 abbrev pub words : BrokerState → BrokerState → List ℕ
@@ -115,3 +112,39 @@ IsEnded b s faults.TooLong from to = (s.fault ≡ Some faults.TooLong) × IsWrit
 IsEnded b s faults.Read from to = OfSome s.events (λ es. IsWritten b es from to)
 IsEnded b s faults.Write from to = OfSome s.events (λ es. IsWrittenInPart b es from to)
 IsEnded b s faults.Memory from to = OfSome s.events (λ es. IsWritten b es from to)
+
+-- 3. Which lines were played
+
+-- a text of which the front was taken, with no line feed in it
+abbrev pub IsCut : Option (List ℕ) → Option (List ℕ) → Type 0
+IsCut old new = (front : List ℕ) × All (λ x. x ≢ 10) front × Consumes old new front
+
+abbrev pub IsFrontOf : List ℕ → List ℕ → Type 0
+IsFrontOf front text = (rest : List ℕ) × (text ≡ front ++ rest)
+
+-- of a text those lines were taken, whole, and of the next one that front; what is left stands behind it
+pub record AreTaken (text : List ℕ) (left : Option (List ℕ)) (lines : List (List ℕ)) (front : List ℕ) : Type 0 where
+  pub behind : List ℕ
+  pub left_is : left ≡ Some behind
+  pub lines_are : pieces text ≡ lines ++ pieces (front ++ behind)
+  pub within : IsFrontOf front (take_through 10 (front ++ behind))
+
+-- those lines were played, and what the broker said to them was written
+abbrev pub ArePlayed : BrokerState → List (List ℕ) → Option (List ℕ) → Option (List ℕ) → Type 0
+ArePlayed b lines from to = IsPlayed b (said_by b lines) from to
+
+-- the same, but of what it said to the last of them the front alone was written
+abbrev pub ArePlayedInPart : BrokerState → List (List ℕ) → Option (List ℕ) → Option (List ℕ) → Type 0
+ArePlayedInPart b lines from to = ((said_by b lines).fault ≡ None) × IsWrittenInPart b (said_by b lines).events from to
+
+-- what was played where that fault ended a script: the lines before the one that is at fault, that could not be read to its end, or in which memory was refused; at a write fault that one too
+abbrev pub HavePlayed : ScriptFault → BrokerState → List (List ℕ) → List ℕ → Option (List ℕ) → Option (List ℕ) → Type 0
+HavePlayed (faults.BadLine k) b lines front from to = (k ≡ length lines + 1) × ArePlayed b lines from to
+HavePlayed faults.TooLong b lines front from to = ArePlayed b lines from to
+HavePlayed faults.Read b lines front from to = All (λ x. x ≢ 10) front × ArePlayed b lines from to
+HavePlayed faults.Write b lines front from to = (front ≡ []) × ArePlayedInPart b lines from to
+HavePlayed faults.Memory b lines front from to = ArePlayed b lines from to
+
+-- a script ended with that fault, and the reader has so much of its text left
+abbrev pub IsStopped : BrokerState → List ℕ → Option (List ℕ) → ScriptFault → Option (List ℕ) → Option (List ℕ) → Type 0
+IsStopped b text left fault from to = (lines : List (List ℕ)) × (front : List ℕ) × AreTaken text left lines front × HavePlayed fault b lines front from to

@@ -1,15 +1,17 @@
 //! The broker at its start: what the settings fix, and nobody connected.
 
-ghost use Rattle.std.specs.Prelude.{◌≡◌, ◌<◌, ℕ, List, [], IfOk, IfErr, map, length, get_or};
+ghost use Rattle.std.specs.Prelude.{◌≡◌, ◌<◌, ℕ, List, [], None, IfOk, IfErr, map, length, get_or};
 ghost use Rattle.std.specs.List.{Contains};
 ghost use Rattle.std.specs.List.Sorted.{IsStrictlySortedBy};
 ghost use Rattle.kb_wire.specs.Codec.{array};
 ghost use Rattle.kb_api_group.specs.Layouts.{api_version};
 ghost use Rattle.kb_settings.specs.Names.{byte_order, in_order, place_of};
 ghost use Rattle.kb_store.specs.Disk.{Keeps};
+ghost use Rattle.kb_machine.specs.Stranded.{NoneStranded};
 ghost use Rattle.kb_service.specs.Hosted.{names_of, new_tenant};
+ghost use Rattle.kb_tenants.specs.Tenants.{numbers_in};
 ghost use Rattle.kb_broker.specs.Hosts.{tenants_in, AreHosted};
-ghost use Rattle.kb_broker.specs.Opening.{listed, listed_as, opening, opening_listing, opening_over, opening_setup, tenants_of, login_of, BlamesStore};
+ghost use Rattle.kb_broker.specs.Opening.{listed, listed_as, opening, opening_listing, opening_over, opening_setup, tenants_of, login_of, fault_for, BlamesStore, HaveNoGroups};
 
 use crate::broker::Broker;
 use crate::engine::Engine;
@@ -119,8 +121,7 @@ impl<S: Store> OpenRefused<S> {
 
     /// The store refused to list its files.
     fn for_shelf(refused: ShelfRefused<S>) -> Self
-        ensures store { result.store ≡ refused.store }
-        ensures fault { result.fault ≡ OpenFault.Store → refused.fault ≡ StoreFault.Device }
+        ensures { result ≡ record { fault = fault_for refused.fault; store = refused.store } }
     {
         OpenRefused {
             fault: match refused.fault {
@@ -144,6 +145,8 @@ impl<S: Store, L: PartitionLog + Drop> Broker<S, L> {
     ) -> Result<Opened<S, L>, OpenRefused<S>>
         ensures state { IfOk result (λ opened. opened.broker.state ≡ opening settings.now) }
         ensures strays { IfOk result (λ opened. opened.strays.items ≡ []) }
+        // Which files are of no log is not known yet.
+        ensures unknown { IfOk result (λ opened. opened.broker.strays ≡ None) }
         ensures kept { IfOk result (λ opened. Keeps (S.disk store) (S.disk opened.broker.store)) }
         ensures kept_err { IfErr result (λ refused. Keeps (S.disk store) (S.disk refused.store)) }
         ensures cause { IfErr result (λ refused. BlamesStore (S.disk store) refused.fault (S.disk refused.store)) }
@@ -160,6 +163,8 @@ impl<S: Store, L: PartitionLog + Drop> Broker<S, L> {
     ) -> Result<Opened<S, L>, OpenRefused<S>>
         ensures state { IfOk result (λ opened. opened.broker.state ≡ opening_listing listing settings.now) }
         ensures strays { IfOk result (λ opened. opened.strays.items ≡ []) }
+        // Which files are of no log is not known yet.
+        ensures unknown { IfOk result (λ opened. opened.broker.strays ≡ None) }
         ensures kept { IfOk result (λ opened. Keeps (S.disk store) (S.disk opened.broker.store)) }
         ensures kept_err { IfErr result (λ refused. Keeps (S.disk store) (S.disk refused.store)) }
         ensures cause { IfErr result (λ refused. BlamesStore (S.disk store) refused.fault (S.disk refused.store)) }
@@ -196,6 +201,9 @@ impl<S: Store, L: PartitionLog + Drop> Broker<S, L> {
         requires names { names_of (tenants_in L.log S.disk tenants) ≡ tenants_of settings.now.users.items }
         ensures state { IfOk result (λ broker. broker.state ≡ opening_over listing settings.now (tenants_in L.log S.disk tenants)) }
         ensures store { IfOk result (λ broker. broker.store ≡ tenants.shelf.store) }
+        ensures strays { IfOk result (λ broker. broker.strays ≡ numbers_in tenants.strays) }
+        // Where no tenant has groups no member waits.
+        ensures held { IfOk result (λ broker. HaveNoGroups (tenants_in L.log S.disk tenants) → NoneStranded broker.state) }
         ensures refused { IfErr result (λ refused. refused ≡ record { fault = OpenFault.Memory; store = tenants.shelf.store }) }
     {
         let Ok(setup) = setup_of(alloc, settings, listing) else {
@@ -284,6 +292,7 @@ fn new_tenants<L: PartitionLog + Drop, S: Store>(
     ensures hosted { IfOk result (λ tenants. AreHosted L.log S.disk tenants) }
     ensures new { IfOk result (λ tenants. tenants_in L.log S.disk tenants ≡ map (λ name. new_tenant name.now) names.now) }
     ensures store { IfOk result (λ tenants. tenants.shelf.store ≡ shelf.store) }
+    ensures strays { IfOk result (λ tenants. tenants.strays ≡ None) }
     ensures err { IfErr result (λ refused. refused ≡ record { fault = OpenFault.Memory; store = shelf.store }) }
 {
     let mut tenants = Tenants::new(alloc, shelf);

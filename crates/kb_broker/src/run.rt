@@ -11,7 +11,7 @@ ghost use Rattle.kb_machine.specs.Fetches.{FetchesGetBatches};
 ghost use Rattle.kb_machine.specs.Isolation.{IsIsolated, LeavesWorlds, AreAlike, own_events, own_sent};
 ghost use Rattle.kb_machine.specs.Alone.{HasToItself};
 ghost use Rattle.kb_machine.specs.Greetings.{greeted_alone};
-ghost use Rattle.kb_broker.specs.Hosts.{is_honest, IsLater, IsReadyOn, StepsTo};
+ghost use Rattle.kb_broker.specs.Hosts.{is_honest, IsInFiles, IsLater, IsReadyOn, StepsTo};
 ghost use Rattle.kb_broker.specs.Runs.{happening_of, happenings, sent_of, is_opening, connections_of, emptied, IsPassed, Passes};
 
 use crate::broker::Broker;
@@ -69,6 +69,7 @@ impl<S: Store, L: PartitionLog + Drop> Broker<S, L> {
         ensures connections { IfOk result (λ written. map (λ (w : Written). w.conn) written.items ≡ connections_of (happenings events.now) self.old.state) }
         ensures history { IfOk result (λ written. (got : List Sent) × (map sent_of written.items ≡ by_number got) × Passes (is_honest S.disk self.new) (happenings events.now) self.old.state self.new.state got) }
         ensures later { IsLater S.disk self.old self.new }
+        ensures in_files { IsInFiles L.log S.disk self.new }
         ensures memory { OnErr result (self.new ≡ self.old) }
         ensures held { is_honest S.disk self.new → NoneStranded self.old.state → NoneStranded self.new.state }
     {
@@ -135,6 +136,7 @@ impl<S: Store, L: PartitionLog + Drop> Broker<S, L> {
         requires ready { IsReadyOn S.disk self.old }
         requires room { vec_len written.old + length self.old.state.lines ≤ vec_capacity written.old }
         ensures state { self.new ≡ record self.old { state = emptied self.old.state } }
+        ensures in_files { IsInFiles L.log S.disk self.new }
         ensures left { map sent_of written.new.items ≡ map sent_of written.old.items ++ map sent self.old.state.lines }
     {
         for i in 0..self.connections().len() {

@@ -7,8 +7,8 @@ ghost use Rattle.kb_machine.specs.Broker.{IsReady};
 ghost use Rattle.kb_machine.specs.Calls.{is_calm, is_shut};
 ghost use Rattle.kb_broker.specs.Hosts.{is_honest};
 ghost use Rattle.kb_broker.specs.Opening.{opening};
-ghost use Rattle.kb_broker.specs.Script.{Plays, script, told, told_of, course_of, is_placed};
-ghost use Rattle.kb_broker.specs.ScriptRun.{IsQuiet, NoneWaits, HappensSilently, IsSpoken, IsDone, IsBroken, IsPlayed, IsEnded, here};
+ghost use Rattle.kb_broker.specs.Script.{Plays, script, told, told_of, course_of, here, is_placed};
+ghost use Rattle.kb_broker.specs.ScriptRun.{IsQuiet, NoneWaits, HappensSilently, IsSpoken, IsDone, IsBroken, IsPlayed, IsEnded, IsStopped};
 
 mod answer;
 mod line;
@@ -68,6 +68,7 @@ pub fn run_script<L: PartitionLog + Drop, R: BufRead, W: Write>(
 ) -> Result<(), ScriptFault>
     ensures ok { OnOk result (IfSome (R.remaining reader.old) (λ text. IsPlayed (opening settings.now) (script (opening settings.now) text) (W.contents writer.old) (W.contents writer.new))) }
     ensures err { IfErr result (λ fault. IfSome (R.remaining reader.old) (λ text. IsEnded (opening settings.now) (script (opening settings.now) text) fault (W.contents writer.old) (W.contents writer.new))) }
+    ensures stopped { IfErr result (λ fault. IfSome (R.remaining reader.old) (λ text. IsStopped (opening settings.now) text (R.remaining reader.new) fault (W.contents writer.old) (W.contents writer.new))) }
 {
     let Ok(mut opened) = Broker::<MemoryStore, L>::open(alloc, settings, MemoryStore::new(alloc))
     else {
@@ -92,6 +93,7 @@ pub fn run_script_on<S: Store, L: PartitionLog + Drop, R: BufRead, W: Write>(
     ensures honest { is_honest S.disk broker.new → is_honest S.disk broker.old }
     ensures ok { is_honest S.disk broker.new → OnOk result (IfSome (R.remaining reader.old) (λ text. IsPlayed broker.old.state (script broker.old.state text) (W.contents writer.old) (W.contents writer.new))) }
     ensures err { is_honest S.disk broker.new → IfErr result (λ fault. IfSome (R.remaining reader.old) (λ text. IsEnded broker.old.state (script broker.old.state text) fault (W.contents writer.old) (W.contents writer.new))) }
+    ensures stopped { is_honest S.disk broker.new → IfErr result (λ fault. IfSome (R.remaining reader.old) (λ text. IsStopped broker.old.state text (R.remaining reader.new) fault (W.contents writer.old) (W.contents writer.new))) }
 {
     let mut text = Vec::new(alloc);
     let mut room = SCRIPT_BYTES;
@@ -119,8 +121,8 @@ fn play_line<S: Store, L: PartitionLog + Drop, W: Write>(
     requires quiet { is_honest S.disk broker.old → IsQuiet broker.old.state }
     requires ready { is_honest S.disk broker.old → IsReady broker.old.state }
     ensures honest { is_honest S.disk broker.new → is_honest S.disk broker.old }
-    ensures ok { is_honest S.disk broker.new → OnOk result (IsDone (course_of (here number broker.old.state) (told (strip_last 10 text.now))) broker.old.state broker.new.state (W.contents writer.old) (W.contents writer.new)) }
-    ensures err { is_honest S.disk broker.new → IfErr result (λ fault. IsBroken (course_of (here number broker.old.state) (told (strip_last 10 text.now))) fault broker.old.state (W.contents writer.old) (W.contents writer.new)) }
+    ensures ok { is_honest S.disk broker.new → OnOk result (IsDone (course_of number (here broker.old.state) (told (strip_last 10 text.now))) broker.old.state broker.new.state (W.contents writer.old) (W.contents writer.new)) }
+    ensures err { is_honest S.disk broker.new → IfErr result (λ fault. IsBroken (course_of number (here broker.old.state) (told (strip_last 10 text.now))) fault broker.old.state (W.contents writer.old) (W.contents writer.new)) }
 {
     let Ok(line) = Line::read(alloc, without_feed(text)) else {
         return Err(ScriptFault::Memory);
@@ -149,7 +151,7 @@ fn without_feed(line: &[u8]) -> &[u8]
 
 /// Whether a line says nothing, or what may happen now.
 fn is_in_place<S: Store, L: PartitionLog + Drop>(broker: &Broker<S, L>, line: &Line) -> bool
-    ensures { result ≡ is_placed (here 0 broker.now.state) (told_of line.now) }
+    ensures { result ≡ is_placed (here broker.now.state) (told_of line.now) }
 {
     match line {
         Line::Open(connection) => broker.last_connection() < *connection,

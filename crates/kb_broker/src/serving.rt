@@ -9,17 +9,17 @@ ghost use Rattle.kb_service.specs.declared.answer.Answer.TheVariants as any;
 ghost use Rattle.kb_tenant.specs.Replies as plain;
 ghost use Rattle.kb_tenant.specs.declared.answer.Answer.TheVariants as answers;
 ghost use Rattle.kb_machine.specs.Session.{BoundTo, shut_down, can};
-ghost use Rattle.kb_machine.specs.Machine.{answered, served, put};
+ghost use Rattle.kb_machine.specs.Machine.{after_reaction, after_turn, put};
 ghost use Rattle.kb_machine.specs.Broker.{InRange};
 ghost use Rattle.kb_machine.specs.Tenant.{answer, kept_after, is_members, is_past, ready};
 ghost use Rattle.kb_machine.specs.Turned.{is_looked_for};
-ghost use Rattle.kb_tenants.specs.Tenants.{is_honest};
+ghost use Rattle.kb_tenants.specs.Tenants.{shelf_is_honest};
 ghost use Rattle.kb_connection.specs.Fronts.{is_tenants_at, IsAsked};
 ghost use Rattle.kb_connection.specs.View.{awaited_of, wait_of, with_session, without_front};
 ghost use Rattle.kb_broker.specs.Hosts.{tenants_in, AreHosted, AreLater};
 ghost use Rattle.kb_service.specs.Waiters.{AreServed, IsWaitTold};
 ghost use Rattle.kb_broker.specs.Places.{IsSpent, IsTakenAt, IsTurnAt, IsLookedAt, IsMemberTurnAt, IsWaitTurnAt};
-ghost use Rattle.kb_broker.specs.Parked.{parked_for, until_of, deadline_at, IsKeyedAt, IsOwnedAt, IsAskedOn, IsAskedOnAt, IsTouchedBy, IsTouchedTurnBy, AreConcerned, AreWaitingFor, IsConcern, IsLeftBy, IsOwnTo, IsWhose};
+ghost use Rattle.kb_broker.specs.Parked.{parked_for, until_of, deadline_at, IsKeyedAt, IsOwnedAt, IsAskedOn, IsAskedOnAt, IsTouchedBy, IsTouchedTurnBy, AreConcerned, AreWaitingFor, IsConcern, IsKnownOrCounted, IsLeftBy, IsOwnTo, IsWhose};
 
 use crate::parking::Parking;
 use kb_connection::{Awaited, Connection, Phase, Setup, Waiting};
@@ -73,18 +73,18 @@ pub fn take_turn<L: PartitionLog + Drop, S: Store>(
     requires free { fin.get parking.old connection.old.number ≡ None }
     ensures hosted { AreHosted L.log S.disk tenants.new }
     ensures later { AreLater L.log S.disk tenants.old tenants.new }
-    ensures turn { IsTurnAt (is_honest S.disk tenants.new) connection.old.session.stage (tenants_in L.log S.disk tenants.old) (tenants_in L.log S.disk tenants.new) }
+    ensures turn { IsTurnAt (shelf_is_honest S.disk tenants.new) connection.old.session.stage (tenants_in L.log S.disk tenants.old) (tenants_in L.log S.disk tenants.new) }
     ensures number { connection.new.number ≡ connection.old.number }
     ensures spent { IsSpent connection.old.session connection.new.session }
     ensures parked { (k : ℕ) → k ≢ connection.old.number → fin.get parking.new k ≡ fin.get parking.old k }
     ensures dated { until_of (fin.get parking.new connection.old.number) ≡ deadline_at connection.new.session.stage }
     ensures owned { IsOwnedAt connection.new.session.stage (fin.get parking.new connection.old.number) }
-    ensures keyed { is_honest S.disk tenants.new → IsKeyedAt (tenants_in L.log S.disk tenants.new) connection.old.number connection.new.session.stage (fin.get parking.new connection.old.number) }
-    ensures asked { is_honest S.disk tenants.new → IsAskedOnAt connection.old.session.stage (tenants_in L.log S.disk tenants.old) (tenants_in L.log S.disk tenants.new) }
-    ensures ok { OnOk result (IsTakenAt (is_honest S.disk tenants.new) setup.now clock connection.old.number connection.old.session.stage (tenants_in L.log S.disk tenants.old) (tenants_in L.log S.disk tenants.new) connection.old.session connection.new.session) }
+    ensures keyed { shelf_is_honest S.disk tenants.new → IsKeyedAt (tenants_in L.log S.disk tenants.new) connection.old.number connection.new.session.stage (fin.get parking.new connection.old.number) }
+    ensures asked { shelf_is_honest S.disk tenants.new → IsAskedOnAt connection.old.session.stage (tenants_in L.log S.disk tenants.old) (tenants_in L.log S.disk tenants.new) }
+    ensures ok { OnOk result (IsTakenAt (shelf_is_honest S.disk tenants.new) setup.now clock connection.old.number connection.old.session.stage (tenants_in L.log S.disk tenants.old) (tenants_in L.log S.disk tenants.new) connection.old.session connection.new.session) }
     ensures whose { IfOk result (λ c. IsWhose c connection.old.session.stage) }
     ensures own { IfOk result (λ c. IsOwnTo c connection.old.number) }
-    ensures left { is_honest S.disk tenants.new → IfOk result (λ c. IsLeftBy c setup.now clock connection.old.session.stage connection.old.number parking.old (tenants_in L.log S.disk tenants.old) (tenants_in L.log S.disk tenants.new) connection.old.session connection.new.session) }
+    ensures left { shelf_is_honest S.disk tenants.new → IfOk result (λ c. IsLeftBy c setup.now clock connection.old.session.stage connection.old.number parking.old (tenants_in L.log S.disk tenants.old) (tenants_in L.log S.disk tenants.new) connection.old.session connection.new.session) }
     ensures waits { IsWaitTurnAt connection.old.number connection.old.session.stage (tenants_in L.log S.disk tenants.old) (tenants_in L.log S.disk tenants.new) }
     ensures member { OnOk result (IsMemberTurnAt connection.old.number connection.old.session.stage (tenants_in L.log S.disk tenants.old) (tenants_in L.log S.disk tenants.new) connection.new.session.stage) }
     ensures err { OnErr result (connection.new ≡ with_session connection.old (shut_down connection.old.session)) }
@@ -104,17 +104,25 @@ pub fn take_turn<L: PartitionLog + Drop, S: Store>(
 
 /// Whose waiting requests may be ready after a turn of a tenant that touched that.
 ///
-/// Where the list of those cannot be kept, all of the tenant are looked at.
+/// Where the list of those cannot be kept, a refusal is counted for the tenant, and all of it are looked at. What the tenants keep
+/// stays.
 fn whom_it_concerns<L: PartitionLog + Drop, S: Store>(
     alloc: Global,
-    tenants: &Tenants<L, S>,
+    tenants: &mut Tenants<L, S>,
     parking: &Parking,
     tenant: usize,
     number: u64,
     touched: Touched,
 ) -> Concerned
-    requires { tenant < length (tenants_in L.log S.disk tenants.now) }
-    ensures { IsConcern result tenant number (tenants_in L.log S.disk tenants.now) parking.now touched }
+    requires hosted { AreHosted L.log S.disk tenants.old }
+    requires tenant { tenant < length (tenants_in L.log S.disk tenants.old) }
+    ensures hosted { AreHosted L.log S.disk tenants.new }
+    ensures concern { IsConcern result tenant number (tenants_in L.log S.disk tenants.old) parking.now touched }
+    ensures counted { IsKnownOrCounted result tenant (tenants_in L.log S.disk tenants.old) (tenants_in L.log S.disk tenants.new) }
+    ensures turn { IsTurn tenant (Unit {0}) (tenants_in L.log S.disk tenants.old) (tenants_in L.log S.disk tenants.new) }
+    ensures stays { (t : ℕ) → kept_of (tenants_in L.log S.disk tenants.new) t ≡ kept_of (tenants_in L.log S.disk tenants.old) t }
+    ensures shelf { tenants.new.shelf ≡ tenants.old.shelf }
+    ensures strays { tenants.new.strays ≡ tenants.old.strays }
 {
     if let Touched::Partitions(places) = &touched {
         if places.is_empty() {
@@ -123,7 +131,10 @@ fn whom_it_concerns<L: PartitionLog + Drop, S: Store>(
     }
     match numbers_concerned(alloc, tenants, parking, tenant, number, &touched) {
         Ok(numbers) => Concerned::These(tenant, numbers),
-        Err(_) => Concerned::All(tenant),
+        Err(_) => {
+            tenants.refuse(tenant); // the list could not be kept
+            Concerned::All(tenant)
+        }
     }
 }
 
@@ -189,17 +200,17 @@ fn serve_bound<L: PartitionLog + Drop, S: Store>(
     requires free { fin.get parking.old connection.old.number ≡ None }
     ensures hosted { AreHosted L.log S.disk tenants.new }
     ensures later { AreLater L.log S.disk tenants.old tenants.new }
-    ensures turn { IsTurn tenant (is_honest S.disk tenants.new) (tenants_in L.log S.disk tenants.old) (tenants_in L.log S.disk tenants.new) }
+    ensures turn { IsTurn tenant (shelf_is_honest S.disk tenants.new) (tenants_in L.log S.disk tenants.old) (tenants_in L.log S.disk tenants.new) }
     ensures number { connection.new.number ≡ connection.old.number }
     ensures spent { IsSpent connection.old.session connection.new.session }
     ensures parked { (k : ℕ) → k ≢ connection.old.number → fin.get parking.new k ≡ fin.get parking.old k }
     ensures dated { until_of (fin.get parking.new connection.old.number) ≡ deadline_at connection.new.session.stage }
     ensures owned { IsOwnedAt connection.new.session.stage (fin.get parking.new connection.old.number) }
-    ensures keyed { is_honest S.disk tenants.new → IsKeyedAt (tenants_in L.log S.disk tenants.new) connection.old.number connection.new.session.stage (fin.get parking.new connection.old.number) }
-    ensures asked { is_honest S.disk tenants.new → IsAskedOn tenant (tenants_in L.log S.disk tenants.old) (tenants_in L.log S.disk tenants.new) }
-    ensures ok { OnOk result (IsMet tenant (is_honest S.disk tenants.new) (tenants_in L.log S.disk tenants.old) (tenants_in L.log S.disk tenants.new)
-        (λ k l. (connection.new.session ≡ served setup.now k clock connection.old.number connection.old.session) × (l ≡ put setup.now k clock connection.old.number connection.old.session.unread))) }
-    ensures touched { IfOk result (λ touched. is_honest S.disk tenants.new → IsTouchedTurnBy touched setup.now tenant clock connection.old.number (tenants_in L.log S.disk tenants.old) (tenants_in L.log S.disk tenants.new) connection.old.session connection.new.session) }
+    ensures keyed { shelf_is_honest S.disk tenants.new → IsKeyedAt (tenants_in L.log S.disk tenants.new) connection.old.number connection.new.session.stage (fin.get parking.new connection.old.number) }
+    ensures asked { shelf_is_honest S.disk tenants.new → IsAskedOn tenant (tenants_in L.log S.disk tenants.old) (tenants_in L.log S.disk tenants.new) }
+    ensures ok { OnOk result (IsMet tenant (shelf_is_honest S.disk tenants.new) (tenants_in L.log S.disk tenants.old) (tenants_in L.log S.disk tenants.new)
+        (λ k l. (connection.new.session ≡ after_turn setup.now k clock connection.old.number connection.old.session) × (l ≡ put setup.now k clock connection.old.number connection.old.session.unread))) }
+    ensures touched { IfOk result (λ touched. shelf_is_honest S.disk tenants.new → IsTouchedTurnBy touched setup.now tenant clock connection.old.number (tenants_in L.log S.disk tenants.old) (tenants_in L.log S.disk tenants.new) connection.old.session connection.new.session) }
     ensures waits { IsWaitTurnAt connection.old.number (BoundTo tenant None) (tenants_in L.log S.disk tenants.old) (tenants_in L.log S.disk tenants.new) }
     ensures member { OnOk result (IsMemberTurnAt connection.old.number (BoundTo tenant None) (tenants_in L.log S.disk tenants.old) (tenants_in L.log S.disk tenants.new) connection.new.session.stage) }
     ensures err { OnErr result (connection.new ≡ with_session connection.old (shut_down connection.old.session)) }
@@ -234,7 +245,7 @@ fn hand_over(
     ensures number { connection.new.number ≡ connection.old.number }
     ensures spent { IsSpent connection.old.session connection.new.session }
     ensures parked { (k : ℕ) → k ≢ connection.old.number → fin.get parking.new k ≡ fin.get parking.old k }
-    ensures ok { (key version id : ℤ) (body : List ℕ) (reaction : Reaction) → IsAsked setup.now connection.old.session key version id body → IsAnswer id reaction answer → OnOk result (connection.new ≡ with_session connection.old (answered reaction id version body (without_front connection.old.session))) }
+    ensures ok { (key version id : ℤ) (body : List ℕ) (reaction : Reaction) → IsAsked setup.now connection.old.session key version id body → IsAnswer id reaction answer → OnOk result (connection.new ≡ with_session connection.old (after_reaction reaction id version body (without_front connection.old.session))) }
     ensures dated { (key version id : ℤ) (body : List ℕ) → IsAsked setup.now connection.old.session key version id body → until_of (fin.get parking.new connection.old.number) ≡ deadline_at connection.new.session.stage }
     ensures owned { IsOwnedAt connection.new.session.stage (fin.get parking.new connection.old.number) }
     ensures keyed { OnOk result (fin.get parking.new connection.old.number ≡ parked_for tenant answer) }
@@ -307,12 +318,12 @@ fn ask<L: PartitionLog + Drop, S: Store>(
     requires tenant { tenant < length (tenants_in L.log S.disk tenants.old) }
     ensures hosted { AreHosted L.log S.disk tenants.new }
     ensures later { AreLater L.log S.disk tenants.old tenants.new }
-    ensures turn { IsTurn tenant (is_honest S.disk tenants.new) (tenants_in L.log S.disk tenants.old) (tenants_in L.log S.disk tenants.new) }
-    ensures meets { IsMet tenant (is_honest S.disk tenants.new) (tenants_in L.log S.disk tenants.old) (tenants_in L.log S.disk tenants.new)
+    ensures turn { IsTurn tenant (shelf_is_honest S.disk tenants.new) (tenants_in L.log S.disk tenants.old) (tenants_in L.log S.disk tenants.new) }
+    ensures meets { IsMet tenant (shelf_is_honest S.disk tenants.new) (tenants_in L.log S.disk tenants.old) (tenants_in L.log S.disk tenants.new)
         (λ k l. (l ≡ kept_after setup.now.node k clock request.now.connection request.now.api_key request.now.api_version request.now.body.now)
         × IsAnswer request.now.correlation_id (answer setup.now.node k clock request.now.connection request.now.api_key request.now.api_version request.now.body.now) result.0) }
-    ensures asked { is_honest S.disk tenants.new → IsAskedOn tenant (tenants_in L.log S.disk tenants.old) (tenants_in L.log S.disk tenants.new) }
-    ensures touched { is_honest S.disk tenants.new → IsTouchedBy result.1 tenant clock (tenants_in L.log S.disk tenants.old) (tenants_in L.log S.disk tenants.new) }
+    ensures asked { shelf_is_honest S.disk tenants.new → IsAskedOn tenant (tenants_in L.log S.disk tenants.old) (tenants_in L.log S.disk tenants.new) }
+    ensures touched { shelf_is_honest S.disk tenants.new → IsTouchedBy result.1 tenant clock (tenants_in L.log S.disk tenants.old) (tenants_in L.log S.disk tenants.new) }
     ensures waits { AreServed request.now.connection true (kept_of (tenants_in L.log S.disk tenants.old) tenant).groups (kept_of (tenants_in L.log S.disk tenants.new) tenant).groups }
     ensures told { IsWaitTold request.now.connection (kept_of (tenants_in L.log S.disk tenants.old) tenant).groups result.0 (kept_of (tenants_in L.log S.disk tenants.new) tenant).groups }
 {
@@ -347,7 +358,7 @@ pub fn look_again<L: PartitionLog + Drop, S: Store>(
     requires tenant { InRange (length (tenants_in L.log S.disk tenants.old)) connection.old.session.stage }
     ensures hosted { AreHosted L.log S.disk tenants.new }
     ensures later { AreLater L.log S.disk tenants.old tenants.new }
-    ensures looked { IsLookedAt (is_honest S.disk tenants.new) whom clock connection.old.session.stage (tenants_in L.log S.disk tenants.old) (tenants_in L.log S.disk tenants.new) connection.old connection.new }
+    ensures looked { IsLookedAt (shelf_is_honest S.disk tenants.new) whom clock connection.old.session.stage (tenants_in L.log S.disk tenants.old) (tenants_in L.log S.disk tenants.new) connection.old connection.new }
     ensures waits { (connection.new.session.stage ≡ connection.old.session.stage) ⊎ (deadline_at connection.new.session.stage ≡ None) }
 {
     let Some((tenant, waiting)) = connection.waiting() else {
@@ -359,7 +370,7 @@ pub fn look_again<L: PartitionLog + Drop, S: Store>(
     let number = connection.number();
     let answer = ask_again(alloc, tenants, clock, tenant, number, waiting);
     if connection.wake(answer).is_err() {
-        tenants.refuse(tenant);
+        tenants.refuse(tenant); // its reply could not be kept
     }
 }
 
@@ -377,11 +388,11 @@ fn ask_again<L: PartitionLog + Drop, S: Store>(
     requires tenant { tenant < length (tenants_in L.log S.disk tenants.old) }
     ensures hosted { AreHosted L.log S.disk tenants.new }
     ensures later { AreLater L.log S.disk tenants.old tenants.new }
-    ensures turn { IsTurn tenant (is_honest S.disk tenants.new) (tenants_in L.log S.disk tenants.old) (tenants_in L.log S.disk tenants.new) }
-    ensures meets { IsMet tenant (is_honest S.disk tenants.new) (tenants_in L.log S.disk tenants.old) (tenants_in L.log S.disk tenants.new)
+    ensures turn { IsTurn tenant (shelf_is_honest S.disk tenants.new) (tenants_in L.log S.disk tenants.old) (tenants_in L.log S.disk tenants.new) }
+    ensures meets { IsMet tenant (shelf_is_honest S.disk tenants.new) (tenants_in L.log S.disk tenants.old) (tenants_in L.log S.disk tenants.new)
         (λ k l. (l ≡ k) × plain.IsAnswer waiting.now.correlation_id (ready k clock number (wait_of waiting.now)) result) }
-    ensures stays { is_honest S.disk tenants.new → (t : ℕ) → kept_of (tenants_in L.log S.disk tenants.new) t ≡ kept_of (tenants_in L.log S.disk tenants.old) t }
-    ensures answers { is_honest S.disk tenants.new → let told = ready (kept_of (tenants_in L.log S.disk tenants.old) tenant) clock number (wait_of waiting.now) in
+    ensures stays { shelf_is_honest S.disk tenants.new → (t : ℕ) → kept_of (tenants_in L.log S.disk tenants.new) t ≡ kept_of (tenants_in L.log S.disk tenants.old) t }
+    ensures answers { shelf_is_honest S.disk tenants.new → let told = ready (kept_of (tenants_in L.log S.disk tenants.old) tenant) clock number (wait_of waiting.now) in
         plain.IsAnswer waiting.now.correlation_id told result ⊎ ((result ≡ answers.Shut) × (is_members (wait_of waiting.now).awaited ≡ true → told ≡ plain.Silent → ⊥)) }
 {
     match &waiting.awaited {

@@ -1,10 +1,11 @@
 //! Lines of a bounded length.
 
-ghost use Rattle.std.specs.Prelude.{◌≡◌, ◌≢◌, ◌≤◌, ◌<◌, ◌+◌, ◌-◌, length, take, vec_len, All, Ok, None, true, IfSome, IfErr, OnSome, OnOk};
+ghost use Rattle.std.specs.Prelude.{◌≡◌, ◌≢◌, ◌≤◌, ◌<◌, ◌+◌, ◌-◌, length, take, vec_len, All, Ok, None, true, IfSome, IfErr, OnSome, OnOk, OnErr};
 ghost use Rattle.std.specs.Io.{StartsWith, StopsAt, IsEmptyOrEndsWith, appended_bytes};
 ghost use Rattle.std.specs.Io.KnownBytes.{Consumes, IsAtEnd};
 ghost use Rattle.std.specs.Io.BufRead.{take_through, DropsThrough};
-ghost use Rattle.kb_broker.specs.Script.{length_fault, IsLengthFault, IsNoRoom};
+ghost use Rattle.kb_broker.specs.Script.{fault_within, IsLengthFault, IsNoRoom};
+ghost use Rattle.kb_broker.specs.ScriptRun.{IsCut};
 
 use super::ScriptFault;
 use super::line::place_of;
@@ -25,8 +26,9 @@ pub fn next_line<R: BufRead>(
 ) -> Result<(), ScriptFault>
     ensures text { OnOk result (IfSome (R.remaining reader.old) (λ xs. line.new.items ≡ take_through 10 xs)) }
     ensures rest { OnOk result (DropsThrough (R.remaining reader.old) (R.remaining reader.new) 10) }
-    ensures sized { OnOk result (length_fault number room line.new.items ≡ None) }
-    ensures fault { IfErr result (λ fault. IfSome (R.remaining reader.old) (λ xs. IsLengthFault (length_fault number room (take_through 10 xs)) fault)) }
+    ensures sized { OnOk result (fault_within number room line.new.items ≡ None) }
+    ensures fault { IfErr result (λ fault. IfSome (R.remaining reader.old) (λ xs. IsLengthFault (fault_within number room (take_through 10 xs)) fault)) }
+    ensures stopped { OnErr result (IsCut (R.remaining reader.old) (R.remaining reader.new)) }
 {
     line.clear();
     let limit = room.min(LINE_BYTES + 1);

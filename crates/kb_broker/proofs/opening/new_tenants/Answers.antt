@@ -11,4 +11,5 @@ loop-name-preserved g c =
       hosted = c.add-added.ensures.kept;
       new = mapped-more (λ name. new_tenant name.now) c.args.names.now c.loop-name.name-index _ _ _ c.loop-name-test.true c.loop-name.invariant.new pushed;
       store = c.add-added.ensures.shelf ∙ c.loop-name.invariant.store;
+      strays = c.add-added.ensures.strays ∙ c.loop-name.invariant.strays;
     }

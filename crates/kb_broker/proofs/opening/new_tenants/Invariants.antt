@@ -1,4 +1,4 @@
-use Rattle.std.proofs.Common.{◌≡◌, map, take}
+use Rattle.std.proofs.Common.{◌≡◌, None, map, take}
 use Rattle.kb_service.specs.Hosted.{new_tenant}
 use Rattle.kb_broker.specs.Hosts.{tenants_in, AreHosted}
 use Rattle.kb_broker.proofs.opening.new_tenants.Given as goal
@@ -10,4 +10,5 @@ invariant-loop-name g l =
       hosted : AreHosted g.L.PartitionLog.log disk l.tenants;
       new : tenants_in g.L.PartitionLog.log disk l.tenants ≡ map (λ name. new_tenant name.now) (take l.name-index l.names);
       store : l.tenants.shelf ≡ l.fn.shelf;
+      strays : l.tenants.strays ≡ None;
     }

@@ -1,7 +1,7 @@
 use Rattle.std.proofs.Common.{subst, sym, ◌∙◌}
 use Rattle.kb_service.specs.Hosted.{kept_of, refusals_of, world_at}
 use Rattle.kb_service.specs.Serve.{IsOutcome, served}
-use Rattle.kb_tenants.specs.Tenants.{is_honest}
+use Rattle.kb_tenants.specs.Tenants.{shelf_is_honest}
 use Rattle.kb_broker.specs.Hosts.{tenants_in}
 use Rattle.kb_broker.proofs.TenantTurns.{answered-now, asked-on, calm-of, released-now, touched-now}
 use Rattle.kb_broker.proofs.serving.ask.Goals as goal
@@ -21,7 +21,7 @@ returns-then-released-clause-asked g c = λ honest.
     let a = c.args in
     let q = a.request.now in
     let r = c.serve-answer.result in
-    asked-on g.L.PartitionLog.log g.S.Store.disk (is_honest g.S.Store.disk c.serve-answer.new.self) honest a.tenants.now (c.serve-answer.ensures.honest honest) c.node-node.result (tenants_in g.L.PartitionLog.log g.S.Store.disk c.serve-answer.new.self) a.clock a.tenant q.connection q.correlation_id q.api_key q.api_version q.body.now r.touched.items r.answer c.requires.hosted c.serve-answer.ensures.turn c.serve-answer.ensures.meets
+    asked-on g.L.PartitionLog.log g.S.Store.disk (shelf_is_honest g.S.Store.disk c.serve-answer.new.self) honest a.tenants.now (c.serve-answer.ensures.honest honest) c.node-node.result (tenants_in g.L.PartitionLog.log g.S.Store.disk c.serve-answer.new.self) a.clock a.tenant q.connection q.correlation_id q.api_key q.api_version q.body.now r.touched.items r.answer c.requires.hosted c.serve-answer.ensures.turn c.serve-answer.ensures.meets
 
 pub returns-then-released-clause-touched : goal.returns-then-released-clause-touched
 returns-then-released-clause-touched g c = λ honest.
@@ -29,7 +29,7 @@ returns-then-released-clause-touched g c = λ honest.
     let q = a.request.now in
     let r = c.serve-answer.result in
     let calm = calm-of (refusals_of (tenants_in g.L.PartitionLog.log g.S.Store.disk a.tenants.now) a.tenant) (refusals_of (tenants_in g.L.PartitionLog.log g.S.Store.disk c.serve-answer.new.self) a.tenant) c.refusals-before.result c.refusals.result c.refusals-before.ensures c.refusals.ensures c.if-refusals-before.true c.if-before-lt18446744073709551615.true in
-    released-now g.L.PartitionLog.log g.S.Store.disk (is_honest g.S.Store.disk c.serve-answer.new.self) honest c.node-node.result a.tenants.now (tenants_in g.L.PartitionLog.log g.S.Store.disk c.serve-answer.new.self) a.clock a.tenant q.connection q.correlation_id q.api_key q.api_version q.body.now r.touched.items r.answer c.requires.hosted c.serve-answer.ensures.meets calm (sym c.serve-answer.ensures.released ∙ c.if-released.true)
+    released-now g.L.PartitionLog.log g.S.Store.disk (shelf_is_honest g.S.Store.disk c.serve-answer.new.self) honest c.node-node.result a.tenants.now (tenants_in g.L.PartitionLog.log g.S.Store.disk c.serve-answer.new.self) a.clock a.tenant q.connection q.correlation_id q.api_key q.api_version q.body.now r.touched.items r.answer c.requires.hosted c.serve-answer.ensures.meets calm (sym c.serve-answer.ensures.released ∙ c.if-released.true)
 
 pub returns-else-released-clause-meets : goal.returns-else-released-clause-meets
 returns-else-released-clause-meets g c = λ honest calm.
@@ -46,7 +46,7 @@ returns-else-released-clause-asked g c = λ honest.
     let a = c.args in
     let q = a.request.now in
     let r = c.serve-answer.result in
-    asked-on g.L.PartitionLog.log g.S.Store.disk (is_honest g.S.Store.disk c.serve-answer.new.self) honest a.tenants.now (c.serve-answer.ensures.honest honest) c.node-node.result (tenants_in g.L.PartitionLog.log g.S.Store.disk c.serve-answer.new.self) a.clock a.tenant q.connection q.correlation_id q.api_key q.api_version q.body.now r.touched.items r.answer c.requires.hosted c.serve-answer.ensures.turn c.serve-answer.ensures.meets
+    asked-on g.L.PartitionLog.log g.S.Store.disk (shelf_is_honest g.S.Store.disk c.serve-answer.new.self) honest a.tenants.now (c.serve-answer.ensures.honest honest) c.node-node.result (tenants_in g.L.PartitionLog.log g.S.Store.disk c.serve-answer.new.self) a.clock a.tenant q.connection q.correlation_id q.api_key q.api_version q.body.now r.touched.items r.answer c.requires.hosted c.serve-answer.ensures.turn c.serve-answer.ensures.meets
 
 pub returns-else-released-clause-touched : goal.returns-else-released-clause-touched
 returns-else-released-clause-touched g c = λ honest.
@@ -54,7 +54,7 @@ returns-else-released-clause-touched g c = λ honest.
     let q = a.request.now in
     let r = c.serve-answer.result in
     let calm = calm-of (refusals_of (tenants_in g.L.PartitionLog.log g.S.Store.disk a.tenants.now) a.tenant) (refusals_of (tenants_in g.L.PartitionLog.log g.S.Store.disk c.serve-answer.new.self) a.tenant) c.refusals-before.result c.refusals.result c.refusals-before.ensures c.refusals.ensures c.if-refusals-before.true c.if-before-lt18446744073709551615.true in
-    touched-now g.L.PartitionLog.log g.S.Store.disk (is_honest g.S.Store.disk c.serve-answer.new.self) honest c.node-node.result a.tenants.now (tenants_in g.L.PartitionLog.log g.S.Store.disk c.serve-answer.new.self) a.clock a.tenant q.connection q.correlation_id q.api_key q.api_version q.body.now r.touched.items r.answer c.requires.hosted c.serve-answer.ensures.meets calm (sym c.serve-answer.ensures.released ∙ c.if-released.false)
+    touched-now g.L.PartitionLog.log g.S.Store.disk (shelf_is_honest g.S.Store.disk c.serve-answer.new.self) honest c.node-node.result a.tenants.now (tenants_in g.L.PartitionLog.log g.S.Store.disk c.serve-answer.new.self) a.clock a.tenant q.connection q.correlation_id q.api_key q.api_version q.body.now r.touched.items r.answer c.requires.hosted c.serve-answer.ensures.meets calm (sym c.serve-answer.ensures.released ∙ c.if-released.false)
 
 pub returns-else-refusals-before-clause-meets : goal.returns-else-refusals-before-clause-meets
 returns-else-refusals-before-clause-meets g c = λ honest calm.
@@ -71,4 +71,4 @@ returns-else-refusals-before-clause-asked g c = λ honest.
     let a = c.args in
     let q = a.request.now in
     let r = c.serve-answer.result in
-    asked-on g.L.PartitionLog.log g.S.Store.disk (is_honest g.S.Store.disk c.serve-answer.new.self) honest a.tenants.now (c.serve-answer.ensures.honest honest) c.node-node.result (tenants_in g.L.PartitionLog.log g.S.Store.disk c.serve-answer.new.self) a.clock a.tenant q.connection q.correlation_id q.api_key q.api_version q.body.now r.touched.items r.answer c.requires.hosted c.serve-answer.ensures.turn c.serve-answer.ensures.meets
+    asked-on g.L.PartitionLog.log g.S.Store.disk (shelf_is_honest g.S.Store.disk c.serve-answer.new.self) honest a.tenants.now (c.serve-answer.ensures.honest honest) c.node-node.result (tenants_in g.L.PartitionLog.log g.S.Store.disk c.serve-answer.new.self) a.clock a.tenant q.connection q.correlation_id q.api_key q.api_version q.body.now r.touched.items r.answer c.requires.hosted c.serve-answer.ensures.turn c.serve-answer.ensures.meets

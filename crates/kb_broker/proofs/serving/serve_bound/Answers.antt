@@ -8,7 +8,7 @@ use Rattle.kb_tenant.specs.declared.request.Request.{Request}
 use Rattle.kb_machine.specs.Machine.{Line}
 use Rattle.kb_machine.specs.Tenant.{answer, kept_after}
 use Rattle.kb_connection.specs.Fronts.{IsAsked, IsOwn}
-use Rattle.kb_tenants.specs.Tenants.{is_honest}
+use Rattle.kb_tenants.specs.Tenants.{shelf_is_honest}
 use Rattle.kb_broker.specs.Hosts.{tenants_in}
 use Rattle.kb_broker.proofs.TenantTurns.{member-told, spent-shut, spent-served, asked-now}
 use Rattle.kb_broker.proofs.Served.{dated-none, keyed-answered, keyed-none, owned-none, owned-shut, own-free, own-touched, turned-touched}
@@ -63,7 +63,7 @@ returns-clause-ok g c = λ honest calm.
     let s = a.connection.now.session in
     let asked = subst (λ found. IfSome found (λ (r : Request). IsAsked a.setup.now s r.api_key r.api_version r.correlation_id r.body.now)) c.in-Ok-Some.field-0-is c.in-Ok-Some.ensures.asked in
     let same : q.connection ≡ a.connection.now.number = subst (λ found. IfSome found (λ (r : Request). r.connection ≡ a.connection.now.number)) c.in-Ok-Some.field-0-is c.in-Ok-Some.ensures.number in
-    let meets = subst (λ n. IsMet a.tenant (is_honest g.S.Store.disk c.ask.new.tenants) (tenants_in g.L.PartitionLog.log g.S.Store.disk a.tenants.now) (tenants_in g.L.PartitionLog.log g.S.Store.disk c.ask.new.tenants)
+    let meets = subst (λ n. IsMet a.tenant (shelf_is_honest g.S.Store.disk c.ask.new.tenants) (tenants_in g.L.PartitionLog.log g.S.Store.disk a.tenants.now) (tenants_in g.L.PartitionLog.log g.S.Store.disk c.ask.new.tenants)
     (λ k l. (l ≡ kept_after a.setup.now.node k a.clock n q.api_key q.api_version q.body.now) × IsAnswer q.correlation_id (answer a.setup.now.node k a.clock n q.api_key q.api_version q.body.now) c.ask.result.0)) same c.ask.ensures.meets in
     let done = meets honest calm in
     asked-now a.setup.now a.clock a.connection.now.number (kept_of (tenants_in g.L.PartitionLog.log g.S.Store.disk a.tenants.now) a.tenant) (kept_of (tenants_in g.L.PartitionLog.log g.S.Store.disk c.ask.new.tenants) a.tenant) a.connection.now c.hand_over.new.connection q.api_key q.api_version q.correlation_id q.body.now c.ask.result.0 asked done.0 done.1 c.in_ok-hand_over.ensures.ok
@@ -75,14 +75,14 @@ returns-clause-keyed g c = λ honest.
     let s = a.connection.now.session in
     let asked = subst (λ found. IfSome found (λ (r : Request). IsAsked a.setup.now s r.api_key r.api_version r.correlation_id r.body.now)) c.in-Ok-Some.field-0-is c.in-Ok-Some.ensures.asked in
     let same : q.connection ≡ a.connection.now.number = subst (λ found. IfSome found (λ (r : Request). r.connection ≡ a.connection.now.number)) c.in-Ok-Some.field-0-is c.in-Ok-Some.ensures.number in
-    let meets = subst (λ n. IsMet a.tenant (is_honest g.S.Store.disk c.ask.new.tenants) (tenants_in g.L.PartitionLog.log g.S.Store.disk a.tenants.now) (tenants_in g.L.PartitionLog.log g.S.Store.disk c.ask.new.tenants)
+    let meets = subst (λ n. IsMet a.tenant (shelf_is_honest g.S.Store.disk c.ask.new.tenants) (tenants_in g.L.PartitionLog.log g.S.Store.disk a.tenants.now) (tenants_in g.L.PartitionLog.log g.S.Store.disk c.ask.new.tenants)
     (λ k l. (l ≡ kept_after a.setup.now.node k a.clock n q.api_key q.api_version q.body.now) × IsAnswer q.correlation_id (answer a.setup.now.node k a.clock n q.api_key q.api_version q.body.now) c.ask.result.0)) same c.ask.ensures.meets in
-    keyed-answered (is_honest g.S.Store.disk c.ask.new.tenants) honest a.setup.now a.tenant a.clock a.connection.now.number (tenants_in g.L.PartitionLog.log g.S.Store.disk a.tenants.now) (tenants_in g.L.PartitionLog.log g.S.Store.disk c.ask.new.tenants) a.connection.now c.hand_over.new.connection q.api_key q.api_version q.correlation_id q.body.now c.ask.result.0 (fin.get c.hand_over.new.parking a.connection.now.number) c.requires.bound c.hand_over.ensures.spent asked c.ask.ensures.turn meets c.in_ok-hand_over.ensures.ok c.in_ok-hand_over.ensures.keyed
+    keyed-answered (shelf_is_honest g.S.Store.disk c.ask.new.tenants) honest a.setup.now a.tenant a.clock a.connection.now.number (tenants_in g.L.PartitionLog.log g.S.Store.disk a.tenants.now) (tenants_in g.L.PartitionLog.log g.S.Store.disk c.ask.new.tenants) a.connection.now c.hand_over.new.connection q.api_key q.api_version q.correlation_id q.body.now c.ask.result.0 (fin.get c.hand_over.new.parking a.connection.now.number) c.requires.bound c.hand_over.ensures.spent asked c.ask.ensures.turn meets c.in_ok-hand_over.ensures.ok c.in_ok-hand_over.ensures.keyed
 
 pub returns-clause-touched : goal.returns-clause-touched
 returns-clause-touched g c =
     let a = c.args in
-    turned-touched (is_honest g.S.Store.disk c.ask.new.tenants) a.setup.now a.tenant a.clock a.connection.now.number (tenants_in g.L.PartitionLog.log g.S.Store.disk a.tenants.now) (tenants_in g.L.PartitionLog.log g.S.Store.disk c.ask.new.tenants) a.connection.now.session c.hand_over.new.connection.session c.ask.result.1 c.ask.ensures.touched (returns-clause-ok g c)
+    turned-touched (shelf_is_honest g.S.Store.disk c.ask.new.tenants) a.setup.now a.tenant a.clock a.connection.now.number (tenants_in g.L.PartitionLog.log g.S.Store.disk a.tenants.now) (tenants_in g.L.PartitionLog.log g.S.Store.disk c.ask.new.tenants) a.connection.now.session c.hand_over.new.connection.session c.ask.result.1 c.ask.ensures.touched (returns-clause-ok g c)
 
 -- 2. Members that wait
 

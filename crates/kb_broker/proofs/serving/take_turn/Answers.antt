@@ -1,11 +1,14 @@
-use Rattle.std.proofs.Common.{subst, sym, ◌∙◌}
+use Rattle.std.proofs.Common.{◌≡◌, None, subst, sym, ◌∙◌}
 use Rattle.std.specs.FinMap as fin
-use Rattle.kb_tenants.specs.Tenants.{is_honest}
+use Rattle.kb_tenants.specs.Tenants.{shelf_is_honest}
 use Rattle.kb_connection.specs.View.{greeting_of}
 use Rattle.kb_broker.specs.Hosts.{tenants_in}
-use Rattle.kb_broker.specs.Places.{IsMemberTurnAt, IsWaitTurnAt}
+use Rattle.kb_machine.specs.Session.{BoundTo}
+use Rattle.kb_machine.specs.Machine.{after_turn, put}
+use Rattle.kb_broker.specs.Places.{IsMemberTurnAt, IsTakenAt, IsTurnAt, IsWaitTurnAt}
 use Rattle.kb_broker.proofs.Handled.{able-stage}
-use Rattle.kb_broker.specs.Parked.{IsConcern}
+use Rattle.kb_broker.specs.Parked.{IsAskedOnAt, IsConcern}
+use Rattle.kb_broker.proofs.Counted.{asked-counted, keyed-counted, later-loss, left-counted, member-counted, met-counted, turn-counted, waits-counted}
 use Rattle.kb_broker.proofs.Served.{dated-none, greeted-free, keyed-none, left-by, own-concern, owned-none, owned-shut}
 use Rattle.kb_broker.proofs.TenantTurns.{spent-greeted, spent-shut}
 use Rattle.kb_broker.proofs.serving.take_turn.Goals as goal
@@ -49,8 +52,10 @@ returns-in_ok-touched-in-Bound-clause-left g c = λ honest.
     let p = c.serve_bound.new.parking in
     let touched = c.in_ok-touched-in-Bound.touched in
     let bound = sym (able-stage a.connection.now.session c.requires.able) ∙ sym c.in-Bound.ensures in
-    let concern = subst (λ n. IsConcern c.whom_it_concerns.result t n us p touched) (c.number-number.ensures ∙ c.serve_bound.ensures.number) c.whom_it_concerns.ensures in
-    left-by (is_honest g.S.Store.disk c.serve_bound.new.tenants) honest c.whom_it_concerns.result a.setup.now t a.clock a.connection.now.number a.parking.now p (tenants_in g.L.PartitionLog.log g.S.Store.disk a.tenants.now) us a.connection.now.session c.serve_bound.new.connection.session a.connection.now.session.stage touched bound c.serve_bound.ensures.parked concern c.in_ok-touched-in-Bound.ensures.touched
+    let concern = subst (λ n. IsConcern c.whom_it_concerns.result t n us p touched) (c.number-number.ensures ∙ c.serve_bound.ensures.number) c.whom_it_concerns.ensures.concern in
+    let before = subst (λ shelf. (g.S.Store.disk shelf.store).honest) c.whom_it_concerns.ensures.shelf honest in
+    left-counted t (tenants_in g.L.PartitionLog.log g.S.Store.disk a.tenants.now) us (tenants_in g.L.PartitionLog.log g.S.Store.disk c.whom_it_concerns.new.tenants) c.whom_it_concerns.ensures.turn c.whom_it_concerns.ensures.stays c.whom_it_concerns.result a.setup.now a.clock a.connection.now.session.stage a.connection.now.number a.parking.now a.connection.now.session c.serve_bound.new.connection.session c.whom_it_concerns.ensures.counted
+    (left-by (shelf_is_honest g.S.Store.disk c.serve_bound.new.tenants) before c.whom_it_concerns.result a.setup.now t a.clock a.connection.now.number a.parking.now p (tenants_in g.L.PartitionLog.log g.S.Store.disk a.tenants.now) us a.connection.now.session c.serve_bound.new.connection.session a.connection.now.session.stage touched bound c.serve_bound.ensures.parked concern c.in_ok-touched-in-Bound.ensures.touched)
 
 pub returns-in_ok-touched-in-Bound-clause-own : goal.returns-in_ok-touched-in-Bound-clause-own
 returns-in_ok-touched-in-Bound-clause-own g c =
@@ -59,7 +64,7 @@ returns-in_ok-touched-in-Bound-clause-own g c =
     let p = c.serve_bound.new.parking in
     let touched = c.in_ok-touched-in-Bound.touched in
     own-concern c.whom_it_concerns.result t c.args.connection.now.number us p touched
-    (subst (λ n. IsConcern c.whom_it_concerns.result t n us p touched) (c.number-number.ensures ∙ c.serve_bound.ensures.number) c.whom_it_concerns.ensures)
+    (subst (λ n. IsConcern c.whom_it_concerns.result t n us p touched) (c.number-number.ensures ∙ c.serve_bound.ensures.number) c.whom_it_concerns.ensures.concern)
 
 pub returns-in_err-greet-in-Greets-clause-waits : goal.returns-in_err-greet-in-Greets-clause-waits
 returns-in_err-greet-in-Greets-clause-waits g c =
@@ -88,14 +93,70 @@ returns-in_err-touched-in-Bound-clause-waits g c =
     let bound = sym (able-stage a.connection.now.session c.requires.able) ∙ sym c.in-Bound.ensures in
     subst (λ st. IsWaitTurnAt a.connection.now.number st (tenants_in g.L.PartitionLog.log g.S.Store.disk a.tenants.now) (tenants_in g.L.PartitionLog.log g.S.Store.disk c.serve_bound.new.tenants)) (sym bound) c.serve_bound.ensures.waits
 
+pub returns-in_ok-touched-in-Bound-clause-later : goal.returns-in_ok-touched-in-Bound-clause-later
+returns-in_ok-touched-in-Bound-clause-later g c =
+    let w = c.whom_it_concerns.ensures in
+    later-loss g.L.PartitionLog.log g.S.Store.disk c.args.tenants.now c.serve_bound.new.tenants c.whom_it_concerns.new.tenants c.in-Bound.tenant c.serve_bound.ensures.later w.turn w.shelf w.strays
+
+pub returns-in_ok-touched-in-Bound-clause-turn : goal.returns-in_ok-touched-in-Bound-clause-turn
+returns-in_ok-touched-in-Bound-clause-turn g c =
+    let log = g.L.PartitionLog.log in
+    let disk = g.S.Store.disk in
+    let w = c.whom_it_concerns.ensures in
+    let us = c.serve_bound.new.tenants in
+    let vs = c.whom_it_concerns.new.tenants in
+    subst (λ st. IsTurnAt (shelf_is_honest disk vs) st (tenants_in log disk c.args.tenants.now) (tenants_in log disk vs)) (sym (sym (able-stage c.args.connection.now.session c.requires.able) ∙ sym c.in-Bound.ensures))
+    (turn-counted c.in-Bound.tenant (tenants_in log disk c.args.tenants.now) (tenants_in log disk us) (tenants_in log disk vs) w.turn w.stays (shelf_is_honest disk us) (shelf_is_honest disk vs) (λ honest. subst (λ shelf. (g.S.Store.disk shelf.store).honest) c.whom_it_concerns.ensures.shelf honest) c.serve_bound.ensures.turn)
+
+pub returns-in_ok-touched-in-Bound-clause-keyed : goal.returns-in_ok-touched-in-Bound-clause-keyed
+returns-in_ok-touched-in-Bound-clause-keyed g c = λ honest.
+    let log = g.L.PartitionLog.log in
+    let disk = g.S.Store.disk in
+    let w = c.whom_it_concerns.ensures in
+    let n = c.args.connection.now.number in
+    keyed-counted c.in-Bound.tenant (tenants_in log disk c.args.tenants.now) (tenants_in log disk c.serve_bound.new.tenants) (tenants_in log disk c.whom_it_concerns.new.tenants) w.turn w.stays n c.serve_bound.new.connection.session.stage (fin.get c.serve_bound.new.parking n) (c.serve_bound.ensures.keyed (subst (λ shelf. (g.S.Store.disk shelf.store).honest) c.whom_it_concerns.ensures.shelf honest))
+
+pub returns-in_ok-touched-in-Bound-clause-asked : goal.returns-in_ok-touched-in-Bound-clause-asked
+returns-in_ok-touched-in-Bound-clause-asked g c = λ honest.
+    let log = g.L.PartitionLog.log in
+    let disk = g.S.Store.disk in
+    let w = c.whom_it_concerns.ensures in
+    subst (λ st. IsAskedOnAt st (tenants_in log disk c.args.tenants.now) (tenants_in log disk c.whom_it_concerns.new.tenants)) (sym (sym (able-stage c.args.connection.now.session c.requires.able) ∙ sym c.in-Bound.ensures))
+    (asked-counted c.in-Bound.tenant (tenants_in log disk c.args.tenants.now) (tenants_in log disk c.serve_bound.new.tenants) (tenants_in log disk c.whom_it_concerns.new.tenants) w.turn w.stays (c.serve_bound.ensures.asked (subst (λ shelf. (g.S.Store.disk shelf.store).honest) c.whom_it_concerns.ensures.shelf honest)))
+
+pub returns-in_ok-touched-in-Bound-clause-ok : goal.returns-in_ok-touched-in-Bound-clause-ok
+returns-in_ok-touched-in-Bound-clause-ok g c =
+    let log = g.L.PartitionLog.log in
+    let disk = g.S.Store.disk in
+    let w = c.whom_it_concerns.ensures in
+    let a = c.args in
+    let us = c.serve_bound.new.tenants in
+    let vs = c.whom_it_concerns.new.tenants in
+    let t = c.in-Bound.tenant in
+    subst (λ st. IsTakenAt (shelf_is_honest disk vs) a.setup.now a.clock a.connection.now.number st (tenants_in log disk a.tenants.now) (tenants_in log disk vs) a.connection.now.session c.serve_bound.new.connection.session) (sym (sym (able-stage c.args.connection.now.session c.requires.able) ∙ sym c.in-Bound.ensures))
+    (met-counted t (tenants_in log disk a.tenants.now) (tenants_in log disk us) (tenants_in log disk vs) w.turn w.stays (shelf_is_honest disk us) (shelf_is_honest disk vs)
+    (λ k l. (c.serve_bound.new.connection.session ≡ after_turn a.setup.now k a.clock a.connection.now.number a.connection.now.session) × (l ≡ put a.setup.now k a.clock a.connection.now.number a.connection.now.session.unread))
+    (λ honest. subst (λ shelf. (g.S.Store.disk shelf.store).honest) c.whom_it_concerns.ensures.shelf honest) (c.serve_bound.ensures.turn.grows t) c.in_ok-touched-in-Bound.ensures.ok)
+
 pub returns-in_ok-touched-in-Bound-clause-waits : goal.returns-in_ok-touched-in-Bound-clause-waits
 returns-in_ok-touched-in-Bound-clause-waits g c =
+    let log = g.L.PartitionLog.log in
+    let disk = g.S.Store.disk in
     let a = c.args in
-    let bound = sym (able-stage a.connection.now.session c.requires.able) ∙ sym c.in-Bound.ensures in
-    subst (λ st. IsWaitTurnAt a.connection.now.number st (tenants_in g.L.PartitionLog.log g.S.Store.disk a.tenants.now) (tenants_in g.L.PartitionLog.log g.S.Store.disk c.serve_bound.new.tenants)) (sym bound) c.serve_bound.ensures.waits
+    let w = c.whom_it_concerns.ensures in
+    let ts = tenants_in log disk a.tenants.now in
+    let us = tenants_in log disk c.serve_bound.new.tenants in
+    let vs = tenants_in log disk c.whom_it_concerns.new.tenants in
+    waits-counted c.in-Bound.tenant ts us vs w.turn w.stays a.connection.now.number a.connection.now.session.stage (subst (λ st. IsWaitTurnAt a.connection.now.number st ts us) (sym (sym (able-stage c.args.connection.now.session c.requires.able) ∙ sym c.in-Bound.ensures)) c.serve_bound.ensures.waits)
 
 pub returns-in_ok-touched-in-Bound-clause-member : goal.returns-in_ok-touched-in-Bound-clause-member
 returns-in_ok-touched-in-Bound-clause-member g c =
+    let log = g.L.PartitionLog.log in
+    let disk = g.S.Store.disk in
     let a = c.args in
-    let bound = sym (able-stage a.connection.now.session c.requires.able) ∙ sym c.in-Bound.ensures in
-    subst (λ st. IsMemberTurnAt a.connection.now.number st (tenants_in g.L.PartitionLog.log g.S.Store.disk a.tenants.now) (tenants_in g.L.PartitionLog.log g.S.Store.disk c.serve_bound.new.tenants) c.serve_bound.new.connection.session.stage) (sym bound) c.in_ok-touched-in-Bound.ensures.member
+    let w = c.whom_it_concerns.ensures in
+    let ts = tenants_in log disk a.tenants.now in
+    let us = tenants_in log disk c.serve_bound.new.tenants in
+    let vs = tenants_in log disk c.whom_it_concerns.new.tenants in
+    let r = c.serve_bound.new.connection.session.stage in
+    member-counted c.in-Bound.tenant ts us vs w.turn w.stays a.connection.now.number a.connection.now.session.stage r (subst (λ st. IsMemberTurnAt a.connection.now.number st ts us r) (sym (sym (able-stage c.args.connection.now.session c.requires.able) ∙ sym c.in-Bound.ensures)) c.in_ok-touched-in-Bound.ensures.member)

@@ -6,7 +6,9 @@ use Rattle.kb_broker.specs.Runs.{sent_of}
 use Rattle.kb_broker.specs.declared.run.Written.{Written}
 use Rattle.kb_machine.specs.Calls.{taken}
 use Rattle.kb_broker.proofs.RunDrain.{drained_to, drained-at, drained-more, drained-sent}
-use Rattle.kb_broker.proofs.Honest.{state-is}
+use Rattle.kb_machine.specs.Broker.{BrokerState}
+use Rattle.kb_broker.proofs.Honest.{state-is, store-is, strays-is}
+use Rattle.kb_broker.proofs.InFiles.{in-files-same}
 use Rattle.kb_broker.proofs.RunEvents.{then-state}
 use Rattle.kb_broker.proofs.broker.Broker.drain.Goals as goal
 
@@ -40,3 +42,10 @@ loop-i-preserved g c =
       len = omega (arith, v.len, c.push_reserved.ensures.len);
       capacity = c.push_reserved.ensures.capacity ∙ v.capacity;
     }
+
+pub returns-clause-in_files : goal.returns-clause-in_files
+returns-clause-in_files g c =
+    let log = g.L.PartitionLog.log in
+    let disk = g.S.Store.disk in
+    let v = c.loop-i.invariant in
+    in-files-same log disk c.args.self.now c.loop-i.self (store-is _ _ v.state) (strays-is _ _ v.state) (ap (λ (x : BrokerState). x.tenants) (state-is _ _ v.state)) c.connections-i-end.ensures.in_files

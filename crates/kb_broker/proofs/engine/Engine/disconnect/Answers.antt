@@ -6,14 +6,14 @@ use Rattle.kb_machine.specs.Broker.{BrokerState, Rising}
 use Rattle.kb_machine.specs.Calls.{left_by, output_in}
 use Rattle.kb_machine.proofs.Sets.{find-none}
 use Rattle.kb_broker.proofs.Placed.{IsLeft, get-at, left-found, find-found, closed-found, closed-none}
-use Rattle.kb_tenants.specs.Tenants.{is_honest}
+use Rattle.kb_tenants.specs.Tenants.{shelf_is_honest}
 use Rattle.kb_broker.specs.Hosts.{tenants_in}
 use Rattle.kb_broker.specs.Parked.{IsQueueOf}
 use Rattle.kb_broker.specs.Speakers.{IsHeard}
 use Rattle.kb_broker.proofs.Fields.{carried-on, queue-closed, rising-inside}
 use Rattle.kb_broker.proofs.Handled.{at-inside}
 use Rattle.kb_broker.proofs.Heard.{heard-removed, roomy-removed}
-use Rattle.kb_broker.proofs.Honest.{state-is, store-is, stands-on}
+use Rattle.kb_broker.proofs.Honest.{state-is, store-is, strays-is, stands-on}
 use Rattle.kb_broker.proofs.engine.Engine.disconnect.Given as given
 use Rattle.kb_broker.proofs.engine.Engine.disconnect.Goals as goal
 
@@ -42,14 +42,14 @@ remove-requires g c =
 
 pub returns-in-Some-clause-state : goal.returns-in-Some-clause-state
 returns-in-Some-clause-state g c =
-    stands-on c.args.self.now _ _ _ (closed-found _ c.leave.new.self.state c.args.self.now.state c.in-Some.i c.args.number c.remove.result c.remove.new.self.items (state-is _ _ c.self.view_is) c.requires.rising (gone g c) c.remove.ensures.items) (store-is _ _ c.self.view_is ∙ c.leave.ensures.store)
+    stands-on c.args.self.now _ _ _ _ (closed-found _ c.leave.new.self.state c.args.self.now.state c.in-Some.i c.args.number c.remove.result c.remove.new.self.items (state-is _ _ c.self.view_is) c.requires.rising (gone g c) c.remove.ensures.items) (store-is _ _ c.self.view_is ∙ c.leave.ensures.store) (strays-is _ _ c.self.view_is ∙ c.leave.ensures.strays)
 
 pub returns-in-Some-clause-output : goal.returns-in-Some-clause-output
 returns-in-Some-clause-output g c =
     c.into_output.ensures ∙ sym (ap output_in (find-found c.args.self.now.state c.in-Some.i c.args.number c.remove.result c.requires.rising (gone g c).found))
 
 pub returns-in-None-clause-state : goal.returns-in-None-clause-state
-returns-in-None-clause-state g c = stands-on c.args.self.now _ _ _ (closed-none c.args.self.now.state c.args.number c.in-None.ensures.none) refl
+returns-in-None-clause-state g c = stands-on c.args.self.now _ _ _ _ (closed-none c.args.self.now.state c.args.number c.in-None.ensures.none) refl refl
 
 pub returns-in-None-clause-output : goal.returns-in-None-clause-output
 returns-in-None-clause-output g c = c.new.ensures.items ∙ sym (ap output_in (find-none c.args.number c.args.self.now.state.lines c.in-None.ensures.none))
@@ -62,7 +62,7 @@ invariant_of-self g c =
     let l = c.remove.result in
     let q = c.self.inside.parking in
     let p = c.forget.new.self in
-    let H = is_honest disk c.self.inside.tenants in
+    let H = shelf_is_honest disk c.self.inside.tenants in
     let ts = tenants_in g.L.PartitionLog.log disk c.self.inside.tenants in
     let ls = c.self.inside.connections.items in
     let h = gone g c in

@@ -2,7 +2,7 @@ use Rattle.std.proofs.Common.{◌≡◌, ◌∙◌, ◌<◌, List, length, ap, a
 use Rattle.kb_service.specs.Hosted.{TenantState}
 use Rattle.kb_machine.specs.Broker.{BrokerState, InRange}
 use Rattle.kb_connection.specs.View.{stage_of}
-use Rattle.kb_tenants.specs.Tenants.{is_honest}
+use Rattle.kb_tenants.specs.Tenants.{shelf_is_honest}
 use Rattle.kb_broker.specs.Hosts.{tenants_in}
 use Rattle.kb_broker.specs.Places.{IsCountedAt}
 use Rattle.kb_broker.proofs.Handled.{counted-inside, member_at}
@@ -36,7 +36,7 @@ invariant_of-self-in-Bound g c =
     let q = c.self.inside.parking in
     let first : IsCarried ts us ls q = subst (λ x. IsCarried ts x ls q) (sym c.left.ensures.state) (carried-left c.self.inside.clock c.args.number (member_at c.in-Bound.tenant) ts ls q) in (
       c.refuse.ensures.kept,
-      queue-tenants (is_honest disk old) (is_honest disk new) q ts vs ls c.self.invariant.1 (λ honest. subst (λ x. (disk x.store).honest) (c.refuse.ensures.shelf ∙ c.left.ensures.shelf) honest)
+      queue-tenants (shelf_is_honest disk old) (shelf_is_honest disk new) q ts vs ls c.self.invariant.1 (λ honest. subst (λ x. (disk x.store).honest) (c.refuse.ensures.shelf ∙ c.left.ensures.shelf) honest)
           (λ honest. carried-then ts us vs ls q first (carried-same us vs ls q c.refuse.ensures.turn.grows c.refuse.ensures.stays)),
       c.self.invariant.2,
     )

@@ -3,7 +3,7 @@ use Rattle.kb_machine.specs.Machine.{Line, work}
 use Rattle.kb_machine.specs.Broker.{BrokerState}
 use Rattle.kb_machine.specs.Turned.{IsGoing}
 use Rattle.kb_connection.specs.View.{stage_of}
-use Rattle.kb_tenants.specs.Tenants.{is_honest}
+use Rattle.kb_tenants.specs.Tenants.{numbers_in, shelf_is_honest}
 use Rattle.kb_broker.specs.Hosts.{OnStore, tenants_in, IsLaterWith}
 use Rattle.kb_broker.specs.Places.{IsCountedAt, IsMemberTurnAt, IsTakenAt}
 use Rattle.kb_broker.specs.Parked.{IsAllOf, IsLeftBy, IsLeftTo, IsOwnTo, IsQueueOf, IsServedFor}
@@ -28,7 +28,7 @@ take_turn-taken-requires-clause-free g c =
     let l = c.index_mut-connection.result.now in
     let here = state-is _ _ c.self.view_is in
     let at = at-read _ b c.args.i l here c.requires.next.within c.index_mut-connection.ensures.value in
-    not-parked (is_honest g.S.Store.disk c.self.inside.tenants) c.self.inside.parking _ b c.args.i l here c.self.invariant.1 c.requires.next.sound at (next-can b c.args.i l c.requires.next at)
+    not-parked (shelf_is_honest g.S.Store.disk c.self.inside.tenants) c.self.inside.parking _ b c.args.i l here c.self.invariant.1 c.requires.next.sound at (next-can b c.args.i l c.requires.next at)
 
 pub note-requires : goal.note-requires
 note-requires g c =
@@ -39,10 +39,10 @@ note-requires g c =
     (at-inside _ b c.args.i l here (at-read _ b c.args.i l here c.requires.next.within c.index_mut-connection.ensures.value)) c.take_turn-taken.ensures.number c.number-number.ensures c.speaks.ensures
 
 -- the turn, where it was not refused
-taken-ok : (g : given.Over) (c : goal.In-Ok g) → IsTaken (is_honest g.S.Store.disk c.take_turn-taken.new.tenants) c.args.self.now.state c.args.i c.index_mut-connection.result.now c.take_turn-taken.new.connection (tenants_in g.L.PartitionLog.log g.S.Store.disk c.take_turn-taken.new.tenants)
+taken-ok : (g : given.Over) (c : goal.In-Ok g) → IsTaken (shelf_is_honest g.S.Store.disk c.take_turn-taken.new.tenants) c.args.self.now.state c.args.i c.index_mut-connection.result.now c.take_turn-taken.new.connection (tenants_in g.L.PartitionLog.log g.S.Store.disk c.take_turn-taken.new.tenants)
 taken-ok g c =
     let t = c.take_turn-taken.ensures in
-    taken-at (is_honest g.S.Store.disk c.take_turn-taken.new.tenants) _ c.args.self.now.state c.args.i c.index_mut-connection.result.now c.take_turn-taken.new.connection (tenants_in g.L.PartitionLog.log g.S.Store.disk c.take_turn-taken.new.tenants) (state-is _ _ c.self.view_is) c.requires.next c.index_mut-connection.ensures.value t.number t.spent t.turn t.waits
+    taken-at (shelf_is_honest g.S.Store.disk c.take_turn-taken.new.tenants) _ c.args.self.now.state c.args.i c.index_mut-connection.result.now c.take_turn-taken.new.connection (tenants_in g.L.PartitionLog.log g.S.Store.disk c.take_turn-taken.new.tenants) (state-is _ _ c.self.view_is) c.requires.next c.index_mut-connection.ensures.value t.number t.spent t.turn t.waits
 
 pub invariant_of-self : goal.invariant_of-self
 invariant_of-self g c =
@@ -50,7 +50,7 @@ invariant_of-self g c =
     let t = c.take_turn-taken.ensures in
     let new = c.take_turn-taken.new in (
       t.hosted,
-      queue-turn (is_honest disk c.self.inside.tenants) (is_honest disk new.tenants) c.self.inside.parking new.parking _ c.args.self.now.state c.args.i c.index_mut-connection.result.now new.connection (tenants_in g.L.PartitionLog.log disk new.tenants)
+      queue-turn (shelf_is_honest disk c.self.inside.tenants) (shelf_is_honest disk new.tenants) c.self.inside.parking new.parking _ c.args.self.now.state c.args.i c.index_mut-connection.result.now new.connection (tenants_in g.L.PartitionLog.log disk new.tenants)
           (state-is _ _ c.self.view_is) c.self.invariant.1 (taken-ok g c) t.later.honest (λ honest. c.requires.unready (subst (λ s. (disk s).honest) (store-is _ _ c.self.view_is) honest)) t.asked t.parked t.dated t.owned t.keyed,
       heard-set 0 c.args.self.now.state.last c.self.inside.connections.items c.args.i c.index_mut-connection.result.now new.connection c.self.inside.speakers c.note.new.speakers c.number-number.result c.speaks.result c.self.invariant.2 (rising-inside _ c.args.self.now.state (state-is _ _ c.self.view_is) c.requires.next.sound.rising)
           (at-inside _ c.args.self.now.state c.args.i c.index_mut-connection.result.now (state-is _ _ c.self.view_is) (at-read _ c.args.self.now.state c.args.i c.index_mut-connection.result.now (state-is _ _ c.self.view_is) c.requires.next.within c.index_mut-connection.ensures.value)) t.number c.number-number.ensures c.speaks.ensures c.note.ensures.items c.note.ensures.capacity,
@@ -62,8 +62,8 @@ invariant_of-self-in-Err g c =
     let t = c.take_turn-taken.ensures in
     let new = c.take_turn-taken.new in (
       t.hosted,
-      queue-turn (is_honest disk c.self.inside.tenants) (is_honest disk new.tenants) c.self.inside.parking new.parking _ c.args.self.now.state c.args.i c.index_mut-connection.result.now new.connection (tenants_in g.L.PartitionLog.log disk new.tenants)
-          (state-is _ _ c.self.view_is) c.self.invariant.1 (taken-at (is_honest disk new.tenants) _ c.args.self.now.state c.args.i c.index_mut-connection.result.now new.connection (tenants_in g.L.PartitionLog.log disk new.tenants) (state-is _ _ c.self.view_is) c.requires.next c.index_mut-connection.ensures.value t.number t.spent t.turn t.waits) t.later.honest (λ honest. c.requires.unready (subst (λ s. (disk s).honest) (store-is _ _ c.self.view_is) honest)) t.asked t.parked t.dated t.owned t.keyed,
+      queue-turn (shelf_is_honest disk c.self.inside.tenants) (shelf_is_honest disk new.tenants) c.self.inside.parking new.parking _ c.args.self.now.state c.args.i c.index_mut-connection.result.now new.connection (tenants_in g.L.PartitionLog.log disk new.tenants)
+          (state-is _ _ c.self.view_is) c.self.invariant.1 (taken-at (shelf_is_honest disk new.tenants) _ c.args.self.now.state c.args.i c.index_mut-connection.result.now new.connection (tenants_in g.L.PartitionLog.log disk new.tenants) (state-is _ _ c.self.view_is) c.requires.next c.index_mut-connection.ensures.value t.number t.spent t.turn t.waits) t.later.honest (λ honest. c.requires.unready (subst (λ s. (disk s).honest) (store-is _ _ c.self.view_is) honest)) t.asked t.parked t.dated t.owned t.keyed,
       heard-set 0 c.args.self.now.state.last c.self.inside.connections.items c.args.i c.index_mut-connection.result.now new.connection c.self.inside.speakers c.note.new.speakers c.number-number.result c.speaks.result c.self.invariant.2 (rising-inside _ c.args.self.now.state (state-is _ _ c.self.view_is) c.requires.next.sound.rising)
           (at-inside _ c.args.self.now.state c.args.i c.index_mut-connection.result.now (state-is _ _ c.self.view_is) (at-read _ c.args.self.now.state c.args.i c.index_mut-connection.result.now (state-is _ _ c.self.view_is) c.requires.next.within c.index_mut-connection.ensures.value)) t.number c.number-number.ensures c.speaks.ensures c.note.ensures.items c.note.ensures.capacity,
     )
@@ -77,12 +77,12 @@ returns-in-Ok g c =
     let t = c.take_turn-taken.ensures in
     let m = c.take_turn-taken.new.connection in
     let us = tenants_in g.L.PartitionLog.log disk c.take_turn-taken.new.tenants in
-    let H = is_honest disk c.take_turn-taken.new.tenants in
-    let G = is_honest disk c.self.inside.tenants in
+    let H = shelf_is_honest disk c.take_turn-taken.new.tenants in
+    let G = shelf_is_honest disk c.self.inside.tenants in
     let q = c.self.inside.parking in
     let who = c.in-Ok.concerned in
     let here = state-is _ _ c.self.view_is in
-    let earlier = subst (λ (x : OnStore g.row.S.Denot). IsLaterWith (disk x.store) (disk c.take_turn-taken.new.tenants.shelf.store) x.state.tenants us) c.self.view_is t.later in
+    let earlier = subst (λ (x : OnStore g.row.S.Denot). IsLaterWith (disk x.store) (disk c.take_turn-taken.new.tenants.shelf.store) x.strays (numbers_in c.take_turn-taken.new.tenants.strays) x.state.tenants us) c.self.view_is t.later in
     let taken = taken-ok g c in
     let is : IsTakenAt H b.setup b.clock l.number l.session.stage b.tenants us l.session m.session =
     subst (λ (x : BrokerState). IsTakenAt H x.setup x.clock l.number l.session.stage x.tenants us l.session m.session) here c.in-Ok.ensures.ok in
@@ -110,7 +110,7 @@ returns-in-Err g c =
     let t = c.take_turn-taken.ensures in
     let m = c.take_turn-taken.new.connection in
     let us = tenants_in g.L.PartitionLog.log disk c.take_turn-taken.new.tenants in
-    let H = is_honest disk c.take_turn-taken.new.tenants in
+    let H = shelf_is_honest disk c.take_turn-taken.new.tenants in
     let here = state-is _ _ c.self.view_is in
     let end = c.refuse.new.self.state in
     let who = c.all_of.result in
@@ -123,11 +123,12 @@ returns-in-Err g c =
     (subst (λ (x : BrokerState). IsCountedAt c.number-number.result (stage_of c.phase-phase.result) (put_with x i m us) end) here c.refuse.ensures.counted)) in
     let shut = ap (λ (x : Line). x.session) c.in-Err.ensures.err in
     let store = c.take_turn-taken.new.tenants.shelf.store in
-    let earlier = subst (λ (x : OnStore g.row.S.Denot). IsLaterWith (disk x.store) (disk store) x.state.tenants us) c.self.view_is t.later in
-    let same = later-on disk store c.refuse.new.self.store us end.tenants c.refuse.ensures.store (names-counted l.number l.session.stage (put_with b i m us) end counted) (counts-counted l.number l.session.stage (put_with b i m us) end counted) in
+    let strays = numbers_in c.take_turn-taken.new.tenants.strays in
+    let earlier = subst (λ (x : OnStore g.row.S.Denot). IsLaterWith (disk x.store) (disk store) x.strays strays x.state.tenants us) c.self.view_is t.later in
+    let same = later-on disk store c.refuse.new.self.store strays c.refuse.new.self.strays us end.tenants c.refuse.ensures.store c.refuse.ensures.strays (names-counted l.number l.session.stage (put_with b i m us) end counted) (counts-counted l.number l.session.stage (put_with b i m us) end counted) in
     record {
       going = refused-taken H b end i l m us l.session.stage taken refl shut taken.turn counted;
-      later = later-by (disk c.args.self.now.store) (disk store) (disk c.refuse.new.self.store) b.tenants us end.tenants earlier same;
+      later = later-by (disk c.args.self.now.store) (disk store) (disk c.refuse.new.self.store) c.args.self.now.strays strays c.refuse.new.self.strays b.tenants us end.tenants earlier same;
       served = λ honest scope still. refused-for who l.session.stage scope b end all (served-refused H (same.honest honest) scope b end i l m us l.session.stage still taken refl shut taken.turn counted);
       left = λ honest. refused-left who l.session.stage end all;
       own = refused-own who l.session.stage _ all;

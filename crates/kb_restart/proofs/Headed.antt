@@ -22,11 +22,11 @@ use Rattle.kb_restart.proofs.Strays.{legal_in, one_of_both}
 
 -- ---- one header
 
-number_is : (n : ℕ) (z : ℤ) → is_natural n z ≡ true → z ≡ pos n
+pub number_is : (n : ℕ) (z : ℤ) → is_natural n z ≡ true → z ≡ pos n
 number_is n (pos m) e = ap pos (eqb-true m n e)
 number_is n (negsuc m) e = absurd (false≢true e)
 
-not_both : (z : ℤ) → is_natural 0 z ≡ true → is_natural 1 z ≡ true → ⊥
+pub not_both : (z : ℤ) → is_natural 0 z ≡ true → is_natural 1 z ≡ true → ⊥
 not_both z none one = let no : pos 0 ≡ pos 1 = sym (number_is 0 z none) ∙ number_is 1 z one in absurd cc
 
 -- a catalog's file is of no topic

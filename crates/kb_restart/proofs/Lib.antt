@@ -1,4 +1,7 @@
+pub mod Accounted
 pub mod Blamed
+pub mod Drops
+pub mod Found
 pub mod Headed
 pub mod Hosting
 pub mod Listed
@@ -6,4 +9,6 @@ pub mod Owners
 pub mod Read
 pub mod Reopened
 pub mod Restored
+pub mod Seated
+pub mod Same
 pub mod Strays

@@ -53,19 +53,19 @@ named_one : (names : List (List ℕ)) (t : ℕ) (name : List ℕ) (h : Header) �
 named_one names t name h at same =
     list_any_at (bytes_eq h.tenant) names t [] (slice_get_within names t name at) (ap (bytes_eq h.tenant) (get_or_from_slice_get names t name [] at) ∙ same)
 
-catalog_one : (names : List (List ℕ)) (t : ℕ) (name : List ℕ) → slice_get names t ≡ Some name → (h : Header) → is_of_catalog name h ≡ true → is_of_one names h ≡ true
+pub catalog_one : (names : List (List ℕ)) (t : ℕ) (name : List ℕ) → slice_get names t ≡ Some name → (h : Header) → is_of_catalog name h ≡ true → is_of_one names h ≡ true
 catalog_one names t name at h is =
     let last = and_parts (bytes_eq h.tenant name && is_natural 1 h.kind) (is_natural 0 h.generation) is in
     both_true (list_any (bytes_eq h.tenant) names) (is_natural 0 h.generation) (named_one names t name h at (and_parts (bytes_eq h.tenant name) (is_natural 1 h.kind) last.0).0) last.1
 
-partition_one : (names : List (List ℕ)) (t i p : ℕ) (name : List ℕ) → slice_get names t ≡ Some name → (h : Header) → is_of_partition name i p h ≡ true → is_of_one names h ≡ true
+pub partition_one : (names : List (List ℕ)) (t i p : ℕ) (name : List ℕ) → slice_get names t ≡ Some name → (h : Header) → is_of_partition name i p h ≡ true → is_of_one names h ≡ true
 partition_one names t i p name at h is =
     let four = and_parts (((bytes_eq h.tenant name && is_natural 0 h.kind) && is_natural i h.instance) && is_natural p h.partition) (is_natural 0 h.generation) is in
     let three = and_parts ((bytes_eq h.tenant name && is_natural 0 h.kind) && is_natural i h.instance) (is_natural p h.partition) four.0 in
     let two = and_parts (bytes_eq h.tenant name && is_natural 0 h.kind) (is_natural i h.instance) three.0 in
     both_true (list_any (bytes_eq h.tenant) names) (is_natural 0 h.generation) (named_one names t name h at (and_parts (bytes_eq h.tenant name) (is_natural 0 h.kind) two.0).0) four.1
 
-passes_weaker : (test other : Header → Bool) → ((h : Header) → test h ≡ true → other h ≡ true) → (found : Option Header) → passes test found ≡ true → passes other found ≡ true
+pub passes_weaker : (test other : Header → Bool) → ((h : Header) → test h ≡ true → other h ≡ true) → (found : Option Header) → passes test found ≡ true → passes other found ≡ true
 passes_weaker test other weaker None is = is
 passes_weaker test other weaker (Some h) is = weaker h is
 

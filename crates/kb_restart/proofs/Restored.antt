@@ -14,11 +14,11 @@ use Rattle.kb_segment_log.specs.SegmentLaws.{segment_lawful}
 use Rattle.kb_segment_log.specs.Chain.{IsAsBefore}
 use Rattle.kb_segment_log.specs.declared.log.SegmentLog.{SegmentLog}
 use Rattle.kb_segment_log.proofs.Opened.{distinct_moved}
-use Rattle.kb_topics.specs.Catalog.{known}
+use Rattle.kb_topics.specs.Catalog.{known, meta_log}
 use Rattle.kb_topics.specs.Known.{Known, partition_at}
 use Rattle.kb_partitions.specs.Logs.{Logs}
-use Rattle.kb_partitions.specs.Partitions.{logs_of}
-use Rattle.kb_world.specs.Parts.{IsSound, Owns, entries}
+use Rattle.kb_partitions.specs.Partitions.{logs_of, AreExact}
+use Rattle.kb_world.specs.Parts.{IsSound, Owns, entries, meta}
 use Rattle.kb_world.specs.declared.parts.Parts.{Parts}
 use Rattle.kb_tenants.proofs.Others.{still_sound, still_seen, still_agrees}
 use Rattle.kb_opening.specs.Opened.{Owners, IsOpened}
@@ -27,13 +27,16 @@ use Rattle.kb_opening.specs.Tenant.{owners_in, tenant_in, identity_in, AreListed
 use Rattle.kb_opening.specs.declared.directory.Directory.{Directory}
 use Rattle.kb_opening.specs.declared.owner.Owner.{Owner}
 use Rattle.kb_opening.specs.declared.owner.Owner.TheVariants.{Catalog, Partition}
+use Rattle.kb_opening.specs.Settled.{AreAccounted}
 use Rattle.kb_opening.proofs.Causes.{clears_none}
+use Rattle.kb_opening.proofs.Logged.{exact_stays}
 use Rattle.kb_opening.proofs.Moved.{chain_stays, log_of_stays, named_stays}
 use Rattle.kb_opening.proofs.Openings.{clears_then, missed_since}
 use Rattle.kb_opening.specs.Partition.{MissesShelf}
 use Rattle.kb_log.specs.declared.fault.LogFault.{LogFault}
 use Rattle.kb_broker.proofs.OpeningParts.{mapped-more}
 use Rattle.kb_restart.specs.Restart.{names_in, AreOwnedNamed, IsOfFirst, IsRestored, AreRestored}
+use Rattle.kb_restart.proofs.Accounted.{next_accounted}
 use Rattle.kb_restart.proofs.Owners.{distinct_parts, listed_at, tenants_apart}
 
 -- ---- lists
@@ -88,6 +91,7 @@ none_restored d had next ps none listed = subst (λ (xs : List (Parts SegmentLog
   fewer = λ file is. is;
   listed = listed;
   clears = clears_none d;
+  accounts = λ file has. inr (inr has);
 }
 
 -- ---- one more
@@ -98,13 +102,13 @@ taken_tenant t k (Partition u i p) is = is.0
 
 module _ (old : Disk) (had : Directory) (ps : List (Parts SegmentLog)) (mid : Disk) (next : ℕ) (has : Directory) (once : IsDistinct nat_eq (all_files had)) (before : AreRestored old had ps mid next has) where
   -- the files of the next tenant are those that it had first
-  first_had : (file : ℕ) → IsOfTenant has (length ps) file → IsOfTenant had (length ps) file
+  pub first_had : (file : ℕ) → IsOfTenant has (length ps) file → IsOfTenant had (length ps) file
   first_had file o =
       let mine = o.mine in
       record { owner = o.owner; mine = mine; has = subst (λ ns. Contains ns file) (before.others o.owner (omega (arith, mine))) o.has }
 
   -- they are no other tenant's
-  no_other : (t : ℕ) → t < length ps → (file : ℕ) → IsOfTenant had t file → IsOfTenant had (length ps) file → ⊥
+  pub no_other : (t : ℕ) → t < length ps → (file : ℕ) → IsOfTenant had t file → IsOfTenant had (length ps) file → ⊥
   no_other t lt file mine yours = tenants_apart had once t (length ps) file mine yours (λ e. omega (arith, lt, e))
 
   -- they are as they were first
@@ -142,7 +146,10 @@ module _ (old : Disk) (had : Directory) (ps : List (Parts SegmentLog)) (mid : Di
       (some : TakesSome has left)
       (stay : All (IsAsBefore mid now) (all_files left))
       (gone : (o : Owner) → IsTaken (length ps) (known p.catalog) o → (file : ℕ) → Contains (files_at o has) file → Contains (all_files left) file → ⊥)
-      (clears : Clears (IsOfTenant has (length ps)) mid now) where
+      (clears : Clears (IsOfTenant has (length ps)) mid now)
+      (exact : (meta segment_log p).exact now.table × AreExact segment_log (entries p) now.table)
+      (accounted : AreAccounted has (Owns segment_log p) now left)
+      (none_left : (file : ℕ) → Owns segment_log p file → Contains (all_files left) file → ⊥) where
     -- what is left stood there before
     still : (file : ℕ) → Contains (all_files left) file → Contains (all_files has) file
     still file is = Contains-permutation (some.taken ++ all_files left) (all_files has) file (IsPermutation-sym (all_files has) (some.taken ++ all_files left) some.all) (Contains-append_right some.taken (all_files left) file is)
@@ -168,6 +175,9 @@ module _ (old : Disk) (had : Directory) (ps : List (Parts SegmentLog)) (mid : Di
           refusals = r.refusals;
           gone = λ o is file was now. r.gone o is file was (still file now);
           unknown = λ i n none. taken.others (Partition t i n) (λ e. omega (arith, lt, e)) ∙ r.unknown i n none;
+          meta_exact = (segment_lawful (meta_log q.catalog)).exact_stays mid.table now.table r.meta_exact (λ file own. clears.lengths file (apart file (inl own)));
+          exact = exact_stays (entries q) mid.table now.table (λ file own. clears.lengths file (apart file (inr own))) r.exact;
+          apart = λ file own here. r.apart file own (still file here);
         }
 
     same_owners : owners_in has (length ps) ≡ owners_in had (length ps)
@@ -194,6 +204,9 @@ module _ (old : Disk) (had : Directory) (ps : List (Parts SegmentLog)) (mid : Di
           let mine = taken_tenant (length ps) (known p.catalog) o is in
           gone o is file (subst (λ ns. Contains ns file) (sym (before.others o (omega (arith, mine)))) was) now;
       unknown = λ i n none. taken.unknown i n none ∙ before.others (Partition (length ps) i n) (omega arith);
+      meta_exact = exact.0;
+      exact = exact.1;
+      apart = none_left;
     }
 
     each_now : (t : ℕ) (q : Parts SegmentLog) → slice_get (ps ++ p ∷ []) t ≡ Some q → IsRestored old had t q now next left
@@ -223,4 +236,5 @@ module _ (old : Disk) (had : Directory) (ps : List (Parts SegmentLog)) (mid : Di
       fewer = λ file is. before.fewer file (still file is);
       listed = listed_now;
       clears = subst (λ n. Clears (IsOfFirst had n) old now) (sym many) (next_clears now clears);
+      accounts = next_accounted had has left ps p mid now next before.listed clears before.accounts accounted;
     }

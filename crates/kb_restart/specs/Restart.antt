@@ -13,13 +13,15 @@ use Rattle.kb_segment_log.specs.SegmentLog.{segment_log, Clears}
 use Rattle.kb_segment_log.specs.declared.log.SegmentLog.{SegmentLog}
 use Rattle.kb_topics.specs.Catalog.{known}
 use Rattle.kb_topics.specs.Known.{partition_at}
-use Rattle.kb_world.specs.Parts.{IsSound, Owns}
+use Rattle.kb_partitions.specs.Partitions.{AreExact}
+use Rattle.kb_world.specs.Parts.{IsSound, Owns, entries, meta}
 use Rattle.kb_world.specs.declared.parts.Parts.{Parts}
 use Rattle.kb_service.specs.Hosted.{Kept, TenantState, kept_of, names_of}
-use Rattle.kb_tenants.specs.Tenants.{restored_tenant}
-use Rattle.kb_opening.specs.Opened.{Owners, IsOpened, IsOnly}
+use Rattle.kb_tenants.specs.Tenants.{restored_tenant, IsOfSome}
+use Rattle.kb_opening.specs.Opened.{Owners, IsOpened, IsOnly, TenantLosesNothing}
 use Rattle.kb_opening.specs.Owners.{catalog_of, partition_of, strays_of}
 use Rattle.kb_opening.specs.Directory.{all_files, files_at}
+use Rattle.kb_opening.specs.Settled.{AreAccounted}
 use Rattle.kb_opening.specs.Tenant.{owners_in, tenant_in, AreListed, AreOwnNamed, IsOfTenant, IsTaken, IsTenantOf}
 use Rattle.kb_opening.specs.declared.directory.Directory.{Directory}
 use Rattle.kb_opening.specs.declared.owner.Owner.{Owner}
@@ -77,6 +79,10 @@ abbrev pub store_fault : StoreFault → OpenFault
 store_fault store_faults.Device = faults.Store
 store_fault store_faults.Memory = faults.Memory
 
+-- Opened again, the files come to what they came to.
+abbrev pub ComeToTheSame : List (List ℕ) → Disk → Disk → Type 0
+ComeToTheSame names old new = new.honest → (ts : List TenantState) → AreReopened old.files (keys old.table) names ts → AreReopened new.files (keys new.table) names ts
+
 -- ---- the tenants, one after another
 
 -- what is answered for a refusal of a log
@@ -91,7 +97,7 @@ pub record IsOfFirst (d : Directory) (count file : ℕ) : Type 0 where
   pub has : IsOfTenant d tenant file
 
 -- The parts of a tenant, opened from the files that a directory has of it, as they were; of them the directory has those alone now
--- that are of partitions which its topics have not.
+-- that are of partitions which its topics have not; and nothing but its batches is in the files of a log.
 pub record IsRestored (old : Disk) (had : Directory) (tenant : ℕ) (parts : Parts SegmentLog) (new : Disk) (next : ℕ) (has : Directory) : Type 0 where
   pub sound : IsSound segment_log parts new.table next
   pub owned : (file : ℕ) → Owns segment_log parts file → IsOfTenant had tenant file
@@ -99,6 +105,9 @@ pub record IsRestored (old : Disk) (had : Directory) (tenant : ℕ) (parts : Par
   pub refusals : parts.refusals ≡ 0
   pub gone : (o : Owner) → IsTaken tenant (known parts.catalog) o → (file : ℕ) → Contains (files_at o had) file → Contains (all_files has) file → ⊥
   pub unknown : (i p : ℕ) → partition_at (known parts.catalog) (pos i) (pos p) ≡ None → files_at (owners.Partition tenant i p) has ≡ files_at (owners.Partition tenant i p) had
+  pub meta_exact : (meta segment_log parts).exact new.table
+  pub exact : AreExact segment_log (entries parts) new.table
+  pub apart : (file : ℕ) → Owns segment_log parts file → Contains (all_files has) file → ⊥
 
 -- The header of each file of a named tenant names the log that it is of.
 abbrev pub AreOwnedNamed : List (List ℕ) → ℕ → Files → Directory → Type 0
@@ -108,7 +117,8 @@ AreOwnedNamed names size files d = (t : ℕ) (name : List ℕ) → slice_get nam
 abbrev pub names_in : List (Parts SegmentLog) → List (List ℕ)
 names_in tenants = map (λ p. string_bytes p.tenant) tenants
 
--- So are those of the first tenants. Of the others the directory has what it had, and none of the files that it has was changed.
+-- So are those of the first tenants. Of the others the directory has what it had, and none of the files that it has was changed. Each
+-- file that stood in it is of one of them, or is gone, or stands there still.
 pub record AreRestored (old : Disk) (had : Directory) (tenants : List (Parts SegmentLog)) (new : Disk) (next : ℕ) (has : Directory) : Type 0 where
   pub each : (t : ℕ) (parts : Parts SegmentLog) → slice_get tenants t ≡ Some parts → IsRestored old had t parts new next has
   pub others : (o : Owner) → length tenants ≤ tenant_in o → files_at o has ≡ files_at o had
@@ -116,6 +126,15 @@ pub record AreRestored (old : Disk) (had : Directory) (tenants : List (Parts Seg
   pub fewer : (file : ℕ) → Contains (all_files has) file → Contains (all_files had) file
   pub listed : AreListed has new next
   pub clears : Clears (IsOfFirst had (length tenants)) old new
+  pub accounts : AreAccounted had (IsOfSome segment_log tenants) new has
+
+-- Of no tenant anything is lost.
+abbrev pub NoneLosesAny : Directory → Disk → Disk → Type 0
+NoneLosesAny d old new = (t : ℕ) → TenantLosesNothing (owners_in d t) old new
+
+-- The same of the named tenants, by the headers of the files of these numbers.
+abbrev pub NamedLoseNothing : List ℕ → List (List ℕ) → Disk → Disk → Type 0
+NamedLoseNothing numbers names old new = (t : ℕ) (name : List ℕ) → slice_get names t ≡ Some name → TenantLosesNothing (owners_of old.files numbers name) old new
 
 -- Each has what the files of its name came to, as they were; it agrees with what the files are now.
 abbrev pub AreOpened : Files → List ℕ → List (List ℕ) → List (Parts SegmentLog) → Files → Type 0

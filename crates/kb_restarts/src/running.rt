@@ -2,8 +2,8 @@
 
 use hex::FromHexError;
 use kb_batch::BatchBuilder;
-use kb_broker::{Broker, Listing, OpenRefused, Opened, Settings};
-use kb_restart::open_broker;
+use kb_broker::{Broker, Listing, OpenRefused, Settings};
+use kb_restart::{Restarted, open_broker};
 use kb_segment_log::SegmentLog;
 use kb_store::{MemoryStore, Store};
 use std::alloc::{AllocError, Global};
@@ -67,7 +67,7 @@ pub(crate) fn bytes_of(
 pub(crate) fn open<S: Store + Drop>(
     alloc: Global,
     store: S,
-) -> Result<Result<Opened<S, SegmentLog>, OpenRefused<S>>, AllocError> {
+) -> Result<Result<Restarted<S>, OpenRefused<S>>, AllocError> {
     let settings = Settings::standard(alloc)?;
     Ok(open_broker(alloc, &settings, Listing::Served, store))
 }

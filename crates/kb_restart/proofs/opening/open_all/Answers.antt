@@ -4,11 +4,15 @@ use Rattle.std.proofs.lemmas.List.{length-map}
 use Rattle.std.proofs.lemmas.List.Sorted.{Contains-permutation, IsPermutation-sym}
 use Rattle.kb_store.specs.Disk.{Files}
 use Rattle.kb_opening.specs.Directory.{all_files}
-use Rattle.kb_restart.proofs.Read.{listed, read_listed, cleared, are_sound, none_refused, are_opened, left_all}
+use Rattle.kb_restart.proofs.Read.{same_owners, listed, read_listed, cleared, are_sound, none_refused, are_opened, left_all}
 use Rattle.kb_opening.proofs.Openings.{missed_since}
-use Rattle.kb_restart.specs.Restart.{AreOwnedNamed}
+use Rattle.kb_restart.specs.Restart.{owners_of, AreOwnedNamed}
+use Rattle.kb_segment_log.proofs.Comes.{kept_headers, headers_then}
+use Rattle.kb_opening.specs.Opened.{Owners, TenantLosesNothing}
+use Rattle.kb_restart.proofs.Same.{tenant_kept, named_still}
 use Rattle.kb_restart.proofs.Headed.{all_headed}
 use Rattle.kb_restart.proofs.Strays.{only_left}
+use Rattle.kb_restart.proofs.Accounted.{all_alone, all_settled}
 use Rattle.kb_restart.proofs.opening.open_all.Goals as goal
 
 pub open_tenants-requires : goal.open_tenants-requires
@@ -144,3 +148,125 @@ returns-clause-others g c =
     let e = c.in_ok-directory.ensures in
     let q = c.requires in
     λ h. cleared first files next q.there q.given_out q.once d e.all names (e.what (c.in_ok-parts.ensures.others.honest h)) mid now (length c.args.names.now) e.kept (sym (length-map c.args.names.now (λ name. name.now))) c.in_ok-parts.ensures.others
+
+pub returns-clause-alone : goal.returns-clause-alone
+returns-clause-alone g c =
+    let first = g.S.Store.disk c.args.shelf.now.store in
+    let mid = g.S.Store.disk c.read.new.shelf.store in
+    let now = g.S.Store.disk c.open_tenants.new.shelf.store in
+    let e = c.in_ok-directory.ensures in
+    all_alone first mid now c.open_tenants.new.shelf.next c.args.files.now c.in_ok-strays.strays.items c.in_ok-directory.directory c.open_tenants.new.directory c.in_ok-parts.parts.items e.kept c.requires.there e.all
+    c.in_ok-parts.ensures.restored c.in_ok-strays.ensures.these
+
+pub returns-clause-settled : goal.returns-clause-settled
+returns-clause-settled g c all =
+    let first = g.S.Store.disk c.args.shelf.now.store in
+    let mid = g.S.Store.disk c.read.new.shelf.store in
+    let now = g.S.Store.disk c.open_tenants.new.shelf.store in
+    let e = c.in_ok-directory.ensures in
+    all_settled first mid now c.open_tenants.new.shelf.next c.args.files.now c.in_ok-strays.strays.items c.in_ok-directory.directory c.open_tenants.new.directory c.in_ok-parts.parts.items e.kept c.requires.there e.all
+    c.in_ok-parts.ensures.restored c.in_ok-strays.ensures.these all
+
+pub returns-in_err-parts-clause-headers : goal.returns-in_err-parts-clause-headers
+returns-in_err-parts-clause-headers g c = λ h.
+    let first = g.S.Store.disk c.args.shelf.now.store in
+    let mid = g.S.Store.disk c.read.new.shelf.store in
+    let now = g.S.Store.disk c.open_tenants.new.shelf.store in
+    let files = c.args.files.now in
+    let names = map (λ name. name.now) c.args.names.now in
+    let d = c.in_ok-directory.directory in
+    let e = c.in_ok-directory.ensures in
+    let f = c.in_err-parts.ensures in
+    let q = c.requires in
+    let before = f.others.honest h in
+    let dir = e.what before in
+    let headed = subst (λ (fs : Files). AreOwnedNamed names c.args.segment_bytes fs d) (sym (e.kept.files before)) (all_headed first.files names files d dir c.args.segment_bytes) in
+    headers_then first mid now (kept_headers first mid e.kept before) (f.headers h headed)
+
+pub returns-in_err-parts-clause-lost_nothing : goal.returns-in_err-parts-clause-lost_nothing
+returns-in_err-parts-clause-lost_nothing g c = λ h t name at.
+    let first = g.S.Store.disk c.args.shelf.now.store in
+    let mid = g.S.Store.disk c.read.new.shelf.store in
+    let now = g.S.Store.disk c.open_tenants.new.shelf.store in
+    let files = c.args.files.now in
+    let names = map (λ name. name.now) c.args.names.now in
+    let d = c.in_ok-directory.directory in
+    let e = c.in_ok-directory.ensures in
+    let f = c.in_err-parts.ensures in
+    let q = c.requires in
+    let before = f.others.honest h in
+    let dir = e.what before in
+    let headed = subst (λ (fs : Files). AreOwnedNamed names c.args.segment_bytes fs d) (sym (e.kept.files before)) (all_headed first.files names files d dir c.args.segment_bytes) in
+    tenant_kept (owners_of first.files files name) first mid now e.kept before (subst (λ (of : Owners). TenantLosesNothing of mid now) (same_owners first files c.args.shelf.now.next q.there q.given_out q.once d e.all names dir t name at) (f.lost_nothing h headed t))
+
+pub returns-in_err-strays-clause-headers : goal.returns-in_err-strays-clause-headers
+returns-in_err-strays-clause-headers g c = λ h.
+    let first = g.S.Store.disk c.args.shelf.now.store in
+    let mid = g.S.Store.disk c.read.new.shelf.store in
+    let now = g.S.Store.disk c.open_tenants.new.shelf.store in
+    let files = c.args.files.now in
+    let names = map (λ name. name.now) c.args.names.now in
+    let d = c.in_ok-directory.directory in
+    let e = c.in_ok-directory.ensures in
+    let f = c.in_ok-parts.ensures in
+    let q = c.requires in
+    let before = f.others.honest h in
+    let dir = e.what before in
+    let headed = subst (λ (fs : Files). AreOwnedNamed names c.args.segment_bytes fs d) (sym (e.kept.files before)) (all_headed first.files names files d dir c.args.segment_bytes) in
+    headers_then first mid now (kept_headers first mid e.kept before) (f.headers h headed)
+
+pub returns-in_err-strays-clause-lost_nothing : goal.returns-in_err-strays-clause-lost_nothing
+returns-in_err-strays-clause-lost_nothing g c = λ h t name at.
+    let first = g.S.Store.disk c.args.shelf.now.store in
+    let mid = g.S.Store.disk c.read.new.shelf.store in
+    let now = g.S.Store.disk c.open_tenants.new.shelf.store in
+    let files = c.args.files.now in
+    let names = map (λ name. name.now) c.args.names.now in
+    let d = c.in_ok-directory.directory in
+    let e = c.in_ok-directory.ensures in
+    let f = c.in_ok-parts.ensures in
+    let q = c.requires in
+    let before = f.others.honest h in
+    let dir = e.what before in
+    let headed = subst (λ (fs : Files). AreOwnedNamed names c.args.segment_bytes fs d) (sym (e.kept.files before)) (all_headed first.files names files d dir c.args.segment_bytes) in
+    tenant_kept (owners_of first.files files name) first mid now e.kept before (subst (λ (of : Owners). TenantLosesNothing of mid now) (same_owners first files c.args.shelf.now.next q.there q.given_out q.once d e.all names dir t name at) (f.lost_nothing h headed t))
+
+pub returns-clause-headers : goal.returns-clause-headers
+returns-clause-headers g c = λ h.
+    let first = g.S.Store.disk c.args.shelf.now.store in
+    let mid = g.S.Store.disk c.read.new.shelf.store in
+    let now = g.S.Store.disk c.open_tenants.new.shelf.store in
+    let files = c.args.files.now in
+    let names = map (λ name. name.now) c.args.names.now in
+    let d = c.in_ok-directory.directory in
+    let e = c.in_ok-directory.ensures in
+    let f = c.in_ok-parts.ensures in
+    let q = c.requires in
+    let before = f.others.honest h in
+    let dir = e.what before in
+    let headed = subst (λ (fs : Files). AreOwnedNamed names c.args.segment_bytes fs d) (sym (e.kept.files before)) (all_headed first.files names files d dir c.args.segment_bytes) in
+    headers_then first mid now (kept_headers first mid e.kept before) (f.headers h headed)
+
+pub returns-clause-lost_nothing : goal.returns-clause-lost_nothing
+returns-clause-lost_nothing g c = λ h t name at.
+    let first = g.S.Store.disk c.args.shelf.now.store in
+    let mid = g.S.Store.disk c.read.new.shelf.store in
+    let now = g.S.Store.disk c.open_tenants.new.shelf.store in
+    let files = c.args.files.now in
+    let names = map (λ name. name.now) c.args.names.now in
+    let d = c.in_ok-directory.directory in
+    let e = c.in_ok-directory.ensures in
+    let f = c.in_ok-parts.ensures in
+    let q = c.requires in
+    let before = f.others.honest h in
+    let dir = e.what before in
+    let headed = subst (λ (fs : Files). AreOwnedNamed names c.args.segment_bytes fs d) (sym (e.kept.files before)) (all_headed first.files names files d dir c.args.segment_bytes) in
+    tenant_kept (owners_of first.files files name) first mid now e.kept before (subst (λ (of : Owners). TenantLosesNothing of mid now) (same_owners first files c.args.shelf.now.next q.there q.given_out q.once d e.all names dir t name at) (f.lost_nothing h headed t))
+
+pub returns-in_err-directory-clause-headers : goal.returns-in_err-directory-clause-headers
+returns-in_err-directory-clause-headers g c = λ h. kept_headers (g.S.Store.disk c.args.shelf.now.store) (g.S.Store.disk c.read.new.shelf.store) c.in_err-directory.ensures.kept h
+
+pub returns-in_err-directory-clause-lost_nothing : goal.returns-in_err-directory-clause-lost_nothing
+returns-in_err-directory-clause-lost_nothing g c = λ h t name at.
+    let first = g.S.Store.disk c.args.shelf.now.store in
+    named_still c.args.files.now (map (λ name. name.now) c.args.names.now) first (g.S.Store.disk c.read.new.shelf.store) c.requires.there c.in_err-directory.ensures.kept h t name at

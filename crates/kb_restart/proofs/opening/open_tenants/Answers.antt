@@ -1,5 +1,5 @@
-use Rattle.std.proofs.Common.{◌≡◌, ◌∙◌, ℕ, Err, List, length, map, string_bytes, sym, ap, subst, arith}
-use Rattle.std.specs.List.{Contains}
+use Rattle.std.proofs.Common.{◌≡◌, ◌∙◌, ℕ, Err, List, length, map, string_bytes, refl, sym, ap, subst, arith}
+use Rattle.std.specs.List.{All, Contains}
 use Rattle.std.proofs.lemmas.Result.{err_from_is_err_and}
 use Rattle.kb_segment_log.specs.SegmentLog.{segment_log, Clears}
 use Rattle.kb_topics.specs.Catalog.{known}
@@ -9,9 +9,13 @@ use Rattle.kb_world.specs.declared.parts.Parts.{Parts}
 use Rattle.kb_opening.specs.Tenant.{owners_in, AreOwnNamed, IsOfTenant, IsTaken, IsTenantOf, TakesTenant}
 use Rattle.kb_opening.specs.Directory.{all_files, files_at}
 use Rattle.kb_opening.specs.declared.owner.Owner.{Owner}
-use Rattle.kb_restart.proofs.Restored.{next_clears, next_own, next_restored, one_more, names_more, all_more, passed_on}
-use Rattle.kb_restart.specs.Restart.{AreOwnedNamed}
+use Rattle.kb_restart.proofs.Restored.{none_restored, next_clears, next_own, next_restored, one_more, names_more, all_more, passed_on}
+use Rattle.kb_restart.specs.Restart.{names_in, AreOwnedNamed}
 use Rattle.kb_opening.proofs.Openings.{clears_wider}
+use Rattle.kb_opening.specs.Opened.{TenantLosesNothing}
+use Rattle.kb_segment_log.proofs.Comes.{headers_then}
+use Rattle.kb_restart.proofs.Same.{none_changed, tenants_lost}
+use Rattle.std.proofs.lemmas.List.Elements.{All-nil}
 use Rattle.kb_restart.proofs.opening.open_tenants.Goals as goal
 
 pub returns-in_err-parts-clause-others : goal.returns-in_err-parts-clause-others
@@ -86,5 +90,77 @@ loop-tenant-preserved g c =
           e.left e.stay
           (subst (λ n. (o : Owner) → IsTaken n (known p.catalog) o → (file : ℕ) → Contains (files_at o has) file → Contains (all_files left) file → ⊥) count e.gone)
           (subst (λ n. Clears (IsOfTenant has n) mid now) count e.others)
+          e.exact e.accounted e.apart
           c.push.new.self.items grown;
+      headers = λ h own. headers_then first mid now (i.headers (e.others.honest h) own) (e.headers h (next_own first c.args.directory.now ps mid c.args.shelf.now.next has c.requires.once i.restored c.args.names.now c.args.segment_bytes c.loop-tenant.tenant _ i.count (omega arith) (e.others.honest h) own));
+      lost = λ h own. tenants_lost first c.args.directory.now ps mid c.args.shelf.now.next has c.requires i.restored now (subst (λ n. Clears (IsOfTenant has n) mid now) count e.others) (i.lost (e.others.honest h) own)
+          (subst (λ n. TenantLosesNothing (owners_in has n) mid now) count (e.lost_nothing h (next_own first c.args.directory.now ps mid c.args.shelf.now.next has c.requires.once i.restored c.args.names.now c.args.segment_bytes c.loop-tenant.tenant _ i.count (omega arith) (e.others.honest h) own))) h;
     }
+
+pub returns-in_err-parts-clause-headers : goal.returns-in_err-parts-clause-headers
+returns-in_err-parts-clause-headers g c = λ h own.
+    let i = c.loop-tenant.invariant in
+    let ps = c.loop-tenant.tenants.items in
+    let has = c.loop-tenant.directory in
+    let first = g.S.Store.disk c.args.shelf.now.store in
+    let mid = g.S.Store.disk c.loop-tenant.shelf.store in
+    let now = g.S.Store.disk c.open_tenant.new.shelf.store in
+    let count = sym i.count in
+    let e = c.in_err-parts.ensures in
+    headers_then first mid now (i.headers (e.others.honest h) own) (e.headers h (next_own first c.args.directory.now ps mid c.args.shelf.now.next has c.requires.once i.restored c.args.names.now c.args.segment_bytes c.loop-tenant.tenant _ i.count (omega arith) (e.others.honest h) own))
+
+pub returns-in_err-parts-clause-lost_nothing : goal.returns-in_err-parts-clause-lost_nothing
+returns-in_err-parts-clause-lost_nothing g c = λ h own.
+    let i = c.loop-tenant.invariant in
+    let ps = c.loop-tenant.tenants.items in
+    let has = c.loop-tenant.directory in
+    let first = g.S.Store.disk c.args.shelf.now.store in
+    let mid = g.S.Store.disk c.loop-tenant.shelf.store in
+    let now = g.S.Store.disk c.open_tenant.new.shelf.store in
+    let count = sym i.count in
+    let e = c.in_err-parts.ensures in
+    tenants_lost first c.args.directory.now ps mid c.args.shelf.now.next has c.requires i.restored now (subst (λ n. Clears (IsOfTenant has n) mid now) count e.others) (i.lost (e.others.honest h) own)
+    (subst (λ n. TenantLosesNothing (owners_in has n) mid now) count (e.lost_nothing h (next_own first c.args.directory.now ps mid c.args.shelf.now.next has c.requires.once i.restored c.args.names.now c.args.segment_bytes c.loop-tenant.tenant _ i.count (omega arith) (e.others.honest h) own))) h
+
+pub returns-in_err-push-clause-headers : goal.returns-in_err-push-clause-headers
+returns-in_err-push-clause-headers g c = λ h own.
+    let i = c.loop-tenant.invariant in
+    let ps = c.loop-tenant.tenants.items in
+    let has = c.loop-tenant.directory in
+    let first = g.S.Store.disk c.args.shelf.now.store in
+    let mid = g.S.Store.disk c.loop-tenant.shelf.store in
+    let now = g.S.Store.disk c.open_tenant.new.shelf.store in
+    let count = sym i.count in
+    let e = c.in_ok-parts.ensures in
+    headers_then first mid now (i.headers (e.others.honest h) own) (e.headers h (next_own first c.args.directory.now ps mid c.args.shelf.now.next has c.requires.once i.restored c.args.names.now c.args.segment_bytes c.loop-tenant.tenant _ i.count (omega arith) (e.others.honest h) own))
+
+pub returns-in_err-push-clause-lost_nothing : goal.returns-in_err-push-clause-lost_nothing
+returns-in_err-push-clause-lost_nothing g c = λ h own.
+    let i = c.loop-tenant.invariant in
+    let ps = c.loop-tenant.tenants.items in
+    let has = c.loop-tenant.directory in
+    let first = g.S.Store.disk c.args.shelf.now.store in
+    let mid = g.S.Store.disk c.loop-tenant.shelf.store in
+    let now = g.S.Store.disk c.open_tenant.new.shelf.store in
+    let count = sym i.count in
+    let e = c.in_ok-parts.ensures in
+    tenants_lost first c.args.directory.now ps mid c.args.shelf.now.next has c.requires i.restored now (subst (λ n. Clears (IsOfTenant has n) mid now) count e.others) (i.lost (e.others.honest h) own)
+    (subst (λ n. TenantLosesNothing (owners_in has n) mid now) count (e.lost_nothing h (next_own first c.args.directory.now ps mid c.args.shelf.now.next has c.requires.once i.restored c.args.names.now c.args.segment_bytes c.loop-tenant.tenant _ i.count (omega arith) (e.others.honest h) own))) h
+
+pub returns-in_err-tenants-clause-lost_nothing : goal.returns-in_err-tenants-clause-lost_nothing
+returns-in_err-tenants-clause-lost_nothing g c = λ h own. none_changed c.args.directory.now (g.S.Store.disk c.args.shelf.now.store) c.args.shelf.now.next c.requires
+
+pub returns-in_err-tenants-clause-headers : goal.returns-in_err-tenants-clause-headers
+returns-in_err-tenants-clause-headers g c = λ h own file there. (there, refl)
+
+pub loop-tenant-init : goal.loop-tenant-init
+loop-tenant-init g c = record {
+  next = refl;
+  later = omega arith;
+  count = ap length c.in_ok-tenants.ensures.items;
+  names = ap names_in c.in_ok-tenants.ensures.items;
+  sizes = subst (All (λ (p : Parts SegmentLog). p.segment_bytes ≡ c.args.segment_bytes)) (sym c.in_ok-tenants.ensures.items) (All-nil (λ (p : Parts SegmentLog). p.segment_bytes ≡ c.args.segment_bytes));
+  restored = none_restored (g.S.Store.disk c.args.shelf.now.store) c.args.directory.now c.args.shelf.now.next _ c.in_ok-tenants.ensures.items c.requires;
+  headers = λ h own file there. (there, refl);
+  lost = λ h own. none_changed c.args.directory.now (g.S.Store.disk c.args.shelf.now.store) c.args.shelf.now.next c.requires;
+}

@@ -1,6 +1,7 @@
 use Rattle.std.proofs.Common.{◌≡◌, ◌≤◌, length, map, take}
 use Rattle.std.specs.List.{All}
-use Rattle.kb_restart.specs.Restart.{names_in, AreRestored}
+use Rattle.kb_restart.specs.Restart.{names_in, AreOwnedNamed, AreRestored, NoneLosesAny}
+use Rattle.kb_segment_log.specs.Chain.{KeepsHeaders}
 use Rattle.kb_restart.proofs.opening.open_tenants.Given as goal
 
 -- the first tenants are opened
@@ -15,4 +16,6 @@ invariant-loop-tenant g l =
       names : names_in l.tenants.items ≡ map (λ name. name.now) (take l.tenant l.names);
       sizes : All (λ p. p.segment_bytes ≡ l.fn.segment_bytes) l.tenants.items;
       restored : AreRestored first l.initial.directory l.tenants.items now l.initial.shelf.next l.directory;
+      headers : now.honest → AreOwnedNamed (map (λ name. name.now) l.names) l.fn.segment_bytes first.files l.initial.directory → KeepsHeaders first now;
+      lost : now.honest → AreOwnedNamed (map (λ name. name.now) l.names) l.fn.segment_bytes first.files l.initial.directory → NoneLosesAny l.initial.directory first now;
     }

@@ -1,11 +1,14 @@
 //! What is told on standard error while a data folder is open: a line each, with the time.
 
-ghost use Rattle.std.specs.Prelude.{◌≤◌, ◌^◌};
+ghost use Rattle.std.specs.Prelude.{◌≤◌, ◌^◌, IfSome};
+ghost use Rattle.kb_restart.specs.Lengths.{AreRising};
 
+use crate::found::bytes_of;
 use kb_broker::Broker;
 use kb_journal::{Pace, Tally, time_text};
 use kb_log::PartitionLog;
 use kb_node::{Edge, Settings, Store, Turn, tenant_names};
+use kb_restart::{Counts, Dropped, FileLength, dropped_between};
 use std::alloc::{AllocError, Global};
 use std::net::Net;
 
@@ -42,29 +45,84 @@ impl Journal {
         })
     }
 
-    /// The broker serves what was found in its folder, of whose files so many are of no log.
-    pub fn tell_start(&self, rt: &HostRuntime, now: u64, strays: usize) {
+    /// What an opening dropped of the files that a folder had: a line for each file that is gone or shorter, where the lengths of both
+    /// times could be had.
+    pub fn tell_dropped(
+        &self,
+        rt: &HostRuntime,
+        now: u64,
+        before: Option<&[FileLength]>,
+        after: Option<&[FileLength]>,
+    )
+        requires before { IfSome before (λ files. AreRising files.now) }
+        requires after { IfSome after (λ files. AreRising files.now) }
+    {
+        let (false, Some(before), Some(after)) = (self.is_quiet, before, after) else {
+            return;
+        };
+        let Ok(drops) = dropped_between(rt.alloc(), before, after) else {
+            return;
+        };
+        for drop in &drops {
+            tell_drop(rt, now, drop);
+        }
+    }
+
+    /// The broker serves what was found in its folder: so many topics and partitions, and these files, where their lengths could be had, of which so many are of no log.
+    pub fn tell_start(
+        &self,
+        rt: &HostRuntime,
+        now: u64,
+        counts: Counts,
+        files: Option<&[FileLength]>,
+        strays: usize,
+    ) {
         if !self.is_quiet {
             let connections = self.connections;
             let time = time_of(rt, now);
-            let holds = self.found_text(rt.alloc(), strays);
+            let holds = self.found_text(rt.alloc(), counts, files, strays);
             let _ = eprintln!(rt; "{time} start: {holds}, connections at most {connections}");
         }
     }
 
-    /// This was found in the folder, of whose files so many are of no log.
-    pub fn tell_found(&self, rt: &HostRuntime, now: u64, strays: usize) {
+    /// This was found in the folder: so many topics and partitions, and these files, where their lengths could be had, of which so many are of no log.
+    pub fn tell_found(
+        &self,
+        rt: &HostRuntime,
+        now: u64,
+        counts: Counts,
+        files: Option<&[FileLength]>,
+        strays: usize,
+    ) {
         if !self.is_quiet {
             let time = time_of(rt, now);
-            let holds = self.found_text(rt.alloc(), strays);
+            let holds = self.found_text(rt.alloc(), counts, files, strays);
             let _ = eprintln!(rt; "{time} found: {holds}");
         }
     }
 
     /// What was found, which is empty where there is no memory for it.
-    fn found_text(&self, alloc: Global, strays: usize) -> String {
+    fn found_text(
+        &self,
+        alloc: Global,
+        counts: Counts,
+        files: Option<&[FileLength]>,
+        strays: usize,
+    ) -> String {
         let tenants = self.tenants.len();
-        format!(in alloc; "tenants {tenants}, stray files {strays}").unwrap_or(String::new(alloc))
+        let (topics, partitions) = (counts.topics, counts.partitions);
+        let text = match files {
+            Some(files) => {
+                let (count, bytes) = (files.len(), bytes_of(files));
+                format!(in alloc;
+                    "tenants {tenants}, topics {topics}, partitions {partitions}, files {count}, bytes {bytes}, stray files {strays}"
+                )
+            }
+            None => format!(in alloc;
+                "tenants {tenants}, topics {topics}, partitions {partitions}, stray files {strays}"
+            ),
+        };
+        text.unwrap_or(String::new(alloc))
     }
 
     /// The broker serves no longer.
@@ -159,6 +217,23 @@ fn tenants_of(alloc: Global, settings: &Settings) -> Result<Vec<Tenant>, AllocEr
         })?;
     }
     Ok(tenants)
+}
+
+/// What an opening dropped of a file.
+fn tell_drop(rt: &HostRuntime, now: u64, drop: &Dropped) {
+    let time = time_of(rt, now);
+    let (file, before) = (drop.file, drop.before);
+    let _ = match drop.after {
+        Some(after) => {
+            let bytes = before.saturating_sub(after);
+            eprintln!(rt; "{time} dropped file {file}: {bytes} bytes behind the end of its log")
+        }
+        None => {
+            eprintln!(rt;
+                "{time} dropped file {file} whole, {before} bytes: nothing in it is of its log"
+            )
+        }
+    };
 }
 
 /// The logins of a turn that failed.

@@ -11,6 +11,7 @@ mod check;
 mod clock;
 mod dump;
 mod folder;
+mod found;
 mod journal;
 mod script;
 mod serve;

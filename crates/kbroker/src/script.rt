@@ -2,15 +2,16 @@
 
 use crate::clock::now;
 use crate::folder::{hold, store_in};
+use crate::found::lengths_in;
 use crate::journal::Journal;
 use crate::{Fault, config, settings_of};
 use clap::{Arg, ArgAction, ArgMatches, Command};
-use kb_broker::{Opened, ScriptFault};
+use kb_broker::ScriptFault;
 use kb_log::ListLog;
 use kb_node::{
     Listing, NodeFault, Settings, StartFault, Store, play_script, play_script_on, play_script_with,
 };
-use kb_restart::open_broker;
+use kb_restart::{Restarted, open_broker};
 use std::alloc::{AllocError, Global};
 use std::io;
 use std::io::{BufRead, BufReader, BufWriter, Write};
@@ -68,14 +69,18 @@ fn script_on<R: BufRead, W: Write>(
     let alloc = rt.alloc();
     let mut journal = Journal::new(alloc, settings, false)?;
     let _held = hold(rt, path)?;
+    let before = lengths_in(rt, path);
     let store = store_in(rt, path)?;
-    let Opened { mut broker, strays } = open_broker(
-        alloc,
-        settings,
-        Listing::Served,
-        store,
-    ).map_err(|refused| StartFault::from(refused.fault))?;
-    journal.tell_found(rt, now(rt), strays.len());
+    let opened = open_broker(alloc, settings, Listing::Served, store);
+    // A refused opening may have dropped something, too.
+    let after = lengths_in(rt, path);
+    journal.tell_dropped(rt, now(rt), before.as_deref(), after.as_deref());
+    let Restarted {
+        mut broker,
+        strays,
+        counts,
+    } = opened.map_err(|refused| StartFault::from(refused.fault))?;
+    journal.tell_found(rt, now(rt), counts, after.as_deref(), strays.len());
     let played = play_script_on(alloc, &mut broker, reader, writer);
     journal.tell_refusals(rt, &broker, now(rt));
     match played {

@@ -2,13 +2,13 @@
 
 use crate::clock::now;
 use crate::folder::{hold, store_in};
+use crate::found::lengths_in;
 use crate::journal::Journal;
 use crate::{Fault, settings_of};
 use clap::ArgMatches;
-use kb_broker::Opened;
 use kb_log::PartitionLog;
 use kb_node::{Edge, Limits, Listing, NodeFault, StartFault, Store, data_folder};
-use kb_restart::open_broker;
+use kb_restart::{Restarted, open_broker};
 use std::net::Net;
 
 /// How often the edge is turned at most.
@@ -25,18 +25,25 @@ pub fn serve(rt: &HostRuntime, found: &ArgMatches<'_>) -> Result<(), Fault> {
     };
     let path = data_folder(alloc, &settings)?;
     let _held = hold(rt, path)?;
+    let mut journal = Journal::new(alloc, &settings, found.get_flag("quiet"))?;
+    let before = lengths_in(rt, path);
     let store = store_in(rt, path)?;
-    let Opened { broker, strays } = open_broker(alloc, &settings, listing, store).map_err(
-        |refused| StartFault::from(refused.fault),
-    )?;
+    let opened = open_broker(alloc, &settings, listing, store);
+    // A refused opening may have dropped something, too.
+    let after = lengths_in(rt, path);
+    journal.tell_dropped(rt, now(rt), before.as_deref(), after.as_deref());
+    let Restarted {
+        broker,
+        strays,
+        counts,
+    } = opened.map_err(|refused| StartFault::from(refused.fault))?;
     let address = format!(in alloc; "{}:{}", settings.host, settings.port)?;
     let limits = Limits::of(&settings);
     let mut edge = Edge::watching(rt, alloc, broker, &address, limits).map_err(StartFault::from)?;
-    let mut journal = Journal::new(alloc, &settings, found.get_flag("quiet"))?;
     if println!(rt; "listening on {}:{}", settings.host, edge.port()).is_err() {
         return Err(Fault::Node(NodeFault::Write));
     }
-    journal.tell_start(rt, now(rt), strays.len());
+    journal.tell_start(rt, now(rt), counts, after.as_deref(), strays.len());
     turn_on(rt, &mut edge, &mut journal);
     journal.tell_stop(rt, now(rt));
     Ok(())

@@ -1,6 +1,7 @@
-"""Fills a data folder with the partition 0 of the topic of instance 0 of the tenant a: files of 16 MiB, each of whole batches.
+"""Fills a data folder with partitions of the tenant a, 64 of each topic, the first one where no number is given: files of 16 MiB, each of
+whole batches.
 
-    fill.py FOLDER BATCH_BYTES TOTAL_BYTES
+    fill.py FOLDER BATCH_BYTES TOTAL_BYTES [PARTITIONS]
 
 The folder has the catalog already. Each batch has one record and no producer; all batches are the same bytes but for their offset.
 """
@@ -42,22 +43,31 @@ def batch(size):
     return struct.pack(">i", len(head) + len(body)) + head + body
 
 
-def header(base):
-    fields = b"KBSG" + struct.pack(">hhqqih1sq", 2, 0, base, 0, 0, 1, b"a", 0)
+def header(base, partition):
+    fields = b"KBSG" + struct.pack(">hhqqih1sq", 2, 0, base, partition // 64, partition % 64, 1, b"a", 0)
     return fields + struct.pack(">I", castagnoli(fields))
 
 
-def main():
-    folder, size, total = sys.argv[1], int(sys.argv[2]), int(sys.argv[3])
-    bytes_of, offset, number = batch(size), 0, 1
+def fill(folder, bytes_of, total, partition, number):
+    """Writes a partition from a file number on, and answers the next one."""
+    offset = 0
     while total > 0:
         with open(f"{folder}/{number:020}.seg", "wb") as out:
-            out.write(header(offset))
+            out.write(header(offset, partition))
             for _ in range(max(1, min(SEGMENT, total) // (len(bytes_of) + 8))):
                 out.write(struct.pack(">q", offset) + bytes_of)
                 offset += 1
                 total -= len(bytes_of) + 8
         number += 1
+    return number
+
+
+def main():
+    folder, size, total = sys.argv[1], int(sys.argv[2]), int(sys.argv[3])
+    partitions = int(sys.argv[4]) if len(sys.argv) > 4 else 1
+    bytes_of, number = batch(size), 1
+    for partition in range(partitions):
+        number = fill(folder, bytes_of, total // partitions, partition, number)
 
 
 main()

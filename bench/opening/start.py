@@ -1,6 +1,8 @@
-"""Starts a broker, and says how many seconds it took until it listens. With `create` it makes a topic whose records are kept for ever.
+"""Starts a broker, and says how many seconds it took until it listens. With `create` it makes topics whose records are kept for ever: one
+of one partition, or as many as are given, of so many partitions each.
 
-    start.py KBROKER SETTINGS create|open
+    start.py KBROKER SETTINGS create [TOPICS PARTITIONS]
+    start.py KBROKER SETTINGS open
 """
 
 import socket
@@ -27,7 +29,10 @@ if sys.argv[3] == "create":
     ask(connection, 17, 1, b"\0\5PLAIN")
     ask(connection, 36, 0, struct.pack(">i", 8) + b"\0ann\0pw1")
     config = struct.pack(">ih12sh2s", 1, 12, b"retention.ms", 2, b"-1")
-    ask(connection, 19, 0, struct.pack(">ih1sihi", 1, 1, b"t", 1, 1, 0) + config + struct.pack(">i", 5000))
+    topics, partitions = (int(word) for word in sys.argv[4:6] or ("1", "1"))
+    for number in range(topics):
+        name = b"t%d" % number
+        ask(connection, 19, 0, struct.pack(f">ih{len(name)}sihi", 1, len(name), name, partitions, 1, 0) + config + struct.pack(">i", 5000))
 broker.kill()
 broker.wait()
 print(f"{took:.3f}")

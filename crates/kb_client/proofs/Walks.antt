@@ -3,14 +3,14 @@ use Rattle.std.proofs.Common.{◌≡◌, ℕ, zero, suc, ◌<◌, ◌≤◌, ◌
 use Rattle.std.specs.Prelude.{option_map, option_and_then}
 use Rattle.std.specs.Prelude.{ℤ, min}
 use Rattle.std.specs.List.{flat_map}
-use Rattle.std.proofs.lemmas.List.{length-take-le, length-take, length-drop, length-map, take-take, take_min}
+use Rattle.std.proofs.lemmas.List.{length-take, length-drop, length-map, take-take, take_min}
 use Rattle.std.proofs.Math.Seq.{take-length}
 use Rattle.kb_batch.specs.declared.record.RecordView.{RecordView}
 use Rattle.kb_batch.specs.Header.{base_offset_of, base_timestamp_of}
 use Rattle.kb_batch.specs.Record.{view_of}
 use Rattle.kb_batch.specs.Scan.{views_of}
-use Rattle.kb_batch.specs.Batch.{front, size_told, IsBatch, count_of, records_of}
-use Rattle.kb_batch.specs.BatchLaws.{no_room, too_few, stands, no_front}
+use Rattle.kb_batch.specs.Batch.{front, count_of, records_of}
+use Rattle.kb_batch.specs.BatchLaws.{no_room}
 use Rattle.kb_client.specs.Lines.{Found, batches_in, is_ahead, with_batch, with_batches, with_at_most, Comes, is_empty, above, end_of, given_of, less, at_most, records_from, line_text}
 
 -- no byte is left
@@ -96,23 +96,3 @@ line_added old new all r rest zero (suc g) none some is told =
     let e : suc g - 1 ≡ g = omega arith in
     rw e (ap (λ t. t ++ flat_map line_text (take g rest)) is ∙ append_assoc old (line_text r) (flat_map line_text (take g rest)) ∙ told)
 line_added old new all r rest (suc k) given none some is told = absurd (none (omega arith))
-
--- ---- the batch in front
-
-pub too_short : (s : List ℕ) → length s < 61 → None ≡ front s
-too_short s l = sym (no_room s l)
-
-pub told_more : (s : List ℕ) (size : ℕ) → size ≡ size_told s → length s < size → None ≡ front s
-told_more s size e l = sym (too_few s (omega (arith, e, l)))
-
--- the first n bytes
-front_value : (s w : List ℕ) (n : ℕ) → n ≤ length s → w ≡ take n s → (length w ≡ n) × (w ≡ take (length w) s)
-front_value s w n le e =
-    let size : length w ≡ n = ap length e ∙ length-take-le n s le in
-    (size, e ∙ ap (λ k. take k s) (sym size))
-
-pub batch_found : (s w : List ℕ) (n : ℕ) → n ≤ length s → w ≡ take n s → IsBatch w → Some w ≡ front s
-batch_found s w n le e is = sym (stands s w (front_value s w n le e).1 is)
-
-pub none_found : (s w : List ℕ) (n : ℕ) → n ≡ size_told s → n ≤ length s → w ≡ take n s → (IsBatch w → ⊥) → None ≡ front s
-none_found s w n told le e not = let v = front_value s w n le e in sym (no_front s w (v.0 ∙ told) v.1 not)

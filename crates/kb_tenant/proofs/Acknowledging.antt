@@ -54,6 +54,13 @@ module _ {S E A : Type 0} (R : S → E → S → A → Type 0) where
   served_length s t (e ∷ es) [] h = absurd h
   served_length s t (e ∷ es) (a ∷ answers) h = ap suc (served_length h.0 t es answers h.1.1)
 
+-- what is told of each entry is told so too
+pub served_so : {S E A : Type 0} (R Q : S → E → S → A → Type 0) → ((s : S) (e : E) (t : S) (a : A) → R s e t a → Q s e t a) → (s t : S) (es : List E) (answers : List A) → AreServed R s es t answers → AreServed Q s es t answers
+served_so R Q so s t [] [] h = h
+served_so R Q so s t [] (a ∷ answers) h = absurd h
+served_so R Q so s t (e ∷ es) [] h = absurd h
+served_so R Q so s t (e ∷ es) (a ∷ answers) h = (h.0, (so s e h.0 a h.1.0, served_so R Q so h.0 t es answers h.1.1))
+
 -- its answer is written behind those before it
 pub written_more : {A : Type 0} (write : A → List ℕ) (out old new : List ℕ) (xs : List A) (x : A) → old ≡ out ++ flat_map write xs → new ≡ old ++ write x → new ≡ out ++ flat_map write (xs ++ x ∷ [])
 written_more write out old new xs x before more =
@@ -78,8 +85,8 @@ next_by a b n step le = omega (arith, step.frame.others.later, le)
 grown_in : (before a b now : ℕ) → Grew a b → before ≤ a → b ≤ now → Grew before now
 grown_in before a b now grew since until = omega (arith, grew, since, until)
 
-failed_in : (before now next : ℕ) (a b : Scene Seen) → before ≤ a.disk.failures → b.disk.failures ≤ now → a.next ≤ next → Grew a.disk.failures b.disk.failures ⊎ (2 ^ 64 ≤ a.next) → FailedBy before now next
-failed_in before now next a b since until later failed = ⊎_elim (λ grew. inl (grown_in before a.disk.failures b.disk.failures now grew since until)) (λ over. inr (omega (arith, over, later))) failed
+pub failed_in : (before now next first last early : ℕ) → before ≤ first → last ≤ now → early ≤ next → FailedBy first last early → FailedBy before now next
+failed_in before now next first last early since until later failed = ⊎_elim (λ grew. inl (grown_in before first last now grew since until)) (λ over. inr (omega (arith, over, later))) failed
 
 -- ---- one entry
 
@@ -93,7 +100,7 @@ pub entry_told_so : (before now next : ℕ) (a b : Scene Seen) (old new : List P
     → IsTold a b ((progress b.state.world new, x) ≡ entry_served refusal topic (progress a.state.world old) e) (IsAppendWant a b old new x.error_code × (x ≡ answer e.index (Err x.error_code)))
     → WhereHonest a b (IsEntryTold (FailedBy before now next) refusal topic (progress a.state.world old) e (progress b.state.world new) x)
 entry_told_so before now next a b old new refusal topic e x step since until later told honest agree =
-    let cause : Failed a b → FailedBy before now next = λ failed. failed_in before now next a b since until (next_by a b next step later) (failed honest agree) in
+    let cause : Failed a b → FailedBy before now next = λ failed. failed_in before now next a.disk.failures b.disk.failures a.next since until (next_by a b next step later) (failed honest agree) in
     ⊎_elim (λ done. inl (done.met honest agree))
     (λ refused. inr (ap (λ w. progress w new) (refused.stays honest agree) ∙ ap (progress a.state.world) refused.want.0.1, wanting (FailedBy before now next) a b old new e x cause refused.want)) told
 

@@ -19,20 +19,19 @@ use Rattle.kb_api_data.specs.declared.create_topics.CreateConfig.{CreateConfig}
 use Rattle.kb_api_data.specs.declared.create_topics.CreateTopic.{CreateTopic}
 use Rattle.kb_api_data.specs.declared.create_topics.CreateTopicsRequest.{CreateTopicsRequest}
 use Rattle.kb_api_data.specs.declared.create_topics.CreateTopicReply.{CreateTopicReply}
-use Rattle.kb_topics.specs.Config.{config_of, entry_of, is_numeral, limit_in, nothing_read, number_in, setting, with_entry}
+use Rattle.kb_topics.specs.Config.{is_numeral, limit_in, number_in}
 use Rattle.kb_topics.specs.Known.{TopicState, is_limit, is_partition_count, named, new_topic, topic_at}
 use Rattle.kb_topics.specs.Name.{is_legal}
 use Rattle.kb_topics.specs.Refusals.{create_refusal}
-use Rattle.kb_topics.specs.declared.config.ConfigEntry.{ConfigEntry}
-use Rattle.kb_topics.specs.declared.config.ConfigEntry.TheVariants.{RetentionMs, RetentionBytes, CleanupPolicy}
-use Rattle.kb_topics.specs.declared.config.ConfigReader.{ConfigReader}
 use Rattle.kb_topics.specs.declared.config.TopicConfig.{TopicConfig}
 use Rattle.kb_topics.specs.declared.fault.CatalogFault.{CatalogFault}
 use Rattle.kb_topics.specs.declared.fault.CatalogFault.TheVariants as faults
 use Rattle.kb_world.specs.Calls.{created_unless}
 use Rattle.kb_world.specs.Tied.{IsTied}
 use Rattle.kb_world.specs.World.{World}
-use Rattle.kb_tenant.specs.CreateTopics.{checked_all, checked_topic, checked_unless, checked_with, code_in, created_all, created_topic, made_unless, made_with, refusal, settings_in, stands_twice, with_settings}
+use Rattle.kb_tenant.specs.CreateTopics.{checked_all, checked_topic, checked_unless, checked_with, code_in}
+use Rattle.kb_tenant.specs.CreateTopics.{created_all, created_topic, made_unless, made_with, refusal, stands_twice}
+use Rattle.kb_tenant.specs.Settings.{are_allowed, entry_named, limit_named, settings_in, settings_of}
 use Rattle.kb_tenant.specs.Turns.{in_turn}
 use Rattle.kb_tenant.proofs.Entries.{insert_other}
 use Rattle.kb_tenant.proofs.Names.{named_inserted}
@@ -58,63 +57,6 @@ limit_limit text = by (bytes_eq text (codes "-1")) (is_numeral text) (number_lim
     by false true h = h
     by false false h = tt
 
-abbrev EntryLimit : Option ConfigEntry → Type 0
-EntryLimit None = ⊤
-EntryLimit (Some (RetentionMs n)) = is_limit n ≡ true
-EntryLimit (Some (RetentionBytes n)) = is_limit n ≡ true
-EntryLimit (Some CleanupPolicy) = ⊤
-
-ms_limit : (o : Option ℤ) → Limit o → EntryLimit (option_map RetentionMs o)
-ms_limit None h = tt
-ms_limit (Some n) h = h
-
-bytes_limit : (o : Option ℤ) → Limit o → EntryLimit (option_map RetentionBytes o)
-bytes_limit None h = tt
-bytes_limit (Some n) h = h
-
-setting_limit : (name value : List ℕ) → EntryLimit (setting name value)
-setting_limit name value = by (bytes_eq name (codes "retention.ms")) (bytes_eq name (codes "retention.bytes")) (bytes_eq name (codes "cleanup.policy") && bytes_eq value (codes "delete"))
-  where
-    by : (a b c : Bool) → EntryLimit (cond a (option_map RetentionMs (limit_in value)) (cond b (option_map RetentionBytes (limit_in value)) (cond c (Some CleanupPolicy) None)))
-    by true b c = ms_limit (limit_in value) (limit_limit value)
-    by false true c = bytes_limit (limit_in value) (limit_limit value)
-    by false false true = tt
-    by false false false = tt
-
-entry_limit : (name : List ℕ) (value : Option (List ℕ)) → EntryLimit (entry_of name value)
-entry_limit name None = tt
-entry_limit name (Some value) = setting_limit name value
-
-abbrev Limits : Option ConfigReader → Type 0
-Limits None = ⊤
-Limits (Some r) = Limit r.retention_ms × Limit r.retention_bytes
-
-entry_keeps : (r : ConfigReader) (e : Option ConfigEntry) → Limits (Some r) → EntryLimit e → Limits (with_entry r e)
-entry_keeps r None h l = tt
-entry_keeps r (Some (RetentionMs n)) h l = by (is_none r.retention_ms)
-  where
-    by : (b : Bool) → Limits (cond b (Some (record r { retention_ms = Some n })) None)
-    by true = (l, h.1)
-    by false = tt
-entry_keeps r (Some (RetentionBytes n)) h l = by (is_none r.retention_bytes)
-  where
-    by : (b : Bool) → Limits (cond b (Some (record r { retention_bytes = Some n })) None)
-    by true = (h.0, l)
-    by false = tt
-entry_keeps r (Some CleanupPolicy) h l = by r.cleanup_policy
-  where
-    by : (b : Bool) → Limits (cond b None (Some (record r { cleanup_policy = true })))
-    by true = tt
-    by false = h
-
-settings_keep : (cs : List CreateConfig) (r : ConfigReader) → Limits (Some r) → Limits (with_settings r cs)
-settings_keep [] r h = h
-settings_keep (c ∷ cs) r h = by (with_entry r (entry_of c.name c.value)) (entry_keeps r (entry_of c.name c.value) h (entry_limit c.name c.value)) (λ x l. settings_keep cs x l)
-  where
-    by : (o : Option ConfigReader) → Limits o → ((x : ConfigReader) → Limits (Some x) → Limits (with_settings x cs)) → Limits (option_and_then (λ x. with_settings x cs) o)
-    by None l rest = tt
-    by (Some x) l rest = rest x l
-
 or_default : (o : Option ℤ) (d : ℤ) → Limit o → is_limit d ≡ true → is_limit (unwrap_or o d) ≡ true
 or_default None d h own = own
 or_default (Some n) d h own = h
@@ -126,16 +68,30 @@ both false b p q = absurd cc
 abbrev HasLimits : TopicConfig → Type 0
 HasLimits config = (is_limit config.retention_ms && is_limit config.retention_bytes) ≡ true
 
-read_limits : (r : ConfigReader) → Limits (Some r) → HasLimits (config_of r)
-read_limits r h = both (is_limit (unwrap_or r.retention_ms (pos 604800000))) (is_limit (unwrap_or r.retention_bytes (negsuc 0)))
-    (or_default r.retention_ms (pos 604800000) h.0 refl) (or_default r.retention_bytes (negsuc 0) h.1 refl)
+named_limit : (name : List ℕ) (cs : List CreateConfig) → Limit (limit_named name cs)
+named_limit name cs = by (entry_named name cs)
+  where
+    of_value : (value : Option (List ℕ)) → Limit (option_and_then limit_in value)
+    of_value None = tt
+    of_value (Some text) = limit_limit text
+
+    by : (o : Option CreateConfig) → Limit (option_and_then (λ (c : CreateConfig). option_and_then limit_in c.value) o)
+    by None = tt
+    by (Some c) = of_value c.value
 
 settings_limits : (cs : List CreateConfig) (config : TopicConfig) → settings_in cs ≡ Some config → HasLimits config
-settings_limits cs config is = by (with_settings nothing_read cs) (settings_keep cs nothing_read (tt, tt)) is
+settings_limits cs config is = by (are_allowed cs) is
   where
-    by : (o : Option ConfigReader) → Limits o → option_map config_of o ≡ Some config → HasLimits config
-    by None l e = absurd cc
-    by (Some r) l e = let same : config_of r ≡ config = cc in subst HasLimits same (read_limits r l)
+    by : (b : Bool) → cond b (Some (settings_of cs)) None ≡ Some config → HasLimits config
+    by false e = absurd cc
+    by true e =
+        let same : settings_of cs ≡ config = cc in
+        let time = limit_named (codes "retention.ms") cs in
+        let size = limit_named (codes "retention.bytes") cs in
+        subst HasLimits same
+        (both (is_limit (unwrap_or time (pos 604800000))) (is_limit (unwrap_or size (negsuc 0)))
+        (or_default time (pos 604800000) (named_limit (codes "retention.ms") cs) refl)
+        (or_default size (negsuc 0) (named_limit (codes "retention.bytes") cs) refl))
 
 -- ---- one entry
 

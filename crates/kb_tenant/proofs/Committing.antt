@@ -38,19 +38,19 @@ commit_code v w place group e offset text r code at beside is met =
     ap (λ z. (v, z)) is
     ∙ ap (λ (x : World × Result (Unit {0}) CatalogFault). (x.0, code_in x.1)) (met ∙ ap (λ z. commit w place group z text) at ∙ ap (λ s. commit w place group e.offset s) beside)
 
-pub fault_told : (a b : Scene Seen) (end : ℕ) (P Q : Type 0) (r : Result (Unit {0}) CatalogFault) (code : ℤ) → (P → Q) → code ≡ code_in r → Tells a b P (IsCatalogWant end a b) r → IsTold a b Q (IsFaultOf end a b code)
-fault_told a b end P Q (Ok u) code f is told = inl (done_so a b P Q f told)
-fault_told a b end P Q (Err g) code f is told =
+pub fault_told : (a b : Scene Seen) (Want : CatalogFault → Type 0) (P Q : Type 0) (r : Result (Unit {0}) CatalogFault) (code : ℤ) → (P → Q) → code ≡ code_in r → Tells a b P Want r → IsTold a b Q (IsFaultOf Want code)
+fault_told a b Want P Q (Ok u) code f is told = inl (done_so a b P Q f told)
+fault_told a b Want P Q (Err g) code f is told =
     ⊎_elim
     (λ own. inl (done_so a b P Q f own))
     (λ wanted. inr (record { want = record { fault = g; told = is; want = wanted.want }; counted = wanted.counted; stays = wanted.stays }))
     told
 
-pub commit_told : (a b : Scene Seen) (end : ℕ) (place : Place) (group : List ℕ) (e : CommitPartition) (offset : ℤ) (text : List ℕ) (r : Result (Unit {0}) CatalogFault) (code : ℤ)
-    → offset ≡ e.offset → text ≡ metadata_in e.metadata → code ≡ code_in r → Tells a b ((b.state.world, r) ≡ commit a.state.world place group offset text) (IsCatalogWant end a b) r
-    → IsTold a b ((b.state.world, code) ≡ committed_at a.state.world (Some place) group e) (IsFaultOf end a b code)
-commit_told a b end place group e offset text r code at beside is told =
-    fault_told a b end ((b.state.world, r) ≡ commit a.state.world place group offset text) ((b.state.world, code) ≡ committed_at a.state.world (Some place) group e) r code
+pub commit_told : (a b : Scene Seen) (place : Place) (group : List ℕ) (e : CommitPartition) (offset : ℤ) (text : List ℕ) (r : Result (Unit {0}) CatalogFault) (code : ℤ)
+    → offset ≡ e.offset → text ≡ metadata_in e.metadata → code ≡ code_in r → Tells a b ((b.state.world, r) ≡ commit a.state.world place group offset text) (IsCatalogWant a b) r
+    → IsTold a b ((b.state.world, code) ≡ committed_at a.state.world (Some place) group e) (IsFaultOf (IsCatalogWant a b) code)
+commit_told a b place group e offset text r code at beside is told =
+    fault_told a b (IsCatalogWant a b) ((b.state.world, r) ≡ commit a.state.world place group offset text) ((b.state.world, code) ≡ committed_at a.state.world (Some place) group e) r code
     (commit_code b.state.world a.state.world place group e offset text r code at beside is) is told
 
 -- each fault of the catalog has a code that is not 0
@@ -69,8 +69,8 @@ fault_speaks catalog.Store e = absurd cc
 fault_speaks catalog.Memory e = absurd cc
 
 -- what is answered with no error was done
-pub acknowledged : (a b : Scene Seen) (P : Type 0) (end : ℕ) (code : ℤ) → IsTold a b P (IsFaultOf end a b code) → code ≡ pos 0 → IsDone a b P
-acknowledged a b P end code told zero = ⊎_elim (λ done. done) (λ refused. absurd (fault_speaks refused.want.fault (sym refused.want.told ∙ zero))) told
+pub acknowledged : (a b : Scene Seen) (P : Type 0) (Want : CatalogFault → Type 0) (code : ℤ) → IsTold a b P (IsFaultOf Want code) → code ≡ pos 0 → IsDone a b P
+acknowledged a b P Want code told zero = ⊎_elim (λ done. done) (λ refused. absurd (fault_speaks refused.want.fault (sym refused.want.told ∙ zero))) told
 
 -- an entry that the whole request does not refuse, at its place
 pub entry_at : (w : World) (refusal : Option ℤ) (group : List ℕ) (topic : Option ℕ) (e : CommitPartition) (o : Option Place) → refusal ≡ None → o ≡ place_in topic e.partition

@@ -21,7 +21,8 @@ use Rattle.kb_world.specs.Calls.{created_unless}
 use Rattle.kb_world.specs.Tied.{IsTied, counted, partition_count}
 use Rattle.kb_world.specs.World.{World}
 use Rattle.kb_world.specs.declared.place.Place.{Place}
-use Rattle.kb_tenant.specs.CreateTopics.{created_all, created_topic, made_unless, made_with, refusal, settings_in, stands_twice}
+use Rattle.kb_tenant.specs.CreateTopics.{created_all, created_topic, made_unless, made_with, refusal, stands_twice}
+use Rattle.kb_tenant.specs.Settings.{settings_in}
 use Rattle.kb_tenant.proofs.Asked.{IsHeld}
 use Rattle.kb_tenant.proofs.Entries.{counted_inserted, insert_other}
 use Rattle.kb_tenant.proofs.Moves.{Moves, stays_same, turns_move}

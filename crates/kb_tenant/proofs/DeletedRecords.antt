@@ -57,16 +57,21 @@ kept_then start old new kept more =
 
 -- ---- what is written
 
-topic_spelled : (name : List ℕ) (rs : List DeleteRecordsPartitionReply) → string.written name ++ ((count w32).written (length rs) ++ flat_map delete_records_partition_reply.written rs) ≡ delete_records_topic_reply.written (record { name = name; partitions = rs })
+pub topic_spelled : (name : List ℕ) (rs : List DeleteRecordsPartitionReply)
+    → string.written name ++ ((count w32).written (length rs) ++ flat_map delete_records_partition_reply.written rs) ≡
+    delete_records_topic_reply.written (record { name = name; partitions = rs })
 unfolding delete_records_topic_reply sized items
 topic_spelled name rs = refl
 
-reply_spelled : (rs : List DeleteRecordsTopicReply) → int32.written (pos 0) ++ ((count w32).written (length rs) ++ flat_map delete_records_topic_reply.written rs) ≡ delete_records_reply.written (record { throttle_time_ms = pos 0; topics = rs })
+pub reply_spelled : (rs : List DeleteRecordsTopicReply)
+    → int32.written (pos 0) ++ ((count w32).written (length rs) ++ flat_map delete_records_topic_reply.written rs) ≡
+    delete_records_reply.written (record { throttle_time_ms = pos 0; topics = rs })
 unfolding delete_records_reply sized items
 reply_spelled rs = refl
 
 -- a front, a count and answers behind what was written
-behind : {A : Type 0} (write : A → List ℕ) (out front out1 out2 : List ℕ) (n : ℕ) (rs : List A) → out1 ≡ out ++ front → out2 ≡ out1 ++ (count w32).written n → n ≡ length rs
+pub behind : {A : Type 0} (write : A → List ℕ) (out front out1 out2 : List ℕ) (n : ℕ) (rs : List A) → out1 ≡ out ++ front
+    → out2 ≡ out1 ++ (count w32).written n → n ≡ length rs
     → out2 ++ flat_map write rs ≡ out ++ (front ++ ((count w32).written (length rs) ++ flat_map write rs))
 behind write out front out1 out2 n rs first second many =
     ap (λ l. l ++ flat_map write rs) (second ∙ ap (λ l. l ++ (count w32).written n) first)

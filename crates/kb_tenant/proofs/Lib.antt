@@ -38,10 +38,12 @@ pub mod RetainMoves
 pub mod Room
 pub mod ServeMoves
 pub mod Serving
+pub mod Settings
 pub mod Small
 pub mod Spelled
 pub mod Telling
 pub mod Tied
+pub mod Trimming
 pub mod Turning
 pub mod Versions
 pub mod Waiting

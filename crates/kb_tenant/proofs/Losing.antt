@@ -23,9 +23,10 @@ use Rattle.kb_partitions.specs.declared.fault.PartitionFault.TheVariants as part
 use Rattle.kb_world.specs.Calls.{appended_to, created_unless, deleted_at, with_log_at}
 use Rattle.kb_world.specs.World.{World, log_in, place_in}
 use Rattle.kb_world.specs.declared.place.Place.{Place}
-use Rattle.kb_tenant.specs.CreateTopics.{created_all, created_topic, made_unless, made_with, refusal, settings_in, stands_twice}
+use Rattle.kb_tenant.specs.CreateTopics.{created_all, created_topic, made_unless, made_with, refusal, stands_twice}
 use Rattle.kb_tenant.specs.DeleteTopics.{deleted_all, deleted_topic}
 use Rattle.kb_tenant.specs.Produce.{Progress, appended_at, batch_in, decided, known_place, offered_unless, produced, progress, refusal_of, entry_served, served_topic, tried, verdict_on}
+use Rattle.kb_tenant.specs.Settings.{settings_in}
 use Rattle.kb_tenant.specs.Turns.{in_turn}
 use Rattle.kb_tenant.specs.Waiting.{AreNamedApart, HasOwnNames}
 use Rattle.kb_tenant.proofs.OwnNames.{apart_inserted, apart_removed, named_before}

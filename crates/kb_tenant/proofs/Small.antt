@@ -42,13 +42,14 @@ use Rattle.kb_world.specs.Calls.{appended_to, at_clock, created_unless, delete_r
 use Rattle.kb_world.specs.World.{World, log_in, new_world, place_in}
 use Rattle.kb_world.specs.declared.place.Place.{Place}
 use Rattle.kb_tenant.specs.Batches.{HasSmallLogs, IsSmall}
-use Rattle.kb_tenant.specs.CreateTopics.{created_all, created_topic, made_of, made_unless, made_with, refusal, settings_in, stands_twice}
+use Rattle.kb_tenant.specs.CreateTopics.{created_all, created_topic, made_of, made_unless, made_with, refusal, stands_twice}
 use Rattle.kb_tenant.specs.DeleteRecords.{deleted as records_deleted, deleted_all as all_records_deleted, deleted_in, deleted_topic as topic_records_deleted}
 use Rattle.kb_tenant.specs.DeleteTopics.{deleted_all, deleted_topic}
 use Rattle.kb_tenant.specs.InitProducerId.{id_given, id_refused, init_producer_id}
 use Rattle.kb_tenant.specs.Produce.{Progress, appended_at, decided, known_place, offered_unless, produced, progress, read_unless, refusal_of, entry_served, served_topic, tried, verdict_on}
 use Rattle.kb_tenant.specs.OffsetCommit.{committed_all, refusal_of as commit_refusal}
 use Rattle.kb_tenant.specs.Serve.{Outcome, plainly_served as served_by_key}
+use Rattle.kb_tenant.specs.Settings.{settings_in}
 use Rattle.kb_tenant.specs.Turns.{in_turn}
 use Rattle.kb_tenant.specs.declared.node.Node.{Node}
 use Rattle.kb_tenant.proofs.ByRequest.{by_request, of_creations}

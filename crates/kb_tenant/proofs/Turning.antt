@@ -4,7 +4,7 @@ use Rattle.std.specs.List.{flat_map}
 use Rattle.std.proofs.lemmas.List.{append-nil}
 use Rattle.kb_tenant.specs.Turns.{in_turn, written_behind}
 
-drop_past : {E : Type 0} (es : List E) (i : ℕ) → length es ≤ i → drop i es ≡ []
+pub drop_past : {E : Type 0} (es : List E) (i : ℕ) → length es ≤ i → drop i es ≡ []
 drop_past [] zero h = refl
 drop_past [] (suc i) h = refl
 drop_past (e ∷ es) zero h = absurd (omega arith)

@@ -1,6 +1,5 @@
 -- What CreateTopics makes of a world, and its reply (Kafka protocol guide, "The Messages: CreateTopics").
-use Rattle.std.specs.Prelude.{ℕ, ℤ, pos, Bool, false, List, [], ◌∷◌, ◌+◌, length, map, Option, Some, None, Result, Ok, Err, is_some, not, nat_le, option_map, if◌then◌else◌}
-use Rattle.std.specs.Option.{option_and_then}
+use Rattle.std.specs.Prelude.{ℕ, ℤ, pos, Bool, false, List, ◌+◌, length, map, Option, Some, None, Result, Ok, Err, is_some, not, nat_le, if◌then◌else◌}
 use Rattle.std.specs.List.{count_by}
 use Rattle.std.specs.Ordering.{int_eq}
 use Rattle.std.specs.Str.{bytes_eq}
@@ -10,7 +9,6 @@ use Rattle.kb_api_group.specs.ErrorCode.{code_of}
 use Rattle.kb_api_group.specs.declared.error_code.ErrorCode.{ErrorCode}
 use Rattle.kb_api_group.specs.declared.error_code.ErrorCode.TheVariants as codes
 use Rattle.kb_api_data.specs.Layouts.{create_topics_request, create_topics_request_v1, create_topic_reply, create_topic_reply_v1, create_topics_reply, create_topics_reply_v1}
-use Rattle.kb_api_data.specs.declared.create_topics.CreateConfig.{CreateConfig}
 use Rattle.kb_api_data.specs.declared.create_topics.CreateTopic.{CreateTopic}
 use Rattle.kb_api_data.specs.declared.create_topics.CreateTopicsRequest.{CreateTopicsRequest}
 use Rattle.kb_api_data.specs.declared.create_topics.CreateTopicReply.{CreateTopicReply}
@@ -19,29 +17,19 @@ use Rattle.kb_api_data.specs.declared.create_topics_v1.CreateTopicsRequestV1.{Cr
 use Rattle.kb_api_data.specs.declared.create_topics_v1.CreateTopicReplyV1.{CreateTopicReplyV1}
 use Rattle.kb_api_data.specs.declared.create_topics_v1.CreateTopicsReplyV1.{CreateTopicsReplyV1}
 use Rattle.kb_topics.specs.CatalogFault as catalog
-use Rattle.kb_topics.specs.Config.{entry_of, nothing_read, with_entry, config_of}
 use Rattle.kb_topics.specs.Known.{named, is_partition_count}
 use Rattle.kb_topics.specs.Name.{is_legal}
-use Rattle.kb_topics.specs.declared.config.ConfigReader.{ConfigReader}
 use Rattle.kb_topics.specs.declared.config.TopicConfig.{TopicConfig}
 use Rattle.kb_topics.specs.declared.fault.CatalogFault.{CatalogFault}
 use Rattle.kb_topics.specs.declared.fault.CatalogFault.TheVariants as faults
 use Rattle.kb_world.specs.Calls.{create}
+use Rattle.kb_tenant.specs.Settings.{settings_in}
 use Rattle.kb_tenant.specs.Turns.{in_turn}
 use Rattle.kb_world.specs.World.{World}
 
 -- whether a name stands in more than one entry
 abbrev pub stands_twice : List ℕ → List CreateTopic → Bool
 stands_twice name ts = nat_le 2 (count_by (λ (t : CreateTopic). bytes_eq name t.name) ts)
-
--- what was read, and then these settings, if a topic may be given each
-abbrev pub with_settings : ConfigReader → List CreateConfig → Option ConfigReader
-with_settings r [] = Some r
-with_settings r (c ∷ cs) = option_and_then (λ x. with_settings x cs) (with_entry r (entry_of c.name c.value))
-
--- the settings of a topic that is given these; none where it may not be given one of them
-abbrev pub settings_in : List CreateConfig → Option TopicConfig
-settings_in cs = option_map config_of (with_settings nothing_read cs)
 
 -- The first of these that holds: the name stands twice in the request, is not legal, or is there; there are to be fewer than
 -- 1 or more than 64 partitions, or other than one replica of each; brokers are assigned.

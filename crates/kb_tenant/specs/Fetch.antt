@@ -1,7 +1,7 @@
 -- What a fetch is answered, and whether it waits (Kafka protocol guide, "The Messages: Fetch"). From version 5 on a request tells
 -- where a follower's logs start, which nobody asks for here, and a reply where the partition's log does. All else is one.
 use Rattle.std.specs.Prelude.{ℕ, zero, suc, ℤ, pos, negsuc, Bool, true, false, List, [], Option, Some, None, Result, Ok, Err}
-use Rattle.std.specs.Prelude.{length, map, min, nat_le, int_le, not, option_map, ◌+◌, ◌-◌, ◌^◌, ◌≡◌, ◌++◌, ◌==◌, ◌&&◌, ◌||◌, if◌then◌else◌}
+use Rattle.std.specs.Prelude.{length, map, min, nat_le, int_le, not, option_map, ◌+◌, ◌-◌, ◌≡◌, ◌++◌, ◌==◌, ◌&&◌, ◌||◌, if◌then◌else◌}
 use Rattle.std.specs.List.{filter_map, flat_map, list_any, sum_by}
 use Rattle.kb_wire.specs.Codec.{whole}
 use Rattle.kb_wire.specs.declared.fault.WireFault.{WireFault}
@@ -181,9 +181,9 @@ is_ready w r reply deadline =
 abbrev pub has_enough : Given → ℕ → ℕ → Bool
 has_enough g clock deadline = not g.is_asked || g.is_wrong || (g.missing == 0) || nat_le deadline clock
 
--- until when a fetch of this moment waits at most; the clock goes no further than 2^64 - 1
+-- Until when a fetch of this moment waits at most; a time below 0 counts as 0.
 abbrev pub deadline_of : World → FetchRequest → ℕ
-deadline_of w r = min (w.clock + natural r.max_wait_ms) (2 ^ 64 - 1)
+deadline_of w r = w.clock + natural r.max_wait_ms
 
 -- what a fetch is answered, where it waits no longer
 abbrev pub fetch_answer : World → FetchRequest → ℕ → Option FetchReplyV5

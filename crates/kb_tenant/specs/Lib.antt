@@ -14,6 +14,7 @@ pub mod Repeated
 pub mod Replies
 pub mod Room
 pub mod Serve
+pub mod Settings
 pub mod Told
 pub mod Turns
 pub mod Waiting

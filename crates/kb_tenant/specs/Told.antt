@@ -3,9 +3,16 @@
 use Rattle.std.specs.Prelude.{◌≡◌, ◌≤◌, ◌+◌, ◌^◌, ◌⊎◌, ℕ, ℤ, pos, false, List, [], Option, Ok, Err, ⊤}
 use Rattle.kb_wire.specs.Codec.{whole}
 use Rattle.kb_api_data.specs.Layouts.{delete_topics_request, init_producer_id_reply, init_producer_id_request, produce_reply, produce_request}
+use Rattle.kb_api_data.specs.Layouts.{delete_records_reply, delete_records_request}
 use Rattle.kb_api_data.specs.declared.create_topics.CreateTopic.{CreateTopic}
 use Rattle.kb_api_data.specs.declared.create_topics.CreateTopicReply.{CreateTopicReply}
 use Rattle.kb_api_data.specs.declared.create_topics_v1.CreateTopicsRequestV1.{CreateTopicsRequestV1}
+use Rattle.kb_api_data.specs.declared.delete_records.DeleteRecordsPartition.{DeleteRecordsPartition}
+use Rattle.kb_api_data.specs.declared.delete_records.DeleteRecordsPartitionReply.{DeleteRecordsPartitionReply}
+use Rattle.kb_api_data.specs.declared.delete_records.DeleteRecordsReply.{DeleteRecordsReply}
+use Rattle.kb_api_data.specs.declared.delete_records.DeleteRecordsRequest.{DeleteRecordsRequest}
+use Rattle.kb_api_data.specs.declared.delete_records.DeleteRecordsTopic.{DeleteRecordsTopic}
+use Rattle.kb_api_data.specs.declared.delete_records.DeleteRecordsTopicReply.{DeleteRecordsTopicReply}
 use Rattle.kb_api_data.specs.declared.delete_topics.DeleteTopicsRequest.{DeleteTopicsRequest}
 use Rattle.kb_api_data.specs.declared.delete_topics.DeleteTopicReply.{DeleteTopicReply}
 use Rattle.kb_api_data.specs.declared.init_producer_id.InitProducerIdReply.{InitProducerIdReply}
@@ -27,14 +34,17 @@ use Rattle.kb_api_group.specs.declared.offset_commit.CommitTopic.{CommitTopic}
 use Rattle.kb_api_group.specs.declared.offset_commit.CommitTopicReply.{CommitTopicReply}
 use Rattle.kb_store.specs.Disk.{Grew}
 use Rattle.kb_partitions.specs.Scene.{Scene}
+use Rattle.kb_partitions.specs.declared.fault.PartitionFault.{PartitionFault}
+use Rattle.kb_partitions.specs.declared.fault.PartitionFault.TheVariants as partition
 use Rattle.kb_world.specs.Parts.{Seen}
 use Rattle.kb_topics.specs.CatalogFault.{code_of as fault_code}
 use Rattle.kb_topics.specs.declared.fault.CatalogFault.{CatalogFault}
-use Rattle.kb_world.specs.Told.{Failed, IsCatalogWant, IsDone, IsLeft, IsRefused}
+use Rattle.kb_world.specs.Told.{AreInstancesUsedUp, Failed, IsDone, IsLeft, IsLogFull, IsRefused}
 use Rattle.kb_topics.specs.Known.{named}
 use Rattle.kb_world.specs.World.{World}
 use Rattle.kb_world.specs.declared.place.Place.{Place}
 use Rattle.kb_tenant.specs.CreateTopics.{asked_creations, created_topic, creations_in}
+use Rattle.kb_tenant.specs.DeleteRecords.{deletion_answered, deleted}
 use Rattle.kb_tenant.specs.DeleteTopics.{deleted_topic, deletions_in}
 use Rattle.kb_tenant.specs.InitProducerId.{id_refused, init_producer_id}
 use Rattle.kb_tenant.specs.OffsetCommit.{committed_entry, refusal_of as commit_refusal}
@@ -57,11 +67,11 @@ IsTold a b P Want = IsDone a b P ⊎ IsRefused a b Want
 abbrev pub IsAppendWant : Scene Seen → Scene Seen → List Place → List Place → ℤ → Type 0
 IsAppendWant a b old new code = IsCodeWant a b code × (new ≡ old)
 
--- The code is that of a fault of the catalog, whose log ends there, and which there was a want for.
-pub record IsFaultOf (end : ℕ) (a b : Scene Seen) (code : ℤ) : Type 0 where
+-- The code is that of a fault of the catalog, which there was a want for.
+pub record IsFaultOf (Want : CatalogFault → Type 0) (code : ℤ) : Type 0 where
   pub fault : CatalogFault
   pub told : code ≡ fault_code fault
-  pub want : IsCatalogWant end a b fault
+  pub want : Want fault
 
 -- A deletion did what is defined, also where the removal of a file was refused.
 abbrev pub IsDeleted : Scene Seen → Scene Seen → Type 0 → Type 0
@@ -71,31 +81,34 @@ IsDeleted a b P = IsDone a b P ⊎ IsLeft a b P
 abbrev pub IsDeletionTold : Scene Seen → Scene Seen → ℤ → Type 0 → Type 0 → Type 0
 IsDeletionTold a b code P Want = IsTold a b P Want ⊎ ((code ≡ code_of codes.None) × IsLeft a b P)
 
--- a code that is answered for a want: the store failed, the catalog's log is full, or memory ran out
-abbrev pub IsWantCode : ℤ → Type 0
-IsWantCode code = (code ≡ code_of codes.KafkaStorageError) ⊎ (code ≡ code_of codes.UnknownServerError)
+-- A code that is answered for a want: KAFKA_STORAGE_ERROR where the catalog's log or its store failed, which it did, and
+-- UNKNOWN_SERVER_ERROR where memory ran out.
+abbrev pub IsWantCode : Type 0 → ℤ → Type 0
+IsWantCode failed code = ((code ≡ code_of codes.KafkaStorageError) × failed) ⊎ (code ≡ code_of codes.UnknownServerError)
 
 -- ---- topics, producer ids and committed offsets
 
 -- A topic is made, or is refused as is defined; or it is refused for a want, and nothing changes.
-abbrev pub IsCreationTold : List CreateTopic → World → CreateTopic → World → CreateTopicReply → Type 0
-IsCreationTold ts w t v x = ((v, x) ≡ created_topic ts w t) ⊎ ((v ≡ w) × ((x.name ≡ t.name) × IsWantCode x.error_code))
+abbrev pub IsCreationTold : Type 0 → List CreateTopic → World → CreateTopic → World → CreateTopicReply → Type 0
+IsCreationTold failed ts w t v x = ((v, x) ≡ created_topic ts w t) ⊎ ((v ≡ w) × ((x.name ≡ t.name) × IsWantCode failed x.error_code))
 
 -- The same of a topic's deletion.
-abbrev pub IsRemovalTold : World × List Place → List ℕ → World × List Place → DeleteTopicReply → Type 0
-IsRemovalTold s name t x = ((t, x) ≡ deleted_topic s name) ⊎ ((t ≡ s) × ((x.name ≡ name) × IsWantCode x.error_code))
+abbrev pub IsRemovalTold : Type 0 → World × List Place → List ℕ → World × List Place → DeleteTopicReply → Type 0
+IsRemovalTold failed s name t x = ((t, x) ≡ deleted_topic s name) ⊎ ((t ≡ s) × ((x.name ≡ name) × IsWantCode failed x.error_code))
 
 -- The same of an id.
-abbrev pub IsIssueTold : World → InitProducerIdRequest → World → InitProducerIdReply → Type 0
-IsIssueTold w q v x = ((v, x) ≡ init_producer_id w q) ⊎ ((v ≡ w) × ((x ≡ id_refused x.error_code) × IsWantCode x.error_code))
+abbrev pub IsIssueTold : Type 0 → World → InitProducerIdRequest → World → InitProducerIdReply → Type 0
+IsIssueTold failed w q v x = ((v, x) ≡ init_producer_id w q) ⊎ ((v ≡ w) × ((x ≡ id_refused x.error_code) × IsWantCode failed x.error_code))
 
 -- The same of an offset that a group commits.
-abbrev pub IsCommitTold : Option ℤ → List ℕ → Option ℕ → World → CommitPartition → World → CommitPartitionReply → Type 0
-IsCommitTold refusal group topic w e v x = ((v, x) ≡ committed_entry refusal group topic w e) ⊎ ((v ≡ w) × ((x.partition ≡ e.partition) × IsWantCode x.error_code))
+abbrev pub IsCommitTold : Type 0 → Option ℤ → List ℕ → Option ℕ → World → CommitPartition → World → CommitPartitionReply → Type 0
+IsCommitTold failed refusal group topic w e v x =
+    ((v, x) ≡ committed_entry refusal group topic w e) ⊎ ((v ≡ w) × ((x.partition ≡ e.partition) × IsWantCode failed x.error_code))
 
 -- The same of a topic's offsets, one after another.
-abbrev pub IsCommitTopicTold : Option ℤ → List ℕ → World → CommitTopic → World → CommitTopicReply → Type 0
-IsCommitTopicTold refusal group w t v x = (x.name ≡ t.name) × AreServed (IsCommitTold refusal group (named t.name w.known.topics)) w t.partitions v x.partitions
+abbrev pub IsCommitTopicTold : Type 0 → Option ℤ → List ℕ → World → CommitTopic → World → CommitTopicReply → Type 0
+IsCommitTopicTold failed refusal group w t v x =
+    (x.name ≡ t.name) × AreServed (IsCommitTold failed refusal group (named t.name w.known.topics)) w t.partitions v x.partitions
 
 -- ---- Produce
 
@@ -106,6 +119,14 @@ FailedBy before now next = Grew before now ⊎ (2 ^ 64 ≤ next)
 -- they grew from one moment to another, or no file number is left then
 abbrev pub HasFailed : Scene Seen → Scene Seen → Type 0
 HasFailed a b = FailedBy a.disk.failures b.disk.failures b.next
+
+-- The store failed, or the catalog's log has no room for a command in the end.
+abbrev pub CatalogFailed : Scene Seen → Scene Seen → Type 0
+CatalogFailed a b = HasFailed a b ⊎ IsLogFull b
+
+-- The same of topics that are to be made, which are refused also where each instance was given out in the end.
+abbrev pub CreationFailed : Scene Seen → Scene Seen → Type 0
+CreationFailed a b = CatalogFailed a b ⊎ AreInstancesUsedUp b
 
 -- An entry is refused since the store failed, which it did, or for want of memory.
 abbrev pub IsWanting : Type 0 → ProducePartition → ProducePartitionReply → Type 0
@@ -151,39 +172,79 @@ IsReplied id Told answers.NoReply = ⊥
 IsReplied id Told answers.Shut = ⊤
 
 -- It is the reply of a CreateTopics, whose topics are so told one after another.
-abbrev pub TellsCreations : ℤ → World → CreateTopicsRequestV1 → World → List ℕ → Type 0
-TellsCreations version w q v body =
-    (replies : List CreateTopicReply) × ((body ≡ creations_in version (record { topics = replies })) × AreServed (IsCreationTold q.topics) w q.topics v replies)
+abbrev pub TellsCreations : Type 0 → ℤ → World → CreateTopicsRequestV1 → World → List ℕ → Type 0
+TellsCreations failed version w q v body = (replies : List CreateTopicReply)
+    × ((body ≡ creations_in version (record { topics = replies })) × AreServed (IsCreationTold failed q.topics) w q.topics v replies)
 
 -- The same of a body, where it is a request of CreateTopics that is not only to be checked.
-abbrev pub AcknowledgesCreations : ℤ → ℤ → World → List ℕ → World → Answer → Type 0
-AcknowledgesCreations id version w body v a =
-    (q : CreateTopicsRequestV1) → asked_creations version body ≡ Ok q → q.validate_only ≡ false → IsReplied id (TellsCreations version w q v) a
+abbrev pub AcknowledgesCreations : Type 0 → ℤ → ℤ → World → List ℕ → World → Answer → Type 0
+AcknowledgesCreations failed id version w body v a =
+    (q : CreateTopicsRequestV1) → asked_creations version body ≡ Ok q → q.validate_only ≡ false → IsReplied id (TellsCreations failed version w q v) a
 
 -- It is the reply of a DeleteTopics.
-abbrev pub TellsRemovals : ℤ → World → DeleteTopicsRequest → World → List Place → List ℕ → Type 0
-TellsRemovals version w q v touched body =
-    (replies : List DeleteTopicReply) × ((body ≡ deletions_in version (record { topics = replies })) × AreServed IsRemovalTold (w, []) q.names (v, touched) replies)
+abbrev pub TellsRemovals : Type 0 → ℤ → World → DeleteTopicsRequest → World → List Place → List ℕ → Type 0
+TellsRemovals failed version w q v touched body = (replies : List DeleteTopicReply)
+    × ((body ≡ deletions_in version (record { topics = replies })) × AreServed (IsRemovalTold failed) (w, []) q.names (v, touched) replies)
 
 -- The same of a body, where it is a request of DeleteTopics.
-abbrev pub AcknowledgesRemovals : ℤ → ℤ → World → List ℕ → World → List Place → Answer → Type 0
-AcknowledgesRemovals id version w body v touched a =
-    (q : DeleteTopicsRequest) → whole delete_topics_request body ≡ Ok q → IsReplied id (TellsRemovals version w q v touched) a
+abbrev pub AcknowledgesRemovals : Type 0 → ℤ → ℤ → World → List ℕ → World → List Place → Answer → Type 0
+AcknowledgesRemovals failed id version w body v touched a =
+    (q : DeleteTopicsRequest) → whole delete_topics_request body ≡ Ok q → IsReplied id (TellsRemovals failed version w q v touched) a
 
 -- It is the reply of an InitProducerId.
-abbrev pub TellsIssue : World → InitProducerIdRequest → World → List ℕ → Type 0
-TellsIssue w q v body = (reply : InitProducerIdReply) × ((body ≡ init_producer_id_reply.written reply) × IsIssueTold w q v reply)
+abbrev pub TellsIssue : Type 0 → World → InitProducerIdRequest → World → List ℕ → Type 0
+TellsIssue failed w q v body = (reply : InitProducerIdReply) × ((body ≡ init_producer_id_reply.written reply) × IsIssueTold failed w q v reply)
 
 -- The same of a body, where it is a request of InitProducerId.
-abbrev pub AcknowledgesIssue : ℤ → World → List ℕ → World → Answer → Type 0
-AcknowledgesIssue id w body v a = (q : InitProducerIdRequest) → whole init_producer_id_request body ≡ Ok q → IsReplied id (TellsIssue w q v) a
+abbrev pub AcknowledgesIssue : Type 0 → ℤ → World → List ℕ → World → Answer → Type 0
+AcknowledgesIssue failed id w body v a =
+    (q : InitProducerIdRequest) → whole init_producer_id_request body ≡ Ok q → IsReplied id (TellsIssue failed w q v) a
 
 -- It is the reply of an OffsetCommit, where groups have no members.
-abbrev pub TellsCommits : World → OffsetCommitRequest → World → List ℕ → Type 0
-TellsCommits w q v body =
+abbrev pub TellsCommits : Type 0 → World → OffsetCommitRequest → World → List ℕ → Type 0
+TellsCommits failed w q v body =
     (reply : OffsetCommitReply) × ((body ≡ offset_commit_reply.written reply)
-    × AreServed (IsCommitTopicTold (commit_refusal q.group_id q.generation_id) q.group_id) w q.topics v reply.topics)
+    × AreServed (IsCommitTopicTold failed (commit_refusal q.group_id q.generation_id) q.group_id) w q.topics v reply.topics)
 
 -- The same of a body, where it is a request of OffsetCommit.
-abbrev pub AcknowledgesCommits : ℤ → World → List ℕ → World → Answer → Type 0
-AcknowledgesCommits id w body v a = (q : OffsetCommitRequest) → whole offset_commit_request body ≡ Ok q → IsReplied id (TellsCommits w q v) a
+abbrev pub AcknowledgesCommits : Type 0 → ℤ → World → List ℕ → World → Answer → Type 0
+AcknowledgesCommits failed id w body v a =
+    (q : OffsetCommitRequest) → whole offset_commit_request body ≡ Ok q → IsReplied id (TellsCommits failed w q v) a
+
+-- ---- DeleteRecords
+
+-- A partition's answer is a refusal's, for a fault that there was a want for.
+pub record IsRefusalFor (Want : PartitionFault → Type 0) (partition : ℤ) (x : DeleteRecordsPartitionReply) : Type 0 where
+  pub fault : PartitionFault
+  pub told : x ≡ deletion_answered partition (Err fault)
+  pub want : Want fault
+
+-- An entry is refused since the store or the catalog's log failed, which it did, or for want of memory.
+abbrev pub IsUntrimmed : Type 0 → DeleteRecordsPartition → DeleteRecordsPartitionReply → Type 0
+IsUntrimmed failed e x =
+    ((x ≡ deletion_answered e.partition (Err partition.Store)) × failed) ⊎ (x ≡ deletion_answered e.partition (Err partition.Memory))
+
+-- An entry of the topic of an instance does what is defined, on what those before it left; or it is refused for such a want, and
+-- changes nothing.
+abbrev pub IsTrimTold : Type 0 → Option ℕ → World × List Place → DeleteRecordsPartition → World × List Place → DeleteRecordsPartitionReply
+    → Type 0
+IsTrimTold failed topic s e t x = ((t, x) ≡ deleted topic s e) ⊎ ((t ≡ s) × IsUntrimmed failed e x)
+
+-- The same of a topic's entries, one after another.
+abbrev pub IsTrimTopicTold : Type 0 → World × List Place → DeleteRecordsTopic → World × List Place → DeleteRecordsTopicReply → Type 0
+IsTrimTopicTold failed s e t x =
+    (x.name ≡ e.name) × AreServed (IsTrimTold failed (named e.name s.0.known.topics)) s e.partitions t x.partitions
+
+-- The same of a request's topics.
+abbrev pub AreTrimsTold : Type 0 → World × List Place → DeleteRecordsRequest → World × List Place → DeleteRecordsReply → Type 0
+AreTrimsTold failed s q t x = (x.throttle_time_ms ≡ pos 0) × AreServed (IsTrimTopicTold failed) s q.topics t x.topics
+
+-- It is the reply of a DeleteRecords.
+abbrev pub TellsDeletions : Type 0 → World → DeleteRecordsRequest → World → List Place → List ℕ → Type 0
+TellsDeletions failed w q v touched body =
+    (reply : DeleteRecordsReply) × ((body ≡ delete_records_reply.written reply) × AreTrimsTold failed (w, []) q (v, touched) reply)
+
+-- The same of a body, where it is a request of DeleteRecords.
+abbrev pub AcknowledgesDeletions : Type 0 → ℤ → World → List ℕ → World → List Place → Answer → Type 0
+AcknowledgesDeletions failed id w body v touched a =
+    (q : DeleteRecordsRequest) → whole delete_records_request body ≡ Ok q → IsReplied id (TellsDeletions failed w q v touched) a

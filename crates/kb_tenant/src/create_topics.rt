@@ -7,13 +7,14 @@ ghost use Rattle.kb_partitions.specs.Scene.{WhereHonest};
 ghost use Rattle.kb_store.specs.Disk.{Files};
 ghost use Rattle.kb_wire.specs.Codec.{string};
 ghost use Rattle.kb_wire.specs.Reads.{ReadsWhole};
-ghost use Rattle.kb_tenant.specs.CreateTopics.{asked_creations, checked_all, checked_unless, code_in, created_all, creation_in, creations_in, made, made_of, refusal, settings_in};
-ghost use Rattle.kb_tenant.specs.Told.{IsCreationTold, IsFaultOf, IsTold};
+ghost use Rattle.kb_tenant.specs.CreateTopics.{asked_creations, checked_all, checked_unless, code_in, created_all, creation_in, creations_in, made, made_of, refusal};
+ghost use Rattle.kb_tenant.specs.Settings.{settings_in};
+ghost use Rattle.kb_tenant.specs.Told.{CreationFailed, IsCreationTold, IsFaultOf, IsTold};
 ghost use Rattle.kb_tenant.specs.Turns.{AreServed};
-ghost use Rattle.kb_world.specs.Parts.{meta, scene, world_of};
+ghost use Rattle.kb_world.specs.Parts.{scene, world_of};
 ghost use Rattle.kb_world.specs.Steps.{IsStep, Meets};
 ghost use Rattle.kb_world.specs.Tied.{IsTied};
-ghost use Rattle.kb_world.specs.Told.{IsDone};
+ghost use Rattle.kb_world.specs.Told.{IsCreationWant, IsDone};
 
 use crate::repeated::Repeated;
 use kb_api_data::{
@@ -90,7 +91,7 @@ fn create_topic<L: PartitionLog + Drop, S: Store>(
     ensures meets { let a = scene L.log S.disk parts.old shelf.old in let b = scene L.log S.disk parts.new shelf.new in
         Meets a b ((b.state.world, result) ≡ made repeated a.state.world topic.now) }
     ensures told { let a = scene L.log S.disk parts.old shelf.old in let b = scene L.log S.disk parts.new shelf.new in
-        IsTold a b ((b.state.world, result) ≡ made repeated a.state.world topic.now) (IsFaultOf (meta L.log parts.old).end a b result) }
+        IsTold a b ((b.state.world, result) ≡ made repeated a.state.world topic.now) (IsFaultOf (IsCreationWant a b) result) }
     // A topic that is answered with no error is in the catalog, whatever else was refused.
     ensures acknowledged { let a = scene L.log S.disk parts.old shelf.old in let b = scene L.log S.disk parts.new shelf.new in
         result ≡ pos 0 → IsDone a b ((b.state.world, result) ≡ made repeated a.state.world topic.now) }
@@ -214,7 +215,7 @@ pub fn create_topics<L: PartitionLog + Drop, S: Store>(
     // A topic that is answered with no error is in the catalog, whatever else was refused.
     ensures told { OnOk result (let a = scene L.log S.disk parts.old shelf.old in let b = scene L.log S.disk parts.new shelf.new in
         WhereHonest a b ((replies : List CreateTopicReply) × ((sink.new.bytes ≡ sink.old.bytes ++ creations_in version (record { topics = replies }))
-        × AreServed (IsCreationTold request.now.topics) a.state.world request.now.topics b.state.world replies))) }
+        × AreServed (IsCreationTold (CreationFailed a b) request.now.topics) a.state.world request.now.topics b.state.world replies))) }
 {
     let topics = request.topics.as_slice();
     let repeated = Repeated::among(alloc, topics)?;

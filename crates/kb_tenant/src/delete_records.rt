@@ -1,9 +1,15 @@
 //! DeleteRecords, version 0 (Kafka protocol guide): the starts of partitions move, one after another.
-ghost use Rattle.std.specs.Prelude.{◌≡◌, ◌++◌, ℕ, List, length, take, OnOk};
+ghost use Rattle.std.specs.Prelude.{◌≡◌, ◌++◌, ℕ, List, length, pos, take, OnOk};
+ghost use Rattle.std.specs.List.{flat_map};
 ghost use Rattle.kb_api_data.specs.Layouts.{delete_records_partition_reply, delete_records_reply, delete_records_request, delete_records_topic, delete_records_topic_reply};
+ghost use Rattle.kb_api_data.specs.declared.delete_records.DeleteRecordsPartitionReply.{DeleteRecordsPartitionReply};
+ghost use Rattle.kb_api_data.specs.declared.delete_records.DeleteRecordsReply.{DeleteRecordsReply};
+ghost use Rattle.kb_api_data.specs.declared.delete_records.DeleteRecordsTopicReply.{DeleteRecordsTopicReply};
+ghost use Rattle.kb_partitions.specs.Scene.{WhereHonest};
 ghost use Rattle.kb_tenant.specs.DeleteRecords.{deletion_answered as answered_with, deleted, deleted_all, deleted_at, deleted_topic, told};
-ghost use Rattle.kb_tenant.specs.Turns.{in_turn, written_behind};
-ghost use Rattle.kb_world.specs.Parts.{meta, scene};
+ghost use Rattle.kb_tenant.specs.Told.{AreTrimsTold, CatalogFailed, IsDeleted, IsDeletionTold, IsRefusalFor, IsTrimTold, IsTrimTopicTold};
+ghost use Rattle.kb_tenant.specs.Turns.{in_turn, written_behind, AreServed};
+ghost use Rattle.kb_world.specs.Parts.{scene};
 ghost use Rattle.kb_world.specs.Steps.{IsStep, Meets};
 ghost use Rattle.kb_world.specs.Told.{Deletes, IsDeletionWant};
 ghost use Rattle.kb_world.specs.World.{World};
@@ -54,7 +60,7 @@ fn delete_at<L: PartitionLog + Drop, S: Store>(
     ensures meets { let a = scene L.log S.disk parts.old shelf.old in let b = scene L.log S.disk parts.new shelf.new in
         Meets a b (((b.state.world, touched.new.items), result) ≡ deleted_at (a.state.world, touched.old.items) place offset) }
     ensures told { let a = scene L.log S.disk parts.old shelf.old in let b = scene L.log S.disk parts.new shelf.new in
-        Deletes a b (((b.state.world, touched.new.items), result) ≡ deleted_at (a.state.world, touched.old.items) place offset) (IsDeletionWant (meta L.log parts.old).end a b) result }
+        Deletes a b (((b.state.world, touched.new.items), result) ≡ deleted_at (a.state.world, touched.old.items) place offset) (IsDeletionWant a b) result }
 {
     if touched.reserve(1).is_err() {
         parts.refuse();
@@ -78,6 +84,14 @@ fn delete_entry<L: PartitionLog + Drop, S: Store>(
     ensures kept { take (length touched.old.items) touched.new.items ≡ touched.old.items }
     ensures meets { let a = scene L.log S.disk parts.old shelf.old in let b = scene L.log S.disk parts.new shelf.new in
         Meets a b (((b.state.world, touched.new.items), result) ≡ deleted topic (a.state.world, touched.old.items) entry.now) }
+    ensures told { let a = scene L.log S.disk parts.old shelf.old in let b = scene L.log S.disk parts.new shelf.new in
+        IsDeletionTold a b result.error_code
+        (((b.state.world, touched.new.items), result) ≡ deleted topic (a.state.world, touched.old.items) entry.now)
+        (IsRefusalFor (IsDeletionWant a b) entry.now.partition result × (touched.new.items ≡ touched.old.items)) }
+    // Records that are answered as deleted are, whatever else was refused: the removal of a file, which is counted.
+    ensures acknowledged { let a = scene L.log S.disk parts.old shelf.old in let b = scene L.log S.disk parts.new shelf.new in
+        result.error_code ≡ pos 0 → IsDeleted a b
+        (((b.state.world, touched.new.items), result) ≡ deleted topic (a.state.world, touched.old.items) entry.now) }
 {
     let deleted = match Place::new(topic, entry.partition) {
         Some(place) => delete_at(parts, shelf, place, entry.offset, touched),
@@ -101,6 +115,11 @@ fn delete_entries<L: PartitionLog + Drop, S: Store>(
     ensures meets { OnOk result (let a = scene L.log S.disk parts.old shelf.old in let b = scene L.log S.disk parts.new shelf.new in
         Meets a b (((b.state.world, touched.new.items), sink.new.bytes) ≡ written_behind delete_records_partition_reply.written sink.old.bytes
         (in_turn (deleted topic) (a.state.world, touched.old.items) entries.now))) }
+    ensures told { OnOk result (let a = scene L.log S.disk parts.old shelf.old in let b = scene L.log S.disk parts.new shelf.new in
+        WhereHonest a b ((replies : List DeleteRecordsPartitionReply)
+        × ((sink.new.bytes ≡ sink.old.bytes ++ flat_map delete_records_partition_reply.written replies)
+        × AreServed (IsTrimTold (CatalogFailed a b) topic)
+        (a.state.world, touched.old.items) entries.now (b.state.world, touched.new.items) replies))) }
 {
     for entry in entries {
         let reply = delete_entry(parts, shelf, topic, entry, touched);
@@ -124,6 +143,9 @@ fn delete_in_topic<L: PartitionLog + Drop, S: Store>(
     ensures meets { OnOk result (let a = scene L.log S.disk parts.old shelf.old in let b = scene L.log S.disk parts.new shelf.new in
         let r = deleted_topic (a.state.world, touched.old.items) topic.now in
         Meets a b (◌≡◌ {A = (World × List Place) × List ℕ} ((b.state.world, touched.new.items), sink.new.bytes) (r.0, sink.old.bytes ++ delete_records_topic_reply.written r.1))) }
+    ensures told { OnOk result (let a = scene L.log S.disk parts.old shelf.old in let b = scene L.log S.disk parts.new shelf.new in
+        WhereHonest a b ((reply : DeleteRecordsTopicReply) × ((sink.new.bytes ≡ sink.old.bytes ++ delete_records_topic_reply.written reply)
+        × IsTrimTopicTold (CatalogFailed a b) (a.state.world, touched.old.items) topic.now (b.state.world, touched.new.items) reply))) }
 {
     let name = topic.name.as_str();
     sink.put_string(name)?;
@@ -159,6 +181,10 @@ pub(crate) fn delete_records<L: PartitionLog + Drop, S: Store>(
         let r = deleted_all (a.state.world, touched.old.items) request.now in
         Meets a b ((b.state.world ≡ r.0.0) × (touched.new.items ≡ r.0.1)
         × (sink.new.bytes ≡ sink.old.bytes ++ delete_records_reply.written r.1))) }
+    // Records that are answered as deleted are, whatever else was refused.
+    ensures told { OnOk result (let a = scene L.log S.disk parts.old shelf.old in let b = scene L.log S.disk parts.new shelf.new in
+        WhereHonest a b ((reply : DeleteRecordsReply) × ((sink.new.bytes ≡ sink.old.bytes ++ delete_records_reply.written reply)
+        × AreTrimsTold (CatalogFailed a b) (a.state.world, touched.old.items) request.now (b.state.world, touched.new.items) reply))) }
 {
     sink.put_i32(0)?;
     sink.put_count(request.topics.len())?;

@@ -6,10 +6,11 @@ ghost use Rattle.kb_partitions.specs.Scene.{WhereHonest};
 ghost use Rattle.kb_store.specs.Disk.{Files};
 ghost use Rattle.kb_api_data.specs.Layouts.{delete_topics_request};
 ghost use Rattle.kb_tenant.specs.DeleteTopics.{places_at, places_named, told_if, deleted, deleted_all, deletions_in, throttle_in};
-ghost use Rattle.kb_tenant.specs.Told.{IsDeleted, IsDeletionTold, IsFaultOf, IsRemovalTold};
+ghost use Rattle.kb_tenant.specs.Told.{CatalogFailed, IsDeleted, IsDeletionTold, IsFaultOf, IsRemovalTold};
 ghost use Rattle.kb_tenant.specs.Turns.{AreServed};
-ghost use Rattle.kb_world.specs.Parts.{meta, scene, world_of};
+ghost use Rattle.kb_world.specs.Parts.{scene, world_of};
 ghost use Rattle.kb_world.specs.Steps.{IsStep, Meets};
+ghost use Rattle.kb_world.specs.Told.{IsCatalogWant};
 
 use kb_api_data::{DeleteTopicReply, DeleteTopicsRequest};
 use kb_api_group::ErrorCode;
@@ -58,7 +59,7 @@ fn delete_topic<L: PartitionLog + Drop, S: Store>(
         Meets a b (((b.state.world, touched.new.items), result) ≡ deleted (a.state.world, touched.old.items) name.now) }
     ensures answered { let a = scene L.log S.disk parts.old shelf.old in let b = scene L.log S.disk parts.new shelf.new in
         IsDeletionTold a b result (((b.state.world, touched.new.items), result) ≡ deleted (a.state.world, touched.old.items) name.now)
-        (IsFaultOf (meta L.log parts.old).end a b result × (touched.new.items ≡ touched.old.items)) }
+        (IsFaultOf (IsCatalogWant a b) result × (touched.new.items ≡ touched.old.items)) }
     // A topic that is answered with no error is gone, whatever else was refused: the removal of a file, which is counted.
     ensures acknowledged { let a = scene L.log S.disk parts.old shelf.old in let b = scene L.log S.disk parts.new shelf.new in
         result ≡ pos 0 → IsDeleted a b (((b.state.world, touched.new.items), result) ≡ deleted (a.state.world, touched.old.items) name.now) }
@@ -114,7 +115,7 @@ pub fn delete_topics<L: PartitionLog + Drop, S: Store>(
     // A topic that is answered with no error is gone, whatever else was refused.
     ensures told { OnOk result (let a = scene L.log S.disk parts.old shelf.old in let b = scene L.log S.disk parts.new shelf.new in
         WhereHonest a b ((replies : List DeleteTopicReply) × ((sink.new.bytes ≡ sink.old.bytes ++ deletions_in version (record { topics = replies }))
-        × AreServed IsRemovalTold (a.state.world, touched.old.items) request.now.names (b.state.world, touched.new.items) replies))) }
+        × AreServed (IsRemovalTold (CatalogFailed a b)) (a.state.world, touched.old.items) request.now.names (b.state.world, touched.new.items) replies))) }
 {
     let names = request.names.as_slice();
     put_throttle(version, sink)?;

@@ -1,5 +1,5 @@
 //! A request of a tenant, by its key.
-ghost use Rattle.std.specs.Prelude.{◌≡◌, [], pos, IfOk, OnErr};
+ghost use Rattle.std.specs.Prelude.{◌≡◌, ◌≤◌, ◌^◌, [], pos, IfOk, OnErr};
 ghost use Rattle.kb_wire.specs.Codec.{string, whole};
 ghost use Rattle.kb_api_data.specs.Layouts.{produce_request, list_offsets_request, metadata_request, create_topics_request, delete_records_request, delete_topics_request, init_producer_id_request};
 ghost use Rattle.kb_store.specs.Disk.{Files};
@@ -10,7 +10,8 @@ ghost use Rattle.kb_tenant.specs.CreateTopics.{asked_creations};
 ghost use Rattle.kb_tenant.specs.Fetch.{asked_fetch};
 ghost use Rattle.kb_tenant.specs.Metadata.{asked_metadata};
 ghost use Rattle.kb_tenant.specs.Replies.{IsAnswer};
-ghost use Rattle.kb_tenant.specs.Told.{HasFailed, Acknowledges, AcknowledgesCommits, AcknowledgesCreations, AcknowledgesIssue, AcknowledgesRemovals, IsSpared};
+ghost use Rattle.kb_tenant.specs.Told.{CatalogFailed, CreationFailed, HasFailed, Acknowledges, AcknowledgesCommits, AcknowledgesCreations, AcknowledgesIssue, AcknowledgesRemovals, IsSpared};
+ghost use Rattle.kb_tenant.specs.Told.{AcknowledgesDeletions};
 ghost use Rattle.kb_tenant.specs.Serve.{if_read, of_produce, of_fetch, of_list_offsets, of_metadata, of_create_topics, of_delete_records, of_delete_topics, of_init_producer_id, plainly_served, looked, stays, IsOutcome, IsServed};
 
 use crate::answer::{Answer, begin, finish};
@@ -81,7 +82,8 @@ fn serve_a_fetch<L: PartitionLog + Drop, S: Store>(
     shelf: &mut Shelf<S>,
     request: &Request<'_>,
 ) -> Result<Answer, ReadFault>
-    requires { (scene L.log S.disk parts.old shelf.old).sound }
+    requires clock { (scene L.log S.disk parts.old shelf.old).state.world.clock ≤ 2 ^ 62 }
+    requires sound { (scene L.log S.disk parts.old shelf.old).sound }
     ensures step { IsStep (scene L.log S.disk parts.old shelf.old) (scene L.log S.disk parts.new shelf.new) }
     ensures meets { let a = scene L.log S.disk parts.old shelf.old in let b = scene L.log S.disk parts.new shelf.new in
         Meets a b (IsServed request.now.correlation_id (if_read a.state.world (asked_fetch request.now.api_version request.now.body.now) (of_fetch request.now.api_version a.state.world)) b.state.world [] result) }
@@ -142,7 +144,7 @@ fn serve_create_topics<L: PartitionLog + Drop, S: Store>(
     ensures meets { let a = scene L.log S.disk parts.old shelf.old in let b = scene L.log S.disk parts.new shelf.new in
         Meets a b (IsServed request.now.correlation_id (if_read a.state.world (asked_creations request.now.api_version request.now.body.now) (of_create_topics request.now.api_version a.state.world)) b.state.world [] result) }
     ensures acknowledged { let a = scene L.log S.disk parts.old shelf.old in let b = scene L.log S.disk parts.new shelf.new in
-        IfOk result (λ answer. WhereHonest a b (AcknowledgesCreations request.now.correlation_id request.now.api_version a.state.world request.now.body.now b.state.world answer)) }
+        IfOk result (λ answer. WhereHonest a b (AcknowledgesCreations (CreationFailed a b) request.now.correlation_id request.now.api_version a.state.world request.now.body.now b.state.world answer)) }
 {
     let version = request.api_version;
     let asked = read_create_topics(alloc, version, request.body)?;
@@ -169,7 +171,7 @@ fn serve_delete_topics<L: PartitionLog + Drop, S: Store>(
     ensures meets { let a = scene L.log S.disk parts.old shelf.old in let b = scene L.log S.disk parts.new shelf.new in
         Meets a b (IsServed request.now.correlation_id (if_read a.state.world (whole delete_topics_request request.now.body.now) (of_delete_topics request.now.api_version a.state.world)) b.state.world touched.new.items result) }
     ensures acknowledged { let a = scene L.log S.disk parts.old shelf.old in let b = scene L.log S.disk parts.new shelf.new in
-        IfOk result (λ answer. WhereHonest a b (AcknowledgesRemovals request.now.correlation_id request.now.api_version a.state.world request.now.body.now b.state.world touched.new.items answer)) }
+        IfOk result (λ answer. WhereHonest a b (AcknowledgesRemovals (CatalogFailed a b) request.now.correlation_id request.now.api_version a.state.world request.now.body.now b.state.world touched.new.items answer)) }
 {
     let asked = DeleteTopicsRequest::read(alloc, request.body)?;
     let mut sink = begin(alloc, request.correlation_id)?;
@@ -197,6 +199,9 @@ fn serve_delete_records<L: PartitionLog + Drop, S: Store>(
     ensures step { IsStep (scene L.log S.disk parts.old shelf.old) (scene L.log S.disk parts.new shelf.new) }
     ensures meets { let a = scene L.log S.disk parts.old shelf.old in let b = scene L.log S.disk parts.new shelf.new in
         Meets a b (IsServed request.now.correlation_id (if_read a.state.world (whole delete_records_request request.now.body.now) (of_delete_records a.state.world)) b.state.world touched.new.items result) }
+    ensures acknowledged { let a = scene L.log S.disk parts.old shelf.old in let b = scene L.log S.disk parts.new shelf.new in
+        IfOk result (λ answer. WhereHonest a b (AcknowledgesDeletions (CatalogFailed a b)
+        request.now.correlation_id a.state.world request.now.body.now b.state.world touched.new.items answer)) }
 {
     let asked = DeleteRecordsRequest::read(alloc, request.body)?;
     let mut sink = begin(alloc, request.correlation_id)?;
@@ -216,7 +221,7 @@ fn serve_init_producer_id<L: PartitionLog + Drop, S: Store>(
     ensures meets { let a = scene L.log S.disk parts.old shelf.old in let b = scene L.log S.disk parts.new shelf.new in
         Meets a b (IsServed request.now.correlation_id (if_read a.state.world (whole init_producer_id_request request.now.body.now) (of_init_producer_id a.state.world)) b.state.world [] result) }
     ensures acknowledged { let a = scene L.log S.disk parts.old shelf.old in let b = scene L.log S.disk parts.new shelf.new in
-        IfOk result (λ answer. WhereHonest a b (AcknowledgesIssue request.now.correlation_id a.state.world request.now.body.now b.state.world answer)) }
+        IfOk result (λ answer. WhereHonest a b (AcknowledgesIssue (CatalogFailed a b) request.now.correlation_id a.state.world request.now.body.now b.state.world answer)) }
 {
     let asked = InitProducerIdRequest::read(alloc, request.body)?;
     let mut sink = begin(alloc, request.correlation_id)?;
@@ -236,6 +241,7 @@ fn serve_by_key<L: PartitionLog + Drop, S: Store>(
 ) -> Result<Answer, ReadFault>
     requires untouched { touched.old.items ≡ [] }
     requires host { string.Fits node.now.host }
+    requires clock { (scene L.log S.disk parts.old shelf.old).state.world.clock ≤ 2 ^ 62 }
     requires sound { (scene L.log S.disk parts.old shelf.old).sound }
     ensures step { IsStep (scene L.log S.disk parts.old shelf.old) (scene L.log S.disk parts.new shelf.new) }
     ensures meets { let a = scene L.log S.disk parts.old shelf.old in let b = scene L.log S.disk parts.new shelf.new in
@@ -247,13 +253,16 @@ fn serve_by_key<L: PartitionLog + Drop, S: Store>(
     ensures shut { let a = scene L.log S.disk parts.old shelf.old in let b = scene L.log S.disk parts.new shelf.new in
         request.now.api_key ≡ pos 0 → IfOk result (λ answer. IsSpared a.state.world request.now.body.now b.state.world answer) }
     ensures created { let a = scene L.log S.disk parts.old shelf.old in let b = scene L.log S.disk parts.new shelf.new in
-        request.now.api_key ≡ pos 19 → IfOk result (λ answer. WhereHonest a b (AcknowledgesCreations request.now.correlation_id request.now.api_version a.state.world request.now.body.now b.state.world answer)) }
+        request.now.api_key ≡ pos 19 → IfOk result (λ answer. WhereHonest a b (AcknowledgesCreations (CreationFailed a b) request.now.correlation_id request.now.api_version a.state.world request.now.body.now b.state.world answer)) }
     ensures removed { let a = scene L.log S.disk parts.old shelf.old in let b = scene L.log S.disk parts.new shelf.new in
-        request.now.api_key ≡ pos 20 → IfOk result (λ answer. WhereHonest a b (AcknowledgesRemovals request.now.correlation_id request.now.api_version a.state.world request.now.body.now b.state.world touched.new.items answer)) }
+        request.now.api_key ≡ pos 20 → IfOk result (λ answer. WhereHonest a b (AcknowledgesRemovals (CatalogFailed a b) request.now.correlation_id request.now.api_version a.state.world request.now.body.now b.state.world touched.new.items answer)) }
+    ensures trimmed { let a = scene L.log S.disk parts.old shelf.old in let b = scene L.log S.disk parts.new shelf.new in
+        request.now.api_key ≡ pos 21 → IfOk result (λ answer. WhereHonest a b (AcknowledgesDeletions (CatalogFailed a b)
+        request.now.correlation_id a.state.world request.now.body.now b.state.world touched.new.items answer)) }
     ensures issued { let a = scene L.log S.disk parts.old shelf.old in let b = scene L.log S.disk parts.new shelf.new in
-        request.now.api_key ≡ pos 22 → IfOk result (λ answer. WhereHonest a b (AcknowledgesIssue request.now.correlation_id a.state.world request.now.body.now b.state.world answer)) }
+        request.now.api_key ≡ pos 22 → IfOk result (λ answer. WhereHonest a b (AcknowledgesIssue (CatalogFailed a b) request.now.correlation_id a.state.world request.now.body.now b.state.world answer)) }
     ensures committed { let a = scene L.log S.disk parts.old shelf.old in let b = scene L.log S.disk parts.new shelf.new in
-        request.now.api_key ≡ pos 8 → IfOk result (λ answer. WhereHonest a b (AcknowledgesCommits request.now.correlation_id a.state.world request.now.body.now b.state.world answer)) }
+        request.now.api_key ≡ pos 8 → IfOk result (λ answer. WhereHonest a b (AcknowledgesCommits (CatalogFailed a b) request.now.correlation_id a.state.world request.now.body.now b.state.world answer)) }
 {
     match request.api_key {
         0 => serve_produce(alloc, parts, shelf, request, touched),
@@ -275,7 +284,8 @@ fn serve_by_key<L: PartitionLog + Drop, S: Store>(
 ///
 /// A body that is not the API's, a key that is not a tenant's and a reply whose size does not fit an INT32 shut the
 /// connection. So does want of memory for the read request, the reply or the wait, which is counted; changes that were made
-/// stay. A Produce makes none before it has the memory for its whole reply. The host is to fit a STRING.
+/// stay. A Produce makes none before it has the memory for its whole reply. The host is to fit a STRING, and the clock is at most
+/// 2^62, in milliseconds.
 pub fn serve<L: PartitionLog + Drop, S: Store>(
     alloc: Global,
     parts: &mut Parts<L>,
@@ -284,6 +294,7 @@ pub fn serve<L: PartitionLog + Drop, S: Store>(
     request: &Request<'_>,
 ) -> Served
     requires host { string.Fits node.now.host }
+    requires clock { (scene L.log S.disk parts.old shelf.old).state.world.clock ≤ 2 ^ 62 }
     requires sound { (scene L.log S.disk parts.old shelf.old).sound }
     ensures step { IsStep (scene L.log S.disk parts.old shelf.old) (scene L.log S.disk parts.new shelf.new) }
     ensures meets { let a = scene L.log S.disk parts.old shelf.old in let b = scene L.log S.disk parts.new shelf.new in
@@ -296,16 +307,20 @@ pub fn serve<L: PartitionLog + Drop, S: Store>(
         request.now.api_key ≡ pos 0 → IsSpared a.state.world request.now.body.now b.state.world result.answer }
     // A topic of a CreateTopics that is answered with no error is in the catalog, whatever else was refused.
     ensures created { let a = scene L.log S.disk parts.old shelf.old in let b = scene L.log S.disk parts.new shelf.new in
-        request.now.api_key ≡ pos 19 → WhereHonest a b (AcknowledgesCreations request.now.correlation_id request.now.api_version a.state.world request.now.body.now b.state.world result.answer) }
+        request.now.api_key ≡ pos 19 → WhereHonest a b (AcknowledgesCreations (CreationFailed a b) request.now.correlation_id request.now.api_version a.state.world request.now.body.now b.state.world result.answer) }
     // A topic of a DeleteTopics that is answered with no error is gone.
     ensures removed { let a = scene L.log S.disk parts.old shelf.old in let b = scene L.log S.disk parts.new shelf.new in
-        request.now.api_key ≡ pos 20 → WhereHonest a b (AcknowledgesRemovals request.now.correlation_id request.now.api_version a.state.world request.now.body.now b.state.world result.touched.items result.answer) }
+        request.now.api_key ≡ pos 20 → WhereHonest a b (AcknowledgesRemovals (CatalogFailed a b) request.now.correlation_id request.now.api_version a.state.world request.now.body.now b.state.world result.touched.items result.answer) }
+    // Records that a DeleteRecords answers with no error are deleted.
+    ensures trimmed { let a = scene L.log S.disk parts.old shelf.old in let b = scene L.log S.disk parts.new shelf.new in
+        request.now.api_key ≡ pos 21 → WhereHonest a b (AcknowledgesDeletions (CatalogFailed a b)
+        request.now.correlation_id a.state.world request.now.body.now b.state.world result.touched.items result.answer) }
     // An id that an InitProducerId answers with no error was given out.
     ensures issued { let a = scene L.log S.disk parts.old shelf.old in let b = scene L.log S.disk parts.new shelf.new in
-        request.now.api_key ≡ pos 22 → WhereHonest a b (AcknowledgesIssue request.now.correlation_id a.state.world request.now.body.now b.state.world result.answer) }
+        request.now.api_key ≡ pos 22 → WhereHonest a b (AcknowledgesIssue (CatalogFailed a b) request.now.correlation_id a.state.world request.now.body.now b.state.world result.answer) }
     // An offset of an OffsetCommit that is answered with no error is what the catalog has.
     ensures committed { let a = scene L.log S.disk parts.old shelf.old in let b = scene L.log S.disk parts.new shelf.new in
-        request.now.api_key ≡ pos 8 → WhereHonest a b (AcknowledgesCommits request.now.correlation_id a.state.world request.now.body.now b.state.world result.answer) }
+        request.now.api_key ≡ pos 8 → WhereHonest a b (AcknowledgesCommits (CatalogFailed a b) request.now.correlation_id a.state.world request.now.body.now b.state.world result.answer) }
 {
     let mut touched = Vec::new(alloc);
     match serve_by_key(alloc, parts, shelf, node, request, &mut touched) {

@@ -8,12 +8,12 @@ ghost use Rattle.kb_api_group.specs.declared.offset_commit.OffsetCommitReply.{Of
 ghost use Rattle.kb_partitions.specs.Scene.{WhereHonest};
 ghost use Rattle.kb_tenant.specs.OffsetCommit.{refusal_of as refusal_for, metadata_in as metadata_for, committed_at, committed, committed_entry, committed_topic, committed_all};
 ghost use Rattle.kb_tenant.specs.Produce.{written_next};
-ghost use Rattle.kb_tenant.specs.Told.{IsCommitTold, IsCommitTopicTold, IsFaultOf, IsTold};
+ghost use Rattle.kb_tenant.specs.Told.{CatalogFailed, IsCommitTold, IsCommitTopicTold, IsFaultOf, IsTold};
 ghost use Rattle.kb_tenant.specs.Turns.{in_turn, written_behind, AreServed};
 ghost use Rattle.kb_wire.specs.Codec.{string};
-ghost use Rattle.kb_world.specs.Parts.{meta, scene};
+ghost use Rattle.kb_world.specs.Parts.{scene};
 ghost use Rattle.kb_world.specs.Steps.{IsStep, Meets};
-ghost use Rattle.kb_world.specs.Told.{IsDone};
+ghost use Rattle.kb_world.specs.Told.{IsCatalogWant, IsDone};
 ghost use Rattle.std.specs.Prelude.{Some};
 
 use crate::create_topics::code_in;
@@ -64,7 +64,7 @@ fn commit_at<L: PartitionLog + Drop, S: Store>(
     ensures meets { let a = scene L.log S.disk parts.old shelf.old in let b = scene L.log S.disk parts.new shelf.new in
         Meets a b ((b.state.world, result) ≡ committed_at a.state.world (Some place) group.now entry.now) }
     ensures told { let a = scene L.log S.disk parts.old shelf.old in let b = scene L.log S.disk parts.new shelf.new in
-        IsTold a b ((b.state.world, result) ≡ committed_at a.state.world (Some place) group.now entry.now) (IsFaultOf (meta L.log parts.old).end a b result) }
+        IsTold a b ((b.state.world, result) ≡ committed_at a.state.world (Some place) group.now entry.now) (IsFaultOf (IsCatalogWant a b) result) }
 {
     let metadata = metadata_in(entry);
     code_in(parts.commit(shelf, place, group, entry.offset, metadata))
@@ -85,7 +85,7 @@ fn commit_entry<L: PartitionLog + Drop, S: Store>(
     ensures meets { let a = scene L.log S.disk parts.old shelf.old in let b = scene L.log S.disk parts.new shelf.new in
         Meets a b ((b.state.world, result) ≡ committed refusal group.now topic a.state.world entry.now) }
     ensures told { let a = scene L.log S.disk parts.old shelf.old in let b = scene L.log S.disk parts.new shelf.new in
-        IsTold a b ((b.state.world, result) ≡ committed refusal group.now topic a.state.world entry.now) (IsFaultOf (meta L.log parts.old).end a b result) }
+        IsTold a b ((b.state.world, result) ≡ committed refusal group.now topic a.state.world entry.now) (IsFaultOf (IsCatalogWant a b) result) }
     // An offset that is answered with no error is a command of the catalog, whatever else was refused.
     ensures acknowledged { let a = scene L.log S.disk parts.old shelf.old in let b = scene L.log S.disk parts.new shelf.new in
         result ≡ pos 0 → IsDone a b ((b.state.world, result) ≡ committed refusal group.now topic a.state.world entry.now) }
@@ -116,7 +116,7 @@ fn commit_entries<L: PartitionLog + Drop, S: Store>(
         Meets a b ((b.state.world, sink.new.bytes) ≡ written_behind commit_partition_reply.written sink.old.bytes (in_turn (committed_entry refusal group.now topic) a.state.world entries.now))) }
     ensures told { OnOk result (let a = scene L.log S.disk parts.old shelf.old in let b = scene L.log S.disk parts.new shelf.new in
         WhereHonest a b ((replies : List CommitPartitionReply) × ((sink.new.bytes ≡ sink.old.bytes ++ flat_map commit_partition_reply.written replies)
-        × AreServed (IsCommitTold refusal group.now topic) a.state.world entries.now b.state.world replies))) }
+        × AreServed (IsCommitTold (CatalogFailed a b) refusal group.now topic) a.state.world entries.now b.state.world replies))) }
 {
     for entry in entries {
         let reply = CommitPartitionReply {
@@ -145,7 +145,7 @@ fn commit_topic<L: PartitionLog + Drop, S: Store>(
         Meets a b ((b.state.world, sink.new.bytes) ≡ written_next commit_topic_reply.written sink.old.bytes (committed_topic refusal group.now a.state.world topic.now))) }
     ensures told { OnOk result (let a = scene L.log S.disk parts.old shelf.old in let b = scene L.log S.disk parts.new shelf.new in
         WhereHonest a b ((reply : CommitTopicReply) × ((sink.new.bytes ≡ sink.old.bytes ++ commit_topic_reply.written reply)
-        × IsCommitTopicTold refusal group.now a.state.world topic.now b.state.world reply))) }
+        × IsCommitTopicTold (CatalogFailed a b) refusal group.now a.state.world topic.now b.state.world reply))) }
 {
     sink.put_string(topic.name.as_str())?;
     sink.put_count(topic.partitions.len())?;
@@ -177,7 +177,7 @@ pub fn offset_commit<L: PartitionLog + Drop, S: Store>(
     // An offset that is answered with no error is what the catalog has, whatever else was refused.
     ensures told { OnOk result (let a = scene L.log S.disk parts.old shelf.old in let b = scene L.log S.disk parts.new shelf.new in
         WhereHonest a b ((reply : OffsetCommitReply) × ((sink.new.bytes ≡ sink.old.bytes ++ offset_commit_reply.written reply)
-        × AreServed (IsCommitTopicTold refusal request.now.group_id) a.state.world request.now.topics b.state.world reply.topics))) }
+        × AreServed (IsCommitTopicTold (CatalogFailed a b) refusal request.now.group_id) a.state.world request.now.topics b.state.world reply.topics))) }
 {
     let group = request.group_id.as_str();
     sink.put_count(request.topics.len())?;

@@ -3,7 +3,7 @@ ghost use Rattle.std.specs.Prelude.{◌≡◌, [], IfOk};
 ghost use Rattle.kb_api_group.specs.Layouts.{find_coordinator_request, offset_commit_request, offset_fetch_request};
 ghost use Rattle.kb_store.specs.Disk.{Files};
 ghost use Rattle.kb_partitions.specs.Scene.{WhereHonest};
-ghost use Rattle.kb_tenant.specs.Told.{AcknowledgesCommits};
+ghost use Rattle.kb_tenant.specs.Told.{AcknowledgesCommits, CatalogFailed};
 ghost use Rattle.kb_tenant.specs.Serve.{if_read, of_find_coordinator, of_offset_commit, of_offset_fetch, IsServed};
 ghost use Rattle.kb_wire.specs.Codec.{string, whole};
 ghost use Rattle.kb_world.specs.Parts.{scene, world_of};
@@ -35,7 +35,7 @@ pub(crate) fn serve_offset_commit<L: PartitionLog + Drop, S: Store>(
     ensures meets { let a = scene L.log S.disk parts.old shelf.old in let b = scene L.log S.disk parts.new shelf.new in
         Meets a b (IsServed request.now.correlation_id (if_read a.state.world (whole offset_commit_request request.now.body.now) (of_offset_commit a.state.world)) b.state.world [] result) }
     ensures acknowledged { let a = scene L.log S.disk parts.old shelf.old in let b = scene L.log S.disk parts.new shelf.new in
-        IfOk result (λ answer. WhereHonest a b (AcknowledgesCommits request.now.correlation_id a.state.world request.now.body.now b.state.world answer)) }
+        IfOk result (λ answer. WhereHonest a b (AcknowledgesCommits (CatalogFailed a b) request.now.correlation_id a.state.world request.now.body.now b.state.world answer)) }
 {
     let asked = OffsetCommitRequest::read(alloc, request.body)?;
     let mut sink = begin(alloc, request.correlation_id)?;

@@ -4,10 +4,10 @@ ghost use Rattle.kb_api_data.specs.Layouts.{init_producer_id_reply};
 ghost use Rattle.kb_api_data.specs.declared.init_producer_id.InitProducerIdReply.{InitProducerIdReply};
 ghost use Rattle.kb_partitions.specs.Scene.{WhereHonest};
 ghost use Rattle.kb_tenant.specs.InitProducerId.{id_refused, init_producer_id};
-ghost use Rattle.kb_tenant.specs.Told.{IsFaultOf, IsIssueTold, IsTold};
-ghost use Rattle.kb_world.specs.Parts.{meta, scene};
+ghost use Rattle.kb_tenant.specs.Told.{CatalogFailed, IsFaultOf, IsIssueTold, IsTold};
+ghost use Rattle.kb_world.specs.Parts.{scene};
 ghost use Rattle.kb_world.specs.Steps.{IsStep, Meets};
-ghost use Rattle.kb_world.specs.Told.{IsDone};
+ghost use Rattle.kb_world.specs.Told.{IsCatalogWant, IsDone};
 
 use kb_api_data::{InitProducerIdReply, InitProducerIdRequest};
 use kb_api_group::ErrorCode;
@@ -40,7 +40,7 @@ fn give_id<L: PartitionLog + Drop, S: Store>(
         Meets a b ((b.state.world, result) ≡ init_producer_id a.state.world request.now) }
     ensures told { let a = scene L.log S.disk parts.old shelf.old in let b = scene L.log S.disk parts.new shelf.new in
         IsTold a b ((b.state.world, result) ≡ init_producer_id a.state.world request.now)
-        (IsFaultOf (meta L.log parts.old).end a b result.error_code × (result ≡ id_refused result.error_code)) }
+        (IsFaultOf (IsCatalogWant a b) result.error_code × (result ≡ id_refused result.error_code)) }
     // An id that is answered with no error was given out, whatever else was refused.
     ensures acknowledged { let a = scene L.log S.disk parts.old shelf.old in let b = scene L.log S.disk parts.new shelf.new in
         result.error_code ≡ pos 0 → IsDone a b ((b.state.world, result) ≡ init_producer_id a.state.world request.now) }
@@ -77,7 +77,7 @@ pub fn init_producer_id<L: PartitionLog + Drop, S: Store>(
     // An id that is answered with no error was given out, whatever else was refused.
     ensures told { OnOk result (let a = scene L.log S.disk parts.old shelf.old in let b = scene L.log S.disk parts.new shelf.new in
         WhereHonest a b ((reply : InitProducerIdReply) × ((sink.new.bytes ≡ sink.old.bytes ++ init_producer_id_reply.written reply)
-        × IsIssueTold a.state.world request.now b.state.world reply))) }
+        × IsIssueTold (CatalogFailed a b) a.state.world request.now b.state.world reply))) }
 {
     give_id(parts, shelf, request).write(sink)
 }

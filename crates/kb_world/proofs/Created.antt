@@ -83,11 +83,12 @@ module _ {L : Type 0} (log : L → Log) (law : (l : L) → IsLawfulLog (log l)) 
 
   create_move : (AreNamed log (string_bytes p.tenant) p.segment_bytes (entries p) → AreNamed log (string_bytes p.tenant) p.segment_bytes ps.topics.entries)
       → ((recorded : ℕ → ℕ → ℕ) → ((q : ℕ) → recorded (known p.catalog).creates q ≡ 0) → AreStarted log recorded (entries p) → AreStarted log recorded ps.topics.entries)
+      → (log (meta_log changed)).end ≡ (meta log p).end + 1
       → StaysFold (on_shelf (meta log p) d next) (known p.catalog) (on_shelf (log (meta_log changed)) d' next') (known changed) → Resume (meta log p) (log (meta_log changed))
       → (known changed).creates ≡ (known p.catalog).creates + 1 → (known p.catalog).creates < 2 ^ 63 - 1 → count ≤ 64
       → (new : TopicState) → (known changed).topics ≡ insert_entry nat_cmp (known p.catalog).topics (known p.catalog).creates new → new.partitions ≡ replicate count new_partition
       → IsMove (parts.scene_on log p d next) (parts.scene_on log (record p { catalog = changed; partitions = ps }) d' next')
-  create_move named begun fold resumes more left few new topics many = record {
+  create_move named begun longer fold resumes more left few new topics many = record {
     frame = record {
       sound = record {
         catalog = frames.sound;
@@ -120,6 +121,8 @@ module _ {L : Type 0} (log : L → Log) (law : (l : L) → IsLawfulLog (log l)) 
     };
     named = refl;
     grows = omega arith;
+    commands = omega (arith, longer);
+    creates = omega (arith, more);
   }
 
   create_settles : one.Settles (on_shelf (meta log p) d next) (on_shelf (log (meta_log changed)) d' next') → Settles (parts.scene_on log p d next) (parts.scene_on log (record p { catalog = changed; partitions = ps }) d' next')
@@ -132,11 +135,12 @@ module _ {L : Type 0} (log : L → Log) (law : (l : L) → IsLawfulLog (log l)) 
 
   pub create_step : (AreNamed log (string_bytes p.tenant) p.segment_bytes (entries p) → AreNamed log (string_bytes p.tenant) p.segment_bytes ps.topics.entries)
       → ((recorded : ℕ → ℕ → ℕ) → ((q : ℕ) → recorded (known p.catalog).creates q ≡ 0) → AreStarted log recorded (entries p) → AreStarted log recorded ps.topics.entries)
+      → (log (meta_log changed)).end ≡ (meta log p).end + 1
       → StaysFold (on_shelf (meta log p) d next) (known p.catalog) (on_shelf (log (meta_log changed)) d' next') (known changed) → Resume (meta log p) (log (meta_log changed))
       → ⊥ ⊎ one.Settles (on_shelf (meta log p) d next) (on_shelf (log (meta_log changed)) d' next')
       → (known changed).creates ≡ (known p.catalog).creates + 1 → (known p.catalog).creates < 2 ^ 63 - 1 → count ≤ 64
       → (new : TopicState) → (known changed).topics ≡ insert_entry nat_cmp (known p.catalog).topics (known p.catalog).creates new → new.partitions ≡ replicate count new_partition
       → IsStep (parts.scene_on log p d next) (parts.scene_on log (record p { catalog = changed; partitions = ps }) d' next')
-  create_step named begun fold resumes settled more left few new topics many =
+  create_step named begun longer fold resumes settled more left few new topics many =
       as_step (parts.scene_on log p d next) (parts.scene_on log (record p { catalog = changed; partitions = ps }) d' next')
-      (create_move named begun fold resumes more left few new topics many) (λ calm. ⊎_elim (λ bad. absurd bad) create_settles settled)
+      (create_move named begun longer fold resumes more left few new topics many) (λ calm. ⊎_elim (λ bad. absurd bad) create_settles settled)

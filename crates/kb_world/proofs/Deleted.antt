@@ -1,5 +1,5 @@
 -- A topic is deleted: its command, and then its partitions go.
-use Rattle.std.proofs.Common.{◌≡◌, ◌∙◌, ◌⊎◌, ⊎_elim, ℕ, Bool, true, false, cond, List, Option, Some, None, sym, ap, refl, subst, length, arith}
+use Rattle.std.proofs.Common.{◌≡◌, ◌∙◌, ◌+◌, ◌⊎◌, ⊎_elim, ℕ, Bool, true, false, cond, List, Option, Some, None, sym, ap, refl, subst, length, arith}
 use Rattle.std.specs.Prelude.{IfSome, option_map}
 use Rattle.std.specs.Ordering.{nat_cmp}
 use Rattle.std.specs.Cmp.{nat_cmp_total, eq_by_cmp_equiv}
@@ -81,13 +81,14 @@ module _ {L : Type 0} (i : ℕ) (es es' : Entries L) (ordered : IsStrictlySorted
 module _ {L : Type 0} (log : L → Log) (law : (l : L) → IsLawfulLog (log l)) (old : Parts L) (changed : Catalog L) (d d' : Disk) (next next' : ℕ) (i : ℕ)
     (sound : IsSound log old d.table next) (new : known changed ≡ without_topic (known old.catalog) i) (gone : topic_at i (known changed).topics ≡ None)
     (frames : Frames (on_shelf (meta log old) d next) (on_shelf (log (meta_log changed)) d' next'))
+    (longer : (log (meta_log changed)).end ≡ (meta log old).end + 1)
     (fold : StaysFold (on_shelf (meta log old) d next) (known old.catalog) (on_shelf (log (meta_log changed)) d' next') (known changed))
     (resumes : Resume (meta log old) (log (meta_log changed))) where
   -- the command was recorded, and the topic's partitions are still there
   pub recorded : IsMove (parts.scene_on log old d next) (untied_on log (recorded_start (known old.catalog)) (record old { catalog = changed }) d' next')
   recorded =
       let same = ap (λ k. k.creates) new in
-      untied_move log law old changed d d' next next' sound frames fold (omega (arith, same)) (omega (arith, same, sound.few)) (as_deleted (known old.catalog) (known changed) i new gone) resumes
+      untied_move log law old changed d d' next next' sound frames (omega (arith, longer)) fold (omega (arith, same)) (omega (arith, same, sound.few)) (as_deleted (known old.catalog) (known changed) i new gone) resumes
 
   module _ (ps : Partitions L) (e : Disk) (last : ℕ) (places : places_of ps.topics.entries ≡ remove_entry (is_at (nat_cmp i)) (places_of (entries old)))
       (frame : Frame (scene_on log (entries old) d' next') (scene_on log ps.topics.entries e last))

@@ -87,6 +87,8 @@ parts_move {L} log law recorded p p' d d' next next' catalog of named unmade sma
       };
       named = ap string_bytes of.0;
       grows = grows;
+      commands = let ends : (meta log p').end ≡ m.end = ap (λ (l : Log). l.end) same in omega (arith, ends);
+      creates = let made = ap (λ c. (known c).creates) catalog in omega (arith, made);
     }
 
 -- what such a call leaves where it was refused nothing
@@ -197,6 +199,8 @@ recast_move {L} log a p q d next c of e until le move =
       };
       named = ap string_bytes of.0 ∙ move.named;
       grows = le;
+      commands = let ends : (meta log q).end ≡ (meta log p).end = ap (λ (l : Log). l.end) m in omega (arith, move.commands, ends);
+      creates = let made = ap (λ (k : Catalog L). (known k).creates) c in omega (arith, move.creates, made);
     }
 
 pub recast_settles : {L : Type 0} (log : L → Log) (a : Scene Seen) (p q : Parts L) (d : Disk) (next : ℕ) → q.catalog ≡ p.catalog → entries q ≡ entries p
@@ -315,6 +319,8 @@ kept_step log a p u d next until step =
       };
       named = step.named;
       grows = step.grows;
+      commands = step.commands;
+      creates = step.creates;
       settles = λ calm. let s = step.settles calm in record { accounts = s.accounts; exact = s.exact };
     }
 

@@ -4,19 +4,21 @@ use Rattle.kb_partitions.specs.Scene.{Scene, Frame, Settles}
 use Rattle.kb_world.specs.Parts.{Seen}
 use Rattle.kb_world.specs.Steps.{IsCalm, IsStep, spares_then}
 
--- What holds before a refusal is counted: whose the parts are; the files of all others are as they were; and the count of refusals has
--- not fallen.
+-- What holds before a refusal is counted: whose the parts are; the files of all others are as they were; and the counts of refusals,
+-- of recorded commands and of topics that were made have not fallen.
 pub record IsMove (a b : Scene Seen) : Type 0 where
   pub frame : Frame a b
   pub named : b.state.tenant ≡ a.state.tenant
   pub grows : a.state.refusals ≤ b.state.refusals
+  pub commands : a.state.commands ≤ b.state.commands
+  pub creates : a.state.world.known.creates ≤ b.state.world.known.creates
 
 pub as_move : (a b : Scene Seen) → IsStep a b → IsMove a b
-as_move a b step = record { frame = step.frame; named = step.named; grows = step.grows }
+as_move a b step = record { frame = step.frame; named = step.named; grows = step.grows; commands = step.commands; creates = step.creates }
 
 -- a call that settles where it was refused nothing
 pub as_step : (a b : Scene Seen) → IsMove a b → (IsCalm a.state.refusals b.state.refusals → Settles a b) → IsStep a b
-as_step a b move settles = record { frame = move.frame; named = move.named; grows = move.grows; settles = settles }
+as_step a b move settles = record { frame = move.frame; named = move.named; grows = move.grows; commands = move.commands; creates = move.creates; settles = settles }
 
 -- one call and then another
 pub move_then : (a b c : Scene Seen) → IsMove a b → IsMove b c → IsMove a c
@@ -29,6 +31,8 @@ move_then a b c p q = record {
   };
   named = q.named ∙ p.named;
   grows = omega (arith, p.grows, q.grows);
+  commands = omega (arith, p.commands, q.commands);
+  creates = omega (arith, p.creates, q.creates);
 }
 
 -- nothing was done

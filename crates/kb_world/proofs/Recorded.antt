@@ -1,5 +1,5 @@
 -- A call for the catalog, as a step of the parts.
-use Rattle.std.proofs.Common.{◌≡◌, ◌∙◌, ◌⊎◌, ⊎_elim, inl, inr, ◌≤◌, ◌<◌, ◌^◌, ℕ, Option, Some, None, Err, sym, ap, refl, arith}
+use Rattle.std.proofs.Common.{◌≡◌, ◌∙◌, ◌⊎◌, ⊎_elim, inl, inr, ◌≤◌, ◌<◌, ◌+◌, ◌^◌, ℕ, Option, Some, None, Err, sym, ap, refl, arith}
 use Rattle.std.specs.Prelude.{Result}
 use Rattle.std.specs.FinMap.{get}
 use Rattle.kb_store.specs.Disk.{Disk, Files}
@@ -51,10 +51,11 @@ module _ {L : Type 0} (log : L → Log) (law : (l : L) → IsLawfulLog (log l)) 
   below file o = (law o.partition.log).given_out d.table next (sound.logs.each o.instance o.number o.partition o.at) file o.own
 
   -- whatever partitions the topics have by then, and wherever they are to start
-  pub untied_move : StaysFold (on_shelf (meta log p) d next) (known p.catalog) (on_shelf (log (meta_log changed)) d' next') (known changed)
+  pub untied_move : (meta log p).end ≤ (log (meta_log changed)).end
+      → StaysFold (on_shelf (meta log p) d next) (known p.catalog) (on_shelf (log (meta_log changed)) d' next') (known changed)
       → (known p.catalog).creates ≤ (known changed).creates → (known changed).creates < 2 ^ 63 → WereThere (known p.catalog) (known changed) → Resume (meta log p) (log (meta_log changed))
       → IsMove (parts.scene_on log p d next) (untied_on log (recorded_start (known p.catalog)) (record p { catalog = changed }) d' next')
-  untied_move fold more few were resumes = record {
+  untied_move longer fold more few were resumes = record {
     frame = record {
       sound = record {
         catalog = frames.sound;
@@ -85,15 +86,18 @@ module _ {L : Type 0} (log : L → Log) (law : (l : L) → IsLawfulLog (log l)) 
     };
     named = refl;
     grows = omega arith;
+    commands = longer;
+    creates = more;
   }
 
   -- each topic has as many partitions as before, which start where they did
-  pub catalog_move : StaysFold (on_shelf (meta log p) d next) (known p.catalog) (on_shelf (log (meta_log changed)) d' next') (known changed)
+  pub catalog_move : (meta log p).end ≤ (log (meta_log changed)).end
+      → StaysFold (on_shelf (meta log p) d next) (known p.catalog) (on_shelf (log (meta_log changed)) d' next') (known changed)
       → counted partition_count (known changed).topics ≡ counted partition_count (known p.catalog).topics
       → (known p.catalog).creates ≤ (known changed).creates → (known changed).creates < 2 ^ 63 → WereThere (known p.catalog) (known changed) → SameStarts (known p.catalog) (known changed)
       → Resume (meta log p) (log (meta_log changed)) → IsMove (parts.scene_on log p d next) (parts.scene_on log (record p { catalog = changed }) d' next')
-  catalog_move fold counts more few were starts resumes =
-      tie log (parts.scene_on log p d next) (recorded_start (known p.catalog)) (record p { catalog = changed }) d' next' (sound.tied ∙ sym counts) starts (untied_move fold more few were resumes)
+  catalog_move longer fold counts more few were starts resumes =
+      tie log (parts.scene_on log p d next) (recorded_start (known p.catalog)) (record p { catalog = changed }) d' next' (sound.tied ∙ sym counts) starts (untied_move longer fold more few were resumes)
 
   -- what the call leaves where it was refused nothing
   pub catalog_settles : one.Settles (on_shelf (meta log p) d next) (on_shelf (log (meta_log changed)) d' next') → Settles (parts.scene_on log p d next) (parts.scene_on log (record p { catalog = changed }) d' next')
@@ -104,28 +108,29 @@ module _ {L : Type 0} (log : L → Log) (law : (l : L) → IsLawfulLog (log l)) 
     exact = λ exact. (settles.exact exact.0, spared.spared_exact log law (entries p) d d' next next' sound.logs frames.others.later lengths contents exact.1);
   }
 
-  pub catalog_step : StaysFold (on_shelf (meta log p) d next) (known p.catalog) (on_shelf (log (meta_log changed)) d' next') (known changed)
+  pub catalog_step : (log (meta_log changed)).end ≡ (meta log p).end + 1
+      → StaysFold (on_shelf (meta log p) d next) (known p.catalog) (on_shelf (log (meta_log changed)) d' next') (known changed)
       → counted partition_count (known changed).topics ≡ counted partition_count (known p.catalog).topics
       → (known p.catalog).creates ≤ (known changed).creates → (known changed).creates < 2 ^ 63 → WereThere (known p.catalog) (known changed) → SameStarts (known p.catalog) (known changed)
       → Resume (meta log p) (log (meta_log changed)) → ⊥ ⊎ one.Settles (on_shelf (meta log p) d next) (on_shelf (log (meta_log changed)) d' next')
       → IsStep (parts.scene_on log p d next) (parts.scene_on log (record p { catalog = changed }) d' next')
-  catalog_step fold counts more few were starts resumes settled =
-      as_step (parts.scene_on log p d next) (parts.scene_on log (record p { catalog = changed }) d' next') (catalog_move fold counts more few were starts resumes)
+  catalog_step longer fold counts more few were starts resumes settled =
+      as_step (parts.scene_on log p d next) (parts.scene_on log (record p { catalog = changed }) d' next') (catalog_move (omega (arith, longer)) fold counts more few were starts resumes)
       (λ calm. ⊎_elim (λ bad. absurd bad) catalog_settles settled)
 
   -- a call that was refused, and whose refusal is counted: what is known is as before
   pub refused_catalog : (T : Type 0) (q : Parts L) → q.catalog ≡ changed → AreOf q p → entries q ≡ entries p → q.kept_until ≡ p.kept_until → p.refusals ≤ q.refusals
-      → (f : CatalogFault) → StaysFold (on_shelf (meta log p) d next) (known p.catalog) (on_shelf (log (meta_log changed)) d' next') (known changed)
+      → (f : CatalogFault) → (log (meta_log changed)).end ≡ (meta log p).end → StaysFold (on_shelf (meta log p) d next) (known p.catalog) (on_shelf (log (meta_log changed)) d' next') (known changed)
       → known changed ≡ known p.catalog → Resume (meta log p) (log (meta_log changed)) → IsWant {T = T} (Err f) ⊎ one.Settles (on_shelf (meta log p) d next) (on_shelf (log (meta_log changed)) d' next')
       → IsStep (parts.scene_on log p d next) (parts.scene_on log (counted_for_catalog f q) d' next')
-  refused_catalog T q catalog of e until le f fold same resumes settled =
+  refused_catalog T q catalog of e until le f as_long fold same resumes settled =
       let a = parts.scene_on log p d next in
       let mid = record p { catalog = changed } in
       let creates = ap (λ (k : Known). k.creates) same in
       let topics = ap (λ (k : Known). k.topics) same in
       counted_step_catalog T log a q d' next' f
       (recast_move log a mid q d' next' catalog of e until le
-      (catalog_move fold (ap (λ (k : Known). counted partition_count k.topics) same) (omega (arith, creates)) (omega (arith, creates, sound.few))
+      (catalog_move (omega (arith, as_long)) fold (ap (λ (k : Known). counted partition_count k.topics) same) (omega (arith, creates)) (omega (arith, creates, sound.few))
       (as_before (known p.catalog) (known changed) topics) (same_topics (known p.catalog) (known changed) topics) resumes))
       (⊎_elim (λ want. inl want) (λ settles. inr (recast_settles log a mid q d' next' catalog e (catalog_settles settles))) settled)
 

@@ -159,6 +159,8 @@ from_untied log p b d next move = record {
   };
   named = move.named;
   grows = move.grows;
+  commands = move.commands;
+  creates = move.creates;
 }
 
 pub tie : {L : Type 0} (log : L → Log) (a : Scene Seen) (recorded : ℕ → ℕ → ℕ) (p : Parts L) (d : Disk) (next : ℕ) → places_of (entries p) ≡ counted partition_count (known p.catalog).topics
@@ -191,6 +193,8 @@ tie log a recorded p d next tied same move =
       };
       named = move.named;
       grows = move.grows;
+      commands = move.commands;
+      creates = move.creates;
     }
 
 -- ---- what the tenant sees

@@ -67,11 +67,13 @@ pub record Agrees {L : Type 0} (log : L → Log) (p : Parts L) (files : Files) :
   pub meta_started : (meta log p).resumes 0
   pub until : AreAllKept p.kept_until (world_of log p files)
 
--- whose the parts are, what the tenant sees, and how many refusals were counted for it
+-- whose the parts are, what the tenant sees, how many refusals were counted for it, and how many commands its meta log has recorded,
+-- which is where that log ends
 pub record Seen : Type 0 where
   pub tenant : List ℕ
   pub world : World
   pub refusals : ℕ
+  pub commands : ℕ
 
 -- the parts with any disk and next file number
 abbrev pub scene_on : {L : Type 0} → (L → Log) → Parts L → Disk → ℕ → Scene Seen
@@ -82,7 +84,7 @@ scene_on log p d next = record {
   agrees = Agrees log p d.files;
   disk = d;
   next = next;
-  state = record { tenant = string_bytes p.tenant; world = world_of log p d.files; refusals = p.refusals };
+  state = record { tenant = string_bytes p.tenant; world = world_of log p d.files; refusals = p.refusals; commands = (meta log p).end };
 }
 
 -- the parts and their shelf at one moment

@@ -11,13 +11,15 @@ pub record IsCalm (old new : ℕ) : Type 0 where
   pub same : new ≡ old
   pub below : old < END
 
--- What each call keeps, also where it is refused: whose the parts are; the files of all others are as they were; and the count of
--- refusals only rises.
+-- What each call keeps, also where it is refused: whose the parts are; the files of all others are as they were; and the counts of
+-- refusals, of recorded commands and of topics that were made only rise.
 -- Where nothing was refused each file is accounted for, and nothing but batches is in the files if it was so before.
 pub record IsStep (a b : Scene Seen) : Type 0 where
   pub frame : Frame a b
   pub named : b.state.tenant ≡ a.state.tenant
   pub grows : a.state.refusals ≤ b.state.refusals
+  pub commands : a.state.commands ≤ b.state.commands
+  pub creates : a.state.world.known.creates ≤ b.state.world.known.creates
   pub settles : IsCalm a.state.refusals b.state.refusals → Settles a b
 
 -- what holds where nothing was refused and the store is honest
@@ -53,6 +55,8 @@ step_same a sound = record {
   };
   named = refl;
   grows = omega arith;
+  commands = omega arith;
+  creates = omega arith;
   settles = λ calm. record { accounts = λ file there not. (there, not); exact = λ exact. exact };
 }
 
@@ -80,6 +84,8 @@ step_then a b c p q = record {
   };
   named = q.named ∙ p.named;
   grows = omega (arith, p.grows, q.grows);
+  commands = omega (arith, p.commands, q.commands);
+  creates = omega (arith, p.creates, q.creates);
   settles = λ calm. let calms = calm_then a.state.refusals b.state.refusals c.state.refusals p.grows q.grows calm in settles_then a b c (p.settles calms.0) (q.settles calms.1);
 }
 

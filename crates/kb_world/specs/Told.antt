@@ -40,18 +40,31 @@ IsWant a b partition.Full = ⊥
 IsWant a b partition.Store = Failed a b
 IsWant a b partition.Memory = Unit {0}
 
--- the same of the catalog, whose log ends there: it is full where the log has no room for a batch, or each instance was given out
-abbrev pub IsCatalogWant : ℕ → Scene Seen → Scene Seen → CatalogFault → Type 0
-IsCatalogWant end a b catalog.Full = (2 ^ 63 ≤ end + 1) ⊎ (2 ^ 63 ≤ a.state.world.known.creates + 1)
-IsCatalogWant end a b catalog.Store = Failed a b
-IsCatalogWant end a b catalog.Memory = Unit {0}
-IsCatalogWant end a b _ = ⊥
+-- the meta log has no room for one more command
+abbrev pub IsLogFull : Scene Seen → Type 0
+IsLogFull a = 2 ^ 63 ≤ a.state.commands + 1
 
--- the same of a deletion of records, which the meta log records, that ends there: it is full, or the store failed
-abbrev pub IsDeletionWant : ℕ → Scene Seen → Scene Seen → PartitionFault → Type 0
-IsDeletionWant end a b partition.Store = Failed a b ⊎ (2 ^ 63 ≤ end + 1)
-IsDeletionWant end a b partition.Memory = Unit {0}
-IsDeletionWant end a b _ = ⊥
+-- each instance of a topic was given out
+abbrev pub AreInstancesUsedUp : Scene Seen → Type 0
+AreInstancesUsedUp a = 2 ^ 63 ≤ a.state.world.known.creates + 1
+
+-- the same of the catalog, which is full where its log is
+abbrev pub IsCatalogWant : Scene Seen → Scene Seen → CatalogFault → Type 0
+IsCatalogWant a b catalog.Full = IsLogFull a
+IsCatalogWant a b catalog.Store = Failed a b
+IsCatalogWant a b catalog.Memory = Unit {0}
+IsCatalogWant a b _ = ⊥
+
+-- the same of a topic that is to be made, for which the catalog is full also where each instance was given out
+abbrev pub IsCreationWant : Scene Seen → Scene Seen → CatalogFault → Type 0
+IsCreationWant a b catalog.Full = IsLogFull a ⊎ AreInstancesUsedUp a
+IsCreationWant a b f = IsCatalogWant a b f
+
+-- the same of a deletion of records, which the meta log records: that is full, or the store failed
+abbrev pub IsDeletionWant : Scene Seen → Scene Seen → PartitionFault → Type 0
+IsDeletionWant a b partition.Store = Failed a b ⊎ IsLogFull a
+IsDeletionWant a b partition.Memory = Unit {0}
+IsDeletionWant a b _ = ⊥
 
 -- An accepted call did what is defined. A refused one is refused by the definition, or for the want that its fault names.
 abbrev pub Tells : {T F : Type 0} → Scene Seen → Scene Seen → Type 0 → (F → Type 0) → Result T F → Type 0

@@ -53,7 +53,7 @@ impl Tenant {
         Ok(Tenant { parts, shelf })
     }
 
-    /// Serves a request.
+    /// Serves a request, at clock 0.
     fn serve(&mut self, alloc: Global, request: &Request<'_>) -> Served
         requires { (scene list_log (λ s. memory_disk s.files.entries) self.old.parts self.old.shelf).sound }
         ensures { (scene list_log (λ s. memory_disk s.files.entries) self.new.parts self.new.shelf).sound }
@@ -62,6 +62,7 @@ impl Tenant {
             host: Text::new("localhost"),
             port: 9092,
         };
+        self.parts.set_clock(0);
         serve(alloc, &mut self.parts, &mut self.shelf, &node, request)
     }
 

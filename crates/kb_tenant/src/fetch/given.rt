@@ -1,5 +1,5 @@
 //! What is left of a fetch's limits.
-ghost use Rattle.std.specs.Prelude.{◌≡◌};
+ghost use Rattle.std.specs.Prelude.{◌≡◌, ◌<◌, ◌^◌};
 ghost use Rattle.kb_batch.specs.Batch.{natural};
 ghost use Rattle.kb_tenant.specs.Fetch.{begun, has_enough, less, limit_of, wrong};
 
@@ -25,7 +25,8 @@ pub(crate) struct Given {
 
 /// A limit or a time of a request; below 0 it counts as 0.
 pub(crate) fn not_negative(n: i32) -> u64
-    ensures { result ≡ natural n }
+    ensures value { result ≡ natural n }
+    ensures small { result < 2 ^ 31 }
 {
     n.max(0) as u64
 }

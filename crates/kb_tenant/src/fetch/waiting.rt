@@ -1,5 +1,5 @@
 //! A fetch that is answered, or waits.
-ghost use Rattle.std.specs.Prelude.{◌≡◌, ◌++◌, IfOk, OnOk};
+ghost use Rattle.std.specs.Prelude.{◌≡◌, ◌≤◌, ◌++◌, ◌^◌, IfOk, OnOk};
 ghost use Rattle.kb_store.specs.Disk.{Files};
 ghost use Rattle.kb_api_data.specs.Layouts.{fetch_request};
 ghost use Rattle.kb_tenant.specs.Fetch.{deadline_of, fetch_answer, look_written, places_in, places_of, IsServed};
@@ -60,11 +60,10 @@ fn places<L: PartitionLog + Drop>(
 
 /// Until when a fetch of this moment waits at most.
 fn deadline<L: PartitionLog + Drop>(parts: &Parts<L>, request: &FetchRequest<'_>) -> u64
+    requires { parts.now.clock ≤ 2 ^ 62 }
     ensures { (files : Files) → result ≡ deadline_of (world_of L.log parts.now files) request.now }
 {
-    parts
-        .clock()
-        .saturating_add(not_negative(request.max_wait_ms))
+    parts.clock() + not_negative(request.max_wait_ms)
 }
 
 /// Looks at a waiting fetch: writes its reply if it waits no longer, and answers whether it did.
@@ -109,6 +108,7 @@ pub(crate) fn serve_fetch<L: PartitionLog + Drop, S: Store>(
     sink: &mut Sink,
 ) -> Result<Fetching, AllocError>
     requires sound { (scene L.log S.disk parts.old shelf.old).sound }
+    requires clock { (scene L.log S.disk parts.old shelf.old).state.world.clock ≤ 2 ^ 62 }
     requires fits { fetch_request.Fits request.now }
     ensures step { IsStep (scene L.log S.disk parts.old shelf.old) (scene L.log S.disk parts.new shelf.new) }
     ensures same { let a = scene L.log S.disk parts.old shelf.old in let b = scene L.log S.disk parts.new shelf.new in

@@ -2,8 +2,10 @@ use Rattle.std.proofs.Common.{◌≡◌, ◌∙◌, ℤ, ap, inl, of_z, refl, ru
 use Rattle.std.proofs.lemmas.Int.{to_z-of_z}
 use Rattle.std.specs.Prelude.{is_some}
 use Rattle.kb_topics.specs.Known.{named}
-use Rattle.kb_tenant.specs.CreateTopics.{made, settings_in}
-use Rattle.kb_world.specs.Parts.{meta, scene, world_of}
+use Rattle.kb_tenant.specs.CreateTopics.{made}
+use Rattle.kb_tenant.specs.Settings.{settings_in}
+use Rattle.kb_world.specs.Parts.{scene, world_of}
+use Rattle.kb_world.specs.Told.{IsCreationWant}
 use Rattle.kb_world.specs.World.{World}
 use Rattle.kb_tenant.proofs.Committing.{acknowledged}
 use Rattle.kb_tenant.proofs.Creating.{made_refused, made_unset, made_set}
@@ -50,7 +52,7 @@ returns-in-Some-clause-acknowledged g c =
     let log = g.L.PartitionLog.log in
     let a = scene log g.S.Store.disk c.args.parts.now c.args.shelf.now in
     let code : ℤ = to_z w16 (of_z w16 c.code.result) in
-    acknowledged a a ((a.state.world, code) ≡ made c.args.repeated a.state.world c.args.topic.now) (meta log c.args.parts.now).end code (returns-in-Some-clause-told g c)
+    acknowledged a a ((a.state.world, code) ≡ made c.args.repeated a.state.world c.args.topic.now) (IsCreationWant a a) code (returns-in-Some-clause-told g c)
 
 pub returns-in_default-settings_in-clause-told : goal.returns-in_default-settings_in-clause-told
 returns-in_default-settings_in-clause-told g c =
@@ -65,7 +67,7 @@ returns-in_default-settings_in-clause-acknowledged g c =
     let log = g.L.PartitionLog.log in
     let a = scene log g.S.Store.disk c.args.parts.now c.args.shelf.now in
     let code : ℤ = to_z w16 (of_z w16 c.code-in_default-settings_in.result) in
-    acknowledged a a ((a.state.world, code) ≡ made c.args.repeated a.state.world c.args.topic.now) (meta log c.args.parts.now).end code (returns-in_default-settings_in-clause-told g c)
+    acknowledged a a ((a.state.world, code) ≡ made c.args.repeated a.state.world c.args.topic.now) (IsCreationWant a a) code (returns-in_default-settings_in-clause-told g c)
 
 pub returns-clause-told : goal.returns-clause-told
 returns-clause-told g c =
@@ -76,7 +78,7 @@ returns-clause-told g c =
     let t = c.args.topic.now in
     let there = c.is_some-exists.ensures ∙ ap is_some (c.topic_named.ensures files) ∙ ap (λ n. is_some (named n w.known.topics)) c.as_str-name.ensures in
     let range : SFits w32 t.num_partitions = search rules in
-    made_told (scene log disk c.args.parts.now c.args.shelf.now) (scene log disk c.create.new.self c.create.new.shelf) (meta log c.args.parts.now).end t c.args.repeated c.is_some-exists.result c.as_str-name.result.now _ c.in-Some-settings_in.config c.create.result _
+    made_told (scene log disk c.args.parts.now c.args.shelf.now) (scene log disk c.create.new.self c.create.new.shelf) t c.args.repeated c.is_some-exists.result c.as_str-name.result.now _ c.in-Some-settings_in.config c.create.result _
     there c.in_default.ensures (c.in-Some-settings_in.ensures ∙ ap settings_in c.as_slice.ensures) c.as_str-name.ensures (to_z-of_z w32 t.num_partitions range)
     (to_z-of_z w16 c.code_in.result (record { sfits = c.code_in.type_inv }) ∙ c.code_in.ensures) c.create.ensures.told
 
@@ -87,4 +89,4 @@ returns-clause-acknowledged g c =
     let a = scene log disk c.args.parts.now c.args.shelf.now in
     let b = scene log disk c.create.new.self c.create.new.shelf in
     let code : ℤ = to_z w16 (of_z w16 c.code_in.result) in
-    acknowledged a b ((b.state.world, code) ≡ made c.args.repeated a.state.world c.args.topic.now) (meta log c.args.parts.now).end code (returns-clause-told g c)
+    acknowledged a b ((b.state.world, code) ≡ made c.args.repeated a.state.world c.args.topic.now) (IsCreationWant a b) code (returns-clause-told g c)

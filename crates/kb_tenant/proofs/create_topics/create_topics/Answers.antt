@@ -1,5 +1,5 @@
 use mir.Val.{to_z, of_z}
-use Rattle.std.proofs.Common.{◌≡◌, ◌∙◌, ◌++◌, [], ◌∷◌, sym, ap, subst, length, w16, List}
+use Rattle.std.proofs.Common.{◌≡◌, ◌∙◌, ◌++◌, [], ◌∷◌, sym, ap, subst, length, take, w16, List}
 use Rattle.std.proofs.lemmas.Int.{to_z-of_z}
 use Rattle.kb_wire.specs.Codec.{array}
 use Rattle.kb_api_data.specs.Layouts.{create_topic}
@@ -7,15 +7,15 @@ use Rattle.kb_api_data.specs.declared.create_topics.CreateTopic.{CreateTopic}
 use Rattle.kb_api_data.specs.declared.create_topics.CreateTopicReply.{CreateTopicReply}
 use Rattle.kb_partitions.specs.Scene.{Scene}
 use Rattle.kb_tenant.specs.CreateTopics.{created_topic, creation_in, creations_in, stands_twice}
-use Rattle.kb_world.specs.Parts.{Seen, meta, scene}
+use Rattle.kb_world.specs.Parts.{Seen, scene}
 use Rattle.kb_world.specs.Steps.{step_then, meets_then, meets_so}
-use Rattle.kb_tenant.specs.Told.{IsCreationTold}
+use Rattle.kb_tenant.specs.Told.{CreationFailed, IsCreationTold}
 use Rattle.kb_tenant.specs.Turns.{in_turn, AreServed}
 use Rattle.kb_world.specs.World.{World}
 use Rattle.kb_tenant.proofs.Acknowledging.{honest_then, served_all, served_length, served_next, written_more}
 use Rattle.kb_tenant.proofs.Creating.{answer_next, answers_over, created_is, name_fits, replies_written, topics_fit}
 use Rattle.kb_tenant.proofs.Replies.{count_fits, item_fits}
-use Rattle.kb_tenant.proofs.Wanted.{creation_told_so}
+use Rattle.kb_tenant.proofs.Wanted.{creation_behind, creation_told_so, creations_before}
 use Rattle.kb_tenant.proofs.create_topics.create_topics.Goals as goal
 
 pub put_count-requires : goal.put_count-requires
@@ -57,13 +57,17 @@ loop-topic-preserved g c =
           (meets_then a b d _ _ c.loop-topic.invariant.step c.create_topic-error_code.ensures.step c.loop-topic.invariant.told c.create_topic-error_code.ensures.meets);
       answers = λ honest agree.
           let reply : CreateTopicReply = record { name = c.as_str-name.result.now; error_code = to_z w16 (of_z w16 c.create_topic-error_code.result) } in
-          let both = honest_then a b d _ _ c.loop-topic.invariant.step c.create_topic-error_code.ensures.step c.loop-topic.invariant.answers
-          (creation_told_so b d (meta log c.loop-topic.parts).end ts t c.as_str-name.result.now c.contains.result c.create_topic-error_code.result reply.error_code c.as_str-name.ensures again sent c.create_topic-error_code.ensures.told) honest agree in
+          let first = c.loop-topic.invariant.step in
+          let second = c.create_topic-error_code.ensures.step in
+          let both = honest_then a b d _ _ first second c.loop-topic.invariant.answers
+          (creation_told_so b d ts t c.as_str-name.result.now c.contains.result c.create_topic-error_code.result reply.error_code second c.as_str-name.ensures again sent c.create_topic-error_code.ensures.told) honest agree in
           let before = both.0 in (
             before.0 ++ reply ∷ [],
             (
               written_more (creation_in (to_z w16 (of_z w16 c.args.version))) c.put_count.new.self.bytes c.loop-topic.sink.bytes c.put_answer.new.sink.bytes before.0 reply before.1.0 c.in_ok-put_answer.ensures,
-              served_next (IsCreationTold ts) a.state.world b.state.world d.state.world ts i t before.0 reply c.loop-topic-test.true c.topic-item.is before.1.1 both.1,
+              served_next (IsCreationTold (CreationFailed a d) ts) a.state.world b.state.world d.state.world ts i t before.0 reply c.loop-topic-test.true c.topic-item.is
+                  (creations_before a b d second ts (take i ts) a.state.world b.state.world before.0 before.1.1)
+                  (creation_behind a b d first ts b.state.world t d.state.world reply both.1),
             ),
           );
     }
@@ -95,7 +99,7 @@ returns-clause-told g c = λ honest agree.
     let w : World = a.state.world in
     let v : World = b.state.world in
     let so = c.loop-topic.invariant.answers honest agree in
-    let all = served_all (IsCreationTold ts) w v ts c.loop-topic.topic-index so.0 c.loop-topic-test.false so.1.1 in
-    let many = sym (served_length (IsCreationTold ts) w v ts so.0 all) in
+    let all = served_all (IsCreationTold (CreationFailed a b) ts) w v ts c.loop-topic.topic-index so.0 c.loop-topic-test.false so.1.1 in
+    let many = sym (served_length (IsCreationTold (CreationFailed a b) ts) w v ts so.0 all) in
     let bytes = replies_written c.args.version (to_z w16 (of_z w16 c.args.version)) start c.put_count.new.self.bytes end (length ts) so.0 (to_z-of_z w16 c.args.version c.ranges.version) many c.in_ok-put_count.ensures.ok so.1.0 in
-    subst (λ (xs : List CreateTopic). (replies : List CreateTopicReply) × ((end ≡ start ++ creations_in c.args.version (record { topics = replies })) × AreServed (IsCreationTold xs) w xs v replies)) c.as_slice-topics.ensures (so.0, (bytes, all))
+    subst (λ (xs : List CreateTopic). (replies : List CreateTopicReply) × ((end ≡ start ++ creations_in c.args.version (record { topics = replies })) × AreServed (IsCreationTold (CreationFailed a b) xs) w xs v replies)) c.as_slice-topics.ensures (so.0, (bytes, all))

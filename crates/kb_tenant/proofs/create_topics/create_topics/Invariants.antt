@@ -5,7 +5,7 @@ use Rattle.kb_partitions.specs.Scene.{WhereHonest}
 use Rattle.kb_tenant.specs.CreateTopics.{created_topic, creation_in}
 use Rattle.kb_world.specs.Parts.{scene}
 use Rattle.kb_world.specs.Steps.{IsStep, Meets}
-use Rattle.kb_tenant.specs.Told.{IsCreationTold}
+use Rattle.kb_tenant.specs.Told.{CreationFailed, IsCreationTold}
 use Rattle.kb_tenant.specs.Turns.{in_turn, written_behind, AreServed}
 use Rattle.kb_tenant.proofs.create_topics.create_topics.Given as goal
 
@@ -20,5 +20,5 @@ invariant-loop-topic g l =
       step : IsStep a b;
       told : Meets a b (written_behind write l.sink.bytes (in_turn f b.state.world (drop l.topic-index l.topics)) ≡ written_behind write l.initial.sink.bytes (in_turn f a.state.world l.topics));
       answers : WhereHonest a b ((replies : List CreateTopicReply) × ((l.sink.bytes ≡ l.initial.sink.bytes ++ flat_map write replies)
-          × AreServed (IsCreationTold l.topics) a.state.world (take l.topic-index l.topics) b.state.world replies));
+          × AreServed (IsCreationTold (CreationFailed a b) l.topics) a.state.world (take l.topic-index l.topics) b.state.world replies));
     }

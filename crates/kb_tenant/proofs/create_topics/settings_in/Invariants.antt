@@ -1,6 +1,6 @@
 use Rattle.std.proofs.Common.{◌≡◌, drop}
 use Rattle.kb_topics.specs.Config.{nothing_read}
-use Rattle.kb_tenant.specs.CreateTopics.{with_settings}
+use Rattle.kb_tenant.proofs.Settings.{with_settings}
 use Rattle.kb_tenant.proofs.create_topics.settings_in.Given as goal
 
 -- what was read, and what is still to be read, is all

@@ -3,7 +3,9 @@ use Rattle.std.proofs.lemmas.Result.{on_ok_weaker}
 use Rattle.kb_topics.specs.Known.{named}
 use Rattle.kb_world.specs.Parts.{scene}
 use Rattle.kb_world.specs.Steps.{meets_so}
+use Rattle.kb_tenant.specs.Told.{CatalogFailed}
 use Rattle.kb_tenant.proofs.DeletedRecords.{name_fits, entries_fit, topic_told}
+use Rattle.kb_tenant.proofs.Trimming.{topic_trimmed}
 use Rattle.kb_tenant.proofs.delete_records.delete_in_topic.Goals as goal
 
 pub put_string-requires : goal.put_string-requires
@@ -25,3 +27,20 @@ returns-clause-meets g c =
     c.args.sink.now.bytes c.put_string.new.self.bytes c.put_count.new.self.bytes _
     c.as_str-name.ensures c.as_slice.ensures c.len.ensures named_so c.in_ok-put_string.ensures.ok c.in_ok-put_count.ensures.ok))
     c.delete_entries.ensures.meets
+
+pub returns-clause-told : goal.returns-clause-told
+returns-clause-told g c =
+    let log = g.L.PartitionLog.log in
+    let disk = g.S.Store.disk in
+    let a = scene log disk c.args.parts.now c.args.shelf.now in
+    let b = scene log disk c.delete_entries.new.parts c.delete_entries.new.shelf in
+    let topic = c.args.topic.now in
+    let named_so = c.topic_named-instance.ensures a.disk.files ∙ ap (λ n. named n a.state.world.known.topics) c.as_str-name.ensures in
+    on_ok_weaker c.delete_entries.result
+    (λ told honest agree. topic_trimmed (CatalogFailed a b) c.topic_named-instance.result (a.state.world, c.args.touched.now.items)
+    (b.state.world, c.delete_entries.new.touched.items) topic
+    c.as_str-name.result.now c.as_slice.result.now c.len.result c.args.sink.now.bytes c.put_string.new.self.bytes
+    c.put_count.new.self.bytes _
+    c.as_str-name.ensures c.as_slice.ensures c.len.ensures named_so c.in_ok-put_string.ensures.ok c.in_ok-put_count.ensures.ok
+    (told honest agree))
+    c.delete_entries.ensures.told

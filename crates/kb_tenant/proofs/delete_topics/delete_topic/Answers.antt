@@ -1,7 +1,7 @@
 use Rattle.std.proofs.Common.{◌≡◌, ◌∙◌, ℤ, ap, arith, inl, of_z, refl, subst, sym, to_z, w16}
 use Rattle.std.proofs.lemmas.Int.{to_z-of_z}
 use Rattle.kb_tenant.specs.DeleteTopics.{deleted}
-use Rattle.kb_world.specs.Parts.{meta, scene, world_of}
+use Rattle.kb_world.specs.Parts.{scene, world_of}
 use Rattle.kb_world.specs.Steps.{IsStep}
 use Rattle.kb_world.specs.World.{World}
 use Rattle.kb_tenant.proofs.Deleting.{unknown_is, deleted_is, told_all, told_none, never_refused, taken_back, unless_err, where_err}
@@ -64,7 +64,7 @@ returns-in_default-clause-acknowledged g c =
     let code : ℤ = to_z w16 (of_z w16 c.code.result) in
     let old = c.args.touched.now.items in
     let new = c.args.touched.now.items in
-    deletion_acknowledged a b (((b.state.world, new), code) ≡ deleted (a.state.world, old) c.args.name.now) (new ≡ old) (meta log c.args.parts.now).end code (returns-in_default-clause-answered g c)
+    deletion_acknowledged a b (((b.state.world, new), code) ≡ deleted (a.state.world, old) c.args.name.now) (new ≡ old) code (returns-in_default-clause-answered g c)
 
 pub returns-then-is_err-clause-answered : goal.returns-then-is_err-clause-answered
 returns-then-is_err-clause-answered g c =
@@ -72,7 +72,7 @@ returns-then-is_err-clause-answered g c =
     let disk = g.S.Store.disk in
     let a = scene log disk c.args.parts.now c.args.shelf.now in
     let b = scene log disk c.refuse.new.self c.args.shelf.now in
-    untold_deletion a b _ (meta log c.args.parts.now).end _ c.args.touched.now.items c.tell_places.new.touched.items
+    untold_deletion a b _ _ c.args.touched.now.items c.tell_places.new.touched.items
     (to_z-of_z w16 c.code-then-is_err.result (record { sfits = c.code-then-is_err.type_inv }) ∙ c.code-then-is_err.ensures)
     (where_err c.tell_places.result c.is_err.result c.is_err.ensures.value c.if-is_err.true c.tell_places.ensures.err)
     (ap (λ p. p.refusals) c.refuse.ensures) (ap (λ p. world_of log p (disk c.args.shelf.now.store).files) c.refuse.ensures)
@@ -86,7 +86,7 @@ returns-then-is_err-clause-acknowledged g c =
     let code : ℤ = to_z w16 (of_z w16 c.code-then-is_err.result) in
     let old = c.args.touched.now.items in
     let new = c.tell_places.new.touched.items in
-    deletion_acknowledged a b (((b.state.world, new), code) ≡ deleted (a.state.world, old) c.args.name.now) (new ≡ old) (meta log c.args.parts.now).end code (returns-then-is_err-clause-answered g c)
+    deletion_acknowledged a b (((b.state.world, new), code) ≡ deleted (a.state.world, old) c.args.name.now) (new ≡ old) code (returns-then-is_err-clause-answered g c)
 
 pub returns-in-Ok-clause-answered : goal.returns-in-Ok-clause-answered
 returns-in-Ok-clause-answered g c =
@@ -107,7 +107,7 @@ returns-in-Ok-clause-acknowledged g c =
     let code : ℤ = to_z w16 (of_z w16 c.code-in-Ok.result) in
     let old = c.args.touched.now.items in
     let new = c.tell_places.new.touched.items in
-    deletion_acknowledged a b (((b.state.world, new), code) ≡ deleted (a.state.world, old) c.args.name.now) (new ≡ old) (meta log c.args.parts.now).end code (returns-in-Ok-clause-answered g c)
+    deletion_acknowledged a b (((b.state.world, new), code) ≡ deleted (a.state.world, old) c.args.name.now) (new ≡ old) code (returns-in-Ok-clause-answered g c)
 
 pub returns-in-Err-clause-answered : goal.returns-in-Err-clause-answered
 returns-in-Err-clause-answered g c =
@@ -118,7 +118,7 @@ returns-in-Err-clause-answered g c =
     let files = a.disk.files in
     let told = unless_err c.tell_places.result c.is_err.result c.is_err.ensures.value c.if-is_err.false (c.tell_places.ensures.told files) in
     let back = taken_back c.args.touched.now.items c.tell_places.new.touched.items c.truncate.new.self.items _ c.len-told.result c.truncate.ensures.items (omega (arith, c.len-told.ensures, c.args.touched.now.ok.0)) told in
-    deletion_refused a b (meta log c.args.parts.now).end c.args.touched.now.items c.truncate.new.self.items c.args.name.now c.in-Some.instance c.in-Err.fault _ (c.in-Some.ensures files) back (to_z-of_z w16 c.code-in-Err.result (record { sfits = c.code-in-Err.type_inv }) ∙ c.code-in-Err.ensures) c.in-Err.ensures.told
+    deletion_refused a b c.args.touched.now.items c.truncate.new.self.items c.args.name.now c.in-Some.instance c.in-Err.fault _ (c.in-Some.ensures files) back (to_z-of_z w16 c.code-in-Err.result (record { sfits = c.code-in-Err.type_inv }) ∙ c.code-in-Err.ensures) c.in-Err.ensures.told
 
 pub returns-in-Err-clause-acknowledged : goal.returns-in-Err-clause-acknowledged
 returns-in-Err-clause-acknowledged g c =
@@ -129,4 +129,4 @@ returns-in-Err-clause-acknowledged g c =
     let code : ℤ = to_z w16 (of_z w16 c.code-in-Err.result) in
     let old = c.args.touched.now.items in
     let new = c.truncate.new.self.items in
-    deletion_acknowledged a b (((b.state.world, new), code) ≡ deleted (a.state.world, old) c.args.name.now) (new ≡ old) (meta log c.args.parts.now).end code (returns-in-Err-clause-answered g c)
+    deletion_acknowledged a b (((b.state.world, new), code) ≡ deleted (a.state.world, old) c.args.name.now) (new ≡ old) code (returns-in-Err-clause-answered g c)

@@ -1,4 +1,4 @@
-use Rattle.std.proofs.Common.{◌≡◌, ◌∙◌, ◌++◌, [], ◌∷◌, append-nil, length, of_z, sym, ap, refl, subst, to_z, w16, w32, ℕ, List}
+use Rattle.std.proofs.Common.{◌≡◌, ◌∙◌, ◌++◌, [], ◌∷◌, append-nil, length, of_z, sym, ap, refl, subst, take, to_z, w16, w32, ℕ, List}
 use Rattle.std.specs.List.{flat_map}
 use Rattle.std.proofs.lemmas.Int.{to_z-of_z}
 use Rattle.std.proofs.Math.Seq.{take-length}
@@ -7,9 +7,9 @@ use Rattle.kb_api_data.specs.Layouts.{delete_topic_reply}
 use Rattle.kb_api_data.specs.declared.delete_topics.DeleteTopicReply.{DeleteTopicReply}
 use Rattle.kb_partitions.specs.Scene.{Scene}
 use Rattle.kb_tenant.specs.DeleteTopics.{deleted_topic, deletions_in, throttle_in}
-use Rattle.kb_world.specs.Parts.{Seen, meta, scene}
+use Rattle.kb_world.specs.Parts.{Seen, scene}
 use Rattle.kb_world.specs.Steps.{step_same, step_then, meets_then, meets_so}
-use Rattle.kb_tenant.specs.Told.{IsRemovalTold}
+use Rattle.kb_tenant.specs.Told.{CatalogFailed, IsRemovalTold}
 use Rattle.kb_tenant.specs.Turns.{in_turn, AreServed}
 use Rattle.kb_world.specs.World.{World}
 use Rattle.kb_world.specs.declared.place.Place.{Place}
@@ -17,7 +17,7 @@ use Rattle.kb_tenant.proofs.Acknowledging.{honest_then, served_all, served_lengt
 use Rattle.kb_tenant.proofs.Deleting.{answered_is, deleted_fits, name_short, names_fit, deletions_written, kept_more}
 use Rattle.kb_tenant.proofs.Fitting.{array_written, written_both}
 use Rattle.kb_tenant.proofs.Replies.{entry_next, entries_over, count_fits, item_fits}
-use Rattle.kb_tenant.proofs.Wanted.{removal_told_so}
+use Rattle.kb_tenant.proofs.Wanted.{removal_behind, removal_told_so, removals_before}
 use Rattle.kb_tenant.proofs.delete_topics.delete_topics.Goals as goal
 
 pub put_count-requires : goal.put_count-requires
@@ -79,13 +79,17 @@ loop-name-preserved g c =
           (meets_then a b d _ _ c.loop-name.invariant.step c.delete_topic.ensures.step c.loop-name.invariant.told c.delete_topic.ensures.meets);
       answers = λ honest agree.
           let reply : DeleteTopicReply = record { name = c.new.result; error_code = to_z w16 (of_z w16 c.delete_topic.result) } in
-          let both = honest_then a b d _ _ c.loop-name.invariant.step c.delete_topic.ensures.step c.loop-name.invariant.answers
-          (removal_told_so b d (meta log c.loop-name.parts).end old now t c.as_str-name.result.now c.new.result c.delete_topic.result reply.error_code c.as_str-name.ensures c.new.ensures sent c.delete_topic.ensures.answered) honest agree in
+          let first = c.loop-name.invariant.step in
+          let second = c.delete_topic.ensures.step in
+          let both = honest_then a b d _ _ first second c.loop-name.invariant.answers
+          (removal_told_so b d old now t c.as_str-name.result.now c.new.result c.delete_topic.result reply.error_code second c.as_str-name.ensures c.new.ensures sent c.delete_topic.ensures.answered) honest agree in
           let before = both.0 in (
             before.0 ++ reply ∷ [],
             (
               written_more delete_topic_reply.written c.put_count.new.self.bytes c.loop-name.sink.bytes c.write.new.sink.bytes before.0 reply before.1.0 c.in_ok-write.ensures.ok,
-              served_next IsRemovalTold (a.state.world, c.args.touched.now.items) (b.state.world, old) (d.state.world, now) names i t before.0 reply c.loop-name-test.true c.name-item.is before.1.1 both.1,
+              served_next (IsRemovalTold (CatalogFailed a d)) (a.state.world, c.args.touched.now.items) (b.state.world, old) (d.state.world, now) names i t before.0 reply c.loop-name-test.true c.name-item.is
+                  (removals_before a b d second (take i names) (a.state.world, c.args.touched.now.items) (b.state.world, old) before.0 before.1.1)
+                  (removal_behind a b d first (b.state.world, old) t (d.state.world, now) reply both.1),
             ),
           );
     }
@@ -122,9 +126,9 @@ returns-clause-told g c = λ honest agree.
     let s : World × List Place = (a.state.world, c.args.touched.now.items) in
     let t : World × List Place = (b.state.world, c.loop-name.touched.items) in
     let so = c.loop-name.invariant.answers honest agree in
-    let all = served_all IsRemovalTold s t names c.loop-name.name-index so.0 c.loop-name-test.false so.1.1 in
-    let many = sym (served_length IsRemovalTold s t names so.0 all) in
+    let all = served_all (IsRemovalTold (CatalogFailed a b)) s t names c.loop-name.name-index so.0 c.loop-name-test.false so.1.1 in
+    let many = sym (served_length (IsRemovalTold (CatalogFailed a b)) s t names so.0 all) in
     let before : head ≡ start ++ throttle_in c.args.version = c.in_ok-put_throttle.ensures ∙ ap (λ v. start ++ throttle_in v) (to_z-of_z w16 c.args.version c.ranges.version) in
     let bytes = deletions_written c.args.version start head end so.0 before (written_both head c.put_count.new.self.bytes end ((count w32).written (length names)) (flat_map delete_topic_reply.written so.0) c.in_ok-put_count.ensures.ok so.1.0
     ∙ ap (λ x. head ++ x) (array_written delete_topic_reply so.0 (length names) many)) in
-    subst (λ (xs : List (List ℕ)). (replies : List DeleteTopicReply) × ((end ≡ start ++ deletions_in c.args.version (record { topics = replies })) × AreServed IsRemovalTold s xs t replies)) c.as_slice-names.ensures (so.0, (bytes, all))
+    subst (λ (xs : List (List ℕ)). (replies : List DeleteTopicReply) × ((end ≡ start ++ deletions_in c.args.version (record { topics = replies })) × AreServed (IsRemovalTold (CatalogFailed a b)) s xs t replies)) c.as_slice-names.ensures (so.0, (bytes, all))

@@ -6,7 +6,7 @@ use Rattle.kb_partitions.specs.Scene.{WhereHonest}
 use Rattle.kb_tenant.specs.DeleteTopics.{deleted_topic}
 use Rattle.kb_world.specs.Parts.{scene}
 use Rattle.kb_world.specs.Steps.{IsStep, Meets}
-use Rattle.kb_tenant.specs.Told.{IsRemovalTold}
+use Rattle.kb_tenant.specs.Told.{CatalogFailed, IsRemovalTold}
 use Rattle.kb_tenant.specs.Turns.{in_turn, written_behind, AreServed}
 use Rattle.kb_tenant.proofs.delete_topics.delete_topics.Given as goal
 
@@ -21,5 +21,5 @@ invariant-loop-name g l =
       told : Meets a b (written_behind delete_topic_reply.written l.sink.bytes (in_turn deleted_topic (b.state.world, l.touched.items) (drop l.name-index l.names))
           ≡ written_behind delete_topic_reply.written l.initial.sink.bytes (in_turn deleted_topic (a.state.world, l.initial.touched.items) l.names));
       answers : WhereHonest a b ((replies : List DeleteTopicReply) × ((l.sink.bytes ≡ l.initial.sink.bytes ++ flat_map delete_topic_reply.written replies)
-          × AreServed IsRemovalTold (a.state.world, l.initial.touched.items) (take l.name-index l.names) (b.state.world, l.touched.items) replies));
+          × AreServed (IsRemovalTold (CatalogFailed a b)) (a.state.world, l.initial.touched.items) (take l.name-index l.names) (b.state.world, l.touched.items) replies));
     }

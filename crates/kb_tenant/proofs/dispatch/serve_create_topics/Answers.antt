@@ -3,7 +3,7 @@ use Rattle.std.specs.Int.{w16, w32}
 use Rattle.kb_tenant.specs.CreateTopics.{asked_creations, checked_all, created_all, creations_in, made_of}
 use Rattle.kb_tenant.specs.Replies.{begun}
 use Rattle.kb_tenant.specs.Serve.{if_read, of_create_topics, IsServed}
-use Rattle.kb_tenant.specs.Told.{IsReplied, TellsCreations}
+use Rattle.kb_tenant.specs.Told.{CreationFailed, IsReplied, TellsCreations}
 use Rattle.kb_world.specs.Parts.{scene, world_of}
 use Rattle.kb_world.specs.Steps.{step_same}
 use Rattle.kb_tenant.proofs.Acknowledging.{replied_by}
@@ -72,6 +72,9 @@ returns-clause-acknowledged g c = λ honest agree q read made.
     let both : Ok asked ≡ Ok q = sym (ap (λ x. asked_creations x request.body.now) (sym same) ∙ c.in_ok-asked.ensures.exact) ∙ read in
     let one : asked ≡ q = cc in
     let told = c.in_ok-create_topics.ensures.told honest agree in
-    subst (λ x. IsReplied request.correlation_id (TellsCreations version w x v) c.finish-2.result) one
-    (replied_by request.correlation_id (TellsCreations version w asked v) c.in_ok-sink.sink.bytes c.create_topics.new.sink.bytes (creations_in version (record { topics = told.0 })) c.finish-2.result
+    let log = g.L.PartitionLog.log in
+    let disk = g.S.Store.disk in
+    let failed = CreationFailed (scene log disk c.args.parts.now c.args.shelf.now) (scene log disk c.create_topics.new.parts c.create_topics.new.shelf) in
+    subst (λ x. IsReplied request.correlation_id (TellsCreations failed version w x v) c.finish-2.result) one
+    (replied_by request.correlation_id (TellsCreations failed version w asked v) c.in_ok-sink.sink.bytes c.create_topics.new.sink.bytes (creations_in version (record { topics = told.0 })) c.finish-2.result
     (c.in_ok-sink.ensures ∙ ap begun id) (told.1.0 ∙ ap (λ x. c.in_ok-sink.sink.bytes ++ creations_in x (record { topics = told.0 })) same) (told.0, (refl, told.1.1)) c.finish-2.ensures)

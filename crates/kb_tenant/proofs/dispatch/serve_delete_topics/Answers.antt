@@ -2,9 +2,9 @@ use Rattle.std.proofs.Common.{rules, ◌≡◌, ◌∙◌, ◌++◌, Ok, ap, of_
 use Rattle.std.specs.Int.{w16, w32}
 use Rattle.kb_tenant.specs.DeleteTopics.{deletions_in}
 use Rattle.kb_tenant.specs.Replies.{begun}
-use Rattle.kb_tenant.specs.Told.{IsRemovalTold, IsReplied, TellsRemovals}
+use Rattle.kb_tenant.specs.Told.{CatalogFailed, IsRemovalTold, IsReplied, TellsRemovals}
 use Rattle.kb_tenant.specs.Turns.{AreServed}
-use Rattle.kb_world.specs.Parts.{world_of}
+use Rattle.kb_world.specs.Parts.{scene, world_of}
 use Rattle.kb_tenant.proofs.Acknowledging.{replied_by}
 use Rattle.kb_tenant.proofs.dispatch.serve_delete_topics.Goals as goal
 
@@ -19,6 +19,9 @@ returns-clause-acknowledged g c = λ honest agree q read.
     let both : Ok asked ≡ Ok q = sym c.in_ok-asked.ensures.exact ∙ read in
     let one : asked ≡ q = cc in
     let told = c.in_ok-delete_topics.ensures.told honest agree in
-    subst (λ x. IsReplied request.correlation_id (TellsRemovals request.api_version w x v c.delete_topics.new.touched.items) c.finish.result) one
-    (replied_by request.correlation_id (TellsRemovals request.api_version w asked v c.delete_topics.new.touched.items) c.in_ok-sink.sink.bytes c.delete_topics.new.sink.bytes (deletions_in request.api_version (record { topics = told.0 })) c.finish.result
-    (c.in_ok-sink.ensures ∙ ap begun id) (told.1.0 ∙ ap (λ x. c.in_ok-sink.sink.bytes ++ deletions_in x (record { topics = told.0 })) same) (told.0, (refl, subst (λ places. AreServed IsRemovalTold (w, places) asked.names (v, c.delete_topics.new.touched.items) told.0) c.requires.untouched told.1.1)) c.finish.ensures)
+    let log = g.L.PartitionLog.log in
+    let disk = g.S.Store.disk in
+    let failed = CatalogFailed (scene log disk c.args.parts.now c.args.shelf.now) (scene log disk c.delete_topics.new.parts c.delete_topics.new.shelf) in
+    subst (λ x. IsReplied request.correlation_id (TellsRemovals failed request.api_version w x v c.delete_topics.new.touched.items) c.finish.result) one
+    (replied_by request.correlation_id (TellsRemovals failed request.api_version w asked v c.delete_topics.new.touched.items) c.in_ok-sink.sink.bytes c.delete_topics.new.sink.bytes (deletions_in request.api_version (record { topics = told.0 })) c.finish.result
+    (c.in_ok-sink.ensures ∙ ap begun id) (told.1.0 ∙ ap (λ x. c.in_ok-sink.sink.bytes ++ deletions_in x (record { topics = told.0 })) same) (told.0, (refl, subst (λ places. AreServed (IsRemovalTold failed) (w, places) asked.names (v, c.delete_topics.new.touched.items) told.0) c.requires.untouched told.1.1)) c.finish.ensures)

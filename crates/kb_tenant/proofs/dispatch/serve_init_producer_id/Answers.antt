@@ -2,8 +2,8 @@ use Rattle.std.proofs.Common.{rules, ◌≡◌, ◌∙◌, Ok, ap, of_z, refl, s
 use Rattle.std.specs.Int.{w32}
 use Rattle.kb_api_data.specs.Layouts.{init_producer_id_reply}
 use Rattle.kb_tenant.specs.Replies.{begun}
-use Rattle.kb_tenant.specs.Told.{IsReplied, TellsIssue}
-use Rattle.kb_world.specs.Parts.{world_of}
+use Rattle.kb_tenant.specs.Told.{CatalogFailed, IsReplied, TellsIssue}
+use Rattle.kb_world.specs.Parts.{scene, world_of}
 use Rattle.kb_tenant.proofs.Acknowledging.{replied_by}
 use Rattle.kb_tenant.proofs.dispatch.serve_init_producer_id.Goals as goal
 
@@ -17,6 +17,9 @@ returns-clause-acknowledged g c = λ honest agree q read.
     let both : Ok asked ≡ Ok q = sym c.in_ok-asked.ensures.exact ∙ read in
     let one : asked ≡ q = cc in
     let told = c.in_ok-init_producer_id.ensures.told honest agree in
-    subst (λ x. IsReplied request.correlation_id (TellsIssue w x v) c.finish.result) one
-    (replied_by request.correlation_id (TellsIssue w asked v) c.in_ok-sink.sink.bytes c.init_producer_id.new.sink.bytes (init_producer_id_reply.written told.0) c.finish.result
+    let log = g.L.PartitionLog.log in
+    let disk = g.S.Store.disk in
+    let failed = CatalogFailed (scene log disk c.args.parts.now c.args.shelf.now) (scene log disk c.init_producer_id.new.parts c.init_producer_id.new.shelf) in
+    subst (λ x. IsReplied request.correlation_id (TellsIssue failed w x v) c.finish.result) one
+    (replied_by request.correlation_id (TellsIssue failed w asked v) c.in_ok-sink.sink.bytes c.init_producer_id.new.sink.bytes (init_producer_id_reply.written told.0) c.finish.result
     (c.in_ok-sink.ensures ∙ ap begun id) told.1.0 (told.0, (refl, told.1.1)) c.finish.ensures)

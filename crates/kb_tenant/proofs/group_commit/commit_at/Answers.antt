@@ -1,6 +1,6 @@
 use Rattle.std.proofs.Common.{◌∙◌, rules, w16, w64}
 use Rattle.std.proofs.lemmas.Int.{to_z-of_z}
-use Rattle.kb_world.specs.Parts.{meta, scene, world_of}
+use Rattle.kb_world.specs.Parts.{scene, world_of}
 use Rattle.kb_tenant.proofs.Committing.{commit_code, commit_told}
 use Rattle.kb_tenant.proofs.group_commit.commit_at.Goals as goal
 
@@ -17,5 +17,5 @@ returns-clause-told g c =
     let log = g.L.PartitionLog.log in
     let disk = g.S.Store.disk in
     let entry = c.args.entry.now in
-    commit_told (scene log disk c.args.parts.now c.args.shelf.now) (scene log disk c.commit.new.self c.commit.new.shelf) (meta log c.args.parts.now).end c.args.place c.args.group.now entry _ _ c.commit.result _
+    commit_told (scene log disk c.args.parts.now c.args.shelf.now) (scene log disk c.commit.new.self c.commit.new.shelf) c.args.place c.args.group.now entry _ _ c.commit.result _
     (to_z-of_z w64 entry.offset (search rules)) c.metadata_in-metadata.ensures (to_z-of_z w16 c.code_in.result (record { sfits = c.code_in.type_inv }) ∙ c.code_in.ensures) c.commit.ensures.told

@@ -6,7 +6,7 @@ use Rattle.kb_partitions.specs.Scene.{WhereHonest}
 use Rattle.kb_world.specs.Parts.{scene}
 use Rattle.kb_world.specs.Steps.{IsStep, Meets}
 use Rattle.kb_tenant.specs.OffsetCommit.{committed_entry}
-use Rattle.kb_tenant.specs.Told.{IsCommitTold}
+use Rattle.kb_tenant.specs.Told.{CatalogFailed, IsCommitTold}
 use Rattle.kb_tenant.specs.Turns.{in_turn, written_behind, AreServed}
 use Rattle.kb_tenant.proofs.group_commit.commit_entries.Given as goal
 
@@ -21,5 +21,5 @@ invariant-loop-entry g l =
       step : IsStep a b;
       told : Meets a b (written_behind write l.sink.bytes (in_turn f b.state.world (drop l.entry-index l.entries)) ≡ written_behind write l.initial.sink.bytes (in_turn f a.state.world l.entries));
       answers : WhereHonest a b ((replies : List CommitPartitionReply) × ((l.sink.bytes ≡ l.initial.sink.bytes ++ flat_map write replies)
-          × AreServed (IsCommitTold l.refusal l.group l.topic) a.state.world (take l.entry-index l.entries) b.state.world replies));
+          × AreServed (IsCommitTold (CatalogFailed a b) l.refusal l.group l.topic) a.state.world (take l.entry-index l.entries) b.state.world replies));
     }

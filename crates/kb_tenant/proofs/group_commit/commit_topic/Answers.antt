@@ -7,6 +7,7 @@ use Rattle.kb_partitions.specs.Scene.{Scene}
 use Rattle.kb_world.specs.Parts.{Seen, scene}
 use Rattle.kb_world.specs.Steps.{meets_so}
 use Rattle.kb_world.specs.World.{World}
+use Rattle.kb_tenant.specs.Told.{CatalogFailed}
 use Rattle.kb_tenant.proofs.Committing.{entries_fit, name_fits, topic_told}
 use Rattle.kb_tenant.proofs.Fitting.{count_fits}
 use Rattle.kb_tenant.proofs.Wanted.{commit_topic_told_so}
@@ -41,7 +42,7 @@ returns-clause-told g c =
     let w : World = a.state.world in
     let t = c.args.topic.now in
     on_ok_weaker c.commit_entries.result
-    (λ told honest agree. commit_topic_told_so c.args.refusal c.args.group.now c.topic_named-instance.result w b.state.world t c.as_str.result.now c.as_slice-entries.result.now c.len.result
+    (λ told honest agree. commit_topic_told_so (CatalogFailed a b) c.args.refusal c.args.group.now c.topic_named-instance.result w b.state.world t c.as_str.result.now c.as_slice-entries.result.now c.len.result
     c.args.sink.now.bytes c.put_string.new.self.bytes c.put_count.new.self.bytes _
     c.as_str.ensures c.as_slice-entries.ensures c.len.ensures (c.topic_named-instance.ensures a.disk.files ∙ ap (λ n. named n w.known.topics) c.as_str-2.ensures) c.in_ok-put_string.ensures.ok c.in_ok-put_count.ensures.ok
     (told honest agree))

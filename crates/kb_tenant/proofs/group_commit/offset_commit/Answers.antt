@@ -1,17 +1,17 @@
-use Rattle.std.proofs.Common.{[], ◌∷◌, ◌++◌, ◌∙◌, ◌<◌, ◌≤◌, ap, sym, refl, subst, length, get_or}
+use Rattle.std.proofs.Common.{[], ◌∷◌, ◌++◌, ◌∙◌, ◌<◌, ◌≤◌, ap, append-nil, sym, refl, subst, take, length, get_or}
 use Rattle.kb_api_group.specs.Layouts.{commit_topic, commit_topic_reply}
 use Rattle.kb_partitions.specs.Scene.{Scene}
 use Rattle.kb_world.specs.Parts.{Seen, scene}
-use Rattle.kb_world.specs.Steps.{step_then, meets_then, meets_so}
+use Rattle.kb_world.specs.Steps.{step_same, step_then, meets_then, meets_so}
 use Rattle.kb_tenant.specs.OffsetCommit.{committed_topic}
-use Rattle.kb_tenant.specs.Told.{IsCommitTopicTold}
+use Rattle.kb_tenant.specs.Told.{CatalogFailed, IsCommitTopicTold}
 use Rattle.kb_tenant.proofs.Acknowledging.{honest_then, served_all, served_next, written_more}
 use Rattle.kb_tenant.proofs.Committing.{all_told, group_fits, topics_fit}
 use Rattle.kb_tenant.proofs.Deleting.{name_short}
 use Rattle.kb_tenant.proofs.Fitting.{count_fits, item_fits}
 use Rattle.kb_tenant.proofs.Produced.{told_next}
 use Rattle.kb_tenant.proofs.Turning.{turn_over}
-use Rattle.kb_tenant.proofs.Wanted.{commits_told_so}
+use Rattle.kb_tenant.proofs.Wanted.{commit_topic_behind, commit_topics_before, commits_told_so}
 use Rattle.kb_tenant.proofs.group_commit.offset_commit.Goals as goal
 
 pub put_count-requires : goal.put_count-requires
@@ -36,6 +36,13 @@ returns-in_err-commit_topic-clause-step g c =
     let d : Scene Seen = scene log disk c.commit_topic.new.parts c.commit_topic.new.shelf in
     step_then a b d c.loop-topic.invariant.step c.commit_topic.ensures.step
 
+pub loop-topic-init : goal.loop-topic-init
+loop-topic-init g c = record {
+  step = step_same (scene g.L.PartitionLog.log g.S.Store.disk c.args.parts.now c.args.shelf.now) c.requires.sound;
+  told = λ honest agree calm. refl;
+  answers = λ honest agree. ([], (sym (append-nil c.put_count.new.self.bytes), refl));
+}
+
 pub loop-topic-preserved : goal.loop-topic-preserved
 loop-topic-preserved g c =
     let log = g.L.PartitionLog.log in
@@ -53,15 +60,20 @@ loop-topic-preserved g c =
           (c.topic-item.is ∙ ap (λ ts. get_or ts i c.topic-item.result) c.as_slice-topic-items.ensures))
           (meets_then a b d _ _ c.loop-topic.invariant.step c.commit_topic.ensures.step c.loop-topic.invariant.told c.in_ok-commit_topic.ensures.meets);
       answers = λ honest agree.
-          let both = honest_then a b d _ _ c.loop-topic.invariant.step c.commit_topic.ensures.step c.loop-topic.invariant.answers c.in_ok-commit_topic.ensures.told honest agree in
+          let first = c.loop-topic.invariant.step in
+          let second = c.commit_topic.ensures.step in
+          let group = c.as_str-group.result.now in
+          let both = honest_then a b d _ _ first second c.loop-topic.invariant.answers c.in_ok-commit_topic.ensures.told honest agree in
           let before = both.0 in
           let reply = both.1 in (
             before.0 ++ reply.0 ∷ [],
             (
               written_more commit_topic_reply.written c.put_count.new.self.bytes c.loop-topic.sink.bytes c.commit_topic.new.sink.bytes before.0 reply.0 before.1.0 reply.1.0,
-              served_next (IsCommitTopicTold c.args.refusal c.as_str-group.result.now) a.state.world b.state.world d.state.world c.args.request.now.topics i c.topic-item.result before.0 reply.0
+              served_next (IsCommitTopicTold (CatalogFailed a d) c.args.refusal group) a.state.world b.state.world d.state.world c.args.request.now.topics i c.topic-item.result before.0 reply.0
                   (subst (λ ts. i < length ts) c.as_slice-topic-items.ensures c.loop-topic-test.true)
-                  (c.topic-item.is ∙ ap (λ ts. get_or ts i c.topic-item.result) c.as_slice-topic-items.ensures) before.1.1 reply.1.1,
+                  (c.topic-item.is ∙ ap (λ ts. get_or ts i c.topic-item.result) c.as_slice-topic-items.ensures)
+                  (commit_topics_before a b d c.args.refusal group second (take i c.args.request.now.topics) a.state.world b.state.world before.0 before.1.1)
+                  (commit_topic_behind a b d c.args.refusal group first b.state.world c.topic-item.result d.state.world reply.0 reply.1.1),
             ),
           );
     }
@@ -92,6 +104,6 @@ returns-clause-told g c = λ honest agree.
     let group = c.as_str-group.result.now in
     let i = c.loop-topic.topic-index in
     let so = c.loop-topic.invariant.answers honest agree in
-    let all = served_all (IsCommitTopicTold c.args.refusal group) a.state.world b.state.world q.topics i so.0 (subst (λ ts. length ts ≤ i) c.as_slice-topic-items.ensures c.loop-topic-test.false) so.1.1 in
-    commits_told_so q c.args.refusal group a.state.world b.state.world c.len.result c.args.sink.now.bytes c.put_count.new.self.bytes c.loop-topic.sink.bytes
+    let all = served_all (IsCommitTopicTold (CatalogFailed a b) c.args.refusal group) a.state.world b.state.world q.topics i so.0 (subst (λ ts. length ts ≤ i) c.as_slice-topic-items.ensures c.loop-topic-test.false) so.1.1 in
+    commits_told_so (CatalogFailed a b) q c.args.refusal group a.state.world b.state.world c.len.result c.args.sink.now.bytes c.put_count.new.self.bytes c.loop-topic.sink.bytes
     c.as_str-group.ensures c.len.ensures c.in_ok-put_count.ensures.ok (so.0, (so.1.0, all))

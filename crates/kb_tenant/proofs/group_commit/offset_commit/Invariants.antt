@@ -6,7 +6,7 @@ use Rattle.kb_partitions.specs.Scene.{WhereHonest}
 use Rattle.kb_world.specs.Parts.{scene}
 use Rattle.kb_world.specs.Steps.{IsStep, Meets}
 use Rattle.kb_tenant.specs.OffsetCommit.{committed_topic}
-use Rattle.kb_tenant.specs.Told.{IsCommitTopicTold}
+use Rattle.kb_tenant.specs.Told.{CatalogFailed, IsCommitTopicTold}
 use Rattle.kb_tenant.specs.Turns.{in_turn, written_behind, AreServed}
 use Rattle.kb_tenant.proofs.group_commit.offset_commit.Given as goal
 
@@ -21,5 +21,5 @@ invariant-loop-topic g l =
       step : IsStep a b;
       told : Meets a b (written_behind write l.sink.bytes (in_turn f b.state.world (drop l.topic-index l.request.topics)) ≡ written_behind write l.initial.sink.bytes (in_turn f a.state.world l.request.topics));
       answers : WhereHonest a b ((replies : List CommitTopicReply) × ((l.sink.bytes ≡ l.initial.sink.bytes ++ flat_map write replies)
-          × AreServed (IsCommitTopicTold l.refusal l.group) a.state.world (take l.topic-index l.request.topics) b.state.world replies));
+          × AreServed (IsCommitTopicTold (CatalogFailed a b) l.refusal l.group) a.state.world (take l.topic-index l.request.topics) b.state.world replies));
     }

@@ -2,7 +2,7 @@ use Rattle.std.proofs.Common.{◌∙◌, ap, ◌++◌}
 use Rattle.std.proofs.lemmas.Result.{on_ok_weaker}
 use Rattle.kb_api_data.specs.Layouts.{init_producer_id_reply}
 use Rattle.kb_api_data.specs.declared.init_producer_id.InitProducerIdReply.{InitProducerIdReply}
-use Rattle.kb_world.specs.Parts.{meta, scene}
+use Rattle.kb_world.specs.Parts.{scene}
 use Rattle.kb_world.specs.World.{World}
 use Rattle.kb_tenant.proofs.Wanted.{issue_told_so}
 use Rattle.kb_tenant.proofs.init_producer_id.init_producer_id.Goals as goal
@@ -19,4 +19,4 @@ returns-clause-told g c =
     let a = scene log disk c.args.parts.now c.args.shelf.now in
     let b = scene log disk c.give_id.new.parts c.give_id.new.shelf in
     on_ok_weaker c.write.result (λ wrote honest agree.
-    (c.give_id.result, (wrote, issue_told_so a b (meta log c.args.parts.now).end c.args.request.now c.give_id.result c.give_id.ensures.told honest agree))) c.write.ensures.ok
+    (c.give_id.result, (wrote, issue_told_so a b c.args.request.now c.give_id.result c.give_id.ensures.step c.give_id.ensures.told honest agree))) c.write.ensures.ok

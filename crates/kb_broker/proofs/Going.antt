@@ -1,15 +1,15 @@
 -- Turns that go on: among which connections, and what they leave of the broker on its store.
-use Rattle.std.proofs.Common.{Ordering, Less, Equal, Greater, ◌≡◌, ◌≢◌, ◌<◌, ◌≤◌, ◌+◌, ℕ, zero, suc, List, [], ◌∷◌, length, get_or, set, take, eqb, nat_cmp, Option, Some, None, Result, Ok, Err, OnOk, Bool, true, false, inl, inr, IfSome, refl, sym, ◌∙◌, ap, subst, arith}
+use Rattle.std.proofs.Common.{◌≡◌, ◌≢◌, ◌<◌, ◌≤◌, ◌+◌, ℕ, zero, suc, List, [], ◌∷◌, length, get_or, set, take, eqb, nat_cmp, Option, Some, None, Bool, true, false, inl, inr, IfSome, refl, sym, ◌∙◌, ap, subst, arith}
 use Rattle.std.specs.Prelude.{Contains, ◌⊎◌, ◌↔◌, IsSome, cond, max}
-use Rattle.std.specs.Result.{is_ok}
+use Rattle.std.specs.Bool.{OnTrue}
 use Rattle.std.specs.FinMap as fin
-use Rattle.std.specs.BTreeSet.{insert_key}
-use Rattle.std.specs.List.{All, AllByRecursion, slice_get}
-use Rattle.std.specs.Ordering.{match_ordering, is_gt}
+use Rattle.std.specs.List.{All, AllByRecursion}
+use Rattle.std.specs.List.Sorted.{IsPermutation}
 use Rattle.std.proofs.lemmas.Bool.Decides.{nat_tests}
 use Rattle.std.proofs.lemmas.Cmp.{ranked}
 use Rattle.std.proofs.lemmas.List.{get_or_default, take_more}
 use Rattle.std.proofs.lemmas.List.Elements.{All-contains, Contains-push_cases}
+use Rattle.std.proofs.lemmas.List.Sorted.{Contains-permutation}
 use Rattle.kb_waits.specs.Queue as queue
 use Rattle.kb_waits.specs.Queue.{Queue}
 use Rattle.kb_store.specs.Disk.{Disk}
@@ -43,7 +43,7 @@ use Rattle.kb_broker.proofs.Placed.{get-at, number_at-is}
 use Rattle.kb_broker.proofs.Handled.{HasBegun, IsMoved, IsTaken, idle-none, moved-going, moved-held, moved-others, moved-step, moved-unready, put_with, unready-over, waked-still, next-can, scoped-turned, served-for, served-quiet, served-taken}
 use Rattle.kb_broker.proofs.Parked.{IsCarried, among, among-same, among-settled, carried-same, carried-turn, deadline-free, each-find, find-set, first-least, minded-all, queue-put, unready-at, waiting-on}
 
--- 1. Numbers in a set
+-- 1. Numbers that are put in
 
 contains-more : (y : ℕ) (xs : List ℕ) (k : ℕ) → Contains xs k → Contains (y ∷ xs) k
 contains-more y xs k c = (suc c.0, (let h = c.1 in omega (arith, h)), c.2)
@@ -58,54 +58,30 @@ contains-cases y xs k c = at c.0 c.1 c.2
     at zero lt is = inl is
     at (suc i) lt is = inr (i, omega (arith, lt), is)
 
--- one more is put into the set
-pub insert-keeps : (n : ℕ) (xs : List ℕ) (k : ℕ) → Contains xs k → Contains (insert_key nat_cmp xs n) k
-insert-keeps n [] k c = absurd (let h = c.1 in omega (arith, h))
-insert-keeps n (x ∷ xs) k c = by (nat_cmp n x) (insert-keeps n xs k)
-  where
-    further : (Contains xs k → Contains (insert_key nat_cmp xs n) k) → (x ≡ k) ⊎ Contains xs k → Contains (x ∷ insert_key nat_cmp xs n) k
-    further rest (inl e) = subst (λ j. Contains (j ∷ insert_key nat_cmp xs n) k) (sym e) (contains-first k (insert_key nat_cmp xs n))
-    further rest (inr h) = contains-more x (insert_key nat_cmp xs n) k (rest h)
+-- one more is put in
+pub put-keeps : (n : ℕ) (ns ms : List ℕ) → IsPermutation (n ∷ ns) ms → (k : ℕ) → Contains ns k → Contains ms k
+put-keeps n ns ms put k c = Contains-permutation (n ∷ ns) ms k put (contains-more n ns k c)
 
-    by : (o : Ordering) → (Contains xs k → Contains (insert_key nat_cmp xs n) k) → Contains (match_ordering o (n ∷ x ∷ xs) (x ∷ xs) (x ∷ insert_key nat_cmp xs n)) k
-    by Less rest = contains-more n (x ∷ xs) k c
-    by Equal rest = c
-    by Greater rest = further rest (contains-cases x xs k c)
-
-pub insert-has : (n : ℕ) (xs : List ℕ) → Contains (insert_key nat_cmp xs n) n
-insert-has n [] = contains-first n []
-insert-has n (x ∷ xs) = by (nat_cmp n x) refl (insert-has n xs)
+-- and the numbers up to a place were put in before, of those that can take a turn
+pub put-more : (P : ℕ → Type 0) (i : ℕ) (ns ks ms : List ℕ) (d : ℕ) → i < length ns → IsPermutation (get_or ns i d ∷ ks) ms → ((k : ℕ) → P k → Contains (take i ns) k → Contains ks k) → (k : ℕ) → P k → Contains (take (i + 1) ns) k → Contains ms k
+put-more P i ns ks ms d lt put added k able c = by (Contains-push_cases (take i ns) (get_or ns i d) k (subst (λ xs. Contains xs k) (take_more ns i d lt) c))
   where
-    by : (o : Ordering) → nat_cmp n x ≡ o → Contains (insert_key nat_cmp xs n) n → Contains (match_ordering o (n ∷ x ∷ xs) (x ∷ xs) (x ∷ insert_key nat_cmp xs n)) n
-    by Less e rest = contains-first n (x ∷ xs)
-    by Equal e rest = let same : n ≡ x = ranked n x Equal (sym e) in subst (λ j. Contains (j ∷ xs) n) same (contains-first n xs)
-    by Greater e rest = contains-more x (insert_key nat_cmp xs n) n rest
+    by : Contains (take i ns) k ⊎ (get_or ns i d ≡ k) → Contains ms k
+    by (inl c) = put-keeps (get_or ns i d) ks ms put k (added k able c)
+    by (inr e) = Contains-permutation (get_or ns i d ∷ ks) ms k put (subst (λ j. Contains (j ∷ ks) k) (sym e) (contains-first k ks))
 
--- and the numbers up to a place were put into it before
-pub insert-more : (i : ℕ) (ns ks : List ℕ) (d : ℕ) → i < length ns → ((k : ℕ) → Contains (take i ns) k → Contains ks k) → (k : ℕ) → Contains (take (i + 1) ns) k → Contains (insert_key nat_cmp ks (get_or ns i d)) k
-insert-more i ns ks d lt added k c = by (Contains-push_cases (take i ns) (get_or ns i d) k (subst (λ xs. Contains xs k) (take_more ns i d lt) c))
+-- one that cannot is left out
+pub skip-more : (P : ℕ → Type 0) (i : ℕ) (ns ks : List ℕ) (d : ℕ) → i < length ns → (P (get_or ns i d) → ⊥) → ((k : ℕ) → P k → Contains (take i ns) k → Contains ks k) → (k : ℕ) → P k → Contains (take (i + 1) ns) k → Contains ks k
+skip-more P i ns ks d lt stuck added k able c = by (Contains-push_cases (take i ns) (get_or ns i d) k (subst (λ xs. Contains xs k) (take_more ns i d lt) c))
   where
-    by : Contains (take i ns) k ⊎ (get_or ns i d ≡ k) → Contains (insert_key nat_cmp ks (get_or ns i d)) k
-    by (inl c) = insert-keeps (get_or ns i d) ks k (added k c)
-    by (inr e) = subst (Contains (insert_key nat_cmp ks (get_or ns i d))) e (insert-has (get_or ns i d) ks)
+    by : Contains (take i ns) k ⊎ (get_or ns i d ≡ k) → Contains ks k
+    by (inl c) = added k able c
+    by (inr e) = absurd (stuck (subst P (sym e) able))
 
 -- 2. The least number of those that can take a turn
 
--- of the numbers in a set, the one that stands first is the least
-pub record IsLeast (n : ℕ) (ns : List ℕ) : Type 0 where
-  pub first : slice_get ns 0 ≡ Some n
-  pub least : All (λ k. is_gt (nat_cmp n k) ≡ false) ns
-
-least-upto : (n : ℕ) (ns : List ℕ) (k : ℕ) → IsLeast n ns → Contains ns k → n ≤ k
-least-upto n ns k h c = by (nat_cmp n k) refl (All-contains (λ j. is_gt (nat_cmp n j) ≡ false) ns k h.least c)
-  where
-    by : (o : Ordering) → nat_cmp n k ≡ o → is_gt o ≡ false → n ≤ k
-    by Less e g = let lt : n < k = ranked n k Less (sym e) in omega (arith, lt)
-    by Equal e g = let same : n ≡ k = ranked n k Equal (sym e) in omega (arith, same)
-    by Greater e g = absurd (let no : true ≡ false = g in cc)
-
--- it can take a turn, and all that can are in the set: it is the next
-pub next-least : (b : BrokerState) (i : ℕ) (l : Line) (ns : List ℕ) → IsSound b → IsAt b.lines i l → IsLeast l.number ns → AreAmong ns b → can l.session ≡ true → IsNext i b
+-- it can take a turn, and all that can are among those of which it is the least: it is the next
+pub next-least : (b : BrokerState) (i : ℕ) (l : Line) (ns : List ℕ) → IsSound b → IsAt b.lines i l → All (λ k. l.number ≤ k) ns → AreAmong ns b → can l.session ≡ true → IsNext i b
 next-least b i l ns sound at least among able = record {
   sound = sound;
   within = at.within;
@@ -116,10 +92,10 @@ next-least b i l ns sound at least among able = record {
 }
   where
     stuck : (k : Line) → find_line k.number b.lines ≡ Some k.session → k.number < l.number → (c : Bool) → can k.session ≡ c → can k.session ≡ false
-    stuck k found lt true e = let up = least-upto l.number ns k.number least (among k.number (ap can_in found ∙ e)) in absurd (omega (arith, lt, up))
+    stuck k found lt true e = let up = All-contains (λ j. l.number ≤ j) ns k.number least (among k.number (ap can_in found ∙ e)) in absurd (omega (arith, lt, up))
     stuck k found lt false e = e
 
--- nobody can take a turn where the set of those that can is empty
+-- nobody can take a turn where nobody is among those that can
 pub none-among : (b : BrokerState) (ns : List ℕ) → IsSound b → ns ≡ [] → AreAmong ns b → first_able b.lines ≡ None
 none-among b ns sound none among = none-able b.lines (each-find (λ n o. can_in o ≡ false) 0 b.last b.lines sound.rising (λ n. by n (can_in (find_line n b.lines)) refl))
   where
@@ -127,53 +103,50 @@ none-among b ns sound none among = none-able b.lines (each-find (λ n o. can_in 
     by n true e = let c = subst (λ ks. Contains ks n) none (among n e) in absurd (let h = c.1 in omega (arith, h))
     by n false e = e
 
--- the first leaves the set, where it cannot take a turn
-pub among-popped : (b : BrokerState) (n : ℕ) (ns ms : List ℕ) → AreAmong ns b → ns ≡ n ∷ ms → can_in (find_line n b.lines) ≡ false → AreAmong ms b
-among-popped b n ns ms among is stuck k able = by (contains-cases n ms k (subst (λ ks. Contains ks k) is (among k able)))
+-- the least is taken out
+pub among-taken : (b : BrokerState) (n : ℕ) (ns ms : List ℕ) → AreAmong ns b → IsPermutation ns (n ∷ ms) → AreAmong (n ∷ ms) b
+among-taken b n ns ms among taken k able = Contains-permutation ns (n ∷ ms) k taken (among k able)
+
+-- and cannot take a turn
+pub among-popped : (b : BrokerState) (n : ℕ) (ns ms : List ℕ) → AreAmong ns b → IsPermutation ns (n ∷ ms) → can_in (find_line n b.lines) ≡ false → AreAmong ms b
+among-popped b n ns ms among taken stuck k able = by (contains-cases n ms k (among-taken b n ns ms among taken k able))
   where
     by : (n ≡ k) ⊎ Contains ms k → Contains ms k
     by (inl e) = let no : false ≡ true = sym stuck ∙ (ap (λ j. can_in (find_line j b.lines)) e ∙ able) in absurd (cc)
     by (inr c) = c
 
--- what left the set is what stood first in it
-pub popped-first : (r : Option ℕ) (n : ℕ) (ns ms : List ℕ) → (IsSome r ↔ (0 < length ns)) → IfSome r (λ k. ns ≡ k ∷ ms) → slice_get ns 0 ≡ Some n → ns ≡ n ∷ ms
-popped-first (Some k) n ns ms some is first = let same : k ≡ n = (let both : Some k ≡ Some n = ap (λ xs. slice_get xs 0) (sym is) ∙ first in cc) in is ∙ ap (λ j. j ∷ ms) same
-popped-first None n [] ms some is first = absurd (cc)
-popped-first None n (k ∷ ns) ms some is first = absurd (let no : false ≡ true = some.1 (omega arith) in cc)
+-- what join says
+abbrev pub AreJoined : (ns ms ks : List ℕ) → BrokerState → Type 0
+AreJoined ns ms ks b = (k : ℕ) → can_in (find_line k b.lines) ≡ true → Contains ms k ⊎ Contains ns k → Contains ks k
 
--- nothing stands first in it
-pub nothing-first : {X : Type 0} (r : Option X) (ns : List ℕ) → (IsSome r ↔ (0 < length ns)) → ((x : X) → r ≡ Some x → ⊥) → ns ≡ []
-nothing-first r [] some none = refl
-nothing-first (Some x) (n ∷ ns) some none = absurd (none x refl)
-nothing-first None (n ∷ ns) some none = absurd (let no : false ≡ true = some.1 (omega arith) in cc)
+-- where it is known
+pub from-true : (b : Bool) (P : Type 0) → b ≡ true → OnTrue b P → P
+from-true true P e h = h
+from-true false P e h = let no : false ≡ true = e in absurd (cc)
 
--- after the turn of the connection of that number, of those that can take a turn, and looks at no other
-pub among-nobody : (a b : BrokerState) (i : ℕ) (ns : List ℕ) → IsNext i a → SameOthers (number_at i a) a b → AreAmong ns a → AreAmong ns b
-among-nobody a b i ns next same among k able = by (eqb (number_at i a) k) refl
+-- after the turn of the connection of that number, which was taken out, and looks at no other, it was put in again
+pub among-nobody : (a b : BrokerState) (n : ℕ) (ns ms ks : List ℕ) → SameOthers n a b → AreAmong (n ∷ ms) a → ns ≡ n ∷ [] → AreJoined ns ms ks b → AreAmong ks b
+among-nobody a b n ns ms ks same among own joined k able = joined k able (by (eqb n k) refl)
   where
-    d : Line
-    d = record { number = 0; session = fresh }
+    rest : k ≢ n → (n ≡ k) ⊎ Contains ms k → Contains ms k ⊎ Contains ns k
+    rest ne (inl e) = absurd (ne (sym e))
+    rest ne (inr c) = inl c
 
-    l : Line
-    l = get_or a.lines i d
+    by : (c : Bool) → eqb n k ≡ c → Contains ms k ⊎ Contains ns k
+    by true e = inr (subst (λ xs. Contains xs k) (sym own) (subst (λ j. Contains (j ∷ []) k) (sym (eqb_same n k e)) (contains-first k [])))
+    by false e = rest (eqb_other n k e) (contains-cases n ms k (among k (sym (ap can_in (same k (eqb_other n k e))) ∙ able)))
 
-    at : IsAt a.lines i l
-    at = get-at a.lines i d next.within
+-- where those that were looked at were put in, and it is one of them
+pub among-joined : (a b : BrokerState) (n : ℕ) (ns ms ks : List ℕ) → Contains ns n → SameBut ns a b → AreAmong (n ∷ ms) a → AreJoined ns ms ks b → AreAmong ks b
+among-joined a b n ns ms ks own same among joined k able = joined k able (by (among-same ns (n ∷ ms) a b same among k able))
+  where
+    out : (n ≡ k) ⊎ Contains ms k → Contains ms k ⊎ Contains ns k
+    out (inl e) = inr (subst (Contains ns) e own)
+    out (inr c) = inl c
 
-    own : Contains ns (number_at i a)
-    own = subst (Contains ns) (sym (number_at-is a i l at)) (among l.number (ap can_in (find-at 0 a.last a.lines i l next.sound.rising at) ∙ next-can a i l next at))
-
-    by : (c : Bool) → eqb (number_at i a) k ≡ c → Contains ns k
-    by true e = subst (Contains ns) (eqb_same (number_at i a) k e) own
-    by false e = among k (sym (ap can_in (same k (eqb_other (number_at i a) k e))) ∙ able)
-
--- where the numbers of those that were looked at came into the set
-pub among-joined : (ns ms ks : List ℕ) (a b : BrokerState) → SameBut ns a b → AreAmong ms a → ((k : ℕ) → Contains ms k ⊎ Contains ns k → Contains ks k) → AreAmong ks b
-among-joined ns ms ks a b same among joined k able = joined k (among-same ns ms a b same among k able)
-
-pub from_is_ok : {A E : Type 0} (r : Result A E) (b : Bool) (P : Type 0) → b ≡ is_ok r → b ≡ true → OnOk r P → P
-from_is_ok (Ok x) b P e t h = h
-from_is_ok (Err x) b P e t h = let no : false ≡ true = sym e ∙ t in absurd (cc)
+    by : Contains (n ∷ ms) k ⊎ Contains ns k → Contains ms k ⊎ Contains ns k
+    by (inl c) = out (contains-cases n ms k c)
+    by (inr c) = inr c
 
 -- the connection that alone can take a turn
 idle-able : (n k : ℕ) (ls : List Line) → AllByRecursion (λ (l : Line). l.number ≢ n → can l.session ≡ false) ls → k ≢ n → can_in (find_line k ls) ≡ true → ⊥

@@ -12,6 +12,7 @@ use Rattle.std.specs.List.{AllByRecursion}
 use Rattle.std.proofs.lemmas.Bool.Decides.{nat_tests}
 use Rattle.std.proofs.lemmas.List.{get_or_default, length-map}
 use Rattle.kb_world.specs.Steps.{IsCalm}
+use Rattle.kb_world.specs.Told.{counted_once}
 use Rattle.kb_service.specs.Hosted.{Kept, TenantState, IsTurn, HavePassed, names_of, refusals_of, world_at}
 use Rattle.kb_machine.specs.Session.{Stage, Greets, BoundTo, Session, fresh, shut_down, without_wait, is_free, fed, overruns, room, can}
 use Rattle.kb_service.specs.Hosted as hosted
@@ -43,6 +44,7 @@ use Rattle.kb_broker.specs.Places.{numbers, number_at, waits_in, Leaves, IsSpent
 use Rattle.kb_broker.specs.Parked.{deadline_at, IsReadyAmong, IsServedFor, IsWhose, IsAllOf}
 use Rattle.kb_broker.specs.declared.serving.Concerned.{Concerned}
 use Rattle.kb_broker.specs.declared.serving.Concerned.TheVariants as concerned
+use Rattle.kb_broker.proofs.Once.{once-grows, once-loud}
 use Rattle.kb_broker.proofs.Parked.{among}
 use Rattle.kb_broker.proofs.Placed.{IsFound, at-read, get-at, find-found, number_at-is}
 
@@ -239,6 +241,10 @@ pub counts-counted : (n : ℕ) (st : Stage) (b c : BrokerState) → IsCountedAt 
 counts-counted n (Greets h) b c r u = let same = ap (λ (x : BrokerState). refusals_of x.tenants u) r.is in omega (arith, same)
 counts-counted n (BoundTo t w) b c r u = r.turn.grows u
 
+-- something was refused to the tenant
+loud-counted : (t n : ℕ) (b c : BrokerState) → IsCountedFor t n b c → IsCalm (refusals_of b.tenants t) (refusals_of c.tenants t) → ⊥
+loud-counted t n b c r = once-loud (refusals_of b.tenants t) (refusals_of c.tenants t) r.once
+
 -- what waits is as ready as before
 ready-counted : (t n : ℕ) (b c : BrokerState) → IsCountedFor t n b c → (u at k : ℕ) (w : Wait) → ready (hosted.kept_of b.tenants u) at k w ≡ Silent → ready (hosted.kept_of c.tenants u) at k w ≡ Silent
 ready-counted t n b c r u at k w = each-tenant (λ v. ready (hosted.kept_of b.tenants v) at k w ≡ Silent → ready (hosted.kept_of c.tenants v) at k w ≡ Silent) t u (eqb t u) refl
@@ -247,9 +253,10 @@ ready-counted t n b c r u at k w = each-tenant (λ v. ready (hosted.kept_of b.te
 
 fed-counted : (b c : BrokerState) (i : ℕ) (l m : Line) (piece : List ℕ) (st : Stage) → IsSound b → first_able b.lines ≡ None → IsAt b.lines i l → l.session.stage ≡ st → m.number ≡ l.number → m.session ≡ shut_down l.session → IsCountedAt l.number st (put_at b i m) c → IsFed l.number piece b c
 fed-counted b c i l m piece (Greets h) sound settled at s n e r =
-    subst (λ x. IsFed l.number piece b x) (sym r.is) (fed-refused b i l m piece h c.unbound_refusals sound settled at s n e r.grows r.counted)
+    subst (λ x. IsFed l.number piece b x) (sym r.is) (fed-refused b i l m piece h c.unbound_refusals sound settled at s n e
+    (once-grows b.unbound_refusals c.unbound_refusals r.once) (once-loud b.unbound_refusals c.unbound_refusals r.once))
 fed-counted b c i l m piece (BoundTo t w) sound settled at s n e r =
-    subst (λ x. IsFed l.number piece b x) (sym r.is) (fed-loud b i t l m piece w (Unit {0}) c.tenants sound settled at s n e r.turn tt (λ u k x. ready-counted t l.number (put_at b i m) c r u b.clock k x) r.counted
+    subst (λ x. IsFed l.number piece b x) (sym r.is) (fed-loud b i t l m piece w (Unit {0}) c.tenants sound settled at s n e r.turn tt (λ u k x. ready-counted t l.number (put_at b i m) c r u b.clock k x) (once-loud (refusals_of b.tenants t) (refusals_of c.tenants t) r.once)
     (λ held. stranded-left b i t l m w c.tenants b.unbound_refusals b.clock sound at n s (λ u ne. r.turn.others tt u ne) r.left held))
 
 -- names stay, and each tenant is still one of the broker's
@@ -335,7 +342,8 @@ fed-from b c i l m piece (Greets h) sound at s counted f =
     either : (x : Bool) (ts : List TenantState) → cond x ts ts ≡ ts
     either true ts = refl
     either false ts = refl
-fed-from b c i l m piece (BoundTo u w) sound at s counted f = fed-since b c i u l w piece sound at s counted.counted f
+fed-from b c i l m piece (BoundTo u w) sound at s counted f = fed-since b c i u l w piece sound at s
+    (loud-counted u l.number (put_at (record b { tenants = left_fed piece b.clock l.number l.session b.tenants }) i m) c counted) f
 
 pub fed-shut : (b c : BrokerState) (i : ℕ) (l m : Line) (piece : List ℕ) → IsSound b → first_able b.lines ≡ None → IsShut (record b { tenants = left_fed piece b.clock l.number l.session b.tenants }) c i l m → IsFed (number_at i b) piece b c
 fed-shut b c i l m piece sound settled h =
@@ -371,19 +379,23 @@ turn-refused H t n b c i m us turn r = turn-then t H H b.tenants us c.tenants (�
 
 pub refused-taken : (H : Type 0) (b c : BrokerState) (i : ℕ) (l m : Line) (us : List TenantState) (st : Stage) → IsTaken H b i l m us → l.session.stage ≡ st → m.session ≡ shut_down l.session → IsTurnAt H st b.tenants us → IsCountedAt l.number st (put_with b i m us) c → IsGoing b c
 refused-taken H b c i l m us (Greets h) k s e turn r =
-    let g = subst (λ ts. IsGoing b (record (put_with b i m ts) { unbound_refusals = c.unbound_refusals })) (sym turn) (refused-going b i l m h c.unbound_refusals k.next.sound k.at s k.number e r.grows) in
+    let g = subst (λ ts. IsGoing b (record (put_with b i m ts) { unbound_refusals = c.unbound_refusals })) (sym turn)
+    (refused-going b i l m h c.unbound_refusals k.next.sound k.at s k.number e
+    (once-grows b.unbound_refusals c.unbound_refusals r.once)) in
     subst (λ x. IsGoing b x) (sym r.is) g
 refused-taken H b c i l m us (BoundTo t w) k s e turn r =
     subst (λ x. IsGoing b x) (sym r.is) (called-going b i t l m H c.tenants k.next.sound k.at (record { wait = w; is = s }) k.number (k.spent.stage t w s) (turn-refused H t l.number b c i m us turn r))
 
 pub served-refused : (H : Type 0) → H → (scope : Scope) (b c : BrokerState) (i : ℕ) (l m : Line) (us : List TenantState) (st : Stage) → AreStill scope b → IsTaken H b i l m us → l.session.stage ≡ st → m.session ≡ shut_down l.session → IsTurnAt H st b.tenants us → IsCountedAt l.number st (put_with b i m us) c → IsServedAt st scope b c
 served-refused H honest scope b c i l m us (Greets h) still k s e turn r =
-    let f = refused-greeting scope b i l m h c.unbound_refusals k.next.sound still k.at k.able s k.number e r.grows r.counted in
+    let f = refused-greeting scope b i l m h c.unbound_refusals k.next.sound still k.at k.able s k.number e
+    (once-grows b.unbound_refusals c.unbound_refusals r.once) (once-loud b.unbound_refusals c.unbound_refusals r.once) in
     let g = subst (λ ts. Turned scope b (record (put_with b i m ts) { unbound_refusals = c.unbound_refusals })) (sym turn) f in
     subst (λ x. Turned scope b x) (sym r.is) g
 served-refused H honest scope b c i l m us (BoundTo t w) still k s e turn r =
     let f = served-bound scope b i t l m w H c.tenants k.next.sound still k.at (first-at b i l k.next k.at) k.able s k.number (k.spent.stage t w s) (turn-refused H t l.number b c i m us turn r) honest
-    (λ calm. absurd (r.counted (calm-right (count b.tenants t) (count us t) (count c.tenants t) (turn.grows t) (r.turn.grows t) calm)))
+    (λ calm. absurd (loud-counted t l.number (put_with b i m us) c r
+    (calm-right (count b.tenants t) (count us t) (count c.tenants t) (turn.grows t) (r.turn.grows t) calm)))
     (λ held. let nobody = left-nobody b.clock l.number (hosted.kept_of us t) (hosted.kept_of c.tenants t) r.left in
     stranded-served b i t l m c.tenants b.unbound_refusals k.next.sound k.at k.number (able-free l.session k.able) (λ u ne. (turn-refused H t l.number b c i m us turn r).others honest u ne)
     (spared-left b t l.number b.clock (hosted.kept_of us t) (hosted.kept_of c.tenants t)
@@ -409,20 +421,20 @@ left-turn clock n t ts = record {
 
 -- and then a refusal is counted for the tenant
 pub counted-for : (b : BrokerState) (t n : ℕ) (us vs : List TenantState) → us ≡ left_by b.clock n (member_at t) b.tenants → IsTurn t (Unit {0}) us vs → ((u : ℕ) → hosted.kept_of vs u ≡ hosted.kept_of us u)
-    → (IsCalm (refusals_of us t) (refusals_of vs t) → ⊥) → IsCountedFor t n b (record b { tenants = vs })
-counted-for b t n us vs is turn stays loud =
+    → refusals_of vs t ≡ counted_once (refusals_of us t) → IsCountedFor t n b (record b { tenants = vs })
+counted-for b t n us vs is turn stays once =
     let first : IsTurn t (Unit {0}) b.tenants us = subst (IsTurn t (Unit {0}) b.tenants) (sym is) (left-turn b.clock n t b.tenants) in
     record {
       is = refl;
       turn = turn-then t (Unit {0}) (Unit {0}) b.tenants us vs (λ u. u) first turn;
       left = stays t ∙ (ap (λ ts. hosted.kept_of ts t) is ∙ left-own b.clock n t (member_at t) b.tenants (λ u e. (let same : t ≡ u = cc in sym same)));
-      counted = λ calm. loud (calm-right (refusals_of b.tenants t) (refusals_of us t) (refusals_of vs t) (first.grows t) (turn.grows t) calm);
+      once = once ∙ ap counted_once (ap (λ ts. refusals_of ts t) is ∙ left-refusals b.clock n (member_at t) b.tenants t);
     }
 
 -- the same, where a is what the broker's own fields are
 pub counted-inside : (a b : BrokerState) (t n : ℕ) (us vs : List TenantState) → a ≡ b → us ≡ left_by a.clock n (member_at t) a.tenants → IsTurn t (Unit {0}) us vs → ((u : ℕ) → hosted.kept_of vs u ≡ hosted.kept_of us u)
-    → (IsCalm (refusals_of us t) (refusals_of vs t) → ⊥) → IsCountedFor t n b (record a { tenants = vs })
-counted-inside a b t n us vs e is turn stays loud = subst (λ (x : BrokerState). IsCountedFor t n x (record a { tenants = vs })) e (counted-for a t n us vs is turn stays loud)
+    → refusals_of vs t ≡ counted_once (refusals_of us t) → IsCountedFor t n b (record a { tenants = vs })
+counted-inside a b t n us vs e is turn stays once = subst (λ (x : BrokerState). IsCountedFor t n x (record a { tenants = vs })) e (counted-for a t n us vs is turn stays once)
 
 -- 4. Turns until none is left
 

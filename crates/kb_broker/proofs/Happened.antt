@@ -10,6 +10,7 @@ use Rattle.kb_machine.specs.Stranded.{NoneStranded}
 use Rattle.kb_machine.proofs.Stranded.{stranded-closed, stranded-opened, stranded-taken, stranded-unopened}
 use Rattle.kb_broker.specs.Hosts.{OnStore, is_honest, IsLater, IsReadyOn, StepsTo}
 use Rattle.kb_broker.proofs.Honest.{later-is, later-on}
+use Rattle.kb_broker.proofs.Once.{once-grows, once-loud}
 
 -- another state on the same store
 module _ {S : Type 0} (disk : S → Disk) (a c : OnStore S) (same : c.store ≡ a.store) where
@@ -35,7 +36,9 @@ connected-ready disk (Err x) a b c n e ready lt same ok err =
 
 connected-step : {A E : Type 0} (r : Result A E) (a c : BrokerState) (n : ℕ) → a.last < n → OnOk r (c ≡ opened a n) → OnErr r (IsRefused a c) → IsStep (Opens n) a c
 connected-step (Ok x) a c n lt ok err = subst (λ x. IsStep (Opens n) a x) (sym ok) (step-opened a n lt)
-connected-step (Err x) a c n lt ok err = subst (λ x. IsStep (Opens n) a x) (sym err.is) (step-unopened a n c.unbound_refusals lt err.grows err.counted)
+connected-step (Err x) a c n lt ok err = subst (λ x. IsStep (Opens n) a x) (sym err.is)
+    (step-unopened a n c.unbound_refusals lt (once-grows a.unbound_refusals c.unbound_refusals err.once)
+    (once-loud a.unbound_refusals c.unbound_refusals err.once))
 
 pub connected : {S A E : Type 0} (disk : S → Disk) (r : Result A E) (a b c : OnStore S) (n : ℕ) → a ≡ b → b.state.last < n → OnOk r (c.state ≡ opened a.state n) → OnErr r (IsRefused a.state c.state) → StepsTo disk (Opens n) b c
 connected disk r a b c n e lt ok err = λ honest.

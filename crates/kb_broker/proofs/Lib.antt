@@ -1,5 +1,7 @@
 pub mod Honest
+pub mod Once
 pub mod InFiles
+pub mod Least
 pub mod Left
 pub mod Placed
 pub mod Heard

@@ -1,6 +1,6 @@
 -- The queue of the connections that wait, as the broker changes; and what is told by the numbers of connections.
-use Rattle.std.proofs.Common.{◌≡◌, ◌≢◌, ◌++◌, ◌<◌, ◌≤◌, ℕ, List, [], ◌∷◌, length, get_or, set, eqb, nat_cmp, Option, Some, None, Bool, true, false, zero, suc, inl, inr, refl, sym, ◌∙◌, ap, subst, arith}
-use Rattle.std.specs.Prelude.{cond, Contains, IsSomeAnd, ◌⊎◌, ◌↔◌}
+use Rattle.std.proofs.Common.{◌≡◌, ◌≢◌, ◌++◌, ◌<◌, ◌≤◌, ℕ, List, [], ◌∷◌, length, get_or, set, eqb, nat_cmp, Option, Some, None, Result, Ok, Err, OnOk, Bool, true, false, zero, suc, inl, inr, refl, sym, ◌∙◌, ap, subst, arith}
+use Rattle.std.specs.Prelude.{cond, Contains, IsOk, IsSomeAnd, ◌⊎◌, ◌↔◌}
 use Rattle.std.specs.FinMap as fin
 use Rattle.std.specs.declared.alloc.Global.{Global}
 use Rattle.std.specs.declared.vec.Vec.{Vec}
@@ -333,6 +333,11 @@ due-more q clock ns told ms parked is k = (λ c. into (Contains-append_cases ns 
     back : IsSomeAnd (fin.get q k) (queue.IsDue clock) ⊎ Contains told k → Contains (ns ++ told) k
     back (inl due) = Contains-append_left ns told k ((parked.exactly k).1 due)
     back (inr c) = Contains-append_right ns told k c
+
+-- a result that is ok
+pub when-ok : {A E : Type 0} (r : Result A E) (P : Type 0) → IsOk r → OnOk r P → P
+when-ok (Ok x) P ok h = h
+when-ok (Err x) P ok h = absurd (cc)
 
 -- a fetch whose deadline has come stands in the queue until then
 due-there : (clock : ℕ) (w : Wait) (o : Option queue.Wait) → until_of o ≡ Some (until w.awaited) → is_past clock w.awaited ≡ true → IsSomeAnd o (queue.IsDue clock)

@@ -19,6 +19,7 @@ use Rattle.kb_broker.specs.declared.run.Event.TheVariants as events
 use Rattle.kb_store.specs.Disk.{Disk}
 use Rattle.kb_broker.specs.Hosts.{OnStore, is_honest}
 use Rattle.kb_broker.specs.Runs.{happening_of, happenings, is_opening, numbers_of_lines, opening, connections_of, Leads, emptied, IsPassed, Passes}
+use Rattle.kb_broker.proofs.Once.{once-loud}
 use Rattle.kb_broker.proofs.RunOrder.{AreRising, numbered}
 
 -- 1. What a tenant's connections got
@@ -32,7 +33,8 @@ grows-passes honest (e ∷ es) old new got h p = grows-then old p.0 new (p.3.ste
 
 -- where nothing is refused, what ends is what closes
 pub ended-leaving : (e : Happening) (old new : BrokerState) (ended : List Sent) → Leads e old new ended → IsCalm old.unbound_refusals new.unbound_refusals → ended ≡ leaving e old.lines
-ended-leaving (Opens n) old new ended h q = elim h [ inl k ↦ k.1 | inr k ↦ absurd (k.0.counted q) ]
+ended-leaving (Opens n) old new ended h q =
+    elim h [ inl k ↦ k.1 | inr k ↦ absurd (once-loud old.unbound_refusals new.unbound_refusals k.0.once q) ]
 ended-leaving (Comes n piece) old new ended h q = h.1
 ended-leaving (Closes n) old new ended h q = h.1
 ended-leaving (Moment now) old new ended h q = h.1

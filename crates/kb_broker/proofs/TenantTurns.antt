@@ -29,7 +29,7 @@ use Rattle.kb_connection.specs.View.{with_session, without_front}
 use Rattle.kb_connection.specs.TenantAnswers.{is_quiet}
 use Rattle.kb_tenants.proofs.Tied.{kept_names, kept_tied}
 use Rattle.kb_tenants.proofs.Answered.{untold}
-use Rattle.kb_tenants.specs.Tenants.{shelf_is_honest}
+use Rattle.kb_tenants.specs.Tenants.{EndsWait, shelf_is_honest}
 use Rattle.kb_machine.proofs.Quiet.{apart-ready, asked-again}
 use Rattle.kb_tenant.specs.Waiting.{AreApart}
 use Rattle.kb_broker.specs.Parked.{IsReleased, IsTouched, IsAskedOn}
@@ -37,7 +37,7 @@ use Rattle.kb_store.specs.Disk.{Disk}
 use Rattle.kb_log.specs.OnShelf.{Log}
 use Rattle.kb_tenants.specs.declared.tenants.Tenants.{Tenants}
 use Rattle.kb_broker.specs.Hosts.{AreHosted, tenants_in}
-use Rattle.kb_broker.specs.Places.{IsSpent, IsLookedAt}
+use Rattle.kb_broker.specs.Places.{IsSpent, IsLookAnswer, IsLookedAt}
 use Rattle.kb_broker.proofs.Handled.{from_ok, turn-sure}
 use Rattle.std.proofs.Common.{eqb}
 use Rattle.std.specs.Prelude.{Contains, nat_lt, ◌<◌, ◌&&◌, ◌⊎◌}
@@ -188,16 +188,24 @@ calm-by x y false e calm loud = loud (λ h. let s = h.same in let l = h.below in
 pub calm-or : (x y : ℕ) {P : Type 0} → (IsCalm x y → P) → ((IsCalm x y → ⊥) → P) → P
 calm-or x y calm loud = calm-by x y (eqb y x && nat_lt x END) refl calm loud
 
--- what a waiting request is answered: what it is told; or its connection is shut, and a member of a group was told something
-abbrev pub AreAnswers : ℕ → ℕ → List TenantState → ℕ → Wait → Plain → Type 0
-AreAnswers clock t ts n w r = plain.IsAnswer w.correlation_id (ready (kept_of ts t) clock n w) r ⊎ ((r ≡ answers.Shut) × (is_members w.awaited ≡ true → ready (kept_of ts t) clock n w ≡ Silent → ⊥))
+-- an answer that ends a fetch's wait, where something was refused: its connection is shut, or it has its reply
+pub refused-answer : (t clock n : ℕ) (ts us : List TenantState) (w : Wait) (r : Plain) → is_members w.awaited ≡ false
+    → (IsCalm (refusals_of ts t) (refusals_of us t) → ⊥) → EndsWait r → IsLookAnswer t clock n ts us w r
+refused-answer t clock n ts us w (answers.Reply bytes) fetch loud ends =
+    inr (inr (record { refused = loud; fetch = fetch; bytes = bytes; reply = refl }))
+refused-answer t clock n ts us w (answers.Wait deadline places) fetch loud ends = absurd ends
+refused-answer t clock n ts us w answers.NoReply fetch loud ends = absurd ends
+refused-answer t clock n ts us w answers.Shut fetch loud ends =
+    inr (inl (refl, λ own none. (let no : false ≡ true = sym fetch ∙ own in absurd (cc))))
 
--- a look that was not refused is told by its answer, and one that was shuts the connection
+-- a look leaves the connection as its answer says
 pub looked-ok : {A E : Type 0} (H : Type 0) (result : Result A E) (whom : Whom) (clock t : ℕ) (ts us : List TenantState) (l new : Line) (w : Wait) (r : Plain) → l.session.stage ≡ BoundTo t (Some w) → IsLookedFor whom clock t w → IsTurn t H ts us
-    → (H → (u : ℕ) → kept_of us u ≡ kept_of ts u) → IsMet t H ts us (λ k m. (m ≡ k) × plain.IsAnswer w.correlation_id (ready k clock l.number w) r) → (H → AreAnswers clock t ts l.number w r)
+    → (H → (u : ℕ) → kept_of us u ≡ kept_of ts u) → IsMet t H ts us (λ k m. (m ≡ k) × plain.IsAnswer w.correlation_id (ready k clock l.number w) r) → (H → IsLookAnswer t clock l.number ts us w r)
     → ((id : ℤ) (reaction : plain.Reaction) → plain.IsAnswer id reaction r → OnOk result (new ≡ with_session l (told reaction id l.session)))
-    → new.number ≡ l.number → without_wait new.session.stage ≡ without_wait l.session.stage → length new.session.unread ≤ length l.session.unread → is_err result ≡ false → IsLookedAt H whom clock l.session.stage ts us l new
-looked-ok H result whom clock t ts us l new w r stage yours turn stays meets says ok number same unread good =
+    → new.number ≡ l.number → without_wait new.session.stage ≡ without_wait l.session.stage → length new.session.unread ≤ length l.session.unread
+    → (is_quiet r ≡ false → new.session.stage ≡ without_wait l.session.stage)
+    → is_err result ≡ false → IsLookedAt H whom clock l.session.stage ts us l new
+looked-ok H result whom clock t ts us l new w r stage yours turn stays meets says ok number same unread ends good =
     let met = λ (honest : H) (calm : IsCalm (refusals_of ts t) (refusals_of us t)). let h : OnOk result (new.session ≡ woken (kept_of ts t) clock l.number l.session) = met-looked H honest result clock t ts us l new w r stage meets ok calm in from_ok result false (new.session ≡ woken (kept_of ts t) clock l.number l.session) (sym good) refl h in
     subst (λ st. IsLookedAt H whom clock st ts us l new) (sym stage)
     (inr (
@@ -223,17 +231,19 @@ looked-ok H result whom clock t ts us l new w r stage yours turn stays meets say
     is-shut : r ≡ answers.Shut → new ≡ with_session l (shut_down l.session)
     is-shut e = is-of Shuts (subst (plain.IsAnswer w.correlation_id Shuts) (sym e) tt)
 
-    is-told : H → AreAnswers clock t ts l.number w r
+    is-told : H → IsLookAnswer t clock l.number ts us w r
     is-told honest = says honest
 
-    left : (b : BrokerState) → b.tenants ≡ ts → b.clock ≡ clock → AreAnswers clock t ts l.number w r → IsUnready AnyWait b l.number new.session.stage
+    left : (b : BrokerState) → b.tenants ≡ ts → b.clock ≡ clock → IsLookAnswer t clock l.number ts us w r → IsUnready AnyWait b l.number new.session.stage
     left b is now (inl says) = unready-met b t w l new stage
         (ap (λ (x : Line). x.session) (is-of (ready (kept_of ts t) clock l.number w) says)
         ∙ (sym (woken-at (kept_of ts t) clock l.number l.session t w stage)
         ∙ (ap (λ k. woken k clock l.number l.session) (ap (λ x. kept_of x t) (sym is)) ∙ ap (λ n. woken (kept_of b.tenants t) n l.number l.session) (sym now))))
-    left b is now (inr gone) = subst (λ (x : Line). IsUnready AnyWait b l.number x.session.stage) (sym (is-shut gone.0)) (shut-unready AnyWait b l.number l.session)
+    left b is now (inr (inl gone)) = subst (λ (x : Line). IsUnready AnyWait b l.number x.session.stage) (sym (is-shut gone.0)) (shut-unready AnyWait b l.number l.session)
+    left b is now (inr (inr refused)) =
+        subst (IsUnready AnyWait b l.number) (sym (ends (ap is_quiet refused.reply))) (shut-unready AnyWait b l.number l.session)
 
-    members : (x : Wait) → l.session.stage ≡ BoundTo t (Some x) → is_members x.awaited ≡ true → AreAnswers clock t ts l.number w r → (new.session.stage ≡ l.session.stage) ⊎ (ready (kept_of ts t) clock l.number x ≡ Silent → ⊥)
+    members : (x : Wait) → l.session.stage ≡ BoundTo t (Some x) → is_members x.awaited ≡ true → IsLookAnswer t clock l.number ts us w r → (new.session.stage ≡ l.session.stage) ⊎ (ready (kept_of ts t) clock l.number x ≡ Silent → ⊥)
     members x at own says = subst (λ (y : Wait). (new.session.stage ≡ l.session.stage) ⊎ (ready (kept_of ts t) clock l.number y ≡ Silent → ⊥)) alike (by says)
       where
         alike : w ≡ x
@@ -245,14 +255,16 @@ looked-ok H result whom clock t ts us l new w r stage yours turn stays meets say
         told-stage Silent e answers = inl (ap (λ (x : Line). x.session.stage) (is-of Silent answers))
         told-stage Shuts e answers = inr (λ none. let no : Shuts ≡ Silent = sym e ∙ none in absurd (cc))
 
-        by : AreAnswers clock t ts l.number w r → (new.session.stage ≡ l.session.stage) ⊎ (ready (kept_of ts t) clock l.number w ≡ Silent → ⊥)
+        by : IsLookAnswer t clock l.number ts us w r → (new.session.stage ≡ l.session.stage) ⊎ (ready (kept_of ts t) clock l.number w ≡ Silent → ⊥)
         by (inl answers) = told-stage (ready (kept_of ts t) clock l.number w) refl answers
-        by (inr gone) = inr (gone.1 (ap (λ (y : Wait). is_members y.awaited) alike ∙ own))
+        by (inr (inl gone)) = inr (gone.1 (ap (λ (y : Wait). is_members y.awaited) alike ∙ own))
+        by (inr (inr refused)) =
+            let no : false ≡ true = sym refused.fetch ∙ (ap (λ (y : Wait). is_members y.awaited) alike ∙ own) in absurd (cc)
 
 -- the reply could not be kept: the connection is shut, and a refusal was counted
 pub looked-err : (H : Type 0) (whom : Whom) (clock t : ℕ) (ts us vs : List TenantState) (l new : Line) (w : Wait) → l.session.stage ≡ BoundTo t (Some w) → IsLookedFor whom clock t w → IsTurn t H ts us → IsTurn t (Unit {0}) us vs
     → (H → (u : ℕ) → kept_of us u ≡ kept_of ts u) → ((u : ℕ) → kept_of vs u ≡ kept_of us u) → (IsCalm (refusals_of us t) (refusals_of vs t) → ⊥) → new ≡ with_session l (shut_down l.session)
-    → new.number ≡ l.number → without_wait new.session.stage ≡ without_wait l.session.stage → length new.session.unread ≤ length l.session.unread → (r : Plain) → (H → AreAnswers clock t ts l.number w r) → (is_quiet r ≡ true → new ≡ l)
+    → new.number ≡ l.number → without_wait new.session.stage ≡ without_wait l.session.stage → length new.session.unread ≤ length l.session.unread → (r : Plain) → (H → IsLookAnswer t clock l.number ts us w r) → (is_quiet r ≡ true → new ≡ l)
     → IsLookedAt H whom clock l.session.stage ts vs l new
 looked-err H whom clock t ts us vs l new w stage yours first then stays again counted is number same unread r says quiet =
     subst (λ st. IsLookedAt H whom clock st ts vs l new) (sym stage)
@@ -270,7 +282,7 @@ looked-err H whom clock t ts us vs l new w stage yours first then stays again co
       },
     ))
   where
-    members : (x : Wait) → l.session.stage ≡ BoundTo t (Some x) → is_members x.awaited ≡ true → AreAnswers clock t ts l.number w r → (new.session.stage ≡ l.session.stage) ⊎ (ready (kept_of ts t) clock l.number x ≡ Silent → ⊥)
+    members : (x : Wait) → l.session.stage ≡ BoundTo t (Some x) → is_members x.awaited ≡ true → IsLookAnswer t clock l.number ts us w r → (new.session.stage ≡ l.session.stage) ⊎ (ready (kept_of ts t) clock l.number x ≡ Silent → ⊥)
     members x at own says = subst (λ (y : Wait). (new.session.stage ≡ l.session.stage) ⊎ (ready (kept_of ts t) clock l.number y ≡ Silent → ⊥)) alike (by says)
       where
         alike : w ≡ x
@@ -288,6 +300,8 @@ looked-err H whom clock t ts us vs l new w stage yours first then stays again co
         told-stage Silent e h = inl (ap (λ (y : Line). y.session.stage) (quiet (silent r h)))
         told-stage Shuts e h = inr (λ none. let no : Shuts ≡ Silent = sym e ∙ none in absurd (cc))
 
-        by : AreAnswers clock t ts l.number w r → (new.session.stage ≡ l.session.stage) ⊎ (ready (kept_of ts t) clock l.number w ≡ Silent → ⊥)
+        by : IsLookAnswer t clock l.number ts us w r → (new.session.stage ≡ l.session.stage) ⊎ (ready (kept_of ts t) clock l.number w ≡ Silent → ⊥)
         by (inl h) = told-stage (ready (kept_of ts t) clock l.number w) refl h
-        by (inr gone) = inr (gone.1 (ap (λ (y : Wait). is_members y.awaited) alike ∙ own))
+        by (inr (inl gone)) = inr (gone.1 (ap (λ (y : Wait). is_members y.awaited) alike ∙ own))
+        by (inr (inr refused)) =
+            let no : false ≡ true = sym refused.fetch ∙ (ap (λ (y : Wait). is_members y.awaited) alike ∙ own) in absurd (cc)

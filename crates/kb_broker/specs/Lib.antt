@@ -1,3 +1,4 @@
+pub mod Able
 pub mod Hosts
 pub mod Opening
 pub mod Parked

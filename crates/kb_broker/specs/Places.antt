@@ -5,10 +5,13 @@ use Rattle.std.specs.declared.alloc.Global.{Global}
 use Rattle.std.specs.declared.vec.Vec.{Vec}
 use Rattle.kb_tenants.specs.Tenants.{AreQuietBut}
 use Rattle.kb_world.specs.Steps.{IsCalm}
+use Rattle.kb_world.specs.Told.{counted_once}
 use Rattle.kb_service.specs.Hosted as hosted
 use Rattle.kb_service.specs.Hosted.{TenantState, IsTurn, IsMet}
 use Rattle.kb_service.specs.Serve.{has_released}
-use Rattle.kb_tenant.specs.Replies.{Silent}
+use Rattle.kb_tenant.specs.Replies.{Silent, IsAnswer}
+use Rattle.kb_tenant.specs.declared.answer.Answer.{Answer}
+use Rattle.kb_tenant.specs.declared.answer.Answer.TheVariants as answers
 use Rattle.kb_service.specs.Waiters.{AreServed}
 use Rattle.kb_machine.specs.Stranded.{IsMembersAt, members_of}
 use Rattle.kb_machine.specs.Tenant.{Wait, is_members, ready}
@@ -105,12 +108,13 @@ pub record IsSpent (s r : Session) : Type 0 where
   pub less : length r.unread < length s.unread
   pub stage : (tenant : ℕ) (wait : Option Wait) → s.stage ≡ BoundTo tenant wait → without_wait r.stage ≡ without_wait s.stage
 
--- a refusal was counted for a tenant, a member of whose groups that waited on the connection of number n waits no longer; and nothing else has changed
+-- one refusal more was counted for a tenant, short of the end of its count; a member of its groups that waited on the connection
+-- of number n waits no longer; and nothing else has changed
 pub record IsCountedFor (t n : ℕ) (old new : BrokerState) : Type 0 where
   pub is : new ≡ record old { tenants = new.tenants }
   pub turn : IsTurn t (Unit {0}) old.tenants new.tenants
   pub left : hosted.kept_of new.tenants t ≡ hosted.left old.clock n (hosted.kept_of old.tenants t)
-  pub counted : IsCalm (refusals_of old t) (refusals_of new t) → ⊥
+  pub once : refusals_of new t ≡ counted_once (refusals_of old t)
 
 -- a refusal, for which the connection of number n is shut, was counted for the tenant that it is bound to, or for none where it still greets
 abbrev pub IsCountedAt : ℕ → Stage → BrokerState → BrokerState → Type 0
@@ -121,6 +125,21 @@ IsCountedAt n (BoundTo tenant wait) old new = IsCountedFor tenant n old new
 abbrev pub IsServedAt : Stage → Scope → BrokerState → BrokerState → Type 0
 IsServedAt (Greets handshaken) scope old new = Turned scope old new
 IsServedAt (BoundTo tenant wait) scope old new = Served tenant scope old new
+
+-- an answer to a fetch in whose look something was refused to its tenant: a reply that says so
+pub record IsRefusedReply (t : ℕ) (old new : List TenantState) (w : Wait) (a : Answer) : Type 0 where
+  pub refused : IsCalm (hosted.refusals_of old t) (hosted.refusals_of new t) → ⊥
+  pub fetch : is_members w.awaited ≡ false
+  pub bytes : Vec ℕ Global
+  pub reply : a ≡ answers.Reply bytes
+
+-- what the request that waits on the connection of number n is answered: what it is told; or its connection is shut, and a member
+-- of a group was told something; or a refused fetch has its reply
+abbrev pub IsLookAnswer : ℕ → ℕ → ℕ → List TenantState → List TenantState → Wait → Answer → Type 0
+IsLookAnswer t clock n old new w a =
+    let told = ready (hosted.kept_of old t) clock n w in
+    IsAnswer w.correlation_id told a
+    ⊎ (((a ≡ answers.Shut) × (is_members w.awaited ≡ true → told ≡ Silent → ⊥)) ⊎ IsRefusedReply t old new w a)
 
 -- a member that waits on the connection l waits on, or was answered by its group
 abbrev pub IsAnsweredMember : List TenantState → ℕ → ℕ → Wait → Line → Line → Type 0

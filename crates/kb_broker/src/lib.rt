@@ -8,6 +8,7 @@
 //! The definitions that the contracts speak of are those of `kb_machine`, seen through `specs/`.
 #![tactic(auto)]
 
+mod able;
 mod broker;
 mod count;
 mod engine;

@@ -1,6 +1,7 @@
 //! The connections that wait.
 
-ghost use Rattle.std.specs.Prelude.{◌≡◌, ◌≢◌, ◌==◌, ◌++◌, ◌⊎◌, ◌↔◌, ℕ, None, Contains, IsSomeAnd, OnOk, OnErr, IfOk};
+ghost use Rattle.std.specs.Prelude.{◌≡◌, ◌≢◌, ◌≤◌, ◌==◌, ◌++◌, ◌⊎◌, ◌↔◌, ℕ, None, Contains, IsSomeAnd, OnOk, OnErr, IfOk, IfSome, vec_capacity};
+ghost use Rattle.std.specs.Bool.{OnTrue};
 ghost use Rattle.std.specs.FinMap as fin;
 ghost use Rattle.kb_waits.specs.Queue.{AreParked, IsDue, IsUnder, IsUnderAny};
 ghost use Rattle.kb_broker.specs.Parked.{keys_for, keys_of, tenant_key, AreSought};
@@ -79,22 +80,24 @@ impl Parking {
 
     /// The connections that are looked at in a moment: those whose deadline has come, and behind them those that were answered; or all that
     /// wait, where it is not known who was answered. The list is to be given back by `give_back`.
+    ///
+    /// It stands in the room that was made when they were parked, and takes no memory. `None` where there is no room for all of them, as
+    /// when more were answered than were parked: then all that wait are to be looked at.
     pub fn sought(
         &mut self,
         alloc: Global,
         answered: &Option<Vec<u64>>,
         clock: u64,
-    ) -> Result<Vec<u64>, AllocError>
-        ensures sought { IfOk result (λ ns. AreSought self.old answered.now clock ns.items) }
+    ) -> Option<Vec<u64>>
+        ensures sought { IfSome result (λ ns. AreSought self.old answered.now clock ns.items) }
         ensures queue { self.new ≡ self.old }
     {
         let mut numbers = mem::replace(&mut self.room, Vec::new(alloc));
-        match seek(&self.waits, answered, clock, &mut numbers) {
-            Ok(()) => Ok(numbers),
-            Err(e) => {
-                self.room = numbers;
-                Err(e)
-            }
+        if seek(&self.waits, answered, clock, &mut numbers) {
+            Some(numbers)
+        } else {
+            self.room = numbers;
+            None
         }
     }
 
@@ -134,37 +137,37 @@ impl Parking {
     }
 }
 
-/// Replaces what is in `numbers` by the connections that are looked at in a moment. After an `Err`, which is want of memory, some may be
-/// missing.
-fn seek(
-    waits: &Waits,
-    answered: &Option<Vec<u64>>,
-    clock: u64,
-    numbers: &mut Vec<u64>,
-) -> Result<(), AllocError>
-    ensures { OnOk result (AreSought waits.now answered.now clock numbers.new.items) }
+/// Replaces what is in `numbers` by the connections that are looked at in a moment, where it has room for them, and answers whether it
+/// had. Takes no memory.
+fn seek(waits: &Waits, answered: &Option<Vec<u64>>, clock: u64, numbers: &mut Vec<u64>) -> bool
+    ensures { OnTrue result (AreSought waits.now answered.now clock numbers.new.items) }
 {
+    if numbers.capacity() < waits.parked() {
+        return false;
+    }
     match answered {
         Some(answered) => due_or_answered(waits, clock, answered, numbers),
-        None => waits.all(numbers),
+        None => {
+            let _ = waits.all(numbers); // there is room
+            true
+        }
     }
 }
 
-/// Replaces what is in `numbers` by the connections whose deadline has come, and behind them those that were answered. After an `Err`,
-/// which is want of memory, some may be missing.
-fn due_or_answered(
-    waits: &Waits,
-    clock: u64,
-    answered: &[u64],
-    numbers: &mut Vec<u64>,
-) -> Result<(), AllocError>
-    ensures { OnOk result ((k : ℕ) → Contains numbers.new.items k ↔ (IsSomeAnd (fin.get waits.now k) (IsDue clock) ⊎ Contains answered.now k)) }
+/// Replaces what is in `numbers` by the connections whose deadline has come, and behind them those that were answered, where it has room
+/// for these, and answers whether it had. Takes no memory, as it has room for all that are parked.
+fn due_or_answered(waits: &Waits, clock: u64, answered: &[u64], numbers: &mut Vec<u64>) -> bool
+    requires { fin.len waits.now ≤ vec_capacity numbers.old }
+    ensures { OnTrue result ((k : ℕ) → Contains numbers.new.items k ↔ (IsSomeAnd (fin.get waits.now k) (IsDue clock) ⊎ Contains answered.now k)) }
 {
-    waits.due(clock, numbers)?;
+    let _ = waits.due(clock, numbers); // there is room
     for number in answered {
-        numbers.push(*number)?;
+        if numbers.len() == numbers.capacity() {
+            return false;
+        }
+        numbers.push_reserved(*number);
     }
-    Ok(())
+    true
 }
 
 /// The keys of a connection of a tenant that waits for some partitions.

@@ -7,18 +7,17 @@ ghost use Rattle.kb_service.specs.Hosted.{IsTurn, IsMet, kept_of, refusals_of};
 ghost use Rattle.kb_service.specs.Replies.{Reaction, IsAnswer};
 ghost use Rattle.kb_service.specs.declared.answer.Answer.TheVariants as any;
 ghost use Rattle.kb_tenant.specs.Replies as plain;
-ghost use Rattle.kb_tenant.specs.declared.answer.Answer.TheVariants as answers;
 ghost use Rattle.kb_machine.specs.Session.{BoundTo, shut_down, can};
 ghost use Rattle.kb_machine.specs.Machine.{after_reaction, after_turn, put};
 ghost use Rattle.kb_machine.specs.Broker.{InRange};
-ghost use Rattle.kb_machine.specs.Tenant.{answer, kept_after, is_members, is_past, ready};
+ghost use Rattle.kb_machine.specs.Tenant.{answer, kept_after, is_past, ready};
 ghost use Rattle.kb_machine.specs.Turned.{is_looked_for};
 ghost use Rattle.kb_tenants.specs.Tenants.{shelf_is_honest};
 ghost use Rattle.kb_connection.specs.Fronts.{is_tenants_at, IsAsked};
 ghost use Rattle.kb_connection.specs.View.{awaited_of, wait_of, with_session, without_front};
 ghost use Rattle.kb_broker.specs.Hosts.{tenants_in, AreHosted, AreLater};
 ghost use Rattle.kb_service.specs.Waiters.{AreServed, IsWaitTold};
-ghost use Rattle.kb_broker.specs.Places.{IsSpent, IsTakenAt, IsTurnAt, IsLookedAt, IsMemberTurnAt, IsWaitTurnAt};
+ghost use Rattle.kb_broker.specs.Places.{IsSpent, IsTakenAt, IsTurnAt, IsLookedAt, IsLookAnswer, IsMemberTurnAt, IsWaitTurnAt};
 ghost use Rattle.kb_broker.specs.Parked.{parked_for, until_of, deadline_at, IsKeyedAt, IsOwnedAt, IsAskedOn, IsAskedOnAt, IsTouchedBy, IsTouchedTurnBy, AreConcerned, AreWaitingFor, IsConcern, IsKnownOrCounted, IsLeftBy, IsOwnTo, IsWhose};
 
 use crate::parking::Parking;
@@ -345,8 +344,8 @@ fn ask<L: PartitionLog + Drop, S: Store>(
     }
 }
 
-/// Looks at a connection again, where it waits for what is looked for. A request that is ready is answered. Where memory is
-/// refused the connection is shut, with a count.
+/// Looks at a connection again, where it waits for what is looked for. A request that is ready is answered. Where memory or the store
+/// refused something, which is counted, its reply says so; or the connection is shut.
 pub fn look_again<L: PartitionLog + Drop, S: Store>(
     alloc: Global,
     tenants: &mut Tenants<L, S>,
@@ -375,7 +374,7 @@ pub fn look_again<L: PartitionLog + Drop, S: Store>(
 }
 
 /// What the request that waits on the connection of a number comes to now: `NoReply` says that it still waits. What the tenants keep
-/// stays, also where something was refused.
+/// stays, also where something was refused; and then a fetch waits no longer.
 fn ask_again<L: PartitionLog + Drop, S: Store>(
     alloc: Global,
     tenants: &mut Tenants<L, S>,
@@ -392,8 +391,8 @@ fn ask_again<L: PartitionLog + Drop, S: Store>(
     ensures meets { IsMet tenant (shelf_is_honest S.disk tenants.new) (tenants_in L.log S.disk tenants.old) (tenants_in L.log S.disk tenants.new)
         (λ k l. (l ≡ k) × plain.IsAnswer waiting.now.correlation_id (ready k clock number (wait_of waiting.now)) result) }
     ensures stays { shelf_is_honest S.disk tenants.new → (t : ℕ) → kept_of (tenants_in L.log S.disk tenants.new) t ≡ kept_of (tenants_in L.log S.disk tenants.old) t }
-    ensures answers { shelf_is_honest S.disk tenants.new → let told = ready (kept_of (tenants_in L.log S.disk tenants.old) tenant) clock number (wait_of waiting.now) in
-        plain.IsAnswer waiting.now.correlation_id told result ⊎ ((result ≡ answers.Shut) × (is_members (wait_of waiting.now).awaited ≡ true → told ≡ plain.Silent → ⊥)) }
+    ensures answers { shelf_is_honest S.disk tenants.new → let ts = tenants_in L.log S.disk tenants.old in
+        IsLookAnswer tenant clock number ts (tenants_in L.log S.disk tenants.new) (wait_of waiting.now) result }
 {
     match &waiting.awaited {
         Awaited::Records {

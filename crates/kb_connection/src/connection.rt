@@ -358,6 +358,7 @@ impl Connection {
         ensures stage { without_wait self.new.session.stage ≡ without_wait self.old.session.stage }
         ensures waits { (self.new.session.stage ≡ self.old.session.stage) ⊎ (self.new.session.stage ≡ without_wait self.old.session.stage) }
         ensures same { is_quiet answer ≡ true → self.new ≡ self.old }
+        ensures ends { is_quiet answer ≡ false → self.new.session.stage ≡ without_wait self.old.session.stage }
         ensures unread { length self.new.session.unread ≤ length self.old.session.unread }
     {
         if let kb_tenant::Answer::Reply(_) = &answer {

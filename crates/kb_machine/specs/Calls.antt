@@ -1,8 +1,8 @@
 -- What the broker's calls answer, and the state that they leave.
-use Rattle.std.specs.Prelude.{◌≡◌, ℕ, ◌≤◌, ◌==◌, ◌&&◌, List, [], ◌∷◌, ◌++◌, max, Bool, true, false, not, if◌then◌else◌, Option, Some, None}
+use Rattle.std.specs.Prelude.{◌≡◌, ℕ, ◌==◌, ◌&&◌, List, [], ◌∷◌, ◌++◌, max, Bool, true, false, not, if◌then◌else◌, Option, Some, None}
 use Rattle.kb_machine.specs.Session.{Stage, Greets, BoundTo, Session, fresh, room, has_member}
 use Rattle.kb_machine.specs.Machine.{each, on, those, find_line}
-use Rattle.kb_world.specs.Steps.{IsCalm}
+use Rattle.kb_world.specs.Told.{counted_once}
 use Rattle.kb_service.specs.Hosted.{TenantState, kept_of, with_kept, left, count_named, all_calm}
 use Rattle.kb_machine.specs.Broker.{BrokerState}
 
@@ -12,11 +12,10 @@ use Rattle.kb_machine.specs.Broker.{BrokerState}
 abbrev pub opened : BrokerState → ℕ → BrokerState
 opened b n = record b { last = n; lines = b.lines ++ record { number = n; session = fresh } ∷ [] }
 
--- after a connection could not be kept: a refusal is counted for no tenant
+-- after a connection could not be kept: one refusal more is counted for no tenant, short of the end of the count
 pub record IsRefused (old new : BrokerState) : Type 0 where
   pub is : new ≡ record old { unbound_refusals = new.unbound_refusals }
-  pub grows : old.unbound_refusals ≤ new.unbound_refusals
-  pub counted : IsCalm old.unbound_refusals new.unbound_refusals → ⊥
+  pub once : new.unbound_refusals ≡ counted_once old.unbound_refusals
 
 abbrev pub other_than : ℕ → ℕ → Bool
 other_than n k = not (k == n)

@@ -1,5 +1,5 @@
 -- All tenants of a broker on one shelf.
-use Rattle.std.specs.Prelude.{◌≡◌, ◌<◌, ◌≤ℤ◌, ◌++◌, ◌∷◌, ◌⊎◌, [], ℕ, ℤ, pos, Bool, true, List, Option, Some, IsSome, option_map, unwrap_or, map, slice_get, string_bytes, Contains}
+use Rattle.std.specs.Prelude.{◌≡◌, ◌<◌, ◌≤ℤ◌, ◌++◌, ◌∷◌, ◌⊎◌, [], ℕ, ℤ, pos, Bool, true, List, Option, Some, IsSome, option_map, unwrap_or, map, slice_get, string_bytes, Contains, ⊤}
 use Rattle.std.specs.FinMap.{get}
 use Rattle.std.specs.declared.alloc.Global.{Global}
 use Rattle.std.specs.declared.vec.Vec.{Vec}
@@ -17,6 +17,8 @@ use Rattle.kb_world.specs.declared.parts.Parts.{Parts}
 use Rattle.kb_service.specs.Hosted.{Kept, TenantState, kept_in, kept_of, names_of, passed, refusals_of, world_at}
 use Rattle.kb_service.specs.Replies.{told_to}
 use Rattle.kb_tenant.specs.Replies.{Silent}
+use Rattle.kb_tenant.specs.declared.answer.Answer.{Answer}
+use Rattle.kb_tenant.specs.declared.answer.Answer.TheVariants as answers
 use Rattle.kb_tenants.specs.declared.tenants.Tenant.{Tenant}
 use Rattle.kb_tenants.specs.declared.tenants.Tenants.{Tenants}
 
@@ -59,6 +61,15 @@ IsApart {L} log ps parts = (t : ℕ) (p : Parts L) → slice_get ps t ≡ Some p
 -- a tenant of those parts, which has no groups, where the files are those
 abbrev pub restored_tenant : {L : Type 0} → (L → Log) → Files → List ℕ → Parts L → TenantState
 restored_tenant log files name parts = record { name = name; kept = kept_in (world_of log parts files) none; refusals = parts.refusals }
+
+-- ---- a look
+
+-- after it a request waits no longer: it is a reply, or the connection is to be shut
+abbrev pub EndsWait : Answer → Type 0
+EndsWait (answers.Reply reply) = ⊤
+EndsWait (answers.Wait deadline keys) = ⊥
+EndsWait answers.NoReply = ⊥
+EndsWait answers.Shut = ⊤
 
 -- ---- who is answered
 

@@ -1,13 +1,13 @@
-use Rattle.std.proofs.Common.{⊎_elim, inl, inr, ap, ◌≡◌, ◌∙◌, true, false, FitsSigned, of_z, rules, subst, sym, to_z, w16, w32}
+use Rattle.std.proofs.Common.{⊎_elim, inl, inr, ap, ◌≡◌, FitsSigned, of_z, rules, subst, sym, to_z, w16, w32}
 use Rattle.std.proofs.lemmas.Int.{to_z-of_z}
 use Rattle.kb_service.specs.Hosted.{kept_of, refusals_of, world_at}
 use Rattle.kb_service.specs.Replies.{told_to}
 use Rattle.kb_tenant.specs.Replies.{IsAnswer, Silent}
 use Rattle.kb_tenant.specs.Serve.{looked}
 use Rattle.kb_machine.specs.Tenant.{is_members, ready_for, ready}
-use Rattle.kb_connection.specs.View.{awaited_of}
+use Rattle.kb_connection.specs.View.{awaited_of, wait_of}
 use Rattle.kb_broker.specs.Hosts.{tenants_in}
-use Rattle.kb_broker.proofs.TenantTurns.{calm-or}
+use Rattle.kb_broker.proofs.TenantTurns.{calm-or, refused-answer}
 use Rattle.kb_broker.proofs.serving.ask_again.Goals as goal
 
 pub returns-in-Records-clause-meets : goal.returns-in-Records-clause-meets
@@ -37,9 +37,12 @@ returns-in-Group-clause-meets g c = λ honest calm.
 pub returns-in-Records-clause-answers : goal.returns-in-Records-clause-answers
 returns-in-Records-clause-answers g c = λ honest.
     let t = c.args.tenant in
-    calm-or (refusals_of (tenants_in g.L.PartitionLog.log g.S.Store.disk c.args.tenants.now) t) (refusals_of (tenants_in g.L.PartitionLog.log g.S.Store.disk c.look.new.self) t)
+    let ts = tenants_in g.L.PartitionLog.log g.S.Store.disk c.args.tenants.now in
+    let us = tenants_in g.L.PartitionLog.log g.S.Store.disk c.look.new.self in
+    calm-or (refusals_of ts t) (refusals_of us t)
     (λ calm. inl (returns-in-Records-clause-meets g c honest calm).1)
-    (λ loud. inr (c.look.ensures.shut loud, λ own none. (let no : false ≡ true = sym (ap (λ x. is_members (awaited_of x)) c.in-Records.is) ∙ own in absurd (cc))))
+    (λ loud. refused-answer t c.args.clock c.args.number ts us (wait_of c.args.waiting.now) c.look.result
+    (ap (λ x. is_members (awaited_of x)) c.in-Records.is) loud (c.look.ensures.answered loud))
 
 pub returns-in-Group-clause-answers : goal.returns-in-Group-clause-answers
 unfolding ready
@@ -50,5 +53,5 @@ returns-in-Group-clause-answers g c = λ honest.
     let fits : FitsSigned w32 w.correlation_id = search rules in
     ⊎_elim
     (λ says. inl (subst (λ x. IsAnswer w.correlation_id (ready_for k a.clock a.number (awaited_of x)) c.tell.result) (sym c.in-Group.is) (subst (λ z. IsAnswer z (told_to a.number k.groups) c.tell.result) (to_z-of_z w32 w.correlation_id fits) says)))
-    (λ gone. inr (gone.0, λ own none. gone.1 (subst (λ x. ready_for k a.clock a.number (awaited_of x) ≡ Silent) c.in-Group.is none)))
+    (λ gone. inr (inl (gone.0, λ own none. gone.1 (subst (λ x. ready_for k a.clock a.number (awaited_of x) ≡ Silent) c.in-Group.is none))))
     c.tell.ensures.answers

@@ -49,4 +49,4 @@ returns-in-Bound-clause-counted g c =
     let vs = tenants_in log disk c.refuse.new.self in
     let end : BrokerState = record { setup = i.setup; tenants = vs; unbound_refusals = i.unbound_refusals; clock = i.clock; last = i.last; lines = i.connections.items } in
     subst (λ st. IsCountedAt c.args.number st c.args.self.now.state end) (sym (ap stage_of c.in-Bound.is))
-    (counted-inside _ c.args.self.now.state c.in-Bound.tenant c.args.number (tenants_in log disk c.left.new.self) vs (state-is _ _ c.self.view_is) c.left.ensures.state c.refuse.ensures.turn c.refuse.ensures.stays c.refuse.ensures.counted)
+    (counted-inside _ c.args.self.now.state c.in-Bound.tenant c.args.number (tenants_in log disk c.left.new.self) vs (state-is _ _ c.self.view_is) c.left.ensures.state c.refuse.ensures.turn c.refuse.ensures.stays c.refuse.ensures.once)

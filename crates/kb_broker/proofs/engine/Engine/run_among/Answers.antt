@@ -1,44 +1,39 @@
-use Rattle.std.proofs.Common.{◌≡◌, false, true, sym, subst}
-use Rattle.kb_broker.specs.Places.{number_at}
-use Rattle.kb_broker.specs.Parked.{IsConfined, SameBut}
-use Rattle.kb_broker.proofs.Going.{among-joined, among-nobody, from_is_ok, gone-then}
+use Rattle.std.proofs.Common.{◌≡◌, None, sym, subst}
+use Rattle.kb_machine.specs.Machine.{first_able}
+use Rattle.kb_broker.specs.Hosts.{OnStore}
+use Rattle.kb_broker.proofs.Going.{HasGone, from-true, gone-same, gone-then}
 use Rattle.kb_broker.proofs.engine.Engine.run_among.Goals as goal
 
-pub loop-known-preserved-in-Nobody : goal.loop-known-preserved-in-Nobody
-loop-known-preserved-in-Nobody g c =
-    let b = c.loop-known.self.state in
-    let d = c.turn.new.self.state in
-    let i = c.in-Some.i in
-    let t = c.turn.ensures in
-    record {
-      gone = gone-then g.S.Store.disk c.args.self.now c.loop-known.self c.turn.new.self c.loop-known.invariant.gone t.going t.later t.turned;
-      among = λ known. among-nobody b d i c.next_among.new.able.keys c.in-Some.ensures.next (subst (λ r. IsConfined r (number_at i b) b d) c.in-Nobody.is t.confined) c.in-Some.ensures.among;
-    }
+pub run_all_turns-requires : goal.run_all_turns-requires
+run_all_turns-requires g c =
+    let disk = g.S.Store.disk in
+    let a = c.args.self.now in
+    let r = c.run_known-known.ensures in
+    let taken = subst (HasGone disk a) (sym c.self.view_is) (gone-same disk a c.requires.sound c.requires.unready c.requires.still) in
+    let gone = subst (HasGone disk a) (sym c.self-2.view_is) (gone-then disk a _ c.run_known-known.new.self taken r.going r.later r.turned) in
+    record { sound = gone.going.sound; unready = gone.unready; still = gone.still }
 
-pub loop-known-preserved-in-These : goal.loop-known-preserved-in-These
-loop-known-preserved-in-These g c =
-    let b = c.loop-known.self.state in
-    let d = c.turn.new.self.state in
-    let n = number_at c.in-Some.i b in
-    let ns = c.deref.result.now in
-    let t = c.turn.ensures in
-    let confined = subst (λ r. IsConfined r n b d) c.in-These.is t.confined in
-    let same : SameBut ns b d = subst (λ ks. SameBut ks b d) (sym c.deref.ensures.value) confined.1 in
-    record {
-      gone = gone-then g.S.Store.disk c.args.self.now c.loop-known.self c.turn.new.self c.loop-known.invariant.gone t.going t.later t.turned;
-      among = λ known. among-joined ns c.next_among.new.able.keys c.join-in-These.new.able.keys b d same c.in-Some.ensures.among (from_is_ok c.join-in-These.result c.is_ok-known-in-These.result _ c.is_ok-known-in-These.ensures.value known c.join-in-These.ensures);
-    }
+pub returns-then-not-known : goal.returns-then-not-known
+returns-then-not-known g c =
+    let disk = g.S.Store.disk in
+    let a = c.args.self.now in
+    let r = c.run_known-known.ensures in
+    let t = c.run_all_turns.ensures in
+    let taken = subst (HasGone disk a) (sym c.self.view_is) (gone-same disk a c.requires.sound c.requires.unready c.requires.still) in
+    let known = subst (HasGone disk a) (sym c.self-2.view_is) (gone-then disk a _ c.run_known-known.new.self taken r.going r.later r.turned) in
+    let gone = gone-then disk a _ c.run_all_turns.new.self known t.going t.later t.turned in
+    record { going = gone.going; later = gone.later; turned = gone.turned; settled = t.settled }
 
-pub loop-known-preserved : goal.loop-known-preserved
-loop-known-preserved g c =
-    let t = c.turn.ensures in
+pub returns-else-not-known : goal.returns-else-not-known
+returns-else-not-known g c =
+    let disk = g.S.Store.disk in
+    let a = c.args.self.now in
+    let r = c.run_known-known.ensures in
+    let taken = subst (HasGone disk a) (sym c.self.view_is) (gone-same disk a c.requires.sound c.requires.unready c.requires.still) in
+    let gone = subst (HasGone disk a) (sym c.self-2.view_is) (gone-then disk a _ c.run_known-known.new.self taken r.going r.later r.turned) in
     record {
-      gone = gone-then g.S.Store.disk c.args.self.now c.loop-known.self c.turn.new.self c.loop-known.invariant.gone t.going t.later t.turned;
-      among = λ known. (let no : false ≡ true = known in absurd (cc));
+      going = gone.going;
+      later = gone.later;
+      turned = gone.turned;
+      settled = subst (λ (x : OnStore g.row.S.Denot). first_able x.state.lines ≡ None) (sym c.self-2.view_is) (from-true c.run_known-known.result _ c.if-not-known.false r.settled);
     }
-
-pub returns : goal.returns
-returns g c =
-    let r = c.run_all_turns.ensures in
-    let gone = gone-then g.S.Store.disk c.args.self.now c.loop-known.self c.run_all_turns.new.self c.loop-known.invariant.gone r.going r.later r.turned in
-    record { going = gone.going; later = gone.later; turned = gone.turned; settled = r.settled }

@@ -45,8 +45,8 @@ returns-then-before-lt18446744073709551615-clause-stays g c =
     stays_at g.L.PartitionLog.log g.S.Store.disk g.met.L.PartitionLog.lawful c.args.self.now c.args.tenant c.index_mut.result.now c.set_clock.new.self c.args.clock
     c.requires.tenant c.index_mut.ensures.value c.requires.kept c.set_clock.ensures.parts c.look-answer.new.parts c.count.new.parts (min (c.refusals-before.result + (c.failures.result - c.failures-failures.result)) END) c.index_mut.result.now.groups c.look-answer.new.shelf c.count.ensures c.look-answer.ensures.step refl c.look-answer.ensures.same
 
-pub returns-then-before-lt18446744073709551615-clause-shut : goal.returns-then-before-lt18446744073709551615-clause-shut
-returns-then-before-lt18446744073709551615-clause-shut g c = λ loud. absurd (loud
+pub returns-then-before-lt18446744073709551615-clause-answered : goal.returns-then-before-lt18446744073709551615-clause-answered
+returns-then-before-lt18446744073709551615-clause-answered g c = λ loud. absurd (loud
     (calm_at g.L.PartitionLog.log g.S.Store.disk g.met.L.PartitionLog.lawful c.args.self.now c.args.tenant c.index_mut.result.now c.set_clock.new.self c.args.clock
     c.requires.tenant c.index_mut.ensures.value c.requires.kept c.set_clock.ensures.parts c.look-answer.new.parts c.count.new.parts (min (c.refusals-before.result + (c.failures.result - c.failures-failures.result)) END) c.index_mut.result.now.groups c.look-answer.new.shelf c.count.ensures c.look-answer.ensures.step
     (record {

@@ -21,9 +21,6 @@ returns-in-Ok-clause-meets g c = λ honest calm.
           (subst (λ z. IsAnswer z (told_to c.args.connection x.groups) c.in-Ok.answer) (to_z-of_z w32 c.args.correlation_id c.ranges.correlation_id) c.in-Ok.ensures.ok),
     )
 
-pub returns-in-Ok-clause-shut : goal.returns-in-Ok-clause-shut
-returns-in-Ok-clause-shut g c = λ below loud. absurd (loud (record { same = refl; below = below }))
-
 pub returns-in-Ok-clause-answers : goal.returns-in-Ok-clause-answers
 returns-in-Ok-clause-answers g c =
     let ts = c.args.self.now in

@@ -1,0 +1,62 @@
+use Rattle.std.proofs.Common.{◌≡◌, ◌∷◌, ◌∙◌, [], false, true, inr, ap, sym, subst}
+use Rattle.std.specs.Prelude.{Contains}
+use Rattle.kb_broker.specs.Places.{number_at}
+use Rattle.kb_broker.specs.Parked.{IsConfined, SameBut}
+use Rattle.kb_broker.proofs.Honest.{state-is}
+use Rattle.kb_broker.proofs.Placed.{at-read, number_at-is}
+use Rattle.kb_broker.proofs.Going.{among-joined, among-nobody, from-true, gone-same, gone-then}
+use Rattle.kb_broker.proofs.engine.Engine.run_known.Goals as goal
+
+pub loop-known-init : goal.loop-known-init
+loop-known-init g c = record {
+  gone = gone-same g.S.Store.disk c.args.self.now c.requires.sound c.requires.unready c.requires.still;
+  among = λ known k able. from-true c.join-known.result _ known c.join-known.ensures k able (inr (c.requires.among k able));
+}
+
+pub loop-known-preserved-in-Nobody : goal.loop-known-preserved-in-Nobody
+loop-known-preserved-in-Nobody g c =
+    let b = c.loop-known.self.state in
+    let d = c.turn.new.self.state in
+    let i = c.in-Some.i in
+    let l = c.index.result.now in
+    let t = c.turn.ensures in
+    let joined = c.join-known-in-Nobody in
+    let own = ap (λ k. k ∷ []) (c.number-number.ensures ∙ sym (number_at-is b i l (at-read _ b i l (state-is _ _ c.self.view_is) c.in-Some.ensures.next.within c.index.ensures))) in
+    record {
+      gone = gone-then g.S.Store.disk c.args.self.now c.loop-known.self c.turn.new.self c.loop-known.invariant.gone t.going t.later t.turned;
+      among = λ known. among-nobody b d (number_at i b) (c.number-number.result ∷ []) c.next_among.new.able.items joined.new.able.items
+          (subst (λ r. IsConfined r (number_at i b) b d) c.in-Nobody.is t.confined) c.in-Some.ensures.among own (from-true joined.result _ known joined.ensures);
+    }
+
+pub loop-known-preserved-in-These : goal.loop-known-preserved-in-These
+loop-known-preserved-in-These g c =
+    let b = c.loop-known.self.state in
+    let d = c.turn.new.self.state in
+    let n = number_at c.in-Some.i b in
+    let t = c.turn.ensures in
+    let joined = c.join-known-in-These in
+    let confined = subst (λ r. IsConfined r n b d) c.in-These.is t.confined in
+    record {
+      gone = gone-then g.S.Store.disk c.args.self.now c.loop-known.self c.turn.new.self c.loop-known.invariant.gone t.going t.later t.turned;
+      among = λ known. among-joined b d n c.deref.result.now c.next_among.new.able.items joined.new.able.items
+          (subst (λ ns. Contains ns n) (sym c.deref.ensures.value) confined.0) (subst (λ ns. SameBut ns b d) (sym c.deref.ensures.value) confined.1)
+          c.in-Some.ensures.among (from-true joined.result _ known joined.ensures);
+    }
+
+pub loop-known-preserved : goal.loop-known-preserved
+loop-known-preserved g c =
+    let t = c.turn.ensures in
+    record {
+      gone = gone-then g.S.Store.disk c.args.self.now c.loop-known.self c.turn.new.self c.loop-known.invariant.gone t.going t.later t.turned;
+      among = λ known. (let no : false ≡ true = known in absurd (cc));
+    }
+
+pub returns : goal.returns
+returns g c =
+    let gone = c.loop-known.invariant.gone in
+    record { going = gone.going; later = gone.later; turned = gone.turned; settled = tt }
+
+pub returns-in_default : goal.returns-in_default
+returns-in_default g c =
+    let gone = c.loop-known.invariant.gone in
+    record { going = gone.going; later = gone.later; turned = gone.turned; settled = c.in_default.ensures.none }

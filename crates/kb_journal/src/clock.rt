@@ -5,18 +5,32 @@ ghost use Rattle.std.specs.Duration.{as_nanos};
 
 use jiff::Timestamp;
 use std::alloc::{AllocError, Global};
-use std::time::Duration;
+use std::time::{Clock, Duration, SystemTime};
 
 /// The last moment, in milliseconds.
 const LAST_MOMENT: u64 = 4_611_686_018_427_387_904;
 
 /// The moment so long after the beginning of 1970: in whole milliseconds, and at most 2^62.
-pub fn moment_of(since: Duration) -> u64
+fn moment_of(since: Duration) -> u64
     ensures { result ≡ min (as_nanos since / 1000000) (2 ^ 62) }
 {
     u64::try_from(since.as_millis())
         .unwrap_or(LAST_MOMENT)
         .min(LAST_MOMENT)
+}
+
+/// The moment that a clock shows: milliseconds since the beginning of 1970, at most 2^62. It is 0 where the clock cannot be read, or
+/// is set to a time before.
+pub fn now(clock: &impl Clock) -> u64
+    ensures { result ≤ 2 ^ 62 }
+{
+    let Ok(time) = SystemTime::now(clock) else {
+        return 0;
+    };
+    match time.duration_since(SystemTime::UNIX_EPOCH) {
+        Ok(since) => moment_of(since),
+        Err(_) => 0,
+    }
 }
 
 /// A moment as text, in UTC, as `2026-11-24T21:10:42.5Z` (ISO 8601). One after the year 9999 has no text but `-`.

@@ -1,5 +1,6 @@
 pub mod Accounted
 pub mod Blamed
+pub mod Counted
 pub mod Drops
 pub mod Found
 pub mod Headed

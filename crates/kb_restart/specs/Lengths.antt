@@ -1,14 +1,32 @@
 -- How long the files of a store are, and what was dropped of them.
-use Rattle.std.specs.Prelude.{◌<◌, ◌==◌, ℕ, List, [], ◌∷◌, map, Option, Some, None, nat_le, if◌then◌else◌}
-use Rattle.std.specs.FinMap.{keys}
-use Rattle.std.specs.List.{AllByRecursion, filter_map}
-use Rattle.kb_store.specs.Disk.{Disk, len_of}
+use Rattle.std.specs.Prelude.{◌<◌, ◌==◌, ℕ, List, [], ◌∷◌, length, map, Option, Some, None, unwrap_or, nat_le, if◌then◌else◌}
+use Rattle.std.specs.FinMap.{get, keys}
+use Rattle.std.specs.List.{AllByRecursion, filter_map, sum_by}
+use Rattle.kb_store.specs.Disk.{Disk, Table}
+use Rattle.kb_restart.specs.Counts.{told}
 use Rattle.kb_restart.specs.declared.lengths.Dropped.{Dropped}
 use Rattle.kb_restart.specs.declared.lengths.FileLength.{FileLength}
+use Rattle.kb_restart.specs.declared.lengths.FileTotal.{FileTotal}
 
--- each file with its length
+-- the length that a table has of a file, 0 where it has none
+abbrev pub length_of : Table → ℕ → ℕ
+length_of table file = unwrap_or (get table file) 0
+
+-- each file of a table with its length
+abbrev pub listed_in : Table → List FileLength
+listed_in table = map (λ file. record { file = file; length = length_of table file }) (keys table)
+
+-- the same of a store
 abbrev pub lengths_of : Disk → List FileLength
-lengths_of d = map (λ file. record { file = file; length = len_of d file }) (keys d.table)
+lengths_of d = listed_in d.table
+
+-- how many files are some, and how many bytes they have together
+abbrev pub total_of : List FileLength → FileTotal
+total_of files = record { files = length files; bytes = told (sum_by (λ f. f.length) files) }
+
+-- the same of all files of a table
+abbrev pub total_in : Table → FileTotal
+total_in table = record { files = length (keys table); bytes = told (sum_by (length_of table) (keys table)) }
 
 -- each number is below those behind it
 abbrev pub AreRising : List FileLength → Type 0

@@ -1,3 +1,4 @@
 pub mod Again
+pub mod Counts
 pub mod Lengths
 pub mod Restart

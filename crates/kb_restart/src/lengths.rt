@@ -1,7 +1,7 @@
 //! How long the files of a store are, and what was dropped of them from one moment to another.
 ghost use Rattle.std.specs.Prelude.{◌≡◌, IfOk};
-ghost use Rattle.kb_store.specs.Disk.{HasCause, Keeps};
-ghost use Rattle.kb_restart.specs.Lengths.{AreRising, drop_of, drops, from_file, length_at, lengths_of};
+ghost use Rattle.kb_store.specs.Disk.{HasCause, Keeps, Table};
+ghost use Rattle.kb_restart.specs.Lengths.{AreRising, drop_of, drops, from_file, length_at, lengths_of, listed_in, total_in, total_of};
 
 use kb_store::{Store, StoreFault};
 use std::alloc::{AllocError, Global};
@@ -11,6 +11,30 @@ use std::alloc::{AllocError, Global};
 pub struct FileLength {
     pub file: u64,
     pub length: u64,
+}
+
+/// How many files there are, and how many bytes they have together. More bytes than each `u64` are told as the greatest.
+#[derive(Clone, Copy, Debug, PartialEq, Eq)]
+pub struct FileTotal {
+    pub files: u64,
+    pub bytes: u64,
+}
+
+impl FileTotal {
+    /// What some files come to. Where they are all files of a store, as [`file_lengths`] gives them, it is what the store has.
+    pub fn of(files: &[FileLength]) -> FileTotal
+        ensures files { result ≡ total_of files.now }
+        ensures store { (table : Table) → files.now ≡ listed_in table → result ≡ total_in table }
+    {
+        let mut bytes: u64 = 0;
+        for file in files {
+            bytes = bytes.saturating_add(file.length);
+        }
+        FileTotal {
+            files: files.len() as u64,
+            bytes,
+        }
+    }
 }
 
 /// A file of which something was dropped.

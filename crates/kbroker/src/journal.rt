@@ -3,12 +3,11 @@
 ghost use Rattle.std.specs.Prelude.{◌≤◌, ◌^◌, IfSome};
 ghost use Rattle.kb_restart.specs.Lengths.{AreRising};
 
-use crate::found::bytes_of;
 use kb_broker::Broker;
 use kb_journal::{Pace, Tally, time_text};
 use kb_log::PartitionLog;
 use kb_node::{Edge, Settings, Store, Turn, tenant_names};
-use kb_restart::{Counts, Dropped, FileLength, dropped_between};
+use kb_restart::{Counts, Dropped, FileLength, FileTotal, dropped_between};
 use std::alloc::{AllocError, Global};
 use std::net::Net;
 
@@ -17,6 +16,15 @@ use std::net::Net;
 struct Tenant {
     name: String,
     refusals: Tally,
+}
+
+/// What stands in front of what was found in a folder.
+#[derive(Clone, Copy, Debug, PartialEq, Eq)]
+pub enum Word {
+    /// The broker serves it. Behind it stands how many connections there are at most.
+    Start,
+    /// A script runs on it.
+    Found,
 }
 
 /// What was told so far. A line that cannot be written is passed over.
@@ -68,61 +76,28 @@ impl Journal {
         }
     }
 
-    /// The broker serves what was found in its folder: so many topics and partitions, and these files, where their lengths could be had, of which so many are of no log.
-    pub fn tell_start(
-        &self,
-        rt: &HostRuntime,
-        now: u64,
-        counts: Counts,
-        files: Option<&[FileLength]>,
-        strays: usize,
-    ) {
-        if !self.is_quiet {
-            let connections = self.connections;
-            let time = time_of(rt, now);
-            let holds = self.found_text(rt.alloc(), counts, files, strays);
-            let _ = eprintln!(rt; "{time} start: {holds}, connections at most {connections}");
-        }
-    }
-
-    /// This was found in the folder: so many topics and partitions, and these files, where their lengths could be had, of which so many are of no log.
+    /// What was found in the folder, behind a word: so many tenants, topics, partitions and stray files, and so many files and bytes,
+    /// where their lengths could be had.
     pub fn tell_found(
         &self,
         rt: &HostRuntime,
         now: u64,
+        word: Word,
         counts: Counts,
         files: Option<&[FileLength]>,
-        strays: usize,
     ) {
-        if !self.is_quiet {
-            let time = time_of(rt, now);
-            let holds = self.found_text(rt.alloc(), counts, files, strays);
-            let _ = eprintln!(rt; "{time} found: {holds}");
+        if self.is_quiet {
+            return;
         }
-    }
-
-    /// What was found, which is empty where there is no memory for it.
-    fn found_text(
-        &self,
-        alloc: Global,
-        counts: Counts,
-        files: Option<&[FileLength]>,
-        strays: usize,
-    ) -> String {
-        let tenants = self.tenants.len();
-        let (topics, partitions) = (counts.topics, counts.partitions);
-        let text = match files {
-            Some(files) => {
-                let (count, bytes) = (files.len(), bytes_of(files));
-                format!(in alloc;
-                    "tenants {tenants}, topics {topics}, partitions {partitions}, files {count}, bytes {bytes}, stray files {strays}"
-                )
+        let time = time_of(rt, now);
+        let holds = found_text(rt.alloc(), counts, files.map(FileTotal::of));
+        let connections = self.connections;
+        let _ = match word {
+            Word::Start => {
+                eprintln!(rt; "{time} start: {holds}, connections at most {connections}")
             }
-            None => format!(in alloc;
-                "tenants {tenants}, topics {topics}, partitions {partitions}, stray files {strays}"
-            ),
+            Word::Found => eprintln!(rt; "{time} found: {holds}"),
         };
-        text.unwrap_or(String::new(alloc))
     }
 
     /// The broker serves no longer.
@@ -217,6 +192,25 @@ fn tenants_of(alloc: Global, settings: &Settings) -> Result<Vec<Tenant>, AllocEr
         })?;
     }
     Ok(tenants)
+}
+
+/// What was found, which is empty where there is no memory for it.
+fn found_text(alloc: Global, counts: Counts, total: Option<FileTotal>) -> String {
+    let Counts {
+        tenants,
+        topics,
+        partitions,
+        strays,
+    } = counts;
+    let text = match total {
+        Some(FileTotal { files, bytes }) => format!(in alloc;
+            "tenants {tenants}, topics {topics}, partitions {partitions}, files {files}, bytes {bytes}, stray files {strays}"
+        ),
+        None => format!(in alloc;
+            "tenants {tenants}, topics {topics}, partitions {partitions}, stray files {strays}"
+        ),
+    };
+    text.unwrap_or(String::new(alloc))
 }
 
 /// What an opening dropped of a file.

@@ -8,7 +8,6 @@
 #![tactic(auto)]
 
 mod check;
-mod clock;
 mod dump;
 mod folder;
 mod found;

@@ -1,12 +1,12 @@
 //! `kbroker script`: plays a script of events.
 
-use crate::clock::now;
 use crate::folder::{hold, store_in};
 use crate::found::lengths_in;
-use crate::journal::Journal;
+use crate::journal::{Journal, Word};
 use crate::{Fault, config, settings_of};
 use clap::{Arg, ArgAction, ArgMatches, Command};
 use kb_broker::ScriptFault;
+use kb_journal::now;
 use kb_log::ListLog;
 use kb_node::{
     Listing, NodeFault, Settings, StartFault, Store, play_script, play_script_on, play_script_with,
@@ -77,10 +77,10 @@ fn script_on<R: BufRead, W: Write>(
     journal.tell_dropped(rt, now(rt), before.as_deref(), after.as_deref());
     let Restarted {
         mut broker,
-        strays,
+        strays: _,
         counts,
     } = opened.map_err(|refused| StartFault::from(refused.fault))?;
-    journal.tell_found(rt, now(rt), counts, after.as_deref(), strays.len());
+    journal.tell_found(rt, now(rt), Word::Found, counts, after.as_deref());
     let played = play_script_on(alloc, &mut broker, reader, writer);
     journal.tell_refusals(rt, &broker, now(rt));
     match played {

@@ -1,11 +1,11 @@
 //! `kbroker serve`: serves sockets, and tells of it.
 
-use crate::clock::now;
 use crate::folder::{hold, store_in};
 use crate::found::lengths_in;
-use crate::journal::Journal;
+use crate::journal::{Journal, Word};
 use crate::{Fault, settings_of};
 use clap::ArgMatches;
+use kb_journal::now;
 use kb_log::PartitionLog;
 use kb_node::{Edge, Limits, Listing, NodeFault, StartFault, Store, data_folder};
 use kb_restart::{Restarted, open_broker};
@@ -34,7 +34,7 @@ pub fn serve(rt: &HostRuntime, found: &ArgMatches<'_>) -> Result<(), Fault> {
     journal.tell_dropped(rt, now(rt), before.as_deref(), after.as_deref());
     let Restarted {
         broker,
-        strays,
+        strays: _,
         counts,
     } = opened.map_err(|refused| StartFault::from(refused.fault))?;
     let address = format!(in alloc; "{}:{}", settings.host, settings.port)?;
@@ -43,7 +43,7 @@ pub fn serve(rt: &HostRuntime, found: &ArgMatches<'_>) -> Result<(), Fault> {
     if println!(rt; "listening on {}:{}", settings.host, edge.port()).is_err() {
         return Err(Fault::Node(NodeFault::Write));
     }
-    journal.tell_start(rt, now(rt), counts, after.as_deref(), strays.len());
+    journal.tell_found(rt, now(rt), Word::Start, counts, after.as_deref());
     turn_on(rt, &mut edge, &mut journal);
     journal.tell_stop(rt, now(rt));
     Ok(())

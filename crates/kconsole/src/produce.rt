@@ -8,9 +8,8 @@ use crate::fault::Fault;
 use crate::link::Link;
 use crate::progress::Progress;
 use kb_client::{ClientFault, MAX_LINE_BYTES, ProducerCore};
-use kb_journal::moment_of;
+use kb_journal::now;
 use std::io::Read;
-use std::time::SystemTime;
 
 /// How often it asks or waits at most.
 const TURNS: u64 = 9_223_372_036_854_775_807;
@@ -164,18 +163,5 @@ impl Producer {
             self.core.input(&replies[..n])?;
         }
         Ok(())
-    }
-}
-
-/// The time since 1970 in milliseconds, at least 0 and at most 2^62.
-fn now(rt: &HostRuntime) -> u64
-    ensures { result ≤ 2 ^ 62 }
-{
-    let Ok(time) = SystemTime::now(rt) else {
-        return 0;
-    };
-    match time.duration_since(SystemTime::UNIX_EPOCH) {
-        Ok(since) => moment_of(since),
-        Err(_) => 0,
     }
 }

@@ -8,6 +8,7 @@ use Rattle.kb_restart.proofs.Read.{same_owners, listed, read_listed, cleared, ar
 use Rattle.kb_opening.proofs.Openings.{missed_since}
 use Rattle.kb_restart.specs.Restart.{owners_of, AreOwnedNamed}
 use Rattle.kb_segment_log.proofs.Comes.{kept_headers, headers_then}
+use Rattle.kb_segment_log.proofs.Opened.{distinct_moved}
 use Rattle.kb_opening.specs.Opened.{Owners, TenantLosesNothing}
 use Rattle.kb_restart.proofs.Same.{tenant_kept, named_still}
 use Rattle.kb_restart.proofs.Headed.{all_headed}
@@ -135,6 +136,9 @@ returns-clause-all_strays g c =
     let q = c.requires in
     λ h file none. Contains-permutation (all_files c.open_tenants.new.directory) c.in_ok-strays.strays.items file c.in_ok-strays.ensures.these
     (left_all first files next q.there q.given_out q.once d e.all mid c.in_ok-parts.parts.items now c.open_tenants.new.shelf.next c.open_tenants.new.directory e.kept c.in_ok-parts.ensures.restored names h (e.what (c.in_ok-parts.ensures.others.honest h)) file none)
+
+pub returns-clause-once : goal.returns-clause-once
+returns-clause-once g c = distinct_moved (all_files c.open_tenants.new.directory) c.in_ok-strays.strays.items c.in_ok-strays.ensures.these c.in_ok-parts.ensures.restored.listed.once
 
 pub returns-clause-others : goal.returns-clause-others
 returns-clause-others g c =

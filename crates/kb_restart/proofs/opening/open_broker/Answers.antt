@@ -1,4 +1,4 @@
-use Rattle.std.proofs.Common.{◌∙◌, ℕ, Bor, Err, Some, IfErr, List, length, map, sym, ap, subst, arith}
+use Rattle.std.proofs.Common.{◌≡◌, ◌∙◌, ℕ, Bor, Err, Some, IfErr, List, length, map, sym, ap, subst, arith}
 use Rattle.std.specs.Ordering.{nat_cmp}
 use Rattle.std.specs.Cmp.Lexicographic.{slice_cmp}
 use Rattle.std.specs.FinMap.{keys}
@@ -8,14 +8,20 @@ use Rattle.std.proofs.lemmas.List.{length-map}
 use Rattle.std.proofs.lemmas.Result.{err_from_is_err_and}
 use Rattle.kb_settings.proofs.NamesInOrder.{rises-in_order}
 use Rattle.kb_segment_log.specs.SegmentLog.{segment_log, Clears}
+use Rattle.kb_segment_log.specs.declared.log.SegmentLog.{SegmentLog}
+use Rattle.kb_topics.specs.Catalog.{known}
+use Rattle.kb_topics.specs.Known.{Known}
+use Rattle.kb_world.specs.declared.parts.Parts.{Parts}
 use Rattle.kb_service.specs.Hosted.{TenantState, names_of}
 use Rattle.kb_broker.specs.Opening.{tenant_of, tenants_of, HaveNoGroups}
 use Rattle.kb_broker.specs.declared.opening.OpenRefused.{OpenRefused}
+use Rattle.kb_restart.specs.Counts.{counts_of}
 use Rattle.kb_restart.specs.Restart.{BlamesShelf, ComeToTheSame, IsOfLog, have_nothing_refused, tenants_restored}
 use Rattle.kb_tenants.specs.Tenants.{AreSettled}
 use Rattle.kb_restart.proofs.Accounted.{there_listed}
 use Rattle.kb_restart.proofs.Same.{same_since, same_kept}
 use Rattle.kb_restart.proofs.Blamed.{shelf_blamed}
+use Rattle.kb_restart.proofs.Counted.{knowns_restored}
 use Rattle.kb_restart.proofs.Listed.{all_shelved, all_given_out, listed_apart}
 use Rattle.kb_restart.proofs.Reopened.{agree_all, names_restored, none_counted, keeps_then, cleared_since, only_reopened, reopened_since, strays_since, left_since}
 use Rattle.kb_restart.proofs.Seated.{no_groups}
@@ -96,11 +102,11 @@ over-requires-clause-names g c =
     let whole = tenants_of c.args.settings.now.users.items in
     let own = c.in-Ok.ensures ∙ ap tenants_of c.deref.ensures.value in
     let named = ap (map (λ (name : Bor (List ℕ)). name.now)) c.deref-2.ensures.value ∙ own in
-    let last = map (λ (name : Bor (List ℕ)). name.now) c.deref-in-Ok-open_all-2.result.now in
+    let last = map (λ (name : Bor (List ℕ)). name.now) c.deref-in-Ok-open_all-3.result.now in
     let ps = c.in-Ok-open_all.parts.items in
     let e = c.in-Ok-open_all.ensures in
     let many = e.count ∙ sym (length-map c.deref-2.result.now (λ (name : Bor (List ℕ)). name.now)) in
-    let again = ap (map (λ (name : Bor (List ℕ)). name.now)) c.deref-in-Ok-open_all-2.ensures.value ∙ sym (ap (map (λ (name : Bor (List ℕ)). name.now)) c.deref-2.ensures.value) in
+    let again = ap (map (λ (name : Bor (List ℕ)). name.now)) c.deref-in-Ok-open_all-3.ensures.value ∙ sym (ap (map (λ (name : Bor (List ℕ)). name.now)) c.deref-2.ensures.value) in
     ap names_of (c.in_ok-tenants-in-Ok-open_all.ensures.hosted ∙ ap (λ ns. tenants_restored d3.files ns ps) again) ∙ names_restored d3.files names ps many ∙ named
 
 pub returns-in_err-broker-in-Ok-open_all-clause-others_err : goal.returns-in_err-broker-in-Ok-open_all-clause-others_err
@@ -131,7 +137,7 @@ returns-in-Ok-open_all-clause-calm g c =
     let names = map (λ (name : Bor (List ℕ)). name.now) c.deref-2.result.now in
     let ps = c.in-Ok-open_all.parts.items in
     let e = c.in-Ok-open_all.ensures in
-    let again = ap (map (λ (name : Bor (List ℕ)). name.now)) c.deref-in-Ok-open_all-2.ensures.value ∙ sym (ap (map (λ (name : Bor (List ℕ)). name.now)) c.deref-2.ensures.value) in
+    let again = ap (map (λ (name : Bor (List ℕ)). name.now)) c.deref-in-Ok-open_all-3.ensures.value ∙ sym (ap (map (λ (name : Bor (List ℕ)). name.now)) c.deref-2.ensures.value) in
     let hosts = ap (λ s. s.tenants) c.in_ok-broker-in-Ok-open_all.ensures.state ∙ c.in_ok-tenants-in-Ok-open_all.ensures.hosted ∙ ap (λ ns. tenants_restored d3.files ns ps) again in
     subst (λ (xs : List TenantState). have_nothing_refused xs) (sym hosts) (none_counted d3.files names ps e.refusals)
 
@@ -153,7 +159,7 @@ returns-in-Ok-open_all-clause-state g c =
     let e = c.in-Ok-open_all.ensures in
     let many = e.count ∙ sym (length-map c.deref-2.result.now (λ (name : Bor (List ℕ)). name.now)) in
     let kept = keeps_then d0 d1 d2 k1 k2 in
-    let again = ap (map (λ (name : Bor (List ℕ)). name.now)) c.deref-in-Ok-open_all-2.ensures.value ∙ sym (ap (map (λ (name : Bor (List ℕ)). name.now)) c.deref-2.ensures.value) in
+    let again = ap (map (λ (name : Bor (List ℕ)). name.now)) c.deref-in-Ok-open_all-3.ensures.value ∙ sym (ap (map (λ (name : Bor (List ℕ)). name.now)) c.deref-2.ensures.value) in
     let hosts = ap (λ s. s.tenants) c.in_ok-broker-in-Ok-open_all.ensures.state ∙ c.in_ok-tenants-in-Ok-open_all.ensures.hosted ∙ ap (λ ns. tenants_restored d3.files ns ps) again in
     let back = c.in_ok-broker-in-Ok-open_all.ensures.store ∙ ap (λ s. s.store) c.in_ok-tenants-in-Ok-open_all.ensures.shelf in
     let ts = c.in_ok-broker-in-Ok-open_all.broker.state.tenants in
@@ -179,7 +185,7 @@ returns-in-Ok-open_all-clause-only g c =
     let e = c.in-Ok-open_all.ensures in
     let many = e.count ∙ sym (length-map c.deref-2.result.now (λ (name : Bor (List ℕ)). name.now)) in
     let kept = keeps_then d0 d1 d2 k1 k2 in
-    let again = ap (map (λ (name : Bor (List ℕ)). name.now)) c.deref-in-Ok-open_all-2.ensures.value ∙ sym (ap (map (λ (name : Bor (List ℕ)). name.now)) c.deref-2.ensures.value) in
+    let again = ap (map (λ (name : Bor (List ℕ)). name.now)) c.deref-in-Ok-open_all-3.ensures.value ∙ sym (ap (map (λ (name : Bor (List ℕ)). name.now)) c.deref-2.ensures.value) in
     let hosts = ap (λ s. s.tenants) c.in_ok-broker-in-Ok-open_all.ensures.state ∙ c.in_ok-tenants-in-Ok-open_all.ensures.hosted ∙ ap (λ ns. tenants_restored d3.files ns ps) again in
     let back = c.in_ok-broker-in-Ok-open_all.ensures.store ∙ ap (λ s. s.store) c.in_ok-tenants-in-Ok-open_all.ensures.shelf in
     let ts = c.in_ok-broker-in-Ok-open_all.broker.state.tenants in
@@ -206,7 +212,7 @@ returns-in-Ok-open_all-clause-strays g c =
     let e = c.in-Ok-open_all.ensures in
     let many = e.count ∙ sym (length-map c.deref-2.result.now (λ (name : Bor (List ℕ)). name.now)) in
     let kept = keeps_then d0 d1 d2 k1 k2 in
-    let again = ap (map (λ (name : Bor (List ℕ)). name.now)) c.deref-in-Ok-open_all-2.ensures.value ∙ sym (ap (map (λ (name : Bor (List ℕ)). name.now)) c.deref-2.ensures.value) in
+    let again = ap (map (λ (name : Bor (List ℕ)). name.now)) c.deref-in-Ok-open_all-3.ensures.value ∙ sym (ap (map (λ (name : Bor (List ℕ)). name.now)) c.deref-2.ensures.value) in
     let hosts = ap (λ s. s.tenants) c.in_ok-broker-in-Ok-open_all.ensures.state ∙ c.in_ok-tenants-in-Ok-open_all.ensures.hosted ∙ ap (λ ns. tenants_restored d3.files ns ps) again in
     let back = c.in_ok-broker-in-Ok-open_all.ensures.store ∙ ap (λ s. s.store) c.in_ok-tenants-in-Ok-open_all.ensures.shelf in
     let ts = c.in_ok-broker-in-Ok-open_all.broker.state.tenants in
@@ -232,7 +238,7 @@ returns-in-Ok-open_all-clause-all_strays g c =
     let e = c.in-Ok-open_all.ensures in
     let many = e.count ∙ sym (length-map c.deref-2.result.now (λ (name : Bor (List ℕ)). name.now)) in
     let kept = keeps_then d0 d1 d2 k1 k2 in
-    let again = ap (map (λ (name : Bor (List ℕ)). name.now)) c.deref-in-Ok-open_all-2.ensures.value ∙ sym (ap (map (λ (name : Bor (List ℕ)). name.now)) c.deref-2.ensures.value) in
+    let again = ap (map (λ (name : Bor (List ℕ)). name.now)) c.deref-in-Ok-open_all-3.ensures.value ∙ sym (ap (map (λ (name : Bor (List ℕ)). name.now)) c.deref-2.ensures.value) in
     let hosts = ap (λ s. s.tenants) c.in_ok-broker-in-Ok-open_all.ensures.state ∙ c.in_ok-tenants-in-Ok-open_all.ensures.hosted ∙ ap (λ ns. tenants_restored d3.files ns ps) again in
     let back = c.in_ok-broker-in-Ok-open_all.ensures.store ∙ ap (λ s. s.store) c.in_ok-tenants-in-Ok-open_all.ensures.shelf in
     let ts = c.in_ok-broker-in-Ok-open_all.broker.state.tenants in
@@ -260,26 +266,26 @@ host-requires-clause-settled g c =
     let d3 = g.S.Store.disk c.open_all.new.shelf.store in
     let numbers = c.deref-3.result.now in
     let same = c.deref-3.ensures.value ∙ c.in-Ok-list.ensures.numbers in
-    subst (λ (ns : List ℕ). AreSettled segment_log c.in-Ok-open_all.parts.items ns d3) (sym c.deref-in-Ok-open_all-3.ensures.value)
+    subst (λ (ns : List ℕ). AreSettled segment_log c.in-Ok-open_all.parts.items ns d3) (sym c.deref-in-Ok-open_all-4.ensures.value)
     (c.in-Ok-open_all.ensures.settled (there_listed d0 d1 d2 numbers same c.in-Ok-list.ensures.kept c.in-Ok-new.ensures.kept))
 
 pub host-requires-clause-names : goal.host-requires-clause-names
 host-requires-clause-names g c =
-    let again = ap (map (λ (name : Bor (List ℕ)). name.now)) c.deref-in-Ok-open_all-2.ensures.value ∙ sym (ap (map (λ (name : Bor (List ℕ)). name.now)) c.deref-2.ensures.value) in
+    let again = ap (map (λ (name : Bor (List ℕ)). name.now)) c.deref-in-Ok-open_all-3.ensures.value ∙ sym (ap (map (λ (name : Bor (List ℕ)). name.now)) c.deref-2.ensures.value) in
     c.in-Ok-open_all.ensures.names ∙ sym again
 
 pub host-requires-clause-alone : goal.host-requires-clause-alone
 host-requires-clause-alone g c file has =
-    c.in-Ok-open_all.ensures.alone file (subst (λ (ns : List ℕ). Contains ns file) c.deref-in-Ok-open_all-3.ensures.value has)
+    c.in-Ok-open_all.ensures.alone file (subst (λ (ns : List ℕ). Contains ns file) c.deref-in-Ok-open_all-4.ensures.value has)
 
 pub returns-in-Ok-open_all-clause-left : goal.returns-in-Ok-open_all-clause-left
 returns-in-Ok-open_all-clause-left g c =
-    c.in_ok-broker-in-Ok-open_all.ensures.strays ∙ c.in_ok-tenants-in-Ok-open_all.ensures.strays ∙ ap (λ (ns : List ℕ). Some ns) c.deref-in-Ok-open_all-3.ensures.value
+    c.in_ok-broker-in-Ok-open_all.ensures.strays ∙ c.in_ok-tenants-in-Ok-open_all.ensures.strays ∙ ap (λ (ns : List ℕ). Some ns) c.deref-in-Ok-open_all-4.ensures.value
 
 pub returns-in-Ok-open_all-clause-held : goal.returns-in-Ok-open_all-clause-held
 returns-in-Ok-open_all-clause-held g c =
     let d3 = g.S.Store.disk c.open_all.new.shelf.store in
-    let last = map (λ (name : Bor (List ℕ)). name.now) c.deref-in-Ok-open_all-2.result.now in
+    let last = map (λ (name : Bor (List ℕ)). name.now) c.deref-in-Ok-open_all-3.result.now in
     c.in_ok-broker-in-Ok-open_all.ensures.held
     (subst (λ (xs : List TenantState). HaveNoGroups xs) (sym c.in_ok-tenants-in-Ok-open_all.ensures.hosted) (no_groups d3.files (zip last c.in-Ok-open_all.parts.items)))
 
@@ -382,3 +388,20 @@ returns-in-Ok-open_all-clause-others g c =
     let back = c.in_ok-broker-in-Ok-open_all.ensures.store ∙ ap (λ s. s.store) c.in_ok-tenants-in-Ok-open_all.ensures.shelf in
     subst (λ (s : g.row.S.Denot). (g.S.Store.disk s).honest → Clears (IsOfLog d0.files (keys d0.table) whole) d0 (g.S.Store.disk s)) (sym back)
     (cleared_since d0 d2 d3 kept numbers same names whole named c.in-Ok-open_all.ensures.others)
+
+pub returns-in-Ok-open_all-clause-counts : goal.returns-in-Ok-open_all-clause-counts
+returns-in-Ok-open_all-clause-counts g c =
+    let ps = c.in-Ok-open_all.parts.items in
+    let shown = λ (name : Bor (List ℕ)). name.now in
+    let had = λ (p : Parts SegmentLog). known p.catalog in
+    let has = λ (x : TenantState). x.kept.known in
+    let last = map shown c.deref-in-Ok-open_all-3.result.now in
+    let again = ap (map shown) c.deref-in-Ok-open_all-3.ensures.value ∙ sym (ap (map shown) c.deref-2.ensures.value) in
+    let many : length ps ≡ length last = c.in-Ok-open_all.ensures.count ∙ sym (length-map c.deref-2.result.now shown) ∙ sym (ap length again) in
+    let hosts = ap (λ s. s.tenants) c.in_ok-broker-in-Ok-open_all.ensures.state ∙ c.in_ok-tenants-in-Ok-open_all.ensures.hosted in
+    let files = (g.S.Store.disk c.open_all.new.shelf.store).files in
+    let strays = c.deref-in-Ok-open_all-2.result.now in
+    c.of-counts.ensures
+    ∙ ap (λ (qs : List (Parts SegmentLog)). counts_of (map had qs) strays) c.deref-in-Ok-open_all.ensures.value
+    ∙ ap (λ (ks : List Known). counts_of ks strays) (knowns_restored files last ps many ∙ sym (ap (map has) hosts))
+    ∙ ap (counts_of (map has c.in_ok-broker-in-Ok-open_all.broker.state.tenants)) c.deref-in-Ok-open_all-2.ensures.value

@@ -8,7 +8,8 @@ use Rattle.kb_wire.specs.declared.fault.WireFault.{WireFault}
 use Rattle.kb_wire.specs.Codec.{int, int32, sized, counted, octets}
 use Rattle.kb_wire.specs.Laws.{int32_lawful}
 use Rattle.kb_api_group.specs.declared.frames.Next.TheVariants as answers
-use Rattle.kb_api_group.specs.Frames.{Front, Whole, Partial, TooSmall, TooLarge, front_by, front_read, front, answer, behind, IsSize, IsFrame, HasSize, Fronts}
+use Rattle.kb_api_group.specs.Frames.{Front, Whole, Partial, TooSmall, TooLarge, front_by, front_read, front}
+use Rattle.kb_api_group.specs.FrameStream.{answer, behind, IsSize, IsFrame, HasSize, Fronts}
 
 -- ---- by the size and the bytes behind it
 

@@ -1,7 +1,8 @@
 -- Whole streams.
 use Rattle.std.proofs.Common.{◌≡◌, ℕ, List, [], ◌∷◌, ◌++◌, refl, sym, ap, subst, ◌∙◌, append_assoc}
 use Rattle.std.proofs.lemmas.List.{append-nil}
-use Rattle.kb_api_group.specs.Frames.{Front, Whole, Partial, TooSmall, TooLarge, front, behind, Fronts, with_more, IsFrame, IsStuck, Splits, Event, Came, Taken, joined, taken, Run}
+use Rattle.kb_api_group.specs.Frames.{Front, Whole, Partial, TooSmall, TooLarge, front}
+use Rattle.kb_api_group.specs.FrameStream.{behind, Fronts, with_more, IsFrame, IsStuck, Splits, Event, Came, Taken, joined, taken, Run}
 use Rattle.kb_api_group.proofs.Fronts.{front-found, front-only, answered}
 
 more_of : (s t : List ℕ) (f : Front) → front s ≡ f → Fronts s f → front (s ++ t) ≡ with_more f s t

@@ -1,4 +1,5 @@
 pub mod ErrorCode
+pub mod FrameStream
 pub mod Frames
 pub mod Lawful
 pub mod Layouts

@@ -1,7 +1,8 @@
 //! A stream that comes in pieces, given out by frames.
 
 ghost use Rattle.std.specs.Prelude.{◌≡◌, ◌++◌, List, ℕ, [], length, drop, vec_len, OnOk, OnErr, ◌≤◌, ◌+◌};
-ghost use Rattle.kb_api_group.specs.Frames.{Front, Whole, front, answer, behind, with_more, Fronts, IsSize, IsStuck, Splits, Event, Run, joined, taken};
+ghost use Rattle.kb_api_group.specs.Frames.{Front, Whole, front};
+ghost use Rattle.kb_api_group.specs.FrameStream.{answer, behind, with_more, Fronts, IsSize, IsStuck, Splits, Event, Run, joined, taken};
 
 use kb_wire::{Blob, Cursor};
 use std::alloc::{AllocError, Global};

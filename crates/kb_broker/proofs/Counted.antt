@@ -6,7 +6,8 @@ use Rattle.kb_log.specs.OnShelf.{Log}
 use Rattle.kb_waits.specs.Queue as queue
 use Rattle.kb_waits.specs.Queue.{Queue}
 use Rattle.kb_world.specs.Steps.{calm_then}
-use Rattle.kb_service.specs.Hosted.{Kept, TenantState, IsMet, IsTurn, kept_of, refusals_of}
+use Rattle.kb_service.specs.Hosted.{Kept, TenantState, kept_of, refusals_of}
+use Rattle.kb_service.specs.Turns.{IsMet, IsTurn}
 use Rattle.kb_service.specs.Waiters.{AreServed, members_on}
 use Rattle.kb_tenant.specs.Replies.{Silent}
 use Rattle.kb_tenants.specs.Tenants.{numbers_in}

@@ -14,7 +14,8 @@ use Rattle.kb_waits.specs.Queue as queue
 use Rattle.kb_waits.specs.Queue.{Queue}
 use Rattle.kb_store.specs.Disk.{Disk}
 use Rattle.kb_service.specs.Hosted as hosted
-use Rattle.kb_service.specs.Hosted.{TenantState, IsTurn}
+use Rattle.kb_service.specs.Hosted.{TenantState}
+use Rattle.kb_service.specs.Turns.{IsTurn}
 use Rattle.kb_tenant.specs.Replies.{Silent}
 use Rattle.kb_machine.specs.Tenant.{Wait, ready}
 use Rattle.kb_machine.specs.Session.{Stage, Greets, BoundTo, Session, can, fresh, is_free, without_wait}

@@ -11,9 +11,9 @@ use Rattle.std.specs.Result.{is_err}
 use Rattle.std.specs.List.{AllByRecursion}
 use Rattle.std.proofs.lemmas.Bool.Decides.{nat_tests}
 use Rattle.std.proofs.lemmas.List.{get_or_default, length-map}
-use Rattle.kb_world.specs.Steps.{IsCalm}
-use Rattle.kb_world.specs.Told.{counted_once}
-use Rattle.kb_service.specs.Hosted.{Kept, TenantState, IsTurn, HavePassed, names_of, refusals_of, world_at}
+use Rattle.kb_world.specs.Counts.{IsCalm, counted_once}
+use Rattle.kb_service.specs.Hosted.{Kept, TenantState, names_of, refusals_of, world_at}
+use Rattle.kb_service.specs.Turns.{IsTurn, HavePassed}
 use Rattle.kb_machine.specs.Session.{Stage, Greets, BoundTo, Session, fresh, shut_down, without_wait, is_free, fed, overruns, room, can}
 use Rattle.kb_service.specs.Hosted as hosted
 use Rattle.kb_service.specs.Serve.{has_released}

@@ -1,7 +1,8 @@
 -- The tenants, where one keeps what is left once a connection is gone on which a member of a group waited.
 use Rattle.std.proofs.Common.{◌≡◌, ◌<◌, ℕ, List, [], ◌∷◌, length, Option, None, Bool, true, false, zero, suc, refl, ◌∙◌, ap, arith}
 use Rattle.std.specs.Prelude.{cond}
-use Rattle.kb_service.specs.Hosted.{Kept, TenantState, kept_of, refusals_of, names_of, with_kept, left}
+use Rattle.kb_service.specs.Hosted.{Kept, TenantState, kept_of, refusals_of, names_of, left}
+use Rattle.kb_service.specs.Turns.{with_kept}
 use Rattle.kb_machine.specs.Tenant.{Wait, ready, asked}
 use Rattle.kb_machine.specs.Session.{Stage, Greets, BoundTo, has_member, without_wait}
 use Rattle.kb_machine.specs.Calls.{left_by}

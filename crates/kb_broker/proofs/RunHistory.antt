@@ -10,7 +10,7 @@ use Rattle.std.proofs.lemmas.List.Sorted.{IsPermutation-refl, IsPermutation-tran
 use Rattle.kb_machine.specs.Session.{fresh}
 use Rattle.kb_machine.specs.Machine.{Happening, Opens, Comes, Closes, Moment, Line, Sent, sent, leaving, those_sent, run}
 use Rattle.kb_machine.specs.Owners.{purge}
-use Rattle.kb_world.specs.Steps.{IsCalm}
+use Rattle.kb_world.specs.Counts.{IsCalm}
 use Rattle.kb_machine.specs.Broker.{BrokerState, IsCalmFor, Grows, Mine, Rising, IsRun, view_of}
 use Rattle.kb_machine.proofs.Runs.{run-step, those_sent-append, those_sent-map}
 use Rattle.kb_machine.proofs.Parts.{grows-then, calm-first, calm-then}

@@ -2,7 +2,8 @@
 use Rattle.std.proofs.Common.{◌≡◌, ◌==◌, ℕ, zero, suc, ◌<◌, ◌&&◌, Bool, true, not, List, [], ◌∷◌, ◌++◌, refl, sym, ap, subst, ◌∙◌, Option, Some, None, Result, Ok, Err, OnOk, OnErr, IfErr, cond}
 use Rattle.std.specs.Io.KnownBytes.{Appends}
 use Rattle.std.proofs.KnownBytes.{Appends-nil}
-use Rattle.kb_service.specs.Hosted.{Kept, TenantState, kept_of, with_kept, left, all_calm}
+use Rattle.kb_service.specs.Hosted.{Kept, TenantState, kept_of, left}
+use Rattle.kb_service.specs.Turns.{with_kept, all_calm}
 use Rattle.kb_machine.specs.Session.{Session}
 use Rattle.kb_machine.specs.Machine.{Happening, Opens, Comes, Closes, Moment}
 use Rattle.kb_machine.specs.Broker.{BrokerState, IsReady, IsStep}

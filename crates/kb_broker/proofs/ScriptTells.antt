@@ -5,9 +5,10 @@ use Rattle.std.proofs.lemmas.Bool.Decides.{nat_tests}
 use Rattle.kb_machine.specs.Machine.{Happening, Line, Sent, View, those, those_sent, stepped}
 use Rattle.kb_machine.specs.Owners.{concerns}
 use Rattle.kb_machine.specs.Machine.{find_line}
-use Rattle.kb_world.specs.Steps.{IsCalm}
+use Rattle.kb_world.specs.Counts.{IsCalm}
 use Rattle.kb_service.specs.Hosted as hosted
-use Rattle.kb_service.specs.Hosted.{TenantState, all_calm}
+use Rattle.kb_service.specs.Hosted.{TenantState}
+use Rattle.kb_service.specs.Turns.{all_calm}
 use Rattle.kb_machine.specs.Broker.{BrokerState, IsSound, IsCalmFor, Mine, Rising, view_of, refusals_of, owned_by, only}
 use Rattle.kb_machine.specs.Calls.{is_calm, without_output, shut_in}
 use Rattle.kb_machine.specs.Told.{said, quieted, tell, RisesAbove, Tells}

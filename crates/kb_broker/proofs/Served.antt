@@ -14,7 +14,8 @@ use Rattle.kb_waits.specs.Queue.{Queue, AreParked, IsUnder, IsUnderAny}
 use Rattle.kb_waits.specs.declared.key.WaitKey.{WaitKey}
 use Rattle.kb_waits.proofs.Queues.{get-insert_other, tied-itself}
 use Rattle.kb_world.specs.declared.place.Place.{Place}
-use Rattle.kb_service.specs.Hosted.{Kept, TenantState, IsTurn, IsMet, kept_of, refusals_of, nothing}
+use Rattle.kb_service.specs.Hosted.{Kept, TenantState, kept_of, refusals_of, nothing}
+use Rattle.kb_service.specs.Turns.{IsTurn, IsMet}
 use Rattle.kb_tenant.specs.Replies.{Replies, Waits, Silent, Shuts}
 use Rattle.kb_tenant.specs.declared.answer.Answer.TheVariants as plain
 use Rattle.kb_service.specs.Replies.{Reaction, Plain, Rebalances, IsAnswer}

@@ -4,10 +4,10 @@ use Rattle.kb_coordinator.specs.Groups.{Groups, silent}
 use Rattle.kb_world.specs.Tied.{IsTied}
 use Rattle.kb_world.specs.World.{World}
 use Rattle.kb_service.proofs.ByRequest.{by_request}
-use Rattle.kb_world.specs.Parts.{END}
-use Rattle.kb_world.specs.Steps.{IsCalm}
+use Rattle.kb_world.specs.Counts.{END, IsCalm}
 use Rattle.kb_world.specs.declared.place.Place.{Place}
-use Rattle.kb_service.specs.Hosted.{Kept, nothing, TenantState, IsTurn, IsMet, kept_in, kept_of, refusals_of, world_at}
+use Rattle.kb_service.specs.Hosted.{Kept, nothing, TenantState, kept_in, kept_of, refusals_of, world_at}
+use Rattle.kb_service.specs.Turns.{IsTurn, IsMet}
 use Rattle.kb_tenant.specs.Replies as plain
 use Rattle.kb_tenant.specs.Replies.{Replies, Waits, Silent, Shuts}
 use Rattle.kb_tenant.specs.declared.answer.Answer.{Answer as Plain}

@@ -3,7 +3,8 @@ use Rattle.std.specs.Prelude.{◌≡◌, ◌≤◌, ℕ, true, List, [], Option,
 use Rattle.kb_store.specs.Disk.{Disk}
 use Rattle.kb_log.specs.OnShelf.{Log}
 use Rattle.kb_tenant.specs.Batches.{HasSmallLogs}
-use Rattle.kb_service.specs.Hosted.{TenantState, IsAccounted, all_calm, refusals_of, world_at}
+use Rattle.kb_service.specs.Hosted.{TenantState, refusals_of, world_at}
+use Rattle.kb_service.specs.Turns.{IsAccounted, all_calm}
 use Rattle.kb_tenants.specs.Tenants.{AreKept, AreKeptIn, AreLeftAlone, hosted, numbers_in}
 use Rattle.kb_tenants.specs.declared.tenants.Tenants.{Tenants}
 use Rattle.kb_machine.specs.Machine.{Happening, first_able}

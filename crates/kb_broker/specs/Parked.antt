@@ -14,7 +14,7 @@ use Rattle.kb_service.specs.Serve.{has_released}
 use Rattle.kb_tenant.specs.Replies.{Silent}
 use Rattle.kb_tenant.specs.Waiting.{AreApart}
 use Rattle.kb_tenants.specs.Tenants.{answered_connections}
-use Rattle.kb_world.specs.Steps.{IsCalm}
+use Rattle.kb_world.specs.Counts.{IsCalm}
 use Rattle.kb_tenant.specs.declared.answer.Answer.TheVariants as plain
 use Rattle.kb_service.specs.declared.answer.Answer.{Answer}
 use Rattle.kb_service.specs.declared.answer.Answer.TheVariants as answers

@@ -4,10 +4,10 @@ use Rattle.std.specs.List.{AllByRecursion}
 use Rattle.std.specs.declared.alloc.Global.{Global}
 use Rattle.std.specs.declared.vec.Vec.{Vec}
 use Rattle.kb_tenants.specs.Tenants.{AreQuietBut}
-use Rattle.kb_world.specs.Steps.{IsCalm}
-use Rattle.kb_world.specs.Told.{counted_once}
+use Rattle.kb_world.specs.Counts.{IsCalm, counted_once}
 use Rattle.kb_service.specs.Hosted as hosted
-use Rattle.kb_service.specs.Hosted.{TenantState, IsTurn, IsMet}
+use Rattle.kb_service.specs.Hosted.{TenantState}
+use Rattle.kb_service.specs.Turns.{IsTurn, IsMet}
 use Rattle.kb_service.specs.Serve.{has_released}
 use Rattle.kb_tenant.specs.Replies.{Silent, IsAnswer}
 use Rattle.kb_tenant.specs.declared.answer.Answer.{Answer}

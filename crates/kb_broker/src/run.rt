@@ -5,7 +5,7 @@ ghost use Rattle.std.specs.Vec.{vec_len, vec_capacity};
 ghost use Rattle.kb_machine.specs.Machine.{Closes, Sent, those_sent, by_number, sent, leaving};
 ghost use Rattle.kb_machine.specs.Calls.{closed};
 ghost use Rattle.kb_machine.specs.Stranded.{NoneStranded};
-ghost use Rattle.kb_world.specs.Steps.{IsCalm};
+ghost use Rattle.kb_world.specs.Counts.{IsCalm};
 ghost use Rattle.kb_machine.specs.Broker.{IsCalmFor, IsRun, IsUnowned, alone_unowned, last_after, only, owned_by, view_of};
 ghost use Rattle.kb_machine.specs.Fetches.{FetchesGetBatches};
 ghost use Rattle.kb_machine.specs.Isolation.{IsIsolated, LeavesWorlds, AreAlike, own_events, own_sent};

@@ -3,7 +3,8 @@
 ghost use Rattle.std.specs.Prelude.{◌≡◌, ◌≢◌, ◌<◌, ◌≤◌, ◌^◌, ◌⊎◌, ℕ, ℤ, List, Option, length, OnOk, OnErr, IfOk, IfSome, Ok, None, true, false};
 ghost use Rattle.std.specs.FinMap as fin;
 ghost use Rattle.kb_api_group.specs.Frames.{front};
-ghost use Rattle.kb_service.specs.Hosted.{IsTurn, IsMet, kept_of, refusals_of};
+ghost use Rattle.kb_service.specs.Hosted.{kept_of, refusals_of};
+ghost use Rattle.kb_service.specs.Turns.{IsTurn, IsMet};
 ghost use Rattle.kb_service.specs.Replies.{Reaction, IsAnswer};
 ghost use Rattle.kb_service.specs.declared.answer.Answer.TheVariants as any;
 ghost use Rattle.kb_tenant.specs.Replies as plain;

@@ -3,7 +3,8 @@ use Rattle.std.proofs.Common.{◌≡◌, ◌<◌, ◌≤◌, ℕ, ℤ, List, len
 use Rattle.std.proofs.lemmas.Bool.Decides.{nat_tests}
 use Rattle.std.specs.declared.vec.Vec.{Vec}
 use Rattle.kb_world.specs.declared.place.Place.{Place}
-use Rattle.kb_api_group.specs.Frames.{front, behind}
+use Rattle.kb_api_group.specs.Frames.{front}
+use Rattle.kb_api_group.specs.FrameStream.{behind}
 use Rattle.kb_api_group.specs.declared.api_versions.ApiVersion.{ApiVersion}
 use Rattle.kb_tenant.specs.Replies.{Reaction, Replies, Waits, Silent, Shuts, IsAnswer, reply_size}
 use Rattle.kb_tenant.specs.declared.answer.Answer.{Answer}

@@ -1,7 +1,8 @@
 -- A connection's limits.
 use Rattle.std.proofs.Common.{◌≡◌, ◌∙◌, ℕ, List, [], length, Bool, true, false, refl, ap, arith}
 use Rattle.kb_wire.specs.Codec.{int}
-use Rattle.kb_api_group.specs.Frames.{Front, Whole, Partial, TooSmall, TooLarge, front, behind, answer}
+use Rattle.kb_api_group.specs.Frames.{Front, Whole, Partial, TooSmall, TooLarge, front}
+use Rattle.kb_api_group.specs.FrameStream.{behind, answer}
 use Rattle.kb_api_group.specs.declared.frames.Next.TheVariants as answers
 use Rattle.kb_machine.proofs.Laws.{front-rest}
 use Rattle.kb_machine.specs.Session.{Stage, Greets, BoundTo, is_free, without_wait}

@@ -1,7 +1,8 @@
 -- The turn of a connection, by what stands in front of its unread bytes.
 use Rattle.std.proofs.Common.{◌≡◌, ℕ, ℤ, List, refl, sym, ap, ◌∙◌, Result, Ok, Err, OnOk, IfOk, ◌⊎◌, inl, inr}
 use Rattle.std.specs.declared.alloc.AllocError.{AllocError}
-use Rattle.kb_api_group.specs.Frames.{Front, Whole, Partial, TooSmall, TooLarge, front, answer, behind}
+use Rattle.kb_api_group.specs.Frames.{Front, Whole, Partial, TooSmall, TooLarge, front}
+use Rattle.kb_api_group.specs.FrameStream.{answer, behind}
 use Rattle.kb_api_group.specs.declared.frames.Next.{Next}
 use Rattle.kb_api_group.specs.declared.frames.Next.TheVariants as answers
 use Rattle.kb_machine.specs.Requests.{request}

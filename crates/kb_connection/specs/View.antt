@@ -6,7 +6,8 @@ use Rattle.kb_machine.specs.Tenant.{Awaited, Records, Group, Wait}
 use Rattle.kb_machine.specs.Requests.{Asked, Versions, OtherVersions, Handshake, Authenticate, Another, Unread, Request}
 use Rattle.kb_machine.specs.Session.{Greeting, Unshaken, Shaken, Bare, Stage, Greets, BoundTo, Session, LIMIT, is_free}
 use Rattle.kb_machine.specs.Machine.{Line}
-use Rattle.kb_api_group.specs.Frames.{front, behind}
+use Rattle.kb_api_group.specs.Frames.{front}
+use Rattle.kb_api_group.specs.FrameStream.{behind}
 use Rattle.kb_connection.specs.declared.request.Asked.TheVariants as asked
 use Rattle.kb_connection.specs.declared.request.Asked.{Asked as Read}
 use Rattle.kb_connection.specs.declared.request.Request.{Request as ReadRequest}

@@ -4,9 +4,10 @@ use Rattle.std.specs.Prelude.{cond, nat_lt}
 use Rattle.std.specs.List.{AllByRecursion}
 use Rattle.std.proofs.lemmas.Bool.Decides.{nat_tests}
 use Rattle.std.proofs.lemmas.List.{set-get_or, length-map}
-use Rattle.kb_world.specs.Steps.{IsCalm}
+use Rattle.kb_world.specs.Counts.{IsCalm}
 use Rattle.kb_service.specs.Hosted as hosted
-use Rattle.kb_service.specs.Hosted.{TenantState, IsTurn}
+use Rattle.kb_service.specs.Hosted.{TenantState}
+use Rattle.kb_service.specs.Turns.{IsTurn}
 use Rattle.kb_tenant.specs.Replies.{Silent}
 use Rattle.kb_machine.specs.Tenant.{Wait, ready}
 use Rattle.kb_machine.specs.Session.{Greeting, has_member, Stage, Greets, BoundTo, Session, fed, room, overruns, shut_down, without_wait, can}

@@ -3,7 +3,8 @@ use Rattle.std.proofs.Common.{◌≡◌, ◌≢◌, ℕ, zero, suc, List, [], �
 use Rattle.std.specs.Prelude.{cond}
 use Rattle.std.specs.List.{AllByRecursion}
 use Rattle.std.proofs.lemmas.Bool.Decides.{nat_tests}
-use Rattle.kb_service.specs.Hosted.{Kept, TenantState, kept_of, refusals_of, names_of, left, with_kept, world_at}
+use Rattle.kb_service.specs.Hosted.{Kept, TenantState, kept_of, refusals_of, names_of, left, world_at}
+use Rattle.kb_service.specs.Turns.{with_kept}
 use Rattle.kb_machine.specs.Tenant.{Wait, Awaited, Records, Group, ready, ready_for, asked, asked_for}
 use Rattle.kb_machine.specs.Session.{Stage, Greets, BoundTo, Session, has_member, overruns}
 use Rattle.kb_machine.specs.Greeting.{Setup}

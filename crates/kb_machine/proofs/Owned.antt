@@ -8,7 +8,7 @@ use Rattle.kb_machine.specs.Greeting.{Setup}
 use Rattle.kb_machine.specs.Machine.{Happening, Opens, Comes, Closes, Moment, Line, find_line}
 use Rattle.kb_machine.specs.Owners.{destiny, heard, unborn, fate_from, owner, owned, is_owner, whose, Fits}
 use Rattle.kb_machine.specs.Broker.{BrokerState, IsSound, Rising, IsRun, last_after, Mine, owned_by, InRange, only, IsUnowned, IsCalmFor, Grows}
-use Rattle.kb_world.specs.Steps.{IsCalm}
+use Rattle.kb_world.specs.Counts.{IsCalm}
 use Rattle.kb_machine.proofs.Ranges.{AreUsers, IsBelow, range-heard, range-fed}
 use Rattle.kb_machine.proofs.Sets.{all-map, rising-last}
 use Rattle.kb_machine.proofs.Parts.{count-past, length-names}

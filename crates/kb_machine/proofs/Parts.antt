@@ -3,8 +3,9 @@ use Rattle.std.proofs.Common.{◌≡◌, ◌≢◌, ℕ, ◌≤◌, List, length
 use Rattle.std.specs.Prelude.{map}
 use Rattle.std.proofs.lemmas.Bool.Decides.{nat_tests}
 use Rattle.std.proofs.lemmas.List.{length-map, get_or_past}
-use Rattle.kb_world.specs.Steps.{IsCalm}
-use Rattle.kb_service.specs.Hosted.{TenantState, IsTurn, refusals_of}
+use Rattle.kb_world.specs.Counts.{IsCalm}
+use Rattle.kb_service.specs.Hosted.{TenantState, refusals_of}
+use Rattle.kb_service.specs.Turns.{IsTurn}
 use Rattle.kb_machine.specs.Machine.{Line}
 use Rattle.kb_machine.specs.Broker as broker
 use Rattle.kb_machine.specs.Broker.{BrokerState, IsCalmFor, Grows}

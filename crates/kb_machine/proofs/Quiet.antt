@@ -16,7 +16,8 @@ use Rattle.kb_tenant.specs.Fetch.{asked_fetch, fetch_answer, places_of}
 use Rattle.kb_tenant.specs.Replies.{Replies, Waits, Silent, Shuts}
 use Rattle.kb_tenant.specs.Serve.{looked, looked_at}
 use Rattle.kb_service.specs.Hosted as hosted
-use Rattle.kb_service.specs.Hosted.{Kept, TenantState, IsTurn, kept_in, passed, world_at}
+use Rattle.kb_service.specs.Hosted.{Kept, TenantState, kept_in, passed, world_at}
+use Rattle.kb_service.specs.Turns.{IsTurn}
 use Rattle.kb_service.specs.Replies as service
 use Rattle.kb_service.specs.Replies.{Reaction, Plain, Rebalances, told_to}
 use Rattle.kb_service.specs.Serve.{served as request, has_released}

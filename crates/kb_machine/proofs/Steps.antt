@@ -5,9 +5,10 @@ use Rattle.std.specs.List.{AllByRecursion, remove}
 use Rattle.std.proofs.lemmas.Bool.Decides.{nat_tests}
 use Rattle.kb_api_group.specs.Frames.{front}
 use Rattle.kb_wire.specs.Codec.{int}
-use Rattle.kb_world.specs.Steps.{IsCalm}
+use Rattle.kb_world.specs.Counts.{IsCalm}
 use Rattle.kb_service.specs.Hosted as hosted
-use Rattle.kb_service.specs.Hosted.{Kept, TenantState, HavePassed, names_of, world_at}
+use Rattle.kb_service.specs.Hosted.{Kept, TenantState, names_of, world_at}
+use Rattle.kb_service.specs.Turns.{HavePassed}
 use Rattle.std.specs.Prelude.{Some}
 use Rattle.kb_tenant.specs.Replies.{Silent}
 use Rattle.kb_machine.proofs.Quiet.{still-silent}

@@ -8,7 +8,8 @@ use Rattle.kb_coordinator.specs.Calls as groups
 use Rattle.kb_coordinator.specs.Calls.{reply_among}
 use Rattle.kb_coordinator.specs.Groups.{Groups}
 use Rattle.kb_service.specs.Hosted as hosted
-use Rattle.kb_service.specs.Hosted.{Kept, TenantState, HavePassed, with_kept, left}
+use Rattle.kb_service.specs.Hosted.{Kept, TenantState, left}
+use Rattle.kb_service.specs.Turns.{HavePassed, with_kept}
 use Rattle.kb_service.specs.Replies.{told, told_to}
 use Rattle.kb_service.specs.Waiters.{AreServed, given, members_on, once, replies_on}
 use Rattle.kb_service.proofs.WaitersServed.{left_none, left_on}

@@ -3,9 +3,10 @@ use Rattle.std.proofs.Common.{◌≡◌, ◌≢◌, ℕ, ℤ, List, [], ◌∷�
 use Rattle.std.specs.Prelude.{cond, Result, Ok, Err}
 use Rattle.std.specs.List.{AllByRecursion}
 use Rattle.std.proofs.lemmas.Bool.Decides.{nat_tests}
-use Rattle.kb_world.specs.Steps.{IsCalm}
+use Rattle.kb_world.specs.Counts.{IsCalm}
 use Rattle.kb_service.specs.Hosted as hosted
-use Rattle.kb_service.specs.Hosted.{Kept, TenantState, IsTurn, world_at}
+use Rattle.kb_service.specs.Hosted.{Kept, TenantState, world_at}
+use Rattle.kb_service.specs.Turns.{IsTurn}
 use Rattle.kb_tenant.specs.Fetch.{asked_fetch, fetch_answer, fetched_in}
 use Rattle.kb_tenant.specs.Serve.{looked, looked_at}
 use Rattle.kb_wire.specs.declared.fault.WireFault.{WireFault}

@@ -2,8 +2,9 @@
 use Rattle.std.specs.Prelude.{◌≡◌, ℕ, ◌==◌, ◌&&◌, List, [], ◌∷◌, ◌++◌, max, Bool, true, false, not, if◌then◌else◌, Option, Some, None}
 use Rattle.kb_machine.specs.Session.{Stage, Greets, BoundTo, Session, fresh, room, has_member}
 use Rattle.kb_machine.specs.Machine.{each, on, those, find_line}
-use Rattle.kb_world.specs.Told.{counted_once}
-use Rattle.kb_service.specs.Hosted.{TenantState, kept_of, with_kept, left, count_named, all_calm}
+use Rattle.kb_world.specs.Counts.{counted_once}
+use Rattle.kb_service.specs.Hosted.{TenantState, kept_of, left}
+use Rattle.kb_service.specs.Turns.{with_kept, count_named, all_calm}
 use Rattle.kb_machine.specs.Broker.{BrokerState}
 
 -- 1. The state that a call leaves

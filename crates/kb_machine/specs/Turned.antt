@@ -5,7 +5,7 @@ use Rattle.kb_machine.specs.Tenant.{Wait, is_past}
 use Rattle.kb_machine.specs.Session.{Session, can, is_free}
 use Rattle.kb_machine.specs.Machine.{Happening, Comes, Line, all_woken, turns, stepped, find_line}
 use Rattle.kb_machine.specs.Owners.{whose}
-use Rattle.kb_world.specs.Steps.{IsCalm}
+use Rattle.kb_world.specs.Counts.{IsCalm}
 use Rattle.kb_machine.specs.declared.whom.Whom.{Whom}
 use Rattle.kb_machine.specs.declared.whom.Whom.TheVariants as whoms
 use Rattle.kb_machine.specs.Stranded.{NoneStranded}

@@ -9,7 +9,8 @@ use Rattle.std.proofs.lemmas.List.{append-nil, length-append}
 use Rattle.kb_wire.specs.Codec.{Codec, int, int16, int32, int64, counted, nullable_counted, sized, nullable, octets, utf8, items, string, nullable_string, blob, nullable_blob, array, whole, ◌⊗◌}
 use Rattle.kb_wire.specs.Fits.{blob_fits, null_string_fits}
 use Rattle.kb_wire.specs.Laws.{IsLawful, blob_lawful}
-use Rattle.kb_api_group.specs.Frames.{Front, Whole, Partial, TooSmall, TooLarge, front, with_more, IsFrame}
+use Rattle.kb_api_group.specs.Frames.{Front, Whole, Partial, TooSmall, TooLarge, front}
+use Rattle.kb_api_group.specs.FrameStream.{with_more, IsFrame}
 use Rattle.kb_api_group.specs.Layouts.{request_header}
 use Rattle.kb_api_group.specs.Lawful.{request_header_lawful}
 use Rattle.kb_api_group.specs.declared.header.RequestHeader.{RequestHeader}

@@ -2,4 +2,5 @@ pub mod Acknowledged
 pub mod Hosted
 pub mod Replies
 pub mod Serve
+pub mod Turns
 pub mod Waiters

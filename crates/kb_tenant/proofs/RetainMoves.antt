@@ -6,7 +6,7 @@ use Rattle.std.specs.Ordering.{nat_cmp}
 use Rattle.std.specs.List.{Contains}
 use Rattle.std.specs.BTreeMap.{is_at}
 use Rattle.std.proofs.lemmas.List.{length-set}
-use Rattle.kb_topics.specs.Catalog.{start_command}
+use Rattle.kb_topics.specs.Commands.{start_command}
 use Rattle.kb_topics.specs.Known.{Known, PartitionState, TopicState, named, partition_at, put_topic, step, topic_at, with_part, with_partition, with_start}
 use Rattle.kb_partitions.specs.Logs.{LogState, Logs, dropped, log_at, without_below}
 use Rattle.kb_world.specs.Calls.{due, moved_to, retain, retained_from}

@@ -6,7 +6,8 @@ use Rattle.std.specs.Option.{option_and_then}
 use Rattle.std.specs.Str.{bytes_eq}
 use Rattle.std.proofs.lemmas.Slice.Eq.{bytes_eq-Decides}
 use Rattle.kb_api_data.specs.declared.create_topics.CreateConfig.{CreateConfig}
-use Rattle.kb_topics.specs.Config.{config_of, entry_of, limit_in, nothing_read, with_entry}
+use Rattle.kb_topics.specs.Config.{limit_in}
+use Rattle.kb_topics.specs.ConfigReading.{config_of, entry_of, nothing_read, with_entry}
 use Rattle.kb_topics.specs.declared.config.ConfigEntry.TheVariants.{RetentionMs, RetentionBytes, CleanupPolicy}
 use Rattle.kb_topics.specs.declared.config.ConfigReader.{ConfigReader}
 use Rattle.kb_topics.specs.declared.config.TopicConfig.{TopicConfig}

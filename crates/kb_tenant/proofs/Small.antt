@@ -31,7 +31,7 @@ use Rattle.kb_api_group.specs.declared.offset_commit.OffsetCommitRequest.{Offset
 use Rattle.kb_producers.specs.declared.verdict.Verdict.{Verdict}
 use Rattle.kb_producers.specs.declared.verdict.Verdict.TheVariants.{Append, Repeat, Refuse}
 use Rattle.kb_topics.specs.Known.{Known, TopicState, named, step, topic_at}
-use Rattle.kb_topics.specs.Catalog.{start_command}
+use Rattle.kb_topics.specs.Commands.{start_command}
 use Rattle.kb_topics.specs.Refusals.{create_refusal, issue_refusal}
 use Rattle.kb_topics.specs.declared.config.TopicConfig.{TopicConfig}
 use Rattle.kb_topics.specs.declared.fault.CatalogFault.{CatalogFault}

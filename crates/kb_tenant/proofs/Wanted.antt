@@ -28,7 +28,8 @@ use Rattle.kb_topics.specs.declared.fault.CatalogFault.TheVariants as catalog
 use Rattle.kb_world.specs.Calls.{create, delete}
 use Rattle.kb_world.specs.Parts.{Seen}
 use Rattle.kb_world.specs.Steps.{IsStep}
-use Rattle.kb_world.specs.Told.{counted_once, Failed, IsCatalogWant, IsCreationWant, IsDone, IsRefused, Tells}
+use Rattle.kb_world.specs.Told.{Failed, IsCatalogWant, IsCreationWant, IsDone, IsRefused, Tells}
+use Rattle.kb_world.specs.Counts.{counted_once}
 use Rattle.kb_world.specs.World.{World}
 use Rattle.kb_world.specs.declared.place.Place.{Place}
 use Rattle.kb_tenant.specs.CreateTopics.{code_in, made, refusal, stands_twice}

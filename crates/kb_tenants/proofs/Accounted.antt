@@ -2,8 +2,9 @@
 use Rattle.std.proofs.Common.{◌≡◌, ◌⊎◌, ⊎_elim, inl, inr, ◌≤◌, ◌<◌, ◌+◌, ℕ, zero, suc, List, [], ◌∷◌, length, arith}
 use Rattle.std.specs.Prelude.{min}
 use Rattle.std.proofs.lemmas.List.Sums.{sum_by-cons}
-use Rattle.kb_world.specs.Parts.{END}
-use Rattle.kb_service.specs.Hosted.{TenantState, IsAccounted, HasEnded, refusals_of, total}
+use Rattle.kb_world.specs.Counts.{END}
+use Rattle.kb_service.specs.Hosted.{TenantState, refusals_of}
+use Rattle.kb_service.specs.Turns.{IsAccounted, HasEnded, total}
 
 -- ---- calls in turn
 

@@ -15,13 +15,14 @@ use Rattle.kb_store.specs.Disk.{Disk, Files}
 use Rattle.kb_log.specs.OnShelf.{Log, IsLawfulLog}
 use Rattle.kb_log.specs.Shelf.{Shelved}
 use Rattle.kb_world.specs.Calls.{at_clock}
-use Rattle.kb_world.specs.Parts.{Agrees, IsSound, END, scene, world_of, entries, raised, refused}
-use Rattle.kb_world.specs.Steps.{IsStep, IsCalm, Meets, step_same, step_then}
-use Rattle.kb_world.specs.Told.{counted_once}
+use Rattle.kb_world.specs.Parts.{Agrees, IsSound, scene, world_of, entries, raised, refused}
+use Rattle.kb_world.specs.Counts.{END, IsCalm, counted_once}
+use Rattle.kb_world.specs.Steps.{IsStep, Meets, step_same, step_then}
 use Rattle.kb_world.specs.World.{World}
 use Rattle.kb_world.specs.declared.parts.Parts.{Parts}
 use Rattle.kb_world.proofs.Lifted.{clocked, recast, loud, raised_meets, raised_step, refused_step}
-use Rattle.kb_service.specs.Hosted.{TenantState, Kept, IsAccounted, IsTurn, IsMet, nothing, kept_in, kept_of, left, passed, refusals_of, names_of, with_kept, all_calm}
+use Rattle.kb_service.specs.Hosted.{TenantState, Kept, nothing, kept_in, kept_of, left, passed, refusals_of, names_of}
+use Rattle.kb_service.specs.Turns.{IsAccounted, IsTurn, IsMet, with_kept, all_calm}
 use Rattle.kb_partitions.proofs.Put.{get_put}
 use Rattle.kb_tenant.proofs.LogMoves.{same_or_not}
 use Rattle.kb_tenants.specs.Tenants.{AreKept, AreLeftAlone, AreSettled, HaveNothingRefused, IsIdleUntil, IsLeftAlone, hosted, parts_of, regrouped, state_of, strays_of}

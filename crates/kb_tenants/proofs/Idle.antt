@@ -18,7 +18,8 @@ use Rattle.kb_topics.specs.Known.{TopicState}
 use Rattle.kb_world.specs.Calls.{at_clock, places_of_topic, retain_all, retain_each}
 use Rattle.kb_world.specs.Parts.{Agrees, world_of}
 use Rattle.kb_world.specs.World.{World}
-use Rattle.kb_service.specs.Hosted.{TenantState, IsTurn, nothing, new_tenant, kept_in, kept_of, passed, world_at}
+use Rattle.kb_service.specs.Hosted.{TenantState, nothing, new_tenant, kept_in, kept_of, passed, world_at}
+use Rattle.kb_service.specs.Turns.{IsTurn}
 use Rattle.kb_tenant.proofs.LogMoves.{same_or_not}
 use Rattle.kb_tenants.specs.Tenants.{IsIdleUntil}
 use Rattle.kb_tenants.specs.declared.tenants.Tenant.{Tenant}

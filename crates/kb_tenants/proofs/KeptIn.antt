@@ -7,7 +7,8 @@ use Rattle.kb_topics.specs.Catalog.{known}
 use Rattle.kb_partitions.specs.Partitions.{logs_of}
 use Rattle.kb_world.specs.Parts.{entries}
 use Rattle.kb_world.specs.declared.parts.Parts.{Parts}
-use Rattle.kb_service.specs.Hosted.{all_calm, kept_of, names_of}
+use Rattle.kb_service.specs.Hosted.{kept_of, names_of}
+use Rattle.kb_service.specs.Turns.{all_calm}
 use Rattle.kb_tenants.specs.Tenants.{AreKept, AreKeptIn, HaveNothingRefused, hosted, parts_of, shelf_is_honest, state_of, strays_of}
 use Rattle.kb_tenants.specs.declared.tenants.Tenant.{Tenant}
 use Rattle.kb_tenants.specs.declared.tenants.Tenants.{Tenants}

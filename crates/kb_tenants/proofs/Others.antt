@@ -11,8 +11,9 @@ use Rattle.std.proofs.lemmas.List.{length-set}
 use Rattle.kb_partitions.proofs.Put.{get_put}
 use Rattle.kb_world.specs.KeptUntil.{AreAllKept}
 use Rattle.kb_world.specs.Parts as parts
-use Rattle.kb_world.specs.Parts.{IsSound, Agrees, Owns, END, entries, meta, world_of}
-use Rattle.kb_world.specs.Steps.{IsStep, IsCalm, Meets}
+use Rattle.kb_world.specs.Parts.{IsSound, Agrees, Owns, entries, meta, world_of}
+use Rattle.kb_world.specs.Counts.{END, IsCalm}
+use Rattle.kb_world.specs.Steps.{IsStep, Meets}
 use Rattle.kb_world.specs.World.{World}
 use Rattle.kb_world.specs.declared.parts.Parts.{Parts}
 use Rattle.kb_world.proofs.Spared as spared

@@ -12,7 +12,7 @@ use Rattle.kb_world.specs.Calls.{retain_all}
 use Rattle.kb_topics.specs.Catalog.{known}
 use Rattle.kb_partitions.specs.Partitions.{AreExact, logs_of}
 use Rattle.kb_world.specs.Parts.{IsSound, Agrees, Owns, entries, meta, world_of}
-use Rattle.kb_world.specs.Steps.{IsCalm}
+use Rattle.kb_world.specs.Counts.{IsCalm}
 use Rattle.kb_world.specs.declared.parts.Parts.{Parts}
 use Rattle.kb_service.specs.Hosted.{Kept, TenantState, kept_in, kept_of, names_of, passed, refusals_of, world_at}
 use Rattle.kb_service.specs.Replies.{told_to}

@@ -17,7 +17,8 @@ use Rattle.kb_topics.specs.Known.{Known, TopicState, PartitionState, empty, topi
 use Rattle.kb_topics.specs.Refusals.{create_refusal, delete_refusal, issue_refusal, start_refusal}
 use Rattle.kb_topics.specs.MetaLog.{Says, SayEach, IsFold}
 use Rattle.kb_topics.specs.Calls.{Appended, Unchanged, IsLogCause, IsCause, StaysFold, Records}
-use Rattle.kb_topics.specs.Catalog.{create_command, issue_command, start_command, place_in}
+use Rattle.kb_topics.specs.Catalog.{place_in}
+use Rattle.kb_topics.specs.Commands.{create_command, issue_command, start_command}
 use Rattle.kb_topics.proofs.Topics.{remove_inserted}
 use Rattle.kb_topics.proofs.Appending.{unchanged_same}
 

@@ -2,7 +2,9 @@ pub mod ByName
 pub mod Calls
 pub mod Catalog
 pub mod CatalogFault
+pub mod Commands
 pub mod Config
+pub mod ConfigReading
 pub mod Known
 pub mod Lawful
 pub mod Layouts

@@ -3,7 +3,8 @@ ghost use Rattle.std.specs.Prelude.{◌≡◌, ◌≤◌, length, Some, None, tr
 ghost use Rattle.std.specs.List.{list_all};
 ghost use Rattle.std.specs.Char.{is_ascii_digit};
 ghost use Rattle.std.specs.Option.{option_copied};
-ghost use Rattle.kb_topics.specs.Config.{number_in, limit_in, entry_of, with_entry, config_of, nothing_read};
+ghost use Rattle.kb_topics.specs.Config.{number_in, limit_in};
+ghost use Rattle.kb_topics.specs.ConfigReading.{entry_of, with_entry, config_of, nothing_read};
 
 /// How long a topic keeps its records. A limit of -1 keeps them for good.
 #[derive(Clone, Copy, Debug, PartialEq, Eq)]

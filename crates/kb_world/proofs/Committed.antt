@@ -9,7 +9,8 @@ use Rattle.std.proofs.lemmas.Map.Made.{lookup-map_values}
 use Rattle.std.proofs.lemmas.Option.{slice_get_within}
 use Rattle.kb_store.specs.Disk.{Disk}
 use Rattle.kb_log.specs.OnShelf.{Log}
-use Rattle.kb_topics.specs.Catalog.{known, commit_command}
+use Rattle.kb_topics.specs.Catalog.{known}
+use Rattle.kb_topics.specs.Commands.{commit_command}
 use Rattle.kb_topics.specs.Known.{Known, CommittedOffset, PartitionState, TopicState, step, topic_at, partition_at, with_commit, with_partition}
 use Rattle.kb_topics.specs.Refusals.{commit_refusal}
 use Rattle.kb_topics.specs.declared.fault.CatalogFault.TheVariants as faults

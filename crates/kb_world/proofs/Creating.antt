@@ -4,7 +4,7 @@ use Rattle.std.proofs.lemmas.Bool.Decides.{nat_tests}
 use Rattle.std.proofs.lemmas.Int.{ints}
 use Rattle.std.specs.Prelude.{if◌then◌else◌}
 use Rattle.kb_batch.specs.Batch.{natural}
-use Rattle.kb_topics.specs.Catalog.{create_command}
+use Rattle.kb_topics.specs.Commands.{create_command}
 use Rattle.kb_topics.specs.Known.{Known, may_create, new_topic, with_topic, is_partition_count, is_limit, named, step}
 use Rattle.kb_topics.specs.Name.{is_legal}
 use Rattle.kb_topics.specs.Refusals.{create_refusal}

@@ -5,7 +5,7 @@ use Rattle.std.proofs.lemmas.Int.{to_z-of_z}
 use Rattle.std.specs.Prelude.{if◌then◌else◌}
 use Rattle.std.specs.Int.{w64}
 use Rattle.std.specs.Ordering.{int_eq}
-use Rattle.kb_topics.specs.Catalog.{issue_command}
+use Rattle.kb_topics.specs.Commands.{issue_command}
 use Rattle.kb_topics.specs.Known.{Known, with_id, step}
 use Rattle.kb_topics.specs.Refusals.{issue_refusal}
 use Rattle.kb_topics.specs.declared.fault.CatalogFault.TheVariants as faults

@@ -21,8 +21,9 @@ use Rattle.kb_topics.specs.declared.fault.CatalogFault.{CatalogFault}
 use Rattle.kb_topics.specs.declared.fault.CatalogFault.TheVariants as catalog
 use Rattle.kb_world.specs.Parts as parts
 use Rattle.kb_world.specs.KeptUntil.{AreAllKept}
-use Rattle.kb_world.specs.Parts.{IsSound, Agrees, Seen, meta, entries, recorded_start, world_of, END, raised, refused, counted_for, counted_for_catalog}
-use Rattle.kb_world.specs.Steps.{IsStep, IsCalm, Meets, calm_then}
+use Rattle.kb_world.specs.Parts.{IsSound, Agrees, Seen, meta, entries, recorded_start, world_of, raised, refused, counted_for, counted_for_catalog}
+use Rattle.kb_world.specs.Counts.{END, IsCalm}
+use Rattle.kb_world.specs.Steps.{IsStep, Meets, calm_then}
 use Rattle.kb_world.specs.Tied.{counted, partition_count}
 use Rattle.kb_world.specs.declared.parts.Parts.{Parts}
 use Rattle.kb_world.proofs.Moves.{IsMove, as_move, as_step}

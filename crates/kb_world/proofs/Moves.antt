@@ -2,7 +2,8 @@
 use Rattle.std.proofs.Common.{◌≡◌, ◌∙◌, ◌≤◌, arith}
 use Rattle.kb_partitions.specs.Scene.{Scene, Frame, Settles}
 use Rattle.kb_world.specs.Parts.{Seen}
-use Rattle.kb_world.specs.Steps.{IsCalm, IsStep, spares_then}
+use Rattle.kb_world.specs.Steps.{IsStep, spares_then}
+use Rattle.kb_world.specs.Counts.{IsCalm}
 
 -- What holds before a refusal is counted: whose the parts are; the files of all others are as they were; and the counts of refusals,
 -- of recorded commands and of topics that were made have not fallen.

@@ -16,7 +16,8 @@ use Rattle.kb_partitions.specs.Partitions.{Owned, logs_of}
 use Rattle.kb_partitions.specs.Scene.{Settles}
 use Rattle.kb_world.specs.Parts as parts
 use Rattle.kb_world.specs.Parts.{IsSound, Agrees, meta, entries, recorded_start, world_of, counted_for_catalog}
-use Rattle.kb_world.specs.Steps.{IsStep, IsCalm}
+use Rattle.kb_world.specs.Steps.{IsStep}
+use Rattle.kb_world.specs.Counts.{IsCalm}
 use Rattle.kb_world.specs.Tied.{counted, partition_count}
 use Rattle.kb_world.specs.World.{World}
 use Rattle.kb_world.specs.declared.parts.Parts.{Parts}

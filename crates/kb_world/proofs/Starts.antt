@@ -6,7 +6,7 @@ use Rattle.std.specs.Ordering.{nat_cmp}
 use Rattle.std.specs.BTreeMap.{insert_entry, is_at}
 use Rattle.kb_batch.specs.Batch.{natural}
 use Rattle.kb_log.specs.OnShelf.{Log}
-use Rattle.kb_topics.specs.Catalog.{start_command}
+use Rattle.kb_topics.specs.Commands.{start_command}
 use Rattle.kb_topics.specs.Known as topics
 use Rattle.kb_topics.specs.Known.{Known, CommittedOffset, PartitionState, TopicState, new_partition, put_topic, step, topic_at, with_commit, with_part, with_partition, with_start, without_topic}
 use Rattle.kb_partitions.specs.Partitions.{AreStarted, Entries, Restarts}

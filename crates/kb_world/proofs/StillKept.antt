@@ -11,7 +11,7 @@ use Rattle.std.specs.Map.{lookup, remove_entry, set_value}
 use Rattle.std.specs.BTreeMap.{insert_entry, is_at}
 use Rattle.kb_batch.specs.Batch.{natural}
 use Rattle.kb_log.specs.Log.{IsKeptUntil, retained_start}
-use Rattle.kb_topics.specs.Catalog.{start_command}
+use Rattle.kb_topics.specs.Commands.{start_command}
 use Rattle.kb_topics.specs.Known as topics
 use Rattle.kb_topics.specs.Known.{Known, PartitionState, TopicState, put_topic, step, topic_at, with_part, with_partition, with_start, without_topic}
 use Rattle.kb_topics.specs.declared.config.TopicConfig.{TopicConfig}

@@ -15,7 +15,8 @@ use Rattle.kb_topics.specs.declared.fault.CatalogFault.{CatalogFault}
 use Rattle.kb_topics.specs.declared.fault.CatalogFault.TheVariants as catalog
 use Rattle.kb_world.specs.Parts as parts
 use Rattle.kb_world.specs.Parts.{Agrees, Seen, counted_for_catalog, meta, world_of}
-use Rattle.kb_world.specs.Told.{IsCatalogWant, IsCreationWant, IsDone, IsRefused, counted_once}
+use Rattle.kb_world.specs.Told.{IsCatalogWant, IsCreationWant, IsDone, IsRefused}
+use Rattle.kb_world.specs.Counts.{counted_once}
 use Rattle.kb_world.specs.World.{World}
 use Rattle.kb_world.specs.declared.parts.Parts.{Parts}
 use Rattle.kb_world.proofs.Recorded.{on_shelf}

@@ -12,7 +12,8 @@ use Rattle.std.proofs.lemmas.Map.Made.{lookup-map_values}
 use Rattle.kb_store.specs.Disk.{Disk, Files, Table}
 use Rattle.kb_batch.specs.Batch.{natural}
 use Rattle.kb_log.specs.OnShelf.{Log, Identity}
-use Rattle.kb_topics.specs.Catalog.{known, catalog_identity, start_command}
+use Rattle.kb_topics.specs.Catalog.{known, catalog_identity}
+use Rattle.kb_topics.specs.Commands.{start_command}
 use Rattle.kb_topics.specs.Known.{Known, PartitionState, TopicState, put_topic, step, topic_at, with_part, with_partition, with_start}
 use Rattle.kb_topics.specs.Known as topics
 use Rattle.kb_topics.specs.MetaLog.{IsFold}

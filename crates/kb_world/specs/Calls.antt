@@ -10,7 +10,7 @@ use Rattle.kb_producers.specs.declared.verdict.Verdict.{Verdict}
 use Rattle.kb_log.specs.Log.{fetched, first_at, retained_start}
 use Rattle.kb_log.specs.declared.time.OffsetAndTimestamp.{OffsetAndTimestamp}
 use Rattle.kb_topics.specs.ByName.{by_name}
-use Rattle.kb_topics.specs.Catalog.{start_command}
+use Rattle.kb_topics.specs.Commands.{start_command}
 use Rattle.kb_topics.specs.Known.{Known, CommittedOffset, PartitionState, TopicState, new_topic, with_topic, without_topic, with_id, with_commit, with_partition, named, topic_at, partition_at, committed_at, step}
 use Rattle.kb_topics.specs.Refusals.{commit_refusal, create_refusal, issue_refusal}
 use Rattle.kb_topics.specs.declared.config.TopicConfig.{TopicConfig}

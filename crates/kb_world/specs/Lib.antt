@@ -1,4 +1,5 @@
 pub mod Calls
+pub mod Counts
 pub mod Dropping
 pub mod KeptUntil
 pub mod Parts

@@ -20,6 +20,7 @@ use Rattle.kb_world.specs.KeptUntil.{AreAllKept}
 use Rattle.kb_world.specs.Tied.{counted, partition_count}
 use Rattle.kb_world.specs.World.{World}
 use Rattle.kb_world.specs.declared.parts.Parts.{Parts}
+use Rattle.kb_world.specs.Counts.{END}
 
 -- the meta log
 abbrev pub meta : {L : Type 0} → (L → Log) → Parts L → Log
@@ -90,10 +91,6 @@ scene_on log p d next = record {
 -- the parts and their shelf at one moment
 abbrev pub scene : {L S : Type 0} → (L → Log) → (S → Disk) → Parts L → Shelved S → Scene Seen
 scene log disk p shelf = scene_on log p (disk shelf.store) shelf.next
-
--- where a count of refusals stays
-abbrev pub END : ℕ
-END = 2 ^ 64 - 1
 
 -- one refusal more is counted
 abbrev pub refused : {L : Type 0} → Parts L → Parts L

@@ -4,12 +4,8 @@ use Rattle.std.proofs.Common.{◌∙◌, sym, refl, subst, inl, inr, ⊎_elim, a
 use Rattle.kb_store.specs.Disk.{Disk}
 use Rattle.kb_log.specs.OnShelf.{Spares}
 use Rattle.kb_partitions.specs.Scene.{Scene, Frame, Settles}
-use Rattle.kb_world.specs.Parts.{Seen, END}
-
--- nothing was refused: the count is as before, and can still rise
-pub record IsCalm (old new : ℕ) : Type 0 where
-  pub same : new ≡ old
-  pub below : old < END
+use Rattle.kb_world.specs.Parts.{Seen}
+use Rattle.kb_world.specs.Counts.{END, IsCalm}
 
 -- What each call keeps, also where it is refused: whose the parts are; the files of all others are as they were; and the counts of
 -- refusals, of recorded commands and of topics that were made only rise.

@@ -1,16 +1,13 @@
 -- What each call answers, whatever memory and the store refuse: what is defined, or else a fault that names what refused it.
-use Rattle.std.specs.Prelude.{◌≡◌, ◌≤◌, ◌+◌, ◌^◌, ◌⊎◌, ℕ, nat_lt, Result, Ok, Err, if◌then◌else◌}
+use Rattle.std.specs.Prelude.{◌≡◌, ◌≤◌, ◌+◌, ◌^◌, ◌⊎◌, Result, Ok, Err}
 use Rattle.kb_store.specs.Disk.{Grew}
 use Rattle.kb_topics.specs.declared.fault.CatalogFault.{CatalogFault}
 use Rattle.kb_topics.specs.declared.fault.CatalogFault.TheVariants as catalog
 use Rattle.kb_partitions.specs.Scene.{Scene, WhereHonest}
 use Rattle.kb_partitions.specs.declared.fault.PartitionFault.{PartitionFault}
 use Rattle.kb_partitions.specs.declared.fault.PartitionFault.TheVariants as partition
-use Rattle.kb_world.specs.Parts.{END, Seen}
-
--- one refusal more, short of the end
-abbrev pub counted_once : ℕ → ℕ
-counted_once n = if nat_lt n END then n + 1 else n
+use Rattle.kb_world.specs.Parts.{Seen}
+use Rattle.kb_world.specs.Counts.{END, counted_once}
 
 -- It did what is defined, and no refusal was counted.
 pub record IsDone (a b : Scene Seen) (P : Type 0) : Type 0 where

@@ -2,7 +2,8 @@
 use Rattle.std.proofs.Common.{◌≡◌, ◌==◌, ◌&&◌, true, List, [], ◌∷◌, refl, sym, subst}
 use Rattle.std.specs.List.{AllByRecursion}
 use Rattle.std.proofs.lemmas.List.Elements.{recursion_from_All}
-use Rattle.kb_service.specs.Hosted.{TenantState, all_calm}
+use Rattle.kb_service.specs.Hosted.{TenantState}
+use Rattle.kb_service.specs.Turns.{all_calm}
 use Rattle.kb_machine.specs.Broker.{BrokerState}
 use Rattle.kb_machine.specs.Calls.{is_calm}
 use Rattle.kb_settings.specs.declared.settings.Settings.{Settings}

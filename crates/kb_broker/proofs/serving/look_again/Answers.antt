@@ -1,6 +1,6 @@
 use Rattle.std.proofs.Common.{◌≡◌, rules, subst, sym, ◌∙◌, true}
 use Rattle.kb_tenants.specs.Tenants.{numbers_in, shelf_is_honest}
-use Rattle.kb_service.specs.Hosted.{IsTurn, IsMet}
+use Rattle.kb_service.specs.Turns.{IsTurn, IsMet}
 use Rattle.kb_tenant.specs.Replies as plain
 use Rattle.kb_machine.specs.Tenant.{ready}
 use Rattle.kb_connection.specs.View.{wait_of}

@@ -1,7 +1,8 @@
 use Rattle.std.proofs.Common.{arith, inl, inr, refl, sym, true, ◌≡◌, ap, subst}
 use Rattle.std.specs.Prelude.{IfNone, IfSome}
 use Rattle.std.specs.FinMap as fin
-use Rattle.kb_service.specs.Hosted.{kept_of, nothing, IsMet}
+use Rattle.kb_service.specs.Hosted.{kept_of, nothing}
+use Rattle.kb_service.specs.Turns.{IsMet}
 use Rattle.kb_service.specs.Replies.{IsAnswer, Rebalances}
 use Rattle.kb_service.specs.Waiters.{AreServed, IsWaitTold}
 use Rattle.kb_tenant.specs.declared.request.Request.{Request}

@@ -1,5 +1,5 @@
 use Rattle.std.proofs.Common.{◌≡◌, None, rules}
-use Rattle.kb_topics.specs.Config.{entry_of, with_entry}
+use Rattle.kb_topics.specs.ConfigReading.{entry_of, with_entry}
 use Rattle.kb_tenant.proofs.Settings.{all_are_read, none_read}
 use Rattle.kb_tenant.proofs.create_topics.settings_in.Goals as goal
 

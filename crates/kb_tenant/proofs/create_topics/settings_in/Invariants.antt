@@ -1,5 +1,5 @@
 use Rattle.std.proofs.Common.{◌≡◌, drop}
-use Rattle.kb_topics.specs.Config.{nothing_read}
+use Rattle.kb_topics.specs.ConfigReading.{nothing_read}
 use Rattle.kb_tenant.proofs.Settings.{with_settings}
 use Rattle.kb_tenant.proofs.create_topics.settings_in.Given as goal
 

@@ -1,6 +1,6 @@
 use Rattle.std.proofs.Common.{◌≡◌, ◌∙◌, ◌+◌, ◌-◌, ◌<◌, ap, refl, subst, sym, arith}
 use Rattle.std.specs.Prelude.{min}
-use Rattle.kb_world.specs.Parts.{END}
+use Rattle.kb_world.specs.Counts.{END}
 use Rattle.kb_service.specs.Hosted.{kept_in, world_at}
 use Rattle.kb_tenant.specs.Replies.{IsAnswer}
 use Rattle.kb_tenant.specs.Serve.{looked}

@@ -1,7 +1,7 @@
 use Rattle.std.proofs.Common.{◌+◌, ap, sym, subst, arith, to_z, of_z, w64}
 use Rattle.std.proofs.lemmas.Int.{ints}
 use Rattle.std.specs.Prelude.{min}
-use Rattle.kb_world.specs.Parts.{END}
+use Rattle.kb_world.specs.Counts.{END}
 use Rattle.kb_service.specs.Hosted.{Kept, kept_of}
 use Rattle.kb_service.specs.Waiters.{AreTicked}
 use Rattle.kb_service.proofs.WaitersServed.{passed_told}

@@ -2,7 +2,7 @@ use Rattle.std.proofs.Common.{◌≡◌, ◌+◌, ◌-◌, ap, refl, arith, to_z
 use Rattle.std.proofs.lemmas.Int.{ints}
 use Rattle.std.specs.Prelude.{min}
 use Rattle.kb_world.specs.Calls.{retain_all}
-use Rattle.kb_world.specs.Parts.{END}
+use Rattle.kb_world.specs.Counts.{END}
 use Rattle.kb_service.specs.Hosted.{kept_in}
 use Rattle.kb_tenants.specs.Tenants.{drops, retained}
 use Rattle.kb_tenants.proofs.Hosted.{accounted_at, alone_at, sound_at, groups_at, kept_at, turn_at, met_at, stays_at}

@@ -1,7 +1,8 @@
 use Rattle.std.proofs.Common.{true, ◌+◌, ◌-◌, ◌∙◌, ◌≤◌, ◌^◌, ap, subst, sym, arith, to_z, of_z, w64}
 use Rattle.std.proofs.lemmas.Int.{ints}
 use Rattle.std.specs.Prelude.{min}
-use Rattle.kb_world.specs.Parts.{END, world_of}
+use Rattle.kb_world.specs.Parts.{world_of}
+use Rattle.kb_world.specs.Counts.{END}
 use Rattle.kb_service.specs.Hosted.{kept_in, world_at}
 use Rattle.kb_service.specs.Waiters.{AreServed, IsWaitTold}
 use Rattle.kb_service.proofs.WaitersServed.{after_told}

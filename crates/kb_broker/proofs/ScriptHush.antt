@@ -5,7 +5,7 @@ use Rattle.std.specs.Prelude.{codes}
 use Rattle.kb_api_group.specs.Frames.{Front, Whole, Partial, TooSmall, TooLarge, front}
 use Rattle.kb_api_group.specs.declared.error_code.ErrorCode.TheVariants as errors
 use Rattle.kb_tenant.specs.Replies.{reply_size}
-use Rattle.kb_machine.specs.Requests.{Asked, Versions, OtherVersions, Handshake, Authenticate, Another, Unread, request}
+use Rattle.kb_machine.specs.Requests.{Asked, Versions, OtherVersions, Handshake, Authenticate, Another, Malformed, request}
 use Rattle.kb_machine.specs.Session.{Greeting, Unshaken, Shaken, Bare, Stage, Greets, BoundTo, Session, shut_down, replied, fed, room}
 use Rattle.kb_machine.specs.Greeting.{Setup, authenticate_reply, login, logged_in, bare_login, greeting_after, shaken, authenticated, greeted_by, greeted_frame, greeted_at, greeted}
 use Rattle.kb_machine.specs.Machine.{Happening, Opens, Comes, Closes, Moment, Line, again}
@@ -56,7 +56,7 @@ same-greeted_by setup h id OtherVersions s t e = same-replied id _ s t e
 same-greeted_by setup h id (Handshake version mechanism) s t e = same-shaken (bytes_eq mechanism (codes "PLAIN")) id version s t e
 same-greeted_by setup h id (Authenticate message) s t e = same-authenticated setup h id message s t e
 same-greeted_by setup h id (Another key version body) s t e = same-shut s t e
-same-greeted_by setup h id Unread s t e = same-shut s t e
+same-greeted_by setup h id Malformed s t e = same-shut s t e
 
 same-bare_login : (o : Option ℕ) (s t : Session) → Same s t → Same (bare_login o s) (bare_login o t)
 same-bare_login (Some u) s t e = same-stage (BoundTo u None) s t e

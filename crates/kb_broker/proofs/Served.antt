@@ -13,7 +13,7 @@ use Rattle.kb_waits.specs.Queue as queue
 use Rattle.kb_waits.specs.Queue.{Queue, AreParked, IsUnder, IsUnderAny}
 use Rattle.kb_waits.specs.declared.key.WaitKey.{WaitKey}
 use Rattle.kb_waits.proofs.Queues.{get-insert_other, tied-itself}
-use Rattle.kb_world.specs.declared.place.Place.{Place}
+use Rattle.kb_world.specs.declared.topic_partition.TopicPartition.{TopicPartition}
 use Rattle.kb_service.specs.Hosted.{Kept, TenantState, kept_of, refusals_of, nothing}
 use Rattle.kb_service.specs.Turns.{IsTurn, IsMet}
 use Rattle.kb_tenant.specs.Replies.{Replies, Waits, Silent, Shuts}
@@ -25,7 +25,7 @@ use Rattle.kb_tenant.specs.declared.node.Node.{Node}
 use Rattle.kb_machine.specs.Tenant.{Awaited, Wait, Records, Group, answer, asked, kept_after}
 use Rattle.kb_machine.specs.Requests as requests
 use Rattle.kb_api_group.specs.declared.api_versions.ApiVersion.{ApiVersion}
-use Rattle.kb_machine.specs.Requests.{Asked, Versions, OtherVersions, Handshake, Authenticate, Another, Unread}
+use Rattle.kb_machine.specs.Requests.{Asked, Versions, OtherVersions, Handshake, Authenticate, Another, Malformed}
 use Rattle.kb_machine.specs.Session.{Greeting, Stage, Greets, BoundTo, Session, shut_down, waiting, without_wait, is_free}
 use Rattle.kb_machine.specs.Greeting.{Setup, greeted}
 use Rattle.kb_machine.specs.Machine.{Line, after_reaction, after_turn, served_by, served_at, put}
@@ -72,7 +72,7 @@ own_by setup kept clock n id OtherVersions s own free = free-replied id _ s free
 own_by setup kept clock n id (Handshake version mechanism) s own free = free-replied id _ s free
 own_by setup kept clock n id (Authenticate message) s own free = free-replied id _ s free
 own_by setup kept clock n id (Another key version body) s own free = let no : true ≡ false = own in absurd (cc)
-own_by setup kept clock n id Unread s own free = free-without s.stage
+own_by setup kept clock n id Malformed s own free = free-without s.stage
 
 own_at : (setup : Setup) (kept : Kept) (clock n : ℕ) (s : Session) (f : Front) → is_tenants_at setup.versions f ≡ false → is_free s.stage ≡ true → is_free (served_at setup kept clock n s f).stage ≡ true
 own_at setup kept clock n s (Whole frame rest) own free = let r = requests.request setup.versions frame in own_by setup kept clock n r.correlation_id r.asked (record s { unread = rest }) own free
@@ -89,7 +89,7 @@ pub own-free : (setup : Setup) (t : ℕ) (l new : Line) → l.session.stage ≡ 
 own-free setup t l new bound own is = ap (λ (x : Line). is_free x.session.stage) (is nothing 0 0) ∙ free-own setup nothing 0 0 l.session own (ap is_free bound)
 
 -- it touches nothing of the tenant's
-pub own-touched : (setup : Setup) (t clock n : ℕ) (ts : List TenantState) (l new : Line) (places : List Place) → l.session.stage ≡ BoundTo t None → IsOwn setup l.session → ((kept : Kept) (clock n : ℕ) → new ≡ with_session l (after_turn setup kept clock n l.session))
+pub own-touched : (setup : Setup) (t clock n : ℕ) (ts : List TenantState) (l new : Line) (places : List TopicPartition) → l.session.stage ≡ BoundTo t None → IsOwn setup l.session → ((kept : Kept) (clock n : ℕ) → new ≡ with_session l (after_turn setup kept clock n l.session))
     → IsTouchedTurn setup t clock n ts ts l.session new.session places
 own-touched setup t clock n ts l new places bound own is = record {
   session = ap (λ (x : Line). x.session) (is (kept_of ts t) clock n);
@@ -161,7 +161,7 @@ dated-answered setup result q p t n l new r key version id body parked bound ask
         sym (ap (λ (x : Line). deadline_at x.session.stage) is ∙ dated-waiting t l.session.stage id Group bound)
 
 -- and it stands there under its tenant
-owned-by : (t deadline : ℕ) (places : List Place) (st : Stage) (o : Option queue.Wait) → o ≡ Some (record { deadline = deadline; keys = keys_for t places }) → without_wait st ≡ BoundTo t None → IsOwnedAt st o
+owned-by : (t deadline : ℕ) (places : List TopicPartition) (st : Stage) (o : Option queue.Wait) → o ≡ Some (record { deadline = deadline; keys = keys_for t places }) → without_wait st ≡ BoundTo t None → IsOwnedAt st o
 owned-by t deadline places (Greets h) o parked bound = tt
 owned-by t deadline places (BoundTo u None) o parked bound = tt
 owned-by t deadline places (BoundTo u (Some w)) o parked bound =
@@ -235,7 +235,7 @@ turned-touched H setup t clock n ts us s r (touches.Partitions places) touched m
 turned-touched H setup t clock n ts us s r touches.Groups touched meets honest = touched honest
 turned-touched H setup t clock n ts us s r touches.Unknown touched meets honest = tt
 
-contains-key : (t : ℕ) (places : List Place) (place : Place) → Contains places place → Contains (keys_of t places) (key_of t place)
+contains-key : (t : ℕ) (places : List TopicPartition) (place : TopicPartition) → Contains places place → Contains (keys_of t places) (key_of t place)
 contains-key t [] place c = absurd (let h = c.1 in omega (arith, h))
 contains-key t (x ∷ xs) place c = at c.0 (contains-key t xs place) c.1 c.2
   where
@@ -243,25 +243,25 @@ contains-key t (x ∷ xs) place c = at c.0 (contains-key t xs place) c.1 c.2
     at zero rest lt is = (0, omega arith, ap (key_of t) is)
     at (suc i) rest lt is = let there = rest (i, omega (arith, lt), is) in (suc there.0, (let h = there.1 in omega (arith, h)), there.2)
 
-under-key : (t : ℕ) (places : List Place) (place : Place) (o : Option queue.Wait) → places_of o ≡ Some (keys_for t places) → Contains places place → IsSomeAnd o (IsUnder (key_of t place))
+under-key : (t : ℕ) (places : List TopicPartition) (place : TopicPartition) (o : Option queue.Wait) → places_of o ≡ Some (keys_for t places) → Contains places place → IsSomeAnd o (IsUnder (key_of t place))
 under-key t places place None e c = absurd (cc)
 under-key t places place (Some w) e c =
     let is : w.keys ≡ keys_for t places = cc in
     let there = contains-key t places place c in
     subst (λ keys. Contains keys (key_of t place)) (sym is) (suc there.0, (let h = there.1 in omega (arith, h)), there.2)
 
-nowhere : (place : Place) → Contains [] place → ⊥
+nowhere : (place : TopicPartition) → Contains [] place → ⊥
 nowhere place c = let h = c.1 in omega (arith, h)
 
 -- those that stand under the partitions, and the one of that number
-pub concerned-touched : (t n : ℕ) (ts : List TenantState) (q : Queue) (places : Vec Place Global) (ns ms : List ℕ) → refusals_of ts t ≡ 0 → AreParked q (IsUnderAny (keys_of t places.items)) ns → ms ≡ ns ++ n ∷ [] → AreConcerned t n ts q (touches.Partitions places) ms
+pub concerned-touched : (t n : ℕ) (ts : List TenantState) (q : Queue) (places : Vec TopicPartition Global) (ns ms : List ℕ) → refusals_of ts t ≡ 0 → AreParked q (IsUnderAny (keys_of t places.items)) ns → ms ≡ ns ++ n ∷ [] → AreConcerned t n ts q (touches.Partitions places) ms
 concerned-touched t n ts q places ns ms calm parked is = inl (record {
   calm = calm;
   own = subst (λ ks. Contains ks n) (sym is) (Contains-push ns n);
   under = λ k place touches under. subst (λ ks. Contains ks k) (sym is) (Contains-append_left ns (n ∷ []) k ((parked.exactly k).1 (any-key (fin.get q k) place touches under)));
 })
   where
-    any-key : (o : Option queue.Wait) (place : Place) → Contains places.items place → IsSomeAnd o (IsUnder (key_of t place)) → IsSomeAnd o (IsUnderAny (keys_of t places.items))
+    any-key : (o : Option queue.Wait) (place : TopicPartition) → Contains places.items place → IsSomeAnd o (IsUnder (key_of t place)) → IsSomeAnd o (IsUnderAny (keys_of t places.items))
     any-key None place touches under = absurd under
     any-key (Some w) place touches under = let there = contains-key t places.items place touches in (there.0, key_of t place, there.1, there.2, under)
 
@@ -286,7 +286,7 @@ concerned-all t n ts q touched ns ms no-group parked is = by touched no-group
     by touches.Unknown no-group = all
 
 -- those that wait for the partitions, and the one of that number
-pub concerned-waiting : (t n : ℕ) (ts : List TenantState) (q : Queue) (places : Vec Place Global) (ns ms : List ℕ) → AreWaitingFor t ts q places.items ns → ms ≡ ns ++ n ∷ [] → AreConcerned t n ts q (touches.Partitions places) ms
+pub concerned-waiting : (t n : ℕ) (ts : List TenantState) (q : Queue) (places : Vec TopicPartition Global) (ns ms : List ℕ) → AreWaitingFor t ts q places.items ns → ms ≡ ns ++ n ∷ [] → AreConcerned t n ts q (touches.Partitions places) ms
 concerned-waiting t n ts q places ns ms (inl h) is = concerned-touched t n ts q places ns ms h.0 h.1 is
 concerned-waiting t n ts q places ns ms (inr h) is = concerned-all t n ts q (touches.Partitions places) ns ms (λ e. absurd (cc)) h is
 

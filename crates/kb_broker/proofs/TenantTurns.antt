@@ -5,7 +5,7 @@ use Rattle.kb_world.specs.Tied.{IsTied}
 use Rattle.kb_world.specs.World.{World}
 use Rattle.kb_service.proofs.ByRequest.{by_request}
 use Rattle.kb_world.specs.Counts.{END, IsCalm}
-use Rattle.kb_world.specs.declared.place.Place.{Place}
+use Rattle.kb_world.specs.declared.topic_partition.TopicPartition.{TopicPartition}
 use Rattle.kb_service.specs.Hosted.{Kept, nothing, TenantState, kept_in, kept_of, refusals_of, world_at}
 use Rattle.kb_service.specs.Turns.{IsTurn, IsMet}
 use Rattle.kb_tenant.specs.Replies as plain
@@ -53,7 +53,7 @@ use Rattle.kb_machine.proofs.Parts.{turn-then, calm-right}
 -- 1. A request of the tenant
 
 -- what is answered, and kept
-pub answered-now : (node : Node) (k l : Kept) (clock n : ℕ) (id key version : ℤ) (body : List ℕ) (touched : List Place) (r : Answer) → IsOutcome id (served node (world_at k clock) k.groups n key version body) (world_at l clock) l.groups touched r
+pub answered-now : (node : Node) (k l : Kept) (clock n : ℕ) (id key version : ℤ) (body : List ℕ) (touched : List TopicPartition) (r : Answer) → IsOutcome id (served node (world_at k clock) k.groups n key version body) (world_at l clock) l.groups touched r
     → (l ≡ kept_after node k clock n key version body) × IsAnswer id (answer node k clock n key version body) r
 unfolding answer kept_after
 answered-now node k l clock n id key version body touched r h =
@@ -73,7 +73,7 @@ pub calm-of : (x y before after : ℕ) → before ≡ x → after ≡ y → afte
 calm-of x y before after p q same up = record { same = sym q ∙ (same ∙ p); below = subst (λ n. n < END) p up }
 
 -- where nothing was refused, and nobody's group answered it, only a fetch that asks a touched partition may have become ready
-pub touched-now : {L S : Type 0} (log : L → Log) (disk : S → Disk) (H : Type 0) → H → (node : Node) (hosts : Tenants L S) (us : List TenantState) (clock t n : ℕ) (id key version : ℤ) (body : List ℕ) (touched : List Place) (r : Answer) → AreHosted log disk hosts
+pub touched-now : {L S : Type 0} (log : L → Log) (disk : S → Disk) (H : Type 0) → H → (node : Node) (hosts : Tenants L S) (us : List TenantState) (clock t n : ℕ) (id key version : ℤ) (body : List ℕ) (touched : List TopicPartition) (r : Answer) → AreHosted log disk hosts
     → IsMet t H (tenants_in log disk hosts) us (λ k l. IsOutcome id (served node (world_at k clock) k.groups n key version body) (world_at l clock) l.groups touched r)
     → IsCalm (refusals_of (tenants_in log disk hosts) t) (refusals_of us t) → has_released (kept_of us t).groups ≡ false → IsTouched t clock (tenants_in log disk hosts) us touched
 touched-now log disk H honest node hosts us clock t n id key version body touched r kept meets calm nobody =
@@ -90,7 +90,7 @@ answered-ready : (node : Node) (k l : Kept) (clock n : ℕ) (key version : ℤ) 
 unfolding ready
 answered-ready node k l clock n key version body m w tied same untouched still silence = by w.awaited quietly
   where
-    nowhere : (place : Place) → Contains [] place → ⊥
+    nowhere : (place : TopicPartition) → Contains [] place → ⊥
     nowhere place c = let h = c.1 in omega (arith, h)
 
     hushed : Kept
@@ -104,7 +104,7 @@ answered-ready node k l clock n key version body m w tied same untouched still s
     by Group h = still
 
 -- where nothing was refused, and groups answered requests that waited, only those may have become ready
-pub released-now : {L S : Type 0} (log : L → Log) (disk : S → Disk) (H : Type 0) → H → (node : Node) (hosts : Tenants L S) (us : List TenantState) (clock t n : ℕ) (id key version : ℤ) (body : List ℕ) (touched : List Place) (r : Answer) → AreHosted log disk hosts
+pub released-now : {L S : Type 0} (log : L → Log) (disk : S → Disk) (H : Type 0) → H → (node : Node) (hosts : Tenants L S) (us : List TenantState) (clock t n : ℕ) (id key version : ℤ) (body : List ℕ) (touched : List TopicPartition) (r : Answer) → AreHosted log disk hosts
     → IsMet t H (tenants_in log disk hosts) us (λ k l. IsOutcome id (served node (world_at k clock) k.groups n key version body) (world_at l clock) l.groups touched r)
     → IsCalm (refusals_of (tenants_in log disk hosts) t) (refusals_of us t) → has_released (kept_of us t).groups ≡ true → IsReleased t clock (tenants_in log disk hosts) us
 released-now log disk H honest node hosts us clock t n id key version body touched r kept meets calm some =
@@ -121,7 +121,7 @@ released-now log disk H honest node hosts us clock t n id key version body touch
     by o gs after same some (inr quiet) = let no : has_released (silent gs) ≡ true = subst (λ x. has_released x ≡ true) (same ∙ quiet) some in absurd (cc)
 
 -- where nothing was ever refused to the tenant, a fetch that still waits asks for the same
-pub asked-on : {L S : Type 0} (log : L → Log) (disk : S → Disk) (H : Type 0) → H → (hosts : Tenants L S) → shelf_is_honest disk hosts → (node : Node) (us : List TenantState) (clock t n : ℕ) (id key version : ℤ) (body : List ℕ) (touched : List Place) (r : Answer) → AreHosted log disk hosts
+pub asked-on : {L S : Type 0} (log : L → Log) (disk : S → Disk) (H : Type 0) → H → (hosts : Tenants L S) → shelf_is_honest disk hosts → (node : Node) (us : List TenantState) (clock t n : ℕ) (id key version : ℤ) (body : List ℕ) (touched : List TopicPartition) (r : Answer) → AreHosted log disk hosts
     → IsTurn t H (tenants_in log disk hosts) us
     → IsMet t H (tenants_in log disk hosts) us (λ k l. IsOutcome id (served node (world_at k clock) k.groups n key version body) (world_at l clock) l.groups touched r)
     → IsAskedOn t (tenants_in log disk hosts) us

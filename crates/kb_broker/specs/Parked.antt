@@ -7,7 +7,7 @@ use Rattle.kb_waits.specs.Queue as queue
 use Rattle.kb_waits.specs.Queue.{Queue, AreParked}
 use Rattle.kb_waits.specs.declared.key.WaitKey.{WaitKey}
 use Rattle.kb_waits.specs.declared.key.WaitKey.TheVariants as keys
-use Rattle.kb_world.specs.declared.place.Place.{Place}
+use Rattle.kb_world.specs.declared.topic_partition.TopicPartition.{TopicPartition}
 use Rattle.kb_service.specs.Hosted as hosted
 use Rattle.kb_service.specs.Hosted.{TenantState}
 use Rattle.kb_service.specs.Serve.{has_released}
@@ -38,10 +38,10 @@ use Rattle.kb_broker.specs.declared.serving.Touched.TheVariants as touches
 -- 1. The queue
 
 -- the key of a tenant's partition
-abbrev pub key_of : ℕ → Place → WaitKey
+abbrev pub key_of : ℕ → TopicPartition → WaitKey
 key_of t place = keys.Partition t place.instance place.number
 
-abbrev pub keys_of : ℕ → List Place → List WaitKey
+abbrev pub keys_of : ℕ → List TopicPartition → List WaitKey
 keys_of t places = map (key_of t) places
 
 -- the key of all that a tenant's connections wait for
@@ -49,7 +49,7 @@ abbrev pub tenant_key : ℕ → WaitKey
 tenant_key t = keys.Tenant t
 
 -- under what a connection of a tenant stands that waits for those partitions
-abbrev pub keys_for : ℕ → List Place → List WaitKey
+abbrev pub keys_for : ℕ → List TopicPartition → List WaitKey
 keys_for t places = tenant_key t ∷ keys_of t places
 
 -- until when a request waits: a fetch until its deadline, one that waits for its group until the end of time
@@ -146,7 +146,7 @@ pub record AreAnswered (t clock n : ℕ) (old new : List TenantState) (ns : List
   pub others : (k : ℕ) (w : Wait) → k ≢ n → (Contains ns k → ⊥) → ready (hosted.kept_of old t) clock k w ≡ Silent → ready (hosted.kept_of new t) clock k w ≡ Silent
 
 -- nothing was refused to a tenant, its groups answer nobody who waited, and what waits and was not ready is not ready, if it asks none of those partitions
-pub record IsTouched (t clock : ℕ) (old new : List TenantState) (places : List Place) : Type 0 where
+pub record IsTouched (t clock : ℕ) (old new : List TenantState) (places : List TopicPartition) : Type 0 where
   pub calm : IsCalm (hosted.refusals_of old t) (hosted.refusals_of new t)
   pub none : has_released (hosted.kept_of new t).groups ≡ false
   pub ready : (k : ℕ) (w : Wait) → AreApart (asked (hosted.kept_of old t) w) places → ready (hosted.kept_of old t) clock k w ≡ Silent → ready (hosted.kept_of new t) clock k w ≡ Silent
@@ -164,7 +164,7 @@ IsTouchedBy touches.Unknown t clock old new = ⊤
 
 -- the turn of a connection of number n bound to that tenant, of whose session s it leaves r, was not refused; the connection waits for
 -- nothing then, or the groups answer nobody who waited; and what waits and was not ready is not ready, if it asks none of those partitions
-pub record IsTouchedTurn (setup : Setup) (t clock n : ℕ) (old new : List TenantState) (s r : Session) (places : List Place) : Type 0 where
+pub record IsTouchedTurn (setup : Setup) (t clock n : ℕ) (old new : List TenantState) (s r : Session) (places : List TopicPartition) : Type 0 where
   pub session : r ≡ after_turn setup (hosted.kept_of old t) clock n s
   pub kept : hosted.kept_of new t ≡ put setup (hosted.kept_of old t) clock n s.unread
   pub own : (has_released (hosted.kept_of new t).groups ≡ false) ⊎ (is_free r.stage ≡ true)
@@ -177,10 +177,10 @@ IsTouchedTurnBy touches.Groups setup t clock n old new s r = IsReleased t clock 
 IsTouchedTurnBy touches.Unknown setup t clock n old new s r = ⊤
 
 -- those connections are the one of that number, and all that stand in the queue under one of those partitions
-pub record AreUnder (t n : ℕ) (ts : List TenantState) (q : Queue) (places : List Place) (ns : List ℕ) : Type 0 where
+pub record AreUnder (t n : ℕ) (ts : List TenantState) (q : Queue) (places : List TopicPartition) (ns : List ℕ) : Type 0 where
   pub calm : hosted.refusals_of ts t ≡ 0
   pub own : Contains ns n
-  pub under : (k : ℕ) (place : Place) → Contains places place → IsSomeAnd (get q k) (queue.IsUnder (key_of t place)) → Contains ns k
+  pub under : (k : ℕ) (place : TopicPartition) → Contains places place → IsSomeAnd (get q k) (queue.IsUnder (key_of t place)) → Contains ns k
 
 -- those connections are exactly the one of that number, and all that stand in the queue under the tenant
 abbrev pub AreTheTenants : ℕ → ℕ → Queue → List ℕ → Type 0
@@ -188,7 +188,7 @@ AreTheTenants t n q ns = (k : ℕ) → Contains ns k ↔ (IsUnderTenant t (get q
 
 -- those connections are exactly those that stand in the queue under one of those partitions, where nothing was ever refused to the tenant; or those
 -- that stand there under the tenant
-abbrev pub AreWaitingFor : ℕ → List TenantState → Queue → List Place → List ℕ → Type 0
+abbrev pub AreWaitingFor : ℕ → List TenantState → Queue → List TopicPartition → List ℕ → Type 0
 AreWaitingFor t ts q places ns = ((hosted.refusals_of ts t ≡ 0) × AreParked q (queue.IsUnderAny (keys_of t places)) ns) ⊎ AreParked q (queue.IsUnder (tenant_key t)) ns
 
 -- whose waits a turn of a tenant concerns: those for the partitions that it touched, or exactly those that the tenant's groups answered;

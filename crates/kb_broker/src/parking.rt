@@ -7,7 +7,7 @@ ghost use Rattle.kb_waits.specs.Queue.{AreParked, IsDue, IsUnder, IsUnderAny};
 ghost use Rattle.kb_broker.specs.Parked.{keys_for, keys_of, tenant_key, AreSought};
 
 use kb_waits::{WaitKey, Waits};
-use kb_world::Place;
+use kb_world::TopicPartition;
 use std::alloc::{AllocError, Global};
 use std::marker::Model;
 use std::mem;
@@ -57,7 +57,7 @@ impl Parking {
         number: u64,
         tenant: usize,
         deadline: u64,
-        places: &[Place],
+        places: &[TopicPartition],
     ) -> Result<(), AllocError>
         requires { fin.get self.old number ≡ None }
         ensures parked { OnOk result (self.new ≡ fin.insert self.old number (record { deadline = deadline; keys = keys_for tenant places.now })) }
@@ -116,7 +116,7 @@ impl Parking {
         &self,
         alloc: Global,
         tenant: usize,
-        places: &[Place],
+        places: &[TopicPartition],
     ) -> Result<Vec<u64>, AllocError>
         ensures { IfOk result (λ ns. AreParked self.now (IsUnderAny (keys_of tenant places.now)) ns.items) }
     {
@@ -171,7 +171,11 @@ fn due_or_answered(waits: &Waits, clock: u64, answered: &[u64], numbers: &mut Ve
 }
 
 /// The keys of a connection of a tenant that waits for some partitions.
-fn keys_for(alloc: Global, tenant: usize, places: &[Place]) -> Result<Vec<WaitKey>, AllocError>
+fn keys_for(
+    alloc: Global,
+    tenant: usize,
+    places: &[TopicPartition],
+) -> Result<Vec<WaitKey>, AllocError>
     ensures { IfOk result (λ keys. keys.items ≡ keys_for tenant places.now) }
 {
     let mut keys = Vec::with_capacity(alloc, places.len().saturating_add(1))?;
@@ -181,7 +185,11 @@ fn keys_for(alloc: Global, tenant: usize, places: &[Place]) -> Result<Vec<WaitKe
 }
 
 /// The keys of some partitions of a tenant.
-fn keys_of(alloc: Global, tenant: usize, places: &[Place]) -> Result<Vec<WaitKey>, AllocError>
+fn keys_of(
+    alloc: Global,
+    tenant: usize,
+    places: &[TopicPartition],
+) -> Result<Vec<WaitKey>, AllocError>
     ensures { IfOk result (λ keys. keys.items ≡ keys_of tenant places.now) }
 {
     let mut keys = Vec::with_capacity(alloc, places.len())?;
@@ -190,7 +198,11 @@ fn keys_of(alloc: Global, tenant: usize, places: &[Place]) -> Result<Vec<WaitKey
 }
 
 /// Puts the keys of some partitions of a tenant behind what is in `keys`. After an `Err`, which is want of memory, some may be missing.
-fn push_keys(keys: &mut Vec<WaitKey>, tenant: usize, places: &[Place]) -> Result<(), AllocError>
+fn push_keys(
+    keys: &mut Vec<WaitKey>,
+    tenant: usize,
+    places: &[TopicPartition],
+) -> Result<(), AllocError>
     ensures { OnOk result (keys.new.items ≡ keys.old.items ++ keys_of tenant places.now) }
 {
     for place in places {

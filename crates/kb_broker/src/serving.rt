@@ -29,14 +29,14 @@ use kb_service::{Answer, Served};
 use kb_store::Store;
 use kb_tenant::{Request, Wait};
 use kb_tenants::Tenants;
-use kb_world::Place;
+use kb_world::TopicPartition;
 use std::alloc::{AllocError, Global};
 
 /// What a turn of a tenant's connection touched of what requests wait for.
 #[derive(Drop)]
 pub enum Touched {
     /// These partitions, and no group.
-    Partitions(Vec<Place>),
+    Partitions(Vec<TopicPartition>),
     /// Groups, which answered requests that waited for them, and no partition.
     Groups,
     /// That is not known: something was refused to the tenant.
@@ -147,7 +147,7 @@ fn who_waits_for<L: PartitionLog + Drop, S: Store>(
     tenants: &Tenants<L, S>,
     parking: &Parking,
     tenant: usize,
-    places: &[Place],
+    places: &[TopicPartition],
 ) -> Result<Vec<u64>, AllocError>
     requires { tenant < length (tenants_in L.log S.disk tenants.now) }
     ensures { IfOk result (λ ns. AreWaitingFor tenant (tenants_in L.log S.disk tenants.now) parking.now places.now ns.items) }

@@ -2,7 +2,7 @@
 use Rattle.std.proofs.Common.{◌≡◌, ◌<◌, ◌≤◌, ℕ, ℤ, List, length, ◌++◌, true, false, Option, Some, None, refl, sym, ap, ◌∙◌, subst, arith, nat_lt, Result, Ok, Err, OnOk, OnErr, Global}
 use Rattle.std.proofs.lemmas.Bool.Decides.{nat_tests}
 use Rattle.std.specs.declared.vec.Vec.{Vec}
-use Rattle.kb_world.specs.declared.place.Place.{Place}
+use Rattle.kb_world.specs.declared.topic_partition.TopicPartition.{TopicPartition}
 use Rattle.kb_api_group.specs.Frames.{front}
 use Rattle.kb_api_group.specs.FrameStream.{behind}
 use Rattle.kb_api_group.specs.declared.api_versions.ApiVersion.{ApiVersion}
@@ -41,7 +41,7 @@ long_is id body s h =
 -- 2. To the request in front, but for a wait; s is the connection without it
 
 abbrev pub IsNoWait : Answer → Type 0
-IsNoWait answer = (deadline : ℕ) (keys : Vec Place Global) → answer ≡ answers.Wait deadline keys → ⊥
+IsNoWait answer = (deadline : ℕ) (keys : Vec TopicPartition Global) → answer ≡ answers.Wait deadline keys → ⊥
 
 answer_is : (id version : ℤ) (body : List ℕ) (reaction : Reaction) (answer : Answer) (s : Session) → IsNoWait answer → IsAnswer id reaction answer → given answer s ≡ plainly reaction id version body s
 answer_is id version body (Replies reply) (answers.Reply r) s no_wait h = reply_is id reply r s h

@@ -6,7 +6,7 @@ use Rattle.kb_api_group.specs.declared.frames.Next.{Next}
 use Rattle.kb_api_group.specs.declared.frames.Next.TheVariants as answers
 use Rattle.kb_api_group.specs.declared.api_versions.ApiVersion.{ApiVersion}
 use Rattle.kb_service.specs.Hosted.{Kept}
-use Rattle.kb_machine.specs.Requests.{Asked, Versions, OtherVersions, Handshake, Authenticate, Another, Unread, Request, request}
+use Rattle.kb_machine.specs.Requests.{Asked, Versions, OtherVersions, Handshake, Authenticate, Another, Malformed, Request, request}
 use Rattle.kb_machine.specs.Session.{Session}
 use Rattle.kb_machine.specs.Greeting.{Setup}
 use Rattle.kb_machine.specs.Machine.{after_turn, served_at, served_by, put, kept_at, kept_by}
@@ -25,7 +25,7 @@ kept_own setup kept clock n OtherVersions h = refl
 kept_own setup kept clock n (Handshake version mechanism) h = refl
 kept_own setup kept clock n (Authenticate message) h = refl
 kept_own setup kept clock n (Another key version body) h = cc
-kept_own setup kept clock n Unread h = refl
+kept_own setup kept clock n Malformed h = refl
 
 kept_own_at : (setup : Setup) (kept : Kept) (clock n : ℕ) (f : Front) → is_tenants_at setup.versions f ≡ false → kept_at setup kept clock n f ≡ kept
 kept_own_at setup kept clock n (Whole frame rest) h = kept_own setup kept clock n (request setup.versions frame).asked h
@@ -60,7 +60,7 @@ unless_another asked.OtherVersions none = refl
 unless_another (asked.Handshake version mechanism) none = refl
 unless_another (asked.Authenticate message) none = refl
 unless_another (asked.Another key version body) none = absurd (none key version body refl)
-unless_another asked.Unread none = refl
+unless_another asked.Malformed none = refl
 
 -- the frame in front asks nothing of the tenant
 pub own_unless_another : (setup : Setup) (s : Session) (unread frame bytes : List ℕ) (r : ReadRequest) → unread ≡ s.unread → answers.Frame frame ≡ answer (front unread) → bytes ≡ frame → request_of r ≡ request setup.versions bytes → ((key version : ℤ) (body : List ℕ) → r.asked ≡ asked.Another key version body → ⊥) → IsOwn setup s

@@ -3,7 +3,7 @@ use Rattle.std.specs.Prelude.{◌≡◌, ℕ, ℤ, List, Bool, true, false, Opti
 use Rattle.kb_api_group.specs.Frames.{Front, Whole, Partial, TooSmall, TooLarge, front}
 use Rattle.kb_service.specs.Hosted.{Kept}
 use Rattle.kb_api_group.specs.declared.api_versions.ApiVersion.{ApiVersion}
-use Rattle.kb_machine.specs.Requests.{Asked, Versions, OtherVersions, Handshake, Authenticate, Another, Unread, request}
+use Rattle.kb_machine.specs.Requests.{Asked, Versions, OtherVersions, Handshake, Authenticate, Another, Malformed, request}
 use Rattle.kb_machine.specs.Session.{Session}
 use Rattle.kb_machine.specs.Tenant.{answer, kept_after}
 use Rattle.kb_machine.specs.Greeting.{Setup}
@@ -16,7 +16,7 @@ is_tenants OtherVersions = false
 is_tenants (Handshake version mechanism) = false
 is_tenants (Authenticate message) = false
 is_tenants (Another key version body) = true
-is_tenants Unread = false
+is_tenants Malformed = false
 
 abbrev pub is_tenants_at : List ApiVersion → Front → Bool
 is_tenants_at versions (Whole frame rest) = is_tenants (request versions frame).asked
@@ -31,7 +31,7 @@ asked_under id OtherVersions = None
 asked_under id (Handshake version mechanism) = None
 asked_under id (Authenticate message) = None
 asked_under id (Another key version body) = Some (id, key, version, body)
-asked_under id Unread = None
+asked_under id Malformed = None
 
 -- the request of the tenant that stands in front
 abbrev pub asked_at : List ApiVersion → Front → Option (ℤ × ℤ × ℤ × List ℕ)

@@ -3,7 +3,7 @@ use Rattle.std.specs.Prelude.{◌≡◌, ◌≤◌, ◌==◌, ◌||◌, ℕ, Lis
 use Rattle.kb_wire.specs.declared.fault.ReadFault.{ReadFault}
 use Rattle.kb_wire.specs.declared.fault.ReadFault.TheVariants as faults
 use Rattle.kb_machine.specs.Tenant.{Awaited, Records, Group, Wait}
-use Rattle.kb_machine.specs.Requests.{Asked, Versions, OtherVersions, Handshake, Authenticate, Another, Unread, Request}
+use Rattle.kb_machine.specs.Requests.{Asked, Versions, OtherVersions, Handshake, Authenticate, Another, Malformed, Request}
 use Rattle.kb_machine.specs.Session.{Greeting, Unshaken, Shaken, Bare, Stage, Greets, BoundTo, Session, LIMIT, is_free}
 use Rattle.kb_machine.specs.Machine.{Line}
 use Rattle.kb_api_group.specs.Frames.{front}
@@ -28,12 +28,12 @@ asked_of asked.OtherVersions = OtherVersions
 asked_of (asked.Handshake version mechanism) = Handshake version mechanism
 asked_of (asked.Authenticate message) = Authenticate message
 asked_of (asked.Another key version body) = Another key version body
-asked_of asked.Unread = Unread
+asked_of asked.Malformed = Malformed
 
 -- what a body is read as, unless memory ran out; bytes that match nothing are not read
 abbrev pub Reads : Asked → Result Read ReadFault → Type 0
 Reads a (Ok read) = asked_of read ≡ a
-Reads a (Err (faults.Wire fault)) = Unread ≡ a
+Reads a (Err (faults.Wire fault)) = Malformed ≡ a
 Reads a (Err faults.Memory) = Unit {0}
 
 abbrev pub request_of : ReadRequest → Request

@@ -53,7 +53,7 @@ impl Reaction {
                 Some(tenant) => Reaction::LogsIn(tenant),
                 None => Reaction::Denies,
             },
-            Asked::Another { .. } | Asked::Unread => Reaction::Shuts,
+            Asked::Another { .. } | Asked::Malformed => Reaction::Shuts,
         }
     }
 
@@ -77,7 +77,7 @@ impl Reaction {
             Asked::OtherVersions => Reaction::Versions(ErrorCode::UnsupportedVersion),
             Asked::Handshake { .. } => Reaction::Handshake(ErrorCode::IllegalSaslState),
             Asked::Authenticate(_) => Reaction::IllegalState,
-            Asked::Another { .. } | Asked::Unread => Reaction::Shuts,
+            Asked::Another { .. } | Asked::Malformed => Reaction::Shuts,
         }
     }
 }

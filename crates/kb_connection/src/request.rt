@@ -34,7 +34,7 @@ pub enum Asked<'a> {
         body: Blob<'a>,
     },
     /// Bytes that match nothing that is served.
-    Unread,
+    Malformed,
 }
 
 /// A request: its correlation id, and what it asks.
@@ -64,7 +64,7 @@ impl<'a> Request<'a> {
         let Ok((start, _)) = RequestStart::read(frame) else {
             return Ok(Request {
                 correlation_id: 0,
-                asked: Asked::Unread,
+                asked: Asked::Malformed,
             });
         };
         let asked = if start.api_key == API_VERSIONS && start.api_version != 0 {
@@ -88,14 +88,14 @@ fn read_asked<'a>(
     ensures { IfOk result (λ a. asked_of a ≡ asked_behind versions.now (request_header.read frame.now)) }
 {
     let Ok((header, body)) = RequestHeader::read(frame) else {
-        return Ok(Asked::Unread);
+        return Ok(Asked::Malformed);
     };
     if !is_served(versions, header.api_key, header.api_version) {
-        return Ok(Asked::Unread);
+        return Ok(Asked::Malformed);
     }
     match read_body(alloc, header.api_key, header.api_version, body) {
         Ok(asked) => Ok(asked),
-        Err(ReadFault::Wire(_)) => Ok(Asked::Unread),
+        Err(ReadFault::Wire(_)) => Ok(Asked::Malformed),
         Err(ReadFault::Memory) => Err(AllocError),
     }
 }

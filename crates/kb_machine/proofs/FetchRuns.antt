@@ -4,12 +4,12 @@ use Rattle.std.specs.List.{AllByRecursion}
 use Rattle.kb_api_group.specs.Frames.{Front, Whole, Partial, TooSmall, TooLarge, front}
 use Rattle.kb_world.specs.World as tenants
 use Rattle.kb_world.specs.Calls.{all_places, retain, retain_each}
-use Rattle.kb_world.specs.declared.place.Place.{Place}
+use Rattle.kb_world.specs.declared.topic_partition.TopicPartition.{TopicPartition}
 use Rattle.kb_tenant.specs.Batches.{HasSmallLogs}
 use Rattle.kb_service.specs.Hosted.{Kept, left, passed, world_at}
 use Rattle.kb_tenant.proofs.Small.{retained_small}
 use Rattle.kb_service.proofs.Laws.{served_small}
-use Rattle.kb_machine.specs.Requests.{Asked, Versions, OtherVersions, Handshake, Authenticate, Another, Unread, request}
+use Rattle.kb_machine.specs.Requests.{Asked, Versions, OtherVersions, Handshake, Authenticate, Another, Malformed, request}
 use Rattle.kb_machine.specs.Tenant.{kept_after}
 use Rattle.kb_machine.specs.Session.{Stage, Greets, BoundTo, Session, fed, overruns, has_member}
 use Rattle.kb_machine.specs.Greeting.{Setup}
@@ -24,7 +24,7 @@ IsSmall w = HasSmallLogs (world_at w.kept w.clock)
 
 -- 1. Logs stay within their limits
 
-each-small : (places : List Place) (w : tenants.World) → HasSmallLogs w → HasSmallLogs (retain_each places w).0
+each-small : (places : List TopicPartition) (w : tenants.World) → HasSmallLogs w → HasSmallLogs (retain_each places w).0
 each-small [] w small = small
 each-small (place ∷ places) w small = each-small places (retain w place).0 (retained_small w place small)
 
@@ -58,7 +58,7 @@ small-by setup kept clock n OtherVersions small = small
 small-by setup kept clock n (Handshake version mechanism) small = small
 small-by setup kept clock n (Authenticate message) small = small
 small-by setup kept clock n (Another key version body) small = served_small setup.node (world_at kept clock) kept.groups n key version body small
-small-by setup kept clock n Unread small = small
+small-by setup kept clock n Malformed small = small
 
 small-at : (setup : Setup) (kept : Kept) (clock n : ℕ) (f : Front) → HasSmallLogs (world_at kept clock) → HasSmallLogs (world_at (kept_at setup kept clock n f) clock)
 small-at setup kept clock n (Whole frame rest) small = small-by setup kept clock n (request setup.versions frame).asked small

@@ -5,7 +5,7 @@ use Rattle.std.proofs.lemmas.Bool.Decides.{nat_tests}
 use Rattle.std.specs.Int.{w32, cast_signed, from_be_bytes}
 use Rattle.kb_wire.specs.Codec.{int}
 use Rattle.kb_api_group.specs.Frames.{Front, Whole, Partial, TooSmall, TooLarge, front, front_by}
-use Rattle.kb_machine.specs.Requests.{Asked, Versions, OtherVersions, Handshake, Authenticate, Another, Unread, request}
+use Rattle.kb_machine.specs.Requests.{Asked, Versions, OtherVersions, Handshake, Authenticate, Another, Malformed, request}
 use Rattle.kb_service.specs.Hosted.{Kept}
 use Rattle.kb_tenant.specs.Replies as tenant
 use Rattle.kb_tenant.specs.Replies.{Replies, Waits, Silent, Shuts}
@@ -92,7 +92,7 @@ greeted_by-le setup h id (Authenticate m) s = authenticated-le setup h id m s
     authenticated-le setup true id m s = logged_in-le (login setup.users m) id s
     authenticated-le setup false id m s = replied-le id _ s
 greeted_by-le setup h id (Another k v b) s = omega arith
-greeted_by-le setup h id Unread s = omega arith
+greeted_by-le setup h id Malformed s = omega arith
 
 plainly-le : (r : tenant.Reaction) (id version : ℤ) (body : List ℕ) (s : Session) → length (plainly r id version body s).unread ≤ length s.unread
 plainly-le (Replies reply) id version body s = replied-le id reply s
@@ -111,7 +111,7 @@ served_by-le setup kept clock n id OtherVersions s = replied-le id _ s
 served_by-le setup kept clock n id (Handshake v m) s = replied-le id _ s
 served_by-le setup kept clock n id (Authenticate m) s = replied-le id _ s
 served_by-le setup kept clock n id (Another k v b) s = answered-le (answer setup.node kept clock n k v b) id v b s
-served_by-le setup kept clock n id Unread s = omega arith
+served_by-le setup kept clock n id Malformed s = omega arith
 
 bare_login-le : (o : Option ℕ) (s : Session) → length (bare_login o s).unread ≤ length s.unread
 bare_login-le (Some t) s = omega arith

@@ -4,7 +4,7 @@ use Rattle.std.specs.Prelude.{◌⊎◌, cond, nat_lt}
 use Rattle.std.specs.List.{AllByRecursion}
 use Rattle.std.proofs.lemmas.Bool.Decides.{nat_tests}
 use Rattle.kb_api_group.specs.Frames.{Front, Whole, Partial, TooSmall, TooLarge, front}
-use Rattle.kb_machine.specs.Requests.{Asked, Versions, OtherVersions, Handshake, Authenticate, Another, Unread, request}
+use Rattle.kb_machine.specs.Requests.{Asked, Versions, OtherVersions, Handshake, Authenticate, Another, Malformed, request}
 use Rattle.kb_service.specs.Hosted.{Kept}
 use Rattle.kb_tenant.specs.Replies as tenant
 use Rattle.kb_tenant.specs.Replies.{Replies, Waits, Silent, Shuts, framed, reply_size}
@@ -136,7 +136,7 @@ stage-served_by setup kept clock n id OtherVersions s = stage-replied id _ s
 stage-served_by setup kept clock n id (Handshake v m) s = stage-replied id _ s
 stage-served_by setup kept clock n id (Authenticate m) s = stage-replied id _ s
 stage-served_by setup kept clock n id (Another k v b) s = stage-answered (answer setup.node kept clock n k v b) id v b s
-stage-served_by setup kept clock n id Unread s = stage-shut s
+stage-served_by setup kept clock n id Malformed s = stage-shut s
 
 -- a bound connection's turn leaves it bound
 pub stage-served : (setup : Setup) (kept : Kept) (clock n : ℕ) (s : Session) → without_wait (after_turn setup kept clock n s).stage ≡ without_wait s.stage

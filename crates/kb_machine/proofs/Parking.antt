@@ -13,7 +13,7 @@ use Rattle.kb_coordinator.specs.Groups.{Groups, silent}
 use Rattle.kb_groups.specs.declared.reply.SyncAnswer.{SyncAnswer}
 use Rattle.kb_groups.specs.declared.reply.SyncAnswer.TheVariants as sync
 use Rattle.kb_world.specs.World.{World}
-use Rattle.kb_world.specs.declared.place.Place.{Place}
+use Rattle.kb_world.specs.declared.topic_partition.TopicPartition.{TopicPartition}
 use Rattle.kb_tenant.specs.CreateTopics.{checked_all, created_all, creations_in, made_of}
 use Rattle.kb_tenant.specs.Fetch.{asked_fetch, deadline_of, fetch_answer, places_of, fetched_in}
 use Rattle.kb_tenant.specs.Produce.{produced, is_due}
@@ -34,14 +34,14 @@ abbrev pub told_as : ℤ → Option FetchReplyV5 → Reaction
 told_as version o = elim o [ Some reply ↦ Replies (fetched_in version reply) | None ↦ Silent ]
 
 -- a request that is to wait would be told nothing at once, and waits for what it asks for
-pub record IsParked (version : ℤ) (body : List ℕ) (clock : ℕ) (v : World) (gs : Groups) (deadline : ℕ) (places : List Place) : Type 0 where
+pub record IsParked (version : ℤ) (body : List ℕ) (clock : ℕ) (v : World) (gs : Groups) (deadline : ℕ) (places : List TopicPartition) : Type 0 where
   pub silent : looked (world_at (kept_in v gs) clock) deadline version body ≡ Silent
   pub asks : places ≡ asked_in v (asked_fetch version body)
 
 abbrev ParksPlain : ℤ → List ℕ → ℕ → Groups → tenant.Outcome → Type 0
-ParksPlain version body clock gs o = (deadline : ℕ) (places : List Place) → o.reaction ≡ Waits deadline places → IsParked version body clock o.world gs deadline places
+ParksPlain version body clock gs o = (deadline : ℕ) (places : List TopicPartition) → o.reaction ≡ Waits deadline places → IsParked version body clock o.world gs deadline places
 
-produce-parks : (version : ℤ) (body : List ℕ) (clock : ℕ) (gs : Groups) (v : World) (touched : List Place) (reply : List ℕ) (b : Bool) → ParksPlain version body clock gs (record { world = v; touched = touched; reaction = cond b (Replies reply) Silent })
+produce-parks : (version : ℤ) (body : List ℕ) (clock : ℕ) (gs : Groups) (v : World) (touched : List TopicPartition) (reply : List ℕ) (b : Bool) → ParksPlain version body clock gs (record { world = v; touched = touched; reaction = cond b (Replies reply) Silent })
 produce-parks version body clock gs v touched reply true deadline places e = absurd (cc)
 produce-parks version body clock gs v touched reply false deadline places e = absurd (cc)
 
@@ -87,7 +87,7 @@ plain-parks node k clock n gs key version body =
 -- 2. Any request
 
 abbrev pub Parks : ℤ → List ℕ → ℕ → Outcome → Type 0
-Parks version body clock o = (deadline : ℕ) (places : List Place) → o.reaction ≡ Plain (Waits deadline places) → IsParked version body clock o.world o.groups deadline places
+Parks version body clock o = (deadline : ℕ) (places : List TopicPartition) → o.reaction ≡ Plain (Waits deadline places) → IsParked version body clock o.world o.groups deadline places
 
 read-parks : {A : Type 0} (version : ℤ) (body : List ℕ) (clock : ℕ) (w : World) (gs : Groups) (r : Result A WireFault) (f : A → Outcome) → ((a : A) → Parks version body clock (f a)) → Parks version body clock (if_read w gs r f)
 read-parks version body clock w gs (Ok a) f each = each a

@@ -11,7 +11,7 @@ use Rattle.kb_coordinator.specs.Calls.{reply_among}
 use Rattle.kb_coordinator.specs.Groups.{Groups}
 use Rattle.kb_groups.specs.declared.reply.Release.{Release}
 use Rattle.kb_world.specs.World.{World}
-use Rattle.kb_world.specs.declared.place.Place.{Place}
+use Rattle.kb_world.specs.declared.topic_partition.TopicPartition.{TopicPartition}
 use Rattle.kb_tenant.specs.Fetch.{asked_fetch, fetch_answer, places_of}
 use Rattle.kb_tenant.specs.Replies.{Replies, Waits, Silent, Shuts}
 use Rattle.kb_tenant.specs.Serve.{looked, looked_at}
@@ -29,7 +29,7 @@ use Rattle.kb_tenant.proofs.Asked.{before_end, waits_at, waits_until}
 use Rattle.kb_service.proofs.Laws.{served_again, served_waits}
 use Rattle.kb_machine.specs.Tenant.{Wait, Awaited, Records, Group, ready, ready_for, asked, asked_in, asked_for, kept_after, answer}
 use Rattle.kb_machine.specs.Greeting.{Setup}
-use Rattle.kb_machine.specs.Requests.{Asked, Versions, OtherVersions, Handshake, Authenticate, Another, Unread}
+use Rattle.kb_machine.specs.Requests.{Asked, Versions, OtherVersions, Handshake, Authenticate, Another, Malformed}
 use Rattle.kb_machine.specs.Requests as requests
 use Rattle.kb_machine.specs.Session.{Stage, Greets, BoundTo, Session, waiting, without_wait, is_free}
 use Rattle.kb_machine.specs.Broker.{BrokerState, AnyWait, AreUnready, IsUnready, kept_of}
@@ -90,7 +90,7 @@ pub apart-ready : (node : Node) (k l : Kept) (clock n : ℕ) (key version : ℤ)
 unfolding ready asked
 apart-ready node k l clock n key version body m w tied same apart none silent = by w.awaited apart silent
   where
-    touched : List Place
+    touched : List TopicPartition
     touched = (request node (world_at k clock) k.groups n key version body).touched
 
     by : (x : Awaited) → AreApart (asked_for k x) touched → ready_for k clock m x ≡ Silent → ready_for l clock m x ≡ Silent
@@ -140,7 +140,7 @@ asked-group k id = refl
 -- 3. The one that begins to wait
 
 -- the partitions that a fetch begins to wait for are those that it asks for
-pub asked-parks : (node : Node) (k : Kept) (clock n : ℕ) (key version : ℤ) (body : List ℕ) (deadline : ℕ) (places : List Place) (id : ℤ) → answer node k clock n key version body ≡ Plain (Waits deadline places) →
+pub asked-parks : (node : Node) (k : Kept) (clock n : ℕ) (key version : ℤ) (body : List ℕ) (deadline : ℕ) (places : List TopicPartition) (id : ℤ) → answer node k clock n key version body ≡ Plain (Waits deadline places) →
     places ≡ asked (kept_after node k clock n key version body) (record { correlation_id = id; awaited = Records version body deadline })
 unfolding answer kept_after asked
 asked-parks node k clock n key version body deadline places id e = (parks node k clock n key version body deadline places e).asks ∙ at (asked_fetch version body)
@@ -165,7 +165,7 @@ unfolding ready
 group-silent clock kept n id none = told-nothing n kept.groups none
 
 answered-idle : (clock : ℕ) (kept : Kept) (n : ℕ) (r : Reaction) (id version : ℤ) (body : List ℕ) (s : Session) → is_free s.stage ≡ true → has_released kept.groups ≡ false
-    → ((deadline : ℕ) (places : List Place) → r ≡ Plain (Waits deadline places) → ready kept clock n (record { correlation_id = id; awaited = Records version body deadline }) ≡ Silent) → IsIdle clock kept n (after_reaction r id version body s).stage
+    → ((deadline : ℕ) (places : List TopicPartition) → r ≡ Plain (Waits deadline places) → ready kept clock n (record { correlation_id = id; awaited = Records version body deadline }) ≡ Silent) → IsIdle clock kept n (after_reaction r id version body s).stage
 answered-idle clock kept n (Plain (Replies reply)) id version body s free none silent = free-idle clock kept n _ (free-replied id reply s free)
 answered-idle clock kept n (Plain (Waits deadline places)) id version body s free none silent = waiting-idle clock kept n (record { correlation_id = id; awaited = Records version body deadline }) s.stage (silent deadline places refl)
 answered-idle clock kept n (Plain Silent) id version body s free none silent = free-idle clock kept n s.stage free
@@ -181,7 +181,7 @@ by-idle setup kept clock n id (Authenticate message) s free none = free-idle clo
 by-idle setup kept clock n id (Another key version body) s free none =
     answered-idle clock (kept_after setup.node kept clock n key version body) n (answer setup.node kept clock n key version body) id version body s free none
     (λ deadline places e. (parks setup.node kept clock n key version body deadline places e).silent)
-by-idle setup kept clock n id Unread s free none = free-idle clock kept n _ (free-without s.stage)
+by-idle setup kept clock n id Malformed s free none = free-idle clock kept n _ (free-without s.stage)
 
 at-idle : (setup : Setup) (kept : Kept) (clock n : ℕ) (s : Session) (f : Front) → is_free s.stage ≡ true → has_released (kept_at setup kept clock n f).groups ≡ false → IsIdle clock (kept_at setup kept clock n f) n (served_at setup kept clock n s f).stage
 at-idle setup kept clock n s (Whole frame rest) free none = let r = requests.request setup.versions frame in by-idle setup kept clock n r.correlation_id r.asked (record s { unread = rest }) free none

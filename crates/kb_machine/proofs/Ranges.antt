@@ -7,7 +7,7 @@ use Rattle.kb_api_group.specs.Plain.{plain}
 use Rattle.kb_api_group.specs.declared.plain.PlainLogin.{PlainLogin}
 use Rattle.kb_api_group.specs.Frames.{Front, Whole, Partial, TooSmall, TooLarge, front}
 use Rattle.kb_tenant.specs.Replies.{framed, reply_size}
-use Rattle.kb_machine.specs.Requests.{Asked, Versions, OtherVersions, Handshake, Authenticate, Another, Unread, request}
+use Rattle.kb_machine.specs.Requests.{Asked, Versions, OtherVersions, Handshake, Authenticate, Another, Malformed, request}
 use Rattle.kb_machine.specs.Session.{Greeting, Unshaken, Shaken, Bare, Stage, Greets, BoundTo, Session, shut_down, replied, without_wait, fed}
 use Rattle.kb_machine.specs.Greeting.{Setup, User, greeted_by, greeted_frame, greeted_at, greeted, greeting_after, shaken, authenticated, logged_in, bare_login, login, tenant_of, tenant_at}
 use Rattle.kb_machine.specs.Owners.{greet_turn, greet_turn_at, heard}
@@ -75,7 +75,7 @@ range-by n setup h id (Authenticate m) s us r = by h
     by true = logs (login setup.users m) (below-login n setup.users m us)
     by false = range-replied n id _ s r
 range-by n setup h id (Another k v b) s us r = range-without n s.stage r
-range-by n setup h id Unread s us r = range-without n s.stage r
+range-by n setup h id Malformed s us r = range-without n s.stage r
 
 range-bare : (n : ℕ) (o : Option ℕ) (s : Session) → IsBelow n o → InRange n s.stage → InRange n (bare_login o s).stage
 range-bare n (Some t) s b r = b

@@ -4,7 +4,7 @@ use Rattle.std.specs.Prelude.{cond, nat_lt, codes}
 use Rattle.std.specs.Str.{bytes_eq}
 use Rattle.kb_api_group.specs.Frames.{Front, Whole, Partial, TooSmall, TooLarge, front}
 use Rattle.kb_tenant.specs.Replies.{framed, reply_size}
-use Rattle.kb_machine.specs.Requests.{Asked, Versions, OtherVersions, Handshake, Authenticate, Another, Unread, request}
+use Rattle.kb_machine.specs.Requests.{Asked, Versions, OtherVersions, Handshake, Authenticate, Another, Malformed, request}
 use Rattle.std.proofs.lemmas.Bool.Decides.{nat_tests}
 use Rattle.kb_world.specs.Counts.{IsCalm}
 use Rattle.kb_service.specs.Hosted as hosted
@@ -120,7 +120,7 @@ free-greeted_by setup h id (Handshake version mechanism) s free = by (bytes_eq m
 free-greeted_by setup true id (Authenticate message) s free = free-logged_in (login setup.users message) id s free
 free-greeted_by setup false id (Authenticate message) s free = free-replied id _ s free
 free-greeted_by setup h id (Another key version body) s free = free-without s.stage
-free-greeted_by setup h id Unread s free = free-without s.stage
+free-greeted_by setup h id Malformed s free = free-without s.stage
 
 free-bare_login : (o : Option ℕ) (s : Session) → is_free s.stage ≡ true → is_free (bare_login o s).stage ≡ true
 free-bare_login (Some t) s free = refl

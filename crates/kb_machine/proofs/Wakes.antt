@@ -12,7 +12,7 @@ use Rattle.kb_tenant.specs.Serve.{looked, looked_at}
 use Rattle.kb_wire.specs.declared.fault.WireFault.{WireFault}
 use Rattle.kb_api_data.specs.declared.fetch.FetchRequest.{FetchRequest}
 use Rattle.kb_api_data.specs.declared.fetch_v5.FetchReplyV5.{FetchReplyV5}
-use Rattle.kb_world.specs.declared.place.Place.{Place}
+use Rattle.kb_world.specs.declared.topic_partition.TopicPartition.{TopicPartition}
 use Rattle.kb_tenant.specs.Replies.{Reaction, Replies, Waits, Silent, Shuts}
 use Rattle.kb_groups.specs.declared.reply.Reply.{Reply}
 use Rattle.kb_coordinator.specs.Calls.{reply_to}
@@ -158,7 +158,7 @@ waked-line whom b i u l m w H ts s at g concerned n same turn honest stays meets
 -- 4. What was looked at is not ready
 
 -- a look never comes to a wait
-never-waits : (kept : Kept) (clock n : ℕ) (w : Wait) (deadline : ℕ) (places : List Place) → ready kept clock n w ≡ Waits deadline places → ⊥
+never-waits : (kept : Kept) (clock n : ℕ) (w : Wait) (deadline : ℕ) (places : List TopicPartition) → ready kept clock n w ≡ Waits deadline places → ⊥
 unfolding ready looked
 never-waits kept clock n w deadline places e = for w.awaited e
   where

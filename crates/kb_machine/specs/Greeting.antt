@@ -11,7 +11,7 @@ use Rattle.kb_api_group.specs.declared.error_code.ErrorCode.TheVariants as error
 use Rattle.kb_api_group.specs.declared.plain.PlainLogin.{PlainLogin}
 use Rattle.kb_api_group.specs.declared.api_versions.ApiVersion.{ApiVersion}
 use Rattle.kb_tenant.specs.declared.node.Node.{Node}
-use Rattle.kb_machine.specs.Requests.{Asked, Versions, OtherVersions, Handshake, Authenticate, Another, Unread, request}
+use Rattle.kb_machine.specs.Requests.{Asked, Versions, OtherVersions, Handshake, Authenticate, Another, Malformed, request}
 use Rattle.kb_machine.specs.Session.{Greeting, Unshaken, Shaken, Bare, Greets, BoundTo, Session, shut_down, replied}
 
 -- a user: the name and password of its login, and its tenant
@@ -93,7 +93,7 @@ greeted_by setup handshaken id OtherVersions s = replied id (versions_reply setu
 greeted_by setup handshaken id (Handshake version mechanism) s = shaken (bytes_eq mechanism (codes "PLAIN")) id version s
 greeted_by setup handshaken id (Authenticate message) s = authenticated setup handshaken id message s
 greeted_by setup handshaken id (Another key version body) s = shut_down s
-greeted_by setup handshaken id Unread s = shut_down s
+greeted_by setup handshaken id Malformed s = shut_down s
 
 -- what a whole frame does to it: it is a request, or PLAIN's message itself; s is the connection without the frame
 abbrev pub greeted_frame : Setup → Greeting → List ℕ → Session → Session

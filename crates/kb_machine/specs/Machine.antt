@@ -6,7 +6,7 @@ use Rattle.kb_tenant.specs.Replies as tenant
 use Rattle.kb_tenant.specs.Replies.{Replies, Waits, Silent, Shuts}
 use Rattle.kb_service.specs.Hosted.{Kept, left, passed}
 use Rattle.kb_service.specs.Replies.{Reaction, Plain, Rebalances}
-use Rattle.kb_machine.specs.Requests.{Asked, Versions, OtherVersions, Handshake, Authenticate, Another, Unread, request}
+use Rattle.kb_machine.specs.Requests.{Asked, Versions, OtherVersions, Handshake, Authenticate, Another, Malformed, request}
 use Rattle.kb_machine.specs.Tenant.{Records, Group, kept_after, answer, ready}
 use Rattle.kb_machine.specs.Session.{Stage, Greets, BoundTo, Session, fresh, without_wait, waiting, shut_down, overruns, fed, replied, has_member, can}
 use Rattle.kb_machine.specs.Greeting.{Setup, greeted, versions_reply, handshake_reply, illegal_state}
@@ -51,7 +51,7 @@ served_by setup kept clock n id OtherVersions s = replied id (versions_reply set
 served_by setup kept clock n id (Handshake version mechanism) s = replied id (handshake_reply errors.IllegalSaslState) s
 served_by setup kept clock n id (Authenticate message) s = replied id illegal_state s
 served_by setup kept clock n id (Another key version body) s = after_reaction (answer setup.node kept clock n key version body) id version body s
-served_by setup kept clock n id Unread s = shut_down s
+served_by setup kept clock n id Malformed s = shut_down s
 
 abbrev pub served_at : Setup → Kept → ℕ → ℕ → Session → Front → Session
 served_at setup kept clock n s (Whole frame rest) = let r = request setup.versions frame in served_by setup kept clock n r.correlation_id r.asked (record s { unread = rest })
@@ -69,7 +69,7 @@ kept_by setup kept clock n OtherVersions = kept
 kept_by setup kept clock n (Handshake version mechanism) = kept
 kept_by setup kept clock n (Authenticate message) = kept
 kept_by setup kept clock n (Another key version body) = kept_after setup.node kept clock n key version body
-kept_by setup kept clock n Unread = kept
+kept_by setup kept clock n Malformed = kept
 
 abbrev pub kept_at : Setup → Kept → ℕ → ℕ → Front → Kept
 kept_at setup kept clock n (Whole frame rest) = kept_by setup kept clock n (request setup.versions frame).asked

@@ -24,11 +24,11 @@ pub data Asked : Type 0 where
   Handshake : (version : ℤ) (mechanism : List ℕ) → Asked
   Authenticate : (message : List ℕ) → Asked
   Another : (key version : ℤ) (body : List ℕ) → Asked
-  Unread : Asked
+  Malformed : Asked
 
 abbrev pub if_read : {A : Type 0} → Result A WireFault → (A → Asked) → Asked
 if_read (Ok v) f = f v
-if_read (Err fault) f = Unread
+if_read (Err fault) f = Malformed
 
 -- a body, by its key: 18 is ApiVersions, 17 SaslHandshake, 36 SaslAuthenticate
 abbrev pub asked_by : ℤ → ℤ → List ℕ → Asked
@@ -40,8 +40,8 @@ asked_by key version body =
 
 -- a header, and the body behind it
 abbrev pub asked_behind : List ApiVersion → Result (RequestHeader × List ℕ) WireFault → Asked
-asked_behind versions (Err fault) = Unread
-asked_behind versions (Ok h) = if is_served versions h.0.api_key h.0.api_version then asked_by h.0.api_key h.0.api_version h.1 else Unread
+asked_behind versions (Err fault) = Malformed
+asked_behind versions (Ok h) = if is_served versions h.0.api_key h.0.api_version then asked_by h.0.api_key h.0.api_version h.1 else Malformed
 
 -- a request: its correlation id, and what it asks
 pub record Request : Type 0 where
@@ -50,7 +50,7 @@ pub record Request : Type 0 where
 
 -- ApiVersions of another version than 0 is known by its key and version alone
 abbrev pub request_at : List ApiVersion → List ℕ → Result (RequestStart × List ℕ) WireFault → Request
-request_at versions frame (Err fault) = record { correlation_id = pos 0; asked = Unread }
+request_at versions frame (Err fault) = record { correlation_id = pos 0; asked = Malformed }
 request_at versions frame (Ok s) = record {
   correlation_id = s.0.correlation_id;
   asked = if int_eq s.0.api_key (pos 18) && not (int_eq s.0.api_version (pos 0)) then OtherVersions else asked_behind versions (request_header.read frame);

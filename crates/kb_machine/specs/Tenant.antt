@@ -3,7 +3,7 @@ use Rattle.std.specs.Prelude.{ℕ, ℤ, List, [], Bool, true, false, nat_le, Res
 use Rattle.kb_wire.specs.declared.fault.WireFault.{WireFault}
 use Rattle.kb_api_data.specs.declared.fetch.FetchRequest.{FetchRequest}
 use Rattle.kb_world.specs.World.{World}
-use Rattle.kb_world.specs.declared.place.Place.{Place}
+use Rattle.kb_world.specs.declared.topic_partition.TopicPartition.{TopicPartition}
 use Rattle.kb_tenant.specs.Fetch.{asked_fetch, places_of}
 use Rattle.kb_service.specs.Hosted.{Kept, world_at, kept_in}
 use Rattle.kb_tenant.specs.Replies as tenant
@@ -43,16 +43,16 @@ unfoldable pub ready : Kept → ℕ → ℕ → Wait → tenant.Reaction
 ready kept clock n wait = ready_for kept clock n wait.awaited
 
 -- the partitions that a fetch asks for, if it was read
-abbrev pub asked_in : World → Result FetchRequest WireFault → List Place
+abbrev pub asked_in : World → Result FetchRequest WireFault → List TopicPartition
 asked_in w (Ok r) = places_of w r
 asked_in w (Err fault) = []
 
-abbrev pub asked_for : Kept → Awaited → List Place
+abbrev pub asked_for : Kept → Awaited → List TopicPartition
 asked_for kept (Records version body deadline) = asked_in (world_at kept 0) (asked_fetch version body)
 asked_for kept Group = []
 
 -- the partitions that a waiting request asks for, which are the same at each time
-unfoldable pub asked : Kept → Wait → List Place
+unfoldable pub asked : Kept → Wait → List TopicPartition
 asked kept wait = asked_for kept wait.awaited
 
 -- whether it waits no longer than that, whatever happens

@@ -58,11 +58,11 @@ pub data Asked : Type 0 where
   Identify : Asked
   Produce : (topics : List ProduceTopic) → Asked
   -- something else
-  Unread : Asked
+  Malformed : Asked
 
 abbrev pub if_read : {A : Type 0} → Result A WireFault → (A → Asked) → Asked
 if_read (Ok v) f = f v
-if_read (Err fault) f = Unread
+if_read (Err fault) f = Malformed
 
 -- a body, by its key and version: SaslHandshake, SaslAuthenticate, CreateTopics, InitProducerId, Produce
 abbrev pub asked_by : ℤ → ℤ → List ℕ → Asked
@@ -72,7 +72,7 @@ asked_by key version body =
     else if int_eq key (pos 19) && int_eq version (pos 0) then if_read (whole create_topics_request body) (λ v. Create v.topics)
     else if int_eq key (pos 22) && int_eq version (pos 0) then if_read (whole init_producer_id_request body) (λ v. Identify)
     else if int_eq key (pos 0) && int_eq version (pos 3) then if_read (whole produce_request body) (λ v. Produce v.topics)
-    else Unread
+    else Malformed
 
 -- a request: its correlation id, and what it asks
 pub record Request : Type 0 where
@@ -80,7 +80,7 @@ pub record Request : Type 0 where
   pub asked : Asked
 
 abbrev pub request_of : Result (RequestHeader × List ℕ) WireFault → Request
-request_of (Err fault) = record { correlation_id = pos 0; asked = Unread }
+request_of (Err fault) = record { correlation_id = pos 0; asked = Malformed }
 request_of (Ok h) = record { correlation_id = h.0.correlation_id; asked = asked_by h.0.api_key h.0.api_version h.1 }
 
 -- the request of a frame
@@ -251,4 +251,4 @@ outcome (Authenticate message) r = authenticated r.login message r
 outcome (Create topics) r = logged_in_only r.login (creates topics r) r
 outcome Identify r = logged_in_only r.login (identifies r) r
 outcome (Produce topics) r = logged_in_only r.login (stores_part (part_of topics) r) r
-outcome Unread r = shuts r
+outcome Malformed r = shuts r

@@ -20,7 +20,7 @@ use Rattle.kb_groups.specs.Codes.{number}
 use Rattle.kb_groups.specs.declared.reply.SyncAnswer.{SyncAnswer}
 use Rattle.kb_groups.specs.declared.reply.SyncAnswer.TheVariants as sync
 use Rattle.kb_world.specs.World.{World}
-use Rattle.kb_world.specs.declared.place.Place.{Place}
+use Rattle.kb_world.specs.declared.topic_partition.TopicPartition.{TopicPartition}
 use Rattle.kb_tenant.specs.OffsetCommit.{committed_all}
 use Rattle.kb_tenant.specs.Replies.{Shuts}
 use Rattle.kb_tenant.specs.Serve as tenant
@@ -34,7 +34,7 @@ use Rattle.kb_tenant.specs.declared.answer.Answer.TheVariants as plain
 pub record Outcome : Type 0 where
   pub world : World
   pub groups : Groups
-  pub touched : List Place
+  pub touched : List TopicPartition
   pub reaction : Reaction
 
 -- the topics stay
@@ -105,11 +105,11 @@ has_released gs = nat_le 1 (length gs.released)
 -- ---- what the code answers
 
 -- The outcome's topics, groups, touched partitions and answer.
-abbrev pub IsOutcome : ℤ → Outcome → World → Groups → List Place → Answer → Type 0
+abbrev pub IsOutcome : ℤ → Outcome → World → Groups → List TopicPartition → Answer → Type 0
 IsOutcome id o w gs touched answer = (w ≡ o.world) × (gs ≡ o.groups) × (touched ≡ o.touched) × IsAnswer id o.reaction answer
 
 -- the same, where a body that is not the API's is a fault; nothing is said where memory ran out
-abbrev pub IsServed : ℤ → Outcome → World → Groups → List Place → Result Answer ReadFault → Type 0
+abbrev pub IsServed : ℤ → Outcome → World → Groups → List TopicPartition → Result Answer ReadFault → Type 0
 IsServed id o w gs touched (Ok answer) = IsOutcome id o w gs touched answer
 IsServed id o w gs touched (Err (faults.Wire fault)) = IsOutcome id o w gs touched (answers.Plain plain.Shut)
 IsServed id o w gs touched (Err faults.Memory) = Unit {0}

@@ -1,6 +1,6 @@
 //! What a request comes to for the connection that sent it.
 
-use kb_world::Place;
+use kb_world::TopicPartition;
 
 /// What a request comes to for the connection that sent it.
 #[derive(Drop)]
@@ -17,7 +17,7 @@ pub struct Served {
     /// What it comes to for the connection that sent it.
     pub answer: Answer,
     /// The partitions that it changed, in order: waits for them are to be looked at.
-    pub touched: Vec<Place>,
+    pub touched: Vec<TopicPartition>,
     /// Whether its group answered requests that waited, which may be its own: waits for groups are to be looked at.
     pub released: bool,
 }

@@ -18,7 +18,7 @@ use kb_log::{PartitionLog, Shelf};
 use kb_store::Store;
 use kb_tenant::{Node, Request};
 use kb_wire::ReadFault;
-use kb_world::{Parts, Place};
+use kb_world::{Parts, TopicPartition};
 use std::alloc::Global;
 
 /// Serves a request by its key.
@@ -29,7 +29,7 @@ fn serve_by_key<L: PartitionLog + Drop, S: Store>(
     shelf: &mut Shelf<S>,
     node: &Node<'_>,
     request: &Request<'_>,
-    touched: &mut Vec<Place>,
+    touched: &mut Vec<TopicPartition>,
 ) -> Result<Answer, ReadFault>
     requires untouched { touched.old.items ≡ [] }
     requires host { string.Fits node.now.host }
@@ -80,7 +80,7 @@ fn serve_by_key<L: PartitionLog + Drop, S: Store>(
 }
 
 /// What became of a request after which its tenant has these groups.
-fn served_with(answer: Answer, touched: Vec<Place>, groups: &Coordinator) -> Served
+fn served_with(answer: Answer, touched: Vec<TopicPartition>, groups: &Coordinator) -> Served
     ensures answer { result.answer ≡ answer }
     ensures touched { result.touched ≡ touched }
     ensures released { result.released ≡ has_released groups.now }

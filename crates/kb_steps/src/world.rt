@@ -4,7 +4,7 @@ mod steps;
 
 use Step::{Append, Create, KeptUntil, RetainAll};
 use kb_topics::TopicConfig;
-use kb_world::Place;
+use kb_world::TopicPartition;
 use std::test::Fail;
 use steps::{Step, plays};
 
@@ -21,19 +21,19 @@ const ONE_BATCH: TopicConfig = TopicConfig {
 };
 
 /// Partition 0 of the first topic.
-const FIRST: Place = Place {
+const FIRST: TopicPartition = TopicPartition {
     instance: 0,
     number: 0,
 };
 
 /// Partition 0 of the second topic.
-const SECOND: Place = Place {
+const SECOND: TopicPartition = TopicPartition {
     instance: 1,
     number: 0,
 };
 
 /// Partition 1 of the second topic.
-const BESIDE_SECOND: Place = Place {
+const BESIDE_SECOND: TopicPartition = TopicPartition {
     instance: 1,
     number: 1,
 };

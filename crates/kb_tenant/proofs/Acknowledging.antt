@@ -18,7 +18,7 @@ use Rattle.kb_world.specs.Parts.{Seen}
 use Rattle.kb_world.specs.Steps.{IsStep}
 use Rattle.kb_world.specs.Told.{Failed}
 use Rattle.kb_world.specs.World.{World}
-use Rattle.kb_world.specs.declared.place.Place.{Place}
+use Rattle.kb_world.specs.declared.topic_partition.TopicPartition.{TopicPartition}
 use Rattle.kb_topics.specs.Known.{named}
 use Rattle.kb_tenant.specs.Produce.{Progress, answer, is_due, progress, refusal_of, reply_bytes, entry_served, where_due}
 use Rattle.kb_tenant.specs.Replies.{begun, IsAnswer, Replies}
@@ -90,12 +90,12 @@ failed_in before now next first last early since until later failed = ⊎_elim (
 
 -- ---- one entry
 
-wanting : (failed : Type 0) (a b : Scene Seen) (old new : List Place) (e : ProducePartition) (x : ProducePartitionReply)
+wanting : (failed : Type 0) (a b : Scene Seen) (old new : List TopicPartition) (e : ProducePartition) (x : ProducePartitionReply)
     → (Failed a b → failed) → IsAppendWant a b old new x.error_code × (x ≡ answer e.index (Err x.error_code)) → IsWanting failed e x
 wanting failed a b old new e x cause want =
     ⊎_elim (λ store. inl (want.1 ∙ ap (λ code. answer e.index (Err code)) store.0, cause store.1)) (λ memory. inr (want.1 ∙ ap (λ code. answer e.index (Err code)) memory)) want.0.0
 
-pub entry_told_so : (before now next : ℕ) (a b : Scene Seen) (old new : List Place) (refusal : Option ℤ) (topic : Option ℕ) (e : ProducePartition) (x : ProducePartitionReply)
+pub entry_told_so : (before now next : ℕ) (a b : Scene Seen) (old new : List TopicPartition) (refusal : Option ℤ) (topic : Option ℕ) (e : ProducePartition) (x : ProducePartitionReply)
     → IsStep a b → before ≤ a.disk.failures → b.disk.failures ≤ now → b.next ≤ next
     → IsTold a b ((progress b.state.world new, x) ≡ entry_served refusal topic (progress a.state.world old) e) (IsAppendWant a b old new x.error_code × (x ≡ answer e.index (Err x.error_code)))
     → WhereHonest a b (IsEntryTold (FailedBy before now next) refusal topic (progress a.state.world old) e (progress b.state.world new) x)
@@ -153,7 +153,7 @@ honest_then a b d P Q p q first second honest agree =
 -- ---- the answer
 
 -- the reply is sent as it stands behind what was begun
-pub acknowledged_by : (failed : Type 0) (id : ℤ) (w : World) (r : ProduceRequest) (v : World) (old new : List Place) (s t : List ℕ) (answer : Answer) → s ≡ begun id → is_due r.acks ≡ true → old ≡ []
+pub acknowledged_by : (failed : Type 0) (id : ℤ) (w : World) (r : ProduceRequest) (v : World) (old new : List TopicPartition) (s t : List ℕ) (answer : Answer) → s ≡ begun id → is_due r.acks ≡ true → old ≡ []
     → (reply : ProduceReply) × ((t ≡ s ++ reply_bytes r.acks reply) × IsProduceTold failed (progress w old) r (progress v new) reply)
     → ((id : ℤ) (body : List ℕ) → t ≡ begun id ++ body → IsAnswer id (Replies body) answer) → IsAcknowledged failed id w r v new answer
 acknowledged_by failed id w r v old new s t answer from due none told made =

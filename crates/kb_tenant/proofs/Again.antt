@@ -9,7 +9,7 @@ use Rattle.kb_topics.specs.Known.{named}
 use Rattle.kb_world.specs.Calls.{all_places, at_clock, retain, retain_all, retain_each}
 use Rattle.kb_world.specs.Tied.{IsTied}
 use Rattle.kb_world.specs.World.{World, new_world}
-use Rattle.kb_world.specs.declared.place.Place.{Place}
+use Rattle.kb_world.specs.declared.topic_partition.TopicPartition.{TopicPartition}
 use Rattle.kb_tenant.specs.CreateTopics.{created_all, made_of}
 use Rattle.kb_tenant.specs.Fetch.{fetch_answer, places_in, places_of}
 use Rattle.kb_tenant.specs.OffsetCommit.{committed_all, refusal_of}
@@ -29,7 +29,7 @@ use Rattle.kb_tenant.proofs.ServeMoves.{committed_waits, init_moves, init_topics
 -- ---- places are found by name
 
 -- the places that a topic's entries ask for, in a world
-abbrev places_for : World → FetchTopic → List Place
+abbrev places_for : World → FetchTopic → List TopicPartition
 places_for w t = places_in (named t.topic w.known.topics) t.partitions
 
 topics_same : (w v : World) (ts : List FetchTopic) → AllByRecursion (λ t. places_for v t ≡ places_for w t) ts → flat_map (places_for v) ts ≡ flat_map (places_for w) ts
@@ -110,10 +110,10 @@ served_names node w n key version body own = by_request (λ (o : Outcome). HasOw
 
 -- ---- retention
 
-pub retained_names : (w : World) (place : Place) → HasOwnNames w → HasOwnNames (retain w place).0
+pub retained_names : (w : World) (place : TopicPartition) → HasOwnNames w → HasOwnNames (retain w place).0
 retained_names w place = (retain_alike w place).apart
 
-each_again : (places : List Place) (w : World) (r : FetchRequest) → places_of (retain_each places w).0 r ≡ places_of w r
+each_again : (places : List TopicPartition) (w : World) (r : FetchRequest) → places_of (retain_each places w).0 r ≡ places_of w r
 each_again [] w r = refl
 each_again (place ∷ places) w r = each_again places (retain w place).0 r ∙ same_places w (retain w place).0 (retain_alike w place).names r
 

@@ -15,7 +15,7 @@ use Rattle.kb_topics.specs.Known.{named}
 use Rattle.kb_partitions.specs.Logs.{LogState}
 use Rattle.kb_world.specs.Calls.{at_clock, fetched_from}
 use Rattle.kb_world.specs.World.{World, log_in, place_in}
-use Rattle.kb_world.specs.declared.place.Place.{Place}
+use Rattle.kb_world.specs.declared.topic_partition.TopicPartition.{TopicPartition}
 use Rattle.kb_tenant.specs.Fetch.{fetch_answered, answered_at, answered_by, answered_topic, begun, bytes_of, fetch_answer, fetched, is_error, is_ready, limit_of, places_in, places_of, some_partition}
 use Rattle.kb_tenant.specs.Turns.{in_turn}
 use Rattle.kb_tenant.specs.Waiting.{StillWaits}
@@ -56,25 +56,25 @@ turn_same {S} {E} {A} f g (e ∷ es) all s =
 -- ---- one partition
 
 -- a log that stands at a place under a topic's name
-pub record IsHeld (w : World) (name : List ℕ) (place : Place) (log : LogState) : Type 0 where
+pub record IsHeld (w : World) (name : List ℕ) (place : TopicPartition) (log : LogState) : Type 0 where
   pub topic : named name w.known.topics ≡ Some place.instance
   pub there : log_in w place ≡ Some log
 
 -- an entry of a fetch, and the log that it asks for
 pub record Finds (w : World) (name : List ℕ) (e : FetchPartition) : Type 0 where
-  pub place : Place
+  pub place : TopicPartition
   pub log : LogState
   pub number : e.partition ≡ pos place.number
   pub held : IsHeld w name place log
 
-is_place : (o : Option ℕ) (p : ℤ) (place : Place) → place_in o p ≡ Some place → (o ≡ Some place.instance) × (p ≡ pos place.number)
+is_place : (o : Option ℕ) (p : ℤ) (place : TopicPartition) → place_in o p ≡ Some place → (o ≡ Some place.instance) × (p ≡ pos place.number)
 is_place None p place e = absurd cc
 is_place (Some i) (negsuc p) place e = absurd cc
 is_place (Some i) (pos p) place e =
-    let same : (let made : Place = record { instance = i; number = p } in made) ≡ place = cc in
-    (ap (λ (x : Place). Some x.instance) same, ap (λ (x : Place). pos x.number) same)
+    let same : (let made : TopicPartition = record { instance = i; number = p } in made) ≡ place = cc in
+    (ap (λ (x : TopicPartition). Some x.instance) same, ap (λ (x : TopicPartition). pos x.number) same)
 
-place_is : (w : World) (name : List ℕ) (e : FetchPartition) (place : Place) → named name w.known.topics ≡ Some place.instance → e.partition ≡ pos place.number → place_in (named name w.known.topics) e.partition ≡ Some place
+place_is : (w : World) (name : List ℕ) (e : FetchPartition) (place : TopicPartition) → named name w.known.topics ≡ Some place.instance → e.partition ≡ pos place.number → place_in (named name w.known.topics) e.partition ≡ Some place
 place_is w name e place topic number = ap (λ o. place_in o e.partition) topic ∙ ap (place_in (Some place.instance)) number
 
 -- what is answered of a log, if there is one
@@ -82,20 +82,20 @@ abbrev answered_of : Given → FetchPartition → Option LogState → Given × F
 answered_of g e o = answered_by g e.partition (option_map (λ (l : LogState). (pos l.start, pos l.end)) o) (fetched_from e.fetch_offset (limit_of g e) g.first o)
 
 -- an entry whose answer is no error
-log_found : (w : World) (name : List ℕ) (g : Given) (e : FetchPartition) (place : Place) → place_in (named name w.known.topics) e.partition ≡ Some place
+log_found : (w : World) (name : List ℕ) (g : Given) (e : FetchPartition) (place : TopicPartition) → place_in (named name w.known.topics) e.partition ≡ Some place
     → (o : Option LogState) → log_in w place ≡ o → is_error (answered_of g e o).1.error_code ≡ false → Finds w name e
 log_found w name g e place at None there good = absurd cc
 log_found w name g e place at (Some l) there good =
     let is = is_place (named name w.known.topics) e.partition place at in
     record { place = place; log = l; number = is.1; held = record { topic = is.0; there = there } }
 
-place_found : (w : World) (name : List ℕ) (g : Given) (e : FetchPartition) (o : Option Place) → place_in (named name w.known.topics) e.partition ≡ o → is_error (answered_at w g e o).1.error_code ≡ false → Finds w name e
+place_found : (w : World) (name : List ℕ) (g : Given) (e : FetchPartition) (o : Option TopicPartition) → place_in (named name w.known.topics) e.partition ≡ o → is_error (answered_at w g e o).1.error_code ≡ false → Finds w name e
 place_found w name g e None at good = absurd cc
 place_found w name g e (Some place) at good = log_found w name g e place at (log_in w place) refl good
 
 -- ---- two worlds that hold the same where a fetch asks
 
-module _ (w v : World) (asked : Place → Type 0) (keeps : (name : List ℕ) (place : Place) (log : LogState) → asked place → IsHeld w name place log → IsHeld v name place log) where
+module _ (w v : World) (asked : TopicPartition → Type 0) (keeps : (name : List ℕ) (place : TopicPartition) (log : LogState) → asked place → IsHeld w name place log → IsHeld v name place log) where
   -- an entry that is answered alike, and asks for the same place
   record IsAlike (name : List ℕ) (e : FetchPartition) : Type 0 where
     pub answer : (g : Given) → fetch_answered v (named name v.known.topics) g e ≡ fetch_answered w (named name w.known.topics) g e
@@ -112,20 +112,20 @@ module _ (w v : World) (asked : Place → Type 0) (keeps : (name : List ℕ) (pl
       }
 
   -- the entries of a topic
-  entries_alike : (name : List ℕ) (es : List FetchPartition) → AllByRecursion (λ e. Finds w name e) es → ((place : Place) → Contains (places_in (named name w.known.topics) es) place → asked place) → AllByRecursion (IsAlike name) es
+  entries_alike : (name : List ℕ) (es : List FetchPartition) → AllByRecursion (λ e. Finds w name e) es → ((place : TopicPartition) → Contains (places_in (named name w.known.topics) es) place → asked place) → AllByRecursion (IsAlike name) es
   entries_alike name [] all asks = tt
   entries_alike name (e ∷ es) all asks =
-      let rest : List Place = places_in (named name w.known.topics) es in
+      let rest : List TopicPartition = places_in (named name w.known.topics) es in
       let first = place_is w name e all.0.place all.0.held.topic all.0.number in (
-        alike name e all.0 (asks all.0.place (subst (λ (o : Option Place). Contains (cons_option o rest) all.0.place) (sym first) (here_first all.0.place rest))),
-        entries_alike name es all.1 (λ place c. asks place (subst (λ (o : Option Place). Contains (cons_option o rest) place) (sym first) (then_later all.0.place place rest c))),
+        alike name e all.0 (asks all.0.place (subst (λ (o : Option TopicPartition). Contains (cons_option o rest) all.0.place) (sym first) (here_first all.0.place rest))),
+        entries_alike name es all.1 (λ place c. asks place (subst (λ (o : Option TopicPartition). Contains (cons_option o rest) place) (sym first) (then_later all.0.place place rest c))),
       )
 
   -- the topics of a request
-  abbrev places_for : FetchTopic → List Place
+  abbrev places_for : FetchTopic → List TopicPartition
   places_for t = places_in (named t.topic w.known.topics) t.partitions
 
-  topics_alike : (ts : List FetchTopic) → AllByRecursion (λ t. AllByRecursion (λ e. Finds w t.topic e) t.partitions) ts → ((place : Place) → Contains (flat_map places_for ts) place → asked place)
+  topics_alike : (ts : List FetchTopic) → AllByRecursion (λ t. AllByRecursion (λ e. Finds w t.topic e) t.partitions) ts → ((place : TopicPartition) → Contains (flat_map places_for ts) place → asked place)
       → AllByRecursion (λ t. AllByRecursion (IsAlike t.topic) t.partitions) ts
   topics_alike [] all asks = tt
   topics_alike (t ∷ ts) all asks = (
@@ -223,8 +223,8 @@ module _ (w : World) (r : FetchRequest) (deadline : ℕ) (waits : fetch_answer w
       ∙ ap (λ b. (if b then Some reply else None)) (last_changed nothing_asked some_error has_bytes (nat_le deadline w.clock) (nat_le later v.clock) unready early)
 
   -- It waits on in each world that holds what it asks for, at the same clock.
-  pub waits_on : (v : World) (asked : Place → Type 0) → ((name : List ℕ) (place : Place) (log : LogState) → asked place → IsHeld w name place log → IsHeld v name place log)
-      → v.clock ≡ w.clock → ((place : Place) → Contains (places_of w r) place → asked place) → StillWaits w v r deadline
+  pub waits_on : (v : World) (asked : TopicPartition → Type 0) → ((name : List ℕ) (place : TopicPartition) (log : LogState) → asked place → IsHeld w name place log → IsHeld v name place log)
+      → v.clock ≡ w.clock → ((place : TopicPartition) → Contains (places_of w r) place → asked place) → StillWaits w v r deadline
   waits_on v asked keeps clock asks =
       let all = topics_alike w v asked keeps r.topics all_found asks in (
         still_unready v deadline (fetched_alike w v asked keeps r all) (ap (nat_le deadline) clock ∙ in_time),

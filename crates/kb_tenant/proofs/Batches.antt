@@ -14,7 +14,7 @@ use Rattle.kb_partitions.specs.Logs.{LogState}
 use Rattle.kb_partitions.specs.declared.fault.PartitionFault.TheVariants as ranges
 use Rattle.kb_world.specs.Calls.{fetched_from}
 use Rattle.kb_world.specs.World.{World, log_in, place_in}
-use Rattle.kb_world.specs.declared.place.Place.{Place}
+use Rattle.kb_world.specs.declared.topic_partition.TopicPartition.{TopicPartition}
 use Rattle.kb_tenant.specs.Batches.{BeginAt, GivesBatches, EachAnswered, IsPartitionAnswered, IsTopicAnswered, HasSmallLogs, HoldsBatches, Spells}
 use Rattle.kb_tenant.specs.Fetch.{fetch_answered, answered_at, answered_by, answered_topic, asked_fetch, begun, fetch_answer, fetched, has_starts, is_ready, limit_of, deadline_of, fetched_in}
 use Rattle.kb_tenant.specs.Replies.{Replies, Silent}
@@ -70,7 +70,7 @@ begins-front offset (x ∷ xs) ys h = h
 
 -- ---- one partition
 
-gives : (w : World) (topic : Option ℕ) (asked : FetchPartition) (place : Place) (l : LogState) (n limit : ℕ) (first : Bool) → place_in topic asked.partition ≡ Some place → log_in w place ≡ Some l → asked.fetch_offset ≡ pos n
+gives : (w : World) (topic : Option ℕ) (asked : FetchPartition) (place : TopicPartition) (l : LogState) (n limit : ℕ) (first : Bool) → place_in topic asked.partition ≡ Some place → log_in w place ≡ Some l → asked.fetch_offset ≡ pos n
     → GivesBatches w topic asked (pos l.start) (Some (fetched_of n limit first l.batches))
 gives w topic asked place l n limit first there kept natural-offset =
     let from = holding n l.batches in
@@ -91,18 +91,18 @@ no-error : (w : World) (topic : Option ℕ) (asked : FetchPartition) (start : �
 no-error w topic asked start records n up e = absurd (grind (arith, up, e))
 
 module _ (w : World) (topic : Option ℕ) (g : Given) (asked : FetchPartition) where
-  by-offset : (place : Place) (l : LogState) → place_in topic asked.partition ≡ Some place → log_in w place ≡ Some l → (o : ℤ) → asked.fetch_offset ≡ o → (out : Bool) → (int_lt o (pos l.start) || int_lt (pos l.end) o) ≡ out
+  by-offset : (place : TopicPartition) (l : LogState) → place_in topic asked.partition ≡ Some place → log_in w place ≡ Some l → (o : ℤ) → asked.fetch_offset ≡ o → (out : Bool) → (int_lt o (pos l.start) || int_lt (pos l.end) o) ≡ out
       → IsPartitionAnswered w topic asked (answered_by g asked.partition (Some (pos l.start, pos l.end)) (if out then Err ranges.Range else Ok (fetched_of (natural o) (limit_of g asked) g.first l.batches))).1
   by-offset place l there kept o is true e = (refl, λ h. no-error w topic asked _ _ 1 (omega arith) h)
   by-offset place l there kept (pos n) is false e = (refl, λ h. gives w topic asked place l n (limit_of g asked) g.first there kept is)
   by-offset place l there kept (negsuc n) is false e = absurd (cc)
 
-  by-log : (place : Place) → place_in topic asked.partition ≡ Some place → (o : Option LogState) → log_in w place ≡ o
+  by-log : (place : TopicPartition) → place_in topic asked.partition ≡ Some place → (o : Option LogState) → log_in w place ≡ o
       → IsPartitionAnswered w topic asked (answered_by g asked.partition (option_map (λ (l : LogState). (pos l.start, pos l.end)) o) (fetched_from asked.fetch_offset (limit_of g asked) g.first o)).1
   by-log place there None kept = (refl, λ h. no-error w topic asked _ _ 3 (omega arith) h)
   by-log place there (Some l) kept = by-offset place l there kept asked.fetch_offset refl (int_lt asked.fetch_offset (pos l.start) || int_lt (pos l.end) asked.fetch_offset) refl
 
-  by-place : (o : Option Place) → place_in topic asked.partition ≡ o → IsPartitionAnswered w topic asked (answered_at w g asked o).1
+  by-place : (o : Option TopicPartition) → place_in topic asked.partition ≡ o → IsPartitionAnswered w topic asked (answered_at w g asked o).1
   by-place None there = (refl, λ h. no-error w topic asked _ _ 3 (omega arith) h)
   by-place (Some place) there = by-log place there (log_in w place) refl
 

@@ -10,7 +10,7 @@ use Rattle.kb_world.specs.Calls.{committed_unless, known_at, with_committed}
 use Rattle.kb_partitions.specs.Logs.{log_at}
 use Rattle.kb_world.specs.Tied.{IsTied, counted}
 use Rattle.kb_world.specs.World.{World, place_in}
-use Rattle.kb_world.specs.declared.place.Place.{Place}
+use Rattle.kb_world.specs.declared.topic_partition.TopicPartition.{TopicPartition}
 use Rattle.kb_tenant.specs.OffsetCommit.{committed_all, committed_at, committed_entry, committed_topic, metadata_in}
 use Rattle.kb_tenant.specs.Turns.{in_turn}
 use Rattle.kb_tenant.specs.Waiting.{HasOwnNames}
@@ -44,7 +44,7 @@ turns_commit : {E A : Type 0} (f : World → E → World × A) → ((w : World) 
 turns_commit f each w [] = commits_none w
 turns_commit f each w (e ∷ es) = commits_then w (f w e).0 (in_turn f (f w e).0 es).0 (each w e) (turns_commit f each (f w e).0 es)
 
-put_commits : (w : World) (place : Place) (group : List ℕ) (c : CommittedOffset) (o : Option PartitionState) → Commits w (record w { known = with_committed w.known place group c o })
+put_commits : (w : World) (place : TopicPartition) (group : List ℕ) (c : CommittedOffset) (o : Option PartitionState) → Commits w (record w { known = with_committed w.known place group c o })
 put_commits w place group c None = commits_none w
 put_commits w place group c (Some p) = record {
   logs = refl;
@@ -52,11 +52,11 @@ put_commits w place group c (Some p) = record {
   alike = put_alike w.known place.instance place.number (with_commit p group c) (topic_at place.instance w.known.topics) refl;
 }
 
-unless_commits : (w : World) (place : Place) (group : List ℕ) (c : CommittedOffset) (o : Option CatalogFault) → Commits w (committed_unless w place group c o).0
+unless_commits : (w : World) (place : TopicPartition) (group : List ℕ) (c : CommittedOffset) (o : Option CatalogFault) → Commits w (committed_unless w place group c o).0
 unless_commits w place group c (Some f) = commits_none w
 unless_commits w place group c None = put_commits w place group c (known_at w.known place)
 
-at_commits : (w : World) (o : Option Place) (group : List ℕ) (e : CommitPartition) → Commits w (committed_at w o group e).0
+at_commits : (w : World) (o : Option TopicPartition) (group : List ℕ) (e : CommitPartition) → Commits w (committed_at w o group e).0
 at_commits w None group e = commits_none w
 at_commits w (Some place) group e =
     let metadata = metadata_in e.metadata in

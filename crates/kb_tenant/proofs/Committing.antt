@@ -17,7 +17,7 @@ use Rattle.kb_world.specs.Calls.{commit}
 use Rattle.kb_world.specs.Parts.{Seen}
 use Rattle.kb_world.specs.Told.{IsCatalogWant, IsDone, Tells}
 use Rattle.kb_world.specs.World.{World, place_in}
-use Rattle.kb_world.specs.declared.place.Place.{Place}
+use Rattle.kb_world.specs.declared.topic_partition.TopicPartition.{TopicPartition}
 use Rattle.kb_tenant.specs.CreateTopics.{code_in}
 use Rattle.kb_tenant.specs.OffsetCommit.{committed, committed_all, committed_at, committed_entry, committed_topic, metadata_in}
 use Rattle.kb_tenant.specs.Produce.{written_next}
@@ -32,7 +32,7 @@ done_so : (a b : Scene Seen) (P Q : Type 0) → (P → Q) → IsDone a b P → I
 done_so a b P Q f is = record { counted = is.counted; met = λ honest agree. f (is.met honest agree) }
 
 -- the code for what the call answered, at what the entry says
-pub commit_code : (v w : World) (place : Place) (group : List ℕ) (e : CommitPartition) (offset : ℤ) (text : List ℕ) (r : Result (Unit {0}) CatalogFault) (code : ℤ)
+pub commit_code : (v w : World) (place : TopicPartition) (group : List ℕ) (e : CommitPartition) (offset : ℤ) (text : List ℕ) (r : Result (Unit {0}) CatalogFault) (code : ℤ)
     → offset ≡ e.offset → text ≡ metadata_in e.metadata → code ≡ code_in r → (v, r) ≡ commit w place group offset text → (v, code) ≡ committed_at w (Some place) group e
 commit_code v w place group e offset text r code at beside is met =
     ap (λ z. (v, z)) is
@@ -46,7 +46,7 @@ fault_told a b Want P Q (Err g) code f is told =
     (λ wanted. inr (record { want = record { fault = g; told = is; want = wanted.want }; counted = wanted.counted; stays = wanted.stays }))
     told
 
-pub commit_told : (a b : Scene Seen) (place : Place) (group : List ℕ) (e : CommitPartition) (offset : ℤ) (text : List ℕ) (r : Result (Unit {0}) CatalogFault) (code : ℤ)
+pub commit_told : (a b : Scene Seen) (place : TopicPartition) (group : List ℕ) (e : CommitPartition) (offset : ℤ) (text : List ℕ) (r : Result (Unit {0}) CatalogFault) (code : ℤ)
     → offset ≡ e.offset → text ≡ metadata_in e.metadata → code ≡ code_in r → Tells a b ((b.state.world, r) ≡ commit a.state.world place group offset text) (IsCatalogWant a b) r
     → IsTold a b ((b.state.world, code) ≡ committed_at a.state.world (Some place) group e) (IsFaultOf (IsCatalogWant a b) code)
 commit_told a b place group e offset text r code at beside is told =
@@ -73,7 +73,7 @@ pub acknowledged : (a b : Scene Seen) (P : Type 0) (Want : CatalogFault → Type
 acknowledged a b P Want code told zero = ⊎_elim (λ done. done) (λ refused. absurd (fault_speaks refused.want.fault (sym refused.want.told ∙ zero))) told
 
 -- an entry that the whole request does not refuse, at its place
-pub entry_at : (w : World) (refusal : Option ℤ) (group : List ℕ) (topic : Option ℕ) (e : CommitPartition) (o : Option Place) → refusal ≡ None → o ≡ place_in topic e.partition
+pub entry_at : (w : World) (refusal : Option ℤ) (group : List ℕ) (topic : Option ℕ) (e : CommitPartition) (o : Option TopicPartition) → refusal ≡ None → o ≡ place_in topic e.partition
     → committed_at w o group e ≡ committed refusal group topic w e
 entry_at w refusal group topic e o none at = ap (λ p. committed_at w p group e) at ∙ ap (λ (r : Option ℤ). committed r group topic w e) (sym none)
 

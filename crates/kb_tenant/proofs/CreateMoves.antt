@@ -20,7 +20,7 @@ use Rattle.kb_partitions.specs.Logs.{LogState, no_log, with_new_logs}
 use Rattle.kb_world.specs.Calls.{created_unless}
 use Rattle.kb_world.specs.Tied.{IsTied, counted, partition_count}
 use Rattle.kb_world.specs.World.{World}
-use Rattle.kb_world.specs.declared.place.Place.{Place}
+use Rattle.kb_world.specs.declared.topic_partition.TopicPartition.{TopicPartition}
 use Rattle.kb_tenant.specs.CreateTopics.{created_all, created_topic, made_unless, made_with, refusal, stands_twice}
 use Rattle.kb_tenant.specs.Settings.{settings_in}
 use Rattle.kb_tenant.proofs.Asked.{IsHeld}
@@ -52,7 +52,7 @@ other_name ts q name i there none = by (bytes_eq q name) refl
     by true is = absurd (let bad : Some i ≡ None = sym there ∙ ap (λ x. named x ts) (bytes_same q name is) ∙ none in cc)
 
 one_more_held : (w : World) (name : List ℕ) (count : ℕ) (config : TopicConfig) → named name w.known.topics ≡ None → IsTied w
-    → (q : List ℕ) (place : Place) (log : LogState) → IsHeld w q place log → IsHeld (one_more w name count config) q place log
+    → (q : List ℕ) (place : TopicPartition) (log : LogState) → IsHeld w q place log → IsHeld (one_more w name count config) q place log
 one_more_held w name count config new tied q place log h = record {
   topic =
       named_inserted w.known.topics w.known.creates (new_topic name count config) q (tied.next w.known.creates (omega arith)) (other_name w.known.topics q name place.instance h.topic new)

@@ -14,7 +14,7 @@ use Rattle.kb_partitions.specs.Logs.{LogState, without_logs}
 use Rattle.kb_world.specs.Calls.{deleted_at}
 use Rattle.kb_world.specs.Tied.{IsTied, partition_count}
 use Rattle.kb_world.specs.World.{World}
-use Rattle.kb_world.specs.declared.place.Place.{Place}
+use Rattle.kb_world.specs.declared.topic_partition.TopicPartition.{TopicPartition}
 use Rattle.kb_tenant.specs.DeleteTopics.{deleted_all, deleted_topic, place_at, places, places_at, places_in}
 use Rattle.kb_tenant.proofs.Asked.{IsHeld}
 use Rattle.kb_tenant.proofs.Entries.{counted_removed, none_removed, remove_other}
@@ -35,18 +35,18 @@ without_tied w i tied = record {
 }
 
 -- each of the first partitions of an instance is among them
-among_places : (place : Place) (count : ℕ) → place.number < count → Contains (places place.instance count) place
+among_places : (place : TopicPartition) (count : ℕ) → place.number < count → Contains (places place.instance count) place
 among_places place count lt =
     let many = length-map-range_with_len (place_at place.instance) 0 count in
     (place.number, omega (arith, many, lt), get_or-map-range_with_len (place_at place.instance) 0 count place.number place.number place lt (omega arith))
 
 -- the place of a topic's log is among those that its deletion tells
-log_told : (w : World) (name : List ℕ) (place : Place) (log : LogState) → IsTied w → IsHeld w name place log → Contains (places_at w (Some place.instance)) place
+log_told : (w : World) (name : List ℕ) (place : TopicPartition) (log : LogState) → IsTied w → IsHeld w name place log → Contains (places_at w (Some place.instance)) place
 log_told w name place log tied h =
     let own = owner w place.instance place.number log tied h.there in
     subst (λ o. Contains (places_in place.instance o) place) (sym own.there) (among_places place (length own.topic.partitions) own.within)
 
-without_held : (w : World) (i : ℕ) (before : List Place) (tied : IsTied w) (name : List ℕ) (place : Place) (log : LogState)
+without_held : (w : World) (i : ℕ) (before : List TopicPartition) (tied : IsTied w) (name : List ℕ) (place : TopicPartition) (log : LogState)
     → (Contains (before ++ places_at w (Some i)) place → ⊥) → IsHeld w name place log → IsHeld (without w i) name place log
 without_held w i before tied name place log none h =
     let gone = places_at w (Some i) in
@@ -59,7 +59,7 @@ without_held w i before tied name place log none h =
           ∙ h.there;
     }
 
-delete_moves_by : (w : World) (before : List Place) (o : Option ℕ) → Moves before (before ++ places_at w o) w (deleted_at w o).0
+delete_moves_by : (w : World) (before : List TopicPartition) (o : Option ℕ) → Moves before (before ++ places_at w o) w (deleted_at w o).0
 delete_moves_by w before None = stays_told w before []
 delete_moves_by w before (Some i) = record {
   tied = without_tied w i;
@@ -70,5 +70,5 @@ delete_moves_by w before (Some i) = record {
 
 pub delete_moves : (w : World) (r : DeleteTopicsRequest) → Moves [] (deleted_all (w, []) r).0.1 w (deleted_all (w, []) r).0.0
 delete_moves w r =
-    turns_move (λ (s : World × List Place). s.0) (λ (s : World × List Place). s.1) deleted_topic
+    turns_move (λ (s : World × List TopicPartition). s.0) (λ (s : World × List TopicPartition). s.1) deleted_topic
     (λ s name. delete_moves_by s.0 s.1 (named name s.0.known.topics)) (w, []) r.names

@@ -14,7 +14,7 @@ use Rattle.kb_api_data.specs.declared.delete_records.DeleteRecordsTopicReply.{De
 use Rattle.kb_topics.specs.Known.{named}
 use Rattle.kb_partitions.specs.declared.fault.PartitionFault.{PartitionFault}
 use Rattle.kb_world.specs.World.{World}
-use Rattle.kb_world.specs.declared.place.Place.{Place}
+use Rattle.kb_world.specs.declared.topic_partition.TopicPartition.{TopicPartition}
 use Rattle.kb_tenant.specs.DeleteRecords.{deleted, deleted_all, deleted_topic, told}
 use Rattle.kb_tenant.specs.Turns.{in_turn, written_behind}
 use Rattle.kb_tenant.proofs.Deleting.{kept_more}
@@ -45,12 +45,12 @@ topic_fits r i t lt is fits = subst delete_records_topic.Fits (sym is) (All-get_
 -- ---- what is told
 
 -- what was told before stays told
-pub told_more : (start old new : List Place) (place : Place) (r : Result ℤ PartitionFault) → new ≡ told old place r → take (length start) old ≡ start → take (length start) new ≡ start
+pub told_more : (start old new : List TopicPartition) (place : TopicPartition) (r : Result ℤ PartitionFault) → new ≡ told old place r → take (length start) old ≡ start → take (length start) new ≡ start
 told_more start old new place (Ok x) is kept = kept_more start old new (place ∷ []) is kept
 told_more start old new place (Err f) is kept = ap (take (length start)) is ∙ kept
 
 -- what was told before is told still, after one more that kept it
-pub kept_then : (start old new : List Place) → take (length start) old ≡ start → take (length old) new ≡ old → take (length start) new ≡ start
+pub kept_then : (start old new : List TopicPartition) → take (length start) old ≡ start → take (length old) new ≡ old → take (length start) new ≡ start
 kept_then start old new kept more =
     let within : length start ≤ length old = omega (arith, length-take (length start) old, ap length kept) in
     sym (take-take (length start) (length old) new within) ∙ ap (take (length start)) more ∙ kept
@@ -80,7 +80,7 @@ behind write out front out1 out2 n rs first second many =
     ∙ ap (λ m. out ++ (front ++ ((count w32).written m ++ flat_map write rs))) many
 
 -- a topic's name, the count and the answers are its reply
-pub topic_told : (topic : Option ℕ) (s : World × List Place) (t : DeleteRecordsTopic) (name : List ℕ) (entries : List DeleteRecordsPartition) (n : ℕ) (out out1 out2 : List ℕ) (result : (World × List Place) × List ℕ)
+pub topic_told : (topic : Option ℕ) (s : World × List TopicPartition) (t : DeleteRecordsTopic) (name : List ℕ) (entries : List DeleteRecordsPartition) (n : ℕ) (out out1 out2 : List ℕ) (result : (World × List TopicPartition) × List ℕ)
     → name ≡ t.name → entries ≡ t.partitions → n ≡ length t.partitions → topic ≡ named t.name s.0.known.topics
     → out1 ≡ out ++ string.written name → out2 ≡ out1 ++ (count w32).written n
     → result ≡ written_behind delete_records_partition_reply.written out2 (in_turn (deleted topic) s entries)
@@ -97,15 +97,15 @@ topic_told topic s t name entries n out out1 out2 result nis eis lis tis first s
     ∙ ap (λ l. out ++ l) (topic_spelled t.name r.1))
 
 -- all topics
-pub all_told : (q : DeleteRecordsRequest) (w w' : World) (touched touched' : List Place) (n : ℕ) (out out1 out2 out3 : List ℕ)
+pub all_told : (q : DeleteRecordsRequest) (w w' : World) (touched touched' : List TopicPartition) (n : ℕ) (out out1 out2 out3 : List ℕ)
     → n ≡ length q.topics → out1 ≡ out ++ int32.written (pos 0) → out2 ≡ out1 ++ (count w32).written n
     → ((w', touched'), out3) ≡ written_behind delete_records_topic_reply.written out2 (in_turn deleted_topic (w, touched) q.topics)
     → (w' ≡ (deleted_all (w, touched) q).0.0) × (touched' ≡ (deleted_all (w, touched) q).0.1) × (out3 ≡ out ++ delete_records_reply.written (deleted_all (w, touched) q).1)
 all_told q w w' touched touched' n out out1 out2 out3 lis first second is =
     let r = in_turn deleted_topic (w, touched) q.topics in (
-      ap (λ (x : (World × List Place) × List ℕ). x.0.0) is,
-      ap (λ (x : (World × List Place) × List ℕ). x.0.1) is,
-      ap (λ (x : (World × List Place) × List ℕ). x.1) is
+      ap (λ (x : (World × List TopicPartition) × List ℕ). x.0.0) is,
+      ap (λ (x : (World × List TopicPartition) × List ℕ). x.0.1) is,
+      ap (λ (x : (World × List TopicPartition) × List ℕ). x.1) is
           ∙ behind delete_records_topic_reply.written out (int32.written (pos 0)) out1 out2 n r.1 first second (lis ∙ sym (turn_length deleted_topic (w, touched) q.topics))
           ∙ ap (λ l. out ++ l) (reply_spelled r.1),
     )

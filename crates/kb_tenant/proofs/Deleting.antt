@@ -16,38 +16,38 @@ use Rattle.kb_world.specs.Calls.{delete, deleted_at}
 use Rattle.kb_tenant.specs.CreateTopics.{code_in}
 use Rattle.kb_tenant.specs.DeleteTopics.{place_at, places, places_in, places_at, places_named, told_if, deleted, deleted_topic, deletions_in, throttle_in}
 use Rattle.kb_world.specs.World.{World}
-use Rattle.kb_world.specs.declared.place.Place.{Place}
+use Rattle.kb_world.specs.declared.topic_partition.TopicPartition.{TopicPartition}
 
 -- one more partition is told
-pub places_more : (old new : List Place) (start : List Place) (instance n : ℕ) → new ≡ old ++ place_at instance n ∷ [] → old ≡ start ++ places instance n → new ≡ start ++ places instance (n + 1)
+pub places_more : (old new : List TopicPartition) (start : List TopicPartition) (instance n : ℕ) → new ≡ old ++ place_at instance n ∷ [] → old ≡ start ++ places instance n → new ≡ start ++ places instance (n + 1)
 places_more old new start instance n more told =
-    let last : List Place = place_at instance n ∷ [] in
+    let last : List TopicPartition = place_at instance n ∷ [] in
     more ∙ ap (λ l. l ++ last) told ∙ append_assoc start (places instance n) last ∙ ap (λ l. start ++ l) (sym (map-range_with_len_more (place_at instance) 0 n n (omega arith)))
 
 -- no partition is told where there is no topic
-pub none_told : (start : List Place) (instance : ℕ) (t : Option TopicState) → None ≡ t → start ≡ start ++ places_in instance t
+pub none_told : (start : List TopicPartition) (instance : ℕ) (t : Option TopicState) → None ≡ t → start ≡ start ++ places_in instance t
 none_told start instance t none = sym (append-nil start) ∙ ap (λ o. start ++ places_in instance o) none
 
 -- all partitions are told
-pub all_told : (start now : List Place) (instance n count : ℕ) (found : TopicState) (t : Option TopicState) → now ≡ start ++ places instance n → n ≡ count → count ≡ length found.partitions → Some found ≡ t → now ≡ start ++ places_in instance t
+pub all_told : (start now : List TopicPartition) (instance n count : ℕ) (found : TopicState) (t : Option TopicState) → now ≡ start ++ places instance n → n ≡ count → count ≡ length found.partitions → Some found ≡ t → now ≡ start ++ places_in instance t
 all_told start now instance n count found t told over many some =
     told ∙ ap (λ m. start ++ places instance m) (over ∙ many) ∙ ap (λ o. start ++ places_in instance o) some
 
 -- what comes of a topic that is there, or not
-abbrev ended : World → List Place → Option ℕ → (World × List Place) × ℤ
+abbrev ended : World → List TopicPartition → Option ℕ → (World × List TopicPartition) × ℤ
 ended w old i = let r = deleted_at w i in ((r.0, old ++ places_at w i), code_in r.1)
 
-pub unknown_is : (w : World) (old : List Place) (name : List ℕ) (code : ℤ) → None ≡ named name w.known.topics → code ≡ pos 3 → ((w, old), code) ≡ deleted (w, old) name
+pub unknown_is : (w : World) (old : List TopicPartition) (name : List ℕ) (code : ℤ) → None ≡ named name w.known.topics → code ≡ pos 3 → ((w, old), code) ≡ deleted (w, old) name
 unknown_is w old name code none here =
     ap (λ z. ((w, old), z)) here ∙ ap (λ l. ((w, l), pos 3)) (sym (append-nil old)) ∙ ap (ended w old) none
 
-pub deleted_is : (w v : World) (old now : List Place) (name : List ℕ) (i : ℕ) (code : ℤ) → Some i ≡ named name w.known.topics → now ≡ old ++ places_at w (Some i) → (v, Ok tt) ≡ delete w name → code ≡ pos 0 → ((v, now), code) ≡ deleted (w, old) name
+pub deleted_is : (w v : World) (old now : List TopicPartition) (name : List ℕ) (i : ℕ) (code : ℤ) → Some i ≡ named name w.known.topics → now ≡ old ++ places_at w (Some i) → (v, Ok tt) ≡ delete w name → code ≡ pos 0 → ((v, now), code) ≡ deleted (w, old) name
 deleted_is w v old now name i code some told step here =
     ap (λ z. ((v, now), z)) here ∙ ap (λ l. ((v, l), pos 0)) (told ∙ ap (λ o. old ++ places_at w o) some)
     ∙ ap (λ (r : World × Result (Unit {0}) CatalogFault). ((r.0, old ++ places_named w name), code_in r.1)) step
 
 -- the partitions of a topic that was deleted are told
-pub told_all : (w : World) (old now : List Place) (name : List ℕ) (i : ℕ) (code : ℤ) → Some i ≡ named name w.known.topics → now ≡ old ++ places_at w (Some i) → code ≡ pos 0 → now ≡ old ++ told_if code (places_named w name)
+pub told_all : (w : World) (old now : List TopicPartition) (name : List ℕ) (i : ℕ) (code : ℤ) → Some i ≡ named name w.known.topics → now ≡ old ++ places_at w (Some i) → code ≡ pos 0 → now ≡ old ++ told_if code (places_named w name)
 told_all w old now name i code some told here = told ∙ ap (λ o. old ++ places_at w o) some ∙ ap (λ z. old ++ told_if z (places_named w name)) (sym here)
 
 -- Where nothing was refused, a topic that is there is deleted.
@@ -57,7 +57,7 @@ never_refused w v name i f some step =
     clash (ap (λ (r : World × Result (Unit {0}) CatalogFault). is_err r.1) (step ∙ sym (ap (deleted_at w) some)))
 
 -- those of one that was not are not
-pub told_none : (old now ps : List Place) (f : CatalogFault) (code : ℤ) → now ≡ old → code ≡ code_in (Err f) → now ≡ old ++ told_if code ps
+pub told_none : (old now ps : List TopicPartition) (f : CatalogFault) (code : ℤ) → now ≡ old → code ≡ code_in (Err f) → now ≡ old ++ told_if code ps
 told_none old now ps f code back here = back ∙ sym (append-nil old) ∙ ap (λ l. old ++ l) (sym (ap (λ z. told_if z ps) here ∙ untold f))
   where
     untold : (f : CatalogFault) → told_if (code_in (Err f)) ps ≡ []
@@ -75,7 +75,7 @@ told_none old now ps f code back here = back ∙ sym (append-nil old) ∙ ap (λ
     untold faults.Memory = refl
 
 -- what was told is taken back
-pub taken_back : (old told now ps : List Place) (n : ℕ) → now ≡ take n told → n ≡ length old → told ≡ old ++ ps → now ≡ old
+pub taken_back : (old told now ps : List TopicPartition) (n : ℕ) → now ≡ take n told → n ≡ length old → told ≡ old ++ ps → now ≡ old
 taken_back old told now ps n cut size more = cut ∙ ap (λ m. take m told) size ∙ ap (take (length old)) more ∙ take-append_seam old ps
 
 -- what holds where a result is no error
@@ -89,18 +89,18 @@ where_err (Ok x) b is so p = absurd (subst (λ x. x ≡ true → ⊥) (sym is) (
 where_err (Err e) b is so p = p
 
 -- what was told before is still there
-pub kept_more : (start old new ps : List Place) → new ≡ old ++ ps → take (length start) old ≡ start → take (length start) new ≡ start
+pub kept_more : (start old new ps : List TopicPartition) → new ≡ old ++ ps → take (length start) old ≡ start → take (length start) new ≡ start
 kept_more start old new ps more kept =
     let within : length start ≤ length old = omega (arith, length-take (length start) old, ap length kept) in
     ap (take (length start)) more ∙ take-append-le (length start) old ps within ∙ kept
 
 -- the answer for a name of a request
-pub answered_is : (w v : World) (old now : List Place) (name text sent : List ℕ) (code carried : ℤ) → text ≡ name → sent ≡ text → ((v, now), code) ≡ deleted (w, old) text → carried ≡ code
+pub answered_is : (w v : World) (old now : List TopicPartition) (name text sent : List ℕ) (code carried : ℤ) → text ≡ name → sent ≡ text → ((v, now), code) ≡ deleted (w, old) text → carried ≡ code
     → ((v, now), (let x : DeleteTopicReply = record { name = sent; error_code = carried } in x)) ≡ deleted_topic (w, old) name
 answered_is w v old now name text sent code carried one two step same =
     ap (λ n. ((v, now), (let x : DeleteTopicReply = record { name = n; error_code = carried } in x))) two
     ∙ ap (λ z. ((v, now), (let x : DeleteTopicReply = record { name = text; error_code = z } in x))) same
-    ∙ ap (λ (r : (World × List Place) × ℤ). (r.0, (let x : DeleteTopicReply = record { name = text; error_code = r.1 } in x))) step
+    ∙ ap (λ (r : (World × List TopicPartition) × ℤ). (r.0, (let x : DeleteTopicReply = record { name = text; error_code = r.1 } in x))) step
     ∙ ap (deleted_topic (w, old)) one
 
 -- a name that was read can be written, and be recorded

@@ -26,7 +26,7 @@ use Rattle.kb_world.specs.Steps.{IsStep, Meets, calm_then}
 use Rattle.kb_tenant.specs.Turns.{in_turn, written_behind}
 use Rattle.kb_world.specs.World.{World, place_in}
 use Rattle.kb_tenant.specs.declared.fetch.given.Given.{Given}
-use Rattle.kb_world.specs.declared.place.Place.{Place}
+use Rattle.kb_world.specs.declared.topic_partition.TopicPartition.{TopicPartition}
 use Rattle.kb_tenant.proofs.Mapped.{flat_map-map}
 use Rattle.kb_tenant.proofs.Turning.{turn_next, turn_length}
 
@@ -56,7 +56,7 @@ none_mapped f None e = refl
 none_mapped f (Some x) e = absurd cc
 
 -- a place that has no log
-pub unknown_is : (w : World) (topic : Option ℕ) (g : Given) (e : FetchPartition) (place : Place) → Some place ≡ place_in topic e.partition → None ≡ option_map (front_of e.partition) (bounds_of w place) → refused g e.partition partition.Unknown ≡ fetch_answered w topic g e
+pub unknown_is : (w : World) (topic : Option ℕ) (g : Given) (e : FetchPartition) (place : TopicPartition) → Some place ≡ place_in topic e.partition → None ≡ option_map (front_of e.partition) (bounds_of w place) → refused g e.partition partition.Unknown ≡ fetch_answered w topic g e
 unknown_is w topic g e place is none =
     ap (λ o. answered_by g e.partition o (fetched_at w g e place)) (none_mapped (front_of e.partition) (bounds_of w place) none)
     ∙ ap (answered_at w g e) is

@@ -10,7 +10,7 @@ use Rattle.kb_world.specs.World.{World}
 use Rattle.kb_tenant.specs.CreateTopics.{checked_all, created_all, creations_in, made_of}
 use Rattle.kb_api_data.specs.declared.fetch_v5.FetchReplyV5.{FetchReplyV5}
 use Rattle.kb_api_data.specs.declared.fetch.FetchRequest.{FetchRequest}
-use Rattle.kb_world.specs.declared.place.Place.{Place}
+use Rattle.kb_world.specs.declared.topic_partition.TopicPartition.{TopicPartition}
 use Rattle.kb_tenant.specs.Fetch.{has_starts, look_written, reply_written, fetched_in, IsServed}
 use Rattle.kb_tenant.specs.Metadata.{asked_metadata}
 use Rattle.kb_tenant.specs.Replies.{begun, IsAnswer, Replies, Silent}
@@ -48,7 +48,7 @@ made_outcome id version w v r answer is world told =
     subst (λ b. IsOutcome id (if b then stays w (Replies (creations_in version (checked_all w r.topics))) else made) v [] answer) (sym is) (world, refl, told)
 
 -- a fetch that waits is a wait
-pub waits : (id version : ℤ) (starts : Bool) (w : World) (r : FetchRequest) (o : Option FetchReplyV5) (old new : List ℕ) (deadline : ℕ) (keys : Vec Place Global)
+pub waits : (id version : ℤ) (starts : Bool) (w : World) (r : FetchRequest) (o : Option FetchReplyV5) (old new : List ℕ) (deadline : ℕ) (keys : Vec TopicPartition Global)
     → IsServed starts w r o old (fetching.Wait deadline keys) new → IsAnswer id (fetch_reaction version w r o) (answers.Wait deadline keys)
 waits id version starts w r (Some reply) old new deadline keys h = h
 waits id version starts w r None old new deadline keys h = (h.0, h.1)

@@ -12,11 +12,11 @@ use Rattle.kb_partitions.specs.Logs.{LogState, Logs, log_at, put_log, with_log}
 use Rattle.kb_world.specs.Calls.{with_log_at}
 use Rattle.kb_world.specs.Tied.{counted}
 use Rattle.kb_world.specs.World.{World}
-use Rattle.kb_world.specs.declared.place.Place.{Place}
+use Rattle.kb_world.specs.declared.topic_partition.TopicPartition.{TopicPartition}
 use Rattle.kb_tenant.proofs.Entries.{counted_set, get_other, set_other, set_same}
 use Rattle.kb_tenant.proofs.Moves.{Moves}
 
-pub same_place : (a b : Place) → a.instance ≡ b.instance → a.number ≡ b.number → a ≡ b
+pub same_place : (a b : TopicPartition) → a.instance ≡ b.instance → a.number ≡ b.number → a ≡ b
 same_place a b e f = λ i. record { instance = e i; number = f i }
 
 pub same_or_not : (j i : ℕ) → (j ≡ i) ⊎ (j ≡ i → ⊥)
@@ -49,7 +49,7 @@ other_topic i p j q l ls ne = by (lookup (is_at (nat_cmp i)) ls)
     by (Some t) = ap (λ (o : Option (List LogState)). option_and_then (λ (x : List LogState). slice_get x q) o) (set_other ls i j (slice_set t p l) ne)
 
 -- A log elsewhere stays.
-pub log_elsewhere : (place other : Place) (l : LogState) (ls : Logs) → (other ≡ place → ⊥)
+pub log_elsewhere : (place other : TopicPartition) (l : LogState) (ls : Logs) → (other ≡ place → ⊥)
     → log_at other.instance other.number (with_log place.instance place.number l ls) ≡ log_at other.instance other.number ls
 log_elsewhere place other l ls ne =
     ⊎_elim
@@ -60,7 +60,7 @@ log_elsewhere place other l ls ne =
     (λ differ. other_topic place.instance place.number other.instance other.number l ls differ)
     (same_or_not other.instance place.instance)
 
-pub with_log_moves : (w : World) (before : List Place) (place : Place) (l : LogState) → Moves before (before ++ place ∷ []) w (with_log_at w place l)
+pub with_log_moves : (w : World) (before : List TopicPartition) (place : TopicPartition) (l : LogState) → Moves before (before ++ place ∷ []) w (with_log_at w place l)
 with_log_moves w before place l = record {
   tied = λ t. record { next = t.next; logs = same_counts place.instance place.number l w.logs ∙ t.logs };
   clock = refl;

@@ -22,7 +22,7 @@ use Rattle.kb_partitions.specs.Logs.{LogState, appended}
 use Rattle.kb_partitions.specs.declared.fault.PartitionFault.TheVariants as partition
 use Rattle.kb_world.specs.Calls.{appended_to, created_unless, deleted_at, with_log_at}
 use Rattle.kb_world.specs.World.{World, log_in, place_in}
-use Rattle.kb_world.specs.declared.place.Place.{Place}
+use Rattle.kb_world.specs.declared.topic_partition.TopicPartition.{TopicPartition}
 use Rattle.kb_tenant.specs.CreateTopics.{created_all, created_topic, made_unless, made_with, refusal, stands_twice}
 use Rattle.kb_tenant.specs.DeleteTopics.{deleted_all, deleted_topic}
 use Rattle.kb_tenant.specs.Produce.{Progress, appended_at, batch_in, decided, known_place, offered_unless, produced, progress, refusal_of, entry_served, served_topic, tried, verdict_on}
@@ -59,7 +59,7 @@ turns_keep {S} {E} {A} R same next world f each s (e ∷ es) =
 abbrev Knows : World → World → Type 0
 Knows w v = v.known ≡ w.known
 
-append_keeps : (p : Progress) (place : Place) (batch : List ℕ) (o : Option LogState) → Knows p.world (appended_at p place (appended_to p.world place batch o)).0.world
+append_keeps : (p : Progress) (place : TopicPartition) (batch : List ℕ) (o : Option LogState) → Knows p.world (appended_at p place (appended_to p.world place batch o)).0.world
 append_keeps p place batch None = refl
 append_keeps p place batch (Some l) = by (nat_le (2 ^ 63) (l.end + count_of batch))
   where
@@ -67,17 +67,17 @@ append_keeps p place batch (Some l) = by (nat_le (2 ^ 63) (l.end + count_of batc
     by true = refl
     by false = refl
 
-decided_keeps : (p : Progress) (place : Place) (batch : List ℕ) (v : Option Verdict) → Knows p.world (decided p place batch v).0.world
+decided_keeps : (p : Progress) (place : TopicPartition) (batch : List ℕ) (v : Option Verdict) → Knows p.world (decided p place batch v).0.world
 decided_keeps p place batch None = refl
 decided_keeps p place batch (Some Append) = append_keeps p place batch (log_in p.world place)
 decided_keeps p place batch (Some (Repeat base)) = refl
 decided_keeps p place batch (Some (Refuse code)) = refl
 
-offered_keeps : (p : Progress) (place : Place) (r : Result (List ℕ) ℤ) → Knows p.world (offered_unless p place r).0.world
+offered_keeps : (p : Progress) (place : TopicPartition) (r : Result (List ℕ) ℤ) → Knows p.world (offered_unless p place r).0.world
 offered_keeps p place (Ok batch) = decided_keeps p place batch (verdict_on p.world place batch)
 offered_keeps p place (Err code) = refl
 
-tried_keeps : (p : Progress) (o : Option Place) (records : Option (List ℕ)) → Knows p.world (tried p o records).0.world
+tried_keeps : (p : Progress) (o : Option TopicPartition) (records : Option (List ℕ)) → Knows p.world (tried p o records).0.world
 tried_keeps p None records = refl
 tried_keeps p (Some place) records = offered_keeps p place (batch_in records)
 
@@ -113,7 +113,7 @@ delete_loses_by w (Some i) = record {
 
 pub delete_loses : (w : World) (r : DeleteTopicsRequest) → Loses w (deleted_all (w, []) r).0.0
 delete_loses w r =
-    turns_keep Loses loses_none loses_then (λ (s : World × List Place). s.0) deleted_topic
+    turns_keep Loses loses_none loses_then (λ (s : World × List TopicPartition). s.0) deleted_topic
     (λ s name. delete_loses_by s.0 (named name s.0.known.topics)) (w, []) r.names
 
 -- ---- CreateTopics

@@ -7,21 +7,21 @@ use Rattle.std.specs.Prelude.{None}
 use Rattle.kb_partitions.specs.Logs.{LogState}
 use Rattle.kb_world.specs.Tied.{IsTied}
 use Rattle.kb_world.specs.World.{World}
-use Rattle.kb_world.specs.declared.place.Place.{Place}
+use Rattle.kb_world.specs.declared.topic_partition.TopicPartition.{TopicPartition}
 use Rattle.kb_tenant.specs.Fetch.{fetch_answer, places_of}
 use Rattle.kb_tenant.specs.Turns.{in_turn}
 use Rattle.kb_tenant.specs.Waiting.{AreApart, StillWaits}
 use Rattle.kb_tenant.proofs.Asked.{IsHeld, waits_on}
 
 -- A tied world stays tied, at the same clock; and each log stays under its topic's name, unless its place is told.
-pub record Moves (before after : List Place) (w v : World) : Type 0 where
+pub record Moves (before after : List TopicPartition) (w v : World) : Type 0 where
   pub tied : IsTied w → IsTied v
   pub clock : v.clock ≡ w.clock
-  pub told : (place : Place) → Contains before place → Contains after place
-  pub held : IsTied w → (name : List ℕ) (place : Place) (log : LogState) → (Contains after place → ⊥) → IsHeld w name place log → IsHeld v name place log
+  pub told : (place : TopicPartition) → Contains before place → Contains after place
+  pub held : IsTied w → (name : List ℕ) (place : TopicPartition) (log : LogState) → (Contains after place → ⊥) → IsHeld w name place log → IsHeld v name place log
 
 -- nothing changes, and places may be told
-pub stays_told : (w : World) (before more : List Place) → Moves before (before ++ more) w w
+pub stays_told : (w : World) (before more : List TopicPartition) → Moves before (before ++ more) w w
 stays_told w before more = record {
   tied = λ t. t;
   clock = refl;
@@ -29,10 +29,10 @@ stays_told w before more = record {
   held = λ t name place log none h. h;
 }
 
-pub stays_same : (w : World) (before : List Place) → Moves before before w w
+pub stays_same : (w : World) (before : List TopicPartition) → Moves before before w w
 stays_same w before = record { tied = λ t. t; clock = refl; told = λ place c. c; held = λ t name place log none h. h }
 
-pub moves_then : (a b c : List Place) (w v u : World) → Moves a b w v → Moves b c v u → Moves a c w u
+pub moves_then : (a b c : List TopicPartition) (w v u : World) → Moves a b w v → Moves b c v u → Moves a c w u
 moves_then a b c w v u p q = record {
   tied = λ t. q.tied (p.tied t);
   clock = q.clock ∙ p.clock;
@@ -41,7 +41,7 @@ moves_then a b c w v u p q = record {
 }
 
 -- one entry after another
-pub turns_move : {S E A : Type 0} (world : S → World) (places : S → List Place) (f : S → E → S × A) → ((s : S) (e : E) → Moves (places s) (places (f s e).0) (world s) (world (f s e).0))
+pub turns_move : {S E A : Type 0} (world : S → World) (places : S → List TopicPartition) (f : S → E → S × A) → ((s : S) (e : E) → Moves (places s) (places (f s e).0) (world s) (world (f s e).0))
     → (s : S) (es : List E) → Moves (places s) (places (in_turn f s es).0) (world s) (world (in_turn f s es).0)
 turns_move world places f each s [] = stays_same (world s) (places s)
 turns_move {S} {E} {A} world places f each s (e ∷ es) =
@@ -50,6 +50,6 @@ turns_move {S} {E} {A} world places f each s (e ∷ es) =
     moves_then (places s) (places t) (places u) (world s) (world t) (world u) (each s e) (turns_move world places f each t es)
 
 -- a fetch that waits for no place that is told waits on
-pub waits_through : (after : List Place) (w v : World) → Moves [] after w v → IsTied w → (r : FetchRequest) (deadline : ℕ) → fetch_answer w r deadline ≡ None → AreApart (places_of w r) after → StillWaits w v r deadline
+pub waits_through : (after : List TopicPartition) (w v : World) → Moves [] after w v → IsTied w → (r : FetchRequest) (deadline : ℕ) → fetch_answer w r deadline ≡ None → AreApart (places_of w r) after → StillWaits w v r deadline
 waits_through after w v moves tied r deadline waits none =
     waits_on w r deadline waits v (λ place. (Contains after place → ⊥)) (moves.held tied) moves.clock none

@@ -16,11 +16,11 @@ use Rattle.kb_partitions.specs.Logs.{LogState}
 use Rattle.kb_world.specs.Calls.{found_in}
 use Rattle.kb_tenant.specs.ListOffsets.{offset_refused, edge_answered, offset_found, listed_in, listed_at, listed, listed_topic, list_offsets}
 use Rattle.kb_world.specs.World.{World, place_in, log_in}
-use Rattle.kb_world.specs.declared.place.Place.{Place}
+use Rattle.kb_world.specs.declared.topic_partition.TopicPartition.{TopicPartition}
 use Rattle.kb_tenant.proofs.Fitting.{array_written, written_both}
 
 -- a partition is at its place
-pub at_place : (w : World) (topic : Option ℕ) (p t : ℤ) (place : Place) → Some place ≡ place_in topic p → listed_in p t (log_in w place) ≡ listed_at w topic p t
+pub at_place : (w : World) (topic : Option ℕ) (p t : ℤ) (place : TopicPartition) → Some place ≡ place_in topic p → listed_in p t (log_in w place) ≡ listed_at w topic p t
 at_place w topic p t place is = ap (λ x. listed_in p t (option_and_then (log_in w) x)) is
 
 pub listed_none : (p t : ℤ) (f : LogState → ℤ) (o : Option LogState) → is_some (option_map f o) ≡ false → offset_refused p (pos 3) ≡ listed_in p t o

@@ -10,12 +10,12 @@ use Rattle.kb_api_group.specs.declared.offset_fetch.OffsetFetchRequest.{OffsetFe
 use Rattle.kb_topics.specs.Known.{named}
 use Rattle.kb_world.specs.Calls.{committed}
 use Rattle.kb_world.specs.World.{World, place_in}
-use Rattle.kb_world.specs.declared.place.Place.{Place}
+use Rattle.kb_world.specs.declared.topic_partition.TopicPartition.{TopicPartition}
 use Rattle.kb_tenant.specs.OffsetFetch.{fetched, fetched_all, fetched_topic, kept}
 use Rattle.kb_tenant.proofs.Fitting.{array_written, written_both}
 
 -- what is kept of a partition at its place
-pub kept_at : (w : World) (group : List ℕ) (topic : Option ℕ) (partition p : ℤ) (place : Place) → p ≡ partition → Some place ≡ place_in topic p → committed w place group ≡ kept w group topic partition
+pub kept_at : (w : World) (group : List ℕ) (topic : Option ℕ) (partition p : ℤ) (place : TopicPartition) → p ≡ partition → Some place ≡ place_in topic p → committed w place group ≡ kept w group topic partition
 kept_at w group topic partition p place same there = ap (λ o. option_and_then (λ x. committed w x group) o) (there ∙ ap (place_in topic) same)
 
 -- a topic's answer is its name, its count and its partitions' answers

@@ -12,7 +12,7 @@ use Rattle.kb_api_data.specs.declared.produce.ProduceTopic.{ProduceTopic}
 use Rattle.kb_api_data.specs.declared.produce.ProduceRequest.{ProduceRequest}
 use Rattle.kb_world.specs.Calls.{appended_to, with_log_at}
 use Rattle.kb_world.specs.World.{World, log_in, place_in}
-use Rattle.kb_world.specs.declared.place.Place.{Place}
+use Rattle.kb_world.specs.declared.topic_partition.TopicPartition.{TopicPartition}
 use Rattle.kb_tenant.specs.Produce.{Progress, appended_at, batch_in, decided, known_place, offered_unless, produced, progress, refusal_of, entry_served, served_topic, tried, verdict_on}
 use Rattle.kb_tenant.proofs.LogMoves.{with_log_moves}
 use Rattle.kb_tenant.proofs.Moves.{Moves, stays_same, turns_move}
@@ -24,7 +24,7 @@ Goes p q = Moves p.touched q.touched p.world q.world
 same : (p : Progress) → Goes p p
 same p = stays_same p.world p.touched
 
-append_goes : (p : Progress) (place : Place) (batch : List ℕ) (o : Option LogState) → Goes p (appended_at p place (appended_to p.world place batch o)).0
+append_goes : (p : Progress) (place : TopicPartition) (batch : List ℕ) (o : Option LogState) → Goes p (appended_at p place (appended_to p.world place batch o)).0
 append_goes p place batch None = same p
 append_goes p place batch (Some l) = by (nat_le (2 ^ 63) (l.end + count_of batch))
   where
@@ -32,17 +32,17 @@ append_goes p place batch (Some l) = by (nat_le (2 ^ 63) (l.end + count_of batch
     by true = same p
     by false = with_log_moves p.world p.touched place (appended batch l)
 
-decided_goes : (p : Progress) (place : Place) (batch : List ℕ) (v : Option Verdict) → Goes p (decided p place batch v).0
+decided_goes : (p : Progress) (place : TopicPartition) (batch : List ℕ) (v : Option Verdict) → Goes p (decided p place batch v).0
 decided_goes p place batch None = same p
 decided_goes p place batch (Some Append) = append_goes p place batch (log_in p.world place)
 decided_goes p place batch (Some (Repeat base)) = same p
 decided_goes p place batch (Some (Refuse code)) = same p
 
-offered_goes : (p : Progress) (place : Place) (r : Result (List ℕ) ℤ) → Goes p (offered_unless p place r).0
+offered_goes : (p : Progress) (place : TopicPartition) (r : Result (List ℕ) ℤ) → Goes p (offered_unless p place r).0
 offered_goes p place (Ok batch) = decided_goes p place batch (verdict_on p.world place batch)
 offered_goes p place (Err code) = same p
 
-tried_goes : (p : Progress) (o : Option Place) (records : Option (List ℕ)) → Goes p (tried p o records).0
+tried_goes : (p : Progress) (o : Option TopicPartition) (records : Option (List ℕ)) → Goes p (tried p o records).0
 tried_goes p None records = same p
 tried_goes p (Some place) records = offered_goes p place (batch_in records)
 

@@ -25,7 +25,7 @@ use Rattle.kb_world.specs.Calls.{judged}
 use Rattle.kb_tenant.specs.Turns.{in_turn, written_behind}
 use Rattle.kb_tenant.specs.Produce.{Progress, progress, batch_in, read_unless, is_issued, verdict_on, offered, tried, refusal_of, entry_served, served_topic, produced, where_due, is_due, reply_bytes, written_next}
 use Rattle.kb_tenant.specs.declared.produce.Terms.{Terms}
-use Rattle.kb_world.specs.declared.place.Place.{Place}
+use Rattle.kb_world.specs.declared.topic_partition.TopicPartition.{TopicPartition}
 use Rattle.kb_tenant.proofs.Turning.{turn_next, turn_length}
 
 -- ---- one entry
@@ -36,15 +36,15 @@ batch_read records inner bytes batch some same is accepted =
     ap Ok is ∙ ap (read_unless bytes) (sym (is_accepted bytes accepted)) ∙ ap (λ b. read_unless b (first_fault b)) same ∙ ap batch_in (sym some)
 
 -- an id that was not given out
-pub verdict_unknown : (w : World) (place : Place) (batch : List ℕ) (t : Bool) → t ≡ is_issued w.known.issues (producer_id_of batch) → t ≡ false → Some (Refuse (code_of error.UnknownProducerId)) ≡ verdict_on w place batch
+pub verdict_unknown : (w : World) (place : TopicPartition) (batch : List ℕ) (t : Bool) → t ≡ is_issued w.known.issues (producer_id_of batch) → t ≡ false → Some (Refuse (code_of error.UnknownProducerId)) ≡ verdict_on w place batch
 verdict_unknown w place batch t is f = rw (sym is ∙ f) refl
 
 -- another id
-pub verdict_known : (w : World) (place : Place) (batch : List ℕ) (t : Bool) (v : Option Verdict) → t ≡ is_issued w.known.issues (producer_id_of batch) → t ≡ true → v ≡ judged w place batch → v ≡ verdict_on w place batch
+pub verdict_known : (w : World) (place : TopicPartition) (batch : List ℕ) (t : Bool) (v : Option Verdict) → t ≡ is_issued w.known.issues (producer_id_of batch) → t ≡ true → v ≡ judged w place batch → v ≡ verdict_on w place batch
 verdict_known w place batch t v is f j = rw (sym is ∙ f) j
 
 -- the batch was offered to the partition that is there
-pub tried_offer : (p : Progress) (at : Option Place) (place : Place) (records : Option (List ℕ)) (batch : List ℕ) (x : Progress × Result ℤ ℤ) → at ≡ Some place → batch_in records ≡ Ok batch → x ≡ offered p place batch → x ≡ tried p at records
+pub tried_offer : (p : Progress) (at : Option TopicPartition) (place : TopicPartition) (records : Option (List ℕ)) (batch : List ℕ) (x : Progress × Result ℤ ℤ) → at ≡ Some place → batch_in records ≡ Ok batch → x ≡ offered p place batch → x ≡ tried p at records
 tried_offer p at place records batch x there read is = rw (there, read) is
 
 -- ---- one after another
@@ -146,7 +146,7 @@ reply_bytes_are due n rs out is =
     ∙ ap (λ k. out ++ where_due due (((count w32).written k ++ flat_map produce_topic_reply.written rs) ++ int32.written (pos 0))) is
     ∙ ap (λ l. out ++ where_due due l) (reply_spelled rs)
 
-pub produce_told : (terms : Terms) (request : ProduceRequest) (w w' : World) (touched touched' : List Place) (n : ℕ) (out out1 out2 out3 : List ℕ)
+pub produce_told : (terms : Terms) (request : ProduceRequest) (w w' : World) (touched touched' : List TopicPartition) (n : ℕ) (out out1 out2 out3 : List ℕ)
     → terms.refusal ≡ refusal_of request.transactional_id request.acks → terms.due ≡ is_due request.acks → n ≡ length request.topics
     → out1 ≡ out ++ where_due terms.due ((count w32).written n)
     → (progress w' touched', out2) ≡ written_behind (λ x. where_due terms.due (produce_topic_reply.written x)) out1 (in_turn (served_topic terms.refusal) (progress w touched) request.topics)

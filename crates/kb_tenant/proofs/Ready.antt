@@ -20,7 +20,7 @@ use Rattle.kb_tenant.proofs.Fetching.{cut_back}
 use Rattle.kb_tenant.specs.Turns.{in_turn}
 use Rattle.kb_world.specs.World.{World, place_in}
 use Rattle.kb_tenant.specs.declared.fetch.given.Given.{Given}
-use Rattle.kb_world.specs.declared.place.Place.{Place}
+use Rattle.kb_world.specs.declared.topic_partition.TopicPartition.{TopicPartition}
 
 -- what an answer adds to what was given before
 record Tells {A : Type 0} (size : A → ℕ) (bad some : A → Bool) (g h : Given) (a : A) : Type 0 where
@@ -85,7 +85,7 @@ by_tells g p None r = refused_tells g p partition.Unknown
 by_tells g p (Some bounds) (Err f) = refused_tells g p f
 by_tells g p (Some bounds) (Ok records) = record { missing = refl; wrong = or_false g.is_wrong; asked = or_true g.is_asked }
 
-at_tells : (w : World) (g : Given) (e : FetchPartition) (o : Option Place) → Partition g (answered_at w g e o)
+at_tells : (w : World) (g : Given) (e : FetchPartition) (o : Option TopicPartition) → Partition g (answered_at w g e o)
 at_tells w g e None = refused_tells g e.partition partition.Unknown
 at_tells w g e (Some place) = by_tells g e.partition (bounds_of w place) (fetched_at w g e place)
 

@@ -12,7 +12,7 @@ use Rattle.kb_partitions.specs.Logs.{LogState, Logs, dropped, log_at, without_be
 use Rattle.kb_world.specs.Calls.{due, moved_to, retain, retained_from}
 use Rattle.kb_world.specs.Tied.{counted, partition_count}
 use Rattle.kb_world.specs.World.{World, log_in}
-use Rattle.kb_world.specs.declared.place.Place.{Place}
+use Rattle.kb_world.specs.declared.topic_partition.TopicPartition.{TopicPartition}
 use Rattle.kb_tenant.specs.Waiting.{AreNamedApart}
 use Rattle.kb_tenant.proofs.Asked.{here_first}
 use Rattle.kb_tenant.proofs.Entries.{counted_set, none_set}
@@ -58,21 +58,21 @@ step_alike k new i p start e = started_alike k new i p start (partition_at k (po
 
 -- ---- the logs
 
-dropped_counts : (place : Place) (start : ℤ) (ls : Logs) (o : Option LogState) → counted length (without_below place.instance place.number start o ls) ≡ counted length ls
+dropped_counts : (place : TopicPartition) (start : ℤ) (ls : Logs) (o : Option LogState) → counted length (without_below place.instance place.number start o ls) ≡ counted length ls
 dropped_counts place start ls None = refl
 dropped_counts place start ls (Some l) = same_counts place.instance place.number (dropped start l) ls
 
-dropped_elsewhere : (place other : Place) (start : ℤ) (ls : Logs) (o : Option LogState) → (other ≡ place → ⊥)
+dropped_elsewhere : (place other : TopicPartition) (start : ℤ) (ls : Logs) (o : Option LogState) → (other ≡ place → ⊥)
     → log_at other.instance other.number (without_below place.instance place.number start o ls) ≡ log_at other.instance other.number ls
 dropped_elsewhere place other start ls None ne = refl
 dropped_elsewhere place other start ls (Some l) ne = log_elsewhere place other (dropped start l) ls ne
 
 -- ---- the world
 
-abbrev moved : World → Place → ℤ → Known → World
+abbrev moved : World → TopicPartition → ℤ → Known → World
 moved w place start k = record w { known = k; logs = without_below place.instance place.number start (log_in w place) w.logs }
 
-pub moved_moves : (w : World) (place : Place) (start : ℤ) (k : Known) → IsAlike w.known k → Moves [] (place ∷ []) w (moved w place start k)
+pub moved_moves : (w : World) (place : TopicPartition) (start : ℤ) (k : Known) → IsAlike w.known k → Moves [] (place ∷ []) w (moved w place start k)
 moved_moves w place start k alike = record {
   tied = λ t. record {
     next = λ i le. alike.none i (t.next i (subst (λ n. n ≤ i) alike.creates le));
@@ -85,30 +85,30 @@ moved_moves w place start k alike = record {
       record { topic = alike.names name ∙ h.topic; there = dropped_elsewhere place other start w.logs (log_in w place) apart ∙ h.there };
 }
   where
-    none_in : (other : Place) → Contains [] other → ⊥
+    none_in : (other : TopicPartition) → Contains [] other → ⊥
     none_in other c = omega (arith, c.1)
 
-stepped_moves : (w : World) (place : Place) (start : ℕ) (o : Option Known) → step w.known (start_command (pos place.instance) (pos place.number) (pos start)) ≡ o → Moves [] (place ∷ []) w (moved_to w place start o).0
+stepped_moves : (w : World) (place : TopicPartition) (start : ℕ) (o : Option Known) → step w.known (start_command (pos place.instance) (pos place.number) (pos start)) ≡ o → Moves [] (place ∷ []) w (moved_to w place start o).0
 stepped_moves w place start None e = stays_told w [] (place ∷ [])
 stepped_moves w place start (Some k) e = moved_moves w place (pos start) k (step_alike w.known k place.instance place.number (pos start) e)
 
-due_moves : (w : World) (place : Place) (o : Option ℕ) → Moves [] (place ∷ []) w (retained_from w place o).0
+due_moves : (w : World) (place : TopicPartition) (o : Option ℕ) → Moves [] (place ∷ []) w (retained_from w place o).0
 due_moves w place None = stays_told w [] (place ∷ [])
 due_moves w place (Some start) = stepped_moves w place start (step w.known (start_command (pos place.instance) (pos place.number) (pos start))) refl
 
-pub retain_moves : (w : World) (place : Place) → Moves [] (place ∷ []) w (retain w place).0
+pub retain_moves : (w : World) (place : TopicPartition) → Moves [] (place ∷ []) w (retain w place).0
 retain_moves w place = due_moves w place (due w place)
 
 -- ---- what is known
 
-stepped_alike : (w : World) (place : Place) (start : ℕ) (o : Option Known) → step w.known (start_command (pos place.instance) (pos place.number) (pos start)) ≡ o → IsAlike w.known (moved_to w place start o).0.known
+stepped_alike : (w : World) (place : TopicPartition) (start : ℕ) (o : Option Known) → step w.known (start_command (pos place.instance) (pos place.number) (pos start)) ≡ o → IsAlike w.known (moved_to w place start o).0.known
 stepped_alike w place start None e = alike_same w.known
 stepped_alike w place start (Some k) e = step_alike w.known k place.instance place.number (pos start) e
 
-due_alike : (w : World) (place : Place) (o : Option ℕ) → IsAlike w.known (retained_from w place o).0.known
+due_alike : (w : World) (place : TopicPartition) (o : Option ℕ) → IsAlike w.known (retained_from w place o).0.known
 due_alike w place None = alike_same w.known
 due_alike w place (Some start) = stepped_alike w place start (step w.known (start_command (pos place.instance) (pos place.number) (pos start))) refl
 
 -- It is as before, but for the state of one partition.
-pub retain_alike : (w : World) (place : Place) → IsAlike w.known (retain w place).0.known
+pub retain_alike : (w : World) (place : TopicPartition) → IsAlike w.known (retain w place).0.known
 retain_alike w place = due_alike w place (due w place)

@@ -12,7 +12,7 @@ use Rattle.kb_topics.specs.declared.fault.CatalogFault.{CatalogFault}
 use Rattle.kb_world.specs.Calls.{issue, issued_unless, retain}
 use Rattle.kb_world.specs.Tied.{IsTied}
 use Rattle.kb_world.specs.World.{World}
-use Rattle.kb_world.specs.declared.place.Place.{Place}
+use Rattle.kb_world.specs.declared.topic_partition.TopicPartition.{TopicPartition}
 use Rattle.kb_tenant.specs.CreateTopics.{made_of}
 use Rattle.kb_tenant.specs.Fetch.{fetch_answer, places_of}
 use Rattle.kb_tenant.specs.InitProducerId.{id_given, id_refused, init_producer_id}
@@ -89,7 +89,7 @@ serve_leaves node w n key version body = by_request (Leaves w) node w n key vers
 -- ---- the laws
 
 -- no place is among none
-pub nowhere : (place : Place) → Contains [] place → ⊥
+pub nowhere : (place : TopicPartition) → Contains [] place → ⊥
 nowhere place c = omega (arith, c.1)
 
 -- a request keeps a world tied
@@ -109,15 +109,15 @@ committed_waits w refusal q r deadline tied waits =
     waits_through [] w (committed_all w refusal q).0 (commit_moves w refusal q) tied r deadline waits (λ place asked none. nowhere place none)
 
 -- the same for retention
-pub retained_tied : (w : World) (place : Place) → IsTied w → IsTied (retain w place).0
+pub retained_tied : (w : World) (place : TopicPartition) → IsTied w → IsTied (retain w place).0
 retained_tied w place = (retain_moves w place).tied
 
-only_one : (place other : Place) → Contains (place ∷ []) other → place ≡ other
+only_one : (place other : TopicPartition) → Contains (place ∷ []) other → place ≡ other
 only_one place other c =
     let first : c.0 ≡ 0 = omega (arith, c.1) in
     subst (λ (k : ℕ). get_or (place ∷ []) k other ≡ other) first c.2
 
-pub retained_waits : (w : World) (place : Place) (r : FetchRequest) (deadline : ℕ) → IsTied w → fetch_answer w r deadline ≡ None
+pub retained_waits : (w : World) (place : TopicPartition) (r : FetchRequest) (deadline : ℕ) → IsTied w → fetch_answer w r deadline ≡ None
     → (Contains (places_of w r) place → ⊥) → StillWaits w (retain w place).0 r deadline
 retained_waits w place r deadline tied waits none =
     waits_through (place ∷ []) w (retain w place).0 (retain_moves w place) tied r deadline waits

@@ -40,7 +40,7 @@ use Rattle.kb_partitions.specs.declared.fault.PartitionFault.{PartitionFault}
 use Rattle.kb_partitions.specs.declared.fault.PartitionFault.TheVariants as partition
 use Rattle.kb_world.specs.Calls.{appended_to, at_clock, created_unless, delete_records, deleted_at, due, due_in, issue, issued_unless, moved_to, retain, retained_from, with_log_at}
 use Rattle.kb_world.specs.World.{World, log_in, new_world, place_in}
-use Rattle.kb_world.specs.declared.place.Place.{Place}
+use Rattle.kb_world.specs.declared.topic_partition.TopicPartition.{TopicPartition}
 use Rattle.kb_tenant.specs.Batches.{HasSmallLogs, IsSmall}
 use Rattle.kb_tenant.specs.CreateTopics.{created_all, created_topic, made_of, made_unless, made_with, refusal, stands_twice}
 use Rattle.kb_tenant.specs.DeleteRecords.{deleted as records_deleted, deleted_all as all_records_deleted, deleted_in, deleted_topic as topic_records_deleted}
@@ -216,7 +216,7 @@ module _ {S E A : Type 0} (world : S → World) (f : S → E → S × A) (each :
 
 -- ---- Produce
 
-append_keeps : (p : Progress) (place : Place) (batch : List ℕ) → IsBatch batch → (o : Option LogState) → log_in p.world place ≡ o → Keeps p.world (appended_at p place (appended_to p.world place batch o)).0.world
+append_keeps : (p : Progress) (place : TopicPartition) (batch : List ℕ) → IsBatch batch → (o : Option LogState) → log_in p.world place ≡ o → Keeps p.world (appended_at p place (appended_to p.world place batch o)).0.world
 append_keeps p place batch is None at all = all
 append_keeps p place batch is (Some l) at all = by (nat_le (2 ^ 63) (l.end + count_of batch)) refl
   where
@@ -226,13 +226,13 @@ append_keeps p place batch is (Some l) at all = by (nat_le (2 ^ 63) (l.end + cou
         put_small p.world.logs place.instance place.number (appended batch l)
         (appended_small batch l is (grind (arith, nat_tests, e)) (small_at p.world.logs place.instance place.number l all at)) all
 
-decided_keeps : (p : Progress) (place : Place) (batch : List ℕ) → IsBatch batch → (v : Option Verdict) → Keeps p.world (decided p place batch v).0.world
+decided_keeps : (p : Progress) (place : TopicPartition) (batch : List ℕ) → IsBatch batch → (v : Option Verdict) → Keeps p.world (decided p place batch v).0.world
 decided_keeps p place batch is None all = all
 decided_keeps p place batch is (Some Append) all = append_keeps p place batch is (log_in p.world place) refl all
 decided_keeps p place batch is (Some (Repeat base)) all = all
 decided_keeps p place batch is (Some (Refuse code)) all = all
 
-tried_keeps : (p : Progress) (o : Option Place) (records : Option (List ℕ)) → Keeps p.world (tried p o records).0.world
+tried_keeps : (p : Progress) (o : Option TopicPartition) (records : Option (List ℕ)) → Keeps p.world (tried p o records).0.world
 tried_keeps p None records all = all
 tried_keeps p (Some place) None all = all
 tried_keeps p (Some place) (Some bytes) all = by (first_fault bytes) refl
@@ -281,7 +281,7 @@ gone_keeps w (Some i) all = each_removed AreSmall (is_at (nat_cmp i)) w.logs all
 
 delete_keeps : (w : World) (r : DeleteTopicsRequest) → Keeps w (deleted_all (w, []) r).0.0
 delete_keeps w r =
-    turns_keep (λ (s : World × List Place). s.0) deleted_topic (λ s name. gone_keeps s.0 (named name s.0.known.topics)) (w, []) r.names
+    turns_keep (λ (s : World × List TopicPartition). s.0) deleted_topic (λ s name. gone_keeps s.0 (named name s.0.known.topics)) (w, []) r.names
 
 issued_keeps : (w : World) (o : Option CatalogFault) → Keeps w (issued_unless w o).0
 issued_keeps w (Some f) all = all
@@ -310,7 +310,7 @@ below_small : (i p : ℕ) (start : ℤ) (ls : Logs) (o : Option LogState) → na
 below_small i p start ls None lt at all = all
 below_small i p start ls (Some l) lt at all = put_small ls i p (dropped start l) (dropped_small start l lt (small_at ls i p l all at)) all
 
-moved_keeps : (w : World) (place : Place) (start : ℕ) (o : Option Known) → start < 2 ^ 63 → Keeps w (moved_to w place start o).0
+moved_keeps : (w : World) (place : TopicPartition) (start : ℕ) (o : Option Known) → start < 2 ^ 63 → Keeps w (moved_to w place start o).0
 moved_keeps w place start None lt all = all
 moved_keeps w place start (Some k) lt all = below_small place.instance place.number (pos start) w.logs (log_in w place) lt refl all
 
@@ -327,7 +327,7 @@ due_small w (Some t) (Some l) start small e = by (nat_le after l.start) e
     by true none = absurd cc
     by false some = let same : after ≡ start = cc in subst (λ n. n < 2 ^ 63) same (retained_start_small (pos w.clock) t.config.retention_ms t.config.retention_bytes l (small l refl))
 
-due_keeps : (w : World) (place : Place) (o : Option ℕ) → due w place ≡ o → Keeps w (retained_from w place o).0
+due_keeps : (w : World) (place : TopicPartition) (o : Option ℕ) → due w place ≡ o → Keeps w (retained_from w place o).0
 due_keeps w place None is all = all
 due_keeps w place (Some start) is all = moved_keeps w place start (step w.known (start_command (pos place.instance) (pos place.number) (pos start)))
     (due_small w (topic_at place.instance w.known.topics) (log_in w place) start (λ l at. small_at w.logs place.instance place.number l all at) is) all
@@ -339,7 +339,7 @@ start_small : (start : ℤ) (end : ℕ) → end < 2 ^ 63 → int_lt (pos end) st
 start_small (pos n) end lt within = let le : n ≤ end = grind (arith, nat_tests, within) in omega (arith, le, lt)
 start_small (negsuc n) end lt within = omega arith
 
-partition_keeps : (w : World) (place : Place) (offset : ℤ) → Keeps w (delete_records w place offset).0
+partition_keeps : (w : World) (place : TopicPartition) (offset : ℤ) → Keeps w (delete_records w place offset).0
 partition_keeps w place offset = by_deletion (λ (r : World × Result ℤ PartitionFault). Keeps w r.0) w place (record {
   refused = λ f all. all;
   stays = λ start all. all;
@@ -348,17 +348,17 @@ partition_keeps w place offset = by_deletion (λ (r : World × Result ℤ Partit
       below_small place.instance place.number start w.logs (log_in w place) lt refl all;
 }) offset
 
-deletion_keeps : (topic : Option ℕ) (s : World × List Place) (e : DeleteRecordsPartition) → Keeps s.0 (records_deleted topic s e).0.0
+deletion_keeps : (topic : Option ℕ) (s : World × List TopicPartition) (e : DeleteRecordsPartition) → Keeps s.0 (records_deleted topic s e).0.0
 deletion_keeps topic s e = at (place_in topic e.partition)
   where
-    at : (o : Option Place) → Keeps s.0 (deleted_in s o e.offset).0.0
+    at : (o : Option TopicPartition) → Keeps s.0 (deleted_in s o e.offset).0.0
     at None all = all
     at (Some place) all = partition_keeps s.0 place e.offset all
 
 records_keeps : (w : World) (r : DeleteRecordsRequest) → Keeps w (all_records_deleted (w, []) r).0.0
 records_keeps w r =
-    turns_keep (λ (s : World × List Place). s.0) topic_records_deleted
-    (λ s t. turns_keep (λ (u : World × List Place). u.0) (records_deleted (named t.name s.0.known.topics)) (deletion_keeps (named t.name s.0.known.topics)) s t.partitions) (w, []) r.topics
+    turns_keep (λ (s : World × List TopicPartition). s.0) topic_records_deleted
+    (λ s t. turns_keep (λ (u : World × List TopicPartition). u.0) (records_deleted (named t.name s.0.known.topics)) (deletion_keeps (named t.name s.0.known.topics)) s t.partitions) (w, []) r.topics
 
 -- ---- the laws
 
@@ -369,7 +369,7 @@ out_of : (w : World) → Has w → HasSmallLogs w
 out_of w small = All-from_recursion (λ (e : ℕ × List LogState). AreSmall e.1) w.logs small
 
 -- a log of such a world
-pub small_in : (w : World) (place : Place) (l : LogState) → HasSmallLogs w → log_in w place ≡ Some l → IsSmall l
+pub small_in : (w : World) (place : TopicPartition) (l : LogState) → HasSmallLogs w → log_in w place ≡ Some l → IsSmall l
 small_in w place l small at = small_at w.logs place.instance place.number l (into w small) at
 
 pub new_small : (clock : ℕ) → HasSmallLogs (at_clock new_world clock)
@@ -378,7 +378,7 @@ new_small clock = out_of (at_clock new_world clock) tt
 pub clock_small : (w : World) (now : ℕ) → HasSmallLogs w → HasSmallLogs (at_clock w now)
 clock_small w now small = small
 
-pub retained_small : (w : World) (place : Place) → HasSmallLogs w → HasSmallLogs (retain w place).0
+pub retained_small : (w : World) (place : TopicPartition) → HasSmallLogs w → HasSmallLogs (retain w place).0
 retained_small w place small = out_of (retain w place).0 (due_keeps w place (due w place) refl (into w small))
 
 pub committed_small : (w : World) (refusal : Option ℤ) (r : OffsetCommitRequest) → HasSmallLogs w → HasSmallLogs (committed_all w refusal r).0

@@ -27,7 +27,7 @@ use Rattle.kb_partitions.specs.declared.fault.PartitionFault.TheVariants as part
 use Rattle.kb_topics.specs.Known.{named}
 use Rattle.kb_world.specs.Calls.{fetched_from}
 use Rattle.kb_world.specs.World.{World, log_in, place_in}
-use Rattle.kb_world.specs.declared.place.Place.{Place}
+use Rattle.kb_world.specs.declared.topic_partition.TopicPartition.{TopicPartition}
 use Rattle.kb_tenant.specs.Batches.{HasSmallLogs, IsSmall, Spells}
 use Rattle.kb_tenant.specs.Fetch.{fetch_answered, answered_at, answered_by, answered_topic, begun, fetched, front_of, limit_of, read_as, refusal_of}
 use Rattle.kb_tenant.specs.Fetch.{reply_written, topic_without_starts, without_start, without_starts}
@@ -120,12 +120,12 @@ module _ (w : World) (small : HasSmallLogs w) (topic : Option ℕ) (g : Given) (
       let n : ℕ = natural asked.fetch_offset in
       accepted_told asked.partition l (fetched_of n (limit_of g asked) g.first l.batches) number is (given_small n (limit_of g asked) g.first l is limited)
 
-  by-log : (place : Place) (o : Option LogState) → log_in w place ≡ o
+  by-log : (place : TopicPartition) (o : Option LogState) → log_in w place ≡ o
       → IsTold (answered_by g asked.partition (option_map (λ (l : LogState). (pos l.start, pos l.end)) o) (fetched_from asked.fetch_offset (limit_of g asked) g.first o)).1
   by-log place None at = refused_told asked.partition partition.Unknown number
   by-log place (Some l) at = by-offset l (small_in w place l small at) (int_lt asked.fetch_offset (pos l.start) || int_lt (pos l.end) asked.fetch_offset)
 
-  by-place : (o : Option Place) → IsTold (answered_at w g asked o).1
+  by-place : (o : Option TopicPartition) → IsTold (answered_at w g asked o).1
   by-place None = refused_told asked.partition partition.Unknown number
   by-place (Some place) = by-log place (log_in w place) refl
 

@@ -6,7 +6,7 @@ use Rattle.kb_partitions.specs.Scene.{Scene}
 use Rattle.kb_world.specs.Parts.{Seen}
 use Rattle.kb_world.specs.Told.{IsDone, Tells}
 use Rattle.kb_world.specs.World.{place_in}
-use Rattle.kb_world.specs.declared.place.Place.{Place}
+use Rattle.kb_world.specs.declared.topic_partition.TopicPartition.{TopicPartition}
 use Rattle.kb_tenant.specs.Produce.{Progress, answer, produce_answered, batch_in, known_place, entry_served, tried}
 use Rattle.kb_tenant.specs.Told.{IsAppendWant, IsTold}
 
@@ -19,11 +19,11 @@ tells_so a b P Q want (Ok x) f is = done_so a b P Q f is
 tells_so a b P Q want (Err e) f is = ⊎_elim (λ own. inl (done_so a b P Q f own)) (λ wanted. inr wanted) is
 
 -- records that are no batch
-pub tried_nothing : (p : Progress) (at : Option Place) (place : Place) (records : Option (List ℕ)) (code : ℤ) → at ≡ Some place → batch_in records ≡ Err code → (p, Err code) ≡ tried p at records
+pub tried_nothing : (p : Progress) (at : Option TopicPartition) (place : TopicPartition) (records : Option (List ℕ)) (code : ℤ) → at ≡ Some place → batch_in records ≡ Err code → (p, Err code) ≡ tried p at records
 tried_nothing p at place records code there read = rw (there, read) refl
 
 -- the reply for what was tried
-pub answer_told : (a b : Scene Seen) (old new : List Place) (q : Progress) (index : ℤ) (r : Result ℤ ℤ) (x : Progress × Result ℤ ℤ)
+pub answer_told : (a b : Scene Seen) (old new : List TopicPartition) (q : Progress) (index : ℤ) (r : Result ℤ ℤ) (x : Progress × Result ℤ ℤ)
     → Tells a b ((q, r) ≡ x) (IsAppendWant a b old new) r
     → IsTold a b ((q, answer index r) ≡ produce_answered index x) (IsAppendWant a b old new (answer index r).error_code × (answer index r ≡ answer index (Err (answer index r).error_code)))
 answer_told a b old new q index (Ok base) x is = inl (done_so a b ((q, Ok base) ≡ x) ((q, answer index (Ok base)) ≡ produce_answered index x) (λ e. ap (produce_answered index) e) is)
@@ -34,7 +34,7 @@ answer_told a b old new q index (Err code) x is =
     is
 
 -- the reply for an entry of a request that is not refused as a whole
-pub entry_told : (a b : Scene Seen) (old new : List Place) (p q : Progress) (refusal : Option ℤ) (topic : Option ℕ) (e : ProducePartition) (reply : ProducePartitionReply) (r : Result ℤ ℤ)
+pub entry_told : (a b : Scene Seen) (old new : List TopicPartition) (p q : Progress) (refusal : Option ℤ) (topic : Option ℕ) (e : ProducePartition) (reply : ProducePartitionReply) (r : Result ℤ ℤ)
     → refusal ≡ None → reply ≡ answer e.index r → Tells a b ((q, r) ≡ tried p (known_place p.world (place_in topic e.index)) e.records) (IsAppendWant a b old new) r
     → IsTold a b ((q, reply) ≡ entry_served refusal topic p e) (IsAppendWant a b old new reply.error_code × (reply ≡ answer e.index (Err reply.error_code)))
 entry_told a b old new p q refusal topic e reply r none is told =

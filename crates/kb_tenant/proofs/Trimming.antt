@@ -19,7 +19,7 @@ use Rattle.kb_world.specs.Parts.{Seen}
 use Rattle.kb_world.specs.Steps.{IsStep}
 use Rattle.kb_world.specs.Told.{Deletes, IsDeletionWant, IsDone}
 use Rattle.kb_world.specs.World.{World, place_in}
-use Rattle.kb_world.specs.declared.place.Place.{Place}
+use Rattle.kb_world.specs.declared.topic_partition.TopicPartition.{TopicPartition}
 use Rattle.kb_tenant.specs.DeleteRecords.{deleted, deleted_at, deleted_in, deletion_answered, told}
 use Rattle.kb_tenant.specs.Told.{AreTrimsTold, CatalogFailed, IsDeleted, IsDeletionTold}
 use Rattle.kb_tenant.specs.Told.{IsRefusalFor, IsTrimTold, IsTrimTopicTold, IsUntrimmed}
@@ -32,16 +32,16 @@ use Rattle.kb_tenant.proofs.Wanted.{catalog_failed, catalog_later, catalog_since
 -- ---- one entry
 
 -- an entry's answer, by that of the partition where it is
-entry_deleted : (s : World × List Place) (topic : Option ℕ) (e : DeleteRecordsPartition) (at : Option Place) (q : World × List Place)
+entry_deleted : (s : World × List TopicPartition) (topic : Option ℕ) (e : DeleteRecordsPartition) (at : Option TopicPartition) (q : World × List TopicPartition)
     (r : Result ℤ PartitionFault) (x : DeleteRecordsPartitionReply)
     → at ≡ place_in topic e.partition → x ≡ deletion_answered e.partition r → (q, r) ≡ deleted_in s at e.offset → (q, x) ≡ deleted topic s e
 entry_deleted s topic e at q r x there is step =
     ap (λ z. (q, z)) is
-    ∙ ap (λ (z : (World × List Place) × Result ℤ PartitionFault). (z.0, deletion_answered e.partition z.1))
+    ∙ ap (λ (z : (World × List TopicPartition) × Result ℤ PartitionFault). (z.0, deletion_answered e.partition z.1))
     (step ∙ ap (λ o. deleted_in s o e.offset) there)
 
 -- in a partition that there may be
-pub entry_trimmed : (a b : Scene Seen) (old new : List Place) (topic : Option ℕ) (e : DeleteRecordsPartition) (place : Place)
+pub entry_trimmed : (a b : Scene Seen) (old new : List TopicPartition) (topic : Option ℕ) (e : DeleteRecordsPartition) (place : TopicPartition)
     (r : Result ℤ PartitionFault) (x : DeleteRecordsPartitionReply)
     → Some place ≡ place_in topic e.partition → x ≡ deletion_answered e.partition r → new ≡ told old place r
     → Deletes a b (((b.state.world, new), r) ≡ deleted_at (a.state.world, old) place e.offset) (IsDeletionWant a b) r
@@ -68,7 +68,7 @@ entry_trimmed a b old new topic e place (Err f) x there is touched deletes =
     deletes
 
 -- in one that there cannot be
-pub entry_unknown : (a : Scene Seen) (old : List Place) (topic : Option ℕ) (e : DeleteRecordsPartition) (x : DeleteRecordsPartitionReply)
+pub entry_unknown : (a : Scene Seen) (old : List TopicPartition) (topic : Option ℕ) (e : DeleteRecordsPartition) (x : DeleteRecordsPartitionReply)
     (Want : Type 0)
     → None ≡ place_in topic e.partition → x ≡ deletion_answered e.partition (Err partition.Unknown)
     → IsDeletionTold a a x.error_code (((a.state.world, old), x) ≡ deleted topic (a.state.world, old) e) Want
@@ -107,7 +107,7 @@ untrimmed a b step honest agree e x partition.Store is want =
     inl (is, ⊎_elim (λ failed. catalog_failed a b step honest agree failed) (λ full. inr (omega (arith, full, step.commands))) want)
 untrimmed a b step honest agree e x partition.Memory is want = inr is
 
-pub trim_told_so : (a b : Scene Seen) (old new : List Place) (topic : Option ℕ) (e : DeleteRecordsPartition)
+pub trim_told_so : (a b : Scene Seen) (old new : List TopicPartition) (topic : Option ℕ) (e : DeleteRecordsPartition)
     (x : DeleteRecordsPartitionReply) → IsStep a b
     → IsDeletionTold a b x.error_code (((b.state.world, new), x) ≡ deleted topic (a.state.world, old) e)
     (IsRefusalFor (IsDeletionWant a b) e.partition x × (new ≡ old))
@@ -126,13 +126,13 @@ trim_told_so a b old new topic e x step is honest agree =
 -- ---- a step more
 
 trim_so : (P Q : Type 0) → (P → Q)
-    → (topic : Option ℕ) (s : World × List Place) (e : DeleteRecordsPartition) (t : World × List Place) (x : DeleteRecordsPartitionReply)
+    → (topic : Option ℕ) (s : World × List TopicPartition) (e : DeleteRecordsPartition) (t : World × List TopicPartition) (x : DeleteRecordsPartitionReply)
     → IsTrimTold P topic s e t x → IsTrimTold Q topic s e t x
 trim_so P Q f topic s e t x =
     ⊎_elim (λ done. inl done) (λ refused. inr (refused.0, ⊎_elim (λ store. inl (store.0, f store.1)) (λ memory. inr memory) refused.1))
 
 trim_topic_so : (P Q : Type 0) → (P → Q)
-    → (s : World × List Place) (e : DeleteRecordsTopic) (t : World × List Place) (x : DeleteRecordsTopicReply) → IsTrimTopicTold P s e t x
+    → (s : World × List TopicPartition) (e : DeleteRecordsTopic) (t : World × List TopicPartition) (x : DeleteRecordsTopicReply) → IsTrimTopicTold P s e t x
     → IsTrimTopicTold Q s e t x
 trim_topic_so P Q f s e t x told =
     let topic = named e.name s.0.known.topics in (
@@ -143,33 +143,33 @@ trim_topic_so P Q f s e t x told =
 
 module _ (a b d : Scene Seen) where
   -- what was answered before a step, or behind one, is told in both
-  pub trims_before : IsStep b d → (topic : Option ℕ) (es : List DeleteRecordsPartition) (s t : World × List Place)
+  pub trims_before : IsStep b d → (topic : Option ℕ) (es : List DeleteRecordsPartition) (s t : World × List TopicPartition)
       (xs : List DeleteRecordsPartitionReply)
       → AreServed (IsTrimTold (CatalogFailed a b) topic) s es t xs → AreServed (IsTrimTold (CatalogFailed a d) topic) s es t xs
   trims_before step topic es s t xs told =
       served_so (IsTrimTold (CatalogFailed a b) topic) (IsTrimTold (CatalogFailed a d) topic)
       (λ p e q x. trim_so (CatalogFailed a b) (CatalogFailed a d) (catalog_later a b d step) topic p e q x) s t es xs told
 
-  pub trim_behind : IsStep a b → (topic : Option ℕ) (s : World × List Place) (e : DeleteRecordsPartition) (t : World × List Place)
+  pub trim_behind : IsStep a b → (topic : Option ℕ) (s : World × List TopicPartition) (e : DeleteRecordsPartition) (t : World × List TopicPartition)
       (x : DeleteRecordsPartitionReply)
       → IsTrimTold (CatalogFailed b d) topic s e t x → IsTrimTold (CatalogFailed a d) topic s e t x
   trim_behind step topic = trim_so (CatalogFailed b d) (CatalogFailed a d) (catalog_since a b d step) topic
 
-  pub trim_topics_before : IsStep b d → (es : List DeleteRecordsTopic) (s t : World × List Place) (xs : List DeleteRecordsTopicReply)
+  pub trim_topics_before : IsStep b d → (es : List DeleteRecordsTopic) (s t : World × List TopicPartition) (xs : List DeleteRecordsTopicReply)
       → AreServed (IsTrimTopicTold (CatalogFailed a b)) s es t xs → AreServed (IsTrimTopicTold (CatalogFailed a d)) s es t xs
   trim_topics_before step es s t xs told =
       served_so (IsTrimTopicTold (CatalogFailed a b)) (IsTrimTopicTold (CatalogFailed a d))
       (λ p e q x. trim_topic_so (CatalogFailed a b) (CatalogFailed a d) (catalog_later a b d step) p e q x) s t es xs told
 
   pub trim_topic_behind : IsStep a b
-      → (s : World × List Place) (e : DeleteRecordsTopic) (t : World × List Place) (x : DeleteRecordsTopicReply)
+      → (s : World × List TopicPartition) (e : DeleteRecordsTopic) (t : World × List TopicPartition) (x : DeleteRecordsTopicReply)
       → IsTrimTopicTold (CatalogFailed b d) s e t x → IsTrimTopicTold (CatalogFailed a d) s e t x
   trim_topic_behind step = trim_topic_so (CatalogFailed b d) (CatalogFailed a d) (catalog_since a b d step)
 
 -- ---- a topic, and the whole
 
 -- a topic's name, the count of its entries and what they were answered
-pub topic_trimmed : (failed : Type 0) (topic : Option ℕ) (s u : World × List Place) (t : DeleteRecordsTopic) (name : List ℕ)
+pub topic_trimmed : (failed : Type 0) (topic : Option ℕ) (s u : World × List TopicPartition) (t : DeleteRecordsTopic) (name : List ℕ)
     (entries : List DeleteRecordsPartition) (n : ℕ) (out out1 out2 out3 : List ℕ)
     → name ≡ t.name → entries ≡ t.partitions → n ≡ length t.partitions → topic ≡ named t.name s.0.known.topics
     → out1 ≡ out ++ string.written name → out2 ≡ out1 ++ (count w32).written n
@@ -189,7 +189,7 @@ topic_trimmed failed topic s u t name entries n out out1 out2 out3 nis eis lis t
     (record { name = t.name; partitions = replies }, (bytes, (refl, served)))
 
 -- the throttle time, the count of the topics and what they were answered
-pub all_trimmed : (failed : Type 0) (q : DeleteRecordsRequest) (s u : World × List Place) (n : ℕ) (out out1 out2 out3 : List ℕ)
+pub all_trimmed : (failed : Type 0) (q : DeleteRecordsRequest) (s u : World × List TopicPartition) (n : ℕ) (out out1 out2 out3 : List ℕ)
     → n ≡ length q.topics → out1 ≡ out ++ int32.written (pos 0) → out2 ≡ out1 ++ (count w32).written n
     → (replies : List DeleteRecordsTopicReply) ×
     ((out3 ≡ out2 ++ flat_map delete_records_topic_reply.written replies) × AreServed (IsTrimTopicTold failed) s q.topics u replies)

@@ -15,7 +15,7 @@ use Rattle.kb_topics.specs.Known.{named}
 use Rattle.kb_tenant.specs.Fetch.{places_in, places_of, look_written, IsServed, deadline_of}
 use Rattle.kb_world.specs.World.{World, place_in}
 use Rattle.kb_tenant.specs.declared.fetch.waiting.Fetching.TheVariants as fetching
-use Rattle.kb_world.specs.declared.place.Place.{Place}
+use Rattle.kb_world.specs.declared.topic_partition.TopicPartition.{TopicPartition}
 
 -- one item more
 one_longer : {A : Type 0} (xs : List A) (i : ℕ) (x : A) → i < length xs → x ≡ get_or xs i x → take (i + 1) xs ≡ take i xs ++ x ∷ []
@@ -28,7 +28,7 @@ one_dropped : {X Y : Type 0} (h : X → Option Y) (x : X) → None ≡ h x → f
 one_dropped h x is = rw (sym is) refl
 
 -- an entry more, whose place is known
-pub place_added : (topic : Option ℕ) (es : List FetchPartition) (i : ℕ) (e : FetchPartition) (place : Place) (old here new : List Place) → i < length es → e ≡ get_or es i e → Some place ≡ place_in topic e.partition
+pub place_added : (topic : Option ℕ) (es : List FetchPartition) (i : ℕ) (e : FetchPartition) (place : TopicPartition) (old here new : List TopicPartition) → i < length es → e ≡ get_or es i e → Some place ≡ place_in topic e.partition
     → here ≡ old ++ places_in topic (take i es) → new ≡ here ++ place ∷ [] → new ≡ old ++ places_in topic (take (i + 1) es)
 place_added topic es i e place old here new lt is there before more =
     let h = λ (x : FetchPartition). place_in topic x.partition in
@@ -38,7 +38,7 @@ place_added topic es i e place old here new lt is there before more =
     ∙ ap (λ l. old ++ places_in topic l) (sym (one_longer es i e lt is))
 
 -- an entry more, that has none
-pub none_added : (topic : Option ℕ) (es : List FetchPartition) (i : ℕ) (e : FetchPartition) (old here : List Place) → i < length es → e ≡ get_or es i e → None ≡ place_in topic e.partition
+pub none_added : (topic : Option ℕ) (es : List FetchPartition) (i : ℕ) (e : FetchPartition) (old here : List TopicPartition) → i < length es → e ≡ get_or es i e → None ≡ place_in topic e.partition
     → here ≡ old ++ places_in topic (take i es) → here ≡ old ++ places_in topic (take (i + 1) es)
 none_added topic es i e old here lt is there before =
     let h = λ (x : FetchPartition). place_in topic x.partition in
@@ -49,7 +49,7 @@ none_added topic es i e old here lt is there before =
 
 -- ---- the topics
 
-pub topic_added : (w : World) (r : FetchRequest) (ts : List FetchTopic) (i : ℕ) (t : FetchTopic) (topic : Option ℕ) (name : List ℕ) (entries : List FetchPartition) (here new : List Place) → ts ≡ r.topics → i < length ts → t ≡ get_or ts i t
+pub topic_added : (w : World) (r : FetchRequest) (ts : List FetchTopic) (i : ℕ) (t : FetchTopic) (topic : Option ℕ) (name : List ℕ) (entries : List FetchPartition) (here new : List TopicPartition) → ts ≡ r.topics → i < length ts → t ≡ get_or ts i t
     → name ≡ t.topic → topic ≡ named name w.known.topics → entries ≡ t.partitions
     → here ≡ places_of w (record r { topics = take i r.topics }) → new ≡ here ++ places_in topic entries → new ≡ places_of w (record r { topics = take (i + 1) r.topics })
 topic_added w r ts i t topic name entries here new list lt is same at all before more =
@@ -60,7 +60,7 @@ topic_added w r ts i t topic name entries here new list lt is same at all before
     ∙ sym (flat_map-append f (take i r.topics) (t ∷ []))
     ∙ ap (λ l. flat_map f l) (sym longer)
 
-pub topics_done : (w : World) (r : FetchRequest) (ts : List FetchTopic) (i : ℕ) (here : List Place) → ts ≡ r.topics → length ts ≤ i → here ≡ places_of w (record r { topics = take i r.topics }) → here ≡ places_of w r
+pub topics_done : (w : World) (r : FetchRequest) (ts : List FetchTopic) (i : ℕ) (here : List TopicPartition) → ts ≡ r.topics → length ts ≤ i → here ≡ places_of w (record r { topics = take i r.topics }) → here ≡ places_of w r
 topics_done w r ts i here list le before =
     before ∙ ap (λ l. places_of w (record r { topics = l })) (take_all i r.topics (subst (λ l. length l ≤ i) list le))
 
@@ -73,7 +73,7 @@ reply_served starts w r d f old new done is same told = by_cases (f (deadline_of
     by_cases (Some reply) told = ap (λ x. x.1) told
     by_cases None told = let e : true ≡ false = sym is ∙ ap (λ x. x.0) told in absurd cc
 
-pub wait_served : (starts : Bool) (w v : World) (r : FetchRequest) (d : ℕ) (f : ℕ → Option FetchReplyV5) (old new : List ℕ) (done : Bool) (keys : Vec Place Global) → done ≡ false → d ≡ deadline_of w r → (done, new) ≡ look_written starts old (f d) → keys.items ≡ places_of v r → v ≡ w
+pub wait_served : (starts : Bool) (w v : World) (r : FetchRequest) (d : ℕ) (f : ℕ → Option FetchReplyV5) (old new : List ℕ) (done : Bool) (keys : Vec TopicPartition Global) → done ≡ false → d ≡ deadline_of w r → (done, new) ≡ look_written starts old (f d) → keys.items ≡ places_of v r → v ≡ w
     → IsServed starts w r (f (deadline_of w r)) old (fetching.Wait d keys) new
 wait_served starts w v r d f old new done keys is same told there stays = by_cases (f (deadline_of w r)) (told ∙ ap (λ n. look_written starts old (f n)) same)
   where

@@ -31,7 +31,7 @@ use Rattle.kb_world.specs.Steps.{IsStep}
 use Rattle.kb_world.specs.Told.{Failed, IsCatalogWant, IsCreationWant, IsDone, IsRefused, Tells}
 use Rattle.kb_world.specs.Counts.{counted_once}
 use Rattle.kb_world.specs.World.{World}
-use Rattle.kb_world.specs.declared.place.Place.{Place}
+use Rattle.kb_world.specs.declared.topic_partition.TopicPartition.{TopicPartition}
 use Rattle.kb_tenant.specs.CreateTopics.{code_in, made, refusal, stands_twice}
 use Rattle.kb_tenant.specs.DeleteTopics.{deleted, deleted_topic, places_at}
 use Rattle.kb_tenant.specs.InitProducerId.{id_refused, init_producer_id}
@@ -68,13 +68,13 @@ deletion_acknowledged a b P Also code told zero =
     told
 
 -- memory ran out for what is to be told of it
-pub untold_deletion : (a b : Scene Seen) (P : Type 0) (code : ℤ) (old new : List Place) → code ≡ code_of codes.UnknownServerError → new ≡ old
+pub untold_deletion : (a b : Scene Seen) (P : Type 0) (code : ℤ) (old new : List TopicPartition) → code ≡ code_of codes.UnknownServerError → new ≡ old
     → b.state.refusals ≡ counted_once a.state.refusals → b.state.world ≡ a.state.world → IsDeletionTold a b code P (IsFaultOf (IsCatalogWant a b) code × (new ≡ old))
 untold_deletion a b P code old new is back counted stays =
     inl (inr (record { want = (record { fault = catalog.Memory; told = is; want = tt }, back); counted = counted; stays = λ honest agree. stays }))
 
 -- it was deleted, and its partitions are told
-pub deletion_told : (a b : Scene Seen) (Want : Type 0) (old now : List Place) (name : List ℕ) (i : ℕ) (code : ℤ) → Some i ≡ named name a.state.world.known.topics → now ≡ old ++ places_at a.state.world (Some i) → code ≡ pos 0
+pub deletion_told : (a b : Scene Seen) (Want : Type 0) (old now : List TopicPartition) (name : List ℕ) (i : ℕ) (code : ℤ) → Some i ≡ named name a.state.world.known.topics → now ≡ old ++ places_at a.state.world (Some i) → code ≡ pos 0
     → IsDeleted a b ((b.state.world, Ok tt) ≡ delete a.state.world name)
     → IsDeletionTold a b code (((b.state.world, now), code) ≡ deleted (a.state.world, old) name) Want
 deletion_told a b Want old now name i code some told here is =
@@ -84,7 +84,7 @@ deletion_told a b Want old now name i code some told here is =
     by step = deleted_is a.state.world b.state.world old now name i code some told step here
 
 -- it was refused, and nothing is told
-pub deletion_refused : (a b : Scene Seen) (old now : List Place) (name : List ℕ) (i : ℕ) (f : CatalogFault) (code : ℤ) → Some i ≡ named name a.state.world.known.topics → now ≡ old → code ≡ fault_code f
+pub deletion_refused : (a b : Scene Seen) (old now : List TopicPartition) (name : List ℕ) (i : ℕ) (f : CatalogFault) (code : ℤ) → Some i ≡ named name a.state.world.known.topics → now ≡ old → code ≡ fault_code f
     → IsDone a b ((b.state.world, Err f) ≡ delete a.state.world name) ⊎ IsRefused a b (IsCatalogWant a b f)
     → IsDeletionTold a b code (((b.state.world, now), code) ≡ deleted (a.state.world, old) name) (IsFaultOf (IsCatalogWant a b) code × (now ≡ old))
 deletion_refused a b old now name i f code some back here is =
@@ -142,7 +142,7 @@ code_so P Q f code = ⊎_elim (λ store. inl (store.0, f store.1)) (λ memory. i
 creation_so : (P Q : Type 0) → (P → Q) → (ts : List CreateTopic) (w : World) (t : CreateTopic) (v : World) (x : CreateTopicReply) → IsCreationTold P ts w t v x → IsCreationTold Q ts w t v x
 creation_so P Q f ts w t v x = ⊎_elim (λ done. inl done) (λ refused. inr (refused.0, (refused.1.0, code_so P Q f x.error_code refused.1.1)))
 
-removal_so : (P Q : Type 0) → (P → Q) → (s : World × List Place) (name : List ℕ) (t : World × List Place) (x : DeleteTopicReply) → IsRemovalTold P s name t x → IsRemovalTold Q s name t x
+removal_so : (P Q : Type 0) → (P → Q) → (s : World × List TopicPartition) (name : List ℕ) (t : World × List TopicPartition) (x : DeleteTopicReply) → IsRemovalTold P s name t x → IsRemovalTold Q s name t x
 removal_so P Q f s name t x = ⊎_elim (λ done. inl done) (λ refused. inr (refused.0, (refused.1.0, code_so P Q f x.error_code refused.1.1)))
 
 commit_so : (P Q : Type 0) → (P → Q) → (refusal : Option ℤ) (group : List ℕ) (topic : Option ℕ) (w : World) (e : CommitPartition) (v : World) (x : CommitPartitionReply)
@@ -166,7 +166,7 @@ creation_told_so a b ts t name twice code sent step one again same told honest a
     (λ refused. inr (refused.stays honest agree, (one, subst (IsWantCode (CreationFailed a b)) (sym same) (fault_wants (IsCreationWant a b) (CreationFailed a b) code (creation_code a b step honest agree) refused.want))))
     told
 
-pub removal_told_so : (a b : Scene Seen) (old now : List Place) (name text sent : List ℕ) (code carried : ℤ) → IsStep a b → text ≡ name → sent ≡ text → carried ≡ code
+pub removal_told_so : (a b : Scene Seen) (old now : List TopicPartition) (name text sent : List ℕ) (code carried : ℤ) → IsStep a b → text ≡ name → sent ≡ text → carried ≡ code
     → IsDeletionTold a b code (((b.state.world, now), code) ≡ deleted (a.state.world, old) text) (IsFaultOf (IsCatalogWant a b) code × (now ≡ old))
     → WhereHonest a b (IsRemovalTold (CatalogFailed a b) (a.state.world, old) name (b.state.world, now) (record { name = sent; error_code = carried }))
 removal_told_so a b old now name text sent code carried step one two same told honest agree =
@@ -228,13 +228,13 @@ module _ (a b d : Scene Seen) where
       → IsCreationTold (CreationFailed b d) ts w t v x → IsCreationTold (CreationFailed a d) ts w t v x
   creation_behind step = creation_so (CreationFailed b d) (CreationFailed a d) (creation_since step)
 
-  pub removals_before : IsStep b d → (names : List (List ℕ)) (s t : World × List Place) (xs : List DeleteTopicReply)
+  pub removals_before : IsStep b d → (names : List (List ℕ)) (s t : World × List TopicPartition) (xs : List DeleteTopicReply)
       → AreServed (IsRemovalTold (CatalogFailed a b)) s names t xs → AreServed (IsRemovalTold (CatalogFailed a d)) s names t xs
   removals_before step names s t xs told =
       served_so (IsRemovalTold (CatalogFailed a b)) (IsRemovalTold (CatalogFailed a d))
       (λ p name q x. removal_so (CatalogFailed a b) (CatalogFailed a d) (catalog_later step) p name q x) s t names xs told
 
-  pub removal_behind : IsStep a b → (s : World × List Place) (name : List ℕ) (t : World × List Place) (x : DeleteTopicReply)
+  pub removal_behind : IsStep a b → (s : World × List TopicPartition) (name : List ℕ) (t : World × List TopicPartition) (x : DeleteTopicReply)
       → IsRemovalTold (CatalogFailed b d) s name t x → IsRemovalTold (CatalogFailed a d) s name t x
   removal_behind step = removal_so (CatalogFailed b d) (CatalogFailed a d) (catalog_since step)
 

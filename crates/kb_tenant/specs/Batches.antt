@@ -13,7 +13,7 @@ use Rattle.kb_api_data.specs.declared.fetch_v5.FetchReplyV5.{FetchReplyV5}
 use Rattle.kb_topics.specs.Known.{named}
 use Rattle.kb_partitions.specs.Logs.{LogState}
 use Rattle.kb_world.specs.World.{World, log_in, place_in}
-use Rattle.kb_world.specs.declared.place.Place.{Place}
+use Rattle.kb_world.specs.declared.topic_partition.TopicPartition.{TopicPartition}
 use Rattle.kb_tenant.specs.Fetch.{has_starts, without_starts}
 
 -- these batches stand in a list, one after the other
@@ -29,7 +29,7 @@ BeginAt offset (b ∷ bs) = (pos (base_of b) ≤ℤ offset) × (offset <ℤ pos 
 
 -- the records of a partition of the topic of an instance: such batches of its log, as a whole; and where the log starts
 pub record GivesBatches (w : World) (topic : Option ℕ) (asked : FetchPartition) (start : ℤ) (records : Option (List ℕ)) : Type 0 where
-  pub place : Place
+  pub place : TopicPartition
   pub log : LogState
   pub batches : List (List ℕ)
   pub there : place_in topic asked.partition ≡ Some place

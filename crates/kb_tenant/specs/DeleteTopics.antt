@@ -15,44 +15,44 @@ use Rattle.kb_world.specs.Calls.{delete}
 use Rattle.kb_tenant.specs.CreateTopics.{code_in}
 use Rattle.kb_tenant.specs.Turns.{in_turn}
 use Rattle.kb_world.specs.World.{World}
-use Rattle.kb_world.specs.declared.place.Place.{Place}
+use Rattle.kb_world.specs.declared.topic_partition.TopicPartition.{TopicPartition}
 
 -- a partition of an instance
-abbrev pub place_at : ℕ → ℕ → Place
+abbrev pub place_at : ℕ → ℕ → TopicPartition
 place_at instance p = record { instance = instance; number = p }
 
 -- the first partitions of an instance, so many
-abbrev pub places : ℕ → ℕ → List Place
+abbrev pub places : ℕ → ℕ → List TopicPartition
 places instance count = map (place_at instance) (range_with_len 0 count)
 
-abbrev pub places_in : ℕ → Option TopicState → List Place
+abbrev pub places_in : ℕ → Option TopicState → List TopicPartition
 places_in instance None = []
 places_in instance (Some t) = places instance (length t.partitions)
 
-abbrev pub places_at : World → Option ℕ → List Place
+abbrev pub places_at : World → Option ℕ → List TopicPartition
 places_at w None = []
 places_at w (Some i) = places_in i (topic_at i w.known.topics)
 
 -- where the partitions of the topic of that name are
-abbrev pub places_named : World → List ℕ → List Place
+abbrev pub places_named : World → List ℕ → List TopicPartition
 places_named w name = places_at w (named name w.known.topics)
 
 -- these places where a deletion was answered with no error, and else none
-abbrev pub told_if : ℤ → List Place → List Place
+abbrev pub told_if : ℤ → List TopicPartition → List TopicPartition
 told_if code ps = if int_eq code (code_of codes.None) then ps else []
 
 -- A topic is deleted, if it is there, and its partitions are told behind those that were told before.
-abbrev pub deleted : World × List Place → List ℕ → (World × List Place) × ℤ
+abbrev pub deleted : World × List TopicPartition → List ℕ → (World × List TopicPartition) × ℤ
 deleted s name =
     let r = delete s.0 name in
     ((r.0, s.1 ++ places_named s.0 name), code_in r.1)
 
 -- a name of a request
-abbrev pub deleted_topic : World × List Place → List ℕ → (World × List Place) × DeleteTopicReply
+abbrev pub deleted_topic : World × List TopicPartition → List ℕ → (World × List TopicPartition) × DeleteTopicReply
 deleted_topic s name = let r = deleted s name in (r.0, record { name = name; error_code = r.1 })
 
 -- The topics are deleted in order.
-abbrev pub deleted_all : World × List Place → DeleteTopicsRequest → (World × List Place) × DeleteTopicsReply
+abbrev pub deleted_all : World × List TopicPartition → DeleteTopicsRequest → (World × List TopicPartition) × DeleteTopicsReply
 deleted_all s q = let r = in_turn deleted_topic s q.names in (r.0, record { topics = r.1 })
 
 -- ---- version 1; any other is version 0

@@ -33,7 +33,7 @@ use Rattle.kb_world.specs.World.{World, log_in, place_in}
 use Rattle.kb_tenant.specs.declared.fetch.given.Given.{Given}
 use Rattle.kb_tenant.specs.declared.fetch.waiting.Fetching.{Fetching}
 use Rattle.kb_tenant.specs.declared.fetch.waiting.Fetching.TheVariants as fetching
-use Rattle.kb_world.specs.declared.place.Place.{Place}
+use Rattle.kb_world.specs.declared.topic_partition.TopicPartition.{TopicPartition}
 
 -- ---- the versions
 
@@ -104,7 +104,7 @@ abbrev pub refused : Given → ℤ → PartitionFault → Given × FetchPartitio
 refused g p f = (wrong g, answer_with_v5 (refusal_of p f) [])
 
 -- where a log starts, and where it ends
-abbrev pub bounds_of : World → Place → Option (ℤ × ℤ)
+abbrev pub bounds_of : World → TopicPartition → Option (ℤ × ℤ)
 bounds_of w place = option_map (λ (l : LogState). (pos l.start, pos l.end)) (log_in w place)
 
 -- the answer up to the records, of a log with those bounds: both watermarks are its end
@@ -121,10 +121,10 @@ answered_by g p (Some bounds) (Err f) = refused g p f
 answered_by g p None r = refused g p partition.Unknown
 
 -- the records that it gives, within its limit
-abbrev pub fetched_at : World → Given → FetchPartition → Place → Result (List ℕ) PartitionFault
+abbrev pub fetched_at : World → Given → FetchPartition → TopicPartition → Result (List ℕ) PartitionFault
 fetched_at w g e place = fetch w place e.fetch_offset (limit_of g e) g.first
 
-abbrev pub answered_at : World → Given → FetchPartition → Option Place → Given × FetchPartitionReplyV5
+abbrev pub answered_at : World → Given → FetchPartition → Option TopicPartition → Given × FetchPartitionReplyV5
 answered_at w g e (Some place) = answered_by g e.partition (bounds_of w place) (fetched_at w g e place)
 answered_at w g e None = refused g e.partition partition.Unknown
 
@@ -190,11 +190,11 @@ abbrev pub fetch_answer : World → FetchRequest → ℕ → Option FetchReplyV5
 fetch_answer w r deadline = let reply = (fetched w r).1 in if is_ready w r reply deadline then Some reply else None
 
 -- the partitions that a topic's entries ask for
-abbrev pub places_in : Option ℕ → List FetchPartition → List Place
+abbrev pub places_in : Option ℕ → List FetchPartition → List TopicPartition
 places_in topic entries = filter_map (λ e. place_in topic e.partition) entries
 
 -- the partitions that a fetch asks for, in order
-abbrev pub places_of : World → FetchRequest → List Place
+abbrev pub places_of : World → FetchRequest → List TopicPartition
 places_of w r = flat_map (λ t. places_in (named t.topic w.known.topics) t.partitions) r.topics
 
 -- ---- what is written: the reply with the starts of the logs, or without them

@@ -13,7 +13,7 @@ use Rattle.kb_api_group.specs.declared.offset_commit.OffsetCommitReply.{OffsetCo
 use Rattle.kb_topics.specs.Known.{named}
 use Rattle.kb_world.specs.Calls.{commit}
 use Rattle.kb_world.specs.World.{World, place_in}
-use Rattle.kb_world.specs.declared.place.Place.{Place}
+use Rattle.kb_world.specs.declared.topic_partition.TopicPartition.{TopicPartition}
 use Rattle.kb_tenant.specs.CreateTopics.{code_in}
 use Rattle.kb_tenant.specs.Turns.{in_turn}
 
@@ -30,7 +30,7 @@ metadata_in (Some text) = text
 
 -- ---- one entry, its answer an error code
 
-abbrev pub committed_at : World → Option Place → List ℕ → CommitPartition → World × ℤ
+abbrev pub committed_at : World → Option TopicPartition → List ℕ → CommitPartition → World × ℤ
 committed_at w None group e = (w, code_of codes.UnknownTopicOrPartition)
 committed_at w (Some place) group e = let r = commit w place group e.offset (metadata_in e.metadata) in (r.0, code_in r.1)
 

@@ -24,14 +24,14 @@ use Rattle.kb_partitions.specs.declared.fault.PartitionFault.{PartitionFault}
 use Rattle.kb_world.specs.World.{World, log_in, place_in}
 use Rattle.kb_world.specs.Calls.{append, judged}
 use Rattle.kb_tenant.specs.Turns.{in_turn}
-use Rattle.kb_world.specs.declared.place.Place.{Place}
+use Rattle.kb_world.specs.declared.topic_partition.TopicPartition.{TopicPartition}
 
 -- how far a produce came: the world, and where batches were appended, in order
 pub record Progress : Type 0 where
   pub world : World
-  pub touched : List Place
+  pub touched : List TopicPartition
 
-abbrev pub progress : World → List Place → Progress
+abbrev pub progress : World → List TopicPartition → Progress
 progress w places = record { world = w; touched = places }
 
 -- ---- the whole request
@@ -71,36 +71,36 @@ is_issued issues (negsuc zero) = true
 is_issued issues (negsuc (suc n)) = false
 
 -- what becomes of a batch, if there is such a partition
-abbrev pub verdict_on : World → Place → List ℕ → Option Verdict
+abbrev pub verdict_on : World → TopicPartition → List ℕ → Option Verdict
 verdict_on w place batch = if is_issued w.known.issues (producer_id_of batch) then judged w place batch else Some (Refuse (code_of error.UnknownProducerId))
 
 -- ---- one entry, its answer a base offset or an error code
 
-abbrev pub appended_at : Progress → Place → World × Result ℤ PartitionFault → Progress × Result ℤ ℤ
+abbrev pub appended_at : Progress → TopicPartition → World × Result ℤ PartitionFault → Progress × Result ℤ ℤ
 appended_at p place (w, Ok base) = (progress w (p.touched ++ place ∷ []), Ok base)
 appended_at p place (w, Err f) = (progress w p.touched, Err (partition_code f))
 
-abbrev pub decided : Progress → Place → List ℕ → Option Verdict → Progress × Result ℤ ℤ
+abbrev pub decided : Progress → TopicPartition → List ℕ → Option Verdict → Progress × Result ℤ ℤ
 decided p place batch None = (p, Err (code_of error.UnknownTopicOrPartition))
 decided p place batch (Some Append) = appended_at p place (append p.world place batch)
 decided p place batch (Some (Repeat base)) = (p, Ok base)
 decided p place batch (Some (Refuse code)) = (p, Err code)
 
 -- A batch for a partition is appended, unless it is there already or is refused.
-abbrev pub offered : Progress → Place → List ℕ → Progress × Result ℤ ℤ
+abbrev pub offered : Progress → TopicPartition → List ℕ → Progress × Result ℤ ℤ
 offered p place batch = decided p place batch (verdict_on p.world place batch)
 
-abbrev pub offered_unless : Progress → Place → Result (List ℕ) ℤ → Progress × Result ℤ ℤ
+abbrev pub offered_unless : Progress → TopicPartition → Result (List ℕ) ℤ → Progress × Result ℤ ℤ
 offered_unless p place (Ok batch) = offered p place batch
 offered_unless p place (Err code) = (p, Err code)
 
 -- the place, if a partition is there
-abbrev pub known_place : World → Option Place → Option Place
+abbrev pub known_place : World → Option TopicPartition → Option TopicPartition
 known_place w None = None
 known_place w (Some place) = option_map (λ (l : LogState). place) (log_in w place)
 
 -- An unknown partition is answered before the batch is looked at.
-abbrev pub tried : Progress → Option Place → Option (List ℕ) → Progress × Result ℤ ℤ
+abbrev pub tried : Progress → Option TopicPartition → Option (List ℕ) → Progress × Result ℤ ℤ
 tried p None records = (p, Err (code_of error.UnknownTopicOrPartition))
 tried p (Some place) records = offered_unless p place (batch_in records)
 
@@ -129,7 +129,7 @@ abbrev pub replied : Progress × List ProduceTopicReply → Progress × ProduceR
 replied r = (r.0, record { topics = r.1; throttle_time_ms = pos 0 })
 
 -- what a produce makes of a world and of the places where batches were appended before it, and its reply
-abbrev pub produced : World → List Place → ProduceRequest → Progress × ProduceReply
+abbrev pub produced : World → List TopicPartition → ProduceRequest → Progress × ProduceReply
 produced w touched request = replied (in_turn (served_topic (refusal_of request.transactional_id request.acks)) (progress w touched) request.topics)
 
 -- one reply, written behind what was written before

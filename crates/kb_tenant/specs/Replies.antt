@@ -1,7 +1,7 @@
 -- A reply on the wire: its size, its correlation id and its body (Kafka protocol guide, "Protocol Primitives", "Response Header").
 use Rattle.std.specs.Prelude.{◌≡◌, ◌<◌, ◌≤◌, ◌+◌, ◌^◌, ◌++◌, ℕ, ℤ, pos, List, length}
 use Rattle.kb_wire.specs.Codec.{int32}
-use Rattle.kb_world.specs.declared.place.Place.{Place}
+use Rattle.kb_world.specs.declared.topic_partition.TopicPartition.{TopicPartition}
 use Rattle.kb_tenant.specs.declared.answer.Answer.{Answer}
 use Rattle.kb_tenant.specs.declared.answer.Answer.TheVariants as answers
 
@@ -16,7 +16,7 @@ framed id body = int32.written (pos (reply_size body)) ++ (int32.written id ++ b
 -- partitions; no reply; or the connection is shut
 pub data Reaction : Type 0 where
   Replies : (body : List ℕ) → Reaction
-  Waits : (deadline : ℕ) (keys : List Place) → Reaction
+  Waits : (deadline : ℕ) (keys : List TopicPartition) → Reaction
   Silent : Reaction
   Shuts : Reaction
 

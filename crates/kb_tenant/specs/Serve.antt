@@ -21,7 +21,7 @@ use Rattle.kb_api_group.specs.declared.find_coordinator.FindCoordinatorRequest.{
 use Rattle.kb_api_group.specs.declared.offset_commit.OffsetCommitRequest.{OffsetCommitRequest}
 use Rattle.kb_api_group.specs.declared.offset_fetch.OffsetFetchRequest.{OffsetFetchRequest}
 use Rattle.kb_world.specs.World.{World}
-use Rattle.kb_world.specs.declared.place.Place.{Place}
+use Rattle.kb_world.specs.declared.topic_partition.TopicPartition.{TopicPartition}
 use Rattle.kb_tenant.specs.CreateTopics.{asked_creations, checked_all, created_all, creations_in, made_of}
 use Rattle.kb_tenant.specs.DeleteRecords.{deleted_all as records_deleted}
 use Rattle.kb_tenant.specs.DeleteTopics.{deleted_all, deletions_in}
@@ -41,7 +41,7 @@ use Rattle.kb_tenant.specs.declared.node.Node.{Node}
 -- the world after a request, the partitions that it changed, in order, and what it comes to
 pub record Outcome : Type 0 where
   pub world : World
-  pub touched : List Place
+  pub touched : List TopicPartition
   pub reaction : Reaction
 
 -- the world stays
@@ -128,11 +128,11 @@ looked w deadline version body = looked_at w deadline version (asked_fetch versi
 -- ---- what the code answers
 
 -- The outcome's world, touched partitions and answer.
-abbrev pub IsOutcome : ℤ → Outcome → World → List Place → Answer → Type 0
+abbrev pub IsOutcome : ℤ → Outcome → World → List TopicPartition → Answer → Type 0
 IsOutcome id o w touched answer = (w ≡ o.world) × (touched ≡ o.touched) × IsAnswer id o.reaction answer
 
 -- the same, where a body that is not the API's is a fault; nothing is said where memory ran out
-abbrev pub IsServed : ℤ → Outcome → World → List Place → Result Answer ReadFault → Type 0
+abbrev pub IsServed : ℤ → Outcome → World → List TopicPartition → Result Answer ReadFault → Type 0
 IsServed id o w touched (Ok answer) = IsOutcome id o w touched answer
 IsServed id o w touched (Err (faults.Wire fault)) = IsOutcome id o w touched answers.Shut
 IsServed id o w touched (Err faults.Memory) = Unit {0}

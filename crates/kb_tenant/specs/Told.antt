@@ -42,7 +42,7 @@ use Rattle.kb_topics.specs.declared.fault.CatalogFault.{CatalogFault}
 use Rattle.kb_world.specs.Told.{AreInstancesUsedUp, Failed, IsDone, IsLeft, IsLogFull, IsRefused}
 use Rattle.kb_topics.specs.Known.{named}
 use Rattle.kb_world.specs.World.{World}
-use Rattle.kb_world.specs.declared.place.Place.{Place}
+use Rattle.kb_world.specs.declared.topic_partition.TopicPartition.{TopicPartition}
 use Rattle.kb_tenant.specs.CreateTopics.{asked_creations, created_topic, creations_in}
 use Rattle.kb_tenant.specs.DeleteRecords.{deletion_answered, deleted}
 use Rattle.kb_tenant.specs.DeleteTopics.{deleted_topic, deletions_in}
@@ -64,7 +64,7 @@ abbrev pub IsTold : Scene Seen → Scene Seen → Type 0 → Type 0 → Type 0
 IsTold a b P Want = IsDone a b P ⊎ IsRefused a b Want
 
 -- a batch that was refused is told nowhere
-abbrev pub IsAppendWant : Scene Seen → Scene Seen → List Place → List Place → ℤ → Type 0
+abbrev pub IsAppendWant : Scene Seen → Scene Seen → List TopicPartition → List TopicPartition → ℤ → Type 0
 IsAppendWant a b old new code = IsCodeWant a b code × (new ≡ old)
 
 -- The code is that of a fault of the catalog, which there was a want for.
@@ -93,7 +93,7 @@ abbrev pub IsCreationTold : Type 0 → List CreateTopic → World → CreateTopi
 IsCreationTold failed ts w t v x = ((v, x) ≡ created_topic ts w t) ⊎ ((v ≡ w) × ((x.name ≡ t.name) × IsWantCode failed x.error_code))
 
 -- The same of a topic's deletion.
-abbrev pub IsRemovalTold : Type 0 → World × List Place → List ℕ → World × List Place → DeleteTopicReply → Type 0
+abbrev pub IsRemovalTold : Type 0 → World × List TopicPartition → List ℕ → World × List TopicPartition → DeleteTopicReply → Type 0
 IsRemovalTold failed s name t x = ((t, x) ≡ deleted_topic s name) ⊎ ((t ≡ s) × ((x.name ≡ name) × IsWantCode failed x.error_code))
 
 -- The same of an id.
@@ -144,7 +144,7 @@ abbrev pub IsProduceTold : Type 0 → Progress → ProduceRequest → Progress �
 IsProduceTold failed p r q reply = AreServed (IsTopicTold failed (refusal_of r.transactional_id r.acks)) p r.topics q reply.topics × (reply.throttle_time_ms ≡ pos 0)
 
 -- Its answer is that reply's bytes, or none where none is due.
-abbrev pub IsAcknowledged : Type 0 → ℤ → World → ProduceRequest → World → List Place → Answer → Type 0
+abbrev pub IsAcknowledged : Type 0 → ℤ → World → ProduceRequest → World → List TopicPartition → Answer → Type 0
 IsAcknowledged failed id w r v touched (answers.Reply bytes) =
     (reply : ProduceReply) × ((bytes.items ≡ framed id (produce_reply.written reply)) × IsProduceTold failed (progress w []) r (progress v touched) reply)
 IsAcknowledged failed id w r v touched (answers.Wait deadline keys) = ⊥
@@ -152,7 +152,7 @@ IsAcknowledged failed id w r v touched answers.NoReply = (reply : ProduceReply) 
 IsAcknowledged failed id w r v touched answers.Shut = ⊤
 
 -- The same of a body, where it is a request of Produce.
-abbrev pub Acknowledges : Type 0 → ℤ → World → List ℕ → World → List Place → Answer → Type 0
+abbrev pub Acknowledges : Type 0 → ℤ → World → List ℕ → World → List TopicPartition → Answer → Type 0
 Acknowledges failed id w body v touched a = (r : ProduceRequest) → whole produce_request body ≡ Ok r → IsAcknowledged failed id w r v touched a
 
 -- A produce after which the connection is shut has changed nothing, unless its reply is too long for the INT32 of its size.
@@ -182,12 +182,12 @@ AcknowledgesCreations failed id version w body v a =
     (q : CreateTopicsRequestV1) → asked_creations version body ≡ Ok q → q.validate_only ≡ false → IsReplied id (TellsCreations failed version w q v) a
 
 -- It is the reply of a DeleteTopics.
-abbrev pub TellsRemovals : Type 0 → ℤ → World → DeleteTopicsRequest → World → List Place → List ℕ → Type 0
+abbrev pub TellsRemovals : Type 0 → ℤ → World → DeleteTopicsRequest → World → List TopicPartition → List ℕ → Type 0
 TellsRemovals failed version w q v touched body = (replies : List DeleteTopicReply)
     × ((body ≡ deletions_in version (record { topics = replies })) × AreServed (IsRemovalTold failed) (w, []) q.names (v, touched) replies)
 
 -- The same of a body, where it is a request of DeleteTopics.
-abbrev pub AcknowledgesRemovals : Type 0 → ℤ → ℤ → World → List ℕ → World → List Place → Answer → Type 0
+abbrev pub AcknowledgesRemovals : Type 0 → ℤ → ℤ → World → List ℕ → World → List TopicPartition → Answer → Type 0
 AcknowledgesRemovals failed id version w body v touched a =
     (q : DeleteTopicsRequest) → whole delete_topics_request body ≡ Ok q → IsReplied id (TellsRemovals failed version w q v touched) a
 
@@ -226,25 +226,25 @@ IsUntrimmed failed e x =
 
 -- An entry of the topic of an instance does what is defined, on what those before it left; or it is refused for such a want, and
 -- changes nothing.
-abbrev pub IsTrimTold : Type 0 → Option ℕ → World × List Place → DeleteRecordsPartition → World × List Place → DeleteRecordsPartitionReply
+abbrev pub IsTrimTold : Type 0 → Option ℕ → World × List TopicPartition → DeleteRecordsPartition → World × List TopicPartition → DeleteRecordsPartitionReply
     → Type 0
 IsTrimTold failed topic s e t x = ((t, x) ≡ deleted topic s e) ⊎ ((t ≡ s) × IsUntrimmed failed e x)
 
 -- The same of a topic's entries, one after another.
-abbrev pub IsTrimTopicTold : Type 0 → World × List Place → DeleteRecordsTopic → World × List Place → DeleteRecordsTopicReply → Type 0
+abbrev pub IsTrimTopicTold : Type 0 → World × List TopicPartition → DeleteRecordsTopic → World × List TopicPartition → DeleteRecordsTopicReply → Type 0
 IsTrimTopicTold failed s e t x =
     (x.name ≡ e.name) × AreServed (IsTrimTold failed (named e.name s.0.known.topics)) s e.partitions t x.partitions
 
 -- The same of a request's topics.
-abbrev pub AreTrimsTold : Type 0 → World × List Place → DeleteRecordsRequest → World × List Place → DeleteRecordsReply → Type 0
+abbrev pub AreTrimsTold : Type 0 → World × List TopicPartition → DeleteRecordsRequest → World × List TopicPartition → DeleteRecordsReply → Type 0
 AreTrimsTold failed s q t x = (x.throttle_time_ms ≡ pos 0) × AreServed (IsTrimTopicTold failed) s q.topics t x.topics
 
 -- It is the reply of a DeleteRecords.
-abbrev pub TellsDeletions : Type 0 → World → DeleteRecordsRequest → World → List Place → List ℕ → Type 0
+abbrev pub TellsDeletions : Type 0 → World → DeleteRecordsRequest → World → List TopicPartition → List ℕ → Type 0
 TellsDeletions failed w q v touched body =
     (reply : DeleteRecordsReply) × ((body ≡ delete_records_reply.written reply) × AreTrimsTold failed (w, []) q (v, touched) reply)
 
 -- The same of a body, where it is a request of DeleteRecords.
-abbrev pub AcknowledgesDeletions : Type 0 → ℤ → World → List ℕ → World → List Place → Answer → Type 0
+abbrev pub AcknowledgesDeletions : Type 0 → ℤ → World → List ℕ → World → List TopicPartition → Answer → Type 0
 AcknowledgesDeletions failed id w body v touched a =
     (q : DeleteRecordsRequest) → whole delete_records_request body ≡ Ok q → IsReplied id (TellsDeletions failed w q v touched) a

@@ -5,11 +5,11 @@ use Rattle.kb_api_data.specs.declared.fetch.FetchRequest.{FetchRequest}
 use Rattle.kb_topics.specs.Known.{TopicState, named}
 use Rattle.kb_tenant.specs.Fetch.{fetch_answer, places_of}
 use Rattle.kb_world.specs.World.{World}
-use Rattle.kb_world.specs.declared.place.Place.{Place}
+use Rattle.kb_world.specs.declared.topic_partition.TopicPartition.{TopicPartition}
 
 -- no place is in both
-abbrev pub AreApart : List Place → List Place → Type 0
-AreApart xs ys = (place : Place) → Contains xs place → Contains ys place → ⊥
+abbrev pub AreApart : List TopicPartition → List TopicPartition → Type 0
+AreApart xs ys = (place : TopicPartition) → Contains xs place → Contains ys place → ⊥
 
 -- In the other world a fetch still has no answer, and waits for the same places.
 abbrev pub StillWaits : World → World → FetchRequest → ℕ → Type 0

@@ -4,7 +4,7 @@ ghost use Rattle.std.specs.Int.{w32, to_be_bytes};
 ghost use Rattle.kb_tenant.specs.Replies.{begun, framed, IsAnswer, Replies};
 
 use kb_wire::Sink;
-use kb_world::Place;
+use kb_world::TopicPartition;
 use std::alloc::{AllocError, Global};
 
 /// What a request comes to for the connection that sent it.
@@ -13,7 +13,10 @@ pub enum Answer {
     /// A reply, from its size to the end of its body.
     Reply(Vec<u8>),
     /// A wait for one of these partitions, until the deadline at most.
-    Wait { deadline: u64, keys: Vec<Place> },
+    Wait {
+        deadline: u64,
+        keys: Vec<TopicPartition>,
+    },
     /// No reply.
     NoReply,
     /// The connection is to be shut without a reply.

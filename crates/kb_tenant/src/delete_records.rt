@@ -13,7 +13,7 @@ ghost use Rattle.kb_world.specs.Parts.{scene};
 ghost use Rattle.kb_world.specs.Steps.{IsStep, Meets};
 ghost use Rattle.kb_world.specs.Told.{Deletes, IsDeletionWant};
 ghost use Rattle.kb_world.specs.World.{World};
-ghost use Rattle.kb_world.specs.declared.place.Place.{Place};
+ghost use Rattle.kb_world.specs.declared.topic_partition.TopicPartition.{TopicPartition};
 
 use kb_api_data::{
     DeleteRecordsPartition, DeleteRecordsPartitionReply, DeleteRecordsRequest, DeleteRecordsTopic,
@@ -22,7 +22,7 @@ use kb_log::{PartitionLog, Shelf};
 use kb_partitions::PartitionFault;
 use kb_store::Store;
 use kb_wire::{Layout, Sink};
-use kb_world::{Parts, Place};
+use kb_world::{Parts, TopicPartition};
 use std::alloc::AllocError;
 
 /// The answer of a partition: its start, or -1 where it is refused.
@@ -50,9 +50,9 @@ fn answered(partition: i32, deleted: Result<i64, PartitionFault>) -> DeleteRecor
 fn delete_at<L: PartitionLog + Drop, S: Store>(
     parts: &mut Parts<L>,
     shelf: &mut Shelf<S>,
-    place: Place,
+    place: TopicPartition,
     offset: i64,
-    touched: &mut Vec<Place>,
+    touched: &mut Vec<TopicPartition>,
 ) -> Result<i64, PartitionFault>
     requires { (scene L.log S.disk parts.old shelf.old).sound }
     ensures step { IsStep (scene L.log S.disk parts.old shelf.old) (scene L.log S.disk parts.new shelf.new) }
@@ -77,7 +77,7 @@ fn delete_entry<L: PartitionLog + Drop, S: Store>(
     shelf: &mut Shelf<S>,
     topic: Option<u64>,
     entry: &DeleteRecordsPartition,
-    touched: &mut Vec<Place>,
+    touched: &mut Vec<TopicPartition>,
 ) -> DeleteRecordsPartitionReply
     requires { (scene L.log S.disk parts.old shelf.old).sound }
     ensures step { IsStep (scene L.log S.disk parts.old shelf.old) (scene L.log S.disk parts.new shelf.new) }
@@ -93,7 +93,7 @@ fn delete_entry<L: PartitionLog + Drop, S: Store>(
         result.error_code ≡ pos 0 → IsDeleted a b
         (((b.state.world, touched.new.items), result) ≡ deleted topic (a.state.world, touched.old.items) entry.now) }
 {
-    let deleted = match Place::new(topic, entry.partition) {
+    let deleted = match TopicPartition::new(topic, entry.partition) {
         Some(place) => delete_at(parts, shelf, place, entry.offset, touched),
         None => Err(PartitionFault::Unknown),
     };
@@ -106,7 +106,7 @@ fn delete_entries<L: PartitionLog + Drop, S: Store>(
     shelf: &mut Shelf<S>,
     topic: Option<u64>,
     entries: &[DeleteRecordsPartition],
-    touched: &mut Vec<Place>,
+    touched: &mut Vec<TopicPartition>,
     sink: &mut Sink,
 ) -> Result<(), AllocError>
     requires { (scene L.log S.disk parts.old shelf.old).sound }
@@ -133,7 +133,7 @@ fn delete_in_topic<L: PartitionLog + Drop, S: Store>(
     parts: &mut Parts<L>,
     shelf: &mut Shelf<S>,
     topic: &DeleteRecordsTopic<'_>,
-    touched: &mut Vec<Place>,
+    touched: &mut Vec<TopicPartition>,
     sink: &mut Sink,
 ) -> Result<(), AllocError>
     requires sound { (scene L.log S.disk parts.old shelf.old).sound }
@@ -142,7 +142,7 @@ fn delete_in_topic<L: PartitionLog + Drop, S: Store>(
     ensures kept { take (length touched.old.items) touched.new.items ≡ touched.old.items }
     ensures meets { OnOk result (let a = scene L.log S.disk parts.old shelf.old in let b = scene L.log S.disk parts.new shelf.new in
         let r = deleted_topic (a.state.world, touched.old.items) topic.now in
-        Meets a b (◌≡◌ {A = (World × List Place) × List ℕ} ((b.state.world, touched.new.items), sink.new.bytes) (r.0, sink.old.bytes ++ delete_records_topic_reply.written r.1))) }
+        Meets a b (◌≡◌ {A = (World × List TopicPartition) × List ℕ} ((b.state.world, touched.new.items), sink.new.bytes) (r.0, sink.old.bytes ++ delete_records_topic_reply.written r.1))) }
     ensures told { OnOk result (let a = scene L.log S.disk parts.old shelf.old in let b = scene L.log S.disk parts.new shelf.new in
         WhereHonest a b ((reply : DeleteRecordsTopicReply) × ((sink.new.bytes ≡ sink.old.bytes ++ delete_records_topic_reply.written reply)
         × IsTrimTopicTold (CatalogFailed a b) (a.state.world, touched.old.items) topic.now (b.state.world, touched.new.items) reply))) }
@@ -169,7 +169,7 @@ pub(crate) fn delete_records<L: PartitionLog + Drop, S: Store>(
     parts: &mut Parts<L>,
     shelf: &mut Shelf<S>,
     request: &DeleteRecordsRequest<'_>,
-    touched: &mut Vec<Place>,
+    touched: &mut Vec<TopicPartition>,
     sink: &mut Sink,
 ) -> Result<(), AllocError>
     requires sound { (scene L.log S.disk parts.old shelf.old).sound }

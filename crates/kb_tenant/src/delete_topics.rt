@@ -17,14 +17,14 @@ use kb_api_group::ErrorCode;
 use kb_log::{PartitionLog, Shelf};
 use kb_store::Store;
 use kb_wire::{Layout, Sink, Text};
-use kb_world::{Parts, Place};
+use kb_world::{Parts, TopicPartition};
 use std::alloc::AllocError;
 
 /// Tells where the partitions of a topic are. An `Err` leaves what was told.
 fn tell_places<L: PartitionLog>(
     parts: &Parts<L>,
     instance: u64,
-    touched: &mut Vec<Place>,
+    touched: &mut Vec<TopicPartition>,
 ) -> Result<(), AllocError>
     ensures told { (files : Files) →
         OnOk result (touched.new.items ≡ touched.old.items ++ places_at (world_of L.log parts.now files) (Some instance)) }
@@ -36,7 +36,7 @@ fn tell_places<L: PartitionLog>(
     let count = topic.partitions().len();
     touched.try_reserve(count)?;
     for number in 0..count {
-        touched.push(Place { instance, number })?;
+        touched.push(TopicPartition { instance, number })?;
     }
     Ok(())
 }
@@ -48,7 +48,7 @@ fn delete_topic<L: PartitionLog + Drop, S: Store>(
     parts: &mut Parts<L>,
     shelf: &mut Shelf<S>,
     name: &str,
-    touched: &mut Vec<Place>,
+    touched: &mut Vec<TopicPartition>,
 ) -> i16
     requires sound { (scene L.log S.disk parts.old shelf.old).sound }
     requires text { length name.now < 2 ^ 15 }
@@ -100,7 +100,7 @@ pub fn delete_topics<L: PartitionLog + Drop, S: Store>(
     shelf: &mut Shelf<S>,
     version: i16,
     request: &DeleteTopicsRequest<'_>,
-    touched: &mut Vec<Place>,
+    touched: &mut Vec<TopicPartition>,
     sink: &mut Sink,
 ) -> Result<(), AllocError>
     requires sound { (scene L.log S.disk parts.old shelf.old).sound }

@@ -34,7 +34,7 @@ use kb_api_data::{
 use kb_log::{PartitionLog, Shelf};
 use kb_store::Store;
 use kb_wire::{Layout, ReadFault};
-use kb_world::{Parts, Place};
+use kb_world::{Parts, TopicPartition};
 use std::alloc::Global;
 
 /// What became of a request.
@@ -43,7 +43,7 @@ pub struct Served {
     /// What it comes to for the connection that sent it.
     pub answer: Answer,
     /// The partitions that it changed, in order: waits for them are to be looked at.
-    pub touched: Vec<Place>,
+    pub touched: Vec<TopicPartition>,
 }
 
 /// Produce. Where acks is 0 there is no reply.
@@ -52,7 +52,7 @@ fn serve_produce<L: PartitionLog + Drop, S: Store>(
     parts: &mut Parts<L>,
     shelf: &mut Shelf<S>,
     request: &Request<'_>,
-    touched: &mut Vec<Place>,
+    touched: &mut Vec<TopicPartition>,
 ) -> Result<Answer, ReadFault>
     requires untouched { touched.old.items ≡ [] }
     requires sound { (scene L.log S.disk parts.old shelf.old).sound }
@@ -163,7 +163,7 @@ fn serve_delete_topics<L: PartitionLog + Drop, S: Store>(
     parts: &mut Parts<L>,
     shelf: &mut Shelf<S>,
     request: &Request<'_>,
-    touched: &mut Vec<Place>,
+    touched: &mut Vec<TopicPartition>,
 ) -> Result<Answer, ReadFault>
     requires untouched { touched.old.items ≡ [] }
     requires sound { (scene L.log S.disk parts.old shelf.old).sound }
@@ -192,7 +192,7 @@ fn serve_delete_records<L: PartitionLog + Drop, S: Store>(
     parts: &mut Parts<L>,
     shelf: &mut Shelf<S>,
     request: &Request<'_>,
-    touched: &mut Vec<Place>,
+    touched: &mut Vec<TopicPartition>,
 ) -> Result<Answer, ReadFault>
     requires untouched { touched.old.items ≡ [] }
     requires sound { (scene L.log S.disk parts.old shelf.old).sound }
@@ -237,7 +237,7 @@ fn serve_by_key<L: PartitionLog + Drop, S: Store>(
     shelf: &mut Shelf<S>,
     node: &Node<'_>,
     request: &Request<'_>,
-    touched: &mut Vec<Place>,
+    touched: &mut Vec<TopicPartition>,
 ) -> Result<Answer, ReadFault>
     requires untouched { touched.old.items ≡ [] }
     requires host { string.Fits node.now.host }

@@ -23,7 +23,7 @@ use kb_api_group::{
 use kb_log::{PartitionLog, Shelf};
 use kb_store::Store;
 use kb_wire::{Layout, Sink};
-use kb_world::{Parts, Place};
+use kb_world::{Parts, TopicPartition};
 use std::alloc::AllocError;
 
 /// What every entry is refused for where groups have no members: the group has no name, or a member of it commits, and it has
@@ -55,7 +55,7 @@ fn commit_at<L: PartitionLog + Drop, S: Store>(
     parts: &mut Parts<L>,
     shelf: &mut Shelf<S>,
     group: &str,
-    place: Place,
+    place: TopicPartition,
     entry: &CommitPartition<'_>,
 ) -> i16
     requires sound { (scene L.log S.disk parts.old shelf.old).sound }
@@ -93,7 +93,7 @@ fn commit_entry<L: PartitionLog + Drop, S: Store>(
     if let Some(code) = refusal {
         return code;
     }
-    let Some(place) = Place::new(topic, entry.partition) else {
+    let Some(place) = TopicPartition::new(topic, entry.partition) else {
         return ErrorCode::UnknownTopicOrPartition.code();
     };
     commit_at(parts, shelf, group, place, entry)

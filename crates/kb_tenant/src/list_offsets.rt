@@ -14,7 +14,7 @@ use kb_log::{OffsetAndTimestamp, PartitionLog, Shelf};
 use kb_partitions::PartitionFault;
 use kb_store::Store;
 use kb_wire::{Layout, Sink};
-use kb_world::{Parts, Place};
+use kb_world::{Parts, TopicPartition};
 use std::alloc::AllocError;
 
 fn refused(partition: i32, error_code: i16) -> ListOffsetsPartitionReply
@@ -78,7 +78,7 @@ fn list_partition<L: PartitionLog + Drop, S: Store>(
     ensures meets { let a = scene L.log S.disk parts.old shelf.old in
         Meets a (scene L.log S.disk parts.new shelf.new) (result ≡ listed_at a.state.world topic partition timestamp) }
 {
-    let Some(place) = Place::new(topic, partition) else {
+    let Some(place) = TopicPartition::new(topic, partition) else {
         return refused(partition, ErrorCode::UnknownTopicOrPartition.code());
     };
     if parts.start(place).is_none() {

@@ -11,7 +11,7 @@ use kb_api_group::{ErrorCode, OffsetFetchPartitionReply, OffsetFetchRequest, Off
 use kb_log::PartitionLog;
 use kb_topics::Committed;
 use kb_wire::{Layout, Sink, Text};
-use kb_world::{Parts, Place};
+use kb_world::{Parts, TopicPartition};
 use std::alloc::AllocError;
 
 /// What a group committed to a partition of the topic of an instance.
@@ -23,7 +23,7 @@ fn kept<'a, L: PartitionLog + Drop>(
 ) -> Option<&'a Committed>
     ensures { (files : Files) → option_copied result ≡ kept (world_of L.log parts.now files) group.now topic partition }
 {
-    let place = Place::new(topic, partition)?;
+    let place = TopicPartition::new(topic, partition)?;
     parts.committed(place, group)
 }
 

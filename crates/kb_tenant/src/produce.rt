@@ -26,7 +26,7 @@ use kb_api_group::ErrorCode;
 use kb_log::{PartitionLog, Shelf};
 use kb_store::Store;
 use kb_wire::Sink;
-use kb_world::{Parts, Place};
+use kb_world::{Parts, TopicPartition};
 use std::alloc::AllocError;
 
 /// What a request says of all its entries: why they are refused, if they are, and whether a reply is due.
@@ -67,7 +67,7 @@ fn serve_entries<L: PartitionLog + Drop, S: Store>(
     terms: Terms,
     topic: Option<u64>,
     entries: &[ProducePartition<'_>],
-    touched: &mut Vec<Place>,
+    touched: &mut Vec<TopicPartition>,
     sink: &mut Sink,
 ) -> Result<(), AllocError>
     requires sound { (scene L.log S.disk parts.old shelf.old).sound }
@@ -92,7 +92,7 @@ fn serve_topic<L: PartitionLog + Drop, S: Store>(
     shelf: &mut Shelf<S>,
     terms: Terms,
     topic: &ProduceTopic<'_>,
-    touched: &mut Vec<Place>,
+    touched: &mut Vec<TopicPartition>,
     sink: &mut Sink,
 ) -> Result<(), AllocError>
     requires sound { (scene L.log S.disk parts.old shelf.old).sound }
@@ -128,7 +128,7 @@ pub(crate) fn produce<L: PartitionLog + Drop, S: Store>(
     parts: &mut Parts<L>,
     shelf: &mut Shelf<S>,
     request: &ProduceRequest<'_>,
-    touched: &mut Vec<Place>,
+    touched: &mut Vec<TopicPartition>,
     sink: &mut Sink,
 ) -> Result<(), AllocError>
     requires sound { (scene L.log S.disk parts.old shelf.old).sound }

@@ -6,7 +6,7 @@ ghost use Rattle.kb_api_group.specs.declared.offset_commit.OffsetCommitRequest.{
 ghost use Rattle.kb_world.specs.Tied.{IsTied};
 ghost use Rattle.kb_world.specs.World.{World, new_world};
 ghost use Rattle.kb_world.specs.Calls.{at_clock, retain, retain_all};
-ghost use Rattle.kb_world.specs.declared.place.Place.{Place};
+ghost use Rattle.kb_world.specs.declared.topic_partition.TopicPartition.{TopicPartition};
 ghost use Rattle.kb_tenant.specs.Batches.{HasSmallLogs, HoldsBatches};
 ghost use Rattle.kb_tenant.specs.Fetch.{asked_fetch, fetch_answer, places_of};
 ghost use Rattle.kb_tenant.specs.OffsetCommit.{committed_all};
@@ -21,7 +21,7 @@ pub fn worlds_stay_tied()
     ensures begun { (clock : ℕ) → IsTied (at_clock new_world clock) }
     ensures served { (node : Node) (w : World) (n : ℕ) (key version : ℤ) (body : List ℕ) → IsTied w → IsTied (plainly_served node w n key version body).world }
     ensures committed { (w : World) (refusal : Option ℤ) (q : OffsetCommitRequest) → IsTied w → IsTied (committed_all w refusal q).0 }
-    ensures retained { (w : World) (place : Place) → IsTied w → IsTied (retain w place).0 }
+    ensures retained { (w : World) (place : TopicPartition) → IsTied w → IsTied (retain w place).0 }
     ensures clocked { (w : World) (now : ℕ) → IsTied w → IsTied (at_clock w now) }
 {}
 
@@ -30,7 +30,7 @@ pub fn names_stay_apart()
     ensures begun { (clock : ℕ) → HasOwnNames (at_clock new_world clock) }
     ensures served { (node : Node) (w : World) (n : ℕ) (key version : ℤ) (body : List ℕ) → HasOwnNames w → HasOwnNames (plainly_served node w n key version body).world }
     ensures committed { (w : World) (refusal : Option ℤ) (q : OffsetCommitRequest) → HasOwnNames w → HasOwnNames (committed_all w refusal q).0 }
-    ensures retained { (w : World) (place : Place) → HasOwnNames w → HasOwnNames (retain w place).0 }
+    ensures retained { (w : World) (place : TopicPartition) → HasOwnNames w → HasOwnNames (retain w place).0 }
     ensures clocked { (w : World) (now : ℕ) → HasOwnNames w → HasOwnNames (at_clock w now) }
 {}
 
@@ -46,7 +46,7 @@ pub fn requests_elsewhere()
 
 /// The same after retention at a place that it does not wait for.
 pub fn retention_elsewhere()
-    ensures { (w : World) (place : Place) (r : FetchRequest) (deadline : ℕ) → IsTied w
+    ensures { (w : World) (place : TopicPartition) (r : FetchRequest) (deadline : ℕ) → IsTied w
         → fetch_answer w r deadline ≡ None → (Contains (places_of w r) place → ⊥) → StillWaits w (retain w place).0 r deadline }
 {}
 
@@ -76,7 +76,7 @@ pub fn logs_stay_small()
     ensures begun { (clock : ℕ) → HasSmallLogs (at_clock new_world clock) }
     ensures served { (node : Node) (w : World) (n : ℕ) (key version : ℤ) (body : List ℕ) → HasSmallLogs w → HasSmallLogs (plainly_served node w n key version body).world }
     ensures committed { (w : World) (refusal : Option ℤ) (q : OffsetCommitRequest) → HasSmallLogs w → HasSmallLogs (committed_all w refusal q).0 }
-    ensures retained { (w : World) (place : Place) → HasSmallLogs w → HasSmallLogs (retain w place).0 }
+    ensures retained { (w : World) (place : TopicPartition) → HasSmallLogs w → HasSmallLogs (retain w place).0 }
     ensures clocked { (w : World) (now : ℕ) → HasSmallLogs w → HasSmallLogs (at_clock w now) }
 {}
 

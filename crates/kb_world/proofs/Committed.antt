@@ -21,7 +21,7 @@ use Rattle.kb_world.specs.Parts.{IsSound, entries}
 use Rattle.kb_world.specs.Tied.{counted, partition_count}
 use Rattle.kb_world.specs.World.{World}
 use Rattle.kb_world.specs.declared.parts.Parts.{Parts}
-use Rattle.kb_world.specs.declared.place.Place.{Place}
+use Rattle.kb_world.specs.declared.topic_partition.TopicPartition.{TopicPartition}
 use Rattle.kb_world.proofs.Retained.{fits}
 use Rattle.kb_world.proofs.StillKept.{WereThere, as_before, part_put}
 use Rattle.kb_world.proofs.Tied.{put_counts}
@@ -29,7 +29,7 @@ use Rattle.kb_world.proofs.Tied.{put_counts}
 -- ---- a partition that is there
 
 -- Each topic has at most 64 partitions, and an instance that was given out.
-topic_there : {L : Type 0} (log : L → Log) (p : Parts L) (d : Disk) (next : ℕ) (place : Place) (o : Option TopicState) (part : PartitionState) → IsSound log p d.table next
+topic_there : {L : Type 0} (log : L → Log) (p : Parts L) (d : Disk) (next : ℕ) (place : TopicPartition) (o : Option TopicState) (part : PartitionState) → IsSound log p d.table next
     → topic_at place.instance (known p.catalog).topics ≡ o → option_and_then (λ (t : TopicState). slice_get t.partitions place.number) o ≡ Some part → IsThere place
 topic_there log p d next place None part sound at there = absurd cc
 topic_there log p d next place (Some t) part sound at there =
@@ -47,7 +47,7 @@ known_some None o e f = absurd cc
 known_some (Some b) o e f = (b.now, sym e)
 
 -- the place of a partition that the catalog has fits its types on the wire
-pub known_there : {L : Type 0} (log : L → Log) (p : Parts L) (d : Disk) (next : ℕ) (place : Place) (r : Option (Bor PartitionState)) → IsSound log p d.table next
+pub known_there : {L : Type 0} (log : L → Log) (p : Parts L) (d : Disk) (next : ℕ) (place : TopicPartition) (r : Option (Bor PartitionState)) → IsSound log p d.table next
     → option_copied r ≡ known_at (known p.catalog) place → is_some r ≡ true → IsThere place
 known_there log p d next place r sound is some =
     let part = known_some r (known_at (known p.catalog) place) is some in
@@ -58,7 +58,7 @@ none_known None o e f = sym e
 none_known (Some b) o e f = absurd cc
 
 -- where the catalog has no such partition
-pub commit_nowhere : (w : World) (place : Place) (group : List ℕ) (offset : ℤ) (metadata : List ℕ) (r : Option (Bor PartitionState)) → option_copied r ≡ known_at w.known place → is_some r ≡ false
+pub commit_nowhere : (w : World) (place : TopicPartition) (group : List ℕ) (offset : ℤ) (metadata : List ℕ) (r : Option (Bor PartitionState)) → option_copied r ≡ known_at w.known place → is_some r ≡ false
     → (w, Err faults.Unknown) ≡ commit w place group offset metadata
 commit_nowhere w place group offset metadata r is none =
     let c : CommittedOffset = record { offset = offset; metadata = metadata } in
@@ -67,16 +67,16 @@ commit_nowhere w place group offset metadata r is none =
 -- ---- what the command comes to
 
 -- the same command, its numbers written otherwise
-pub command_same : (k : Known) (place : Place) (group : List ℕ) (i p offset o : ℤ) (metadata : List ℕ) → i ≡ pos place.instance → p ≡ pos place.number → o ≡ offset
+pub command_same : (k : Known) (place : TopicPartition) (group : List ℕ) (i p offset o : ℤ) (metadata : List ℕ) → i ≡ pos place.instance → p ≡ pos place.number → o ≡ offset
     → step k (commit_command group (pos place.instance) (pos place.number) offset metadata) ≡ step k (commit_command group i p o metadata)
 command_same k place group i p offset o metadata e f h =
     ap (λ z. step k (commit_command group z (pos place.number) offset metadata)) (sym e) ∙ ap (λ z. step k (commit_command group i z offset metadata)) (sym f) ∙ ap (λ z. step k (commit_command group i p z metadata)) (sym h)
 
-pub part_same : (k : Known) (place : Place) (i p : ℤ) → i ≡ pos place.instance → p ≡ pos place.number → partition_at k i p ≡ known_at k place
+pub part_same : (k : Known) (place : TopicPartition) (i p : ℤ) → i ≡ pos place.instance → p ≡ pos place.number → partition_at k i p ≡ known_at k place
 part_same k place i p e f = ap (λ z. partition_at k z p) e ∙ ap (partition_at k (pos place.instance)) f
 
 -- It is the definition's.
-pub committed_is : (k new : Known) (place : Place) (group : List ℕ) (offset : ℤ) (metadata : List ℕ) → step k (commit_command group (pos place.instance) (pos place.number) offset metadata) ≡ Some new
+pub committed_is : (k new : Known) (place : TopicPartition) (group : List ℕ) (offset : ℤ) (metadata : List ℕ) → step k (commit_command group (pos place.instance) (pos place.number) offset metadata) ≡ Some new
     → new ≡ with_committed k place group (record { offset = offset; metadata = metadata }) (known_at k place)
 committed_is k new place group offset metadata e = by (nat_le (length metadata) 4096) (known_at k place) e
   where
@@ -88,7 +88,7 @@ committed_is k new place group offset metadata e = by (nat_le (length metadata) 
     by true None is = absurd cc
     by false o is = absurd cc
 
-module _ (k : Known) (place : Place) (group : List ℕ) (c : CommittedOffset) where
+module _ (k : Known) (place : TopicPartition) (group : List ℕ) (c : CommittedOffset) where
   -- each topic has as many partitions as before
   pub commit_counts : (o : Option PartitionState) → counted partition_count (with_committed k place group c o).topics ≡ counted partition_count k.topics
   commit_counts None = refl

@@ -13,7 +13,7 @@ use Rattle.kb_partitions.specs.Partitions.{AreStarted, Entries, Restarts}
 use Rattle.kb_partitions.proofs.Put.{cases, found_put, get_here, other_number, own_number, same_number}
 use Rattle.kb_world.specs.Calls.{known_at, with_committed}
 use Rattle.kb_world.specs.Parts.{recorded_start, start_said}
-use Rattle.kb_world.specs.declared.place.Place.{Place}
+use Rattle.kb_world.specs.declared.topic_partition.TopicPartition.{TopicPartition}
 use Rattle.kb_world.proofs.StillKept.{inserted_here, inserted_other, other_removed}
 
 -- as many starts are recorded as before, and the same
@@ -94,7 +94,7 @@ start_restarts k new i p z n offset ei en e =
     (sym (ap (λ y. step k (start_command y n offset)) ei ∙ ap (λ y. step k (start_command (pos i) y offset)) en) ∙ e)
 
 -- a commit moves none
-pub commit_starts : (k : Known) (place : Place) (group : List ℕ) (c : CommittedOffset) (o : Option PartitionState) → known_at k place ≡ o → SameStarts k (with_committed k place group c o)
+pub commit_starts : (k : Known) (place : TopicPartition) (group : List ℕ) (c : CommittedOffset) (o : Option PartitionState) → known_at k place ≡ o → SameStarts k (with_committed k place group c o)
 commit_starts k place group c None at i p = refl
 commit_starts k place group c (Some q) at i p =
     let one = restarts k place.instance place.number (with_commit q group c) q at in

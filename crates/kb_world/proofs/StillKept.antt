@@ -19,7 +19,7 @@ use Rattle.kb_partitions.specs.Logs.{Logs, LogState, dropped, log_at, no_log, pu
 use Rattle.kb_partitions.proofs.Put.{cases, lookup_put, other_number, own_number}
 use Rattle.kb_world.specs.KeptUntil.{AreAllKept, IsKeptAt}
 use Rattle.kb_world.specs.World.{World}
-use Rattle.kb_world.specs.declared.place.Place.{Place}
+use Rattle.kb_world.specs.declared.topic_partition.TopicPartition.{TopicPartition}
 
 same_number : (k i : ℕ) → is_at (nat_cmp k) i ≡ true → k ≡ i
 same_number k i e = eqb-true k i (sym (unsigned_tied k i) ∙ e)
@@ -147,11 +147,11 @@ as_deleted old new i e gone j t at =
 
 -- ---- partitions
 
-pub weaker : (u v : ℤ) (w : World) (place : Place) → u ≤ℤ v → IsKeptAt v w place → IsKeptAt u w place
+pub weaker : (u v : ℤ) (w : World) (place : TopicPartition) → u ≤ℤ v → IsKeptAt v w place → IsKeptAt u w place
 weaker u v w place le kept t l at there clock early = kept t l at there clock (omega (arith, ints, early, le))
 
 -- the topics have the settings that they had, and a log is one that was there
-kept_still : (u : ℤ) (w w' : World) (place : Place) (t : TopicState) (l : LogState) → AreAllKept u w → WasThere w.known place.instance t → log_at place.instance place.number w.logs ≡ Some l
+kept_still : (u : ℤ) (w w' : World) (place : TopicPartition) (t : TopicState) (l : LogState) → AreAllKept u w → WasThere w.known place.instance t → log_at place.instance place.number w.logs ≡ Some l
     → IsKeptUntil u t.config.retention_ms t.config.retention_bytes l.start l.end l.batches
 kept_still u w w' place t l kept was there =
     subst (λ (c : TopicConfig). IsKeptUntil u c.retention_ms c.retention_bytes l.start l.end l.batches) (sym was.config) (kept place was.former l was.at there)
@@ -161,7 +161,7 @@ kept_by u w w' were same kept place t l at there =
     kept_still u w w' place t l kept (were place.instance t at) (ap (λ ls. log_at place.instance place.number ls) (sym same) ∙ there)
 
 -- one partition's log changed
-pub kept_put : (u v : ℤ) (w w' : World) (place : Place) → v ≤ℤ u → WereThere w.known w'.known
+pub kept_put : (u v : ℤ) (w w' : World) (place : TopicPartition) → v ≤ℤ u → WereThere w.known w'.known
     → ((i p : ℕ) (l : LogState) → ((i ≡ place.instance) × (p ≡ place.number) → ⊥) → log_at i p w'.logs ≡ Some l → log_at i p w.logs ≡ Some l)
     → AreAllKept u w → IsKeptAt v w' place → AreAllKept v w'
 kept_put u v w w' place le were others kept here q t l at there =
@@ -171,7 +171,7 @@ kept_put u v w w' place le were others kept here q t l at there =
             let one : place.instance ≡ q.instance = same_number place.instance q.instance a in
             let two : place.number ≡ q.number = same_number place.number q.number b in
             let same : place ≡ q = (λ i. record { instance = one i; number = two i }) in
-            subst (λ (x : Place). IsKeptAt v w' x) same here t l at there
+            subst (λ (x : TopicPartition). IsKeptAt v w' x) same here t l at there
         | inr b ↦ other (λ both. other_number place.number q.number b both.1)
       ]
       | inr a ↦ other (λ both. other_number place.instance q.instance a both.0)

@@ -20,22 +20,22 @@ use Rattle.kb_partitions.specs.Logs.{LogState, with_log, with_new_logs, without_
 use Rattle.kb_partitions.specs.declared.fault.PartitionFault.{PartitionFault}
 use Rattle.kb_partitions.specs.declared.fault.PartitionFault.TheVariants as partition
 use Rattle.kb_world.specs.World.{World, log_in}
-use Rattle.kb_world.specs.declared.place.Place.{Place}
+use Rattle.kb_world.specs.declared.topic_partition.TopicPartition.{TopicPartition}
 
 -- with another log at a place
-abbrev pub with_log_at : World → Place → LogState → World
+abbrev pub with_log_at : World → TopicPartition → LogState → World
 with_log_at w place l = record w { logs = with_log place.instance place.number l w.logs }
 
 -- ---- one partition
 
-abbrev pub appended_to : World → Place → List ℕ → Option LogState → World × Result ℤ PartitionFault
+abbrev pub appended_to : World → TopicPartition → List ℕ → Option LogState → World × Result ℤ PartitionFault
 appended_to w place batch None = (w, Err partition.Unknown)
 appended_to w place batch (Some l) =
     if nat_le (2 ^ 63) (l.end + count_of batch) then (w, Err partition.Full)
     else (with_log_at w place (appended batch l), Ok (pos l.end))
 
 -- A batch is added at the log's end, which is the answer, unless the end would pass the greatest offset.
-abbrev pub append : World → Place → List ℕ → World × Result ℤ PartitionFault
+abbrev pub append : World → TopicPartition → List ℕ → World × Result ℤ PartitionFault
 append w place batch = appended_to w place batch (log_in w place)
 
 abbrev pub fetched_from : ℤ → ℕ → Bool → Option LogState → Result (List ℕ) PartitionFault
@@ -45,7 +45,7 @@ fetched_from offset limit first (Some l) =
     else Ok (fetched (natural offset) limit first l.batches)
 
 -- the whole batches from the one that holds the offset on, within a limit
-abbrev pub fetch : World → Place → ℤ → ℕ → Bool → Result (List ℕ) PartitionFault
+abbrev pub fetch : World → TopicPartition → ℤ → ℕ → Bool → Result (List ℕ) PartitionFault
 fetch w place offset limit first = fetched_from offset limit first (log_in w place)
 
 -- Records were added behind what there was, or there is what there was.
@@ -60,18 +60,18 @@ found_in timestamp None = Err partition.Unknown
 found_in timestamp (Some l) = Ok (first_at timestamp l.start l.batches)
 
 -- the first record from the start on that is not older than a timestamp
-abbrev pub find : World → Place → ℤ → Result (Option OffsetAndTimestamp) PartitionFault
+abbrev pub find : World → TopicPartition → ℤ → Result (Option OffsetAndTimestamp) PartitionFault
 find w place timestamp = found_in timestamp (log_in w place)
 
 -- where a log starts, and where it ends
-abbrev pub start_of : World → Place → Option ℤ
+abbrev pub start_of : World → TopicPartition → Option ℤ
 start_of w place = option_map (λ (l : LogState). pos l.start) (log_in w place)
 
-abbrev pub end_of : World → Place → Option ℤ
+abbrev pub end_of : World → TopicPartition → Option ℤ
 end_of w place = option_map (λ (l : LogState). pos l.end) (log_in w place)
 
 -- what becomes of a batch, by its producer's batches in the log
-abbrev pub judged : World → Place → List ℕ → Option Verdict
+abbrev pub judged : World → TopicPartition → List ℕ → Option Verdict
 judged w place batch = option_map (λ (l : LogState). verdict (kept_all l.batches) (kept_of batch)) (log_in w place)
 
 -- ---- topics and producer ids
@@ -109,24 +109,24 @@ issue w = issued_unless w (issue_refusal w.known)
 -- ---- committed offsets
 
 -- what the catalog has of the partition at a place
-abbrev pub known_at : Known → Place → Option PartitionState
+abbrev pub known_at : Known → TopicPartition → Option PartitionState
 known_at k place = partition_at k (pos place.instance) (pos place.number)
 
 -- what is known where a group's offset, with what it writes beside it, stands in the place of the one that it had committed
-abbrev pub with_committed : Known → Place → List ℕ → CommittedOffset → Option PartitionState → Known
+abbrev pub with_committed : Known → TopicPartition → List ℕ → CommittedOffset → Option PartitionState → Known
 with_committed k place group c None = k
 with_committed k place group c (Some p) = with_partition k (pos place.instance) (pos place.number) (with_commit p group c)
 
-abbrev pub committed_unless : World → Place → List ℕ → CommittedOffset → Option CatalogFault → World × Result (Unit {0}) CatalogFault
+abbrev pub committed_unless : World → TopicPartition → List ℕ → CommittedOffset → Option CatalogFault → World × Result (Unit {0}) CatalogFault
 committed_unless w place group c (Some f) = (w, Err f)
 committed_unless w place group c None = (record w { known = with_committed w.known place group c (known_at w.known place) }, Ok tt)
 
 -- A group commits an offset to a partition, with metadata beside it.
-abbrev pub commit : World → Place → List ℕ → ℤ → List ℕ → World × Result (Unit {0}) CatalogFault
+abbrev pub commit : World → TopicPartition → List ℕ → ℤ → List ℕ → World × Result (Unit {0}) CatalogFault
 commit w place group offset metadata = committed_unless w place group (record { offset = offset; metadata = metadata }) (commit_refusal metadata (known_at w.known place))
 
 -- what a group committed to a partition, if it did
-abbrev pub committed : World → Place → List ℕ → Option CommittedOffset
+abbrev pub committed : World → TopicPartition → List ℕ → Option CommittedOffset
 committed w place group = option_and_then (committed_at group) (known_at w.known place)
 
 -- ---- deletion of records
@@ -135,13 +135,13 @@ committed w place group = option_and_then (committed_at group) (known_at w.known
 abbrev pub start_asked : ℤ → ℤ → ℤ
 start_asked offset end = if int_eq offset (negsuc 0) then end else offset
 
-abbrev pub deleted_to : World → Place → ℤ → Option Known → World × Result ℤ PartitionFault
+abbrev pub deleted_to : World → TopicPartition → ℤ → Option Known → World × Result ℤ PartitionFault
 deleted_to w place start None = (w, Err partition.Unknown)
 deleted_to w place start (Some k) =
     (record w { known = k; logs = without_below place.instance place.number start (log_in w place) w.logs }, Ok start)
 
 -- The start of a partition moves to an offset, which is the answer: the catalog records that, and the batches that end at most there go.
-abbrev pub start_moved : World → Place → ℤ → World × Result ℤ PartitionFault
+abbrev pub start_moved : World → TopicPartition → ℤ → World × Result ℤ PartitionFault
 start_moved w place start = deleted_to w place start (step w.known (start_command (pos place.instance) (pos place.number) start))
 
 -- what a partition answers where the catalog refuses its new start; a meta log that is full is the store's refusal
@@ -151,18 +151,18 @@ fault_of catalog.Store = partition.Store
 fault_of catalog.Memory = partition.Memory
 fault_of _ = partition.Unknown
 
-abbrev pub deleted_below : World → Place → ℤ → LogState → World × Result ℤ PartitionFault
+abbrev pub deleted_below : World → TopicPartition → ℤ → LogState → World × Result ℤ PartitionFault
 deleted_below w place start l =
     if int_lt start (pos 0) || int_lt (pos l.end) start then (w, Err partition.Range)
     else if int_lt (pos l.start) start then start_moved w place start
     else (w, Ok (pos l.start))
 
-abbrev pub deleted_from : World → Place → ℤ → Option LogState → World × Result ℤ PartitionFault
+abbrev pub deleted_from : World → TopicPartition → ℤ → Option LogState → World × Result ℤ PartitionFault
 deleted_from w place offset None = (w, Err partition.Unknown)
 deleted_from w place offset (Some l) = deleted_below w place (start_asked offset (pos l.end)) l
 
 -- The start of a partition moves to an offset that lies above it. The answer is the start.
-abbrev pub delete_records : World → Place → ℤ → World × Result ℤ PartitionFault
+abbrev pub delete_records : World → TopicPartition → ℤ → World × Result ℤ PartitionFault
 delete_records w place offset = deleted_from w place offset (log_in w place)
 
 -- ---- retention
@@ -175,35 +175,35 @@ due_in w None l = None
 due_in w (Some t) None = None
 
 -- the start of a partition after retention by its topic's settings, where it is above the one that it has
-abbrev pub due : World → Place → Option ℕ
+abbrev pub due : World → TopicPartition → Option ℕ
 due w place = due_in w (topic_at place.instance w.known.topics) (log_in w place)
 
-abbrev pub moved_to : World → Place → ℕ → Option Known → World × Bool
+abbrev pub moved_to : World → TopicPartition → ℕ → Option Known → World × Bool
 moved_to w place start None = (w, false)
 moved_to w place start (Some k) = (record w { known = k; logs = without_below place.instance place.number (pos start) (log_in w place) w.logs }, true)
 
-abbrev pub retained_from : World → Place → Option ℕ → World × Bool
+abbrev pub retained_from : World → TopicPartition → Option ℕ → World × Bool
 retained_from w place None = (w, false)
 retained_from w place (Some start) = moved_to w place start (step w.known (start_command (pos place.instance) (pos place.number) (pos start)))
 
 -- The new start of a partition is recorded, and the batches that end at most there go; and whether any goes.
-abbrev pub retain : World → Place → World × Bool
+abbrev pub retain : World → TopicPartition → World × Bool
 retain w place = retained_from w place (due w place)
 
 -- the partition of that number of the topic of an instance
-abbrev pub numbered : ℕ → ℕ → Place
+abbrev pub numbered : ℕ → ℕ → TopicPartition
 numbered instance number = record { instance = instance; number = number }
 
 -- the partitions of a topic, by number
-abbrev pub places_of_topic : ℕ × TopicState → List Place
+abbrev pub places_of_topic : ℕ × TopicState → List TopicPartition
 places_of_topic topic = map (numbered topic.0) (range_with_len 0 (length topic.1.partitions))
 
 -- the partitions of all topics, by name and number
-abbrev pub all_places : World → List Place
+abbrev pub all_places : World → List TopicPartition
 all_places w = flat_map places_of_topic (by_name w.known.topics)
 
 -- The batches that the settings keep no longer go from each of these partitions in turn; and whether any goes.
-abbrev pub retain_each : List Place → World → World × Bool
+abbrev pub retain_each : List TopicPartition → World → World × Bool
 retain_each [] w = (w, false)
 retain_each (place ∷ places) w =
     let first = retain w place in

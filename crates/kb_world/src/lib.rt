@@ -9,10 +9,10 @@
 mod kept;
 mod logs;
 mod parts;
-mod place;
 mod records;
 mod retention;
+mod topic_partition;
 mod topics;
 
 pub use parts::Parts;
-pub use place::Place;
+pub use topic_partition::TopicPartition;

@@ -11,7 +11,7 @@ ghost use Rattle.kb_world.specs.Parts.{Agrees, IsSound, Owns, entries, meta, rai
 ghost use Rattle.kb_world.specs.Restored.{AreFitting, DoAgree, IsOfEither, restored_world};
 ghost use Rattle.kb_world.specs.World.{new_world};
 
-use crate::place::Place;
+use crate::topic_partition::TopicPartition;
 use kb_batch::BatchView;
 use kb_log::PartitionLog;
 use kb_partitions::Partitions;
@@ -166,21 +166,21 @@ impl<L: PartitionLog> Parts<L> {
     }
 
     /// What a group committed to a partition; none where it committed nothing to it, or there is no such partition.
-    pub fn committed(&self, place: Place, group: &str) -> Option<&Committed>
+    pub fn committed(&self, place: TopicPartition, group: &str) -> Option<&Committed>
         ensures { (files : Files) → option_copied result ≡ committed (world_of L.log self.now files) place group.now }
     {
         self.catalog.committed(group, place.instance, place.number)
     }
 
     /// The offset of a partition's first record, or else its end; none where there is no such partition.
-    pub fn start(&self, place: Place) -> Option<i64>
+    pub fn start(&self, place: TopicPartition) -> Option<i64>
         ensures { (files : Files) → result ≡ start_of (world_of L.log self.now files) place }
     {
         self.partitions.start(place.instance, place.number)
     }
 
     /// The offset behind a partition's last record; none where there is no such partition.
-    pub fn end(&self, place: Place) -> Option<i64>
+    pub fn end(&self, place: TopicPartition) -> Option<i64>
         ensures { (files : Files) → result ≡ end_of (world_of L.log self.now files) place }
     {
         self.partitions.end(place.instance, place.number)
@@ -189,7 +189,7 @@ impl<L: PartitionLog> Parts<L> {
     /// What becomes of a batch, by its producer's batches in the partition's log; none where there is no such partition.
     ///
     /// It takes no memory. Whether the producer's id was ever given out is not asked here.
-    pub fn judge(&self, place: Place, batch: &BatchView<'_>) -> Option<Verdict>
+    pub fn judge(&self, place: TopicPartition, batch: &BatchView<'_>) -> Option<Verdict>
         ensures { (files : Files) → Agrees L.log self.now files → result ≡ judged (world_of L.log self.now files) place batch.now }
     {
         self.partitions.judge(place.instance, place.number, batch)

@@ -10,7 +10,7 @@ use kb_batch::BatchView;
 use kb_log::{ListLog, Shelf};
 use kb_store::MemoryStore;
 use kb_topics::TopicConfig;
-use kb_world::{Parts, Place};
+use kb_world::{Parts, TopicPartition};
 use std::alloc::Global;
 use std::process::Abort;
 use std::test::Fail;
@@ -21,7 +21,7 @@ pub(super) enum Step<'a> {
     /// A topic of that name and number of partitions is made, with those settings.
     Create(&'a str, i32, TopicConfig),
     /// The batch is appended to a partition, at that offset.
-    Append(Place, i64),
+    Append(TopicPartition, i64),
     /// Retention of all partitions, and whether it dropped a batch.
     RetainAll(bool),
     /// The clock up to which no partition has anything to drop.

@@ -13,7 +13,7 @@ use kb_api_data::{FetchPartition, FetchRequest};
 use kb_log::{PartitionLog, Shelf};
 use kb_store::Store;
 use kb_wire::Sink;
-use kb_world::{Parts, Place};
+use kb_world::{Parts, TopicPartition};
 use std::alloc::{AllocError, Global};
 
 /// What became of a fetch.
@@ -22,12 +22,15 @@ pub(crate) enum Fetching {
     /// Its reply was written.
     Reply,
     /// It waits for one of these partitions, until the deadline at most.
-    Wait { deadline: u64, keys: Vec<Place> },
+    Wait {
+        deadline: u64,
+        keys: Vec<TopicPartition>,
+    },
 }
 
 /// Adds the partitions that a topic's entries ask for.
 fn add_places(
-    places: &mut Vec<Place>,
+    places: &mut Vec<TopicPartition>,
     topic: Option<u64>,
     entries: &[FetchPartition],
 ) -> Result<(), AllocError>
@@ -46,7 +49,7 @@ fn places<L: PartitionLog + Drop>(
     alloc: Global,
     parts: &Parts<L>,
     request: &FetchRequest<'_>,
-) -> Result<Vec<Place>, AllocError>
+) -> Result<Vec<TopicPartition>, AllocError>
     ensures { IfOk result (λ places.
         (files : Files) → places.items ≡ places_of (world_of L.log parts.now files) request.now) }
 {

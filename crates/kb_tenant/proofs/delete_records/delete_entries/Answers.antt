@@ -5,7 +5,7 @@ use Rattle.kb_api_data.specs.declared.delete_records.DeleteRecordsPartition.{Del
 use Rattle.kb_world.specs.Parts.{scene}
 use Rattle.kb_world.specs.Steps.{step_same, step_then, meets_then, meets_so}
 use Rattle.kb_world.specs.World.{World}
-use Rattle.kb_world.specs.declared.place.Place.{Place}
+use Rattle.kb_world.specs.declared.topic_partition.TopicPartition.{TopicPartition}
 use Rattle.kb_tenant.specs.DeleteRecords.{deleted}
 use Rattle.kb_tenant.specs.Told.{CatalogFailed, IsTrimTold}
 use Rattle.kb_tenant.proofs.Acknowledging.{honest_then, served_all, served_next, written_more}
@@ -47,8 +47,8 @@ loop-entry-preserved g c =
     let d = scene log disk c.delete_entry-reply.new.parts c.delete_entry-reply.new.shelf in
     let write = delete_records_partition_reply.written in
     let f = deleted c.args.topic in
-    let p : World × List Place = (b.state.world, c.loop-entry.touched.items) in
-    let q : World × List Place = (d.state.world, c.delete_entry-reply.new.touched.items) in
+    let p : World × List TopicPartition = (b.state.world, c.loop-entry.touched.items) in
+    let q : World × List TopicPartition = (d.state.world, c.delete_entry-reply.new.touched.items) in
     record {
       step = step_then a b d c.loop-entry.invariant.step c.delete_entry-reply.ensures.step;
       kept = kept_then c.args.touched.now.items c.loop-entry.touched.items c.delete_entry-reply.new.touched.items c.loop-entry.invariant.kept c.delete_entry-reply.ensures.kept;
@@ -60,7 +60,7 @@ loop-entry-preserved g c =
           let first = c.loop-entry.invariant.step in
           let second = c.delete_entry-reply.ensures.step in
           let entries = c.args.entries.now in
-          let start : World × List Place = (a.state.world, c.args.touched.now.items) in
+          let start : World × List TopicPartition = (a.state.world, c.args.touched.now.items) in
           let i = c.loop-entry.entry-index in
           let none : DeleteRecordsPartition = record { partition = pos 0; offset = pos 0 } in
           let e = get_or entries i none in

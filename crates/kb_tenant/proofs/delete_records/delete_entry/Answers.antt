@@ -10,7 +10,7 @@ use Rattle.kb_world.specs.Steps.{IsStep, step_same}
 use Rattle.kb_world.specs.Told.{Deletes, IsDeletionWant}
 use Rattle.kb_world.specs.World.{place_in}
 use Rattle.kb_world.specs.declared.parts.Parts.{Parts}
-use Rattle.kb_world.specs.declared.place.Place.{Place}
+use Rattle.kb_world.specs.declared.topic_partition.TopicPartition.{TopicPartition}
 use Rattle.kb_tenant.specs.DeleteRecords.{deleted, deleted_at, deletion_answered}
 use Rattle.kb_tenant.specs.Told.{IsDeletionTold, IsRefusalFor}
 use Rattle.kb_tenant.proofs.DeletedRecords.{told_more}
@@ -32,8 +32,8 @@ pub returns-clause-kept : goal.returns-clause-kept
 returns-clause-kept g c =
     let old = c.args.touched.now.items in
     elim c.match-new.branch [
-      | in-Some w ↦ ap (take (length old)) (ap (λ (v : Vec Place Global). v.items) w.touched-is) ∙ told_more old old w.delete_at-deleted.new.touched.items w.in-Some.place w.delete_at-deleted.result w.delete_at-deleted.ensures.touched (take_all (length old) old (omega arith))
-      | in-None w ↦ ap (take (length old)) (ap (λ (v : Vec Place Global). v.items) w.touched-is) ∙ take_all (length old) old (omega arith)
+      | in-Some w ↦ ap (take (length old)) (ap (λ (v : Vec TopicPartition Global). v.items) w.touched-is) ∙ told_more old old w.delete_at-deleted.new.touched.items w.in-Some.place w.delete_at-deleted.result w.delete_at-deleted.ensures.touched (take_all (length old) old (omega arith))
+      | in-None w ↦ ap (take (length old)) (ap (λ (v : Vec TopicPartition Global). v.items) w.touched-is) ∙ take_all (length old) old (omega arith)
     ]
 
 pub returns-clause-told : goal.returns-clause-told
@@ -45,7 +45,7 @@ returns-clause-told g c =
     let old = c.args.touched.now.items in
     let x = c.answered.result in
     let index : FitsSigned w32 entry.partition = search rules in
-    let told : Parts g.row.L.Denot → Shelved g.row.S.Denot → Vec Place Global → Type 0 = λ p s t.
+    let told : Parts g.row.L.Denot → Shelved g.row.S.Denot → Vec TopicPartition Global → Type 0 = λ p s t.
     let b = scene log disk p s in
     IsDeletionTold a b x.error_code (((b.state.world, t.items), x) ≡ deleted c.args.topic (a.state.world, old) entry)
     (IsRefusalFor (IsDeletionWant a b) entry.partition x × (t.items ≡ old)) in

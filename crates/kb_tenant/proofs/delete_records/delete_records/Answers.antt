@@ -4,7 +4,7 @@ use Rattle.kb_api_data.specs.Layouts.{delete_records_topic_reply}
 use Rattle.kb_world.specs.Parts.{scene}
 use Rattle.kb_world.specs.Steps.{step_same, step_then, meets_then, meets_so}
 use Rattle.kb_world.specs.World.{World}
-use Rattle.kb_world.specs.declared.place.Place.{Place}
+use Rattle.kb_world.specs.declared.topic_partition.TopicPartition.{TopicPartition}
 use Rattle.kb_tenant.specs.DeleteRecords.{deleted_topic}
 use Rattle.kb_tenant.specs.Told.{CatalogFailed, IsTrimTopicTold}
 use Rattle.kb_tenant.proofs.Acknowledging.{honest_then, served_all, served_next, written_more}
@@ -53,8 +53,8 @@ loop-topic-preserved g c =
     let b = scene log disk c.loop-topic.parts c.loop-topic.shelf in
     let d = scene log disk c.delete_in_topic.new.parts c.delete_in_topic.new.shelf in
     let write = delete_records_topic_reply.written in
-    let p : World × List Place = (b.state.world, c.loop-topic.touched.items) in
-    let q : World × List Place = (d.state.world, c.delete_in_topic.new.touched.items) in
+    let p : World × List TopicPartition = (b.state.world, c.loop-topic.touched.items) in
+    let q : World × List TopicPartition = (d.state.world, c.delete_in_topic.new.touched.items) in
     let i = c.loop-topic.topic-index in
     record {
       step = step_then a b d c.loop-topic.invariant.step c.delete_in_topic.ensures.step;
@@ -68,7 +68,7 @@ loop-topic-preserved g c =
           let first = c.loop-topic.invariant.step in
           let second = c.delete_in_topic.ensures.step in
           let topics = c.args.request.now.topics in
-          let start : World × List Place = (a.state.world, c.args.touched.now.items) in
+          let start : World × List TopicPartition = (a.state.world, c.args.touched.now.items) in
           let t = c.topic-item.result in
           let both = honest_then a b d _ _ first second c.loop-topic.invariant.answers c.in_ok-delete_in_topic.ensures.told honest agree in
           let earlier = both.0 in
@@ -93,7 +93,7 @@ returns-clause-meets g c =
     let a = scene log disk c.args.parts.now c.args.shelf.now in
     let b = scene log disk c.loop-topic.parts c.loop-topic.shelf in
     let request = c.args.request.now in
-    let p : World × List Place = (b.state.world, c.loop-topic.touched.items) in
+    let p : World × List TopicPartition = (b.state.world, c.loop-topic.touched.items) in
     let i = c.loop-topic.topic-index in
     let over = turn_over delete_records_topic_reply.written deleted_topic c.loop-topic.sink.bytes p request.topics i (subst (λ ts. length ts ≤ i) c.as_slice-topic-items.ensures c.loop-topic-test.false) in
     meets_so a b _ _
@@ -110,8 +110,8 @@ returns-clause-told g c = λ honest agree.
     let b = scene log disk c.loop-topic.parts c.loop-topic.shelf in
     let request = c.args.request.now in
     let i = c.loop-topic.topic-index in
-    let start : World × List Place = (a.state.world, c.args.touched.now.items) in
-    let end : World × List Place = (b.state.world, c.loop-topic.touched.items) in
+    let start : World × List TopicPartition = (a.state.world, c.args.touched.now.items) in
+    let end : World × List TopicPartition = (b.state.world, c.loop-topic.touched.items) in
     let so = c.loop-topic.invariant.answers honest agree in
     let all = served_all (IsTrimTopicTold (CatalogFailed a b)) start end request.topics i so.0
     (subst (λ ts. length ts ≤ i) c.as_slice-topic-items.ensures c.loop-topic-test.false) so.1.1 in

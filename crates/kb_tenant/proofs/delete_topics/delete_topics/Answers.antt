@@ -12,7 +12,7 @@ use Rattle.kb_world.specs.Steps.{step_same, step_then, meets_then, meets_so}
 use Rattle.kb_tenant.specs.Told.{CatalogFailed, IsRemovalTold}
 use Rattle.kb_tenant.specs.Turns.{in_turn, AreServed}
 use Rattle.kb_world.specs.World.{World}
-use Rattle.kb_world.specs.declared.place.Place.{Place}
+use Rattle.kb_world.specs.declared.topic_partition.TopicPartition.{TopicPartition}
 use Rattle.kb_tenant.proofs.Acknowledging.{honest_then, served_all, served_length, served_next, written_more}
 use Rattle.kb_tenant.proofs.Deleting.{answered_is, deleted_fits, name_short, names_fit, deletions_written, kept_more}
 use Rattle.kb_tenant.proofs.Fitting.{array_written, written_both}
@@ -104,11 +104,11 @@ returns-clause-meets g c = λ honest agrees calm.
     let start = c.args.sink.now.bytes in
     let head = c.put_throttle.new.sink.bytes in
     let end = c.loop-name.sink.bytes in
-    let s : World × List Place = (a.state.world, c.args.touched.now.items) in
-    let t : World × List Place = (b.state.world, c.loop-name.touched.items) in
+    let s : World × List TopicPartition = (a.state.world, c.args.touched.now.items) in
+    let t : World × List TopicPartition = (b.state.world, c.loop-name.touched.items) in
     let over = entries_over delete_topic_reply deleted_topic head c.put_count.new.self.bytes end s t names c.loop-name.name-index c.loop-name-test.false c.in_ok-put_count.ensures.ok (c.loop-name.invariant.told honest agrees calm) in
-    let world : t.0 ≡ (in_turn deleted_topic s names).0.0 = ap (λ (x : World × List Place). x.0) over.0 in
-    let touched : t.1 ≡ (in_turn deleted_topic s names).0.1 = ap (λ (x : World × List Place). x.1) over.0 in
+    let world : t.0 ≡ (in_turn deleted_topic s names).0.0 = ap (λ (x : World × List TopicPartition). x.0) over.0 in
+    let touched : t.1 ≡ (in_turn deleted_topic s names).0.1 = ap (λ (x : World × List TopicPartition). x.1) over.0 in
     let before : head ≡ start ++ throttle_in c.args.version = c.in_ok-put_throttle.ensures ∙ ap (λ v. start ++ throttle_in v) (to_z-of_z w16 c.args.version c.ranges.version) in
     let bytes : end ≡ start ++ deletions_in c.args.version (record { topics = (in_turn deleted_topic s names).1 }) = deletions_written c.args.version start head end (in_turn deleted_topic s names).1 before over.1 in
     subst (λ (xs : List (List ℕ)). let r = in_turn deleted_topic s xs in (t.0 ≡ r.0.0) × (t.1 ≡ r.0.1) × (end ≡ start ++ deletions_in c.args.version (record { topics = r.1 }))) c.as_slice-names.ensures (world, touched, bytes)
@@ -123,8 +123,8 @@ returns-clause-told g c = λ honest agree.
     let start = c.args.sink.now.bytes in
     let head = c.put_throttle.new.sink.bytes in
     let end = c.loop-name.sink.bytes in
-    let s : World × List Place = (a.state.world, c.args.touched.now.items) in
-    let t : World × List Place = (b.state.world, c.loop-name.touched.items) in
+    let s : World × List TopicPartition = (a.state.world, c.args.touched.now.items) in
+    let t : World × List TopicPartition = (b.state.world, c.loop-name.touched.items) in
     let so = c.loop-name.invariant.answers honest agree in
     let all = served_all (IsRemovalTold (CatalogFailed a b)) s t names c.loop-name.name-index so.0 c.loop-name-test.false so.1.1 in
     let many = sym (served_length (IsRemovalTold (CatalogFailed a b)) s t names so.0 all) in

@@ -4,21 +4,21 @@ ghost use Rattle.kb_world.specs.World.{place_in};
 
 /// A partition of a tenant: the instance of its topic, and its number. No two topics ever have the same instance.
 #[derive(Clone, Copy, Debug, PartialEq, Eq)]
-pub struct Place {
+pub struct TopicPartition {
     pub instance: u64,
     pub number: usize,
 }
 
-impl Place {
+impl TopicPartition {
     /// Where a partition of a topic would be. There is none where there is no topic, or the number is negative.
-    pub fn new(topic: Option<u64>, partition: i32) -> Option<Place>
+    pub fn new(topic: Option<u64>, partition: i32) -> Option<TopicPartition>
         ensures { result ≡ place_in topic partition }
     {
         let instance = topic?;
         if partition < 0 {
             return None;
         }
-        Some(Place {
+        Some(TopicPartition {
             instance,
             number: partition as usize,
         })

@@ -1,4 +1,5 @@
--- Kafka's names of error codes (Kafka protocol guide, "Error Codes"): of those that answer SaslHandshake, SaslAuthenticate, CreateTopics, DeleteTopics and Metadata.
+-- Kafka's names of error codes (Kafka protocol guide, "Error Codes"): of those that answer SaslHandshake, SaslAuthenticate,
+-- CreateTopics, DeleteTopics and Metadata.
 use Rattle.std.specs.Prelude.{ℕ, ℤ, pos, negsuc, List, Option, Some, None, codes, if◌then◌else◌}
 use Rattle.std.specs.Ordering.{int_eq}
 

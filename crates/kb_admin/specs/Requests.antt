@@ -15,7 +15,8 @@ plain_message user password = 0 ∷ user ++ 0 ∷ password
 
 -- SaslAuthenticate
 abbrev pub authenticate_text : ℤ → List ℕ → List ℕ → List ℕ
-authenticate_text id user password = request_text (pos 36) (pos 0) id (sasl_authenticate_request.written (record { auth_bytes = plain_message user password }))
+authenticate_text id user password =
+    request_text (pos 36) (pos 0) id (sasl_authenticate_request.written (record { auth_bytes = plain_message user password }))
 
 -- a setting, as CreateTopics has it
 abbrev pub config_of : Setting → CreateConfig
@@ -24,7 +25,13 @@ config_of s = record { name = s.key; value = Some s.value }
 -- CreateTopics: the topic with its partitions and settings, one replica and no assignment
 abbrev pub create_text : ℤ → NewTopic → List ℕ
 create_text id t = request_text (pos 19) (pos 0) id (create_topics_request.written (record {
-  topics = record { name = t.name; num_partitions = t.partitions; replication_factor = pos 1; assignments = []; configs = map config_of t.settings.items } ∷ [];
+  topics = record {
+    name = t.name;
+    num_partitions = t.partitions;
+    replication_factor = pos 1;
+    assignments = [];
+    configs = map config_of t.settings.items;
+  } ∷ [];
   timeout_ms = pos 5000;
 }))
 

@@ -3,7 +3,8 @@
 ghost use Rattle.std.specs.Prelude.{◌≡◌, IfOk, map};
 ghost use Rattle.kb_wire.specs.Reads.{Answers, ReadsWhole};
 ghost use Rattle.kb_client.specs.Replies.{body_for};
-ghost use Rattle.kb_admin.specs.Replies.{handshake_code, authenticate_code, created_code, deleted_code, listed, listed_topics, sole_created, sole_deleted};
+ghost use Rattle.kb_admin.specs.Replies.{handshake_code, authenticate_code, created_code, deleted_code, listed, listed_topics};
+ghost use Rattle.kb_admin.specs.Replies.{sole_created, sole_deleted};
 
 use crate::listed::Listed;
 use kb_api_data::{

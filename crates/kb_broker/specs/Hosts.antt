@@ -32,7 +32,8 @@ pub record IsLaterWith (old new : Disk) (strays left : Option (List ℕ)) (ts us
   pub left_alone : AreLeftAlone (unwrap_or strays []) old new
 
 abbrev pub AreLater : {L S : Type 0} → (L → Log) → (S → Disk) → Tenants L S → Tenants L S → Type 0
-AreLater log disk old new = IsLaterWith (disk old.shelf.store) (disk new.shelf.store) (numbers_in old.strays) (numbers_in new.strays) (tenants_in log disk old) (tenants_in log disk new)
+AreLater log disk old new = IsLaterWith (disk old.shelf.store) (disk new.shelf.store) (numbers_in old.strays) (numbers_in new.strays)
+    (tenants_in log disk old) (tenants_in log disk new)
 
 -- 2. The broker
 
@@ -53,7 +54,8 @@ IsLater disk old new = IsLaterWith (disk old.store) (disk new.store) old.strays 
 -- Where it is known which files are of no log, and nothing was ever refused to a tenant, what the tenants have is in the files of the
 -- store, unless it lied: opened again the files come to the same.
 abbrev pub IsInFiles : {L S : Type 0} → (L → Log) → (S → Disk) → OnStore S → Type 0
-IsInFiles log disk b = is_honest disk b → (strays : List ℕ) → b.strays ≡ Some strays → all_calm b.state.tenants ≡ true → AreKeptIn log (disk b.store) strays b.state.tenants
+IsInFiles log disk b = is_honest disk b → (strays : List ℕ) → b.strays ≡ Some strays → all_calm b.state.tenants ≡ true
+    → AreKeptIn log (disk b.store) strays b.state.tenants
 
 -- an event is a step, unless the store lied
 abbrev pub StepsTo : {S : Type 0} → (S → Disk) → Happening → OnStore S → OnStore S → Type 0

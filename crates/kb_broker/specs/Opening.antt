@@ -34,20 +34,22 @@ between key least greatest = record { api_key = pos key; min_version = pos least
 abbrev pub at_version : ℕ → ℕ → ApiVersion
 at_version key version = between key version version
 
--- each API at one version, but Fetch at two, by rising key: Produce, Fetch, ListOffsets, Metadata, OffsetCommit, OffsetFetch, FindCoordinator, JoinGroup,
--- Heartbeat, LeaveGroup, SyncGroup, SaslHandshake, ApiVersions, CreateTopics, DeleteTopics, DeleteRecords, InitProducerId,
--- SaslAuthenticate
+-- each API at one version, but Fetch at two, by rising key: Produce, Fetch, ListOffsets, Metadata, OffsetCommit, OffsetFetch,
+-- FindCoordinator, JoinGroup, Heartbeat, LeaveGroup, SyncGroup, SaslHandshake, ApiVersions, CreateTopics, DeleteTopics, DeleteRecords,
+-- InitProducerId, SaslAuthenticate
 abbrev pub served_versions : List ApiVersion
 served_versions =
     at_version 0 3 ∷ between 1 4 5 ∷ at_version 2 1 ∷ at_version 3 1 ∷ at_version 8 2 ∷ at_version 9 1 ∷ at_version 10 0 ∷ at_version 11 1 ∷
-    at_version 12 0 ∷ at_version 13 0 ∷ at_version 14 0 ∷ at_version 17 1 ∷ at_version 18 0 ∷ at_version 19 0 ∷ at_version 20 0 ∷ at_version 21 0 ∷ at_version 22 0 ∷
+    at_version 12 0 ∷ at_version 13 0 ∷ at_version 14 0 ∷ at_version 17 1 ∷ at_version 18 0 ∷ at_version 19 0 ∷ at_version 20 0 ∷ at_version
+    21 0 ∷ at_version 22 0 ∷
     at_version 36 0 ∷ []
 
 -- the same, but Metadata from 0 to 4, and SaslHandshake, CreateTopics and DeleteTopics from 0 to 1
 abbrev pub stock_versions : List ApiVersion
 stock_versions =
     at_version 0 3 ∷ between 1 4 5 ∷ at_version 2 1 ∷ between 3 0 4 ∷ at_version 8 2 ∷ at_version 9 1 ∷ at_version 10 0 ∷ at_version 11 1 ∷
-    at_version 12 0 ∷ at_version 13 0 ∷ at_version 14 0 ∷ between 17 0 1 ∷ at_version 18 0 ∷ between 19 0 1 ∷ between 20 0 1 ∷ at_version 21 0 ∷ at_version 22 0 ∷
+    at_version 12 0 ∷ at_version 13 0 ∷ at_version 14 0 ∷ between 17 0 1 ∷ at_version 18 0 ∷ between 19 0 1 ∷ between 20 0 1 ∷ at_version 21
+    0 ∷ at_version 22 0 ∷
     at_version 36 0 ∷ []
 
 -- the versions that are listed

@@ -1,5 +1,6 @@
 -- The queue of the connections that wait, beside the broker: what stands in it, and what it is good for.
-use Rattle.std.specs.Prelude.{◌≡◌, ◌≢◌, ◌↔◌, ℕ, List, map, Option, Some, None, option_map, [], ◌∷◌, ◌++◌, Bool, true, false, Contains, IsSomeAnd, ◌⊎◌, ⊤}
+use Rattle.std.specs.Prelude.{◌≡◌, ◌≢◌, ◌↔◌, ℕ, List, map, Option, Some, None, option_map, [], ◌∷◌, ◌++◌, Bool, true, false, Contains}
+use Rattle.std.specs.Prelude.{IsSomeAnd, ◌⊎◌, ⊤}
 use Rattle.std.specs.FinMap.{get}
 use Rattle.std.specs.declared.alloc.Global.{Global}
 use Rattle.std.specs.declared.vec.Vec.{Vec}
@@ -78,7 +79,8 @@ places_of o = option_map (λ (w : queue.Wait). w.keys) o
 abbrev pub IsKeyedAt : List TenantState → ℕ → Stage → Option queue.Wait → Type 0
 IsKeyedAt ts n (Greets handshaken) o = ⊤
 IsKeyedAt ts n (BoundTo t None) o = ⊤
-IsKeyedAt ts n (BoundTo t (Some w)) o = hosted.refusals_of ts t ≡ 0 → ready (hosted.kept_of ts t) 0 n w ≡ Silent → places_of o ≡ Some (keys_for t (asked (hosted.kept_of ts t) w))
+IsKeyedAt ts n (BoundTo t (Some w)) o = hosted.refusals_of ts t ≡ 0 → ready (hosted.kept_of ts t) 0 n w ≡ Silent
+    → places_of o ≡ Some (keys_for t (asked (hosted.kept_of ts t) w))
 
 abbrev pub IsKeyedIn : List TenantState → ℕ → Option Session → Option queue.Wait → Type 0
 IsKeyedIn ts n None o = ⊤
@@ -116,7 +118,8 @@ parked_for t answers.Rebalance = Some (record { deadline = until Group; keys = k
 
 -- a request of the tenant that waits and is not ready before nor after asks for the same partitions
 abbrev pub AreAskedStill : ℕ → List TenantState → List TenantState → Type 0
-AreAskedStill t old new = (n : ℕ) (w : Wait) → ready (hosted.kept_of old t) 0 n w ≡ Silent → ready (hosted.kept_of new t) 0 n w ≡ Silent → asked (hosted.kept_of new t) w ≡ asked (hosted.kept_of old t) w
+AreAskedStill t old new = (n : ℕ) (w : Wait) → ready (hosted.kept_of old t) 0 n w ≡ Silent → ready (hosted.kept_of new t) 0 n w ≡ Silent
+    → asked (hosted.kept_of new t) w ≡ asked (hosted.kept_of old t) w
 
 -- where nothing was ever refused to the tenant
 abbrev pub IsAskedOn : ℕ → List TenantState → List TenantState → Type 0
@@ -133,7 +136,8 @@ pub record IsPassedOn (setup : Setup) (t clock n : ℕ) (q : Queue) (old new : L
   pub kept : hosted.kept_of new t ≡ put setup (hosted.kept_of old t) clock n s.unread
   pub calm : hosted.refusals_of new t ≡ 0
   pub own : Contains ns n
-  pub others : (k : ℕ) (w : Wait) → k ≢ n → (Contains ns k → ⊥) → places_of (get q k) ≡ Some (keys_for t (asked (hosted.kept_of old t) w)) → ready (hosted.kept_of old t) clock k w ≡ Silent → ready (hosted.kept_of new t) clock k w ≡ Silent
+  pub others : (k : ℕ) (w : Wait) → k ≢ n → (Contains ns k → ⊥) → places_of (get q k) ≡ Some (keys_for t (asked (hosted.kept_of old t) w))
+      → ready (hosted.kept_of old t) clock k w ≡ Silent → ready (hosted.kept_of new t) clock k w ≡ Silent
 
 -- the connection of that number is among those, and all others that stand in the queue under the tenant
 pub record AreAllOf (t n : ℕ) (q : Queue) (ns : List ℕ) : Type 0 where
@@ -143,18 +147,22 @@ pub record AreAllOf (t n : ℕ) (q : Queue) (ns : List ℕ) : Type 0 where
 -- the connection of that number is among those, and nothing that waits elsewhere and was not ready is ready
 pub record AreAnswered (t clock n : ℕ) (old new : List TenantState) (ns : List ℕ) : Type 0 where
   pub own : Contains ns n
-  pub others : (k : ℕ) (w : Wait) → k ≢ n → (Contains ns k → ⊥) → ready (hosted.kept_of old t) clock k w ≡ Silent → ready (hosted.kept_of new t) clock k w ≡ Silent
+  pub others : (k : ℕ) (w : Wait) → k ≢ n → (Contains ns k → ⊥) → ready (hosted.kept_of old t) clock k w ≡ Silent
+      → ready (hosted.kept_of new t) clock k w ≡ Silent
 
--- nothing was refused to a tenant, its groups answer nobody who waited, and what waits and was not ready is not ready, if it asks none of those partitions
+-- nothing was refused to a tenant, its groups answer nobody who waited, and what waits and was not ready is not ready, if it asks none
+-- of those partitions
 pub record IsTouched (t clock : ℕ) (old new : List TenantState) (places : List TopicPartition) : Type 0 where
   pub calm : IsCalm (hosted.refusals_of old t) (hosted.refusals_of new t)
   pub none : has_released (hosted.kept_of new t).groups ≡ false
-  pub ready : (k : ℕ) (w : Wait) → AreApart (asked (hosted.kept_of old t) w) places → ready (hosted.kept_of old t) clock k w ≡ Silent → ready (hosted.kept_of new t) clock k w ≡ Silent
+  pub ready : (k : ℕ) (w : Wait) → AreApart (asked (hosted.kept_of old t) w) places → ready (hosted.kept_of old t) clock k w ≡ Silent
+      → ready (hosted.kept_of new t) clock k w ≡ Silent
 
 -- nothing was refused to a tenant, and what waits and was not ready is not ready, if its groups do not answer it
 pub record IsReleased (t clock : ℕ) (old new : List TenantState) : Type 0 where
   pub calm : IsCalm (hosted.refusals_of old t) (hosted.refusals_of new t)
-  pub ready : (k : ℕ) (w : Wait) → (Contains (answered_connections (hosted.kept_of new t).groups) k → ⊥) → ready (hosted.kept_of old t) clock k w ≡ Silent → ready (hosted.kept_of new t) clock k w ≡ Silent
+  pub ready : (k : ℕ) (w : Wait) → (Contains (answered_connections (hosted.kept_of new t).groups) k → ⊥)
+      → ready (hosted.kept_of old t) clock k w ≡ Silent → ready (hosted.kept_of new t) clock k w ≡ Silent
 
 -- what a request of a tenant touched, where that is known
 abbrev pub IsTouchedBy : Touched → ℕ → ℕ → List TenantState → List TenantState → Type 0
@@ -164,11 +172,13 @@ IsTouchedBy touches.Unknown t clock old new = ⊤
 
 -- the turn of a connection of number n bound to that tenant, of whose session s it leaves r, was not refused; the connection waits for
 -- nothing then, or the groups answer nobody who waited; and what waits and was not ready is not ready, if it asks none of those partitions
-pub record IsTouchedTurn (setup : Setup) (t clock n : ℕ) (old new : List TenantState) (s r : Session) (places : List TopicPartition) : Type 0 where
+pub record IsTouchedTurn (setup : Setup) (t clock n : ℕ) (old new : List TenantState) (s r : Session)
+    (places : List TopicPartition) : Type 0 where
   pub session : r ≡ after_turn setup (hosted.kept_of old t) clock n s
   pub kept : hosted.kept_of new t ≡ put setup (hosted.kept_of old t) clock n s.unread
   pub own : (has_released (hosted.kept_of new t).groups ≡ false) ⊎ (is_free r.stage ≡ true)
-  pub ready : (k : ℕ) (w : Wait) → AreApart (asked (hosted.kept_of old t) w) places → ready (hosted.kept_of old t) clock k w ≡ Silent → ready (hosted.kept_of new t) clock k w ≡ Silent
+  pub ready : (k : ℕ) (w : Wait) → AreApart (asked (hosted.kept_of old t) w) places → ready (hosted.kept_of old t) clock k w ≡ Silent
+      → ready (hosted.kept_of new t) clock k w ≡ Silent
 
 -- what such a turn touched, where that is known
 abbrev pub IsTouchedTurnBy : Touched → Setup → ℕ → ℕ → ℕ → List TenantState → List TenantState → Session → Session → Type 0
@@ -180,16 +190,18 @@ IsTouchedTurnBy touches.Unknown setup t clock n old new s r = ⊤
 pub record AreUnder (t n : ℕ) (ts : List TenantState) (q : Queue) (places : List TopicPartition) (ns : List ℕ) : Type 0 where
   pub calm : hosted.refusals_of ts t ≡ 0
   pub own : Contains ns n
-  pub under : (k : ℕ) (place : TopicPartition) → Contains places place → IsSomeAnd (get q k) (queue.IsUnder (key_of t place)) → Contains ns k
+  pub under : (k : ℕ) (place : TopicPartition) → Contains places place → IsSomeAnd (get q k) (queue.IsUnder (key_of t place))
+      → Contains ns k
 
 -- those connections are exactly the one of that number, and all that stand in the queue under the tenant
 abbrev pub AreTheTenants : ℕ → ℕ → Queue → List ℕ → Type 0
 AreTheTenants t n q ns = (k : ℕ) → Contains ns k ↔ (IsUnderTenant t (get q k) ⊎ (n ≡ k))
 
--- those connections are exactly those that stand in the queue under one of those partitions, where nothing was ever refused to the tenant; or those
--- that stand there under the tenant
+-- those connections are exactly those that stand in the queue under one of those partitions, where nothing was ever refused to the
+-- tenant; or those that stand there under the tenant
 abbrev pub AreWaitingFor : ℕ → List TenantState → Queue → List TopicPartition → List ℕ → Type 0
-AreWaitingFor t ts q places ns = ((hosted.refusals_of ts t ≡ 0) × AreParked q (queue.IsUnderAny (keys_of t places)) ns) ⊎ AreParked q (queue.IsUnder (tenant_key t)) ns
+AreWaitingFor t ts q places ns =
+    ((hosted.refusals_of ts t ≡ 0) × AreParked q (queue.IsUnderAny (keys_of t places)) ns) ⊎ AreParked q (queue.IsUnder (tenant_key t)) ns
 
 -- whose waits a turn of a tenant concerns: those for the partitions that it touched, or exactly those that the tenant's groups answered;
 -- where that is not known, or what the waits ask, all of the tenant's
@@ -220,7 +232,8 @@ IsWhose (concerned.All t) st = whose st ≡ Some t
 -- what a turn leaves ready: nothing, or nothing but what those connections wait for, which may be all of the tenant's
 abbrev pub IsLeftBy : Concerned → Setup → ℕ → Stage → ℕ → Queue → List TenantState → List TenantState → Session → Session → Type 0
 IsLeftBy concerned.Nobody setup clock st n q old new s r = IsQuietAt setup clock n st old new s r
-IsLeftBy (concerned.These t ns) setup clock st n q old new s r = IsPassedOn setup t clock n q old new s r ns.items ⊎ (AreAllOf t n q ns.items ⊎ AreAnswered t clock n old new ns.items)
+IsLeftBy (concerned.These t ns) setup clock st n q old new s r =
+    IsPassedOn setup t clock n q old new s r ns.items ⊎ (AreAllOf t n q ns.items ⊎ AreAnswered t clock n old new ns.items)
 IsLeftBy (concerned.All t) setup clock st n q old new s r = ⊤
 
 -- 3. Looks by number
@@ -243,16 +256,18 @@ abbrev pub IsSoughtIn : Whom → ℕ → Option Session → Type 0
 IsSoughtIn whom clock None = ⊤
 IsSoughtIn whom clock (Some s) = IsSoughtAt whom clock s.stage
 
--- those connections are looked at in a moment: those whose deadline has come and those that were answered, where it is known on which requests were
--- answered, or all that wait
+-- those connections are looked at in a moment: those whose deadline has come and those that were answered, where it is known on which
+-- requests were answered, or all that wait
 abbrev pub AreSought : Queue → Option (Vec ℕ Global) → ℕ → List ℕ → Type 0
 AreSought q None clock ns = AreParked q queue.IsAny ns
-AreSought q (Some answered_connections) clock ns = (k : ℕ) → Contains ns k ↔ (IsSomeAnd (get q k) (queue.IsDue clock) ⊎ Contains answered_connections.items k)
+AreSought q (Some answered_connections) clock ns =
+    (k : ℕ) → Contains ns k ↔ (IsSomeAnd (get q k) (queue.IsDue clock) ⊎ Contains answered_connections.items k)
 
 -- what waits is ready only where it is due or on those connections; where it is not known on which, any may be
 abbrev pub IsReadyAmong : Option (Vec ℕ Global) → BrokerState → Type 0
 IsReadyAmong None b = ⊤
-IsReadyAmong (Some ns) b = AllByRecursion (λ (l : Line). Contains ns.items l.number ⊎ IsUnready (IsPassedOver whoms.Due b.clock) b l.number l.session.stage) b.lines
+IsReadyAmong (Some ns) b = AllByRecursion (λ (l : Line).
+    Contains ns.items l.number ⊎ IsUnready (IsPassedOver whoms.Due b.clock) b l.number l.session.stage) b.lines
 
 -- a connection waits for nothing that is ready, or is among those that are looked at
 abbrev pub IsMinded : Whom → List ℕ → BrokerState → ℕ → Type 0

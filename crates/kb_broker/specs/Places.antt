@@ -1,5 +1,6 @@
 -- A connection's place in the broker, its turns there, and the count of a refusal.
-use Rattle.std.specs.Prelude.{◌≡◌, ◌≢◌, ℕ, ◌<◌, ◌≤◌, List, [], ◌∷◌, length, take, map, get_or, Option, Some, None, Bool, true, false, not, ◌||◌, ◌⊎◌, ⊤}
+use Rattle.std.specs.Prelude.{◌≡◌, ◌≢◌, ℕ, ◌<◌, ◌≤◌, List, [], ◌∷◌, length, take, map, get_or, Option, Some, None, Bool, true, false, not}
+use Rattle.std.specs.Prelude.{◌||◌, ◌⊎◌, ⊤}
 use Rattle.std.specs.List.{AllByRecursion}
 use Rattle.std.specs.declared.alloc.Global.{Global}
 use Rattle.std.specs.declared.vec.Vec.{Vec}
@@ -50,7 +51,8 @@ IsPassed whom clock (BoundTo tenant (Some wait)) = IsPassedOver whom clock tenan
 abbrev pub ArePassed : Whom → BrokerState → Type 0
 ArePassed whom b = AllByRecursion (λ (l : Line). IsPassed whom b.clock l.session.stage) b.lines
 
--- after the tenants' own parts of a moment, but for what is due, only requests on those connections may be ready; where it is not known on which, any
+-- after the tenants' own parts of a moment, but for what is due, only requests on those connections may be ready; where it is not known
+-- on which, any
 abbrev pub Leaves : Option (Vec ℕ Global) → List TenantState → List TenantState → Type 0
 Leaves None old new = ⊤
 Leaves (Some ns) old new = AreQuietBut ns.items old new
@@ -77,21 +79,24 @@ IsTurnAt honest (BoundTo tenant wait) old new = IsTurn tenant honest old new
 -- the turn of a connection of number n at that stage that was not refused: of its session s it leaves r
 abbrev pub IsTakenAt : Type 0 → Setup → ℕ → ℕ → Stage → List TenantState → List TenantState → Session → Session → Type 0
 IsTakenAt honest setup clock n (Greets handshaken) old new s r = r ≡ greeted setup handshaken s
-IsTakenAt honest setup clock n (BoundTo tenant wait) old new s r = IsMet tenant honest old new (λ k l. (r ≡ after_turn setup k clock n s) × (l ≡ put setup k clock n s.unread))
+IsTakenAt honest setup clock n (BoundTo tenant wait) old new s r =
+    IsMet tenant honest old new (λ k l. (r ≡ after_turn setup k clock n s) × (l ≡ put setup k clock n s.unread))
 
--- The turn of a connection of number n at that stage, also where it is refused, leaves no member more waiting but on that connection, and of
--- those who waited each waits still or was answered; or it leaves the tenant's groups as they were.
+-- The turn of a connection of number n at that stage, also where it is refused, leaves no member more waiting but on that connection,
+-- and of those who waited each waits still or was answered; or it leaves the tenant's groups as they were.
 abbrev pub IsWaitTurnAt : ℕ → Stage → List TenantState → List TenantState → Type 0
 IsWaitTurnAt n (Greets handshaken) old new = ⊤
-IsWaitTurnAt n (BoundTo tenant wait) old new = AreServed n true (hosted.kept_of old tenant).groups (hosted.kept_of new tenant).groups ⊎ ((hosted.kept_of new tenant).groups ≡ (hosted.kept_of old tenant).groups)
+IsWaitTurnAt n (BoundTo tenant wait) old new =
+    AreServed n true (hosted.kept_of old tenant).groups (hosted.kept_of new tenant).groups
+    ⊎ ((hosted.kept_of new tenant).groups ≡ (hosted.kept_of old tenant).groups)
 
 -- where the turn was not refused, a member more waits on the connection only if it waits for its group; r is its stage then
 abbrev pub IsMemberTurnAt : ℕ → Stage → List TenantState → List TenantState → Stage → Type 0
 IsMemberTurnAt n (Greets handshaken) old new r = ⊤
 IsMemberTurnAt n (BoundTo tenant wait) old new r = IsMembersAt tenant r ⊎ (members_of new tenant n ≤ members_of old tenant n)
 
--- the turn of a connection of number n bound to that tenant, of whose session s it leaves r, was not refused, the connection waits for nothing then, or the
--- groups answer nobody who waited, and what waits and was not ready is not ready
+-- the turn of a connection of number n bound to that tenant, of whose session s it leaves r, was not refused, the connection waits for
+-- nothing then, or the groups answer nobody who waited, and what waits and was not ready is not ready
 pub record IsQuietTurn (setup : Setup) (t clock n : ℕ) (old new : List TenantState) (s r : Session) : Type 0 where
   pub session : r ≡ after_turn setup (hosted.kept_of old t) clock n s
   pub kept : hosted.kept_of new t ≡ put setup (hosted.kept_of old t) clock n s.unread
@@ -116,7 +121,8 @@ pub record IsCountedFor (t n : ℕ) (old new : BrokerState) : Type 0 where
   pub left : hosted.kept_of new.tenants t ≡ hosted.left old.clock n (hosted.kept_of old.tenants t)
   pub once : refusals_of new t ≡ counted_once (refusals_of old t)
 
--- a refusal, for which the connection of number n is shut, was counted for the tenant that it is bound to, or for none where it still greets
+-- a refusal, for which the connection of number n is shut, was counted for the tenant that it is bound to, or for none where it still
+-- greets
 abbrev pub IsCountedAt : ℕ → Stage → BrokerState → BrokerState → Type 0
 IsCountedAt n (Greets handshaken) old new = IsRefused old new
 IsCountedAt n (BoundTo tenant wait) old new = IsCountedFor tenant n old new
@@ -143,9 +149,11 @@ IsLookAnswer t clock n old new w a =
 
 -- a member that waits on the connection l waits on, or was answered by its group
 abbrev pub IsAnsweredMember : List TenantState → ℕ → ℕ → Wait → Line → Line → Type 0
-IsAnsweredMember old clock t w l m = is_members w.awaited ≡ true → (m.session.stage ≡ l.session.stage) ⊎ (ready (hosted.kept_of old t) clock l.number w ≡ Silent → ⊥)
+IsAnsweredMember old clock t w l m =
+    is_members w.awaited ≡ true → (m.session.stage ≡ l.session.stage) ⊎ (ready (hosted.kept_of old t) clock l.number w ≡ Silent → ⊥)
 
--- a look at what waits of that tenant left this of the connection l and of the tenants; unless the store lied what they keep stays, and it waits no longer, or is not ready
+-- a look at what waits of that tenant left this of the connection l and of the tenants; unless the store lied what they keep stays, and
+-- it waits no longer, or is not ready
 pub record IsLooked (honest : Type 0) (t clock : ℕ) (old new : List TenantState) (l m : Line) : Type 0 where
   pub number : m.number ≡ l.number
   pub stage : without_wait m.session.stage ≡ without_wait l.session.stage
@@ -164,13 +172,15 @@ IsPassedBy old new l m = (new ≡ old) × (m ≡ l)
 abbrev pub IsLookedAt : Type 0 → Whom → ℕ → Stage → List TenantState → List TenantState → Line → Line → Type 0
 IsLookedAt honest whom clock (Greets handshaken) old new l m = IsPassedBy old new l m
 IsLookedAt honest whom clock (BoundTo t None) old new l m = IsPassedBy old new l m
-IsLookedAt honest whom clock (BoundTo t (Some w)) old new l m = (IsPassedOver whom clock t w × IsPassedBy old new l m) ⊎ (IsLookedFor whom clock t w × IsLooked honest t clock old new l m)
+IsLookedAt honest whom clock (BoundTo t (Some w)) old new l m =
+    (IsPassedOver whom clock t w × IsPassedBy old new l m) ⊎ (IsLookedFor whom clock t w × IsLooked honest t clock old new l m)
 
 -- the connections before a place were looked at, and those behind it are as they were
 pub record AreWaked (whom : Whom) (old new : BrokerState) (i : ℕ) : Type 0 where
   pub waked : Waked whom old new
   pub looked : AllByRecursion (λ (l : Line). IsUnready (IsLookedFor whom old.clock) new l.number l.session.stage) (take i new.lines)
-  pub rest : AreUnready (IsPassedOver whom old.clock) old → AllByRecursion (λ (l : Line). IsUnready AnyWait new l.number l.session.stage) (take i new.lines)
+  pub rest : AreUnready (IsPassedOver whom old.clock) old
+      → AllByRecursion (λ (l : Line). IsUnready AnyWait new l.number l.session.stage) (take i new.lines)
   pub over : AreUnready (IsPassedOver whom old.clock) old → AreUnready (IsPassedOver whom old.clock) new
 
 -- what one look more leaves of the broker whatever the store says

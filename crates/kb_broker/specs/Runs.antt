@@ -67,7 +67,9 @@ pub record IsPassed (honest : Type 0) (e : Happening) (old new : BrokerState) (e
   pub step : honest → IsStep e old new
   pub leads : Leads e old new ended
 
--- events, one after another, and what each connection got: those that ended, in order, and then those that are still open, whose output is taken
+-- events, one after another, and what each connection got: those that ended, in order, and then those that are still open, whose output
+-- is taken
 abbrev pub Passes : Type 0 → List Happening → BrokerState → BrokerState → List Sent → Type 0
 Passes honest [] old new got = (new ≡ emptied old) × (got ≡ map sent old.lines)
-Passes honest (e ∷ es) old new got = (next : BrokerState) × (ended later : List Sent) × IsPassed honest e old next ended × Passes honest es next new later × (got ≡ ended ++ later)
+Passes honest (e ∷ es) old new got = (next : BrokerState) × (ended later : List Sent) × IsPassed honest e old next ended
+    × Passes honest es next new later × (got ≡ ended ++ later)

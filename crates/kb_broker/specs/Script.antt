@@ -1,5 +1,6 @@
 -- Scripts: what a text says, line by line, and what is written of the steps of a broker.
-use Rattle.std.specs.Prelude.{◌≡◌, ◌≢◌, ℕ, ◌+◌, ◌^◌, ◌==◌, ◌&&◌, ◌||◌, List, [], ◌∷◌, ◌++◌, length, drop, codes, decimal, nat_lt, nat_le, Bool, true, false, not, if◌then◌else◌, Option, Some, None, Result, Ok, Err, bytes_eq}
+use Rattle.std.specs.Prelude.{◌≡◌, ◌≢◌, ℕ, ◌+◌, ◌^◌, ◌==◌, ◌&&◌, ◌||◌, List, [], ◌∷◌, ◌++◌, length, drop, codes, decimal, nat_lt, nat_le}
+use Rattle.std.specs.Prelude.{Bool, true, false, not, if◌then◌else◌, Option, Some, None, Result, Ok, Err, bytes_eq}
 use Rattle.std.specs.List.{before_first, concat, position_or_len}
 use Rattle.std.specs.Str.{all_ascii_digits}
 use Rattle.std.specs.Str.Parse.{digits_value}
@@ -31,7 +32,8 @@ behind text = drop (position_or_len (λ c. c == 32) text + 1) text
 
 -- the number that decimal digits write; one above the greatest u64 is in place nowhere
 abbrev pub number : List ℕ → Option ℕ
-number text = if nat_lt 0 (length text) && all_ascii_digits text && nat_lt (digits_value 10 text) (2 ^ 64) then Some (digits_value 10 text) else None
+number text =
+    if nat_lt 0 (length text) && all_ascii_digits text && nat_lt (digits_value 10 text) (2 ^ 64) then Some (digits_value 10 text) else None
 
 -- a line of a word and a number
 abbrev pub told_number : List ℕ → ℕ → Told
@@ -57,7 +59,8 @@ comes (Some n) piece = piece_comes n piece
 
 -- by the first word
 abbrev pub told_by : List ℕ → List ℕ → Told
-told_by name rest = if bytes_eq name (codes "in") then comes (number (word rest)) (decode_of (behind rest)) else if_number name (number rest)
+told_by name rest =
+    if bytes_eq name (codes "in") then comes (number (word rest)) (decode_of (behind rest)) else if_number name (number rest)
 
 unfoldable pub told : List ℕ → Told
 told text = if length text == 0 then Nothing else told_by (word text) (behind text)
@@ -133,7 +136,8 @@ LONGEST_LINE = 8400000
 abbrev pub has_room : List (List ℕ) → ℕ → Bool
 has_room before bytes = nat_lt (length before) MOST_LINES && nat_le (length (concat before) + bytes) MOST_BYTES
 
--- a line, with its line feed or without, by which lengths have room: it is bad where it is longer than a line may be and its first byte past that has room, else the script is too long where the line has none
+-- a line, with its line feed or without, by which lengths have room: it is bad where it is longer than a line may be and its first byte
+-- past that has room, else the script is too long where the line has none
 abbrev pub fault_where : ℕ → (ℕ → Bool) → List ℕ → Option ScriptFault
 fault_where number fits line =
     if nat_lt LONGEST_LINE (length (strip_last 10 line)) && fits (LONGEST_LINE + 1) then Some (faults.BadLine number)
@@ -195,7 +199,8 @@ course before p line = course_by (length before + 1) p line (length_fault before
 
 unfoldable pub read_from : List (List ℕ) → Place → List (List ℕ) → Script
 read_from before p [] = record { events = []; fault = None }
-read_from before p (line ∷ rest) = and_then (course before p line) (read_from (before ++ line ∷ []) (after_course (course before p line) p) rest)
+read_from before p (line ∷ rest) =
+    and_then (course before p line) (read_from (before ++ line ∷ []) (after_course (course before p line) p) rest)
 
 -- what lines say to a broker, and what a text does
 abbrev pub said_by : BrokerState → List (List ℕ) → Script

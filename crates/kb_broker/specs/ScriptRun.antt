@@ -49,7 +49,8 @@ shut_marks lines = map (λ (l : Line). l.session.shut) lines
 abbrev pub said_since : List Bool → List Line → List Sent
 said_since [] lines = []
 said_since (was_shut ∷ marks) [] = []
-said_since (was_shut ∷ marks) (l ∷ lines) = record { number = l.number; bytes = l.session.output; shut = l.session.shut && not was_shut } ∷ said_since marks lines
+said_since (was_shut ∷ marks) (l ∷ lines) =
+    record { number = l.number; bytes = l.session.output; shut = l.session.shut && not was_shut } ∷ said_since marks lines
 
 -- it happened, and the broker said nothing
 pub record HappensSilently (e : Happening) (old new : BrokerState) : Type 0 where
@@ -63,7 +64,8 @@ IsSpoken e old final from to = (new : BrokerState) × Happens e old new × (fina
 
 -- it happened, and the writer failed: the front of what the broker said was written
 abbrev pub IsCutOff : Happening → BrokerState → Option (List ℕ) → Option (List ℕ) → Type 0
-IsCutOff e old from to = (new : BrokerState) × Happens e old new × (front : List ℕ) × (rest : List ℕ) × (words old new ≡ front ++ rest) × Appends from to front
+IsCutOff e old from to =
+    (new : BrokerState) × Happens e old new × (front : List ℕ) × (rest : List ℕ) × (words old new ≡ front ++ rest) × Appends from to front
 
 -- a text was not written: of it there is the front where the writer failed, and nothing where memory was refused
 abbrev pub IsUnwritten : ScriptFault → List ℕ → Option (List ℕ) → Option (List ℕ) → Type 0
@@ -95,7 +97,8 @@ IsWritten b es from to = (steps : List (List Sent)) × Tells b es steps × Appen
 
 -- and their text was written, of the last step the front alone
 abbrev pub IsWrittenInPart : BrokerState → List Happening → Option (List ℕ) → Option (List ℕ) → Type 0
-IsWrittenInPart b es from to = (steps : List (List Sent)) × (last : List Sent) × Tells b es (steps ++ last ∷ []) × (front : List ℕ) × (rest : List ℕ) × (step_text last ≡ front ++ rest) × Appends from to (script_text steps ++ front)
+IsWrittenInPart b es from to = (steps : List (List Sent)) × (last : List Sent) × Tells b es (steps ++ last ∷ []) × (front : List ℕ)
+    × (rest : List ℕ) × (step_text last ≡ front ++ rest) × Appends from to (script_text steps ++ front)
 
 -- some of the events, from the first on
 abbrev pub OfSome : List Happening → (List Happening → Type 0) → Type 0
@@ -137,7 +140,8 @@ ArePlayed b lines from to = IsPlayed b (said_by b lines) from to
 abbrev pub ArePlayedInPart : BrokerState → List (List ℕ) → Option (List ℕ) → Option (List ℕ) → Type 0
 ArePlayedInPart b lines from to = ((said_by b lines).fault ≡ None) × IsWrittenInPart b (said_by b lines).events from to
 
--- what was played where that fault ended a script: the lines before the one that is at fault, that could not be read to its end, or in which memory was refused; at a write fault that one too
+-- what was played where that fault ended a script: the lines before the one that is at fault, that could not be read to its end, or in
+-- which memory was refused; at a write fault that one too
 abbrev pub HavePlayed : ScriptFault → BrokerState → List (List ℕ) → List ℕ → Option (List ℕ) → Option (List ℕ) → Type 0
 HavePlayed (faults.BadLine k) b lines front from to = (k ≡ length lines + 1) × ArePlayed b lines from to
 HavePlayed faults.TooLong b lines front from to = ArePlayed b lines from to
@@ -147,4 +151,5 @@ HavePlayed faults.Memory b lines front from to = ArePlayed b lines from to
 
 -- a script ended with that fault, and the reader has so much of its text left
 abbrev pub IsStopped : BrokerState → List ℕ → Option (List ℕ) → ScriptFault → Option (List ℕ) → Option (List ℕ) → Type 0
-IsStopped b text left fault from to = (lines : List (List ℕ)) × (front : List ℕ) × AreTaken text left lines front × HavePlayed fault b lines front from to
+IsStopped b text left fault from to =
+    (lines : List (List ℕ)) × (front : List ℕ) × AreTaken text left lines front × HavePlayed fault b lines front from to

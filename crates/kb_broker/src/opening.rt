@@ -11,7 +11,8 @@ ghost use Rattle.kb_machine.specs.Stranded.{NoneStranded};
 ghost use Rattle.kb_service.specs.Hosted.{names_of, new_tenant};
 ghost use Rattle.kb_tenants.specs.Tenants.{numbers_in};
 ghost use Rattle.kb_broker.specs.Hosts.{tenants_in, AreHosted};
-ghost use Rattle.kb_broker.specs.Opening.{listed, listed_as, opening, opening_listing, opening_over, opening_setup, tenants_of, login_of, fault_for, BlamesStore, HaveNoGroups};
+ghost use Rattle.kb_broker.specs.Opening.{listed, listed_as, opening, opening_listing, opening_over, opening_setup, tenants_of, login_of};
+ghost use Rattle.kb_broker.specs.Opening.{fault_for, BlamesStore, HaveNoGroups};
 
 use crate::broker::Broker;
 use crate::engine::Engine;
@@ -317,6 +318,8 @@ pub fn names_in_order()
 
 /// At the place of a name among names in order stands the name.
 pub fn places_of_names()
-    ensures within { (names : List (List ℕ)) (name : List ℕ) → Contains names name → place_of name (in_order names) < length (in_order names) }
-    ensures there { (names : List (List ℕ)) (name d : List ℕ) → Contains names name → get_or (in_order names) (place_of name (in_order names)) d ≡ name }
+    ensures within { (names : List (List ℕ)) (name : List ℕ) → Contains names name
+        → place_of name (in_order names) < length (in_order names) }
+    ensures there { (names : List (List ℕ)) (name d : List ℕ) → Contains names name
+        → get_or (in_order names) (place_of name (in_order names)) d ≡ name }
 {}

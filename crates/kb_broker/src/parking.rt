@@ -1,6 +1,7 @@
 //! The connections that wait.
 
-ghost use Rattle.std.specs.Prelude.{◌≡◌, ◌≢◌, ◌≤◌, ◌==◌, ◌++◌, ◌⊎◌, ◌↔◌, ℕ, None, Contains, IsSomeAnd, OnOk, OnErr, IfOk, IfSome, vec_capacity};
+ghost use Rattle.std.specs.Prelude.{◌≡◌, ◌≢◌, ◌≤◌, ◌==◌, ◌++◌, ◌⊎◌, ◌↔◌, ℕ, None, Contains, IsSomeAnd, OnOk, OnErr, IfOk, IfSome};
+ghost use Rattle.std.specs.Prelude.{vec_capacity};
 ghost use Rattle.std.specs.Bool.{OnTrue};
 ghost use Rattle.std.specs.FinMap as fin;
 ghost use Rattle.kb_waits.specs.Queue.{AreParked, IsDue, IsUnder, IsUnderAny};
@@ -60,7 +61,8 @@ impl Parking {
         places: &[TopicPartition],
     ) -> Result<(), AllocError>
         requires { fin.get self.old number ≡ None }
-        ensures parked { OnOk result (self.new ≡ fin.insert self.old number (record { deadline = deadline; keys = keys_for tenant places.now })) }
+        ensures parked { OnOk result (self.new ≡ fin.insert self.old number
+            (record { deadline = deadline; keys = keys_for tenant places.now })) }
         ensures refused { OnErr result (self.new ≡ self.old) }
     {
         let keys = keys_for(alloc, tenant, places)?;
@@ -158,7 +160,8 @@ fn seek(waits: &Waits, answered: &Option<Vec<u64>>, clock: u64, numbers: &mut Ve
 /// for these, and answers whether it had. Takes no memory, as it has room for all that are parked.
 fn due_or_answered(waits: &Waits, clock: u64, answered: &[u64], numbers: &mut Vec<u64>) -> bool
     requires { fin.len waits.now ≤ vec_capacity numbers.old }
-    ensures { OnTrue result ((k : ℕ) → Contains numbers.new.items k ↔ (IsSomeAnd (fin.get waits.now k) (IsDue clock) ⊎ Contains answered.now k)) }
+    ensures { OnTrue result ((k : ℕ) → Contains numbers.new.items k ↔ (IsSomeAnd (fin.get waits.now k) (IsDue clock)
+        ⊎ Contains answered.now k)) }
 {
     let _ = waits.due(clock, numbers); // there is room
     for number in answered {

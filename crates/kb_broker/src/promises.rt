@@ -24,7 +24,8 @@ ghost use Rattle.kb_broker.specs.Runs.{happenings, sent_of, connections_of};
 ///
 /// The fewer events are a run where all the events are one.
 pub fn opened_alone_is_the_same()
-    ensures written { (listing : Listing) (settings : Settings) (t : ℕ) (events fewer : List Event) (shared after own own_after : BrokerState) (written own_written : List Written)
+    ensures written { (listing : Listing) (settings : Settings) (t : ℕ) (events fewer : List Event)
+        (shared after own own_after : BrokerState) (written own_written : List Written)
         → shared ≡ opening_listing listing settings → own ≡ opening_listing listing settings
         → happenings fewer ≡ own_events t (happenings events) shared
         → IsIsolated (happenings events) shared after (map sent_of written)
@@ -42,6 +43,7 @@ pub fn opened_alone_is_the_same()
 pub fn nobody_is_stranded()
     ensures first { (listing : Listing) (settings : Settings) → NoneStranded (opening_listing listing settings) }
     ensures gone { (t n : ℕ) (b : BrokerState) → NoneStranded b → is_open n b ≡ false → members_of b.tenants t n ≡ 0 }
-    ensures shut { (t n : ℕ) (b : BrokerState) → NoneStranded b → IsLimitedIn (find_line n b.lines) → is_shut n b ≡ true → members_of b.tenants t n ≡ 0 }
+    ensures shut { (t n : ℕ) (b : BrokerState) → NoneStranded b → IsLimitedIn (find_line n b.lines) → is_shut n b ≡ true
+        → members_of b.tenants t n ≡ 0 }
     ensures elsewhere { (t n : ℕ) (b : BrokerState) → NoneStranded b → bound_to n b ≢ Some t → members_of b.tenants t n ≡ 0 }
 {}

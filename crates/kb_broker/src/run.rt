@@ -58,16 +58,26 @@ impl<S: Store, L: PartitionLog + Drop> Broker<S, L> {
     /// An `Err`, for want of memory, comes before the first event and changes nothing.
     pub fn run(&mut self, alloc: Global, events: &[Event]) -> Result<Vec<Written>, AllocError>
         requires { IsRun self.old.state.last (happenings events.now) }
-        ensures headline { IfOk result (λ written. is_honest S.disk self.new → IsIsolated (happenings events.now) self.old.state self.new.state (map sent_of written.items)) }
-        ensures unowned { IfOk result (λ written. is_honest S.disk self.new → (n : ℕ) → IsUnowned n (happenings events.now) self.old.state → IsCalm self.old.state.unbound_refusals self.new.state.unbound_refusals →
+        ensures headline { IfOk result (λ written.
+            is_honest S.disk self.new → IsIsolated (happenings events.now) self.old.state self.new.state (map sent_of written.items)) }
+        ensures unowned { IfOk result (λ written.
+            is_honest S.disk self.new → (n : ℕ) → IsUnowned n (happenings events.now) self.old.state
+            → IsCalm self.old.state.unbound_refusals self.new.state.unbound_refusals →
             those_sent (only n) (map sent_of written.items) ≡ by_number (alone_unowned n (happenings events.now) self.old.state)) }
-        ensures greeted { IfOk result (λ written. is_honest S.disk self.new → (n : ℕ) → IsUnowned n (happenings events.now) self.old.state → IsCalm self.old.state.unbound_refusals self.new.state.unbound_refusals →
+        ensures greeted { IfOk result (λ written.
+            is_honest S.disk self.new → (n : ℕ) → IsUnowned n (happenings events.now) self.old.state
+            → IsCalm self.old.state.unbound_refusals self.new.state.unbound_refusals →
             those_sent (only n) (map sent_of written.items) ≡ greeted_alone n (happenings events.now) self.old.state) }
         ensures fetches { is_honest S.disk self.old → (t : ℕ) →
-            FetchesGetBatches (own_events t (happenings events.now) self.old.state) (view_of t (owned_by t (happenings events.now) self.old.state) self.old.state) }
-        ensures left { IfOk result (λ written. is_honest S.disk self.new → LeavesWorlds (happenings events.now) self.old.state self.new.state (map sent_of written.items)) }
-        ensures connections { IfOk result (λ written. map (λ (w : Written). w.conn) written.items ≡ connections_of (happenings events.now) self.old.state) }
-        ensures history { IfOk result (λ written. (got : List Sent) × (map sent_of written.items ≡ by_number got) × Passes (is_honest S.disk self.new) (happenings events.now) self.old.state self.new.state got) }
+            FetchesGetBatches (own_events t (happenings events.now) self.old.state)
+            (view_of t (owned_by t (happenings events.now) self.old.state) self.old.state) }
+        ensures left { IfOk result (λ written. is_honest S.disk self.new
+            → LeavesWorlds (happenings events.now) self.old.state self.new.state (map sent_of written.items)) }
+        ensures connections { IfOk result (λ written.
+            map (λ (w : Written). w.conn) written.items ≡ connections_of (happenings events.now) self.old.state) }
+        ensures history { IfOk result (λ written.
+            (got : List Sent) × (map sent_of written.items ≡ by_number got)
+            × Passes (is_honest S.disk self.new) (happenings events.now) self.old.state self.new.state got) }
         ensures later { IsLater S.disk self.old self.new }
         ensures in_files { IsInFiles L.log S.disk self.new }
         ensures memory { OnErr result (self.new ≡ self.old) }
@@ -89,12 +99,14 @@ impl<S: Store, L: PartitionLog + Drop> Broker<S, L> {
     fn happen(&mut self, alloc: Global, event: &Event, written: &mut Vec<Written>)
         requires ready { IsReadyOn S.disk self.old }
         requires run { IsRun self.old.state.last (happening_of event.now ∷ []) }
-        requires room { vec_len written.old + length (connections_of (happening_of event.now ∷ []) self.old.state) ≤ vec_capacity written.old }
+        requires room { vec_len written.old + length
+            (connections_of (happening_of event.now ∷ []) self.old.state) ≤ vec_capacity written.old }
         ensures ready { IsReadyOn S.disk self.new }
         ensures later { IsLater S.disk self.old self.new }
         ensures last { self.new.state.last ≤ last_after (happening_of event.now) self.old.state.last }
         ensures held { is_honest S.disk self.new → NoneStranded self.old.state → NoneStranded self.new.state }
-        ensures passed { (ended : List Sent) × (map sent_of written.new.items ≡ map sent_of written.old.items ++ ended) × IsPassed (is_honest S.disk self.new) (happening_of event.now) self.old.state self.new.state ended }
+        ensures passed { (ended : List Sent) × (map sent_of written.new.items ≡ map sent_of written.old.items ++ ended)
+            × IsPassed (is_honest S.disk self.new) (happening_of event.now) self.old.state self.new.state ended }
         ensures capacity { vec_capacity written.new ≡ vec_capacity written.old }
     {
         match event {
@@ -178,10 +190,14 @@ pub fn run_both<S: Store, L: PartitionLog + Drop>(
 ) -> Result<(Vec<Written>, Vec<Written>), AllocError>
     requires first { IsRun first.old.state.last (happenings events.now) }
     requires second { IsRun second.old.state.last (happenings others.now) }
-    ensures alike { IfOk result (λ both. is_honest S.disk first.new → is_honest S.disk second.new → (t : ℕ) → AreAlike t (happenings events.now) (happenings others.now) first.old.state first.new.state second.old.state second.new.state →
-        own_sent t (happenings others.now) second.old.state (map sent_of both.1.items) ≡ own_sent t (happenings events.now) first.old.state (map sent_of both.0.items)) }
-    ensures alone { IfOk result (λ both. is_honest S.disk first.new → is_honest S.disk second.new → (t : ℕ) → HasToItself t (happenings events.now) first.old.state second.old.state →
-        happenings others.now ≡ own_events t (happenings events.now) first.old.state → IsCalmFor t first.old.state first.new.state → IsCalmFor t second.old.state second.new.state →
+    ensures alike { IfOk result (λ both. is_honest S.disk first.new → is_honest S.disk second.new → (t : ℕ)
+        → AreAlike t (happenings events.now) (happenings others.now) first.old.state first.new.state second.old.state second.new.state →
+        own_sent t (happenings others.now) second.old.state (map sent_of both.1.items)
+        ≡ own_sent t (happenings events.now) first.old.state (map sent_of both.0.items)) }
+    ensures alone { IfOk result (λ both. is_honest S.disk first.new → is_honest S.disk second.new → (t : ℕ)
+        → HasToItself t (happenings events.now) first.old.state second.old.state →
+        happenings others.now ≡ own_events t (happenings events.now) first.old.state → IsCalmFor t first.old.state first.new.state
+        → IsCalmFor t second.old.state second.new.state →
         map sent_of both.1.items ≡ own_sent t (happenings events.now) first.old.state (map sent_of both.0.items)) }
 {
     let got = first.run(alloc, events)?;

@@ -66,9 +66,13 @@ pub fn run_script<L: PartitionLog + Drop, R: BufRead, W: Write>(
     reader: &mut R,
     writer: &mut W,
 ) -> Result<(), ScriptFault>
-    ensures ok { OnOk result (IfSome (R.remaining reader.old) (λ text. IsPlayed (opening settings.now) (script (opening settings.now) text) (W.contents writer.old) (W.contents writer.new))) }
-    ensures err { IfErr result (λ fault. IfSome (R.remaining reader.old) (λ text. IsEnded (opening settings.now) (script (opening settings.now) text) fault (W.contents writer.old) (W.contents writer.new))) }
-    ensures stopped { IfErr result (λ fault. IfSome (R.remaining reader.old) (λ text. IsStopped (opening settings.now) text (R.remaining reader.new) fault (W.contents writer.old) (W.contents writer.new))) }
+    ensures ok { OnOk result (IfSome (R.remaining reader.old) (λ text.
+        IsPlayed (opening settings.now) (script (opening settings.now) text) (W.contents writer.old) (W.contents writer.new))) }
+    ensures err { IfErr result (λ fault. IfSome (R.remaining reader.old) (λ text.
+        IsEnded (opening settings.now) (script (opening settings.now) text) fault (W.contents writer.old) (W.contents writer.new))) }
+    ensures stopped { IfErr result (λ fault.
+        IfSome (R.remaining reader.old) (λ text.
+        IsStopped (opening settings.now) text (R.remaining reader.new) fault (W.contents writer.old) (W.contents writer.new))) }
 {
     let Ok(mut opened) = Broker::<MemoryStore, L>::open(alloc, settings, MemoryStore::new(alloc))
     else {
@@ -91,9 +95,15 @@ pub fn run_script_on<S: Store, L: PartitionLog + Drop, R: BufRead, W: Write>(
     requires quiet { is_honest S.disk broker.old → IsQuiet broker.old.state }
     requires ready { is_honest S.disk broker.old → IsReady broker.old.state }
     ensures honest { is_honest S.disk broker.new → is_honest S.disk broker.old }
-    ensures ok { is_honest S.disk broker.new → OnOk result (IfSome (R.remaining reader.old) (λ text. IsPlayed broker.old.state (script broker.old.state text) (W.contents writer.old) (W.contents writer.new))) }
-    ensures err { is_honest S.disk broker.new → IfErr result (λ fault. IfSome (R.remaining reader.old) (λ text. IsEnded broker.old.state (script broker.old.state text) fault (W.contents writer.old) (W.contents writer.new))) }
-    ensures stopped { is_honest S.disk broker.new → IfErr result (λ fault. IfSome (R.remaining reader.old) (λ text. IsStopped broker.old.state text (R.remaining reader.new) fault (W.contents writer.old) (W.contents writer.new))) }
+    ensures ok { is_honest S.disk broker.new
+        → OnOk result (IfSome (R.remaining reader.old) (λ text.
+        IsPlayed broker.old.state (script broker.old.state text) (W.contents writer.old) (W.contents writer.new))) }
+    ensures err { is_honest S.disk broker.new
+        → IfErr result (λ fault. IfSome (R.remaining reader.old) (λ text.
+        IsEnded broker.old.state (script broker.old.state text) fault (W.contents writer.old) (W.contents writer.new))) }
+    ensures stopped { is_honest S.disk broker.new
+        → IfErr result (λ fault. IfSome (R.remaining reader.old) (λ text.
+        IsStopped broker.old.state text (R.remaining reader.new) fault (W.contents writer.old) (W.contents writer.new))) }
 {
     let mut text = Vec::new(alloc);
     let mut room = SCRIPT_BYTES;
@@ -121,8 +131,12 @@ fn play_line<S: Store, L: PartitionLog + Drop, W: Write>(
     requires quiet { is_honest S.disk broker.old → IsQuiet broker.old.state }
     requires ready { is_honest S.disk broker.old → IsReady broker.old.state }
     ensures honest { is_honest S.disk broker.new → is_honest S.disk broker.old }
-    ensures ok { is_honest S.disk broker.new → OnOk result (IsDone (course_of number (here broker.old.state) (told (strip_last 10 text.now))) broker.old.state broker.new.state (W.contents writer.old) (W.contents writer.new)) }
-    ensures err { is_honest S.disk broker.new → IfErr result (λ fault. IsBroken (course_of number (here broker.old.state) (told (strip_last 10 text.now))) fault broker.old.state (W.contents writer.old) (W.contents writer.new)) }
+    ensures ok { is_honest S.disk broker.new
+        → OnOk result (IsDone (course_of number (here broker.old.state) (told (strip_last 10 text.now))) broker.old.state broker.new.state
+        (W.contents writer.old) (W.contents writer.new)) }
+    ensures err { is_honest S.disk broker.new
+        → IfErr result (λ fault. IsBroken (course_of number (here broker.old.state) (told (strip_last 10 text.now))) fault broker.old.state
+        (W.contents writer.old) (W.contents writer.new)) }
 {
     let Ok(line) = Line::read(alloc, without_feed(text)) else {
         return Err(ScriptFault::Memory);
@@ -211,8 +225,10 @@ fn pass<S: Store, L: PartitionLog + Drop, W: Write>(
     requires ready { is_honest S.disk broker.old → IsReady broker.old.state }
     requires in_time { now ≤ 2 ^ 62 }
     ensures honest { is_honest S.disk broker.new → is_honest S.disk broker.old }
-    ensures ok { is_honest S.disk broker.new → OnOk result (IsSpoken (Moment now) broker.old.state broker.new.state (W.contents writer.old) (W.contents writer.new)) }
-    ensures err { is_honest S.disk broker.new → IfErr result (λ fault. IsBroken (Plays (Moment now)) fault broker.old.state (W.contents writer.old) (W.contents writer.new)) }
+    ensures ok { is_honest S.disk broker.new
+        → OnOk result (IsSpoken (Moment now) broker.old.state broker.new.state (W.contents writer.old) (W.contents writer.new)) }
+    ensures err { is_honest S.disk broker.new
+        → IfErr result (λ fault. IsBroken (Plays (Moment now)) fault broker.old.state (W.contents writer.old) (W.contents writer.new)) }
 {
     if broker.any_waits() {
         let Ok(were_shut) = shut_places(alloc, broker) else {
@@ -238,8 +254,12 @@ fn give<S: Store, L: PartitionLog + Drop, W: Write>(
     requires quiet { is_honest S.disk broker.old → IsQuiet broker.old.state }
     requires ready { is_honest S.disk broker.old → IsReady broker.old.state }
     ensures honest { is_honest S.disk broker.new → is_honest S.disk broker.old }
-    ensures ok { is_honest S.disk broker.new → OnOk result (IsSpoken (Comes connection piece.now) broker.old.state broker.new.state (W.contents writer.old) (W.contents writer.new)) }
-    ensures err { is_honest S.disk broker.new → IfErr result (λ fault. IsBroken (Plays (Comes connection piece.now)) fault broker.old.state (W.contents writer.old) (W.contents writer.new)) }
+    ensures ok { is_honest S.disk broker.new
+        → OnOk result (IsSpoken (Comes connection piece.now) broker.old.state broker.new.state (W.contents writer.old)
+        (W.contents writer.new)) }
+    ensures err { is_honest S.disk broker.new
+        → IfErr result (λ fault. IsBroken (Plays (Comes connection piece.now)) fault broker.old.state (W.contents writer.old)
+        (W.contents writer.new)) }
 {
     if !broker.any_waits() {
         return give_alone(alloc, broker, writer, connection, piece);
@@ -265,8 +285,12 @@ fn give_alone<S: Store, L: PartitionLog + Drop, W: Write>(
     requires ready { is_honest S.disk broker.old → IsReady broker.old.state }
     requires alone { NoneWaits broker.old.state }
     ensures honest { is_honest S.disk broker.new → is_honest S.disk broker.old }
-    ensures ok { is_honest S.disk broker.new → OnOk result (IsSpoken (Comes connection piece.now) broker.old.state broker.new.state (W.contents writer.old) (W.contents writer.new)) }
-    ensures err { is_honest S.disk broker.new → IfErr result (λ fault. IsBroken (Plays (Comes connection piece.now)) fault broker.old.state (W.contents writer.old) (W.contents writer.new)) }
+    ensures ok { is_honest S.disk broker.new
+        → OnOk result (IsSpoken (Comes connection piece.now) broker.old.state broker.new.state (W.contents writer.old)
+        (W.contents writer.new)) }
+    ensures err { is_honest S.disk broker.new
+        → IfErr result (λ fault. IsBroken (Plays (Comes connection piece.now)) fault broker.old.state (W.contents writer.old)
+        (W.contents writer.new)) }
 {
     let was_shut = broker.shut(connection);
     broker.input(alloc, connection, piece);

@@ -1,6 +1,7 @@
 //! The turn of one connection, beside the tenants.
 
-ghost use Rattle.std.specs.Prelude.{◌≡◌, ◌≢◌, ◌<◌, ◌≤◌, ◌^◌, ◌⊎◌, ℕ, ℤ, List, Option, length, OnOk, OnErr, IfOk, IfSome, Ok, None, true, false};
+ghost use Rattle.std.specs.Prelude.{◌≡◌, ◌≢◌, ◌<◌, ◌≤◌, ◌^◌, ◌⊎◌, ℕ, ℤ, List, Option, length, OnOk, OnErr, IfOk, IfSome, Ok, None, true};
+ghost use Rattle.std.specs.Prelude.{false};
 ghost use Rattle.std.specs.FinMap as fin;
 ghost use Rattle.kb_api_group.specs.Frames.{front};
 ghost use Rattle.kb_service.specs.Hosted.{kept_of, refusals_of};
@@ -19,7 +20,9 @@ ghost use Rattle.kb_connection.specs.View.{awaited_of, wait_of, with_session, wi
 ghost use Rattle.kb_broker.specs.Hosts.{tenants_in, AreHosted, AreLater};
 ghost use Rattle.kb_service.specs.Waiters.{AreServed, IsWaitTold};
 ghost use Rattle.kb_broker.specs.Places.{IsSpent, IsTakenAt, IsTurnAt, IsLookedAt, IsLookAnswer, IsMemberTurnAt, IsWaitTurnAt};
-ghost use Rattle.kb_broker.specs.Parked.{parked_for, until_of, deadline_at, IsKeyedAt, IsOwnedAt, IsAskedOn, IsAskedOnAt, IsTouchedBy, IsTouchedTurnBy, AreConcerned, AreWaitingFor, IsConcern, IsKnownOrCounted, IsLeftBy, IsOwnTo, IsWhose};
+ghost use Rattle.kb_broker.specs.Parked.{parked_for, until_of, deadline_at, IsKeyedAt, IsOwnedAt, IsAskedOn, IsAskedOnAt, IsTouchedBy};
+ghost use Rattle.kb_broker.specs.Parked.{IsTouchedTurnBy, AreConcerned, AreWaitingFor, IsConcern, IsKnownOrCounted, IsLeftBy, IsOwnTo};
+ghost use Rattle.kb_broker.specs.Parked.{IsWhose};
 
 use crate::parking::Parking;
 use kb_connection::{Awaited, Connection, Phase, Setup, Waiting};
@@ -73,20 +76,30 @@ pub fn take_turn<L: PartitionLog + Drop, S: Store>(
     requires free { fin.get parking.old connection.old.number ≡ None }
     ensures hosted { AreHosted L.log S.disk tenants.new }
     ensures later { AreLater L.log S.disk tenants.old tenants.new }
-    ensures turn { IsTurnAt (shelf_is_honest S.disk tenants.new) connection.old.session.stage (tenants_in L.log S.disk tenants.old) (tenants_in L.log S.disk tenants.new) }
+    ensures turn { IsTurnAt (shelf_is_honest S.disk tenants.new) connection.old.session.stage (tenants_in L.log S.disk tenants.old)
+        (tenants_in L.log S.disk tenants.new) }
     ensures number { connection.new.number ≡ connection.old.number }
     ensures spent { IsSpent connection.old.session connection.new.session }
     ensures parked { (k : ℕ) → k ≢ connection.old.number → fin.get parking.new k ≡ fin.get parking.old k }
     ensures dated { until_of (fin.get parking.new connection.old.number) ≡ deadline_at connection.new.session.stage }
     ensures owned { IsOwnedAt connection.new.session.stage (fin.get parking.new connection.old.number) }
-    ensures keyed { shelf_is_honest S.disk tenants.new → IsKeyedAt (tenants_in L.log S.disk tenants.new) connection.old.number connection.new.session.stage (fin.get parking.new connection.old.number) }
-    ensures asked { shelf_is_honest S.disk tenants.new → IsAskedOnAt connection.old.session.stage (tenants_in L.log S.disk tenants.old) (tenants_in L.log S.disk tenants.new) }
-    ensures ok { OnOk result (IsTakenAt (shelf_is_honest S.disk tenants.new) setup.now clock connection.old.number connection.old.session.stage (tenants_in L.log S.disk tenants.old) (tenants_in L.log S.disk tenants.new) connection.old.session connection.new.session) }
+    ensures keyed { shelf_is_honest S.disk tenants.new
+        → IsKeyedAt (tenants_in L.log S.disk tenants.new) connection.old.number connection.new.session.stage
+        (fin.get parking.new connection.old.number) }
+    ensures asked { shelf_is_honest S.disk tenants.new
+        → IsAskedOnAt connection.old.session.stage (tenants_in L.log S.disk tenants.old) (tenants_in L.log S.disk tenants.new) }
+    ensures ok { OnOk result (IsTakenAt (shelf_is_honest S.disk tenants.new) setup.now clock connection.old.number
+        connection.old.session.stage (tenants_in L.log S.disk tenants.old)
+        (tenants_in L.log S.disk tenants.new) connection.old.session connection.new.session) }
     ensures whose { IfOk result (λ c. IsWhose c connection.old.session.stage) }
     ensures own { IfOk result (λ c. IsOwnTo c connection.old.number) }
-    ensures left { shelf_is_honest S.disk tenants.new → IfOk result (λ c. IsLeftBy c setup.now clock connection.old.session.stage connection.old.number parking.old (tenants_in L.log S.disk tenants.old) (tenants_in L.log S.disk tenants.new) connection.old.session connection.new.session) }
-    ensures waits { IsWaitTurnAt connection.old.number connection.old.session.stage (tenants_in L.log S.disk tenants.old) (tenants_in L.log S.disk tenants.new) }
-    ensures member { OnOk result (IsMemberTurnAt connection.old.number connection.old.session.stage (tenants_in L.log S.disk tenants.old) (tenants_in L.log S.disk tenants.new) connection.new.session.stage) }
+    ensures left { shelf_is_honest S.disk tenants.new
+        → IfOk result (λ c. IsLeftBy c setup.now clock connection.old.session.stage connection.old.number parking.old
+        (tenants_in L.log S.disk tenants.old) (tenants_in L.log S.disk tenants.new) connection.old.session connection.new.session) }
+    ensures waits { IsWaitTurnAt connection.old.number connection.old.session.stage (tenants_in L.log S.disk tenants.old)
+        (tenants_in L.log S.disk tenants.new) }
+    ensures member { OnOk result (IsMemberTurnAt connection.old.number connection.old.session.stage (tenants_in L.log S.disk tenants.old)
+        (tenants_in L.log S.disk tenants.new) connection.new.session.stage) }
     ensures err { OnErr result (connection.new ≡ with_session connection.old (shut_down connection.old.session)) }
 {
     match connection.phase() {
@@ -200,19 +213,29 @@ fn serve_bound<L: PartitionLog + Drop, S: Store>(
     requires free { fin.get parking.old connection.old.number ≡ None }
     ensures hosted { AreHosted L.log S.disk tenants.new }
     ensures later { AreLater L.log S.disk tenants.old tenants.new }
-    ensures turn { IsTurn tenant (shelf_is_honest S.disk tenants.new) (tenants_in L.log S.disk tenants.old) (tenants_in L.log S.disk tenants.new) }
+    ensures turn { IsTurn tenant (shelf_is_honest S.disk tenants.new) (tenants_in L.log S.disk tenants.old)
+        (tenants_in L.log S.disk tenants.new) }
     ensures number { connection.new.number ≡ connection.old.number }
     ensures spent { IsSpent connection.old.session connection.new.session }
     ensures parked { (k : ℕ) → k ≢ connection.old.number → fin.get parking.new k ≡ fin.get parking.old k }
     ensures dated { until_of (fin.get parking.new connection.old.number) ≡ deadline_at connection.new.session.stage }
     ensures owned { IsOwnedAt connection.new.session.stage (fin.get parking.new connection.old.number) }
-    ensures keyed { shelf_is_honest S.disk tenants.new → IsKeyedAt (tenants_in L.log S.disk tenants.new) connection.old.number connection.new.session.stage (fin.get parking.new connection.old.number) }
-    ensures asked { shelf_is_honest S.disk tenants.new → IsAskedOn tenant (tenants_in L.log S.disk tenants.old) (tenants_in L.log S.disk tenants.new) }
-    ensures ok { OnOk result (IsMet tenant (shelf_is_honest S.disk tenants.new) (tenants_in L.log S.disk tenants.old) (tenants_in L.log S.disk tenants.new)
-        (λ k l. (connection.new.session ≡ after_turn setup.now k clock connection.old.number connection.old.session) × (l ≡ put setup.now k clock connection.old.number connection.old.session.unread))) }
-    ensures touched { IfOk result (λ touched. shelf_is_honest S.disk tenants.new → IsTouchedTurnBy touched setup.now tenant clock connection.old.number (tenants_in L.log S.disk tenants.old) (tenants_in L.log S.disk tenants.new) connection.old.session connection.new.session) }
-    ensures waits { IsWaitTurnAt connection.old.number (BoundTo tenant None) (tenants_in L.log S.disk tenants.old) (tenants_in L.log S.disk tenants.new) }
-    ensures member { OnOk result (IsMemberTurnAt connection.old.number (BoundTo tenant None) (tenants_in L.log S.disk tenants.old) (tenants_in L.log S.disk tenants.new) connection.new.session.stage) }
+    ensures keyed { shelf_is_honest S.disk tenants.new
+        → IsKeyedAt (tenants_in L.log S.disk tenants.new) connection.old.number connection.new.session.stage
+        (fin.get parking.new connection.old.number) }
+    ensures asked { shelf_is_honest S.disk tenants.new
+        → IsAskedOn tenant (tenants_in L.log S.disk tenants.old) (tenants_in L.log S.disk tenants.new) }
+    ensures ok { OnOk result (IsMet tenant (shelf_is_honest S.disk tenants.new) (tenants_in L.log S.disk tenants.old)
+        (tenants_in L.log S.disk tenants.new)
+        (λ k l. (connection.new.session ≡ after_turn setup.now k clock connection.old.number connection.old.session)
+        × (l ≡ put setup.now k clock connection.old.number connection.old.session.unread))) }
+    ensures touched { IfOk result (λ touched.
+        shelf_is_honest S.disk tenants.new → IsTouchedTurnBy touched setup.now tenant clock connection.old.number
+        (tenants_in L.log S.disk tenants.old) (tenants_in L.log S.disk tenants.new) connection.old.session connection.new.session) }
+    ensures waits { IsWaitTurnAt connection.old.number (BoundTo tenant None) (tenants_in L.log S.disk tenants.old)
+        (tenants_in L.log S.disk tenants.new) }
+    ensures member { OnOk result (IsMemberTurnAt connection.old.number (BoundTo tenant None) (tenants_in L.log S.disk tenants.old)
+        (tenants_in L.log S.disk tenants.new) connection.new.session.stage) }
     ensures err { OnErr result (connection.new ≡ with_session connection.old (shut_down connection.old.session)) }
 {
     let (answer, touched) = match connection.request(alloc, setup) {
@@ -245,8 +268,11 @@ fn hand_over(
     ensures number { connection.new.number ≡ connection.old.number }
     ensures spent { IsSpent connection.old.session connection.new.session }
     ensures parked { (k : ℕ) → k ≢ connection.old.number → fin.get parking.new k ≡ fin.get parking.old k }
-    ensures ok { (key version id : ℤ) (body : List ℕ) (reaction : Reaction) → IsAsked setup.now connection.old.session key version id body → IsAnswer id reaction answer → OnOk result (connection.new ≡ with_session connection.old (after_reaction reaction id version body (without_front connection.old.session))) }
-    ensures dated { (key version id : ℤ) (body : List ℕ) → IsAsked setup.now connection.old.session key version id body → until_of (fin.get parking.new connection.old.number) ≡ deadline_at connection.new.session.stage }
+    ensures ok { (key version id : ℤ) (body : List ℕ) (reaction : Reaction) → IsAsked setup.now connection.old.session key version id body
+        → IsAnswer id reaction answer → OnOk result
+        (connection.new ≡ with_session connection.old (after_reaction reaction id version body (without_front connection.old.session))) }
+    ensures dated { (key version id : ℤ) (body : List ℕ) → IsAsked setup.now connection.old.session key version id body
+        → until_of (fin.get parking.new connection.old.number) ≡ deadline_at connection.new.session.stage }
     ensures owned { IsOwnedAt connection.new.session.stage (fin.get parking.new connection.old.number) }
     ensures keyed { OnOk result (fin.get parking.new connection.old.number ≡ parked_for tenant answer) }
     ensures err { OnErr result (connection.new ≡ with_session connection.old (shut_down connection.old.session)) }
@@ -318,14 +344,22 @@ fn ask<L: PartitionLog + Drop, S: Store>(
     requires tenant { tenant < length (tenants_in L.log S.disk tenants.old) }
     ensures hosted { AreHosted L.log S.disk tenants.new }
     ensures later { AreLater L.log S.disk tenants.old tenants.new }
-    ensures turn { IsTurn tenant (shelf_is_honest S.disk tenants.new) (tenants_in L.log S.disk tenants.old) (tenants_in L.log S.disk tenants.new) }
-    ensures meets { IsMet tenant (shelf_is_honest S.disk tenants.new) (tenants_in L.log S.disk tenants.old) (tenants_in L.log S.disk tenants.new)
-        (λ k l. (l ≡ kept_after setup.now.node k clock request.now.connection request.now.api_key request.now.api_version request.now.body.now)
-        × IsAnswer request.now.correlation_id (answer setup.now.node k clock request.now.connection request.now.api_key request.now.api_version request.now.body.now) result.0) }
-    ensures asked { shelf_is_honest S.disk tenants.new → IsAskedOn tenant (tenants_in L.log S.disk tenants.old) (tenants_in L.log S.disk tenants.new) }
-    ensures touched { shelf_is_honest S.disk tenants.new → IsTouchedBy result.1 tenant clock (tenants_in L.log S.disk tenants.old) (tenants_in L.log S.disk tenants.new) }
-    ensures waits { AreServed request.now.connection true (kept_of (tenants_in L.log S.disk tenants.old) tenant).groups (kept_of (tenants_in L.log S.disk tenants.new) tenant).groups }
-    ensures told { IsWaitTold request.now.connection (kept_of (tenants_in L.log S.disk tenants.old) tenant).groups result.0 (kept_of (tenants_in L.log S.disk tenants.new) tenant).groups }
+    ensures turn { IsTurn tenant (shelf_is_honest S.disk tenants.new) (tenants_in L.log S.disk tenants.old)
+        (tenants_in L.log S.disk tenants.new) }
+    ensures meets { IsMet tenant (shelf_is_honest S.disk tenants.new) (tenants_in L.log S.disk tenants.old)
+        (tenants_in L.log S.disk tenants.new)
+        (λ k l. (l ≡ kept_after setup.now.node k clock request.now.connection request.now.api_key request.now.api_version
+        request.now.body.now)
+        × IsAnswer request.now.correlation_id (answer setup.now.node k clock request.now.connection request.now.api_key
+        request.now.api_version request.now.body.now) result.0) }
+    ensures asked { shelf_is_honest S.disk tenants.new
+        → IsAskedOn tenant (tenants_in L.log S.disk tenants.old) (tenants_in L.log S.disk tenants.new) }
+    ensures touched { shelf_is_honest S.disk tenants.new
+        → IsTouchedBy result.1 tenant clock (tenants_in L.log S.disk tenants.old) (tenants_in L.log S.disk tenants.new) }
+    ensures waits { AreServed request.now.connection true (kept_of (tenants_in L.log S.disk tenants.old) tenant).groups
+        (kept_of (tenants_in L.log S.disk tenants.new) tenant).groups }
+    ensures told { IsWaitTold request.now.connection (kept_of (tenants_in L.log S.disk tenants.old) tenant).groups result.0
+        (kept_of (tenants_in L.log S.disk tenants.new) tenant).groups }
 {
     let before = tenants.refusals(tenant);
     let node = setup.node();
@@ -358,7 +392,8 @@ pub fn look_again<L: PartitionLog + Drop, S: Store>(
     requires tenant { InRange (length (tenants_in L.log S.disk tenants.old)) connection.old.session.stage }
     ensures hosted { AreHosted L.log S.disk tenants.new }
     ensures later { AreLater L.log S.disk tenants.old tenants.new }
-    ensures looked { IsLookedAt (shelf_is_honest S.disk tenants.new) whom clock connection.old.session.stage (tenants_in L.log S.disk tenants.old) (tenants_in L.log S.disk tenants.new) connection.old connection.new }
+    ensures looked { IsLookedAt (shelf_is_honest S.disk tenants.new) whom clock connection.old.session.stage
+        (tenants_in L.log S.disk tenants.old) (tenants_in L.log S.disk tenants.new) connection.old connection.new }
     ensures waits { (connection.new.session.stage ≡ connection.old.session.stage) ⊎ (deadline_at connection.new.session.stage ≡ None) }
 {
     let Some((tenant, waiting)) = connection.waiting() else {
@@ -388,10 +423,13 @@ fn ask_again<L: PartitionLog + Drop, S: Store>(
     requires tenant { tenant < length (tenants_in L.log S.disk tenants.old) }
     ensures hosted { AreHosted L.log S.disk tenants.new }
     ensures later { AreLater L.log S.disk tenants.old tenants.new }
-    ensures turn { IsTurn tenant (shelf_is_honest S.disk tenants.new) (tenants_in L.log S.disk tenants.old) (tenants_in L.log S.disk tenants.new) }
-    ensures meets { IsMet tenant (shelf_is_honest S.disk tenants.new) (tenants_in L.log S.disk tenants.old) (tenants_in L.log S.disk tenants.new)
+    ensures turn { IsTurn tenant (shelf_is_honest S.disk tenants.new) (tenants_in L.log S.disk tenants.old)
+        (tenants_in L.log S.disk tenants.new) }
+    ensures meets { IsMet tenant (shelf_is_honest S.disk tenants.new) (tenants_in L.log S.disk tenants.old)
+        (tenants_in L.log S.disk tenants.new)
         (λ k l. (l ≡ k) × plain.IsAnswer waiting.now.correlation_id (ready k clock number (wait_of waiting.now)) result) }
-    ensures stays { shelf_is_honest S.disk tenants.new → (t : ℕ) → kept_of (tenants_in L.log S.disk tenants.new) t ≡ kept_of (tenants_in L.log S.disk tenants.old) t }
+    ensures stays { shelf_is_honest S.disk tenants.new → (t : ℕ)
+        → kept_of (tenants_in L.log S.disk tenants.new) t ≡ kept_of (tenants_in L.log S.disk tenants.old) t }
     ensures answers { shelf_is_honest S.disk tenants.new → let ts = tenants_in L.log S.disk tenants.old in
         IsLookAnswer tenant clock number ts (tenants_in L.log S.disk tenants.new) (wait_of waiting.now) result }
 {

@@ -1,5 +1,6 @@
 -- What a consumer has, and what each call makes of it.
-use Rattle.std.specs.Prelude.{◌≡◌, ◌&&◌, ℕ, zero, suc, ℤ, pos, Bool, true, false, not, if◌then◌else◌, List, [], ◌∷◌, ◌++◌, Option, Some, None, Result, Ok, Err, unwrap_or}
+use Rattle.std.specs.Prelude.{◌≡◌, ◌&&◌, ℕ, zero, suc, ℤ, pos, Bool, true, false, not, if◌then◌else◌, List, [], ◌∷◌, ◌++◌, Option, Some}
+use Rattle.std.specs.Prelude.{None, Result, Ok, Err, unwrap_or}
 use Rattle.std.specs.Ordering.{int_eq}
 use Rattle.kb_wire.specs.declared.fault.WireFault.{WireFault}
 use Rattle.kb_api_group.specs.Frames.{front}
@@ -68,7 +69,8 @@ handshaken (Ok code) = if int_eq code (pos 0) then stages.Authenticate else stag
 -- 58 is the answer to a wrong user or password
 abbrev pub logged_in : Result ℤ WireFault → Fetching
 logged_in (Err fault) = stages.Ended endings.Protocol
-logged_in (Ok code) = if int_eq code (pos 0) then stages.Fetch else if int_eq code (pos 58) then stages.Ended endings.Denied else stages.Ended (endings.Code code)
+logged_in (Ok code) = if int_eq code (pos 0) then stages.Fetch else if int_eq code (pos 58) then stages.Ended endings.Denied
+    else stages.Ended (endings.Code code)
 
 -- no record is there: that is the end, unless it waits for more
 abbrev pub at_end : Bool → Fetching
@@ -91,7 +93,8 @@ given (b ∷ records) c = with_found (found_in (b ∷ records) c.found) c
 
 abbrev pub fetched : Result FetchPartitionReplyV5 WireFault → Consumer → Consumer
 fetched (Err fault) c = entered (stages.Ended endings.Protocol) c
-fetched (Ok reply) c = if int_eq reply.error_code (pos 0) then given (unwrap_or reply.records []) c else entered (stages.Ended (endings.Code reply.error_code)) c
+fetched (Ok reply) c = if int_eq reply.error_code (pos 0) then given (unwrap_or reply.records []) c
+    else entered (stages.Ended (endings.Code reply.error_code)) c
 
 -- the correlation id of a request
 abbrev pub correlation : Fetching → ℤ
@@ -208,4 +211,11 @@ OutputsText bytes old (Err faults.LineTooLong) new = ⊥
 
 -- a consumer that has found nothing: if it wants no line it is finished
 abbrev pub fresh : Target → ℤ → Option ℕ → Bool → Consumer
-fresh target offset wanted follow = record { target = target; follow = follow; found = record { offset = offset; wanted = wanted; text = [] }; stage = wanting wanted stages.Closed; asked = false; unread = [] }
+fresh target offset wanted follow = record {
+  target = target;
+  follow = follow;
+  found = record { offset = offset; wanted = wanted; text = [] };
+  stage = wanting wanted stages.Closed;
+  asked = false;
+  unread = [];
+}

@@ -1,5 +1,6 @@
 -- What asks for the lines of a partition, and what is found in the reply.
-use Rattle.std.specs.Prelude.{◌≡◌, ◌==◌, ◌&&◌, if◌then◌else◌, ℕ, ℤ, pos, negsuc, Bool, true, false, List, [], ◌∷◌, Option, Some, None, Result, Ok, Err, unwrap_or}
+use Rattle.std.specs.Prelude.{◌≡◌, ◌==◌, ◌&&◌, if◌then◌else◌, ℕ, ℤ, pos, negsuc, Bool, true, false, List, [], ◌∷◌, Option, Some, None}
+use Rattle.std.specs.Prelude.{Result, Ok, Err, unwrap_or}
 use Rattle.std.specs.Int.{w32}
 use Rattle.kb_wire.specs.declared.fault.WireFault.{WireFault}
 use Rattle.kb_wire.specs.declared.fault.WireFault.TheVariants.{Bad}
@@ -15,7 +16,15 @@ use Rattle.kb_client.specs.Requests.{request_text}
 
 -- the topic of a Fetch request, with the partition: at most 1 MiB from an offset on, of one that has no log
 abbrev pub fetch_topics : Target → ℤ → List FetchTopicV5
-fetch_topics t offset = record { topic = t.topic; partitions = record { partition = t.partition; fetch_offset = offset; log_start_offset = negsuc 0; partition_max_bytes = pos 1048576 } ∷ [] } ∷ []
+fetch_topics t offset = record {
+  topic = t.topic;
+  partitions = record {
+    partition = t.partition;
+    fetch_offset = offset;
+    log_start_offset = negsuc 0;
+    partition_max_bytes = pos 1048576;
+  } ∷ [];
+} ∷ []
 
 -- how long a reply may wait for a byte
 abbrev pub patience : Bool → ℤ

@@ -1,5 +1,7 @@
 -- The lines of a partition, as they are found in its batches.
-use Rattle.std.specs.Prelude.{unsigned_abs, ◌≡◌, ◌-◌, ◌&&◌, ◌+ℤ◌, ◌-ℤ◌, ◌^◌, int_lt, ℕ, zero, suc, ℤ, pos, Bool, true, false, List, [], ◌∷◌, ◌++◌, length, take, drop, Option, Some, None, unwrap_or, min, option_map, option_and_then, Result, Ok, Err, if◌then◌else◌}
+use Rattle.std.specs.Prelude.{unsigned_abs, ◌≡◌, ◌-◌, ◌&&◌, ◌+ℤ◌, ◌-ℤ◌, ◌^◌, int_lt, ℕ, zero, suc, ℤ, pos, Bool, true, false, List, [], ◌∷◌}
+use Rattle.std.specs.Prelude.{◌++◌, length, take, drop, Option, Some, None, unwrap_or, min, option_map, option_and_then, Result, Ok, Err}
+use Rattle.std.specs.Prelude.{if◌then◌else◌}
 use Rattle.std.specs.List.{flat_map}
 use Rattle.kb_batch.specs.declared.record.RecordView.{RecordView}
 use Rattle.kb_batch.specs.Header.{base_offset_of}
@@ -19,7 +21,8 @@ pub record Found : Type 0 where
 unfoldable pub batches_in : ℕ → List ℕ → Option (List (List ℕ))
 batches_in n [] = Some []
 batches_in zero (b ∷ s) = None
-batches_in (suc n) (b ∷ s) = option_and_then (λ batch. option_map (λ batches. batch ∷ batches) (batches_in n (drop (length batch) (b ∷ s)))) (front (b ∷ s))
+batches_in (suc n) (b ∷ s) =
+    option_and_then (λ batch. option_map (λ batches. batch ∷ batches) (batches_in n (drop (length batch) (b ∷ s)))) (front (b ∷ s))
 
 -- the offset behind a batch
 abbrev pub end_of : List ℕ → ℤ

@@ -1,5 +1,6 @@
 -- What a producer has, and what each call makes of it.
-use Rattle.std.specs.Prelude.{◌≡◌, ◌≤◌, ◌<◌, ◌+◌, ◌%◌, ◌^◌, ◌||◌, ℕ, ℤ, pos, Bool, true, false, if◌then◌else◌, List, [], ◌∷◌, ◌++◌, length, Option, Some, None, Result, Ok, Err}
+use Rattle.std.specs.Prelude.{◌≡◌, ◌≤◌, ◌<◌, ◌+◌, ◌%◌, ◌^◌, ◌||◌, ℕ, ℤ, pos, Bool, true, false, if◌then◌else◌, List, [], ◌∷◌, ◌++◌, length}
+use Rattle.std.specs.Prelude.{Option, Some, None, Result, Ok, Err}
 use Rattle.std.specs.Ordering.{int_eq}
 use Rattle.kb_wire.specs.declared.fault.WireFault.{WireFault}
 use Rattle.kb_api_group.specs.Frames.{Front, Whole, Partial, TooSmall, TooLarge, front}
@@ -70,16 +71,19 @@ handshaken (Ok code) p = if int_eq code (pos 0) then entered stages.Authenticate
 -- 58 is the answer to a wrong user or password
 abbrev pub logged_in : Result ℤ WireFault → Producer → Producer
 logged_in (Err fault) p = ended endings.Protocol p
-logged_in (Ok code) p = if int_eq code (pos 0) then entered (after_login p.create p.producer) p else if int_eq code (pos 58) then ended endings.Denied p else ended (endings.Code code) p
+logged_in (Ok code) p = if int_eq code (pos 0) then entered (after_login p.create p.producer) p else if int_eq code (pos 58)
+    then ended endings.Denied p else ended (endings.Code code) p
 
 -- 36 is the answer where the topic was there
 abbrev pub created : Result ℤ WireFault → Producer → Producer
 created (Err fault) p = ended endings.Protocol p
-created (Ok code) p = if int_eq code (pos 0) || int_eq code (pos 36) then entered (after_login None p.producer) (record p { create = None }) else ended (endings.Code code) p
+created (Ok code) p = if int_eq code (pos 0) || int_eq code (pos 36) then entered (after_login None p.producer) (record p { create = None })
+    else ended (endings.Code code) p
 
 abbrev pub identified : Result (ℤ × ProducerId) WireFault → Producer → Producer
 identified (Err fault) p = ended endings.Protocol p
-identified (Ok reply) p = if int_eq reply.0 (pos 0) then entered (stages.Produce reply.1) (record p { producer = Some reply.1 }) else ended (endings.Code reply.0) p
+identified (Ok reply) p = if int_eq reply.0 (pos 0) then entered (stages.Produce reply.1) (record p { producer = Some reply.1 })
+    else ended (endings.Code reply.0) p
 
 -- the first line is acknowledged: it is stored
 abbrev pub acknowledged : ProducerId → List Line → Producer → Producer
@@ -197,7 +201,8 @@ has_request (stages.Ended ending) lines = false
 -- the request of the first line
 abbrev pub IsProduce : ProducerId → List Line → Producer → List ℕ → Type 0
 IsProduce producer [] p text = ⊥
-IsProduce producer (line ∷ lines) p text = (batch : List ℕ) × IsBatchOf producer (sequence p) line batch × (text ≡ produce_text (sequence p) p.target batch)
+IsProduce producer (line ∷ lines) p text =
+    (batch : List ℕ) × IsBatchOf producer (sequence p) line batch × (text ≡ produce_text (sequence p) p.target batch)
 
 -- the request of a stage
 abbrev pub IsRequest : Stage → Producer → List ℕ → Type 0
@@ -229,4 +234,13 @@ OutputsText bytes old (Err faults.LineTooLong) new = ⊥
 
 -- a producer that was handed nothing
 abbrev pub fresh : Target → Option ℤ → Producer
-fresh target create = record { target = target; create = create; producer = None; lines = []; acknowledged = 0; stage = stages.Closed; asked = false; unread = [] }
+fresh target create = record {
+  target = target;
+  create = create;
+  producer = None;
+  lines = [];
+  acknowledged = 0;
+  stage = stages.Closed;
+  asked = false;
+  unread = [];
+}

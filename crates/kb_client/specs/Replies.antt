@@ -31,7 +31,8 @@ create_code body = whole one_topic body >>= λ v. if v.0 == 1 then Ok v.1.1 else
 
 -- InitProducerId: the code, and the id with its epoch
 abbrev pub identity : List ℕ → Result (ℤ × ProducerId) WireFault
-identity body = whole init_producer_id_reply body >>= λ reply. Ok (reply.error_code, record { id = reply.producer_id; epoch = reply.producer_epoch })
+identity body =
+    whole init_producer_id_reply body >>= λ reply. Ok (reply.error_code, record { id = reply.producer_id; epoch = reply.producer_epoch })
 
 -- Produce for one partition: an array of one topic, which has an array of one partition
 abbrev pub one_partition : Codec (ℕ × (List ℕ × (ℕ × (ProducePartitionReply × ℤ))))

@@ -10,7 +10,8 @@ use Rattle.kb_client.specs.Sent.{Line, Target}
 
 -- a request: its size, its header without a client's name, and its body
 abbrev pub request_text : ℤ → ℤ → ℤ → List ℕ → List ℕ
-request_text key version id body = blob.written (request_header.written (record { api_key = key; api_version = version; correlation_id = id; client_id = None }) ++ body)
+request_text key version id body =
+    blob.written (request_header.written (record { api_key = key; api_version = version; correlation_id = id; client_id = None }) ++ body)
 
 -- SaslHandshake: the mechanism PLAIN
 abbrev pub handshake_text : ℤ → List ℕ
@@ -33,7 +34,8 @@ create_text id t partitions = request_text (pos 19) (pos 0) id (create_topics_re
 
 -- InitProducerId: an id without a transaction
 abbrev pub identify_text : ℤ → List ℕ
-identify_text id = request_text (pos 22) (pos 0) id (init_producer_id_request.written (record { transactional_id = None; transaction_timeout_ms = pos 60000 }))
+identify_text id = request_text (pos 22) (pos 0) id
+    (init_producer_id_request.written (record { transactional_id = None; transaction_timeout_ms = pos 60000 }))
 
 -- the topic of a Produce request, with the partition and its batch
 abbrev pub produce_topics : Target → List ℕ → List ProduceTopic
@@ -41,8 +43,10 @@ produce_topics t batch = record { name = t.topic; partitions = record { index = 
 
 -- Produce: a batch for the partition, to be answered once it is stored
 abbrev pub produce_text : ℤ → Target → List ℕ → List ℕ
-produce_text id t batch = request_text (pos 0) (pos 3) id (produce_request.written (record { transactional_id = None; acks = negsuc 0; timeout_ms = pos 30000; topics = produce_topics t batch }))
+produce_text id t batch = request_text (pos 0) (pos 3) id
+    (produce_request.written (record { transactional_id = None; acks = negsuc 0; timeout_ms = pos 30000; topics = produce_topics t batch }))
 
 -- the batch of a line alone, as this producer's of this sequence number
 abbrev pub IsBatchOf : ProducerId → ℤ → Line → List ℕ → Type 0
-IsBatchOf producer sequence line batch = IsBuilt (building_at producer.id producer.epoch sequence (pushed line.timestamp None (Some line.value) ∷ [])) batch
+IsBatchOf producer sequence line batch =
+    IsBuilt (building_at producer.id producer.epoch sequence (pushed line.timestamp None (Some line.value) ∷ [])) batch

@@ -4,7 +4,8 @@ ghost use Rattle.std.specs.Prelude.{◌≡◌, ◌≤◌, ◌++◌, true, None, 
 ghost use Rattle.kb_api_group.specs.Frames.{front};
 ghost use Rattle.kb_client.specs.Fetched.{arrival_of, fetched_partition};
 ghost use Rattle.kb_client.specs.declared.fetching.Fetching.TheVariants.{Ended};
-ghost use Rattle.kb_client.specs.Consumer.{Hears, fresh, connected, entered, heard, fetched, given, read_at, fed, fault_at, is_finished, is_due, has_request, without_text, Inputs, OutputsText, IsRequest, Stands};
+ghost use Rattle.kb_client.specs.Consumer.{Hears, fresh, connected, entered, heard, fetched, given, read_at, fed, fault_at, is_finished};
+ghost use Rattle.kb_client.specs.Consumer.{is_due, has_request, without_text, Inputs, OutputsText, IsRequest, Stands};
 
 use crate::arrival::Arrival;
 use crate::fault::ClientFault;
@@ -39,7 +40,14 @@ impl Model for ConsumerCore {
 
     ghost Value = { Consumer };
 
-    ghost view = { λ c. record { target = c.target; follow = c.follow; found = c.found; stage = c.stage; asked = c.asked; unread = c.unread.items } };
+    ghost view = { λ c. record {
+      target = c.target;
+      follow = c.follow;
+      found = c.found;
+      stage = c.stage;
+      asked = c.asked;
+      unread = c.unread.items;
+    } };
 }
 
 impl ConsumerCore {
@@ -57,7 +65,12 @@ impl ConsumerCore {
         requires user { length (string_bytes login.user) ≤ 255 }
         requires password { length (string_bytes login.password) ≤ 255 }
         requires topic { length (string_bytes topic) ≤ 255 }
-        ensures { result ≡ fresh (record { user = string_bytes login.user; password = string_bytes login.password; topic = string_bytes topic; partition = partition }) offset wanted follow }
+        ensures { result ≡ fresh (record {
+          user = string_bytes login.user;
+          password = string_bytes login.password;
+          topic = string_bytes topic;
+          partition = partition;
+        }) offset wanted follow }
     {
         ConsumerCore {
             alloc,
@@ -161,7 +174,8 @@ impl ConsumerCore {
 
     /// Reads the reply, if it is there with this piece.
     fn read(&mut self, piece: &[u8]) -> Result<(), AllocError>
-        ensures ok { OnOk result (self.new ≡ read_at (arrival_of (front (self.old.unread ++ piece.now))) (self.old.unread ++ piece.now) self.old) }
+        ensures ok { OnOk result (self.new ≡ read_at (arrival_of (front (self.old.unread ++ piece.now)))
+            (self.old.unread ++ piece.now) self.old) }
         ensures err { OnErr result (self.new ≡ self.old) }
     {
         let before = self.unread.len();

@@ -1,8 +1,10 @@
 //! The producer: lines that arrive once and in order.
 
 ghost use Rattle.std.specs.Prelude.{◌≡◌, ◌≤◌, ◌^◌, pos, true, None, length, string_bytes, IfOk, OnOk, OnErr};
-ghost use Rattle.kb_client.specs.Producer.{fresh, connected, entered, ended, heard, sequence, correlation, is_idle, is_due, has_request, fed};
-ghost use Rattle.kb_client.specs.Producer.{Inputs, TakesLine, OutputsText, IsRequest, IsProduce, is_some_line, read_at, acknowledged, Stands};
+ghost use Rattle.kb_client.specs.Producer.{fresh, connected, entered, ended, heard, sequence, correlation, is_idle, is_due, has_request};
+ghost use Rattle.kb_client.specs.Producer.{fed};
+ghost use Rattle.kb_client.specs.Producer.{Inputs, TakesLine, OutputsText, IsRequest, IsProduce, is_some_line, read_at, acknowledged};
+ghost use Rattle.kb_client.specs.Producer.{Stands};
 ghost use Rattle.kb_client.specs.Stages.{fault_of};
 ghost use Rattle.kb_client.specs.Reactions.{reacted};
 ghost use Rattle.kb_api_group.specs.Frames.{front};
@@ -47,7 +49,16 @@ impl Model for ProducerCore {
 
     ghost Value = { Producer };
 
-    ghost view = { λ p. record { target = p.target; create = p.create; producer = p.producer; lines = p.lines.items; acknowledged = p.acknowledged; stage = p.stage; asked = p.asked; unread = p.unread } };
+    ghost view = { λ p. record {
+      target = p.target;
+      create = p.create;
+      producer = p.producer;
+      lines = p.lines.items;
+      acknowledged = p.acknowledged;
+      stage = p.stage;
+      asked = p.asked;
+      unread = p.unread;
+    } };
 
     ghost invariant = { λ p. p.acknowledged + length p.lines.items ≤ 2 ^ 63 };
 }
@@ -65,7 +76,12 @@ impl ProducerCore {
         requires user { length (string_bytes login.user) ≤ 255 }
         requires password { length (string_bytes login.password) ≤ 255 }
         requires topic { length (string_bytes topic) ≤ 255 }
-        ensures { result ≡ fresh (record { user = string_bytes login.user; password = string_bytes login.password; topic = string_bytes topic; partition = partition }) create }
+        ensures { result ≡ fresh (record {
+          user = string_bytes login.user;
+          password = string_bytes login.password;
+          topic = string_bytes topic;
+          partition = partition;
+        }) create }
     {
         ProducerCore {
             alloc,

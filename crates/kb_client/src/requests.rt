@@ -1,7 +1,8 @@
 //! The requests of a client, each as its bytes.
 
 ghost use Rattle.std.specs.Prelude.{◌≡◌, ◌≤◌, ◌<◌, ◌^◌, length, pos, IfOk};
-ghost use Rattle.kb_client.specs.Requests.{request_text, handshake_text, plain_message, authenticate_text, create_text, identify_text, produce_topics, produce_text, IsBatchOf};
+ghost use Rattle.kb_client.specs.Requests.{request_text, handshake_text, plain_message, authenticate_text, create_text, identify_text};
+ghost use Rattle.kb_client.specs.Requests.{produce_topics, produce_text, IsBatchOf};
 ghost use Rattle.kb_client.specs.Fetched.{fetch_topics, fetch_text, patience};
 
 use crate::line::Line;

@@ -25,9 +25,19 @@ impl Model for Target {
 
     ghost Value = { Target };
 
-    ghost view = { λ t. record { user = string_bytes t.login.user; password = string_bytes t.login.password; topic = string_bytes t.topic; partition = t.partition } };
+    ghost view = { λ t. record {
+      user = string_bytes t.login.user;
+      password = string_bytes t.login.password;
+      topic = string_bytes t.topic;
+      partition = t.partition;
+    } };
 
-    ghost invariant = { λ t. HasShortTexts (record { user = string_bytes t.login.user; password = string_bytes t.login.password; topic = string_bytes t.topic; partition = t.partition }) };
+    ghost invariant = { λ t. HasShortTexts (record {
+      user = string_bytes t.login.user;
+      password = string_bytes t.login.password;
+      topic = string_bytes t.topic;
+      partition = t.partition;
+    }) };
 }
 
 impl Target {
@@ -38,7 +48,12 @@ impl Target {
         requires user { length (string_bytes login.user) ≤ 255 }
         requires password { length (string_bytes login.password) ≤ 255 }
         requires topic { length (string_bytes topic) ≤ 255 }
-        ensures { result ≡ record { user = string_bytes login.user; password = string_bytes login.password; topic = string_bytes topic; partition = partition } }
+        ensures { result ≡ record {
+          user = string_bytes login.user;
+          password = string_bytes login.password;
+          topic = string_bytes topic;
+          partition = partition;
+        } }
     {
         Target {
             login,

@@ -49,5 +49,6 @@ pub record IsOwn (setup : Setup) (s : Session) : Type 0 where
 pub record IsAsked (setup : Setup) (s : Session) (key version id : ℤ) (body : List ℕ) : Type 0 where
   pub tenants : is_tenants_at setup.versions (front s.unread) ≡ true
   pub asked : asked_at setup.versions (front s.unread) ≡ Some (id, key, version, body)
-  pub served : (kept : Kept) (clock n : ℕ) → after_turn setup kept clock n s ≡ after_reaction (answer setup.node kept clock n key version body) id version body (without_front s)
+  pub served : (kept : Kept) (clock n : ℕ)
+      → after_turn setup kept clock n s ≡ after_reaction (answer setup.node kept clock n key version body) id version body (without_front s)
   pub put : (kept : Kept) (clock n : ℕ) → put setup kept clock n s.unread ≡ kept_after setup.node kept clock n key version body

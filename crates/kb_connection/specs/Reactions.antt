@@ -11,12 +11,14 @@ use Rattle.kb_connection.specs.View.{greeting_of}
 -- s is the connection without the request
 abbrev pub reacted : Setup → Reaction → ℤ → Session → Session
 reacted setup (reactions.Versions code) id s = replied id (versions_reply setup.versions code) s
-reacted setup (reactions.Accepts greeting) id s = replied id (handshake_reply errors.None) (record s { stage = Greets (greeting_of greeting) })
+reacted setup (reactions.Accepts greeting) id s =
+    replied id (handshake_reply errors.None) (record s { stage = Greets (greeting_of greeting) })
 reacted setup (reactions.Handshake code) id s = replied id (handshake_reply code) s
 reacted setup reactions.IllegalState id s = replied id illegal_state s
 reacted setup (reactions.LogsIn tenant) id s = replied id (authenticate_reply errors.None None) (record s { stage = BoundTo tenant None })
 reacted setup (reactions.LogsInBare tenant) id s = bare_login (Some tenant) s
-reacted setup reactions.Denies id s = shut_down (replied id (authenticate_reply errors.SaslAuthenticationFailed (Some (codes "authentication failed"))) s)
+reacted setup reactions.Denies id s =
+    shut_down (replied id (authenticate_reply errors.SaslAuthenticationFailed (Some (codes "authentication failed"))) s)
 reacted setup reactions.Shuts id s = shut_down s
 
 -- a reaction was worked out, and the fact holds of its correlation id and of it

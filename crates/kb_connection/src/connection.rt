@@ -1,13 +1,15 @@
 //! One connection: its unread bytes, its untaken output, and how far it is.
 
-ghost use Rattle.std.specs.Prelude.{◌≡◌, ◌<◌, ◌≤◌, ◌^◌, ◌++◌, ℕ, ℤ, List, length, true, false, option_map, IfOk, IfSome, IfNone, OnOk, OnErr, ◌⊎◌};
+ghost use Rattle.std.specs.Prelude.{◌≡◌, ◌<◌, ◌≤◌, ◌^◌, ◌++◌, ℕ, ℤ, List, length, true, false, option_map, IfOk, IfSome, IfNone, OnOk};
+ghost use Rattle.std.specs.Prelude.{OnErr, ◌⊎◌};
 ghost use Rattle.kb_api_group.specs.Frames.{front};
 ghost use Rattle.kb_service.specs.Hosted.{Kept};
 ghost use Rattle.kb_service.specs.Replies.{Reaction as Reacts, IsAnswer};
 ghost use Rattle.kb_tenant.specs.Replies as tenant;
 ghost use Rattle.kb_tenant.specs.Replies.{framed, reply_size};
 ghost use Rattle.kb_machine.specs.Requests.{request};
-ghost use Rattle.kb_machine.specs.Session.{Session, Greets, BoundTo, fresh, room, overruns, fed, replied, shut_down, without_wait, waiting, has_member, is_free, can};
+ghost use Rattle.kb_machine.specs.Session.{Session, Greets, BoundTo, fresh, room, overruns, fed, replied, shut_down, without_wait, waiting};
+ghost use Rattle.kb_machine.specs.Session.{has_member, is_free, can};
 ghost use Rattle.kb_machine.specs.Greeting.{Setup, greeted, greeted_frame};
 ghost use Rattle.kb_machine.specs.Machine.{after_reaction, after_turn, served_by, told};
 ghost use Rattle.kb_machine.specs.Calls.{without_output};
@@ -111,7 +113,10 @@ impl Model for Connection {
 
     ghost Value = { Line };
 
-    ghost view = { λ c. record { number = c.number; session = record { stage = stage_with_wait c.stage; unread = c.unread; output = c.output.items; shut = c.shut } } };
+    ghost view = { λ c. record {
+      number = c.number;
+      session = record { stage = stage_with_wait c.stage; unread = c.unread; output = c.output.items; shut = c.shut };
+    } };
 
     ghost invariant = { λ c. IsLimited c.unread (stage_with_wait c.stage) c.shut };
 }
@@ -299,7 +304,8 @@ impl Connection {
         setup: &Setup,
     ) -> Result<Option<kb_tenant::Request<'_>>, AllocError>
         ensures own { IfOk result (λ found. IfNone found (IsOwn setup.now self.now.session)) }
-        ensures asked { IfOk result (λ found. IfSome found (λ asked. IsAsked setup.now self.now.session asked.api_key asked.api_version asked.correlation_id asked.body.now)) }
+        ensures asked { IfOk result (λ found. IfSome found (λ asked.
+            IsAsked setup.now self.now.session asked.api_key asked.api_version asked.correlation_id asked.body.now)) }
         ensures number { IfOk result (λ found. IfSome found (λ asked. asked.connection ≡ self.now.number)) }
         // none stands in front of one that was shut
         ensures unshut { IfOk result (λ found. IfSome found (λ asked. self.now.session.shut ≡ false)) }
@@ -327,12 +333,15 @@ impl Connection {
     /// takes to answer the request is kept until `wake` ends the wait. Where memory is refused it is shut.
     #[tactic(auto, using(crate::proofs::Answering::gives, crate::proofs::Answering::less_given, crate::proofs::Answering::less_parked, crate::proofs::Answering::free_given))]
     pub fn answer(&mut self, alloc: Global, setup: &Setup, answer: Answer) -> Result<(), AllocError>
-        ensures ok { (key version id : ℤ) (body : List ℕ) (reaction : Reacts) → IsAsked setup.now self.old.session key version id body → IsAnswer id reaction answer → OnOk result (self.new ≡ with_session self.old (after_reaction reaction id version body (without_front self.old.session))) }
+        ensures ok { (key version id : ℤ) (body : List ℕ) (reaction : Reacts) → IsAsked setup.now self.old.session key version id body
+            → IsAnswer id reaction answer → OnOk result
+            (self.new ≡ with_session self.old (after_reaction reaction id version body (without_front self.old.session))) }
         ensures err { OnErr result (self.new ≡ with_session self.old (shut_down self.old.session)) }
         // whatever the answer is, also where a refusal spoiled it
         ensures number { self.new.number ≡ self.old.number }
         ensures stage { without_wait self.new.session.stage ≡ without_wait self.old.session.stage }
-        ensures less { is_tenants_at setup.now.versions (front self.old.session.unread) ≡ true → length self.new.session.unread < length self.old.session.unread }
+        ensures less { is_tenants_at setup.now.versions (front self.old.session.unread) ≡ true
+            → length self.new.session.unread < length self.old.session.unread }
         ensures free { is_wait answer ≡ false → is_free self.old.session.stage ≡ true → is_free self.new.session.stage ≡ true }
     {
         match answer {
@@ -351,7 +360,8 @@ impl Connection {
     /// refused it is shut.
     #[tactic(auto, using(crate::proofs::Answering::ends, crate::proofs::Answering::tells))]
     pub fn wake(&mut self, answer: kb_tenant::Answer) -> Result<(), AllocError>
-        ensures ok { (id : ℤ) (reaction : tenant.Reaction) → tenant.IsAnswer id reaction answer → OnOk result (self.new ≡ with_session self.old (told reaction id self.old.session)) }
+        ensures ok { (id : ℤ) (reaction : tenant.Reaction) → tenant.IsAnswer id reaction answer
+            → OnOk result (self.new ≡ with_session self.old (told reaction id self.old.session)) }
         ensures err { OnErr result (self.new ≡ with_session self.old (shut_down self.old.session)) }
         // whatever the answer is, also where a refusal spoiled it
         ensures number { self.new.number ≡ self.old.number }
@@ -375,7 +385,8 @@ impl Connection {
         setup: &Setup,
         deadline: Option<u64>,
     ) -> Result<(), AllocError>
-        ensures ok { OnOk result (self.new ≡ with_session self.old (parked deadline (asked_at setup.now.versions (front self.old.session.unread)) (without_front self.old.session))) }
+        ensures ok { OnOk result (self.new ≡ with_session self.old
+            (parked deadline (asked_at setup.now.versions (front self.old.session.unread)) (without_front self.old.session))) }
         ensures err { OnErr result (self.new ≡ with_session self.old (shut_down self.old.session)) }
     {
         let request = self.request_in_front(alloc, setup, deadline);
@@ -401,7 +412,8 @@ impl Connection {
         setup: &Setup,
         deadline: Option<u64>,
     ) -> Result<Option<Waiting>, AllocError>
-        ensures found { IfOk result (λ found. option_map wait_of found ≡ option_map (wait_for deadline) (asked_at setup.now.versions (front self.now.session.unread))) }
+        ensures found { IfOk result (λ found. option_map wait_of found
+            ≡ option_map (wait_for deadline) (asked_at setup.now.versions (front self.now.session.unread))) }
         ensures unshut { IfOk result (λ found. IfSome found (λ request. self.now.session.shut ≡ false)) }
     {
         let Some(request) = self.request(alloc, setup)? else {
@@ -455,7 +467,8 @@ impl Connection {
 
     /// Adds a whole reply to the output: it is moved where nothing stands before it. An `Err` leaves everything as it was.
     fn send(&mut self, reply: Vec<u8>) -> Result<(), AllocError>
-        ensures ok { OnOk result (self.new ≡ with_session self.old (record self.old.session { output = self.old.session.output ++ reply.items })) }
+        ensures ok { OnOk result (self.new ≡ with_session self.old
+            (record self.old.session { output = self.old.session.output ++ reply.items })) }
         ensures err { OnErr result (self.new ≡ self.old) }
     {
         if self.output.is_empty() {
@@ -469,7 +482,8 @@ impl Connection {
     /// it is shut.
     pub fn serve(&mut self, alloc: Global, setup: &Setup) -> Result<(), AllocError>
         requires { IsOwn setup.now self.old.session }
-        ensures ok { (kept : Kept) (clock n : ℕ) → OnOk result (self.new ≡ with_session self.old (after_turn setup.now kept clock n self.old.session)) }
+        ensures ok { (kept : Kept) (clock n : ℕ)
+            → OnOk result (self.new ≡ with_session self.old (after_turn setup.now kept clock n self.old.session)) }
         ensures err { OnErr result (self.new ≡ with_session self.old (shut_down self.old.session)) }
     {
         match self.unread.next() {
@@ -492,7 +506,8 @@ impl Connection {
         setup: &Setup,
         reaction: Result<(i32, Reaction), AllocError>,
     ) -> Result<(), AllocError>
-        ensures ok { OnOk result (IfReacts reaction (λ id what. self.new ≡ with_session self.old (reacted setup.now what id (without_front self.old.session)))) }
+        ensures ok { OnOk result (IfReacts reaction (λ id what.
+            self.new ≡ with_session self.old (reacted setup.now what id (without_front self.old.session)))) }
         ensures err { OnErr result (self.new ≡ with_session self.old (shut_down self.old.session)) }
     {
         self.skip(); // the reaction keeps nothing of it
@@ -588,7 +603,8 @@ fn greeting_reaction(
     greeting: Greeting,
     frame: &[u8],
 ) -> Result<(i32, Reaction), AllocError>
-    ensures { IfOk result (λ done. (s : Session) → reacted setup.now done.1 done.0 s ≡ greeted_frame setup.now (greeting_of greeting) frame.now s) }
+    ensures { IfOk result (λ done. (s : Session)
+        → reacted setup.now done.1 done.0 s ≡ greeted_frame setup.now (greeting_of greeting) frame.now s) }
 {
     if greeting == Greeting::Bare {
         return Ok((0, Reaction::bare(setup, frame)));
@@ -603,7 +619,10 @@ fn greeting_reaction(
 
 /// What a bound connection's request comes to that is no request of its tenant, under its correlation id.
 fn bound_reaction(alloc: Global, setup: &Setup, frame: &[u8]) -> Result<(i32, Reaction), AllocError>
-    ensures { let r = request setup.now.versions frame.now in is_tenants r.asked ≡ false → IfOk result (λ done. (kept : Kept) (clock n : ℕ) (s : Session) → reacted setup.now done.1 done.0 s ≡ served_by setup.now kept clock n r.correlation_id r.asked s) }
+    ensures { let r = request setup.now.versions frame.now in
+        is_tenants r.asked ≡ false → IfOk result (λ done.
+        (kept : Kept) (clock n : ℕ) (s : Session)
+        → reacted setup.now done.1 done.0 s ≡ served_by setup.now kept clock n r.correlation_id r.asked s) }
 {
     let request = Request::read(alloc, setup.versions().as_slice(), frame)?;
     Ok((request.correlation_id, Reaction::bound(&request.asked)))

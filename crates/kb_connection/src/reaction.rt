@@ -70,7 +70,8 @@ impl Reaction {
     /// What a request of a bound connection comes to that is no request of its tenant.
     #[tactic(auto, unfolding(kb_machine::specs::Machine::served_by))]
     pub fn bound(asked: &Asked<'_>) -> Reaction
-        ensures { is_tenants (asked_of asked.now) ≡ false → (setup : Setup) (kept : Kept) (clock n : ℕ) (id : ℤ) (s : Session) → reacted setup result id s ≡ served_by setup kept clock n id (asked_of asked.now) s }
+        ensures { is_tenants (asked_of asked.now) ≡ false → (setup : Setup) (kept : Kept) (clock n : ℕ) (id : ℤ) (s : Session)
+            → reacted setup result id s ≡ served_by setup kept clock n id (asked_of asked.now) s }
     {
         match asked {
             Asked::Versions => Reaction::Versions(ErrorCode::None),

@@ -56,7 +56,11 @@ impl Model for Setup {
 
     ghost Value = { Setup };
 
-    ghost view = { λ s. record { versions = s.versions; users = s.logins.items; node = record { host = string_bytes s.host; port = s.port } } };
+    ghost view = { λ s. record {
+      versions = s.versions;
+      users = s.logins.items;
+      node = record { host = string_bytes s.host; port = s.port };
+    } };
 
     ghost invariant = { λ s. ((array api_version).Fits s.versions) × (string.Fits (string_bytes s.host)) };
 }

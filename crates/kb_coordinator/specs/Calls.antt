@@ -1,5 +1,6 @@
 -- What each request and moment does to the groups of a tenant, and is answered.
-use Rattle.std.specs.Prelude.{◌≡◌, ◌+◌, ℕ, Bool, ◌&&◌, ◌||◌, List, [], ◌∷◌, ◌++◌, map, length, slice_set, ℤ, pos, nat_eq, nat_le, nat_lt, if◌then◌else◌, is_none, Option, Some, None}
+use Rattle.std.specs.Prelude.{◌≡◌, ◌+◌, ℕ, Bool, ◌&&◌, ◌||◌, List, [], ◌∷◌, ◌++◌, map, length, slice_set, ℤ, pos, nat_eq, nat_le, nat_lt}
+use Rattle.std.specs.Prelude.{if◌then◌else◌, is_none, Option, Some, None}
 use Rattle.kb_groups.specs.declared.code.Code.{Code}
 use Rattle.kb_groups.specs.declared.code.Code.TheVariants as of
 use Rattle.kb_groups.specs.declared.state.State.{State}
@@ -35,7 +36,8 @@ with_changed id f gs = record gs { groups = changed id f gs.groups; released = [
 
 -- That group takes a step, if it is there.
 abbrev pub stepped : List ℕ → (State → Step) → Groups → Groups
-stepped id step gs = record gs { groups = changed id (λ g. (step g).group) gs.groups; released = by_group [] (λ g. (step g).released) (found id gs.groups) }
+stepped id step gs =
+    record gs { groups = changed id (λ g. (step g).group) gs.groups; released = by_group [] (λ g. (step g).released) (found id gs.groups) }
 
 -- ## Heartbeat
 
@@ -53,7 +55,8 @@ may_commit id member generation gs =
     else error_of (by_group (commit_of_none generation) (one.may_commit (named member) generation) (found id gs.groups))
 
 abbrev pub after_may_commit : ℕ → List ℕ → List ℕ → ℤ → Groups → Groups
-after_may_commit clock id member generation gs = if one.is_empty id then silent gs else with_changed id (one.after_may_commit clock (named member) generation) gs
+after_may_commit clock id member generation gs =
+    if one.is_empty id then silent gs else with_changed id (one.after_may_commit clock (named member) generation) gs
 
 -- ## LeaveGroup
 
@@ -69,7 +72,8 @@ abbrev pub sync_in : ℕ → ℕ → SyncGroupRequest → State → SyncAnswer �
 sync_in clock connection r g = one.sync clock connection (named r.member_id) r.generation_id (map assigned_to r.assignments) g
 
 abbrev pub sync_answer : ℕ → ℕ → SyncGroupRequest → Groups → SyncAnswer
-sync_answer clock connection r gs = by_group (Refused of.UnknownMemberId) (λ g. (sync_in clock connection r g).0) (found r.group_id gs.groups)
+sync_answer clock connection r gs =
+    by_group (Refused of.UnknownMemberId) (λ g. (sync_in clock connection r g).0) (found r.group_id gs.groups)
 
 abbrev pub after_sync : ℕ → ℕ → SyncGroupRequest → Groups → Groups
 after_sync clock connection r gs = stepped r.group_id (λ g. (sync_in clock connection r g).1) gs
@@ -107,7 +111,8 @@ code_by j gs (Some g) = known_code j g gs
 
 -- A join's code.
 abbrev pub join_code : ℕ → JoinGroupRequest → Groups → ErrorCode
-join_code connection r gs = if one.is_empty r.group_id then codes.InvalidGroupId else code_by (join_of gs.members connection r) gs (found r.group_id gs.groups)
+join_code connection r gs =
+    if one.is_empty r.group_id then codes.InvalidGroupId else code_by (join_of gs.members connection r) gs (found r.group_id gs.groups)
 
 abbrev pub is_accepted : ErrorCode → Bool
 is_accepted code = int_eq (code_of code) (pos 0)
@@ -121,7 +126,10 @@ numbered j gs = record gs { members = given_with j gs }
 
 -- A new group takes a join, and stands in its place.
 abbrev pub new_joined : ℕ → Join → List ℕ → Groups → Groups
-new_joined clock j id gs = numbered j (record gs { groups = with_new id (one.join clock j one.fresh).group gs.groups; released = (one.join clock j one.fresh).released })
+new_joined clock j id gs = numbered j (record gs {
+  groups = with_new id (one.join clock j one.fresh).group gs.groups;
+  released = (one.join clock j one.fresh).released;
+})
 
 abbrev pub after_new : ℕ → Join → List ℕ → Groups → Groups
 after_new clock j id gs = if is_accepted (new_code j gs) then new_joined clock j id gs else silent gs
@@ -132,16 +140,22 @@ entry_joined clock j e = record { id = e.id; group = (one.join clock j e.group).
 -- A join to the group at a place.
 abbrev pub after_known : ℕ → Join → ℕ → Entry → Groups → Groups
 after_known clock j place e gs =
-    if is_accepted (known_code j e.group gs) then numbered j (record gs { groups = slice_set gs.groups place (entry_joined clock j e); released = (one.join clock j e.group).released })
+    if is_accepted (known_code j e.group gs)
+    then numbered j (record gs {
+      groups = slice_set gs.groups place (entry_joined clock j e);
+      released = (one.join clock j e.group).released;
+    })
     else silent gs
 
 abbrev pub joined_by : ℕ → Join → List ℕ → Groups → Option State → Groups
 joined_by clock j id gs None = new_joined clock j id gs
-joined_by clock j id gs (Some g) = numbered j (record gs { groups = changed id (λ h. (one.join clock j h).group) gs.groups; released = (one.join clock j g).released })
+joined_by clock j id gs (Some g) =
+    numbered j (record gs { groups = changed id (λ h. (one.join clock j h).group) gs.groups; released = (one.join clock j g).released })
 
 abbrev pub after_join : ℕ → ℕ → JoinGroupRequest → Groups → Groups
 after_join clock connection r gs =
-    if is_accepted (join_code connection r gs) then joined_by clock (join_of gs.members connection r) r.group_id gs (found r.group_id gs.groups)
+    if is_accepted (join_code connection r gs)
+    then joined_by clock (join_of gs.members connection r) r.group_id gs (found r.group_id gs.groups)
     else silent gs
 
 -- ## A connection ends
@@ -189,7 +203,8 @@ unmarked (b ∷ bs) = (if b then 0 else 1) + unmarked bs
 
 -- Each group had its moment, or was refused memory and is as it was; that many were refused.
 abbrev pub Ticks : ℕ → List Entry → List Entry → List Release → ℕ → Type 0
-Ticks clock es new released refused = (marks : List Bool) × (length marks ≡ length es) × (new ≡ some_ticked clock marks es) × (released ≡ some_released clock marks es) × (refused ≡ unmarked marks)
+Ticks clock es new released refused = (marks : List Bool) × (length marks ≡ length es) × (new ≡ some_ticked clock marks es)
+    × (released ≡ some_released clock marks es) × (refused ≡ unmarked marks)
 
 -- The next moment at which a session ends or a deadline comes, if there is one.
 abbrev pub next_due : Groups → Option ℕ

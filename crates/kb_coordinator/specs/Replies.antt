@@ -13,7 +13,8 @@ use Rattle.kb_api_group.specs.declared.join_group.JoinMember.{JoinMember}
 
 -- A join that is refused: no generation, protocol, leader or members, and the member id that was asked.
 abbrev pub join_refusal : ℤ → List ℕ → List ℕ
-join_refusal code asked = join_group_reply.written (record { error_code = code; generation_id = negsuc 0; protocol_name = []; leader = []; member_id = asked; members = [] })
+join_refusal code asked = join_group_reply.written
+    (record { error_code = code; generation_id = negsuc 0; protocol_name = []; leader = []; member_id = asked; members = [] })
 
 abbrev pub id_of : Option ℕ → List ℕ
 id_of None = []
@@ -27,7 +28,15 @@ sync_reply code assignment = sync_group_reply.written (record { error_code = cod
 
 -- A join that a generation answers.
 abbrev pub joined_spelled : Generation → List ℕ
-joined_spelled j = join_group_reply.written (record { error_code = pos 0; generation_id = j.generation; protocol_name = j.protocol; leader = member_id j.leader; member_id = member_id j.member; members = map listed j.members })
+joined_spelled j = join_group_reply.written
+    (record {
+      error_code = pos 0;
+      generation_id = j.generation;
+      protocol_name = j.protocol;
+      leader = member_id j.leader;
+      member_id = member_id j.member;
+      members = map listed j.members;
+    })
 
 -- The body of the reply to a request that waited.
 abbrev pub spelled : Reply → List ℕ

@@ -1,7 +1,8 @@
 //! The groups of a tenant, and what requests do to them.
 ghost use Rattle.std.specs.Prelude.{◌≡◌, ◌≤◌, IfOk, OnErr, OnOk};
 ghost use Rattle.kb_coordinator.specs.Groups.{none, place_of, silent};
-ghost use Rattle.kb_coordinator.specs.Calls.{after_heartbeat, after_leave, after_may_commit, after_sync, heartbeat_code, leave_code, may_commit, sync_answer};
+ghost use Rattle.kb_coordinator.specs.Calls.{after_heartbeat, after_leave, after_may_commit, after_sync, heartbeat_code, leave_code};
+ghost use Rattle.kb_coordinator.specs.Calls.{may_commit, sync_answer};
 
 use crate::convert::{assignments, commit_of_none, error_of, number_of};
 use crate::groups::{Entry, place_of};
@@ -34,7 +35,8 @@ impl Model for Coordinator {
 
     ghost view = { λ c. record { groups = c.groups.items; members = c.members; released = flat_map (λ v. v.items) c.released.items } };
 
-    ghost invariant = { λ c. (c.members ≤ 9223372036854775807) × (c.quiet_until ≤ earliest c.groups.items) × AreSorted c.groups.items × All (λ v. AreInOrder v.items) c.released.items };
+    ghost invariant = { λ c. (c.members ≤ 9223372036854775807) × (c.quiet_until ≤ earliest c.groups.items) × AreSorted c.groups.items
+        × All (λ v. AreInOrder v.items) c.released.items };
 }
 
 impl Coordinator {

@@ -2,7 +2,8 @@
 ghost use Rattle.std.specs.Prelude.{◌≡◌, ◌<◌, ◌≤◌, IfOk, OnErr, OnOk, length, slice_get, None, Some};
 ghost use Rattle.kb_coordinator.specs.declared.groups.Entry.{Entry};
 ghost use Rattle.kb_coordinator.specs.Groups.{place_of, silent};
-ghost use Rattle.kb_coordinator.specs.Calls.{after_join, after_known, after_new, full, given_with, is_accepted, join_code, known_code, lacks_number, new_code, unless_refused};
+ghost use Rattle.kb_coordinator.specs.Calls.{after_join, after_known, after_new, full, given_with, is_accepted, join_code, known_code};
+ghost use Rattle.kb_coordinator.specs.Calls.{lacks_number, new_code, unless_refused};
 
 use crate::convert::{asked_member, error_of, offers};
 use crate::coordinator::Coordinator;
@@ -93,8 +94,10 @@ impl Coordinator {
     ) -> Result<ErrorCode, AllocError>
         requires below { place < length self.old.groups }
         requires clock { clock ≤ 4611686018427387904 }
-        ensures code { (e : Entry) → slice_get self.old.groups place ≡ Some e → IfOk result (λ code. code ≡ known_code request.now e.group self.old) }
-        ensures after { (e : Entry) → slice_get self.old.groups place ≡ Some e → OnOk result (self.new ≡ after_known clock request.now place e self.old) }
+        ensures code { (e : Entry) → slice_get self.old.groups place ≡ Some e
+            → IfOk result (λ code. code ≡ known_code request.now e.group self.old) }
+        ensures after { (e : Entry) → slice_get self.old.groups place ≡ Some e
+            → OnOk result (self.new ≡ after_known clock request.now place e self.old) }
         ensures refused { OnErr result (self.new ≡ silent self.old) }
     {
         self.released.clear();

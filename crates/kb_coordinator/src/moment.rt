@@ -64,8 +64,10 @@ fn tick_one(
     requires clock { clock ≤ 4611686018427387904 }
     requires order { All (λ v. AreInOrder v.items) released.old.items }
     ensures entry { OnOk result (entry.new ≡ ticked clock entry.old) }
-    ensures released { OnOk result (flat_map (λ v. v.items) released.new.items ≡ flat_map (λ v. v.items) released.old.items ++ (tick clock entry.old.group).released) }
-    ensures refused { OnErr result ((entry.new ≡ entry.old) × (flat_map (λ v. v.items) released.new.items ≡ flat_map (λ v. v.items) released.old.items)) }
+    ensures released { OnOk result (flat_map (λ v. v.items) released.new.items ≡ flat_map (λ v. v.items) released.old.items
+        ++ (tick clock entry.old.group).released) }
+    ensures refused { OnErr result ((entry.new ≡ entry.old)
+        × (flat_map (λ v. v.items) released.new.items ≡ flat_map (λ v. v.items) released.old.items)) }
     ensures order { All (λ v. AreInOrder v.items) released.new.items }
 {
     if clock < entry.group.quiet_until() {
@@ -88,7 +90,8 @@ fn tick_counted(
     requires clock { clock ≤ 4611686018427387904 }
     requires order { All (λ v. AreInOrder v.items) released.old.items }
     ensures entry { entry.new ≡ (if nat_eq result 0 then ticked clock entry.old else entry.old) }
-    ensures released { flat_map (λ v. v.items) released.new.items ≡ flat_map (λ v. v.items) released.old.items ++ (if nat_eq result 0 then (tick clock entry.old.group).released else []) }
+    ensures released { flat_map (λ v. v.items) released.new.items ≡ flat_map (λ v. v.items) released.old.items
+        ++ (if nat_eq result 0 then (tick clock entry.old.group).released else []) }
     ensures order { All (λ v. AreInOrder v.items) released.new.items }
     ensures most { result ≤ 1 }
 {

@@ -65,7 +65,15 @@ fn put_join_front(
     sink: &mut Sink,
 ) -> Result<(), AllocError>
     ensures { (members : List JoinMember) → OnOk result (sink.new.bytes ++ (array join_member).written members
-        ≡ sink.old.bytes ++ join_group_reply.written (record { error_code = error_code; generation_id = generation; protocol_name = protocol.now; leader = leader.now; member_id = member.now; members = members })) }
+        ≡ sink.old.bytes ++ join_group_reply.written
+        (record {
+          error_code = error_code;
+          generation_id = generation;
+          protocol_name = protocol.now;
+          leader = leader.now;
+          member_id = member.now;
+          members = members;
+        })) }
 {
     sink.put_i16(error_code)?;
     sink.put_i32(generation)?;

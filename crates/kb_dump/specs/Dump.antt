@@ -1,5 +1,6 @@
 -- What a person sees of the files of a store.
-use Rattle.std.specs.Prelude.{◌≡◌, ◌≤◌, ◌+◌, ◌++◌, ℕ, zero, suc, ℤ, List, [], ◌∷◌, length, drop, codes, decimal, Option, Some, None, unwrap_or, if◌then◌else◌, Result, IsErrOf}
+use Rattle.std.specs.Prelude.{◌≡◌, ◌≤◌, ◌+◌, ◌++◌, ℕ, zero, suc, ℤ, List, [], ◌∷◌, length, drop, codes, decimal, Option, Some, None}
+use Rattle.std.specs.Prelude.{unwrap_or, if◌then◌else◌, Result, IsErrOf}
 use Rattle.std.specs.Fmt.{signed_decimal}
 use Rattle.std.specs.List.{flat_map}
 use Rattle.std.specs.FinMap.{get}
@@ -23,7 +24,8 @@ kind_text h =
     else codes " meta generation " ++ signed_decimal h.generation
 
 abbrev pub header_line : ℕ → Header → List ℕ
-header_line number h = codes "file " ++ decimal number ++ codes " tenant " ++ h.tenant ++ kind_text h ++ codes " base " ++ signed_decimal h.base ++ codes "\n"
+header_line number h =
+    codes "file " ++ decimal number ++ codes " tenant " ++ h.tenant ++ kind_text h ++ codes " base " ++ signed_decimal h.base ++ codes "\n"
 
 -- of a file with no readable header
 abbrev pub stray_line : ℕ → List ℕ
@@ -32,7 +34,8 @@ stray_line number = codes "file " ++ decimal number ++ codes " stray\n"
 -- ---- its batches
 
 abbrev pub batch_words : ℤ → ℕ → ℕ → List ℕ
-batch_words base count size = codes "batch base " ++ signed_decimal base ++ codes " count " ++ decimal count ++ codes " size " ++ decimal size ++ codes "\n"
+batch_words base count size =
+    codes "batch base " ++ signed_decimal base ++ codes " count " ++ decimal count ++ codes " size " ++ decimal size ++ codes "\n"
 
 abbrev pub batch_line : List ℕ → List ℕ
 batch_line b = batch_words (base_offset_of b) (count_of b) (length b)

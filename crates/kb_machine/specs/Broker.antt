@@ -72,7 +72,8 @@ is_deaf (Some s) = s.shut
 abbrev pub IsUntaken : ℕ → List ℕ → BrokerState → Type 0
 IsUntaken n piece b = (piece ≡ []) ⊎ (is_deaf (find_line n b.lines) ≡ true)
 
--- whose counts an event may raise: a tenant's in a moment, or where the connection has or gets that tenant; the unbound count where the connection has no tenant
+-- whose counts an event may raise: a tenant's in a moment, or where the connection has or gets that tenant; the unbound count where the
+-- connection has no tenant
 pub record IsComing (n : ℕ) (piece : List ℕ) (old new : BrokerState) : Type 0 where
   pub own : (t : ℕ) → bound_to n new ≢ Some t → refusals_of new t ≡ refusals_of old t
   pub unbound : (t : ℕ) → bound_to n old ≡ Some t → new.unbound_refusals ≡ old.unbound_refusals
@@ -129,14 +130,17 @@ last_after (Comes n piece) last = last
 last_after (Closes n) last = last
 last_after (Moment now) last = last
 
--- to each tenant an event of the broker is an event of its machine, or nothing where it is not the tenant's own, unless something was refused to it
+-- to each tenant an event of the broker is an event of its machine, or nothing where it is not the tenant's own, unless something was
+-- refused to it
 pub record IsStep (e : Happening) (old new : BrokerState) : Type 0 where
   pub last : new.last ≤ last_after e old.last
   pub grows : Grows old new
   pub counted : IsCounted e old new
   -- whose connections they are is settled by what they have said and what is still to come
-  pub mine : (t : ℕ) (mine : ℕ → Bool) (es : List Happening) → Mine t mine (e ∷ es) old → IsCalm old.unbound_refusals new.unbound_refusals → Mine t mine es new
-  pub view : (t : ℕ) (mine : ℕ → Bool) (es : List Happening) → Mine t mine (e ∷ es) old → IsCalmFor t old new → view_of t mine new ≡ stepped (concerns mine e) e (view_of t mine old)
+  pub mine : (t : ℕ) (mine : ℕ → Bool) (es : List Happening) → Mine t mine (e ∷ es) old → IsCalm old.unbound_refusals new.unbound_refusals
+      → Mine t mine es new
+  pub view : (t : ℕ) (mine : ℕ → Bool) (es : List Happening) → Mine t mine (e ∷ es) old → IsCalmFor t old new
+      → view_of t mine new ≡ stepped (concerns mine e) e (view_of t mine old)
 
 -- numbers of new connections rise, and no moment is after 2 ^ 62
 abbrev pub IsRun : ℕ → List Happening → Type 0

@@ -10,24 +10,29 @@ use Rattle.kb_service.specs.Hosted.{passed, world_at}
 use Rattle.kb_machine.specs.Requests.{Another, request}
 use Rattle.kb_machine.specs.Tenant.{Records}
 use Rattle.kb_machine.specs.Session.{Stage, Greets, BoundTo, Session, fed, replied, without_wait}
-use Rattle.kb_machine.specs.Machine.{Happening, Opens, Comes, Closes, Moment, Line, View, after_turn, put, woken, kept_fed, find_line, each, on, first_able, all_woken, turn, work, step}
+use Rattle.kb_machine.specs.Machine.{Happening, Opens, Comes, Closes, Moment, Line, View, after_turn, put, woken, kept_fed, find_line, each}
+use Rattle.kb_machine.specs.Machine.{on, first_able, all_woken, turn, work, step}
 
 -- it got a reply that holds such batches, as that version tells them, or no reply
 abbrev pub GetsBatches : tenants.World → ℤ → FetchRequest → ℤ → Session → Session → Type 0
-GetsBatches world version fetch id old new = ((reply : List ℕ) × HoldsBatches version world fetch reply × (new ≡ replied id reply old)) ⊎ (new.output ≡ old.output)
+GetsBatches world version fetch id old new =
+    ((reply : List ℕ) × HoldsBatches version world fetch reply × (new ≡ replied id reply old)) ⊎ (new.output ≡ old.output)
 
 -- 1. One answer
 
 -- where a fetch stands in front of a connection, of number n, that takes its turn, the connection gets such batches
 abbrev pub ServesBatches : View → ℕ → Session → Type 0
 ServesBatches w n s = (frame rest : List ℕ) (version : ℤ) (body : List ℕ) (fetch : FetchRequest)
-    → front s.unread ≡ Whole frame rest → (request w.setup.versions frame).asked ≡ Another (pos 1) version body → asked_fetch version body ≡ Ok fetch
-    → GetsBatches (world_at w.kept w.clock) version fetch (request w.setup.versions frame).correlation_id (record s { unread = rest }) (after_turn w.setup w.kept w.clock n s)
+    → front s.unread ≡ Whole frame rest → (request w.setup.versions frame).asked ≡ Another (pos 1) version body
+    → asked_fetch version body ≡ Ok fetch
+    → GetsBatches (world_at w.kept w.clock) version fetch (request w.setup.versions frame).correlation_id (record s { unread = rest })
+    (after_turn w.setup w.kept w.clock n s)
 
 -- where a fetch waits on a connection, of number n, that is looked at, the connection gets such batches
 abbrev pub WakesWithBatches : View → ℕ → Session → Type 0
 WakesWithBatches w n s = (tenant : ℕ) (id version : ℤ) (body : List ℕ) (deadline : ℕ) (fetch : FetchRequest)
-    → s.stage ≡ BoundTo tenant (Some (record { correlation_id = id; awaited = Records version body deadline })) → asked_fetch version body ≡ Ok fetch
+    → s.stage ≡ BoundTo tenant (Some (record { correlation_id = id; awaited = Records version body deadline }))
+    → asked_fetch version body ≡ Ok fetch
     → GetsBatches (world_at w.kept w.clock) version fetch id (record s { stage = without_wait s.stage }) (woken w.kept w.clock n s)
 
 -- so does each that waits
@@ -38,7 +43,10 @@ AllWakeWithBatches w = AllByRecursion (λ (l : Line). WakesWithBatches w l.numbe
 
 -- the world after the request of a bound connection, when those that wait are looked at
 abbrev pub after_request : View → Line → View
-after_request w l = record w { kept = put w.setup w.kept w.clock l.number l.session.unread; lines = each (on l.number (after_turn w.setup w.kept w.clock l.number)) w.lines }
+after_request w l = record w {
+  kept = put w.setup w.kept w.clock l.number l.session.unread;
+  lines = each (on l.number (after_turn w.setup w.kept w.clock l.number)) w.lines;
+}
 
 -- a turn: its own connection, and then those that wait
 abbrev pub TurnGivesBatches : View → Line → Stage → Type 0

@@ -29,7 +29,8 @@ pub record Setup : Type 0 where
 -- the tenant of the first user of that name and password
 abbrev pub tenant_of : List User → List ℕ → List ℕ → Option ℕ
 tenant_of [] name password = None
-tenant_of (u ∷ us) name password = if bytes_eq u.name name && bytes_eq u.password password then Some u.tenant else tenant_of us name password
+tenant_of (u ∷ us) name password =
+    if bytes_eq u.name name && bytes_eq u.password password then Some u.tenant else tenant_of us name password
 
 abbrev pub tenant_at : List User → Option PlainLogin → Option ℕ
 tenant_at users None = None

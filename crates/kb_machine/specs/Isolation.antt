@@ -7,7 +7,8 @@ use Rattle.kb_machine.specs.Told.{quieted}
 
 -- 1. One run
 
--- each tenant's connections got what the machine of that tenant alone writes, unless something was refused to it or to a connection that was not bound
+-- each tenant's connections got what the machine of that tenant alone writes, unless something was refused to it or to a connection
+-- that was not bound
 abbrev pub IsIsolated : List Happening → BrokerState → BrokerState → List Sent → Type 0
 IsIsolated es old new got = (t : ℕ) → IsCalmFor t old new → those_sent (owned_by t es old) got ≡ by_number (alone t es old)
 
@@ -59,4 +60,5 @@ pub record IsLeft (t : ℕ) (mine : ℕ → Bool) (es later : List Happening) (o
 
 -- so it is for each tenant to which nothing was refused, nor to a connection that was not bound, whatever is to come later
 abbrev pub LeavesWorlds : List Happening → BrokerState → BrokerState → List Sent → Type 0
-LeavesWorlds es old new got = (t : ℕ) (mine : ℕ → Bool) (later : List Happening) → Mine t mine (es ++ later) old → IsCalmFor t old new → IsLeft t mine es later old new got
+LeavesWorlds es old new got = (t : ℕ) (mine : ℕ → Bool) (later : List Happening) → Mine t mine (es ++ later) old → IsCalmFor t old new
+    → IsLeft t mine es later old new got

@@ -1,5 +1,6 @@
 -- The machine of one tenant: its world, and what each event does to it. No other tenant is in it, and no queue, index or cache.
-use Rattle.std.specs.Prelude.{ℕ, zero, suc, ◌+◌, ◌==◌, ℤ, List, [], ◌∷◌, ◌++◌, length, map, filter, Bool, true, false, not, if◌then◌else◌, Option, Some, None, nat_lt, max}
+use Rattle.std.specs.Prelude.{ℕ, zero, suc, ◌+◌, ◌==◌, ℤ, List, [], ◌∷◌, ◌++◌, length, map, filter, Bool, true, false, not, if◌then◌else◌}
+use Rattle.std.specs.Prelude.{Option, Some, None, nat_lt, max}
 use Rattle.kb_api_group.specs.Frames.{Front, Whole, Partial, TooSmall, TooLarge, front}
 use Rattle.kb_api_group.specs.declared.error_code.ErrorCode.TheVariants as errors
 use Rattle.kb_tenant.specs.Replies as tenant
@@ -8,7 +9,8 @@ use Rattle.kb_service.specs.Hosted.{Kept, left, passed}
 use Rattle.kb_service.specs.Replies.{Reaction, Plain, Rebalances}
 use Rattle.kb_machine.specs.Requests.{Asked, Versions, OtherVersions, Handshake, Authenticate, Another, Malformed, request}
 use Rattle.kb_machine.specs.Tenant.{Records, Group, kept_after, answer, ready}
-use Rattle.kb_machine.specs.Session.{Stage, Greets, BoundTo, Session, fresh, without_wait, waiting, shut_down, overruns, fed, replied, has_member, can}
+use Rattle.kb_machine.specs.Session.{Stage, Greets, BoundTo, Session, fresh, without_wait, waiting, shut_down, overruns, fed, replied}
+use Rattle.kb_machine.specs.Session.{has_member, can}
 use Rattle.kb_machine.specs.Greeting.{Setup, greeted, versions_reply, handshake_reply, illegal_state}
 
 -- a connection: its number and what it has
@@ -35,7 +37,8 @@ pub data Happening : Type 0 where
 -- what a request of that version and body comes to that waits for no group
 abbrev pub plainly : tenant.Reaction → ℤ → ℤ → List ℕ → Session → Session
 plainly (Replies reply) id version body s = replied id reply s
-plainly (Waits deadline places) id version body s = record s { stage = waiting (record { correlation_id = id; awaited = Records version body deadline }) s.stage }
+plainly (Waits deadline places) id version body s =
+    record s { stage = waiting (record { correlation_id = id; awaited = Records version body deadline }) s.stage }
 plainly Silent id version body s = s
 plainly Shuts id version body s = shut_down s
 
@@ -50,11 +53,13 @@ served_by setup kept clock n id Versions s = replied id (versions_reply setup.ve
 served_by setup kept clock n id OtherVersions s = replied id (versions_reply setup.versions errors.UnsupportedVersion) s
 served_by setup kept clock n id (Handshake version mechanism) s = replied id (handshake_reply errors.IllegalSaslState) s
 served_by setup kept clock n id (Authenticate message) s = replied id illegal_state s
-served_by setup kept clock n id (Another key version body) s = after_reaction (answer setup.node kept clock n key version body) id version body s
+served_by setup kept clock n id (Another key version body) s =
+    after_reaction (answer setup.node kept clock n key version body) id version body s
 served_by setup kept clock n id Malformed s = shut_down s
 
 abbrev pub served_at : Setup → Kept → ℕ → ℕ → Session → Front → Session
-served_at setup kept clock n s (Whole frame rest) = let r = request setup.versions frame in served_by setup kept clock n r.correlation_id r.asked (record s { unread = rest })
+served_at setup kept clock n s (Whole frame rest) =
+    let r = request setup.versions frame in served_by setup kept clock n r.correlation_id r.asked (record s { unread = rest })
 served_at setup kept clock n s TooSmall = shut_down s
 served_at setup kept clock n s TooLarge = shut_down s
 served_at setup kept clock n s Partial = s
@@ -130,7 +135,8 @@ all_woken w = record w { lines = each (λ k s. woken w.kept w.clock k s) w.lines
 -- a bound connection's request: what is kept changes, then all waits that became ready are answered
 abbrev pub turn_at : View → ℕ → List ℕ → Stage → View
 turn_at w n unread (Greets greeting) = record w { lines = each (on n (greeted w.setup greeting)) w.lines }
-turn_at w n unread (BoundTo tenant wait) = all_woken (record w { kept = put w.setup w.kept w.clock n unread; lines = each (on n (after_turn w.setup w.kept w.clock n)) w.lines })
+turn_at w n unread (BoundTo tenant wait) =
+    all_woken (record w { kept = put w.setup w.kept w.clock n unread; lines = each (on n (after_turn w.setup w.kept w.clock n)) w.lines })
 
 abbrev pub turn_of : View → Option Line → View
 turn_of w None = w
@@ -169,10 +175,12 @@ abbrev pub kept_fed : List ℕ → ℕ → ℕ → Option Session → Kept → K
 kept_fed piece clock n None kept = kept
 kept_fed piece clock n (Some s) kept = if overruns piece s then kept_without clock n s.stage kept else kept
 
--- one event: at a moment the clock, then the tenant's own part, then the waits that are ready, then turns; a moment before the clock acts as one at the clock
+-- one event: at a moment the clock, then the tenant's own part, then the waits that are ready, then turns; a moment before the clock
+-- acts as one at the clock
 abbrev pub step : Happening → View → View
 step (Opens n) w = record w { lines = w.lines ++ record { number = n; session = fresh } ∷ [] }
-step (Comes n piece) w = turns (record w { kept = kept_fed piece w.clock n (find_line n w.lines) w.kept; lines = each (on n (fed piece)) w.lines })
+step (Comes n piece) w =
+    turns (record w { kept = kept_fed piece w.clock n (find_line n w.lines) w.kept; lines = each (on n (fed piece)) w.lines })
 step (Closes n) w = record w { kept = kept_closed w.clock n (find_line n w.lines) w.kept; lines = those (λ k. not (k == n)) w.lines }
 step (Moment now) w = let clock = max w.clock now in turns (all_woken (record w { kept = passed clock w.kept; clock = clock }))
 

@@ -74,7 +74,8 @@ abbrev pub Fits : ℕ → Bool → Option ℕ → Type 0
 Fits t included None = ⊤
 Fits t included (Some u) = included ≡ (u == t)
 
--- those are the tenant's connections, by what they have said and what is still to come: the open ones, and the later ones. Some that are never bound may be among them
+-- those are the tenant's connections, by what they have said and what is still to come: the open ones, and the later ones. Some that
+-- are never bound may be among them
 pub record Owns (setup : Setup) (t : ℕ) (mine : ℕ → Bool) (last : ℕ) (es : List Happening) (lines : List Line) : Type 0 where
   pub now : AllByRecursion (λ l. Fits t (mine l.number) (destiny setup l.number (heard setup l.session) es)) lines
   pub later : (n : ℕ) → last < n → Fits t (mine n) (unborn setup n es)

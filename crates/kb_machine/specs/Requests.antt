@@ -4,7 +4,8 @@ use Rattle.std.specs.Ordering.{int_eq}
 use Rattle.std.specs.List.{list_any}
 use Rattle.kb_wire.specs.Codec.{whole}
 use Rattle.kb_wire.specs.declared.fault.WireFault.{WireFault}
-use Rattle.kb_api_group.specs.Layouts.{request_start, request_header, api_versions_request, sasl_handshake_request, sasl_authenticate_request}
+use Rattle.kb_api_group.specs.Layouts.{request_start, request_header, api_versions_request, sasl_handshake_request}
+use Rattle.kb_api_group.specs.Layouts.{sasl_authenticate_request}
 use Rattle.kb_api_group.specs.declared.header.RequestStart.{RequestStart}
 use Rattle.kb_api_group.specs.declared.header.RequestHeader.{RequestHeader}
 use Rattle.kb_api_group.specs.declared.api_versions.ApiVersion.{ApiVersion}
@@ -41,7 +42,8 @@ asked_by key version body =
 -- a header, and the body behind it
 abbrev pub asked_behind : List ApiVersion → Result (RequestHeader × List ℕ) WireFault → Asked
 asked_behind versions (Err fault) = Malformed
-asked_behind versions (Ok h) = if is_served versions h.0.api_key h.0.api_version then asked_by h.0.api_key h.0.api_version h.1 else Malformed
+asked_behind versions (Ok h) =
+    if is_served versions h.0.api_key h.0.api_version then asked_by h.0.api_key h.0.api_version h.1 else Malformed
 
 -- a request: its correlation id, and what it asks
 pub record Request : Type 0 where
@@ -53,7 +55,8 @@ abbrev pub request_at : List ApiVersion → List ℕ → Result (RequestStart ×
 request_at versions frame (Err fault) = record { correlation_id = pos 0; asked = Malformed }
 request_at versions frame (Ok s) = record {
   correlation_id = s.0.correlation_id;
-  asked = if int_eq s.0.api_key (pos 18) && not (int_eq s.0.api_version (pos 0)) then OtherVersions else asked_behind versions (request_header.read frame);
+  asked = if int_eq s.0.api_key (pos 18) && not (int_eq s.0.api_version (pos 0)) then OtherVersions
+      else asked_behind versions (request_header.read frame);
 }
 
 -- the request of a frame, where those versions are listed

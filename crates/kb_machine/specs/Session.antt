@@ -57,7 +57,8 @@ fed piece s = if s.shut then s else if nat_lt (room s) (length piece) then shut_
 
 -- a reply is sent, unless its size does not fit an INT32: then the connection is shut
 unfoldable pub replied : ℤ → List ℕ → Session → Session
-replied correlation_id body s = if nat_lt 2147483647 (reply_size body) then shut_down s else record s { output = s.output ++ framed correlation_id body }
+replied correlation_id body s =
+    if nat_lt 2147483647 (reply_size body) then shut_down s else record s { output = s.output ++ framed correlation_id body }
 
 -- whether a member of a group waits on it
 abbrev pub has_member : Stage → Bool

@@ -15,7 +15,12 @@ quieted w = record w { lines = quieted_lines w.lines }
 
 -- what each connection got in one step, and whether it was shut in this step
 abbrev pub said : List Line → List Line → List Sent
-said old new = map (λ (l : Line). record { number = l.number; bytes = l.session.output; shut = l.session.shut && not (shut_in (find_line l.number old)) }) new
+said old new = map (λ (l : Line). record {
+  number = l.number;
+  bytes = l.session.output;
+  shut = l.session.shut
+      && not (shut_in (find_line l.number old));
+}) new
 
 -- what the machine says to its connections at each event, and at an event of another's, where it does nothing
 abbrev pub tell : (ℕ → Bool) → List Happening → View → List (List Sent)

@@ -9,7 +9,8 @@ use Rattle.kb_world.specs.Counts.{IsCalm}
 use Rattle.kb_machine.specs.declared.whom.Whom.{Whom}
 use Rattle.kb_machine.specs.declared.whom.Whom.TheVariants as whoms
 use Rattle.kb_machine.specs.Stranded.{NoneStranded}
-use Rattle.kb_machine.specs.Broker.{BrokerState, IsSound, AreUnready, AnyWait, Grows, IsCalmFor, Mine, view_of, kept_of, refusals_of, bound_to}
+use Rattle.kb_machine.specs.Broker.{BrokerState, IsSound, AreUnready, AnyWait, Grows, IsCalmFor, Mine, view_of, kept_of, refusals_of}
+use Rattle.kb_machine.specs.Broker.{bound_to}
 
 -- 1. Whose event it is
 
@@ -41,7 +42,8 @@ AreStill scope b = AllByRecursion (IsStill scope b) b.lines
 
 -- a tenant's count changes only where the connection has or gets the tenant, the unbound count only where it has none
 abbrev pub IsCountedIn : Scope → BrokerState → BrokerState → Type 0
-IsCountedIn (Of n) old new = ((t : ℕ) → bound_to n new ≢ Some t → refusals_of new t ≡ refusals_of old t) × ((t : ℕ) → bound_to n old ≡ Some t → new.unbound_refusals ≡ old.unbound_refusals)
+IsCountedIn (Of n) old new = ((t : ℕ) → bound_to n new ≢ Some t → refusals_of new t ≡ refusals_of old t)
+    × ((t : ℕ) → bound_to n old ≡ Some t → new.unbound_refusals ≡ old.unbound_refusals)
 IsCountedIn Everybody old new = new.unbound_refusals ≡ old.unbound_refusals
 
 -- 2. Turns
@@ -76,8 +78,10 @@ pub record Turned (scope : Scope) (old new : BrokerState) : Type 0 where
   pub untouched : AreUntouched old new
   pub unready : AreUnready AnyWait old → AreUnready AnyWait new
   pub held : NoneStranded old → NoneStranded new
-  pub mine : (t : ℕ) (mine : ℕ → Bool) (es : List Happening) → Mine t mine es old → IsCalm old.unbound_refusals new.unbound_refusals → Mine t mine es new
-  pub view : (t : ℕ) (mine : ℕ → Bool) (es : List Happening) → Mine t mine es old → IsCalmFor t old new → turns (view_of t mine new) ≡ turns (view_of t mine old)
+  pub mine : (t : ℕ) (mine : ℕ → Bool) (es : List Happening) → Mine t mine es old → IsCalm old.unbound_refusals new.unbound_refusals
+      → Mine t mine es new
+  pub view : (t : ℕ) (mine : ℕ → Bool) (es : List Happening) → Mine t mine es old → IsCalmFor t old new
+      → turns (view_of t mine new) ≡ turns (view_of t mine old)
 
 -- the turn of a connection that is bound to a tenant, before the tenant's waiting requests are looked at again
 pub record Served (tenant : ℕ) (scope : Scope) (old new : BrokerState) : Type 0 where
@@ -90,7 +94,8 @@ pub record Served (tenant : ℕ) (scope : Scope) (old new : BrokerState) : Type 
   pub held : NoneStranded old → NoneStranded new
   pub mine : (t : ℕ) (mine : ℕ → Bool) (es : List Happening) → Mine t mine es old → Mine t mine es new
   pub others : (t : ℕ) (mine : ℕ → Bool) (es : List Happening) → Mine t mine es old → t ≢ tenant → view_of t mine new ≡ view_of t mine old
-  pub view : (mine : ℕ → Bool) (es : List Happening) → Mine tenant mine es old → IsCalm (refusals_of old tenant) (refusals_of new tenant) → turns (all_woken (view_of tenant mine new)) ≡ turns (view_of tenant mine old)
+  pub view : (mine : ℕ → Bool) (es : List Happening) → Mine tenant mine es old → IsCalm (refusals_of old tenant) (refusals_of new tenant)
+      → turns (all_woken (view_of tenant mine new)) ≡ turns (view_of tenant mine old)
 
 -- a connection was given a piece, or was shut with a count; its turns are still to come
 pub record IsFed (n : ℕ) (piece : List ℕ) (old new : BrokerState) : Type 0 where
@@ -100,8 +105,10 @@ pub record IsFed (n : ℕ) (piece : List ℕ) (old new : BrokerState) : Type 0 w
   pub others : SameOthers n old new
   pub unready : AreUnready AnyWait old → AreUnready AnyWait new
   pub held : NoneStranded old → NoneStranded new
-  pub mine : (t : ℕ) (mine : ℕ → Bool) (es : List Happening) → Mine t mine (Comes n piece ∷ es) old → IsCalm old.unbound_refusals new.unbound_refusals → Mine t mine es new
-  pub view : (t : ℕ) (mine : ℕ → Bool) (es : List Happening) → Mine t mine (Comes n piece ∷ es) old → IsCalmFor t old new → turns (view_of t mine new) ≡ stepped (mine n) (Comes n piece) (view_of t mine old)
+  pub mine : (t : ℕ) (mine : ℕ → Bool) (es : List Happening) → Mine t mine (Comes n piece ∷ es) old
+      → IsCalm old.unbound_refusals new.unbound_refusals → Mine t mine es new
+  pub view : (t : ℕ) (mine : ℕ → Bool) (es : List Happening) → Mine t mine (Comes n piece ∷ es) old → IsCalmFor t old new
+      → turns (view_of t mine new) ≡ stepped (mine n) (Comes n piece) (view_of t mine old)
 
 -- 3. Waiting requests that are looked at again
 
@@ -121,8 +128,10 @@ pub record Waked (whom : Whom) (old new : BrokerState) : Type 0 where
   pub held : NoneStranded old → NoneStranded new
   pub still : (scope : Scope) → ((t : ℕ) → Concerns whom t → HasTenant scope old t) → AreStill scope old → AreStill scope new
   pub mine : (t : ℕ) (mine : ℕ → Bool) (es : List Happening) → Mine t mine es old → Mine t mine es new
-  pub others : (t : ℕ) (mine : ℕ → Bool) (es : List Happening) → Mine t mine es old → (Concerns whom t → ⊥) → view_of t mine new ≡ view_of t mine old
-  pub view : (t : ℕ) (mine : ℕ → Bool) (es : List Happening) → Mine t mine es old → IsCalm (refusals_of old t) (refusals_of new t) → all_woken (view_of t mine new) ≡ all_woken (view_of t mine old)
+  pub others : (t : ℕ) (mine : ℕ → Bool) (es : List Happening) → Mine t mine es old → (Concerns whom t → ⊥)
+      → view_of t mine new ≡ view_of t mine old
+  pub view : (t : ℕ) (mine : ℕ → Bool) (es : List Happening) → Mine t mine es old → IsCalm (refusals_of old t) (refusals_of new t)
+      → all_woken (view_of t mine new) ≡ all_woken (view_of t mine old)
 
 -- whether a wait is looked at
 abbrev pub is_looked_for : Whom → ℕ → ℕ → Wait → Bool

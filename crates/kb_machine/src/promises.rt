@@ -1,21 +1,26 @@
 //! Laws about the definitions, each as the contract of a function with an empty body.
 ghost use Rattle.std.specs.Prelude.{◌≡◌, ◌↔◌, ◌≤◌, ◌++◌, ◌∷◌, ℕ, ℤ, List, [], Bool, true, false, length, max, pos, Ok, Option, Some, None};
 ghost use Rattle.std.specs.List.{Contains};
-ghost use Rattle.kb_machine.specs.Session.{Session, Stage, Bare, BoundTo, LIMIT, fed, has_member, overruns, replied, shut_down, without_wait};
+ghost use Rattle.kb_machine.specs.Session.{Session, Stage, Bare, BoundTo, LIMIT, fed, has_member, overruns, replied, shut_down};
+ghost use Rattle.kb_machine.specs.Session.{without_wait};
 ghost use Rattle.kb_api_group.specs.Frames.{Whole, front};
 ghost use Rattle.kb_api_data.specs.declared.fetch.FetchRequest.{FetchRequest};
 ghost use Rattle.kb_machine.specs.Requests.{Another, Authenticate, request};
 ghost use Rattle.kb_machine.specs.Tenant.{Records, Wait, ready};
-ghost use Rattle.kb_machine.specs.Fetches.{AllTurnsGiveBatches, AllWakeWithBatches, EventGivesBatches, FetchesGetBatches, GetsBatches, NextGivesBatches, ServesBatches, after_request};
+ghost use Rattle.kb_machine.specs.Fetches.{AllTurnsGiveBatches, AllWakeWithBatches, EventGivesBatches, FetchesGetBatches, GetsBatches};
+ghost use Rattle.kb_machine.specs.Fetches.{NextGivesBatches, ServesBatches, after_request};
 ghost use Rattle.kb_tenant.specs.Batches.{HasSmallLogs};
 ghost use Rattle.kb_tenant.specs.Fetch.{asked_fetch, fetched, fetched_in};
 ghost use Rattle.kb_tenant.specs.Replies.{Replies};
 ghost use Rattle.kb_coordinator.specs.Calls.{left};
 ghost use Rattle.kb_service.specs.Hosted.{Kept, passed, world_at};
 ghost use Rattle.kb_machine.specs.Greeting.{Setup, greeted, greeted_by, login};
-ghost use Rattle.kb_machine.specs.Machine.{View, Line, Happening, Opens, Comes, Closes, Moment, Sent, again, all_woken, each, on, first_able, turn, turns, work, those, those_sent, find_line, after_turn, kept_fed, step, stepped, leaving, run, by_number, woken};
+ghost use Rattle.kb_machine.specs.Machine.{View, Line, Happening, Opens, Comes, Closes, Moment, Sent, again, all_woken, each, on};
+ghost use Rattle.kb_machine.specs.Machine.{first_able, turn, turns, work, those, those_sent, find_line, after_turn, kept_fed, step};
+ghost use Rattle.kb_machine.specs.Machine.{stepped, leaving, run, by_number, woken};
 ghost use Rattle.kb_machine.specs.Owners.{whose, concerns, purge};
-ghost use Rattle.kb_machine.specs.Broker.{BrokerState, IsCalmFor, IsReady, IsRun, IsUnowned, Mine, Rising, alone_unowned, owned_by, view_of};
+ghost use Rattle.kb_machine.specs.Broker.{BrokerState, IsCalmFor, IsReady, IsRun, IsUnowned, Mine, Rising, alone_unowned, owned_by};
+ghost use Rattle.kb_machine.specs.Broker.{view_of};
 ghost use Rattle.kb_machine.specs.Greetings.{greeted_alone};
 ghost use Rattle.kb_machine.specs.Isolation.{IsIsolated, StartsAlike, AreAlike, own_events, own_sent, last_world, LeavesWorlds};
 ghost use Rattle.kb_machine.specs.Alone.{HasToItself};
@@ -61,7 +66,8 @@ pub fn own_events_are_of_own_connections()
     ensures opens { (t n : ℕ) (es : List Happening) (b : BrokerState) → Contains (own_events t es b) (Opens n) → owned_by t es b n ≡ true }
     ensures comes { (t n : ℕ) (piece : List ℕ) (es : List Happening) (b : BrokerState)
         → Contains (own_events t es b) (Comes n piece) → owned_by t es b n ≡ true }
-    ensures closes { (t n : ℕ) (es : List Happening) (b : BrokerState) → Contains (own_events t es b) (Closes n) → owned_by t es b n ≡ true }
+    ensures closes { (t n : ℕ) (es : List Happening) (b : BrokerState) → Contains (own_events t es b) (Closes n)
+        → owned_by t es b n ≡ true }
 {}
 
 /// A run after a run goes on, for a tenant to which nothing is refused in either, where the first left its machine: the output
@@ -83,12 +89,16 @@ pub fn strangers_are_greeted()
 /// tenant's partitions as they are at that moment, one after the other, from the one that holds the asked offset; or the
 /// connection gets no reply. The tenant's logs are within their limits, as `logs_stay_small` (`kb_service`) says of each that there is.
 pub fn fetches_get_whole_batches()
-    ensures at_once { (setup : Setup) (kept : Kept) (clock n : ℕ) (s : Session) (frame rest : List ℕ) (version : ℤ) (body : List ℕ) (fetch : FetchRequest)
+    ensures at_once { (setup : Setup) (kept : Kept) (clock n : ℕ) (s : Session) (frame rest : List ℕ) (version : ℤ) (body : List ℕ)
+        (fetch : FetchRequest)
         → HasSmallLogs (world_at kept clock) → front s.unread ≡ Whole frame rest
         → (request setup.versions frame).asked ≡ Another (pos 1) version body → asked_fetch version body ≡ Ok fetch
-        → GetsBatches (world_at kept clock) version fetch (request setup.versions frame).correlation_id (record s { unread = rest }) (after_turn setup kept clock n s) }
-    ensures after_a_wait { (kept : Kept) (clock n tenant : ℕ) (s : Session) (id version : ℤ) (body : List ℕ) (deadline : ℕ) (fetch : FetchRequest)
-        → HasSmallLogs (world_at kept clock) → s.stage ≡ BoundTo tenant (Some (record { correlation_id = id; awaited = Records version body deadline }))
+        → GetsBatches (world_at kept clock) version fetch (request setup.versions frame).correlation_id (record s { unread = rest })
+        (after_turn setup kept clock n s) }
+    ensures after_a_wait { (kept : Kept) (clock n tenant : ℕ) (s : Session) (id version : ℤ) (body : List ℕ) (deadline : ℕ)
+        (fetch : FetchRequest)
+        → HasSmallLogs (world_at kept clock) → s.stage
+        ≡ BoundTo tenant (Some (record { correlation_id = id; awaited = Records version body deadline }))
         → asked_fetch version body ≡ Ok fetch
         → GetsBatches (world_at kept clock) version fetch id (record s { stage = without_wait s.stage }) (woken kept clock n s) }
 {}
@@ -98,7 +108,8 @@ pub fn fetches_get_whole_batches()
 /// what the tenant keeps are within their limits before the run, and then after it too.
 pub fn fetches_get_batches_in_runs()
     ensures run { (es : List Happening) (w : View) → HasSmallLogs (world_at w.kept w.clock) → FetchesGetBatches es w }
-    ensures later { (es : List Happening) (w : View) → HasSmallLogs (world_at w.kept w.clock) → HasSmallLogs (world_at (last_world es w).kept (last_world es w).clock) }
+    ensures later { (es : List Happening) (w : View) → HasSmallLogs (world_at w.kept w.clock)
+        → HasSmallLogs (world_at (last_world es w).kept (last_world es w).clock) }
 {}
 
 /// What is said of the fetches of an event is said of the very worlds through which the machine's step goes: those of each of its
@@ -106,7 +117,10 @@ pub fn fetches_get_batches_in_runs()
 /// are looked at.
 pub fn batches_are_of_each_turn()
     ensures piece { (n : ℕ) (piece : List ℕ) (w : View)
-        → let fed_world : View = record w { kept = kept_fed piece w.clock n (find_line n w.lines) w.kept; lines = each (on n (fed piece)) w.lines } in
+        → let fed_world : View = record w {
+          kept = kept_fed piece w.clock n (find_line n w.lines) w.kept;
+          lines = each (on n (fed piece)) w.lines;
+        } in
         (step (Comes n piece) w ≡ turns fed_world) × (EventGivesBatches (Comes n piece) w ↔ AllTurnsGiveBatches fed_world) }
     ensures moment { (now : ℕ) (w : View)
         → let passed_world : View = record w { kept = passed (max w.clock now) w.kept; clock = max w.clock now } in
@@ -126,7 +140,8 @@ pub fn fetches_end_at_their_deadline()
         → asked_fetch version body ≡ Ok fetch → deadline ≤ clock
         → ready kept clock n (record { correlation_id = id; awaited = Records version body deadline })
         ≡ Replies (fetched_in version (fetched (world_at kept clock) fetch).1) }
-    ensures answered { (kept : Kept) (clock n tenant : ℕ) (s : Session) (id version : ℤ) (body : List ℕ) (deadline : ℕ) (fetch : FetchRequest)
+    ensures answered { (kept : Kept) (clock n tenant : ℕ) (s : Session) (id version : ℤ) (body : List ℕ) (deadline : ℕ)
+        (fetch : FetchRequest)
         → s.stage ≡ BoundTo tenant (Some (record { correlation_id = id; awaited = Records version body deadline }))
         → asked_fetch version body ≡ Ok fetch → deadline ≤ clock
         → woken kept clock n s
@@ -144,9 +159,11 @@ pub fn room_is_kept()
 pub fn members_wait_no_longer()
     ensures closed { (n : ℕ) (s : Session) (w : View) → find_line n w.lines ≡ Some s → has_member s.stage ≡ true
         → (step (Closes n) w).kept.groups ≡ left w.clock n w.kept.groups }
-    ensures overrun { (n : ℕ) (piece : List ℕ) (s : Session) (w : View) → find_line n w.lines ≡ Some s → has_member s.stage ≡ true → overruns piece s ≡ true
+    ensures overrun { (n : ℕ) (piece : List ℕ) (s : Session) (w : View) → find_line n w.lines ≡ Some s → has_member s.stage ≡ true
+        → overruns piece s ≡ true
         → (fed piece s ≡ shut_down s) × ((kept_fed piece w.clock n (find_line n w.lines) w.kept).groups ≡ left w.clock n w.kept.groups) }
-    ensures others { (n : ℕ) (s : Session) (w : View) → find_line n w.lines ≡ Some s → has_member s.stage ≡ false → (step (Closes n) w).kept ≡ w.kept }
+    ensures others { (n : ℕ) (s : Session) (w : View) → find_line n w.lines ≡ Some s → has_member s.stage ≡ false
+        → (step (Closes n) w).kept ≡ w.kept }
 {}
 
 /// Before authentication a request of a tenant shuts the connection; a login that names no user with its password shuts it. After a

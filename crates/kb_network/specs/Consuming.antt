@@ -1,5 +1,6 @@
 -- A consumer and what keeps its partition, with a network between them.
-use Rattle.std.specs.Prelude.{◌≡◌, ◌⊎◌, ◌≤◌, ℕ, ℤ, pos, ◌&&◌, nat_lt, if◌then◌else◌, Bool, true, false, List, [], ◌∷◌, ◌++◌, length, take, drop, Option, Some, None, Result, Ok, Err, IsUtf8, FitsSigned}
+use Rattle.std.specs.Prelude.{◌≡◌, ◌⊎◌, ◌≤◌, ℕ, ℤ, pos, ◌&&◌, nat_lt, if◌then◌else◌, Bool, true, false, List, [], ◌∷◌, ◌++◌, length, take}
+use Rattle.std.specs.Prelude.{drop, Option, Some, None, Result, Ok, Err, IsUtf8, FitsSigned}
 use Rattle.std.specs.Int.{w32}
 use Rattle.std.specs.Ordering.{int_eq}
 use Rattle.kb_wire.specs.Codec.{whole}
@@ -90,7 +91,18 @@ fitting n offset batches = if nat_lt 1048588 (length (joined (batches_given n of
 abbrev pub fetched_reply : Fetch → ℤ → ℤ → List ℕ → List ℕ
 fetched_reply f start end records = fetch_reply_v5.written (record {
   throttle_time_ms = pos 0;
-  topics = record { topic = f.topic; partitions = record { partition = f.index; error_code = pos 0; high_watermark = end; last_stable_offset = end; log_start_offset = start; aborted_transactions = None; records = Some records } ∷ [] } ∷ [];
+  topics = record {
+    topic = f.topic;
+    partitions = record {
+      partition = f.index;
+      error_code = pos 0;
+      high_watermark = end;
+      last_stable_offset = end;
+      log_start_offset = start;
+      aborted_transactions = None;
+      records = Some records;
+    } ∷ [];
+  } ∷ [];
 })
 
 abbrev pub with_outcome : ℤ → Outcome → Reading → Reading
@@ -98,7 +110,12 @@ with_outcome id o w = record w { greeter = o.receiver; answers = w.answers ++ re
 
 -- a fetch is answered to whoever is logged in: any other is shut
 abbrev pub fetched : Login → ℕ → ℤ → Fetch → Receiver → Reading → Reading
-fetched LoggedIn n id f r w = record w { greeter = r; answers = w.answers ++ reply_text id (Some (fetched_reply f w.start (pos (length w.batches)) (joined (batches_given (fitting n f.offset w.batches) f.offset w.batches)))); met = length w.batches }
+fetched LoggedIn n id f r w = record w {
+  greeter = r;
+  answers = w.answers ++ reply_text id (Some
+      (fetched_reply f w.start (pos (length w.batches)) (joined (batches_given (fitting n f.offset w.batches) f.offset w.batches))));
+  met = length w.batches;
+}
 fetched Greets n id f r w = with_outcome id (shuts r) w
 fetched Shaken n id f r w = with_outcome id (shuts r) w
 fetched Shut n id f r w = with_outcome id (shuts r) w
@@ -117,10 +134,12 @@ served_at n TooLarge w = record w { greeter = record w.greeter { login = Shut } 
 -- Each call of the consumer is what its contract says.
 abbrev pub Steps : Event → Reading → Reading → Type 0
 Steps (Appends batch) old new = IsLog old.start (old.batches ++ batch ∷ []) × (new ≡ record old { batches = old.batches ++ batch ∷ [] })
-Steps (Sends result) old new = OutputsText (λ text. text) old.core result new.core × (new ≡ record old { core = new.core; requests = old.requests ++ if_given result })
+Steps (Sends result) old new =
+    OutputsText (λ text. text) old.core result new.core × (new ≡ record old { core = new.core; requests = old.requests ++ if_given result })
 Steps (Arrives n) old new = new ≡ record old { requests = drop n old.requests; greeter = arrived n old.greeter old.requests }
 Steps (Serves n) old new = new ≡ served_at n (front old.greeter.unread) old
-Steps (Returns n result) old new = Inputs old.core (take n old.answers) result new.core × (new ≡ record old { core = new.core; answers = if_come result n old.answers })
+Steps (Returns n result) old new =
+    Inputs old.core (take n old.answers) result new.core × (new ≡ record old { core = new.core; answers = if_come result n old.answers })
 Steps Takes old new = new ≡ record old { core = without_text old.core; taken = old.taken ++ old.core.found.text }
 Steps Reconnects old new = new ≡ record old { core = connected old.core; requests = []; answers = []; greeter = cut old.greeter }
 
@@ -164,4 +183,5 @@ pub record IsGiven (offset : ℤ) (wanted : Option ℕ) (follow : Bool) (w : Rea
   pub lines : w.taken ++ w.core.found.text ≡ flat_map line_text records
   pub within : IsWithin wanted (length records)
   -- so many as are wanted, or all up to an end that was met
-  pub finished : w.core.stage ≡ stages.Finished → IsFull wanted (length records) ⊎ ((follow ≡ false) × (records ≡ records_of_log offset (take w.met w.batches)))
+  pub finished : w.core.stage ≡ stages.Finished → IsFull wanted (length records)
+      ⊎ ((follow ≡ false) × (records ≡ records_of_log offset (take w.met w.batches)))

@@ -9,7 +9,8 @@ use Rattle.kb_client.specs.Lines.{end_of, records_from}
 -- Accepted batches, each at or behind the end of the one before, and below the end of INT64. The first is at an offset or above.
 abbrev pub IsLog : ℤ → List (List ℕ) → Type 0
 IsLog from [] = Unit {0}
-IsLog from (batch ∷ batches) = IsBatch batch × (from ≤ℤ base_offset_of batch) × (end_of batch <ℤ pos (2 ^ 63)) × IsLog (end_of batch) batches
+IsLog from (batch ∷ batches) =
+    IsBatch batch × (from ≤ℤ base_offset_of batch) × (end_of batch <ℤ pos (2 ^ 63)) × IsLog (end_of batch) batches
 
 -- the batch that holds an offset, or else the first above it, and those behind it; none at the end
 unfoldable pub from_holding : ℤ → List (List ℕ) → List (List ℕ)

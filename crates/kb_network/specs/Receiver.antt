@@ -1,15 +1,18 @@
 -- The other side of a producer: what stores its lines (Kafka protocol guide; Kafka documentation, "Idempotent Producer"; RFC 4616).
-use Rattle.std.specs.Prelude.{ℕ, suc, ℤ, pos, negsuc, ◌-◌, ◌%◌, ◌^◌, ◌&&◌, nat_lt, Bool, true, false, if◌then◌else◌, List, [], ◌∷◌, ◌++◌, length, map, filter, Option, Some, None, option_map, Result, Ok, Err, codes}
+use Rattle.std.specs.Prelude.{ℕ, suc, ℤ, pos, negsuc, ◌-◌, ◌%◌, ◌^◌, ◌&&◌, nat_lt, Bool, true, false, if◌then◌else◌, List, [], ◌∷◌, ◌++◌}
+use Rattle.std.specs.Prelude.{length, map, filter, Option, Some, None, option_map, Result, Ok, Err, codes}
 use Rattle.std.specs.Ordering.{int_eq}
 use Rattle.std.specs.Str.{bytes_eq}
 use Rattle.std.specs.List.{list_any}
 use Rattle.kb_wire.specs.Codec.{whole}
 use Rattle.kb_wire.specs.declared.fault.WireFault.{WireFault}
 use Rattle.kb_api_group.specs.Plain.{plain}
-use Rattle.kb_api_group.specs.Layouts.{request_header, sasl_handshake_request, sasl_handshake_reply, sasl_authenticate_request, sasl_authenticate_reply}
+use Rattle.kb_api_group.specs.Layouts.{request_header, sasl_handshake_request, sasl_handshake_reply, sasl_authenticate_request}
+use Rattle.kb_api_group.specs.Layouts.{sasl_authenticate_reply}
 use Rattle.kb_api_group.specs.declared.header.RequestHeader.{RequestHeader}
 use Rattle.kb_api_group.specs.declared.plain.PlainLogin.{PlainLogin}
-use Rattle.kb_api_data.specs.Layouts.{create_topics_request, create_topics_reply, init_producer_id_request, init_producer_id_reply, produce_request, produce_reply}
+use Rattle.kb_api_data.specs.Layouts.{create_topics_request, create_topics_reply, init_producer_id_request, init_producer_id_reply}
+use Rattle.kb_api_data.specs.Layouts.{produce_request, produce_reply}
 use Rattle.kb_api_data.specs.declared.create_topics.CreateTopic.{CreateTopic}
 use Rattle.kb_api_data.specs.declared.produce.ProduceTopic.{ProduceTopic}
 use Rattle.kb_api_data.specs.declared.produce.ProducePartition.{ProducePartition}
@@ -68,7 +71,8 @@ if_read (Err fault) f = Malformed
 abbrev pub asked_by : ℤ → ℤ → List ℕ → Asked
 asked_by key version body =
     if int_eq key (pos 17) && int_eq version (pos 1) then if_read (whole sasl_handshake_request body) (λ v. Handshake v.mechanism)
-    else if int_eq key (pos 36) && int_eq version (pos 0) then if_read (whole sasl_authenticate_request body) (λ v. Authenticate v.auth_bytes)
+    else if int_eq key (pos 36) && int_eq version (pos 0)
+    then if_read (whole sasl_authenticate_request body) (λ v. Authenticate v.auth_bytes)
     else if int_eq key (pos 19) && int_eq version (pos 0) then if_read (whole create_topics_request body) (λ v. Create v.topics)
     else if int_eq key (pos 22) && int_eq version (pos 0) then if_read (whole init_producer_id_request body) (λ v. Identify)
     else if int_eq key (pos 0) && int_eq version (pos 3) then if_read (whole produce_request body) (λ v. Produce v.topics)
@@ -159,7 +163,8 @@ abbrev pub creates : List CreateTopic → Receiver → Outcome
 creates topics r = replies (create_reply (if r.created then pos 36 else pos 0) topics) (record r { created = true })
 
 abbrev pub identify_reply : ℤ → List ℕ
-identify_reply id = init_producer_id_reply.written (record { throttle_time_ms = pos 0; error_code = pos 0; producer_id = id; producer_epoch = pos 0 })
+identify_reply id =
+    init_producer_id_reply.written (record { throttle_time_ms = pos 0; error_code = pos 0; producer_id = id; producer_epoch = pos 0 })
 
 -- each time another id
 abbrev pub identifies : Receiver → Outcome
@@ -223,13 +228,22 @@ verdict n sequence =
 
 abbrev pub stored_reply : Part → ℤ → ℤ → List ℕ
 stored_reply part code offset = produce_reply.written (record {
-  topics = record { name = part.topic; partitions = record { index = part.index; error_code = code; base_offset = offset; log_append_time_ms = negsuc 0 } ∷ [] } ∷ [];
+  topics = record {
+    name = part.topic;
+    partitions = record {
+      index = part.index;
+      error_code = code;
+      base_offset = offset;
+      log_append_time_ms = negsuc 0;
+    } ∷ [];
+  } ∷ [];
   throttle_time_ms = pos 0;
 })
 
 -- the next value is stored; a repeat of the last is answered with its offset, and changes nothing; 45 is the answer to any other
 abbrev pub stores : Verdict → Part → ProducerId → List ℕ → Receiver → Outcome
-stores Next part p value r = replies (stored_reply part (pos 0) (pos (length r.stored))) (record r { stored = r.stored ++ record { producer = p; value = value } ∷ [] })
+stores Next part p value r = replies (stored_reply part (pos 0) (pos (length r.stored)))
+    (record r { stored = r.stored ++ record { producer = p; value = value } ∷ [] })
 stores Repeated part p value r = replies (stored_reply part (pos 0) (pos (last_by p 0 0 r.stored))) r
 stores OutOfOrder part p value r = replies (stored_reply part (pos 45) (negsuc 0)) r
 

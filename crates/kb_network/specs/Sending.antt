@@ -1,5 +1,6 @@
 -- A producer and its receiver, with a network between them.
-use Rattle.std.specs.Prelude.{◌≡◌, ◌≤◌, ◌<◌, ◌+◌, ℕ, ℤ, List, [], ◌∷◌, ◌++◌, length, map, take, drop, Bool, true, Option, Some, None, Result, Ok, Err, IsUtf8, FitsSigned}
+use Rattle.std.specs.Prelude.{◌≡◌, ◌≤◌, ◌<◌, ◌+◌, ℕ, ℤ, List, [], ◌∷◌, ◌++◌, length, map, take, drop, Bool, true, Option, Some, None}
+use Rattle.std.specs.Prelude.{Result, Ok, Err, IsUtf8, FitsSigned}
 use Rattle.std.specs.Int.{w32}
 use Rattle.kb_wire.specs.Codec.{int32, blob}
 use Rattle.kb_api_group.specs.Frames.{Front, Whole, Partial, TooSmall, TooLarge, front}
@@ -69,7 +70,8 @@ with_outcome id o w = record w { receiver = o.receiver; answers = w.answers ++ r
 
 -- a bad size shuts the connection
 abbrev pub served_at : Front → Delivery → Delivery
-served_at (Whole frame rest) w = with_outcome (request frame).correlation_id (outcome (request frame).asked (record w.receiver { unread = rest })) w
+served_at (Whole frame rest) w =
+    with_outcome (request frame).correlation_id (outcome (request frame).asked (record w.receiver { unread = rest })) w
 served_at Partial w = w
 served_at TooSmall w = record w { receiver = record w.receiver { login = Shut } }
 served_at TooLarge w = record w { receiver = record w.receiver { login = Shut } }
@@ -80,11 +82,14 @@ cut r = record r { login = Greets; unread = [] }
 
 -- Each call of the producer is what its contract says.
 abbrev pub Steps : Event → Delivery → Delivery → Type 0
-Steps (Hands line result) old new = TakesLine old.core line result new.core × (new ≡ record old { core = new.core; handed = if_taken result line old.handed })
-Steps (Sends result) old new = OutputsText (λ text. text) old.core result new.core × (new ≡ record old { core = new.core; requests = old.requests ++ if_given result })
+Steps (Hands line result) old new =
+    TakesLine old.core line result new.core × (new ≡ record old { core = new.core; handed = if_taken result line old.handed })
+Steps (Sends result) old new =
+    OutputsText (λ text. text) old.core result new.core × (new ≡ record old { core = new.core; requests = old.requests ++ if_given result })
 Steps (Arrives n) old new = new ≡ record old { requests = drop n old.requests; receiver = arrived n old.receiver old.requests }
 Steps Serves old new = new ≡ served_at (front old.receiver.unread) old
-Steps (Returns n result) old new = Inputs old.core (take n old.answers) result new.core × (new ≡ record old { core = new.core; answers = if_come result n old.answers })
+Steps (Returns n result) old new =
+    Inputs old.core (take n old.answers) result new.core × (new ≡ record old { core = new.core; answers = if_come result n old.answers })
 Steps Reconnects old new = new ≡ record old { core = connected old.core; requests = []; answers = []; receiver = cut old.receiver }
 
 abbrev pub Runs : List Event → Delivery → Delivery → Type 0

@@ -7,10 +7,10 @@ use Rattle.kb_machine.specs.Broker.{BrokerState}
 use Rattle.kb_broker.specs.declared.script.ScriptFault.{ScriptFault}
 use Rattle.kb_broker.specs.declared.script.ScriptFault.TheVariants as script_faults
 use Rattle.kb_broker.specs.Script.{Script, script}
-use Rattle.kb_broker.specs.ScriptRun.{IsWritten, IsWrittenInPart, IsPlayed, IsEnded}
+use Rattle.kb_broker.specs.ScriptRun.{IsWritten, IsWrittenInPart, IsPlayed, IsEnded, HavePlayed, IsStopped, said_by}
 use Rattle.kb_node.specs.declared.fault.NodeFault.{NodeFault}
 use Rattle.kb_node.specs.declared.fault.NodeFault.TheVariants as faults
-use Rattle.kb_node.specs.Node.{IsRun, IsHalted, IsFaultOf}
+use Rattle.kb_node.specs.Node.{IsRun, IsHalted, IsHaltedAt, IsFaultOf}
 
 -- ---- what was written stands after a flush
 
@@ -29,6 +29,18 @@ ended-kept b s script_faults.TooLong from mid to p k = (p.0, written-kept b s.ev
 ended-kept b s script_faults.Read from mid to p k = (p.0, p.1, p.2, written-kept b p.0 from mid to p.3 k)
 ended-kept b s script_faults.Write from mid to p k = (p.0, p.1, p.2, in-part-kept b p.0 from mid to p.3 k)
 ended-kept b s script_faults.Memory from mid to p k = (p.0, p.1, p.2, written-kept b p.0 from mid to p.3 k)
+
+lines-kept : (fault : ScriptFault) (b : BrokerState) (lines : List (List ℕ)) (front : List ℕ) (from mid to : Option (List ℕ))
+    → HavePlayed fault b lines front from mid → Keeps mid to → HavePlayed fault b lines front from to
+lines-kept (script_faults.BadLine n) b lines front from mid to p k = (p.0, played-kept b (said_by b lines) from mid to p.1 k)
+lines-kept script_faults.TooLong b lines front from mid to p k = played-kept b (said_by b lines) from mid to p k
+lines-kept script_faults.Read b lines front from mid to p k = (p.0, played-kept b (said_by b lines) from mid to p.1 k)
+lines-kept script_faults.Write b lines front from mid to p k = let q = p.1 in (p.0, (q.0, in-part-kept b (said_by b lines).events from mid to q.1 k))
+lines-kept script_faults.Memory b lines front from mid to p k = played-kept b (said_by b lines) from mid to p k
+
+stopped-kept : (b : BrokerState) (text : List ℕ) (left : Option (List ℕ)) (fault : ScriptFault) (from mid to : Option (List ℕ))
+    → IsStopped b text left fault from mid → Keeps mid to → IsStopped b text left fault from to
+stopped-kept b text left fault from mid to s k = (s.0, s.1, s.2, lines-kept fault b s.0 s.1 from mid to s.3 k)
 
 -- ---- the answer to a run
 
@@ -69,3 +81,27 @@ pub answered-err : {A B : Type 0} (ran : Result A ScriptFault) (answer : Result 
 answered-err ran (Ok y) b left from mid to ok err k is = tt
 answered-err ran (Err e) b None from mid to ok err k is = tt
 answered-err ran (Err e) b (Some text) from mid to ok err k is = halted ran e b text from mid to ok err k is
+
+-- ---- which lines were played
+
+abbrev RunStopped : {A : Type 0} → Result A ScriptFault → BrokerState → Option (List ℕ) → Option (List ℕ) → Option (List ℕ) → Option (List ℕ) → Type 0
+RunStopped ran b text left from to = IfErr ran (λ fault. IfSome text (λ t. IsStopped b t left fault from to))
+
+stop-known : {A : Type 0} (ran : Result A ScriptFault) (b : BrokerState) (text : List ℕ) (left from mid to : Option (List ℕ))
+    → RunOk ran b (Some text) from mid → RunStopped ran b (Some text) left from mid → Keeps mid to → IsHaltedAt b text left faults.Write from to
+stop-known (Ok x) b text left from mid to ok stopped k = inl (played-kept b (script b text) from mid to ok k)
+stop-known (Err e) b text left from mid to ok stopped k = inr (e, stopped-kept b text left e from mid to stopped k)
+
+halted-at : {A : Type 0} (ran : Result A ScriptFault) (fault : NodeFault) (b : BrokerState) (text : List ℕ) (left from mid to : Option (List ℕ))
+    → RunOk ran b (Some text) from mid → RunStopped ran b (Some text) left from mid → Keeps mid to → IsFaultOf fault ran → IsHaltedAt b text left fault from to
+halted-at ran (faults.Script fault) b text left from mid to ok stopped k is =
+    stopped-kept b text left fault from mid to (subst (λ r. RunStopped r b (Some text) left from mid) is stopped) k
+halted-at ran faults.Write b text left from mid to ok stopped k is = stop-known ran b text left from mid to ok stopped k
+halted-at ran faults.Memory b text left from mid to ok stopped k is = absurd is
+
+pub answered-stopped : {A B : Type 0} (ran : Result A ScriptFault) (answer : Result B NodeFault) (b : BrokerState) (text left from mid to : Option (List ℕ))
+    → RunOk ran b text from mid → RunStopped ran b text left from mid → Keeps mid to → IfErr answer (λ fault. IsFaultOf fault ran)
+    → IfErr answer (λ fault. IfSome text (λ t. IsHaltedAt b t left fault from to))
+answered-stopped ran (Ok y) b text left from mid to ok stopped k is = tt
+answered-stopped ran (Err e) b None left from mid to ok stopped k is = tt
+answered-stopped ran (Err e) b (Some text) left from mid to ok stopped k is = halted-at ran e b text left from mid to ok stopped k is

@@ -6,7 +6,7 @@ use Rattle.kb_machine.specs.Broker.{BrokerState}
 use Rattle.kb_broker.specs.declared.script.ScriptFault.{ScriptFault}
 use Rattle.kb_broker.specs.Opening.{served_versions}
 use Rattle.kb_broker.specs.Script.{Script, script}
-use Rattle.kb_broker.specs.ScriptRun.{IsPlayed, IsEnded}
+use Rattle.kb_broker.specs.ScriptRun.{IsPlayed, IsEnded, IsStopped}
 use Rattle.kb_node.specs.declared.fault.NodeFault.{NodeFault}
 use Rattle.kb_node.specs.declared.fault.NodeFault.TheVariants as faults
 
@@ -18,7 +18,11 @@ abbrev pub standard_broker : BrokerState
 standard_broker = record {
   setup = record {
     versions = served_versions;
-    users = record { name = codes "ann"; password = codes "pw1"; tenant = 0 } ∷ record { name = codes "bob"; password = codes "pw2"; tenant = 1 } ∷ [];
+    users = record { name = codes "ann"; password = codes "pw1"; tenant = 0 } ∷ record {
+      name = codes "bob";
+      password = codes "pw2";
+      tenant = 1;
+    } ∷ [];
     node = record { host = codes "localhost"; port = 9092 };
   };
   tenants = new_tenant (codes "a") ∷ new_tenant (codes "b") ∷ [];
@@ -38,11 +42,20 @@ standard_script text = script standard_broker text
 abbrev pub IsRun : BrokerState → Script → Option (List ℕ) → Option (List ℕ) → Type 0
 IsRun b s from to = IsPlayed b s from to ⊎ ((fault : ScriptFault) × IsEnded b s fault from to)
 
--- the program ended with a fault: at a refused write what was written is that of a run all the same, and with no memory for the settings it is nothing
+-- the program ended with a fault: at a refused write what was written is that of a run all the same, and with no memory for the
+-- settings it is nothing
 abbrev pub IsHalted : BrokerState → Script → NodeFault → Option (List ℕ) → Option (List ℕ) → Type 0
 IsHalted b s (faults.Script fault) from to = IsEnded b s fault from to
 IsHalted b s faults.Write from to = IsRun b s from to
 IsHalted b s faults.Memory from to = Keeps from to
+
+-- Which lines of a text were played by then, where the reader has so much of it left: those before the one at which it ended. At a
+-- refused write that is so of a run all the same, and with no memory for the settings nothing was written.
+abbrev pub IsHaltedAt : BrokerState → List ℕ → Option (List ℕ) → NodeFault → Option (List ℕ) → Option (List ℕ) → Type 0
+IsHaltedAt b text left (faults.Script fault) from to = IsStopped b text left fault from to
+IsHaltedAt b text left faults.Write from to =
+    IsPlayed b (script b text) from to ⊎ ((fault : ScriptFault) × IsStopped b text left fault from to)
+IsHaltedAt b text left faults.Memory from to = Keeps from to
 
 -- the text was played, and all that the broker said was written
 abbrev pub IsScriptPlayed : List ℕ → Option (List ℕ) → Option (List ℕ) → Type 0
@@ -51,6 +64,10 @@ IsScriptPlayed text from to = IsPlayed standard_broker (standard_script text) fr
 -- the text ended with that fault
 abbrev pub IsScriptEnded : List ℕ → NodeFault → Option (List ℕ) → Option (List ℕ) → Type 0
 IsScriptEnded text fault from to = IsHalted standard_broker (standard_script text) fault from to
+
+-- and its lines were played up to there
+abbrev pub IsScriptStopped : List ℕ → Option (List ℕ) → NodeFault → Option (List ℕ) → Option (List ℕ) → Type 0
+IsScriptStopped text left fault from to = IsHaltedAt standard_broker text left fault from to
 
 -- 3. How a run is answered
 

@@ -8,7 +8,7 @@ ghost use Rattle.kb_broker.specs.Hosts.{is_honest};
 ghost use Rattle.kb_broker.specs.Opening.{opening};
 ghost use Rattle.kb_broker.specs.Script.{script};
 ghost use Rattle.kb_broker.specs.ScriptRun.{IsPlayed, IsQuiet};
-ghost use Rattle.kb_node.specs.Node.{IsHalted, IsScriptPlayed, IsScriptEnded, IsFaultOf};
+ghost use Rattle.kb_node.specs.Node.{IsHalted, IsHaltedAt, IsScriptPlayed, IsScriptEnded, IsScriptStopped, IsFaultOf};
 
 use crate::fault::NodeFault;
 use kb_broker::{Broker, ScriptFault, Settings, run_script, run_script_on};
@@ -26,8 +26,12 @@ pub fn play_script<R: BufRead, W: Write>(
     reader: &mut R,
     writer: &mut W,
 ) -> Result<(), NodeFault>
-    ensures ok { OnOk result (IfSome (R.remaining reader.old) (λ text. IsScriptPlayed text (W.contents writer.old) (W.contents writer.new))) }
-    ensures err { IfErr result (λ fault. IfSome (R.remaining reader.old) (λ text. IsScriptEnded text fault (W.contents writer.old) (W.contents writer.new))) }
+    ensures ok { OnOk result (IfSome (R.remaining reader.old) (λ text.
+        IsScriptPlayed text (W.contents writer.old) (W.contents writer.new))) }
+    ensures err { IfErr result (λ fault. IfSome (R.remaining reader.old) (λ text.
+        IsScriptEnded text fault (W.contents writer.old) (W.contents writer.new))) }
+    ensures stopped { IfErr result (λ fault. IfSome (R.remaining reader.old) (λ text.
+        IsScriptStopped text (R.remaining reader.new) fault (W.contents writer.old) (W.contents writer.new))) }
 {
     let settings = Settings::standard(alloc)?;
     play_script_with::<ListLog, _, _>(alloc, &settings, reader, writer)
@@ -41,8 +45,12 @@ pub fn play_script_with<L: PartitionLog + Drop, R: BufRead, W: Write>(
     reader: &mut R,
     writer: &mut W,
 ) -> Result<(), NodeFault>
-    ensures ok { OnOk result (IfSome (R.remaining reader.old) (λ text. IsPlayed (opening settings.now) (script (opening settings.now) text) (W.contents writer.old) (W.contents writer.new))) }
-    ensures err { IfErr result (λ fault. IfSome (R.remaining reader.old) (λ text. IsHalted (opening settings.now) (script (opening settings.now) text) fault (W.contents writer.old) (W.contents writer.new))) }
+    ensures ok { OnOk result (IfSome (R.remaining reader.old) (λ text.
+        IsPlayed (opening settings.now) (script (opening settings.now) text) (W.contents writer.old) (W.contents writer.new))) }
+    ensures err { IfErr result (λ fault. IfSome (R.remaining reader.old) (λ text.
+        IsHalted (opening settings.now) (script (opening settings.now) text) fault (W.contents writer.old) (W.contents writer.new))) }
+    ensures stopped { IfErr result (λ fault. IfSome (R.remaining reader.old) (λ text.
+        IsHaltedAt (opening settings.now) text (R.remaining reader.new) fault (W.contents writer.old) (W.contents writer.new))) }
 {
     let ran = run_script::<L, _, _>(alloc, settings, reader, writer);
     hand_on(writer, ran)
@@ -60,8 +68,14 @@ pub fn play_script_on<S: Store, L: PartitionLog + Drop, R: BufRead, W: Write>(
     requires quiet { is_honest S.disk broker.old → IsQuiet broker.old.state }
     requires ready { is_honest S.disk broker.old → IsReady broker.old.state }
     ensures honest { is_honest S.disk broker.new → is_honest S.disk broker.old }
-    ensures ok { is_honest S.disk broker.new → OnOk result (IfSome (R.remaining reader.old) (λ text. IsPlayed broker.old.state (script broker.old.state text) (W.contents writer.old) (W.contents writer.new))) }
-    ensures err { is_honest S.disk broker.new → IfErr result (λ fault. IfSome (R.remaining reader.old) (λ text. IsHalted broker.old.state (script broker.old.state text) fault (W.contents writer.old) (W.contents writer.new))) }
+    ensures ok { is_honest S.disk broker.new
+        → OnOk result (IfSome (R.remaining reader.old) (λ text.
+        IsPlayed broker.old.state (script broker.old.state text) (W.contents writer.old) (W.contents writer.new))) }
+    ensures err { is_honest S.disk broker.new
+        → IfErr result (λ fault. IfSome (R.remaining reader.old) (λ text.
+        IsHalted broker.old.state (script broker.old.state text) fault (W.contents writer.old) (W.contents writer.new))) }
+    ensures stopped { is_honest S.disk broker.new → IfErr result (λ fault. IfSome (R.remaining reader.old) (λ text.
+        IsHaltedAt broker.old.state text (R.remaining reader.new) fault (W.contents writer.old) (W.contents writer.new))) }
 {
     let ran = run_script_on(alloc, broker, reader, writer);
     hand_on(writer, ran)

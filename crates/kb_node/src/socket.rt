@@ -151,7 +151,8 @@ impl<T: Read + Write + Drop> Socket<T> {
         ensures over { result ≡ End → self.new.is_ended ≡ true }
         // Else its connection and all others are open as before, and there is no cause to close it.
         ensures open { result ≢ End → numbers broker.new.state ≡ numbers broker.old.state }
-        ensures stays { result ≢ End → is_done self.new.is_over self.new.is_half_closed (vec_len self.new.output - self.new.written) self.new.connection broker.new.state ≡ false }
+        ensures stays { result ≢ End → is_done self.new.is_over self.new.is_half_closed
+            (vec_len self.new.output - self.new.written) self.new.connection broker.new.state ≡ false }
     {
         self.write_output(alloc, broker, turn);
         if may_ask && self.can_ask(broker) {
@@ -181,7 +182,8 @@ impl<T: Read + Write + Drop> Socket<T> {
 
     /// Whether its connection is to be closed.
     fn is_done<S: Store, L: PartitionLog + Drop>(&self, broker: &Broker<S, L>) -> bool
-        ensures { result ≡ is_done self.now.is_over self.now.is_half_closed (vec_len self.now.output - self.now.written) self.now.connection broker.now.state }
+        ensures { result ≡ is_done self.now.is_over self.now.is_half_closed
+            (vec_len self.now.output - self.now.written) self.now.connection broker.now.state }
     {
         self.is_over
             || self.unwritten() == 0 && broker.shut(self.connection)
@@ -196,7 +198,8 @@ impl<T: Read + Write + Drop> Socket<T> {
         broker: &mut Broker<S, L>,
         turn: &mut Turn,
     )
-        requires { is_done self.now.is_over self.now.is_half_closed (vec_len self.now.output - self.now.written) self.now.connection broker.now.state ≡ true }
+        requires { is_done self.now.is_over self.now.is_half_closed
+            (vec_len self.now.output - self.now.written) self.now.connection broker.now.state ≡ true }
         ensures connection { self.new.connection ≡ self.old.connection }
         ensures ended { self.new.is_ended ≡ true }
         ensures closed { is_open self.old.connection broker.new.state ≡ false }

@@ -44,5 +44,6 @@ LosesNoCommand numbers old new = (k : Known) → ComesToKnown old.files numbers 
 
 -- The same of a log that had nothing but its batches in its files, by what its batches record.
 abbrev pub KeepsKnown : OnShelf → List ℕ → Disk → Type 0
-KeepsKnown a numbers new = new.honest → Agrees a → StartsWhole a → a.log.exact a.disk.table → a.log.resumes 0 → (k : Known) → IsLongestFold (batches_of a) k
+KeepsKnown a numbers new =
+    new.honest → Agrees a → StartsWhole a → a.log.exact a.disk.table → a.log.resumes 0 → (k : Known) → IsLongestFold (batches_of a) k
     → ComesToKnown new.files (remaining new.table numbers) k

@@ -1,5 +1,6 @@
 -- What a directory says of the files of a store.
-use Rattle.std.specs.Prelude.{◌≡◌, ◌≢◌, ℕ, Bool, List, [], ◌∷◌, ◌++◌, map, Option, Some, None, is_none, IsPermutation, slice_get, if◌then◌else◌}
+use Rattle.std.specs.Prelude.{◌≡◌, ◌≢◌, ℕ, Bool, List, [], ◌∷◌, ◌++◌, map, Option, Some, None, is_none, IsPermutation, slice_get}
+use Rattle.std.specs.Prelude.{if◌then◌else◌}
 use Rattle.std.specs.BTreeMap as tree
 use Rattle.std.specs.List.{concat}
 use Rattle.std.specs.declared.alloc.Global.{Global}
@@ -35,7 +36,8 @@ pub record IsEmpty (d : Directory) : Type 0 where
 
 -- Each named tenant's files stand at its place, of each log as in the list of all numbers; the strays are those of no log.
 pub record IsDirectory (files : Files) (names : List (List ℕ)) (numbers : List ℕ) (d : Directory) : Type 0 where
-  pub catalogs : (tenant : ℕ) (name : List ℕ) → slice_get names tenant ≡ Some name → files_at (Catalog tenant) d ≡ catalog_of files name numbers
+  pub catalogs : (tenant : ℕ) (name : List ℕ) → slice_get names tenant ≡ Some name
+      → files_at (Catalog tenant) d ≡ catalog_of files name numbers
   pub partitions : (tenant instance number : ℕ) (name : List ℕ) → slice_get names tenant ≡ Some name
       → files_at (Partition tenant instance number) d ≡ partition_of files name instance number numbers
   pub strays : d.strays.items ≡ strays_of files names numbers

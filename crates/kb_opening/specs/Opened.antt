@@ -49,7 +49,8 @@ remaining_of table owners = record { catalog = remaining table owners.catalog; p
 
 -- Of a tenant nothing is lost: what its files came to, those of them that are still there come to.
 abbrev pub TenantLosesNothing : Owners → Disk → Disk → Type 0
-TenantLosesNothing owners old new = (k : Known) (logs : Logs) → IsOpened old.files owners k logs → IsOpened new.files (remaining_of new.table owners) k logs
+TenantLosesNothing owners old new =
+    (k : Known) (logs : Logs) → IsOpened old.files owners k logs → IsOpened new.files (remaining_of new.table owners) k logs
 
 -- ---- one world
 

@@ -1,5 +1,6 @@
 -- Whose the files of a store are, by their headers.
-use Rattle.std.specs.Prelude.{◌≡◌, ◌≤◌, ◌&&◌, ◌+◌, ℕ, Bool, false, not, List, [], ◌∷◌, Option, Some, None, Result, Err, IsErrOf, option_map, if◌then◌else◌}
+use Rattle.std.specs.Prelude.{◌≡◌, ◌≤◌, ◌&&◌, ◌+◌, ℕ, Bool, false, not, List, [], ◌∷◌, Option, Some, None, Result, Err, IsErrOf, option_map}
+use Rattle.std.specs.Prelude.{if◌then◌else◌}
 use Rattle.std.specs.List.{filter, list_any}
 use Rattle.std.specs.Option.{option_and_then}
 use Rattle.std.specs.Ordering.{eq_by_cmp}
@@ -24,7 +25,8 @@ is_of_catalog tenant h = bytes_eq h.tenant tenant && is_natural 1 h.kind && is_n
 -- it is of that tenant's partition of that number, of the topic of that instance
 abbrev pub is_of_partition : List ℕ → ℕ → ℕ → Header → Bool
 is_of_partition tenant instance number h =
-    bytes_eq h.tenant tenant && is_natural 0 h.kind && is_natural instance h.instance && is_natural number h.partition && is_natural 0 h.generation
+    bytes_eq h.tenant tenant && is_natural 0 h.kind && is_natural instance h.instance && is_natural number h.partition
+    && is_natural 0 h.generation
 
 -- it is of a log of one of these tenants
 abbrev pub is_of_one : List (List ℕ) → Header → Bool

@@ -54,7 +54,8 @@ pub record AreGiven (lists : Lists) (disk : Disk) (next : ℕ) : Type 0 where
 
 -- The header of each of the files names its partition, of the topic of that instance.
 abbrev pub AreAllNamed : List ℕ → ℕ → ℕ → Files → Lists → Type 0
-AreAllNamed tenant instance size files lists = (p : ℕ) (list : Vec ℕ Global) → slice_get lists p ≡ Some list → AreNamed (partition_identity tenant instance p size) files list.items
+AreAllNamed tenant instance size files lists =
+    (p : ℕ) (list : Vec ℕ Global) → slice_get lists p ≡ Some list → AreNamed (partition_identity tenant instance p size) files list.items
 
 -- Each partition is that of its own files from its own start on.
 abbrev pub ArePartitionsOf : Files → Lists → List ℕ → List (Partition SegmentLog) → Files → Type 0
@@ -63,8 +64,10 @@ ArePartitionsOf files lists starts xs now = (p : ℕ) (x : Partition SegmentLog)
 
 -- Each log is that of the partition of its number, of the topic of that instance.
 abbrev pub AreNumbered : List ℕ → ℕ → ℕ → List (Partition SegmentLog) → Type 0
-AreNumbered tenant instance size xs = (p : ℕ) (x : Partition SegmentLog) → slice_get xs p ≡ Some x → (segment_log x.log).identity ≡ partition_identity tenant instance p size
+AreNumbered tenant instance size xs =
+    (p : ℕ) (x : Partition SegmentLog) → slice_get xs p ≡ Some x → (segment_log x.log).identity ≡ partition_identity tenant instance p size
 
 -- Of no partition anything is lost, where each is opened from its own start on.
 abbrev pub LoseNothing : Lists → List ℕ → Disk → Disk → Type 0
-LoseNothing lists starts old new = (p : ℕ) (list : Vec ℕ Global) (start : ℕ) → slice_get lists p ≡ Some list → slice_get starts p ≡ Some start → LosesNothing list.items start old new
+LoseNothing lists starts old new = (p : ℕ) (list : Vec ℕ Global) (start : ℕ) → slice_get lists p ≡ Some list
+    → slice_get starts p ≡ Some start → LosesNothing list.items start old new

@@ -26,4 +26,5 @@ AreSettledFrom lists starts xs disk = (p : ℕ) (x : Partition SegmentLog) (list
 
 -- Each file that stood in a directory is somebody's, or is gone, or stands in it still.
 abbrev pub AreAccounted : Directory → (ℕ → Type 0) → Disk → Directory → Type 0
-AreAccounted from owns disk left = (file : ℕ) → Contains (all_files from) file → owns file ⊎ (get disk.table file ≡ None) ⊎ Contains (all_files left) file
+AreAccounted from owns disk left =
+    (file : ℕ) → Contains (all_files from) file → owns file ⊎ (get disk.table file ≡ None) ⊎ Contains (all_files left) file

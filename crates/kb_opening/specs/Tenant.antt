@@ -77,4 +77,5 @@ pub record IsTenantOf (files : Files) (owners : Owners) (parts : Parts SegmentLo
 
 -- Of no partition that a tenant's topics have anything is lost, where each is opened from the start that the catalog recorded.
 abbrev pub PartitionsLoseNothing : ℕ → Known → Directory → Disk → Disk → Type 0
-PartitionsLoseNothing t k d old new = (i p : ℕ) (part : PartitionState) → partition_at k (pos i) (pos p) ≡ Some part → LosesNothing (files_at (Partition t i p) d) (recorded_start part) old new
+PartitionsLoseNothing t k d old new = (i p : ℕ) (part : PartitionState) → partition_at k (pos i) (pos p) ≡ Some part
+    → LosesNothing (files_at (Partition t i p) d) (recorded_start part) old new

@@ -1,5 +1,6 @@
 -- The topics of a tenant, opened one after another by their instances.
-use Rattle.std.specs.Prelude.{◌≡◌, ◌≢◌, ◌<◌, ◌++◌, ℕ, nat_lt, pos, List, [], map, length, slice_get, Some, None, IsSome, IsPermutation, if◌then◌else◌}
+use Rattle.std.specs.Prelude.{◌≡◌, ◌≢◌, ◌<◌, ◌++◌, ℕ, nat_lt, pos, List, [], map, length, slice_get, Some, None, IsSome, IsPermutation}
+use Rattle.std.specs.Prelude.{if◌then◌else◌}
 use Rattle.std.specs.Option.{option_map}
 use Rattle.std.specs.List.{Contains, concat}
 use Rattle.std.specs.Map.{lookup}
@@ -43,21 +44,24 @@ pub record TakesTopic (t i n : ℕ) (old : Directory) (lists : Lists) (new : Dir
   pub all : IsPermutation (all_files old) (numbers_in lists ++ all_files new)
 
 -- The partitions of a topic were opened, each from the files that the directory had of it, and were taken in.
-pub record OpensTopic (t : ℕ) (name : List ℕ) (size i : ℕ) (topic : TopicState) (first : Disk) (from : Directory) (old : Entries SegmentLog) (now : Disk) (left : Directory) (new : Entries SegmentLog) (next : ℕ) : Type 0 where
+pub record OpensTopic (t : ℕ) (name : List ℕ) (size i : ℕ) (topic : TopicState) (first : Disk) (from : Directory) (old : Entries SegmentLog)
+    (now : Disk) (left : Directory) (new : Entries SegmentLog) (next : ℕ) : Type 0 where
   pub lists : Lists
   pub xs : List (Partition SegmentLog)
   pub takes : TakesTopic t i (partition_count topic) from lists left
   pub count : length xs ≡ length lists
   pub apart : AreApartLogs segment_log xs now.table next
   pub named : AreNumbered name i size xs
-  pub opened : now.honest → AreAllNamed name i size first.files lists → ArePartitionsOf first.files lists (map recorded_start topic.partitions) xs now.files
+  pub opened : now.honest → AreAllNamed name i size first.files lists
+      → ArePartitionsOf first.files lists (map recorded_start topic.partitions) xs now.files
   pub owned : (file : ℕ) → OwnedAmong segment_log xs file → IsAmong lists file
   pub others : Clears (IsAmong lists) first now
   pub settled : AreSettledFrom lists (map recorded_start topic.partitions) xs now
   pub restored : IsRestored segment_log i xs old new
 
 -- nothing changed
-pub record OpensNone (first : Disk) (from : Directory) (old : Entries SegmentLog) (now : Disk) (left : Directory) (new : Entries SegmentLog) : Type 0 where
+pub record OpensNone (first : Disk) (from : Directory) (old : Entries SegmentLog) (now : Disk) (left : Directory)
+    (new : Entries SegmentLog) : Type 0 where
   pub others : Clears no_file first now
   pub files : left ≡ from
   pub entries : new ≡ old
@@ -73,16 +77,21 @@ pub record IsOfKnown (d : Directory) (t : ℕ) (k : Known) (n file : ℕ) : Type
   pub has : Contains (files_at (owners.Partition t instance number) d) file
 
 -- The topics of the instances below one are opened, from what the disk and the directory were first.
-pub record OpensBelow (t : ℕ) (name : List ℕ) (size : ℕ) (k : Known) (n : ℕ) (first : Disk) (from : Directory) (es : Entries SegmentLog) (now : Disk) (left : Directory) (next : ℕ) : Type 0 where
+pub record OpensBelow (t : ℕ) (name : List ℕ) (size : ℕ) (k : Known) (n : ℕ) (first : Disk) (from : Directory) (es : Entries SegmentLog)
+    (now : Disk) (left : Directory) (next : ℕ) : Type 0 where
   pub sound : AreSound segment_log es now.table next
   pub owned : (file : ℕ) → Owned segment_log es file → IsOfKnown from t k n file
-  pub places : (j : ℕ) → lookup (is_at (nat_cmp j)) (places_of es) ≡ (if nat_lt j n then option_map partition_count (topic_at j k.topics) else None)
+  pub places : (j : ℕ) → lookup (is_at (nat_cmp j)) (places_of es)
+      ≡ (if nat_lt j n then option_map partition_count (topic_at j k.topics) else None)
   pub named : AreNamed segment_log name size es
   pub agree : now.honest → AreOwnNamed name size t first.files from → Agree segment_log es now.files
-  pub logs : now.honest → AreOwnNamed name size t first.files from → (i p : ℕ) (part : PartitionState) → i < n → partition_at k (pos i) (pos p) ≡ Some part
-      → (l : LogState) × (log_at i p (logs_of segment_log es now.files) ≡ Some l) × IsLogOf first.files (files_at (owners.Partition t i p) from) (recorded_start part) l
+  pub logs : now.honest → AreOwnNamed name size t first.files from → (i p : ℕ) (part : PartitionState) → i < n
+      → partition_at k (pos i) (pos p) ≡ Some part
+      → (l : LogState) × (log_at i p (logs_of segment_log es now.files) ≡ Some l)
+      × IsLogOf first.files (files_at (owners.Partition t i p) from) (recorded_start part) l
   pub none : (i p : ℕ) → i < n → IsSome (partition_at k (pos i) (pos p)) → files_at (owners.Partition t i p) left ≡ []
-  pub same : (o : Owner) → ((i p : ℕ) → i < n → IsSome (partition_at k (pos i) (pos p)) → o ≢ owners.Partition t i p) → files_at o left ≡ files_at o from
+  pub same : (o : Owner) → ((i p : ℕ) → i < n → IsSome (partition_at k (pos i) (pos p)) → o ≢ owners.Partition t i p)
+      → files_at o left ≡ files_at o from
   pub strays : left.strays.items ≡ from.strays.items
   pub some : TakesSome from left
   pub gone : (file : ℕ) → IsOfKnown from t k n file → Contains (all_files left) file → ⊥

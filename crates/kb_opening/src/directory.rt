@@ -56,7 +56,8 @@ impl Directory {
         ensures kept { Keeps (S.disk shelf.old.store) (S.disk shelf.new.store) }
         ensures next { shelf.new.next ≡ shelf.old.next }
         ensures all { IfOk result (λ d. IsPermutation files.now (all_files d)) }
-        ensures what { IfOk result (λ d. (S.disk shelf.new.store).honest → IsDirectory (S.disk shelf.old.store).files (map (λ name. name.now) names.now) files.now d) }
+        ensures what { IfOk result (λ d. (S.disk shelf.new.store).honest
+            → IsDirectory (S.disk shelf.old.store).files (map (λ name. name.now) names.now) files.now d) }
         ensures cause { HasFault (S.disk shelf.old.store) result (S.disk shelf.new.store) }
     {
         let mut directory = Directory::new(alloc);
@@ -149,5 +150,6 @@ pub fn files_taken()
     ensures either { (owner : Owner) (old new : Directory) (taken : List ℕ) → Takes owner old taken new
         → (file : ℕ) → Contains (all_files old) file ↔ (Contains taken file ⊎ Contains (all_files new) file) }
     ensures apart { (owner : Owner) (old new : Directory) (taken : List ℕ) → Takes owner old taken new → IsDistinct nat_eq (all_files old)
-        → IsDistinct nat_eq taken × IsDistinct nat_eq (all_files new) × ((file : ℕ) → Contains taken file → Contains (all_files new) file → ⊥) }
+        → IsDistinct nat_eq taken × IsDistinct nat_eq (all_files new)
+        × ((file : ℕ) → Contains taken file → Contains (all_files new) file → ⊥) }
 {}

@@ -11,4 +11,5 @@ pub record IsEmptyPartition {L : Type 0} (log : L → Log) (x : Partition L) : T
 
 -- each log of a topic's is that of its number, of that tenant, with files of so many bytes
 abbrev pub AreNumbered : {L : Type 0} → (L → Log) → List ℕ → ℕ → ℕ → List (Partition L) → Type 0
-AreNumbered {L} log tenant instance size xs = (p : ℕ) (x : Partition L) → slice_get xs p ≡ Some x → (log x.log).identity ≡ partition_identity tenant instance p size
+AreNumbered {L} log tenant instance size xs =
+    (p : ℕ) (x : Partition L) → slice_get xs p ≡ Some x → (log x.log).identity ≡ partition_identity tenant instance p size

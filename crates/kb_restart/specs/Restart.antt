@@ -45,7 +45,8 @@ pub record AreReopened (files : Files) (numbers : List ℕ) (names : List (List 
 
 -- Each world that a tenant's files come to is the one that it keeps.
 abbrev pub AreOnly : Files → List ℕ → List (List ℕ) → List TenantState → Type 0
-AreOnly files numbers names ts = (t : ℕ) (name : List ℕ) → slice_get names t ≡ Some name → IsOnly files (owners_of files numbers name) (kept_of ts t).known (kept_of ts t).logs
+AreOnly files numbers names ts = (t : ℕ) (name : List ℕ) → slice_get names t ≡ Some name
+    → IsOnly files (owners_of files numbers name) (kept_of ts t).known (kept_of ts t).logs
 
 abbrev pub have_nothing_refused : List TenantState → Type 0
 have_nothing_refused ts = All (λ (x : TenantState). x.refusals ≡ 0) ts
@@ -81,7 +82,8 @@ store_fault store_faults.Memory = faults.Memory
 
 -- Opened again, the files come to what they came to.
 abbrev pub ComeToTheSame : List (List ℕ) → Disk → Disk → Type 0
-ComeToTheSame names old new = new.honest → (ts : List TenantState) → AreReopened old.files (keys old.table) names ts → AreReopened new.files (keys new.table) names ts
+ComeToTheSame names old new =
+    new.honest → (ts : List TenantState) → AreReopened old.files (keys old.table) names ts → AreReopened new.files (keys new.table) names ts
 
 -- ---- the tenants, one after another
 
@@ -98,13 +100,17 @@ pub record IsOfFirst (d : Directory) (count file : ℕ) : Type 0 where
 
 -- The parts of a tenant, opened from the files that a directory has of it, as they were; of them the directory has those alone now
 -- that are of partitions which its topics have not; and nothing but its batches is in the files of a log.
-pub record IsRestored (old : Disk) (had : Directory) (tenant : ℕ) (parts : Parts SegmentLog) (new : Disk) (next : ℕ) (has : Directory) : Type 0 where
+pub record IsRestored (old : Disk) (had : Directory) (tenant : ℕ) (parts : Parts SegmentLog) (new : Disk) (next : ℕ)
+    (has : Directory) : Type 0 where
   pub sound : IsSound segment_log parts new.table next
   pub owned : (file : ℕ) → Owns segment_log parts file → IsOfTenant had tenant file
-  pub opened : new.honest → AreOwnNamed (string_bytes parts.tenant) parts.segment_bytes tenant old.files had → IsTenantOf old.files (owners_in had tenant) parts new.files
+  pub opened : new.honest → AreOwnNamed (string_bytes parts.tenant) parts.segment_bytes tenant old.files had
+      → IsTenantOf old.files (owners_in had tenant) parts new.files
   pub refusals : parts.refusals ≡ 0
-  pub gone : (o : Owner) → IsTaken tenant (known parts.catalog) o → (file : ℕ) → Contains (files_at o had) file → Contains (all_files has) file → ⊥
-  pub unknown : (i p : ℕ) → partition_at (known parts.catalog) (pos i) (pos p) ≡ None → files_at (owners.Partition tenant i p) has ≡ files_at (owners.Partition tenant i p) had
+  pub gone : (o : Owner) → IsTaken tenant (known parts.catalog) o → (file : ℕ) → Contains (files_at o had) file
+      → Contains (all_files has) file → ⊥
+  pub unknown : (i p : ℕ) → partition_at (known parts.catalog) (pos i) (pos p) ≡ None
+      → files_at (owners.Partition tenant i p) has ≡ files_at (owners.Partition tenant i p) had
   pub meta_exact : (meta segment_log parts).exact new.table
   pub exact : AreExact segment_log (entries parts) new.table
   pub apart : (file : ℕ) → Owns segment_log parts file → Contains (all_files has) file → ⊥
@@ -119,7 +125,8 @@ names_in tenants = map (λ p. string_bytes p.tenant) tenants
 
 -- So are those of the first tenants. Of the others the directory has what it had, and none of the files that it has was changed. Each
 -- file that stood in it is of one of them, or is gone, or stands there still.
-pub record AreRestored (old : Disk) (had : Directory) (tenants : List (Parts SegmentLog)) (new : Disk) (next : ℕ) (has : Directory) : Type 0 where
+pub record AreRestored (old : Disk) (had : Directory) (tenants : List (Parts SegmentLog)) (new : Disk) (next : ℕ)
+    (has : Directory) : Type 0 where
   pub each : (t : ℕ) (parts : Parts SegmentLog) → slice_get tenants t ≡ Some parts → IsRestored old had t parts new next has
   pub others : (o : Owner) → length tenants ≤ tenant_in o → files_at o has ≡ files_at o had
   pub strays : has.strays.items ≡ had.strays.items
@@ -134,11 +141,13 @@ NoneLosesAny d old new = (t : ℕ) → TenantLosesNothing (owners_in d t) old ne
 
 -- The same of the named tenants, by the headers of the files of these numbers.
 abbrev pub NamedLoseNothing : List ℕ → List (List ℕ) → Disk → Disk → Type 0
-NamedLoseNothing numbers names old new = (t : ℕ) (name : List ℕ) → slice_get names t ≡ Some name → TenantLosesNothing (owners_of old.files numbers name) old new
+NamedLoseNothing numbers names old new =
+    (t : ℕ) (name : List ℕ) → slice_get names t ≡ Some name → TenantLosesNothing (owners_of old.files numbers name) old new
 
 -- Each has what the files of its name came to, as they were; it agrees with what the files are now.
 abbrev pub AreOpened : Files → List ℕ → List (List ℕ) → List (Parts SegmentLog) → Files → Type 0
-AreOpened files numbers names tenants now = (t : ℕ) (name : List ℕ) (parts : Parts SegmentLog) → slice_get names t ≡ Some name → slice_get tenants t ≡ Some parts
+AreOpened files numbers names tenants now =
+    (t : ℕ) (name : List ℕ) (parts : Parts SegmentLog) → slice_get names t ≡ Some name → slice_get tenants t ≡ Some parts
     → IsTenantOf files (owners_of files numbers name) parts now
 
 -- the file is of a partition that its tenant's topics have not

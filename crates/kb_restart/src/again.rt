@@ -27,7 +27,8 @@ pub fn reopen<S: Store>(
 ) -> Result<Restarted<S>, OpenRefused<S>>
     ensures same { IfOk result (λ opened. (S.disk opened.broker.store).honest → (strays : List ℕ) → broker.strays ≡ Some strays
         → all_calm broker.state.tenants ≡ true → names_of broker.state.tenants ≡ tenants_of settings.now.users.items
-        → AreStillStrays (S.disk broker.store).files (keys (S.disk broker.store).table) (names_of broker.state.tenants) broker.state.tenants strays
+        → AreStillStrays (S.disk broker.store).files (keys (S.disk broker.store).table)
+        (names_of broker.state.tenants) broker.state.tenants strays
         → HaveSame opened.broker.state.tenants broker.state.tenants) }
 {
     open_broker(alloc, settings, listing, broker.into_store())

@@ -6,14 +6,16 @@ use Rattle.kb_wire.specs.declared.fault.WireFault.{WireFault}
 use Rattle.kb_wire.specs.declared.fault.ReadFault.{ReadFault}
 use Rattle.kb_wire.specs.declared.fault.ReadFault.TheVariants as faults
 use Rattle.kb_api_group.specs.ErrorCode.{code_of}
-use Rattle.kb_api_group.specs.Layouts.{heartbeat_reply, heartbeat_request, join_group_request, leave_group_reply, leave_group_request, offset_commit_reply, offset_commit_request, sync_group_request}
+use Rattle.kb_api_group.specs.Layouts.{heartbeat_reply, heartbeat_request, join_group_request, leave_group_reply, leave_group_request}
+use Rattle.kb_api_group.specs.Layouts.{offset_commit_reply, offset_commit_request, sync_group_request}
 use Rattle.kb_api_group.specs.declared.error_code.ErrorCode.{ErrorCode}
 use Rattle.kb_api_group.specs.declared.heartbeat.HeartbeatRequest.{HeartbeatRequest}
 use Rattle.kb_api_group.specs.declared.join_group.JoinGroupRequest.{JoinGroupRequest}
 use Rattle.kb_api_group.specs.declared.leave_group.LeaveGroupRequest.{LeaveGroupRequest}
 use Rattle.kb_api_group.specs.declared.offset_commit.OffsetCommitRequest.{OffsetCommitRequest}
 use Rattle.kb_api_group.specs.declared.sync_group.SyncGroupRequest.{SyncGroupRequest}
-use Rattle.kb_coordinator.specs.Calls.{after_heartbeat, after_join, after_leave, after_may_commit, after_sync, heartbeat_code, is_accepted, join_code, leave_code, may_commit, sync_answer}
+use Rattle.kb_coordinator.specs.Calls.{after_heartbeat, after_join, after_leave, after_may_commit, after_sync, heartbeat_code, is_accepted}
+use Rattle.kb_coordinator.specs.Calls.{join_code, leave_code, may_commit, sync_answer}
 use Rattle.kb_coordinator.specs.Groups.{Groups, silent}
 use Rattle.kb_coordinator.specs.Replies.{join_refusal, sync_spelled}
 use Rattle.kb_groups.specs.Codes.{number}
@@ -57,10 +59,12 @@ abbrev pub of_sync : World → ℕ → Groups → SyncGroupRequest → Outcome
 of_sync w n gs r = of_groups w (after_sync w.clock n r gs) (sync_reaction (sync_answer w.clock n r gs))
 
 abbrev pub of_heartbeat : World → Groups → HeartbeatRequest → Outcome
-of_heartbeat w gs r = of_groups w (after_heartbeat w.clock r gs) (replies (heartbeat_reply.written (record { error_code = number (heartbeat_code r gs) })))
+of_heartbeat w gs r =
+    of_groups w (after_heartbeat w.clock r gs) (replies (heartbeat_reply.written (record { error_code = number (heartbeat_code r gs) })))
 
 abbrev pub of_leave : World → Groups → LeaveGroupRequest → Outcome
-of_leave w gs r = of_groups w (after_leave w.clock r gs) (replies (leave_group_reply.written (record { error_code = number (leave_code r gs) })))
+of_leave w gs r =
+    of_groups w (after_leave w.clock r gs) (replies (leave_group_reply.written (record { error_code = number (leave_code r gs) })))
 
 -- ---- OffsetCommit
 
@@ -74,7 +78,12 @@ commit_refusal gs r = refusal_in (may_commit r.group_id r.member_id r.generation
 abbrev pub of_offset_commit : World → Groups → OffsetCommitRequest → Outcome
 of_offset_commit w gs r =
     let c = committed_all w (commit_refusal gs r) r in
-    record { world = c.0; groups = after_may_commit w.clock r.group_id r.member_id r.generation_id gs; touched = []; reaction = replies (offset_commit_reply.written c.1) }
+    record {
+      world = c.0;
+      groups = after_may_commit w.clock r.group_id r.member_id r.generation_id gs;
+      touched = [];
+      reaction = replies (offset_commit_reply.written c.1);
+    }
 
 -- ---- all
 

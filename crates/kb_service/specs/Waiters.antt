@@ -49,7 +49,8 @@ AreServed n more old new = (k : ℕ) → members_on k new + replies_on k new ≤
 
 -- After a moment: no member more waits on any connection, and of those who waited each waits still or was answered.
 abbrev pub AreTicked : Groups → Groups → Type 0
-AreTicked old new = (k : ℕ) → (members_on k new ≤ members_on k old) × (members_on k new + replies_on k new ≤ members_on k old + replies_on k old)
+AreTicked old new =
+    (k : ℕ) → (members_on k new ≤ members_on k old) × (members_on k new + replies_on k new ≤ members_on k old + replies_on k old)
 
 -- A request that is not answered by a wait for its group leaves no member more waiting on its connection.
 abbrev pub IsWaitTold : ℕ → Groups → Answer → Groups → Type 0

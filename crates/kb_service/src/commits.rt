@@ -47,12 +47,16 @@ pub(crate) fn commit_offsets<L: PartitionLog + Drop, S: Store>(
     requires { (scene L.log S.disk parts.old shelf.old).sound }
     ensures step { IsStep (scene L.log S.disk parts.old shelf.old) (scene L.log S.disk parts.new shelf.new) }
     ensures meets { let a = scene L.log S.disk parts.old shelf.old in let b = scene L.log S.disk parts.new shelf.new in
-        Meets a b (IsServed request.now.correlation_id (if_read a.state.world groups.old (whole offset_commit_request request.now.body.now) (of_offset_commit a.state.world groups.old)) b.state.world groups.new [] result) }
+        Meets a b (IsServed request.now.correlation_id
+        (if_read a.state.world groups.old (whole offset_commit_request request.now.body.now) (of_offset_commit a.state.world groups.old))
+        b.state.world groups.new [] result) }
     // An offset that is answered with no error is what the catalog has, whatever else was refused.
     ensures acknowledged { let a = scene L.log S.disk parts.old shelf.old in let b = scene L.log S.disk parts.new shelf.new in
-        IfOk result (λ answer. WhereHonest a b (AcknowledgesCommits (CatalogFailed a b) request.now.correlation_id groups.old a.state.world request.now.body.now b.state.world answer)) }
+        IfOk result (λ answer. WhereHonest a b (AcknowledgesCommits
+        (CatalogFailed a b) request.now.correlation_id groups.old a.state.world request.now.body.now b.state.world answer)) }
     ensures groups { let a = scene L.log S.disk parts.old shelf.old in
-        AreGroupsBy groups.old (if_read a.state.world groups.old (whole offset_commit_request request.now.body.now) (of_offset_commit a.state.world groups.old)).groups result groups.new }
+        AreGroupsBy groups.old (if_read a.state.world groups.old (whole offset_commit_request request.now.body.now)
+        (of_offset_commit a.state.world groups.old)).groups result groups.new }
 {
     groups.silence();
     let asked = OffsetCommitRequest::read(alloc, request.body)?;

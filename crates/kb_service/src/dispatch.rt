@@ -4,7 +4,8 @@ ghost use Rattle.kb_wire.specs.Codec.{string};
 ghost use Rattle.kb_partitions.specs.Scene.{WhereHonest};
 ghost use Rattle.kb_world.specs.Parts.{scene};
 ghost use Rattle.kb_world.specs.Steps.{IsStep, Meets};
-ghost use Rattle.kb_tenant.specs.Told.{HasFailed, CatalogFailed, CreationFailed, Acknowledges, AcknowledgesCreations, AcknowledgesDeletions, AcknowledgesIssue, AcknowledgesRemovals, IsSpared};
+ghost use Rattle.kb_tenant.specs.Told.{HasFailed, CatalogFailed, CreationFailed, Acknowledges, AcknowledgesCreations};
+ghost use Rattle.kb_tenant.specs.Told.{AcknowledgesDeletions, AcknowledgesIssue, AcknowledgesRemovals, IsSpared};
 ghost use Rattle.kb_service.specs.Acknowledged.{AcknowledgesCommits, IsPlainly};
 ghost use Rattle.kb_service.specs.Waiters.{IsWaitTold, IsWaitToldBy};
 ghost use Rattle.kb_service.specs.Serve.{has_released, served, AreGroupsAfter, AreGroupsBy, IsOutcome, IsServed};
@@ -37,7 +38,9 @@ fn serve_by_key<L: PartitionLog + Drop, S: Store>(
     requires sound { (scene L.log S.disk parts.old shelf.old).sound }
     ensures step { IsStep (scene L.log S.disk parts.old shelf.old) (scene L.log S.disk parts.new shelf.new) }
     ensures meets { let a = scene L.log S.disk parts.old shelf.old in let b = scene L.log S.disk parts.new shelf.new in
-        Meets a b (IsServed request.now.correlation_id (served node.now a.state.world groups.old request.now.connection request.now.api_key request.now.api_version request.now.body.now) b.state.world groups.new touched.new.items result) }
+        Meets a b (IsServed request.now.correlation_id
+        (served node.now a.state.world groups.old request.now.connection request.now.api_key request.now.api_version request.now.body.now)
+        b.state.world groups.new touched.new.items result) }
     ensures acknowledged { let a = scene L.log S.disk parts.old shelf.old in let b = scene L.log S.disk parts.new shelf.new in
         request.now.api_key ≡ pos 0 → IfOk result (λ answer. WhereHonest a b (IsPlainly (Acknowledges (HasFailed a b)
         request.now.correlation_id a.state.world request.now.body.now b.state.world touched.new.items) answer)) }
@@ -60,7 +63,8 @@ fn serve_by_key<L: PartitionLog + Drop, S: Store>(
         request.now.api_key ≡ pos 8 → IfOk result (λ answer. WhereHonest a b (AcknowledgesCommits (CatalogFailed a b)
         request.now.correlation_id groups.old a.state.world request.now.body.now b.state.world answer)) }
     ensures groups { let a = scene L.log S.disk parts.old shelf.old in
-        AreGroupsBy groups.old (served node.now a.state.world groups.old request.now.connection request.now.api_key request.now.api_version request.now.body.now).groups result groups.new }
+        AreGroupsBy groups.old (served node.now a.state.world groups.old request.now.connection request.now.api_key request.now.api_version
+        request.now.body.now).groups result groups.new }
     ensures waits { IsWaitToldBy request.now.connection groups.old result groups.new }
 {
     let clock = parts.clock();
@@ -111,7 +115,9 @@ pub fn serve<L: PartitionLog + Drop, S: Store>(
     requires sound { (scene L.log S.disk parts.old shelf.old).sound }
     ensures step { IsStep (scene L.log S.disk parts.old shelf.old) (scene L.log S.disk parts.new shelf.new) }
     ensures meets { let a = scene L.log S.disk parts.old shelf.old in let b = scene L.log S.disk parts.new shelf.new in
-        Meets a b (IsOutcome request.now.correlation_id (served node.now a.state.world groups.old request.now.connection request.now.api_key request.now.api_version request.now.body.now) b.state.world groups.new result.touched.items result.answer) }
+        Meets a b (IsOutcome request.now.correlation_id
+        (served node.now a.state.world groups.old request.now.connection request.now.api_key request.now.api_version request.now.body.now)
+        b.state.world groups.new result.touched.items result.answer) }
     // A batch of a Produce that is answered with no error is in its partition's log, whatever else was refused.
     ensures acknowledged { let a = scene L.log S.disk parts.old shelf.old in let b = scene L.log S.disk parts.new shelf.new in
         request.now.api_key ≡ pos 0 → WhereHonest a b (IsPlainly (Acknowledges (HasFailed a b)
@@ -126,7 +132,8 @@ pub fn serve<L: PartitionLog + Drop, S: Store>(
     // A topic of a DeleteTopics that is answered with no error is gone.
     ensures removed { let a = scene L.log S.disk parts.old shelf.old in let b = scene L.log S.disk parts.new shelf.new in
         request.now.api_key ≡ pos 20 → WhereHonest a b (IsPlainly (AcknowledgesRemovals (CatalogFailed a b)
-        request.now.correlation_id request.now.api_version a.state.world request.now.body.now b.state.world result.touched.items) result.answer) }
+        request.now.correlation_id request.now.api_version a.state.world request.now.body.now b.state.world result.touched.items)
+        result.answer) }
     // Records that a DeleteRecords answers with no error are deleted.
     ensures trimmed { let a = scene L.log S.disk parts.old shelf.old in let b = scene L.log S.disk parts.new shelf.new in
         request.now.api_key ≡ pos 21 → WhereHonest a b (IsPlainly (AcknowledgesDeletions (CatalogFailed a b)
@@ -140,7 +147,8 @@ pub fn serve<L: PartitionLog + Drop, S: Store>(
         request.now.api_key ≡ pos 8 → WhereHonest a b (AcknowledgesCommits (CatalogFailed a b)
         request.now.correlation_id groups.old a.state.world request.now.body.now b.state.world result.answer) }
     ensures groups { let a = scene L.log S.disk parts.old shelf.old in
-        AreGroupsAfter groups.old (served node.now a.state.world groups.old request.now.connection request.now.api_key request.now.api_version request.now.body.now).groups result.answer groups.new }
+        AreGroupsAfter groups.old (served node.now a.state.world groups.old request.now.connection request.now.api_key
+        request.now.api_version request.now.body.now).groups result.answer groups.new }
     ensures waits { IsWaitTold request.now.connection groups.old result.answer groups.new }
     ensures released { result.released ≡ has_released groups.new }
 {

@@ -16,12 +16,14 @@ ghost use Rattle.kb_service.specs.Waiters.{AreServed, rebalances};
 
 /// The topics of a world stay tied to its logs, whatever is asked.
 pub fn worlds_stay_tied()
-    ensures { (node : Node) (w : World) (gs : Groups) (n : ℕ) (key version : ℤ) (body : List ℕ) → IsTied w → IsTied (served node w gs n key version body).world }
+    ensures { (node : Node) (w : World) (gs : Groups) (n : ℕ) (key version : ℤ) (body : List ℕ) → IsTied w
+        → IsTied (served node w gs n key version body).world }
 {}
 
 /// No two topics of a world come to have one name, whatever is asked.
 pub fn names_stay_apart()
-    ensures { (node : Node) (w : World) (gs : Groups) (n : ℕ) (key version : ℤ) (body : List ℕ) → HasOwnNames w → HasOwnNames (served node w gs n key version body).world }
+    ensures { (node : Node) (w : World) (gs : Groups) (n : ℕ) (key version : ℤ) (body : List ℕ) → HasOwnNames w
+        → HasOwnNames (served node w gs n key version body).world }
 {}
 
 /// A fetch that waits has no answer after a request that touches none of the places that it waits for, and waits for the same places.
@@ -33,27 +35,31 @@ pub fn requests_elsewhere()
 
 /// A fetch that has no answer before and after a request waits for the same places, whatever the request touched.
 pub fn requests_again()
-    ensures { (node : Node) (w : World) (gs : Groups) (n : ℕ) (key version : ℤ) (body : List ℕ) (r : FetchRequest) (deadline : ℕ) → IsTied w → HasOwnNames w
+    ensures { (node : Node) (w : World) (gs : Groups) (n : ℕ) (key version : ℤ) (body : List ℕ) (r : FetchRequest) (deadline : ℕ) → IsTied w
+        → HasOwnNames w
         → fetch_answer w r deadline ≡ None → fetch_answer (served node w gs n key version body).world r deadline ≡ None
         → places_of (served node w gs n key version body).world r ≡ places_of w r }
 {}
 
 /// A request that waits for its group gets nothing after a request that is for no group.
 pub fn group_waits_elsewhere()
-    ensures { (node : Node) (w : World) (gs : Groups) (n k : ℕ) (key version : ℤ) (body : List ℕ) → (served node w gs n key version body).groups ≡ silent gs
+    ensures { (node : Node) (w : World) (gs : Groups) (n k : ℕ) (key version : ℤ) (body : List ℕ)
+        → (served node w gs n key version body).groups ≡ silent gs
         → told_to k (served node w gs n key version body).groups ≡ Silent }
 {}
 
 /// The bounds and the batches of a world's logs stay within their limits, whatever is asked.
 pub fn logs_stay_small()
-    ensures { (node : Node) (w : World) (gs : Groups) (n : ℕ) (key version : ℤ) (body : List ℕ) → HasSmallLogs w → HasSmallLogs (served node w gs n key version body).world }
+    ensures { (node : Node) (w : World) (gs : Groups) (n : ℕ) (key version : ℤ) (body : List ℕ) → HasSmallLogs w
+        → HasSmallLogs (served node w gs n key version body).world }
 {}
 
 /// What a fetch (its key is 1) is answered at once: the one reply that the bytes spell, in which each partition without an error gives
 /// whole batches of its log as it is at that moment, one after the other, from the one that holds the asked offset, and from version 5
 /// on tells where that log starts.
 pub fn fetches_give_whole_batches()
-    ensures { (node : Node) (w : World) (gs : Groups) (n : ℕ) (version : ℤ) (body bytes : List ℕ) (r : FetchRequest) → HasSmallLogs w → asked_fetch version body ≡ Ok r
+    ensures { (node : Node) (w : World) (gs : Groups) (n : ℕ) (version : ℤ) (body bytes : List ℕ) (r : FetchRequest) → HasSmallLogs w
+        → asked_fetch version body ≡ Ok r
         → (served node w gs n (pos 1) version body).reaction ≡ replies bytes → HoldsBatches version w r bytes }
 {}
 

@@ -35,7 +35,8 @@ const APPENDED: &[u8] =
 /// The tenants `a` and `b`, without topics.
 fn two(alloc: Global) -> Result<Tenants<ListLog, MemoryStore>, Fail>
     ensures kept { IfOk result (λ two. AreKept list_log (λ s. memory_disk s.files.entries) two) }
-    ensures hosted { IfOk result (λ two. hosted list_log (λ s. memory_disk s.files.entries) two ≡ new_tenant (97 ∷ []) ∷ new_tenant (98 ∷ []) ∷ []) }
+    ensures hosted { IfOk result (λ two. hosted list_log (λ s. memory_disk s.files.entries) two
+        ≡ new_tenant (97 ∷ []) ∷ new_tenant (98 ∷ []) ∷ []) }
 {
     let shelf = Shelf::new(alloc, MemoryStore::new(alloc), 1).map_err(|_| AllocError)?;
     let mut tenants = Tenants::new(alloc, shelf);

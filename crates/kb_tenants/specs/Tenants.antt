@@ -1,5 +1,6 @@
 -- All tenants of a broker on one shelf.
-use Rattle.std.specs.Prelude.{◌≡◌, ◌<◌, ◌≤ℤ◌, ◌++◌, ◌∷◌, ◌⊎◌, [], ℕ, ℤ, pos, Bool, true, List, Option, Some, IsSome, option_map, unwrap_or, map, slice_get, string_bytes, Contains, ⊤}
+use Rattle.std.specs.Prelude.{◌≡◌, ◌<◌, ◌≤ℤ◌, ◌++◌, ◌∷◌, ◌⊎◌, [], ℕ, ℤ, pos, Bool, true, List, Option, Some, IsSome, option_map, unwrap_or}
+use Rattle.std.specs.Prelude.{map, slice_get, string_bytes, Contains, ⊤}
 use Rattle.std.specs.FinMap.{get}
 use Rattle.std.specs.declared.alloc.Global.{Global}
 use Rattle.std.specs.declared.vec.Vec.{Vec}
@@ -25,7 +26,8 @@ use Rattle.kb_tenants.specs.declared.tenants.Tenants.{Tenants}
 -- Each tenant's parts are sound, and no file is of two tenants.
 pub record AreSound {L : Type 0} (log : L → Log) (ps : List (Parts L)) (table : Table) (next : ℕ) : Type 0 where
   pub each : (t : ℕ) (p : Parts L) → slice_get ps t ≡ Some p → IsSound log p table next
-  pub apart : (t u : ℕ) (p q : Parts L) → slice_get ps t ≡ Some p → slice_get ps u ≡ Some q → (t ≡ u → ⊥) → (file : ℕ) → Owns log p file → Owns log q file → ⊥
+  pub apart : (t u : ℕ) (p q : Parts L) → slice_get ps t ≡ Some p → slice_get ps u ≡ Some q → (t ≡ u → ⊥) → (file : ℕ) → Owns log p file
+      → Owns log q file → ⊥
 
 -- Each tenant's logs agree with their files.
 abbrev pub Agree : {L : Type 0} → (L → Log) → List (Parts L) → Files → Type 0
@@ -44,7 +46,8 @@ pub record AddsParts {L : Type 0} (name : List ℕ) (size : ℕ) (old new : List
 
 -- a tenant, where the files are those: its name, what it keeps, and how many refusals were counted for it
 abbrev pub state_of : {L : Type 0} → (L → Log) → Files → Tenant L → TenantState
-state_of log files x = record { name = string_bytes x.name; kept = kept_in (world_of log x.parts files) x.groups; refusals = x.parts.refusals }
+state_of log files x =
+    record { name = string_bytes x.name; kept = kept_in (world_of log x.parts files) x.groups; refusals = x.parts.refusals }
 
 -- whether the store has told the truth so far
 abbrev pub shelf_is_honest : {L S : Type 0} → (S → Disk) → Tenants L S → Type 0
@@ -173,6 +176,7 @@ pub record AreKept {L S : Type 0} (log : L → Log) (disk : S → Disk) (ts : Te
   pub sound : AreSound log (parts_of ts.tenants.items) (disk ts.shelf.store).table ts.shelf.next
   pub named : (t : ℕ) (x : Tenant L) → slice_get ts.tenants.items t ≡ Some x → string_bytes x.parts.tenant ≡ string_bytes x.name
   pub apart : (file : ℕ) → Contains (strays_of ts.strays) file → IsLeftAlone log (parts_of ts.tenants.items) ts.shelf.next file
-  pub settled : IsSome ts.strays → HaveNothingRefused (parts_of ts.tenants.items) → AreSettled log (parts_of ts.tenants.items) (strays_of ts.strays) (disk ts.shelf.store)
+  pub settled : IsSome ts.strays → HaveNothingRefused (parts_of ts.tenants.items)
+      → AreSettled log (parts_of ts.tenants.items) (strays_of ts.strays) (disk ts.shelf.store)
   pub agree : shelf_is_honest disk ts → Agree log (parts_of ts.tenants.items) (disk ts.shelf.store).files
   pub until : shelf_is_honest disk ts → IsIdleUntil ts.kept_until (hosted log disk ts)

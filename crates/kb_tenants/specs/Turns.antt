@@ -30,6 +30,7 @@ pub record IsShelfTurn {L : Type 0} (log : L → Log) (t : ℕ) (ps qs : List (P
   pub grows : (u : ℕ) (p q : Parts L) → slice_get ps u ≡ Some p → slice_get qs u ≡ Some q → p.refusals ≤ q.refusals
 
 -- What a call makes of the tenant's own world, where nothing was refused to the tenant and the store is honest.
-abbrev pub IsShelfMet : {L : Type 0} → (L → Log) → ℕ → List (Parts L) → List (Parts L) → Disk → Disk → ℕ → ℕ → (World → World → Type 0) → Type 0
+abbrev pub IsShelfMet : {L : Type 0} → (L → Log) → ℕ → List (Parts L) → List (Parts L) → Disk → Disk → ℕ → ℕ → (World → World → Type 0)
+    → Type 0
 IsShelfMet {L} log t ps qs d e next last P = (p q : Parts L) → slice_get ps t ≡ Some p → slice_get qs t ≡ Some q
     → Meets (parts.scene_on log p d next) (parts.scene_on log q e last) (P (world_of log p d.files) (world_of log q e.files))

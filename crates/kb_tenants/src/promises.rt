@@ -12,5 +12,6 @@ use kb_store::Store;
 /// none but accepted batches are read of them.
 pub fn kept_logs_are_small<L: PartitionLog, S: Store>(tenants: &Tenants<L, S>)
     requires { AreKept L.log S.disk tenants.now }
-    ensures { shelf_is_honest S.disk tenants.now → (t clock : ℕ) → HasSmallLogs (world_at (kept_of (hosted L.log S.disk tenants.now) t) clock) }
+    ensures { shelf_is_honest S.disk tenants.now → (t clock : ℕ)
+        → HasSmallLogs (world_at (kept_of (hosted L.log S.disk tenants.now) t) clock) }
 {}

@@ -46,5 +46,6 @@ StaysFold a old b new = WhereHonest a b (IsFold (batches_of a) old → IsFold (b
 -- A call that records a command. Where it is accepted the catalog is what the command makes of it; where it is refused the catalog
 -- and the log's batches are what they were.
 abbrev pub Records : {T : Type 0} → OnShelf → Known → Command → T → Option CatalogFault → Result T CatalogFault → OnShelf → Known → Type 0
-Records a old c answer refusal (Ok x) b new = (refusal ≡ None) × (x ≡ answer) × (step old c ≡ Some new) × Appended a b c × StaysFold a old b new
+Records a old c answer refusal (Ok x) b new =
+    (refusal ≡ None) × (x ≡ answer) × (step old c ≡ Some new) × Appended a b c × StaysFold a old b new
 Records a old c answer refusal (Err f) b new = IsCause a refusal f b × (new ≡ old) × Unchanged a b × StaysFold a old b new

@@ -3,7 +3,8 @@ use Rattle.std.specs.Prelude.{ℤ, pos, negsuc, Result, Err}
 use Rattle.kb_log.specs.declared.fault.LogFault.{LogFault}
 use Rattle.kb_log.specs.declared.fault.LogFault.TheVariants as log
 use Rattle.kb_topics.specs.declared.fault.CatalogFault.{CatalogFault}
-use Rattle.kb_topics.specs.declared.fault.CatalogFault.TheVariants.{Name, Exists, Partitions, Limit, TooMany, Unknown, Metadata, Back, UsedUp, Full, Store, Memory}
+use Rattle.kb_topics.specs.declared.fault.CatalogFault.TheVariants.{Name, Exists, Partitions, Limit, TooMany, Unknown, Metadata, Back}
+use Rattle.kb_topics.specs.declared.fault.CatalogFault.TheVariants.{UsedUp, Full, Store, Memory}
 
 -- An append is never out of range.
 abbrev pub of_log : LogFault → CatalogFault

@@ -1,5 +1,6 @@
 -- How the settings of a topic are read, one after another.
-use Rattle.std.specs.Prelude.{ℕ, pos, negsuc, true, false, List, Option, Some, None, ◌&&◌, if◌then◌else◌, codes, option_map, unwrap_or, is_none}
+use Rattle.std.specs.Prelude.{ℕ, pos, negsuc, true, false, List, Option, Some, None, ◌&&◌, if◌then◌else◌, codes, option_map, unwrap_or}
+use Rattle.std.specs.Prelude.{is_none}
 use Rattle.std.specs.Str.{bytes_eq}
 use Rattle.kb_topics.specs.declared.config.TopicConfig.{TopicConfig}
 use Rattle.kb_topics.specs.declared.config.ConfigReader.{ConfigReader}

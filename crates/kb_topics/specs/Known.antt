@@ -1,5 +1,6 @@
 -- What the commands of a meta log come to, one after another.
-use Rattle.std.specs.Prelude.{ℕ, ◌+◌, ℤ, pos, negsuc, Bool, List, [], ◌∷◌, length, replicate, Option, Some, None, is_none, nat_le, nat_lt, int_le, ◌&&◌, if◌then◌else◌, slice_get, slice_set}
+use Rattle.std.specs.Prelude.{ℕ, ◌+◌, ℤ, pos, negsuc, Bool, List, [], ◌∷◌, length, replicate, Option, Some, None, is_none, nat_le, nat_lt}
+use Rattle.std.specs.Prelude.{int_le, ◌&&◌, if◌then◌else◌, slice_get, slice_set}
 use Rattle.std.specs.Option.{option_map, option_and_then}
 use Rattle.std.specs.Ordering.{nat_cmp, int_eq}
 use Rattle.std.specs.Cmp.Lexicographic.{slice_cmp}
@@ -131,10 +132,12 @@ step k (Delete name) = option_map (without_topic k) (named name k.topics)
 step k (Issue id) = if int_eq id (pos k.issues) then Some (with_id k) else None
 step k (Commit c) =
     if nat_le (length c.metadata) 4096
-    then option_map (λ p. with_partition k c.instance c.partition (with_commit p c.group (offset_in c))) (partition_at k c.instance c.partition)
+    then option_map (λ p. with_partition k c.instance c.partition (with_commit p c.group (offset_in c)))
+    (partition_at k c.instance c.partition)
     else None
 step k (Start s) =
-    option_and_then (λ p. if int_le p.start s.offset then Some (with_partition k s.instance s.partition (with_start p s.offset)) else None) (partition_at k s.instance s.partition)
+    option_and_then (λ p. if int_le p.start s.offset then Some (with_partition k s.instance s.partition (with_start p s.offset))
+    else None) (partition_at k s.instance s.partition)
 
 -- what applicable commands come to, one after another
 abbrev pub folded : Known → List Command → Option Known

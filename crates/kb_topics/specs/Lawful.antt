@@ -3,18 +3,22 @@ use Rattle.std.proofs.Common.{◌≡◌, ◌∙◌, ℕ, zero, suc, List, [], �
 use Rattle.std.specs.Prelude.{ℤ, pos, negsuc}
 use Rattle.kb_wire.specs.declared.fault.WireFault.TheVariants.{Short, Bad}
 use Rattle.kb_wire.specs.Codec.{Codec, int8}
-use Rattle.kb_wire.specs.Laws.{IsLawful, int8_lawful, int32_lawful, int64_lawful, string_lawful, pair_lawful, via_lawful, bind_ok, map_err, ok_is, bad_then, ends_then}
+use Rattle.kb_wire.specs.Laws.{IsLawful, int8_lawful, int32_lawful, int64_lawful, string_lawful, pair_lawful, via_lawful, bind_ok, map_err}
+use Rattle.kb_wire.specs.Laws.{ok_is, bad_then, ends_then}
 use Rattle.kb_topics.specs.declared.command.Command.{Command}
 use Rattle.kb_topics.specs.declared.command.Command.TheVariants.{Create, Delete, Issue, Commit, Start}
-use Rattle.kb_topics.specs.Layouts.{create_topic, commit_offset, move_start, within, nowhere, kinded, created, deleted, issued, committed, started, kind_of, of_kind, command_codec, written_back, FitsBack, InRangeBack}
+use Rattle.kb_topics.specs.Layouts.{create_topic, commit_offset, move_start, within, nowhere, kinded, created, deleted, issued, committed}
+use Rattle.kb_topics.specs.Layouts.{started, kind_of, of_kind, command_codec, written_back, FitsBack, InRangeBack}
 
 pub create_topic_lawful : IsLawful create_topic
 unfolding create_topic
-create_topic_lawful = via_lawful _ _ (pair_lawful string_lawful (pair_lawful int64_lawful (pair_lawful int32_lawful (pair_lawful int64_lawful int64_lawful)))) (λ _. refl) (λ _. refl)
+create_topic_lawful = via_lawful _ _ (pair_lawful string_lawful
+    (pair_lawful int64_lawful (pair_lawful int32_lawful (pair_lawful int64_lawful int64_lawful)))) (λ _. refl) (λ _. refl)
 
 pub commit_offset_lawful : IsLawful commit_offset
 unfolding commit_offset
-commit_offset_lawful = via_lawful _ _ (pair_lawful string_lawful (pair_lawful int64_lawful (pair_lawful int32_lawful (pair_lawful int64_lawful string_lawful)))) (λ _. refl) (λ _. refl)
+commit_offset_lawful = via_lawful _ _ (pair_lawful string_lawful
+    (pair_lawful int64_lawful (pair_lawful int32_lawful (pair_lawful int64_lawful string_lawful)))) (λ _. refl) (λ _. refl)
 
 pub move_start_lawful : IsLawful move_start
 unfolding move_start
@@ -23,12 +27,14 @@ move_start_lawful = via_lawful _ _ (pair_lawful int64_lawful (pair_lawful int32_
 two_parts : (s a t b rest : List ℕ) → s ≡ a ++ t → t ≡ b ++ rest → s ≡ (a ++ b) ++ rest
 two_parts s a t b rest e f = e ∙ ap (λ u. a ++ u) f ∙ sym (append_assoc a b rest)
 
-again_back : {A : Type 0} (c : Codec A) → IsLawful c → (o : Option A) → InRangeBack c o → FitsBack c o → (a : A) × (o ≡ Some a) × c.Spells (written_back c o) a
+again_back : {A : Type 0} (c : Codec A) → IsLawful c → (o : Option A) → InRangeBack c o → FitsBack c o → (a : A) × (o ≡ Some a)
+    × c.Spells (written_back c o) a
 again_back c l None r f = absurd f
 again_back c l (Some a) r f = (a, refl, l.again a r f)
 
 -- `back` undoes `there`, and nothing else comes back
-pub within_lawful : {A B : Type 0} (there : A → B) (back : B → Option A) {c : Codec A} → IsLawful c → ((a : A) → back (there a) ≡ Some a) → ((v : B) (a : A) → back v ≡ Some a → there a ≡ v) → IsLawful (within there back c)
+pub within_lawful : {A B : Type 0} (there : A → B) (back : B → Option A) {c : Codec A} → IsLawful c → ((a : A) → back (there a) ≡ Some a)
+    → ((v : B) (a : A) → back v ≡ Some a → there a ≡ v) → IsLawful (within there back c)
 within_lawful {A} {B} there back {c} l forth only = record {
   found = λ s v rest e.
       let p = bind_ok (c.read s) (λ x. Ok (there x.0, x.1)) (v, rest) e in
@@ -56,18 +62,23 @@ nowhere_lawful = record {
 }
 
 -- the codec of each kind spells values of that kind alone
-pub kinded_lawful : {A : Type 0} (kind : A → ℤ) (parts : ℤ → Codec A) → ((k : ℤ) → IsLawful (parts k)) → ((k : ℤ) (x : List ℕ) (v : A) → (parts k).Spells x v → kind v ≡ k) → IsLawful (kinded kind parts)
+pub kinded_lawful : {A : Type 0} (kind : A → ℤ) (parts : ℤ → Codec A) → ((k : ℤ) → IsLawful (parts k))
+    → ((k : ℤ) (x : List ℕ) (v : A) → (parts k).Spells x v → kind v ≡ k) → IsLawful (kinded kind parts)
 kinded_lawful {A} kind parts l own = record {
   found = λ s v rest e.
       let p = bind_ok (int8.read s) (λ k. (parts k.0).read k.1) (v, rest) e in
       let fa = int8_lawful.found s p.0.0 p.0.1 p.1 in
       let fb = (l p.0.0).found p.0.1 v rest p.2 in
-      let same : p.0.0 ≡ kind v = sym (own p.0.0 fb.0 v fb.2) in
-      (fa.0 ++ fb.0, two_parts s fa.0 p.0.1 fb.0 rest fa.1 fb.1, (fa.0, fb.0, refl {a = fa.0 ++ fb.0}, subst (λ k. int8.Spells fa.0 k) same fa.2, subst (λ k. (parts k).Spells fb.0 v) same fb.2));
+      let same : p.0.0 ≡ kind v = sym (own p.0.0 fb.0 v fb.2) in (
+        fa.0 ++ fb.0,
+        two_parts s fa.0 p.0.1 fb.0 rest fa.1 fb.1,
+        (fa.0, fb.0, refl {a = fa.0 ++ fb.0}, subst (λ k. int8.Spells fa.0 k) same fa.2, subst (λ k. (parts k).Spells fb.0 v) same fb.2),
+      );
   only = λ s v rest h. rw (h.2, append_assoc, int8_lawful.only h.0 (kind v) (h.1 ++ rest) h.3) ((l (kind v)).only h.1 v rest h.4);
   bad = bad_then {B = A × List ℕ} int8 int8_lawful (λ k. (parts k.0).read k.1) (λ k rest t q. (l k).bad rest t q);
   ends = ends_then {B = A × List ℕ} int8 int8_lawful (λ k. (parts k.0).read k.1) (λ k rest. (l k).ends rest);
-  again = λ v r f. (int8.written (kind v), (parts (kind v)).written v, refl, int8_lawful.again (kind v) r.0 f.0, (l (kind v)).again v r.1 f.1);
+  again =
+      λ v r f. (int8.written (kind v), (parts (kind v)).written v, refl, int8_lawful.again (kind v) r.0 f.0, (l (kind v)).again v r.1 f.1);
   fits = λ x v h. (int8_lawful.fits h.0 (kind v) h.3, (l (kind v)).fits h.1 v h.4);
   in_range = λ x v h. (int8_lawful.in_range h.0 (kind v) h.3, (l (kind v)).in_range h.1 v h.4);
 }

@@ -9,13 +9,22 @@ use Rattle.kb_topics.specs.declared.command.Command.{Command}
 use Rattle.kb_topics.specs.declared.command.Command.TheVariants.{Create, Delete, Issue, Commit, Start}
 
 unfoldable pub create_topic : Codec CreateTopic
-create_topic = via (λ p. record { name = p.0; instance = p.1.0; partitions = p.1.1.0; retention_ms = p.1.1.1.0; retention_bytes = p.1.1.1.1 }) (λ v. (v.name, (v.instance, (v.partitions, (v.retention_ms, v.retention_bytes))))) (string ⊗ int64 ⊗ int32 ⊗ int64 ⊗ int64)
+create_topic = via (λ p. record {
+  name = p.0;
+  instance = p.1.0;
+  partitions = p.1.1.0;
+  retention_ms = p.1.1.1.0;
+  retention_bytes = p.1.1.1.1;
+}) (λ v. (v.name, (v.instance, (v.partitions, (v.retention_ms, v.retention_bytes)))))
+    (string ⊗ int64 ⊗ int32 ⊗ int64 ⊗ int64)
 
 unfoldable pub commit_offset : Codec CommitOffset
-commit_offset = via (λ p. record { group = p.0; instance = p.1.0; partition = p.1.1.0; offset = p.1.1.1.0; metadata = p.1.1.1.1 }) (λ v. (v.group, (v.instance, (v.partition, (v.offset, v.metadata))))) (string ⊗ int64 ⊗ int32 ⊗ int64 ⊗ string)
+commit_offset = via (λ p. record { group = p.0; instance = p.1.0; partition = p.1.1.0; offset = p.1.1.1.0; metadata = p.1.1.1.1 }) (λ v.
+    (v.group, (v.instance, (v.partition, (v.offset, v.metadata))))) (string ⊗ int64 ⊗ int32 ⊗ int64 ⊗ string)
 
 unfoldable pub move_start : Codec MoveStart
-move_start = via (λ p. record { instance = p.0; partition = p.1.0; offset = p.1.1 }) (λ v. (v.instance, (v.partition, v.offset))) (int64 ⊗ int32 ⊗ int64)
+move_start = via (λ p. record { instance = p.0; partition = p.1.0; offset = p.1.1 }) (λ v.
+    (v.instance, (v.partition, v.offset))) (int64 ⊗ int32 ⊗ int64)
 
 -- ---- kinds
 

@@ -10,4 +10,5 @@ is_name_byte b = is_ascii_alphanumeric b || b == 46 || b == 95 || b == 45
 
 -- 1 to 249 of them, but neither one dot alone nor two
 abbrev pub is_legal : List ℕ → Bool
-is_legal name = nat_le 1 (length name) && nat_le (length name) 249 && not (bytes_eq name (46 ∷ [])) && not (bytes_eq name (46 ∷ 46 ∷ [])) && list_all is_name_byte name
+is_legal name = nat_le 1 (length name) && nat_le (length name) 249 && not (bytes_eq name (46 ∷ [])) && not (bytes_eq name (46 ∷ 46 ∷ []))
+    && list_all is_name_byte name

@@ -2,7 +2,8 @@
 ghost use Rattle.std.specs.Prelude.{◌≡◌, ◌<◌, pos, length, slice_get, slice_set, slice_index_or, replicate, OnOk, OnErr, IfOk};
 ghost use Rattle.std.specs.Option.{option_copied};
 ghost use Rattle.std.specs.String.{string_bytes};
-ghost use Rattle.kb_topics.specs.Known.{CommittedOffset, PartitionState, TopicState, new_partition, new_topic, committed_at, with_part, with_start, with_commit, with_former};
+ghost use Rattle.kb_topics.specs.Known.{CommittedOffset, PartitionState, TopicState, new_partition, new_topic, committed_at, with_part};
+ghost use Rattle.kb_topics.specs.Known.{with_start, with_commit, with_former};
 
 use crate::config::TopicConfig;
 use std::alloc::{AllocError, Global};
@@ -100,7 +101,8 @@ impl Partition {
         committed: Committed,
     ) -> Result<Option<Committed>, AllocError>
         ensures committed { OnOk result (self.new ≡ with_commit self.old (string_bytes group) committed) }
-        ensures former { IfOk result (λ former. with_former (with_commit self.old (string_bytes group) committed) (string_bytes group) former ≡ self.old) }
+        ensures former { IfOk result (λ former. with_former (with_commit self.old (string_bytes group) committed)
+            (string_bytes group) former ≡ self.old) }
         ensures refused { OnErr result (self.new ≡ self.old) }
     {
         Ok(self.commits.insert(group, committed)?)
@@ -189,9 +191,12 @@ impl Topic {
         committed: Committed,
     ) -> Result<Option<Committed>, AllocError>
         requires { place < length self.old.partitions }
-        ensures committed { OnOk result (self.new ≡ with_part place (with_commit (slice_index_or self.old.partitions place new_partition) (string_bytes group) committed) self.old) }
+        ensures committed { OnOk result (self.new
+            ≡ with_part place (with_commit (slice_index_or self.old.partitions place new_partition) (string_bytes group) committed)
+            self.old) }
         ensures former { IfOk result (λ former.
-            with_former (with_commit (slice_index_or self.old.partitions place new_partition) (string_bytes group) committed) (string_bytes group) former ≡ slice_index_or self.old.partitions place new_partition) }
+            with_former (with_commit (slice_index_or self.old.partitions place new_partition) (string_bytes group) committed)
+            (string_bytes group) former ≡ slice_index_or self.old.partitions place new_partition) }
         ensures refused { OnErr result (self.new ≡ self.old) }
     {
         self.partitions[place].commit(group, committed)
@@ -199,7 +204,8 @@ impl Topic {
 
     pub(crate) fn take_commit_back(&mut self, place: usize, group: &str, former: Option<Committed>)
         requires { place < length self.old.partitions }
-        ensures { self.new ≡ with_part place (with_former (slice_index_or self.old.partitions place new_partition) group.now former) self.old }
+        ensures { self.new ≡ with_part place (with_former (slice_index_or self.old.partitions place new_partition) group.now former)
+            self.old }
     {
         self.partitions[place].take_commit_back(group, former);
     }

@@ -1,5 +1,6 @@
 -- What each call makes of a world, and answers, where memory and the store refuse nothing.
-use Rattle.std.specs.Prelude.{ℕ, ℤ, pos, negsuc, Bool, true, false, List, [], ◌∷◌, length, map, Option, Some, None, Result, Ok, Err, nat_le, int_lt, ◌+◌, ◌^◌, ◌≡◌, ◌++◌, ◌||◌, if◌then◌else◌, option_map}
+use Rattle.std.specs.Prelude.{ℕ, ℤ, pos, negsuc, Bool, true, false, List, [], ◌∷◌, length, map, Option, Some, None, Result, Ok, Err, nat_le}
+use Rattle.std.specs.Prelude.{int_lt, ◌+◌, ◌^◌, ◌≡◌, ◌++◌, ◌||◌, if◌then◌else◌, option_map}
 use Rattle.std.specs.List.{flat_map, range_with_len}
 use Rattle.std.specs.Option.{option_and_then}
 use Rattle.std.specs.Ordering.{int_eq}
@@ -11,7 +12,8 @@ use Rattle.kb_log.specs.Log.{fetched, first_at, retained_start}
 use Rattle.kb_log.specs.declared.time.OffsetAndTimestamp.{OffsetAndTimestamp}
 use Rattle.kb_topics.specs.ByName.{by_name}
 use Rattle.kb_topics.specs.Commands.{start_command}
-use Rattle.kb_topics.specs.Known.{Known, CommittedOffset, PartitionState, TopicState, new_topic, with_topic, without_topic, with_id, with_commit, with_partition, named, topic_at, partition_at, committed_at, step}
+use Rattle.kb_topics.specs.Known.{Known, CommittedOffset, PartitionState, TopicState, new_topic, with_topic, without_topic, with_id}
+use Rattle.kb_topics.specs.Known.{with_commit, with_partition, named, topic_at, partition_at, committed_at, step}
 use Rattle.kb_topics.specs.Refusals.{commit_refusal, create_refusal, issue_refusal}
 use Rattle.kb_topics.specs.declared.config.TopicConfig.{TopicConfig}
 use Rattle.kb_topics.specs.declared.fault.CatalogFault.{CatalogFault}
@@ -117,13 +119,15 @@ abbrev pub with_committed : Known → TopicPartition → List ℕ → CommittedO
 with_committed k place group c None = k
 with_committed k place group c (Some p) = with_partition k (pos place.instance) (pos place.number) (with_commit p group c)
 
-abbrev pub committed_unless : World → TopicPartition → List ℕ → CommittedOffset → Option CatalogFault → World × Result (Unit {0}) CatalogFault
+abbrev pub committed_unless : World → TopicPartition → List ℕ → CommittedOffset → Option CatalogFault → World
+    × Result (Unit {0}) CatalogFault
 committed_unless w place group c (Some f) = (w, Err f)
 committed_unless w place group c None = (record w { known = with_committed w.known place group c (known_at w.known place) }, Ok tt)
 
 -- A group commits an offset to a partition, with metadata beside it.
 abbrev pub commit : World → TopicPartition → List ℕ → ℤ → List ℕ → World × Result (Unit {0}) CatalogFault
-commit w place group offset metadata = committed_unless w place group (record { offset = offset; metadata = metadata }) (commit_refusal metadata (known_at w.known place))
+commit w place group offset metadata =
+    committed_unless w place group (record { offset = offset; metadata = metadata }) (commit_refusal metadata (known_at w.known place))
 
 -- what a group committed to a partition, if it did
 abbrev pub committed : World → TopicPartition → List ℕ → Option CommittedOffset
@@ -180,11 +184,13 @@ due w place = due_in w (topic_at place.instance w.known.topics) (log_in w place)
 
 abbrev pub moved_to : World → TopicPartition → ℕ → Option Known → World × Bool
 moved_to w place start None = (w, false)
-moved_to w place start (Some k) = (record w { known = k; logs = without_below place.instance place.number (pos start) (log_in w place) w.logs }, true)
+moved_to w place start (Some k) =
+    (record w { known = k; logs = without_below place.instance place.number (pos start) (log_in w place) w.logs }, true)
 
 abbrev pub retained_from : World → TopicPartition → Option ℕ → World × Bool
 retained_from w place None = (w, false)
-retained_from w place (Some start) = moved_to w place start (step w.known (start_command (pos place.instance) (pos place.number) (pos start)))
+retained_from w place (Some start) =
+    moved_to w place start (step w.known (start_command (pos place.instance) (pos place.number) (pos start)))
 
 -- The new start of a partition is recorded, and the batches that end at most there go; and whether any goes.
 abbrev pub retain : World → TopicPartition → World × Bool

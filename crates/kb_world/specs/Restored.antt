@@ -25,7 +25,8 @@ restored_world log c ps files = record { known = known c; logs = logs_of log ps.
 -- Each log is sound and the tenant's own, with files of so many bytes, and no file is of two logs. No instance that is still to be
 -- given out has partitions, and no topic has more than 64. Each topic has as many partitions as the catalog says, under its
 -- instance, and there are no others.
-pub record AreFitting {L : Type 0} (log : L → Log) (tenant : List ℕ) (size : ℕ) (c : Catalog L) (ps : Partitions L) (table : Table) (next : ℕ) : Type 0 where
+pub record AreFitting {L : Type 0} (log : L
+    → Log) (tenant : List ℕ) (size : ℕ) (c : Catalog L) (ps : Partitions L) (table : Table) (next : ℕ) : Type 0 where
   pub catalog : (log (meta_log c)).sound table next
   pub logs : AreSound log ps.topics.entries table next
   pub apart : (file : ℕ) → (log (meta_log c)).owns file → Owned log ps.topics.entries file → ⊥

@@ -30,8 +30,10 @@ spares_then o p q d e f k l m x y = record {
   later = omega (arith, x.later, y.later);
   honest = λ h. x.honest (y.honest h);
   owned = λ file own. ⊎_elim (λ mid. x.owned file mid) (λ le. inr (omega (arith, le, x.later))) (y.owned file own);
-  lengths = λ file lt not. y.lengths file (omega (arith, lt, x.later)) (λ own. ⊎_elim (λ old. not old) (λ le. omega (arith, le, lt)) (x.owned file own)) ∙ x.lengths file lt not;
-  contents = λ honest file lt not. y.contents honest file (omega (arith, lt, x.later)) (λ own. ⊎_elim (λ old. not old) (λ le. omega (arith, le, lt)) (x.owned file own)) ∙ x.contents (y.honest honest) file lt not;
+  lengths = λ file lt not. y.lengths file (omega (arith, lt, x.later)) (λ own.
+      ⊎_elim (λ old. not old) (λ le. omega (arith, le, lt)) (x.owned file own)) ∙ x.lengths file lt not;
+  contents = λ honest file lt not. y.contents honest file (omega (arith, lt, x.later)) (λ own.
+      ⊎_elim (λ old. not old) (λ le. omega (arith, le, lt)) (x.owned file own)) ∙ x.contents (y.honest honest) file lt not;
 }
 
 -- nothing was done
@@ -82,7 +84,8 @@ step_then a b c p q = record {
   grows = omega (arith, p.grows, q.grows);
   commands = omega (arith, p.commands, q.commands);
   creates = omega (arith, p.creates, q.creates);
-  settles = λ calm. let calms = calm_then a.state.refusals b.state.refusals c.state.refusals p.grows q.grows calm in settles_then a b c (p.settles calms.0) (q.settles calms.1);
+  settles = λ calm. let calms = calm_then a.state.refusals b.state.refusals c.state.refusals p.grows q.grows calm in
+      settles_then a b c (p.settles calms.0) (q.settles calms.1);
 }
 
 -- what each of two steps meets

@@ -66,12 +66,22 @@ impl<L: PartitionLog> Parts<L> {
         partitions: Partitions<L>,
     ) -> Self
         ensures world { (files : Files) → world_of L.log result files ≡ restored_world L.log catalog partitions files }
-        ensures sound { (table : Table) (next : ℕ) → AreFitting L.log (string_bytes tenant) segment_bytes catalog partitions table next → IsSound L.log result table next }
+        ensures sound { (table : Table) (next : ℕ) → AreFitting L.log (string_bytes tenant) segment_bytes catalog partitions table next
+            → IsSound L.log result table next }
         ensures agrees { (files : Files) → DoAgree L.log catalog partitions files → Agrees L.log result files }
         ensures owns { (file : ℕ) → Owns L.log result file → IsOfEither L.log catalog partitions file }
         ensures owned { (file : ℕ) → IsOfEither L.log catalog partitions file → Owns L.log result file }
         ensures refusals { result.refusals ≡ 0 }
-        ensures parts { result ≡ record { alloc = alloc; tenant = tenant; segment_bytes = segment_bytes; catalog = catalog; partitions = partitions; clock = 0; kept_until = negsuc 0; refusals = 0 } }
+        ensures parts { result ≡ record {
+          alloc = alloc;
+          tenant = tenant;
+          segment_bytes = segment_bytes;
+          catalog = catalog;
+          partitions = partitions;
+          clock = 0;
+          kept_until = negsuc 0;
+          refusals = 0;
+        } }
     {
         Parts {
             alloc,

@@ -23,8 +23,10 @@ IsIntOf found name z = (n : ℕ) × (z ≡ pos n) × IsNumberOf found name n
 abbrev pub IsTaskOf : Found → Task → Type 0
 IsTaskOf found (tasks.Produce None) = first_value found (codes "create") ≡ None
 IsTaskOf found (tasks.Produce (Some create)) = (n : ℕ) × (create ≡ pos n) × IsNumberOf found (codes "create") n × (n < 2 ^ 31)
-IsTaskOf found (tasks.Consume from None follow) = (n : ℕ) × (from ≡ pos n) × IsNumberOf found (codes "from") n × (first_value found (codes "max") ≡ None)
-IsTaskOf found (tasks.Consume from (Some max) follow) = (n : ℕ) × (from ≡ pos n) × IsNumberOf found (codes "from") n × IsNumberOf found (codes "max") max × (max < 2 ^ 63)
+IsTaskOf found (tasks.Consume from None follow) =
+    (n : ℕ) × (from ≡ pos n) × IsNumberOf found (codes "from") n × (first_value found (codes "max") ≡ None)
+IsTaskOf found (tasks.Consume from (Some max) follow) =
+    (n : ℕ) × (from ≡ pos n) × IsNumberOf found (codes "from") n × IsNumberOf found (codes "max") max × (max < 2 ^ 63)
 
 -- each number and text is within its limits
 pub record IsWithin (line : ConsoleLine) : Type 0 where

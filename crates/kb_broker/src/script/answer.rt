@@ -42,7 +42,8 @@ fn out_line(alloc: Global, connection: u64, output: &[u8]) -> Result<Vec<u8>, Al
 pub fn write_all<W: Write>(writer: &mut W, text: &[u8]) -> Result<(), ScriptFault>
     ensures ok { OnOk result (Appends (W.contents writer.old) (W.contents writer.new) text.now) }
     ensures err { IfErr result (λ fault. fault ≡ ScriptFault.Write) }
-    ensures front { OnErr result ((front : List ℕ) × (rest : List ℕ) × (text.now ≡ front ++ rest) × Appends (W.contents writer.old) (W.contents writer.new) front) }
+    ensures front { OnErr result ((front : List ℕ) × (rest : List ℕ) × (text.now ≡ front ++ rest)
+        × Appends (W.contents writer.old) (W.contents writer.new) front) }
 {
     let mut rest = text;
     for _ in 0..u64::MAX {

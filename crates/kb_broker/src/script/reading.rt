@@ -1,6 +1,7 @@
 //! Lines of a bounded length.
 
-ghost use Rattle.std.specs.Prelude.{◌≡◌, ◌≢◌, ◌≤◌, ◌<◌, ◌+◌, ◌-◌, length, take, vec_len, All, Ok, None, true, IfSome, IfErr, OnSome, OnOk, OnErr};
+ghost use Rattle.std.specs.Prelude.{◌≡◌, ◌≢◌, ◌≤◌, ◌<◌, ◌+◌, ◌-◌, length, take, vec_len, All, Ok, None, true, IfSome, IfErr, OnSome, OnOk};
+ghost use Rattle.std.specs.Prelude.{OnErr};
 ghost use Rattle.std.specs.Io.{StartsWith, StopsAt, IsEmptyOrEndsWith, appended_bytes};
 ghost use Rattle.std.specs.Io.KnownBytes.{Consumes, IsAtEnd};
 ghost use Rattle.std.specs.Io.BufRead.{take_through, DropsThrough};
@@ -27,7 +28,8 @@ pub fn next_line<R: BufRead>(
     ensures text { OnOk result (IfSome (R.remaining reader.old) (λ xs. line.new.items ≡ take_through 10 xs)) }
     ensures rest { OnOk result (DropsThrough (R.remaining reader.old) (R.remaining reader.new) 10) }
     ensures sized { OnOk result (fault_within number room line.new.items ≡ None) }
-    ensures fault { IfErr result (λ fault. IfSome (R.remaining reader.old) (λ xs. IsLengthFault (fault_within number room (take_through 10 xs)) fault)) }
+    ensures fault { IfErr result (λ fault. IfSome (R.remaining reader.old) (λ xs.
+        IsLengthFault (fault_within number room (take_through 10 xs)) fault)) }
     ensures stopped { OnErr result (IsCut (R.remaining reader.old) (R.remaining reader.new)) }
 {
     line.clear();
@@ -54,7 +56,8 @@ fn append_some<R: BufRead>(
     ensures appends { StartsWith line.new.items line.old.items }
     ensures stops { StopsAt (appended_bytes line.old.items line.new.items) 10 }
     ensures bytes { Consumes (R.remaining reader.old) (R.remaining reader.new) (appended_bytes line.old.items line.new.items) }
-    ensures end { result ≡ Ok true → length (appended_bytes line.old.items line.new.items) ≡ 0 → OnSome (R.remaining reader.old) (IsAtEnd (R.remaining reader.new)) }
+    ensures end { result ≡ Ok true → length (appended_bytes line.old.items line.new.items) ≡ 0
+        → OnSome (R.remaining reader.old) (IsAtEnd (R.remaining reader.new)) }
     ensures no_byte_unless_done { result ≢ Ok true → All (λ x. x ≢ 10) (appended_bytes line.old.items line.new.items) }
     ensures done_at_byte_or_end { result ≡ Ok true → IsEmptyOrEndsWith (appended_bytes line.old.items line.new.items) 10 }
     ensures fault { IfErr result (λ fault. IfSome (R.remaining reader.old) (λ xs. IsNoRoom room xs fault)) }

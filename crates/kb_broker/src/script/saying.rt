@@ -39,8 +39,10 @@ pub fn say<S: Store, L: PartitionLog + Drop, W: Write>(
     requires places { length were_shut.now ≡ length broker.old.state.lines }
     ensures store { broker.new.store ≡ broker.old.store }
     ensures state { OnOk result (broker.new.state ≡ hushed broker.old.state) }
-    ensures text { OnOk result (Appends (W.contents writer.old) (W.contents writer.new) (step_text (said_since were_shut.now broker.old.state.lines))) }
-    ensures err { IfErr result (λ fault. IsUnwritten fault (step_text (said_since were_shut.now broker.old.state.lines)) (W.contents writer.old) (W.contents writer.new)) }
+    ensures text { OnOk result (Appends (W.contents writer.old) (W.contents writer.new)
+        (step_text (said_since were_shut.now broker.old.state.lines))) }
+    ensures err { IfErr result (λ fault. IsUnwritten fault (step_text (said_since were_shut.now broker.old.state.lines))
+        (W.contents writer.old) (W.contents writer.new)) }
 {
     let Ok(text) = take_text(alloc, broker, were_shut) else {
         return Err(ScriptFault::Memory);

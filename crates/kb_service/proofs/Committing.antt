@@ -1,5 +1,5 @@
 -- What a commit comes to.
-use Rattle.std.proofs.Common.{◌≡◌, ◌∙◌, ◌++◌, ℕ, ℤ, List, [], refl, sym, ap, subst}
+use Rattle.std.proofs.Common.{◌≡◌, ◌∙◌, ℕ, ℤ, List, [], refl, sym, ap, subst}
 use Rattle.std.specs.Prelude.{Option}
 use Rattle.kb_api_group.specs.Layouts.{offset_commit_reply}
 use Rattle.kb_api_group.specs.declared.offset_commit.OffsetCommitRequest.{OffsetCommitRequest}
@@ -7,11 +7,6 @@ use Rattle.kb_coordinator.specs.Calls.{after_may_commit}
 use Rattle.kb_coordinator.specs.Groups.{Groups, silent}
 use Rattle.kb_world.specs.World.{World}
 use Rattle.kb_tenant.specs.OffsetCommit.{committed_all}
-use Rattle.kb_tenant.specs.Replies as tenant_replies
-use Rattle.kb_tenant.specs.Replies.{begun}
-use Rattle.kb_tenant.specs.Told.{IsReplied}
-use Rattle.kb_tenant.specs.declared.answer.Answer as tenant
-use Rattle.kb_tenant.specs.declared.answer.Answer.TheVariants as plain
 use Rattle.kb_service.specs.Replies.{IsAnswer, replies}
 use Rattle.kb_service.specs.Serve.{commit_refusal, of_offset_commit, IsOutcome}
 use Rattle.kb_service.specs.declared.answer.Answer.{Answer}
@@ -27,14 +22,3 @@ commits id w after clock gs quiet new r refusal answer at is refused new_is afte
       refl,
       subst (λ x. IsAnswer id (replies (offset_commit_reply.written (committed_all w x r).1)) answer) told h,
     )
-
--- what a body tells that stands behind what was begun
-pub replied_by : (id : ℤ) (Told : List ℕ → Type 0) (s t body : List ℕ) (answer : tenant.Answer) → s ≡ begun id → t ≡ s ++ body → Told body
-    → ((id : ℤ) (body : List ℕ) → t ≡ begun id ++ body → tenant_replies.IsAnswer id (tenant_replies.Replies body) answer) → IsReplied id Told answer
-replied_by id Told s t body answer from more told made = by answer (made id body (more ∙ ap (λ b. b ++ body) from))
-  where
-    by : (x : tenant.Answer) → tenant_replies.IsAnswer id (tenant_replies.Replies body) x → IsReplied id Told x
-    by (plain.Reply bytes) h = (body, (h.1, told))
-    by (plain.Wait deadline keys) h = absurd h
-    by plain.NoReply h = absurd h
-    by plain.Shut h = tt

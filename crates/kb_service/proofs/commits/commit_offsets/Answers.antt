@@ -9,7 +9,8 @@ use Rattle.kb_world.specs.Parts.{scene, world_of}
 use Rattle.kb_service.specs.Acknowledged.{TellsCommits}
 use Rattle.kb_service.specs.Serve.{commit_refusal, of_offset_commit}
 use Rattle.kb_service.specs.declared.answer.Answer.TheVariants as answers
-use Rattle.kb_service.proofs.Committing.{commits, replied_by}
+use Rattle.kb_tenant.proofs.Acknowledging.{replied_by}
+use Rattle.kb_service.proofs.Committing.{commits}
 use Rattle.kb_service.proofs.Joining.{was_read}
 use Rattle.kb_service.proofs.commits.commit_offsets.Goals as goal
 

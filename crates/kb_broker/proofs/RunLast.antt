@@ -5,7 +5,7 @@ use Rattle.kb_machine.specs.Owners.{purge}
 use Rattle.kb_machine.specs.Broker.{BrokerState, IsCalmFor, Mine, view_of}
 use Rattle.kb_machine.specs.Calls.{without_output}
 use Rattle.kb_machine.specs.Told.{quieted}
-use Rattle.kb_machine.specs.Isolation.{last_world}
+use Rattle.kb_machine.specs.Left.{last_world}
 use Rattle.kb_machine.proofs.Isolation.{last-step}
 use Rattle.kb_machine.proofs.Laws.{those-each}
 use Rattle.kb_machine.proofs.Runs.{run-step, those_sent-append, those_sent-map}

@@ -14,7 +14,7 @@ use Rattle.kb_machine.specs.Tenant.{kept_after}
 use Rattle.kb_machine.specs.Session.{Stage, Greets, BoundTo, Session, fed, overruns, has_member}
 use Rattle.kb_machine.specs.Greeting.{Setup}
 use Rattle.kb_machine.specs.Machine.{Happening, Opens, Comes, Closes, Moment, Line, View, put, kept_by, kept_at, each, on, find_line, first_able, all_woken, turn_at, turn_of, turn, again, work, turns, kept_without, kept_closed, kept_fed, step}
-use Rattle.kb_machine.specs.Isolation.{last_world}
+use Rattle.kb_machine.specs.Left.{last_world}
 use Rattle.kb_machine.specs.Fetches.{ServesBatches, WakesWithBatches, AllWakeWithBatches, after_request, TurnGivesBatches, NextGivesBatches, TurnsGiveBatches, EventGivesBatches, FetchesGetBatches}
 use Rattle.kb_machine.proofs.Fetches.{served-batches, woken-batches}
 

@@ -4,7 +4,8 @@ use Rattle.kb_machine.specs.Machine.{Happening, View, Sent, run, stepped, those,
 use Rattle.kb_machine.specs.Owners.{concerns, purge}
 use Rattle.kb_machine.specs.Broker.{BrokerState, IsCalmFor, Mine, view_of, kept_of, owned_by, alone}
 use Rattle.kb_machine.specs.Told.{quieted}
-use Rattle.kb_machine.specs.Isolation.{IsIsolated, StartsAlike, AreAlike, own_events, own_lines, own_sent, last_world, LeavesWorlds}
+use Rattle.kb_machine.specs.Isolation.{IsIsolated, StartsAlike, AreAlike, own_events, own_lines, own_sent}
+use Rattle.kb_machine.specs.Left.{last_world, LeavesWorlds}
 
 view-alike : (t : ℕ) (es fs : List Happening) (a b : BrokerState) → StartsAlike t es fs a b → view_of t (owned_by t fs b) b ≡ view_of t (owned_by t es a) a
 view-alike t es fs a b s =

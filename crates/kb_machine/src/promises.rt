@@ -22,7 +22,8 @@ ghost use Rattle.kb_machine.specs.Owners.{whose, concerns, purge};
 ghost use Rattle.kb_machine.specs.Broker.{BrokerState, IsCalmFor, IsReady, IsRun, IsUnowned, Mine, Rising, alone_unowned, owned_by};
 ghost use Rattle.kb_machine.specs.Broker.{view_of};
 ghost use Rattle.kb_machine.specs.Greetings.{greeted_alone};
-ghost use Rattle.kb_machine.specs.Isolation.{IsIsolated, StartsAlike, AreAlike, own_events, own_sent, last_world, LeavesWorlds};
+ghost use Rattle.kb_machine.specs.Isolation.{IsIsolated, StartsAlike, AreAlike, own_events, own_sent};
+ghost use Rattle.kb_machine.specs.Left.{last_world, LeavesWorlds};
 ghost use Rattle.kb_machine.specs.Alone.{HasToItself};
 ghost use Rattle.kb_machine.specs.Told.{quieted};
 

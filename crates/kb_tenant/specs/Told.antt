@@ -1,6 +1,6 @@
 -- What each entry of a request is answered, whatever memory and the store refuse: what is defined, or else a code that names
 -- what refused it.
-use Rattle.std.specs.Prelude.{◌≡◌, ◌≤◌, ◌+◌, ◌^◌, ◌⊎◌, ℕ, ℤ, pos, false, List, [], Option, Ok, Err, ⊤}
+use Rattle.std.specs.Prelude.{◌≡◌, ◌≤◌, ◌+◌, ◌^◌, ◌⊎◌, ℕ, ℤ, pos, Bool, true, false, List, [], Option, Ok, Err, ⊤}
 use Rattle.kb_wire.specs.Codec.{whole}
 use Rattle.kb_api_data.specs.Layouts.{delete_topics_request, init_producer_id_reply, init_producer_id_request, produce_reply, produce_request}
 use Rattle.kb_api_data.specs.Layouts.{delete_records_reply, delete_records_request}
@@ -15,6 +15,12 @@ use Rattle.kb_api_data.specs.declared.delete_records.DeleteRecordsTopic.{DeleteR
 use Rattle.kb_api_data.specs.declared.delete_records.DeleteRecordsTopicReply.{DeleteRecordsTopicReply}
 use Rattle.kb_api_data.specs.declared.delete_topics.DeleteTopicsRequest.{DeleteTopicsRequest}
 use Rattle.kb_api_data.specs.declared.delete_topics.DeleteTopicReply.{DeleteTopicReply}
+use Rattle.kb_api_data.specs.declared.fetch.FetchPartition.{FetchPartition}
+use Rattle.kb_api_data.specs.declared.fetch.FetchRequest.{FetchRequest}
+use Rattle.kb_api_data.specs.declared.fetch.FetchTopic.{FetchTopic}
+use Rattle.kb_api_data.specs.declared.fetch_v5.FetchPartitionReplyV5.{FetchPartitionReplyV5}
+use Rattle.kb_api_data.specs.declared.fetch_v5.FetchReplyV5.{FetchReplyV5}
+use Rattle.kb_api_data.specs.declared.fetch_v5.FetchTopicReplyV5.{FetchTopicReplyV5}
 use Rattle.kb_api_data.specs.declared.init_producer_id.InitProducerIdReply.{InitProducerIdReply}
 use Rattle.kb_api_data.specs.declared.init_producer_id.InitProducerIdRequest.{InitProducerIdRequest}
 use Rattle.kb_api_data.specs.declared.produce.ProducePartition.{ProducePartition}
@@ -46,6 +52,7 @@ use Rattle.kb_world.specs.declared.place.Place.{Place}
 use Rattle.kb_tenant.specs.CreateTopics.{asked_creations, created_topic, creations_in}
 use Rattle.kb_tenant.specs.DeleteRecords.{deletion_answered, deleted}
 use Rattle.kb_tenant.specs.DeleteTopics.{deleted_topic, deletions_in}
+use Rattle.kb_tenant.specs.Fetch.{asked_fetch, begun, fetch_answered, fetched_in, has_enough, refused}
 use Rattle.kb_tenant.specs.InitProducerId.{id_refused, init_producer_id}
 use Rattle.kb_tenant.specs.OffsetCommit.{committed_entry, refusal_of as commit_refusal}
 use Rattle.kb_tenant.specs.Produce.{Progress, answer, progress, refusal_of, entry_served}
@@ -54,6 +61,7 @@ use Rattle.kb_tenant.specs.Room.{reply_length}
 use Rattle.kb_tenant.specs.Turns.{AreServed}
 use Rattle.kb_tenant.specs.declared.answer.Answer.{Answer}
 use Rattle.kb_tenant.specs.declared.answer.Answer.TheVariants as answers
+use Rattle.kb_tenant.specs.declared.fetch.given.Given.{Given}
 
 -- KAFKA_STORAGE_ERROR is answered where the store failed, and UNKNOWN_SERVER_ERROR where memory ran out.
 abbrev pub IsCodeWant : Scene Seen → Scene Seen → ℤ → Type 0
@@ -248,3 +256,52 @@ TellsDeletions failed w q v touched body =
 abbrev pub AcknowledgesDeletions : Type 0 → ℤ → World → List ℕ → World → List Place → Answer → Type 0
 AcknowledgesDeletions failed id w body v touched a =
     (q : DeleteRecordsRequest) → whole delete_records_request body ≡ Ok q → IsReplied id (TellsDeletions failed w q v touched) a
+
+-- ---- Fetch
+
+-- An entry is refused since the store failed, which it did, or for want of memory; and the limits go on as behind any that is refused.
+abbrev pub IsUnread : Type 0 → Given → FetchPartition → Given → FetchPartitionReplyV5 → Type 0
+IsUnread failed g e h x = (((h, x) ≡ refused g e.partition partition.Store) × failed) ⊎ ((h, x) ≡ refused g e.partition partition.Memory)
+
+-- An entry comes to what is defined, or is refused for such a want.
+abbrev pub IsReadOr : Type 0 → Given × FetchPartitionReplyV5 → Given → FetchPartition → Given → FetchPartitionReplyV5 → Type 0
+IsReadOr failed defined g e h x = ((h, x) ≡ defined) ⊎ IsUnread failed g e h x
+
+-- An entry of the topic of an instance is answered what is defined, on what those before it left of the limits; or it is refused for
+-- such a want.
+abbrev pub IsFetchTold : Type 0 → World → Option ℕ → Given → FetchPartition → Given → FetchPartitionReplyV5 → Type 0
+IsFetchTold failed w topic g e h x = IsReadOr failed (fetch_answered w topic g e) g e h x
+
+-- The same of a topic's entries, one after another.
+abbrev pub IsFetchTopicTold : Type 0 → World → Given → FetchTopic → Given → FetchTopicReplyV5 → Type 0
+IsFetchTopicTold failed w g t h x =
+    (x.topic ≡ t.topic) × AreServed (IsFetchTold failed w (named t.topic w.known.topics)) g t.partitions h x.partitions
+
+-- The same of a request's topics, which leave that of its limits.
+abbrev pub AreFetchesTold : Type 0 → World → FetchRequest → Given → FetchReplyV5 → Type 0
+AreFetchesTold failed w q left x = (x.throttle_time_ms ≡ pos 0) × AreServed (IsFetchTopicTold failed w) (begun q) q.topics left x.topics
+
+-- A fetch comes to such a reply, and is ready or not: what is left of its limits tells that. A refused entry makes it ready.
+abbrev pub IsFetchReady : Type 0 → World → ℕ → FetchRequest → Bool → FetchReplyV5 → Type 0
+IsFetchReady failed w deadline q ready x = (left : Given) × (AreFetchesTold failed w q left x × (has_enough left w.clock deadline ≡ ready))
+
+-- It is the reply of a Fetch that is ready, in a version of the API.
+abbrev pub TellsFetch : Type 0 → ℤ → World → ℕ → FetchRequest → List ℕ → Type 0
+TellsFetch failed version w deadline q body =
+    (reply : FetchReplyV5) × ((body ≡ fetched_in version reply) × IsFetchReady failed w deadline q true reply)
+
+-- A Fetch is not ready, by what it would be answered.
+abbrev pub IsUnready : Type 0 → World → ℕ → FetchRequest → Type 0
+IsUnready failed w deadline q = (reply : FetchReplyV5) × IsFetchReady failed w deadline q false reply
+
+-- The answer to what waited is a reply whose body tells that; or none, where it still waits; or the connection is shut.
+abbrev pub IsRepliedOrWaits : ℤ → (List ℕ → Type 0) → Type 0 → Answer → Type 0
+IsRepliedOrWaits id Told Unready (answers.Reply bytes) = (body : List ℕ) × ((bytes.items ≡ framed id body) × Told body)
+IsRepliedOrWaits id Told Unready (answers.Wait deadline keys) = ⊥
+IsRepliedOrWaits id Told Unready answers.NoReply = Unready
+IsRepliedOrWaits id Told Unready answers.Shut = ⊤
+
+-- The same of a look at a body that waits until a deadline at most, where it is a request of Fetch in that version.
+abbrev pub AnswersLook : Type 0 → ℤ → ℤ → World → ℕ → List ℕ → Answer → Type 0
+AnswersLook failed id version w deadline body a = (q : FetchRequest) → asked_fetch version body ≡ Ok q
+    → IsRepliedOrWaits id (TellsFetch failed version w deadline q) (IsUnready failed w deadline q) a

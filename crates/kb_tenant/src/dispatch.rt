@@ -11,7 +11,7 @@ ghost use Rattle.kb_tenant.specs.Fetch.{asked_fetch};
 ghost use Rattle.kb_tenant.specs.Metadata.{asked_metadata};
 ghost use Rattle.kb_tenant.specs.Replies.{IsAnswer};
 ghost use Rattle.kb_tenant.specs.Told.{CatalogFailed, CreationFailed, HasFailed, Acknowledges, AcknowledgesCommits, AcknowledgesCreations, AcknowledgesIssue, AcknowledgesRemovals, IsSpared};
-ghost use Rattle.kb_tenant.specs.Told.{AcknowledgesDeletions};
+ghost use Rattle.kb_tenant.specs.Told.{AcknowledgesDeletions, AnswersLook};
 ghost use Rattle.kb_tenant.specs.Serve.{if_read, of_produce, of_fetch, of_list_offsets, of_metadata, of_create_topics, of_delete_records, of_delete_topics, of_init_producer_id, plainly_served, looked, stays, IsOutcome, IsServed};
 
 use crate::answer::{Answer, begin, finish};
@@ -353,6 +353,9 @@ fn look_at<L: PartitionLog + Drop, S: Store>(
         b.disk.honest → a.agrees → b.state.world ≡ a.state.world }
     ensures meets { let a = scene L.log S.disk parts.old shelf.old in let b = scene L.log S.disk parts.new shelf.new in
         Meets a b (IsServed wait.now.correlation_id (stays a.state.world (looked a.state.world wait.now.deadline wait.now.api_version wait.now.body.now)) b.state.world [] result) }
+    ensures told { let a = scene L.log S.disk parts.old shelf.old in let b = scene L.log S.disk parts.new shelf.new in
+        IfOk result (λ answer. WhereHonest a b (AnswersLook (HasFailed a b) wait.now.correlation_id wait.now.api_version
+        a.state.world wait.now.deadline wait.now.body.now answer)) }
 {
     let has_starts = fetch::has_starts(wait.api_version);
     let asked = read_request(alloc, has_starts, wait.body)?;
@@ -373,8 +376,9 @@ fn look_at<L: PartitionLog + Drop, S: Store>(
 
 /// Looks at a fetch that waits until its deadline at most.
 ///
-/// It is answered where it waits no longer; `NoReply` says that it still waits. The world stays, whatever is refused. Want
-/// of memory shuts the connection and is counted.
+/// It is answered where it waits no longer; `NoReply` says that it still waits. The world stays, whatever is refused. A partition that
+/// memory or the store refused is answered with the code that names it, and then the fetch waits no longer. Want of memory for the
+/// reply shuts the connection and is counted.
 pub fn look<L: PartitionLog + Drop, S: Store>(
     alloc: Global,
     parts: &mut Parts<L>,
@@ -387,6 +391,10 @@ pub fn look<L: PartitionLog + Drop, S: Store>(
         b.disk.honest → a.agrees → b.state.world ≡ a.state.world }
     ensures meets { let a = scene L.log S.disk parts.old shelf.old in let b = scene L.log S.disk parts.new shelf.new in
         Meets a b ((b.state.world ≡ a.state.world) × IsAnswer wait.now.correlation_id (looked a.state.world wait.now.deadline wait.now.api_version wait.now.body.now) result) }
+    // Whatever was refused, a reply has of each partition what is defined, or the code of what refused it.
+    ensures told { let a = scene L.log S.disk parts.old shelf.old in let b = scene L.log S.disk parts.new shelf.new in
+        WhereHonest a b (AnswersLook (HasFailed a b) wait.now.correlation_id wait.now.api_version
+        a.state.world wait.now.deadline wait.now.body.now result) }
 {
     match look_at(alloc, parts, shelf, wait) {
         Ok(answer) => answer,

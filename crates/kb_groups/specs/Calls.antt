@@ -1,8 +1,10 @@
 -- What each call of a consumer group answers and leaves.
-use Rattle.std.specs.Prelude.{ℕ, Bool, true, false, not, ◌&&◌, ◌||◌, List, [], ◌∷◌, map, length, ℤ, pos, negsuc, int_lt, nat_eq, nat_le, bytes_eq, if◌then◌else◌, is_some, is_none, Option, Some, None, unwrap_or}
+use Rattle.std.specs.Prelude.{ℕ, Bool, true, false, not, ◌&&◌, ◌||◌, List, [], ◌∷◌, map, length, ℤ, pos, negsuc, int_lt, nat_eq, nat_le}
+use Rattle.std.specs.Prelude.{bytes_eq, if◌then◌else◌, is_some, is_none, Option, Some, None, unwrap_or}
 use Rattle.std.specs.Ordering.{int_eq}
 use Rattle.kb_groups.specs.declared.code.Code.{Code}
-use Rattle.kb_groups.specs.declared.code.Code.TheVariants.{Fine, IllegalGeneration, InconsistentGroupProtocol, UnknownMemberId, InvalidSessionTimeout, RebalanceInProgress, GroupMaxSizeReached}
+use Rattle.kb_groups.specs.declared.code.Code.TheVariants.{Fine, IllegalGeneration, InconsistentGroupProtocol, UnknownMemberId}
+use Rattle.kb_groups.specs.declared.code.Code.TheVariants.{InvalidSessionTimeout, RebalanceInProgress, GroupMaxSizeReached}
 use Rattle.kb_groups.specs.declared.state.Phase.{Phase}
 use Rattle.kb_groups.specs.declared.state.Phase.TheVariants.{Empty, Joining, Syncing, Stable}
 use Rattle.kb_groups.specs.declared.state.State.{State}
@@ -161,7 +163,8 @@ after_heartbeat clock n generation g = touched (starts (heartbeat n generation g
 
 -- A commit of no generation is taken while the group has no members.
 abbrev pub may_commit : ℕ → ℤ → State → Code
-may_commit n generation g = if int_lt generation (pos 0) && has_none g.members then Fine else known generation g.generation (member g.members n) (commit_code g.phase)
+may_commit n generation g = if int_lt generation (pos 0) && has_none g.members then Fine
+    else known generation g.generation (member g.members n) (commit_code g.phase)
 
 abbrev pub after_may_commit : ℕ → ℕ → ℤ → State → State
 after_may_commit clock n generation g = touched (is_fine (may_commit n generation g)) clock n g
@@ -225,7 +228,8 @@ assignment_of (Some m) = m.assignment
 abbrev pub synced : Phase → ℕ → ℕ → ℕ → List SyncAssignment → State → SyncAnswer × Step
 synced Empty clock connection n as_ g = (Refused UnknownMemberId, unmoved g)
 synced (Joining _) clock connection n as_ g = (Refused RebalanceInProgress, unmoved g)
-synced Syncing clock connection n as_ g = (if is_that g.leader n then Got (assigned as_ n) else Waits, sync_step clock connection as_ n (is_that g.leader n) g)
+synced Syncing clock connection n as_ g =
+    (if is_that g.leader n then Got (assigned as_ n) else Waits, sync_step clock connection as_ n (is_that g.leader n) g)
 synced Stable clock connection n as_ g = (Got (assignment_of (member g.members n)), unmoved (touched true clock n g))
 
 abbrev pub sync_known : Code → ℕ → ℕ → ℕ → List SyncAssignment → State → SyncAnswer × Step

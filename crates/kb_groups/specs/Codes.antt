@@ -1,7 +1,8 @@
 -- Kafka's numbers of the codes (Kafka protocol guide, "Error Codes").
 use Rattle.std.specs.Prelude.{ℤ, pos}
 use Rattle.kb_groups.specs.declared.code.Code.{Code}
-use Rattle.kb_groups.specs.declared.code.Code.TheVariants.{Fine, IllegalGeneration, InconsistentGroupProtocol, UnknownMemberId, InvalidSessionTimeout, RebalanceInProgress, GroupMaxSizeReached}
+use Rattle.kb_groups.specs.declared.code.Code.TheVariants.{Fine, IllegalGeneration, InconsistentGroupProtocol, UnknownMemberId}
+use Rattle.kb_groups.specs.declared.code.Code.TheVariants.{InvalidSessionTimeout, RebalanceInProgress, GroupMaxSizeReached}
 
 abbrev pub number : Code → ℤ
 number Fine = pos 0

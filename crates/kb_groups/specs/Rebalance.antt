@@ -1,5 +1,6 @@
 -- How a group goes from one generation to the next.
-use Rattle.std.specs.Prelude.{◌+◌, ℕ, Bool, true, false, ◌&&◌, max, List, [], ◌∷◌, ℤ, pos, ◌+ℤ◌, nat_eq, if◌then◌else◌, is_some, Option, Some, None}
+use Rattle.std.specs.Prelude.{◌+◌, ℕ, Bool, true, false, ◌&&◌, max, List, [], ◌∷◌, ℤ, pos, ◌+ℤ◌, nat_eq, if◌then◌else◌, is_some, Option}
+use Rattle.std.specs.Prelude.{Some, None}
 use Rattle.std.specs.Ordering.{int_eq}
 use Rattle.kb_groups.specs.declared.state.Phase.{Phase}
 use Rattle.kb_groups.specs.declared.state.Phase.TheVariants.{Empty, Joining, Syncing, Stable}
@@ -54,7 +55,9 @@ next_leader (Some n) (e ∷ ms) = Some (if is_some (member (e ∷ ms) n) then n 
 
 -- The reply to the join of member n. Only the leader's lists the members.
 abbrev pub join_reply : ℤ → List ℕ → ℕ → Roster → ℕ → Reply
-join_reply generation protocol leader ms n = Joined (record { generation = generation; protocol = protocol; leader = leader; member = n; members = if nat_eq n leader then listing ms protocol else [] })
+join_reply generation protocol leader ms n =
+    Joined (record { generation = generation; protocol = protocol; leader = leader; member = n; members = if nat_eq n leader
+    then listing ms protocol else [] })
 
 abbrev pub joined_reply : ℤ → List ℕ → ℕ → Roster → ℕ → Member → Asked → Option Reply
 joined_reply generation protocol leader ms n m asked = Some (join_reply generation protocol leader ms n)
@@ -68,7 +71,8 @@ completed clock leader s = record {
     leader = Some leader;
     members = each (λ n m. freed clock m) s.group.members;
   };
-  released = answers (joined_reply (next_generation s.group.generation) (chosen leader s.group.members) leader s.group.members) s.group.members s.released;
+  released = answers (joined_reply (next_generation s.group.generation) (chosen leader s.group.members) leader s.group.members)
+      s.group.members s.released;
 }
 
 -- Joining ends. Without members the group is Empty and keeps its generation.

@@ -97,7 +97,8 @@ impl Members {
     /// Each member gets its assignment.
     pub(crate) fn give(&mut self, clock: u64, leader: u64, mut gifts: Vec<SharedBytes>)
         requires { vec_len gifts ≡ length self.old }
-        ensures { (as_ : List SyncAssignment) → gifts.items ≡ map (λ e. assigned as_ e.0) self.old → self.new ≡ each (given clock as_ leader) self.old }
+        ensures { (as_ : List SyncAssignment) → gifts.items ≡ map (λ e. assigned as_ e.0) self.old
+            → self.new ≡ each (given clock as_ leader) self.old }
     {
         for i in 0..self.map.len() {
             let (number, member) = self.map.pair_mut(i);

@@ -3,7 +3,8 @@
 ghost use Rattle.std.specs.Prelude.{◌≡◌, if◌then◌else◌, IfOk, OnOk, OnErr};
 ghost use Rattle.kb_groups.specs.Members.{member};
 ghost use Rattle.kb_groups.specs.declared.reply.SyncAnswer.TheVariants.{Got, Waits};
-ghost use Rattle.kb_groups.specs.Calls.{sync, sync_step, assigned, is_that, waiting_sync, fixed, heartbeat, after_heartbeat, may_commit, after_may_commit, dropped, known};
+ghost use Rattle.kb_groups.specs.Calls.{sync, sync_step, assigned, is_that, waiting_sync, fixed, heartbeat, after_heartbeat, may_commit};
+ghost use Rattle.kb_groups.specs.Calls.{after_may_commit, dropped, known};
 
 use crate::assignments::{Assigned, copy_assigned};
 use crate::borrowed::SyncAssignment;
@@ -122,9 +123,12 @@ impl State {
         assignments: &[SyncAssignment<'_>],
         clock: u64,
     ) -> Result<(SyncAnswer, Vec<Release>), AllocError>
-        ensures answer { IfOk result (λ r. r.0 ≡ (if is_that self.old.leader number then Got (assigned assignments.now number) else Waits)) }
-        ensures released { IfOk result (λ r. r.1.items ≡ (sync_step clock connection assignments.now number (is_that self.old.leader number) self.old).released) }
-        ensures group { OnOk result (self.new ≡ (sync_step clock connection assignments.now number (is_that self.old.leader number) self.old).group) }
+        ensures answer { IfOk result (λ r. r.0 ≡ (if is_that self.old.leader number then Got (assigned assignments.now number)
+            else Waits)) }
+        ensures released { IfOk result (λ r. r.1.items
+            ≡ (sync_step clock connection assignments.now number (is_that self.old.leader number) self.old).released) }
+        ensures group { OnOk result (self.new ≡ (sync_step clock connection assignments.now number
+            (is_that self.old.leader number) self.old).group) }
         ensures refused { OnErr result (self.new ≡ self.old) }
     {
         if is_that(self.leader, number) {

@@ -1,7 +1,8 @@
 //! One consumer group.
 
 ghost use Rattle.std.specs.Prelude.{◌≡◌, ◌≤◌, IfOk, OnErr, OnOk};
-ghost use Rattle.kb_groups.specs.Calls.{after_heartbeat, after_may_commit, dropped, fresh, heartbeat, join, join_code, leave, leave_code, may_commit, sync};
+ghost use Rattle.kb_groups.specs.Calls.{after_heartbeat, after_may_commit, dropped, fresh, heartbeat, join, join_code, leave, leave_code};
+ghost use Rattle.kb_groups.specs.Calls.{may_commit, sync};
 ghost use Rattle.kb_groups.specs.Moments.{next_due, tick};
 
 use crate::borrowed::{Join, SyncAssignment};

@@ -112,7 +112,8 @@ impl State {
         alloc: Global,
         out: &mut Vec<Release>,
     ) -> Result<(), AllocError>
-        ensures { OnOk result ((clock : ℕ) → out.new.items ≡ (ended clock (record { group = self.now; released = out.old.items })).released) }
+        ensures { OnOk result ((clock : ℕ) → out.new.items
+            ≡ (ended clock (record { group = self.now; released = out.old.items })).released) }
     {
         let Some(leader) = self.members.next_leader(self.leader) else {
             return Ok(());
@@ -128,7 +129,8 @@ impl State {
 
     /// What is answered once the members stand that a join leaves, each put in its place.
     fn answer_entry(&self, alloc: Global, out: &mut Vec<Release>) -> Result<(), AllocError>
-        ensures { OnOk result ((clock : ℕ) → out.new.items ≡ (looked_at clock (opened_unless clock self.now.phase (record { group = self.now; released = out.old.items }))).released) }
+        ensures { OnOk result ((clock : ℕ) → out.new.items
+            ≡ (looked_at clock (opened_unless clock self.now.phase (record { group = self.now; released = out.old.items }))).released) }
     {
         if !self.is_joining() {
             self.members.answer(alloc, &SyncsRefused {}, out)?;

@@ -18,7 +18,8 @@ impl State {
         clock: u64,
         out: &mut Vec<Release>,
     ) -> Result<(), AllocError>
-        ensures { OnOk result (record { group = self.new; released = out.new.items } ≡ ended clock (record { group = self.old; released = out.old.items })) }
+        ensures { OnOk result (record { group = self.new; released = out.new.items }
+            ≡ ended clock (record { group = self.old; released = out.old.items })) }
     {
         self.answer_joins(alloc, out)?;
         self.end_joining(clock);
@@ -33,7 +34,8 @@ impl State {
         out: &mut Vec<Release>,
     ) -> Result<(), AllocError>
         requires { clock ≤ 4611686018427387904 }
-        ensures { OnOk result (record { group = self.new; released = out.new.items } ≡ opened clock (record { group = self.old; released = out.old.items })) }
+        ensures { OnOk result (record { group = self.new; released = out.new.items }
+            ≡ opened clock (record { group = self.old; released = out.old.items })) }
     {
         self.members.answer(alloc, &SyncsRefused {}, out)?;
         self.open_joining(clock);
@@ -49,7 +51,8 @@ impl State {
         out: &mut Vec<Release>,
     ) -> Result<(), AllocError>
         requires { clock ≤ 4611686018427387904 }
-        ensures { OnOk result (record { group = self.new; released = out.new.items } ≡ gone clock number (record { group = self.old; released = out.old.items })) }
+        ensures { OnOk result (record { group = self.new; released = out.new.items }
+            ≡ gone clock number (record { group = self.old; released = out.old.items })) }
     {
         self.members
             .turn_away(alloc, Code::UnknownMemberId, number, out)?;

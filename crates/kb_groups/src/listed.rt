@@ -40,7 +40,8 @@ fn note_place(
     name: &[u8],
     place: usize,
 ) -> Result<(), AllocError>
-    ensures { OnOk result ((q : List ℕ) → place_of places.new q ≡ (if bytes_eq name.now q then noted (place_of places.old q) place else place_of places.old q)) }
+    ensures { OnOk result ((q : List ℕ) → place_of places.new q
+        ≡ (if bytes_eq name.now q then noted (place_of places.old q) place else place_of places.old q)) }
 {
     if !places.contains_key(name) {
         places.insert(Vec::from_slice(alloc, name)?, place)?;

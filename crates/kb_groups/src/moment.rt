@@ -3,7 +3,8 @@
 ghost use Rattle.std.specs.Prelude.{◌≡◌, ◌≤◌, ◌<◌, ◌+◌, map, IfOk, OnErr, OnOk};
 ghost use Rattle.kb_groups.specs.Members.{keeping, member};
 ghost use Rattle.kb_groups.specs.Answers.{waits_join};
-ghost use Rattle.kb_groups.specs.Moments.{at_deadline, closed, earliest, expired, expired_one, expires, has_expired, is_due, next_due, session_due, session_end, tick};
+ghost use Rattle.kb_groups.specs.Moments.{at_deadline, closed, earliest, expired, expired_one, expires, has_expired, is_due, next_due};
+ghost use Rattle.kb_groups.specs.Moments.{session_due, session_end, tick};
 ghost use Rattle.kb_groups.specs.Rebalance.{Step};
 ghost use Rattle.kb_groups.specs.Calls.{unmoved};
 
@@ -118,7 +119,8 @@ impl State {
 
     /// Joining ends at its deadline. An `Err` may leave anything.
     fn close(&mut self, alloc: Global, clock: u64, out: &mut Vec<Release>) -> Result<(), AllocError>
-        ensures { OnOk result (record { group = self.new; released = out.new.items } ≡ closed clock (record { group = self.old; released = out.old.items })) }
+        ensures { OnOk result (record { group = self.new; released = out.new.items }
+            ≡ closed clock (record { group = self.old; released = out.old.items })) }
     {
         self.members.keep_joining();
         self.complete(alloc, clock, out)
@@ -132,7 +134,8 @@ impl State {
         out: &mut Vec<Release>,
     ) -> Result<(), AllocError>
         requires { clock ≤ 4611686018427387904 }
-        ensures { OnOk result (record { group = self.new; released = out.new.items } ≡ expired clock (map (λ e. e.0) self.old.members) (record { group = self.old; released = out.old.items })) }
+        ensures { OnOk result (record { group = self.new; released = out.new.items }
+            ≡ expired clock (map (λ e. e.0) self.old.members) (record { group = self.old; released = out.old.items })) }
     {
         let numbers = self.members.numbers(alloc)?;
         for i in 0..numbers.len() {
@@ -150,7 +153,8 @@ impl State {
         out: &mut Vec<Release>,
     ) -> Result<(), AllocError>
         requires { clock ≤ 4611686018427387904 }
-        ensures { OnOk result (record { group = self.new; released = out.new.items } ≡ expired_one clock number (record { group = self.old; released = out.old.items })) }
+        ensures { OnOk result (record { group = self.new; released = out.new.items }
+            ≡ expired_one clock number (record { group = self.old; released = out.old.items })) }
     {
         if self.members.expires(number, clock) {
             self.depart(alloc, number, clock, out)?;

@@ -35,7 +35,7 @@ pub cut_back : (old more s : List ℕ) (n : ℕ) → s ≡ old ++ more → n ≡
 cut_back old more s n is len = ap (take n) is ∙ take_at old more n (sym len)
 
 -- a partition whose fetch is refused
-by_refusal : (g : Given) (p : ℤ) (head : FetchPartitionFrontV5) (o : Option (ℤ × ℤ)) (r : Result (List ℕ) PartitionFault) (f : PartitionFault) (old new : List ℕ) → Some head ≡ option_map (front_of p) o → IsGiven r old (Err f) new
+pub by_refusal : (g : Given) (p : ℤ) (head : FetchPartitionFrontV5) (o : Option (ℤ × ℤ)) (r : Result (List ℕ) PartitionFault) (f : PartitionFault) (old new : List ℕ) → Some head ≡ option_map (front_of p) o → IsGiven r old (Err f) new
     → refused g p f ≡ answered_by g p o r
 by_refusal g p head None r f old new is given = absurd cc
 by_refusal g p head (Some x) (Ok y) f old new is given = absurd given
@@ -162,6 +162,16 @@ reply_is : (starts : Bool) (r : FetchReplyV5) → reply_written starts r ≡ int
 unfolding fetch_reply fetch_reply_v5
 reply_is true r = refl
 reply_is false r = refl
+
+-- a topic's reply is its name, the count of the entries and what they were answered
+pub topic_spelled : (starts : Bool) (t : FetchTopicReplyV5)
+    → topic_written starts t ≡ string.written t.topic ++ ((count w32).written (length t.partitions) ++ flat_map (partition_written starts) t.partitions)
+topic_spelled starts t = topic_is starts t ∙ ap (λ x. string.written t.topic ++ x) (partitions_are starts t.partitions)
+
+-- the whole is the throttle time, the count of the topics and what they were answered
+pub reply_spelled : (starts : Bool) (r : FetchReplyV5)
+    → reply_written starts r ≡ int32.written r.throttle_time_ms ++ ((count w32).written (length r.topics) ++ flat_map (topic_written starts) r.topics)
+reply_spelled starts r = reply_is starts r ∙ ap (λ x. int32.written r.throttle_time_ms ++ x) (topics_are starts r.topics)
 
 -- something, then the count of entries, and then what each was answered
 entries_told : {S E A : Type 0} (write : A → List ℕ) (whole : List A → List ℕ) → ((xs : List A) → whole xs ≡ (count w32).written (length xs) ++ flat_map write xs)

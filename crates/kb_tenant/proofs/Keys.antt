@@ -67,3 +67,10 @@ pub woken : (id version : ℤ) (starts : Bool) (o : Option FetchReplyV5) (old ne
 woken id version starts (Some reply) old new done answer is from over told made =
     made id (fetched_in version reply) (ap (λ x. x.1) told ∙ ap (λ s. s ++ reply_written starts reply) from ∙ ap (λ b. begun id ++ reply_written b reply) is)
 woken id version starts None old new done answer is from over told made = let e : true ≡ false = sym over ∙ ap (λ x. x.0) told in absurd cc
+
+-- one that still waits has none
+pub waiting : (id version : ℤ) (starts : Bool) (o : Option FetchReplyV5) (old new : List ℕ) (done : Bool) → done ≡ false
+    → (done, new) ≡ look_written starts old o
+    → IsAnswer id (elim o [ Some reply ↦ Replies (fetched_in version reply) | None ↦ Silent ]) answers.NoReply
+waiting id version starts (Some reply) old new done not told = let e : false ≡ true = sym not ∙ ap (λ x. x.0) told in absurd cc
+waiting id version starts None old new done not told = tt

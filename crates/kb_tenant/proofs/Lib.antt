@@ -14,6 +14,7 @@ pub mod DeletedRecords
 pub mod Deleting
 pub mod Described
 pub mod Entries
+pub mod Fetched
 pub mod Fetching
 pub mod Fitting
 pub mod Folding

@@ -1,6 +1,7 @@
 -- What a fetch gives: whole batches of the partition's list, from the one that holds the asked offset (Kafka protocol guide, "The
 -- Messages: Fetch").
-use Rattle.std.specs.Prelude.{ℕ, ℤ, pos, ◌≡◌, ◌≤ℤ◌, ◌<ℤ◌, ◌≤◌, ◌<◌, ◌^◌, ◌++◌, Bool, true, false, List, [], ◌∷◌, length, Option, Some, All, ⊤}
+use Rattle.std.specs.Prelude.{ℕ, ℤ, pos, ◌≡◌, ◌≤ℤ◌, ◌<ℤ◌, ◌≤◌, ◌<◌, ◌^◌, ◌++◌, Bool, true, false, List, [], ◌∷◌, length, Option, Some, All}
+use Rattle.std.specs.Prelude.{⊤}
 use Rattle.std.specs.List.{concat}
 use Rattle.kb_log.specs.Log.{base_of, next_of}
 use Rattle.kb_api_data.specs.Layouts.{fetch_reply, fetch_reply_v5}
@@ -47,10 +48,12 @@ EachAnswered P (e ∷ es) [] = ⊥
 EachAnswered P (e ∷ es) (a ∷ rest) = P e a × EachAnswered P es rest
 
 abbrev pub IsPartitionAnswered : World → Option ℕ → FetchPartition → FetchPartitionReplyV5 → Type 0
-IsPartitionAnswered w topic asked p = (p.partition ≡ asked.partition) × (p.error_code ≡ pos 0 → GivesBatches w topic asked p.log_start_offset p.records)
+IsPartitionAnswered w topic asked p =
+    (p.partition ≡ asked.partition) × (p.error_code ≡ pos 0 → GivesBatches w topic asked p.log_start_offset p.records)
 
 abbrev pub IsTopicAnswered : World → FetchTopic → FetchTopicReplyV5 → Type 0
-IsTopicAnswered w asked t = (t.topic ≡ asked.topic) × EachAnswered (IsPartitionAnswered w (named asked.topic w.known.topics)) asked.partitions t.partitions
+IsTopicAnswered w asked t =
+    (t.topic ≡ asked.topic) × EachAnswered (IsPartitionAnswered w (named asked.topic w.known.topics)) asked.partitions t.partitions
 
 -- These bytes spell a reply, with the starts of the logs or without them, as a version of the API does.
 abbrev pub Spells : Bool → List ℕ → FetchReplyV5 → Type 0

@@ -1,5 +1,6 @@
 -- What CreateTopics makes of a world, and its reply (Kafka protocol guide, "The Messages: CreateTopics").
-use Rattle.std.specs.Prelude.{ℕ, ℤ, pos, Bool, false, List, ◌+◌, length, map, Option, Some, None, Result, Ok, Err, is_some, not, nat_le, if◌then◌else◌}
+use Rattle.std.specs.Prelude.{ℕ, ℤ, pos, Bool, false, List, ◌+◌, length, map, Option, Some, None, Result, Ok, Err, is_some, not, nat_le}
+use Rattle.std.specs.Prelude.{if◌then◌else◌}
 use Rattle.std.specs.List.{count_by}
 use Rattle.std.specs.Ordering.{int_eq}
 use Rattle.std.specs.Str.{bytes_eq}
@@ -8,7 +9,8 @@ use Rattle.kb_wire.specs.declared.fault.WireFault.{WireFault}
 use Rattle.kb_api_group.specs.ErrorCode.{code_of}
 use Rattle.kb_api_group.specs.declared.error_code.ErrorCode.{ErrorCode}
 use Rattle.kb_api_group.specs.declared.error_code.ErrorCode.TheVariants as codes
-use Rattle.kb_api_data.specs.Layouts.{create_topics_request, create_topics_request_v1, create_topic_reply, create_topic_reply_v1, create_topics_reply, create_topics_reply_v1}
+use Rattle.kb_api_data.specs.Layouts.{create_topics_request, create_topics_request_v1, create_topic_reply, create_topic_reply_v1}
+use Rattle.kb_api_data.specs.Layouts.{create_topics_reply, create_topics_reply_v1}
 use Rattle.kb_api_data.specs.declared.create_topics.CreateTopic.{CreateTopic}
 use Rattle.kb_api_data.specs.declared.create_topics.CreateTopicsRequest.{CreateTopicsRequest}
 use Rattle.kb_api_data.specs.declared.create_topics.CreateTopicReply.{CreateTopicReply}

@@ -33,7 +33,8 @@ deleted_in s None offset = (s, Err partition.Unknown)
 deleted_in s (Some place) offset = deleted_at s place offset
 
 -- an entry of the topic of an instance
-abbrev pub deleted : Option ℕ → World × List TopicPartition → DeleteRecordsPartition → (World × List TopicPartition) × DeleteRecordsPartitionReply
+abbrev pub deleted : Option ℕ → World × List TopicPartition → DeleteRecordsPartition → (World × List TopicPartition)
+    × DeleteRecordsPartitionReply
 deleted topic s e = let r = deleted_in s (place_in topic e.partition) e.offset in (r.0, deletion_answered e.partition r.1)
 
 abbrev pub deleted_topic : World × List TopicPartition → DeleteRecordsTopic → (World × List TopicPartition) × DeleteRecordsTopicReply

@@ -7,7 +7,8 @@ use Rattle.kb_wire.specs.Codec.{whole}
 use Rattle.kb_wire.specs.declared.fault.WireFault.{WireFault}
 use Rattle.kb_batch.specs.Batch.{natural}
 use Rattle.kb_api_data.specs.Layouts.{fetch_request, fetch_request_v5}
-use Rattle.kb_api_data.specs.Layouts.{fetch_partition_reply, fetch_partition_reply_v5, fetch_topic_reply, fetch_topic_reply_v5, fetch_reply, fetch_reply_v5}
+use Rattle.kb_api_data.specs.Layouts.{fetch_partition_reply, fetch_partition_reply_v5, fetch_topic_reply, fetch_topic_reply_v5, fetch_reply}
+use Rattle.kb_api_data.specs.Layouts.{fetch_reply_v5}
 use Rattle.kb_api_data.specs.declared.fetch.FetchPartition.{FetchPartition}
 use Rattle.kb_api_data.specs.declared.fetch.FetchTopic.{FetchTopic}
 use Rattle.kb_api_data.specs.declared.fetch.FetchRequest.{FetchRequest}
@@ -98,7 +99,8 @@ limit_of g e = min (natural e.partition_max_bytes) g.left
 
 -- It is refused: the watermarks and the log's start are -1, and there are no records.
 abbrev pub refusal_of : ℤ → PartitionFault → FetchPartitionFrontV5
-refusal_of p f = record { partition = p; error_code = code_of f; high_watermark = negsuc 0; last_stable_offset = negsuc 0; log_start_offset = negsuc 0 }
+refusal_of p f =
+    record { partition = p; error_code = code_of f; high_watermark = negsuc 0; last_stable_offset = negsuc 0; log_start_offset = negsuc 0 }
 
 abbrev pub refused : Given → ℤ → PartitionFault → Given × FetchPartitionReplyV5
 refused g p f = (wrong g, answer_with_v5 (refusal_of p f) [])
@@ -109,7 +111,8 @@ bounds_of w place = option_map (λ (l : LogState). (pos l.start, pos l.end)) (lo
 
 -- the answer up to the records, of a log with those bounds: both watermarks are its end
 abbrev pub front_of : ℤ → ℤ × ℤ → FetchPartitionFrontV5
-front_of p bounds = record { partition = p; error_code = pos 0; high_watermark = bounds.1; last_stable_offset = bounds.1; log_start_offset = bounds.0 }
+front_of p bounds =
+    record { partition = p; error_code = pos 0; high_watermark = bounds.1; last_stable_offset = bounds.1; log_start_offset = bounds.0 }
 
 -- It gives records.
 abbrev pub accepted : Given → ℤ → ℤ × ℤ → List ℕ → Given × FetchPartitionReplyV5

@@ -51,7 +51,8 @@ abbrev pub answered_topic : List ℕ → World × List CommitPartitionReply → 
 answered_topic name r = (r.0, record { name = name; partitions = r.1 })
 
 abbrev pub committed_topic : Option ℤ → List ℕ → World → CommitTopic → World × CommitTopicReply
-committed_topic refusal group w t = answered_topic t.name (in_turn (committed_entry refusal group (named t.name w.known.topics)) w t.partitions)
+committed_topic refusal group w t =
+    answered_topic t.name (in_turn (committed_entry refusal group (named t.name w.known.topics)) w t.partitions)
 
 -- The entries are served in order, each on what the one before it left, or all are refused.
 abbrev pub committed_all : World → Option ℤ → OffsetCommitRequest → World × OffsetCommitReply

@@ -13,7 +13,8 @@ use Rattle.kb_world.specs.Calls.{committed}
 use Rattle.kb_world.specs.World.{World, place_in}
 
 abbrev pub committed_answered : ℤ → ℤ → List ℕ → OffsetFetchPartitionReply
-committed_answered partition offset metadata = record { partition = partition; offset = offset; metadata = Some metadata; error_code = code_of codes.None }
+committed_answered partition offset metadata =
+    record { partition = partition; offset = offset; metadata = Some metadata; error_code = code_of codes.None }
 
 -- a committed offset and what stands beside it; where nothing is committed, offset -1 and an empty text. Neither is an error.
 abbrev pub told : ℤ → Option CommittedOffset → OffsetFetchPartitionReply

@@ -1,5 +1,7 @@
--- Produce (Kafka protocol guide, "The Messages: Produce"): each entry offers a batch to a partition, and is answered with the batch's base offset or an error code.
-use Rattle.std.specs.Prelude.{ℕ, zero, suc, ℤ, pos, negsuc, Bool, true, false, List, [], ◌∷◌, ◌++◌, Option, Some, None, Result, Ok, Err, nat_lt, option_map, not, ◌||◌, if◌then◌else◌}
+-- Produce (Kafka protocol guide, "The Messages: Produce"): each entry offers a batch to a partition, and is answered with the batch's
+-- base offset or an error code.
+use Rattle.std.specs.Prelude.{ℕ, zero, suc, ℤ, pos, negsuc, Bool, true, false, List, [], ◌∷◌, ◌++◌, Option, Some, None, Result, Ok, Err}
+use Rattle.std.specs.Prelude.{nat_lt, option_map, not, ◌||◌, if◌then◌else◌}
 use Rattle.std.specs.Ordering.{int_eq}
 use Rattle.kb_batch.specs.Batch.{first_fault}
 use Rattle.kb_batch.specs.Header.{producer_id_of}
@@ -39,7 +41,8 @@ progress w places = record { world = w; touched = places }
 -- what each entry is refused for: a transaction, or acks that are neither 0, 1 nor -1
 abbrev pub refusal_of : Option (List ℕ) → ℤ → Option ℤ
 refusal_of (Some id) acks = Some (code_of error.InvalidRequest)
-refusal_of None acks = if int_eq acks (pos 0) || int_eq acks (pos 1) || int_eq acks (negsuc 0) then None else Some (code_of error.InvalidRequiredAcks)
+refusal_of None acks =
+    if int_eq acks (pos 0) || int_eq acks (pos 1) || int_eq acks (negsuc 0) then None else Some (code_of error.InvalidRequiredAcks)
 
 -- ---- one batch
 
@@ -72,7 +75,8 @@ is_issued issues (negsuc (suc n)) = false
 
 -- what becomes of a batch, if there is such a partition
 abbrev pub verdict_on : World → TopicPartition → List ℕ → Option Verdict
-verdict_on w place batch = if is_issued w.known.issues (producer_id_of batch) then judged w place batch else Some (Refuse (code_of error.UnknownProducerId))
+verdict_on w place batch =
+    if is_issued w.known.issues (producer_id_of batch) then judged w place batch else Some (Refuse (code_of error.UnknownProducerId))
 
 -- ---- one entry, its answer a base offset or an error code
 
@@ -130,7 +134,8 @@ replied r = (r.0, record { topics = r.1; throttle_time_ms = pos 0 })
 
 -- what a produce makes of a world and of the places where batches were appended before it, and its reply
 abbrev pub produced : World → List TopicPartition → ProduceRequest → Progress × ProduceReply
-produced w touched request = replied (in_turn (served_topic (refusal_of request.transactional_id request.acks)) (progress w touched) request.topics)
+produced w touched request =
+    replied (in_turn (served_topic (refusal_of request.transactional_id request.acks)) (progress w touched) request.topics)
 
 -- one reply, written behind what was written before
 abbrev pub written_next : {S A : Type 0} → (A → List ℕ) → List ℕ → S × A → S × List ℕ

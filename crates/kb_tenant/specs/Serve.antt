@@ -6,7 +6,8 @@ use Rattle.kb_wire.specs.declared.fault.WireFault.{WireFault}
 use Rattle.kb_wire.specs.declared.fault.ReadFault.{ReadFault}
 use Rattle.kb_wire.specs.declared.fault.ReadFault.TheVariants as faults
 use Rattle.kb_api_data.specs.Layouts.{produce_request, produce_reply, list_offsets_request, list_offsets_reply}
-use Rattle.kb_api_data.specs.Layouts.{delete_topics_request, delete_records_request, delete_records_reply, init_producer_id_request, init_producer_id_reply}
+use Rattle.kb_api_data.specs.Layouts.{delete_topics_request, delete_records_request, delete_records_reply, init_producer_id_request}
+use Rattle.kb_api_data.specs.Layouts.{init_producer_id_reply}
 use Rattle.kb_api_data.specs.declared.produce.ProduceRequest.{ProduceRequest}
 use Rattle.kb_api_data.specs.declared.fetch.FetchRequest.{FetchRequest}
 use Rattle.kb_api_data.specs.declared.fetch_v5.FetchReplyV5.{FetchReplyV5}
@@ -16,7 +17,8 @@ use Rattle.kb_api_data.specs.declared.create_topics_v1.CreateTopicsRequestV1.{Cr
 use Rattle.kb_api_data.specs.declared.delete_records.DeleteRecordsRequest.{DeleteRecordsRequest}
 use Rattle.kb_api_data.specs.declared.delete_topics.DeleteTopicsRequest.{DeleteTopicsRequest}
 use Rattle.kb_api_data.specs.declared.init_producer_id.InitProducerIdRequest.{InitProducerIdRequest}
-use Rattle.kb_api_group.specs.Layouts.{find_coordinator_reply, find_coordinator_request, offset_commit_reply, offset_commit_request, offset_fetch_reply, offset_fetch_request}
+use Rattle.kb_api_group.specs.Layouts.{find_coordinator_reply, find_coordinator_request, offset_commit_reply, offset_commit_request}
+use Rattle.kb_api_group.specs.Layouts.{offset_fetch_reply, offset_fetch_request}
 use Rattle.kb_api_group.specs.declared.find_coordinator.FindCoordinatorRequest.{FindCoordinatorRequest}
 use Rattle.kb_api_group.specs.declared.offset_commit.OffsetCommitRequest.{OffsetCommitRequest}
 use Rattle.kb_api_group.specs.declared.offset_fetch.OffsetFetchRequest.{OffsetFetchRequest}
@@ -70,7 +72,8 @@ abbrev pub of_metadata : Node → ℤ → World → MetadataRequest → Outcome
 of_metadata node version w r = stays w (Replies (metadata_in version (metadata_of w node r)))
 
 abbrev pub of_offset_commit : World → OffsetCommitRequest → Outcome
-of_offset_commit w r = let c = committed_all w (refusal_of r.group_id r.generation_id) r in record { world = c.0; touched = []; reaction = Replies (offset_commit_reply.written c.1) }
+of_offset_commit w r = let c = committed_all w (refusal_of r.group_id r.generation_id) r in
+    record { world = c.0; touched = []; reaction = Replies (offset_commit_reply.written c.1) }
 
 abbrev pub of_offset_fetch : World → OffsetFetchRequest → Outcome
 of_offset_fetch w r = stays w (Replies (offset_fetch_reply.written (fetched_all w r)))
@@ -85,13 +88,16 @@ of_create_topics version w r =
     else let c = created_all w (made_of r) in record { world = c.0; touched = []; reaction = Replies (creations_in version c.1) }
 
 abbrev pub of_delete_topics : ℤ → World → DeleteTopicsRequest → Outcome
-of_delete_topics version w r = let d = deleted_all (w, []) r in record { world = d.0.0; touched = d.0.1; reaction = Replies (deletions_in version d.1) }
+of_delete_topics version w r =
+    let d = deleted_all (w, []) r in record { world = d.0.0; touched = d.0.1; reaction = Replies (deletions_in version d.1) }
 
 abbrev pub of_delete_records : World → DeleteRecordsRequest → Outcome
-of_delete_records w r = let d = records_deleted (w, []) r in record { world = d.0.0; touched = d.0.1; reaction = Replies (delete_records_reply.written d.1) }
+of_delete_records w r =
+    let d = records_deleted (w, []) r in record { world = d.0.0; touched = d.0.1; reaction = Replies (delete_records_reply.written d.1) }
 
 abbrev pub of_init_producer_id : World → InitProducerIdRequest → Outcome
-of_init_producer_id w r = let i = init_producer_id w r in record { world = i.0; touched = []; reaction = Replies (init_producer_id_reply.written i.1) }
+of_init_producer_id w r =
+    let i = init_producer_id w r in record { world = i.0; touched = []; reaction = Replies (init_producer_id_reply.written i.1) }
 
 -- ---- a request, by its key and its body
 

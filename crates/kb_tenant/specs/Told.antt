@@ -1,8 +1,9 @@
 -- What each entry of a request is answered, whatever memory and the store refuse: what is defined, or else a code that names
 -- what refused it.
-use Rattle.std.specs.Prelude.{◌≡◌, ◌≤◌, ◌+◌, ◌^◌, ◌⊎◌, ℕ, ℤ, pos, false, List, [], Option, Ok, Err, ⊤}
+use Rattle.std.specs.Prelude.{◌≡◌, ◌≤◌, ◌+◌, ◌^◌, ◌⊎◌, ℕ, ℤ, pos, Bool, true, false, List, [], Option, Ok, Err, ⊤}
 use Rattle.kb_wire.specs.Codec.{whole}
-use Rattle.kb_api_data.specs.Layouts.{delete_topics_request, init_producer_id_reply, init_producer_id_request, produce_reply, produce_request}
+use Rattle.kb_api_data.specs.Layouts.{delete_topics_request, init_producer_id_reply, init_producer_id_request, produce_reply}
+use Rattle.kb_api_data.specs.Layouts.{produce_request}
 use Rattle.kb_api_data.specs.Layouts.{delete_records_reply, delete_records_request}
 use Rattle.kb_api_data.specs.declared.create_topics.CreateTopic.{CreateTopic}
 use Rattle.kb_api_data.specs.declared.create_topics.CreateTopicReply.{CreateTopicReply}
@@ -15,6 +16,12 @@ use Rattle.kb_api_data.specs.declared.delete_records.DeleteRecordsTopic.{DeleteR
 use Rattle.kb_api_data.specs.declared.delete_records.DeleteRecordsTopicReply.{DeleteRecordsTopicReply}
 use Rattle.kb_api_data.specs.declared.delete_topics.DeleteTopicsRequest.{DeleteTopicsRequest}
 use Rattle.kb_api_data.specs.declared.delete_topics.DeleteTopicReply.{DeleteTopicReply}
+use Rattle.kb_api_data.specs.declared.fetch.FetchPartition.{FetchPartition}
+use Rattle.kb_api_data.specs.declared.fetch.FetchRequest.{FetchRequest}
+use Rattle.kb_api_data.specs.declared.fetch.FetchTopic.{FetchTopic}
+use Rattle.kb_api_data.specs.declared.fetch_v5.FetchPartitionReplyV5.{FetchPartitionReplyV5}
+use Rattle.kb_api_data.specs.declared.fetch_v5.FetchReplyV5.{FetchReplyV5}
+use Rattle.kb_api_data.specs.declared.fetch_v5.FetchTopicReplyV5.{FetchTopicReplyV5}
 use Rattle.kb_api_data.specs.declared.init_producer_id.InitProducerIdReply.{InitProducerIdReply}
 use Rattle.kb_api_data.specs.declared.init_producer_id.InitProducerIdRequest.{InitProducerIdRequest}
 use Rattle.kb_api_data.specs.declared.produce.ProducePartition.{ProducePartition}
@@ -46,6 +53,7 @@ use Rattle.kb_world.specs.declared.topic_partition.TopicPartition.{TopicPartitio
 use Rattle.kb_tenant.specs.CreateTopics.{asked_creations, created_topic, creations_in}
 use Rattle.kb_tenant.specs.DeleteRecords.{deletion_answered, deleted}
 use Rattle.kb_tenant.specs.DeleteTopics.{deleted_topic, deletions_in}
+use Rattle.kb_tenant.specs.Fetch.{asked_fetch, begun, fetch_answered, fetched_in, has_enough, refused}
 use Rattle.kb_tenant.specs.InitProducerId.{id_refused, init_producer_id}
 use Rattle.kb_tenant.specs.OffsetCommit.{committed_entry, refusal_of as commit_refusal}
 use Rattle.kb_tenant.specs.Produce.{Progress, answer, progress, refusal_of, entry_served}
@@ -54,6 +62,7 @@ use Rattle.kb_tenant.specs.Room.{reply_length}
 use Rattle.kb_tenant.specs.Turns.{AreServed}
 use Rattle.kb_tenant.specs.declared.answer.Answer.{Answer}
 use Rattle.kb_tenant.specs.declared.answer.Answer.TheVariants as answers
+use Rattle.kb_tenant.specs.declared.fetch.given.Given.{Given}
 
 -- KAFKA_STORAGE_ERROR is answered where the store failed, and UNKNOWN_SERVER_ERROR where memory ran out.
 abbrev pub IsCodeWant : Scene Seen → Scene Seen → ℤ → Type 0
@@ -130,30 +139,36 @@ CreationFailed a b = CatalogFailed a b ⊎ AreInstancesUsedUp b
 
 -- An entry is refused since the store failed, which it did, or for want of memory.
 abbrev pub IsWanting : Type 0 → ProducePartition → ProducePartitionReply → Type 0
-IsWanting failed e x = ((x ≡ answer e.index (Err (code_of codes.KafkaStorageError))) × failed) ⊎ (x ≡ answer e.index (Err (code_of codes.UnknownServerError)))
+IsWanting failed e x =
+    ((x ≡ answer e.index (Err (code_of codes.KafkaStorageError))) × failed) ⊎ (x ≡ answer e.index (Err (code_of codes.UnknownServerError)))
 
 -- An entry does what is defined, on what those before it left; or it is refused for such a want, and changes nothing.
 abbrev pub IsEntryTold : Type 0 → Option ℤ → Option ℕ → Progress → ProducePartition → Progress → ProducePartitionReply → Type 0
 IsEntryTold failed refusal topic p e q x = ((q, x) ≡ entry_served refusal topic p e) ⊎ ((q ≡ p) × IsWanting failed e x)
 
 abbrev pub IsTopicTold : Type 0 → Option ℤ → Progress → ProduceTopic → Progress → ProduceTopicReply → Type 0
-IsTopicTold failed refusal p t q x = (x.name ≡ t.name) × AreServed (IsEntryTold failed refusal (named t.name p.world.known.topics)) p t.partitions q x.partitions
+IsTopicTold failed refusal p t q x =
+    (x.name ≡ t.name) × AreServed (IsEntryTold failed refusal (named t.name p.world.known.topics)) p t.partitions q x.partitions
 
 -- A produce, whose entries are so told one after another, comes to that reply.
 abbrev pub IsProduceTold : Type 0 → Progress → ProduceRequest → Progress → ProduceReply → Type 0
-IsProduceTold failed p r q reply = AreServed (IsTopicTold failed (refusal_of r.transactional_id r.acks)) p r.topics q reply.topics × (reply.throttle_time_ms ≡ pos 0)
+IsProduceTold failed p r q reply =
+    AreServed (IsTopicTold failed (refusal_of r.transactional_id r.acks)) p r.topics q reply.topics × (reply.throttle_time_ms ≡ pos 0)
 
 -- Its answer is that reply's bytes, or none where none is due.
 abbrev pub IsAcknowledged : Type 0 → ℤ → World → ProduceRequest → World → List TopicPartition → Answer → Type 0
 IsAcknowledged failed id w r v touched (answers.Reply bytes) =
-    (reply : ProduceReply) × ((bytes.items ≡ framed id (produce_reply.written reply)) × IsProduceTold failed (progress w []) r (progress v touched) reply)
+    (reply : ProduceReply) × ((bytes.items ≡ framed id (produce_reply.written reply))
+    × IsProduceTold failed (progress w []) r (progress v touched) reply)
 IsAcknowledged failed id w r v touched (answers.Wait deadline keys) = ⊥
-IsAcknowledged failed id w r v touched answers.NoReply = (reply : ProduceReply) × IsProduceTold failed (progress w []) r (progress v touched) reply
+IsAcknowledged failed id w r v touched answers.NoReply =
+    (reply : ProduceReply) × IsProduceTold failed (progress w []) r (progress v touched) reply
 IsAcknowledged failed id w r v touched answers.Shut = ⊤
 
 -- The same of a body, where it is a request of Produce.
 abbrev pub Acknowledges : Type 0 → ℤ → World → List ℕ → World → List TopicPartition → Answer → Type 0
-Acknowledges failed id w body v touched a = (r : ProduceRequest) → whole produce_request body ≡ Ok r → IsAcknowledged failed id w r v touched a
+Acknowledges failed id w body v touched a =
+    (r : ProduceRequest) → whole produce_request body ≡ Ok r → IsAcknowledged failed id w r v touched a
 
 -- A produce after which the connection is shut has changed nothing, unless its reply is too long for the INT32 of its size.
 abbrev pub IsSpared : World → List ℕ → World → Answer → Type 0
@@ -179,7 +194,8 @@ TellsCreations failed version w q v body = (replies : List CreateTopicReply)
 -- The same of a body, where it is a request of CreateTopics that is not only to be checked.
 abbrev pub AcknowledgesCreations : Type 0 → ℤ → ℤ → World → List ℕ → World → Answer → Type 0
 AcknowledgesCreations failed id version w body v a =
-    (q : CreateTopicsRequestV1) → asked_creations version body ≡ Ok q → q.validate_only ≡ false → IsReplied id (TellsCreations failed version w q v) a
+    (q : CreateTopicsRequestV1) → asked_creations version body ≡ Ok q → q.validate_only ≡ false
+    → IsReplied id (TellsCreations failed version w q v) a
 
 -- It is the reply of a DeleteTopics.
 abbrev pub TellsRemovals : Type 0 → ℤ → World → DeleteTopicsRequest → World → List TopicPartition → List ℕ → Type 0
@@ -193,7 +209,8 @@ AcknowledgesRemovals failed id version w body v touched a =
 
 -- It is the reply of an InitProducerId.
 abbrev pub TellsIssue : Type 0 → World → InitProducerIdRequest → World → List ℕ → Type 0
-TellsIssue failed w q v body = (reply : InitProducerIdReply) × ((body ≡ init_producer_id_reply.written reply) × IsIssueTold failed w q v reply)
+TellsIssue failed w q v body =
+    (reply : InitProducerIdReply) × ((body ≡ init_producer_id_reply.written reply) × IsIssueTold failed w q v reply)
 
 -- The same of a body, where it is a request of InitProducerId.
 abbrev pub AcknowledgesIssue : Type 0 → ℤ → World → List ℕ → World → Answer → Type 0
@@ -226,17 +243,20 @@ IsUntrimmed failed e x =
 
 -- An entry of the topic of an instance does what is defined, on what those before it left; or it is refused for such a want, and
 -- changes nothing.
-abbrev pub IsTrimTold : Type 0 → Option ℕ → World × List TopicPartition → DeleteRecordsPartition → World × List TopicPartition → DeleteRecordsPartitionReply
+abbrev pub IsTrimTold : Type 0 → Option ℕ → World × List TopicPartition → DeleteRecordsPartition → World × List TopicPartition
+    → DeleteRecordsPartitionReply
     → Type 0
 IsTrimTold failed topic s e t x = ((t, x) ≡ deleted topic s e) ⊎ ((t ≡ s) × IsUntrimmed failed e x)
 
 -- The same of a topic's entries, one after another.
-abbrev pub IsTrimTopicTold : Type 0 → World × List TopicPartition → DeleteRecordsTopic → World × List TopicPartition → DeleteRecordsTopicReply → Type 0
+abbrev pub IsTrimTopicTold : Type 0 → World × List TopicPartition → DeleteRecordsTopic → World × List TopicPartition
+    → DeleteRecordsTopicReply → Type 0
 IsTrimTopicTold failed s e t x =
     (x.name ≡ e.name) × AreServed (IsTrimTold failed (named e.name s.0.known.topics)) s e.partitions t x.partitions
 
 -- The same of a request's topics.
-abbrev pub AreTrimsTold : Type 0 → World × List TopicPartition → DeleteRecordsRequest → World × List TopicPartition → DeleteRecordsReply → Type 0
+abbrev pub AreTrimsTold : Type 0 → World × List TopicPartition → DeleteRecordsRequest → World × List TopicPartition → DeleteRecordsReply
+    → Type 0
 AreTrimsTold failed s q t x = (x.throttle_time_ms ≡ pos 0) × AreServed (IsTrimTopicTold failed) s q.topics t x.topics
 
 -- It is the reply of a DeleteRecords.
@@ -248,3 +268,52 @@ TellsDeletions failed w q v touched body =
 abbrev pub AcknowledgesDeletions : Type 0 → ℤ → World → List ℕ → World → List TopicPartition → Answer → Type 0
 AcknowledgesDeletions failed id w body v touched a =
     (q : DeleteRecordsRequest) → whole delete_records_request body ≡ Ok q → IsReplied id (TellsDeletions failed w q v touched) a
+
+-- ---- Fetch
+
+-- An entry is refused since the store failed, which it did, or for want of memory; and the limits go on as behind any that is refused.
+abbrev pub IsUnread : Type 0 → Given → FetchPartition → Given → FetchPartitionReplyV5 → Type 0
+IsUnread failed g e h x = (((h, x) ≡ refused g e.partition partition.Store) × failed) ⊎ ((h, x) ≡ refused g e.partition partition.Memory)
+
+-- An entry comes to what is defined, or is refused for such a want.
+abbrev pub IsReadOr : Type 0 → Given × FetchPartitionReplyV5 → Given → FetchPartition → Given → FetchPartitionReplyV5 → Type 0
+IsReadOr failed defined g e h x = ((h, x) ≡ defined) ⊎ IsUnread failed g e h x
+
+-- An entry of the topic of an instance is answered what is defined, on what those before it left of the limits; or it is refused for
+-- such a want.
+abbrev pub IsFetchTold : Type 0 → World → Option ℕ → Given → FetchPartition → Given → FetchPartitionReplyV5 → Type 0
+IsFetchTold failed w topic g e h x = IsReadOr failed (fetch_answered w topic g e) g e h x
+
+-- The same of a topic's entries, one after another.
+abbrev pub IsFetchTopicTold : Type 0 → World → Given → FetchTopic → Given → FetchTopicReplyV5 → Type 0
+IsFetchTopicTold failed w g t h x =
+    (x.topic ≡ t.topic) × AreServed (IsFetchTold failed w (named t.topic w.known.topics)) g t.partitions h x.partitions
+
+-- The same of a request's topics, which leave that of its limits.
+abbrev pub AreFetchesTold : Type 0 → World → FetchRequest → Given → FetchReplyV5 → Type 0
+AreFetchesTold failed w q left x = (x.throttle_time_ms ≡ pos 0) × AreServed (IsFetchTopicTold failed w) (begun q) q.topics left x.topics
+
+-- A fetch comes to such a reply, and is ready or not: what is left of its limits tells that. A refused entry makes it ready.
+abbrev pub IsFetchReady : Type 0 → World → ℕ → FetchRequest → Bool → FetchReplyV5 → Type 0
+IsFetchReady failed w deadline q ready x = (left : Given) × (AreFetchesTold failed w q left x × (has_enough left w.clock deadline ≡ ready))
+
+-- It is the reply of a Fetch that is ready, in a version of the API.
+abbrev pub TellsFetch : Type 0 → ℤ → World → ℕ → FetchRequest → List ℕ → Type 0
+TellsFetch failed version w deadline q body =
+    (reply : FetchReplyV5) × ((body ≡ fetched_in version reply) × IsFetchReady failed w deadline q true reply)
+
+-- A Fetch is not ready, by what it would be answered.
+abbrev pub IsUnready : Type 0 → World → ℕ → FetchRequest → Type 0
+IsUnready failed w deadline q = (reply : FetchReplyV5) × IsFetchReady failed w deadline q false reply
+
+-- The answer to what waited is a reply whose body tells that; or none, where it still waits; or the connection is shut.
+abbrev pub IsRepliedOrWaits : ℤ → (List ℕ → Type 0) → Type 0 → Answer → Type 0
+IsRepliedOrWaits id Told Unready (answers.Reply bytes) = (body : List ℕ) × ((bytes.items ≡ framed id body) × Told body)
+IsRepliedOrWaits id Told Unready (answers.Wait deadline keys) = ⊥
+IsRepliedOrWaits id Told Unready answers.NoReply = Unready
+IsRepliedOrWaits id Told Unready answers.Shut = ⊤
+
+-- The same of a look at a body that waits until a deadline at most, where it is a request of Fetch in that version.
+abbrev pub AnswersLook : Type 0 → ℤ → ℤ → World → ℕ → List ℕ → Answer → Type 0
+AnswersLook failed id version w deadline body a = (q : FetchRequest) → asked_fetch version body ≡ Ok q
+    → IsRepliedOrWaits id (TellsFetch failed version w deadline q) (IsUnready failed w deadline q) a

@@ -7,7 +7,8 @@ ghost use Rattle.kb_partitions.specs.Scene.{WhereHonest};
 ghost use Rattle.kb_store.specs.Disk.{Files};
 ghost use Rattle.kb_wire.specs.Codec.{string};
 ghost use Rattle.kb_wire.specs.Reads.{ReadsWhole};
-ghost use Rattle.kb_tenant.specs.CreateTopics.{asked_creations, checked_all, checked_unless, code_in, created_all, creation_in, creations_in, made, made_of, refusal};
+ghost use Rattle.kb_tenant.specs.CreateTopics.{asked_creations, checked_all, checked_unless, code_in, created_all, creation_in};
+ghost use Rattle.kb_tenant.specs.CreateTopics.{creations_in, made, made_of, refusal};
 ghost use Rattle.kb_tenant.specs.Settings.{settings_in};
 ghost use Rattle.kb_tenant.specs.Told.{CreationFailed, IsCreationTold, IsFaultOf, IsTold};
 ghost use Rattle.kb_tenant.specs.Turns.{AreServed};
@@ -177,9 +178,11 @@ pub fn check_topics<L: PartitionLog + Drop>(
     sink: &mut Sink,
 ) -> Result<(), AllocError>
     requires { create_topics_request_v1.Fits request.now }
-    ensures written { (files : Files) → OnOk result (sink.new.bytes ≡ sink.old.bytes ++ creations_in version (checked_all (world_of L.log parts.now files) request.now.topics)) }
+    ensures written { (files : Files) → OnOk result
+        (sink.new.bytes ≡ sink.old.bytes ++ creations_in version (checked_all (world_of L.log parts.now files) request.now.topics)) }
     // That is what making them would be answered, where an instance is left for each.
-    ensures foretold { (files : Files) → let w = world_of L.log parts.now files in IsTied w → w.known.creates + length request.now.topics < 2 ^ 63
+    ensures foretold { (files : Files) → let w = world_of L.log parts.now files in
+        IsTied w → w.known.creates + length request.now.topics < 2 ^ 63
         → OnOk result (sink.new.bytes ≡ sink.old.bytes ++ creations_in version (created_all w (made_of request.now)).1) }
 {
     let entries = request.topics.as_slice();
@@ -214,7 +217,8 @@ pub fn create_topics<L: PartitionLog + Drop, S: Store>(
         (b.state.world ≡ r.0) × (sink.new.bytes ≡ sink.old.bytes ++ creations_in version r.1))) }
     // A topic that is answered with no error is in the catalog, whatever else was refused.
     ensures told { OnOk result (let a = scene L.log S.disk parts.old shelf.old in let b = scene L.log S.disk parts.new shelf.new in
-        WhereHonest a b ((replies : List CreateTopicReply) × ((sink.new.bytes ≡ sink.old.bytes ++ creations_in version (record { topics = replies }))
+        WhereHonest a b ((replies : List CreateTopicReply)
+        × ((sink.new.bytes ≡ sink.old.bytes ++ creations_in version (record { topics = replies }))
         × AreServed (IsCreationTold (CreationFailed a b) request.now.topics) a.state.world request.now.topics b.state.world replies))) }
 {
     let topics = request.topics.as_slice();

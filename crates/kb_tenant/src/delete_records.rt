@@ -1,7 +1,8 @@
 //! DeleteRecords, version 0 (Kafka protocol guide): the starts of partitions move, one after another.
 ghost use Rattle.std.specs.Prelude.{◌≡◌, ◌++◌, ℕ, List, length, pos, take, OnOk};
 ghost use Rattle.std.specs.List.{flat_map};
-ghost use Rattle.kb_api_data.specs.Layouts.{delete_records_partition_reply, delete_records_reply, delete_records_request, delete_records_topic, delete_records_topic_reply};
+ghost use Rattle.kb_api_data.specs.Layouts.{delete_records_partition_reply, delete_records_reply, delete_records_request};
+ghost use Rattle.kb_api_data.specs.Layouts.{delete_records_topic, delete_records_topic_reply};
 ghost use Rattle.kb_api_data.specs.declared.delete_records.DeleteRecordsPartitionReply.{DeleteRecordsPartitionReply};
 ghost use Rattle.kb_api_data.specs.declared.delete_records.DeleteRecordsReply.{DeleteRecordsReply};
 ghost use Rattle.kb_api_data.specs.declared.delete_records.DeleteRecordsTopicReply.{DeleteRecordsTopicReply};
@@ -60,7 +61,8 @@ fn delete_at<L: PartitionLog + Drop, S: Store>(
     ensures meets { let a = scene L.log S.disk parts.old shelf.old in let b = scene L.log S.disk parts.new shelf.new in
         Meets a b (((b.state.world, touched.new.items), result) ≡ deleted_at (a.state.world, touched.old.items) place offset) }
     ensures told { let a = scene L.log S.disk parts.old shelf.old in let b = scene L.log S.disk parts.new shelf.new in
-        Deletes a b (((b.state.world, touched.new.items), result) ≡ deleted_at (a.state.world, touched.old.items) place offset) (IsDeletionWant a b) result }
+        Deletes a b (((b.state.world, touched.new.items), result) ≡ deleted_at (a.state.world, touched.old.items) place offset)
+        (IsDeletionWant a b) result }
 {
     if touched.reserve(1).is_err() {
         parts.refuse();
@@ -113,7 +115,8 @@ fn delete_entries<L: PartitionLog + Drop, S: Store>(
     ensures step { IsStep (scene L.log S.disk parts.old shelf.old) (scene L.log S.disk parts.new shelf.new) }
     ensures kept { take (length touched.old.items) touched.new.items ≡ touched.old.items }
     ensures meets { OnOk result (let a = scene L.log S.disk parts.old shelf.old in let b = scene L.log S.disk parts.new shelf.new in
-        Meets a b (((b.state.world, touched.new.items), sink.new.bytes) ≡ written_behind delete_records_partition_reply.written sink.old.bytes
+        Meets a b (((b.state.world, touched.new.items), sink.new.bytes)
+        ≡ written_behind delete_records_partition_reply.written sink.old.bytes
         (in_turn (deleted topic) (a.state.world, touched.old.items) entries.now))) }
     ensures told { OnOk result (let a = scene L.log S.disk parts.old shelf.old in let b = scene L.log S.disk parts.new shelf.new in
         WhereHonest a b ((replies : List DeleteRecordsPartitionReply)
@@ -142,7 +145,8 @@ fn delete_in_topic<L: PartitionLog + Drop, S: Store>(
     ensures kept { take (length touched.old.items) touched.new.items ≡ touched.old.items }
     ensures meets { OnOk result (let a = scene L.log S.disk parts.old shelf.old in let b = scene L.log S.disk parts.new shelf.new in
         let r = deleted_topic (a.state.world, touched.old.items) topic.now in
-        Meets a b (◌≡◌ {A = (World × List TopicPartition) × List ℕ} ((b.state.world, touched.new.items), sink.new.bytes) (r.0, sink.old.bytes ++ delete_records_topic_reply.written r.1))) }
+        Meets a b (◌≡◌ {A = (World × List TopicPartition)
+        × List ℕ} ((b.state.world, touched.new.items), sink.new.bytes) (r.0, sink.old.bytes ++ delete_records_topic_reply.written r.1))) }
     ensures told { OnOk result (let a = scene L.log S.disk parts.old shelf.old in let b = scene L.log S.disk parts.new shelf.new in
         WhereHonest a b ((reply : DeleteRecordsTopicReply) × ((sink.new.bytes ≡ sink.old.bytes ++ delete_records_topic_reply.written reply)
         × IsTrimTopicTold (CatalogFailed a b) (a.state.world, touched.old.items) topic.now (b.state.world, touched.new.items) reply))) }

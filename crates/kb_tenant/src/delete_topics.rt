@@ -62,7 +62,8 @@ fn delete_topic<L: PartitionLog + Drop, S: Store>(
         (IsFaultOf (IsCatalogWant a b) result × (touched.new.items ≡ touched.old.items)) }
     // A topic that is answered with no error is gone, whatever else was refused: the removal of a file, which is counted.
     ensures acknowledged { let a = scene L.log S.disk parts.old shelf.old in let b = scene L.log S.disk parts.new shelf.new in
-        result ≡ pos 0 → IsDeleted a b (((b.state.world, touched.new.items), result) ≡ deleted (a.state.world, touched.old.items) name.now) }
+        result ≡ pos 0 → IsDeleted a b (((b.state.world, touched.new.items), result)
+        ≡ deleted (a.state.world, touched.old.items) name.now) }
 {
     let Some(instance) = parts.topic_named(name) else {
         return ErrorCode::UnknownTopicOrPartition.code();
@@ -114,8 +115,10 @@ pub fn delete_topics<L: PartitionLog + Drop, S: Store>(
         × (sink.new.bytes ≡ sink.old.bytes ++ deletions_in version r.1))) }
     // A topic that is answered with no error is gone, whatever else was refused.
     ensures told { OnOk result (let a = scene L.log S.disk parts.old shelf.old in let b = scene L.log S.disk parts.new shelf.new in
-        WhereHonest a b ((replies : List DeleteTopicReply) × ((sink.new.bytes ≡ sink.old.bytes ++ deletions_in version (record { topics = replies }))
-        × AreServed (IsRemovalTold (CatalogFailed a b)) (a.state.world, touched.old.items) request.now.names (b.state.world, touched.new.items) replies))) }
+        WhereHonest a b ((replies : List DeleteTopicReply)
+        × ((sink.new.bytes ≡ sink.old.bytes ++ deletions_in version (record { topics = replies }))
+        × AreServed (IsRemovalTold (CatalogFailed a b)) (a.state.world, touched.old.items) request.now.names
+        (b.state.world, touched.new.items) replies))) }
 {
     let names = request.names.as_slice();
     put_throttle(version, sink)?;

@@ -1,7 +1,8 @@
 //! A request of a tenant, by its key.
 ghost use Rattle.std.specs.Prelude.{◌≡◌, ◌≤◌, ◌^◌, [], pos, IfOk, OnErr};
 ghost use Rattle.kb_wire.specs.Codec.{string, whole};
-ghost use Rattle.kb_api_data.specs.Layouts.{produce_request, list_offsets_request, metadata_request, create_topics_request, delete_records_request, delete_topics_request, init_producer_id_request};
+ghost use Rattle.kb_api_data.specs.Layouts.{produce_request, list_offsets_request, metadata_request, create_topics_request};
+ghost use Rattle.kb_api_data.specs.Layouts.{delete_records_request, delete_topics_request, init_producer_id_request};
 ghost use Rattle.kb_store.specs.Disk.{Files};
 ghost use Rattle.kb_partitions.specs.Scene.{WhereHonest};
 ghost use Rattle.kb_world.specs.Parts.{scene, world_of};
@@ -10,9 +11,11 @@ ghost use Rattle.kb_tenant.specs.CreateTopics.{asked_creations};
 ghost use Rattle.kb_tenant.specs.Fetch.{asked_fetch};
 ghost use Rattle.kb_tenant.specs.Metadata.{asked_metadata};
 ghost use Rattle.kb_tenant.specs.Replies.{IsAnswer};
-ghost use Rattle.kb_tenant.specs.Told.{CatalogFailed, CreationFailed, HasFailed, Acknowledges, AcknowledgesCommits, AcknowledgesCreations, AcknowledgesIssue, AcknowledgesRemovals, IsSpared};
-ghost use Rattle.kb_tenant.specs.Told.{AcknowledgesDeletions};
-ghost use Rattle.kb_tenant.specs.Serve.{if_read, of_produce, of_fetch, of_list_offsets, of_metadata, of_create_topics, of_delete_records, of_delete_topics, of_init_producer_id, plainly_served, looked, stays, IsOutcome, IsServed};
+ghost use Rattle.kb_tenant.specs.Told.{CatalogFailed, CreationFailed, HasFailed, Acknowledges, AcknowledgesCommits, AcknowledgesCreations};
+ghost use Rattle.kb_tenant.specs.Told.{AcknowledgesIssue, AcknowledgesRemovals, IsSpared};
+ghost use Rattle.kb_tenant.specs.Told.{AcknowledgesDeletions, AnswersLook};
+ghost use Rattle.kb_tenant.specs.Serve.{if_read, of_produce, of_fetch, of_list_offsets, of_metadata, of_create_topics, of_delete_records};
+ghost use Rattle.kb_tenant.specs.Serve.{of_delete_topics, of_init_producer_id, plainly_served, looked, stays, IsOutcome, IsServed};
 
 use crate::answer::{Answer, begin, finish};
 use crate::create_topics::{check_topics, create_topics, read_create_topics};
@@ -58,9 +61,12 @@ fn serve_produce<L: PartitionLog + Drop, S: Store>(
     requires sound { (scene L.log S.disk parts.old shelf.old).sound }
     ensures step { IsStep (scene L.log S.disk parts.old shelf.old) (scene L.log S.disk parts.new shelf.new) }
     ensures meets { let a = scene L.log S.disk parts.old shelf.old in let b = scene L.log S.disk parts.new shelf.new in
-        Meets a b (IsServed request.now.correlation_id (if_read a.state.world (whole produce_request request.now.body.now) (of_produce a.state.world)) b.state.world touched.new.items result) }
+        Meets a b (IsServed request.now.correlation_id
+        (if_read a.state.world (whole produce_request request.now.body.now) (of_produce a.state.world)) b.state.world touched.new.items
+        result) }
     ensures acknowledged { let a = scene L.log S.disk parts.old shelf.old in let b = scene L.log S.disk parts.new shelf.new in
-        IfOk result (λ answer. WhereHonest a b (Acknowledges (HasFailed a b) request.now.correlation_id a.state.world request.now.body.now b.state.world touched.new.items answer)) }
+        IfOk result (λ answer. WhereHonest a b (Acknowledges
+        (HasFailed a b) request.now.correlation_id a.state.world request.now.body.now b.state.world touched.new.items answer)) }
     ensures spared { let a = scene L.log S.disk parts.old shelf.old in let b = scene L.log S.disk parts.new shelf.new in
         OnErr result (b.state.world ≡ a.state.world) }
     ensures shut { let a = scene L.log S.disk parts.old shelf.old in let b = scene L.log S.disk parts.new shelf.new in
@@ -86,7 +92,9 @@ fn serve_a_fetch<L: PartitionLog + Drop, S: Store>(
     requires sound { (scene L.log S.disk parts.old shelf.old).sound }
     ensures step { IsStep (scene L.log S.disk parts.old shelf.old) (scene L.log S.disk parts.new shelf.new) }
     ensures meets { let a = scene L.log S.disk parts.old shelf.old in let b = scene L.log S.disk parts.new shelf.new in
-        Meets a b (IsServed request.now.correlation_id (if_read a.state.world (asked_fetch request.now.api_version request.now.body.now) (of_fetch request.now.api_version a.state.world)) b.state.world [] result) }
+        Meets a b (IsServed request.now.correlation_id
+        (if_read a.state.world (asked_fetch request.now.api_version request.now.body.now) (of_fetch request.now.api_version a.state.world))
+        b.state.world [] result) }
 {
     let has_starts = fetch::has_starts(request.api_version);
     let asked = read_request(alloc, has_starts, request.body)?;
@@ -107,7 +115,8 @@ fn serve_list_offsets<L: PartitionLog + Drop, S: Store>(
     requires { (scene L.log S.disk parts.old shelf.old).sound }
     ensures step { IsStep (scene L.log S.disk parts.old shelf.old) (scene L.log S.disk parts.new shelf.new) }
     ensures meets { let a = scene L.log S.disk parts.old shelf.old in let b = scene L.log S.disk parts.new shelf.new in
-        Meets a b (IsServed request.now.correlation_id (if_read a.state.world (whole list_offsets_request request.now.body.now) (of_list_offsets a.state.world)) b.state.world [] result) }
+        Meets a b (IsServed request.now.correlation_id
+        (if_read a.state.world (whole list_offsets_request request.now.body.now) (of_list_offsets a.state.world)) b.state.world [] result) }
 {
     let asked = ListOffsetsRequest::read(alloc, request.body)?;
     let mut sink = begin(alloc, request.correlation_id)?;
@@ -124,7 +133,8 @@ fn serve_metadata<L: PartitionLog + Drop>(
 ) -> Result<Answer, ReadFault>
     requires { string.Fits node.now.host }
     ensures { (files : Files) → let w = world_of L.log parts.now files in
-        IsServed request.now.correlation_id (if_read w (asked_metadata request.now.api_version request.now.body.now) (of_metadata node.now request.now.api_version w)) w [] result }
+        IsServed request.now.correlation_id (if_read w (asked_metadata request.now.api_version request.now.body.now)
+        (of_metadata node.now request.now.api_version w)) w [] result }
 {
     let asked = read_metadata(alloc, request.api_version, request.body)?;
     let mut sink = begin(alloc, request.correlation_id)?;
@@ -142,9 +152,12 @@ fn serve_create_topics<L: PartitionLog + Drop, S: Store>(
     requires { (scene L.log S.disk parts.old shelf.old).sound }
     ensures step { IsStep (scene L.log S.disk parts.old shelf.old) (scene L.log S.disk parts.new shelf.new) }
     ensures meets { let a = scene L.log S.disk parts.old shelf.old in let b = scene L.log S.disk parts.new shelf.new in
-        Meets a b (IsServed request.now.correlation_id (if_read a.state.world (asked_creations request.now.api_version request.now.body.now) (of_create_topics request.now.api_version a.state.world)) b.state.world [] result) }
+        Meets a b (IsServed request.now.correlation_id
+        (if_read a.state.world (asked_creations request.now.api_version request.now.body.now)
+        (of_create_topics request.now.api_version a.state.world)) b.state.world [] result) }
     ensures acknowledged { let a = scene L.log S.disk parts.old shelf.old in let b = scene L.log S.disk parts.new shelf.new in
-        IfOk result (λ answer. WhereHonest a b (AcknowledgesCreations (CreationFailed a b) request.now.correlation_id request.now.api_version a.state.world request.now.body.now b.state.world answer)) }
+        IfOk result (λ answer. WhereHonest a b (AcknowledgesCreations
+        (CreationFailed a b) request.now.correlation_id request.now.api_version a.state.world request.now.body.now b.state.world answer)) }
 {
     let version = request.api_version;
     let asked = read_create_topics(alloc, version, request.body)?;
@@ -169,9 +182,13 @@ fn serve_delete_topics<L: PartitionLog + Drop, S: Store>(
     requires sound { (scene L.log S.disk parts.old shelf.old).sound }
     ensures step { IsStep (scene L.log S.disk parts.old shelf.old) (scene L.log S.disk parts.new shelf.new) }
     ensures meets { let a = scene L.log S.disk parts.old shelf.old in let b = scene L.log S.disk parts.new shelf.new in
-        Meets a b (IsServed request.now.correlation_id (if_read a.state.world (whole delete_topics_request request.now.body.now) (of_delete_topics request.now.api_version a.state.world)) b.state.world touched.new.items result) }
+        Meets a b (IsServed request.now.correlation_id
+        (if_read a.state.world (whole delete_topics_request request.now.body.now) (of_delete_topics request.now.api_version a.state.world))
+        b.state.world touched.new.items result) }
     ensures acknowledged { let a = scene L.log S.disk parts.old shelf.old in let b = scene L.log S.disk parts.new shelf.new in
-        IfOk result (λ answer. WhereHonest a b (AcknowledgesRemovals (CatalogFailed a b) request.now.correlation_id request.now.api_version a.state.world request.now.body.now b.state.world touched.new.items answer)) }
+        IfOk result (λ answer. WhereHonest a b (AcknowledgesRemovals
+        (CatalogFailed a b) request.now.correlation_id request.now.api_version a.state.world request.now.body.now b.state.world
+        touched.new.items answer)) }
 {
     let asked = DeleteTopicsRequest::read(alloc, request.body)?;
     let mut sink = begin(alloc, request.correlation_id)?;
@@ -198,7 +215,9 @@ fn serve_delete_records<L: PartitionLog + Drop, S: Store>(
     requires sound { (scene L.log S.disk parts.old shelf.old).sound }
     ensures step { IsStep (scene L.log S.disk parts.old shelf.old) (scene L.log S.disk parts.new shelf.new) }
     ensures meets { let a = scene L.log S.disk parts.old shelf.old in let b = scene L.log S.disk parts.new shelf.new in
-        Meets a b (IsServed request.now.correlation_id (if_read a.state.world (whole delete_records_request request.now.body.now) (of_delete_records a.state.world)) b.state.world touched.new.items result) }
+        Meets a b (IsServed request.now.correlation_id
+        (if_read a.state.world (whole delete_records_request request.now.body.now) (of_delete_records a.state.world)) b.state.world
+        touched.new.items result) }
     ensures acknowledged { let a = scene L.log S.disk parts.old shelf.old in let b = scene L.log S.disk parts.new shelf.new in
         IfOk result (λ answer. WhereHonest a b (AcknowledgesDeletions (CatalogFailed a b)
         request.now.correlation_id a.state.world request.now.body.now b.state.world touched.new.items answer)) }
@@ -219,9 +238,12 @@ fn serve_init_producer_id<L: PartitionLog + Drop, S: Store>(
     requires { (scene L.log S.disk parts.old shelf.old).sound }
     ensures step { IsStep (scene L.log S.disk parts.old shelf.old) (scene L.log S.disk parts.new shelf.new) }
     ensures meets { let a = scene L.log S.disk parts.old shelf.old in let b = scene L.log S.disk parts.new shelf.new in
-        Meets a b (IsServed request.now.correlation_id (if_read a.state.world (whole init_producer_id_request request.now.body.now) (of_init_producer_id a.state.world)) b.state.world [] result) }
+        Meets a b (IsServed request.now.correlation_id
+        (if_read a.state.world (whole init_producer_id_request request.now.body.now) (of_init_producer_id a.state.world)) b.state.world []
+        result) }
     ensures acknowledged { let a = scene L.log S.disk parts.old shelf.old in let b = scene L.log S.disk parts.new shelf.new in
-        IfOk result (λ answer. WhereHonest a b (AcknowledgesIssue (CatalogFailed a b) request.now.correlation_id a.state.world request.now.body.now b.state.world answer)) }
+        IfOk result (λ answer. WhereHonest a b (AcknowledgesIssue
+        (CatalogFailed a b) request.now.correlation_id a.state.world request.now.body.now b.state.world answer)) }
 {
     let asked = InitProducerIdRequest::read(alloc, request.body)?;
     let mut sink = begin(alloc, request.correlation_id)?;
@@ -245,24 +267,36 @@ fn serve_by_key<L: PartitionLog + Drop, S: Store>(
     requires sound { (scene L.log S.disk parts.old shelf.old).sound }
     ensures step { IsStep (scene L.log S.disk parts.old shelf.old) (scene L.log S.disk parts.new shelf.new) }
     ensures meets { let a = scene L.log S.disk parts.old shelf.old in let b = scene L.log S.disk parts.new shelf.new in
-        Meets a b (IsServed request.now.correlation_id (plainly_served node.now a.state.world request.now.connection request.now.api_key request.now.api_version request.now.body.now) b.state.world touched.new.items result) }
+        Meets a b (IsServed request.now.correlation_id
+        (plainly_served node.now a.state.world request.now.connection request.now.api_key request.now.api_version request.now.body.now)
+        b.state.world touched.new.items result) }
     ensures acknowledged { let a = scene L.log S.disk parts.old shelf.old in let b = scene L.log S.disk parts.new shelf.new in
-        request.now.api_key ≡ pos 0 → IfOk result (λ answer. WhereHonest a b (Acknowledges (HasFailed a b) request.now.correlation_id a.state.world request.now.body.now b.state.world touched.new.items answer)) }
+        request.now.api_key ≡ pos 0 → IfOk result (λ answer.
+        WhereHonest a b (Acknowledges (HasFailed a b) request.now.correlation_id a.state.world request.now.body.now b.state.world
+        touched.new.items answer)) }
     ensures spared { let a = scene L.log S.disk parts.old shelf.old in let b = scene L.log S.disk parts.new shelf.new in
         request.now.api_key ≡ pos 0 → OnErr result (b.state.world ≡ a.state.world) }
     ensures shut { let a = scene L.log S.disk parts.old shelf.old in let b = scene L.log S.disk parts.new shelf.new in
         request.now.api_key ≡ pos 0 → IfOk result (λ answer. IsSpared a.state.world request.now.body.now b.state.world answer) }
     ensures created { let a = scene L.log S.disk parts.old shelf.old in let b = scene L.log S.disk parts.new shelf.new in
-        request.now.api_key ≡ pos 19 → IfOk result (λ answer. WhereHonest a b (AcknowledgesCreations (CreationFailed a b) request.now.correlation_id request.now.api_version a.state.world request.now.body.now b.state.world answer)) }
+        request.now.api_key ≡ pos 19 → IfOk result (λ answer.
+        WhereHonest a b (AcknowledgesCreations (CreationFailed a b) request.now.correlation_id request.now.api_version a.state.world
+        request.now.body.now b.state.world answer)) }
     ensures removed { let a = scene L.log S.disk parts.old shelf.old in let b = scene L.log S.disk parts.new shelf.new in
-        request.now.api_key ≡ pos 20 → IfOk result (λ answer. WhereHonest a b (AcknowledgesRemovals (CatalogFailed a b) request.now.correlation_id request.now.api_version a.state.world request.now.body.now b.state.world touched.new.items answer)) }
+        request.now.api_key ≡ pos 20 → IfOk result (λ answer.
+        WhereHonest a b (AcknowledgesRemovals (CatalogFailed a b) request.now.correlation_id request.now.api_version a.state.world
+        request.now.body.now b.state.world touched.new.items answer)) }
     ensures trimmed { let a = scene L.log S.disk parts.old shelf.old in let b = scene L.log S.disk parts.new shelf.new in
         request.now.api_key ≡ pos 21 → IfOk result (λ answer. WhereHonest a b (AcknowledgesDeletions (CatalogFailed a b)
         request.now.correlation_id a.state.world request.now.body.now b.state.world touched.new.items answer)) }
     ensures issued { let a = scene L.log S.disk parts.old shelf.old in let b = scene L.log S.disk parts.new shelf.new in
-        request.now.api_key ≡ pos 22 → IfOk result (λ answer. WhereHonest a b (AcknowledgesIssue (CatalogFailed a b) request.now.correlation_id a.state.world request.now.body.now b.state.world answer)) }
+        request.now.api_key ≡ pos 22 → IfOk result (λ answer.
+        WhereHonest a b (AcknowledgesIssue (CatalogFailed a b) request.now.correlation_id a.state.world request.now.body.now b.state.world
+        answer)) }
     ensures committed { let a = scene L.log S.disk parts.old shelf.old in let b = scene L.log S.disk parts.new shelf.new in
-        request.now.api_key ≡ pos 8 → IfOk result (λ answer. WhereHonest a b (AcknowledgesCommits (CatalogFailed a b) request.now.correlation_id a.state.world request.now.body.now b.state.world answer)) }
+        request.now.api_key ≡ pos 8 → IfOk result (λ answer.
+        WhereHonest a b (AcknowledgesCommits (CatalogFailed a b) request.now.correlation_id a.state.world request.now.body.now b.state.world
+        answer)) }
 {
     match request.api_key {
         0 => serve_produce(alloc, parts, shelf, request, touched),
@@ -298,29 +332,40 @@ pub fn serve<L: PartitionLog + Drop, S: Store>(
     requires sound { (scene L.log S.disk parts.old shelf.old).sound }
     ensures step { IsStep (scene L.log S.disk parts.old shelf.old) (scene L.log S.disk parts.new shelf.new) }
     ensures meets { let a = scene L.log S.disk parts.old shelf.old in let b = scene L.log S.disk parts.new shelf.new in
-        Meets a b (IsOutcome request.now.correlation_id (plainly_served node.now a.state.world request.now.connection request.now.api_key request.now.api_version request.now.body.now) b.state.world result.touched.items result.answer) }
+        Meets a b (IsOutcome request.now.correlation_id
+        (plainly_served node.now a.state.world request.now.connection request.now.api_key request.now.api_version request.now.body.now)
+        b.state.world result.touched.items result.answer) }
     // A batch of a Produce that is answered with no error is in its partition's log, whatever else was refused.
     ensures acknowledged { let a = scene L.log S.disk parts.old shelf.old in let b = scene L.log S.disk parts.new shelf.new in
-        request.now.api_key ≡ pos 0 → WhereHonest a b (Acknowledges (HasFailed a b) request.now.correlation_id a.state.world request.now.body.now b.state.world result.touched.items result.answer) }
+        request.now.api_key ≡ pos 0 → WhereHonest a b
+        (Acknowledges (HasFailed a b) request.now.correlation_id a.state.world request.now.body.now b.state.world result.touched.items
+        result.answer) }
     // A Produce whose connection is shut for want of memory has appended nothing.
     ensures spared { let a = scene L.log S.disk parts.old shelf.old in let b = scene L.log S.disk parts.new shelf.new in
         request.now.api_key ≡ pos 0 → IsSpared a.state.world request.now.body.now b.state.world result.answer }
     // A topic of a CreateTopics that is answered with no error is in the catalog, whatever else was refused.
     ensures created { let a = scene L.log S.disk parts.old shelf.old in let b = scene L.log S.disk parts.new shelf.new in
-        request.now.api_key ≡ pos 19 → WhereHonest a b (AcknowledgesCreations (CreationFailed a b) request.now.correlation_id request.now.api_version a.state.world request.now.body.now b.state.world result.answer) }
+        request.now.api_key ≡ pos 19 → WhereHonest a b
+        (AcknowledgesCreations (CreationFailed a b) request.now.correlation_id request.now.api_version a.state.world request.now.body.now
+        b.state.world result.answer) }
     // A topic of a DeleteTopics that is answered with no error is gone.
     ensures removed { let a = scene L.log S.disk parts.old shelf.old in let b = scene L.log S.disk parts.new shelf.new in
-        request.now.api_key ≡ pos 20 → WhereHonest a b (AcknowledgesRemovals (CatalogFailed a b) request.now.correlation_id request.now.api_version a.state.world request.now.body.now b.state.world result.touched.items result.answer) }
+        request.now.api_key ≡ pos 20 → WhereHonest a b
+        (AcknowledgesRemovals (CatalogFailed a b) request.now.correlation_id request.now.api_version a.state.world request.now.body.now
+        b.state.world result.touched.items result.answer) }
     // Records that a DeleteRecords answers with no error are deleted.
     ensures trimmed { let a = scene L.log S.disk parts.old shelf.old in let b = scene L.log S.disk parts.new shelf.new in
         request.now.api_key ≡ pos 21 → WhereHonest a b (AcknowledgesDeletions (CatalogFailed a b)
         request.now.correlation_id a.state.world request.now.body.now b.state.world result.touched.items result.answer) }
     // An id that an InitProducerId answers with no error was given out.
     ensures issued { let a = scene L.log S.disk parts.old shelf.old in let b = scene L.log S.disk parts.new shelf.new in
-        request.now.api_key ≡ pos 22 → WhereHonest a b (AcknowledgesIssue (CatalogFailed a b) request.now.correlation_id a.state.world request.now.body.now b.state.world result.answer) }
+        request.now.api_key ≡ pos 22 → WhereHonest a b
+        (AcknowledgesIssue (CatalogFailed a b) request.now.correlation_id a.state.world request.now.body.now b.state.world result.answer) }
     // An offset of an OffsetCommit that is answered with no error is what the catalog has.
     ensures committed { let a = scene L.log S.disk parts.old shelf.old in let b = scene L.log S.disk parts.new shelf.new in
-        request.now.api_key ≡ pos 8 → WhereHonest a b (AcknowledgesCommits (CatalogFailed a b) request.now.correlation_id a.state.world request.now.body.now b.state.world result.answer) }
+        request.now.api_key ≡ pos 8 → WhereHonest a b
+        (AcknowledgesCommits (CatalogFailed a b) request.now.correlation_id a.state.world request.now.body.now b.state.world
+        result.answer) }
 {
     let mut touched = Vec::new(alloc);
     match serve_by_key(alloc, parts, shelf, node, request, &mut touched) {
@@ -352,7 +397,11 @@ fn look_at<L: PartitionLog + Drop, S: Store>(
     ensures same { let a = scene L.log S.disk parts.old shelf.old in let b = scene L.log S.disk parts.new shelf.new in
         b.disk.honest → a.agrees → b.state.world ≡ a.state.world }
     ensures meets { let a = scene L.log S.disk parts.old shelf.old in let b = scene L.log S.disk parts.new shelf.new in
-        Meets a b (IsServed wait.now.correlation_id (stays a.state.world (looked a.state.world wait.now.deadline wait.now.api_version wait.now.body.now)) b.state.world [] result) }
+        Meets a b (IsServed wait.now.correlation_id
+        (stays a.state.world (looked a.state.world wait.now.deadline wait.now.api_version wait.now.body.now)) b.state.world [] result) }
+    ensures told { let a = scene L.log S.disk parts.old shelf.old in let b = scene L.log S.disk parts.new shelf.new in
+        IfOk result (λ answer. WhereHonest a b (AnswersLook (HasFailed a b) wait.now.correlation_id wait.now.api_version
+        a.state.world wait.now.deadline wait.now.body.now answer)) }
 {
     let has_starts = fetch::has_starts(wait.api_version);
     let asked = read_request(alloc, has_starts, wait.body)?;
@@ -373,8 +422,9 @@ fn look_at<L: PartitionLog + Drop, S: Store>(
 
 /// Looks at a fetch that waits until its deadline at most.
 ///
-/// It is answered where it waits no longer; `NoReply` says that it still waits. The world stays, whatever is refused. Want
-/// of memory shuts the connection and is counted.
+/// It is answered where it waits no longer; `NoReply` says that it still waits. The world stays, whatever is refused. A partition that
+/// memory or the store refused is answered with the code that names it, and then the fetch waits no longer. Want of memory for the
+/// reply shuts the connection and is counted.
 pub fn look<L: PartitionLog + Drop, S: Store>(
     alloc: Global,
     parts: &mut Parts<L>,
@@ -386,7 +436,12 @@ pub fn look<L: PartitionLog + Drop, S: Store>(
     ensures same { let a = scene L.log S.disk parts.old shelf.old in let b = scene L.log S.disk parts.new shelf.new in
         b.disk.honest → a.agrees → b.state.world ≡ a.state.world }
     ensures meets { let a = scene L.log S.disk parts.old shelf.old in let b = scene L.log S.disk parts.new shelf.new in
-        Meets a b ((b.state.world ≡ a.state.world) × IsAnswer wait.now.correlation_id (looked a.state.world wait.now.deadline wait.now.api_version wait.now.body.now) result) }
+        Meets a b ((b.state.world ≡ a.state.world)
+        × IsAnswer wait.now.correlation_id (looked a.state.world wait.now.deadline wait.now.api_version wait.now.body.now) result) }
+    // Whatever was refused, a reply has of each partition what is defined, or the code of what refused it.
+    ensures told { let a = scene L.log S.disk parts.old shelf.old in let b = scene L.log S.disk parts.new shelf.new in
+        WhereHonest a b (AnswersLook (HasFailed a b) wait.now.correlation_id wait.now.api_version
+        a.state.world wait.now.deadline wait.now.body.now result) }
 {
     match look_at(alloc, parts, shelf, wait) {
         Ok(answer) => answer,

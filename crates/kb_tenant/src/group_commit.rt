@@ -1,12 +1,14 @@
 //! OffsetCommit, version 2 (Kafka protocol guide): a group records how far it has processed partitions.
 ghost use Rattle.std.specs.Prelude.{◌≡◌, ◌++◌, ◌<◌, ◌^◌, length, pos, List, OnOk};
 ghost use Rattle.std.specs.List.{flat_map};
-ghost use Rattle.kb_api_group.specs.Layouts.{commit_partition_reply, commit_topic, commit_topic_reply, offset_commit_request, offset_commit_reply};
+ghost use Rattle.kb_api_group.specs.Layouts.{commit_partition_reply, commit_topic, commit_topic_reply, offset_commit_request};
+ghost use Rattle.kb_api_group.specs.Layouts.{offset_commit_reply};
 ghost use Rattle.kb_api_group.specs.declared.offset_commit.CommitPartitionReply.{CommitPartitionReply};
 ghost use Rattle.kb_api_group.specs.declared.offset_commit.CommitTopicReply.{CommitTopicReply};
 ghost use Rattle.kb_api_group.specs.declared.offset_commit.OffsetCommitReply.{OffsetCommitReply};
 ghost use Rattle.kb_partitions.specs.Scene.{WhereHonest};
-ghost use Rattle.kb_tenant.specs.OffsetCommit.{refusal_of as refusal_for, metadata_in as metadata_for, committed_at, committed, committed_entry, committed_topic, committed_all};
+ghost use Rattle.kb_tenant.specs.OffsetCommit.{refusal_of as refusal_for, metadata_in as metadata_for, committed_at, committed};
+ghost use Rattle.kb_tenant.specs.OffsetCommit.{committed_entry, committed_topic, committed_all};
 ghost use Rattle.kb_tenant.specs.Produce.{written_next};
 ghost use Rattle.kb_tenant.specs.Told.{CatalogFailed, IsCommitTold, IsCommitTopicTold, IsFaultOf, IsTold};
 ghost use Rattle.kb_tenant.specs.Turns.{in_turn, written_behind, AreServed};
@@ -64,7 +66,8 @@ fn commit_at<L: PartitionLog + Drop, S: Store>(
     ensures meets { let a = scene L.log S.disk parts.old shelf.old in let b = scene L.log S.disk parts.new shelf.new in
         Meets a b ((b.state.world, result) ≡ committed_at a.state.world (Some place) group.now entry.now) }
     ensures told { let a = scene L.log S.disk parts.old shelf.old in let b = scene L.log S.disk parts.new shelf.new in
-        IsTold a b ((b.state.world, result) ≡ committed_at a.state.world (Some place) group.now entry.now) (IsFaultOf (IsCatalogWant a b) result) }
+        IsTold a b ((b.state.world, result) ≡ committed_at a.state.world (Some place) group.now entry.now)
+        (IsFaultOf (IsCatalogWant a b) result) }
 {
     let metadata = metadata_in(entry);
     code_in(parts.commit(shelf, place, group, entry.offset, metadata))
@@ -85,7 +88,8 @@ fn commit_entry<L: PartitionLog + Drop, S: Store>(
     ensures meets { let a = scene L.log S.disk parts.old shelf.old in let b = scene L.log S.disk parts.new shelf.new in
         Meets a b ((b.state.world, result) ≡ committed refusal group.now topic a.state.world entry.now) }
     ensures told { let a = scene L.log S.disk parts.old shelf.old in let b = scene L.log S.disk parts.new shelf.new in
-        IsTold a b ((b.state.world, result) ≡ committed refusal group.now topic a.state.world entry.now) (IsFaultOf (IsCatalogWant a b) result) }
+        IsTold a b ((b.state.world, result) ≡ committed refusal group.now topic a.state.world entry.now)
+        (IsFaultOf (IsCatalogWant a b) result) }
     // An offset that is answered with no error is a command of the catalog, whatever else was refused.
     ensures acknowledged { let a = scene L.log S.disk parts.old shelf.old in let b = scene L.log S.disk parts.new shelf.new in
         result ≡ pos 0 → IsDone a b ((b.state.world, result) ≡ committed refusal group.now topic a.state.world entry.now) }
@@ -113,9 +117,12 @@ fn commit_entries<L: PartitionLog + Drop, S: Store>(
     requires text { length group.now < 2 ^ 15 }
     ensures step { IsStep (scene L.log S.disk parts.old shelf.old) (scene L.log S.disk parts.new shelf.new) }
     ensures meets { OnOk result (let a = scene L.log S.disk parts.old shelf.old in let b = scene L.log S.disk parts.new shelf.new in
-        Meets a b ((b.state.world, sink.new.bytes) ≡ written_behind commit_partition_reply.written sink.old.bytes (in_turn (committed_entry refusal group.now topic) a.state.world entries.now))) }
+        Meets a b ((b.state.world, sink.new.bytes)
+        ≡ written_behind commit_partition_reply.written sink.old.bytes
+        (in_turn (committed_entry refusal group.now topic) a.state.world entries.now))) }
     ensures told { OnOk result (let a = scene L.log S.disk parts.old shelf.old in let b = scene L.log S.disk parts.new shelf.new in
-        WhereHonest a b ((replies : List CommitPartitionReply) × ((sink.new.bytes ≡ sink.old.bytes ++ flat_map commit_partition_reply.written replies)
+        WhereHonest a b ((replies : List CommitPartitionReply)
+        × ((sink.new.bytes ≡ sink.old.bytes ++ flat_map commit_partition_reply.written replies)
         × AreServed (IsCommitTold (CatalogFailed a b) refusal group.now topic) a.state.world entries.now b.state.world replies))) }
 {
     for entry in entries {
@@ -142,7 +149,8 @@ fn commit_topic<L: PartitionLog + Drop, S: Store>(
     requires fits { commit_topic.Fits topic.now }
     ensures step { IsStep (scene L.log S.disk parts.old shelf.old) (scene L.log S.disk parts.new shelf.new) }
     ensures meets { OnOk result (let a = scene L.log S.disk parts.old shelf.old in let b = scene L.log S.disk parts.new shelf.new in
-        Meets a b ((b.state.world, sink.new.bytes) ≡ written_next commit_topic_reply.written sink.old.bytes (committed_topic refusal group.now a.state.world topic.now))) }
+        Meets a b ((b.state.world, sink.new.bytes)
+        ≡ written_next commit_topic_reply.written sink.old.bytes (committed_topic refusal group.now a.state.world topic.now))) }
     ensures told { OnOk result (let a = scene L.log S.disk parts.old shelf.old in let b = scene L.log S.disk parts.new shelf.new in
         WhereHonest a b ((reply : CommitTopicReply) × ((sink.new.bytes ≡ sink.old.bytes ++ commit_topic_reply.written reply)
         × IsCommitTopicTold (CatalogFailed a b) refusal group.now a.state.world topic.now b.state.world reply))) }
@@ -177,7 +185,8 @@ pub fn offset_commit<L: PartitionLog + Drop, S: Store>(
     // An offset that is answered with no error is what the catalog has, whatever else was refused.
     ensures told { OnOk result (let a = scene L.log S.disk parts.old shelf.old in let b = scene L.log S.disk parts.new shelf.new in
         WhereHonest a b ((reply : OffsetCommitReply) × ((sink.new.bytes ≡ sink.old.bytes ++ offset_commit_reply.written reply)
-        × AreServed (IsCommitTopicTold (CatalogFailed a b) refusal request.now.group_id) a.state.world request.now.topics b.state.world reply.topics))) }
+        × AreServed (IsCommitTopicTold (CatalogFailed a b) refusal request.now.group_id) a.state.world request.now.topics b.state.world
+        reply.topics))) }
 {
     let group = request.group_id.as_str();
     sink.put_count(request.topics.len())?;

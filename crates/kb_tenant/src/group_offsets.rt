@@ -33,9 +33,12 @@ pub(crate) fn serve_offset_commit<L: PartitionLog + Drop, S: Store>(
     requires { (scene L.log S.disk parts.old shelf.old).sound }
     ensures step { IsStep (scene L.log S.disk parts.old shelf.old) (scene L.log S.disk parts.new shelf.new) }
     ensures meets { let a = scene L.log S.disk parts.old shelf.old in let b = scene L.log S.disk parts.new shelf.new in
-        Meets a b (IsServed request.now.correlation_id (if_read a.state.world (whole offset_commit_request request.now.body.now) (of_offset_commit a.state.world)) b.state.world [] result) }
+        Meets a b (IsServed request.now.correlation_id
+        (if_read a.state.world (whole offset_commit_request request.now.body.now) (of_offset_commit a.state.world)) b.state.world []
+        result) }
     ensures acknowledged { let a = scene L.log S.disk parts.old shelf.old in let b = scene L.log S.disk parts.new shelf.new in
-        IfOk result (λ answer. WhereHonest a b (AcknowledgesCommits (CatalogFailed a b) request.now.correlation_id a.state.world request.now.body.now b.state.world answer)) }
+        IfOk result (λ answer. WhereHonest a b (AcknowledgesCommits
+        (CatalogFailed a b) request.now.correlation_id a.state.world request.now.body.now b.state.world answer)) }
 {
     let asked = OffsetCommitRequest::read(alloc, request.body)?;
     let mut sink = begin(alloc, request.correlation_id)?;
@@ -67,7 +70,8 @@ pub(crate) fn serve_find_coordinator(
 ) -> Result<Answer, ReadFault>
     requires { string.Fits node.now.host }
     ensures { (w : World) →
-        IsServed request.now.correlation_id (if_read w (whole find_coordinator_request request.now.body.now) (of_find_coordinator node.now w)) w [] result }
+        IsServed request.now.correlation_id (if_read w (whole find_coordinator_request request.now.body.now)
+        (of_find_coordinator node.now w)) w [] result }
 {
     let _asked = FindCoordinatorRequest::read(alloc, request.body)?;
     let mut sink = begin(alloc, request.correlation_id)?;

@@ -1,8 +1,10 @@
 //! ListOffsets: offsets that are asked by time.
 ghost use Rattle.std.specs.Prelude.{◌≡◌, ◌++◌, OnOk, map};
 ghost use Rattle.std.specs.List.{flat_map};
-ghost use Rattle.kb_api_data.specs.Layouts.{list_offsets_topic, list_offsets_request, list_offsets_partition_reply, list_offsets_topic_reply, list_offsets_reply};
-ghost use Rattle.kb_tenant.specs.ListOffsets.{offset_refused, offset_answered, edge_answered, offset_found, listed, listed_at, listed_topic, list_offsets};
+ghost use Rattle.kb_api_data.specs.Layouts.{list_offsets_topic, list_offsets_request, list_offsets_partition_reply};
+ghost use Rattle.kb_api_data.specs.Layouts.{list_offsets_topic_reply, list_offsets_reply};
+ghost use Rattle.kb_tenant.specs.ListOffsets.{offset_refused, offset_answered, edge_answered, offset_found, listed, listed_at};
+ghost use Rattle.kb_tenant.specs.ListOffsets.{listed_topic, list_offsets};
 ghost use Rattle.kb_world.specs.Parts.{scene};
 ghost use Rattle.kb_world.specs.Steps.{IsStep, Meets};
 

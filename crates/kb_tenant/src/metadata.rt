@@ -7,7 +7,8 @@ ghost use Rattle.kb_api_data.specs.declared.metadata.MetadataTopic.{MetadataTopi
 ghost use Rattle.kb_store.specs.Disk.{Files};
 ghost use Rattle.kb_wire.specs.Codec.{array, int32, nullable_string, string};
 ghost use Rattle.kb_wire.specs.Reads.{ReadsWhole};
-ghost use Rattle.kb_tenant.specs.Metadata.{asked_metadata, broker, broker_v0, internal_in, metadata_in, metadata_of, partition_described, topic_asked, topic_described, topic_in, topic_known, topics_asked, topics_in};
+ghost use Rattle.kb_tenant.specs.Metadata.{asked_metadata, broker, broker_v0, internal_in, metadata_in, metadata_of, partition_described};
+ghost use Rattle.kb_tenant.specs.Metadata.{topic_asked, topic_described, topic_in, topic_known, topics_asked, topics_in};
 ghost use Rattle.kb_world.specs.Parts.{world_of};
 
 use crate::node::Node;
@@ -94,7 +95,8 @@ fn put_broker(node: &Node<'_>, sink: &mut Sink) -> Result<(), AllocError>
 /// Writes the one broker, the cluster's id, which is null, and the controller, which is that broker.
 fn put_cluster(node: &Node<'_>, sink: &mut Sink) -> Result<(), AllocError>
     requires { string.Fits node.now.host }
-    ensures { OnOk result (sink.new.bytes ≡ sink.old.bytes ++ ((array metadata_broker).written (broker node.now ∷ []) ++ (nullable_string.written None ++ int32.written (pos 0)))) }
+    ensures { OnOk result (sink.new.bytes ≡ sink.old.bytes
+        ++ ((array metadata_broker).written (broker node.now ∷ []) ++ (nullable_string.written None ++ int32.written (pos 0)))) }
 {
     put_broker(node, sink)?;
     sink.put_nullable_string(&None)?;
@@ -145,7 +147,8 @@ fn put_partition(partition: usize, sink: &mut Sink) -> Result<(), AllocError>
 /// Writes partitions, from 0 on.
 fn put_partitions(partitions: usize, sink: &mut Sink) -> Result<(), AllocError>
     requires { partitions < 2 ^ 31 }
-    ensures { OnOk result (sink.new.bytes ≡ sink.old.bytes ++ flat_map metadata_partition.written (map partition_described (range_with_len 0 partitions))) }
+    ensures { OnOk result (sink.new.bytes ≡ sink.old.bytes
+        ++ flat_map metadata_partition.written (map partition_described (range_with_len 0 partitions))) }
 {
     for partition in 0..partitions {
         put_partition(partition, sink)?;
@@ -208,7 +211,8 @@ fn put_asked<L: PartitionLog + Drop>(
     sink: &mut Sink,
 ) -> Result<(), AllocError>
     requires { string.Fits name.now }
-    ensures { (files : Files) → OnOk result (sink.new.bytes ≡ sink.old.bytes ++ topic_in version (topic_asked (world_of L.log parts.now files).known.topics name.now)) }
+    ensures { (files : Files) → OnOk result (sink.new.bytes ≡ sink.old.bytes
+        ++ topic_in version (topic_asked (world_of L.log parts.now files).known.topics name.now)) }
 {
     if !is_legal_name(name) {
         return put_topic(version, ErrorCode::InvalidTopic.code(), name, 0, sink);
@@ -248,7 +252,8 @@ fn put_all_asked<L: PartitionLog + Drop>(
     sink: &mut Sink,
 ) -> Result<(), AllocError>
     requires { (array string).Fits names.now }
-    ensures { (files : Files) → OnOk result (sink.new.bytes ≡ sink.old.bytes ++ topics_in version (topics_asked (world_of L.log parts.now files).known.topics (Some names.now))) }
+    ensures { (files : Files) → OnOk result (sink.new.bytes ≡ sink.old.bytes
+        ++ topics_in version (topics_asked (world_of L.log parts.now files).known.topics (Some names.now))) }
 {
     sink.put_count(names.len())?;
     for name in names {
@@ -263,7 +268,8 @@ fn put_all<L: PartitionLog + Drop>(
     version: i16,
     sink: &mut Sink,
 ) -> Result<(), AllocError>
-    ensures { (files : Files) → OnOk result (sink.new.bytes ≡ sink.old.bytes ++ topics_in version (topics_asked (world_of L.log parts.now files).known.topics None)) }
+    ensures { (files : Files) → OnOk result (sink.new.bytes ≡ sink.old.bytes
+        ++ topics_in version (topics_asked (world_of L.log parts.now files).known.topics None)) }
 {
     let count = parts.topics().count();
     if count > i32::MAX as usize {
@@ -288,7 +294,8 @@ pub fn metadata<L: PartitionLog + Drop>(
 ) -> Result<(), AllocError>
     requires host { string.Fits node.now.host }
     requires fits { metadata_request.Fits request.now }
-    ensures { (files : Files) → OnOk result (sink.new.bytes ≡ sink.old.bytes ++ metadata_in version (metadata_of (world_of L.log parts.now files) node.now request.now)) }
+    ensures { (files : Files) → OnOk result (sink.new.bytes ≡ sink.old.bytes
+        ++ metadata_in version (metadata_of (world_of L.log parts.now files) node.now request.now)) }
 {
     put_node(version, node, sink)?;
     match &request.topics {

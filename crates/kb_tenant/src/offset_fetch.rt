@@ -3,7 +3,8 @@ ghost use Rattle.std.specs.Prelude.{◌≡◌, ◌++◌, OnOk, map};
 ghost use Rattle.std.specs.List.{flat_map};
 ghost use Rattle.std.specs.Option.{option_copied};
 ghost use Rattle.kb_store.specs.Disk.{Files};
-ghost use Rattle.kb_api_group.specs.Layouts.{offset_fetch_topic, offset_fetch_request, offset_fetch_partition_reply, offset_fetch_topic_reply, offset_fetch_reply};
+ghost use Rattle.kb_api_group.specs.Layouts.{offset_fetch_topic, offset_fetch_request, offset_fetch_partition_reply};
+ghost use Rattle.kb_api_group.specs.Layouts.{offset_fetch_topic_reply, offset_fetch_reply};
 ghost use Rattle.kb_tenant.specs.OffsetFetch.{committed_answered, told, kept, fetched, fetched_topic, fetched_all};
 ghost use Rattle.kb_world.specs.Parts.{world_of};
 
@@ -34,7 +35,8 @@ fn put_answer(
     metadata: &str,
     sink: &mut Sink,
 ) -> Result<(), AllocError>
-    ensures { OnOk result (sink.new.bytes ≡ sink.old.bytes ++ offset_fetch_partition_reply.written (committed_answered partition offset metadata.now)) }
+    ensures { OnOk result (sink.new.bytes ≡ sink.old.bytes
+        ++ offset_fetch_partition_reply.written (committed_answered partition offset metadata.now)) }
 {
     if metadata.len() > i16::MAX as usize {
         return Err(AllocError);
@@ -54,7 +56,8 @@ fn put_told(
     committed: Option<&Committed>,
     sink: &mut Sink,
 ) -> Result<(), AllocError>
-    ensures { OnOk result (sink.new.bytes ≡ sink.old.bytes ++ offset_fetch_partition_reply.written (told partition (option_copied committed.entry))) }
+    ensures { OnOk result (sink.new.bytes ≡ sink.old.bytes
+        ++ offset_fetch_partition_reply.written (told partition (option_copied committed.entry))) }
 {
     match committed {
         Some(committed) => put_answer(partition, committed.offset(), committed.metadata(), sink),
@@ -70,7 +73,8 @@ fn fetch_partitions<L: PartitionLog + Drop>(
     partitions: &[i32],
     sink: &mut Sink,
 ) -> Result<(), AllocError>
-    ensures { (files : Files) → OnOk result (sink.new.bytes ≡ sink.old.bytes ++ flat_map offset_fetch_partition_reply.written (map (fetched (world_of L.log parts.now files) group.now topic) partitions.now)) }
+    ensures { (files : Files) → OnOk result (sink.new.bytes ≡ sink.old.bytes
+        ++ flat_map offset_fetch_partition_reply.written (map (fetched (world_of L.log parts.now files) group.now topic) partitions.now)) }
 {
     for partition in partitions {
         put_told(*partition, kept(parts, group, topic, *partition), sink)?;
@@ -86,7 +90,8 @@ fn fetch_topic<L: PartitionLog + Drop>(
     sink: &mut Sink,
 ) -> Result<(), AllocError>
     requires { offset_fetch_topic.Fits topic.now }
-    ensures { (files : Files) → OnOk result (sink.new.bytes ≡ sink.old.bytes ++ offset_fetch_topic_reply.written (fetched_topic (world_of L.log parts.now files) group.now topic.now)) }
+    ensures { (files : Files) → OnOk result (sink.new.bytes ≡ sink.old.bytes
+        ++ offset_fetch_topic_reply.written (fetched_topic (world_of L.log parts.now files) group.now topic.now)) }
 {
     sink.put_string(topic.name.as_str())?;
     sink.put_count(topic.partitions.len())?;
@@ -103,7 +108,8 @@ pub(crate) fn offset_fetch<L: PartitionLog + Drop>(
     sink: &mut Sink,
 ) -> Result<(), AllocError>
     requires { offset_fetch_request.Fits request.now }
-    ensures { (files : Files) → OnOk result (sink.new.bytes ≡ sink.old.bytes ++ offset_fetch_reply.written (fetched_all (world_of L.log parts.now files) request.now)) }
+    ensures { (files : Files) → OnOk result (sink.new.bytes ≡ sink.old.bytes
+        ++ offset_fetch_reply.written (fetched_all (world_of L.log parts.now files) request.now)) }
 {
     let group = request.group_id.as_str();
     sink.put_count(request.topics.len())?;

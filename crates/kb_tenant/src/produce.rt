@@ -7,7 +7,8 @@ ghost use Rattle.kb_api_data.specs.declared.produce.ProduceTopicReply.{ProduceTo
 ghost use Rattle.kb_partitions.specs.Scene.{WhereHonest};
 ghost use Rattle.kb_api_data.specs.Layouts.{produce_request, produce_topic, produce_partition_reply, produce_topic_reply};
 ghost use Rattle.kb_world.specs.Parts.{scene};
-ghost use Rattle.kb_tenant.specs.Produce.{progress, refusal_of as refusal_for, is_due, entry_served, served_topic, produced, where_due, written_next, reply_bytes};
+ghost use Rattle.kb_tenant.specs.Produce.{progress, refusal_of as refusal_for, is_due, entry_served, served_topic, produced, where_due};
+ghost use Rattle.kb_tenant.specs.Produce.{written_next, reply_bytes};
 ghost use Rattle.kb_world.specs.Steps.{IsStep, Meets};
 ghost use Rattle.kb_tenant.specs.Room.{entries_length, length_due, reply_length, topic_length, IsLonger, IsPut};
 ghost use Rattle.kb_tenant.specs.Told.{FailedBy, HasFailed, IsEntryTold, IsProduceTold, IsTopicTold};
@@ -73,10 +74,15 @@ fn serve_entries<L: PartitionLog + Drop, S: Store>(
     requires sound { (scene L.log S.disk parts.old shelf.old).sound }
     ensures step { IsStep (scene L.log S.disk parts.old shelf.old) (scene L.log S.disk parts.new shelf.new) }
     ensures meets { OnOk result (let a = scene L.log S.disk parts.old shelf.old in let b = scene L.log S.disk parts.new shelf.new in
-        Meets a b ((progress b.state.world touched.new.items, sink.new.bytes) ≡ written_behind (λ x. where_due terms.due (produce_partition_reply.written x)) sink.old.bytes (in_turn (entry_served terms.refusal topic) (progress a.state.world touched.old.items) entries.now))) }
+        Meets a b ((progress b.state.world touched.new.items, sink.new.bytes)
+        ≡ written_behind (λ x. where_due terms.due (produce_partition_reply.written x)) sink.old.bytes
+        (in_turn (entry_served terms.refusal topic) (progress a.state.world touched.old.items) entries.now))) }
     ensures told { OnOk result (let a = scene L.log S.disk parts.old shelf.old in let b = scene L.log S.disk parts.new shelf.new in
-        (before now next : ℕ) → before ≤ a.disk.failures → b.disk.failures ≤ now → b.next ≤ next → WhereHonest a b ((replies : List ProducePartitionReply) × ((sink.new.bytes ≡ sink.old.bytes ++ flat_map (λ x. where_due terms.due (produce_partition_reply.written x)) replies)
-        × AreServed (IsEntryTold (FailedBy before now next) terms.refusal topic) (progress a.state.world touched.old.items) entries.now (progress b.state.world touched.new.items) replies))) }
+        (before now next : ℕ) → before ≤ a.disk.failures → b.disk.failures ≤ now → b.next ≤ next
+        → WhereHonest a b ((replies : List ProducePartitionReply)
+        × ((sink.new.bytes ≡ sink.old.bytes ++ flat_map (λ x. where_due terms.due (produce_partition_reply.written x)) replies)
+        × AreServed (IsEntryTold (FailedBy before now next) terms.refusal topic) (progress a.state.world touched.old.items) entries.now
+        (progress b.state.world touched.new.items) replies))) }
     ensures put { IsPut (length_due terms.due (entries_length entries.now)) sink.old result sink.new }
 {
     for entry in entries {
@@ -99,10 +105,15 @@ fn serve_topic<L: PartitionLog + Drop, S: Store>(
     requires fits { produce_topic.Fits topic.now }
     ensures step { IsStep (scene L.log S.disk parts.old shelf.old) (scene L.log S.disk parts.new shelf.new) }
     ensures meets { OnOk result (let a = scene L.log S.disk parts.old shelf.old in let b = scene L.log S.disk parts.new shelf.new in
-        Meets a b ((progress b.state.world touched.new.items, sink.new.bytes) ≡ written_next (λ x. where_due terms.due (produce_topic_reply.written x)) sink.old.bytes (served_topic terms.refusal (progress a.state.world touched.old.items) topic.now))) }
+        Meets a b ((progress b.state.world touched.new.items, sink.new.bytes)
+        ≡ written_next (λ x. where_due terms.due (produce_topic_reply.written x)) sink.old.bytes
+        (served_topic terms.refusal (progress a.state.world touched.old.items) topic.now))) }
     ensures told { OnOk result (let a = scene L.log S.disk parts.old shelf.old in let b = scene L.log S.disk parts.new shelf.new in
-        (before now next : ℕ) → before ≤ a.disk.failures → b.disk.failures ≤ now → b.next ≤ next → WhereHonest a b ((reply : ProduceTopicReply) × ((sink.new.bytes ≡ sink.old.bytes ++ where_due terms.due (produce_topic_reply.written reply))
-        × IsTopicTold (FailedBy before now next) terms.refusal (progress a.state.world touched.old.items) topic.now (progress b.state.world touched.new.items) reply))) }
+        (before now next : ℕ) → before ≤ a.disk.failures → b.disk.failures ≤ now → b.next ≤ next
+        → WhereHonest a b ((reply : ProduceTopicReply)
+        × ((sink.new.bytes ≡ sink.old.bytes ++ where_due terms.due (produce_topic_reply.written reply))
+        × IsTopicTold (FailedBy before now next) terms.refusal (progress a.state.world touched.old.items) topic.now
+        (progress b.state.world touched.new.items) reply))) }
     ensures put { IsPut (length_due terms.due (topic_length topic.now)) sink.old result sink.new }
 {
     put_string(terms.due, topic.name.as_str(), sink)?;
@@ -136,11 +147,14 @@ pub(crate) fn produce<L: PartitionLog + Drop, S: Store>(
     ensures step { IsStep (scene L.log S.disk parts.old shelf.old) (scene L.log S.disk parts.new shelf.new) }
     ensures meets { OnOk result (let a = scene L.log S.disk parts.old shelf.old in let b = scene L.log S.disk parts.new shelf.new in
         let r = produced a.state.world touched.old.items request.now in
-        Meets a b ((b.state.world ≡ r.0.world) × (touched.new.items ≡ r.0.touched) × (sink.new.bytes ≡ sink.old.bytes ++ reply_bytes request.now.acks r.1))) }
+        Meets a b ((b.state.world ≡ r.0.world) × (touched.new.items ≡ r.0.touched)
+        × (sink.new.bytes ≡ sink.old.bytes ++ reply_bytes request.now.acks r.1))) }
     ensures told { OnOk result (let a = scene L.log S.disk parts.old shelf.old in let b = scene L.log S.disk parts.new shelf.new in
         WhereHonest a b ((reply : ProduceReply) × ((sink.new.bytes ≡ sink.old.bytes ++ reply_bytes request.now.acks reply)
-        × IsProduceTold (HasFailed a b) (progress a.state.world touched.old.items) request.now (progress b.state.world touched.new.items) reply))) }
-    ensures longer { OnOk result (IsLonger (length_due (is_due request.now.acks) (reply_length request.now)) sink.old.bytes sink.new.bytes) }
+        × IsProduceTold (HasFailed a b) (progress a.state.world touched.old.items) request.now
+        (progress b.state.world touched.new.items) reply))) }
+    ensures longer { OnOk result (IsLonger (length_due (is_due request.now.acks) (reply_length request.now)) sink.old.bytes
+        sink.new.bytes) }
     // A produce that is refused has appended nothing.
     ensures spared { let a = scene L.log S.disk parts.old shelf.old in let b = scene L.log S.disk parts.new shelf.new in
         OnErr result (b.state.world ≡ a.state.world) }

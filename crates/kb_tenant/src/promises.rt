@@ -19,7 +19,8 @@ ghost use Rattle.kb_tenant.specs.declared.node.Node.{Node};
 /// Here and below a commit may be refused for any reason, or for none.
 pub fn worlds_stay_tied()
     ensures begun { (clock : ℕ) → IsTied (at_clock new_world clock) }
-    ensures served { (node : Node) (w : World) (n : ℕ) (key version : ℤ) (body : List ℕ) → IsTied w → IsTied (plainly_served node w n key version body).world }
+    ensures served { (node : Node) (w : World) (n : ℕ) (key version : ℤ) (body : List ℕ) → IsTied w
+        → IsTied (plainly_served node w n key version body).world }
     ensures committed { (w : World) (refusal : Option ℤ) (q : OffsetCommitRequest) → IsTied w → IsTied (committed_all w refusal q).0 }
     ensures retained { (w : World) (place : TopicPartition) → IsTied w → IsTied (retain w place).0 }
     ensures clocked { (w : World) (now : ℕ) → IsTied w → IsTied (at_clock w now) }
@@ -28,8 +29,10 @@ pub fn worlds_stay_tied()
 /// No two topics of a world have one name, from the start on, whatever is asked, committed, dropped by retention, or the time.
 pub fn names_stay_apart()
     ensures begun { (clock : ℕ) → HasOwnNames (at_clock new_world clock) }
-    ensures served { (node : Node) (w : World) (n : ℕ) (key version : ℤ) (body : List ℕ) → HasOwnNames w → HasOwnNames (plainly_served node w n key version body).world }
-    ensures committed { (w : World) (refusal : Option ℤ) (q : OffsetCommitRequest) → HasOwnNames w → HasOwnNames (committed_all w refusal q).0 }
+    ensures served { (node : Node) (w : World) (n : ℕ) (key version : ℤ) (body : List ℕ) → HasOwnNames w
+        → HasOwnNames (plainly_served node w n key version body).world }
+    ensures committed { (w : World) (refusal : Option ℤ) (q : OffsetCommitRequest) → HasOwnNames w
+        → HasOwnNames (committed_all w refusal q).0 }
     ensures retained { (w : World) (place : TopicPartition) → HasOwnNames w → HasOwnNames (retain w place).0 }
     ensures clocked { (w : World) (now : ℕ) → HasOwnNames w → HasOwnNames (at_clock w now) }
 {}
@@ -52,15 +55,18 @@ pub fn retention_elsewhere()
 
 /// The same at each time before its deadline.
 pub fn before_deadline()
-    ensures { (w : World) (r : FetchRequest) (deadline now : ℕ) → fetch_answer w r deadline ≡ None → now < deadline → StillWaits w (at_clock w now) r deadline }
+    ensures { (w : World) (r : FetchRequest) (deadline now : ℕ) → fetch_answer w r deadline ≡ None → now < deadline
+        → StillWaits w (at_clock w now) r deadline }
 {}
 
 /// A fetch that has no answer before and after a request, or a commit, waits for the same places, whatever the request touched.
 pub fn requests_again()
-    ensures served { (node : Node) (w : World) (n : ℕ) (key version : ℤ) (body : List ℕ) (r : FetchRequest) (deadline : ℕ) → IsTied w → HasOwnNames w
+    ensures served { (node : Node) (w : World) (n : ℕ) (key version : ℤ) (body : List ℕ) (r : FetchRequest) (deadline : ℕ) → IsTied w
+        → HasOwnNames w
         → fetch_answer w r deadline ≡ None → fetch_answer (plainly_served node w n key version body).world r deadline ≡ None
         → places_of (plainly_served node w n key version body).world r ≡ places_of w r }
-    ensures committed { (w : World) (refusal : Option ℤ) (q : OffsetCommitRequest) (r : FetchRequest) (deadline : ℕ) → IsTied w → HasOwnNames w
+    ensures committed { (w : World) (refusal : Option ℤ) (q : OffsetCommitRequest) (r : FetchRequest) (deadline : ℕ) → IsTied w
+        → HasOwnNames w
         → fetch_answer w r deadline ≡ None → fetch_answer (committed_all w refusal q).0 r deadline ≡ None
         → places_of (committed_all w refusal q).0 r ≡ places_of w r }
 {}
@@ -74,8 +80,10 @@ pub fn retention_again()
 /// retention, or the time.
 pub fn logs_stay_small()
     ensures begun { (clock : ℕ) → HasSmallLogs (at_clock new_world clock) }
-    ensures served { (node : Node) (w : World) (n : ℕ) (key version : ℤ) (body : List ℕ) → HasSmallLogs w → HasSmallLogs (plainly_served node w n key version body).world }
-    ensures committed { (w : World) (refusal : Option ℤ) (q : OffsetCommitRequest) → HasSmallLogs w → HasSmallLogs (committed_all w refusal q).0 }
+    ensures served { (node : Node) (w : World) (n : ℕ) (key version : ℤ) (body : List ℕ) → HasSmallLogs w
+        → HasSmallLogs (plainly_served node w n key version body).world }
+    ensures committed { (w : World) (refusal : Option ℤ) (q : OffsetCommitRequest) → HasSmallLogs w
+        → HasSmallLogs (committed_all w refusal q).0 }
     ensures retained { (w : World) (place : TopicPartition) → HasSmallLogs w → HasSmallLogs (retain w place).0 }
     ensures clocked { (w : World) (now : ℕ) → HasSmallLogs w → HasSmallLogs (at_clock w now) }
 {}
@@ -84,8 +92,10 @@ pub fn logs_stay_small()
 /// without an error gives whole batches of its log as it is at that moment, one after the other, from the one that holds the
 /// asked offset, and from version 5 on tells where that log starts.
 pub fn fetches_give_whole_batches()
-    ensures served { (node : Node) (w : World) (n : ℕ) (version : ℤ) (body bytes : List ℕ) (r : FetchRequest) → HasSmallLogs w → asked_fetch version body ≡ Ok r
+    ensures served { (node : Node) (w : World) (n : ℕ) (version : ℤ) (body bytes : List ℕ) (r : FetchRequest) → HasSmallLogs w
+        → asked_fetch version body ≡ Ok r
         → (plainly_served node w n (pos 1) version body).reaction ≡ Replies bytes → HoldsBatches version w r bytes }
-    ensures looked { (w : World) (deadline : ℕ) (version : ℤ) (body bytes : List ℕ) (r : FetchRequest) → HasSmallLogs w → asked_fetch version body ≡ Ok r
+    ensures looked { (w : World) (deadline : ℕ) (version : ℤ) (body bytes : List ℕ) (r : FetchRequest) → HasSmallLogs w
+        → asked_fetch version body ≡ Ok r
         → looked w deadline version body ≡ Replies bytes → HoldsBatches version w r bytes }
 {}

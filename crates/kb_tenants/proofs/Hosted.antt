@@ -14,6 +14,7 @@ use Rattle.kb_coordinator.specs.Groups.{Groups, none}
 use Rattle.kb_store.specs.Disk.{Disk, Files}
 use Rattle.kb_log.specs.OnShelf.{Log, IsLawfulLog}
 use Rattle.kb_log.specs.Shelf.{Shelved}
+use Rattle.kb_partitions.specs.Scene.{WhereHonest}
 use Rattle.kb_world.specs.Calls.{at_clock}
 use Rattle.kb_world.specs.Parts.{Agrees, IsSound, scene, world_of, entries, raised, refused}
 use Rattle.kb_world.specs.Counts.{END, IsCalm, counted_once}
@@ -21,7 +22,7 @@ use Rattle.kb_world.specs.Steps.{IsStep, Meets, step_same, step_then}
 use Rattle.kb_world.specs.World.{World}
 use Rattle.kb_world.specs.declared.parts.Parts.{Parts}
 use Rattle.kb_world.proofs.Lifted.{clocked, recast, loud, raised_meets, raised_step, refused_step}
-use Rattle.kb_service.specs.Hosted.{TenantState, Kept, nothing, kept_in, kept_of, left, passed, refusals_of, names_of}
+use Rattle.kb_service.specs.Hosted.{TenantState, Kept, nothing, kept_in, kept_of, left, passed, refusals_of, names_of, world_at}
 use Rattle.kb_service.specs.Turns.{IsAccounted, IsTurn, IsMet, with_kept, all_calm}
 use Rattle.kb_partitions.proofs.Put.{get_put}
 use Rattle.kb_tenant.proofs.LogMoves.{same_or_not}
@@ -462,6 +463,19 @@ module _ {L S : Type 0} (log : L → Log) (disk : S → Disk) (law : (l : L) →
 
     pub turn_at : IsTurn t (disk shelf.store).honest (hosted log disk old) (hosted log disk (after old t x p gs shelf))
     turn_at = turn_after log disk law old t x p gs shelf lt read kept step_at
+
+    -- what is told at that clock, where the store is honest, is told of what the tenant is seen to keep
+    pub told_at : (P : World → Type 0)
+        → WhereHonest (scene log disk q old.shelf) (scene log disk mid shelf) (P (world_of log q (disk old.shelf.store).files))
+        → (disk shelf.store).honest → P (world_at (kept_of (hosted log disk old) t) clock)
+    told_at P told honest =
+        let files = (disk old.shelf.store).files in
+        let here = found old.tenants.items t x (within (state_of log files) old.tenants.items t lt) read in
+        let there = slice_get-map (λ (z : Tenant L). z.parts) old.tenants.items t ∙ ap (option_map (λ (z : Tenant L). z.parts)) here in
+        let agree = kept.agree (step.frame.others.honest honest) t x.parts there in
+        let at = told honest (subst (λ (v : Parts L). Agrees log v files) (sym set) (agrees_at agree)) in
+        subst (λ (k : Kept). P (world_at k clock)) (sym (kept_here log files old.tenants.items t x here))
+        (subst (λ (v : Parts L). P (world_of log v files)) set at)
 
     -- what the tenant keeps now
     pub now_at : kept_of (hosted log disk (after old t x p gs shelf)) t ≡ kept_in (world_of log p (disk shelf.store).files) gs

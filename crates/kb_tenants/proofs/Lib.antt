@@ -3,6 +3,7 @@ pub mod Added
 pub mod Alone
 pub mod Answered
 pub mod Clock
+pub mod Ended
 pub mod Hosted
 pub mod Idle
 pub mod KeptIn

@@ -74,6 +74,13 @@ EndsWait (answers.Wait deadline keys) = ⊥
 EndsWait answers.NoReply = ⊥
 EndsWait answers.Shut = ⊤
 
+-- what a look comes to in which something was refused: its reply; or the connection is to be shut, also where the request would wait on
+abbrev pub ended : Answer → Answer
+ended (answers.Reply reply) = answers.Reply reply
+ended (answers.Wait deadline keys) = answers.Shut
+ended answers.NoReply = answers.Shut
+ended answers.Shut = answers.Shut
+
 -- ---- who is answered
 
 abbrev pub connection_of : Release → ℕ

@@ -1,10 +1,16 @@
 //! A whole fetch, answered with what there is.
-ghost use Rattle.std.specs.Prelude.{◌≡◌, ◌++◌, IfOk, OnOk, All};
+ghost use Rattle.std.specs.Prelude.{◌≡◌, ◌++◌, List, IfOk, OnOk, All};
+ghost use Rattle.std.specs.List.{flat_map};
 ghost use Rattle.kb_api_data.specs.Layouts.{fetch_request, fetch_topic};
+ghost use Rattle.kb_api_data.specs.declared.fetch_v5.FetchPartitionReplyV5.{FetchPartitionReplyV5};
+ghost use Rattle.kb_api_data.specs.declared.fetch_v5.FetchReplyV5.{FetchReplyV5};
+ghost use Rattle.kb_api_data.specs.declared.fetch_v5.FetchTopicReplyV5.{FetchTopicReplyV5};
+ghost use Rattle.kb_partitions.specs.Scene.{WhereHonest};
 ghost use Rattle.kb_tenant.specs.Fetch.{fetch_answered, answered_topic, fetched, partition_written, reply_written, topic_written};
 ghost use Rattle.kb_world.specs.Parts.{scene};
 ghost use Rattle.kb_world.specs.Steps.{IsStep, Meets};
-ghost use Rattle.kb_tenant.specs.Turns.{in_turn, written_behind};
+ghost use Rattle.kb_tenant.specs.Told.{AreFetchesTold, HasFailed, IsFetchTold, IsFetchTopicTold};
+ghost use Rattle.kb_tenant.specs.Turns.{in_turn, written_behind, AreServed};
 
 use crate::fetch::given::Given;
 use crate::fetch::partition::put_partition;
@@ -34,6 +40,10 @@ fn put_partitions<L: PartitionLog + Drop, S: Store>(
         OnOk result (Meets a (scene L.log S.disk parts.new shelf.new)
         ((given.new, sink.new.bytes) ≡ written_behind (partition_written has_starts) sink.old.bytes
         (in_turn (fetch_answered a.state.world topic) given.old entries.now))) }
+    ensures told { let a = scene L.log S.disk parts.old shelf.old in let b = scene L.log S.disk parts.new shelf.new in
+        OnOk result (WhereHonest a b ((replies : List FetchPartitionReplyV5)
+        × ((sink.new.bytes ≡ sink.old.bytes ++ flat_map (partition_written has_starts) replies)
+        × AreServed (IsFetchTold (HasFailed a b) a.state.world topic) given.old entries.now given.new replies))) }
 {
     for entry in entries {
         put_partition(alloc, parts, shelf, has_starts, topic, entry, given, sink)?;
@@ -60,6 +70,9 @@ fn put_topic<L: PartitionLog + Drop, S: Store>(
         let r = answered_topic a.state.world given.old topic.now in
         OnOk result (Meets a (scene L.log S.disk parts.new shelf.new)
         ((given.new ≡ r.0) × (sink.new.bytes ≡ sink.old.bytes ++ topic_written has_starts r.1))) }
+    ensures told { let a = scene L.log S.disk parts.old shelf.old in let b = scene L.log S.disk parts.new shelf.new in
+        OnOk result (WhereHonest a b ((reply : FetchTopicReplyV5) × ((sink.new.bytes ≡ sink.old.bytes ++ topic_written has_starts reply)
+        × IsFetchTopicTold (HasFailed a b) a.state.world given.old topic.now given.new reply))) }
 {
     let name = topic.topic.as_str();
     sink.put_string(name)?;
@@ -96,6 +109,10 @@ fn put_topics<L: PartitionLog + Drop, S: Store>(
         OnOk result (Meets a (scene L.log S.disk parts.new shelf.new)
         ((given.new, sink.new.bytes) ≡ written_behind (topic_written has_starts) sink.old.bytes
         (in_turn (answered_topic a.state.world) given.old topics.now))) }
+    ensures told { let a = scene L.log S.disk parts.old shelf.old in let b = scene L.log S.disk parts.new shelf.new in
+        OnOk result (WhereHonest a b ((replies : List FetchTopicReplyV5)
+        × ((sink.new.bytes ≡ sink.old.bytes ++ flat_map (topic_written has_starts) replies)
+        × AreServed (IsFetchTopicTold (HasFailed a b) a.state.world) given.old topics.now given.new replies))) }
 {
     for topic in topics {
         put_topic(alloc, parts, shelf, has_starts, topic, given, sink)?;
@@ -123,6 +140,9 @@ pub(crate) fn fetch_now<L: PartitionLog + Drop, S: Store>(
         let r = fetched a.state.world request.now in
         IfOk result (λ given. Meets a (scene L.log S.disk parts.new shelf.new)
         ((given ≡ r.0) × (sink.new.bytes ≡ sink.old.bytes ++ reply_written has_starts r.1))) }
+    ensures told { let a = scene L.log S.disk parts.old shelf.old in let b = scene L.log S.disk parts.new shelf.new in
+        IfOk result (λ given. WhereHonest a b ((reply : FetchReplyV5) × ((sink.new.bytes ≡ sink.old.bytes ++ reply_written has_starts reply)
+        × AreFetchesTold (HasFailed a b) a.state.world request.now given reply))) }
 {
     let mut given = Given::begun(request);
     sink.put_i32(0)?;

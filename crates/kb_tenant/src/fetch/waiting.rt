@@ -1,8 +1,11 @@
 //! A fetch that is answered, or waits.
-ghost use Rattle.std.specs.Prelude.{◌≡◌, ◌≤◌, ◌++◌, ◌^◌, IfOk, OnOk};
+ghost use Rattle.std.specs.Prelude.{◌≡◌, ◌≤◌, ◌++◌, ◌^◌, true, IfOk, OnOk};
 ghost use Rattle.kb_store.specs.Disk.{Files};
 ghost use Rattle.kb_api_data.specs.Layouts.{fetch_request};
-ghost use Rattle.kb_tenant.specs.Fetch.{deadline_of, fetch_answer, look_written, places_in, places_of, IsServed};
+ghost use Rattle.kb_api_data.specs.declared.fetch_v5.FetchReplyV5.{FetchReplyV5};
+ghost use Rattle.kb_partitions.specs.Scene.{WhereHonest};
+ghost use Rattle.kb_tenant.specs.Fetch.{deadline_of, fetch_answer, look_written, places_in, places_of, reply_written, IsServed};
+ghost use Rattle.kb_tenant.specs.Told.{HasFailed, IsFetchReady};
 ghost use Rattle.kb_world.specs.Parts.{scene, world_of};
 ghost use Rattle.kb_world.specs.Steps.{IsStep, Meets};
 
@@ -71,7 +74,8 @@ fn deadline<L: PartitionLog + Drop>(parts: &Parts<L>, request: &FetchRequest<'_>
 
 /// Looks at a waiting fetch: writes its reply if it waits no longer, and answers whether it did.
 ///
-/// Where it still waits the sink is as before. An `Err` may leave a front of the reply there.
+/// Where it still waits the sink is as before. A partition that memory or the store refused has that error's code in the reply, which
+/// is then written. An `Err` may leave a front of the reply there.
 pub(crate) fn look<L: PartitionLog + Drop, S: Store>(
     alloc: Global,
     parts: &mut Parts<L>,
@@ -89,6 +93,10 @@ pub(crate) fn look<L: PartitionLog + Drop, S: Store>(
     ensures meets { let a = scene L.log S.disk parts.old shelf.old in
         IfOk result (λ done. Meets a (scene L.log S.disk parts.new shelf.new)
         ((done, sink.new.bytes) ≡ look_written has_starts sink.old.bytes (fetch_answer a.state.world request.now deadline))) }
+    ensures told { let a = scene L.log S.disk parts.old shelf.old in let b = scene L.log S.disk parts.new shelf.new in
+        IfOk result (λ done. WhereHonest a b ((reply : FetchReplyV5)
+        × (IsFetchReady (HasFailed a b) a.state.world deadline request.now done reply
+        × (done ≡ true → sink.new.bytes ≡ sink.old.bytes ++ reply_written has_starts reply)))) }
 {
     let before = sink.len();
     let given = fetch_now(alloc, parts, shelf, has_starts, request, sink)?;

@@ -1,9 +1,12 @@
 use Rattle.std.proofs.Common.{rules, ◌≡◌, ◌∙◌, Bool, Ok, ap, sym, refl, subst}
-use Rattle.kb_world.specs.Parts.{world_of}
+use Rattle.kb_world.specs.Parts.{scene, world_of}
 use Rattle.kb_tenant.specs.Fetch.{asked_fetch, fetch_answer, has_starts, read_as}
 use Rattle.kb_tenant.specs.Replies.{begun, IsAnswer}
 use Rattle.kb_tenant.specs.Serve.{looked, looked_at}
-use Rattle.kb_tenant.proofs.Keys.{woken}
+use Rattle.kb_tenant.specs.Told.{HasFailed}
+use Rattle.kb_tenant.proofs.Fetched.{look_replied, look_unready}
+use Rattle.kb_tenant.specs.declared.answer.Answer.TheVariants as answers
+use Rattle.kb_tenant.proofs.Keys.{waiting, woken}
 use Rattle.kb_tenant.proofs.dispatch.look_at.Goals as goal
 
 pub returns-then-branch-clause-meets : goal.returns-then-branch-clause-meets
@@ -23,3 +26,52 @@ returns-then-branch-clause-meets g c = λ honest agree calm.
       subst (λ r. IsAnswer id (looked_at w deadline version r) c.finish.result) (sym read)
           (woken id version starts (fetch_answer w asked deadline) c.in_ok-sink.sink.bytes c.look.new.sink.bytes c.in_ok-look.field-0 c.finish.result same from c.if-branch.true (c.in_ok-look.ensures.meets honest agree calm) c.finish.ensures),
     )
+
+pub returns-clause-meets : goal.returns-clause-meets
+unfolding looked
+returns-clause-meets g c = λ honest agree calm.
+    let w = world_of g.L.PartitionLog.log c.args.parts.now (g.S.Store.disk c.args.shelf.now.store).files in
+    let asked = c.in_ok-asked.asked in
+    let id = c.args.wait.now.correlation_id in
+    let version = c.args.wait.now.api_version in
+    let deadline = c.args.wait.now.deadline in
+    let starts : Bool = c.has_starts-has_starts.result in
+    let same : starts ≡ has_starts version = search rules in
+    let read : asked_fetch version c.args.wait.now.body.now ≡ Ok asked = ap (λ b. read_as b c.args.wait.now.body.now) (sym same) ∙ c.in_ok-asked.ensures.exact in (
+      c.look.ensures.same honest agree,
+      refl,
+      subst (λ r. IsAnswer id (looked_at w deadline version r) answers.NoReply) (sym read)
+          (waiting id version starts (fetch_answer w asked deadline) c.in_ok-sink.sink.bytes c.look.new.sink.bytes c.in_ok-look.field-0 c.if-branch.false (c.in_ok-look.ensures.meets honest agree calm)),
+    )
+
+pub returns-then-branch-clause-told : goal.returns-then-branch-clause-told
+returns-then-branch-clause-told g c = λ honest agree q is.
+    let log = g.L.PartitionLog.log in
+    let disk = g.S.Store.disk in
+    let a = scene log disk c.args.parts.now c.args.shelf.now in
+    let b = scene log disk c.look.new.parts c.look.new.shelf in
+    let wait = c.args.wait.now in
+    let asked = c.in_ok-asked.asked in
+    let starts : Bool = c.has_starts-has_starts.result in
+    let same : starts ≡ has_starts wait.api_version = search rules in
+    let from : c.in_ok-sink.sink.bytes ≡ begun wait.correlation_id = search rules in
+    let both : Ok asked ≡ Ok q = sym (ap (λ b. read_as b wait.body.now) (sym same) ∙ c.in_ok-asked.ensures.exact) ∙ is in
+    let one : asked ≡ q = cc in
+    look_replied (HasFailed a b) wait.correlation_id wait.api_version starts a.state.world wait.deadline asked q c.in_ok-sink.sink.bytes
+    c.look.new.sink.bytes c.in_ok-look.field-0 c.finish.result same from c.if-branch.true one (c.in_ok-look.ensures.told honest agree)
+    c.finish.ensures
+
+pub returns-clause-told : goal.returns-clause-told
+returns-clause-told g c = λ honest agree q is.
+    let log = g.L.PartitionLog.log in
+    let disk = g.S.Store.disk in
+    let a = scene log disk c.args.parts.now c.args.shelf.now in
+    let b = scene log disk c.look.new.parts c.look.new.shelf in
+    let wait = c.args.wait.now in
+    let asked = c.in_ok-asked.asked in
+    let starts : Bool = c.has_starts-has_starts.result in
+    let same : starts ≡ has_starts wait.api_version = search rules in
+    let both : Ok asked ≡ Ok q = sym (ap (λ b. read_as b wait.body.now) (sym same) ∙ c.in_ok-asked.ensures.exact) ∙ is in
+    let one : asked ≡ q = cc in
+    look_unready (HasFailed a b) a.state.world wait.deadline asked q c.in_ok-look.field-0 _ c.if-branch.false one
+    (c.in_ok-look.ensures.told honest agree)

@@ -1,7 +1,9 @@
 use Rattle.std.proofs.Common.{sym, subst, w32}
 use Rattle.std.proofs.lemmas.Result.{on_ok_weaker}
 use Rattle.kb_wire.specs.Codec.{count, string}
-use Rattle.kb_world.specs.Parts.{world_of}
+use Rattle.kb_world.specs.Parts.{scene, world_of}
+use Rattle.kb_tenant.specs.Told.{HasFailed}
+use Rattle.kb_tenant.proofs.Fetched.{topic_fetched}
 use Rattle.kb_tenant.proofs.Fetching.{topic_told, topic_name_fits, topic_count_fits}
 use Rattle.kb_tenant.proofs.fetch.now.put_topic.Goals as goal
 
@@ -19,3 +21,17 @@ returns-clause-meets g c =
     c.args.sink.now.bytes c.put_string.new.self.bytes c.put_count.new.self.bytes c.put_partitions.new.sink.bytes c.as_str-name.ensures c.len.ensures (c.topic_named-instance.ensures files) c.as_slice.ensures
     c.in_ok-put_string.ensures.ok c.in_ok-put_count.ensures.ok (met honest agrees calm))
     c.put_partitions.ensures.meets
+
+pub returns-clause-told : goal.returns-clause-told
+returns-clause-told g c =
+    let log = g.L.PartitionLog.log in
+    let disk = g.S.Store.disk in
+    let a = scene log disk c.args.parts.now c.args.shelf.now in
+    let b = scene log disk c.put_partitions.new.parts c.put_partitions.new.shelf in
+    on_ok_weaker c.put_partitions.result
+    (λ told honest agree. topic_fetched (HasFailed a b) c.args.has_starts a.state.world c.args.given.now c.put_partitions.new.given
+    c.args.topic.now c.as_str-name.result.now c.len.result c.topic_named-instance.result c.as_slice.result.now
+    c.args.sink.now.bytes c.put_string.new.self.bytes c.put_count.new.self.bytes c.put_partitions.new.sink.bytes
+    c.as_str-name.ensures c.len.ensures (c.topic_named-instance.ensures a.disk.files) c.as_slice.ensures
+    c.in_ok-put_string.ensures.ok c.in_ok-put_count.ensures.ok (told honest agree))
+    c.put_partitions.ensures.told

@@ -1,4 +1,7 @@
-use Rattle.kb_world.specs.Parts.{world_of}
+use Rattle.std.proofs.Common.{◌≡◌, false, refl, true}
+use Rattle.kb_world.specs.Parts.{scene, world_of}
+use Rattle.kb_tenant.specs.Told.{HasFailed}
+use Rattle.kb_tenant.proofs.Fetched.{fetched_ready}
 use Rattle.kb_tenant.proofs.Ready.{looked_done, looked_not}
 use Rattle.kb_tenant.proofs.fetch.waiting.look.Goals as goal
 
@@ -15,3 +18,27 @@ returns-clause-meets g c = λ honest agrees calm.
     let v = world_of g.L.PartitionLog.log c.fetch_now.new.parts (g.S.Store.disk c.fetch_now.new.shelf.store).files in
     looked_not c.args.has_starts w v c.args.request.now c.in_ok-given.given c.clock.result c.args.deadline c.is_ready.result c.args.sink.now.bytes c.fetch_now.new.sink.bytes c.truncate.new.self.bytes c.len-before.result
     c.is_ready.ensures c.if-is_ready.false c.clock.ensures (c.fetch_now.ensures.same honest agrees) (c.in_ok-given.ensures.meets honest agrees calm) c.len-before.ensures c.truncate.ensures.bytes
+
+pub returns-then-is_ready-clause-told : goal.returns-then-is_ready-clause-told
+returns-then-is_ready-clause-told g c = λ honest agree.
+    let log = g.L.PartitionLog.log in
+    let disk = g.S.Store.disk in
+    let a = scene log disk c.args.parts.now c.args.shelf.now in
+    let b = scene log disk c.fetch_now.new.parts c.fetch_now.new.shelf in
+    let bytes = c.fetch_now.new.sink.bytes in
+    fetched_ready (HasFailed a b) c.args.has_starts a.state.world b.state.world c.args.request.now c.in_ok-given.given c.clock.result
+    c.args.deadline c.is_ready.result true c.args.sink.now.bytes bytes bytes
+    c.is_ready.ensures c.if-is_ready.true c.clock.ensures (c.fetch_now.ensures.same honest agree) (λ ready. refl)
+    (c.in_ok-given.ensures.told honest agree)
+
+pub returns-clause-told : goal.returns-clause-told
+returns-clause-told g c = λ honest agree.
+    let log = g.L.PartitionLog.log in
+    let disk = g.S.Store.disk in
+    let a = scene log disk c.args.parts.now c.args.shelf.now in
+    let b = scene log disk c.fetch_now.new.parts c.fetch_now.new.shelf in
+    fetched_ready (HasFailed a b) c.args.has_starts a.state.world b.state.world c.args.request.now c.in_ok-given.given c.clock.result
+    c.args.deadline c.is_ready.result false c.args.sink.now.bytes c.fetch_now.new.sink.bytes c.truncate.new.self.bytes
+    c.is_ready.ensures c.if-is_ready.false c.clock.ensures (c.fetch_now.ensures.same honest agree)
+    (λ ready. let no : false ≡ true = ready in absurd cc)
+    (c.in_ok-given.ensures.told honest agree)

@@ -124,8 +124,7 @@ impl Group {
         ensures code { result ≡ heartbeat number generation self.old }
         ensures after { self.new ≡ after_heartbeat clock number generation self.old }
     {
-        let due = self.state.session_due(number, clock);
-        self.quiet_until = self.quiet_until.min(due);
+        self.quiet_until = self.state.sooner_due(self.quiet_until, number, clock);
         self.state.heartbeat(number, generation, clock)
     }
 
@@ -134,8 +133,7 @@ impl Group {
         ensures code { result ≡ may_commit number generation self.old }
         ensures after { self.new ≡ after_may_commit clock number generation self.old }
     {
-        let due = self.state.session_due(number, clock);
-        self.quiet_until = self.quiet_until.min(due);
+        self.quiet_until = self.state.sooner_due(self.quiet_until, number, clock);
         self.state.may_commit(number, generation, clock)
     }
 

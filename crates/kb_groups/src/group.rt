@@ -1,7 +1,7 @@
 //! One consumer group.
 
 ghost use Rattle.std.specs.Prelude.{◌≡◌, ◌≤◌, IfOk, OnErr, OnOk};
-ghost use Rattle.kb_groups.specs.Calls.{after_heartbeat, after_may_commit, dropped, fresh, heartbeat, join, join_code, leave, leave_code, may_commit, sync};
+ghost use Rattle.kb_groups.specs.Calls.{after_heartbeat, after_may_commit, dropped, fresh, fresh_at, heartbeat, join, join_code, leave, leave_code, may_commit, sync};
 ghost use Rattle.kb_groups.specs.Moments.{next_due, tick};
 
 use crate::borrowed::{Join, SyncAssignment};
@@ -41,8 +41,15 @@ impl Group {
     pub fn new(alloc: Global) -> Group
         ensures { result ≡ fresh }
     {
+        Group::with_generation(alloc, 0)
+    }
+
+    /// A group without members, whose last generation was that.
+    pub fn with_generation(alloc: Global, generation: i32) -> Group
+        ensures { result ≡ fresh_at generation }
+    {
         Group {
-            state: State::new(alloc),
+            state: State::new(alloc, generation),
             quiet_until: 0,
             has_waiting: false,
         }

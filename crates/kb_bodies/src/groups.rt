@@ -79,8 +79,8 @@ impl Members {
         }
     }
 
-    /// A kind is `session-timeout`, `rebalance-timeout` or `at` with a number of milliseconds, `joins` with a number of new
-    /// members, or a call. Whether it is one of these.
+    /// A kind is `session-timeout`, `rebalance-timeout` or `at` with a number of milliseconds, `last-generation` with that of a new
+    /// group, `joins` with a number of new members, or a call. Whether it is one of these.
     pub fn call(
         &mut self,
         alloc: Global,
@@ -91,11 +91,17 @@ impl Members {
         match kind {
             "session-timeout" => self.session_timeout = rest.parse::<i32>().unwrap_or(0),
             "rebalance-timeout" => self.rebalance_timeout = rest.parse::<i32>().unwrap_or(0),
+            "last-generation" => self.renew(alloc, rest.parse::<i32>().unwrap_or(0)),
             "at" => self.clock = rest.parse::<u32>().unwrap_or(0),
             "joins" => self.joins(alloc, rest.parse::<u32>().unwrap_or(0), said)?,
             _ => return self.call_by_name(alloc, kind, rest, said),
         }
         Ok(true)
+    }
+
+    /// The group is one without members, whose last generation was that.
+    fn renew(&mut self, alloc: Global, generation: i32) {
+        self.group = Group::with_generation(alloc, generation);
     }
 
     fn call_by_name(

@@ -10,7 +10,7 @@ use Rattle.kb_groups.specs.Calls.{unmoved, started, touched}
 use Rattle.kb_groups.specs.Moments.{has_expired, expires, expired, is_due, at_deadline, closed, tick, never, session_end, earliest, deadline, next_due, session_due}
 
 not_expired : (clock : ℕ) (m : Member) → clock < session_end m → has_expired clock m ≡ false
-not_expired clock m = elim (is_none m.waiter) as (λ b. clock < (if b then min never (m.session_start + m.session_timeout) else never) → (b && nat_le (m.session_start + m.session_timeout) clock) ≡ false) [ true ↦ λ h. grind (arith, h) | false ↦ λ h. refl ]
+not_expired clock m = elim (is_none m.waiter) as (λ b. clock < (if b then m.session_start + m.session_timeout else never) → (b && nat_le (m.session_start + m.session_timeout) clock) ≡ false) [ true ↦ λ h. grind (arith, h) | false ↦ λ h. refl ]
 
 not_expires : (clock n : ℕ) (ms : Roster) → clock < earliest ms → expires clock (member ms n) ≡ false
 unfolding earliest
@@ -38,15 +38,15 @@ tick_early clock g h =
     ap (at_deadline clock) (none_expire clock (map (λ e. e.0) g.members) (unmoved g) (omega (arith, h)))
     ∙ ap (λ b. if b then closed clock (unmoved g) else unmoved g) (not_due clock g.phase (omega (arith, h)))
 
-started_end : (clock : ℕ) (m : Member) → min (session_end m) (min never (clock + m.session_timeout)) ≤ session_end (started clock m)
-started_end clock m = elim (is_none m.waiter) as (λ b. min (if b then min never (m.session_start + m.session_timeout) else never) (min never (clock + m.session_timeout)) ≤ (if b then min never (clock + m.session_timeout) else never)) [ true ↦ omega arith | false ↦ omega arith ]
+started_end : (clock : ℕ) (m : Member) → min (session_end m) (clock + m.session_timeout) ≤ session_end (started clock m)
+started_end clock m = elim (is_none m.waiter) as (λ b. min (if b then m.session_start + m.session_timeout else never) (clock + m.session_timeout) ≤ (if b then clock + m.session_timeout else never)) [ true ↦ omega arith | false ↦ omega arith ]
 
 earliest_started : (clock n : ℕ) (ms : Roster) → min (earliest ms) (session_due clock (member ms n)) ≤ earliest (changed n (started clock) ms)
 unfolding earliest changed
 earliest_started clock n [] = omega arith
 earliest_started clock n (e ∷ ms) = by (nat_eq n e.0) (started_end clock e.1) (earliest_started clock n ms)
   where
-    by : (b : Bool) → min (session_end e.1) (min never (clock + e.1.session_timeout)) ≤ session_end (started clock e.1) → min (earliest ms) (session_due clock (member ms n)) ≤ earliest (changed n (started clock) ms) → min (min (session_end e.1) (earliest ms)) (session_due clock (if b then Some e.1 else member ms n)) ≤ earliest (if b then (e.0, started clock e.1) ∷ ms else e ∷ changed n (started clock) ms)
+    by : (b : Bool) → min (session_end e.1) (clock + e.1.session_timeout) ≤ session_end (started clock e.1) → min (earliest ms) (session_due clock (member ms n)) ≤ earliest (changed n (started clock) ms) → min (min (session_end e.1) (earliest ms)) (session_due clock (if b then Some e.1 else member ms n)) ≤ earliest (if b then (e.0, started clock e.1) ∷ ms else e ∷ changed n (started clock) ms)
     by true here rest = omega (arith, here)
     by false here rest = omega (arith, rest)
 

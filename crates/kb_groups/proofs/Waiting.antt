@@ -1,17 +1,17 @@
 -- Whether a request of some member waits.
-use Rattle.std.proofs.Common.{◌≡◌, ◌∙◌, ℕ, ◌+◌, ◌≤◌, ◌||◌, Bool, true, false, [], ◌∷◌, length, Option, Some, None, slice_get, drop, is_some, nat_eq, if◌then◌else◌, refl, sym, ap, true≢false}
+use Rattle.std.proofs.Common.{◌≡◌, ◌∙◌, ℕ, ℤ, ◌+◌, ◌≤◌, ◌||◌, Bool, true, false, [], ◌∷◌, length, Option, Some, None, slice_get, drop, is_some, nat_eq, if◌then◌else◌, refl, sym, ap, true≢false}
 use Rattle.kb_groups.specs.declared.member.Member.{Member}
 use Rattle.kb_groups.specs.declared.member.Waiter.{Waiter}
 use Rattle.kb_groups.specs.declared.state.State.{State}
 use Rattle.kb_groups.specs.Answers.{any_waits, waits_on}
 use Rattle.kb_groups.specs.Members.{Roster, changed, each}
 use Rattle.kb_groups.specs.Rebalance.{freed}
-use Rattle.kb_groups.specs.Calls.{dropped, fresh, hung_up, started, touched}
+use Rattle.kb_groups.specs.Calls.{dropped, fresh_at, hung_up, started, touched}
 use Rattle.kb_groups.proofs.Steps.{drop_end, drop_next}
 
-pub none_waits : (g : State) → g ≡ fresh → false ≡ any_waits g.members
+pub none_waits : (generation : ℤ) (g : State) → g ≡ fresh_at generation → false ≡ any_waits g.members
 unfolding any_waits
-none_waits g is = ap (λ (s : State). any_waits s.members) (sym is)
+none_waits generation g is = ap (λ (s : State). any_waits s.members) (sym is)
 
 -- A session that starts is no wait.
 started_waits : (clock n : ℕ) (ms : Roster) → any_waits (changed n (started clock) ms) ≡ any_waits ms

@@ -25,9 +25,13 @@ use Rattle.kb_groups.specs.Answers.{waits_on, answers, turned_away}
 use Rattle.kb_groups.specs.Protocols.{common}
 use Rattle.kb_groups.specs.Rebalance.{Step, freed, opened, opened_unless, looked_at, is_joining}
 
+-- A group without members, whose last generation was that.
+abbrev pub fresh_at : ℤ → State
+fresh_at generation = record { generation = generation; phase = Empty; leader = None; protocol_type = []; members = [] }
+
 -- A group that nobody joined yet.
 abbrev pub fresh : State
-fresh = record { generation = pos 0; phase = Empty; leader = None; protocol_type = []; members = [] }
+fresh = fresh_at (pos 0)
 
 -- Nothing is changed, and nobody is answered.
 abbrev pub unmoved : State → Step

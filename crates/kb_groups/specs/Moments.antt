@@ -52,10 +52,11 @@ tick clock g = at_deadline clock (expired clock (map (λ e. e.0) g.members) (unm
 abbrev pub never : ℕ
 never = 18446744073709551615
 
+-- While a request of it waits, its session never ends.
 abbrev pub session_end : Member → ℕ
-session_end m = if is_none m.waiter then min never (m.session_start + m.session_timeout) else never
+session_end m = if is_none m.waiter then m.session_start + m.session_timeout else never
 
--- The first end of a session.
+-- The first end of a session; never where none comes.
 unfoldable pub earliest : Roster → ℕ
 earliest [] = never
 earliest (e ∷ ms) = min (session_end e.1) (earliest ms)
@@ -73,4 +74,4 @@ next_due g = min (deadline g.phase) (earliest g.members)
 -- When a member's session ends that starts at the clock.
 abbrev pub session_due : ℕ → Option Member → ℕ
 session_due clock None = never
-session_due clock (Some m) = min never (clock + m.session_timeout)
+session_due clock (Some m) = clock + m.session_timeout

@@ -56,8 +56,14 @@ next_leader (Some n) (e ∷ ms) = Some (if is_some (member (e ∷ ms) n) then n 
 -- The reply to the join of member n. Only the leader's lists the members.
 abbrev pub join_reply : ℤ → List ℕ → ℕ → Roster → ℕ → Reply
 join_reply generation protocol leader ms n =
-    Joined (record { generation = generation; protocol = protocol; leader = leader; member = n; members = if nat_eq n leader
-    then listing ms protocol else [] })
+    Joined (record {
+      generation = generation;
+      protocol = protocol;
+      leader = leader;
+      member = n;
+      members = if nat_eq n leader
+          then listing ms protocol else [];
+    })
 
 abbrev pub joined_reply : ℤ → List ℕ → ℕ → Roster → ℕ → Member → Asked → Option Reply
 joined_reply generation protocol leader ms n m asked = Some (join_reply generation protocol leader ms n)

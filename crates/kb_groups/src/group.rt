@@ -1,8 +1,8 @@
 //! One consumer group.
 
 ghost use Rattle.std.specs.Prelude.{◌≡◌, ◌≤◌, IfOk, OnErr, OnOk};
-ghost use Rattle.kb_groups.specs.Calls.{after_heartbeat, after_may_commit, dropped, fresh, heartbeat, join, join_code, leave, leave_code};
-ghost use Rattle.kb_groups.specs.Calls.{may_commit, sync};
+ghost use Rattle.kb_groups.specs.Calls.{after_heartbeat, after_may_commit, dropped, fresh, fresh_at, heartbeat, join, join_code, leave};
+ghost use Rattle.kb_groups.specs.Calls.{leave_code, may_commit, sync};
 ghost use Rattle.kb_groups.specs.Moments.{next_due, tick};
 
 use crate::borrowed::{Join, SyncAssignment};
@@ -42,8 +42,15 @@ impl Group {
     pub fn new(alloc: Global) -> Group
         ensures { result ≡ fresh }
     {
+        Group::with_generation(alloc, 0)
+    }
+
+    /// A group without members, whose last generation was that.
+    pub fn with_generation(alloc: Global, generation: i32) -> Group
+        ensures { result ≡ fresh_at generation }
+    {
         Group {
-            state: State::new(alloc),
+            state: State::new(alloc, generation),
             quiet_until: 0,
             has_waiting: false,
         }
@@ -125,8 +132,7 @@ impl Group {
         ensures code { result ≡ heartbeat number generation self.old }
         ensures after { self.new ≡ after_heartbeat clock number generation self.old }
     {
-        let due = self.state.session_due(number, clock);
-        self.quiet_until = self.quiet_until.min(due);
+        self.quiet_until = self.state.sooner_due(self.quiet_until, number, clock);
         self.state.heartbeat(number, generation, clock)
     }
 
@@ -135,8 +141,7 @@ impl Group {
         ensures code { result ≡ may_commit number generation self.old }
         ensures after { self.new ≡ after_may_commit clock number generation self.old }
     {
-        let due = self.state.session_due(number, clock);
-        self.quiet_until = self.quiet_until.min(due);
+        self.quiet_until = self.state.sooner_due(self.quiet_until, number, clock);
         self.state.may_commit(number, generation, clock)
     }
 

@@ -1,6 +1,6 @@
 //! Moments: sessions and deadlines.
 
-ghost use Rattle.std.specs.Prelude.{◌≡◌, ◌≤◌, ◌<◌, ◌+◌, map, IfOk, OnErr, OnOk};
+ghost use Rattle.std.specs.Prelude.{◌≡◌, ◌≤◌, ◌<◌, ◌+◌, map, min, IfOk, OnErr, OnOk};
 ghost use Rattle.kb_groups.specs.Members.{keeping, member};
 ghost use Rattle.kb_groups.specs.Answers.{waits_join};
 ghost use Rattle.kb_groups.specs.Moments.{at_deadline, closed, earliest, expired, expired_one, expires, has_expired, is_due, next_due};
@@ -24,15 +24,17 @@ impl Member {
             && clock - self.session_start >= self.session_timeout as u64
     }
 
-    /// When its session ends; never while a request of it waits.
-    fn session_end(&self) -> u64
-        ensures { result ≡ session_end self.now }
+    /// The sooner of that moment and the end of its session.
+    fn sooner_end(&self, moment: u64) -> u64
+        ensures { result ≡ min moment (session_end self.now) }
     {
         if self.waiter.is_none() {
-            self.session_start
-                .saturating_add(self.session_timeout as u64)
+            let end = self
+                .session_start
+                .saturating_add(self.session_timeout as u64);
+            moment.min(end)
         } else {
-            u64::MAX
+            moment
         }
     }
 }
@@ -79,7 +81,7 @@ impl Members {
         let mut earliest = u64::MAX;
         for i in 0..self.map.len() {
             if let Some((_, member)) = self.map.get_index(i) {
-                earliest = earliest.min(member.session_end());
+                earliest = member.sooner_end(earliest);
             }
         }
         earliest
@@ -98,13 +100,13 @@ impl State {
         }
     }
 
-    /// When that member's session ends if it starts at the clock; never if it is no member.
-    pub(crate) fn session_due(&self, number: u64, clock: u64) -> u64
-        ensures { result ≡ session_due clock (member self.now.members number) }
+    /// The sooner of that moment and the end of that member's session if it starts at the clock; that moment if it is no member.
+    pub(crate) fn sooner_due(&self, moment: u64, number: u64, clock: u64) -> u64
+        ensures { result ≡ min moment (session_due clock (member self.now.members number)) }
     {
         match self.members.find(number) {
-            Some(member) => clock.saturating_add(member.session_timeout as u64),
-            None => u64::MAX,
+            Some(member) => moment.min(clock.saturating_add(member.session_timeout as u64)),
+            None => moment,
         }
     }
 

@@ -2,7 +2,7 @@
 
 ghost use Rattle.std.specs.Prelude.{◌≡◌, ◌≤◌, List, IfOk};
 ghost use Rattle.kb_groups.specs.declared.reply.Release.{Release};
-ghost use Rattle.kb_groups.specs.Calls.{fresh};
+ghost use Rattle.kb_groups.specs.Calls.{fresh_at};
 ghost use Rattle.kb_groups.specs.Rebalance.{opened, ended, is_joining, looked_at, next_generation};
 
 use crate::bytes::SharedBytes;
@@ -33,12 +33,12 @@ pub struct State {
 }
 
 impl State {
-    /// A group that nobody joined yet.
-    pub(crate) fn new(alloc: Global) -> State
-        ensures { result ≡ fresh }
+    /// A group without members, whose last generation was that.
+    pub(crate) fn new(alloc: Global, generation: i32) -> State
+        ensures { result ≡ fresh_at generation }
     {
         State {
-            generation: 0,
+            generation,
             phase: Phase::Empty,
             leader: None,
             protocol_type: SharedBytes::new(),

@@ -1,6 +1,0 @@
-use Rattle.std.proofs.Common.{arith}
-use Rattle.kb_groups.proofs.Waiting.{none_waits}
-use Rattle.kb_groups.proofs.group.Group.new.Goals as goal
-
-pub invariant_of-result : goal.invariant_of-result
-invariant_of-result c = (omega arith, none_waits c.new.result c.new.ensures)

@@ -1,8 +1,14 @@
 //! One consumer group.
 
+<<<<<<< HEAD
 ghost use Rattle.std.specs.Prelude.{◌≡◌, ◌≤◌, IfOk, OnErr, OnOk};
 ghost use Rattle.kb_groups.specs.Calls.{after_heartbeat, after_may_commit, dropped, fresh, fresh_at, heartbeat, join, join_code, leave};
 ghost use Rattle.kb_groups.specs.Calls.{leave_code, may_commit, sync};
+=======
+ghost use Rattle.std.specs.Prelude.{◌≡◌, ◌≤◌, ◌^◌, IfOk, OnErr, OnOk};
+ghost use Rattle.kb_groups.specs.Calls.{after_heartbeat, after_may_commit, dropped, fresh, fresh_at, heartbeat, join, join_code, leave};
+ghost use Rattle.kb_groups.specs.Calls.{leave_code, may_commit, sync};
+>>>>>>> 80ba7cab3dc5010adae8857857220ab99053a460
 ghost use Rattle.kb_groups.specs.Moments.{next_due, tick};
 
 use crate::borrowed::{Join, SyncAssignment};
@@ -92,7 +98,7 @@ impl Group {
         request: &Join<'_>,
         clock: u64,
     ) -> Result<(Code, Vec<Release>), AllocError>
-        requires { clock ≤ 4611686018427387904 }
+        requires { clock ≤ 2 ^ 62 }
         ensures code { IfOk result (λ r. r.0 ≡ join_code request.now self.old) }
         ensures released { IfOk result (λ r. r.1.items ≡ (join clock request.now self.old).released) }
         ensures group { OnOk result (self.new ≡ (join clock request.now self.old).group) }
@@ -152,7 +158,7 @@ impl Group {
         number: u64,
         clock: u64,
     ) -> Result<(Code, Vec<Release>), AllocError>
-        requires { clock ≤ 4611686018427387904 }
+        requires { clock ≤ 2 ^ 62 }
         ensures code { IfOk result (λ r. r.0 ≡ leave_code number self.old) }
         ensures released { IfOk result (λ r. r.1.items ≡ (leave clock number self.old).released) }
         ensures group { OnOk result (self.new ≡ (leave clock number self.old).group) }
@@ -180,7 +186,7 @@ impl Group {
     /// A moment: sessions end, and then a deadline comes; with the requests that wait no longer, by connection.
     /// Where nothing is due it costs constant time.
     pub fn tick(&mut self, alloc: Global, clock: u64) -> Result<Vec<Release>, AllocError>
-        requires { clock ≤ 4611686018427387904 }
+        requires { clock ≤ 2 ^ 62 }
         ensures released { IfOk result (λ v. v.items ≡ (tick clock self.old).released) }
         ensures group { OnOk result (self.new ≡ (tick clock self.old).group) }
         ensures refused { OnErr result (self.new ≡ self.old) }

@@ -1,6 +1,6 @@
 //! Members leave.
 
-ghost use Rattle.std.specs.Prelude.{◌≡◌, ◌≤◌, IfOk, OnErr, OnOk, []};
+ghost use Rattle.std.specs.Prelude.{◌≡◌, ◌≤◌, ◌^◌, IfOk, OnErr, OnOk, []};
 ghost use Rattle.kb_groups.specs.Calls.{gone, leave, leave_code};
 ghost use Rattle.kb_groups.specs.Rebalance.{ended, opened, Step};
 
@@ -33,9 +33,15 @@ impl State {
         clock: u64,
         out: &mut Vec<Release>,
     ) -> Result<(), AllocError>
+<<<<<<< HEAD
         requires { clock ≤ 4611686018427387904 }
         ensures { OnOk result (record { group = self.new; released = out.new.items }
             ≡ opened clock (record { group = self.old; released = out.old.items })) }
+=======
+        requires { clock ≤ 2 ^ 62 }
+        ensures { OnOk result (record { group = self.new; released = out.new.items }
+            ≡ opened clock (record { group = self.old; released = out.old.items })) }
+>>>>>>> 80ba7cab3dc5010adae8857857220ab99053a460
     {
         self.members.answer(alloc, &SyncsRefused {}, out)?;
         self.open_joining(clock);
@@ -50,9 +56,15 @@ impl State {
         clock: u64,
         out: &mut Vec<Release>,
     ) -> Result<(), AllocError>
+<<<<<<< HEAD
         requires { clock ≤ 4611686018427387904 }
         ensures { OnOk result (record { group = self.new; released = out.new.items }
             ≡ gone clock number (record { group = self.old; released = out.old.items })) }
+=======
+        requires { clock ≤ 2 ^ 62 }
+        ensures { OnOk result (record { group = self.new; released = out.new.items }
+            ≡ gone clock number (record { group = self.old; released = out.old.items })) }
+>>>>>>> 80ba7cab3dc5010adae8857857220ab99053a460
     {
         self.members
             .turn_away(alloc, Code::UnknownMemberId, number, out)?;
@@ -76,7 +88,7 @@ impl State {
         number: u64,
         clock: u64,
     ) -> Result<(Code, Vec<Release>), AllocError>
-        requires { clock ≤ 4611686018427387904 }
+        requires { clock ≤ 2 ^ 62 }
         ensures code { IfOk result (λ r. r.0 ≡ leave_code number self.old) }
         ensures released { IfOk result (λ r. r.1.items ≡ (leave clock number self.old).released) }
         ensures group { OnOk result (self.new ≡ (leave clock number self.old).group) }

@@ -33,15 +33,9 @@ impl State {
         clock: u64,
         out: &mut Vec<Release>,
     ) -> Result<(), AllocError>
-<<<<<<< HEAD
-        requires { clock ≤ 4611686018427387904 }
-        ensures { OnOk result (record { group = self.new; released = out.new.items }
-            ≡ opened clock (record { group = self.old; released = out.old.items })) }
-=======
         requires { clock ≤ 2 ^ 62 }
         ensures { OnOk result (record { group = self.new; released = out.new.items }
             ≡ opened clock (record { group = self.old; released = out.old.items })) }
->>>>>>> 80ba7cab3dc5010adae8857857220ab99053a460
     {
         self.members.answer(alloc, &SyncsRefused {}, out)?;
         self.open_joining(clock);
@@ -56,15 +50,9 @@ impl State {
         clock: u64,
         out: &mut Vec<Release>,
     ) -> Result<(), AllocError>
-<<<<<<< HEAD
-        requires { clock ≤ 4611686018427387904 }
-        ensures { OnOk result (record { group = self.new; released = out.new.items }
-            ≡ gone clock number (record { group = self.old; released = out.old.items })) }
-=======
         requires { clock ≤ 2 ^ 62 }
         ensures { OnOk result (record { group = self.new; released = out.new.items }
             ≡ gone clock number (record { group = self.old; released = out.old.items })) }
->>>>>>> 80ba7cab3dc5010adae8857857220ab99053a460
     {
         self.members
             .turn_away(alloc, Code::UnknownMemberId, number, out)?;

@@ -5,7 +5,7 @@ ghost use Rattle.kb_partitions.specs.Scene.{WhereHonest};
 ghost use Rattle.kb_world.specs.Parts.{scene};
 ghost use Rattle.kb_world.specs.Steps.{IsStep, Meets};
 ghost use Rattle.kb_tenant.specs.Told.{HasFailed, CatalogFailed, CreationFailed, Acknowledges, AcknowledgesCreations};
-ghost use Rattle.kb_tenant.specs.Told.{AcknowledgesDeletions, AcknowledgesIssue, AcknowledgesRemovals, IsSpared};
+ghost use Rattle.kb_tenant.specs.Told.{AcknowledgesDeletions, AcknowledgesIssue, AcknowledgesRemovals, AnswersFetch, IsSpared};
 ghost use Rattle.kb_service.specs.Acknowledged.{AcknowledgesCommits, IsPlainly};
 ghost use Rattle.kb_service.specs.Waiters.{IsWaitTold, IsWaitToldBy};
 ghost use Rattle.kb_service.specs.Serve.{has_released, served, AreGroupsAfter, AreGroupsBy, IsOutcome, IsServed};
@@ -47,6 +47,9 @@ fn serve_by_key<L: PartitionLog + Drop, S: Store>(
     ensures spared { let a = scene L.log S.disk parts.old shelf.old in let b = scene L.log S.disk parts.new shelf.new in
         request.now.api_key ≡ pos 0 → IfOk result (λ answer. IsPlainly (IsSpared a.state.world request.now.body.now b.state.world) answer) }
     ensures answered { request.now.api_key ≡ pos 0 → IsOk result }
+    ensures fetched { let a = scene L.log S.disk parts.old shelf.old in let b = scene L.log S.disk parts.new shelf.new in
+        request.now.api_key ≡ pos 1 → IfOk result (λ answer. WhereHonest a b (IsPlainly (AnswersFetch (HasFailed a b)
+        request.now.correlation_id request.now.api_version a.state.world request.now.body.now) answer)) }
     ensures created { let a = scene L.log S.disk parts.old shelf.old in let b = scene L.log S.disk parts.new shelf.new in
         request.now.api_key ≡ pos 19 → IfOk result (λ answer. WhereHonest a b (IsPlainly (AcknowledgesCreations (CreationFailed a b)
         request.now.correlation_id request.now.api_version a.state.world request.now.body.now b.state.world) answer)) }
@@ -125,6 +128,10 @@ pub fn serve<L: PartitionLog + Drop, S: Store>(
     // A Produce whose connection is shut for want of memory has appended nothing.
     ensures spared { let a = scene L.log S.disk parts.old shelf.old in let b = scene L.log S.disk parts.new shelf.new in
         request.now.api_key ≡ pos 0 → IsPlainly (IsSpared a.state.world request.now.body.now b.state.world) result.answer }
+    // A Fetch has of each partition what is defined, or the code of what refused it, whatever was refused.
+    ensures fetched { let a = scene L.log S.disk parts.old shelf.old in let b = scene L.log S.disk parts.new shelf.new in
+        request.now.api_key ≡ pos 1 → WhereHonest a b (IsPlainly (AnswersFetch (HasFailed a b)
+        request.now.correlation_id request.now.api_version a.state.world request.now.body.now) result.answer) }
     // A topic of a CreateTopics that is answered with no error is in the catalog, whatever else was refused.
     ensures created { let a = scene L.log S.disk parts.old shelf.old in let b = scene L.log S.disk parts.new shelf.new in
         request.now.api_key ≡ pos 19 → WhereHonest a b (IsPlainly (AcknowledgesCreations (CreationFailed a b)

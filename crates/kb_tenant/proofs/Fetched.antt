@@ -3,7 +3,6 @@ use Rattle.std.proofs.Common.{◌≡◌, ◌⊎◌, ◌∙◌, ◌++◌, ◌∷�
 use Rattle.std.specs.Prelude.{pos, option_map, Result, Ok, Err}
 use Rattle.std.specs.List.{flat_map}
 use Rattle.kb_wire.specs.Codec.{count, int32, string}
-use Rattle.kb_api_data.specs.FetchRecords.{answer_with_v5}
 use Rattle.kb_api_data.specs.declared.fetch.FetchPartition.{FetchPartition}
 use Rattle.kb_api_data.specs.declared.fetch.FetchRequest.{FetchRequest}
 use Rattle.kb_api_data.specs.declared.fetch.FetchTopic.{FetchTopic}
@@ -18,18 +17,19 @@ use Rattle.kb_partitions.specs.declared.fault.PartitionFault.TheVariants as part
 use Rattle.kb_world.specs.Calls.{IsGiven}
 use Rattle.kb_world.specs.Parts.{Seen}
 use Rattle.kb_world.specs.Steps.{IsStep}
-use Rattle.kb_world.specs.Told.{Failed, IsDone, IsRefused, IsWant}
-use Rattle.kb_world.specs.World.{World, place_in}
+use Rattle.kb_world.specs.Told.{IsDone, IsRefused, IsWant}
+use Rattle.kb_world.specs.World.{World}
 use Rattle.kb_world.specs.declared.topic_partition.TopicPartition.{TopicPartition}
-use Rattle.kb_tenant.specs.Fetch.{answered_at, begun, bounds_of, fetch_answered, fetched_at, fetched_in, front_of, has_enough, has_starts}
-use Rattle.kb_tenant.specs.Fetch.{partition_written, refused, reply_written, topic_written}
-use Rattle.kb_tenant.specs.Replies.{begun as reply_begun, framed, IsAnswer, Replies}
-use Rattle.kb_tenant.specs.Told.{AreFetchesTold, HasFailed, IsFetchReady, IsFetchTold, IsFetchTopicTold, IsReadOr, IsRepliedOrWaits, IsUnread}
-use Rattle.kb_tenant.specs.Told.{IsUnready, TellsFetch}
+use Rattle.kb_tenant.specs.Fetch.{answered_at, begun, bounds_of, deadline_of, fetched_at, fetched_in, front_of, has_enough, has_starts}
+use Rattle.kb_tenant.specs.Fetch.{partition_written, places_of, refused, reply_written, topic_written}
+use Rattle.kb_tenant.specs.Replies.{begun as reply_begun, IsAnswer, Replies}
+use Rattle.kb_tenant.specs.Told.{AreFetchesTold, HasFailed, IsFetchMade, IsFetchReady, IsFetchReplied, IsFetchTold, IsFetchTopicTold}
+use Rattle.kb_tenant.specs.Told.{IsLeftWaiting, IsReadOr, IsRepliedOrWaits, IsUnread, IsUnready, TellsFetch}
 use Rattle.kb_tenant.specs.Turns.{AreServed}
 use Rattle.kb_tenant.specs.declared.answer.Answer.{Answer}
 use Rattle.kb_tenant.specs.declared.answer.Answer.TheVariants as answers
 use Rattle.kb_tenant.specs.declared.fetch.given.Given.{Given}
+use Rattle.kb_tenant.specs.declared.fetch.waiting.Fetching.TheVariants as fetching
 use Rattle.kb_tenant.proofs.Acknowledging.{failed_in, honest_then, served_length, served_next, served_so, written_more}
 use Rattle.kb_tenant.proofs.DeletedRecords.{behind}
 use Rattle.kb_tenant.proofs.Fetching.{by_refusal, cut_back, reply_spelled, topic_spelled}
@@ -192,13 +192,13 @@ fetched_ready failed starts w v q left clock deadline ready is old mid new enoug
     )
 
 -- the answer to a look that wrote its reply behind what was begun
-pub look_replied : (failed : Type 0) (id version : ℤ) (starts : Bool) (w : World) (deadline : ℕ) (asked q : FetchRequest) (old new : List ℕ)
+pub look_replied : (failed Unready : Type 0) (id version : ℤ) (starts : Bool) (w : World) (deadline : ℕ) (asked q : FetchRequest) (old new : List ℕ)
     (done : Bool) (answer : Answer) → starts ≡ has_starts version → old ≡ reply_begun id → done ≡ true → asked ≡ q
     → (reply : FetchReplyV5)
     × (IsFetchReady failed w deadline asked done reply × (done ≡ true → new ≡ old ++ reply_written starts reply))
     → ((id : ℤ) (body : List ℕ) → new ≡ reply_begun id ++ body → IsAnswer id (Replies body) answer)
-    → IsRepliedOrWaits id (TellsFetch failed version w deadline q) (IsUnready failed w deadline q) answer
-look_replied failed id version starts w deadline asked q old new done answer same from over one told made =
+    → IsRepliedOrWaits id (TellsFetch failed version w deadline q) Unready answer
+look_replied failed Unready id version starts w deadline asked q old new done answer same from over one told made =
     by answer (made id body (told.1.1 over ∙ ap (λ s. s ++ reply_written starts reply) from ∙ ap (λ b. reply_begun id ++ reply_written b reply) same))
   where
     reply : FetchReplyV5
@@ -211,8 +211,7 @@ look_replied failed id version starts w deadline asked q old new done answer sam
     ready = subst (λ r. IsFetchReady failed w deadline r true reply) one
         (subst (λ b. IsFetchReady failed w deadline asked b reply) over told.1.0)
 
-    by : (x : Answer) → IsAnswer id (Replies body) x
-        → IsRepliedOrWaits id (TellsFetch failed version w deadline q) (IsUnready failed w deadline q) x
+    by : (x : Answer) → IsAnswer id (Replies body) x → IsRepliedOrWaits id (TellsFetch failed version w deadline q) Unready x
     by (answers.Reply bytes) h = (body, (h.1, (reply, (refl, ready))))
     by (answers.Wait until keys) h = absurd h
     by answers.NoReply h = absurd h
@@ -227,3 +226,41 @@ look_unready failed w deadline asked q done Also not one told = (
   subst (λ r. IsFetchReady failed w deadline r false told.0) one
       (subst (λ b. IsFetchReady failed w deadline asked b told.0) not told.1.0),
 )
+
+-- ---- a fetch
+
+-- one that wrote its reply
+pub made_reply : (failed : Type 0) (starts : Bool) (w : World) (q : FetchRequest) (d : ℕ) (old new : List ℕ) (done : Bool)
+    → done ≡ true → d ≡ deadline_of w q
+    → (reply : FetchReplyV5) × (IsFetchReady failed w d q done reply × (done ≡ true → new ≡ old ++ reply_written starts reply))
+    → IsFetchMade failed starts w q old fetching.Reply new
+made_reply failed starts w q d old new done over until told =
+    (told.0, (subst (λ n. IsFetchReady failed w n q true told.0) until (subst (λ b. IsFetchReady failed w d q b told.0) over told.1.0), told.1.1 over))
+
+-- one that waits
+pub made_wait : (failed : Type 0) (w v : World) (q : FetchRequest) (d : ℕ) (places : List TopicPartition) (done : Bool)
+    (Also : FetchReplyV5 → Type 0) → done ≡ false → d ≡ deadline_of w q → places ≡ places_of v q → v ≡ w
+    → (reply : FetchReplyV5) × (IsFetchReady failed w d q done reply × Also reply) → IsLeftWaiting failed w q d places
+made_wait failed w v q d places done Also not until there stays told = (
+  subst (λ n. IsUnready failed w n q) until (look_unready failed w d q q done Also not refl told),
+  (until, there ∙ ap (λ u. places_of u q) stays),
+)
+
+-- its reply behind what was begun
+pub fetch_replied : (failed : Type 0) (id version : ℤ) (starts : Bool) (w : World) (asked q : FetchRequest) (old new : List ℕ)
+    (answer : Answer) → starts ≡ has_starts version → old ≡ reply_begun id → asked ≡ q
+    → IsFetchMade failed starts w asked old fetching.Reply new
+    → ((id : ℤ) (body : List ℕ) → new ≡ reply_begun id ++ body → IsAnswer id (Replies body) answer)
+    → IsFetchReplied failed id version w q answer
+fetch_replied failed id version starts w asked q old new answer same from one told made =
+    by answer (look_replied failed ⊥ id version starts w (deadline_of w q) q q old new true answer same from refl refl
+    (ready.0, (ready.1.0, λ over. ready.1.1)) made)
+  where
+    ready : IsFetchMade failed starts w q old fetching.Reply new
+    ready = subst (λ r. IsFetchMade failed starts w r old fetching.Reply new) one told
+
+    by : (x : Answer) → IsRepliedOrWaits id (TellsFetch failed version w (deadline_of w q) q) ⊥ x → IsFetchReplied failed id version w q x
+    by (answers.Reply bytes) h = h
+    by (answers.Wait until keys) h = absurd h
+    by answers.NoReply h = absurd h
+    by answers.Shut h = tt

@@ -1,6 +1,6 @@
 -- What each entry of a request is answered, whatever memory and the store refuse: what is defined, or else a code that names
 -- what refused it.
-use Rattle.std.specs.Prelude.{◌≡◌, ◌≤◌, ◌+◌, ◌^◌, ◌⊎◌, ℕ, ℤ, pos, Bool, true, false, List, [], Option, Ok, Err, ⊤}
+use Rattle.std.specs.Prelude.{◌≡◌, ◌≤◌, ◌+◌, ◌^◌, ◌++◌, ◌⊎◌, ℕ, ℤ, pos, Bool, true, false, List, [], Option, Ok, Err, ⊤}
 use Rattle.kb_wire.specs.Codec.{whole}
 use Rattle.kb_api_data.specs.Layouts.{delete_topics_request, init_producer_id_reply, init_producer_id_request, produce_reply}
 use Rattle.kb_api_data.specs.Layouts.{produce_request}
@@ -53,7 +53,8 @@ use Rattle.kb_world.specs.declared.topic_partition.TopicPartition.{TopicPartitio
 use Rattle.kb_tenant.specs.CreateTopics.{asked_creations, created_topic, creations_in}
 use Rattle.kb_tenant.specs.DeleteRecords.{deletion_answered, deleted}
 use Rattle.kb_tenant.specs.DeleteTopics.{deleted_topic, deletions_in}
-use Rattle.kb_tenant.specs.Fetch.{asked_fetch, begun, fetch_answered, fetched_in, has_enough, refused}
+use Rattle.kb_tenant.specs.Fetch.{asked_fetch, begun, deadline_of, fetch_answered, fetched_in, has_enough, places_of, refused}
+use Rattle.kb_tenant.specs.Fetch.{reply_written}
 use Rattle.kb_tenant.specs.InitProducerId.{id_refused, init_producer_id}
 use Rattle.kb_tenant.specs.OffsetCommit.{committed_entry, refusal_of as commit_refusal}
 use Rattle.kb_tenant.specs.Produce.{Progress, answer, progress, refusal_of, entry_served}
@@ -63,6 +64,8 @@ use Rattle.kb_tenant.specs.Turns.{AreServed}
 use Rattle.kb_tenant.specs.declared.answer.Answer.{Answer}
 use Rattle.kb_tenant.specs.declared.answer.Answer.TheVariants as answers
 use Rattle.kb_tenant.specs.declared.fetch.given.Given.{Given}
+use Rattle.kb_tenant.specs.declared.fetch.waiting.Fetching.{Fetching}
+use Rattle.kb_tenant.specs.declared.fetch.waiting.Fetching.TheVariants as fetching
 
 -- KAFKA_STORAGE_ERROR is answered where the store failed, and UNKNOWN_SERVER_ERROR where memory ran out.
 abbrev pub IsCodeWant : Scene Seen → Scene Seen → ℤ → Type 0
@@ -317,3 +320,25 @@ IsRepliedOrWaits id Told Unready answers.Shut = ⊤
 abbrev pub AnswersLook : Type 0 → ℤ → ℤ → World → ℕ → List ℕ → Answer → Type 0
 AnswersLook failed id version w deadline body a = (q : FetchRequest) → asked_fetch version body ≡ Ok q
     → IsRepliedOrWaits id (TellsFetch failed version w deadline q) (IsUnready failed w deadline q) a
+
+-- A Fetch that is not ready waits until its deadline, for the partitions that it asks.
+abbrev pub IsLeftWaiting : Type 0 → World → FetchRequest → ℕ → List TopicPartition → Type 0
+IsLeftWaiting failed w q until places = IsUnready failed w (deadline_of w q) q × ((until ≡ deadline_of w q) × (places ≡ places_of w q))
+
+-- Its reply was written, or it is left waiting.
+abbrev pub IsFetchMade : Type 0 → Bool → World → FetchRequest → List ℕ → Fetching → List ℕ → Type 0
+IsFetchMade failed starts w q old fetching.Reply new =
+    (reply : FetchReplyV5) × (IsFetchReady failed w (deadline_of w q) q true reply × (new ≡ old ++ reply_written starts reply))
+IsFetchMade failed starts w q old (fetching.Wait until keys) new = IsLeftWaiting failed w q until keys.items
+
+-- The answer to a Fetch is such a reply or such a wait, or the connection is shut.
+abbrev pub IsFetchReplied : Type 0 → ℤ → ℤ → World → FetchRequest → Answer → Type 0
+IsFetchReplied failed id version w q (answers.Reply bytes) =
+    (body : List ℕ) × ((bytes.items ≡ framed id body) × TellsFetch failed version w (deadline_of w q) q body)
+IsFetchReplied failed id version w q (answers.Wait until keys) = IsLeftWaiting failed w q until keys.items
+IsFetchReplied failed id version w q answers.NoReply = ⊥
+IsFetchReplied failed id version w q answers.Shut = ⊤
+
+-- The same of a body, where it is a request of Fetch in that version.
+abbrev pub AnswersFetch : Type 0 → ℤ → ℤ → World → List ℕ → Answer → Type 0
+AnswersFetch failed id version w body a = (q : FetchRequest) → asked_fetch version body ≡ Ok q → IsFetchReplied failed id version w q a

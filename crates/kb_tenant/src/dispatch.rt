@@ -13,7 +13,7 @@ ghost use Rattle.kb_tenant.specs.Metadata.{asked_metadata};
 ghost use Rattle.kb_tenant.specs.Replies.{IsAnswer};
 ghost use Rattle.kb_tenant.specs.Told.{CatalogFailed, CreationFailed, HasFailed, Acknowledges, AcknowledgesCommits, AcknowledgesCreations};
 ghost use Rattle.kb_tenant.specs.Told.{AcknowledgesIssue, AcknowledgesRemovals, IsSpared};
-ghost use Rattle.kb_tenant.specs.Told.{AcknowledgesDeletions, AnswersLook};
+ghost use Rattle.kb_tenant.specs.Told.{AcknowledgesDeletions, AnswersFetch, AnswersLook};
 ghost use Rattle.kb_tenant.specs.Serve.{if_read, of_produce, of_fetch, of_list_offsets, of_metadata, of_create_topics, of_delete_records};
 ghost use Rattle.kb_tenant.specs.Serve.{of_delete_topics, of_init_producer_id, plainly_served, looked, stays, IsOutcome, IsServed};
 
@@ -95,6 +95,9 @@ fn serve_a_fetch<L: PartitionLog + Drop, S: Store>(
         Meets a b (IsServed request.now.correlation_id
         (if_read a.state.world (asked_fetch request.now.api_version request.now.body.now) (of_fetch request.now.api_version a.state.world))
         b.state.world [] result) }
+    ensures fetched { let a = scene L.log S.disk parts.old shelf.old in let b = scene L.log S.disk parts.new shelf.new in
+        IfOk result (λ answer. WhereHonest a b (AnswersFetch (HasFailed a b)
+        request.now.correlation_id request.now.api_version a.state.world request.now.body.now answer)) }
 {
     let has_starts = fetch::has_starts(request.api_version);
     let asked = read_request(alloc, has_starts, request.body)?;
@@ -278,6 +281,9 @@ fn serve_by_key<L: PartitionLog + Drop, S: Store>(
         request.now.api_key ≡ pos 0 → OnErr result (b.state.world ≡ a.state.world) }
     ensures shut { let a = scene L.log S.disk parts.old shelf.old in let b = scene L.log S.disk parts.new shelf.new in
         request.now.api_key ≡ pos 0 → IfOk result (λ answer. IsSpared a.state.world request.now.body.now b.state.world answer) }
+    ensures fetched { let a = scene L.log S.disk parts.old shelf.old in let b = scene L.log S.disk parts.new shelf.new in
+        request.now.api_key ≡ pos 1 → IfOk result (λ answer. WhereHonest a b (AnswersFetch (HasFailed a b)
+        request.now.correlation_id request.now.api_version a.state.world request.now.body.now answer)) }
     ensures created { let a = scene L.log S.disk parts.old shelf.old in let b = scene L.log S.disk parts.new shelf.new in
         request.now.api_key ≡ pos 19 → IfOk result (λ answer.
         WhereHonest a b (AcknowledgesCreations (CreationFailed a b) request.now.correlation_id request.now.api_version a.state.world
@@ -343,6 +349,10 @@ pub fn serve<L: PartitionLog + Drop, S: Store>(
     // A Produce whose connection is shut for want of memory has appended nothing.
     ensures spared { let a = scene L.log S.disk parts.old shelf.old in let b = scene L.log S.disk parts.new shelf.new in
         request.now.api_key ≡ pos 0 → IsSpared a.state.world request.now.body.now b.state.world result.answer }
+    // A Fetch has of each partition what is defined, or the code of what refused it, whatever was refused.
+    ensures fetched { let a = scene L.log S.disk parts.old shelf.old in let b = scene L.log S.disk parts.new shelf.new in
+        request.now.api_key ≡ pos 1 → WhereHonest a b (AnswersFetch (HasFailed a b)
+        request.now.correlation_id request.now.api_version a.state.world request.now.body.now result.answer) }
     // A topic of a CreateTopics that is answered with no error is in the catalog, whatever else was refused.
     ensures created { let a = scene L.log S.disk parts.old shelf.old in let b = scene L.log S.disk parts.new shelf.new in
         request.now.api_key ≡ pos 19 → WhereHonest a b

@@ -5,7 +5,7 @@ ghost use Rattle.kb_api_data.specs.Layouts.{fetch_request};
 ghost use Rattle.kb_api_data.specs.declared.fetch_v5.FetchReplyV5.{FetchReplyV5};
 ghost use Rattle.kb_partitions.specs.Scene.{WhereHonest};
 ghost use Rattle.kb_tenant.specs.Fetch.{deadline_of, fetch_answer, look_written, places_in, places_of, reply_written, IsServed};
-ghost use Rattle.kb_tenant.specs.Told.{HasFailed, IsFetchReady};
+ghost use Rattle.kb_tenant.specs.Told.{HasFailed, IsFetchMade, IsFetchReady};
 ghost use Rattle.kb_world.specs.Parts.{scene, world_of};
 ghost use Rattle.kb_world.specs.Steps.{IsStep, Meets};
 
@@ -129,6 +129,9 @@ pub(crate) fn serve_fetch<L: PartitionLog + Drop, S: Store>(
         (IsServed has_starts a.state.world request.now
         (fetch_answer a.state.world request.now (deadline_of a.state.world request.now))
         sink.old.bytes served sink.new.bytes)) }
+    ensures told { let a = scene L.log S.disk parts.old shelf.old in let b = scene L.log S.disk parts.new shelf.new in
+        IfOk result (λ served. WhereHonest a b
+        (IsFetchMade (HasFailed a b) has_starts a.state.world request.now sink.old.bytes served sink.new.bytes)) }
 {
     let deadline = deadline(parts, request);
     if look(alloc, parts, shelf, has_starts, request, deadline, sink)? {

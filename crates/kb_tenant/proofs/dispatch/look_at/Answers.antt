@@ -3,7 +3,7 @@ use Rattle.kb_world.specs.Parts.{scene, world_of}
 use Rattle.kb_tenant.specs.Fetch.{asked_fetch, fetch_answer, has_starts, read_as}
 use Rattle.kb_tenant.specs.Replies.{begun, IsAnswer}
 use Rattle.kb_tenant.specs.Serve.{looked, looked_at}
-use Rattle.kb_tenant.specs.Told.{HasFailed}
+use Rattle.kb_tenant.specs.Told.{HasFailed, IsUnready}
 use Rattle.kb_tenant.proofs.Fetched.{look_replied, look_unready}
 use Rattle.kb_tenant.specs.declared.answer.Answer.TheVariants as answers
 use Rattle.kb_tenant.proofs.Keys.{waiting, woken}
@@ -57,8 +57,8 @@ returns-then-branch-clause-told g c = λ honest agree q is.
     let from : c.in_ok-sink.sink.bytes ≡ begun wait.correlation_id = search rules in
     let both : Ok asked ≡ Ok q = sym (ap (λ b. read_as b wait.body.now) (sym same) ∙ c.in_ok-asked.ensures.exact) ∙ is in
     let one : asked ≡ q = cc in
-    look_replied (HasFailed a b) wait.correlation_id wait.api_version starts a.state.world wait.deadline asked q c.in_ok-sink.sink.bytes
-    c.look.new.sink.bytes c.in_ok-look.field-0 c.finish.result same from c.if-branch.true one (c.in_ok-look.ensures.told honest agree)
+    look_replied (HasFailed a b) (IsUnready (HasFailed a b) a.state.world wait.deadline q) wait.correlation_id wait.api_version
+    starts a.state.world wait.deadline asked q c.in_ok-sink.sink.bytes c.look.new.sink.bytes c.in_ok-look.field-0 c.finish.result same from c.if-branch.true one (c.in_ok-look.ensures.told honest agree)
     c.finish.ensures
 
 pub returns-clause-told : goal.returns-clause-told

@@ -1,10 +1,13 @@
 use Rattle.std.proofs.Common.{rules, [], ◌≡◌, ◌∙◌, Bool, Ok, ap, sym, refl, subst}
-use Rattle.kb_world.specs.Parts.{world_of}
+use Rattle.kb_world.specs.Parts.{scene, world_of}
 use Rattle.kb_tenant.specs.Fetch as fetch
 use Rattle.kb_tenant.specs.Fetch.{asked_fetch, deadline_of, fetch_answer, has_starts, read_as}
 use Rattle.kb_tenant.specs.Replies.{begun}
 use Rattle.kb_tenant.specs.Serve.{if_read, of_fetch, IsServed}
+use Rattle.kb_tenant.specs.Told.{HasFailed, IsFetchMade, IsLeftWaiting}
 use Rattle.kb_tenant.specs.declared.answer.Answer.TheVariants as answers
+use Rattle.kb_tenant.specs.declared.fetch.waiting.Fetching.TheVariants as fetching
+use Rattle.kb_tenant.proofs.Fetched.{fetch_replied}
 use Rattle.kb_tenant.proofs.Keys.{replied, waits}
 use Rattle.kb_tenant.proofs.dispatch.serve_a_fetch.Goals as goal
 
@@ -43,3 +46,39 @@ returns-clause-meets g c = λ honest agree calm.
       waits id version starts w asked (fetch_answer w asked (deadline_of w asked)) c.in_ok-sink.sink.bytes c.serve_fetch.new.sink.bytes c.in-Wait.deadline c.in-Wait.keys
           (subst (λ f. fetch.IsServed starts w asked (fetch_answer w asked (deadline_of w asked)) c.in_ok-sink.sink.bytes f c.serve_fetch.new.sink.bytes) c.in-Wait.is (c.in_ok-serve_fetch.ensures.meets honest agree calm)),
     )
+
+pub returns-in-Reply-clause-fetched : goal.returns-in-Reply-clause-fetched
+returns-in-Reply-clause-fetched g c = λ honest agree q is.
+    let log = g.L.PartitionLog.log in
+    let disk = g.S.Store.disk in
+    let a = scene log disk c.args.parts.now c.args.shelf.now in
+    let b = scene log disk c.serve_fetch.new.parts c.serve_fetch.new.shelf in
+    let request = c.args.request.now in
+    let asked = c.in_ok-asked.asked in
+    let starts : Bool = c.has_starts-has_starts.result in
+    let same : starts ≡ has_starts request.api_version = search rules in
+    let from : c.in_ok-sink.sink.bytes ≡ begun request.correlation_id = search rules in
+    let both : Ok asked ≡ Ok q = sym (ap (λ b. read_as b request.body.now) (sym same) ∙ c.in_ok-asked.ensures.exact) ∙ is in
+    let one : asked ≡ q = cc in
+    let made : IsFetchMade (HasFailed a b) starts a.state.world asked c.in_ok-sink.sink.bytes fetching.Reply c.serve_fetch.new.sink.bytes =
+    subst (λ f. IsFetchMade (HasFailed a b) starts a.state.world asked c.in_ok-sink.sink.bytes f c.serve_fetch.new.sink.bytes) c.in-Reply.is
+    (c.in_ok-serve_fetch.ensures.told honest agree) in
+    fetch_replied (HasFailed a b) request.correlation_id request.api_version starts a.state.world asked q c.in_ok-sink.sink.bytes
+    c.serve_fetch.new.sink.bytes c.finish.result same from one made c.finish.ensures
+
+pub returns-clause-fetched : goal.returns-clause-fetched
+returns-clause-fetched g c = λ honest agree q is.
+    let log = g.L.PartitionLog.log in
+    let disk = g.S.Store.disk in
+    let a = scene log disk c.args.parts.now c.args.shelf.now in
+    let b = scene log disk c.serve_fetch.new.parts c.serve_fetch.new.shelf in
+    let request = c.args.request.now in
+    let asked = c.in_ok-asked.asked in
+    let starts : Bool = c.has_starts-has_starts.result in
+    let same : starts ≡ has_starts request.api_version = search rules in
+    let both : Ok asked ≡ Ok q = sym (ap (λ b. read_as b request.body.now) (sym same) ∙ c.in_ok-asked.ensures.exact) ∙ is in
+    let one : asked ≡ q = cc in
+    let wait = c.in-Wait in
+    subst (λ r. IsLeftWaiting (HasFailed a b) a.state.world r wait.deadline wait.keys.items) one
+    (subst (λ f. IsFetchMade (HasFailed a b) starts a.state.world asked c.in_ok-sink.sink.bytes f c.serve_fetch.new.sink.bytes) wait.is
+    (c.in_ok-serve_fetch.ensures.told honest agree))

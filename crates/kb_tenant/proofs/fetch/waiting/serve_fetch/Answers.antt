@@ -1,5 +1,7 @@
 use Rattle.kb_tenant.specs.Fetch.{fetch_answer}
-use Rattle.kb_world.specs.Parts.{world_of}
+use Rattle.kb_world.specs.Parts.{scene, world_of}
+use Rattle.kb_tenant.specs.Told.{HasFailed}
+use Rattle.kb_tenant.proofs.Fetched.{made_reply, made_wait}
 use Rattle.kb_tenant.proofs.Waiting.{reply_served, wait_served}
 use Rattle.kb_tenant.proofs.fetch.waiting.serve_fetch.Goals as goal
 
@@ -16,3 +18,23 @@ returns-clause-meets g c = λ honest agrees calm.
     let w = world_of g.L.PartitionLog.log c.args.parts.now files in
     wait_served c.args.has_starts w (world_of g.L.PartitionLog.log c.look.new.parts later) c.args.request.now c.deadline-deadline.result (fetch_answer w c.args.request.now) c.args.sink.now.bytes c.look.new.sink.bytes c.in_ok-look.field-0 c.in_ok-places.field-0
     c.if-branch.false (c.deadline-deadline.ensures files) (c.in_ok-look.ensures.meets honest agrees calm) (c.in_ok-places.ensures later) (c.look.ensures.same honest agrees)
+
+pub returns-then-branch-clause-told : goal.returns-then-branch-clause-told
+returns-then-branch-clause-told g c = λ honest agree.
+    let log = g.L.PartitionLog.log in
+    let disk = g.S.Store.disk in
+    let a = scene log disk c.args.parts.now c.args.shelf.now in
+    let b = scene log disk c.look.new.parts c.look.new.shelf in
+    made_reply (HasFailed a b) c.args.has_starts a.state.world c.args.request.now c.deadline-deadline.result c.args.sink.now.bytes
+    c.look.new.sink.bytes c.in_ok-look.field-0 c.if-branch.true (c.deadline-deadline.ensures a.disk.files)
+    (c.in_ok-look.ensures.told honest agree)
+
+pub returns-clause-told : goal.returns-clause-told
+returns-clause-told g c = λ honest agree.
+    let log = g.L.PartitionLog.log in
+    let disk = g.S.Store.disk in
+    let a = scene log disk c.args.parts.now c.args.shelf.now in
+    let b = scene log disk c.look.new.parts c.look.new.shelf in
+    made_wait (HasFailed a b) a.state.world b.state.world c.args.request.now c.deadline-deadline.result c.in_ok-places.field-0.items
+    c.in_ok-look.field-0 _ c.if-branch.false (c.deadline-deadline.ensures a.disk.files) (c.in_ok-places.ensures b.disk.files)
+    (c.look.ensures.same honest agree) (c.in_ok-look.ensures.told honest agree)

@@ -5,7 +5,8 @@ ghost use Rattle.kb_partitions.specs.Scene.{WhereHonest};
 ghost use Rattle.kb_world.specs.Parts.{scene};
 ghost use Rattle.kb_world.specs.Steps.{IsStep, Meets};
 ghost use Rattle.kb_tenant.specs.Told.{HasFailed, CatalogFailed, CreationFailed, Acknowledges, AcknowledgesCreations};
-ghost use Rattle.kb_tenant.specs.Told.{AcknowledgesDeletions, AcknowledgesIssue, AcknowledgesRemovals, AnswersFetch, IsSpared};
+ghost use Rattle.kb_tenant.specs.Told.{AcknowledgesDeletions, AcknowledgesIssue, AcknowledgesRemovals, AnswersFetch, AnswersListing};
+ghost use Rattle.kb_tenant.specs.Told.{IsSpared};
 ghost use Rattle.kb_service.specs.Acknowledged.{AcknowledgesCommits, IsPlainly};
 ghost use Rattle.kb_service.specs.Waiters.{IsWaitTold, IsWaitToldBy};
 ghost use Rattle.kb_service.specs.Serve.{has_released, served, AreGroupsAfter, AreGroupsBy, IsOutcome, IsServed};
@@ -50,6 +51,9 @@ fn serve_by_key<L: PartitionLog + Drop, S: Store>(
     ensures fetched { let a = scene L.log S.disk parts.old shelf.old in let b = scene L.log S.disk parts.new shelf.new in
         request.now.api_key ≡ pos 1 → IfOk result (λ answer. WhereHonest a b (IsPlainly (AnswersFetch (HasFailed a b)
         request.now.correlation_id request.now.api_version a.state.world request.now.body.now) answer)) }
+    ensures listed { let a = scene L.log S.disk parts.old shelf.old in let b = scene L.log S.disk parts.new shelf.new in
+        request.now.api_key ≡ pos 2 → IfOk result (λ answer. WhereHonest a b (IsPlainly (AnswersListing (HasFailed a b)
+        request.now.correlation_id a.state.world request.now.body.now) answer)) }
     ensures created { let a = scene L.log S.disk parts.old shelf.old in let b = scene L.log S.disk parts.new shelf.new in
         request.now.api_key ≡ pos 19 → IfOk result (λ answer. WhereHonest a b (IsPlainly (AcknowledgesCreations (CreationFailed a b)
         request.now.correlation_id request.now.api_version a.state.world request.now.body.now b.state.world) answer)) }
@@ -132,6 +136,10 @@ pub fn serve<L: PartitionLog + Drop, S: Store>(
     ensures fetched { let a = scene L.log S.disk parts.old shelf.old in let b = scene L.log S.disk parts.new shelf.new in
         request.now.api_key ≡ pos 1 → WhereHonest a b (IsPlainly (AnswersFetch (HasFailed a b)
         request.now.correlation_id request.now.api_version a.state.world request.now.body.now) result.answer) }
+    // So has a ListOffsets.
+    ensures listed { let a = scene L.log S.disk parts.old shelf.old in let b = scene L.log S.disk parts.new shelf.new in
+        request.now.api_key ≡ pos 2 → WhereHonest a b (IsPlainly (AnswersListing (HasFailed a b)
+        request.now.correlation_id a.state.world request.now.body.now) result.answer) }
     // A topic of a CreateTopics that is answered with no error is in the catalog, whatever else was refused.
     ensures created { let a = scene L.log S.disk parts.old shelf.old in let b = scene L.log S.disk parts.new shelf.new in
         request.now.api_key ≡ pos 19 → WhereHonest a b (IsPlainly (AcknowledgesCreations (CreationFailed a b)

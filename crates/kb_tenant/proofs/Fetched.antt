@@ -82,12 +82,12 @@ refusal_told a b starts g new e place head f start front was put cut bytes n ste
 -- ---- a step more
 
 -- where the store failed in a while it failed in a longer one
-failed_later : (a b d : Scene Seen) → IsStep b d → HasFailed a b → HasFailed a d
+pub failed_later : (a b d : Scene Seen) → IsStep b d → HasFailed a b → HasFailed a d
 failed_later a b d step =
     failed_in a.disk.failures d.disk.failures d.next a.disk.failures b.disk.failures b.next (omega arith) step.frame.failures
     step.frame.others.later
 
-failed_since : (a b d : Scene Seen) → IsStep a b → HasFailed b d → HasFailed a d
+pub failed_since : (a b d : Scene Seen) → IsStep a b → HasFailed b d → HasFailed a d
 failed_since a b d step =
     failed_in a.disk.failures d.disk.failures d.next b.disk.failures d.disk.failures d.next step.frame.failures (omega arith) (omega arith)
 

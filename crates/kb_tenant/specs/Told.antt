@@ -1,10 +1,11 @@
 -- What each entry of a request is answered, whatever memory and the store refuse: what is defined, or else a code that names
 -- what refused it.
 use Rattle.std.specs.Prelude.{◌≡◌, ◌≤◌, ◌+◌, ◌^◌, ◌++◌, ◌⊎◌, ℕ, ℤ, pos, Bool, true, false, List, [], Option, Ok, Err, ⊤}
+use Rattle.std.specs.List.{AllZip}
 use Rattle.kb_wire.specs.Codec.{whole}
 use Rattle.kb_api_data.specs.Layouts.{delete_topics_request, init_producer_id_reply, init_producer_id_request, produce_reply}
 use Rattle.kb_api_data.specs.Layouts.{produce_request}
-use Rattle.kb_api_data.specs.Layouts.{delete_records_reply, delete_records_request}
+use Rattle.kb_api_data.specs.Layouts.{delete_records_reply, delete_records_request, list_offsets_reply, list_offsets_request}
 use Rattle.kb_api_data.specs.declared.create_topics.CreateTopic.{CreateTopic}
 use Rattle.kb_api_data.specs.declared.create_topics.CreateTopicReply.{CreateTopicReply}
 use Rattle.kb_api_data.specs.declared.create_topics_v1.CreateTopicsRequestV1.{CreateTopicsRequestV1}
@@ -24,6 +25,12 @@ use Rattle.kb_api_data.specs.declared.fetch_v5.FetchReplyV5.{FetchReplyV5}
 use Rattle.kb_api_data.specs.declared.fetch_v5.FetchTopicReplyV5.{FetchTopicReplyV5}
 use Rattle.kb_api_data.specs.declared.init_producer_id.InitProducerIdReply.{InitProducerIdReply}
 use Rattle.kb_api_data.specs.declared.init_producer_id.InitProducerIdRequest.{InitProducerIdRequest}
+use Rattle.kb_api_data.specs.declared.list_offsets.ListOffsetsPartition.{ListOffsetsPartition}
+use Rattle.kb_api_data.specs.declared.list_offsets.ListOffsetsPartitionReply.{ListOffsetsPartitionReply}
+use Rattle.kb_api_data.specs.declared.list_offsets.ListOffsetsReply.{ListOffsetsReply}
+use Rattle.kb_api_data.specs.declared.list_offsets.ListOffsetsRequest.{ListOffsetsRequest}
+use Rattle.kb_api_data.specs.declared.list_offsets.ListOffsetsTopic.{ListOffsetsTopic}
+use Rattle.kb_api_data.specs.declared.list_offsets.ListOffsetsTopicReply.{ListOffsetsTopicReply}
 use Rattle.kb_api_data.specs.declared.produce.ProducePartition.{ProducePartition}
 use Rattle.kb_api_data.specs.declared.produce.ProducePartitionReply.{ProducePartitionReply}
 use Rattle.kb_api_data.specs.declared.produce.ProduceTopic.{ProduceTopic}
@@ -56,6 +63,7 @@ use Rattle.kb_tenant.specs.DeleteTopics.{deleted_topic, deletions_in}
 use Rattle.kb_tenant.specs.Fetch.{asked_fetch, begun, deadline_of, fetch_answered, fetched_in, has_enough, places_of, refused}
 use Rattle.kb_tenant.specs.Fetch.{reply_written}
 use Rattle.kb_tenant.specs.InitProducerId.{id_refused, init_producer_id}
+use Rattle.kb_tenant.specs.ListOffsets.{listed, offset_refused}
 use Rattle.kb_tenant.specs.OffsetCommit.{committed_entry, refusal_of as commit_refusal}
 use Rattle.kb_tenant.specs.Produce.{Progress, answer, progress, refusal_of, entry_served}
 use Rattle.kb_tenant.specs.Replies.{framed}
@@ -271,6 +279,33 @@ TellsDeletions failed w q v touched body =
 abbrev pub AcknowledgesDeletions : Type 0 → ℤ → World → List ℕ → World → List TopicPartition → Answer → Type 0
 AcknowledgesDeletions failed id w body v touched a =
     (q : DeleteRecordsRequest) → whole delete_records_request body ≡ Ok q → IsReplied id (TellsDeletions failed w q v touched) a
+
+-- ---- ListOffsets
+
+-- A partition is refused since the store failed, which it did, or for want of memory.
+abbrev pub IsUnlisted : Type 0 → ℤ → ListOffsetsPartitionReply → Type 0
+IsUnlisted failed partition x =
+    ((x ≡ offset_refused partition (code_of codes.KafkaStorageError)) × failed)
+    ⊎ (x ≡ offset_refused partition (code_of codes.UnknownServerError))
+
+-- An entry of the topic of an instance is answered what is defined, or is refused for such a want.
+abbrev pub IsListingTold : Type 0 → World → Option ℕ → ListOffsetsPartition → ListOffsetsPartitionReply → Type 0
+IsListingTold failed w topic e x = (x ≡ listed w topic e) ⊎ IsUnlisted failed e.partition x
+
+-- The same of each of a topic's entries.
+abbrev pub IsListingTopicTold : Type 0 → World → ListOffsetsTopic → ListOffsetsTopicReply → Type 0
+IsListingTopicTold failed w t x =
+    (x.name ≡ t.name) × AllZip (IsListingTold failed w (named t.name w.known.topics)) t.partitions x.partitions
+
+-- It is the reply of a ListOffsets, of which each topic is so told.
+abbrev pub TellsListing : Type 0 → World → ListOffsetsRequest → List ℕ → Type 0
+TellsListing failed w q body = (reply : ListOffsetsReply)
+    × ((body ≡ list_offsets_reply.written reply) × AllZip (IsListingTopicTold failed w) q.topics reply.topics)
+
+-- The same of a body, where it is a request of ListOffsets.
+abbrev pub AnswersListing : Type 0 → ℤ → World → List ℕ → Answer → Type 0
+AnswersListing failed id w body a =
+    (q : ListOffsetsRequest) → whole list_offsets_request body ≡ Ok q → IsReplied id (TellsListing failed w q) a
 
 -- ---- Fetch
 

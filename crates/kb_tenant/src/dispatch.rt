@@ -13,7 +13,7 @@ ghost use Rattle.kb_tenant.specs.Metadata.{asked_metadata};
 ghost use Rattle.kb_tenant.specs.Replies.{IsAnswer};
 ghost use Rattle.kb_tenant.specs.Told.{CatalogFailed, CreationFailed, HasFailed, Acknowledges, AcknowledgesCommits, AcknowledgesCreations};
 ghost use Rattle.kb_tenant.specs.Told.{AcknowledgesIssue, AcknowledgesRemovals, IsSpared};
-ghost use Rattle.kb_tenant.specs.Told.{AcknowledgesDeletions, AnswersFetch, AnswersLook};
+ghost use Rattle.kb_tenant.specs.Told.{AcknowledgesDeletions, AnswersFetch, AnswersListing, AnswersLook};
 ghost use Rattle.kb_tenant.specs.Serve.{if_read, of_produce, of_fetch, of_list_offsets, of_metadata, of_create_topics, of_delete_records};
 ghost use Rattle.kb_tenant.specs.Serve.{of_delete_topics, of_init_producer_id, plainly_served, looked, stays, IsOutcome, IsServed};
 
@@ -120,6 +120,9 @@ fn serve_list_offsets<L: PartitionLog + Drop, S: Store>(
     ensures meets { let a = scene L.log S.disk parts.old shelf.old in let b = scene L.log S.disk parts.new shelf.new in
         Meets a b (IsServed request.now.correlation_id
         (if_read a.state.world (whole list_offsets_request request.now.body.now) (of_list_offsets a.state.world)) b.state.world [] result) }
+    ensures listed { let a = scene L.log S.disk parts.old shelf.old in let b = scene L.log S.disk parts.new shelf.new in
+        IfOk result (λ answer. WhereHonest a b (AnswersListing (HasFailed a b)
+        request.now.correlation_id a.state.world request.now.body.now answer)) }
 {
     let asked = ListOffsetsRequest::read(alloc, request.body)?;
     let mut sink = begin(alloc, request.correlation_id)?;
@@ -284,6 +287,9 @@ fn serve_by_key<L: PartitionLog + Drop, S: Store>(
     ensures fetched { let a = scene L.log S.disk parts.old shelf.old in let b = scene L.log S.disk parts.new shelf.new in
         request.now.api_key ≡ pos 1 → IfOk result (λ answer. WhereHonest a b (AnswersFetch (HasFailed a b)
         request.now.correlation_id request.now.api_version a.state.world request.now.body.now answer)) }
+    ensures listed { let a = scene L.log S.disk parts.old shelf.old in let b = scene L.log S.disk parts.new shelf.new in
+        request.now.api_key ≡ pos 2 → IfOk result (λ answer. WhereHonest a b (AnswersListing (HasFailed a b)
+        request.now.correlation_id a.state.world request.now.body.now answer)) }
     ensures created { let a = scene L.log S.disk parts.old shelf.old in let b = scene L.log S.disk parts.new shelf.new in
         request.now.api_key ≡ pos 19 → IfOk result (λ answer.
         WhereHonest a b (AcknowledgesCreations (CreationFailed a b) request.now.correlation_id request.now.api_version a.state.world
@@ -353,6 +359,10 @@ pub fn serve<L: PartitionLog + Drop, S: Store>(
     ensures fetched { let a = scene L.log S.disk parts.old shelf.old in let b = scene L.log S.disk parts.new shelf.new in
         request.now.api_key ≡ pos 1 → WhereHonest a b (AnswersFetch (HasFailed a b)
         request.now.correlation_id request.now.api_version a.state.world request.now.body.now result.answer) }
+    // So has a ListOffsets.
+    ensures listed { let a = scene L.log S.disk parts.old shelf.old in let b = scene L.log S.disk parts.new shelf.new in
+        request.now.api_key ≡ pos 2 → WhereHonest a b (AnswersListing (HasFailed a b)
+        request.now.correlation_id a.state.world request.now.body.now result.answer) }
     // A topic of a CreateTopics that is answered with no error is in the catalog, whatever else was refused.
     ensures created { let a = scene L.log S.disk parts.old shelf.old in let b = scene L.log S.disk parts.new shelf.new in
         request.now.api_key ≡ pos 19 → WhereHonest a b

@@ -1,10 +1,15 @@
 //! ListOffsets: offsets that are asked by time.
-ghost use Rattle.std.specs.Prelude.{◌≡◌, ◌++◌, OnOk, map};
-ghost use Rattle.std.specs.List.{flat_map};
+ghost use Rattle.std.specs.Prelude.{◌≡◌, ◌++◌, ◌⊎◌, List, OnOk, map};
+ghost use Rattle.std.specs.List.{AllZip, flat_map};
 ghost use Rattle.kb_api_data.specs.Layouts.{list_offsets_topic, list_offsets_request, list_offsets_partition_reply};
 ghost use Rattle.kb_api_data.specs.Layouts.{list_offsets_topic_reply, list_offsets_reply};
+ghost use Rattle.kb_api_data.specs.declared.list_offsets.ListOffsetsPartitionReply.{ListOffsetsPartitionReply};
+ghost use Rattle.kb_api_data.specs.declared.list_offsets.ListOffsetsReply.{ListOffsetsReply};
+ghost use Rattle.kb_api_data.specs.declared.list_offsets.ListOffsetsTopicReply.{ListOffsetsTopicReply};
+ghost use Rattle.kb_partitions.specs.Scene.{WhereHonest};
 ghost use Rattle.kb_tenant.specs.ListOffsets.{offset_refused, offset_answered, edge_answered, offset_found, listed, listed_at};
 ghost use Rattle.kb_tenant.specs.ListOffsets.{listed_topic, list_offsets};
+ghost use Rattle.kb_tenant.specs.Told.{HasFailed, IsListingTold, IsListingTopicTold, IsUnlisted};
 ghost use Rattle.kb_world.specs.Parts.{scene};
 ghost use Rattle.kb_world.specs.Steps.{IsStep, Meets};
 
@@ -79,6 +84,8 @@ fn list_partition<L: PartitionLog + Drop, S: Store>(
         b.disk.honest → a.agrees → b.state.world ≡ a.state.world }
     ensures meets { let a = scene L.log S.disk parts.old shelf.old in
         Meets a (scene L.log S.disk parts.new shelf.new) (result ≡ listed_at a.state.world topic partition timestamp) }
+    ensures told { let a = scene L.log S.disk parts.old shelf.old in let b = scene L.log S.disk parts.new shelf.new in
+        WhereHonest a b ((result ≡ listed_at a.state.world topic partition timestamp) ⊎ IsUnlisted (HasFailed a b) partition result) }
 {
     let Some(place) = TopicPartition::new(topic, partition) else {
         return refused(partition, ErrorCode::UnknownTopicOrPartition.code());
@@ -111,6 +118,8 @@ fn list_entry<L: PartitionLog + Drop, S: Store>(
         b.disk.honest → a.agrees → b.state.world ≡ a.state.world }
     ensures meets { let a = scene L.log S.disk parts.old shelf.old in
         Meets a (scene L.log S.disk parts.new shelf.new) (result ≡ listed a.state.world topic entry.now) }
+    ensures told { let a = scene L.log S.disk parts.old shelf.old in let b = scene L.log S.disk parts.new shelf.new in
+        WhereHonest a b (IsListingTold (HasFailed a b) a.state.world topic entry.now result) }
 {
     list_partition(parts, shelf, topic, entry.partition, entry.timestamp)
 }
@@ -130,6 +139,10 @@ fn list_partitions<L: PartitionLog + Drop, S: Store>(
     ensures meets { let a = scene L.log S.disk parts.old shelf.old in
         OnOk result (Meets a (scene L.log S.disk parts.new shelf.new)
         (sink.new.bytes ≡ sink.old.bytes ++ flat_map list_offsets_partition_reply.written (map (listed a.state.world topic) entries.now))) }
+    ensures told { let a = scene L.log S.disk parts.old shelf.old in let b = scene L.log S.disk parts.new shelf.new in
+        OnOk result (WhereHonest a b ((replies : List ListOffsetsPartitionReply)
+        × ((sink.new.bytes ≡ sink.old.bytes ++ flat_map list_offsets_partition_reply.written replies)
+        × AllZip (IsListingTold (HasFailed a b) a.state.world topic) entries.now replies))) }
 {
     for entry in entries {
         list_entry(parts, shelf, topic, entry).write(sink)?;
@@ -152,6 +165,10 @@ fn list_topic<L: PartitionLog + Drop, S: Store>(
     ensures meets { let a = scene L.log S.disk parts.old shelf.old in
         OnOk result (Meets a (scene L.log S.disk parts.new shelf.new)
         (sink.new.bytes ≡ sink.old.bytes ++ list_offsets_topic_reply.written (listed_topic a.state.world topic.now))) }
+    ensures told { let a = scene L.log S.disk parts.old shelf.old in let b = scene L.log S.disk parts.new shelf.new in
+        OnOk result (WhereHonest a b ((reply : ListOffsetsTopicReply)
+        × ((sink.new.bytes ≡ sink.old.bytes ++ list_offsets_topic_reply.written reply)
+        × IsListingTopicTold (HasFailed a b) a.state.world topic.now reply))) }
 {
     sink.put_string(topic.name.as_str())?;
     sink.put_count(topic.partitions.len())?;
@@ -176,6 +193,9 @@ pub fn list_offsets<L: PartitionLog + Drop, S: Store>(
     ensures meets { let a = scene L.log S.disk parts.old shelf.old in
         OnOk result (Meets a (scene L.log S.disk parts.new shelf.new)
         (sink.new.bytes ≡ sink.old.bytes ++ list_offsets_reply.written (list_offsets a.state.world request.now))) }
+    ensures told { let a = scene L.log S.disk parts.old shelf.old in let b = scene L.log S.disk parts.new shelf.new in
+        OnOk result (WhereHonest a b ((reply : ListOffsetsReply) × ((sink.new.bytes ≡ sink.old.bytes ++ list_offsets_reply.written reply)
+        × AllZip (IsListingTopicTold (HasFailed a b) a.state.world) request.now.topics reply.topics))) }
 {
     sink.put_count(request.topics.len())?;
     for topic in request.topics.as_slice() {

@@ -1,11 +1,13 @@
-use Rattle.std.proofs.Common.{◌∙◌, ap, refl, ◌++◌, map}
+use Rattle.std.proofs.Common.{◌∙◌, [], append-nil, ap, refl, sym, ◌++◌, map}
 use Rattle.std.specs.List.{flat_map}
 use Rattle.kb_api_data.specs.Layouts.{list_offsets_partition_reply}
 use Rattle.kb_wire.specs.Codec.{int}
 use Rattle.kb_partitions.specs.Scene.{Scene}
 use Rattle.kb_tenant.specs.ListOffsets.{listed}
 use Rattle.kb_world.specs.Parts.{Seen, scene}
-use Rattle.kb_world.specs.Steps.{step_then}
+use Rattle.kb_world.specs.Steps.{step_same, step_then}
+use Rattle.kb_tenant.specs.Told.{HasFailed, IsListingTold}
+use Rattle.kb_tenant.proofs.Listing.{listed_next, listed_over, listing_so}
 use Rattle.kb_tenant.proofs.Serving.{stays_then, told_next, get_or_any}
 use Rattle.kb_tenant.proofs.list_offsets.list_partitions.Goals as goal
 
@@ -37,4 +39,23 @@ loop-entry-preserved g c =
       same = stays_then a b d c.loop-entry.invariant.step c.list_entry.ensures.step c.loop-entry.invariant.same c.list_entry.ensures.same;
       told = told_next write (λ w. listed w c.args.topic) a b d c.loop-entry.sink.bytes c.write.new.sink.bytes (c.args.sink.now.bytes ++ flat_map write (map (listed a.state.world c.args.topic) entries)) entries i _ c.loop-entry.invariant.step c.list_entry.ensures.step c.loop-entry.invariant.same c.loop-entry-test.true (get_or_any entries i _ _ c.loop-entry-test.true) c.loop-entry.invariant.told
           (λ honest agree calm. c.in_ok-write.ensures.ok ∙ ap (λ x. c.loop-entry.sink.bytes ++ write x) (c.list_entry.ensures.meets honest agree calm));
+      answers = listed_next write (λ P w. IsListingTold P w c.args.topic) (listing_so c.args.topic) a b d c.args.sink.now.bytes c.loop-entry.sink.bytes
+          c.write.new.sink.bytes entries i _ c.loop-entry-test.true (get_or_any entries i _ _ c.loop-entry-test.true) c.loop-entry.invariant.step
+          c.list_entry.ensures.step c.loop-entry.invariant.same c.loop-entry.invariant.answers
+          (λ honest agree. (c.list_entry.result, (c.in_ok-write.ensures.ok, c.list_entry.ensures.told honest agree)));
     }
+
+pub returns-clause-told : goal.returns-clause-told
+returns-clause-told g c = λ honest agree.
+    let log = g.L.PartitionLog.log in
+    let disk = g.S.Store.disk in
+    let a : Scene Seen = scene log disk c.args.parts.now c.args.shelf.now in
+    let b : Scene Seen = scene log disk c.loop-entry.parts c.loop-entry.shelf in
+    let so = c.loop-entry.invariant.answers honest agree in (
+      so.0,
+      (
+        so.1.0,
+        listed_over (IsListingTold (HasFailed a b) a.state.world c.args.topic) c.args.entries.now so.0 c.loop-entry.entry-index
+            c.loop-entry-test.false so.1.1,
+      ),
+    )

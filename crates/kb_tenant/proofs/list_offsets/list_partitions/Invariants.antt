@@ -1,7 +1,10 @@
-use Rattle.std.proofs.Common.{◌≡◌, ◌++◌, map, drop}
-use Rattle.std.specs.List.{flat_map}
+use Rattle.std.proofs.Common.{◌≡◌, ◌++◌, List, map, drop, take}
+use Rattle.std.specs.List.{AllZip, flat_map}
 use Rattle.kb_api_data.specs.Layouts.{list_offsets_partition_reply}
+use Rattle.kb_api_data.specs.declared.list_offsets.ListOffsetsPartitionReply.{ListOffsetsPartitionReply}
+use Rattle.kb_partitions.specs.Scene.{WhereHonest}
 use Rattle.kb_tenant.specs.ListOffsets.{listed}
+use Rattle.kb_tenant.specs.Told.{HasFailed, IsListingTold}
 use Rattle.kb_world.specs.Parts.{scene}
 use Rattle.kb_world.specs.Steps.{IsStep, Meets}
 use Rattle.kb_tenant.proofs.Serving.{Stays}
@@ -18,4 +21,7 @@ invariant-loop-entry g l =
       step : IsStep a b;
       same : Stays a b;
       told : Meets a b (l.sink.bytes ++ flat_map write (map f (drop l.entry-index l.entries)) ≡ l.initial.sink.bytes ++ flat_map write (map f l.entries));
+      answers : WhereHonest a b ((replies : List ListOffsetsPartitionReply)
+          × ((l.sink.bytes ≡ l.initial.sink.bytes ++ flat_map write replies)
+          × AllZip (IsListingTold (HasFailed a b) a.state.world l.topic) (take l.entry-index l.entries) replies));
     }

@@ -1,21 +1,22 @@
 -- A connection's place in the broker, its turns there, and the count of a refusal.
-use Rattle.std.specs.Prelude.{◌≡◌, ◌≢◌, ℕ, ◌<◌, ◌≤◌, List, [], ◌∷◌, length, take, map, get_or, Option, Some, None, Bool, true, false, not}
-use Rattle.std.specs.Prelude.{◌||◌, ◌⊎◌, ⊤}
+use Rattle.std.specs.Prelude.{◌≡◌, ◌≢◌, ℕ, ℤ, ◌<◌, ◌≤◌, List, [], ◌∷◌, length, take, map, get_or, Option, Some, None, Bool, true, false}
+use Rattle.std.specs.Prelude.{not, ◌||◌, ◌⊎◌, ⊤}
 use Rattle.std.specs.List.{AllByRecursion}
 use Rattle.std.specs.declared.alloc.Global.{Global}
 use Rattle.std.specs.declared.vec.Vec.{Vec}
 use Rattle.kb_tenants.specs.Tenants.{AreQuietBut}
 use Rattle.kb_world.specs.Counts.{IsCalm, counted_once}
 use Rattle.kb_service.specs.Hosted as hosted
-use Rattle.kb_service.specs.Hosted.{TenantState}
+use Rattle.kb_service.specs.Hosted.{Kept, TenantState, world_at}
 use Rattle.kb_service.specs.Turns.{IsTurn, IsMet}
 use Rattle.kb_service.specs.Serve.{has_released}
 use Rattle.kb_tenant.specs.Replies.{Silent, IsAnswer}
+use Rattle.kb_tenant.specs.Told.{AnswersLook}
 use Rattle.kb_tenant.specs.declared.answer.Answer.{Answer}
 use Rattle.kb_tenant.specs.declared.answer.Answer.TheVariants as answers
 use Rattle.kb_service.specs.Waiters.{AreServed}
 use Rattle.kb_machine.specs.Stranded.{IsMembersAt, members_of}
-use Rattle.kb_machine.specs.Tenant.{Wait, is_members, ready}
+use Rattle.kb_machine.specs.Tenant.{Awaited, Group, Records, Wait, is_members, ready}
 use Rattle.kb_machine.specs.Session.{Stage, Greets, BoundTo, Session, without_wait, is_free, can}
 use Rattle.kb_machine.specs.Greeting.{Setup, greeted}
 use Rattle.kb_machine.specs.Machine.{Line, after_turn, put, woken, first_able, work}
@@ -138,6 +139,11 @@ pub record IsRefusedReply (t : ℕ) (old new : List TenantState) (w : Wait) (a :
   pub fetch : is_members w.awaited ≡ false
   pub bytes : Vec ℕ Global
   pub reply : a ≡ answers.Reply bytes
+
+-- The answer to a fetch that waits has of each partition what is defined, or the code of what refused it; of a member's that says nothing.
+abbrev pub TellsAwaited : Type 0 → ℤ → ℕ → Kept → Awaited → Answer → Type 0
+TellsAwaited failed id clock kept (Records version body deadline) a = AnswersLook failed id version (world_at kept clock) deadline body a
+TellsAwaited failed id clock kept Group a = ⊤
 
 -- what the request that waits on the connection of number n is answered: what it is told; or its connection is shut, and a member
 -- of a group was told something; or a refused fetch has its reply

@@ -9,6 +9,7 @@ ghost use Rattle.kb_service.specs.Turns.{IsTurn, IsMet};
 ghost use Rattle.kb_service.specs.Replies.{Reaction, IsAnswer};
 ghost use Rattle.kb_service.specs.declared.answer.Answer.TheVariants as any;
 ghost use Rattle.kb_tenant.specs.Replies as plain;
+ghost use Rattle.kb_tenant.specs.Told.{FailedBy};
 ghost use Rattle.kb_machine.specs.Session.{BoundTo, shut_down, can};
 ghost use Rattle.kb_machine.specs.Machine.{after_reaction, after_turn, put};
 ghost use Rattle.kb_machine.specs.Broker.{InRange};
@@ -20,6 +21,7 @@ ghost use Rattle.kb_connection.specs.View.{awaited_of, wait_of, with_session, wi
 ghost use Rattle.kb_broker.specs.Hosts.{tenants_in, AreHosted, AreLater};
 ghost use Rattle.kb_service.specs.Waiters.{AreServed, IsWaitTold};
 ghost use Rattle.kb_broker.specs.Places.{IsSpent, IsTakenAt, IsTurnAt, IsLookedAt, IsLookAnswer, IsMemberTurnAt, IsWaitTurnAt};
+ghost use Rattle.kb_broker.specs.Places.{TellsAwaited};
 ghost use Rattle.kb_broker.specs.Parked.{parked_for, until_of, deadline_at, IsKeyedAt, IsOwnedAt, IsAskedOn, IsAskedOnAt, IsTouchedBy};
 ghost use Rattle.kb_broker.specs.Parked.{IsTouchedTurnBy, AreConcerned, AreWaitingFor, IsConcern, IsKnownOrCounted, IsLeftBy, IsOwnTo};
 ghost use Rattle.kb_broker.specs.Parked.{IsWhose};
@@ -410,7 +412,7 @@ pub fn look_again<L: PartitionLog + Drop, S: Store>(
 }
 
 /// What the request that waits on the connection of a number comes to now: `NoReply` says that it still waits. What the tenants keep
-/// stays, also where something was refused; and then a fetch waits no longer.
+/// stays, also where something was refused; and then a fetch waits no longer, and its reply tells what was refused.
 fn ask_again<L: PartitionLog + Drop, S: Store>(
     alloc: Global,
     tenants: &mut Tenants<L, S>,
@@ -432,6 +434,10 @@ fn ask_again<L: PartitionLog + Drop, S: Store>(
         → kept_of (tenants_in L.log S.disk tenants.new) t ≡ kept_of (tenants_in L.log S.disk tenants.old) t }
     ensures answers { shelf_is_honest S.disk tenants.new → let ts = tenants_in L.log S.disk tenants.old in
         IsLookAnswer tenant clock number ts (tenants_in L.log S.disk tenants.new) (wait_of waiting.now) result }
+    // Whatever was refused, a fetch's reply tells it.
+    ensures told { shelf_is_honest S.disk tenants.new
+        → TellsAwaited (FailedBy (S.disk tenants.old.shelf.store).failures (S.disk tenants.new.shelf.store).failures tenants.new.shelf.next)
+        waiting.now.correlation_id clock (kept_of (tenants_in L.log S.disk tenants.old) tenant) (awaited_of waiting.now.awaited) result }
 {
     match &waiting.awaited {
         Awaited::Records {

@@ -4,9 +4,11 @@ use Rattle.kb_service.specs.Hosted.{kept_of, refusals_of, world_at}
 use Rattle.kb_service.specs.Replies.{told_to}
 use Rattle.kb_tenant.specs.Replies.{IsAnswer, Silent}
 use Rattle.kb_tenant.specs.Serve.{looked}
+use Rattle.kb_tenant.specs.Told.{AnswersLook, FailedBy}
 use Rattle.kb_machine.specs.Tenant.{is_members, ready_for, ready}
 use Rattle.kb_connection.specs.View.{awaited_of, wait_of}
 use Rattle.kb_broker.specs.Hosts.{tenants_in}
+use Rattle.kb_broker.specs.Places.{TellsAwaited}
 use Rattle.kb_broker.proofs.TenantTurns.{calm-or, refused-answer}
 use Rattle.kb_broker.proofs.serving.ask_again.Goals as goal
 
@@ -55,3 +57,32 @@ returns-in-Group-clause-answers g c = λ honest.
     (λ says. inl (subst (λ x. IsAnswer w.correlation_id (ready_for k a.clock a.number (awaited_of x)) c.tell.result) (sym c.in-Group.is) (subst (λ z. IsAnswer z (told_to a.number k.groups) c.tell.result) (to_z-of_z w32 w.correlation_id fits) says)))
     (λ gone. inr (inl (gone.0, λ own none. gone.1 (subst (λ x. ready_for k a.clock a.number (awaited_of x) ≡ Silent) c.in-Group.is none))))
     c.tell.ensures.answers
+
+pub returns-in-Records-clause-told : goal.returns-in-Records-clause-told
+returns-in-Records-clause-told g c = λ honest.
+    let a = c.args in
+    let w = a.waiting.now in
+    let f = c.in-Records in
+    let disk = g.S.Store.disk in
+    let shelf = c.look.new.self.shelf in
+    let k = kept_of (tenants_in g.L.PartitionLog.log disk a.tenants.now) a.tenant in
+    let v = world_at k a.clock in
+    let r = c.look.result in
+    let failed = FailedBy (disk a.tenants.now.shelf.store).failures (disk shelf.store).failures shelf.next in
+    let id = to_z w32 (of_z w32 w.correlation_id) in
+    let version = to_z w16 (of_z w16 f.api_version) in
+    let fits : FitsSigned w32 w.correlation_id = search rules in
+    let small : FitsSigned w16 f.api_version = search rules in
+    let bodied = subst (λ body. AnswersLook failed id version v f.deadline body r) c.deref.ensures.value (c.look.ensures.told honest) in
+    let versioned = subst (λ n. AnswersLook failed id n v f.deadline f.body.items r) (to_z-of_z w16 f.api_version small) bodied in
+    let told = subst (λ z. AnswersLook failed z f.api_version v f.deadline f.body.items r) (to_z-of_z w32 w.correlation_id fits) versioned in
+    subst (λ x. TellsAwaited failed w.correlation_id a.clock k (awaited_of x) r) (sym f.is) told
+
+pub returns-in-Group-clause-told : goal.returns-in-Group-clause-told
+returns-in-Group-clause-told g c = λ honest.
+    let a = c.args in
+    let disk = g.S.Store.disk in
+    let shelf = c.tell.new.self.shelf in
+    let k = kept_of (tenants_in g.L.PartitionLog.log disk a.tenants.now) a.tenant in
+    let failed = FailedBy (disk a.tenants.now.shelf.store).failures (disk shelf.store).failures shelf.next in
+    subst (λ x. TellsAwaited failed a.waiting.now.correlation_id a.clock k (awaited_of x) c.tell.result) (sym c.in-Group.is) tt

@@ -16,10 +16,9 @@ use Rattle.kb_partitions.specs.Logs.{LogState}
 use Rattle.kb_world.specs.Calls.{at_clock, fetched_from}
 use Rattle.kb_world.specs.World.{World, log_in, place_in}
 use Rattle.kb_world.specs.declared.topic_partition.TopicPartition.{TopicPartition}
-use Rattle.kb_tenant.specs.Fetch.{fetch_answered, answered_at, answered_by, answered_topic, begun, bytes_of, fetch_answer, fetched, is_error, is_ready, limit_of, places_in, places_of, some_partition}
+use Rattle.kb_tenant.specs.Fetch.{Limits, fetch_answered, answered_at, answered_by, answered_topic, begun, bytes_of, fetch_answer, fetched, is_error, is_ready, limit_of, places_in, places_of, some_partition}
 use Rattle.kb_tenant.specs.Turns.{in_turn}
 use Rattle.kb_tenant.specs.Waiting.{StillWaits}
-use Rattle.kb_tenant.specs.declared.fetch.given.Given.{Given}
 
 -- ---- lists
 
@@ -78,18 +77,18 @@ place_is : (w : World) (name : List ℕ) (e : FetchPartition) (place : TopicPart
 place_is w name e place topic number = ap (λ o. place_in o e.partition) topic ∙ ap (place_in (Some place.instance)) number
 
 -- what is answered of a log, if there is one
-abbrev answered_of : Given → FetchPartition → Option LogState → Given × FetchPartitionReplyV5
+abbrev answered_of : Limits → FetchPartition → Option LogState → Limits × FetchPartitionReplyV5
 answered_of g e o = answered_by g e.partition (option_map (λ (l : LogState). (pos l.start, pos l.end)) o) (fetched_from e.fetch_offset (limit_of g e) g.first o)
 
 -- an entry whose answer is no error
-log_found : (w : World) (name : List ℕ) (g : Given) (e : FetchPartition) (place : TopicPartition) → place_in (named name w.known.topics) e.partition ≡ Some place
+log_found : (w : World) (name : List ℕ) (g : Limits) (e : FetchPartition) (place : TopicPartition) → place_in (named name w.known.topics) e.partition ≡ Some place
     → (o : Option LogState) → log_in w place ≡ o → is_error (answered_of g e o).1.error_code ≡ false → Finds w name e
 log_found w name g e place at None there good = absurd cc
 log_found w name g e place at (Some l) there good =
     let is = is_place (named name w.known.topics) e.partition place at in
     record { place = place; log = l; number = is.1; held = record { topic = is.0; there = there } }
 
-place_found : (w : World) (name : List ℕ) (g : Given) (e : FetchPartition) (o : Option TopicPartition) → place_in (named name w.known.topics) e.partition ≡ o → is_error (answered_at w g e o).1.error_code ≡ false → Finds w name e
+place_found : (w : World) (name : List ℕ) (g : Limits) (e : FetchPartition) (o : Option TopicPartition) → place_in (named name w.known.topics) e.partition ≡ o → is_error (answered_at w g e o).1.error_code ≡ false → Finds w name e
 place_found w name g e None at good = absurd cc
 place_found w name g e (Some place) at good = log_found w name g e place at (log_in w place) refl good
 
@@ -98,7 +97,7 @@ place_found w name g e (Some place) at good = log_found w name g e place at (log
 module _ (w v : World) (asked : TopicPartition → Type 0) (keeps : (name : List ℕ) (place : TopicPartition) (log : LogState) → asked place → IsHeld w name place log → IsHeld v name place log) where
   -- an entry that is answered alike, and asks for the same place
   record IsAlike (name : List ℕ) (e : FetchPartition) : Type 0 where
-    pub answer : (g : Given) → fetch_answered v (named name v.known.topics) g e ≡ fetch_answered w (named name w.known.topics) g e
+    pub answer : (g : Limits) → fetch_answered v (named name v.known.topics) g e ≡ fetch_answered w (named name w.known.topics) g e
     pub place : place_in (named name v.known.topics) e.partition ≡ place_in (named name w.known.topics) e.partition
 
   alike : (name : List ℕ) (e : FetchPartition) (f : Finds w name e) → asked f.place → IsAlike name e
@@ -133,17 +132,17 @@ module _ (w v : World) (asked : TopicPartition → Type 0) (keeps : (name : List
     topics_alike ts all.1 (λ place c. asks place (Contains-append_right (places_for t) (flat_map places_for ts) place c)),
   )
 
-  topic_answer : (t : FetchTopic) → AllByRecursion (IsAlike t.topic) t.partitions → (g : Given) → answered_topic v g t ≡ answered_topic w g t
+  topic_answer : (t : FetchTopic) → AllByRecursion (IsAlike t.topic) t.partitions → (g : Limits) → answered_topic v g t ≡ answered_topic w g t
   topic_answer t all g =
       let turns = turn_same (fetch_answered v (named t.topic v.known.topics)) (fetch_answered w (named t.topic w.known.topics)) t.partitions
-      (each_then (IsAlike t.topic) (λ e. (s : Given) → fetch_answered v (named t.topic v.known.topics) s e ≡ fetch_answered w (named t.topic w.known.topics) s e) t.partitions (λ e a. a.answer) all) g in
-      ap (λ (r : Given × List FetchPartitionReplyV5). (let both : Given × FetchTopicReplyV5 = (r.0, record { topic = t.topic; partitions = r.1 }) in both)) turns
+      (each_then (IsAlike t.topic) (λ e. (s : Limits) → fetch_answered v (named t.topic v.known.topics) s e ≡ fetch_answered w (named t.topic w.known.topics) s e) t.partitions (λ e a. a.answer) all) g in
+      ap (λ (r : Limits × List FetchPartitionReplyV5). (let both : Limits × FetchTopicReplyV5 = (r.0, record { topic = t.topic; partitions = r.1 }) in both)) turns
 
   fetched_alike : (r : FetchRequest) → AllByRecursion (λ t. AllByRecursion (IsAlike t.topic) t.partitions) r.topics → fetched v r ≡ fetched w r
   fetched_alike r all =
       let turns = turn_same (answered_topic v) (answered_topic w) r.topics
-      (each_then (λ t. AllByRecursion (IsAlike t.topic) t.partitions) (λ t. (g : Given) → answered_topic v g t ≡ answered_topic w g t) r.topics topic_answer all) (begun r) in
-      ap (λ (f : Given × List FetchTopicReplyV5). (let both : Given × FetchReplyV5 = (f.0, record { throttle_time_ms = pos 0; topics = f.1 }) in both)) turns
+      (each_then (λ t. AllByRecursion (IsAlike t.topic) t.partitions) (λ t. (g : Limits) → answered_topic v g t ≡ answered_topic w g t) r.topics topic_answer all) (begun r) in
+      ap (λ (f : Limits × List FetchTopicReplyV5). (let both : Limits × FetchReplyV5 = (f.0, record { throttle_time_ms = pos 0; topics = f.1 }) in both)) turns
 
   topic_places : (name : List ℕ) (es : List FetchPartition) → AllByRecursion (IsAlike name) es → places_in (named name v.known.topics) es ≡ places_in (named name w.known.topics) es
   topic_places name [] all = refl
@@ -203,8 +202,8 @@ module _ (w : World) (r : FetchRequest) (deadline : ℕ) (waits : fetch_answer w
   all_found =
       let is_bad = λ (p : FetchPartitionReplyV5). is_error p.error_code in
       let good : list_any (λ (t : FetchTopicReplyV5). list_any is_bad t.partitions) reply.topics ≡ false = second_false nothing_asked some_error has_bytes (nat_le deadline w.clock) unready in
-      each_then (λ t. (g : Given) × (list_any is_bad (answered_topic w g t).1.partitions ≡ false)) (λ t. AllByRecursion (λ e. Finds w t.topic e) t.partitions) r.topics
-      (λ t one. each_then (λ e. (g : Given) × (is_error (fetch_answered w (named t.topic w.known.topics) g e).1.error_code ≡ false)) (λ e. Finds w t.topic e) t.partitions
+      each_then (λ t. (g : Limits) × (list_any is_bad (answered_topic w g t).1.partitions ≡ false)) (λ t. AllByRecursion (λ e. Finds w t.topic e) t.partitions) r.topics
+      (λ t one. each_then (λ e. (g : Limits) × (is_error (fetch_answered w (named t.topic w.known.topics) g e).1.error_code ≡ false)) (λ e. Finds w t.topic e) t.partitions
       (λ e it. place_found w t.topic it.0 e (place_in (named t.topic w.known.topics) e.partition) refl it.1)
       (none_passes (fetch_answered w (named t.topic w.known.topics)) is_bad t.partitions one.0 one.1))
       (none_passes (answered_topic w) (λ (t : FetchTopicReplyV5). list_any is_bad t.partitions) r.topics (begun r) good)
@@ -219,7 +218,7 @@ module _ (w : World) (r : FetchRequest) (deadline : ℕ) (waits : fetch_answer w
   -- the same reply at a clock before a deadline
   still_unready : (v : World) (later : ℕ) → fetched v r ≡ fetched w r → nat_le later v.clock ≡ false → fetch_answer v r later ≡ None
   still_unready v later same early =
-      ap (λ (f : Given × FetchReplyV5). (if is_ready v r f.1 later then Some f.1 else None)) same
+      ap (λ (f : Limits × FetchReplyV5). (if is_ready v r f.1 later then Some f.1 else None)) same
       ∙ ap (λ b. (if b then Some reply else None)) (last_changed nothing_asked some_error has_bytes (nat_le deadline w.clock) (nat_le later v.clock) unready early)
 
   -- It waits on in each world that holds what it asks for, at the same clock.

@@ -16,11 +16,10 @@ use Rattle.kb_world.specs.Calls.{fetched_from}
 use Rattle.kb_world.specs.World.{World, log_in, place_in}
 use Rattle.kb_world.specs.declared.topic_partition.TopicPartition.{TopicPartition}
 use Rattle.kb_tenant.specs.Batches.{BeginAt, GivesBatches, EachAnswered, IsPartitionAnswered, IsTopicAnswered, HasSmallLogs, HoldsBatches, Spells}
-use Rattle.kb_tenant.specs.Fetch.{fetch_answered, answered_at, answered_by, answered_topic, asked_fetch, begun, fetch_answer, fetched, has_starts, is_ready, limit_of, deadline_of, fetched_in}
+use Rattle.kb_tenant.specs.Fetch.{Limits, fetch_answered, answered_at, answered_by, answered_topic, asked_fetch, begun, fetch_answer, fetched, has_starts, is_ready, limit_of, deadline_of, fetched_in}
 use Rattle.kb_tenant.specs.Replies.{Replies, Silent}
 use Rattle.kb_tenant.specs.Serve.{plainly_served, looked, looked_at, of_fetch, if_read, fetch_reaction}
 use Rattle.kb_tenant.specs.Turns.{in_turn}
-use Rattle.kb_tenant.specs.declared.fetch.given.Given.{Given}
 use Rattle.kb_tenant.specs.declared.node.Node.{Node}
 use Rattle.kb_tenant.proofs.Spelled.{reply_spelled}
 
@@ -90,7 +89,7 @@ gives w topic asked place l n limit first there kept natural-offset =
 no-error : (w : World) (topic : Option ℕ) (asked : FetchPartition) (start : ℤ) (records : Option (List ℕ)) (n : ℕ) → 0 < n → pos n ≡ pos 0 → GivesBatches w topic asked start records
 no-error w topic asked start records n up e = absurd (grind (arith, up, e))
 
-module _ (w : World) (topic : Option ℕ) (g : Given) (asked : FetchPartition) where
+module _ (w : World) (topic : Option ℕ) (g : Limits) (asked : FetchPartition) where
   by-offset : (place : TopicPartition) (l : LogState) → place_in topic asked.partition ≡ Some place → log_in w place ≡ Some l → (o : ℤ) → asked.fetch_offset ≡ o → (out : Bool) → (int_lt o (pos l.start) || int_lt (pos l.end) o) ≡ out
       → IsPartitionAnswered w topic asked (answered_by g asked.partition (Some (pos l.start, pos l.end)) (if out then Err ranges.Range else Ok (fetched_of (natural o) (limit_of g asked) g.first l.batches))).1
   by-offset place l there kept o is true e = (refl, λ h. no-error w topic asked _ _ 1 (omega arith) h)
@@ -115,7 +114,7 @@ each : {S E A : Type 0} (f : S → E → S × A) (P : E → A → Type 0) → ((
 each f P one s [] = tt
 each f P one s (e ∷ es) = (one s e, each f P one (f s e).0 es)
 
-topic-answered : (w : World) (g : Given) (asked : FetchTopic) → IsTopicAnswered w asked (answered_topic w g asked).1
+topic-answered : (w : World) (g : Limits) (asked : FetchTopic) → IsTopicAnswered w asked (answered_topic w g asked).1
 topic-answered w g asked =
     let topic = named asked.topic w.known.topics in
     (refl, each (fetch_answered w topic) (IsPartitionAnswered w topic) (λ s e. partition-answered w topic s e) g asked.partitions)

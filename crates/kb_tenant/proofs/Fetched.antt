@@ -1,6 +1,6 @@
 -- What an entry of Fetch is answered, by what the call for it answered, whatever memory and the store refuse.
-use Rattle.std.proofs.Common.{◌≡◌, ◌⊎◌, ◌∙◌, ◌++◌, ◌∷◌, ◌+◌, ◌<◌, [], arith, inl, inr, ⊎_elim, ℕ, ℤ, Bool, true, false, List, Option, Some, None, ap, refl, subst, sym, w32, length, take, get_or}
-use Rattle.std.specs.Prelude.{pos, option_map, Result, Ok, Err}
+use Rattle.std.proofs.Common.{◌≡◌, ◌⊎◌, ◌∙◌, ◌++◌, ◌∷◌, ◌+◌, ◌<◌, [], arith, inl, inr, ⊎_elim, ℕ, ℤ, Bool, true, false, List, Option, Some, ap, refl, subst, sym, w32, length, take, get_or}
+use Rattle.std.specs.Prelude.{pos, option_map, Err}
 use Rattle.std.specs.List.{flat_map}
 use Rattle.kb_wire.specs.Codec.{count, int32, string}
 use Rattle.kb_api_data.specs.declared.fetch.FetchPartition.{FetchPartition}
@@ -20,19 +20,22 @@ use Rattle.kb_world.specs.Steps.{IsStep}
 use Rattle.kb_world.specs.Told.{IsDone, IsRefused, IsWant}
 use Rattle.kb_world.specs.World.{World}
 use Rattle.kb_world.specs.declared.topic_partition.TopicPartition.{TopicPartition}
-use Rattle.kb_tenant.specs.Fetch.{answered_at, begun, bounds_of, deadline_of, fetched_at, fetched_in, front_of, has_enough, has_starts}
-use Rattle.kb_tenant.specs.Fetch.{partition_written, places_of, refused, reply_written, topic_written}
+use Rattle.kb_tenant.specs.Counted.{limits_of, answered_at, begun, fetched_at, has_enough, refused, AreFetchesTold, IsFetchTold, IsFetchTopicTold, IsReadOr, IsUnread}
+use Rattle.kb_tenant.specs.Fetch.{bounds_of, deadline_of, fetched_in, front_of, has_starts}
+use Rattle.kb_tenant.specs.Fetch.{partition_written, places_of, reply_written, topic_written}
 use Rattle.kb_tenant.specs.Replies.{begun as reply_begun, IsAnswer, Replies}
-use Rattle.kb_tenant.specs.Told.{AreFetchesTold, HasFailed, IsFetchMade, IsFetchReady, IsFetchReplied, IsFetchTold, IsFetchTopicTold}
-use Rattle.kb_tenant.specs.Told.{IsLeftWaiting, IsReadOr, IsRepliedOrWaits, IsUnread, IsUnready, TellsFetch}
+use Rattle.kb_tenant.specs.Told.{HasFailed, IsFetchMade, IsFetchReady, IsFetchReplied}
+use Rattle.kb_tenant.specs.Told.{IsLeftWaiting, IsRepliedOrWaits, IsUnready, TellsFetch}
 use Rattle.kb_tenant.specs.Turns.{AreServed}
 use Rattle.kb_tenant.specs.declared.answer.Answer.{Answer}
 use Rattle.kb_tenant.specs.declared.answer.Answer.TheVariants as answers
 use Rattle.kb_tenant.specs.declared.fetch.given.Given.{Given}
 use Rattle.kb_tenant.specs.declared.fetch.waiting.Fetching.TheVariants as fetching
 use Rattle.kb_tenant.proofs.Acknowledging.{failed_in, honest_then, served_length, served_next, served_so, written_more}
+use Rattle.kb_tenant.proofs.Counting.{all_told}
 use Rattle.kb_tenant.proofs.DeletedRecords.{behind}
 use Rattle.kb_tenant.proofs.Fetching.{by_refusal, cut_back, reply_spelled, topic_spelled}
+use Rattle.kb_tenant.proofs.Ready.{told_ready}
 
 -- ---- one entry
 
@@ -186,7 +189,13 @@ fetched_ready failed starts w v q left clock deadline ready is old mid new enoug
     let now : w.clock ≡ clock = sym (at ∙ ap (λ u. u.clock) stays) in (
       told.0,
       (
-        (left, (told.1.1, ap (λ n. has_enough left n deadline) now ∙ sym enough ∙ so)),
+        (
+          limits_of left,
+          (
+            all_told failed w q left told.0 told.1.1,
+            sym (told_ready failed w q left told.0 deadline told.1.1) ∙ ap (λ n. has_enough left n deadline) now ∙ sym enough ∙ so,
+          ),
+        ),
         λ over. written over ∙ told.1.0,
       ),
     )

@@ -19,7 +19,8 @@ use Rattle.kb_partitions.specs.Scene.{Scene}
 use Rattle.kb_partitions.specs.declared.fault.PartitionFault.{PartitionFault}
 use Rattle.kb_partitions.specs.declared.fault.PartitionFault.TheVariants as partition
 use Rattle.kb_world.specs.Calls.{IsGiven}
-use Rattle.kb_tenant.specs.Fetch.{fetch_answered, answered_at, answered_by, answered_topic, begun, bounds_of, fetched, fetched_at, front_of, less, refused}
+use Rattle.kb_tenant.specs.Counted.{fetch_answered, answered_at, answered_by, answered_topic, begun, fetched, fetched_at, less, refused}
+use Rattle.kb_tenant.specs.Fetch.{bounds_of, front_of}
 use Rattle.kb_tenant.specs.Fetch.{front_written, partition_written, reply_written, topic_written, topic_without_starts, without_start}
 use Rattle.kb_world.specs.Parts.{Seen}
 use Rattle.kb_world.specs.Steps.{IsStep, Meets, calm_then}

@@ -7,6 +7,7 @@ pub mod Checking
 pub mod CommitMoves
 pub mod Committing
 pub mod Coordinator
+pub mod Counting
 pub mod CreateMoves
 pub mod Creating
 pub mod DeleteMoves

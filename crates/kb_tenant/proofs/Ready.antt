@@ -1,5 +1,5 @@
 -- What a fetch was given, as its reply tells it.
-use Rattle.std.proofs.Common.{◌≡◌, ◌∙◌, sym, ap, refl, ℕ, ◌+◌, ◌-◌, List, [], ◌∷◌, ◌++◌, length, take, Bool, true, false, arith}
+use Rattle.std.proofs.Common.{◌≡◌, ◌∙◌, sym, ap, refl, subst, ⊎_elim, ℕ, ◌+◌, ◌-◌, List, [], ◌∷◌, ◌++◌, length, take, Bool, true, false, arith}
 use Rattle.std.specs.Prelude.{ℤ, Option, Some, None, Result, Ok, Err, nat_le, not, ◌==◌, ◌||◌, if◌then◌else◌}
 use Rattle.std.specs.List.{sum_by}
 use Rattle.std.specs.List.{list_any}
@@ -15,9 +15,12 @@ use Rattle.kb_api_data.specs.declared.fetch_v5.FetchReplyV5.{FetchReplyV5}
 use Rattle.kb_topics.specs.Known.{named}
 use Rattle.kb_partitions.specs.declared.fault.PartitionFault.{PartitionFault}
 use Rattle.kb_partitions.specs.declared.fault.PartitionFault.TheVariants as partition
-use Rattle.kb_tenant.specs.Fetch.{fetch_answered, answered_at, answered_by, answered_topic, bounds_of, fetched, fetched_at, refused, begun, has_enough, is_ready, records_size, is_error, look_written, fetch_answer, reply_written}
+use Rattle.kb_tenant.specs.Counted.{fetch_answered, answered_at, answered_by, answered_topic, fetched, fetched_at, refused, begun, has_enough}
+use Rattle.kb_tenant.specs.Fetch.{bounds_of, is_ready, records_size, is_error, look_written, fetch_answer, reply_written}
+use Rattle.kb_tenant.specs.Counted.{AreFetchesTold, IsFetchTold, IsFetchTopicTold}
+use Rattle.kb_tenant.proofs.Counting.{fetched_same}
 use Rattle.kb_tenant.proofs.Fetching.{cut_back}
-use Rattle.kb_tenant.specs.Turns.{in_turn}
+use Rattle.kb_tenant.specs.Turns.{in_turn, AreServed}
 use Rattle.kb_world.specs.World.{World, place_in}
 use Rattle.kb_tenant.specs.declared.fetch.given.Given.{Given}
 use Rattle.kb_world.specs.declared.topic_partition.TopicPartition.{TopicPartition}
@@ -110,7 +113,62 @@ ready_is w r deadline =
     ∙ ap (λ b. not (list_any (λ a. list_any (λ p. true) a.partitions) (fetched w r).1.topics) || list_any (λ a. list_any is_refusal a.partitions) (fetched w r).1.topics || b || nat_le deadline w.clock)
     (ap (λ n. n == 0) all.missing ∙ none_missing (natural r.min_bytes) (sum_by (λ (a : FetchTopicReplyV5). sum_by records_size a.partitions) (fetched w r).1.topics))
 
+-- the same where something is refused
+served_tells : {E A : Type 0} (size : A → ℕ) (bad some : A → Bool) (R : Given → E → Given → A → Type 0)
+    → ((g : Given) (e : E) (h : Given) (a : A) → R g e h a → Tells size bad some g h a) → (g h : Given) (es : List E) (answers : List A)
+    → AreServed R g es h answers → Tells (sum_by size) (list_any bad) (list_any some) g h answers
+served_tells size bad some R each g h [] [] is = record {
+  missing = ap (λ k. k.missing) is ∙ omega arith;
+  wrong = ap (λ k. k.is_wrong) is ∙ or_false g.is_wrong;
+  asked = ap (λ k. k.is_asked) is ∙ or_false g.is_asked;
+}
+served_tells size bad some R each g h [] (a ∷ answers) is = absurd is
+served_tells size bad some R each g h (e ∷ es) [] is = absurd is
+served_tells size bad some R each g h (e ∷ es) (a ∷ answers) is =
+    let mid : Given = is.0 in
+    let first = each g e mid a is.1.0 in
+    let later = served_tells size bad some R each mid h es answers is.1.1 in
+    record {
+      missing = later.missing ∙ ap (λ n. n - sum_by size answers) first.missing
+          ∙ less_twice g.missing (size a) (sum_by size answers) (sum_by size (a ∷ answers)) (sum_by-cons size a answers);
+      wrong = later.wrong ∙ ap (λ b. b || list_any bad answers) first.wrong ∙ or_or g.is_wrong (bad a) (list_any bad answers);
+      asked = later.asked ∙ ap (λ b. b || list_any some answers) first.asked ∙ or_or g.is_asked (some a) (list_any some answers);
+    }
+
+told_tells : (failed : Type 0) (w : World) (topic : Option ℕ) (g : Given) (e : FetchPartition) (h : Given) (x : FetchPartitionReplyV5)
+    → IsFetchTold failed w topic g e h x → Tells records_size is_refusal (λ p. true) g h x
+told_tells failed w topic g e h x =
+    ⊎_elim (λ done. subst (Partition g) (sym done) (at_tells w g e (place_in topic e.partition)))
+    (⊎_elim (λ store. subst (Partition g) (sym store.0) (refused_tells g e.partition partition.Store))
+    (λ memory. subst (Partition g) (sym memory) (refused_tells g e.partition partition.Memory)))
+
+topic_told_tells : (failed : Type 0) (w : World) (g : Given) (t : FetchTopic) (h : Given) (x : FetchTopicReplyV5)
+    → IsFetchTopicTold failed w g t h x
+    → Tells (λ (a : FetchTopicReplyV5). sum_by records_size a.partitions) (λ a. list_any is_refusal a.partitions) (λ a. list_any (λ p. true) a.partitions) g h x
+topic_told_tells failed w g t h x so =
+    let topic = named t.topic w.known.topics in
+    let all = served_tells records_size is_refusal (λ p. true) (IsFetchTold failed w topic) (told_tells failed w topic) g h t.partitions
+    x.partitions so.1 in
+    record { missing = all.missing; wrong = all.wrong; asked = all.asked }
+
+pub told_ready : (failed : Type 0) (w : World) (q : FetchRequest) (g : Given) (x : FetchReplyV5) (deadline : ℕ) → AreFetchesTold failed w q g x
+    → has_enough g w.clock deadline ≡ is_ready w q x deadline
+told_ready failed w q g x deadline so =
+    let all = served_tells (λ (a : FetchTopicReplyV5). sum_by records_size a.partitions) (λ a. list_any is_refusal a.partitions)
+    (λ a. list_any (λ p. true) a.partitions) (IsFetchTopicTold failed w) (topic_told_tells failed w) (begun q) g q.topics x.topics so.1 in
+    ap (λ b. not b || g.is_wrong || (g.missing == 0) || nat_le deadline w.clock) all.asked
+    ∙ ap (λ b. not (list_any (λ a. list_any (λ p. true) a.partitions) x.topics) || b || (g.missing == 0) || nat_le deadline w.clock) all.wrong
+    ∙ ap (λ b. not (list_any (λ a. list_any (λ p. true) a.partitions) x.topics) || list_any (λ a. list_any is_refusal a.partitions) x.topics || b || nat_le deadline w.clock)
+    (ap (λ n. n == 0) all.missing ∙ none_missing (natural q.min_bytes) (sum_by (λ (a : FetchTopicReplyV5). sum_by records_size a.partitions) x.topics))
+
 -- ---- what a look answers
+
+-- the reply is the definition's
+reply_same : (starts : Bool) (w : World) (r : FetchRequest) (deadline : ℕ) (old : List ℕ)
+    → look_written starts old (if is_ready w r (fetched w r).1 deadline then Some (fetched w r).1 else None)
+    ≡ look_written starts old (fetch_answer w r deadline)
+reply_same starts w r deadline old =
+    ap (λ (x : FetchReplyV5). look_written starts old (if is_ready w r x deadline then Some x else None)) (sym (ap (λ x. x.1) (fetched_same w r)))
 
 done_is : (w v : World) (r : FetchRequest) (given : Given) (clock deadline : ℕ) (ready : Bool) → ready ≡ has_enough given clock deadline → clock ≡ v.clock → v ≡ w → given ≡ (fetched w r).0 → is_ready w r (fetched w r).1 deadline ≡ ready
 done_is w v r given clock deadline ready is at stays same =
@@ -128,8 +186,10 @@ pub looked_done : (starts : Bool) (w v : World) (r : FetchRequest) (given : Give
     → (given ≡ (fetched w r).0) × (new ≡ old ++ reply_written starts (fetched w r).1) → (true, new) ≡ look_written starts old (fetch_answer w r deadline)
 looked_done starts w v r given clock deadline ready old new is over at stays told =
     ap (λ s. (true, s)) told.1 ∙ when_done starts old (fetched w r).1 (is_ready w r (fetched w r).1 deadline) (done_is w v r given clock deadline ready is at stays told.0 ∙ over)
+    ∙ reply_same starts w r deadline old
 
 pub looked_not : (starts : Bool) (w v : World) (r : FetchRequest) (given : Given) (clock deadline : ℕ) (ready : Bool) (old mid new : List ℕ) (n : ℕ) → ready ≡ has_enough given clock deadline → ready ≡ false → clock ≡ v.clock → v ≡ w
     → (given ≡ (fetched w r).0) × (mid ≡ old ++ reply_written starts (fetched w r).1) → n ≡ length old → new ≡ take n mid → (false, new) ≡ look_written starts old (fetch_answer w r deadline)
 looked_not starts w v r given clock deadline ready old mid new n is early at stays told len back =
     ap (λ s. (false, s)) (back ∙ cut_back old (reply_written starts (fetched w r).1) mid n told.1 len) ∙ when_not starts old (fetched w r).1 (is_ready w r (fetched w r).1 deadline) (done_is w v r given clock deadline ready is at stays told.0 ∙ early)
+    ∙ reply_same starts w r deadline old

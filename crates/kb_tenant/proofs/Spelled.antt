@@ -29,10 +29,9 @@ use Rattle.kb_world.specs.Calls.{fetched_from}
 use Rattle.kb_world.specs.World.{World, log_in, place_in}
 use Rattle.kb_world.specs.declared.topic_partition.TopicPartition.{TopicPartition}
 use Rattle.kb_tenant.specs.Batches.{HasSmallLogs, IsSmall, Spells}
-use Rattle.kb_tenant.specs.Fetch.{fetch_answered, answered_at, answered_by, answered_topic, begun, fetched, front_of, limit_of, read_as, refusal_of}
+use Rattle.kb_tenant.specs.Fetch.{Limits, fetch_answered, answered_at, answered_by, answered_topic, begun, fetched, front_of, limit_of, read_as, refusal_of}
 use Rattle.kb_tenant.specs.Fetch.{reply_written, topic_without_starts, without_start, without_starts}
 use Rattle.kb_tenant.specs.Turns.{in_turn}
-use Rattle.kb_tenant.specs.declared.fetch.given.Given.{Given}
 use Rattle.kb_tenant.proofs.Mapped.{all-map}
 use Rattle.kb_tenant.proofs.Small.{small_in}
 use Rattle.kb_tenant.proofs.Versions.{read_so}
@@ -112,7 +111,7 @@ refused_told p f fits = told (refusal_of p f) [] fits (small_code f) (record { s
 accepted_told : (p : ℤ) (l : LogState) (records : List ℕ) → FitsSigned w32 p → IsSmall l → length records < 2 ^ 31 → IsTold (answer_with_v5 (front_of p (pos l.start, pos l.end)) records)
 accepted_told p l records fits small lt = told (front_of p (pos l.start, pos l.end)) records fits (record { sfits = omega arith }) (record { sfits = small.end }) (record { sfits = small.end }) (record { sfits = small.start }) lt
 
-module _ (w : World) (small : HasSmallLogs w) (topic : Option ℕ) (g : Given) (asked : FetchPartition) (number : FitsSigned w32 asked.partition) (limited : limit_of g asked < 2 ^ 31) where
+module _ (w : World) (small : HasSmallLogs w) (topic : Option ℕ) (g : Limits) (asked : FetchPartition) (number : FitsSigned w32 asked.partition) (limited : limit_of g asked < 2 ^ 31) where
   by-offset : (l : LogState) → IsSmall l → (out : Bool)
       → IsTold (answered_by g asked.partition (Some (pos l.start, pos l.end)) (if out then Err partition.Range else Ok (fetched_of (natural asked.fetch_offset) (limit_of g asked) g.first l.batches))).1
   by-offset l is true = refused_told asked.partition partition.Range number
@@ -134,7 +133,7 @@ limit_small : (z : ℤ) (n : ℕ) → FitsSigned w32 z → n ≤ natural z → n
 limit_small (pos m) n fits le = let lt : m < 2 ^ 31 = fits.sfits in omega (arith, le, lt)
 limit_small (negsuc m) n fits le = omega (arith, le)
 
-partition_told : (w : World) → HasSmallLogs w → (topic : Option ℕ) (g : Given) (asked : FetchPartition) → fetch_partition.InRange asked → IsTold (fetch_answered w topic g asked).1
+partition_told : (w : World) → HasSmallLogs w → (topic : Option ℕ) (g : Limits) (asked : FetchPartition) → fetch_partition.InRange asked → IsTold (fetch_answered w topic g asked).1
 unfolding fetch_partition int
 partition_told w small topic g asked range =
     by-place w small topic g asked range.0 (limit_small asked.partition_max_bytes (limit_of g asked) range.1.1 (omega arith)) (place_in topic asked.partition)
@@ -157,7 +156,7 @@ record IsTopicTold (t : FetchTopicReplyV5) : Type 0 where
   plain_fits : fetch_topic_reply.Fits (topic_without_starts t)
   plain_in_range : fetch_topic_reply.InRange (topic_without_starts t)
 
-topic_told : (w : World) → HasSmallLogs w → (g : Given) (asked : FetchTopic) → fetch_topic.Fits asked × fetch_topic.InRange asked → IsTopicTold (answered_topic w g asked).1
+topic_told : (w : World) → HasSmallLogs w → (g : Limits) (asked : FetchTopic) → fetch_topic.Fits asked × fetch_topic.InRange asked → IsTopicTold (answered_topic w g asked).1
 unfolding fetch_topic fetch_topic_reply fetch_topic_reply_v5 sized items
 topic_told w small g asked is =
     let topic = named asked.topic w.known.topics in

@@ -31,7 +31,6 @@ use Rattle.kb_partitions.specs.Logs.{LogState}
 use Rattle.kb_world.specs.Calls.{fetch}
 use Rattle.kb_tenant.specs.Turns.{in_turn}
 use Rattle.kb_world.specs.World.{World, log_in, place_in}
-use Rattle.kb_tenant.specs.declared.fetch.given.Given.{Given}
 use Rattle.kb_tenant.specs.declared.fetch.waiting.Fetching.{Fetching}
 use Rattle.kb_tenant.specs.declared.fetch.waiting.Fetching.TheVariants as fetching
 use Rattle.kb_world.specs.declared.topic_partition.TopicPartition.{TopicPartition}
@@ -72,38 +71,33 @@ asked_fetch version body = read_as (has_starts version) body
 
 -- ---- the limits
 
--- Nothing was given yet, and all bytes that are wanted at least are missing. Limits below 0 count as 0, and that of the
--- whole reply as 8,388,608 at most.
-abbrev pub begun : FetchRequest → Given
-begun r = record {
-  left = min (natural r.max_bytes) 8388608;
-  first = true;
-  missing = natural r.min_bytes;
-  is_asked = false;
-  is_wrong = false;
-}
+-- what is left of a reply's limits: how many more bytes of records it may have; and whether no partition gave any yet, so that a batch
+-- over the limit is given whole
+pub record Limits : Type 0 where
+  pub left : ℕ
+  pub first : Bool
+
+-- Those of a request. Below 0 they count as 0, and that of the whole reply is 8,388,608 at most.
+abbrev pub begun : FetchRequest → Limits
+begun r = record { left = min (natural r.max_bytes) 8388608; first = true }
 
 -- after so many bytes of records of one more partition
-abbrev pub less : Given → ℕ → Given
-less g n = record g { left = g.left - n; first = g.first && (n == 0); missing = g.missing - n; is_asked = true }
-
--- after a partition that was refused
-abbrev pub wrong : Given → Given
-wrong g = record g { is_asked = true; is_wrong = true }
+abbrev pub less : Limits → ℕ → Limits
+less l n = record { left = l.left - n; first = l.first && (n == 0) }
 
 -- how many bytes of records a partition may give
-abbrev pub limit_of : Given → FetchPartition → ℕ
-limit_of g e = min (natural e.partition_max_bytes) g.left
+abbrev pub limit_of : Limits → FetchPartition → ℕ
+limit_of l e = min (natural e.partition_max_bytes) l.left
 
 -- ---- one partition; the aborted transactions of each answer are null
 
--- It is refused: the watermarks and the log's start are -1, and there are no records.
+-- It is refused: the watermarks and the log's start are -1, and there are no records. The limits are as before.
 abbrev pub refusal_of : ℤ → PartitionFault → FetchPartitionFrontV5
 refusal_of p f =
     record { partition = p; error_code = code_of f; high_watermark = negsuc 0; last_stable_offset = negsuc 0; log_start_offset = negsuc 0 }
 
-abbrev pub refused : Given → ℤ → PartitionFault → Given × FetchPartitionReplyV5
-refused g p f = (wrong g, answer_with_v5 (refusal_of p f) [])
+abbrev pub refused : Limits → ℤ → PartitionFault → Limits × FetchPartitionReplyV5
+refused l p f = (l, answer_with_v5 (refusal_of p f) [])
 
 -- where a log starts, and where it ends
 abbrev pub bounds_of : World → TopicPartition → Option (ℤ × ℤ)
@@ -115,35 +109,35 @@ front_of p bounds =
     record { partition = p; error_code = pos 0; high_watermark = bounds.1; last_stable_offset = bounds.1; log_start_offset = bounds.0 }
 
 -- It gives records.
-abbrev pub accepted : Given → ℤ → ℤ × ℤ → List ℕ → Given × FetchPartitionReplyV5
-accepted g p bounds records = (less g (length records), answer_with_v5 (front_of p bounds) records)
+abbrev pub accepted : Limits → ℤ → ℤ × ℤ → List ℕ → Limits × FetchPartitionReplyV5
+accepted l p bounds records = (less l (length records), answer_with_v5 (front_of p bounds) records)
 
-abbrev pub answered_by : Given → ℤ → Option (ℤ × ℤ) → Result (List ℕ) PartitionFault → Given × FetchPartitionReplyV5
-answered_by g p (Some bounds) (Ok records) = accepted g p bounds records
-answered_by g p (Some bounds) (Err f) = refused g p f
-answered_by g p None r = refused g p partition.Unknown
+abbrev pub answered_by : Limits → ℤ → Option (ℤ × ℤ) → Result (List ℕ) PartitionFault → Limits × FetchPartitionReplyV5
+answered_by l p (Some bounds) (Ok records) = accepted l p bounds records
+answered_by l p (Some bounds) (Err f) = refused l p f
+answered_by l p None r = refused l p partition.Unknown
 
 -- the records that it gives, within its limit
-abbrev pub fetched_at : World → Given → FetchPartition → TopicPartition → Result (List ℕ) PartitionFault
-fetched_at w g e place = fetch w place e.fetch_offset (limit_of g e) g.first
+abbrev pub fetched_at : World → Limits → FetchPartition → TopicPartition → Result (List ℕ) PartitionFault
+fetched_at w l e place = fetch w place e.fetch_offset (limit_of l e) l.first
 
-abbrev pub answered_at : World → Given → FetchPartition → Option TopicPartition → Given × FetchPartitionReplyV5
-answered_at w g e (Some place) = answered_by g e.partition (bounds_of w place) (fetched_at w g e place)
-answered_at w g e None = refused g e.partition partition.Unknown
+abbrev pub answered_at : World → Limits → FetchPartition → Option TopicPartition → Limits × FetchPartitionReplyV5
+answered_at w l e (Some place) = answered_by l e.partition (bounds_of w place) (fetched_at w l e place)
+answered_at w l e None = refused l e.partition partition.Unknown
 
 -- an entry of a topic that has this instance, if it is there
-abbrev pub fetch_answered : World → Option ℕ → Given → FetchPartition → Given × FetchPartitionReplyV5
-fetch_answered w topic g e = answered_at w g e (place_in topic e.partition)
+abbrev pub fetch_answered : World → Option ℕ → Limits → FetchPartition → Limits × FetchPartitionReplyV5
+fetch_answered w topic l e = answered_at w l e (place_in topic e.partition)
 
 -- ---- all partitions
 
-abbrev pub answered_topic : World → Given → FetchTopic → Given × FetchTopicReplyV5
-answered_topic w g t =
-    let r = in_turn (fetch_answered w (named t.topic w.known.topics)) g t.partitions in
+abbrev pub answered_topic : World → Limits → FetchTopic → Limits × FetchTopicReplyV5
+answered_topic w l t =
+    let r = in_turn (fetch_answered w (named t.topic w.known.topics)) l t.partitions in
     (r.0, record { topic = t.topic; partitions = r.1 })
 
 -- the partitions in order, each within what those before it left
-abbrev pub fetched : World → FetchRequest → Given × FetchReplyV5
+abbrev pub fetched : World → FetchRequest → Limits × FetchReplyV5
 fetched w r =
     let f = in_turn (answered_topic w) (begun r) r.topics in
     (f.0, record { throttle_time_ms = pos 0; topics = f.1 })
@@ -179,10 +173,6 @@ is_ready w r reply deadline =
     || some_partition (λ p. is_error p.error_code) reply
     || nat_le (natural r.min_bytes) (bytes_of reply)
     || nat_le deadline w.clock
-
--- the same, as it was counted on the way
-abbrev pub has_enough : Given → ℕ → ℕ → Bool
-has_enough g clock deadline = not g.is_asked || g.is_wrong || (g.missing == 0) || nat_le deadline clock
 
 -- Until when a fetch of this moment waits at most; a time below 0 counts as 0.
 abbrev pub deadline_of : World → FetchRequest → ℕ

@@ -1,4 +1,5 @@
 pub mod Batches
+pub mod Counted
 pub mod CreateTopics
 pub mod DeleteRecords
 pub mod DeleteTopics

@@ -60,7 +60,7 @@ use Rattle.kb_world.specs.declared.topic_partition.TopicPartition.{TopicPartitio
 use Rattle.kb_tenant.specs.CreateTopics.{asked_creations, created_topic, creations_in}
 use Rattle.kb_tenant.specs.DeleteRecords.{deletion_answered, deleted}
 use Rattle.kb_tenant.specs.DeleteTopics.{deleted_topic, deletions_in}
-use Rattle.kb_tenant.specs.Fetch.{asked_fetch, begun, deadline_of, fetch_answered, fetched_in, has_enough, places_of, refused}
+use Rattle.kb_tenant.specs.Fetch.{Limits, asked_fetch, begun, deadline_of, fetch_answered, fetched_in, is_ready, places_of, refused}
 use Rattle.kb_tenant.specs.Fetch.{reply_written}
 use Rattle.kb_tenant.specs.InitProducerId.{id_refused, init_producer_id}
 use Rattle.kb_tenant.specs.ListOffsets.{listed, offset_refused}
@@ -71,7 +71,6 @@ use Rattle.kb_tenant.specs.Room.{reply_length}
 use Rattle.kb_tenant.specs.Turns.{AreServed}
 use Rattle.kb_tenant.specs.declared.answer.Answer.{Answer}
 use Rattle.kb_tenant.specs.declared.answer.Answer.TheVariants as answers
-use Rattle.kb_tenant.specs.declared.fetch.given.Given.{Given}
 use Rattle.kb_tenant.specs.declared.fetch.waiting.Fetching.{Fetching}
 use Rattle.kb_tenant.specs.declared.fetch.waiting.Fetching.TheVariants as fetching
 
@@ -309,31 +308,31 @@ AnswersListing failed id w body a =
 
 -- ---- Fetch
 
--- An entry is refused since the store failed, which it did, or for want of memory; and the limits go on as behind any that is refused.
-abbrev pub IsUnread : Type 0 → Given → FetchPartition → Given → FetchPartitionReplyV5 → Type 0
-IsUnread failed g e h x = (((h, x) ≡ refused g e.partition partition.Store) × failed) ⊎ ((h, x) ≡ refused g e.partition partition.Memory)
+-- An entry is refused since the store failed, which it did, or for want of memory; and the limits are as before it.
+abbrev pub IsUnread : Type 0 → Limits → FetchPartition → Limits → FetchPartitionReplyV5 → Type 0
+IsUnread failed l e m x = (((m, x) ≡ refused l e.partition partition.Store) × failed) ⊎ ((m, x) ≡ refused l e.partition partition.Memory)
 
 -- An entry comes to what is defined, or is refused for such a want.
-abbrev pub IsReadOr : Type 0 → Given × FetchPartitionReplyV5 → Given → FetchPartition → Given → FetchPartitionReplyV5 → Type 0
-IsReadOr failed defined g e h x = ((h, x) ≡ defined) ⊎ IsUnread failed g e h x
+abbrev pub IsReadOr : Type 0 → Limits × FetchPartitionReplyV5 → Limits → FetchPartition → Limits → FetchPartitionReplyV5 → Type 0
+IsReadOr failed defined l e m x = ((m, x) ≡ defined) ⊎ IsUnread failed l e m x
 
 -- An entry of the topic of an instance is answered what is defined, on what those before it left of the limits; or it is refused for
 -- such a want.
-abbrev pub IsFetchTold : Type 0 → World → Option ℕ → Given → FetchPartition → Given → FetchPartitionReplyV5 → Type 0
-IsFetchTold failed w topic g e h x = IsReadOr failed (fetch_answered w topic g e) g e h x
+abbrev pub IsFetchTold : Type 0 → World → Option ℕ → Limits → FetchPartition → Limits → FetchPartitionReplyV5 → Type 0
+IsFetchTold failed w topic l e m x = IsReadOr failed (fetch_answered w topic l e) l e m x
 
 -- The same of a topic's entries, one after another.
-abbrev pub IsFetchTopicTold : Type 0 → World → Given → FetchTopic → Given → FetchTopicReplyV5 → Type 0
-IsFetchTopicTold failed w g t h x =
-    (x.topic ≡ t.topic) × AreServed (IsFetchTold failed w (named t.topic w.known.topics)) g t.partitions h x.partitions
+abbrev pub IsFetchTopicTold : Type 0 → World → Limits → FetchTopic → Limits → FetchTopicReplyV5 → Type 0
+IsFetchTopicTold failed w l t m x =
+    (x.topic ≡ t.topic) × AreServed (IsFetchTold failed w (named t.topic w.known.topics)) l t.partitions m x.partitions
 
 -- The same of a request's topics, which leave that of its limits.
-abbrev pub AreFetchesTold : Type 0 → World → FetchRequest → Given → FetchReplyV5 → Type 0
+abbrev pub AreFetchesTold : Type 0 → World → FetchRequest → Limits → FetchReplyV5 → Type 0
 AreFetchesTold failed w q left x = (x.throttle_time_ms ≡ pos 0) × AreServed (IsFetchTopicTold failed w) (begun q) q.topics left x.topics
 
--- A fetch comes to such a reply, and is ready or not: what is left of its limits tells that. A refused entry makes it ready.
+-- A fetch comes to such a reply, by which it is ready or not. A refused entry makes it ready.
 abbrev pub IsFetchReady : Type 0 → World → ℕ → FetchRequest → Bool → FetchReplyV5 → Type 0
-IsFetchReady failed w deadline q ready x = (left : Given) × (AreFetchesTold failed w q left x × (has_enough left w.clock deadline ≡ ready))
+IsFetchReady failed w deadline q ready x = (left : Limits) × (AreFetchesTold failed w q left x × (is_ready w q x deadline ≡ ready))
 
 -- It is the reply of a Fetch that is ready, in a version of the API.
 abbrev pub TellsFetch : Type 0 → ℤ → World → ℕ → FetchRequest → List ℕ → Type 0

@@ -1,7 +1,7 @@
 //! What is left of a fetch's limits.
 ghost use Rattle.std.specs.Prelude.{◌≡◌, ◌<◌, ◌^◌};
 ghost use Rattle.kb_batch.specs.Batch.{natural};
-ghost use Rattle.kb_tenant.specs.Fetch.{begun, has_enough, less, limit_of, wrong};
+ghost use Rattle.kb_tenant.specs.Counted.{begun, has_enough, less, limit_of, wrong};
 
 use kb_api_data::{FetchPartition, FetchRequest};
 

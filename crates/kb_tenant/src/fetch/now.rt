@@ -6,10 +6,11 @@ ghost use Rattle.kb_api_data.specs.declared.fetch_v5.FetchPartitionReplyV5.{Fetc
 ghost use Rattle.kb_api_data.specs.declared.fetch_v5.FetchReplyV5.{FetchReplyV5};
 ghost use Rattle.kb_api_data.specs.declared.fetch_v5.FetchTopicReplyV5.{FetchTopicReplyV5};
 ghost use Rattle.kb_partitions.specs.Scene.{WhereHonest};
-ghost use Rattle.kb_tenant.specs.Fetch.{fetch_answered, answered_topic, fetched, partition_written, reply_written, topic_written};
+ghost use Rattle.kb_tenant.specs.Counted.{fetch_answered, answered_topic, fetched, AreFetchesTold, IsFetchTold, IsFetchTopicTold};
+ghost use Rattle.kb_tenant.specs.Fetch.{partition_written, reply_written, topic_written};
 ghost use Rattle.kb_world.specs.Parts.{scene};
 ghost use Rattle.kb_world.specs.Steps.{IsStep, Meets};
-ghost use Rattle.kb_tenant.specs.Told.{AreFetchesTold, HasFailed, IsFetchTold, IsFetchTopicTold};
+ghost use Rattle.kb_tenant.specs.Told.{HasFailed};
 ghost use Rattle.kb_tenant.specs.Turns.{in_turn, written_behind, AreServed};
 
 use crate::fetch::given::Given;

@@ -1,9 +1,10 @@
 use Rattle.std.proofs.Common.{[], append-nil, refl, sym}
 use Rattle.kb_partitions.specs.Scene.{Scene}
-use Rattle.kb_tenant.specs.Fetch.{fetch_answered, partition_written}
+use Rattle.kb_tenant.specs.Counted.{fetch_answered, IsFetchTold}
+use Rattle.kb_tenant.specs.Fetch.{partition_written}
 use Rattle.kb_world.specs.Parts.{Seen, scene}
 use Rattle.kb_world.specs.Steps.{step_same, step_then}
-use Rattle.kb_tenant.specs.Told.{HasFailed, IsFetchTold}
+use Rattle.kb_tenant.specs.Told.{HasFailed}
 use Rattle.kb_tenant.proofs.Acknowledging.{served_all}
 use Rattle.kb_tenant.proofs.Fetched.{answered_next, fetch_so}
 use Rattle.kb_tenant.proofs.Fetching.{same_then, loop_next, get_or_any}

@@ -6,8 +6,8 @@ use Rattle.kb_machine.specs.Machine.{Happening}
 use Rattle.kb_machine.specs.Broker.{BrokerState}
 use Rattle.kb_broker.specs.declared.script.ScriptFault.{ScriptFault}
 use Rattle.kb_broker.specs.declared.script.ScriptFault.TheVariants as script_faults
-use Rattle.kb_broker.specs.Script.{Script, script}
-use Rattle.kb_broker.specs.ScriptRun.{IsWritten, IsWrittenInPart, IsPlayed, IsEnded, HavePlayed, IsStopped, said_by}
+use Rattle.kb_broker.specs.Script.{Script, said_by, script}
+use Rattle.kb_broker.specs.ScriptRun.{IsWritten, IsWrittenInPart, IsPlayed, IsEnded, HavePlayed, IsStopped}
 use Rattle.kb_node.specs.declared.fault.NodeFault.{NodeFault}
 use Rattle.kb_node.specs.declared.fault.NodeFault.TheVariants as faults
 use Rattle.kb_node.specs.Node.{IsRun, IsHalted, IsHaltedAt, IsFaultOf}

@@ -1,6 +1,7 @@
 #!/bin/sh
 # Measures how long `kbroker serve` takes until it listens, on a folder with one partition of 1 GB, and then with 1,024 partitions of
-# 1 GB together, against a C program that reads and sums the same files. The first argument is the executable, the second how many bytes in all (1000000000 where it is missing).
+# 1 GB together, in batches of three sizes, against a C program that reads and sums the same files. The first argument is the
+# executable, the second how many bytes in all (1000000000 where it is missing).
 set -eu
 here=$(cd "$(dirname "$0")" && pwd)
 kbroker=$1
@@ -25,4 +26,6 @@ for size in 1048576 16384 1000; do
     measure "$size" 1 1
 done
 echo "the same, of 1,024 partitions"
-measure 16384 16 64
+for size in 1048576 16384 1000; do
+    measure "$size" 16 64
+done

@@ -6,6 +6,8 @@
 #[cfg(test)]
 mod log;
 #[cfg(test)]
+mod looks;
+#[cfg(test)]
 mod partitions;
 #[cfg(test)]
 mod tenant;

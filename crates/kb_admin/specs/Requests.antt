@@ -1,5 +1,6 @@
 -- The requests of a session, each as its bytes.
 use Rattle.std.specs.Prelude.{ℕ, ℤ, pos, List, [], ◌∷◌, ◌++◌, Some, None, map}
+use Rattle.kb_wire.specs.declared.api_key.TheConstants.{METADATA, CREATE_TOPICS, DELETE_TOPICS, SASL_AUTHENTICATE}
 use Rattle.kb_api_group.specs.Layouts.{sasl_authenticate_request}
 use Rattle.kb_api_data.specs.Layouts.{create_topics_request, delete_topics_request, metadata_request}
 use Rattle.kb_api_data.specs.declared.create_topics.CreateConfig.{CreateConfig}
@@ -16,7 +17,7 @@ plain_message user password = 0 ∷ user ++ 0 ∷ password
 -- SaslAuthenticate
 abbrev pub authenticate_text : ℤ → List ℕ → List ℕ → List ℕ
 authenticate_text id user password =
-    request_text (pos 36) (pos 0) id (sasl_authenticate_request.written (record { auth_bytes = plain_message user password }))
+    request_text SASL_AUTHENTICATE (pos 0) id (sasl_authenticate_request.written (record { auth_bytes = plain_message user password }))
 
 -- a setting, as CreateTopics has it
 abbrev pub config_of : Setting → CreateConfig
@@ -24,7 +25,7 @@ config_of s = record { name = s.key; value = Some s.value }
 
 -- CreateTopics: the topic with its partitions and settings, one replica and no assignment
 abbrev pub create_text : ℤ → NewTopic → List ℕ
-create_text id t = request_text (pos 19) (pos 0) id (create_topics_request.written (record {
+create_text id t = request_text CREATE_TOPICS (pos 0) id (create_topics_request.written (record {
   topics = record {
     name = t.name;
     num_partitions = t.partitions;
@@ -37,11 +38,12 @@ create_text id t = request_text (pos 19) (pos 0) id (create_topics_request.writt
 
 -- DeleteTopics: the one topic
 abbrev pub delete_text : ℤ → List ℕ → List ℕ
-delete_text id name = request_text (pos 20) (pos 0) id (delete_topics_request.written (record { names = name ∷ []; timeout_ms = pos 5000 }))
+delete_text id name =
+    request_text DELETE_TOPICS (pos 0) id (delete_topics_request.written (record { names = name ∷ []; timeout_ms = pos 5000 }))
 
 -- Metadata: null asks for all topics
 abbrev pub list_text : ℤ → List ℕ
-list_text id = request_text (pos 3) (pos 1) id (metadata_request.written (record { topics = None }))
+list_text id = request_text METADATA (pos 1) id (metadata_request.written (record { topics = None }))
 
 -- the request of a task
 abbrev pub task_text : ℤ → Task → List ℕ

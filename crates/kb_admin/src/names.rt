@@ -4,7 +4,7 @@ ghost use Rattle.std.specs.Prelude.{◌≡◌, option_map};
 ghost use Rattle.kb_admin.specs.Names.{code_name, refusal_name, login_name, topic_name, partitions_name};
 
 /// Kafka's name of an error code, where it is one that may answer SaslHandshake, SaslAuthenticate, CreateTopics, DeleteTopics or
-/// Metadata.
+/// Metadata. Any broker may be asked, so codes are among them that kbroker never answers, as NOT_CONTROLLER.
 #[tactic(auto, unfolding(crate::specs::Names::code_name))]
 pub fn code_name(code: i16) -> Option<&'static str>
     ensures { option_map (λ name. name.now) result ≡ code_name code }

@@ -11,18 +11,8 @@ use kb_api_data::{
     CreateConfig, CreateTopic, CreateTopicsRequest, DeleteTopicsRequest, MetadataRequest,
 };
 use kb_api_group::{RequestHeader, SaslAuthenticateRequest, SaslHandshakeRequest};
-use kb_wire::{Array, Blob, Layout, Sink, Text};
+use kb_wire::{Array, Blob, Layout, Sink, Text, api_key};
 use std::alloc::{AllocError, Global};
-
-const METADATA: i16 = 3;
-
-const SASL_HANDSHAKE: i16 = 17;
-
-const CREATE_TOPICS: i16 = 19;
-
-const DELETE_TOPICS: i16 = 20;
-
-const SASL_AUTHENTICATE: i16 = 36;
 
 /// How long the broker may take, in milliseconds.
 const TIMEOUT_MS: i32 = 5000;
@@ -64,7 +54,7 @@ pub fn handshake(alloc: Global, id: i32) -> Result<Vec<u8>, AllocError>
     let body = SaslHandshakeRequest {
         mechanism: Text::new("PLAIN"),
     };
-    request(alloc, (SASL_HANDSHAKE, 1), id, &body)
+    request(alloc, (api_key::SASL_HANDSHAKE, 1), id, &body)
 }
 
 /// The message of PLAIN (RFC 4616).
@@ -97,7 +87,7 @@ pub fn authenticate(
     let body = SaslAuthenticateRequest {
         auth_bytes: Blob::new(&message),
     };
-    request(alloc, (SASL_AUTHENTICATE, 0), id, &body)
+    request(alloc, (api_key::SASL_AUTHENTICATE, 0), id, &body)
 }
 
 /// Settings as CreateTopics has them.
@@ -138,7 +128,7 @@ pub fn create(alloc: Global, id: i32, topic: &NewTopic) -> Result<Vec<u8>, Alloc
         topics,
         timeout_ms: TIMEOUT_MS,
     };
-    request(alloc, (CREATE_TOPICS, 0), id, &body)
+    request(alloc, (api_key::CREATE_TOPICS, 0), id, &body)
 }
 
 /// DeleteTopics: the topic of that name.
@@ -151,7 +141,7 @@ pub fn delete(alloc: Global, id: i32, name: &ShortText) -> Result<Vec<u8>, Alloc
         names,
         timeout_ms: TIMEOUT_MS,
     };
-    request(alloc, (DELETE_TOPICS, 0), id, &body)
+    request(alloc, (api_key::DELETE_TOPICS, 0), id, &body)
 }
 
 /// Metadata: all topics.
@@ -159,5 +149,5 @@ pub fn list(alloc: Global, id: i32) -> Result<Vec<u8>, AllocError>
     ensures { IfOk result (λ text. text.items ≡ list_text id) }
 {
     let body = MetadataRequest { topics: None };
-    request(alloc, (METADATA, 1), id, &body)
+    request(alloc, (api_key::METADATA, 1), id, &body)
 }

@@ -8,7 +8,14 @@ use Rattle.kb_api_data.specs.Layouts.{fetch_partition_reply, fetch_partition_rep
 
 -- The answer with these records.
 abbrev pub answer_with : FetchPartitionFront → List ℕ → FetchPartitionReply
-answer_with f records = record { partition = f.partition; error_code = f.error_code; high_watermark = f.high_watermark; last_stable_offset = f.last_stable_offset; aborted_transactions = None; records = Some records }
+answer_with f records = record {
+  partition = f.partition;
+  error_code = f.error_code;
+  high_watermark = f.high_watermark;
+  last_stable_offset = f.last_stable_offset;
+  aborted_transactions = None;
+  records = Some records;
+}
 
 -- The answer with these records, as it is written.
 abbrev pub answer_written : FetchPartitionFront → List ℕ → List ℕ
@@ -20,7 +27,15 @@ answer_front f = answer_written f []
 
 -- The same, of version 5.
 abbrev pub answer_with_v5 : FetchPartitionFrontV5 → List ℕ → FetchPartitionReplyV5
-answer_with_v5 f records = record { partition = f.partition; error_code = f.error_code; high_watermark = f.high_watermark; last_stable_offset = f.last_stable_offset; log_start_offset = f.log_start_offset; aborted_transactions = None; records = Some records }
+answer_with_v5 f records = record {
+  partition = f.partition;
+  error_code = f.error_code;
+  high_watermark = f.high_watermark;
+  last_stable_offset = f.last_stable_offset;
+  log_start_offset = f.log_start_offset;
+  aborted_transactions = None;
+  records = Some records;
+}
 
 abbrev pub answer_written_v5 : FetchPartitionFrontV5 → List ℕ → List ℕ
 answer_written_v5 f records = fetch_partition_reply_v5.written (answer_with_v5 f records)

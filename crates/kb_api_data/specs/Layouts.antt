@@ -1,5 +1,6 @@
 -- The bodies of the protocol's requests and replies, each in the versions that are read and written here.
-use Rattle.kb_wire.specs.Codec.{Codec, int8, int16, int32, int64, boolean, string, nullable_string, nullable_blob, array, nullable_array, ◌⊗◌, via}
+use Rattle.kb_wire.specs.Codec.{Codec, int8, int16, int32, int64, boolean, string, nullable_string, nullable_blob, array, nullable_array}
+use Rattle.kb_wire.specs.Codec.{◌⊗◌, via}
 use Rattle.kb_api_data.specs.declared.produce.ProducePartition.{ProducePartition}
 use Rattle.kb_api_data.specs.declared.produce.ProduceTopic.{ProduceTopic}
 use Rattle.kb_api_data.specs.declared.produce.ProduceRequest.{ProduceRequest}
@@ -69,23 +70,28 @@ produce_topic = via (λ p. record { name = p.0; partitions = p.1 }) (λ v. (v.na
 
 -- A request of Produce, version 3.
 unfoldable pub produce_request : Codec ProduceRequest
-produce_request = via (λ p. record { transactional_id = p.0; acks = p.1.0; timeout_ms = p.1.1.0; topics = p.1.1.1 }) (λ v. (v.transactional_id, (v.acks, (v.timeout_ms, v.topics)))) (nullable_string ⊗ int16 ⊗ int32 ⊗ array produce_topic)
+produce_request = via (λ p. record { transactional_id = p.0; acks = p.1.0; timeout_ms = p.1.1.0; topics = p.1.1.1 }) (λ v.
+    (v.transactional_id, (v.acks, (v.timeout_ms, v.topics)))) (nullable_string ⊗ int16 ⊗ int32 ⊗ array produce_topic)
 
 -- A partition, in the reply of Produce.
 unfoldable pub produce_partition_reply : Codec ProducePartitionReply
-produce_partition_reply = via (λ p. record { index = p.0; error_code = p.1.0; base_offset = p.1.1.0; log_append_time_ms = p.1.1.1 }) (λ v. (v.index, (v.error_code, (v.base_offset, v.log_append_time_ms)))) (int32 ⊗ int16 ⊗ int64 ⊗ int64)
+produce_partition_reply = via (λ p. record { index = p.0; error_code = p.1.0; base_offset = p.1.1.0; log_append_time_ms = p.1.1.1 }) (λ v.
+    (v.index, (v.error_code, (v.base_offset, v.log_append_time_ms)))) (int32 ⊗ int16 ⊗ int64 ⊗ int64)
 
 -- A topic, in the reply of Produce.
 unfoldable pub produce_topic_reply : Codec ProduceTopicReply
-produce_topic_reply = via (λ p. record { name = p.0; partitions = p.1 }) (λ v. (v.name, v.partitions)) (string ⊗ array produce_partition_reply)
+produce_topic_reply =
+    via (λ p. record { name = p.0; partitions = p.1 }) (λ v. (v.name, v.partitions)) (string ⊗ array produce_partition_reply)
 
 -- The reply of Produce, version 3.
 unfoldable pub produce_reply : Codec ProduceReply
-produce_reply = via (λ p. record { topics = p.0; throttle_time_ms = p.1 }) (λ v. (v.topics, v.throttle_time_ms)) (array produce_topic_reply ⊗ int32)
+produce_reply =
+    via (λ p. record { topics = p.0; throttle_time_ms = p.1 }) (λ v. (v.topics, v.throttle_time_ms)) (array produce_topic_reply ⊗ int32)
 
 -- A partition, in a request of Fetch.
 unfoldable pub fetch_partition : Codec FetchPartition
-fetch_partition = via (λ p. record { partition = p.0; fetch_offset = p.1.0; partition_max_bytes = p.1.1 }) (λ v. (v.partition, (v.fetch_offset, v.partition_max_bytes))) (int32 ⊗ int64 ⊗ int32)
+fetch_partition = via (λ p. record { partition = p.0; fetch_offset = p.1.0; partition_max_bytes = p.1.1 }) (λ v.
+    (v.partition, (v.fetch_offset, v.partition_max_bytes))) (int32 ⊗ int64 ⊗ int32)
 
 -- A topic, in a request of Fetch.
 unfoldable pub fetch_topic : Codec FetchTopic
@@ -93,7 +99,16 @@ fetch_topic = via (λ p. record { topic = p.0; partitions = p.1 }) (λ v. (v.top
 
 -- A request of Fetch, version 4.
 unfoldable pub fetch_request : Codec FetchRequest
-fetch_request = via (λ p. record { replica_id = p.0; max_wait_ms = p.1.0; min_bytes = p.1.1.0; max_bytes = p.1.1.1.0; isolation_level = p.1.1.1.1.0; topics = p.1.1.1.1.1 }) (λ v. (v.replica_id, (v.max_wait_ms, (v.min_bytes, (v.max_bytes, (v.isolation_level, v.topics)))))) (int32 ⊗ int32 ⊗ int32 ⊗ int32 ⊗ int8 ⊗ array fetch_topic)
+fetch_request = via (λ p. record {
+  replica_id = p.0;
+  max_wait_ms = p.1.0;
+  min_bytes = p.1.1.0;
+  max_bytes = p.1.1.1.0;
+  isolation_level = p.1.1.1.1.0;
+  topics = p.1.1.1.1.1;
+}) (λ v.
+    (v.replica_id, (v.max_wait_ms, (v.min_bytes, (v.max_bytes, (v.isolation_level, v.topics))))))
+    (int32 ⊗ int32 ⊗ int32 ⊗ int32 ⊗ int8 ⊗ array fetch_topic)
 
 -- A transaction, in the reply of Fetch.
 unfoldable pub aborted_transaction : Codec AbortedTransaction
@@ -101,15 +116,26 @@ aborted_transaction = via (λ p. record { producer_id = p.0; first_offset = p.1 
 
 -- A partition, in the reply of Fetch.
 unfoldable pub fetch_partition_reply : Codec FetchPartitionReply
-fetch_partition_reply = via (λ p. record { partition = p.0; error_code = p.1.0; high_watermark = p.1.1.0; last_stable_offset = p.1.1.1.0; aborted_transactions = p.1.1.1.1.0; records = p.1.1.1.1.1 }) (λ v. (v.partition, (v.error_code, (v.high_watermark, (v.last_stable_offset, (v.aborted_transactions, v.records)))))) (int32 ⊗ int16 ⊗ int64 ⊗ int64 ⊗ nullable_array aborted_transaction ⊗ nullable_blob)
+fetch_partition_reply = via (λ p. record {
+  partition = p.0;
+  error_code = p.1.0;
+  high_watermark = p.1.1.0;
+  last_stable_offset = p.1.1.1.0;
+  aborted_transactions = p.1.1.1.1.0;
+  records = p.1.1.1.1.1;
+}) (λ v.
+    (v.partition, (v.error_code, (v.high_watermark, (v.last_stable_offset, (v.aborted_transactions, v.records))))))
+    (int32 ⊗ int16 ⊗ int64 ⊗ int64 ⊗ nullable_array aborted_transaction ⊗ nullable_blob)
 
 -- A topic, in the reply of Fetch.
 unfoldable pub fetch_topic_reply : Codec FetchTopicReply
-fetch_topic_reply = via (λ p. record { topic = p.0; partitions = p.1 }) (λ v. (v.topic, v.partitions)) (string ⊗ array fetch_partition_reply)
+fetch_topic_reply =
+    via (λ p. record { topic = p.0; partitions = p.1 }) (λ v. (v.topic, v.partitions)) (string ⊗ array fetch_partition_reply)
 
 -- The reply of Fetch, version 4.
 unfoldable pub fetch_reply : Codec FetchReply
-fetch_reply = via (λ p. record { throttle_time_ms = p.0; topics = p.1 }) (λ v. (v.throttle_time_ms, v.topics)) (int32 ⊗ array fetch_topic_reply)
+fetch_reply =
+    via (λ p. record { throttle_time_ms = p.0; topics = p.1 }) (λ v. (v.throttle_time_ms, v.topics)) (int32 ⊗ array fetch_topic_reply)
 
 -- A partition, in a request of ListOffsets.
 unfoldable pub list_offsets_partition : Codec ListOffsetsPartition
@@ -117,19 +143,23 @@ list_offsets_partition = via (λ p. record { partition = p.0; timestamp = p.1 })
 
 -- A topic, in a request of ListOffsets.
 unfoldable pub list_offsets_topic : Codec ListOffsetsTopic
-list_offsets_topic = via (λ p. record { name = p.0; partitions = p.1 }) (λ v. (v.name, v.partitions)) (string ⊗ array list_offsets_partition)
+list_offsets_topic =
+    via (λ p. record { name = p.0; partitions = p.1 }) (λ v. (v.name, v.partitions)) (string ⊗ array list_offsets_partition)
 
 -- A request of ListOffsets, version 1.
 unfoldable pub list_offsets_request : Codec ListOffsetsRequest
-list_offsets_request = via (λ p. record { replica_id = p.0; topics = p.1 }) (λ v. (v.replica_id, v.topics)) (int32 ⊗ array list_offsets_topic)
+list_offsets_request =
+    via (λ p. record { replica_id = p.0; topics = p.1 }) (λ v. (v.replica_id, v.topics)) (int32 ⊗ array list_offsets_topic)
 
 -- A partition, in the reply of ListOffsets.
 unfoldable pub list_offsets_partition_reply : Codec ListOffsetsPartitionReply
-list_offsets_partition_reply = via (λ p. record { partition = p.0; error_code = p.1.0; timestamp = p.1.1.0; offset = p.1.1.1 }) (λ v. (v.partition, (v.error_code, (v.timestamp, v.offset)))) (int32 ⊗ int16 ⊗ int64 ⊗ int64)
+list_offsets_partition_reply = via (λ p. record { partition = p.0; error_code = p.1.0; timestamp = p.1.1.0; offset = p.1.1.1 }) (λ v.
+    (v.partition, (v.error_code, (v.timestamp, v.offset)))) (int32 ⊗ int16 ⊗ int64 ⊗ int64)
 
 -- A topic, in the reply of ListOffsets.
 unfoldable pub list_offsets_topic_reply : Codec ListOffsetsTopicReply
-list_offsets_topic_reply = via (λ p. record { name = p.0; partitions = p.1 }) (λ v. (v.name, v.partitions)) (string ⊗ array list_offsets_partition_reply)
+list_offsets_topic_reply =
+    via (λ p. record { name = p.0; partitions = p.1 }) (λ v. (v.name, v.partitions)) (string ⊗ array list_offsets_partition_reply)
 
 -- The reply of ListOffsets, version 1.
 unfoldable pub list_offsets_reply : Codec ListOffsetsReply
@@ -141,19 +171,23 @@ metadata_request = via (λ p. record { topics = p }) (λ v. v.topics) (nullable_
 
 -- A broker, in the reply of Metadata.
 unfoldable pub metadata_broker : Codec MetadataBroker
-metadata_broker = via (λ p. record { node_id = p.0; host = p.1.0; port = p.1.1.0; rack = p.1.1.1 }) (λ v. (v.node_id, (v.host, (v.port, v.rack)))) (int32 ⊗ string ⊗ int32 ⊗ nullable_string)
+metadata_broker = via (λ p. record { node_id = p.0; host = p.1.0; port = p.1.1.0; rack = p.1.1.1 }) (λ v.
+    (v.node_id, (v.host, (v.port, v.rack)))) (int32 ⊗ string ⊗ int32 ⊗ nullable_string)
 
 -- A partition, in the reply of Metadata.
 unfoldable pub metadata_partition : Codec MetadataPartition
-metadata_partition = via (λ p. record { error_code = p.0; partition = p.1.0; leader = p.1.1.0; replicas = p.1.1.1.0; isr = p.1.1.1.1 }) (λ v. (v.error_code, (v.partition, (v.leader, (v.replicas, v.isr))))) (int16 ⊗ int32 ⊗ int32 ⊗ array int32 ⊗ array int32)
+metadata_partition = via (λ p. record { error_code = p.0; partition = p.1.0; leader = p.1.1.0; replicas = p.1.1.1.0; isr = p.1.1.1.1 })
+    (λ v. (v.error_code, (v.partition, (v.leader, (v.replicas, v.isr))))) (int16 ⊗ int32 ⊗ int32 ⊗ array int32 ⊗ array int32)
 
 -- A topic, in the reply of Metadata.
 unfoldable pub metadata_topic : Codec MetadataTopic
-metadata_topic = via (λ p. record { error_code = p.0; name = p.1.0; is_internal = p.1.1.0; partitions = p.1.1.1 }) (λ v. (v.error_code, (v.name, (v.is_internal, v.partitions)))) (int16 ⊗ string ⊗ boolean ⊗ array metadata_partition)
+metadata_topic = via (λ p. record { error_code = p.0; name = p.1.0; is_internal = p.1.1.0; partitions = p.1.1.1 }) (λ v.
+    (v.error_code, (v.name, (v.is_internal, v.partitions)))) (int16 ⊗ string ⊗ boolean ⊗ array metadata_partition)
 
 -- The reply of Metadata, version 1.
 unfoldable pub metadata_reply : Codec MetadataReply
-metadata_reply = via (λ p. record { brokers = p.0; controller_id = p.1.0; topics = p.1.1 }) (λ v. (v.brokers, (v.controller_id, v.topics))) (array metadata_broker ⊗ int32 ⊗ array metadata_topic)
+metadata_reply = via (λ p. record { brokers = p.0; controller_id = p.1.0; topics = p.1.1 }) (λ v.
+    (v.brokers, (v.controller_id, v.topics))) (array metadata_broker ⊗ int32 ⊗ array metadata_topic)
 
 -- An assignment, in a request of CreateTopics.
 unfoldable pub create_assignment : Codec CreateAssignment
@@ -165,7 +199,14 @@ create_config = via (λ p. record { name = p.0; value = p.1 }) (λ v. (v.name, v
 
 -- A topic, in a request of CreateTopics.
 unfoldable pub create_topic : Codec CreateTopic
-create_topic = via (λ p. record { name = p.0; num_partitions = p.1.0; replication_factor = p.1.1.0; assignments = p.1.1.1.0; configs = p.1.1.1.1 }) (λ v. (v.name, (v.num_partitions, (v.replication_factor, (v.assignments, v.configs))))) (string ⊗ int32 ⊗ int16 ⊗ array create_assignment ⊗ array create_config)
+create_topic = via (λ p. record {
+  name = p.0;
+  num_partitions = p.1.0;
+  replication_factor = p.1.1.0;
+  assignments = p.1.1.1.0;
+  configs = p.1.1.1.1;
+}) (λ v. (v.name, (v.num_partitions, (v.replication_factor, (v.assignments, v.configs)))))
+    (string ⊗ int32 ⊗ int16 ⊗ array create_assignment ⊗ array create_config)
 
 -- A request of CreateTopics, version 0.
 unfoldable pub create_topics_request : Codec CreateTopicsRequest
@@ -193,11 +234,13 @@ delete_topics_reply = via (λ p. record { topics = p }) (λ v. v.topics) (array 
 
 -- A request of InitProducerId, version 0.
 unfoldable pub init_producer_id_request : Codec InitProducerIdRequest
-init_producer_id_request = via (λ p. record { transactional_id = p.0; transaction_timeout_ms = p.1 }) (λ v. (v.transactional_id, v.transaction_timeout_ms)) (nullable_string ⊗ int32)
+init_producer_id_request = via (λ p. record { transactional_id = p.0; transaction_timeout_ms = p.1 }) (λ v.
+    (v.transactional_id, v.transaction_timeout_ms)) (nullable_string ⊗ int32)
 
 -- The reply of InitProducerId, version 0.
 unfoldable pub init_producer_id_reply : Codec InitProducerIdReply
-init_producer_id_reply = via (λ p. record { throttle_time_ms = p.0; error_code = p.1.0; producer_id = p.1.1.0; producer_epoch = p.1.1.1 }) (λ v. (v.throttle_time_ms, (v.error_code, (v.producer_id, v.producer_epoch)))) (int32 ⊗ int16 ⊗ int64 ⊗ int16)
+init_producer_id_reply = via (λ p. record { throttle_time_ms = p.0; error_code = p.1.0; producer_id = p.1.1.0; producer_epoch = p.1.1.1 })
+    (λ v. (v.throttle_time_ms, (v.error_code, (v.producer_id, v.producer_epoch)))) (int32 ⊗ int16 ⊗ int64 ⊗ int16)
 
 -- A partition, in a request of DeleteRecords.
 unfoldable pub delete_records_partition : Codec DeleteRecordsPartition
@@ -205,27 +248,33 @@ delete_records_partition = via (λ p. record { partition = p.0; offset = p.1 }) 
 
 -- A topic, in a request of DeleteRecords.
 unfoldable pub delete_records_topic : Codec DeleteRecordsTopic
-delete_records_topic = via (λ p. record { name = p.0; partitions = p.1 }) (λ v. (v.name, v.partitions)) (string ⊗ array delete_records_partition)
+delete_records_topic =
+    via (λ p. record { name = p.0; partitions = p.1 }) (λ v. (v.name, v.partitions)) (string ⊗ array delete_records_partition)
 
 -- A request of DeleteRecords, version 0.
 unfoldable pub delete_records_request : Codec DeleteRecordsRequest
-delete_records_request = via (λ p. record { topics = p.0; timeout_ms = p.1 }) (λ v. (v.topics, v.timeout_ms)) (array delete_records_topic ⊗ int32)
+delete_records_request =
+    via (λ p. record { topics = p.0; timeout_ms = p.1 }) (λ v. (v.topics, v.timeout_ms)) (array delete_records_topic ⊗ int32)
 
 -- A partition, in the reply of DeleteRecords.
 unfoldable pub delete_records_partition_reply : Codec DeleteRecordsPartitionReply
-delete_records_partition_reply = via (λ p. record { partition = p.0; low_watermark = p.1.0; error_code = p.1.1 }) (λ v. (v.partition, (v.low_watermark, v.error_code))) (int32 ⊗ int64 ⊗ int16)
+delete_records_partition_reply = via (λ p. record { partition = p.0; low_watermark = p.1.0; error_code = p.1.1 }) (λ v.
+    (v.partition, (v.low_watermark, v.error_code))) (int32 ⊗ int64 ⊗ int16)
 
 -- A topic, in the reply of DeleteRecords.
 unfoldable pub delete_records_topic_reply : Codec DeleteRecordsTopicReply
-delete_records_topic_reply = via (λ p. record { name = p.0; partitions = p.1 }) (λ v. (v.name, v.partitions)) (string ⊗ array delete_records_partition_reply)
+delete_records_topic_reply =
+    via (λ p. record { name = p.0; partitions = p.1 }) (λ v. (v.name, v.partitions)) (string ⊗ array delete_records_partition_reply)
 
 -- The reply of DeleteRecords, version 0.
 unfoldable pub delete_records_reply : Codec DeleteRecordsReply
-delete_records_reply = via (λ p. record { throttle_time_ms = p.0; topics = p.1 }) (λ v. (v.throttle_time_ms, v.topics)) (int32 ⊗ array delete_records_topic_reply)
+delete_records_reply = via (λ p. record { throttle_time_ms = p.0; topics = p.1 }) (λ v.
+    (v.throttle_time_ms, v.topics)) (int32 ⊗ array delete_records_topic_reply)
 
 -- A partition, in a request of Fetch, version 5.
 unfoldable pub fetch_partition_v5 : Codec FetchPartitionV5
-fetch_partition_v5 = via (λ p. record { partition = p.0; fetch_offset = p.1.0; log_start_offset = p.1.1.0; partition_max_bytes = p.1.1.1 }) (λ v. (v.partition, (v.fetch_offset, (v.log_start_offset, v.partition_max_bytes)))) (int32 ⊗ int64 ⊗ int64 ⊗ int32)
+fetch_partition_v5 = via (λ p. record { partition = p.0; fetch_offset = p.1.0; log_start_offset = p.1.1.0; partition_max_bytes = p.1.1.1 })
+    (λ v. (v.partition, (v.fetch_offset, (v.log_start_offset, v.partition_max_bytes)))) (int32 ⊗ int64 ⊗ int64 ⊗ int32)
 
 -- A topic, in a request of Fetch, version 5.
 unfoldable pub fetch_topic_v5 : Codec FetchTopicV5
@@ -233,19 +282,40 @@ fetch_topic_v5 = via (λ p. record { topic = p.0; partitions = p.1 }) (λ v. (v.
 
 -- A request of Fetch, version 5.
 unfoldable pub fetch_request_v5 : Codec FetchRequestV5
-fetch_request_v5 = via (λ p. record { replica_id = p.0; max_wait_ms = p.1.0; min_bytes = p.1.1.0; max_bytes = p.1.1.1.0; isolation_level = p.1.1.1.1.0; topics = p.1.1.1.1.1 }) (λ v. (v.replica_id, (v.max_wait_ms, (v.min_bytes, (v.max_bytes, (v.isolation_level, v.topics)))))) (int32 ⊗ int32 ⊗ int32 ⊗ int32 ⊗ int8 ⊗ array fetch_topic_v5)
+fetch_request_v5 = via (λ p. record {
+  replica_id = p.0;
+  max_wait_ms = p.1.0;
+  min_bytes = p.1.1.0;
+  max_bytes = p.1.1.1.0;
+  isolation_level = p.1.1.1.1.0;
+  topics = p.1.1.1.1.1;
+}) (λ v.
+    (v.replica_id, (v.max_wait_ms, (v.min_bytes, (v.max_bytes, (v.isolation_level, v.topics))))))
+    (int32 ⊗ int32 ⊗ int32 ⊗ int32 ⊗ int8 ⊗ array fetch_topic_v5)
 
 -- A partition, in the reply of Fetch, version 5.
 unfoldable pub fetch_partition_reply_v5 : Codec FetchPartitionReplyV5
-fetch_partition_reply_v5 = via (λ p. record { partition = p.0; error_code = p.1.0; high_watermark = p.1.1.0; last_stable_offset = p.1.1.1.0; log_start_offset = p.1.1.1.1.0; aborted_transactions = p.1.1.1.1.1.0; records = p.1.1.1.1.1.1 }) (λ v. (v.partition, (v.error_code, (v.high_watermark, (v.last_stable_offset, (v.log_start_offset, (v.aborted_transactions, v.records))))))) (int32 ⊗ int16 ⊗ int64 ⊗ int64 ⊗ int64 ⊗ nullable_array aborted_transaction ⊗ nullable_blob)
+fetch_partition_reply_v5 = via (λ p. record {
+  partition = p.0;
+  error_code = p.1.0;
+  high_watermark = p.1.1.0;
+  last_stable_offset = p.1.1.1.0;
+  log_start_offset = p.1.1.1.1.0;
+  aborted_transactions = p.1.1.1.1.1.0;
+  records = p.1.1.1.1.1.1;
+}) (λ v.
+    (v.partition, (v.error_code, (v.high_watermark, (v.last_stable_offset, (v.log_start_offset, (v.aborted_transactions, v.records)))))))
+    (int32 ⊗ int16 ⊗ int64 ⊗ int64 ⊗ int64 ⊗ nullable_array aborted_transaction ⊗ nullable_blob)
 
 -- A topic, in the reply of Fetch, version 5.
 unfoldable pub fetch_topic_reply_v5 : Codec FetchTopicReplyV5
-fetch_topic_reply_v5 = via (λ p. record { topic = p.0; partitions = p.1 }) (λ v. (v.topic, v.partitions)) (string ⊗ array fetch_partition_reply_v5)
+fetch_topic_reply_v5 =
+    via (λ p. record { topic = p.0; partitions = p.1 }) (λ v. (v.topic, v.partitions)) (string ⊗ array fetch_partition_reply_v5)
 
 -- The reply of Fetch, version 5.
 unfoldable pub fetch_reply_v5 : Codec FetchReplyV5
-fetch_reply_v5 = via (λ p. record { throttle_time_ms = p.0; topics = p.1 }) (λ v. (v.throttle_time_ms, v.topics)) (int32 ⊗ array fetch_topic_reply_v5)
+fetch_reply_v5 =
+    via (λ p. record { throttle_time_ms = p.0; topics = p.1 }) (λ v. (v.throttle_time_ms, v.topics)) (int32 ⊗ array fetch_topic_reply_v5)
 
 -- A request of Metadata, version 0.
 unfoldable pub metadata_request_v0 : Codec MetadataRequestV0
@@ -253,35 +323,49 @@ metadata_request_v0 = via (λ p. record { topics = p }) (λ v. v.topics) (array 
 
 -- A request of Metadata, version 4.
 unfoldable pub metadata_request_v4 : Codec MetadataRequestV4
-metadata_request_v4 = via (λ p. record { topics = p.0; allow_auto_topic_creation = p.1 }) (λ v. (v.topics, v.allow_auto_topic_creation)) (nullable_array string ⊗ boolean)
+metadata_request_v4 = via (λ p. record { topics = p.0; allow_auto_topic_creation = p.1 }) (λ v.
+    (v.topics, v.allow_auto_topic_creation)) (nullable_array string ⊗ boolean)
 
 -- A broker, in the reply of Metadata, version 0.
 unfoldable pub metadata_broker_v0 : Codec MetadataBrokerV0
-metadata_broker_v0 = via (λ p. record { node_id = p.0; host = p.1.0; port = p.1.1 }) (λ v. (v.node_id, (v.host, v.port))) (int32 ⊗ string ⊗ int32)
+metadata_broker_v0 =
+    via (λ p. record { node_id = p.0; host = p.1.0; port = p.1.1 }) (λ v. (v.node_id, (v.host, v.port))) (int32 ⊗ string ⊗ int32)
 
 -- A topic, in the reply of Metadata, version 0.
 unfoldable pub metadata_topic_v0 : Codec MetadataTopicV0
-metadata_topic_v0 = via (λ p. record { error_code = p.0; name = p.1.0; partitions = p.1.1 }) (λ v. (v.error_code, (v.name, v.partitions))) (int16 ⊗ string ⊗ array metadata_partition)
+metadata_topic_v0 = via (λ p. record { error_code = p.0; name = p.1.0; partitions = p.1.1 }) (λ v.
+    (v.error_code, (v.name, v.partitions))) (int16 ⊗ string ⊗ array metadata_partition)
 
 -- The reply of Metadata, version 0.
 unfoldable pub metadata_reply_v0 : Codec MetadataReplyV0
-metadata_reply_v0 = via (λ p. record { brokers = p.0; topics = p.1 }) (λ v. (v.brokers, v.topics)) (array metadata_broker_v0 ⊗ array metadata_topic_v0)
+metadata_reply_v0 =
+    via (λ p. record { brokers = p.0; topics = p.1 }) (λ v. (v.brokers, v.topics)) (array metadata_broker_v0 ⊗ array metadata_topic_v0)
 
 -- The reply of Metadata, version 2.
 unfoldable pub metadata_reply_v2 : Codec MetadataReplyV2
-metadata_reply_v2 = via (λ p. record { brokers = p.0; cluster_id = p.1.0; controller_id = p.1.1.0; topics = p.1.1.1 }) (λ v. (v.brokers, (v.cluster_id, (v.controller_id, v.topics)))) (array metadata_broker ⊗ nullable_string ⊗ int32 ⊗ array metadata_topic)
+metadata_reply_v2 = via (λ p. record { brokers = p.0; cluster_id = p.1.0; controller_id = p.1.1.0; topics = p.1.1.1 }) (λ v.
+    (v.brokers, (v.cluster_id, (v.controller_id, v.topics)))) (array metadata_broker ⊗ nullable_string ⊗ int32 ⊗ array metadata_topic)
 
 -- The reply of Metadata, versions 3 and 4.
 unfoldable pub metadata_reply_v3 : Codec MetadataReplyV3
-metadata_reply_v3 = via (λ p. record { throttle_time_ms = p.0; brokers = p.1.0; cluster_id = p.1.1.0; controller_id = p.1.1.1.0; topics = p.1.1.1.1 }) (λ v. (v.throttle_time_ms, (v.brokers, (v.cluster_id, (v.controller_id, v.topics))))) (int32 ⊗ array metadata_broker ⊗ nullable_string ⊗ int32 ⊗ array metadata_topic)
+metadata_reply_v3 = via (λ p. record {
+  throttle_time_ms = p.0;
+  brokers = p.1.0;
+  cluster_id = p.1.1.0;
+  controller_id = p.1.1.1.0;
+  topics = p.1.1.1.1;
+}) (λ v. (v.throttle_time_ms, (v.brokers, (v.cluster_id, (v.controller_id, v.topics)))))
+    (int32 ⊗ array metadata_broker ⊗ nullable_string ⊗ int32 ⊗ array metadata_topic)
 
 -- A request of CreateTopics, version 1.
 unfoldable pub create_topics_request_v1 : Codec CreateTopicsRequestV1
-create_topics_request_v1 = via (λ p. record { topics = p.0; timeout_ms = p.1.0; validate_only = p.1.1 }) (λ v. (v.topics, (v.timeout_ms, v.validate_only))) (array create_topic ⊗ int32 ⊗ boolean)
+create_topics_request_v1 = via (λ p. record { topics = p.0; timeout_ms = p.1.0; validate_only = p.1.1 }) (λ v.
+    (v.topics, (v.timeout_ms, v.validate_only))) (array create_topic ⊗ int32 ⊗ boolean)
 
 -- A topic, in the reply of CreateTopics, version 1.
 unfoldable pub create_topic_reply_v1 : Codec CreateTopicReplyV1
-create_topic_reply_v1 = via (λ p. record { name = p.0; error_code = p.1.0; error_message = p.1.1 }) (λ v. (v.name, (v.error_code, v.error_message))) (string ⊗ int16 ⊗ nullable_string)
+create_topic_reply_v1 = via (λ p. record { name = p.0; error_code = p.1.0; error_message = p.1.1 }) (λ v.
+    (v.name, (v.error_code, v.error_message))) (string ⊗ int16 ⊗ nullable_string)
 
 -- The reply of CreateTopics, version 1.
 unfoldable pub create_topics_reply_v1 : Codec CreateTopicsReplyV1
@@ -289,4 +373,5 @@ create_topics_reply_v1 = via (λ p. record { topics = p }) (λ v. v.topics) (arr
 
 -- The reply of DeleteTopics, version 1.
 unfoldable pub delete_topics_reply_v1 : Codec DeleteTopicsReplyV1
-delete_topics_reply_v1 = via (λ p. record { throttle_time_ms = p.0; topics = p.1 }) (λ v. (v.throttle_time_ms, v.topics)) (int32 ⊗ array delete_topic_reply)
+delete_topics_reply_v1 =
+    via (λ p. record { throttle_time_ms = p.0; topics = p.1 }) (λ v. (v.throttle_time_ms, v.topics)) (int32 ⊗ array delete_topic_reply)

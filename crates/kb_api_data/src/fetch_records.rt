@@ -34,7 +34,8 @@ impl FetchPartitionFront {
         ensures err_room { OnErr result (sink.old.room ≤ sink.new.room) }
         ensures size { length (answer_front self.now) ≡ 30 }
         // With records of any bytes that an INT32 can count, the whole answer is read again as that answer.
-        ensures spelled { (records : List ℕ) → length records < 2 ^ 31 → fetch_partition_reply.Spells (answer_written self.now records) (answer_with self.now records) }
+        ensures spelled { (records : List ℕ) → length records < 2 ^ 31
+            → fetch_partition_reply.Spells (answer_written self.now records) (answer_with self.now records) }
     {
         let answer = FetchPartitionReply {
             partition: self.partition,
@@ -55,9 +56,11 @@ pub fn count_records(bytes: &mut [u8], start: usize)
     requires fits { length bytes.old - start < 2 ^ 31 }
     ensures placed { bytes.new ≡ take (start - 4) bytes.old ++ to_be_bytes w32 (length bytes.old - start) ++ drop start bytes.old }
     // A front and the records behind it become the whole answer with these records.
-    ensures whole { (before records : List ℕ) (front : FetchPartitionFront) → bytes.old ≡ before ++ answer_front front ++ records → start ≡ length (before ++ answer_front front) → bytes.new ≡ before ++ answer_written front records }
+    ensures whole { (before records : List ℕ) (front : FetchPartitionFront) → bytes.old ≡ before ++ answer_front front ++ records
+        → start ≡ length (before ++ answer_front front) → bytes.new ≡ before ++ answer_written front records }
     // So do those of version 5.
-    ensures whole_v5 { (before records : List ℕ) (front : FetchPartitionFrontV5) → bytes.old ≡ before ++ answer_front_v5 front ++ records → start ≡ length (before ++ answer_front_v5 front) → bytes.new ≡ before ++ answer_written_v5 front records }
+    ensures whole_v5 { (before records : List ℕ) (front : FetchPartitionFrontV5) → bytes.old ≡ before ++ answer_front_v5 front ++ records
+        → start ≡ length (before ++ answer_front_v5 front) → bytes.new ≡ before ++ answer_written_v5 front records }
 {
     let count = (bytes.len() - start) as u32;
     let place = &mut bytes[start - 4..start];

@@ -31,7 +31,8 @@ impl FetchPartitionFrontV5 {
         ensures err_room { OnErr result (sink.old.room ≤ sink.new.room) }
         ensures size { length (answer_front_v5 self.now) ≡ 38 }
         // With records of any bytes that an INT32 can count, the whole answer is read again as that answer.
-        ensures spelled { (records : List ℕ) → length records < 2 ^ 31 → fetch_partition_reply_v5.Spells (answer_written_v5 self.now records) (answer_with_v5 self.now records) }
+        ensures spelled { (records : List ℕ) → length records < 2 ^ 31
+            → fetch_partition_reply_v5.Spells (answer_written_v5 self.now records) (answer_with_v5 self.now records) }
     {
         let answer = FetchPartitionReplyV5 {
             partition: self.partition,

@@ -18,7 +18,8 @@ pub data Front : Type 0 where
 -- a size, and the bytes behind it
 abbrev pub front_by : ℤ → List ℕ → Front
 front_by (negsuc n) rest = TooSmall
-front_by (pos n) rest = if nat_lt n 8 then TooSmall else if nat_lt 2097152 n then TooLarge else if nat_lt (length rest) n then Partial else Whole (take n rest) (drop n rest)
+front_by (pos n) rest = if nat_lt n 8 then TooSmall else if nat_lt 2097152 n then TooLarge else if nat_lt (length rest) n then Partial
+    else Whole (take n rest) (drop n rest)
 
 abbrev pub front_read : Result (ℤ × List ℕ) WireFault → Front
 front_read (Err fault) = Partial

@@ -1,7 +1,15 @@
 -- Each layout is lawful, since its parts are.
 use Rattle.std.proofs.Common.{refl}
-use Rattle.kb_wire.specs.Laws.{IsLawful, int16_lawful, int32_lawful, int64_lawful, string_lawful, nullable_string_lawful, blob_lawful, array_lawful, nothing_lawful, pair_lawful, via_lawful}
-use Rattle.kb_api_group.specs.Layouts.{request_start, request_header, commit_partition, commit_topic, offset_commit_request, commit_partition_reply, commit_topic_reply, offset_commit_reply, offset_fetch_topic, offset_fetch_request, offset_fetch_partition_reply, offset_fetch_topic_reply, offset_fetch_reply, find_coordinator_request, find_coordinator_reply, join_protocol, join_group_request, join_member, join_group_reply, heartbeat_request, heartbeat_reply, leave_group_request, leave_group_reply, sync_assignment, sync_group_request, sync_group_reply, sasl_handshake_request, sasl_handshake_reply, api_versions_request, api_version, api_versions_reply, sasl_authenticate_request, sasl_authenticate_reply}
+use Rattle.kb_wire.specs.Laws.{IsLawful, int16_lawful, int32_lawful, int64_lawful, string_lawful, nullable_string_lawful, blob_lawful}
+use Rattle.kb_wire.specs.Laws.{array_lawful, nothing_lawful, pair_lawful, via_lawful}
+use Rattle.kb_api_group.specs.Layouts.{request_start, request_header, commit_partition, commit_topic, offset_commit_request}
+use Rattle.kb_api_group.specs.Layouts.{commit_partition_reply, commit_topic_reply, offset_commit_reply, offset_fetch_topic}
+use Rattle.kb_api_group.specs.Layouts.{offset_fetch_request, offset_fetch_partition_reply, offset_fetch_topic_reply, offset_fetch_reply}
+use Rattle.kb_api_group.specs.Layouts.{find_coordinator_request, find_coordinator_reply, join_protocol, join_group_request, join_member}
+use Rattle.kb_api_group.specs.Layouts.{join_group_reply, heartbeat_request, heartbeat_reply, leave_group_request, leave_group_reply}
+use Rattle.kb_api_group.specs.Layouts.{sync_assignment, sync_group_request, sync_group_reply, sasl_handshake_request, sasl_handshake_reply}
+use Rattle.kb_api_group.specs.Layouts.{api_versions_request, api_version, api_versions_reply, sasl_authenticate_request}
+use Rattle.kb_api_group.specs.Layouts.{sasl_authenticate_reply}
 
 pub request_start_lawful : IsLawful request_start
 unfolding request_start
@@ -9,11 +17,13 @@ request_start_lawful = via_lawful _ _ (pair_lawful int16_lawful (pair_lawful int
 
 pub request_header_lawful : IsLawful request_header
 unfolding request_header
-request_header_lawful = via_lawful _ _ (pair_lawful int16_lawful (pair_lawful int16_lawful (pair_lawful int32_lawful nullable_string_lawful))) (λ _. refl) (λ _. refl)
+request_header_lawful = via_lawful _ _ (pair_lawful int16_lawful
+    (pair_lawful int16_lawful (pair_lawful int32_lawful nullable_string_lawful))) (λ _. refl) (λ _. refl)
 
 pub commit_partition_lawful : IsLawful commit_partition
 unfolding commit_partition
-commit_partition_lawful = via_lawful _ _ (pair_lawful int32_lawful (pair_lawful int64_lawful nullable_string_lawful)) (λ _. refl) (λ _. refl)
+commit_partition_lawful =
+    via_lawful _ _ (pair_lawful int32_lawful (pair_lawful int64_lawful nullable_string_lawful)) (λ _. refl) (λ _. refl)
 
 pub commit_topic_lawful : IsLawful commit_topic
 unfolding commit_topic
@@ -21,7 +31,9 @@ commit_topic_lawful = via_lawful _ _ (pair_lawful string_lawful (array_lawful _ 
 
 pub offset_commit_request_lawful : IsLawful offset_commit_request
 unfolding offset_commit_request
-offset_commit_request_lawful = via_lawful _ _ (pair_lawful string_lawful (pair_lawful int32_lawful (pair_lawful string_lawful (pair_lawful int64_lawful (array_lawful _ commit_topic_lawful))))) (λ _. refl) (λ _. refl)
+offset_commit_request_lawful = via_lawful _ _
+    (pair_lawful string_lawful (pair_lawful int32_lawful
+    (pair_lawful string_lawful (pair_lawful int64_lawful (array_lawful _ commit_topic_lawful))))) (λ _. refl) (λ _. refl)
 
 pub commit_partition_reply_lawful : IsLawful commit_partition_reply
 unfolding commit_partition_reply
@@ -29,7 +41,8 @@ commit_partition_reply_lawful = via_lawful _ _ (pair_lawful int32_lawful int16_l
 
 pub commit_topic_reply_lawful : IsLawful commit_topic_reply
 unfolding commit_topic_reply
-commit_topic_reply_lawful = via_lawful _ _ (pair_lawful string_lawful (array_lawful _ commit_partition_reply_lawful)) (λ _. refl) (λ _. refl)
+commit_topic_reply_lawful =
+    via_lawful _ _ (pair_lawful string_lawful (array_lawful _ commit_partition_reply_lawful)) (λ _. refl) (λ _. refl)
 
 pub offset_commit_reply_lawful : IsLawful offset_commit_reply
 unfolding offset_commit_reply
@@ -45,11 +58,13 @@ offset_fetch_request_lawful = via_lawful _ _ (pair_lawful string_lawful (array_l
 
 pub offset_fetch_partition_reply_lawful : IsLawful offset_fetch_partition_reply
 unfolding offset_fetch_partition_reply
-offset_fetch_partition_reply_lawful = via_lawful _ _ (pair_lawful int32_lawful (pair_lawful int64_lawful (pair_lawful nullable_string_lawful int16_lawful))) (λ _. refl) (λ _. refl)
+offset_fetch_partition_reply_lawful = via_lawful _ _
+    (pair_lawful int32_lawful (pair_lawful int64_lawful (pair_lawful nullable_string_lawful int16_lawful))) (λ _. refl) (λ _. refl)
 
 pub offset_fetch_topic_reply_lawful : IsLawful offset_fetch_topic_reply
 unfolding offset_fetch_topic_reply
-offset_fetch_topic_reply_lawful = via_lawful _ _ (pair_lawful string_lawful (array_lawful _ offset_fetch_partition_reply_lawful)) (λ _. refl) (λ _. refl)
+offset_fetch_topic_reply_lawful =
+    via_lawful _ _ (pair_lawful string_lawful (array_lawful _ offset_fetch_partition_reply_lawful)) (λ _. refl) (λ _. refl)
 
 pub offset_fetch_reply_lawful : IsLawful offset_fetch_reply
 unfolding offset_fetch_reply
@@ -61,7 +76,8 @@ find_coordinator_request_lawful = via_lawful _ _ string_lawful (λ _. refl) (λ 
 
 pub find_coordinator_reply_lawful : IsLawful find_coordinator_reply
 unfolding find_coordinator_reply
-find_coordinator_reply_lawful = via_lawful _ _ (pair_lawful int16_lawful (pair_lawful int32_lawful (pair_lawful string_lawful int32_lawful))) (λ _. refl) (λ _. refl)
+find_coordinator_reply_lawful =
+    via_lawful _ _ (pair_lawful int16_lawful (pair_lawful int32_lawful (pair_lawful string_lawful int32_lawful))) (λ _. refl) (λ _. refl)
 
 pub join_protocol_lawful : IsLawful join_protocol
 unfolding join_protocol
@@ -69,7 +85,10 @@ join_protocol_lawful = via_lawful _ _ (pair_lawful string_lawful blob_lawful) (�
 
 pub join_group_request_lawful : IsLawful join_group_request
 unfolding join_group_request
-join_group_request_lawful = via_lawful _ _ (pair_lawful string_lawful (pair_lawful int32_lawful (pair_lawful int32_lawful (pair_lawful string_lawful (pair_lawful string_lawful (array_lawful _ join_protocol_lawful)))))) (λ _. refl) (λ _. refl)
+join_group_request_lawful = via_lawful _ _
+    (pair_lawful string_lawful (pair_lawful int32_lawful
+    (pair_lawful int32_lawful (pair_lawful string_lawful (pair_lawful string_lawful (array_lawful _ join_protocol_lawful)))))) (λ _.
+    refl) (λ _. refl)
 
 pub join_member_lawful : IsLawful join_member
 unfolding join_member
@@ -77,7 +96,10 @@ join_member_lawful = via_lawful _ _ (pair_lawful string_lawful blob_lawful) (λ 
 
 pub join_group_reply_lawful : IsLawful join_group_reply
 unfolding join_group_reply
-join_group_reply_lawful = via_lawful _ _ (pair_lawful int16_lawful (pair_lawful int32_lawful (pair_lawful string_lawful (pair_lawful string_lawful (pair_lawful string_lawful (array_lawful _ join_member_lawful)))))) (λ _. refl) (λ _. refl)
+join_group_reply_lawful = via_lawful _ _
+    (pair_lawful int16_lawful (pair_lawful int32_lawful
+    (pair_lawful string_lawful (pair_lawful string_lawful (pair_lawful string_lawful (array_lawful _ join_member_lawful)))))) (λ _.
+    refl) (λ _. refl)
 
 pub heartbeat_request_lawful : IsLawful heartbeat_request
 unfolding heartbeat_request
@@ -101,7 +123,9 @@ sync_assignment_lawful = via_lawful _ _ (pair_lawful string_lawful blob_lawful) 
 
 pub sync_group_request_lawful : IsLawful sync_group_request
 unfolding sync_group_request
-sync_group_request_lawful = via_lawful _ _ (pair_lawful string_lawful (pair_lawful int32_lawful (pair_lawful string_lawful (array_lawful _ sync_assignment_lawful)))) (λ _. refl) (λ _. refl)
+sync_group_request_lawful = via_lawful _ _
+    (pair_lawful string_lawful (pair_lawful int32_lawful (pair_lawful string_lawful (array_lawful _ sync_assignment_lawful)))) (λ _.
+    refl) (λ _. refl)
 
 pub sync_group_reply_lawful : IsLawful sync_group_reply
 unfolding sync_group_reply
@@ -133,4 +157,5 @@ sasl_authenticate_request_lawful = via_lawful _ _ blob_lawful (λ _. refl) (λ _
 
 pub sasl_authenticate_reply_lawful : IsLawful sasl_authenticate_reply
 unfolding sasl_authenticate_reply
-sasl_authenticate_reply_lawful = via_lawful _ _ (pair_lawful int16_lawful (pair_lawful nullable_string_lawful blob_lawful)) (λ _. refl) (λ _. refl)
+sasl_authenticate_reply_lawful =
+    via_lawful _ _ (pair_lawful int16_lawful (pair_lawful nullable_string_lawful blob_lawful)) (λ _. refl) (λ _. refl)

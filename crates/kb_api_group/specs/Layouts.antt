@@ -37,17 +37,20 @@ use Rattle.kb_api_group.specs.declared.sasl_authenticate.SaslAuthenticateReply.{
 
 -- The numbers that every request begins with (request header version 0).
 unfoldable pub request_start : Codec RequestStart
-request_start = via (λ p. record { api_key = p.0; api_version = p.1.0; correlation_id = p.1.1 }) (λ v. (v.api_key, (v.api_version, v.correlation_id))) (int16 ⊗ int16 ⊗ int32)
+request_start = via (λ p. record { api_key = p.0; api_version = p.1.0; correlation_id = p.1.1 }) (λ v.
+    (v.api_key, (v.api_version, v.correlation_id))) (int16 ⊗ int16 ⊗ int32)
 
 -- What stands before the body of each request that is served (request header version 1).
 unfoldable pub request_header : Codec RequestHeader
-request_header = via (λ p. record { api_key = p.0; api_version = p.1.0; correlation_id = p.1.1.0; client_id = p.1.1.1 }) (λ v. (v.api_key, (v.api_version, (v.correlation_id, v.client_id)))) (int16 ⊗ int16 ⊗ int32 ⊗ nullable_string)
+request_header = via (λ p. record { api_key = p.0; api_version = p.1.0; correlation_id = p.1.1.0; client_id = p.1.1.1 }) (λ v.
+    (v.api_key, (v.api_version, (v.correlation_id, v.client_id)))) (int16 ⊗ int16 ⊗ int32 ⊗ nullable_string)
 
 -- ---- key 8, OffsetCommit, version 2
 
 -- A partition, in a request of OffsetCommit.
 unfoldable pub commit_partition : Codec CommitPartition
-commit_partition = via (λ p. record { partition = p.0; offset = p.1.0; metadata = p.1.1 }) (λ v. (v.partition, (v.offset, v.metadata))) (int32 ⊗ int64 ⊗ nullable_string)
+commit_partition = via (λ p. record { partition = p.0; offset = p.1.0; metadata = p.1.1 }) (λ v.
+    (v.partition, (v.offset, v.metadata))) (int32 ⊗ int64 ⊗ nullable_string)
 
 -- A topic, in a request of OffsetCommit.
 unfoldable pub commit_topic : Codec CommitTopic
@@ -55,7 +58,14 @@ commit_topic = via (λ p. record { name = p.0; partitions = p.1 }) (λ v. (v.nam
 
 -- A request of OffsetCommit.
 unfoldable pub offset_commit_request : Codec OffsetCommitRequest
-offset_commit_request = via (λ p. record { group_id = p.0; generation_id = p.1.0; member_id = p.1.1.0; retention_time_ms = p.1.1.1.0; topics = p.1.1.1.1 }) (λ v. (v.group_id, (v.generation_id, (v.member_id, (v.retention_time_ms, v.topics))))) (string ⊗ int32 ⊗ string ⊗ int64 ⊗ array commit_topic)
+offset_commit_request = via (λ p. record {
+  group_id = p.0;
+  generation_id = p.1.0;
+  member_id = p.1.1.0;
+  retention_time_ms = p.1.1.1.0;
+  topics = p.1.1.1.1;
+}) (λ v. (v.group_id, (v.generation_id, (v.member_id, (v.retention_time_ms, v.topics)))))
+    (string ⊗ int32 ⊗ string ⊗ int64 ⊗ array commit_topic)
 
 -- A partition, in the reply of OffsetCommit.
 unfoldable pub commit_partition_reply : Codec CommitPartitionReply
@@ -63,7 +73,8 @@ commit_partition_reply = via (λ p. record { partition = p.0; error_code = p.1 }
 
 -- A topic, in the reply of OffsetCommit.
 unfoldable pub commit_topic_reply : Codec CommitTopicReply
-commit_topic_reply = via (λ p. record { name = p.0; partitions = p.1 }) (λ v. (v.name, v.partitions)) (string ⊗ array commit_partition_reply)
+commit_topic_reply =
+    via (λ p. record { name = p.0; partitions = p.1 }) (λ v. (v.name, v.partitions)) (string ⊗ array commit_partition_reply)
 
 -- The reply of OffsetCommit.
 unfoldable pub offset_commit_reply : Codec OffsetCommitReply
@@ -81,11 +92,13 @@ offset_fetch_request = via (λ p. record { group_id = p.0; topics = p.1 }) (λ v
 
 -- A partition, in the reply of OffsetFetch.
 unfoldable pub offset_fetch_partition_reply : Codec OffsetFetchPartitionReply
-offset_fetch_partition_reply = via (λ p. record { partition = p.0; offset = p.1.0; metadata = p.1.1.0; error_code = p.1.1.1 }) (λ v. (v.partition, (v.offset, (v.metadata, v.error_code)))) (int32 ⊗ int64 ⊗ nullable_string ⊗ int16)
+offset_fetch_partition_reply = via (λ p. record { partition = p.0; offset = p.1.0; metadata = p.1.1.0; error_code = p.1.1.1 }) (λ v.
+    (v.partition, (v.offset, (v.metadata, v.error_code)))) (int32 ⊗ int64 ⊗ nullable_string ⊗ int16)
 
 -- A topic, in the reply of OffsetFetch.
 unfoldable pub offset_fetch_topic_reply : Codec OffsetFetchTopicReply
-offset_fetch_topic_reply = via (λ p. record { name = p.0; partitions = p.1 }) (λ v. (v.name, v.partitions)) (string ⊗ array offset_fetch_partition_reply)
+offset_fetch_topic_reply =
+    via (λ p. record { name = p.0; partitions = p.1 }) (λ v. (v.name, v.partitions)) (string ⊗ array offset_fetch_partition_reply)
 
 -- The reply of OffsetFetch.
 unfoldable pub offset_fetch_reply : Codec OffsetFetchReply
@@ -99,7 +112,8 @@ find_coordinator_request = via (λ p. record { group_id = p }) (λ v. v.group_id
 
 -- The reply of FindCoordinator.
 unfoldable pub find_coordinator_reply : Codec FindCoordinatorReply
-find_coordinator_reply = via (λ p. record { error_code = p.0; node_id = p.1.0; host = p.1.1.0; port = p.1.1.1 }) (λ v. (v.error_code, (v.node_id, (v.host, v.port)))) (int16 ⊗ int32 ⊗ string ⊗ int32)
+find_coordinator_reply = via (λ p. record { error_code = p.0; node_id = p.1.0; host = p.1.1.0; port = p.1.1.1 }) (λ v.
+    (v.error_code, (v.node_id, (v.host, v.port)))) (int16 ⊗ int32 ⊗ string ⊗ int32)
 
 -- ---- key 11, JoinGroup, version 1
 
@@ -109,7 +123,16 @@ join_protocol = via (λ p. record { name = p.0; metadata = p.1 }) (λ v. (v.name
 
 -- A request of JoinGroup.
 unfoldable pub join_group_request : Codec JoinGroupRequest
-join_group_request = via (λ p. record { group_id = p.0; session_timeout_ms = p.1.0; rebalance_timeout_ms = p.1.1.0; member_id = p.1.1.1.0; protocol_type = p.1.1.1.1.0; protocols = p.1.1.1.1.1 }) (λ v. (v.group_id, (v.session_timeout_ms, (v.rebalance_timeout_ms, (v.member_id, (v.protocol_type, v.protocols)))))) (string ⊗ int32 ⊗ int32 ⊗ string ⊗ string ⊗ array join_protocol)
+join_group_request = via (λ p. record {
+  group_id = p.0;
+  session_timeout_ms = p.1.0;
+  rebalance_timeout_ms = p.1.1.0;
+  member_id = p.1.1.1.0;
+  protocol_type = p.1.1.1.1.0;
+  protocols = p.1.1.1.1.1;
+}) (λ v.
+    (v.group_id, (v.session_timeout_ms, (v.rebalance_timeout_ms, (v.member_id, (v.protocol_type, v.protocols))))))
+    (string ⊗ int32 ⊗ int32 ⊗ string ⊗ string ⊗ array join_protocol)
 
 -- A member, in the reply of JoinGroup.
 unfoldable pub join_member : Codec JoinMember
@@ -117,13 +140,23 @@ join_member = via (λ p. record { member_id = p.0; metadata = p.1 }) (λ v. (v.m
 
 -- The reply of JoinGroup.
 unfoldable pub join_group_reply : Codec JoinGroupReply
-join_group_reply = via (λ p. record { error_code = p.0; generation_id = p.1.0; protocol_name = p.1.1.0; leader = p.1.1.1.0; member_id = p.1.1.1.1.0; members = p.1.1.1.1.1 }) (λ v. (v.error_code, (v.generation_id, (v.protocol_name, (v.leader, (v.member_id, v.members)))))) (int16 ⊗ int32 ⊗ string ⊗ string ⊗ string ⊗ array join_member)
+join_group_reply = via (λ p. record {
+  error_code = p.0;
+  generation_id = p.1.0;
+  protocol_name = p.1.1.0;
+  leader = p.1.1.1.0;
+  member_id = p.1.1.1.1.0;
+  members = p.1.1.1.1.1;
+}) (λ v.
+    (v.error_code, (v.generation_id, (v.protocol_name, (v.leader, (v.member_id, v.members))))))
+    (int16 ⊗ int32 ⊗ string ⊗ string ⊗ string ⊗ array join_member)
 
 -- ---- key 12, Heartbeat, version 0
 
 -- A request of Heartbeat.
 unfoldable pub heartbeat_request : Codec HeartbeatRequest
-heartbeat_request = via (λ p. record { group_id = p.0; generation_id = p.1.0; member_id = p.1.1 }) (λ v. (v.group_id, (v.generation_id, v.member_id))) (string ⊗ int32 ⊗ string)
+heartbeat_request = via (λ p. record { group_id = p.0; generation_id = p.1.0; member_id = p.1.1 }) (λ v.
+    (v.group_id, (v.generation_id, v.member_id))) (string ⊗ int32 ⊗ string)
 
 -- The reply of Heartbeat.
 unfoldable pub heartbeat_reply : Codec HeartbeatReply
@@ -147,7 +180,8 @@ sync_assignment = via (λ p. record { member_id = p.0; assignment = p.1 }) (λ v
 
 -- A request of SyncGroup.
 unfoldable pub sync_group_request : Codec SyncGroupRequest
-sync_group_request = via (λ p. record { group_id = p.0; generation_id = p.1.0; member_id = p.1.1.0; assignments = p.1.1.1 }) (λ v. (v.group_id, (v.generation_id, (v.member_id, v.assignments)))) (string ⊗ int32 ⊗ string ⊗ array sync_assignment)
+sync_group_request = via (λ p. record { group_id = p.0; generation_id = p.1.0; member_id = p.1.1.0; assignments = p.1.1.1 }) (λ v.
+    (v.group_id, (v.generation_id, (v.member_id, v.assignments)))) (string ⊗ int32 ⊗ string ⊗ array sync_assignment)
 
 -- The reply of SyncGroup.
 unfoldable pub sync_group_reply : Codec SyncGroupReply
@@ -171,7 +205,8 @@ api_versions_request = via (λ _. record {}) (λ _. tt) nothing
 
 -- An API, in the reply of ApiVersions.
 unfoldable pub api_version : Codec ApiVersion
-api_version = via (λ p. record { api_key = p.0; min_version = p.1.0; max_version = p.1.1 }) (λ v. (v.api_key, (v.min_version, v.max_version))) (int16 ⊗ int16 ⊗ int16)
+api_version = via (λ p. record { api_key = p.0; min_version = p.1.0; max_version = p.1.1 }) (λ v.
+    (v.api_key, (v.min_version, v.max_version))) (int16 ⊗ int16 ⊗ int16)
 
 -- The reply of ApiVersions.
 unfoldable pub api_versions_reply : Codec ApiVersionsReply
@@ -185,4 +220,5 @@ sasl_authenticate_request = via (λ p. record { auth_bytes = p }) (λ v. v.auth_
 
 -- The reply of SaslAuthenticate.
 unfoldable pub sasl_authenticate_reply : Codec SaslAuthenticateReply
-sasl_authenticate_reply = via (λ p. record { error_code = p.0; error_message = p.1.0; auth_bytes = p.1.1 }) (λ v. (v.error_code, (v.error_message, v.auth_bytes))) (int16 ⊗ nullable_string ⊗ blob)
+sasl_authenticate_reply = via (λ p. record { error_code = p.0; error_message = p.1.0; auth_bytes = p.1.1 }) (λ v.
+    (v.error_code, (v.error_message, v.auth_bytes))) (int16 ⊗ nullable_string ⊗ blob)

@@ -1,4 +1,3 @@
-pub mod ErrorCode
 pub mod FrameStream
 pub mod Frames
 pub mod Lawful

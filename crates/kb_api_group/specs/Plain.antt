@@ -1,5 +1,6 @@
 -- The message of SASL PLAIN (RFC 4616).
-use Rattle.std.specs.Prelude.{◌≡◌, ◌≢◌, ℕ, Bool, List, [], ◌∷◌, ◌++◌, length, Option, Some, None, All, ◌⊎◌, ◌==◌, ◌&&◌, ◌||◌, not, is_none, option_map, option_and_then, if◌then◌else◌}
+use Rattle.std.specs.Prelude.{◌≡◌, ◌≢◌, ℕ, Bool, List, [], ◌∷◌, ◌++◌, length, Option, Some, None, All, ◌⊎◌, ◌==◌, ◌&&◌, ◌||◌, not, is_none}
+use Rattle.std.specs.Prelude.{option_map, option_and_then, if◌then◌else◌}
 use Rattle.std.specs.Str.{bytes_eq}
 use Rattle.kb_api_group.specs.declared.plain.PlainLogin.{PlainLogin}
 
@@ -27,7 +28,8 @@ is_empty bytes = length bytes == 0
 
 -- what the parts of a message say
 abbrev pub login_of : List ℕ → List ℕ → List ℕ → Option PlainLogin
-login_of authzid authcid passwd = if is_none (at_nul passwd) && not (is_empty authcid) && not (is_empty passwd) && (is_empty authzid || bytes_eq authzid authcid) then Some (record { authcid = authcid; passwd = passwd }) else None
+login_of authzid authcid passwd = if is_none (at_nul passwd) && not (is_empty authcid) && not (is_empty passwd)
+    && (is_empty authzid || bytes_eq authzid authcid) then Some (record { authcid = authcid; passwd = passwd }) else None
 
 -- what a message says
 unfoldable pub plain : List ℕ → Option PlainLogin

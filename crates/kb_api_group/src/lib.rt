@@ -3,15 +3,14 @@
 //!
 //! [`FrameFeed`] takes a stream in pieces and lends it out by frames; [`RequestHeader`] (and [`RequestStart`], enough for an
 //! ApiVersions of any version) stands at the front of each frame; each request and reply of keys 8 to 14, 17, 18 and 36 is a
-//! type with `read` and `write` (`kb_wire::Layout`); [`read_plain`] reads the message of SASL PLAIN; [`ErrorCode`] has the
-//! protocol's error codes. The contract in one sentence: bytes are read as what they spell and refused where they spell
-//! nothing, what is written is read again, and in whatever pieces a stream came its frames are those of its bytes joined.
+//! type with `read` and `write` (`kb_wire::Layout`); [`read_plain`] reads the message of SASL PLAIN. The contract in one
+//! sentence: bytes are read as what they spell and refused where they spell nothing, what is written is read again, and in
+//! whatever pieces a stream came its frames are those of its bytes joined.
 //!
-//! Kafka protocol guide: requests, headers, the named APIs and error codes. RFC 4616: the PLAIN message.
+//! Kafka protocol guide: requests, headers, the named APIs. RFC 4616: the PLAIN message.
 #![tactic(auto)]
 
 mod api_versions;
-mod error_code;
 mod find_coordinator;
 mod frames;
 mod header;
@@ -26,7 +25,6 @@ mod sasl_handshake;
 mod sync_group;
 
 pub use api_versions::{ApiVersion, ApiVersionsReply, ApiVersionsRequest};
-pub use error_code::ErrorCode;
 pub use find_coordinator::{FindCoordinatorReply, FindCoordinatorRequest};
 pub use frames::{FrameFeed, Next, any_pieces, more_bytes, one_front, one_reading, whole_frame};
 pub use header::{RequestHeader, RequestStart};

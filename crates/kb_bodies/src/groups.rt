@@ -3,9 +3,9 @@
 use crate::said::Field::{Count, Id, Letters, Number};
 use crate::said::Said;
 use kb_groups::{
-    Blob, Code, Group, Join, JoinProtocol, Joined, Listed, Release, Reply, SyncAnswer,
-    SyncAssignment, Text,
+    Code, Group, Join, JoinProtocol, Joined, Listed, Release, Reply, SyncAnswer, SyncAssignment,
 };
+use kb_wire::{Blob, Text};
 use std::alloc::{AllocError, Global};
 
 /// A group, how members join it, and the clock.

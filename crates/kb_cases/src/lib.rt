@@ -7,7 +7,7 @@
 #[cfg(test)]
 mod api_data;
 #[cfg(test)]
-mod api_group;
+mod numbers;
 #[cfg(test)]
 mod settings;
 #[cfg(test)]

@@ -2,6 +2,8 @@
 use Rattle.std.specs.Prelude.{◌≡◌, ◌&&◌, ℕ, zero, suc, ℤ, pos, Bool, true, false, not, if◌then◌else◌, List, [], ◌∷◌, ◌++◌, Option, Some}
 use Rattle.std.specs.Prelude.{None, Result, Ok, Err, unwrap_or}
 use Rattle.std.specs.Ordering.{int_eq}
+use Rattle.kb_wire.specs.ErrorCode.{code_of}
+use Rattle.kb_wire.specs.declared.error_code.ErrorCode.TheVariants.{SaslAuthenticationFailed}
 use Rattle.kb_wire.specs.declared.fault.WireFault.{WireFault}
 use Rattle.kb_api_group.specs.Frames.{front}
 use Rattle.kb_api_data.specs.declared.fetch_v5.FetchPartitionReplyV5.{FetchPartitionReplyV5}
@@ -66,10 +68,12 @@ abbrev pub handshaken : Result ℤ WireFault → Fetching
 handshaken (Err fault) = stages.Ended endings.Protocol
 handshaken (Ok code) = if int_eq code (pos 0) then stages.Authenticate else stages.Ended (endings.Code code)
 
--- 58 is the answer to a wrong user or password
+-- a wrong user or password has a code of its own
 abbrev pub logged_in : Result ℤ WireFault → Fetching
 logged_in (Err fault) = stages.Ended endings.Protocol
-logged_in (Ok code) = if int_eq code (pos 0) then stages.Fetch else if int_eq code (pos 58) then stages.Ended endings.Denied
+logged_in (Ok code) =
+    if int_eq code (pos 0) then stages.Fetch
+    else if int_eq code (code_of SaslAuthenticationFailed) then stages.Ended endings.Denied
     else stages.Ended (endings.Code code)
 
 -- no record is there: that is the end, unless it waits for more

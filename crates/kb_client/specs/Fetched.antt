@@ -2,6 +2,7 @@
 use Rattle.std.specs.Prelude.{◌≡◌, ◌==◌, ◌&&◌, if◌then◌else◌, ℕ, ℤ, pos, negsuc, Bool, true, false, List, [], ◌∷◌, Option, Some, None}
 use Rattle.std.specs.Prelude.{Result, Ok, Err, unwrap_or}
 use Rattle.std.specs.Int.{w32}
+use Rattle.kb_wire.specs.declared.api_key.TheConstants.{FETCH}
 use Rattle.kb_wire.specs.declared.fault.WireFault.{WireFault}
 use Rattle.kb_wire.specs.declared.fault.WireFault.TheVariants.{Bad}
 use Rattle.kb_wire.specs.Codec.{Codec, int32, string, count, whole, ◌⊗◌, ◌>>=◌}
@@ -33,7 +34,7 @@ patience false = pos 0
 
 -- Fetch of one partition, as a client that is no replica
 abbrev pub fetch_text : ℤ → Target → ℤ → Bool → List ℕ
-fetch_text id t offset follow = request_text (pos 1) (pos 5) id (fetch_request_v5.written (record {
+fetch_text id t offset follow = request_text FETCH (pos 5) id (fetch_request_v5.written (record {
   replica_id = negsuc 0;
   max_wait_ms = patience follow;
   min_bytes = pos 1;

@@ -2,6 +2,8 @@
 use Rattle.std.specs.Prelude.{◌≡◌, ◌≤◌, ◌<◌, ◌+◌, ◌%◌, ◌^◌, ◌||◌, ℕ, ℤ, pos, Bool, true, false, if◌then◌else◌, List, [], ◌∷◌, ◌++◌, length}
 use Rattle.std.specs.Prelude.{Option, Some, None, Result, Ok, Err}
 use Rattle.std.specs.Ordering.{int_eq}
+use Rattle.kb_wire.specs.ErrorCode.{code_of}
+use Rattle.kb_wire.specs.declared.error_code.ErrorCode.TheVariants.{SaslAuthenticationFailed, TopicAlreadyExists}
 use Rattle.kb_wire.specs.declared.fault.WireFault.{WireFault}
 use Rattle.kb_api_group.specs.Frames.{Front, Whole, Partial, TooSmall, TooLarge, front}
 use Rattle.kb_client.specs.declared.fault.ClientFault.{ClientFault}
@@ -68,16 +70,20 @@ abbrev pub handshaken : Result ℤ WireFault → Producer → Producer
 handshaken (Err fault) p = ended endings.Protocol p
 handshaken (Ok code) p = if int_eq code (pos 0) then entered stages.Authenticate p else ended (endings.Code code) p
 
--- 58 is the answer to a wrong user or password
+-- a wrong user or password has a code of its own
 abbrev pub logged_in : Result ℤ WireFault → Producer → Producer
 logged_in (Err fault) p = ended endings.Protocol p
-logged_in (Ok code) p = if int_eq code (pos 0) then entered (after_login p.create p.producer) p else if int_eq code (pos 58)
-    then ended endings.Denied p else ended (endings.Code code) p
+logged_in (Ok code) p =
+    if int_eq code (pos 0) then entered (after_login p.create p.producer) p
+    else if int_eq code (code_of SaslAuthenticationFailed) then ended endings.Denied p
+    else ended (endings.Code code) p
 
--- 36 is the answer where the topic was there
+-- a topic that was there is as good as made
 abbrev pub created : Result ℤ WireFault → Producer → Producer
 created (Err fault) p = ended endings.Protocol p
-created (Ok code) p = if int_eq code (pos 0) || int_eq code (pos 36) then entered (after_login None p.producer) (record p { create = None })
+created (Ok code) p =
+    if int_eq code (pos 0) || int_eq code (code_of TopicAlreadyExists)
+    then entered (after_login None p.producer) (record p { create = None })
     else ended (endings.Code code) p
 
 abbrev pub identified : Result (ℤ × ProducerId) WireFault → Producer → Producer

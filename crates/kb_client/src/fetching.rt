@@ -5,10 +5,7 @@ ghost use Rattle.kb_client.specs.Consumer.{fault_at, restarted, handshaken, logg
 
 use crate::fault::ClientFault;
 use crate::stage::Ending;
-use kb_wire::WireFault;
-
-/// The answer to a wrong user or password.
-const SASL_AUTHENTICATION_FAILED: i16 = 58;
+use kb_wire::{ErrorCode, WireFault};
 
 /// The request of a consumer whose turn it is on a connection.
 #[derive(Clone, Copy, Debug, PartialEq, Eq)]
@@ -93,7 +90,9 @@ impl Fetching {
         match code {
             Err(_) => Fetching::Ended(Ending::Protocol),
             Ok(0) => Fetching::Fetch,
-            Ok(SASL_AUTHENTICATION_FAILED) => Fetching::Ended(Ending::Denied),
+            Ok(code) if code == ErrorCode::SaslAuthenticationFailed.code() => {
+                Fetching::Ended(Ending::Denied)
+            }
             Ok(code) => Fetching::Ended(Ending::Code(code)),
         }
     }

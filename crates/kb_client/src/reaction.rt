@@ -5,13 +5,7 @@ ghost use Rattle.kb_client.specs.Producer.{Producer, after_login, handshaken, lo
 ghost use Rattle.kb_client.specs.Reactions.{reacted};
 
 use crate::stage::{Ending, ProducerId, Stage};
-use kb_wire::WireFault;
-
-/// The answer to a creation of a topic that is there.
-const TOPIC_ALREADY_EXISTS: i16 = 36;
-
-/// The answer to a wrong user or password.
-const SASL_AUTHENTICATION_FAILED: i16 = 58;
+use kb_wire::{ErrorCode, WireFault};
 
 /// What a reply calls for.
 #[derive(Clone, Copy, Debug, PartialEq, Eq)]
@@ -61,7 +55,9 @@ pub fn logged_in(
     match code {
         Err(_) => Reaction::Ends(Ending::Protocol),
         Ok(0) => Reaction::Enters(after_login(create, producer)),
-        Ok(SASL_AUTHENTICATION_FAILED) => Reaction::Ends(Ending::Denied),
+        Ok(code) if code == ErrorCode::SaslAuthenticationFailed.code() => {
+            Reaction::Ends(Ending::Denied)
+        }
         Ok(code) => Reaction::Ends(Ending::Code(code)),
     }
 }
@@ -72,7 +68,9 @@ pub fn created(code: Result<i16, WireFault>, producer: Option<ProducerId>) -> Re
 {
     match code {
         Err(_) => Reaction::Ends(Ending::Protocol),
-        Ok(0 | TOPIC_ALREADY_EXISTS) => Reaction::Created(after_login(None, producer)),
+        Ok(code) if code == 0 || code == ErrorCode::TopicAlreadyExists.code() => {
+            Reaction::Created(after_login(None, producer))
+        }
         Ok(code) => Reaction::Ends(Ending::Code(code)),
     }
 }

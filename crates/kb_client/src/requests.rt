@@ -14,20 +14,8 @@ use kb_api_data::{
 };
 use kb_api_group::{RequestHeader, SaslAuthenticateRequest, SaslHandshakeRequest};
 use kb_batch::BatchBuilder;
-use kb_wire::{Array, Blob, Layout, Sink, Text};
+use kb_wire::{Array, Blob, Layout, Sink, Text, api_key};
 use std::alloc::{AllocError, Global};
-
-const PRODUCE: i16 = 0;
-
-const FETCH: i16 = 1;
-
-const SASL_HANDSHAKE: i16 = 17;
-
-const CREATE_TOPICS: i16 = 19;
-
-const INIT_PRODUCER_ID: i16 = 22;
-
-const SASL_AUTHENTICATE: i16 = 36;
 
 /// The greatest size of a request, which is an INT32.
 const MAX_SIZE: usize = 2_147_483_647;
@@ -83,7 +71,7 @@ pub fn handshake(alloc: Global, id: i32) -> Result<Vec<u8>, AllocError>
     let body = SaslHandshakeRequest {
         mechanism: Text::new("PLAIN"),
     };
-    request(alloc, (SASL_HANDSHAKE, 1), id, &body, 32)
+    request(alloc, (api_key::SASL_HANDSHAKE, 1), id, &body, 32)
 }
 
 /// The message of PLAIN (RFC 4616).
@@ -107,7 +95,7 @@ pub fn authenticate(alloc: Global, id: i32, target: &Target) -> Result<Vec<u8>, 
     let body = SaslAuthenticateRequest {
         auth_bytes: Blob::new(&message),
     };
-    request(alloc, (SASL_AUTHENTICATE, 0), id, &body, 600)
+    request(alloc, (api_key::SASL_AUTHENTICATE, 0), id, &body, 600)
 }
 
 /// CreateTopics: the topic with so many partitions.
@@ -131,7 +119,7 @@ pub fn create(
         topics,
         timeout_ms: 5000,
     };
-    request(alloc, (CREATE_TOPICS, 0), id, &body, 400)
+    request(alloc, (api_key::CREATE_TOPICS, 0), id, &body, 400)
 }
 
 /// InitProducerId: an id without a transaction.
@@ -142,7 +130,7 @@ pub fn identify(alloc: Global, id: i32) -> Result<Vec<u8>, AllocError>
         transactional_id: None,
         transaction_timeout_ms: 60_000,
     };
-    request(alloc, (INIT_PRODUCER_ID, 0), id, &body, 32)
+    request(alloc, (api_key::INIT_PRODUCER_ID, 0), id, &body, 32)
 }
 
 /// The batch of a line alone.
@@ -202,7 +190,7 @@ pub fn produce<'a>(
         topics: topics_of(alloc, target, batch)?,
     };
     let room = PRODUCE_FIELDS + target.topic().len() + batch.len();
-    request(alloc, (PRODUCE, 3), id, &body, room)
+    request(alloc, (api_key::PRODUCE, 3), id, &body, room)
 }
 
 /// The topics of a Fetch request: the partition from an offset on.
@@ -254,5 +242,5 @@ pub fn fetch(
         topics: fetch_topics_of(alloc, target, offset)?,
     };
     let room = FETCH_FIELDS + target.topic().len();
-    request(alloc, (FETCH, 5), id, &body, room)
+    request(alloc, (api_key::FETCH, 5), id, &body, room)
 }

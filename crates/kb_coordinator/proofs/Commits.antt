@@ -1,7 +1,7 @@
 -- Whether a member may commit, by its group's id.
 use Rattle.std.proofs.Common.{◌≡◌, ℕ, ℤ, false, List, [], ◌∷◌, length, refl, sym, ap, nat_eq, if◌then◌else◌, true≢false}
 use Rattle.kb_groups.specs.Calls as one
-use Rattle.kb_api_group.specs.declared.error_code.ErrorCode.TheVariants.{InvalidGroupId}
+use Rattle.kb_wire.specs.declared.error_code.ErrorCode.TheVariants.{InvalidGroupId}
 use Rattle.kb_coordinator.specs.Groups.{Groups, found, silent}
 use Rattle.kb_coordinator.specs.Requests.{commit_of_none, error_of, named}
 use Rattle.kb_coordinator.specs.Calls.{after_may_commit, by_group, may_commit, with_changed}

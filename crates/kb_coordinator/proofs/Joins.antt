@@ -9,8 +9,8 @@ use Rattle.kb_groups.specs.Members.{Roster}
 use Rattle.kb_groups.specs.Calls.{agrees, is_empty, is_fine, is_stranger, join, join_code, joined, others, unmoved}
 use Rattle.kb_groups.specs.Calls as one
 use Rattle.kb_groups.specs.declared.reply.Release.{Release}
-use Rattle.kb_api_group.specs.declared.error_code.ErrorCode.{ErrorCode}
-use Rattle.kb_api_group.specs.declared.error_code.ErrorCode.TheVariants.{InvalidGroupId}
+use Rattle.kb_wire.specs.declared.error_code.ErrorCode.{ErrorCode}
+use Rattle.kb_wire.specs.declared.error_code.ErrorCode.TheVariants.{InvalidGroupId}
 use Rattle.kb_api_group.specs.declared.join_group.JoinGroupRequest.{JoinGroupRequest}
 use Rattle.kb_coordinator.specs.declared.groups.Entry.{Entry}
 use Rattle.kb_coordinator.specs.Groups.{Groups, found, place_of, silent, with_new}

@@ -12,11 +12,11 @@ use Rattle.std.specs.List.{flat_map}
 use Rattle.std.specs.Ordering.{int_eq}
 use Rattle.kb_groups.specs.declared.borrowed.Join.{Join}
 use Rattle.kb_groups.specs.Calls as one
-use Rattle.kb_api_group.specs.ErrorCode.{code_of}
+use Rattle.kb_wire.specs.ErrorCode.{code_of}
 use Rattle.kb_groups.specs.Moments.{never, tick}
 use Rattle.kb_groups.specs.Rebalance.{Step}
-use Rattle.kb_api_group.specs.declared.error_code.ErrorCode.{ErrorCode}
-use Rattle.kb_api_group.specs.declared.error_code.ErrorCode.TheVariants as codes
+use Rattle.kb_wire.specs.declared.error_code.ErrorCode.{ErrorCode}
+use Rattle.kb_wire.specs.declared.error_code.ErrorCode.TheVariants as codes
 use Rattle.kb_api_group.specs.declared.join_group.JoinGroupRequest.{JoinGroupRequest}
 use Rattle.kb_api_group.specs.declared.sync_group.SyncGroupRequest.{SyncGroupRequest}
 use Rattle.kb_api_group.specs.declared.heartbeat.HeartbeatRequest.{HeartbeatRequest}

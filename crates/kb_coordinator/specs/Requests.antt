@@ -8,8 +8,8 @@ use Rattle.kb_groups.specs.declared.borrowed.JoinProtocol.{JoinProtocol as Offer
 use Rattle.kb_groups.specs.declared.borrowed.SyncAssignment.{SyncAssignment as Assignment}
 use Rattle.kb_groups.specs.MemberId.{member_id}
 use Rattle.kb_groups.specs.Calls.{is_empty}
-use Rattle.kb_api_group.specs.declared.error_code.ErrorCode.{ErrorCode}
-use Rattle.kb_api_group.specs.declared.error_code.ErrorCode.TheVariants as codes
+use Rattle.kb_wire.specs.declared.error_code.ErrorCode.{ErrorCode}
+use Rattle.kb_wire.specs.declared.error_code.ErrorCode.TheVariants as codes
 use Rattle.kb_api_group.specs.declared.join_group.JoinProtocol.{JoinProtocol}
 use Rattle.kb_api_group.specs.declared.join_group.JoinGroupRequest.{JoinGroupRequest}
 use Rattle.kb_api_group.specs.declared.sync_group.SyncAssignment.{SyncAssignment}

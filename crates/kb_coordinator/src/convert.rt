@@ -3,8 +3,9 @@ ghost use Rattle.std.specs.Prelude.{◌≡◌, IfOk, map};
 ghost use Rattle.kb_groups.specs.MemberId.{member_id};
 ghost use Rattle.kb_coordinator.specs.Requests.{asked_member, assigned_to, commit_of_none, error_of, named, offered};
 
-use kb_api_group::{ErrorCode, JoinProtocol, SyncAssignment};
-use kb_groups::{Blob, Code, Text, member_number};
+use kb_api_group::{JoinProtocol, SyncAssignment};
+use kb_groups::{Code, member_number};
+use kb_wire::{Blob, ErrorCode, Text};
 use std::alloc::{AllocError, Global};
 
 /// The number, whose id that is.

@@ -6,8 +6,9 @@ ghost use Rattle.kb_coordinator.specs.Calls.{may_commit, sync_answer};
 
 use crate::convert::{assignments, commit_of_none, error_of, number_of};
 use crate::groups::{Entry, place_of};
-use kb_api_group::{ErrorCode, HeartbeatRequest, LeaveGroupRequest, SyncGroupRequest};
+use kb_api_group::{HeartbeatRequest, LeaveGroupRequest, SyncGroupRequest};
 use kb_groups::{Code, Release, SyncAnswer};
+use kb_wire::ErrorCode;
 use std::alloc::{AllocError, Global};
 use std::marker::Model;
 

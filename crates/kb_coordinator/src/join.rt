@@ -8,8 +8,9 @@ ghost use Rattle.kb_coordinator.specs.Calls.{lacks_number, new_code, unless_refu
 use crate::convert::{asked_member, error_of, offers};
 use crate::coordinator::Coordinator;
 use crate::groups::{Entry, first_above};
-use kb_api_group::{ErrorCode, JoinGroupRequest};
-use kb_groups::{Bytes, Code, Group, Join, Text};
+use kb_api_group::JoinGroupRequest;
+use kb_groups::{Bytes, Code, Group, Join};
+use kb_wire::{ErrorCode, Text};
 use std::alloc::{AllocError, Global};
 
 /// How many groups a tenant has at most.

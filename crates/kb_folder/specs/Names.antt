@@ -1,5 +1,6 @@
 -- The names of files: 20 decimal digits and '.seg'.
-use Rattle.std.specs.Prelude.{◌+◌, ◌-◌, ◌*◌, ◌^◌, ◌&&◌, ◌==◌, ℕ, Bool, List, [], ◌∷◌, length, take, drop, nat_lt, not, string_bytes, filter_map, bytes_eq, Option, Some, None, if◌then◌else◌}
+use Rattle.std.specs.Prelude.{◌+◌, ◌-◌, ◌*◌, ◌^◌, ◌&&◌, ◌==◌, ℕ, Bool, List, [], ◌∷◌, length, take, drop, nat_lt, not, string_bytes}
+use Rattle.std.specs.Prelude.{filter_map, bytes_eq, Option, Some, None, if◌then◌else◌}
 use Rattle.std.specs.List.{list_all}
 use Rattle.std.specs.declared.string.String.{String}
 

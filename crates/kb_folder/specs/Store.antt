@@ -23,7 +23,8 @@ abbrev pub foldered : {F : Type 0} → F → List (ℕ × ℕ) → ℕ → Folde
 foldered f l n = record { folder = f; lens = l; failures = n }
 
 abbrev pub foldered_code : {F : Type 0} → Coded F → Coded (Foldered F)
-foldered_code {F} f = code_by (F × (List (ℕ × ℕ) × ℕ)) (coded× f (coded× (coded_list (coded× coded_ℕ coded_ℕ)) coded_ℕ)) (λ v. (v.folder, (v.lens, v.failures))) (λ p. record { folder = p.0; lens = p.1.0; failures = p.1.1 }) (λ _. refl)
+foldered_code {F} f = code_by (F × (List (ℕ × ℕ) × ℕ)) (coded× f (coded× (coded_list (coded× coded_ℕ coded_ℕ)) coded_ℕ)) (λ v.
+    (v.folder, (v.lens, v.failures))) (λ p. record { folder = p.0; lens = p.1.0; failures = p.1.1 }) (λ _. refl)
 
 -- a length fits 64 bits
 abbrev pub fitted : ℕ → ℕ
@@ -39,7 +40,8 @@ AreLengths table files = (file : ℕ) → get table file ≡ option_map length (
 
 -- The lengths that are kept, and the folder's files. The store is honest while the folder is and the lengths are those of its files.
 abbrev pub folder_disk : Contents → List (ℕ × ℕ) → ℕ → Disk
-folder_disk c lens failures = record { table = table_of lens; files = c.files; honest = c.honest × AreLengths (table_of lens) c.files; failures = failures }
+folder_disk c lens failures =
+    record { table = table_of lens; files = c.files; honest = c.honest × AreLengths (table_of lens) c.files; failures = failures }
 
 abbrev pub disk_over : {F : Type 0} → (F → Contents) → Foldered F → Disk
 disk_over contents s = folder_disk (contents s.folder) s.lens s.failures
@@ -57,5 +59,6 @@ option_fits (Some n) = omega arith
 pub folder_lawful : (c : Contents) (lens : List (ℕ × ℕ)) (failures : ℕ) → IsLawfulDisk (folder_disk c lens failures)
 folder_lawful c lens failures = record {
   lengths = λ h file. h.1 file;
-  fits = λ file. subst (λ o. unwrap_or o 0 < 18446744073709551616) (sym (get_seen fitted lens file)) (option_fits (lookup (is_at (nat_cmp file)) lens));
+  fits = λ file. subst (λ o. unwrap_or o 0 < 18446744073709551616) (sym (get_seen fitted lens file))
+      (option_fits (lookup (is_at (nat_cmp file)) lens));
 }

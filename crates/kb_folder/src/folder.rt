@@ -46,7 +46,8 @@ pub trait Folder {
 
     /// The names of all that the folder has, in any order.
     fn names(&mut self, alloc: Global) -> Result<Vec<String>, FolderFault>
-        ensures names { IfOk result (λ names. (contents self.new).honest → AreNumbersOf (numbers_named names.items) (contents self.old).files) }
+        ensures names { IfOk result (λ names. (contents self.new).honest
+            → AreNumbersOf (numbers_named names.items) (contents self.old).files) }
         ensures unchanged { Stays (contents self.old) (contents self.new) };
 
     /// The length of a file in bytes.
@@ -66,20 +67,23 @@ pub trait Folder {
     fn write_end(&mut self, file: u64, end: u64, bytes: &[u8]) -> Result<usize, FolderFault>
         requires { HasLength (contents self.old) file end }
         ensures count { IfOk result (λ n. n ≤ length bytes.now) }
-        ensures written { IfOk result (λ n. Turns (contents self.old) (map.insert (contents self.old).files file (bytes_in (contents self.old) file ++ take n bytes.now)) (contents self.new)) }
+        ensures written { IfOk result (λ n. Turns (contents self.old)
+            (map.insert (contents self.old).files file (bytes_in (contents self.old) file ++ take n bytes.now)) (contents self.new)) }
         ensures unchanged { OnErr result (Stays (contents self.old) (contents self.new)) };
 
     /// Reads bytes of a file from `at` on into a buffer, and answers how many. What is within the file is read whole.
     fn read_at(&mut self, file: u64, at: u64, buffer: &mut [u8]) -> Result<usize, FolderFault>
         requires { Has (contents self.old) file }
-        ensures bytes { IfOk result (λ n. (contents self.new).honest → ReadsWhole (bytes_in (contents self.old) file) at buffer.old n buffer.new) }
+        ensures bytes { IfOk result (λ n. (contents self.new).honest
+            → ReadsWhole (bytes_in (contents self.old) file) at buffer.old n buffer.new) }
         ensures unchanged { Stays (contents self.old) (contents self.new) };
 
     /// Cuts a file to its first bytes.
     fn cut(&mut self, file: u64, len: u64) -> Result<(), FolderFault>
         requires there { Has (contents self.old) file }
         requires within { (contents self.old).honest → len ≤ length (bytes_in (contents self.old) file) }
-        ensures cut { OnOk result (Turns (contents self.old) (map.insert (contents self.old).files file (take len (bytes_in (contents self.old) file))) (contents self.new)) }
+        ensures cut { OnOk result (Turns (contents self.old)
+            (map.insert (contents self.old).files file (take len (bytes_in (contents self.old) file))) (contents self.new)) }
         ensures unchanged { OnErr result (Stays (contents self.old) (contents self.new)) };
 
     /// Removes a file.

@@ -63,7 +63,8 @@ fn refused(failures: &mut u64) -> StoreFault
 /// Gives a file that is there another length.
 fn set_len(lens: &mut BTreeMap<u64, u64>, file: u64, len: u64)
     requires { IsSome (lookup (is_at (nat_cmp file)) lens.old.entries) }
-    ensures { (q : ℕ) → lookup (is_at (nat_cmp q)) lens.new.entries ≡ cond (is_at (nat_cmp file) q) (Some len) (lookup (is_at (nat_cmp q)) lens.old.entries) }
+    ensures { (q : ℕ) → lookup (is_at (nat_cmp q)) lens.new.entries
+        ≡ cond (is_at (nat_cmp file) q) (Some len) (lookup (is_at (nat_cmp q)) lens.old.entries) }
 {
     match lens.get_mut(&file) {
         Some(kept) => *kept = len,
@@ -129,7 +130,8 @@ impl<F: Folder> FolderStore<F> {
     where
         F: Drop,
         ensures folder { IfOk result (λ store. Stays (F.contents folder) (F.contents store.folder)) }
-        ensures lens { IfOk result (λ store. (F.contents store.folder).honest → AreLengths (table_of store.lens) (F.contents folder).files) }
+        ensures lens { IfOk result (λ store. (F.contents store.folder).honest
+            → AreLengths (table_of store.lens) (F.contents folder).files) }
         ensures failures { IfOk result (λ store. store.failures ≡ 0) }
     {
         let names = folder.names(alloc)?;
@@ -151,7 +153,8 @@ impl<F: Folder> FolderStore<F> {
 }
 
 impl<F: Folder> Store for FolderStore<F> {
-    ghost use Rattle.kb_store.specs.Disk.{IsThere, len_of, bytes_of, Keeps, Creates, Appends, Cuts, Removes, MayCreate, AppendsSome, HasCause};
+    ghost use Rattle.kb_store.specs.Disk.{IsThere, len_of, bytes_of, Keeps, Creates, Appends, Cuts, Removes, MayCreate, AppendsSome};
+    ghost use Rattle.kb_store.specs.Disk.{HasCause};
     ghost use Rattle.kb_folder.specs.Store.{disk_over, folder_lawful, counted};
 
     ghost disk = { disk_over F.contents };
@@ -225,7 +228,8 @@ impl<F: Folder> Store for FolderStore<F> {
     fn read_at(&mut self, file: u64, at: u64, buffer: &mut [u8]) -> Result<(), StoreFault>
         requires there { IsThere (disk_over F.contents self.old) file }
         requires within { at + length buffer.old ≤ len_of (disk_over F.contents self.old) file }
-        ensures bytes { OnOk result ((disk_over F.contents self.new).honest → buffer.new ≡ take (length buffer.old) (drop at (bytes_of (disk_over F.contents self.old) file))) }
+        ensures bytes { OnOk result ((disk_over F.contents self.new).honest
+            → buffer.new ≡ take (length buffer.old) (drop at (bytes_of (disk_over F.contents self.old) file))) }
         ensures kept { Keeps (disk_over F.contents self.old) (disk_over F.contents self.new) }
         ensures cause { HasCause (disk_over F.contents self.old) result (disk_over F.contents self.new) }
         ensures counts { self.new.failures ≡ counted self.old.failures result }

@@ -25,7 +25,7 @@ pub(crate) fn copy_assigned(
 {
     let id = member_id(alloc, number)?;
     for entry in assignments {
-        if entry.member_id.as_bytes() == id.as_slice() {
+        if entry.member_id.as_str().as_bytes() == id.as_slice() {
             return Bytes::copy_of(alloc, entry.assignment.as_slice());
         }
     }

@@ -1,65 +1,6 @@
 //! What requests give, borrowed from their frames.
 
-ghost use Rattle.std.specs.Prelude.{◌≡◌};
-
-use std::marker::Model;
-
-/// A text of a request.
-#[derive(Drop)]
-pub struct Text<'a> {
-    text: &'a str,
-}
-
-impl<'a> Model for Text<'a> {
-    ghost use Rattle.std.specs.Prelude.{List, ℕ};
-
-    ghost Value = { List ℕ };
-
-    ghost view = { λ a. a.text.now };
-}
-
-impl<'a> Text<'a> {
-    pub fn new(text: &'a str) -> Text<'a>
-        ensures { result ≡ text.now }
-    {
-        Text { text }
-    }
-
-    /// The text's bytes.
-    pub fn as_bytes(&self) -> &'a [u8]
-        ensures { result.now ≡ self.now }
-    {
-        self.text.as_bytes()
-    }
-}
-
-/// Bytes of a request.
-#[derive(Drop)]
-pub struct Blob<'a> {
-    bytes: &'a [u8],
-}
-
-impl<'a> Model for Blob<'a> {
-    ghost use Rattle.std.specs.Prelude.{List, ℕ};
-
-    ghost Value = { List ℕ };
-
-    ghost view = { λ a. a.bytes.now };
-}
-
-impl<'a> Blob<'a> {
-    pub fn new(bytes: &'a [u8]) -> Blob<'a>
-        ensures { result ≡ bytes.now }
-    {
-        Blob { bytes }
-    }
-
-    pub fn as_slice(&self) -> &'a [u8]
-        ensures { result.now ≡ self.now }
-    {
-        self.bytes
-    }
-}
+use kb_wire::{Blob, Text};
 
 /// A protocol, in a request of JoinGroup.
 #[derive(Drop)]

@@ -3,22 +3,24 @@
 ghost use Rattle.std.specs.Prelude.{◌≡◌};
 ghost use Rattle.kb_groups.specs.Codes.{number};
 
+use kb_wire::ErrorCode;
+
 /// What a call of a group is answered, by Kafka's names (Kafka protocol guide, "Error Codes").
 #[derive(Clone, Copy)]
 pub enum Code {
-    /// NONE, 0.
+    /// NONE.
     Fine,
-    /// ILLEGAL_GENERATION, 22.
+    /// ILLEGAL_GENERATION.
     IllegalGeneration,
-    /// INCONSISTENT_GROUP_PROTOCOL, 23.
+    /// INCONSISTENT_GROUP_PROTOCOL.
     InconsistentGroupProtocol,
-    /// UNKNOWN_MEMBER_ID, 25.
+    /// UNKNOWN_MEMBER_ID.
     UnknownMemberId,
-    /// INVALID_SESSION_TIMEOUT, 26.
+    /// INVALID_SESSION_TIMEOUT.
     InvalidSessionTimeout,
-    /// REBALANCE_IN_PROGRESS, 27.
+    /// REBALANCE_IN_PROGRESS.
     RebalanceInProgress,
-    /// GROUP_MAX_SIZE_REACHED, 81.
+    /// GROUP_MAX_SIZE_REACHED.
     GroupMaxSizeReached,
 }
 
@@ -28,13 +30,13 @@ impl Code {
         ensures { result ≡ number self }
     {
         match self {
-            Code::Fine => 0,
-            Code::IllegalGeneration => 22,
-            Code::InconsistentGroupProtocol => 23,
-            Code::UnknownMemberId => 25,
-            Code::InvalidSessionTimeout => 26,
-            Code::RebalanceInProgress => 27,
-            Code::GroupMaxSizeReached => 81,
+            Code::Fine => ErrorCode::None.code(),
+            Code::IllegalGeneration => ErrorCode::IllegalGeneration.code(),
+            Code::InconsistentGroupProtocol => ErrorCode::InconsistentGroupProtocol.code(),
+            Code::UnknownMemberId => ErrorCode::UnknownMemberId.code(),
+            Code::InvalidSessionTimeout => ErrorCode::InvalidSessionTimeout.code(),
+            Code::RebalanceInProgress => ErrorCode::RebalanceInProgress.code(),
+            Code::GroupMaxSizeReached => ErrorCode::GroupMaxSizeReached.code(),
         }
     }
 }

@@ -66,7 +66,7 @@ impl State {
         if self.members.has_none_but(request.member) {
             return true;
         }
-        request.protocol_type.as_bytes() == self.protocol_type.as_slice()
+        request.protocol_type.as_str().as_bytes() == self.protocol_type.as_slice()
             && self
                 .members
                 .common(request.protocols, request.member)
@@ -91,7 +91,7 @@ impl State {
         {
             return Code::InvalidSessionTimeout;
         }
-        if request.protocols.is_empty() || request.protocol_type.as_bytes().is_empty() {
+        if request.protocols.is_empty() || request.protocol_type.as_str().is_empty() {
             return Code::InconsistentGroupProtocol;
         }
         if self.is_stranger(request.member) {
@@ -155,7 +155,7 @@ impl State {
     {
         let number = request.number();
         let member = request.joining(alloc, clock)?;
-        let protocol_type = SharedBytes::copy_of(alloc, request.protocol_type.as_bytes())?;
+        let protocol_type = SharedBytes::copy_of(alloc, request.protocol_type.as_str().as_bytes())?;
         let mut out = Vec::new(alloc);
         self.members
             .turn_away(alloc, Code::RebalanceInProgress, number, &mut out)?;

@@ -33,7 +33,7 @@ mod protocol;
 mod reply;
 mod state;
 
-pub use borrowed::{Blob, Join, JoinProtocol, SyncAssignment, Text};
+pub use borrowed::{Join, JoinProtocol, SyncAssignment};
 pub use bytes::{Bytes, SharedBytes};
 pub use code::Code;
 pub use group::Group;

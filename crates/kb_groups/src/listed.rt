@@ -60,9 +60,10 @@ impl ListedProtocols {
         let mut items = Vec::new(alloc);
         let mut places = BTreeMap::new(alloc);
         for offer in offers {
-            note_place(alloc, &mut places, offer.name.as_bytes(), items.len())?;
+            let name = offer.name.as_str().as_bytes();
+            note_place(alloc, &mut places, name, items.len())?;
             items.push(Protocol {
-                name: Bytes::copy_of(alloc, offer.name.as_bytes())?,
+                name: Bytes::copy_of(alloc, name)?,
                 metadata: Bytes::copy_of(alloc, offer.metadata.as_slice())?,
             })?;
         }

@@ -49,7 +49,7 @@ impl<'a> Named for JoinProtocol<'a> {
     ghost name_of = { λ p. p.name };
 
     fn name(&self) -> &[u8] {
-        self.name.as_bytes()
+        self.name.as_str().as_bytes()
     }
 }
 

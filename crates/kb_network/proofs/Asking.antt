@@ -6,6 +6,7 @@ use Rattle.std.proofs.lemmas.List.{length-append}
 use Rattle.std.proofs.lemmas.List.Elements.{All-cons, All-nil}
 use Rattle.kb_wire.specs.Codec.{int, int16, int32, counted, nullable_counted, sized, nullable, octets, utf8, items, string, nullable_string, nullable_blob, array, ◌⊗◌}
 use Rattle.kb_wire.specs.Fits.{string_fits, array_fits, null_string_fits, blob_fits, nullable_blob_fits}
+use Rattle.kb_wire.specs.declared.api_key.TheConstants.{PRODUCE, SASL_HANDSHAKE, CREATE_TOPICS, INIT_PRODUCER_ID, SASL_AUTHENTICATE}
 use Rattle.kb_api_group.specs.Layouts.{sasl_handshake_request, sasl_authenticate_request}
 use Rattle.kb_api_group.specs.Lawful.{sasl_handshake_request_lawful, sasl_authenticate_request_lawful}
 use Rattle.kb_api_data.specs.Layouts.{create_topics_request, create_topic, create_assignment, create_config, init_producer_id_request, produce_request, produce_topic, produce_partition}
@@ -30,7 +31,7 @@ plain_text : IsUtf8 (codes "PLAIN")
 unfolding lib.Utf8.encode
 plain_text = (80 ∷ 76 ∷ 65 ∷ 73 ∷ 78 ∷ [], (refl, refl))
 
-pub handshake_asked : asked_by (pos 17) (pos 1) handshake_body ≡ Handshake (codes "PLAIN")
+pub handshake_asked : asked_by SASL_HANDSHAKE (pos 1) handshake_body ≡ Handshake (codes "PLAIN")
 unfolding handshake_body sasl_handshake_request sized counted utf8
 handshake_asked = ap (λ r. if_read r (λ v. Handshake v.mechanism)) (whole_written sasl_handshake_request sasl_handshake_request_lawful (record { mechanism = codes "PLAIN" }) (tt, plain_text) (string_fits (codes "PLAIN") (lit< tt)))
 
@@ -46,7 +47,7 @@ pub authenticate_short : (t : Target) → HasShortTexts t → length (authentica
 unfolding authenticate_body sasl_authenticate_request
 authenticate_short t short = omega (arith, blob_len (plain_message t), message_short t short)
 
-pub authenticate_asked : (t : Target) → HasShortTexts t → asked_by (pos 36) (pos 0) (authenticate_body t) ≡ Authenticate (plain_message t)
+pub authenticate_asked : (t : Target) → HasShortTexts t → asked_by SASL_AUTHENTICATE (pos 0) (authenticate_body t) ≡ Authenticate (plain_message t)
 unfolding authenticate_body sasl_authenticate_request sized counted octets
 authenticate_asked t short = ap (λ r. if_read r (λ v. Authenticate v.auth_bytes)) (whole_written sasl_authenticate_request sasl_authenticate_request_lawful (record { auth_bytes = plain_message t }) (tt, tt) (blob_fits (plain_message t) (omega (arith, message_short t short))))
 
@@ -93,7 +94,7 @@ create_fits : (name : List ℕ) (partitions : ℤ) → length name ≤ 255 → c
 unfolding create_topics_request int
 create_fits name partitions short = (array_fits create_topic (topic_of name partitions ∷ []) (lit< tt) (All-cons create_topic.Fits (topic_of name partitions) [] (topic_fits name partitions short) (All-nil create_topic.Fits)), tt)
 
-pub create_asked : (name : List ℕ) (partitions : ℤ) → length name ≤ 255 → IsUtf8 name → FitsSigned w32 partitions → asked_by (pos 19) (pos 0) (create_body name partitions) ≡ Create (topic_of name partitions ∷ [])
+pub create_asked : (name : List ℕ) (partitions : ℤ) → length name ≤ 255 → IsUtf8 name → FitsSigned w32 partitions → asked_by CREATE_TOPICS (pos 0) (create_body name partitions) ≡ Create (topic_of name partitions ∷ [])
 unfolding create_body
 create_asked name partitions short text fits = ap (λ r. if_read r (λ v. Create v.topics)) (whole_written create_topics_request create_topics_request_lawful (record { topics = topic_of name partitions ∷ []; timeout_ms = pos 5000 }) (create_ranged name partitions text fits) (create_fits name partitions short))
 
@@ -106,7 +107,7 @@ pub identify_short : length identify_body ≤ 2000000
 unfolding identify_body init_producer_id_request
 identify_short = omega (arith, pair_len nullable_string int32 None (pos 60000), no_string_len, int32_len (pos 60000))
 
-pub identify_asked : asked_by (pos 22) (pos 0) identify_body ≡ Identify
+pub identify_asked : asked_by INIT_PRODUCER_ID (pos 0) identify_body ≡ Identify
 unfolding identify_body init_producer_id_request int nullable nullable_counted
 identify_asked = ap (λ r. if_read r (λ v. Identify)) (whole_written init_producer_id_request init_producer_id_request_lawful (record { transactional_id = None; transaction_timeout_ms = pos 60000 }) (tt, record { sfits = lit< tt }) (null_string_fits, tt))
 
@@ -166,6 +167,6 @@ produce_fits : (t : Target) (batch : List ℕ) → length t.topic ≤ 255 → le
 unfolding produce_ask produce_request int
 produce_fits t batch short small = (null_string_fits, (tt, (tt, array_fits produce_topic (produce_topics t batch) (lit< tt) (All-cons produce_topic.Fits (record { name = t.topic; partitions = record { index = t.partition; records = Some batch } ∷ [] }) [] (produce_topic_fits t batch short small) (All-nil produce_topic.Fits)))))
 
-pub produce_asked : (t : Target) (batch : List ℕ) → length t.topic ≤ 255 → length batch ≤ 1048588 → IsUtf8 t.topic → FitsSigned w32 t.partition → asked_by (pos 0) (pos 3) (produce_body t batch) ≡ Produce (produce_topics t batch)
+pub produce_asked : (t : Target) (batch : List ℕ) → length t.topic ≤ 255 → length batch ≤ 1048588 → IsUtf8 t.topic → FitsSigned w32 t.partition → asked_by PRODUCE (pos 3) (produce_body t batch) ≡ Produce (produce_topics t batch)
 unfolding produce_body produce_ask
 produce_asked t batch short small text fits = ap (λ r. if_read r (λ v. Produce v.topics)) (whole_written produce_request produce_request_lawful (produce_ask t batch) (produce_ranged t batch text fits) (produce_fits t batch short small))

@@ -5,6 +5,9 @@ use Rattle.std.specs.Int.{w16, w32, w64}
 use Rattle.std.specs.Str.{bytes_eq}
 use Rattle.std.proofs.lemmas.List.{append-nil, take-append-drop}
 use Rattle.kb_wire.specs.Codec.{int32}
+use Rattle.kb_wire.specs.ErrorCode.{code_of}
+use Rattle.kb_wire.specs.declared.api_key.TheConstants.{FETCH, SASL_HANDSHAKE, SASL_AUTHENTICATE}
+use Rattle.kb_wire.specs.declared.error_code.ErrorCode.TheVariants.{SaslAuthenticationFailed}
 use Rattle.kb_api_group.specs.Frames.{Whole, Partial, front}
 use Rattle.kb_api_group.specs.Layouts.{request_header}
 use Rattle.kb_api_group.specs.declared.plain.PlainLogin.{PlainLogin}
@@ -413,12 +416,12 @@ not_denied e = cc
 greeted_handshake : (w : Reading) (text : List ℕ) → w.core.stage ≡ stages.Handshake → text ≡ handshake_text (pos 1) → w.greeter.login ≡ Greets → Greeted w text
 unfolding handshake_body header Ready
 greeted_handshake w text at is ready = record {
-  m = request_header.written (header (pos 17) (pos 1) (pos 1)) ++ handshake_body;
-  whole = ap front is ∙ front_request (pos 17) (pos 1) (pos 1) handshake_body handshake_short;
-  other = other_key (pos 17) (pos 1) (pos 1) handshake_body (record { sfits = lit< tt }) (record { sfits = lit< tt }) (record { sfits = lit< tt }) refl;
+  m = request_header.written (header SASL_HANDSHAKE (pos 1) (pos 1)) ++ handshake_body;
+  whole = ap front is ∙ front_request SASL_HANDSHAKE (pos 1) (pos 1) handshake_body handshake_short;
+  other = other_key SASL_HANDSHAKE (pos 1) (pos 1) handshake_body (record { sfits = lit< tt }) (record { sfits = lit< tt }) (record { sfits = lit< tt }) refl;
   id = pos 1;
   asked = Handshake (codes "PLAIN");
-  reads = request_read (pos 17) (pos 1) (pos 1) handshake_body (record { sfits = lit< tt }) (record { sfits = lit< tt }) (record { sfits = lit< tt }) ∙ ap (λ a. asks (pos 1) a) handshake_asked;
+  reads = request_read SASL_HANDSHAKE (pos 1) (pos 1) handshake_body (record { sfits = lit< tt }) (record { sfits = lit< tt }) (record { sfits = lit< tt }) ∙ ap (λ a. asks (pos 1) a) handshake_asked;
   body = handshake_reply (pos 0);
   after = record w.greeter { unread = []; login = Shaken };
   comes = ap (λ l. receivers.shaken l (codes "PLAIN") (bare w.greeter)) ready ∙ ap (λ b. shakes b (bare w.greeter)) plain_same;
@@ -436,12 +439,12 @@ greeted_handshake w text at is ready = record {
 greeted_login : (known : Bool) (w : Reading) (text : List ℕ) → w.core.stage ≡ stages.Authenticate → text ≡ authenticate_text (pos 2) w.core.target → w.greeter.login ≡ Shaken → knows w.greeter.users (plain_message w.core.target) ≡ known → IsTyped w.core.target → Greeted w text
 unfolding authenticate_body header Ready
 greeted_login true w text at is ready login typed = record {
-  m = request_header.written (header (pos 36) (pos 0) (pos 2)) ++ authenticate_body w.core.target;
-  whole = ap front is ∙ front_request (pos 36) (pos 0) (pos 2) (authenticate_body w.core.target) (authenticate_short w.core.target typed.short);
-  other = other_key (pos 36) (pos 0) (pos 2) (authenticate_body w.core.target) (record { sfits = lit< tt }) (record { sfits = lit< tt }) (record { sfits = lit< tt }) refl;
+  m = request_header.written (header SASL_AUTHENTICATE (pos 0) (pos 2)) ++ authenticate_body w.core.target;
+  whole = ap front is ∙ front_request SASL_AUTHENTICATE (pos 0) (pos 2) (authenticate_body w.core.target) (authenticate_short w.core.target typed.short);
+  other = other_key SASL_AUTHENTICATE (pos 0) (pos 2) (authenticate_body w.core.target) (record { sfits = lit< tt }) (record { sfits = lit< tt }) (record { sfits = lit< tt }) refl;
   id = pos 2;
   asked = Authenticate (plain_message w.core.target);
-  reads = request_read (pos 36) (pos 0) (pos 2) (authenticate_body w.core.target) (record { sfits = lit< tt }) (record { sfits = lit< tt }) (record { sfits = lit< tt }) ∙ ap (λ a. asks (pos 2) a) (authenticate_asked w.core.target typed.short);
+  reads = request_read SASL_AUTHENTICATE (pos 0) (pos 2) (authenticate_body w.core.target) (record { sfits = lit< tt }) (record { sfits = lit< tt }) (record { sfits = lit< tt }) ∙ ap (λ a. asks (pos 2) a) (authenticate_asked w.core.target typed.short);
   body = authenticate_reply (pos 0);
   after = record w.greeter { unread = []; login = LoggedIn };
   comes = ap (λ l. receivers.authenticated l (plain_message w.core.target) (bare w.greeter)) ready ∙ ap (λ b. logs_in b (bare w.greeter)) login;
@@ -456,22 +459,22 @@ greeted_login true w text at is ready login typed = record {
   };
 }
 greeted_login false w text at is ready login typed = record {
-  m = request_header.written (header (pos 36) (pos 0) (pos 2)) ++ authenticate_body w.core.target;
-  whole = ap front is ∙ front_request (pos 36) (pos 0) (pos 2) (authenticate_body w.core.target) (authenticate_short w.core.target typed.short);
-  other = other_key (pos 36) (pos 0) (pos 2) (authenticate_body w.core.target) (record { sfits = lit< tt }) (record { sfits = lit< tt }) (record { sfits = lit< tt }) refl;
+  m = request_header.written (header SASL_AUTHENTICATE (pos 0) (pos 2)) ++ authenticate_body w.core.target;
+  whole = ap front is ∙ front_request SASL_AUTHENTICATE (pos 0) (pos 2) (authenticate_body w.core.target) (authenticate_short w.core.target typed.short);
+  other = other_key SASL_AUTHENTICATE (pos 0) (pos 2) (authenticate_body w.core.target) (record { sfits = lit< tt }) (record { sfits = lit< tt }) (record { sfits = lit< tt }) refl;
   id = pos 2;
   asked = Authenticate (plain_message w.core.target);
-  reads = request_read (pos 36) (pos 0) (pos 2) (authenticate_body w.core.target) (record { sfits = lit< tt }) (record { sfits = lit< tt }) (record { sfits = lit< tt }) ∙ ap (λ a. asks (pos 2) a) (authenticate_asked w.core.target typed.short);
-  body = authenticate_reply (pos 58);
+  reads = request_read SASL_AUTHENTICATE (pos 0) (pos 2) (authenticate_body w.core.target) (record { sfits = lit< tt }) (record { sfits = lit< tt }) (record { sfits = lit< tt }) ∙ ap (λ a. asks (pos 2) a) (authenticate_asked w.core.target typed.short);
+  body = authenticate_reply (code_of SaslAuthenticationFailed);
   after = record w.greeter { unread = []; login = Shut };
   comes = ap (λ l. receivers.authenticated l (plain_message w.core.target) (bare w.greeter)) ready ∙ ap (λ b. logs_in b (bare w.greeter)) login;
-  least = omega (arith, authenticate_reply_len (pos 58));
-  most = omega (arith, authenticate_reply_len (pos 58));
+  least = omega (arith, authenticate_reply_len (code_of SaslAuthenticationFailed));
+  most = omega (arith, authenticate_reply_len (code_of SaslAuthenticationFailed));
   read = refl;
   gives = record {
     next = stages.Ended endings.Denied;
     goes = not_denied;
-    hears = λ c same. hears_at stages.Authenticate c (pos 2) (authenticate_reply (pos 58)) (same ∙ at) refl (record { sfits = lit< tt }) ∙ ap (λ x. entered (consumers.logged_in x) c) (authenticate_heard (pos 58) (record { sfits = lit< tt }));
+    hears = λ c same. hears_at stages.Authenticate c (pos 2) (authenticate_reply (code_of SaslAuthenticationFailed)) (same ∙ at) refl (record { sfits = lit< tt }) ∙ ap (λ x. entered (consumers.logged_in x) c) (authenticate_heard (code_of SaslAuthenticationFailed) (record { sfits = lit< tt }));
     ready = tt;
   };
 }
@@ -513,7 +516,7 @@ abbrev offset_of : Reading → ℤ
 offset_of w = w.core.found.offset
 
 abbrev frame_of : Reading → List ℕ
-frame_of w = request_header.written (header (pos 1) (pos 5) (pos 3)) ++ fetch_body w.core.target (offset_of w) w.core.follow
+frame_of w = request_header.written (header FETCH (pos 5) (pos 3)) ++ fetch_body w.core.target (offset_of w) w.core.follow
 
 abbrev read_of : ℕ → Reading → List (List ℕ)
 read_of n w = batches_given (fitting n (offset_of w) w.batches) (offset_of w) w.batches
@@ -523,14 +526,14 @@ body_of n w = fetched_reply (fetch_at w.core.target (offset_of w)) w.start (pos 
 
 fetch_whole : (w : Reading) (text : List ℕ) → text ≡ fetch_text (pos 3) w.core.target (offset_of w) w.core.follow → IsTyped w.core.target → front text ≡ Whole (frame_of w) []
 unfolding fetch_body ask
-fetch_whole w text is typed = ap front is ∙ front_request (pos 1) (pos 5) (pos 3) (fetch_body w.core.target (offset_of w) w.core.follow) (fetch_short w.core.target (offset_of w) w.core.follow typed.short.topic)
+fetch_whole w text is typed = ap front is ∙ front_request FETCH (pos 5) (pos 3) (fetch_body w.core.target (offset_of w) w.core.follow) (fetch_short w.core.target (offset_of w) w.core.follow typed.short.topic)
 
 fetch_found : (w : Reading) → IsTyped w.core.target → FitsSigned w64 (offset_of w) → fetch_of (frame_of w) ≡ Some (fetch_at w.core.target (offset_of w))
 unfolding fetch_of header
-fetch_found w typed fits = ap fetch_in (header_read (pos 1) (pos 5) (pos 3) (fetch_body w.core.target (offset_of w) w.core.follow) (record { sfits = lit< tt }) (record { sfits = lit< tt }) (record { sfits = lit< tt })) ∙ fetch_asked w.core.target (offset_of w) w.core.follow typed.short.topic typed.topic typed.partition fits
+fetch_found w typed fits = ap fetch_in (header_read FETCH (pos 5) (pos 3) (fetch_body w.core.target (offset_of w) w.core.follow) (record { sfits = lit< tt }) (record { sfits = lit< tt }) (record { sfits = lit< tt })) ∙ fetch_asked w.core.target (offset_of w) w.core.follow typed.short.topic typed.topic typed.partition fits
 
 fetch_id : (w : Reading) → (request (frame_of w)).correlation_id ≡ pos 3
-fetch_id w = ap (λ q. q.correlation_id) (request_read (pos 1) (pos 5) (pos 3) (fetch_body w.core.target (offset_of w) w.core.follow) (record { sfits = lit< tt }) (record { sfits = lit< tt }) (record { sfits = lit< tt }))
+fetch_id w = ap (λ q. q.correlation_id) (request_read FETCH (pos 5) (pos 3) (fetch_body w.core.target (offset_of w) w.core.follow) (record { sfits = lit< tt }) (record { sfits = lit< tt }) (record { sfits = lit< tt }))
 
 fetch_hears : (n : ℕ) (w : Reading) → IsTyped w.core.target → length (joined (read_of n w)) ≤ 1048588 → FetchAs (int32.written (pos 3) ++ body_of n w) (read_of n w)
 unfolding partition_value

@@ -6,6 +6,9 @@ use Rattle.std.specs.Str.{bytes_eq}
 use Rattle.std.proofs.lemmas.Bool.{lt-ltb}
 use Rattle.std.proofs.lemmas.List.{append-nil, map-append, length-append}
 use Rattle.kb_wire.specs.Codec.{int32}
+use Rattle.kb_wire.specs.ErrorCode.{code_of}
+use Rattle.kb_wire.specs.declared.api_key.TheConstants.{PRODUCE, SASL_HANDSHAKE, CREATE_TOPICS, INIT_PRODUCER_ID, SASL_AUTHENTICATE}
+use Rattle.kb_wire.specs.declared.error_code.ErrorCode.TheVariants.{SaslAuthenticationFailed, TopicAlreadyExists}
 use Rattle.kb_api_group.specs.Frames.{Whole, Partial, front}
 use Rattle.kb_api_group.specs.Layouts.{request_header}
 use Rattle.kb_batch.specs.BatchLaws.{is_accepted, batch_small}
@@ -67,11 +70,11 @@ plain_same = refl
 reacts_handshake : (known : Bool) (p : Producer) (handed : List Line) (r : Receiver) (text : List ℕ) → p.stage ≡ stages.Handshake → text ≡ handshake_text (pos 1) → r.login ≡ Greets → IsTyped p.target p.create → Counts p.producer p.acknowledged p.lines handed r.stored → Reacts known p handed r text
 unfolding handshake_body header
 reacts_handshake known p handed r text at is ready typed counts = record {
-  m = request_header.written (header (pos 17) (pos 1) (pos 1)) ++ handshake_body;
-  whole = ap front is ∙ front_request (pos 17) (pos 1) (pos 1) handshake_body handshake_short;
+  m = request_header.written (header SASL_HANDSHAKE (pos 1) (pos 1)) ++ handshake_body;
+  whole = ap front is ∙ front_request SASL_HANDSHAKE (pos 1) (pos 1) handshake_body handshake_short;
   id = pos 1;
   asked = Handshake (codes "PLAIN");
-  reads = request_read (pos 17) (pos 1) (pos 1) handshake_body (record { sfits = lit< tt }) (record { sfits = lit< tt }) (record { sfits = lit< tt }) ∙ ap (λ a. asks (pos 1) a) handshake_asked;
+  reads = request_read SASL_HANDSHAKE (pos 1) (pos 1) handshake_body (record { sfits = lit< tt }) (record { sfits = lit< tt }) (record { sfits = lit< tt }) ∙ ap (λ a. asks (pos 1) a) handshake_asked;
   body = handshake_reply (pos 0);
   after = record r { unread = []; login = Shaken };
   comes = ap (λ l. receivers.shaken l (codes "PLAIN") (bare r)) ready ∙ ap (λ b. shakes b (bare r)) plain_same;
@@ -98,11 +101,11 @@ login_of known p r ready is = ap (λ l. receivers.authenticated l (plain_message
 reacts_authenticate : (known : Bool) (p : Producer) (handed : List Line) (r : Receiver) (text : List ℕ) → p.stage ≡ stages.Authenticate → text ≡ authenticate_text (pos 2) p.target → r.login ≡ Shaken → knows r.users (plain_message p.target) ≡ known → IsTyped p.target p.create → Counts p.producer p.acknowledged p.lines handed r.stored → Reacts known p handed r text
 unfolding authenticate_body header
 reacts_authenticate true p handed r text at is ready login typed counts = record {
-  m = request_header.written (header (pos 36) (pos 0) (pos 2)) ++ authenticate_body p.target;
-  whole = ap front is ∙ front_request (pos 36) (pos 0) (pos 2) (authenticate_body p.target) (authenticate_short p.target typed.short);
+  m = request_header.written (header SASL_AUTHENTICATE (pos 0) (pos 2)) ++ authenticate_body p.target;
+  whole = ap front is ∙ front_request SASL_AUTHENTICATE (pos 0) (pos 2) (authenticate_body p.target) (authenticate_short p.target typed.short);
   id = pos 2;
   asked = Authenticate (plain_message p.target);
-  reads = request_read (pos 36) (pos 0) (pos 2) (authenticate_body p.target) (record { sfits = lit< tt }) (record { sfits = lit< tt }) (record { sfits = lit< tt }) ∙ ap (λ a. asks (pos 2) a) (authenticate_asked p.target typed.short);
+  reads = request_read SASL_AUTHENTICATE (pos 0) (pos 2) (authenticate_body p.target) (record { sfits = lit< tt }) (record { sfits = lit< tt }) (record { sfits = lit< tt }) ∙ ap (λ a. asks (pos 2) a) (authenticate_asked p.target typed.short);
   body = authenticate_reply (pos 0);
   after = record r { unread = []; login = LoggedIn };
   comes = login_of true p r ready login;
@@ -116,20 +119,20 @@ reacts_authenticate true p handed r text at is ready login typed counts = record
   counts = counts;
 }
 reacts_authenticate false p handed r text at is ready login typed counts = record {
-  m = request_header.written (header (pos 36) (pos 0) (pos 2)) ++ authenticate_body p.target;
-  whole = ap front is ∙ front_request (pos 36) (pos 0) (pos 2) (authenticate_body p.target) (authenticate_short p.target typed.short);
+  m = request_header.written (header SASL_AUTHENTICATE (pos 0) (pos 2)) ++ authenticate_body p.target;
+  whole = ap front is ∙ front_request SASL_AUTHENTICATE (pos 0) (pos 2) (authenticate_body p.target) (authenticate_short p.target typed.short);
   id = pos 2;
   asked = Authenticate (plain_message p.target);
-  reads = request_read (pos 36) (pos 0) (pos 2) (authenticate_body p.target) (record { sfits = lit< tt }) (record { sfits = lit< tt }) (record { sfits = lit< tt }) ∙ ap (λ a. asks (pos 2) a) (authenticate_asked p.target typed.short);
-  body = authenticate_reply (pos 58);
+  reads = request_read SASL_AUTHENTICATE (pos 0) (pos 2) (authenticate_body p.target) (record { sfits = lit< tt }) (record { sfits = lit< tt }) (record { sfits = lit< tt }) ∙ ap (λ a. asks (pos 2) a) (authenticate_asked p.target typed.short);
+  body = authenticate_reply (code_of SaslAuthenticationFailed);
   after = record r { unread = []; login = Shut };
   comes = login_of false p r ready login;
-  least = omega (arith, authenticate_reply_len (pos 58));
-  most = omega (arith, authenticate_reply_len (pos 58));
+  least = omega (arith, authenticate_reply_len (code_of SaslAuthenticationFailed));
+  most = omega (arith, authenticate_reply_len (code_of SaslAuthenticationFailed));
   read = refl;
   users = refl;
   next = ended endings.Denied p;
-  hears = λ u more. hears_at stages.Authenticate (record p { unread = u; lines = p.lines ++ more }) (pos 2) (authenticate_reply (pos 58)) at refl (record { sfits = lit< tt }) ∙ ap (λ c. producers.logged_in c (record p { unread = u; lines = p.lines ++ more })) (authenticate_heard (pos 58) (record { sfits = lit< tt }));
+  hears = λ u more. hears_at stages.Authenticate (record p { unread = u; lines = p.lines ++ more }) (pos 2) (authenticate_reply (code_of SaslAuthenticationFailed)) at refl (record { sfits = lit< tt }) ∙ ap (λ c. producers.logged_in c (record p { unread = u; lines = p.lines ++ more })) (authenticate_heard (code_of SaslAuthenticationFailed) (record { sfits = lit< tt }));
   settled = record { idle = refl; unread = refl; same = refl; typed = typed; ready = (refl, refl); counts = counts };
   counts = counts;
 }
@@ -137,7 +140,7 @@ reacts_authenticate false p handed r text at is ready login typed counts = recor
 -- ---- CreateTopics
 
 abbrev code_by : Bool → ℤ
-code_by b = if b then pos 36 else pos 0
+code_by b = if b then code_of TopicAlreadyExists else pos 0
 
 code_fits : (b : Bool) → FitsSigned w16 (code_by b)
 code_fits true = record { sfits = lit< tt }
@@ -153,11 +156,11 @@ not_some n create e f = let no : ◌≡◌ {A = Option ℤ} None (Some n) = sym 
 reacts_create : (known : Bool) (n : ℤ) (p : Producer) (handed : List Line) (r : Receiver) (text : List ℕ) → p.stage ≡ stages.Create n → text ≡ create_text (pos 3) p.target n → r.login ≡ LoggedIn → FitsSigned w32 n → IsTyped p.target p.create → Counts p.producer p.acknowledged p.lines handed r.stored → Reacts known p handed r text
 unfolding create_body topic_of header
 reacts_create known n p handed r text at is ready fits typed counts = record {
-  m = request_header.written (header (pos 19) (pos 0) (pos 3)) ++ create_body p.target.topic n;
-  whole = ap front is ∙ front_request (pos 19) (pos 0) (pos 3) (create_body p.target.topic n) (create_short p.target.topic n typed.short.topic);
+  m = request_header.written (header CREATE_TOPICS (pos 0) (pos 3)) ++ create_body p.target.topic n;
+  whole = ap front is ∙ front_request CREATE_TOPICS (pos 0) (pos 3) (create_body p.target.topic n) (create_short p.target.topic n typed.short.topic);
   id = pos 3;
   asked = Create (topic_of p.target.topic n ∷ []);
-  reads = request_read (pos 19) (pos 0) (pos 3) (create_body p.target.topic n) (record { sfits = lit< tt }) (record { sfits = lit< tt }) (record { sfits = lit< tt }) ∙ ap (λ a. asks (pos 3) a) (create_asked p.target.topic n typed.short.topic typed.topic fits);
+  reads = request_read CREATE_TOPICS (pos 0) (pos 3) (create_body p.target.topic n) (record { sfits = lit< tt }) (record { sfits = lit< tt }) (record { sfits = lit< tt }) ∙ ap (λ a. asks (pos 3) a) (create_asked p.target.topic n typed.short.topic typed.topic fits);
   body = create_reply (code_by r.created) (topic_of p.target.topic n ∷ []);
   after = record r { unread = []; created = true };
   comes = ap (λ l. logged_in_only l (creates (topic_of p.target.topic n ∷ []) (bare r)) (bare r)) ready;
@@ -197,11 +200,11 @@ identified_counts producer acknowledged lines handed stored id missing c (inr e)
 reacts_identify : (known : Bool) (p : Producer) (handed : List Line) (r : Receiver) (text : List ℕ) → p.stage ≡ stages.Identify → text ≡ identify_text (pos 4) → r.login ≡ LoggedIn → p.producer ≡ None → IsTyped p.target p.create → Counts p.producer p.acknowledged p.lines handed r.stored → Reacts known p handed r text
 unfolding identify_body header
 reacts_identify known p handed r text at is ready missing typed counts = record {
-  m = request_header.written (header (pos 22) (pos 0) (pos 4)) ++ identify_body;
-  whole = ap front is ∙ front_request (pos 22) (pos 0) (pos 4) identify_body identify_short;
+  m = request_header.written (header INIT_PRODUCER_ID (pos 0) (pos 4)) ++ identify_body;
+  whole = ap front is ∙ front_request INIT_PRODUCER_ID (pos 0) (pos 4) identify_body identify_short;
   id = pos 4;
   asked = Identify;
-  reads = request_read (pos 22) (pos 0) (pos 4) identify_body (record { sfits = lit< tt }) (record { sfits = lit< tt }) (record { sfits = lit< tt }) ∙ ap (λ a. asks (pos 4) a) identify_asked;
+  reads = request_read INIT_PRODUCER_ID (pos 0) (pos 4) identify_body (record { sfits = lit< tt }) (record { sfits = lit< tt }) (record { sfits = lit< tt }) ∙ ap (λ a. asks (pos 4) a) identify_asked;
   body = identify_reply (pos r.next_id);
   after = record r { unread = []; next_id = suc r.next_id };
   comes = ap (λ l. logged_in_only l (receivers.identifies (bare r)) (bare r)) ready;
@@ -321,11 +324,11 @@ unfolding produce_body produce_ask header
 reacts_produce known id lines rest line batch p handed r text at first built is ready has typed c s =
     let small : length batch ≤ 1048588 = batch_small batch built.batch in
     record {
-      m = request_header.written (header (pos 0) (pos 3) (sequence p)) ++ produce_body p.target batch;
-      whole = ap front is ∙ front_request (pos 0) (pos 3) (sequence p) (produce_body p.target batch) (produce_short p.target batch typed.short.topic small);
+      m = request_header.written (header PRODUCE (pos 3) (sequence p)) ++ produce_body p.target batch;
+      whole = ap front is ∙ front_request PRODUCE (pos 3) (sequence p) (produce_body p.target batch) (produce_short p.target batch typed.short.topic small);
       id = sequence p;
       asked = Produce (produce_topics p.target batch);
-      reads = request_read (pos 0) (pos 3) (sequence p) (produce_body p.target batch) (record { sfits = lit< tt }) (record { sfits = lit< tt }) (sequence_fits p.acknowledged) ∙ ap (λ a. asks (sequence p) a) (produce_asked p.target batch typed.short.topic small typed.topic typed.partition);
+      reads = request_read PRODUCE (pos 3) (sequence p) (produce_body p.target batch) (record { sfits = lit< tt }) (record { sfits = lit< tt }) (sequence_fits p.acknowledged) ∙ ap (λ a. asks (sequence p) a) (produce_asked p.target batch typed.short.topic small typed.topic typed.partition);
       body = stored_reply (part_at p.target batch) (pos 0) s.offset;
       after = s.after;
       comes = ap (λ l. logged_in_only l (stores_part (Some (part_at p.target batch)) (bare r)) (bare r)) ready ∙ s.comes;

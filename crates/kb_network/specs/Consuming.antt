@@ -4,6 +4,7 @@ use Rattle.std.specs.Prelude.{drop, Option, Some, None, Result, Ok, Err, IsUtf8,
 use Rattle.std.specs.Int.{w32}
 use Rattle.std.specs.Ordering.{int_eq}
 use Rattle.kb_wire.specs.Codec.{whole}
+use Rattle.kb_wire.specs.declared.api_key.TheConstants.{FETCH}
 use Rattle.kb_wire.specs.declared.fault.WireFault.{WireFault}
 use Rattle.kb_api_group.specs.Frames.{Front, Whole, Partial, TooSmall, TooLarge, front}
 use Rattle.kb_api_group.specs.Layouts.{request_header}
@@ -77,7 +78,7 @@ if_fetch (Ok v) = part_of v.topics
 
 abbrev pub fetch_in : Result (RequestHeader × List ℕ) WireFault → Option Fetch
 fetch_in (Err fault) = None
-fetch_in (Ok h) = if int_eq h.0.api_key (pos 1) && int_eq h.0.api_version (pos 5) then if_fetch (whole fetch_request_v5 h.1) else None
+fetch_in (Ok h) = if int_eq h.0.api_key FETCH && int_eq h.0.api_version (pos 5) then if_fetch (whole fetch_request_v5 h.1) else None
 
 -- the fetch that a frame is, if it is one
 unfoldable pub fetch_of : List ℕ → Option Fetch

@@ -5,6 +5,10 @@ use Rattle.std.specs.Ordering.{int_eq}
 use Rattle.std.specs.Str.{bytes_eq}
 use Rattle.std.specs.List.{list_any}
 use Rattle.kb_wire.specs.Codec.{whole}
+use Rattle.kb_wire.specs.ErrorCode.{code_of}
+use Rattle.kb_wire.specs.declared.api_key.TheConstants.{PRODUCE, SASL_HANDSHAKE, CREATE_TOPICS, INIT_PRODUCER_ID, SASL_AUTHENTICATE}
+use Rattle.kb_wire.specs.declared.error_code.ErrorCode.TheVariants.{UnsupportedSaslMechanism, IllegalSaslState, SaslAuthenticationFailed}
+use Rattle.kb_wire.specs.declared.error_code.ErrorCode.TheVariants.{TopicAlreadyExists, OutOfOrderSequenceNumber, InvalidRecord}
 use Rattle.kb_wire.specs.declared.fault.WireFault.{WireFault}
 use Rattle.kb_api_group.specs.Plain.{plain}
 use Rattle.kb_api_group.specs.Layouts.{request_header, sasl_handshake_request, sasl_handshake_reply, sasl_authenticate_request}
@@ -67,15 +71,19 @@ abbrev pub if_read : {A : Type 0} → Result A WireFault → (A → Asked) → A
 if_read (Ok v) f = f v
 if_read (Err fault) f = Malformed
 
--- a body, by its key and version: SaslHandshake, SaslAuthenticate, CreateTopics, InitProducerId, Produce
+-- a body, by its key and version
 abbrev pub asked_by : ℤ → ℤ → List ℕ → Asked
 asked_by key version body =
-    if int_eq key (pos 17) && int_eq version (pos 1) then if_read (whole sasl_handshake_request body) (λ v. Handshake v.mechanism)
-    else if int_eq key (pos 36) && int_eq version (pos 0)
+    if int_eq key SASL_HANDSHAKE && int_eq version (pos 1)
+    then if_read (whole sasl_handshake_request body) (λ v. Handshake v.mechanism)
+    else if int_eq key SASL_AUTHENTICATE && int_eq version (pos 0)
     then if_read (whole sasl_authenticate_request body) (λ v. Authenticate v.auth_bytes)
-    else if int_eq key (pos 19) && int_eq version (pos 0) then if_read (whole create_topics_request body) (λ v. Create v.topics)
-    else if int_eq key (pos 22) && int_eq version (pos 0) then if_read (whole init_producer_id_request body) (λ v. Identify)
-    else if int_eq key (pos 0) && int_eq version (pos 3) then if_read (whole produce_request body) (λ v. Produce v.topics)
+    else if int_eq key CREATE_TOPICS && int_eq version (pos 0)
+    then if_read (whole create_topics_request body) (λ v. Create v.topics)
+    else if int_eq key INIT_PRODUCER_ID && int_eq version (pos 0)
+    then if_read (whole init_producer_id_request body) (λ v. Identify)
+    else if int_eq key PRODUCE && int_eq version (pos 3)
+    then if_read (whole produce_request body) (λ v. Produce v.topics)
     else Malformed
 
 -- a request: its correlation id, and what it asks
@@ -130,27 +138,27 @@ knows_login users (Some login) = list_any (is_login login) users
 unfoldable pub knows : List PlainLogin → List ℕ → Bool
 knows users message = knows_login users (plain message)
 
--- the mechanism PLAIN is accepted; 33 is the answer to another
+-- the mechanism PLAIN alone is accepted
 abbrev pub shakes : Bool → Receiver → Outcome
 shakes true r = replies (handshake_reply (pos 0)) (record r { login = Shaken })
-shakes false r = replies (handshake_reply (pos 33)) r
+shakes false r = replies (handshake_reply (code_of UnsupportedSaslMechanism)) r
 
--- 34 is the answer to what does not belong there
+-- a login does not belong where one was made
 abbrev pub shaken : Login → List ℕ → Receiver → Outcome
 shaken Greets mechanism r = shakes (bytes_eq mechanism (codes "PLAIN")) r
 shaken Shaken mechanism r = shakes (bytes_eq mechanism (codes "PLAIN")) r
-shaken LoggedIn mechanism r = replies (handshake_reply (pos 34)) r
+shaken LoggedIn mechanism r = replies (handshake_reply (code_of IllegalSaslState)) r
 shaken Shut mechanism r = shuts r
 
--- 58 is the answer to a wrong user or password, and the connection is shut after it
+-- after a wrong user or password the connection is shut
 abbrev pub logs_in : Bool → Receiver → Outcome
 logs_in true r = replies (authenticate_reply (pos 0)) (record r { login = LoggedIn })
-logs_in false r = replies (authenticate_reply (pos 58)) (record r { login = Shut })
+logs_in false r = replies (authenticate_reply (code_of SaslAuthenticationFailed)) (record r { login = Shut })
 
 abbrev pub authenticated : Login → List ℕ → Receiver → Outcome
-authenticated Greets message r = replies (authenticate_reply (pos 34)) r
+authenticated Greets message r = replies (authenticate_reply (code_of IllegalSaslState)) r
 authenticated Shaken message r = logs_in (knows r.users message) r
-authenticated LoggedIn message r = replies (authenticate_reply (pos 34)) r
+authenticated LoggedIn message r = replies (authenticate_reply (code_of IllegalSaslState)) r
 authenticated Shut message r = shuts r
 
 -- ---- the topic and the producer id
@@ -158,9 +166,10 @@ authenticated Shut message r = shuts r
 abbrev pub create_reply : ℤ → List CreateTopic → List ℕ
 create_reply code topics = create_topics_reply.written (record { topics = map (λ t. record { name = t.name; error_code = code }) topics })
 
--- 36 is the answer where the topic is there
+-- a topic that is there is not made again
 abbrev pub creates : List CreateTopic → Receiver → Outcome
-creates topics r = replies (create_reply (if r.created then pos 36 else pos 0) topics) (record r { created = true })
+creates topics r =
+    replies (create_reply (if r.created then code_of TopicAlreadyExists else pos 0) topics) (record r { created = true })
 
 abbrev pub identify_reply : ℤ → List ℕ
 identify_reply id =
@@ -240,16 +249,16 @@ stored_reply part code offset = produce_reply.written (record {
   throttle_time_ms = pos 0;
 })
 
--- the next value is stored; a repeat of the last is answered with its offset, and changes nothing; 45 is the answer to any other
+-- the next value is stored; a repeat of the last is answered with its offset, and changes nothing; any other is refused
 abbrev pub stores : Verdict → Part → ProducerId → List ℕ → Receiver → Outcome
 stores Next part p value r = replies (stored_reply part (pos 0) (pos (length r.stored)))
     (record r { stored = r.stored ++ record { producer = p; value = value } ∷ [] })
 stores Repeated part p value r = replies (stored_reply part (pos 0) (pos (last_by p 0 0 r.stored))) r
-stores OutOfOrder part p value r = replies (stored_reply part (pos 45) (negsuc 0)) r
+stores OutOfOrder part p value r = replies (stored_reply part (code_of OutOfOrderSequenceNumber) (negsuc 0)) r
 
--- 87 is the answer to what is no batch of one value
+-- what is no batch of one value is refused
 abbrev pub stores_batch : Option (List ℕ) → Part → ProducerId → Receiver → Outcome
-stores_batch None part p r = replies (stored_reply part (pos 87) (negsuc 0)) r
+stores_batch None part p r = replies (stored_reply part (code_of InvalidRecord) (negsuc 0)) r
 stores_batch (Some value) part p r = stores (verdict (count_by p r.stored) (base_sequence_of part.batch)) part p value r
 
 abbrev pub stores_part : Option Part → Receiver → Outcome

@@ -1,5 +1,6 @@
 -- What becomes of a producer's batch, by the batches that are in the partition's list now (Kafka documentation, "Idempotent Producer").
-use Rattle.std.specs.Prelude.{ℕ, ℤ, pos, negsuc, ◌+ℤ◌, List, Bool, ◌&&◌, filter, take, reverse, if◌then◌else◌, int_lt, slice_get, Option, Some, None}
+use Rattle.std.specs.Prelude.{ℕ, ℤ, pos, negsuc, ◌+ℤ◌, List, Bool, ◌&&◌, filter, take, reverse, if◌then◌else◌, int_lt, slice_get, Option}
+use Rattle.std.specs.Prelude.{Some, None}
 use Rattle.std.specs.List.{find}
 use Rattle.std.specs.Ordering.{int_eq}
 use Rattle.std.specs.Int.{int_rem_euclid}
@@ -30,7 +31,8 @@ next_sequence last = int_rem_euclid (last +ℤ pos 1) (pos 2147483648)
 
 -- The batch comes again: it has the same epoch, and the same first and last sequence.
 abbrev pub is_repeat : Kept → Kept → Bool
-is_repeat batch k = int_eq k.producer_epoch batch.producer_epoch && int_eq k.base_sequence batch.base_sequence && int_eq k.last_sequence batch.last_sequence
+is_repeat batch k =
+    int_eq k.producer_epoch batch.producer_epoch && int_eq k.base_sequence batch.base_sequence && int_eq k.last_sequence batch.last_sequence
 
 -- It follows the last one, or is refused.
 abbrev pub following : ℤ → ℤ → Verdict
@@ -45,7 +47,8 @@ judged_same batch last None = following batch.base_sequence (next_sequence last.
 abbrev pub begins : Kept → ℤ → Verdict
 begins batch fault = if int_eq batch.base_sequence (pos 0) then Append else Refuse fault
 
--- By the newest of the producer's last batches, if there is one. A first batch, and the first of a new epoch, begin at sequence 0; an older epoch is refused.
+-- By the newest of the producer's last batches, if there is one. A first batch, and the first of a new epoch, begin at sequence 0; an
+-- older epoch is refused.
 abbrev pub judged_by : Kept → List Kept → Option Kept → Verdict
 judged_by batch recent None = begins batch UNKNOWN_PRODUCER_ID
 judged_by batch recent (Some last) =

@@ -41,7 +41,16 @@ bob = record { name = codes "bob"; password = codes "pw2"; tenant = codes "b" }
 
 -- the standard settings
 abbrev pub standard : Values
-standard = record { host = codes "localhost"; port = 9092; segment_bytes = 16777216; cache_batches = 1024; connections = 1024; output_bytes = 268435456; folder = None; users = ann ∷ bob ∷ [] }
+standard = record {
+  host = codes "localhost";
+  port = 9092;
+  segment_bytes = 16777216;
+  cache_batches = 1024;
+  connections = 1024;
+  output_bytes = 268435456;
+  folder = None;
+  users = ann ∷ bob ∷ [];
+}
 
 -- a text that names their two users
 abbrev pub standard_text : List ℕ

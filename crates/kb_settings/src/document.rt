@@ -20,7 +20,8 @@ pub fn at<'a>(document: &'a Table, key: &str) -> Option<&'a Value>
 
 /// The host that clients are told.
 pub fn host(document: &Table) -> Option<&str>
-    ensures says { option_map (λ text. text.now) result ≡ said_or (codes "localhost") (text_in is_host) (get_member (codes "host") (table_view document.now)) }
+    ensures says { option_map (λ text. text.now) result
+        ≡ said_or (codes "localhost") (text_in is_host) (get_member (codes "host") (table_view document.now)) }
     ensures fits { IfSome result (λ text. IsTrue (is_host text.now)) }
 {
     match at(document, "host") {
@@ -71,7 +72,8 @@ fn number_in(value: &Value, low: u32, high: u32) -> Option<u32>
 
 /// The data folder, where there is one.
 pub fn folder(document: &Table) -> Option<Option<&str>>
-    ensures { option_map (option_map (λ text. text.now)) result ≡ said_or None folder_in (get_member (codes "data") (table_view document.now)) }
+    ensures { option_map (option_map (λ text. text.now)) result
+        ≡ said_or None folder_in (get_member (codes "data") (table_view document.now)) }
 {
     match at(document, "data") {
         None => Some(None),

@@ -19,7 +19,8 @@ const KEYS: [&str; 3] = ["name", "password", "tenant"];
 
 /// The users of a document, unless something is wrong with them.
 pub fn users(alloc: Global, document: &Table) -> Result<Option<Vec<User>>, AllocError>
-    ensures says { IfOk result (λ users. option_map (λ us. map account_of us.items) users ≡ option_and_then users_in (get_member (codes "user") (table_view document.now))) }
+    ensures says { IfOk result (λ users. option_map (λ us. map account_of us.items) users
+        ≡ option_and_then users_in (get_member (codes "user") (table_view document.now))) }
     ensures count { IfOk result (λ users. IfSome users (λ us. (1 ≤ length us.items) × (length us.items ≤ 1000))) }
     ensures names { IfOk result (λ users. IfSome users (λ us. IsTrue (are_different (map (λ u. string_bytes u.name) us.items)))) }
     ensures tenants { IfOk result (λ users. IfSome users (λ us. length (in_order (map (λ u. string_bytes u.tenant) us.items)) ≤ 256)) }

@@ -1,5 +1,6 @@
 -- What a disk is to those who use it, and how each call takes one disk to the next.
-use Rattle.std.specs.Prelude.{◌≡◌, ◌≤◌, ◌<◌, ◌+◌, ◌-◌, ◌^◌, ◌++◌, ◌⊎◌, ℕ, List, [], length, take, unwrap_or, IsSome, option_map, min, Result, IsErrOf}
+use Rattle.std.specs.Prelude.{◌≡◌, ◌≤◌, ◌<◌, ◌+◌, ◌-◌, ◌^◌, ◌++◌, ◌⊎◌, ℕ, List, [], length, take, unwrap_or, IsSome, option_map, min}
+use Rattle.std.specs.Prelude.{Result, IsErrOf}
 use Rattle.std.specs.Ordering.{nat_cmp}
 use Rattle.std.specs.FinMap.{FinMap, get, insert, remove}
 use Rattle.kb_store.specs.declared.fault.StoreFault.{StoreFault}
@@ -57,7 +58,8 @@ Creates old file new = Becomes old (insert old.table file 0) (insert old.files f
 
 -- The file ends with those bytes, behind what it had.
 abbrev pub Appends : Disk → ℕ → List ℕ → Disk → Type 0
-Appends old file bytes new = Becomes old (insert old.table file (len_of old file + length bytes)) (insert old.files file (bytes_of old file ++ bytes)) new
+Appends old file bytes new =
+    Becomes old (insert old.table file (len_of old file + length bytes)) (insert old.files file (bytes_of old file ++ bytes)) new
 
 -- The file has its first bytes alone.
 abbrev pub Cuts : Disk → ℕ → ℕ → Disk → Type 0

@@ -18,7 +18,8 @@ one_more n = min (n + 1) 18446744073709551615
 
 -- The inner disk, whose device also failed at each refused call. The count stays at u64's end.
 abbrev pub fused_disk : Disk → ℕ → Disk
-fused_disk d refused = record { table = d.table; files = d.files; honest = d.honest; failures = min (d.failures + refused) 18446744073709551615 }
+fused_disk d refused =
+    record { table = d.table; files = d.files; honest = d.honest; failures = min (d.failures + refused) 18446744073709551615 }
 
 abbrev pub disk_through : {S : Type 0} → (S → Disk) → FusedStore S → Disk
 disk_through inner s = fused_disk (inner s.store) s.refused

@@ -59,7 +59,11 @@ impl<S: Store> FusedStore<S> {
     // Counts a call, and answers whether it is refused.
     fn refuses(&mut self) -> bool
         ensures answer { result ≡ refuses_call self.old.fuse (one_more self.old.calls) }
-        ensures counted { self.new ≡ record self.old { calls = one_more self.old.calls; refused = if result then one_more self.old.refused else self.old.refused } }
+        ensures counted { self.new ≡ record self.old {
+          calls = one_more self.old.calls;
+          refused = if result then one_more self.old.refused
+              else self.old.refused;
+        } }
     {
         self.calls = self.calls.saturating_add(1);
         let refuses = match self.fuse {
@@ -74,7 +78,8 @@ impl<S: Store> FusedStore<S> {
 }
 
 impl<S: Store> Store for FusedStore<S> {
-    ghost use Rattle.kb_store.specs.Disk.{IsThere, len_of, bytes_of, Keeps, Creates, Appends, Cuts, Removes, MayCreate, AppendsSome, HasCause};
+    ghost use Rattle.kb_store.specs.Disk.{IsThere, len_of, bytes_of, Keeps, Creates, Appends, Cuts, Removes, MayCreate, AppendsSome};
+    ghost use Rattle.kb_store.specs.Disk.{HasCause};
     ghost use Rattle.kb_store.specs.Fused.{disk_through, fused_lawful, Counts, refuses_call, one_more};
 
     ghost disk = { disk_through S.disk };
@@ -135,7 +140,8 @@ impl<S: Store> Store for FusedStore<S> {
         ensures cause { HasCause (disk_through S.disk self.old) result (disk_through S.disk self.new) }
         ensures counts { Counts self.old result self.new }
         // A call that the fuse refuses leaves no more than the bytes that are to be kept.
-        ensures cut_short { refuses_call self.old.fuse (one_more self.old.calls) ≡ true → AppendsSome (disk_through S.disk self.old) file (take self.old.keep bytes.now) (disk_through S.disk self.new) }
+        ensures cut_short { refuses_call self.old.fuse (one_more self.old.calls) ≡ true
+            → AppendsSome (disk_through S.disk self.old) file (take self.old.keep bytes.now) (disk_through S.disk self.new) }
     {
         if self.refuses() {
             let kept = self.keep.min(bytes.len() as u64) as usize;
@@ -148,7 +154,8 @@ impl<S: Store> Store for FusedStore<S> {
     fn read_at(&mut self, file: u64, at: u64, buffer: &mut [u8]) -> Result<(), StoreFault>
         requires there { IsThere (disk_through S.disk self.old) file }
         requires within { at + length buffer.old ≤ len_of (disk_through S.disk self.old) file }
-        ensures bytes { OnOk result ((disk_through S.disk self.new).honest → buffer.new ≡ take (length buffer.old) (drop at (bytes_of (disk_through S.disk self.old) file))) }
+        ensures bytes { OnOk result ((disk_through S.disk self.new).honest
+            → buffer.new ≡ take (length buffer.old) (drop at (bytes_of (disk_through S.disk self.old) file))) }
         ensures kept { Keeps (disk_through S.disk self.old) (disk_through S.disk self.new) }
         ensures cause { HasCause (disk_through S.disk self.old) result (disk_through S.disk self.new) }
         ensures counts { Counts self.old result self.new }

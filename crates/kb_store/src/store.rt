@@ -1,7 +1,8 @@
 //! A store of numbered files, as its callers see it.
 ghost use Rattle.std.specs.Prelude.{◌≡◌, ◌≤◌, ◌<◌, ◌+◌, ◌⊎◌, ℕ, length, take, drop, None, IfOk, OnOk, OnErr};
 ghost use Rattle.std.specs.FinMap as map;
-ghost use Rattle.kb_store.specs.Disk.{Disk, IsThere, IsLawfulDisk, len_of, bytes_of, Keeps, Creates, Appends, Cuts, Removes, MayCreate, AppendsSome, HasCause};
+ghost use Rattle.kb_store.specs.Disk.{Disk, IsThere, IsLawfulDisk, len_of, bytes_of, Keeps, Creates, Appends, Cuts, Removes, MayCreate};
+ghost use Rattle.kb_store.specs.Disk.{AppendsSome, HasCause};
 
 use crate::StoreFault;
 use std::alloc::Global;
@@ -50,7 +51,8 @@ pub trait Store {
     fn read_at(&mut self, file: u64, at: u64, buffer: &mut [u8]) -> Result<(), StoreFault>
         requires there { IsThere (disk self.old) file }
         requires within { at + length buffer.old ≤ len_of (disk self.old) file }
-        ensures bytes { OnOk result ((disk self.new).honest → buffer.new ≡ take (length buffer.old) (drop at (bytes_of (disk self.old) file))) }
+        ensures bytes { OnOk result ((disk self.new).honest
+            → buffer.new ≡ take (length buffer.old) (drop at (bytes_of (disk self.old) file))) }
         ensures kept { Keeps (disk self.old) (disk self.new) }
         ensures cause { HasCause (disk self.old) result (disk self.new) };
 

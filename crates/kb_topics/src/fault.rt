@@ -2,6 +2,7 @@
 ghost use Rattle.std.specs.Prelude.{◌≡◌};
 
 use kb_log::LogFault;
+use kb_wire::ErrorCode;
 use std::alloc::{AllocError, AllocFailed};
 use thiserror::Error;
 
@@ -49,21 +50,21 @@ pub enum CatalogFault {
 impl CatalogFault {
     ghost use Rattle.kb_topics.specs.CatalogFault.{code_of};
 
-    /// The error code of the Kafka protocol guide: 17, 36, 37, 40, 44, 3, 12, 1, -1, 56, 56 or -1, in the order of the faults.
+    /// The number of the fault's error code.
     pub fn code(&self) -> i16
         ensures { result ≡ code_of self.now }
     {
         match self {
-            CatalogFault::Name => 17,
-            CatalogFault::Exists => 36,
-            CatalogFault::Partitions => 37,
-            CatalogFault::Limit => 40,
-            CatalogFault::TooMany => 44,
-            CatalogFault::Unknown => 3,
-            CatalogFault::Metadata => 12,
-            CatalogFault::Back => 1,
-            CatalogFault::Full | CatalogFault::Store => 56,
-            CatalogFault::UsedUp | CatalogFault::Memory => -1,
+            CatalogFault::Name => ErrorCode::InvalidTopic.code(),
+            CatalogFault::Exists => ErrorCode::TopicAlreadyExists.code(),
+            CatalogFault::Partitions => ErrorCode::InvalidPartitions.code(),
+            CatalogFault::Limit => ErrorCode::InvalidConfig.code(),
+            CatalogFault::TooMany => ErrorCode::PolicyViolation.code(),
+            CatalogFault::Unknown => ErrorCode::UnknownTopicOrPartition.code(),
+            CatalogFault::Metadata => ErrorCode::OffsetMetadataTooLarge.code(),
+            CatalogFault::Back => ErrorCode::OffsetOutOfRange.code(),
+            CatalogFault::Full | CatalogFault::Store => ErrorCode::KafkaStorageError.code(),
+            CatalogFault::UsedUp | CatalogFault::Memory => ErrorCode::UnknownServerError.code(),
         }
     }
 }

@@ -40,7 +40,8 @@ pub record AreParked (queue : Queue) (IsSuch : Wait → Type 0) (connections : L
 -- a wait is stored as the pair of its fields
 abbrev pub wait_code : Coded Wait
 wait_code =
-    code_by (ℕ × List WaitKey) (coded× coded_ℕ (coded_list the_row.coded)) (λ w. (w.deadline, w.keys)) (λ p. record { deadline = p.0; keys = p.1 }) (λ _. refl)
+    code_by (ℕ × List WaitKey) (coded× coded_ℕ (coded_list the_row.coded)) (λ w. (w.deadline, w.keys)) (λ p.
+    record { deadline = p.0; keys = p.1 }) (λ _. refl)
 
 -- a queue is stored as its entries
 abbrev pub queue_code : Coded Queue

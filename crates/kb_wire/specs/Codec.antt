@@ -1,5 +1,7 @@
--- How a value is spelled in bytes, and how bytes are read: the primitives of the Kafka protocol guide ("Protocol Primitive Types"), and the ways to put them together.
-use Rattle.std.specs.Prelude.{◌≡◌, ℕ, zero, suc, ℤ, pos, negsuc, Bool, true, List, [], ◌∷◌, ◌++◌, length, take, drop, Option, Some, None, Result, Ok, Err, nat_lt, ◌==◌, if◌then◌else◌, FitsSigned, IsUtf8, All, not}
+-- How a value is spelled in bytes, and how bytes are read: the primitives of the Kafka protocol guide ("Protocol Primitive Types"), and
+-- the ways to put them together.
+use Rattle.std.specs.Prelude.{◌≡◌, ℕ, zero, suc, ℤ, pos, negsuc, Bool, true, List, [], ◌∷◌, ◌++◌, length, take, drop, Option, Some, None}
+use Rattle.std.specs.Prelude.{Result, Ok, Err, nat_lt, ◌==◌, if◌then◌else◌, FitsSigned, IsUtf8, All, not}
 use Rattle.std.specs.Int.{Width, w8, w16, w32, w64, byte_len, from_be_bytes, to_be_bytes, cast_signed, cast_unsigned}
 use Rattle.std.specs.List.{flat_map}
 use Rattle.std.specs.Str.{is_utf8}
@@ -31,7 +33,8 @@ pub record Codec (A : Type 0) : Type 1 where
 unfoldable pub int : Width → Codec ℤ
 int w = record {
   Spells = λ s v. (length s ≡ byte_len w) × (cast_signed w (from_be_bytes w s) ≡ v);
-  read = λ s. if nat_lt (length s) (byte_len w) then Err Short else Ok (cast_signed w (from_be_bytes w (take (byte_len w) s)), drop (byte_len w) s);
+  read = λ s. if nat_lt (length s) (byte_len w) then Err Short
+      else Ok (cast_signed w (from_be_bytes w (take (byte_len w) s)), drop (byte_len w) s);
   written = λ v. to_be_bytes w (cast_unsigned w v);
   Fits = λ v. Unit {0};
   InRange = λ v. FitsSigned w v;

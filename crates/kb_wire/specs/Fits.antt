@@ -1,7 +1,8 @@
 -- When a value fits: what a caller of write shows.
 use Rattle.std.specs.Prelude.{◌<◌, ◌^◌, ℕ, List, length, Some, None, All}
 use Rattle.std.proofs.Common.{lit<}
-use Rattle.kb_wire.specs.Codec.{Codec, int, counted, nullable_counted, sized, nullable, octets, utf8, items, string, nullable_string, blob, nullable_blob, array, nullable_array}
+use Rattle.kb_wire.specs.Codec.{Codec, int, counted, nullable_counted, sized, nullable, octets, utf8, items, string, nullable_string, blob}
+use Rattle.kb_wire.specs.Codec.{nullable_blob, array, nullable_array}
 
 -- a text of at most 32767 bytes
 pub string_fits : (v : List ℕ) → length v < 2 ^ 15 → string.Fits v

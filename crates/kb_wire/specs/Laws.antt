@@ -1,5 +1,7 @@
 -- What each codec keeps, proved once for each primitive and for each way to put codecs together.
-use Rattle.std.proofs.Common.{◌≡◌, ℕ, zero, suc, ◌+◌, ◌-◌, ◌%◌, ◌^◌, ◌<◌, ◌≤◌, Bool, true, false, cond, ltb, List, [], ◌∷◌, ◌++◌, length, take, drop, Option, Some, None, Result, Ok, Err, refl, sym, ap, subst, ◌∙◌, append_assoc, arith, inl, inr, lit≤}
+use Rattle.std.proofs.Common.{◌≡◌, ℕ, zero, suc, ◌+◌, ◌-◌, ◌%◌, ◌^◌, ◌<◌, ◌≤◌, Bool, true, false, cond, ltb, List, [], ◌∷◌, ◌++◌, length}
+use Rattle.std.proofs.Common.{take, drop, Option, Some, None, Result, Ok, Err, refl, sym, ap, subst, ◌∙◌, append_assoc, arith, inl, inr}
+use Rattle.std.proofs.Common.{lit≤}
 use Rattle.std.specs.Prelude.{ℤ, pos, negsuc, FitsSigned, IsUtf8, not, ◌==◌, ◌⊎◌, replicate}
 use Rattle.std.specs.Int.{Width, w8, w16, w32, w64, byte_len, from_be_bytes, to_be_bytes, cast_signed, cast_unsigned}
 use Rattle.std.specs.List.{flat_map, AllByRecursion}
@@ -13,7 +15,10 @@ use Rattle.std.proofs.lemmas.Str.{is_utf8-from_IsUtf8, IsUtf8-from_is_utf8}
 use mir.Val.{bits, hbits, sel}
 use Rattle.kb_wire.specs.declared.fault.WireFault.{WireFault}
 use Rattle.kb_wire.specs.declared.fault.WireFault.TheVariants.{Short, Bad}
-use Rattle.kb_wire.specs.Codec.{◌>>=◌, Codec, Body, int, boolean, boolean_at, as_count, counted, as_nullable_count, nullable_number, nullable_counted, count, nullable_count, octets, utf8, SpellEach, items_at, items, sized, nullable_at, SpellsNullable, nullable, int8, int16, int32, int64, string, nullable_string, blob, nullable_blob, array, nullable_array, nothing, ◌⊗◌, via, refined}
+use Rattle.kb_wire.specs.Codec.{◌>>=◌, Codec, Body, int, boolean, boolean_at, as_count, counted, as_nullable_count, nullable_number}
+use Rattle.kb_wire.specs.Codec.{nullable_counted, count, nullable_count, octets, utf8, SpellEach, items_at, items, sized, nullable_at}
+use Rattle.kb_wire.specs.Codec.{SpellsNullable, nullable, int8, int16, int32, int64, string, nullable_string, blob, nullable_blob, array}
+use Rattle.kb_wire.specs.Codec.{nullable_array, nothing, ◌⊗◌, via, refined}
 
 pub record IsLawful {A : Type 0} (c : Codec A) : Type 0 where
   -- what is read is spelled so
@@ -32,7 +37,8 @@ pub record IsLawful {A : Type 0} (c : Codec A) : Type 0 where
 
 -- the same of what stands behind a length or a count
 pub record IsLawfulBody {A : Type 0} (b : Body A) : Type 0 where
-  pub found : (n : ℕ) (s : List ℕ) (v : A) (rest : List ℕ) → b.read n s ≡ Ok (v, rest) → (x : List ℕ) × (s ≡ x ++ rest) × b.Spells x v × (b.size v ≡ n)
+  pub found : (n : ℕ) (s : List ℕ) (v : A) (rest : List ℕ) → b.read n s ≡ Ok (v, rest) → (x : List ℕ) × (s ≡ x ++ rest) × b.Spells x v
+      × (b.size v ≡ n)
   pub only : (x : List ℕ) (v : A) (rest : List ℕ) → b.Spells x v → b.read (b.size v) (x ++ rest) ≡ Ok (v, rest)
   pub bad : (n : ℕ) (s t : List ℕ) → b.read n s ≡ Err Bad → b.read n (s ++ t) ≡ Err Bad
   pub ends : (n : ℕ) (s : List ℕ) → (t : List ℕ) × (b.read n (s ++ t) ≡ Err Short → ⊥)
@@ -57,7 +63,8 @@ ShortEnds c = (s : List ℕ) → c.read s ≡ Err Short → (t : List ℕ) × (c
 -- ---- steps that may fail
 
 -- the value of a step that did not fail
-pub bind_ok : {A B : Type 0} (r : Result A WireFault) (f : A → Result B WireFault) (y : B) → (r >>= f) ≡ Ok y → (x : A) × (r ≡ Ok x) × (f x ≡ Ok y)
+pub bind_ok : {A B : Type 0} (r : Result A WireFault) (f : A → Result B WireFault) (y : B) → (r >>= f) ≡ Ok y → (x : A) × (r ≡ Ok x)
+    × (f x ≡ Ok y)
 bind_ok (Ok x) f y e = (x, refl, e)
 bind_ok (Err d) f y e = absurd cc
 
@@ -81,7 +88,8 @@ guard_passed true d x y e = (refl, cc)
 guard_passed false d x y e = absurd cc
 
 -- where a step failed, it is the first or the second that did
-pub bind_err : {A B : Type 0} (r : Result A WireFault) (f : A → Result B WireFault) (d : WireFault) → (r >>= f) ≡ Err d → (r ≡ Err d) ⊎ ((x : A) × (r ≡ Ok x) × (f x ≡ Err d))
+pub bind_err : {A B : Type 0} (r : Result A WireFault) (f : A → Result B WireFault) (d : WireFault) → (r >>= f) ≡ Err d → (r ≡ Err d)
+    ⊎ ((x : A) × (r ≡ Ok x) × (f x ≡ Err d))
 bind_err (Ok x) f d e = inr (x, refl, e)
 bind_err (Err c) f d e = inl cc
 
@@ -91,7 +99,8 @@ map_err (Ok x) f d e = absurd cc
 map_err (Err c) f d e = cc
 
 -- what was read is read again, whatever follows
-pub more_ok : {A : Type 0} (c : Codec A) → IsLawful c → (s t : List ℕ) (v : A) (rest : List ℕ) → c.read s ≡ Ok (v, rest) → c.read (s ++ t) ≡ Ok (v, rest ++ t)
+pub more_ok : {A : Type 0} (c : Codec A) → IsLawful c → (s t : List ℕ) (v : A) (rest : List ℕ) → c.read s ≡ Ok (v, rest)
+    → c.read (s ++ t) ≡ Ok (v, rest ++ t)
 more_ok c l s t v rest e =
     let f = l.found s v rest e in
     ap c.read (ap (λ u. u ++ t) f.1 ∙ append_assoc f.0 rest t) ∙ l.only f.0 v (rest ++ t) f.2
@@ -101,21 +110,27 @@ two_parts : (s a t b rest : List ℕ) → s ≡ a ++ t → t ≡ b ++ rest → s
 two_parts s a t b rest e f = e ∙ ap (λ u. a ++ u) f ∙ sym (append_assoc a b rest)
 
 -- what a step after a codec keeps
-pub bad_then : {A B : Type 0} (c : Codec A) → IsLawful c → (f : A × List ℕ → Result B WireFault) → ((v : A) (rest t : List ℕ) → f (v, rest) ≡ Err Bad → f (v, rest ++ t) ≡ Err Bad) → (s t : List ℕ) → (c.read s >>= f) ≡ Err Bad → (c.read (s ++ t) >>= f) ≡ Err Bad
+pub bad_then : {A B : Type 0} (c : Codec A) → IsLawful c → (f : A × List ℕ → Result B WireFault)
+    → ((v : A) (rest t : List ℕ) → f (v, rest) ≡ Err Bad → f (v, rest ++ t) ≡ Err Bad) → (s t : List ℕ) → (c.read s >>= f) ≡ Err Bad
+    → (c.read (s ++ t) >>= f) ≡ Err Bad
 bad_then c l f after s t e =
     elim (bind_err (c.read s) f Bad e) [
       | inl h ↦ rw (l.bad s t h) refl
       | inr h ↦ rw (more_ok c l s t h.0.0 h.0.1 h.1) (after h.0.0 h.0.1 t h.2)
     ]
 
-ends_after : {A B : Type 0} (c : Codec A) → IsLawful c → (f : A × List ℕ → Result B WireFault) → ((v : A) (rest : List ℕ) → (t : List ℕ) × (f (v, rest ++ t) ≡ Err Short → ⊥)) → (s : List ℕ) (r : Result (A × List ℕ) WireFault) → c.read s ≡ r → (r ≡ Err Short → ⊥) → (t : List ℕ) × ((c.read (s ++ t) >>= f) ≡ Err Short → ⊥)
+ends_after : {A B : Type 0} (c : Codec A) → IsLawful c → (f : A × List ℕ → Result B WireFault)
+    → ((v : A) (rest : List ℕ) → (t : List ℕ) × (f (v, rest ++ t) ≡ Err Short → ⊥)) → (s : List ℕ) (r : Result (A × List ℕ) WireFault)
+    → c.read s ≡ r → (r ≡ Err Short → ⊥) → (t : List ℕ) × ((c.read (s ++ t) >>= f) ≡ Err Short → ⊥)
 ends_after c l f after s (Ok x) e n =
     let g = after x.0 x.1 in
     (g.0, rw (more_ok c l s g.0 x.0 x.1 e) g.1)
 ends_after c l f after s (Err Short) e n = absurd (n refl)
 ends_after c l f after s (Err Bad) e n = ([], rw (l.bad s [] e) (λ q. cc))
 
-pub ends_then : {A B : Type 0} (c : Codec A) → IsLawful c → (f : A × List ℕ → Result B WireFault) → ((v : A) (rest : List ℕ) → (t : List ℕ) × (f (v, rest ++ t) ≡ Err Short → ⊥)) → (s : List ℕ) → (t : List ℕ) × ((c.read (s ++ t) >>= f) ≡ Err Short → ⊥)
+pub ends_then : {A B : Type 0} (c : Codec A) → IsLawful c → (f : A × List ℕ → Result B WireFault)
+    → ((v : A) (rest : List ℕ) → (t : List ℕ) × (f (v, rest ++ t) ≡ Err Short → ⊥)) → (s : List ℕ) → (t : List ℕ)
+    × ((c.read (s ++ t) >>= f) ≡ Err Short → ⊥)
 ends_then c l f after s =
     let g = l.ends s in
     let h = ends_after c l f after (s ++ g.0) (c.read (s ++ g.0)) refl g.1 in
@@ -147,7 +162,8 @@ record IsWide (w : Width) : Type 0 where
   half : 2 ^ bits w ≤ 2 ^ hbits w + 2 ^ hbits w
 
 -- two's complement gives numbers of the width
-half_fits : (w : Width) (b : Bool) (m : ℕ) → 2 ^ bits w ≤ 2 ^ hbits w + 2 ^ hbits w → ltb m (2 ^ hbits w) ≡ b → FitsSigned w (sel b (pos m) (negsuc (2 ^ bits w - suc m)))
+half_fits : (w : Width) (b : Bool) (m : ℕ) → 2 ^ bits w ≤ 2 ^ hbits w + 2 ^ hbits w → ltb m (2 ^ hbits w) ≡ b
+    → FitsSigned w (sel b (pos m) (negsuc (2 ^ bits w - suc m)))
 half_fits w true m half t = record { sfits = ltb-true _ _ t }
 half_fits w false m half t =
     let low : 2 ^ hbits w ≤ m = ltb-false _ _ t in
@@ -191,13 +207,18 @@ int_lawful w wide = record {
   found = λ s v rest e.
       let k = byte_len w in
       let g = guard_ok (ltb (length s) k) Short (cast_signed w (from_be_bytes w (take k s)), drop k s) (v, rest) e in
-      let long : k ≤ length s = ltb-false _ _ g.0 in
-      (take k s, sym (take-append-drop k s) ∙ ap (λ t. take k s ++ t) (ap (λ p. p.1) g.1), (omega (arith, length-take k s), ap (λ p. p.0) g.1));
+      let long : k ≤ length s = ltb-false _ _ g.0 in (
+        take k s,
+        sym (take-append-drop k s) ∙ ap (λ t.
+            take k s ++ t) (ap (λ p. p.1) g.1),
+        (omega (arith, length-take k s), ap (λ p. p.0) g.1),
+      );
   only = λ x v rest h.
       let k = byte_len w in
       let long : ltb (length (x ++ rest)) k ≡ false = le-ltb _ _ (omega (arith, length-append x rest, h.0)) in
       rw (long, take_at x rest k h.0, drop_at x rest k h.0, h.1) refl;
-  bad = λ s t e. absurd (asked_bad (ltb (length s) (byte_len w)) (cast_signed w (from_be_bytes w (take (byte_len w) s)), drop (byte_len w) s) e);
+  bad = λ s t e. absurd (asked_bad (ltb (length s) (byte_len w))
+      (cast_signed w (from_be_bytes w (take (byte_len w) s)), drop (byte_len w) s) e);
   ends = λ s.
       let k = byte_len w in
       let t = s ++ to_be_bytes w 0 in
@@ -220,7 +241,8 @@ int32_lawful = int_lawful w32 wide32
 pub int64_lawful : IsLawful int64
 int64_lawful = int_lawful w64 wide64
 
-boolean_found : (s : List ℕ) (v : Bool) (rest : List ℕ) → boolean_at s ≡ Ok (v, rest) → (x : List ℕ) × (s ≡ x ++ rest) × ((b : ℕ) × (x ≡ b ∷ []) × (not (b == 0) ≡ v))
+boolean_found : (s : List ℕ) (v : Bool) (rest : List ℕ) → boolean_at s ≡ Ok (v, rest) → (x : List ℕ) × (s ≡ x ++ rest)
+    × ((b : ℕ) × (x ≡ b ∷ []) × (not (b == 0) ≡ v))
 boolean_found [] v rest e = absurd cc
 boolean_found (b ∷ s) v rest e =
     let is = ok_is (not (b == 0), s) (v, rest) e in
@@ -241,7 +263,8 @@ boolean_lawful = record {
   only = λ x v rest h. rw (h.1, h.2) refl;
   bad = boolean_bad;
   ends = boolean_ends;
-  again = λ v r f. elim v as (λ w. (b : ℕ) × (cond w 1 0 ∷ [] ≡ b ∷ []) × (not (b == 0) ≡ w)) [ true ↦ (1, refl, refl) | false ↦ (0, refl, refl) ];
+  again = λ v r f. elim v as (λ w. (b : ℕ) × (cond w 1 0 ∷ [] ≡ b ∷ [])
+      × (not (b == 0) ≡ w)) [ true ↦ (1, refl, refl) | false ↦ (0, refl, refl) ];
   fits = λ x v h. tt;
   in_range = λ x v h. tt;
 }
@@ -276,7 +299,8 @@ counted_lawful c l = record {
   in_range = λ x n h. tt;
 }
 
-as_nullable_count_ok : (z : ℤ) (s : List ℕ) (n : Option ℕ) (rest : List ℕ) → as_nullable_count z s ≡ Ok (n, rest) → (z ≡ nullable_number n) × (s ≡ rest)
+as_nullable_count_ok : (z : ℤ) (s : List ℕ) (n : Option ℕ) (rest : List ℕ) → as_nullable_count z s ≡ Ok (n, rest) → (z ≡ nullable_number n)
+    × (s ≡ rest)
 as_nullable_count_ok (pos m) s n rest e = let is = ok_is (Some m, s) (n, rest) e in (ap (λ p. nullable_number p.0) is, ap (λ p. p.1) is)
 as_nullable_count_ok (negsuc zero) s n rest e = let is = ok_is (None, s) (n, rest) e in (ap (λ p. nullable_number p.0) is, ap (λ p. p.1) is)
 as_nullable_count_ok (negsuc (suc m)) s n rest e = absurd cc
@@ -313,10 +337,12 @@ nullable_counted_lawful c l = record {
 
 -- ---- bodies
 
-body_more_ok : {A : Type 0} (b : Body A) → IsLawfulBody b → (n : ℕ) (s t : List ℕ) (v : A) (rest : List ℕ) → b.read n s ≡ Ok (v, rest) → b.read n (s ++ t) ≡ Ok (v, rest ++ t)
+body_more_ok : {A : Type 0} (b : Body A) → IsLawfulBody b → (n : ℕ) (s t : List ℕ) (v : A) (rest : List ℕ) → b.read n s ≡ Ok (v, rest)
+    → b.read n (s ++ t) ≡ Ok (v, rest ++ t)
 body_more_ok b l n s t v rest e =
     let f = l.found n s v rest e in
-    ap (λ u. b.read n u) (ap (λ u. u ++ t) f.1 ∙ append_assoc f.0 rest t) ∙ ap (λ k. b.read k (f.0 ++ (rest ++ t))) (sym f.3) ∙ l.only f.0 v (rest ++ t) f.2
+    ap (λ u. b.read n u) (ap (λ u. u ++ t) f.1 ∙ append_assoc f.0 rest t) ∙ ap (λ k. b.read k (f.0 ++ (rest ++ t))) (sym f.3)
+    ∙ l.only f.0 v (rest ++ t) f.2
 
 pub octets_lawful : IsLawfulBody octets
 unfolding octets
@@ -324,8 +350,13 @@ octets_lawful = record {
   found = λ n s v rest e.
       let g = guard_ok (ltb (length s) n) Short (take n s, drop n s) (v, rest) e in
       let long : n ≤ length s = ltb-false _ _ g.0 in
-      let front : take n s ≡ v = ap (λ p. p.0) g.1 in
-      (take n s, sym (take-append-drop n s) ∙ ap (λ t. take n s ++ t) (ap (λ p. p.1) g.1), front, ap length (sym front) ∙ omega (arith, length-take n s));
+      let front : take n s ≡ v = ap (λ p. p.0) g.1 in (
+        take n s,
+        sym (take-append-drop n s) ∙ ap (λ t. take n s ++ t) (ap (λ p. p.1) g.1),
+        front,
+        ap length (sym front)
+            ∙ omega (arith, length-take n s),
+      );
   only = λ x v rest h.
       let same : length x ≡ length v = ap length h in
       let long : ltb (length (x ++ rest)) (length v) ≡ false = le-ltb _ _ (omega (arith, length-append x rest)) in
@@ -355,35 +386,45 @@ utf8_lawful = record {
         | inl h ↦ rw (octets_lawful.bad n s t h) refl
         | inr h ↦ rw (body_more_ok octets octets_lawful n s t h.0.0 h.0.1 h.1) (passed_bad (is_utf8 h.0.0) h.0 (h.0.0, h.0.1 ++ t) h.2)
       ];
-  ends = λ n s. let g = octets_lawful.ends n s in (g.0, λ e. elim (bind_err (octets.read n (s ++ g.0)) (λ x. cond (is_utf8 x.0) (Ok x) (Err Bad)) Short e) [ inl h ↦ g.1 h | inr h ↦ passed_ends (is_utf8 h.0.0) h.0 h.2 ]);
+  ends = λ n s. let g = octets_lawful.ends n s in (
+    g.0,
+    λ e. elim (bind_err (octets.read n (s ++ g.0)) (λ x.
+        cond (is_utf8 x.0) (Ok x) (Err Bad)) Short e) [ inl h ↦ g.1 h | inr h ↦ passed_ends (is_utf8 h.0.0) h.0 h.2 ],
+  );
   again = λ v r f. (refl, r);
   fits = λ x v h. tt;
   in_range = λ x v h. h.1;
 }
 
-each_cons : {A : Type 0} (spells : List ℕ → A → Type 0) (x y : List ℕ) (v : A) (vs : List A) → spells x v → SpellEach spells y vs → SpellEach spells (x ++ y) (v ∷ vs)
+each_cons : {A : Type 0} (spells : List ℕ → A → Type 0) (x y : List ℕ) (v : A) (vs : List A) → spells x v → SpellEach spells y vs
+    → SpellEach spells (x ++ y) (v ∷ vs)
 each_cons spells x y v vs p q = (x, y, refl, p, q)
 
-items_found : {A : Type 0} (c : Codec A) → IsLawful c → (n : ℕ) (s : List ℕ) (vs : List A) (rest : List ℕ) → items_at c.read n s ≡ Ok (vs, rest) → (x : List ℕ) × (s ≡ x ++ rest) × SpellEach c.Spells x vs × (length vs ≡ n)
+items_found : {A : Type 0} (c : Codec A) → IsLawful c → (n : ℕ) (s : List ℕ) (vs : List A) (rest : List ℕ)
+    → items_at c.read n s ≡ Ok (vs, rest) → (x : List ℕ) × (s ≡ x ++ rest) × SpellEach c.Spells x vs × (length vs ≡ n)
 unfolding items_at
 items_found {A} c l zero s vs rest e =
     let start : List A × List ℕ = ([], s) in
-    subst (λ (q : List A × List ℕ). (x : List ℕ) × (s ≡ x ++ q.1) × SpellEach c.Spells x q.0 × (length q.0 ≡ 0)) (ok_is start (vs, rest) e) ([], refl, refl, refl)
+    subst (λ (q : List A × List ℕ). (x : List ℕ) × (s ≡ x ++ q.1) × SpellEach c.Spells x q.0
+    × (length q.0 ≡ 0)) (ok_is start (vs, rest) e) ([], refl, refl, refl)
 items_found {A} c l (suc n) s vs rest e =
     let p = bind_ok (c.read s) (λ first. items_at c.read n first.1 >>= λ others. Ok (first.0 ∷ others.0, others.1)) (vs, rest) e in
     let q = bind_ok (items_at c.read n p.0.1) (λ others. Ok (p.0.0 ∷ others.0, others.1)) (vs, rest) p.2 in
     let f = l.found s p.0.0 p.0.1 p.1 in
     let o = items_found c l n p.0.1 q.0.0 q.0.1 q.1 in
     let made : List A × List ℕ = (p.0.0 ∷ q.0.0, q.0.1) in
-    subst (λ (q : List A × List ℕ). (x : List ℕ) × (s ≡ x ++ q.1) × SpellEach c.Spells x q.0 × (length q.0 ≡ suc n)) (ok_is made (vs, rest) q.2)
+    subst (λ (q : List A × List ℕ). (x : List ℕ) × (s ≡ x ++ q.1) × SpellEach c.Spells x q.0
+    × (length q.0 ≡ suc n)) (ok_is made (vs, rest) q.2)
     (f.0 ++ o.0, two_parts s f.0 p.0.1 o.0 q.0.1 f.1 o.1, each_cons c.Spells f.0 o.0 p.0.0 q.0.0 f.2 o.2, ap suc o.3)
 
-items_only : {A : Type 0} (c : Codec A) → IsLawful c → (x : List ℕ) (vs : List A) (rest : List ℕ) → SpellEach c.Spells x vs → items_at c.read (length vs) (x ++ rest) ≡ Ok (vs, rest)
+items_only : {A : Type 0} (c : Codec A) → IsLawful c → (x : List ℕ) (vs : List A) (rest : List ℕ) → SpellEach c.Spells x vs
+    → items_at c.read (length vs) (x ++ rest) ≡ Ok (vs, rest)
 unfolding items_at
 items_only c l x [] rest h = rw h refl
 items_only c l x (v ∷ vs) rest h = rw (h.2, append_assoc, l.only h.0 v (h.1 ++ rest) h.3, items_only c l h.1 vs rest h.4) refl
 
-items_again : {A : Type 0} (c : Codec A) → IsLawful c → (vs : List A) → AllByRecursion c.InRange vs → AllByRecursion c.Fits vs → SpellEach c.Spells (flat_map c.written vs) vs
+items_again : {A : Type 0} (c : Codec A) → IsLawful c → (vs : List A) → AllByRecursion c.InRange vs → AllByRecursion c.Fits vs
+    → SpellEach c.Spells (flat_map c.written vs) vs
 items_again c l [] r f = refl
 items_again c l (v ∷ vs) r f = (c.written v, flat_map c.written vs, refl, l.again v r.0 f.0, items_again c l vs r.1 f.1)
 
@@ -391,23 +432,27 @@ items_fit : {A : Type 0} (c : Codec A) → IsLawful c → (x : List ℕ) (vs : L
 items_fit c l x [] h = tt
 items_fit c l x (v ∷ vs) h = (l.fits h.0 v h.3, items_fit c l h.1 vs h.4)
 
-items_in_range : {A : Type 0} (c : Codec A) → IsLawful c → (x : List ℕ) (vs : List A) → SpellEach c.Spells x vs → AllByRecursion c.InRange vs
+items_in_range : {A : Type 0} (c : Codec A) → IsLawful c → (x : List ℕ) (vs : List A) → SpellEach c.Spells x vs
+    → AllByRecursion c.InRange vs
 items_in_range c l x [] h = tt
 items_in_range c l x (v ∷ vs) h = (l.in_range h.0 v h.3, items_in_range c l h.1 vs h.4)
 
-items_bad : {A : Type 0} (c : Codec A) → IsLawful c → (n : ℕ) (s t : List ℕ) → items_at c.read n s ≡ Err Bad → items_at c.read n (s ++ t) ≡ Err Bad
+items_bad : {A : Type 0} (c : Codec A) → IsLawful c → (n : ℕ) (s t : List ℕ) → items_at c.read n s ≡ Err Bad
+    → items_at c.read n (s ++ t) ≡ Err Bad
 unfolding items_at
 items_bad {A} c l zero s t e = absurd cc
 items_bad {A} c l (suc n) s t e =
     bad_then {B = List A × List ℕ} c l (λ first. items_at c.read n first.1 >>= λ others. Ok (first.0 ∷ others.0, others.1))
-    (λ v rest u q. rw (items_bad c l n rest u (map_err {B = List A × List ℕ} (items_at c.read n rest) (λ others. (v ∷ others.0, others.1)) Bad q)) refl) s t e
+    (λ v rest u q. rw (items_bad c l n rest u
+    (map_err {B = List A × List ℕ} (items_at c.read n rest) (λ others. (v ∷ others.0, others.1)) Bad q)) refl) s t e
 
 items_end : {A : Type 0} (c : Codec A) → IsLawful c → (n : ℕ) (s : List ℕ) → (t : List ℕ) × (items_at c.read n (s ++ t) ≡ Err Short → ⊥)
 unfolding items_at
 items_end {A} c l zero s = ([], λ e. cc)
 items_end {A} c l (suc n) s =
     ends_then {B = List A × List ℕ} c l (λ first. items_at c.read n first.1 >>= λ others. Ok (first.0 ∷ others.0, others.1))
-    (λ v rest. let g = items_end c l n rest in (g.0, λ q. g.1 (map_err {B = List A × List ℕ} (items_at c.read n (rest ++ g.0)) (λ others. (v ∷ others.0, others.1)) Short q))) s
+    (λ v rest. let g = items_end c l n rest in
+    (g.0, λ q. g.1 (map_err {B = List A × List ℕ} (items_at c.read n (rest ++ g.0)) (λ others. (v ∷ others.0, others.1)) Short q))) s
 
 pub items_lawful : {A : Type 0} (c : Codec A) → IsLawful c → IsLawfulBody (items c)
 unfolding items
@@ -437,7 +482,9 @@ sized_lawful h b lh lb = record {
   in_range = λ x v q. (lh.in_range q.0 (b.size v) q.3, lb.in_range q.1 v q.4);
 }
 
-nullable_found : {A : Type 0} (h : Codec (Option ℕ)) (b : Body A) → IsLawfulBody b → (n : Option ℕ) (front s t : List ℕ) (v : Option A) (rest : List ℕ) → h.Spells front n → s ≡ front ++ t → nullable_at b n t ≡ Ok (v, rest) → (x : List ℕ) × (s ≡ x ++ rest) × SpellsNullable h b x v
+nullable_found : {A : Type 0} (h : Codec (Option ℕ)) (b : Body A) → IsLawfulBody b
+    → (n : Option ℕ) (front s t : List ℕ) (v : Option A) (rest : List ℕ) → h.Spells front n → s ≡ front ++ t
+    → nullable_at b n t ≡ Ok (v, rest) → (x : List ℕ) × (s ≡ x ++ rest) × SpellsNullable h b x v
 nullable_found {A} h b lb None front s t v rest hs is e =
     let start : Option A × List ℕ = (None, t) in
     subst (λ (q : Option A × List ℕ). (x : List ℕ) × (s ≡ x ++ q.1) × SpellsNullable h b x q.0) (ok_is start (v, rest) e) (front, is, hs)
@@ -448,30 +495,38 @@ nullable_found {A} h b lb (Some n) front s t v rest hs is e =
     subst (λ (q : Option A × List ℕ). (x : List ℕ) × (s ≡ x ++ q.1) × SpellsNullable h b x q.0) (ok_is made (v, rest) p.2)
     (front ++ f.0, two_parts s front t f.0 p.0.1 is f.1, (front, f.0, refl, subst (λ m. h.Spells front (Some m)) (sym f.3) hs, f.2))
 
-nullable_only : {A : Type 0} (h : Codec (Option ℕ)) (b : Body A) → IsLawful h → IsLawfulBody b → (x : List ℕ) (v : Option A) (rest : List ℕ) → SpellsNullable h b x v → (h.read (x ++ rest) >>= λ n. nullable_at b n.0 n.1) ≡ Ok (v, rest)
+nullable_only : {A : Type 0} (h : Codec (Option ℕ)) (b : Body A) → IsLawful h → IsLawfulBody b → (x : List ℕ) (v : Option A) (rest : List ℕ)
+    → SpellsNullable h b x v → (h.read (x ++ rest) >>= λ n. nullable_at b n.0 n.1) ≡ Ok (v, rest)
 nullable_only h b lh lb x None rest q = rw (lh.only x None rest q) refl
-nullable_only h b lh lb x (Some v) rest q = rw (q.2, append_assoc, lh.only q.0 (Some (b.size v)) (q.1 ++ rest) q.3, lb.only q.1 v rest q.4) refl
+nullable_only h b lh lb x (Some v) rest q =
+    rw (q.2, append_assoc, lh.only q.0 (Some (b.size v)) (q.1 ++ rest) q.3, lb.only q.1 v rest q.4) refl
 
-nullable_again : {A : Type 0} (h : Codec (Option ℕ)) (b : Body A) → IsLawful h → IsLawfulBody b → (v : Option A) → (nullable h b).InRange v → (nullable h b).Fits v → SpellsNullable h b ((nullable h b).written v) v
+nullable_again : {A : Type 0} (h : Codec (Option ℕ)) (b : Body A) → IsLawful h → IsLawfulBody b → (v : Option A) → (nullable h b).InRange v
+    → (nullable h b).Fits v → SpellsNullable h b ((nullable h b).written v) v
 unfolding nullable
 nullable_again h b lh lb None r f = lh.again None r f
-nullable_again h b lh lb (Some v) r f = (h.written (Some (b.size v)), b.written v, refl, lh.again (Some (b.size v)) r.0 f.0, lb.again v r.1 f.1)
+nullable_again h b lh lb (Some v) r f =
+    (h.written (Some (b.size v)), b.written v, refl, lh.again (Some (b.size v)) r.0 f.0, lb.again v r.1 f.1)
 
-nullable_body_fits : {A : Type 0} (h : Codec (Option ℕ)) (b : Body A) → IsLawful h → IsLawfulBody b → (x : List ℕ) (v : Option A) → SpellsNullable h b x v → (nullable h b).Fits v
+nullable_body_fits : {A : Type 0} (h : Codec (Option ℕ)) (b : Body A) → IsLawful h → IsLawfulBody b → (x : List ℕ) (v : Option A)
+    → SpellsNullable h b x v → (nullable h b).Fits v
 unfolding nullable
 nullable_body_fits h b lh lb x None q = lh.fits x None q
 nullable_body_fits h b lh lb x (Some v) q = (lh.fits q.0 (Some (b.size v)) q.3, lb.fits q.1 v q.4)
 
-nullable_in_range : {A : Type 0} (h : Codec (Option ℕ)) (b : Body A) → IsLawful h → IsLawfulBody b → (x : List ℕ) (v : Option A) → SpellsNullable h b x v → (nullable h b).InRange v
+nullable_in_range : {A : Type 0} (h : Codec (Option ℕ)) (b : Body A) → IsLawful h → IsLawfulBody b → (x : List ℕ) (v : Option A)
+    → SpellsNullable h b x v → (nullable h b).InRange v
 unfolding nullable
 nullable_in_range h b lh lb x None q = lh.in_range x None q
 nullable_in_range h b lh lb x (Some v) q = (lh.in_range q.0 (Some (b.size v)) q.3, lb.in_range q.1 v q.4)
 
-nullable_at_bad : {A : Type 0} (b : Body A) → IsLawfulBody b → (n : Option ℕ) (s t : List ℕ) → nullable_at b n s ≡ Err Bad → nullable_at b n (s ++ t) ≡ Err Bad
+nullable_at_bad : {A : Type 0} (b : Body A) → IsLawfulBody b → (n : Option ℕ) (s t : List ℕ) → nullable_at b n s ≡ Err Bad
+    → nullable_at b n (s ++ t) ≡ Err Bad
 nullable_at_bad b lb None s t e = absurd cc
 nullable_at_bad b lb (Some n) s t e = rw (lb.bad n s t (map_err (b.read n s) (λ x. (Some x.0, x.1)) Bad e)) refl
 
-nullable_at_ends : {A : Type 0} (b : Body A) → IsLawfulBody b → (n : Option ℕ) (s : List ℕ) → (t : List ℕ) × (nullable_at b n (s ++ t) ≡ Err Short → ⊥)
+nullable_at_ends : {A : Type 0} (b : Body A) → IsLawfulBody b → (n : Option ℕ) (s : List ℕ) → (t : List ℕ)
+    × (nullable_at b n (s ++ t) ≡ Err Short → ⊥)
 nullable_at_ends b lb None s = ([], λ e. cc)
 nullable_at_ends b lb (Some n) s = let g = lb.ends n s in (g.0, λ e. g.1 (map_err (b.read n (s ++ g.0)) (λ x. (Some x.0, x.1)) Short e))
 
@@ -541,14 +596,17 @@ pair_lawful {A} {B} {a} {b} la lb = record {
       subst (λ (w : (A × B) × List ℕ). (x : List ℕ) × (s ≡ x ++ w.1) × (a ⊗ b).Spells x w.0) (ok_is made (v, rest) q.2)
       (fa.0 ++ fb.0, two_parts s fa.0 p.0.1 fb.0 q.0.1 fa.1 fb.1, (fa.0, fb.0, refl {a = fa.0 ++ fb.0}, fa.2, fb.2));
   only = λ s v rest h. rw (h.2, append_assoc, la.only h.0 v.0 (h.1 ++ rest) h.3, lb.only h.1 v.1 rest h.4) refl;
-  bad = bad_then {B = (A × B) × List ℕ} a la (λ x. b.read x.1 >>= λ y. Ok ((x.0, y.0), y.1)) (λ v rest t q. rw (lb.bad rest t (map_err {B = (A × B) × List ℕ} (b.read rest) (λ y. ((v, y.0), y.1)) Bad q)) refl);
-  ends = ends_then {B = (A × B) × List ℕ} a la (λ x. b.read x.1 >>= λ y. Ok ((x.0, y.0), y.1)) (λ v rest. let g = lb.ends rest in (g.0, λ q. g.1 (map_err {B = (A × B) × List ℕ} (b.read (rest ++ g.0)) (λ y. ((v, y.0), y.1)) Short q)));
+  bad = bad_then {B = (A × B) × List ℕ} a la (λ x. b.read x.1 >>= λ y. Ok ((x.0, y.0), y.1)) (λ v rest t q.
+      rw (lb.bad rest t (map_err {B = (A × B) × List ℕ} (b.read rest) (λ y. ((v, y.0), y.1)) Bad q)) refl);
+  ends = ends_then {B = (A × B) × List ℕ} a la (λ x. b.read x.1 >>= λ y. Ok ((x.0, y.0), y.1)) (λ v rest.
+      let g = lb.ends rest in (g.0, λ q. g.1 (map_err {B = (A × B) × List ℕ} (b.read (rest ++ g.0)) (λ y. ((v, y.0), y.1)) Short q)));
   again = λ v r f. (a.written v.0, b.written v.1, refl, la.again v.0 r.0 f.0, lb.again v.1 r.1 f.1);
   fits = λ x v h. (la.fits h.0 v.0 h.3, lb.fits h.1 v.1 h.4);
   in_range = λ x v h. (la.in_range h.0 v.0 h.3, lb.in_range h.1 v.1 h.4);
 }
 
-pub via_lawful : {A B : Type 0} (there : A → B) (back : B → A) {c : Codec A} → IsLawful c → ((v : B) → there (back v) ≡ v) → ((v : A) → back (there v) ≡ v) → IsLawful (via there back c)
+pub via_lawful : {A B : Type 0} (there : A → B) (back : B → A) {c : Codec A} → IsLawful c → ((v : B) → there (back v) ≡ v)
+    → ((v : A) → back (there v) ≡ v) → IsLawful (via there back c)
 via_lawful {A} {B} there back {c} l there_back back_there = record {
   found = λ s v rest e.
       let p = bind_ok (c.read s) (λ x. Ok (there x.0, x.1)) (v, rest) e in

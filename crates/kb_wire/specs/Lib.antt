@@ -1,4 +1,5 @@
 pub mod Codec
+pub mod ErrorCode
 pub mod Fits
 pub mod Laws
 pub mod Reads

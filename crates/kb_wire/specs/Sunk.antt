@@ -22,7 +22,8 @@ pub record Extends (old new : List ℕ) : Type 0 where
   pub more : List ℕ
   pub is : new ≡ old ++ more
 
--- Several puts, one after another: all of the bytes are added, or some front of them where one fails. Within the room they succeed, and no more of it is taken than what was added.
+-- Several puts, one after another: all of the bytes are added, or some front of them where one fails. Within the room they succeed, and
+-- no more of it is taken than what was added.
 pub record Adds (bytes : List ℕ) (fact : Type 0) (old : Sunk) (result : Result (Unit {0}) AllocError) (new : Sunk) : Type 0 where
   pub ok : OnOk result (new.bytes ≡ old.bytes ++ bytes)
   pub in_range : OnOk result fact
@@ -38,7 +39,8 @@ pub extends_trans : (a b c : List ℕ) → Extends a b → Extends b c → Exten
 extends_trans a b c p q = record { more = p.more ++ q.more; is = q.is ∙ ap (λ t. t ++ q.more) p.is ∙ append_assoc a p.more q.more }
 
 -- one put alone
-pub adds_put : {F : Type 0} (bytes : List ℕ) (s0 s1 : Sunk) (r : Result (Unit {0}) AllocError) → Puts s0 bytes r s1 → OnOk r F → Adds bytes F s0 r s1
+pub adds_put : {F : Type 0} (bytes : List ℕ) (s0 s1 : Sunk) (r : Result (Unit {0}) AllocError) → Puts s0 bytes r s1 → OnOk r F
+    → Adds bytes F s0 r s1
 adds_put bytes s0 s1 (Ok u) p f = record {
   ok = p.ok;
   in_range = f;
@@ -55,7 +57,8 @@ adds_put bytes s0 s1 (Err e) p f = record {
 }
 
 -- some bytes, and then the others
-pub adds_both : {F G : Type 0} {a b : List ℕ} {s0 s1 s2 : Sunk} {r : Result (Unit {0}) AllocError} → Adds a F s0 (Ok tt) s1 → Adds b G s1 r s2 → Adds (a ++ b) (F × G) s0 r s2
+pub adds_both : {F G : Type 0} {a b : List ℕ} {s0 s1 s2 : Sunk} {r : Result (Unit {0}) AllocError} → Adds a F s0 (Ok tt) s1
+    → Adds b G s1 r s2 → Adds (a ++ b) (F × G) s0 r s2
 adds_both {a = a} {b = b} {s0 = s0} {s1 = s1} {s2 = s2} {r = Ok u} p q = record {
   ok = q.ok ∙ ap (λ t. t ++ b) p.ok ∙ append_assoc s0.bytes a b;
   in_range = (p.in_range, q.in_range);
@@ -72,7 +75,8 @@ adds_both {a = a} {b = b} {s0 = s0} {s1 = s1} {s2 = s2} {r = Err e} p q = record
 }
 
 -- the others are left out where the first fail
-pub adds_stop : {F G : Type 0} {a : List ℕ} {s0 s1 : Sunk} {e : AllocError} {r : Result (Unit {0}) AllocError} (b : List ℕ) → Adds a F s0 (Err e) s1 → IsErr r → Adds (a ++ b) (F × G) s0 r s1
+pub adds_stop : {F G : Type 0} {a : List ℕ} {s0 s1 : Sunk} {e : AllocError} {r : Result (Unit {0}) AllocError} (b : List ℕ)
+    → Adds a F s0 (Err e) s1 → IsErr r → Adds (a ++ b) (F × G) s0 r s1
 adds_stop {r = Ok u} b p failed = absurd cc
 adds_stop {a = a} {r = Err d} b p failed = record {
   ok = tt;

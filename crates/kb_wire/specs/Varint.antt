@@ -1,5 +1,6 @@
 -- Numbers in groups of seven bits, the low group first.
-use Rattle.std.specs.Prelude.{◌≡◌, ◌<◌, ◌≤◌, ◌^◌, ◌+◌, ◌*◌, ◌/◌, ◌%◌, ℕ, zero, suc, ℤ, pos, negsuc, List, [], ◌∷◌, ◌⊎◌, Result, Ok, Err, nat_lt, ◌==◌, if◌then◌else◌, FitsSigned}
+use Rattle.std.specs.Prelude.{◌≡◌, ◌<◌, ◌≤◌, ◌^◌, ◌+◌, ◌*◌, ◌/◌, ◌%◌, ℕ, zero, suc, ℤ, pos, negsuc, List, [], ◌∷◌, ◌⊎◌, Result, Ok, Err}
+use Rattle.std.specs.Prelude.{nat_lt, ◌==◌, if◌then◌else◌, FitsSigned}
 use Rattle.std.specs.Int.{Width, w32, w64}
 use mir.Val.{bits}
 use Rattle.kb_wire.specs.declared.fault.WireFault.{WireFault}
@@ -10,7 +11,8 @@ use Rattle.kb_wire.specs.Codec.{◌>>=◌, Codec, via, refined}
 abbrev pub SpellsGroups : ℕ → List ℕ → ℕ → Type 0
 SpellsGroups zero s n = ⊥
 SpellsGroups (suc k) [] n = ⊥
-SpellsGroups (suc k) (b ∷ s) n = ((b < 128) × (s ≡ []) × (n ≡ b)) ⊎ ((128 ≤ b) × ((high : ℕ) × (n ≡ b % 128 + 128 * high) × SpellsGroups k s high))
+SpellsGroups (suc k) (b ∷ s) n =
+    ((b < 128) × (s ≡ []) × (n ≡ b)) ⊎ ((128 ≤ b) × ((high : ℕ) × (n ≡ b % 128 + 128 * high) × SpellsGroups k s high))
 
 -- A number that is not ended is Short while fewer than k bytes are there.
 unfoldable pub groups_at : ℕ → List ℕ → Result (ℕ × List ℕ) WireFault

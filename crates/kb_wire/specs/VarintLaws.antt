@@ -1,5 +1,6 @@
 -- What numbers in groups keep.
-use Rattle.std.proofs.Common.{◌≡◌, ℕ, zero, suc, ◌+◌, ◌*◌, ◌/◌, ◌%◌, ◌^◌, ◌<◌, ◌≤◌, Bool, true, false, cond, ltb, eqb, List, [], ◌∷◌, ◌++◌, length, Result, Ok, Err, refl, sym, ap, ◌∙◌, arith, inl, inr, lit≤}
+use Rattle.std.proofs.Common.{◌≡◌, ℕ, zero, suc, ◌+◌, ◌*◌, ◌/◌, ◌%◌, ◌^◌, ◌<◌, ◌≤◌, Bool, true, false, cond, ltb, eqb, List, [], ◌∷◌, ◌++◌}
+use Rattle.std.proofs.Common.{length, Result, Ok, Err, refl, sym, ap, ◌∙◌, arith, inl, inr, lit≤}
 use Rattle.std.specs.Prelude.{ℤ, pos, negsuc, FitsSigned}
 use Rattle.std.specs.Int.{Width, w32, w64}
 use mir.Val.{bits, hbits}
@@ -11,7 +12,8 @@ use Rattle.kb_wire.specs.Codec.{◌>>=◌, refined}
 use Rattle.kb_wire.specs.Laws.{IsLawful, bind_ok, ok_is, map_err, done, via_lawful, refined_lawful}
 use Rattle.kb_wire.specs.Varint.{SpellsGroups, groups_at, written_groups, groups, zigzag, from_zigzag, to_zigzag, varint, varlong}
 
-groups_found : (k : ℕ) (s : List ℕ) (n : ℕ) (rest : List ℕ) → groups_at k s ≡ Ok (n, rest) → (x : List ℕ) × (s ≡ x ++ rest) × SpellsGroups k x n
+groups_found : (k : ℕ) (s : List ℕ) (n : ℕ) (rest : List ℕ) → groups_at k s ≡ Ok (n, rest) → (x : List ℕ) × (s ≡ x ++ rest)
+    × SpellsGroups k x n
 unfolding groups_at
 groups_found zero s n rest e = absurd cc
 groups_found (suc k) [] n rest e = absurd cc
@@ -84,7 +86,8 @@ shortest (suc k) n (b ∷ s) (inr h) =
 ok_not_err : (x : ℕ × List ℕ) (d : WireFault) → done x ≡ Err d → ⊥
 ok_not_err x d e = cc
 
-groups_go_on : (b : Bool) (x : ℕ × List ℕ) (r : Result (ℕ × List ℕ) WireFault) (f : ℕ × List ℕ → ℕ × List ℕ) → (r ≡ Err Short → ⊥) → cond b (done x) (r >>= λ high. Ok (f high)) ≡ Err Short → ⊥
+groups_go_on : (b : Bool) (x : ℕ × List ℕ) (r : Result (ℕ × List ℕ) WireFault) (f : ℕ × List ℕ → ℕ × List ℕ) → (r ≡ Err Short → ⊥)
+    → cond b (done x) (r >>= λ high. Ok (f high)) ≡ Err Short → ⊥
 groups_go_on true x r f n e = cc
 groups_go_on false x r f n e = n (map_err r f Short e)
 
@@ -108,7 +111,8 @@ groups_end : (k : ℕ) (s : List ℕ) → (t : List ℕ) × (groups_at k (s ++ t
 unfolding groups_at
 groups_end zero s = ([], λ e. cc)
 groups_end (suc k) [] = (0 ∷ [], λ e. cc)
-groups_end (suc k) (b ∷ s) = let g = groups_end k s in (g.0, groups_go_on (ltb b 128) (b, s ++ g.0) (groups_at k (s ++ g.0)) (λ high. (b % 128 + 128 * high.0, high.1)) g.1)
+groups_end (suc k) (b ∷ s) = let g = groups_end k s in
+    (g.0, groups_go_on (ltb b 128) (b, s ++ g.0) (groups_at k (s ++ g.0)) (λ high. (b % 128 + 128 * high.0, high.1)) g.1)
 
 pow_pos_128 : (k : ℕ) → 0 < 128 ^ k
 pow_pos_128 zero = let one : 128 ^ 0 ≡ 1 = refl in omega arith
@@ -117,8 +121,10 @@ pow_pos_128 (suc k) = let power = pow-suc 128 k in let some : 0 < 128 ^ k = pow_
 groups_in_range : (k : ℕ) (s : List ℕ) (n : ℕ) → SpellsGroups k s n → n < 128 ^ k
 groups_in_range zero s n h = absurd h
 groups_in_range (suc k) [] n h = absurd h
-groups_in_range (suc k) (b ∷ s) n (inl h) = let power = pow-suc 128 k in let some : 0 < 128 ^ k = pow_pos_128 k in omega (arith, power, h.0, h.2)
-groups_in_range (suc k) (b ∷ s) n (inr h) = let power = pow-suc 128 k in let below : h.1.0 < 128 ^ k = groups_in_range k s h.1.0 h.1.2 in omega (arith, power, below, h.1.1)
+groups_in_range (suc k) (b ∷ s) n (inl h) =
+    let power = pow-suc 128 k in let some : 0 < 128 ^ k = pow_pos_128 k in omega (arith, power, h.0, h.2)
+groups_in_range (suc k) (b ∷ s) n (inr h) =
+    let power = pow-suc 128 k in let below : h.1.0 < 128 ^ k = groups_in_range k s h.1.0 h.1.2 in omega (arith, power, below, h.1.1)
 
 groups_lawful : (k : ℕ) → IsLawful (groups (suc k))
 unfolding groups
@@ -153,7 +159,8 @@ back_there : (n : ℕ) → to_zigzag (from_zigzag n) ≡ n
 unfolding from_zigzag
 back_there n = by_parity n (eqb (n % 2) 0) refl
 
-within : (k : ℕ) (w : Width) → 2 ^ hbits w + 2 ^ hbits w ≤ 2 ^ bits w → 2 ^ bits w ≤ 128 ^ k → (v : ℤ) → FitsSigned w v → (to_zigzag v < 128 ^ k) × (ltb (to_zigzag v) (2 ^ bits w) ≡ true)
+within : (k : ℕ) (w : Width) → 2 ^ hbits w + 2 ^ hbits w ≤ 2 ^ bits w → 2 ^ bits w ≤ 128 ^ k → (v : ℤ) → FitsSigned w v
+    → (to_zigzag v < 128 ^ k) × (ltb (to_zigzag v) (2 ^ bits w) ≡ true)
 unfolding to_zigzag
 within k w half room (pos n) f = let small : n < 2 ^ hbits w = f.sfits in (omega arith, lt-ltb _ _ (omega arith))
 within k w half room (negsuc n) f = let small : n < 2 ^ hbits w = f.sfits in (omega arith, lt-ltb _ _ (omega arith))
@@ -166,7 +173,8 @@ number_within w half (negsuc n) lt = record { sfits = omega arith }
 zigzag_lawful : (k : ℕ) (w : Width) → 2 ^ bits w ≡ 2 ^ hbits w + 2 ^ hbits w → 2 ^ bits w ≤ 128 ^ suc k → IsLawful (zigzag (suc k) w)
 unfolding zigzag refined groups
 zigzag_lawful k w half room =
-    let l = via_lawful from_zigzag to_zigzag (refined_lawful (λ n. ltb n (2 ^ bits w)) (groups (suc k)) (groups_lawful k)) there_back back_there in
+    let l = via_lawful from_zigzag to_zigzag
+    (refined_lawful (λ n. ltb n (2 ^ bits w)) (groups (suc k)) (groups_lawful k)) there_back back_there in
     record {
       found = l.found;
       only = l.only;

@@ -2,6 +2,7 @@
 
 use crate::console::LineFault;
 use kb_client::ClientFault;
+use kb_wire::ErrorCode;
 use std::alloc::{AllocError, AllocFailed};
 use std::fmt;
 use std::fmt::{Display, Formatter, Write};
@@ -42,17 +43,39 @@ impl Display for Fault {
     }
 }
 
-/// What an error code means, where a user may meet it (Kafka protocol guide, "Error Codes").
+/// What the error codes mean that a user may meet.
+const MEANINGS: [(ErrorCode, &str); 6] = [
+    (
+        ErrorCode::OffsetOutOfRange,
+        ": the offset is not in the partition",
+    ),
+    (
+        ErrorCode::UnknownTopicOrPartition,
+        ": there is no such topic or partition",
+    ),
+    (ErrorCode::InvalidTopic, ": the topic's name is not legal"),
+    (
+        ErrorCode::InvalidPartitions,
+        ": the number of partitions is not legal",
+    ),
+    (
+        ErrorCode::PolicyViolation,
+        ": the broker makes no more topics",
+    ),
+    (ErrorCode::KafkaStorageError, ": the broker's store failed"),
+];
+
+/// What a fault means, where it is an error code that a user may meet.
 fn meaning(fault: ClientFault) -> &'static str {
-    match fault {
-        ClientFault::Code(1) => ": the offset is not in the partition",
-        ClientFault::Code(3) => ": there is no such topic or partition",
-        ClientFault::Code(17) => ": the topic's name is not legal",
-        ClientFault::Code(37) => ": the number of partitions is not legal",
-        ClientFault::Code(44) => ": the broker makes no more topics",
-        ClientFault::Code(56) => ": the broker's store failed",
-        _ => "",
+    let ClientFault::Code(code) = fault else {
+        return "";
+    };
+    for (error, meaning) in &MEANINGS {
+        if error.code() == code {
+            return *meaning;
+        }
     }
+    ""
 }
 
 impl From<AllocError> for Fault {

@@ -10,7 +10,7 @@ use Rattle.kb_groups.proofs.state.State.accept.Goals.{then-not-is_joining, else-
 pub returns-clause-group : goal.returns-clause-group
 returns-clause-group c =
     let s : Step = entered c.args.clock c.args.request.now c.args.self.now in
-    let typed = c.in_ok-protocol_type.ensures ∙ c.as_bytes.ensures in
+    let typed = c.in_ok-protocol_type.ensures ∙ c.as_bytes.ensures.value ∙ c.as_str.ensures in
     let members = c.in_ok-replaced.ensures.members ∙ (λ k. put (c.number-number.ensures k) (c.in_ok-member.ensures k) c.args.self.now.members) in
     let g : State = record c.args.self.now { protocol_type = c.in_ok-protocol_type.protocol_type; members = c.put.new.self } in
     let enters : g ≡ s.group = λ k. record c.args.self.now { protocol_type = typed k; members = members k } in

@@ -1,7 +1,7 @@
 //! The error codes of the protocol.
 
 ghost use Rattle.std.specs.Prelude.{◌≡◌};
-ghost use Rattle.kb_api_group.specs.ErrorCode.{code_of};
+ghost use Rattle.kb_wire.specs.ErrorCode.{code_of};
 
 /// What an `error_code` field answers, by Kafka's names (Kafka protocol guide, "Error Codes").
 #[derive(Clone, Copy, Debug, PartialEq, Eq)]

@@ -1,7 +1,7 @@
 -- The numbers of the protocol's error codes (Kafka protocol guide, "Error Codes").
 use Rattle.std.specs.Prelude.{ℤ, pos, negsuc}
-use Rattle.kb_api_group.specs.declared.error_code.ErrorCode.{ErrorCode}
-use Rattle.kb_api_group.specs.declared.error_code.ErrorCode.TheVariants as codes
+use Rattle.kb_wire.specs.declared.error_code.ErrorCode.{ErrorCode}
+use Rattle.kb_wire.specs.declared.error_code.ErrorCode.TheVariants as codes
 
 -- the number that an error_code field carries
 abbrev pub code_of : ErrorCode → ℤ

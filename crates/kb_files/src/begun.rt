@@ -109,8 +109,8 @@ pub(crate) fn scanned<S: Store>(alloc: Global, store: &mut S) -> Result<Segment,
     ensures { IfOk result (λ s. IsSound (S.disk store.new) s) }
 {
     let header = header(alloc, store)?.ok_or("no header")?;
-    match Segment::scan(alloc, store, 0, &header) {
-        Err(StoreFault::Device) => Ok(Segment::scan(alloc, store, 0, &header)?),
+    match Segment::scan(alloc, store, 0, &header, &mut ()) {
+        Err(StoreFault::Device) => Ok(Segment::scan(alloc, store, 0, &header, &mut ())?),
         found => Ok(found?),
     }
 }

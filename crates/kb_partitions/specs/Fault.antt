@@ -1,5 +1,7 @@
 -- What a call for a partition answers where it refuses.
-use Rattle.std.specs.Prelude.{ℤ, pos, negsuc}
+use Rattle.std.specs.Prelude.{ℤ}
+use Rattle.kb_wire.specs.ErrorCode.{code_of as number}
+use Rattle.kb_wire.specs.declared.error_code.ErrorCode.TheVariants as codes
 use Rattle.kb_log.specs.declared.fault.LogFault.{LogFault}
 use Rattle.kb_log.specs.declared.fault.LogFault.TheVariants as log
 use Rattle.kb_partitions.specs.declared.fault.PartitionFault.{PartitionFault}
@@ -12,10 +14,10 @@ of_log log.Full = Full
 of_log log.Store = Store
 of_log log.Memory = Memory
 
--- Kafka's error codes: UNKNOWN_TOPIC_OR_PARTITION, OFFSET_OUT_OF_RANGE, MESSAGE_TOO_LARGE, KAFKA_STORAGE_ERROR, UNKNOWN_SERVER_ERROR
+-- the number of its error code
 abbrev pub code_of : PartitionFault → ℤ
-code_of Unknown = pos 3
-code_of Range = pos 1
-code_of Full = pos 10
-code_of Store = pos 56
-code_of Memory = negsuc 0
+code_of Unknown = number codes.UnknownTopicOrPartition
+code_of Range = number codes.OffsetOutOfRange
+code_of Full = number codes.MessageTooLarge
+code_of Store = number codes.KafkaStorageError
+code_of Memory = number codes.UnknownServerError

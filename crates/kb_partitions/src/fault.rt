@@ -3,6 +3,7 @@ ghost use Rattle.std.specs.Prelude.{◌≡◌};
 ghost use Rattle.kb_partitions.specs.Fault.{code_of, of_log};
 
 use kb_log::LogFault;
+use kb_wire::ErrorCode;
 use std::alloc::AllocError;
 use thiserror::Error;
 
@@ -27,16 +28,16 @@ pub enum PartitionFault {
 }
 
 impl PartitionFault {
-    /// The error code of the Kafka protocol guide: 3, 1, 10, 56 or -1.
+    /// The number of the fault's error code.
     pub fn code(&self) -> i16
         ensures { result ≡ code_of self.now }
     {
         match self {
-            PartitionFault::Unknown => 3,
-            PartitionFault::Range => 1,
-            PartitionFault::Full => 10,
-            PartitionFault::Store => 56,
-            PartitionFault::Memory => -1,
+            PartitionFault::Unknown => ErrorCode::UnknownTopicOrPartition.code(),
+            PartitionFault::Range => ErrorCode::OffsetOutOfRange.code(),
+            PartitionFault::Full => ErrorCode::MessageTooLarge.code(),
+            PartitionFault::Store => ErrorCode::KafkaStorageError.code(),
+            PartitionFault::Memory => ErrorCode::UnknownServerError.code(),
         }
     }
 }

@@ -6,9 +6,9 @@
 #[cfg(test)]
 mod log;
 #[cfg(test)]
-mod looks;
-#[cfg(test)]
 mod partitions;
+#[cfg(test)]
+mod refused;
 #[cfg(test)]
 mod tenant;
 #[cfg(test)]

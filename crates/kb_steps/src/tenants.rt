@@ -9,7 +9,7 @@ use kb_log::{ListLog, Shelf};
 use kb_store::MemoryStore;
 use kb_tenant::{Answer, Node, Request};
 use kb_tenants::Tenants;
-use kb_wire::Text;
+use kb_wire::{Text, api_key};
 use std::alloc::{AllocError, Global};
 use std::process::Abort;
 use std::test::Fail;
@@ -34,7 +34,7 @@ const APPENDED: &[u8] =
 
 /// The tenants `a` and `b`, without topics.
 fn two(alloc: Global) -> Result<Tenants<ListLog, MemoryStore>, Fail>
-    ensures kept { IfOk result (λ two. AreKept list_log (λ s. memory_disk s.files.entries) two) }
+    ensures invariant { IfOk result (λ two. AreKept list_log (λ s. memory_disk s.files.entries) two) }
     ensures hosted { IfOk result (λ two. hosted list_log (λ s. memory_disk s.files.entries) two
         ≡ new_tenant (97 ∷ []) ∷ new_tenant (98 ∷ []) ∷ []) }
 {
@@ -88,7 +88,10 @@ const MOMENTS: [(u64, bool); 4] = [(1000, false), (1005, false), (1006, true), (
 #[test]
 fn a_batch_is_due_once(rt: HostRuntime) -> Result<(), Fail> {
     let mut tenants = two(rt.alloc())?;
-    let asked = [(1, 19, CREATE_KEPT, MADE), (1, 0, APPEND, APPENDED)];
+    let asked = [
+        (1, api_key::CREATE_TOPICS, CREATE_KEPT, MADE),
+        (1, api_key::PRODUCE, APPEND, APPENDED),
+    ];
     plays(&rt, rt.alloc(), &mut tenants, &asked);
     for (clock, is_due) in &MOMENTS {
         assert!(rt;

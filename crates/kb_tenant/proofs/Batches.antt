@@ -3,6 +3,7 @@ use Rattle.std.proofs.Common.{◌≡◌, ◌∙◌, ◌≤ℤ◌, ◌<ℤ◌, �
 use Rattle.std.specs.Prelude.{nat_le, int_lt, option_map, if◌then◌else◌}
 use Rattle.std.specs.List.{concat}
 use Rattle.std.proofs.lemmas.Bool.Decides.{nat_tests}
+use Rattle.kb_wire.specs.declared.api_key.TheConstants.{FETCH}
 use Rattle.kb_batch.specs.Batch.{natural}
 use Rattle.kb_log.specs.Log.{base_of, next_of, holds, from_holding, fitting, fetched as fetched_of}
 use Rattle.kb_api_data.specs.declared.fetch.FetchPartition.{FetchPartition}
@@ -156,7 +157,7 @@ reaction-holds version w r bytes (Some reply) spelled e is = written-holds versi
     replied-is : {x y : List ℕ} → Replies x ≡ Replies y → x ≡ y
     replied-is h = cc
 
-pub served-holds : (node : Node) (w : World) (n : ℕ) (version : ℤ) (body bytes : List ℕ) (r : FetchRequest) → HasSmallLogs w → asked_fetch version body ≡ Ok r → (plainly_served node w n (pos 1) version body).reaction ≡ Replies bytes → HoldsBatches version w r bytes
+pub served-holds : (node : Node) (w : World) (n : ℕ) (version : ℤ) (body bytes : List ℕ) (r : FetchRequest) → HasSmallLogs w → asked_fetch version body ≡ Ok r → (plainly_served node w n FETCH version body).reaction ≡ Replies bytes → HoldsBatches version w r bytes
 unfolding plainly_served
 served-holds node w n version body bytes r small read replies = reaction-holds version w r bytes (fetch_answer w r (deadline_of w r)) (reply_spelled w (has_starts version) body r small read) refl (sym (ap (λ x. (if_read w x (of_fetch version w)).reaction) read) ∙ replies)
 

@@ -1,8 +1,10 @@
 -- What holds of a request, if it does for each API.
 use Rattle.std.proofs.Common.{◌≡◌, ℕ, ℤ, Bool, true, false, List, [], refl}
-use Rattle.std.specs.Prelude.{pos, Result, Ok, Err, if◌then◌else◌}
+use Rattle.std.specs.Prelude.{Result, Ok, Err, if◌then◌else◌}
 use Rattle.std.specs.Ordering.{int_eq}
 use Rattle.kb_wire.specs.Codec.{whole}
+use Rattle.kb_wire.specs.declared.api_key.TheConstants.{PRODUCE, FETCH, LIST_OFFSETS, METADATA, OFFSET_COMMIT, OFFSET_FETCH}
+use Rattle.kb_wire.specs.declared.api_key.TheConstants.{FIND_COORDINATOR, CREATE_TOPICS, DELETE_TOPICS, DELETE_RECORDS, INIT_PRODUCER_ID}
 use Rattle.kb_wire.specs.declared.fault.WireFault.{WireFault}
 use Rattle.kb_api_data.specs.Layouts.{produce_request, list_offsets_request, delete_records_request, delete_topics_request, init_producer_id_request}
 use Rattle.kb_api_data.specs.declared.create_topics_v1.CreateTopicsRequestV1.{CreateTopicsRequestV1}
@@ -70,24 +72,24 @@ by_request P node w n key version body c =
     let lists : Outcome = if_read w (whole list_offsets_request body) (of_list_offsets w) in
     let fetches : Outcome = if_read w (asked_fetch version body) (of_fetch version w) in
     let produces : Outcome = if_read w (whole produce_request body) (of_produce w) in
-    let from_22 : Outcome = if int_eq key (pos 22) then inits else shut in
-    let from_21 : Outcome = if int_eq key (pos 21) then trims else from_22 in
-    let from_20 : Outcome = if int_eq key (pos 20) then deletes else from_21 in
-    let from_19 : Outcome = if int_eq key (pos 19) then creates else from_20 in
-    let from_10 : Outcome = if int_eq key (pos 10) then finds else from_19 in
-    let from_9 : Outcome = if int_eq key (pos 9) then asks else from_10 in
-    let from_8 : Outcome = if int_eq key (pos 8) then commits else from_9 in
-    let from_3 : Outcome = if int_eq key (pos 3) then tells else from_8 in
-    let from_2 : Outcome = if int_eq key (pos 2) then lists else from_3 in
-    let from_1 : Outcome = if int_eq key (pos 1) then fetches else from_2 in
-    either P (int_eq key (pos 0)) produces from_1 (read_by P w (whole produce_request body) (of_produce w) c.produce c.shut)
-    (either P (int_eq key (pos 1)) fetches from_2 (read_by P w (asked_fetch version body) (of_fetch version w) c.fetch c.shut)
-    (either P (int_eq key (pos 2)) lists from_3 (read_by P w (whole list_offsets_request body) (of_list_offsets w) c.list_offsets c.shut)
-    (either P (int_eq key (pos 3)) tells from_8 (read_by P w (asked_metadata version body) (of_metadata node version w) c.metadata c.shut)
-    (either P (int_eq key (pos 8)) commits from_9 (read_by P w (whole offset_commit_request body) (of_offset_commit w) c.offset_commit c.shut)
-    (either P (int_eq key (pos 9)) asks from_10 (read_by P w (whole offset_fetch_request body) (of_offset_fetch w) c.offset_fetch c.shut)
-    (either P (int_eq key (pos 10)) finds from_19 (read_by P w (whole find_coordinator_request body) (of_find_coordinator node w) c.find_coordinator c.shut)
-    (either P (int_eq key (pos 19)) creates from_20 (read_by P w (asked_creations version body) (of_create_topics version w) c.create_topics c.shut)
-    (either P (int_eq key (pos 20)) deletes from_21 (read_by P w (whole delete_topics_request body) (of_delete_topics version w) c.delete_topics c.shut)
-    (either P (int_eq key (pos 21)) trims from_22 (read_by P w (whole delete_records_request body) (of_delete_records w) c.delete_records c.shut)
-    (either P (int_eq key (pos 22)) inits shut (read_by P w (whole init_producer_id_request body) (of_init_producer_id w) c.init_producer_id c.shut) c.shut))))))))))
+    let from_inits : Outcome = if int_eq key INIT_PRODUCER_ID then inits else shut in
+    let from_trims : Outcome = if int_eq key DELETE_RECORDS then trims else from_inits in
+    let from_deletes : Outcome = if int_eq key DELETE_TOPICS then deletes else from_trims in
+    let from_creates : Outcome = if int_eq key CREATE_TOPICS then creates else from_deletes in
+    let from_finds : Outcome = if int_eq key FIND_COORDINATOR then finds else from_creates in
+    let from_asks : Outcome = if int_eq key OFFSET_FETCH then asks else from_finds in
+    let from_commits : Outcome = if int_eq key OFFSET_COMMIT then commits else from_asks in
+    let from_tells : Outcome = if int_eq key METADATA then tells else from_commits in
+    let from_lists : Outcome = if int_eq key LIST_OFFSETS then lists else from_tells in
+    let from_fetches : Outcome = if int_eq key FETCH then fetches else from_lists in
+    either P (int_eq key PRODUCE) produces from_fetches (read_by P w (whole produce_request body) (of_produce w) c.produce c.shut)
+    (either P (int_eq key FETCH) fetches from_lists (read_by P w (asked_fetch version body) (of_fetch version w) c.fetch c.shut)
+    (either P (int_eq key LIST_OFFSETS) lists from_tells (read_by P w (whole list_offsets_request body) (of_list_offsets w) c.list_offsets c.shut)
+    (either P (int_eq key METADATA) tells from_commits (read_by P w (asked_metadata version body) (of_metadata node version w) c.metadata c.shut)
+    (either P (int_eq key OFFSET_COMMIT) commits from_asks (read_by P w (whole offset_commit_request body) (of_offset_commit w) c.offset_commit c.shut)
+    (either P (int_eq key OFFSET_FETCH) asks from_finds (read_by P w (whole offset_fetch_request body) (of_offset_fetch w) c.offset_fetch c.shut)
+    (either P (int_eq key FIND_COORDINATOR) finds from_creates (read_by P w (whole find_coordinator_request body) (of_find_coordinator node w) c.find_coordinator c.shut)
+    (either P (int_eq key CREATE_TOPICS) creates from_deletes (read_by P w (asked_creations version body) (of_create_topics version w) c.create_topics c.shut)
+    (either P (int_eq key DELETE_TOPICS) deletes from_trims (read_by P w (whole delete_topics_request body) (of_delete_topics version w) c.delete_topics c.shut)
+    (either P (int_eq key DELETE_RECORDS) trims from_inits (read_by P w (whole delete_records_request body) (of_delete_records w) c.delete_records c.shut)
+    (either P (int_eq key INIT_PRODUCER_ID) inits shut (read_by P w (whole init_producer_id_request body) (of_init_producer_id w) c.init_producer_id c.shut) c.shut))))))))))

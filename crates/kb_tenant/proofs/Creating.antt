@@ -6,9 +6,9 @@ use Rattle.std.specs.List.{flat_map}
 use Rattle.std.specs.Ordering.{int_eq}
 use Rattle.std.proofs.lemmas.List.{length-map}
 use Rattle.std.proofs.lemmas.List.Folds.{flat_map-map}
-use Rattle.kb_api_group.specs.ErrorCode.{code_of}
-use Rattle.kb_api_group.specs.declared.error_code.ErrorCode.{ErrorCode}
-use Rattle.kb_api_group.specs.declared.error_code.ErrorCode.TheVariants as codes
+use Rattle.kb_wire.specs.ErrorCode.{code_of}
+use Rattle.kb_wire.specs.declared.error_code.ErrorCode.{ErrorCode}
+use Rattle.kb_wire.specs.declared.error_code.ErrorCode.TheVariants as codes
 use Rattle.kb_wire.specs.Codec.{boolean, count, int, items, sized, string, array}
 use Rattle.kb_wire.specs.Fits.{null_string_fits}
 use Rattle.kb_api_data.specs.Layouts.{create_topic, create_topic_reply, create_topic_reply_v1, create_topics_request, create_topics_request_v1, create_topics_reply, create_topics_reply_v1}

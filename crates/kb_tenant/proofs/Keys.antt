@@ -1,9 +1,10 @@
 -- Requests by their keys, and a fetch that waits.
-use Rattle.std.proofs.Common.{◌≡◌, ◌∙◌, ◌++◌, ℕ, ℤ, pos, Bool, true, false, List, [], Option, Some, None, ap, refl, subst, sym}
+use Rattle.std.proofs.Common.{◌≡◌, ◌∙◌, ◌++◌, ℕ, ℤ, Bool, true, false, List, [], Option, Some, None, ap, refl, subst, sym}
 use Rattle.std.specs.Prelude.{if◌then◌else◌}
 use Rattle.std.specs.declared.alloc.Global.{Global}
 use Rattle.std.specs.declared.vec.Vec.{Vec}
 use Rattle.kb_wire.specs.Codec.{whole}
+use Rattle.kb_wire.specs.declared.api_key.TheConstants.{METADATA, OFFSET_FETCH, FIND_COORDINATOR}
 use Rattle.kb_api_group.specs.Layouts.{find_coordinator_request, offset_fetch_request}
 use Rattle.kb_api_data.specs.declared.create_topics_v1.CreateTopicsRequestV1.{CreateTopicsRequestV1}
 use Rattle.kb_world.specs.World.{World}
@@ -21,15 +22,15 @@ use Rattle.kb_tenant.specs.declared.answer.Answer.TheVariants as answers
 use Rattle.kb_tenant.specs.declared.fetch.waiting.Fetching.TheVariants as fetching
 use Rattle.kb_tenant.specs.declared.node.Node.{Node}
 
-pub served_metadata : (node : Node) (w : World) (n : ℕ) (key version : ℤ) (body : List ℕ) → key ≡ pos 3 → plainly_served node w n key version body ≡ if_read w (asked_metadata version body) (of_metadata node version w)
+pub served_metadata : (node : Node) (w : World) (n : ℕ) (key version : ℤ) (body : List ℕ) → key ≡ METADATA → plainly_served node w n key version body ≡ if_read w (asked_metadata version body) (of_metadata node version w)
 unfolding plainly_served
 served_metadata node w n key version body is = ap (λ k. plainly_served node w n k version body) is
 
-pub served_offset_fetch : (node : Node) (w : World) (n : ℕ) (key version : ℤ) (body : List ℕ) → key ≡ pos 9 → plainly_served node w n key version body ≡ if_read w (whole offset_fetch_request body) (of_offset_fetch w)
+pub served_offset_fetch : (node : Node) (w : World) (n : ℕ) (key version : ℤ) (body : List ℕ) → key ≡ OFFSET_FETCH → plainly_served node w n key version body ≡ if_read w (whole offset_fetch_request body) (of_offset_fetch w)
 unfolding plainly_served
 served_offset_fetch node w n key version body is = ap (λ k. plainly_served node w n k version body) is
 
-pub served_find_coordinator : (node : Node) (w : World) (n : ℕ) (key version : ℤ) (body : List ℕ) → key ≡ pos 10 → plainly_served node w n key version body ≡ if_read w (whole find_coordinator_request body) (of_find_coordinator node w)
+pub served_find_coordinator : (node : Node) (w : World) (n : ℕ) (key version : ℤ) (body : List ℕ) → key ≡ FIND_COORDINATOR → plainly_served node w n key version body ≡ if_read w (whole find_coordinator_request body) (of_find_coordinator node w)
 unfolding plainly_served
 served_find_coordinator node w n key version body is = ap (λ k. plainly_served node w n k version body) is
 

@@ -25,6 +25,7 @@ pub mod Listing
 pub mod LogMoves
 pub mod Losing
 pub mod Mapped
+pub mod Missing
 pub mod Moves
 pub mod Names
 pub mod Offsets

@@ -9,7 +9,7 @@ use Rattle.kb_api_data.specs.declared.delete_topics.DeleteTopicsRequest.{DeleteT
 use Rattle.kb_api_data.specs.declared.produce.ProducePartition.{ProducePartition}
 use Rattle.kb_api_data.specs.declared.produce.ProduceTopic.{ProduceTopic}
 use Rattle.kb_api_data.specs.declared.produce.ProduceRequest.{ProduceRequest}
-use Rattle.kb_api_group.specs.declared.error_code.ErrorCode.{ErrorCode}
+use Rattle.kb_wire.specs.declared.error_code.ErrorCode.{ErrorCode}
 use Rattle.kb_batch.specs.Batch.{count_of, natural}
 use Rattle.kb_producers.specs.declared.verdict.Verdict.{Verdict}
 use Rattle.kb_producers.specs.declared.verdict.Verdict.TheVariants.{Append, Repeat, Refuse}

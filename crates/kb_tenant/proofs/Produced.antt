@@ -12,8 +12,8 @@ use Rattle.kb_batch.specs.BatchLaws.{is_accepted}
 use Rattle.kb_batch.specs.Header.{producer_id_of}
 use Rattle.kb_producers.specs.declared.verdict.Verdict.{Verdict}
 use Rattle.kb_producers.specs.declared.verdict.Verdict.TheVariants.{Refuse}
-use Rattle.kb_api_group.specs.ErrorCode.{code_of}
-use Rattle.kb_api_group.specs.declared.error_code.ErrorCode.TheVariants as error
+use Rattle.kb_wire.specs.ErrorCode.{code_of}
+use Rattle.kb_wire.specs.declared.error_code.ErrorCode.TheVariants as error
 use Rattle.kb_api_data.specs.Layouts.{produce_reply, produce_topic_reply, produce_partition_reply, produce_request, produce_topic}
 use Rattle.kb_api_data.specs.declared.produce.ProduceRequest.{ProduceRequest}
 use Rattle.kb_api_data.specs.declared.produce.ProduceTopic.{ProduceTopic}

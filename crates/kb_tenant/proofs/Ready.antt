@@ -92,6 +92,9 @@ at_tells : (w : World) (g : Given) (e : FetchPartition) (o : Option TopicPartiti
 at_tells w g e None = refused_tells g e.partition partition.Unknown
 at_tells w g e (Some place) = by_tells g e.partition (bounds_of w place) (fetched_at w g e place)
 
+pub asked_at : (w : World) (g : Given) (e : FetchPartition) (o : Option TopicPartition) → (answered_at w g e o).0.is_asked ≡ true
+asked_at w g e o = (at_tells w g e o).asked ∙ sym (or_true g.is_asked)
+
 -- ---- the whole
 
 topic_tells : (w : World) (g : Given) (t : FetchTopic)

@@ -4,8 +4,8 @@ use Rattle.std.specs.List.{Contains}
 use Rattle.kb_api_data.specs.declared.init_producer_id.InitProducerIdReply.{InitProducerIdReply}
 use Rattle.kb_api_data.specs.declared.init_producer_id.InitProducerIdRequest.{InitProducerIdRequest}
 use Rattle.kb_api_data.specs.declared.fetch.FetchRequest.{FetchRequest}
-use Rattle.kb_api_group.specs.ErrorCode.{code_of as code}
-use Rattle.kb_api_group.specs.declared.error_code.ErrorCode.TheVariants as codes
+use Rattle.kb_wire.specs.ErrorCode.{code_of as code}
+use Rattle.kb_wire.specs.declared.error_code.ErrorCode.TheVariants as codes
 use Rattle.kb_api_group.specs.declared.offset_commit.OffsetCommitRequest.{OffsetCommitRequest}
 use Rattle.kb_topics.specs.Refusals.{issue_refusal}
 use Rattle.kb_topics.specs.declared.fault.CatalogFault.{CatalogFault}

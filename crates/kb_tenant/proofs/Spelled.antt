@@ -38,7 +38,7 @@ use Rattle.kb_tenant.proofs.Versions.{read_so}
 
 -- ---- how many bytes are given
 
-abbrev IsSized : List ℕ → Type 0
+abbrev pub IsSized : List ℕ → Type 0
 IsSized b = length b ≤ 1048588
 
 within : (limit : ℕ) (bs : List (List ℕ)) → length (fitting limit false bs) ≤ limit
@@ -70,10 +70,15 @@ from_sized offset (b ∷ bs) all = by (holds offset b) (from_sized offset bs all
     by true rest = all
     by false rest = rest
 
+-- what is given is within the limit, or one batch
+pub given_within : (offset limit : ℕ) (first : Bool) (bs : List (List ℕ)) → AllByRecursion IsSized bs
+    → length (fetched_of offset limit first bs) ≤ max limit 1048588
+given_within offset limit first bs all = first_within limit first (from_holding offset bs) (from_sized offset bs all)
+
 -- less than 2^31 where the limit is
 given_small : (offset limit : ℕ) (first : Bool) (l : LogState) → IsSmall l → limit < 2 ^ 31 → length (fetched_of offset limit first l.batches) < 2 ^ 31
 given_small offset limit first l small lt =
-    let most = first_within limit first (from_holding offset l.batches) (from_sized offset l.batches (recursion_from_All IsSized l.batches small.batches)) in
+    let most = given_within offset limit first l.batches (recursion_from_All IsSized l.batches small.batches) in
     omega (arith, most, lt)
 
 -- ---- a partition's answer

@@ -18,7 +18,7 @@ use Rattle.kb_tenant.specs.declared.fetch.waiting.Fetching.TheVariants as fetchi
 use Rattle.kb_world.specs.declared.topic_partition.TopicPartition.{TopicPartition}
 
 -- one item more
-one_longer : {A : Type 0} (xs : List A) (i : ℕ) (x : A) → i < length xs → x ≡ get_or xs i x → take (i + 1) xs ≡ take i xs ++ x ∷ []
+pub one_longer : {A : Type 0} (xs : List A) (i : ℕ) (x : A) → i < length xs → x ≡ get_or xs i x → take (i + 1) xs ≡ take i xs ++ x ∷ []
 one_longer xs i x lt is = take_more xs i x lt ∙ ap (λ y. take i xs ++ y ∷ []) (sym is)
 
 one_kept : {X Y : Type 0} (h : X → Option Y) (x : X) (y : Y) → Some y ≡ h x → filter_map h (x ∷ []) ≡ y ∷ []

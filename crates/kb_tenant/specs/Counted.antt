@@ -1,7 +1,7 @@
 -- What a fetch is answered, as it is counted on the way: by what the code keeps of a reply that is being written. What that comes to is
 -- `fetched` of `Fetch`, which counts nothing but its limits.
 use Rattle.std.specs.Prelude.{ℕ, ℤ, pos, Bool, true, false, List, [], Option, Some, None, Result, Ok, Err}
-use Rattle.std.specs.Prelude.{length, min, nat_le, not, ◌-◌, ◌⊎◌, ◌≡◌, ◌==◌, ◌&&◌, ◌||◌}
+use Rattle.std.specs.Prelude.{length, min, nat_le, not, ◌-◌, ◌<◌, ◌≤◌, ◌⊎◌, ◌≡◌, ◌==◌, ◌&&◌, ◌||◌}
 use Rattle.kb_batch.specs.Batch.{natural}
 use Rattle.kb_api_data.specs.FetchRecords.{answer_with_v5}
 use Rattle.kb_api_data.specs.declared.fetch.FetchPartition.{FetchPartition}
@@ -93,6 +93,12 @@ fetched w r =
 -- whether a reply is ready, as it was counted on the way
 abbrev pub has_enough : Given → ℕ → ℕ → Bool
 has_enough g clock deadline = not g.is_asked || g.is_wrong || (g.missing == 0) || nat_le deadline clock
+
+-- So many bytes at least are missing of those that a fetch waits for, more than none, and nothing was refused.
+pub record Misses (n : ℕ) (g : Given) : Type 0 where
+  pub some : 0 < n
+  pub missing : n ≤ g.missing
+  pub right : g.is_wrong ≡ false
 
 -- ---- where something is refused
 

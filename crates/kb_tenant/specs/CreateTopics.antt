@@ -6,9 +6,9 @@ use Rattle.std.specs.Ordering.{int_eq}
 use Rattle.std.specs.Str.{bytes_eq}
 use Rattle.kb_wire.specs.Codec.{whole, ◌>>=◌}
 use Rattle.kb_wire.specs.declared.fault.WireFault.{WireFault}
-use Rattle.kb_api_group.specs.ErrorCode.{code_of}
-use Rattle.kb_api_group.specs.declared.error_code.ErrorCode.{ErrorCode}
-use Rattle.kb_api_group.specs.declared.error_code.ErrorCode.TheVariants as codes
+use Rattle.kb_wire.specs.ErrorCode.{code_of}
+use Rattle.kb_wire.specs.declared.error_code.ErrorCode.{ErrorCode}
+use Rattle.kb_wire.specs.declared.error_code.ErrorCode.TheVariants as codes
 use Rattle.kb_api_data.specs.Layouts.{create_topics_request, create_topics_request_v1, create_topic_reply, create_topic_reply_v1}
 use Rattle.kb_api_data.specs.Layouts.{create_topics_reply, create_topics_reply_v1}
 use Rattle.kb_api_data.specs.declared.create_topics.CreateTopic.{CreateTopic}

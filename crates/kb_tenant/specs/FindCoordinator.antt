@@ -1,7 +1,7 @@
 -- FindCoordinator (Kafka protocol guide, "The Messages: FindCoordinator", version 0): which broker looks after a group?
 use Rattle.std.specs.Prelude.{pos}
-use Rattle.kb_api_group.specs.ErrorCode.{code_of}
-use Rattle.kb_api_group.specs.declared.error_code.ErrorCode.TheVariants as codes
+use Rattle.kb_wire.specs.ErrorCode.{code_of}
+use Rattle.kb_wire.specs.declared.error_code.ErrorCode.TheVariants as codes
 use Rattle.kb_api_group.specs.declared.find_coordinator.FindCoordinatorReply.{FindCoordinatorReply}
 use Rattle.kb_tenant.specs.declared.node.Node.{Node}
 

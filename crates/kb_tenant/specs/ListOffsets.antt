@@ -8,8 +8,8 @@ use Rattle.kb_api_data.specs.declared.list_offsets.ListOffsetsRequest.{ListOffse
 use Rattle.kb_api_data.specs.declared.list_offsets.ListOffsetsPartitionReply.{ListOffsetsPartitionReply}
 use Rattle.kb_api_data.specs.declared.list_offsets.ListOffsetsTopicReply.{ListOffsetsTopicReply}
 use Rattle.kb_api_data.specs.declared.list_offsets.ListOffsetsReply.{ListOffsetsReply}
-use Rattle.kb_api_group.specs.ErrorCode.{code_of as code}
-use Rattle.kb_api_group.specs.declared.error_code.ErrorCode.TheVariants as codes
+use Rattle.kb_wire.specs.ErrorCode.{code_of as code}
+use Rattle.kb_wire.specs.declared.error_code.ErrorCode.TheVariants as codes
 use Rattle.kb_log.specs.Log.{first_at}
 use Rattle.kb_log.specs.declared.time.OffsetAndTimestamp.{OffsetAndTimestamp}
 use Rattle.kb_topics.specs.Known.{named}

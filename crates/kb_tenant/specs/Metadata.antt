@@ -18,8 +18,8 @@ use Rattle.kb_api_data.specs.declared.metadata_versions.MetadataTopicV0.{Metadat
 use Rattle.kb_api_data.specs.declared.metadata_versions.MetadataReplyV0.{MetadataReplyV0}
 use Rattle.kb_api_data.specs.declared.metadata_versions.MetadataReplyV2.{MetadataReplyV2}
 use Rattle.kb_api_data.specs.declared.metadata_versions.MetadataReplyV3.{MetadataReplyV3}
-use Rattle.kb_api_group.specs.ErrorCode.{code_of as code}
-use Rattle.kb_api_group.specs.declared.error_code.ErrorCode.TheVariants as codes
+use Rattle.kb_wire.specs.ErrorCode.{code_of as code}
+use Rattle.kb_wire.specs.declared.error_code.ErrorCode.TheVariants as codes
 use Rattle.kb_topics.specs.ByName.{by_name}
 use Rattle.kb_topics.specs.Known.{TopicState, named, topic_at}
 use Rattle.kb_topics.specs.Name.{is_legal}

@@ -2,8 +2,8 @@
 -- Whether all entries of a request are refused is a parameter of `committed_all`. This crate's own `served` is that of a tenant whose
 -- groups have no members: there only a consumer that chooses its partitions itself commits, and it names a generation below 0.
 use Rattle.std.specs.Prelude.{ℕ, ℤ, pos, List, [], length, Option, Some, None, int_lt, ◌==◌, if◌then◌else◌}
-use Rattle.kb_api_group.specs.ErrorCode.{code_of}
-use Rattle.kb_api_group.specs.declared.error_code.ErrorCode.TheVariants as codes
+use Rattle.kb_wire.specs.ErrorCode.{code_of}
+use Rattle.kb_wire.specs.declared.error_code.ErrorCode.TheVariants as codes
 use Rattle.kb_api_group.specs.declared.offset_commit.CommitPartition.{CommitPartition}
 use Rattle.kb_api_group.specs.declared.offset_commit.CommitPartitionReply.{CommitPartitionReply}
 use Rattle.kb_api_group.specs.declared.offset_commit.CommitTopic.{CommitTopic}

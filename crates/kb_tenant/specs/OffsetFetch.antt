@@ -1,8 +1,8 @@
 -- OffsetFetch (Kafka protocol guide, "The Messages: OffsetFetch", version 1): which offsets has a group committed?
 use Rattle.std.specs.Prelude.{ℕ, ℤ, negsuc, List, [], map, Option, Some, None}
 use Rattle.std.specs.Option.{option_and_then}
-use Rattle.kb_api_group.specs.ErrorCode.{code_of}
-use Rattle.kb_api_group.specs.declared.error_code.ErrorCode.TheVariants as codes
+use Rattle.kb_wire.specs.ErrorCode.{code_of}
+use Rattle.kb_wire.specs.declared.error_code.ErrorCode.TheVariants as codes
 use Rattle.kb_api_group.specs.declared.offset_fetch.OffsetFetchTopic.{OffsetFetchTopic}
 use Rattle.kb_api_group.specs.declared.offset_fetch.OffsetFetchRequest.{OffsetFetchRequest}
 use Rattle.kb_api_group.specs.declared.offset_fetch.OffsetFetchPartitionReply.{OffsetFetchPartitionReply}

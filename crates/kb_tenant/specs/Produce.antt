@@ -7,9 +7,9 @@ use Rattle.kb_batch.specs.Batch.{first_fault}
 use Rattle.kb_batch.specs.Header.{producer_id_of}
 use Rattle.kb_batch.specs.declared.fault.BatchFault.{BatchFault}
 use Rattle.kb_batch.specs.declared.fault.BatchFault.TheVariants as fault
-use Rattle.kb_api_group.specs.ErrorCode.{code_of}
-use Rattle.kb_api_group.specs.declared.error_code.ErrorCode.{ErrorCode}
-use Rattle.kb_api_group.specs.declared.error_code.ErrorCode.TheVariants as error
+use Rattle.kb_wire.specs.ErrorCode.{code_of}
+use Rattle.kb_wire.specs.declared.error_code.ErrorCode.{ErrorCode}
+use Rattle.kb_wire.specs.declared.error_code.ErrorCode.TheVariants as error
 use Rattle.kb_api_data.specs.Layouts.{produce_reply}
 use Rattle.kb_api_data.specs.declared.produce.ProducePartition.{ProducePartition}
 use Rattle.kb_api_data.specs.declared.produce.ProduceTopic.{ProduceTopic}

@@ -1,7 +1,9 @@
 -- What a request of a tenant makes of its world, and comes to for the connection that sent it.
-use Rattle.std.specs.Prelude.{◌≡◌, ℕ, ℤ, pos, List, [], Option, Some, None, Result, Ok, Err, if◌then◌else◌}
+use Rattle.std.specs.Prelude.{◌≡◌, ℕ, ℤ, List, [], Option, Some, None, Result, Ok, Err, if◌then◌else◌}
 use Rattle.std.specs.Ordering.{int_eq}
 use Rattle.kb_wire.specs.Codec.{whole}
+use Rattle.kb_wire.specs.declared.api_key.TheConstants.{PRODUCE, FETCH, LIST_OFFSETS, METADATA, OFFSET_COMMIT, OFFSET_FETCH}
+use Rattle.kb_wire.specs.declared.api_key.TheConstants.{FIND_COORDINATOR, CREATE_TOPICS, DELETE_TOPICS, DELETE_RECORDS, INIT_PRODUCER_ID}
 use Rattle.kb_wire.specs.declared.fault.WireFault.{WireFault}
 use Rattle.kb_wire.specs.declared.fault.ReadFault.{ReadFault}
 use Rattle.kb_wire.specs.declared.fault.ReadFault.TheVariants as faults
@@ -106,21 +108,20 @@ abbrev pub if_read : {A : Type 0} → World → Result A WireFault → (A → Ou
 if_read w (Ok v) f = f v
 if_read w (Err fault) f = stays w Shuts
 
--- a request on the connection of number n; 0 is Produce, 1 Fetch, 2 ListOffsets, 3 Metadata, 8 OffsetCommit, 9 OffsetFetch,
--- 10 FindCoordinator, 19 CreateTopics, 20 DeleteTopics, 21 DeleteRecords, 22 InitProducerId
+-- a request on the connection of number n, by the key of its API
 unfoldable pub plainly_served : Node → World → ℕ → ℤ → ℤ → List ℕ → Outcome
 plainly_served node w n key version body =
-    if int_eq key (pos 0) then if_read w (whole produce_request body) (of_produce w)
-    else if int_eq key (pos 1) then if_read w (asked_fetch version body) (of_fetch version w)
-    else if int_eq key (pos 2) then if_read w (whole list_offsets_request body) (of_list_offsets w)
-    else if int_eq key (pos 3) then if_read w (asked_metadata version body) (of_metadata node version w)
-    else if int_eq key (pos 8) then if_read w (whole offset_commit_request body) (of_offset_commit w)
-    else if int_eq key (pos 9) then if_read w (whole offset_fetch_request body) (of_offset_fetch w)
-    else if int_eq key (pos 10) then if_read w (whole find_coordinator_request body) (of_find_coordinator node w)
-    else if int_eq key (pos 19) then if_read w (asked_creations version body) (of_create_topics version w)
-    else if int_eq key (pos 20) then if_read w (whole delete_topics_request body) (of_delete_topics version w)
-    else if int_eq key (pos 21) then if_read w (whole delete_records_request body) (of_delete_records w)
-    else if int_eq key (pos 22) then if_read w (whole init_producer_id_request body) (of_init_producer_id w)
+    if int_eq key PRODUCE then if_read w (whole produce_request body) (of_produce w)
+    else if int_eq key FETCH then if_read w (asked_fetch version body) (of_fetch version w)
+    else if int_eq key LIST_OFFSETS then if_read w (whole list_offsets_request body) (of_list_offsets w)
+    else if int_eq key METADATA then if_read w (asked_metadata version body) (of_metadata node version w)
+    else if int_eq key OFFSET_COMMIT then if_read w (whole offset_commit_request body) (of_offset_commit w)
+    else if int_eq key OFFSET_FETCH then if_read w (whole offset_fetch_request body) (of_offset_fetch w)
+    else if int_eq key FIND_COORDINATOR then if_read w (whole find_coordinator_request body) (of_find_coordinator node w)
+    else if int_eq key CREATE_TOPICS then if_read w (asked_creations version body) (of_create_topics version w)
+    else if int_eq key DELETE_TOPICS then if_read w (whole delete_topics_request body) (of_delete_topics version w)
+    else if int_eq key DELETE_RECORDS then if_read w (whole delete_records_request body) (of_delete_records w)
+    else if int_eq key INIT_PRODUCER_ID then if_read w (whole init_producer_id_request body) (of_init_producer_id w)
     else stays w Shuts
 
 -- a waiting fetch, of that deadline, version and body: its reply, where it waits no longer

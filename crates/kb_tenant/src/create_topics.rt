@@ -22,11 +22,10 @@ use kb_api_data::{
     CreateConfig, CreateTopic, CreateTopicReply, CreateTopicReplyV1, CreateTopicsRequest,
     CreateTopicsRequestV1,
 };
-use kb_api_group::ErrorCode;
 use kb_log::{PartitionLog, Shelf};
 use kb_store::Store;
 use kb_topics::{CatalogFault, ConfigReader, TopicConfig, is_legal_name};
-use kb_wire::{Layout, ReadFault, Sink, Text};
+use kb_wire::{ErrorCode, Layout, ReadFault, Sink, Text};
 use kb_world::Parts;
 use std::alloc::{AllocError, Global};
 

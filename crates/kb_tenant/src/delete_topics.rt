@@ -13,10 +13,9 @@ ghost use Rattle.kb_world.specs.Steps.{IsStep, Meets};
 ghost use Rattle.kb_world.specs.Told.{IsCatalogWant};
 
 use kb_api_data::{DeleteTopicReply, DeleteTopicsRequest};
-use kb_api_group::ErrorCode;
 use kb_log::{PartitionLog, Shelf};
 use kb_store::Store;
-use kb_wire::{Layout, Sink, Text};
+use kb_wire::{ErrorCode, Layout, Sink, Text};
 use kb_world::{Parts, TopicPartition};
 use std::alloc::AllocError;
 

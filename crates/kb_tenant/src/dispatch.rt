@@ -1,6 +1,8 @@
 //! A request of a tenant, by its key.
-ghost use Rattle.std.specs.Prelude.{◌≡◌, ◌≤◌, ◌^◌, [], pos, IfOk, OnErr};
+ghost use Rattle.std.specs.Prelude.{◌≡◌, ◌≤◌, ◌^◌, [], IfOk, OnErr};
 ghost use Rattle.kb_wire.specs.Codec.{string, whole};
+ghost use Rattle.kb_wire.specs.declared.api_key.TheConstants.{PRODUCE, FETCH, LIST_OFFSETS, OFFSET_COMMIT, CREATE_TOPICS, DELETE_TOPICS};
+ghost use Rattle.kb_wire.specs.declared.api_key.TheConstants.{DELETE_RECORDS, INIT_PRODUCER_ID};
 ghost use Rattle.kb_api_data.specs.Layouts.{produce_request, list_offsets_request, metadata_request, create_topics_request};
 ghost use Rattle.kb_api_data.specs.Layouts.{delete_records_request, delete_topics_request, init_producer_id_request};
 ghost use Rattle.kb_store.specs.Disk.{Files};
@@ -36,7 +38,7 @@ use kb_api_data::{
 };
 use kb_log::{PartitionLog, Shelf};
 use kb_store::Store;
-use kb_wire::{Layout, ReadFault};
+use kb_wire::{Layout, ReadFault, api_key};
 use kb_world::{Parts, TopicPartition};
 use std::alloc::Global;
 
@@ -277,51 +279,51 @@ fn serve_by_key<L: PartitionLog + Drop, S: Store>(
         (plainly_served node.now a.state.world request.now.connection request.now.api_key request.now.api_version request.now.body.now)
         b.state.world touched.new.items result) }
     ensures acknowledged { let a = scene L.log S.disk parts.old shelf.old in let b = scene L.log S.disk parts.new shelf.new in
-        request.now.api_key ≡ pos 0 → IfOk result (λ answer.
+        request.now.api_key ≡ PRODUCE → IfOk result (λ answer.
         WhereHonest a b (Acknowledges (HasFailed a b) request.now.correlation_id a.state.world request.now.body.now b.state.world
         touched.new.items answer)) }
     ensures spared { let a = scene L.log S.disk parts.old shelf.old in let b = scene L.log S.disk parts.new shelf.new in
-        request.now.api_key ≡ pos 0 → OnErr result (b.state.world ≡ a.state.world) }
+        request.now.api_key ≡ PRODUCE → OnErr result (b.state.world ≡ a.state.world) }
     ensures shut { let a = scene L.log S.disk parts.old shelf.old in let b = scene L.log S.disk parts.new shelf.new in
-        request.now.api_key ≡ pos 0 → IfOk result (λ answer. IsSpared a.state.world request.now.body.now b.state.world answer) }
+        request.now.api_key ≡ PRODUCE → IfOk result (λ answer. IsSpared a.state.world request.now.body.now b.state.world answer) }
     ensures fetched { let a = scene L.log S.disk parts.old shelf.old in let b = scene L.log S.disk parts.new shelf.new in
-        request.now.api_key ≡ pos 1 → IfOk result (λ answer. WhereHonest a b (AnswersFetch (HasFailed a b)
+        request.now.api_key ≡ FETCH → IfOk result (λ answer. WhereHonest a b (AnswersFetch (HasFailed a b)
         request.now.correlation_id request.now.api_version a.state.world request.now.body.now answer)) }
     ensures listed { let a = scene L.log S.disk parts.old shelf.old in let b = scene L.log S.disk parts.new shelf.new in
-        request.now.api_key ≡ pos 2 → IfOk result (λ answer. WhereHonest a b (AnswersListing (HasFailed a b)
+        request.now.api_key ≡ LIST_OFFSETS → IfOk result (λ answer. WhereHonest a b (AnswersListing (HasFailed a b)
         request.now.correlation_id a.state.world request.now.body.now answer)) }
     ensures created { let a = scene L.log S.disk parts.old shelf.old in let b = scene L.log S.disk parts.new shelf.new in
-        request.now.api_key ≡ pos 19 → IfOk result (λ answer.
+        request.now.api_key ≡ CREATE_TOPICS → IfOk result (λ answer.
         WhereHonest a b (AcknowledgesCreations (CreationFailed a b) request.now.correlation_id request.now.api_version a.state.world
         request.now.body.now b.state.world answer)) }
     ensures removed { let a = scene L.log S.disk parts.old shelf.old in let b = scene L.log S.disk parts.new shelf.new in
-        request.now.api_key ≡ pos 20 → IfOk result (λ answer.
+        request.now.api_key ≡ DELETE_TOPICS → IfOk result (λ answer.
         WhereHonest a b (AcknowledgesRemovals (CatalogFailed a b) request.now.correlation_id request.now.api_version a.state.world
         request.now.body.now b.state.world touched.new.items answer)) }
     ensures trimmed { let a = scene L.log S.disk parts.old shelf.old in let b = scene L.log S.disk parts.new shelf.new in
-        request.now.api_key ≡ pos 21 → IfOk result (λ answer. WhereHonest a b (AcknowledgesDeletions (CatalogFailed a b)
+        request.now.api_key ≡ DELETE_RECORDS → IfOk result (λ answer. WhereHonest a b (AcknowledgesDeletions (CatalogFailed a b)
         request.now.correlation_id a.state.world request.now.body.now b.state.world touched.new.items answer)) }
     ensures issued { let a = scene L.log S.disk parts.old shelf.old in let b = scene L.log S.disk parts.new shelf.new in
-        request.now.api_key ≡ pos 22 → IfOk result (λ answer.
+        request.now.api_key ≡ INIT_PRODUCER_ID → IfOk result (λ answer.
         WhereHonest a b (AcknowledgesIssue (CatalogFailed a b) request.now.correlation_id a.state.world request.now.body.now b.state.world
         answer)) }
     ensures committed { let a = scene L.log S.disk parts.old shelf.old in let b = scene L.log S.disk parts.new shelf.new in
-        request.now.api_key ≡ pos 8 → IfOk result (λ answer.
+        request.now.api_key ≡ OFFSET_COMMIT → IfOk result (λ answer.
         WhereHonest a b (AcknowledgesCommits (CatalogFailed a b) request.now.correlation_id a.state.world request.now.body.now b.state.world
         answer)) }
 {
     match request.api_key {
-        0 => serve_produce(alloc, parts, shelf, request, touched),
-        1 => serve_a_fetch(alloc, parts, shelf, request),
-        2 => serve_list_offsets(alloc, parts, shelf, request),
-        3 => serve_metadata(alloc, parts, node, request),
-        8 => serve_offset_commit(alloc, parts, shelf, request),
-        9 => serve_offset_fetch(alloc, parts, request),
-        10 => serve_find_coordinator(alloc, node, request),
-        19 => serve_create_topics(alloc, parts, shelf, request),
-        20 => serve_delete_topics(alloc, parts, shelf, request, touched),
-        21 => serve_delete_records(alloc, parts, shelf, request, touched),
-        22 => serve_init_producer_id(alloc, parts, shelf, request),
+        api_key::PRODUCE => serve_produce(alloc, parts, shelf, request, touched),
+        api_key::FETCH => serve_a_fetch(alloc, parts, shelf, request),
+        api_key::LIST_OFFSETS => serve_list_offsets(alloc, parts, shelf, request),
+        api_key::METADATA => serve_metadata(alloc, parts, node, request),
+        api_key::OFFSET_COMMIT => serve_offset_commit(alloc, parts, shelf, request),
+        api_key::OFFSET_FETCH => serve_offset_fetch(alloc, parts, request),
+        api_key::FIND_COORDINATOR => serve_find_coordinator(alloc, node, request),
+        api_key::CREATE_TOPICS => serve_create_topics(alloc, parts, shelf, request),
+        api_key::DELETE_TOPICS => serve_delete_topics(alloc, parts, shelf, request, touched),
+        api_key::DELETE_RECORDS => serve_delete_records(alloc, parts, shelf, request, touched),
+        api_key::INIT_PRODUCER_ID => serve_init_producer_id(alloc, parts, shelf, request),
         _ => Ok(Answer::Shut),
     }
 }
@@ -349,41 +351,41 @@ pub fn serve<L: PartitionLog + Drop, S: Store>(
         b.state.world result.touched.items result.answer) }
     // A batch of a Produce that is answered with no error is in its partition's log, whatever else was refused.
     ensures acknowledged { let a = scene L.log S.disk parts.old shelf.old in let b = scene L.log S.disk parts.new shelf.new in
-        request.now.api_key ≡ pos 0 → WhereHonest a b
+        request.now.api_key ≡ PRODUCE → WhereHonest a b
         (Acknowledges (HasFailed a b) request.now.correlation_id a.state.world request.now.body.now b.state.world result.touched.items
         result.answer) }
     // A Produce whose connection is shut for want of memory has appended nothing.
     ensures spared { let a = scene L.log S.disk parts.old shelf.old in let b = scene L.log S.disk parts.new shelf.new in
-        request.now.api_key ≡ pos 0 → IsSpared a.state.world request.now.body.now b.state.world result.answer }
+        request.now.api_key ≡ PRODUCE → IsSpared a.state.world request.now.body.now b.state.world result.answer }
     // A Fetch has of each partition what is defined, or the code of what refused it, whatever was refused.
     ensures fetched { let a = scene L.log S.disk parts.old shelf.old in let b = scene L.log S.disk parts.new shelf.new in
-        request.now.api_key ≡ pos 1 → WhereHonest a b (AnswersFetch (HasFailed a b)
+        request.now.api_key ≡ FETCH → WhereHonest a b (AnswersFetch (HasFailed a b)
         request.now.correlation_id request.now.api_version a.state.world request.now.body.now result.answer) }
     // So has a ListOffsets.
     ensures listed { let a = scene L.log S.disk parts.old shelf.old in let b = scene L.log S.disk parts.new shelf.new in
-        request.now.api_key ≡ pos 2 → WhereHonest a b (AnswersListing (HasFailed a b)
+        request.now.api_key ≡ LIST_OFFSETS → WhereHonest a b (AnswersListing (HasFailed a b)
         request.now.correlation_id a.state.world request.now.body.now result.answer) }
     // A topic of a CreateTopics that is answered with no error is in the catalog, whatever else was refused.
     ensures created { let a = scene L.log S.disk parts.old shelf.old in let b = scene L.log S.disk parts.new shelf.new in
-        request.now.api_key ≡ pos 19 → WhereHonest a b
+        request.now.api_key ≡ CREATE_TOPICS → WhereHonest a b
         (AcknowledgesCreations (CreationFailed a b) request.now.correlation_id request.now.api_version a.state.world request.now.body.now
         b.state.world result.answer) }
     // A topic of a DeleteTopics that is answered with no error is gone.
     ensures removed { let a = scene L.log S.disk parts.old shelf.old in let b = scene L.log S.disk parts.new shelf.new in
-        request.now.api_key ≡ pos 20 → WhereHonest a b
+        request.now.api_key ≡ DELETE_TOPICS → WhereHonest a b
         (AcknowledgesRemovals (CatalogFailed a b) request.now.correlation_id request.now.api_version a.state.world request.now.body.now
         b.state.world result.touched.items result.answer) }
     // Records that a DeleteRecords answers with no error are deleted.
     ensures trimmed { let a = scene L.log S.disk parts.old shelf.old in let b = scene L.log S.disk parts.new shelf.new in
-        request.now.api_key ≡ pos 21 → WhereHonest a b (AcknowledgesDeletions (CatalogFailed a b)
+        request.now.api_key ≡ DELETE_RECORDS → WhereHonest a b (AcknowledgesDeletions (CatalogFailed a b)
         request.now.correlation_id a.state.world request.now.body.now b.state.world result.touched.items result.answer) }
     // An id that an InitProducerId answers with no error was given out.
     ensures issued { let a = scene L.log S.disk parts.old shelf.old in let b = scene L.log S.disk parts.new shelf.new in
-        request.now.api_key ≡ pos 22 → WhereHonest a b
+        request.now.api_key ≡ INIT_PRODUCER_ID → WhereHonest a b
         (AcknowledgesIssue (CatalogFailed a b) request.now.correlation_id a.state.world request.now.body.now b.state.world result.answer) }
     // An offset of an OffsetCommit that is answered with no error is what the catalog has.
     ensures committed { let a = scene L.log S.disk parts.old shelf.old in let b = scene L.log S.disk parts.new shelf.new in
-        request.now.api_key ≡ pos 8 → WhereHonest a b
+        request.now.api_key ≡ OFFSET_COMMIT → WhereHonest a b
         (AcknowledgesCommits (CatalogFailed a b) request.now.correlation_id a.state.world request.now.body.now b.state.world
         result.answer) }
 {

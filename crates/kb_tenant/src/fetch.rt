@@ -5,6 +5,7 @@ mod now;
 mod partition;
 mod version;
 mod waiting;
+mod waits;
 
 pub(crate) use version::{has_starts, read_request};
 pub(crate) use waiting::{Fetching, look, serve_fetch};

@@ -5,8 +5,8 @@ ghost use Rattle.kb_tenant.specs.FindCoordinator.{coordinator};
 ghost use Rattle.kb_wire.specs.Codec.{string};
 
 use crate::node::Node;
-use kb_api_group::{ErrorCode, FindCoordinatorReply};
-use kb_wire::{Layout, Sink, Text};
+use kb_api_group::FindCoordinatorReply;
+use kb_wire::{ErrorCode, Layout, Sink, Text};
 use std::alloc::AllocError;
 
 /// Serves FindCoordinator: writes the reply behind what the sink has. It is the same for each group.

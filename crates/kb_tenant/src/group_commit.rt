@@ -19,12 +19,10 @@ ghost use Rattle.kb_world.specs.Told.{IsCatalogWant, IsDone};
 ghost use Rattle.std.specs.Prelude.{Some};
 
 use crate::create_topics::code_in;
-use kb_api_group::{
-    CommitPartition, CommitPartitionReply, CommitTopic, ErrorCode, OffsetCommitRequest,
-};
+use kb_api_group::{CommitPartition, CommitPartitionReply, CommitTopic, OffsetCommitRequest};
 use kb_log::{PartitionLog, Shelf};
 use kb_store::Store;
-use kb_wire::{Layout, Sink};
+use kb_wire::{ErrorCode, Layout, Sink};
 use kb_world::{Parts, TopicPartition};
 use std::alloc::AllocError;
 

@@ -10,10 +10,9 @@ ghost use Rattle.kb_world.specs.Steps.{IsStep, Meets};
 ghost use Rattle.kb_world.specs.Told.{IsCatalogWant, IsDone};
 
 use kb_api_data::{InitProducerIdReply, InitProducerIdRequest};
-use kb_api_group::ErrorCode;
 use kb_log::{PartitionLog, Shelf};
 use kb_store::Store;
-use kb_wire::{Layout, Sink};
+use kb_wire::{ErrorCode, Layout, Sink};
 use kb_world::Parts;
 use std::alloc::AllocError;
 

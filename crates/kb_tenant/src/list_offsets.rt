@@ -16,11 +16,10 @@ ghost use Rattle.kb_world.specs.Steps.{IsStep, Meets};
 use kb_api_data::{
     ListOffsetsPartition, ListOffsetsPartitionReply, ListOffsetsRequest, ListOffsetsTopic,
 };
-use kb_api_group::ErrorCode;
 use kb_log::{OffsetAndTimestamp, PartitionLog, Shelf};
 use kb_partitions::PartitionFault;
 use kb_store::Store;
-use kb_wire::{Layout, Sink};
+use kb_wire::{ErrorCode, Layout, Sink};
 use kb_world::{Parts, TopicPartition};
 use std::alloc::AllocError;
 

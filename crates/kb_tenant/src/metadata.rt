@@ -15,10 +15,9 @@ use crate::node::Node;
 use kb_api_data::{
     MetadataBroker, MetadataBrokerV0, MetadataRequest, MetadataRequestV0, MetadataRequestV4,
 };
-use kb_api_group::ErrorCode;
 use kb_log::PartitionLog;
 use kb_topics::{Topic, is_legal_name};
-use kb_wire::{Layout, ReadFault, Sink, Text};
+use kb_wire::{ErrorCode, Layout, ReadFault, Sink, Text};
 use kb_world::Parts;
 use std::alloc::{AllocError, Global};
 

@@ -8,10 +8,10 @@ ghost use Rattle.kb_api_group.specs.Layouts.{offset_fetch_topic_reply, offset_fe
 ghost use Rattle.kb_tenant.specs.OffsetFetch.{committed_answered, told, kept, fetched, fetched_topic, fetched_all};
 ghost use Rattle.kb_world.specs.Parts.{world_of};
 
-use kb_api_group::{ErrorCode, OffsetFetchPartitionReply, OffsetFetchRequest, OffsetFetchTopic};
+use kb_api_group::{OffsetFetchPartitionReply, OffsetFetchRequest, OffsetFetchTopic};
 use kb_log::PartitionLog;
 use kb_topics::Committed;
-use kb_wire::{Layout, Sink, Text};
+use kb_wire::{ErrorCode, Layout, Sink, Text};
 use kb_world::{Parts, TopicPartition};
 use std::alloc::AllocError;
 

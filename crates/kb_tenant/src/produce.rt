@@ -23,10 +23,9 @@ use crate::produce::entry::serve_entry;
 use crate::produce::reply::{put, put_count, put_string};
 use crate::produce::room::make_room;
 use kb_api_data::{ProducePartition, ProduceRequest, ProduceTopic};
-use kb_api_group::ErrorCode;
 use kb_log::{PartitionLog, Shelf};
 use kb_store::Store;
-use kb_wire::Sink;
+use kb_wire::{ErrorCode, Sink};
 use kb_world::{Parts, TopicPartition};
 use std::alloc::AllocError;
 

@@ -1,6 +1,7 @@
 //! Laws about the definitions, each as the contract of a function with an empty body.
-ghost use Rattle.std.specs.Prelude.{◌≡◌, ◌<◌, ℕ, ℤ, pos, List, Option, Ok, None};
+ghost use Rattle.std.specs.Prelude.{◌≡◌, ◌<◌, ℕ, ℤ, List, Option, Ok, None};
 ghost use Rattle.std.specs.List.{Contains};
+ghost use Rattle.kb_wire.specs.declared.api_key.TheConstants.{FETCH};
 ghost use Rattle.kb_api_data.specs.declared.fetch.FetchRequest.{FetchRequest};
 ghost use Rattle.kb_api_group.specs.declared.offset_commit.OffsetCommitRequest.{OffsetCommitRequest};
 ghost use Rattle.kb_world.specs.Tied.{IsTied};
@@ -94,7 +95,7 @@ pub fn logs_stay_small()
 pub fn fetches_give_whole_batches()
     ensures served { (node : Node) (w : World) (n : ℕ) (version : ℤ) (body bytes : List ℕ) (r : FetchRequest) → HasSmallLogs w
         → asked_fetch version body ≡ Ok r
-        → (plainly_served node w n (pos 1) version body).reaction ≡ Replies bytes → HoldsBatches version w r bytes }
+        → (plainly_served node w n FETCH version body).reaction ≡ Replies bytes → HoldsBatches version w r bytes }
     ensures looked { (w : World) (deadline : ℕ) (version : ℤ) (body bytes : List ℕ) (r : FetchRequest) → HasSmallLogs w
         → asked_fetch version body ≡ Ok r
         → looked w deadline version body ≡ Replies bytes → HoldsBatches version w r bytes }

@@ -3,6 +3,7 @@ pub mod Committed
 pub mod Created
 pub mod Creating
 pub mod Deleted
+pub mod Foretold
 pub mod Issued
 pub mod KeptEach
 pub mod Lifted

@@ -1,6 +1,6 @@
 -- What each call makes of a world, and answers, where memory and the store refuse nothing.
-use Rattle.std.specs.Prelude.{ℕ, ℤ, pos, negsuc, Bool, true, false, List, [], ◌∷◌, length, map, Option, Some, None, Result, Ok, Err, nat_le}
-use Rattle.std.specs.Prelude.{int_lt, ◌+◌, ◌^◌, ◌≡◌, ◌++◌, ◌||◌, if◌then◌else◌, option_map}
+use Rattle.std.specs.Prelude.{ℕ, ℤ, pos, negsuc, Bool, true, false, List, [], ◌∷◌, length, map, Option, Some, None, Result, Ok, Err, IsErr}
+use Rattle.std.specs.Prelude.{nat_le, int_lt, ◌≤◌, ◌<◌, ◌+◌, ◌^◌, ◌≡◌, ◌++◌, ◌||◌, if◌then◌else◌, option_map}
 use Rattle.std.specs.List.{flat_map, range_with_len}
 use Rattle.std.specs.Option.{option_and_then}
 use Rattle.std.specs.Ordering.{int_eq}
@@ -56,6 +56,18 @@ IsGiven (Ok records) old (Ok u) new = new ≡ old ++ records
 IsGiven (Ok records) old (Err f) new = ⊥
 IsGiven (Err g) old (Ok u) new = ⊥
 IsGiven (Err g) old (Err f) new = (f ≡ g) × (new ≡ old)
+
+abbrev pub HasAtMost : Result (List ℕ) PartitionFault → ℕ → Type 0
+HasAtMost (Ok records) n = length records ≤ n
+HasAtMost (Err f) n = ⊥
+
+-- a fetch from the offset on is not refused, and gives at most so many bytes, whatever its limit, which has 64 bits
+abbrev pub GivesAtMost : World → TopicPartition → ℤ → ℕ → Type 0
+GivesAtMost w place offset n = (limit : ℕ) (first : Bool) → limit < 2 ^ 64 → HasAtMost (fetch w place offset limit first) n
+
+-- a fetch from the offset on is refused, whatever its limit
+abbrev pub GivesNothing : World → TopicPartition → ℤ → Type 0
+GivesNothing w place offset = (limit : ℕ) (first : Bool) → IsErr (fetch w place offset limit first)
 
 abbrev pub found_in : ℤ → Option LogState → Result (Option OffsetAndTimestamp) PartitionFault
 found_in timestamp None = Err partition.Unknown

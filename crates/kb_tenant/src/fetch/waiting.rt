@@ -12,6 +12,7 @@ ghost use Rattle.kb_world.specs.Steps.{IsStep, Meets};
 use crate::fetch::given::not_negative;
 use crate::fetch::now::fetch_now;
 use crate::fetch::partition::place_of;
+use crate::fetch::waits::surely_waits;
 use kb_api_data::{FetchPartition, FetchRequest};
 use kb_log::{PartitionLog, Shelf};
 use kb_store::Store;
@@ -74,8 +75,8 @@ fn deadline<L: PartitionLog + Drop>(parts: &Parts<L>, request: &FetchRequest<'_>
 
 /// Looks at a waiting fetch: writes its reply if it waits no longer, and answers whether it did.
 ///
-/// Where it still waits the sink is as before. A partition that memory or the store refused has that error's code in the reply, which
-/// is then written. An `Err` may leave a front of the reply there.
+/// Where it still waits the sink is as before; where that is sure beforehand nothing is copied or read. A partition that memory or
+/// the store refused has that error's code in the reply, which is then written. An `Err` may leave a front of the reply there.
 pub(crate) fn look<L: PartitionLog + Drop, S: Store>(
     alloc: Global,
     parts: &mut Parts<L>,
@@ -98,6 +99,9 @@ pub(crate) fn look<L: PartitionLog + Drop, S: Store>(
         × (IsFetchReady (HasFailed a b) a.state.world deadline request.now done reply
         × (done ≡ true → sink.new.bytes ≡ sink.old.bytes ++ reply_written has_starts reply)))) }
 {
+    if surely_waits(parts, request, deadline) {
+        return Ok(false);
+    }
     let before = sink.len();
     let given = fetch_now(alloc, parts, shelf, has_starts, request, sink)?;
     if given.is_ready(parts.clock(), deadline) {

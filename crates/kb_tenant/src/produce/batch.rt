@@ -2,9 +2,8 @@
 ghost use Rattle.std.specs.Prelude.{◌≡◌};
 ghost use Rattle.kb_tenant.specs.Produce.{batch_in, error_of as error_for};
 
-use kb_api_group::ErrorCode;
 use kb_batch::{BatchFault, BatchView};
-use kb_wire::Blob;
+use kb_wire::{Blob, ErrorCode};
 
 /// The error for the first test that a batch fails.
 fn error_of(fault: BatchFault) -> ErrorCode

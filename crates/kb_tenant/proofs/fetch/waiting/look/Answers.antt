@@ -1,9 +1,27 @@
 use Rattle.std.proofs.Common.{◌≡◌, false, refl, true}
 use Rattle.kb_world.specs.Parts.{scene, world_of}
+use Rattle.kb_world.specs.Steps.{step_same}
 use Rattle.kb_tenant.specs.Told.{HasFailed}
 use Rattle.kb_tenant.proofs.Fetched.{fetched_ready}
+use Rattle.kb_tenant.proofs.Missing.{unanswered_looked, unanswered_told}
 use Rattle.kb_tenant.proofs.Ready.{looked_done, looked_not}
 use Rattle.kb_tenant.proofs.fetch.waiting.look.Goals as goal
+
+pub returns-then-surely_waits-clause-step : goal.returns-then-surely_waits-clause-step
+returns-then-surely_waits-clause-step g c =
+    step_same (scene g.L.PartitionLog.log g.S.Store.disk c.args.parts.now c.args.shelf.now) c.requires.sound
+
+pub returns-then-surely_waits-clause-meets : goal.returns-then-surely_waits-clause-meets
+returns-then-surely_waits-clause-meets g c = λ honest agrees calm.
+    let a = scene g.L.PartitionLog.log g.S.Store.disk c.args.parts.now c.args.shelf.now in
+    unanswered_looked c.args.has_starts a.state.world c.args.request.now c.args.deadline c.args.sink.now.bytes
+    (c.surely_waits.ensures a.disk.files agrees c.if-surely_waits.true)
+
+pub returns-then-surely_waits-clause-told : goal.returns-then-surely_waits-clause-told
+returns-then-surely_waits-clause-told g c = λ honest agree.
+    let a = scene g.L.PartitionLog.log g.S.Store.disk c.args.parts.now c.args.shelf.now in
+    unanswered_told (HasFailed a a) c.args.has_starts a.state.world c.args.request.now c.args.deadline c.args.sink.now.bytes
+    (c.surely_waits.ensures a.disk.files agree c.if-surely_waits.true)
 
 pub returns-then-is_ready-clause-meets : goal.returns-then-is_ready-clause-meets
 returns-then-is_ready-clause-meets g c = λ honest agrees calm.

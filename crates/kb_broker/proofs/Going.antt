@@ -15,6 +15,7 @@ use Rattle.kb_waits.specs.Queue.{Queue}
 use Rattle.kb_store.specs.Disk.{Disk}
 use Rattle.kb_service.specs.Hosted as hosted
 use Rattle.kb_service.specs.Hosted.{TenantState}
+use Rattle.kb_service.specs.Serve.{has_released}
 use Rattle.kb_service.specs.Turns.{IsTurn}
 use Rattle.kb_tenant.specs.Replies.{Silent}
 use Rattle.kb_machine.specs.Tenant.{Wait, ready}
@@ -28,21 +29,21 @@ use Rattle.kb_machine.specs.Broker.{BrokerState, IsSound, IsUnready, AreUnready,
 use Rattle.kb_machine.specs.declared.whom.Whom.TheVariants as whoms
 use Rattle.kb_machine.specs.Turned.{Scope, Everybody, AreStill, IsGoing, IsLookedFor, SameOthers, Served, Turned, Waked}
 use Rattle.kb_machine.proofs.Sets.{IsAt, all-map, none-able, find-at}
-use Rattle.kb_machine.proofs.Parts.{eqb_same, eqb_other}
+use Rattle.kb_machine.proofs.Parts.{each-tenant, eqb_same, eqb_other}
 use Rattle.kb_machine.proofs.Owned.{found as found-all}
-use Rattle.kb_machine.proofs.Quiet.{first-silent}
-use Rattle.kb_machine.proofs.Turns.{going-same, going-then, turned-same, turned-then, unready-weaken}
-use Rattle.kb_machine.proofs.Wakes.{turned-served}
+use Rattle.kb_machine.proofs.Quiet.{first-silent, own-turn}
+use Rattle.kb_machine.proofs.Turns.{free-unready, going-same, going-then, turned-same, turned-then, unready-weaken}
+use Rattle.kb_machine.proofs.Wakes.{turned-quiet, turned-served}
 use Rattle.kb_machine.specs.Stranded.{NoneStranded}
 use Rattle.kb_broker.specs.Hosts.{OnStore, is_honest, IsLater, IsReadyOn, NoneReady, StepsTo}
-use Rattle.kb_broker.specs.Places.{numbers, number_at, waits_in, AreIdle, IsNext, IsScoped, IsMemberTurnAt, IsTakenAt, IsTurnAt}
-use Rattle.kb_broker.specs.Parked.{deadline_at, deadline_in, until_of, AreAllOf, AreAnswered, IsKeyedAt, IsKeyedIn, IsOwnedAt, IsOwnedIn, IsQueueOf, IsAskedOnAt, IsPassedOn, IsWhose, IsLeftBy, IsUnreadyIn, IsSoughtAt, IsSoughtIn, IsMinded, AreMinded, SameBut, IsServedFor, IsOwnTo, IsAllOf, IsLeftTo, IsReadyAmong, can_in, AreAmong}
+use Rattle.kb_broker.specs.Places.{numbers, number_at, waits_in, AreIdle, IsNext, IsScoped, IsMemberTurnAt, IsServedAt, IsTakenAt, IsTurnAt}
+use Rattle.kb_broker.specs.Parked.{deadline_at, deadline_in, until_of, AreAllOf, AreAnswered, IsKeyedAt, IsKeyedIn, IsOwnedAt, IsOwnedIn, IsQueueOf, IsAskedOnAt, IsPassedOn, IsWhose, IsLeftAmong, IsLeftBy, IsQuietAt, IsUnreadyAt, IsUnreadyIn, IsSoughtAt, IsSoughtIn, IsMinded, AreMinded, SameBut, IsServedFor, IsOwnTo, IsAllOf, IsLeftTo, IsReadyAmong, can_in, AreAmong}
 use Rattle.kb_broker.specs.declared.serving.Concerned.{Concerned}
 use Rattle.kb_broker.specs.declared.serving.Concerned.TheVariants as concerned
 use Rattle.kb_broker.proofs.Honest.{later-same, later-then, ready-of}
 use Rattle.kb_broker.proofs.Placed.{get-at, number_at-is}
-use Rattle.kb_broker.proofs.Handled.{HasBegun, IsMoved, IsTaken, idle-none, moved-going, moved-held, moved-others, moved-step, moved-unready, put_with, unready-over, waked-still, next-can, scoped-turned, served-for, served-quiet, served-taken}
-use Rattle.kb_broker.proofs.Parked.{IsCarried, among, among-same, among-settled, carried-same, carried-turn, deadline-free, each-find, find-set, first-least, minded-all, queue-put, unready-at, waiting-on}
+use Rattle.kb_broker.proofs.Handled.{HasBegun, IsMoved, IsTaken, idle-none, moved-going, moved-held, moved-others, moved-step, moved-unready, put_with, unready-over, waked-still, next-can, scoped-turned, served-for, served-taken}
+use Rattle.kb_broker.proofs.Parked.{IsCarried, among, among-same, among-settled, at-unready, carried-same, carried-turn, deadline-free, each-find, find-set, first-least, minded-all, queue-put, unready-at, waiting-on}
 
 -- 1. Numbers that are put in
 
@@ -239,13 +240,6 @@ queue-turn H G q p a b i l m us e v k back unready asked parked dated owned keye
     subst (λ (x : BrokerState). IsQueueOf H q x.tenants x.lines → (G → IsAskedOnAt l.session.stage x.tenants us) → IsQueueOf G p us (set x.lines i m)) (sym e)
     (λ v' asked'. queue-taken H G q p b i l m us v' k back unready asked' parked dated owned keyed) v asked
 
--- whose waiting requests are to be looked at after it
-pub served-by : (H : Type 0) → H → (c : Concerned) (scope : Scope) (b : BrokerState) (i : ℕ) (l m : Line) (us : List TenantState) (q : Queue) → AreStill scope b → AreUnready AnyWait b → IsTaken H b i l m us → IsTakenAt H b.setup b.clock l.number l.session.stage b.tenants us l.session m.session → IsMemberTurnAt l.number l.session.stage b.tenants us m.session.stage
-    → IsWhose c l.session.stage → IsLeftBy c b.setup b.clock l.session.stage l.number q b.tenants us l.session m.session → IsServedFor c scope b (put_with b i m us)
-served-by H honest concerned.Nobody scope b i l m us q still unready k is member who left = served-quiet H honest scope b i l m us still unready k is member left
-served-by H honest (concerned.These t ns) scope b i l m us q still unready k is member who left = served-for (concerned.These t ns) l.session.stage scope b (put_with b i m us) (λ e. absurd (cc)) who (served-taken H honest scope b i l m us l.session.stage still k refl k.turn is member)
-served-by H honest (concerned.All t) scope b i l m us q still unready k is member who left = served-for (concerned.All t) l.session.stage scope b (put_with b i m us) (λ e. absurd (cc)) who (served-taken H honest scope b i l m us l.session.stage still k refl k.turn is member)
-
 -- the turn of a connection bound to a tenant leaves no wait of the tenant ready but among those
 record IsSpared (t : ℕ) (ns : List ℕ) (b : BrokerState) (l m : Line) (us : List TenantState) (d : BrokerState) : Type 0 where
   own : Contains ns l.number × IsSoughtAt (whoms.Tenant t) d.clock m.session.stage
@@ -328,7 +322,7 @@ spared-answered H t x ns b i l m us taken bound p = record {
     by k w ne silent (inr not-in) = inl (p.others k w ne not-in silent)
 
 left-these : (H : Type 0) → H → (G : Type 0) → G → (t : ℕ) (ns : List ℕ) (b : BrokerState) (i : ℕ) (l m : Line) (us : List TenantState) (q : Queue) (st : Stage) → AreUnready AnyWait b → IsTaken H b i l m us → l.session.stage ≡ st → whose st ≡ Some t → IsQueueOf G q b.tenants b.lines
-    → IsTurnAt H st b.tenants us → IsPassedOn b.setup t b.clock l.number q b.tenants us l.session m.session ns ⊎ (AreAllOf t l.number q ns ⊎ AreAnswered t b.clock l.number b.tenants us ns) → (k : ℕ) → IsMinded (whoms.Tenant t) ns (put_with b i m us) k
+    → IsTurnAt H st b.tenants us → IsLeftAmong b.setup t b.clock l.number q b.tenants us l.session m.session ns → (k : ℕ) → IsMinded (whoms.Tenant t) ns (put_with b i m us) k
 left-these H honest G true-so t ns b i l m us q (Greets h) unready taken s who v turn p = absurd (cc)
 left-these H honest G true-so t ns b i l m us q (BoundTo u x) unready taken s who v turn' p = left-spared H honest t ns b i l m us unready taken turn (by p)
   where
@@ -341,7 +335,7 @@ left-these H honest G true-so t ns b i l m us q (BoundTo u x) unready taken s wh
     turn : IsTurn t H b.tenants us
     turn = subst (λ n. IsTurn n H b.tenants us) same turn'
 
-    by : IsPassedOn b.setup t b.clock l.number q b.tenants us l.session m.session ns ⊎ (AreAllOf t l.number q ns ⊎ AreAnswered t b.clock l.number b.tenants us ns) → IsSpared t ns b l m us (put_with b i m us)
+    by : IsLeftAmong b.setup t b.clock l.number q b.tenants us l.session m.session ns → IsSpared t ns b l m us (put_with b i m us)
     by (inl passed) = spared-passed H G true-so t x ns b i l m us q taken bound v turn passed
     by (inr (inl all)) = spared-all H G t x ns b i l m us q taken bound v all
     by (inr (inr answered)) = spared-answered H t x ns b i l m us taken bound answered
@@ -351,6 +345,46 @@ pub left-by : (H : Type 0) → H → (G : Type 0) → G → (c : Concerned) (b :
 left-by H honest G true-so concerned.Nobody b i l m us q unready k who v left = tt
 left-by H honest G true-so (concerned.These t ns) b i l m us q unready k who v left = left-these H honest G true-so t ns.items b i l m us q l.session.stage unready k refl who v k.turn left
 left-by H honest G true-so (concerned.All t) b i l m us q unready k who v left = tt
+
+-- the turn of a connection bound to a tenant made nothing ready that waits
+quiet-at : (H : Type 0) → H → (G : Type 0) → G → (scope : Scope) (b : BrokerState) (i : ℕ) (l m : Line) (us : List TenantState) (q : Queue) (st : Stage) → AreUnready AnyWait b → IsTaken H b i l m us → l.session.stage ≡ st → IsQueueOf G q b.tenants b.lines
+    → IsTurnAt H st b.tenants us → IsServedAt st scope b (put_with b i m us) → IsQuietAt b.setup b.clock l.number st q b.tenants us l.session m.session → Turned scope b (put_with b i m us)
+quiet-at H honest G true-so scope b i l m us q (Greets h) unready k s v turn served quiet = served
+quiet-at H honest G true-so scope b i l m us q (BoundTo t w) unready k s v turn served quiet =
+    turned-quiet t scope b d served (at-unready d served.going.sound (λ j. each-tenant (λ n. IsUnreadyAt n d) l.number j (eqb l.number j) refl here (λ ne. other j ne (left j))))
+  where
+    d : BrokerState
+    d = put_with b i m us
+
+    own : (has_released (hosted.kept_of us t).groups ≡ false) ⊎ (is_free m.session.stage ≡ true) → IsUnready AnyWait d m.number m.session.stage
+    own (inl none) = own-turn b i t l m us H turn honest k.at (able-free l.session k.able) (ap without_wait s) k.number (k.spent.stage t w s) quiet.session quiet.kept none
+    own (inr free) = free-unready AnyWait d m.number m.session.stage free
+
+    here : IsUnreadyAt l.number d
+    here = find-set (IsUnreadyIn d l.number) 0 b.last l.number b.lines i l m k.next.sound.rising k.at k.number (λ ne. absurd (ne refl)) (λ e. subst (λ n. IsUnready AnyWait d n m.session.stage) k.number (own quiet.own))
+
+    left : (j : ℕ) → IsMinded (whoms.Tenant t) (l.number ∷ []) d j
+    left = left-these H honest G true-so t (l.number ∷ []) b i l m us q (BoundTo t w) unready k s refl v turn quiet.others
+
+    other : (j : ℕ) → j ≢ l.number → IsMinded (whoms.Tenant t) (l.number ∷ []) d j → IsUnreadyAt j d
+    other j ne (inl u) = u
+    other j ne (inr p) = absurd (one j ne p.0)
+      where
+        one : (j : ℕ) → j ≢ l.number → Contains (l.number ∷ []) j → ⊥
+        one j ne c = let at : c.0 ≡ 0 = (let h = c.1 in omega (arith, h)) in ne (sym c.2 ∙ ap (λ x. get_or (l.number ∷ []) x j) at)
+
+-- whose waiting requests are to be looked at after it
+pub served-by : (H : Type 0) → H → (G : Type 0) → G → (c : Concerned) (scope : Scope) (b : BrokerState) (i : ℕ) (l m : Line) (us : List TenantState) (q : Queue) → AreStill scope b → AreUnready AnyWait b → IsTaken H b i l m us → IsTakenAt H b.setup b.clock l.number l.session.stage b.tenants us l.session m.session → IsMemberTurnAt l.number l.session.stage b.tenants us m.session.stage
+    → IsWhose c l.session.stage → IsQueueOf G q b.tenants b.lines → IsLeftBy c b.setup b.clock l.session.stage l.number q b.tenants us l.session m.session → IsServedFor c scope b (put_with b i m us)
+served-by H honest G true-so c scope b i l m us q still unready k is member who v left = by c who left
+  where
+    served : IsServedAt l.session.stage scope b (put_with b i m us)
+    served = served-taken H honest scope b i l m us l.session.stage still k refl k.turn is member
+
+    by : (c : Concerned) → IsWhose c l.session.stage → IsLeftBy c b.setup b.clock l.session.stage l.number q b.tenants us l.session m.session → IsServedFor c scope b (put_with b i m us)
+    by concerned.Nobody who quiet = quiet-at H honest G true-so scope b i l m us q l.session.stage unready k refl v k.turn served quiet
+    by (concerned.These t ns) who left = served-for (concerned.These t ns) l.session.stage scope b (put_with b i m us) (λ e. absurd (cc)) who served
+    by (concerned.All t) who left = served-for (concerned.All t) l.session.stage scope b (put_with b i m us) (λ e. absurd (cc)) who served
 
 -- where memory was refused all of the tenant are looked at
 pub refused-left : (c : Concerned) (st : Stage) (b : BrokerState) → IsAllOf c st → IsLeftTo c b

@@ -16,7 +16,6 @@ use Rattle.kb_service.specs.Hosted.{Kept, TenantState, names_of, refusals_of, wo
 use Rattle.kb_service.specs.Turns.{IsTurn, HavePassed}
 use Rattle.kb_machine.specs.Session.{Stage, Greets, BoundTo, Session, fresh, shut_down, without_wait, is_free, fed, overruns, room, can}
 use Rattle.kb_service.specs.Hosted as hosted
-use Rattle.kb_service.specs.Serve.{has_released}
 use Rattle.kb_tenant.specs.Replies.{Silent}
 use Rattle.kb_machine.specs.Tenant.{Awaited, Records, Group, Wait, ready, ready_for}
 use Rattle.kb_machine.specs.Greeting.{User}
@@ -26,21 +25,19 @@ use Rattle.kb_machine.specs.Calls.{left_by}
 use Rattle.kb_machine.specs.Broker.{BrokerState, AreUnready, AnyWait, InRange, IsCalmFor, IsReady, IsSound, IsStep, IsUnready, IsUntaken, Mine, is_deaf, view_of}
 use Rattle.kb_machine.specs.declared.whom.Whom.TheVariants as whoms
 use Rattle.kb_machine.specs.Turned.{Scope, Of, Everybody, IsStill, AreStill, IsGoing, is_resting, IsFed, SameOthers, Turned, Served, Waked, IsPassedOver}
-use Rattle.kb_machine.proofs.Quiet.{quiet-turn}
 use Rattle.kb_machine.proofs.Sets.{IsAt, all-at, all-map, all-still, find-set_other, work-set, first-still, still-none}
 use Rattle.kb_machine.proofs.Parts.{count, each-tenant, turn-then, calm-right, eqb_same}
 use Rattle.kb_machine.proofs.Owned.{found as found-all}
 use Rattle.kb_machine.proofs.Steps.{begun, sound-begun, due-unready, step-moment}
-use Rattle.kb_machine.proofs.Wakes.{turned-quiet}
 use Rattle.kb_machine.proofs.Leaving.{left_fed, kept-unfed, left-names, left-other, left-own, left-refusals, names-fed, own-whose, ready-fed, ready-left, refusals-fed}
 use Rattle.kb_machine.proofs.Owners.{IsMine}
 use Rattle.kb_tenants.proofs.Passed.{length_named}
-use Rattle.kb_machine.proofs.Turns.{changed-quiet, free-unready, going-then, unready-quiet, untouched-then, turned-greeting, called-going, greeting-going, refused-going, served-bound, refused-greeting}
+use Rattle.kb_machine.proofs.Turns.{going-then, unready-quiet, untouched-then, turned-greeting, called-going, greeting-going, refused-going, served-bound, refused-greeting}
 use Rattle.kb_machine.proofs.Feeds.{still-settled, fed-kept, fed-refused, fed-loud, step-comes, step-nothing, step-shut}
 use Rattle.kb_connection.specs.View.{with_session}
 use Rattle.kb_machine.specs.Stranded.{NoneStranded}
 use Rattle.kb_machine.proofs.Stranded.{left-nobody, spared-left, spared-served, stranded-begun, stranded-left, stranded-over, stranded-served}
-use Rattle.kb_broker.specs.Places.{numbers, number_at, waits_in, Leaves, IsSpent, IsTakenAt, IsMemberTurnAt, IsWaitTurnAt, IsTurnAt, AreIdle, IsNext, IsScoped, IsCountedAt, IsCountedFor, IsServedAt, IsQuietAt}
+use Rattle.kb_broker.specs.Places.{numbers, number_at, waits_in, Leaves, IsSpent, IsTakenAt, IsMemberTurnAt, IsWaitTurnAt, IsTurnAt, AreIdle, IsNext, IsScoped, IsCountedAt, IsCountedFor, IsServedAt}
 use Rattle.kb_broker.specs.Parked.{deadline_at, IsReadyAmong, IsServedFor, IsWhose, IsAllOf}
 use Rattle.kb_broker.specs.declared.serving.Concerned.{Concerned}
 use Rattle.kb_broker.specs.declared.serving.Concerned.TheVariants as concerned
@@ -167,25 +164,6 @@ served-taken H honest scope b i l m us (BoundTo t w) still k s turn is member = 
     (λ held. stranded-served b i t l m us b.unbound_refusals k.next.sound k.at k.number (able-free l.session k.able) (λ u ne. turn.others honest u ne)
     (spared-served b i t l (hosted.kept_of us t).groups k.next.sound k.at (able-free l.session k.able) held (subst (λ st. IsWaitTurnAt l.number st b.tenants us) s k.waits))
     (subst (λ st. IsMemberTurnAt l.number st b.tenants us m.session.stage) s member) held)
-
--- it made nothing ready that waits
-quiet-at : (H : Type 0) → H → (scope : Scope) (b : BrokerState) (i : ℕ) (l m : Line) (us : List TenantState) (st : Stage) → AreUnready AnyWait b → IsTaken H b i l m us → l.session.stage ≡ st → IsTurnAt H st b.tenants us → IsServedAt st scope b (put_with b i m us) → IsQuietAt b.setup b.clock l.number st b.tenants us l.session m.session →
-    Turned scope b (put_with b i m us)
-quiet-at H honest scope b i l m us (Greets h) unready k s turn served quiet = served
-quiet-at H honest scope b i l m us (BoundTo t w) unready k s turn served quiet =
-    turned-quiet t scope b (put_with b i m us) served (by quiet.own)
-  where
-    others : (u n : ℕ) (x : Wait) → ready (hosted.kept_of b.tenants u) b.clock n x ≡ Silent → ready (hosted.kept_of us u) b.clock n x ≡ Silent
-    others u n x silent = each-tenant (λ v. ready (hosted.kept_of b.tenants v) b.clock n x ≡ Silent → ready (hosted.kept_of us v) b.clock n x ≡ Silent) t u (eqb t u) refl
-        (λ before. quiet.ready n x before) (λ ne before. ap (λ y. ready y b.clock n x) (turn.others honest u ne) ∙ before) silent
-
-    by : (has_released (hosted.kept_of us t).groups ≡ false) ⊎ (is_free m.session.stage ≡ true) → AreUnready AnyWait (put_with b i m us)
-    by (inl none) = quiet-turn b i t l m us H turn honest unready k.at (able-free l.session k.able) (ap without_wait s) k.number (k.spent.stage t w s) quiet.session quiet.kept none quiet.ready
-    by (inr free) = changed-quiet AnyWait b i m us b.unbound_refusals others unready (free-unready AnyWait b m.number m.session.stage free)
-
-pub served-quiet : (H : Type 0) → H → (scope : Scope) (b : BrokerState) (i : ℕ) (l m : Line) (us : List TenantState) → AreStill scope b → AreUnready AnyWait b → IsTaken H b i l m us → IsTakenAt H b.setup b.clock l.number l.session.stage b.tenants us l.session m.session → IsMemberTurnAt l.number l.session.stage b.tenants us m.session.stage →
-    IsQuietAt b.setup b.clock l.number l.session.stage b.tenants us l.session m.session → Turned scope b (put_with b i m us)
-served-quiet H honest scope b i l m us still unready k is member quiet = quiet-at H honest scope b i l m us l.session.stage unready k refl k.turn (served-taken H honest scope b i l m us l.session.stage still k refl k.turn is member) quiet
 
 -- whose waiting requests are then looked at
 pub served-for : (c : Concerned) (st : Stage) (scope : Scope) (b d : BrokerState) → (c ≡ concerned.Nobody → ⊥) → IsWhose c st → IsServedAt st scope b d → IsServedFor c scope b d

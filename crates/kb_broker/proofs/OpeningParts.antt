@@ -16,12 +16,9 @@ use Rattle.kb_machine.specs.Greeting.{User as Login, Setup}
 use Rattle.kb_machine.specs.Machine.{first_able}
 use Rattle.kb_machine.specs.Broker.{BrokerState, AreUnready, AnyWait, IsSound}
 use Rattle.kb_store.specs.Disk.{Disk}
-use Rattle.kb_store.specs.declared.fault.StoreFault.{StoreFault}
-use Rattle.kb_store.specs.declared.fault.StoreFault.TheVariants as refusals
-use Rattle.kb_log.specs.Shelf.{RefusedFor}
 use Rattle.kb_broker.specs.Hosts.{OnStore, IsReadyOn}
 use Rattle.kb_settings.specs.Names.{place_of}
-use Rattle.kb_broker.specs.Opening.{tenant_of, tenants_of, login_of, opening_listing, opening_over, opening_setup, listed, listed_as, fault_for, BlamesStore}
+use Rattle.kb_broker.specs.Opening.{tenant_of, tenants_of, login_of, opening_listing, opening_over, opening_setup, listed, listed_as}
 use Rattle.kb_broker.specs.declared.opening.Listing.{Listing}
 use Rattle.kb_broker.specs.declared.opening.Listing.TheVariants as listings
 use Rattle.kb_settings.specs.declared.settings.User.{User}
@@ -120,8 +117,3 @@ opening-made listing f s users names tenants setup b u n p fixed is =
 pub mapped-more : {A B : Type 0} (f : A → B) (xs : List A) (i : ℕ) (d : A) (ys zs : List B) → i < length xs → ys ≡ map f (take i xs) → zs ≡ ys ++ f (get_or xs i d) ∷ [] → zs ≡ map f (take (i + 1) xs)
 mapped-more f xs i d ys zs within so-far more =
     more ∙ (ap (λ l. l ++ f (get_or xs i d) ∷ []) so-far ∙ sym (ap (map f) (take_more xs i d within) ∙ map-append f (take i xs) (get_or xs i d ∷ [])))
-
--- a store that refused to list its files is blamed only where its failures grew
-pub blames-listed : (old new : Disk) (fault : StoreFault) → RefusedFor old fault new → BlamesStore old (fault_for fault) new
-blames-listed old new refusals.Device cause = λ blamed. cause.device refl
-blames-listed old new refusals.Memory cause = λ blamed. absurd (cc)

@@ -1,15 +1,16 @@
 -- The queue of the connections that wait, as the broker changes; and what is told by the numbers of connections.
-use Rattle.std.proofs.Common.{◌≡◌, ◌≢◌, ◌++◌, ◌<◌, ◌≤◌, ℕ, List, [], ◌∷◌, length, get_or, set, eqb, nat_cmp, Option, Some, None, Result, Ok, Err, OnOk, Bool, true, false, zero, suc, inl, inr, refl, sym, ◌∙◌, ap, subst, arith}
+use Rattle.std.proofs.Common.{◌≡◌, ◌≢◌, ◌++◌, ◌<◌, ◌≤◌, ℕ, List, [], ◌∷◌, length, get_or, set, eqb, nat_cmp, Option, Some, None, Result, Ok, Err, OnOk, Bool, true, false, zero, suc, inl, inr, refl, sym, ◌∙◌, ap, subst, arith, rules}
 use Rattle.std.specs.Prelude.{cond, Contains, IsOk, IsSomeAnd, ◌⊎◌, ◌↔◌}
 use Rattle.std.specs.FinMap as fin
 use Rattle.std.specs.declared.alloc.Global.{Global}
 use Rattle.std.specs.declared.vec.Vec.{Vec}
-use Rattle.std.specs.List.{AllByRecursion}
+use Rattle.std.specs.List.{All, AllByRecursion}
 use Rattle.std.proofs.lemmas.Bool.Decides.{nat_tests}
-use Rattle.std.proofs.lemmas.List.Elements.{Contains-append_cases, Contains-append_left, Contains-append_right, Contains-push_cases}
+use Rattle.std.proofs.lemmas.List.Elements.{All-contains, All-map, Contains-append_cases, Contains-append_left, Contains-append_right, Contains-push_cases}
 use Rattle.kb_waits.specs.Queue as queue
 use Rattle.kb_waits.specs.Queue.{Queue, AreParked}
 use Rattle.kb_world.specs.Counts.{IsCalm}
+use Rattle.kb_world.specs.declared.topic_partition.TopicPartition.{TopicPartition}
 use Rattle.kb_service.specs.Hosted as hosted
 use Rattle.kb_service.specs.Hosted.{TenantState}
 use Rattle.kb_service.specs.Turns.{IsTurn, HavePassed}
@@ -30,7 +31,7 @@ use Rattle.kb_machine.proofs.Turns.{unready-same}
 use Rattle.kb_machine.proofs.Wakes.{waked-then}
 use Rattle.kb_machine.specs.Calls.{left_by}
 use Rattle.kb_broker.proofs.Left.{left-refusals, left-ready_in, left-asked_in}
-use Rattle.kb_broker.specs.Parked.{until, keys_for, deadline_at, deadline_in, until_of, IsKeyedAt, IsKeyedIn, IsOwnedAt, IsOwnedIn, IsQueueOf, IsAskedOn, IsWaitingOnAt, AreWaitingOn, IsReadyAmong, IsUnreadyIn, IsUnreadyAt, AreSought, IsSoughtAt, IsSoughtIn, IsMinded, AreMinded, SameBut, can_in, AreAmong}
+use Rattle.kb_broker.specs.Parked.{until, key_of, keys_for, keys_of, deadline_at, deadline_in, until_of, IsKeyedAt, IsKeyedIn, IsOwnedAt, IsOwnedIn, IsQueueOf, IsAskedOn, IsWaitingOnAt, AreWaitingOn, IsReadyAmong, IsUnreadyIn, IsUnreadyAt, AreSought, IsSoughtAt, IsSoughtIn, IsMinded, AreMinded, SameBut, can_in, AreAmong}
 
 -- 1. The connection of a number
 
@@ -99,6 +100,19 @@ queue-opened H q ts ls l v free = record {
   owned = λ n. find-push (λ o. IsOwnedIn o (fin.get q n)) n ls l (v.owned n) (λ none. owned-free l.session.stage (fin.get q n) free);
   keyed = λ honest n. find-push (λ o. IsKeyedIn ts n o (fin.get q n)) n ls l (v.keyed honest n) (λ none. keyed-free ts n l.session.stage (fin.get q n) free);
 }
+
+-- nobody stands there under one of some partitions of a tenant, if nobody does under any
+pub none-parked : (q : Queue) (t : ℕ) (places : List TopicPartition) → All (λ place. (k : ℕ) → IsSomeAnd (fin.get q k) (queue.IsUnder (key_of t place)) → ⊥) places → AreParked q (queue.IsUnderAny (keys_of t places)) []
+none-parked q t places none = record {
+  exactly = λ k. ((λ c. absurd (let h = c.1 in omega (arith, h))), λ any. absurd (by k (fin.get q k) refl any));
+  ascending = search rules;
+}
+  where
+    by : (k : ℕ) (o : Option queue.Wait) → fin.get q k ≡ o → IsSomeAnd o (queue.IsUnderAny (keys_of t places)) → ⊥
+    by k None e any = any
+    by k (Some w) e any =
+        All-contains (λ key. (k : ℕ) → IsSomeAnd (fin.get q k) (queue.IsUnder key) → ⊥) (keys_of t places) any.1 (All-map (λ key. (k : ℕ) → IsSomeAnd (fin.get q k) (queue.IsUnder key) → ⊥) (key_of t) places none) (any.0, any.2, any.3) k
+        (subst (λ o. IsSomeAnd o (queue.IsUnder any.1)) (sym e) any.4)
 
 -- what holds of the tenants then
 pub record IsCarried (ts us : List TenantState) (ls : List Line) (q : Queue) : Type 0 where

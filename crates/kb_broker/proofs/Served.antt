@@ -38,7 +38,7 @@ use Rattle.kb_connection.specs.View.{with_session, without_front}
 use Rattle.kb_connection.proofs.Fronts.{fewer-behind}
 use Rattle.kb_broker.specs.Places.{IsSpent}
 use Rattle.kb_tenants.specs.Tenants as tenants
-use Rattle.kb_broker.specs.Parked.{key_of, keys_for, keys_of, tenant_key, until, deadline_at, until_of, places_of, parked_for, AreAllOf, AreAnswered, AreConcerned, AreTheTenants, AreWaitingFor, IsKeyedAt, IsOwnedAt, IsTouchedBy, IsTouchedTurn, IsTouchedTurnBy, IsUnderTenant, IsConcern, IsLeftBy, IsOwnTo, IsPassedOn}
+use Rattle.kb_broker.specs.Parked.{key_of, keys_for, keys_of, tenant_key, until, deadline_at, until_of, places_of, parked_for, AreAllOf, AreAnswered, AreConcerned, AreTheTenants, AreWaitingFor, IsKeyedAt, IsOwnedAt, IsTouchedBy, IsTouchedTurn, IsTouchedTurnBy, IsUnderTenant, IsConcern, IsLeftAmong, IsLeftBy, IsOwnTo}
 use Rattle.kb_broker.specs.declared.serving.Touched.{Touched}
 use Rattle.kb_broker.specs.declared.serving.Touched.TheVariants as touches
 use Rattle.kb_broker.specs.declared.serving.Concerned.{Concerned}
@@ -314,12 +314,31 @@ pub left-by : (H : Type 0) → H → (c : Concerned) (setup : Setup) (t clock n 
     → IsConcern c t n us p touched → (H → IsTouchedTurnBy touched setup t clock n ts us s r) → IsLeftBy c setup clock st n q ts us s r
 left-by H honest c setup t clock n q p ts us s r st touched bound others concern turn = subst (λ x. IsLeftBy c setup clock x n q ts us s r) (sym bound) (by c touched concern turn)
   where
+    touching : (places : Vec TopicPartition Global) (ns : List ℕ) → IsTouchedTurn setup t clock n ts us s r places.items → AreConcerned t n us p (touches.Partitions places) ns → IsLeftAmong setup t clock n q ts us s r ns
+    touching places ns h (inl c) = inl (record {
+      session = h.session;
+      kept = h.kept;
+      calm = c.calm;
+      own = c.own;
+      others = λ k w ne apart parked silent. h.ready k w
+          (λ place asks touches. apart (c.under k place touches (under-key t (asked (kept_of ts t) w) place (fin.get p k) (ap places_of (others k ne) ∙ parked) asks)))
+          silent;
+    })
+    touching places ns h (inr c) = inr (inl (all-of t n q p ns others c))
+
     by : (c : Concerned) (touched : Touched) → IsConcern c t n us p touched → (H → IsTouchedTurnBy touched setup t clock n ts us s r) → IsLeftBy c setup clock (BoundTo t None) n q ts us s r
     by concerned.Nobody touches.Groups concern turn = absurd concern
     by concerned.Nobody touches.Unknown concern turn = absurd concern
-    by concerned.Nobody (touches.Partitions places) none turn =
+    by concerned.Nobody (touches.Partitions places) concern turn =
         let h = turn honest in
-        record { session = h.session; kept = h.kept; own = h.own; ready = λ k w silent. h.ready k w (λ place asks touches. nowhere place (subst (λ ps. Contains ps place) none touches)) silent }
+        record { session = h.session; kept = h.kept; own = h.own; others = none concern }
+      where
+        none : (places.items ≡ []) ⊎ AreWaitingFor t us p places.items [] → IsLeftAmong setup t clock n q ts us s r (n ∷ [])
+        none (inl e) = inr (inr (record {
+          own = (0, omega arith, refl);
+          others = λ k w ne apart. (turn honest).ready k w (λ place asks touches. nowhere place (subst (λ ps. Contains ps place) e touches));
+        }))
+        none (inr waiting) = touching places (n ∷ []) (turn honest) (concerned-waiting t n us p places [] (n ∷ []) waiting refl)
     by (concerned.These u ns) touches.Unknown concern turn = subst (λ x. IsLeftBy (concerned.These x ns) setup clock (BoundTo t None) n q ts us s r) (sym concern.0) (inr (inl (all-of t n q p ns.items others concern.1)))
     by (concerned.These u ns) touches.Groups concern turn = subst (λ x. IsLeftBy (concerned.These x ns) setup clock (BoundTo t None) n q ts us s r) (sym concern.0) (inr (inr these))
       where
@@ -331,17 +350,5 @@ left-by H honest c setup t clock n q p ts us s r st touched bound others concern
           own = subst (λ ks. Contains ks n) (sym concern.1) (Contains-push told n);
           others = λ k w ne apart. (turn honest).ready k w (λ c. apart (subst (λ ks. Contains ks k) (sym concern.1) (Contains-append_left told (n ∷ []) k c)));
         }
-    by (concerned.These u ns) (touches.Partitions places) concern turn = subst (λ x. IsLeftBy (concerned.These x ns) setup clock (BoundTo t None) n q ts us s r) (sym concern.0) (these (turn honest) concern.1)
-      where
-        these : IsTouchedTurn setup t clock n ts us s r places.items → AreConcerned t n us p (touches.Partitions places) ns.items → IsPassedOn setup t clock n q ts us s r ns.items ⊎ (AreAllOf t n q ns.items ⊎ AreAnswered t clock n ts us ns.items)
-        these h (inl c) = inl (record {
-          session = h.session;
-          kept = h.kept;
-          calm = c.calm;
-          own = c.own;
-          others = λ k w ne apart parked silent. h.ready k w
-              (λ place asks touches. apart (c.under k place touches (under-key t (asked (kept_of ts t) w) place (fin.get p k) (ap places_of (others k ne) ∙ parked) asks)))
-              silent;
-        })
-        these h (inr c) = inr (inl (all-of t n q p ns.items others c))
+    by (concerned.These u ns) (touches.Partitions places) concern turn = subst (λ x. IsLeftBy (concerned.These x ns) setup clock (BoundTo t None) n q ts us s r) (sym concern.0) (touching places ns.items (turn honest) concern.1)
     by (concerned.All u) touched concern turn = tt

@@ -1,5 +1,9 @@
 -- The broker that opens with settings.
 use Rattle.std.specs.Prelude.{◌≡◌, ℕ, ℤ, pos, List, [], ◌∷◌, map, string_bytes}
+use Rattle.kb_wire.specs.declared.api_key.TheConstants.{PRODUCE, FETCH, LIST_OFFSETS, METADATA, OFFSET_COMMIT, OFFSET_FETCH}
+use Rattle.kb_wire.specs.declared.api_key.TheConstants.{FIND_COORDINATOR, JOIN_GROUP, HEARTBEAT, LEAVE_GROUP, SYNC_GROUP, SASL_HANDSHAKE}
+use Rattle.kb_wire.specs.declared.api_key.TheConstants.{API_VERSIONS, CREATE_TOPICS, DELETE_TOPICS, DELETE_RECORDS, INIT_PRODUCER_ID}
+use Rattle.kb_wire.specs.declared.api_key.TheConstants.{SASL_AUTHENTICATE}
 use Rattle.kb_api_group.specs.declared.api_versions.ApiVersion.{ApiVersion}
 use Rattle.kb_machine.specs.Greeting.{Setup, User as Login}
 use Rattle.kb_coordinator.specs.Groups.{none}
@@ -28,29 +32,31 @@ abbrev pub login_of : List (List ℕ) → User → Login
 login_of names u = record { name = string_bytes u.name; password = string_bytes u.password; tenant = place_of (tenant_of u) names }
 
 -- an API from one version to another
-abbrev pub between : ℕ → ℕ → ℕ → ApiVersion
-between key least greatest = record { api_key = pos key; min_version = pos least; max_version = pos greatest }
+abbrev pub between : ℤ → ℕ → ℕ → ApiVersion
+between key least greatest = record { api_key = key; min_version = pos least; max_version = pos greatest }
 
-abbrev pub at_version : ℕ → ℕ → ApiVersion
+abbrev pub at_version : ℤ → ℕ → ApiVersion
 at_version key version = between key version version
 
--- each API at one version, but Fetch at two, by rising key: Produce, Fetch, ListOffsets, Metadata, OffsetCommit, OffsetFetch,
--- FindCoordinator, JoinGroup, Heartbeat, LeaveGroup, SyncGroup, SaslHandshake, ApiVersions, CreateTopics, DeleteTopics, DeleteRecords,
--- InitProducerId, SaslAuthenticate
+-- each API at one version, but Fetch at two, by rising key
 abbrev pub served_versions : List ApiVersion
 served_versions =
-    at_version 0 3 ∷ between 1 4 5 ∷ at_version 2 1 ∷ at_version 3 1 ∷ at_version 8 2 ∷ at_version 9 1 ∷ at_version 10 0 ∷ at_version 11 1 ∷
-    at_version 12 0 ∷ at_version 13 0 ∷ at_version 14 0 ∷ at_version 17 1 ∷ at_version 18 0 ∷ at_version 19 0 ∷ at_version 20 0 ∷ at_version
-    21 0 ∷ at_version 22 0 ∷
-    at_version 36 0 ∷ []
+    at_version PRODUCE 3 ∷ between FETCH 4 5 ∷ at_version LIST_OFFSETS 1 ∷ at_version METADATA 1 ∷
+    at_version OFFSET_COMMIT 2 ∷ at_version OFFSET_FETCH 1 ∷ at_version FIND_COORDINATOR 0 ∷
+    at_version JOIN_GROUP 1 ∷ at_version HEARTBEAT 0 ∷ at_version LEAVE_GROUP 0 ∷ at_version SYNC_GROUP 0 ∷
+    at_version SASL_HANDSHAKE 1 ∷ at_version API_VERSIONS 0 ∷
+    at_version CREATE_TOPICS 0 ∷ at_version DELETE_TOPICS 0 ∷ at_version DELETE_RECORDS 0 ∷
+    at_version INIT_PRODUCER_ID 0 ∷ at_version SASL_AUTHENTICATE 0 ∷ []
 
 -- the same, but Metadata from 0 to 4, and SaslHandshake, CreateTopics and DeleteTopics from 0 to 1
 abbrev pub stock_versions : List ApiVersion
 stock_versions =
-    at_version 0 3 ∷ between 1 4 5 ∷ at_version 2 1 ∷ between 3 0 4 ∷ at_version 8 2 ∷ at_version 9 1 ∷ at_version 10 0 ∷ at_version 11 1 ∷
-    at_version 12 0 ∷ at_version 13 0 ∷ at_version 14 0 ∷ between 17 0 1 ∷ at_version 18 0 ∷ between 19 0 1 ∷ between 20 0 1 ∷ at_version 21
-    0 ∷ at_version 22 0 ∷
-    at_version 36 0 ∷ []
+    at_version PRODUCE 3 ∷ between FETCH 4 5 ∷ at_version LIST_OFFSETS 1 ∷ between METADATA 0 4 ∷
+    at_version OFFSET_COMMIT 2 ∷ at_version OFFSET_FETCH 1 ∷ at_version FIND_COORDINATOR 0 ∷
+    at_version JOIN_GROUP 1 ∷ at_version HEARTBEAT 0 ∷ at_version LEAVE_GROUP 0 ∷ at_version SYNC_GROUP 0 ∷
+    between SASL_HANDSHAKE 0 1 ∷ at_version API_VERSIONS 0 ∷
+    between CREATE_TOPICS 0 1 ∷ between DELETE_TOPICS 0 1 ∷ at_version DELETE_RECORDS 0 ∷
+    at_version INIT_PRODUCER_ID 0 ∷ at_version SASL_AUTHENTICATE 0 ∷ []
 
 -- the versions that are listed
 abbrev pub listed : Listing → List ApiVersion

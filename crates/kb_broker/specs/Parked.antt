@@ -30,7 +30,6 @@ use Rattle.kb_machine.specs.declared.whom.Whom.{Whom}
 use Rattle.kb_machine.specs.declared.whom.Whom.TheVariants as whoms
 use Rattle.kb_machine.specs.Turned.{Scope, SameOthers, Turned, Served, Waked, IsLookedFor, IsPassedOver}
 use Rattle.std.specs.List.{AllByRecursion}
-use Rattle.kb_broker.specs.Places.{IsQuietAt}
 use Rattle.kb_broker.specs.declared.serving.Concerned.{Concerned}
 use Rattle.kb_broker.specs.declared.serving.Concerned.TheVariants as concerned
 use Rattle.kb_broker.specs.declared.serving.Touched.{Touched}
@@ -210,8 +209,9 @@ AreConcerned t n ts q (touches.Partitions places) ns = AreUnder t n ts q places.
 AreConcerned t n ts q touches.Groups ns = ns ≡ answered_connections (hosted.kept_of ts t).groups ++ n ∷ []
 AreConcerned t n ts q touches.Unknown ns = AreTheTenants t n q ns
 
+-- or nobody's, where nobody waits for those partitions
 abbrev pub IsConcern : Concerned → ℕ → ℕ → List TenantState → Queue → Touched → Type 0
-IsConcern concerned.Nobody t n ts q (touches.Partitions places) = places.items ≡ []
+IsConcern concerned.Nobody t n ts q (touches.Partitions places) = (places.items ≡ []) ⊎ AreWaitingFor t ts q places.items []
 IsConcern concerned.Nobody t n ts q touches.Groups = ⊥
 IsConcern concerned.Nobody t n ts q touches.Unknown = ⊥
 IsConcern (concerned.These u ns) t n ts q touched = (u ≡ t) × AreConcerned t n ts q touched ns.items
@@ -229,11 +229,28 @@ IsWhose concerned.Nobody st = ⊤
 IsWhose (concerned.These t ns) st = whose st ≡ Some t
 IsWhose (concerned.All t) st = whose st ≡ Some t
 
--- what a turn leaves ready: nothing, or nothing but what those connections wait for, which may be all of the tenant's
+-- a turn leaves nothing ready but what the connections with that number and with those wait for, which may be all of the tenant's
+abbrev pub IsLeftAmong : Setup → ℕ → ℕ → ℕ → Queue → List TenantState → List TenantState → Session → Session → List ℕ → Type 0
+IsLeftAmong setup t clock n q old new s r ns =
+    IsPassedOn setup t clock n q old new s r ns ⊎ (AreAllOf t n q ns ⊎ AreAnswered t clock n old new ns)
+
+-- the turn of a connection of number n bound to that tenant, of whose session s it leaves r, was not refused, the connection waits for
+-- nothing then, or the groups answer nobody who waited, and what waits elsewhere and was not ready is not ready
+pub record IsQuietTurn (setup : Setup) (t clock n : ℕ) (q : Queue) (old new : List TenantState) (s r : Session) : Type 0 where
+  pub session : r ≡ after_turn setup (hosted.kept_of old t) clock n s
+  pub kept : hosted.kept_of new t ≡ put setup (hosted.kept_of old t) clock n s.unread
+  pub own : (has_released (hosted.kept_of new t).groups ≡ false) ⊎ (is_free r.stage ≡ true)
+  pub others : IsLeftAmong setup t clock n q old new s r (n ∷ [])
+
+-- the same at any stage: a greeting one changes nothing that a tenant keeps
+abbrev pub IsQuietAt : Setup → ℕ → ℕ → Stage → Queue → List TenantState → List TenantState → Session → Session → Type 0
+IsQuietAt setup clock n (Greets handshaken) q old new s r = ⊤
+IsQuietAt setup clock n (BoundTo tenant wait) q old new s r = IsQuietTurn setup tenant clock n q old new s r
+
+-- what a turn leaves ready: nothing, or nothing but what those connections wait for
 abbrev pub IsLeftBy : Concerned → Setup → ℕ → Stage → ℕ → Queue → List TenantState → List TenantState → Session → Session → Type 0
-IsLeftBy concerned.Nobody setup clock st n q old new s r = IsQuietAt setup clock n st old new s r
-IsLeftBy (concerned.These t ns) setup clock st n q old new s r =
-    IsPassedOn setup t clock n q old new s r ns.items ⊎ (AreAllOf t n q ns.items ⊎ AreAnswered t clock n old new ns.items)
+IsLeftBy concerned.Nobody setup clock st n q old new s r = IsQuietAt setup clock n st q old new s r
+IsLeftBy (concerned.These t ns) setup clock st n q old new s r = IsLeftAmong setup t clock n q old new s r ns.items
 IsLeftBy (concerned.All t) setup clock st n q old new s r = ⊤
 
 -- 3. Looks by number

@@ -9,7 +9,6 @@ use Rattle.kb_world.specs.Counts.{IsCalm, counted_once}
 use Rattle.kb_service.specs.Hosted as hosted
 use Rattle.kb_service.specs.Hosted.{Kept, TenantState, world_at}
 use Rattle.kb_service.specs.Turns.{IsTurn, IsMet}
-use Rattle.kb_service.specs.Serve.{has_released}
 use Rattle.kb_tenant.specs.Replies.{Silent, IsAnswer}
 use Rattle.kb_tenant.specs.Told.{AnswersLook}
 use Rattle.kb_tenant.specs.declared.answer.Answer.{Answer}
@@ -95,19 +94,6 @@ IsWaitTurnAt n (BoundTo tenant wait) old new =
 abbrev pub IsMemberTurnAt : ℕ → Stage → List TenantState → List TenantState → Stage → Type 0
 IsMemberTurnAt n (Greets handshaken) old new r = ⊤
 IsMemberTurnAt n (BoundTo tenant wait) old new r = IsMembersAt tenant r ⊎ (members_of new tenant n ≤ members_of old tenant n)
-
--- the turn of a connection of number n bound to that tenant, of whose session s it leaves r, was not refused, the connection waits for
--- nothing then, or the groups answer nobody who waited, and what waits and was not ready is not ready
-pub record IsQuietTurn (setup : Setup) (t clock n : ℕ) (old new : List TenantState) (s r : Session) : Type 0 where
-  pub session : r ≡ after_turn setup (hosted.kept_of old t) clock n s
-  pub kept : hosted.kept_of new t ≡ put setup (hosted.kept_of old t) clock n s.unread
-  pub own : (has_released (hosted.kept_of new t).groups ≡ false) ⊎ (is_free r.stage ≡ true)
-  pub ready : (k : ℕ) (w : Wait) → ready (hosted.kept_of old t) clock k w ≡ Silent → ready (hosted.kept_of new t) clock k w ≡ Silent
-
--- the same at any stage: a greeting one changes nothing that a tenant keeps
-abbrev pub IsQuietAt : Setup → ℕ → ℕ → Stage → List TenantState → List TenantState → Session → Session → Type 0
-IsQuietAt setup clock n (Greets handshaken) old new s r = ⊤
-IsQuietAt setup clock n (BoundTo tenant wait) old new s r = IsQuietTurn setup tenant clock n old new s r
 
 -- what a turn leaves of a session s in any case: fewer unread bytes, and a bound connection stays bound
 pub record IsSpent (s r : Session) : Type 0 where

@@ -22,7 +22,7 @@ use kb_log::{ListLog, PartitionLog, Shelf, ShelfRefused};
 use kb_settings::{Settings, User, tenant_names};
 use kb_store::{Store, StoreFault};
 use kb_tenants::Tenants;
-use kb_wire::Array;
+use kb_wire::{Array, api_key};
 use std::alloc::{AllocError, Global};
 use thiserror::Error;
 
@@ -31,24 +31,24 @@ type Api = (i16, i16, i16, i16, i16);
 
 /// The APIs that are listed, by rising key (Kafka protocol guide, "Api Keys").
 const APIS: [Api; 18] = [
-    (0, 3, 3, 3, 3), // Produce
-    (1, 4, 5, 4, 5), // Fetch
-    (2, 1, 1, 1, 1), // ListOffsets
-    (3, 1, 1, 0, 4), // Metadata
-    (8, 2, 2, 2, 2), // OffsetCommit
-    (9, 1, 1, 1, 1), // OffsetFetch
-    (10, 0, 0, 0, 0), // FindCoordinator
-    (11, 1, 1, 1, 1), // JoinGroup
-    (12, 0, 0, 0, 0), // Heartbeat
-    (13, 0, 0, 0, 0), // LeaveGroup
-    (14, 0, 0, 0, 0), // SyncGroup
-    (17, 1, 1, 0, 1), // SaslHandshake
-    (18, 0, 0, 0, 0), // ApiVersions
-    (19, 0, 0, 0, 1), // CreateTopics
-    (20, 0, 0, 0, 1), // DeleteTopics
-    (21, 0, 0, 0, 0), // DeleteRecords
-    (22, 0, 0, 0, 0), // InitProducerId
-    (36, 0, 0, 0, 0), // SaslAuthenticate
+    (api_key::PRODUCE, 3, 3, 3, 3),
+    (api_key::FETCH, 4, 5, 4, 5),
+    (api_key::LIST_OFFSETS, 1, 1, 1, 1),
+    (api_key::METADATA, 1, 1, 0, 4),
+    (api_key::OFFSET_COMMIT, 2, 2, 2, 2),
+    (api_key::OFFSET_FETCH, 1, 1, 1, 1),
+    (api_key::FIND_COORDINATOR, 0, 0, 0, 0),
+    (api_key::JOIN_GROUP, 1, 1, 1, 1),
+    (api_key::HEARTBEAT, 0, 0, 0, 0),
+    (api_key::LEAVE_GROUP, 0, 0, 0, 0),
+    (api_key::SYNC_GROUP, 0, 0, 0, 0),
+    (api_key::SASL_HANDSHAKE, 1, 1, 0, 1),
+    (api_key::API_VERSIONS, 0, 0, 0, 0),
+    (api_key::CREATE_TOPICS, 0, 0, 0, 1),
+    (api_key::DELETE_TOPICS, 0, 0, 0, 1),
+    (api_key::DELETE_RECORDS, 0, 0, 0, 0),
+    (api_key::INIT_PRODUCER_ID, 0, 0, 0, 0),
+    (api_key::SASL_AUTHENTICATE, 0, 0, 0, 0),
 ];
 
 /// Which versions a broker lists, and so which it serves.

@@ -5,7 +5,7 @@ ghost use Rattle.std.specs.Prelude.{vec_capacity};
 ghost use Rattle.std.specs.Bool.{OnTrue};
 ghost use Rattle.std.specs.FinMap as fin;
 ghost use Rattle.kb_waits.specs.Queue.{AreParked, IsDue, IsUnder, IsUnderAny};
-ghost use Rattle.kb_broker.specs.Parked.{keys_for, keys_of, tenant_key, AreSought};
+ghost use Rattle.kb_broker.specs.Parked.{key_of, keys_for, keys_of, tenant_key, AreSought};
 
 use kb_waits::{WaitKey, Waits};
 use kb_world::TopicPartition;
@@ -113,7 +113,7 @@ impl Parking {
         }
     }
 
-    /// The connections that wait for one of these partitions of the tenant, ascending.
+    /// The connections that wait for one of these partitions of the tenant, ascending. Where nobody does no memory is asked for.
     pub fn touched(
         &self,
         alloc: Global,
@@ -122,9 +122,15 @@ impl Parking {
     ) -> Result<Vec<u64>, AllocError>
         ensures { IfOk result (λ ns. AreParked self.now (IsUnderAny (keys_of tenant places.now)) ns.items) }
     {
-        let keys = keys_of(alloc, tenant, places)?;
         let mut numbers = Vec::new(alloc);
-        self.waits.touched_any(&keys, &mut numbers)?;
+        for place in places {
+            self.waits.touched(&key_of(tenant, place), &mut numbers)?;
+            if !numbers.is_empty() {
+                let keys = keys_of(alloc, tenant, places)?;
+                self.waits.touched_any(&keys, &mut numbers)?;
+                return Ok(numbers);
+            }
+        }
         Ok(numbers)
     }
 
@@ -187,6 +193,17 @@ fn keys_for(
     Ok(keys)
 }
 
+/// The key of a partition of a tenant.
+fn key_of(tenant: usize, place: &TopicPartition) -> WaitKey
+    ensures { result ≡ key_of tenant place.now }
+{
+    WaitKey::Partition {
+        tenant,
+        instance: place.instance,
+        partition: place.number,
+    }
+}
+
 /// The keys of some partitions of a tenant.
 fn keys_of(
     alloc: Global,
@@ -209,11 +226,7 @@ fn push_keys(
     ensures { OnOk result (keys.new.items ≡ keys.old.items ++ keys_of tenant places.now) }
 {
     for place in places {
-        keys.push(WaitKey::Partition {
-            tenant,
-            instance: place.instance,
-            partition: place.number,
-        })?;
+        keys.push(key_of(tenant, place))?;
     }
     Ok(())
 }

@@ -23,7 +23,7 @@ ghost use Rattle.kb_service.specs.Waiters.{AreServed, IsWaitTold};
 ghost use Rattle.kb_broker.specs.Places.{IsSpent, IsTakenAt, IsTurnAt, IsLookedAt, IsLookAnswer, IsMemberTurnAt, IsWaitTurnAt};
 ghost use Rattle.kb_broker.specs.Places.{TellsAwaited};
 ghost use Rattle.kb_broker.specs.Parked.{parked_for, until_of, deadline_at, IsKeyedAt, IsOwnedAt, IsAskedOn, IsAskedOnAt, IsTouchedBy};
-ghost use Rattle.kb_broker.specs.Parked.{IsTouchedTurnBy, AreConcerned, AreWaitingFor, IsConcern, IsKnownOrCounted, IsLeftBy, IsOwnTo};
+ghost use Rattle.kb_broker.specs.Parked.{IsTouchedTurnBy, AreWaitingFor, IsConcern, IsKnownOrCounted, IsLeftBy, IsOwnTo};
 ghost use Rattle.kb_broker.specs.Parked.{IsWhose};
 
 use crate::parking::Parking;
@@ -51,7 +51,7 @@ pub enum Touched {
 /// Whose waiting requests may be ready after a turn, and are to be looked at again.
 #[derive(Drop)]
 pub enum Concerned {
-    /// Nobody's: no other connection has changed.
+    /// Nobody's: nobody waits for what was touched, and no other connection has changed.
     Nobody,
     /// Of a tenant those of these connections. The one that took the turn stands among them.
     These(usize, Vec<u64>),
@@ -144,8 +144,8 @@ fn whom_it_concerns<L: PartitionLog + Drop, S: Store>(
             return Concerned::Nobody;
         }
     }
-    match numbers_concerned(alloc, tenants, parking, tenant, number, &touched) {
-        Ok(numbers) => Concerned::These(tenant, numbers),
+    match those_concerned(alloc, tenants, parking, tenant, number, &touched) {
+        Ok(concerned) => concerned,
         Err(_) => {
             tenants.refuse(tenant); // the list could not be kept
             Concerned::All(tenant)
@@ -176,24 +176,34 @@ fn who_waits_for<L: PartitionLog + Drop, S: Store>(
 
 /// The connections that wait for one of the tenant's partitions that were touched, or that its groups answered, and that of the number
 /// behind them. Where it is not known what was touched all of the tenant that wait stand in the list.
-fn numbers_concerned<L: PartitionLog + Drop, S: Store>(
+///
+/// Where nobody waits for the partitions there is no list, and no memory is asked for.
+fn those_concerned<L: PartitionLog + Drop, S: Store>(
     alloc: Global,
     tenants: &Tenants<L, S>,
     parking: &Parking,
     tenant: usize,
     number: u64,
     touched: &Touched,
-) -> Result<Vec<u64>, AllocError>
+) -> Result<Concerned, AllocError>
     requires { tenant < length (tenants_in L.log S.disk tenants.now) }
-    ensures { IfOk result (λ ns. AreConcerned tenant number (tenants_in L.log S.disk tenants.now) parking.now touched.now ns.items) }
+    ensures concern { IfOk result (λ c. IsConcern c tenant number (tenants_in L.log S.disk tenants.now) parking.now touched.now) }
+    ensures known { IfOk result (λ c. IsKnownOrCounted c tenant (tenants_in L.log S.disk tenants.now)
+        (tenants_in L.log S.disk tenants.now)) }
 {
     let mut numbers = match touched {
         Touched::Groups => tenants.answered(alloc, tenant)?,
-        Touched::Partitions(places) => who_waits_for(alloc, tenants, parking, tenant, places)?,
+        Touched::Partitions(places) => {
+            let waiting = who_waits_for(alloc, tenants, parking, tenant, places)?;
+            if waiting.is_empty() {
+                return Ok(Concerned::Nobody);
+            }
+            waiting
+        }
         Touched::Unknown => parking.of_tenant(alloc, tenant)?,
     };
     numbers.push(number)?;
-    Ok(numbers)
+    Ok(Concerned::These(tenant, numbers))
 }
 
 /// Serves what stands in front of a connection that is bound to a tenant, and answers what was touched. If it waits then, it is

@@ -12,7 +12,7 @@ ghost use Rattle.kb_connection.specs.Reactions.{reacted};
 use crate::greeting::Greeting;
 use crate::request::Asked;
 use crate::setup::Setup;
-use kb_api_group::ErrorCode;
+use kb_wire::ErrorCode;
 
 /// What a request comes to for its connection.
 #[derive(Clone, Copy, Debug, PartialEq, Eq)]

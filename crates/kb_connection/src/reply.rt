@@ -5,8 +5,8 @@ ghost use Rattle.kb_wire.specs.Codec.{array};
 ghost use Rattle.kb_api_group.specs.Layouts.{api_version};
 ghost use Rattle.kb_machine.specs.Greeting.{versions_reply, handshake_reply, authenticate_reply};
 
-use kb_api_group::{ApiVersion, ErrorCode, SaslAuthenticateReply, SaslHandshakeReply};
-use kb_wire::{Array, Blob, Layout, Sink, Text};
+use kb_api_group::{ApiVersion, SaslAuthenticateReply, SaslHandshakeReply};
+use kb_wire::{Array, Blob, ErrorCode, Layout, Sink, Text};
 use std::alloc::{AllocError, Global};
 
 /// ApiVersions: a code and the whole table.

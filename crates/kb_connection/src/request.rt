@@ -9,7 +9,7 @@ use kb_api_group::{
     ApiVersion, ApiVersionsRequest, RequestHeader, RequestStart, SaslAuthenticateRequest,
     SaslHandshakeRequest,
 };
-use kb_wire::{Blob, Layout, ReadFault, Text};
+use kb_wire::{Blob, Layout, ReadFault, Text, api_key};
 use std::alloc::{AllocError, Global};
 
 /// What a request asks: the versions, a step of the SASL greeting, or something of a tenant; or its bytes match nothing
@@ -44,12 +44,6 @@ pub struct Request<'a> {
     pub asked: Asked<'a>,
 }
 
-const SASL_HANDSHAKE: i16 = 17;
-
-const API_VERSIONS: i16 = 18;
-
-const SASL_AUTHENTICATE: i16 = 36;
-
 impl<'a> Request<'a> {
     /// The request of a frame, where those versions are listed. ApiVersions of another version than 0 is known by its key and
     /// version alone.
@@ -67,7 +61,7 @@ impl<'a> Request<'a> {
                 asked: Asked::Malformed,
             });
         };
-        let asked = if start.api_key == API_VERSIONS && start.api_version != 0 {
+        let asked = if start.api_key == api_key::API_VERSIONS && start.api_version != 0 {
             Asked::OtherVersions
         } else {
             read_asked(alloc, versions, frame)?
@@ -105,15 +99,15 @@ fn read_body(alloc: Global, key: i16, version: i16, body: &[u8]) -> Result<Asked
     ensures { Reads (asked_by key version body.now) result }
 {
     let asked = match key {
-        API_VERSIONS => {
+        api_key::API_VERSIONS => {
             ApiVersionsRequest::read(alloc, body)?;
             Asked::Versions
         }
-        SASL_HANDSHAKE => Asked::Handshake {
+        api_key::SASL_HANDSHAKE => Asked::Handshake {
             version,
             mechanism: SaslHandshakeRequest::read(alloc, body)?.mechanism,
         },
-        SASL_AUTHENTICATE => {
+        api_key::SASL_AUTHENTICATE => {
             Asked::Authenticate(SaslAuthenticateRequest::read(alloc, body)?.auth_bytes)
         }
         _ => Asked::Another {

@@ -2,6 +2,7 @@
 
 use crate::wire::{Cut, Wire, login_of_ann, short, unexpected};
 use kb_client::{ClientFault, ConsumerCore};
+use kb_wire::ErrorCode;
 use std::alloc::{AllocError, Global};
 use std::process::Abort;
 use std::test::Fail;
@@ -189,20 +190,25 @@ fn first_fetch(
 }
 
 /// A topic and an offset from which there is nothing, and the code of the fault.
-const REFUSED: [(&str, i64, i16); 4] = [("t", 7, 1), ("t", -1, 1), ("u", 0, 3), ("", 0, 3)];
+const REFUSED: [(&str, i64, ErrorCode); 4] = [
+    ("t", 7, ErrorCode::OffsetOutOfRange),
+    ("t", -1, ErrorCode::OffsetOutOfRange),
+    ("u", 0, ErrorCode::UnknownTopicOrPartition),
+    ("", 0, ErrorCode::UnknownTopicOrPartition),
+];
 
 /// Each is refused with its code.
 fn are_refused(
     rt: &impl Abort,
     alloc: Global,
     wire: &mut Wire,
-    refused: &[(&str, i64, i16)],
+    refused: &[(&str, i64, ErrorCode)],
 ) -> Result<(), Fail> {
     for (topic, from, code) in refused {
         let mut core = consumer(rt, alloc, topic, *from, None)?;
         let fault = first_fetch(rt, wire, &mut core)?;
         assert!(rt;
-            fault == Some(ClientFault::Code(*code)),
+            fault == Some(ClientFault::Code(code.code())),
             "{topic} from {from}"
         );
     }

@@ -1,8 +1,9 @@
 -- A request that begins to wait for partitions is not ready at once, and waits for those that it asks for.
-use Rattle.std.proofs.Common.{◌≡◌, ℕ, ℤ, pos, List, [], Bool, true, false, Option, Some, None, refl, sym, ◌∙◌, ap, subst}
+use Rattle.std.proofs.Common.{◌≡◌, ℕ, ℤ, List, [], Bool, true, false, Option, Some, None, refl, sym, ◌∙◌, ap, subst}
 use Rattle.std.specs.Prelude.{cond, Result, Ok, Err, if◌then◌else◌}
 use Rattle.std.specs.Ordering.{int_eq}
 use Rattle.kb_wire.specs.Codec.{whole}
+use Rattle.kb_wire.specs.declared.api_key.TheConstants.{OFFSET_COMMIT, JOIN_GROUP, HEARTBEAT, LEAVE_GROUP, SYNC_GROUP}
 use Rattle.kb_wire.specs.declared.fault.WireFault.{WireFault}
 use Rattle.kb_api_data.specs.Layouts.{produce_reply}
 use Rattle.kb_api_data.specs.declared.fetch.FetchRequest.{FetchRequest}
@@ -121,13 +122,13 @@ parks node k clock n key version body =
     let beats : Outcome = if_read w gs (whole heartbeat_request body) (of_heartbeat w gs) in
     let joins : Outcome = if_read w gs (whole join_group_request body) (of_join w n gs) in
     let commits : Outcome = if_read w gs (whole offset_commit_request body) (of_offset_commit w gs) in
-    let from_14 : Outcome = if int_eq key (pos 14) then syncs else others in
-    let from_13 : Outcome = if int_eq key (pos 13) then leaves else from_14 in
-    let from_12 : Outcome = if int_eq key (pos 12) then beats else from_13 in
-    let from_11 : Outcome = if int_eq key (pos 11) then joins else from_12 in
-    either version body clock (int_eq key (pos 8)) commits from_11 (read-parks version body clock w gs (whole offset_commit_request body) (of_offset_commit w gs) (λ r deadline places e. absurd (cc)))
-    (either version body clock (int_eq key (pos 11)) joins from_12 (read-parks version body clock w gs (whole join_group_request body) (of_join w n gs) (λ r. join-parks version body clock w (of_join w n gs r).groups (is_accepted (join_code n r gs)) _))
-    (either version body clock (int_eq key (pos 12)) beats from_13 (read-parks version body clock w gs (whole heartbeat_request body) (of_heartbeat w gs) (λ r deadline places e. absurd (cc)))
-    (either version body clock (int_eq key (pos 13)) leaves from_14 (read-parks version body clock w gs (whole leave_group_request body) (of_leave w gs) (λ r deadline places e. absurd (cc)))
-    (either version body clock (int_eq key (pos 14)) syncs others (read-parks version body clock w gs (whole sync_group_request body) (of_sync w n gs) (λ r. sync-parks version body clock w (of_sync w n gs r).groups (sync_answer w.clock n r gs)))
+    let from_sync : Outcome = if int_eq key SYNC_GROUP then syncs else others in
+    let from_leave : Outcome = if int_eq key LEAVE_GROUP then leaves else from_sync in
+    let from_heartbeat : Outcome = if int_eq key HEARTBEAT then beats else from_leave in
+    let from_join : Outcome = if int_eq key JOIN_GROUP then joins else from_heartbeat in
+    either version body clock (int_eq key OFFSET_COMMIT) commits from_join (read-parks version body clock w gs (whole offset_commit_request body) (of_offset_commit w gs) (λ r deadline places e. absurd (cc)))
+    (either version body clock (int_eq key JOIN_GROUP) joins from_heartbeat (read-parks version body clock w gs (whole join_group_request body) (of_join w n gs) (λ r. join-parks version body clock w (of_join w n gs r).groups (is_accepted (join_code n r gs)) _))
+    (either version body clock (int_eq key HEARTBEAT) beats from_leave (read-parks version body clock w gs (whole heartbeat_request body) (of_heartbeat w gs) (λ r deadline places e. absurd (cc)))
+    (either version body clock (int_eq key LEAVE_GROUP) leaves from_sync (read-parks version body clock w gs (whole leave_group_request body) (of_leave w gs) (λ r deadline places e. absurd (cc)))
+    (either version body clock (int_eq key SYNC_GROUP) syncs others (read-parks version body clock w gs (whole sync_group_request body) (of_sync w n gs) (λ r. sync-parks version body clock w (of_sync w n gs r).groups (sync_answer w.clock n r gs)))
     (topics-parks node k clock n key version body)))))

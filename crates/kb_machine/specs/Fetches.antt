@@ -1,6 +1,7 @@
 -- What a connection gets for a fetch: whole batches of its tenant's partitions, as they are at the moment of answering.
-use Rattle.std.specs.Prelude.{◌≡◌, ◌⊎◌, ℕ, zero, suc, ℤ, pos, max, List, [], ◌∷◌, Option, Some, None, Ok, ⊤}
+use Rattle.std.specs.Prelude.{◌≡◌, ◌⊎◌, ℕ, zero, suc, ℤ, max, List, [], ◌∷◌, Option, Some, None, Ok, ⊤}
 use Rattle.std.specs.List.{AllByRecursion}
+use Rattle.kb_wire.specs.declared.api_key.TheConstants.{FETCH}
 use Rattle.kb_api_group.specs.Frames.{Whole, front}
 use Rattle.kb_api_data.specs.declared.fetch.FetchRequest.{FetchRequest}
 use Rattle.kb_world.specs.World as tenants
@@ -23,7 +24,7 @@ GetsBatches world version fetch id old new =
 -- where a fetch stands in front of a connection, of number n, that takes its turn, the connection gets such batches
 abbrev pub ServesBatches : View → ℕ → Session → Type 0
 ServesBatches w n s = (frame rest : List ℕ) (version : ℤ) (body : List ℕ) (fetch : FetchRequest)
-    → front s.unread ≡ Whole frame rest → (request w.setup.versions frame).asked ≡ Another (pos 1) version body
+    → front s.unread ≡ Whole frame rest → (request w.setup.versions frame).asked ≡ Another FETCH version body
     → asked_fetch version body ≡ Ok fetch
     → GetsBatches (world_at w.kept w.clock) version fetch (request w.setup.versions frame).correlation_id (record s { unread = rest })
     (after_turn w.setup w.kept w.clock n s)
@@ -68,7 +69,9 @@ AllTurnsGiveBatches w = TurnsGiveBatches (work w.lines) w
 
 abbrev pub EventGivesBatches : Happening → View → Type 0
 EventGivesBatches (Opens n) w = ⊤
-EventGivesBatches (Comes n piece) w = AllTurnsGiveBatches (record w { kept = kept_fed piece w.clock n (find_line n w.lines) w.kept; lines = each (on n (fed piece)) w.lines })
+EventGivesBatches (Comes n piece) w =
+    let kept = kept_fed piece w.clock n (find_line n w.lines) w.kept in
+    AllTurnsGiveBatches (record w { kept = kept; lines = each (on n (fed piece)) w.lines })
 EventGivesBatches (Closes n) w = ⊤
 EventGivesBatches (Moment now) w =
     let clock = max w.clock now in

@@ -3,6 +3,7 @@ use Rattle.std.specs.Prelude.{ℕ, ℤ, pos, List, Bool, not, ◌&&◌, int_le, 
 use Rattle.std.specs.Ordering.{int_eq}
 use Rattle.std.specs.List.{list_any}
 use Rattle.kb_wire.specs.Codec.{whole}
+use Rattle.kb_wire.specs.declared.api_key.TheConstants.{SASL_HANDSHAKE, API_VERSIONS, SASL_AUTHENTICATE}
 use Rattle.kb_wire.specs.declared.fault.WireFault.{WireFault}
 use Rattle.kb_api_group.specs.Layouts.{request_start, request_header, api_versions_request, sasl_handshake_request}
 use Rattle.kb_api_group.specs.Layouts.{sasl_authenticate_request}
@@ -31,12 +32,12 @@ abbrev pub if_read : {A : Type 0} → Result A WireFault → (A → Asked) → A
 if_read (Ok v) f = f v
 if_read (Err fault) f = Malformed
 
--- a body, by its key: 18 is ApiVersions, 17 SaslHandshake, 36 SaslAuthenticate
+-- a body, by its key
 abbrev pub asked_by : ℤ → ℤ → List ℕ → Asked
 asked_by key version body =
-    if int_eq key (pos 18) then if_read (whole api_versions_request body) (λ v. Versions)
-    else if int_eq key (pos 17) then if_read (whole sasl_handshake_request body) (λ v. Handshake version v.mechanism)
-    else if int_eq key (pos 36) then if_read (whole sasl_authenticate_request body) (λ v. Authenticate v.auth_bytes)
+    if int_eq key API_VERSIONS then if_read (whole api_versions_request body) (λ v. Versions)
+    else if int_eq key SASL_HANDSHAKE then if_read (whole sasl_handshake_request body) (λ v. Handshake version v.mechanism)
+    else if int_eq key SASL_AUTHENTICATE then if_read (whole sasl_authenticate_request body) (λ v. Authenticate v.auth_bytes)
     else Another key version body
 
 -- a header, and the body behind it
@@ -55,7 +56,7 @@ abbrev pub request_at : List ApiVersion → List ℕ → Result (RequestStart ×
 request_at versions frame (Err fault) = record { correlation_id = pos 0; asked = Malformed }
 request_at versions frame (Ok s) = record {
   correlation_id = s.0.correlation_id;
-  asked = if int_eq s.0.api_key (pos 18) && not (int_eq s.0.api_version (pos 0)) then OtherVersions
+  asked = if int_eq s.0.api_key API_VERSIONS && not (int_eq s.0.api_version (pos 0)) then OtherVersions
       else asked_behind versions (request_header.read frame);
 }
 

@@ -1,6 +1,7 @@
 //! Laws about the definitions, each as the contract of a function with an empty body.
-ghost use Rattle.std.specs.Prelude.{◌≡◌, ◌↔◌, ◌≤◌, ◌++◌, ◌∷◌, ℕ, ℤ, List, [], Bool, true, false, length, max, pos, Ok, Option, Some, None};
+ghost use Rattle.std.specs.Prelude.{◌≡◌, ◌↔◌, ◌≤◌, ◌++◌, ◌∷◌, ℕ, ℤ, List, [], Bool, true, false, length, max, Ok, Option, Some, None};
 ghost use Rattle.std.specs.List.{Contains};
+ghost use Rattle.kb_wire.specs.declared.api_key.TheConstants.{FETCH};
 ghost use Rattle.kb_machine.specs.Session.{Session, Stage, Bare, BoundTo, LIMIT, fed, has_member, overruns, replied, shut_down};
 ghost use Rattle.kb_machine.specs.Session.{without_wait};
 ghost use Rattle.kb_api_group.specs.Frames.{Whole, front};
@@ -93,7 +94,7 @@ pub fn fetches_get_whole_batches()
     ensures at_once { (setup : Setup) (kept : Kept) (clock n : ℕ) (s : Session) (frame rest : List ℕ) (version : ℤ) (body : List ℕ)
         (fetch : FetchRequest)
         → HasSmallLogs (world_at kept clock) → front s.unread ≡ Whole frame rest
-        → (request setup.versions frame).asked ≡ Another (pos 1) version body → asked_fetch version body ≡ Ok fetch
+        → (request setup.versions frame).asked ≡ Another FETCH version body → asked_fetch version body ≡ Ok fetch
         → GetsBatches (world_at kept clock) version fetch (request setup.versions frame).correlation_id (record s { unread = rest })
         (after_turn setup kept clock n s) }
     ensures after_a_wait { (kept : Kept) (clock n tenant : ℕ) (s : Session) (id version : ℤ) (body : List ℕ) (deadline : ℕ)

@@ -1,8 +1,9 @@
 -- What holds of a request, if it does for each API of groups and for the requests that are for no group.
 use Rattle.std.proofs.Common.{ℕ, ℤ, Bool, true, false, List}
-use Rattle.std.specs.Prelude.{pos, Result, Ok, Err, if◌then◌else◌}
+use Rattle.std.specs.Prelude.{Result, Ok, Err, if◌then◌else◌}
 use Rattle.std.specs.Ordering.{int_eq}
 use Rattle.kb_wire.specs.Codec.{whole}
+use Rattle.kb_wire.specs.declared.api_key.TheConstants.{OFFSET_COMMIT, JOIN_GROUP, HEARTBEAT, LEAVE_GROUP, SYNC_GROUP}
 use Rattle.kb_wire.specs.declared.fault.WireFault.{WireFault}
 use Rattle.kb_api_group.specs.Layouts.{heartbeat_request, join_group_request, leave_group_request, offset_commit_request, sync_group_request}
 use Rattle.kb_api_group.specs.declared.offset_commit.OffsetCommitRequest.{OffsetCommitRequest}
@@ -38,12 +39,12 @@ by_request P node w gs n key version body c =
     let beats : Outcome = if_read w gs (whole heartbeat_request body) (of_heartbeat w gs) in
     let joins : Outcome = if_read w gs (whole join_group_request body) (of_join w n gs) in
     let commits : Outcome = if_read w gs (whole offset_commit_request body) (of_offset_commit w gs) in
-    let from_14 : Outcome = if int_eq key (pos 14) then syncs else others in
-    let from_13 : Outcome = if int_eq key (pos 13) then leaves else from_14 in
-    let from_12 : Outcome = if int_eq key (pos 12) then beats else from_13 in
-    let from_11 : Outcome = if int_eq key (pos 11) then joins else from_12 in
-    either P (int_eq key (pos 8)) commits from_11 (read_by P w gs (whole offset_commit_request body) (of_offset_commit w gs) c.commit shut)
-    (either P (int_eq key (pos 11)) joins from_12 (read_by P w gs (whole join_group_request body) (of_join w n gs) (λ r. c.stays (of_join w n gs r).groups (of_join w n gs r).reaction) shut)
-    (either P (int_eq key (pos 12)) beats from_13 (read_by P w gs (whole heartbeat_request body) (of_heartbeat w gs) (λ r. c.stays (of_heartbeat w gs r).groups (of_heartbeat w gs r).reaction) shut)
-    (either P (int_eq key (pos 13)) leaves from_14 (read_by P w gs (whole leave_group_request body) (of_leave w gs) (λ r. c.stays (of_leave w gs r).groups (of_leave w gs r).reaction) shut)
-    (either P (int_eq key (pos 14)) syncs others (read_by P w gs (whole sync_group_request body) (of_sync w n gs) (λ r. c.stays (of_sync w n gs r).groups (of_sync w n gs r).reaction) shut) c.topics))))
+    let from_sync : Outcome = if int_eq key SYNC_GROUP then syncs else others in
+    let from_leave : Outcome = if int_eq key LEAVE_GROUP then leaves else from_sync in
+    let from_heartbeat : Outcome = if int_eq key HEARTBEAT then beats else from_leave in
+    let from_join : Outcome = if int_eq key JOIN_GROUP then joins else from_heartbeat in
+    either P (int_eq key OFFSET_COMMIT) commits from_join (read_by P w gs (whole offset_commit_request body) (of_offset_commit w gs) c.commit shut)
+    (either P (int_eq key JOIN_GROUP) joins from_heartbeat (read_by P w gs (whole join_group_request body) (of_join w n gs) (λ r. c.stays (of_join w n gs r).groups (of_join w n gs r).reaction) shut)
+    (either P (int_eq key HEARTBEAT) beats from_leave (read_by P w gs (whole heartbeat_request body) (of_heartbeat w gs) (λ r. c.stays (of_heartbeat w gs r).groups (of_heartbeat w gs r).reaction) shut)
+    (either P (int_eq key LEAVE_GROUP) leaves from_sync (read_by P w gs (whole leave_group_request body) (of_leave w gs) (λ r. c.stays (of_leave w gs r).groups (of_leave w gs r).reaction) shut)
+    (either P (int_eq key SYNC_GROUP) syncs others (read_by P w gs (whole sync_group_request body) (of_sync w n gs) (λ r. c.stays (of_sync w n gs r).groups (of_sync w n gs r).reaction) shut) c.topics))))

@@ -1,5 +1,6 @@
 -- The laws of a tenant's requests, by those of its topics.
-use Rattle.std.proofs.Common.{◌≡◌, ◌∙◌, ℕ, ℤ, pos, List, None, Ok, ap, refl}
+use Rattle.std.proofs.Common.{◌≡◌, ◌∙◌, ℕ, ℤ, List, None, Ok, ap, refl}
+use Rattle.kb_wire.specs.declared.api_key.TheConstants.{FETCH}
 use Rattle.kb_api_data.specs.declared.fetch.FetchRequest.{FetchRequest}
 use Rattle.kb_coordinator.specs.Calls.{reply_among}
 use Rattle.kb_coordinator.specs.Groups.{Groups, silent}
@@ -78,6 +79,6 @@ same_plain : {x y : tenant_reaction.Reaction} → Plain x ≡ Plain y → x ≡ 
 same_plain h = cc
 
 pub served-holds : (node : Node) (w : World) (gs : Groups) (n : ℕ) (version : ℤ) (body bytes : List ℕ) (r : FetchRequest) → HasSmallLogs w → asked_fetch version body ≡ Ok r
-    → (served node w gs n (pos 1) version body).reaction ≡ replies bytes → HoldsBatches version w r bytes
+    → (served node w gs n FETCH version body).reaction ≡ replies bytes → HoldsBatches version w r bytes
 unfolding served
 served-holds node w gs n version body bytes r small read is = topics-hold node w n version body bytes r small read (same_plain is)

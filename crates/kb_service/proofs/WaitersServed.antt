@@ -1,11 +1,12 @@
 -- The members that wait in a tenant's groups, one request or moment after the other.
-use Rattle.std.proofs.Common.{inl, inr, ◌≡◌, ◌∙◌, ◌≤◌, ◌+◌, ℕ, ℤ, pos, zero, suc, Bool, true, false, ◌&&◌, List, [], ◌∷◌, ◌++◌, map, Option, Some, None, nat_eq, bytes_eq, if◌then◌else◌, refl, sym, ap, subst, arith}
+use Rattle.std.proofs.Common.{inl, inr, ◌≡◌, ◌∙◌, ◌≤◌, ◌+◌, ℕ, ℤ, zero, suc, Bool, true, false, ◌&&◌, List, [], ◌∷◌, ◌++◌, map, Option, Some, None, nat_eq, bytes_eq, if◌then◌else◌, refl, sym, ap, subst, arith}
 use Rattle.std.specs.Prelude.{Result, Ok, Err}
 use Rattle.std.specs.List.{flat_map, insert}
 use Rattle.std.specs.Ordering.{int_eq}
 use Rattle.kb_wire.specs.Codec.{whole}
 use Rattle.kb_wire.specs.declared.fault.WireFault.{WireFault}
-use Rattle.kb_api_group.specs.ErrorCode.{code_of}
+use Rattle.kb_wire.specs.ErrorCode.{code_of}
+use Rattle.kb_wire.specs.declared.api_key.TheConstants.{OFFSET_COMMIT, JOIN_GROUP, HEARTBEAT, LEAVE_GROUP, SYNC_GROUP}
 use Rattle.kb_api_group.specs.Layouts.{heartbeat_request, join_group_request, leave_group_request, offset_commit_request, sync_group_request}
 use Rattle.kb_api_group.specs.declared.heartbeat.HeartbeatRequest.{HeartbeatRequest}
 use Rattle.kb_api_group.specs.declared.join_group.JoinGroupRequest.{JoinGroupRequest}
@@ -146,15 +147,15 @@ served_told node w gs n key version body =
     let beats : Outcome = if_read w gs (whole heartbeat_request body) (of_heartbeat w gs) in
     let joins : Outcome = if_read w gs (whole join_group_request body) (of_join w n gs) in
     let commits : Outcome = if_read w gs (whole offset_commit_request body) (of_offset_commit w gs) in
-    let from_14 : Outcome = if int_eq key (pos 14) then syncs else others in
-    let from_13 : Outcome = if int_eq key (pos 13) then leaves else from_14 in
-    let from_12 : Outcome = if int_eq key (pos 12) then beats else from_13 in
-    let from_11 : Outcome = if int_eq key (pos 11) then joins else from_12 in
-    either n gs (int_eq key (pos 8)) commits from_11 (read_told w n gs (whole offset_commit_request body) (of_offset_commit w gs) (commit_told w n gs))
-    (either n gs (int_eq key (pos 11)) joins from_12 (read_told w n gs (whole join_group_request body) (of_join w n gs) (join_told w n gs))
-    (either n gs (int_eq key (pos 12)) beats from_13 (read_told w n gs (whole heartbeat_request body) (of_heartbeat w gs) (heartbeat_told w n gs))
-    (either n gs (int_eq key (pos 13)) leaves from_14 (read_told w n gs (whole leave_group_request body) (of_leave w gs) (leave_told w n gs))
-    (either n gs (int_eq key (pos 14)) syncs others (read_told w n gs (whole sync_group_request body) (of_sync w n gs) (sync_told w n gs)) (silent_served n false gs)))))
+    let from_sync : Outcome = if int_eq key SYNC_GROUP then syncs else others in
+    let from_leave : Outcome = if int_eq key LEAVE_GROUP then leaves else from_sync in
+    let from_heartbeat : Outcome = if int_eq key HEARTBEAT then beats else from_leave in
+    let from_join : Outcome = if int_eq key JOIN_GROUP then joins else from_heartbeat in
+    either n gs (int_eq key OFFSET_COMMIT) commits from_join (read_told w n gs (whole offset_commit_request body) (of_offset_commit w gs) (commit_told w n gs))
+    (either n gs (int_eq key JOIN_GROUP) joins from_heartbeat (read_told w n gs (whole join_group_request body) (of_join w n gs) (join_told w n gs))
+    (either n gs (int_eq key HEARTBEAT) beats from_leave (read_told w n gs (whole heartbeat_request body) (of_heartbeat w gs) (heartbeat_told w n gs))
+    (either n gs (int_eq key LEAVE_GROUP) leaves from_sync (read_told w n gs (whole leave_group_request body) (of_leave w gs) (leave_told w n gs))
+    (either n gs (int_eq key SYNC_GROUP) syncs others (read_told w n gs (whole sync_group_request body) (of_sync w n gs) (sync_told w n gs)) (silent_served n false gs)))))
 
 -- 3. A moment, and a connection that is gone
 

@@ -1,14 +1,15 @@
 -- What a request of a tenant makes of what it keeps, and comes to for the connection that sent it.
-use Rattle.std.specs.Prelude.{◌≡◌, ◌⊎◌, ℕ, ℤ, pos, List, [], Bool, Option, Some, None, Result, Ok, Err, length, nat_le, if◌then◌else◌}
+use Rattle.std.specs.Prelude.{◌≡◌, ◌⊎◌, ℕ, ℤ, List, [], Bool, Option, Some, None, Result, Ok, Err, length, nat_le, if◌then◌else◌}
 use Rattle.std.specs.Ordering.{int_eq}
 use Rattle.kb_wire.specs.Codec.{whole}
 use Rattle.kb_wire.specs.declared.fault.WireFault.{WireFault}
 use Rattle.kb_wire.specs.declared.fault.ReadFault.{ReadFault}
 use Rattle.kb_wire.specs.declared.fault.ReadFault.TheVariants as faults
-use Rattle.kb_api_group.specs.ErrorCode.{code_of}
+use Rattle.kb_wire.specs.ErrorCode.{code_of}
+use Rattle.kb_wire.specs.declared.api_key.TheConstants.{OFFSET_COMMIT, JOIN_GROUP, HEARTBEAT, LEAVE_GROUP, SYNC_GROUP}
 use Rattle.kb_api_group.specs.Layouts.{heartbeat_reply, heartbeat_request, join_group_request, leave_group_reply, leave_group_request}
 use Rattle.kb_api_group.specs.Layouts.{offset_commit_reply, offset_commit_request, sync_group_request}
-use Rattle.kb_api_group.specs.declared.error_code.ErrorCode.{ErrorCode}
+use Rattle.kb_wire.specs.declared.error_code.ErrorCode.{ErrorCode}
 use Rattle.kb_api_group.specs.declared.heartbeat.HeartbeatRequest.{HeartbeatRequest}
 use Rattle.kb_api_group.specs.declared.join_group.JoinGroupRequest.{JoinGroupRequest}
 use Rattle.kb_api_group.specs.declared.leave_group.LeaveGroupRequest.{LeaveGroupRequest}
@@ -96,15 +97,14 @@ abbrev pub if_read : {A : Type 0} → World → Groups → Result A WireFault �
 if_read w gs (Ok v) f = f v
 if_read w gs (Err fault) f = of_groups w (silent gs) (Plain Shuts)
 
--- a request on the connection of number n: 8 is OffsetCommit, 11 JoinGroup, 12 Heartbeat, 13 LeaveGroup, 14 SyncGroup; the others are
--- for no group
+-- a request on the connection of number n; those of other APIs are for no group
 unfoldable pub served : Node → World → Groups → ℕ → ℤ → ℤ → List ℕ → Outcome
 served node w gs n key version body =
-    if int_eq key (pos 8) then if_read w gs (whole offset_commit_request body) (of_offset_commit w gs)
-    else if int_eq key (pos 11) then if_read w gs (whole join_group_request body) (of_join w n gs)
-    else if int_eq key (pos 12) then if_read w gs (whole heartbeat_request body) (of_heartbeat w gs)
-    else if int_eq key (pos 13) then if_read w gs (whole leave_group_request body) (of_leave w gs)
-    else if int_eq key (pos 14) then if_read w gs (whole sync_group_request body) (of_sync w n gs)
+    if int_eq key OFFSET_COMMIT then if_read w gs (whole offset_commit_request body) (of_offset_commit w gs)
+    else if int_eq key JOIN_GROUP then if_read w gs (whole join_group_request body) (of_join w n gs)
+    else if int_eq key HEARTBEAT then if_read w gs (whole heartbeat_request body) (of_heartbeat w gs)
+    else if int_eq key LEAVE_GROUP then if_read w gs (whole leave_group_request body) (of_leave w gs)
+    else if int_eq key SYNC_GROUP then if_read w gs (whole sync_group_request body) (of_sync w n gs)
     else of_topics gs (tenant.plainly_served node w n key version body)
 
 -- whether the last request or moment answered requests that waited

@@ -1,6 +1,8 @@
 //! A request of a tenant, by its key.
-ghost use Rattle.std.specs.Prelude.{◌≡◌, ◌≤◌, ◌^◌, [], pos, IfOk, IsOk};
+ghost use Rattle.std.specs.Prelude.{◌≡◌, ◌≤◌, ◌^◌, [], IfOk, IsOk};
 ghost use Rattle.kb_wire.specs.Codec.{string};
+ghost use Rattle.kb_wire.specs.declared.api_key.TheConstants.{PRODUCE, FETCH, LIST_OFFSETS, OFFSET_COMMIT, CREATE_TOPICS, DELETE_TOPICS};
+ghost use Rattle.kb_wire.specs.declared.api_key.TheConstants.{DELETE_RECORDS, INIT_PRODUCER_ID};
 ghost use Rattle.kb_partitions.specs.Scene.{WhereHonest};
 ghost use Rattle.kb_world.specs.Parts.{scene};
 ghost use Rattle.kb_world.specs.Steps.{IsStep, Meets};
@@ -19,7 +21,7 @@ use kb_coordinator::Coordinator;
 use kb_log::{PartitionLog, Shelf};
 use kb_store::Store;
 use kb_tenant::{Node, Request};
-use kb_wire::ReadFault;
+use kb_wire::{ReadFault, api_key};
 use kb_world::{Parts, TopicPartition};
 use std::alloc::Global;
 
@@ -43,31 +45,32 @@ fn serve_by_key<L: PartitionLog + Drop, S: Store>(
         (served node.now a.state.world groups.old request.now.connection request.now.api_key request.now.api_version request.now.body.now)
         b.state.world groups.new touched.new.items result) }
     ensures acknowledged { let a = scene L.log S.disk parts.old shelf.old in let b = scene L.log S.disk parts.new shelf.new in
-        request.now.api_key ≡ pos 0 → IfOk result (λ answer. WhereHonest a b (IsPlainly (Acknowledges (HasFailed a b)
+        request.now.api_key ≡ PRODUCE → IfOk result (λ answer. WhereHonest a b (IsPlainly (Acknowledges (HasFailed a b)
         request.now.correlation_id a.state.world request.now.body.now b.state.world touched.new.items) answer)) }
     ensures spared { let a = scene L.log S.disk parts.old shelf.old in let b = scene L.log S.disk parts.new shelf.new in
-        request.now.api_key ≡ pos 0 → IfOk result (λ answer. IsPlainly (IsSpared a.state.world request.now.body.now b.state.world) answer) }
-    ensures answered { request.now.api_key ≡ pos 0 → IsOk result }
+        request.now.api_key ≡ PRODUCE
+        → IfOk result (λ answer. IsPlainly (IsSpared a.state.world request.now.body.now b.state.world) answer) }
+    ensures answered { request.now.api_key ≡ PRODUCE → IsOk result }
     ensures fetched { let a = scene L.log S.disk parts.old shelf.old in let b = scene L.log S.disk parts.new shelf.new in
-        request.now.api_key ≡ pos 1 → IfOk result (λ answer. WhereHonest a b (IsPlainly (AnswersFetch (HasFailed a b)
+        request.now.api_key ≡ FETCH → IfOk result (λ answer. WhereHonest a b (IsPlainly (AnswersFetch (HasFailed a b)
         request.now.correlation_id request.now.api_version a.state.world request.now.body.now) answer)) }
     ensures listed { let a = scene L.log S.disk parts.old shelf.old in let b = scene L.log S.disk parts.new shelf.new in
-        request.now.api_key ≡ pos 2 → IfOk result (λ answer. WhereHonest a b (IsPlainly (AnswersListing (HasFailed a b)
+        request.now.api_key ≡ LIST_OFFSETS → IfOk result (λ answer. WhereHonest a b (IsPlainly (AnswersListing (HasFailed a b)
         request.now.correlation_id a.state.world request.now.body.now) answer)) }
     ensures created { let a = scene L.log S.disk parts.old shelf.old in let b = scene L.log S.disk parts.new shelf.new in
-        request.now.api_key ≡ pos 19 → IfOk result (λ answer. WhereHonest a b (IsPlainly (AcknowledgesCreations (CreationFailed a b)
+        request.now.api_key ≡ CREATE_TOPICS → IfOk result (λ answer. WhereHonest a b (IsPlainly (AcknowledgesCreations (CreationFailed a b)
         request.now.correlation_id request.now.api_version a.state.world request.now.body.now b.state.world) answer)) }
     ensures removed { let a = scene L.log S.disk parts.old shelf.old in let b = scene L.log S.disk parts.new shelf.new in
-        request.now.api_key ≡ pos 20 → IfOk result (λ answer. WhereHonest a b (IsPlainly (AcknowledgesRemovals (CatalogFailed a b)
+        request.now.api_key ≡ DELETE_TOPICS → IfOk result (λ answer. WhereHonest a b (IsPlainly (AcknowledgesRemovals (CatalogFailed a b)
         request.now.correlation_id request.now.api_version a.state.world request.now.body.now b.state.world touched.new.items) answer)) }
     ensures trimmed { let a = scene L.log S.disk parts.old shelf.old in let b = scene L.log S.disk parts.new shelf.new in
-        request.now.api_key ≡ pos 21 → IfOk result (λ answer. WhereHonest a b (IsPlainly (AcknowledgesDeletions (CatalogFailed a b)
+        request.now.api_key ≡ DELETE_RECORDS → IfOk result (λ answer. WhereHonest a b (IsPlainly (AcknowledgesDeletions (CatalogFailed a b)
         request.now.correlation_id a.state.world request.now.body.now b.state.world touched.new.items) answer)) }
     ensures issued { let a = scene L.log S.disk parts.old shelf.old in let b = scene L.log S.disk parts.new shelf.new in
-        request.now.api_key ≡ pos 22 → IfOk result (λ answer. WhereHonest a b (IsPlainly (AcknowledgesIssue (CatalogFailed a b)
+        request.now.api_key ≡ INIT_PRODUCER_ID → IfOk result (λ answer. WhereHonest a b (IsPlainly (AcknowledgesIssue (CatalogFailed a b)
         request.now.correlation_id a.state.world request.now.body.now b.state.world) answer)) }
     ensures committed { let a = scene L.log S.disk parts.old shelf.old in let b = scene L.log S.disk parts.new shelf.new in
-        request.now.api_key ≡ pos 8 → IfOk result (λ answer. WhereHonest a b (AcknowledgesCommits (CatalogFailed a b)
+        request.now.api_key ≡ OFFSET_COMMIT → IfOk result (λ answer. WhereHonest a b (AcknowledgesCommits (CatalogFailed a b)
         request.now.correlation_id groups.old a.state.world request.now.body.now b.state.world answer)) }
     ensures groups { let a = scene L.log S.disk parts.old shelf.old in
         AreGroupsBy groups.old (served node.now a.state.world groups.old request.now.connection request.now.api_key request.now.api_version
@@ -76,11 +79,11 @@ fn serve_by_key<L: PartitionLog + Drop, S: Store>(
 {
     let clock = parts.clock();
     match request.api_key {
-        8 => commit_offsets(alloc, parts, groups, shelf, request),
-        11 => join_group(alloc, groups, clock, request),
-        12 => heartbeat(alloc, groups, clock, request),
-        13 => leave_group(alloc, groups, clock, request),
-        14 => sync_group(alloc, groups, clock, request),
+        api_key::OFFSET_COMMIT => commit_offsets(alloc, parts, groups, shelf, request),
+        api_key::JOIN_GROUP => join_group(alloc, groups, clock, request),
+        api_key::HEARTBEAT => heartbeat(alloc, groups, clock, request),
+        api_key::LEAVE_GROUP => leave_group(alloc, groups, clock, request),
+        api_key::SYNC_GROUP => sync_group(alloc, groups, clock, request),
         _ => {
             groups.silence();
             let served = kb_tenant::serve(alloc, parts, shelf, node, request);
@@ -127,39 +130,39 @@ pub fn serve<L: PartitionLog + Drop, S: Store>(
         b.state.world groups.new result.touched.items result.answer) }
     // A batch of a Produce that is answered with no error is in its partition's log, whatever else was refused.
     ensures acknowledged { let a = scene L.log S.disk parts.old shelf.old in let b = scene L.log S.disk parts.new shelf.new in
-        request.now.api_key ≡ pos 0 → WhereHonest a b (IsPlainly (Acknowledges (HasFailed a b)
+        request.now.api_key ≡ PRODUCE → WhereHonest a b (IsPlainly (Acknowledges (HasFailed a b)
         request.now.correlation_id a.state.world request.now.body.now b.state.world result.touched.items) result.answer) }
     // A Produce whose connection is shut for want of memory has appended nothing.
     ensures spared { let a = scene L.log S.disk parts.old shelf.old in let b = scene L.log S.disk parts.new shelf.new in
-        request.now.api_key ≡ pos 0 → IsPlainly (IsSpared a.state.world request.now.body.now b.state.world) result.answer }
+        request.now.api_key ≡ PRODUCE → IsPlainly (IsSpared a.state.world request.now.body.now b.state.world) result.answer }
     // A Fetch has of each partition what is defined, or the code of what refused it, whatever was refused.
     ensures fetched { let a = scene L.log S.disk parts.old shelf.old in let b = scene L.log S.disk parts.new shelf.new in
-        request.now.api_key ≡ pos 1 → WhereHonest a b (IsPlainly (AnswersFetch (HasFailed a b)
+        request.now.api_key ≡ FETCH → WhereHonest a b (IsPlainly (AnswersFetch (HasFailed a b)
         request.now.correlation_id request.now.api_version a.state.world request.now.body.now) result.answer) }
     // So has a ListOffsets.
     ensures listed { let a = scene L.log S.disk parts.old shelf.old in let b = scene L.log S.disk parts.new shelf.new in
-        request.now.api_key ≡ pos 2 → WhereHonest a b (IsPlainly (AnswersListing (HasFailed a b)
+        request.now.api_key ≡ LIST_OFFSETS → WhereHonest a b (IsPlainly (AnswersListing (HasFailed a b)
         request.now.correlation_id a.state.world request.now.body.now) result.answer) }
     // A topic of a CreateTopics that is answered with no error is in the catalog, whatever else was refused.
     ensures created { let a = scene L.log S.disk parts.old shelf.old in let b = scene L.log S.disk parts.new shelf.new in
-        request.now.api_key ≡ pos 19 → WhereHonest a b (IsPlainly (AcknowledgesCreations (CreationFailed a b)
+        request.now.api_key ≡ CREATE_TOPICS → WhereHonest a b (IsPlainly (AcknowledgesCreations (CreationFailed a b)
         request.now.correlation_id request.now.api_version a.state.world request.now.body.now b.state.world) result.answer) }
     // A topic of a DeleteTopics that is answered with no error is gone.
     ensures removed { let a = scene L.log S.disk parts.old shelf.old in let b = scene L.log S.disk parts.new shelf.new in
-        request.now.api_key ≡ pos 20 → WhereHonest a b (IsPlainly (AcknowledgesRemovals (CatalogFailed a b)
+        request.now.api_key ≡ DELETE_TOPICS → WhereHonest a b (IsPlainly (AcknowledgesRemovals (CatalogFailed a b)
         request.now.correlation_id request.now.api_version a.state.world request.now.body.now b.state.world result.touched.items)
         result.answer) }
     // Records that a DeleteRecords answers with no error are deleted.
     ensures trimmed { let a = scene L.log S.disk parts.old shelf.old in let b = scene L.log S.disk parts.new shelf.new in
-        request.now.api_key ≡ pos 21 → WhereHonest a b (IsPlainly (AcknowledgesDeletions (CatalogFailed a b)
+        request.now.api_key ≡ DELETE_RECORDS → WhereHonest a b (IsPlainly (AcknowledgesDeletions (CatalogFailed a b)
         request.now.correlation_id a.state.world request.now.body.now b.state.world result.touched.items) result.answer) }
     // An id that an InitProducerId answers with no error was given out.
     ensures issued { let a = scene L.log S.disk parts.old shelf.old in let b = scene L.log S.disk parts.new shelf.new in
-        request.now.api_key ≡ pos 22 → WhereHonest a b (IsPlainly (AcknowledgesIssue (CatalogFailed a b)
+        request.now.api_key ≡ INIT_PRODUCER_ID → WhereHonest a b (IsPlainly (AcknowledgesIssue (CatalogFailed a b)
         request.now.correlation_id a.state.world request.now.body.now b.state.world) result.answer) }
     // An offset of an OffsetCommit that is answered with no error is what the catalog has.
     ensures committed { let a = scene L.log S.disk parts.old shelf.old in let b = scene L.log S.disk parts.new shelf.new in
-        request.now.api_key ≡ pos 8 → WhereHonest a b (AcknowledgesCommits (CatalogFailed a b)
+        request.now.api_key ≡ OFFSET_COMMIT → WhereHonest a b (AcknowledgesCommits (CatalogFailed a b)
         request.now.correlation_id groups.old a.state.world request.now.body.now b.state.world result.answer) }
     ensures groups { let a = scene L.log S.disk parts.old shelf.old in
         AreGroupsAfter groups.old (served node.now a.state.world groups.old request.now.connection request.now.api_key

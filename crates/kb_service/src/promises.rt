@@ -1,6 +1,7 @@
 //! Laws about the definitions, each as the contract of a function with an empty body. What they say of retention and of the time
 //! `kb_tenant`'s laws of the same names say.
-ghost use Rattle.std.specs.Prelude.{◌≡◌, ℕ, ℤ, pos, List, Ok, None};
+ghost use Rattle.std.specs.Prelude.{◌≡◌, ℕ, ℤ, List, Ok, None};
+ghost use Rattle.kb_wire.specs.declared.api_key.TheConstants.{FETCH};
 ghost use Rattle.kb_api_data.specs.declared.fetch.FetchRequest.{FetchRequest};
 ghost use Rattle.kb_coordinator.specs.Groups.{Groups, silent};
 ghost use Rattle.kb_world.specs.Tied.{IsTied};
@@ -54,13 +55,13 @@ pub fn logs_stay_small()
         → HasSmallLogs (served node w gs n key version body).world }
 {}
 
-/// What a fetch (its key is 1) is answered at once: the one reply that the bytes spell, in which each partition without an error gives
-/// whole batches of its log as it is at that moment, one after the other, from the one that holds the asked offset, and from version 5
-/// on tells where that log starts.
+/// What a fetch is answered at once: the one reply that the bytes spell, in which each partition without an error gives whole batches
+/// of its log as it is at that moment, one after the other, from the one that holds the asked offset, and from version 5 on tells
+/// where that log starts.
 pub fn fetches_give_whole_batches()
     ensures { (node : Node) (w : World) (gs : Groups) (n : ℕ) (version : ℤ) (body bytes : List ℕ) (r : FetchRequest) → HasSmallLogs w
         → asked_fetch version body ≡ Ok r
-        → (served node w gs n (pos 1) version body).reaction ≡ replies bytes → HoldsBatches version w r bytes }
+        → (served node w gs n FETCH version body).reaction ≡ replies bytes → HoldsBatches version w r bytes }
 {}
 
 /// A request makes no member wait but on its own connection, and there one where it comes to a wait for its group. Who waited waits

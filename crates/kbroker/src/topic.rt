@@ -6,6 +6,7 @@ use crate::{Fault, command};
 use clap::error::ErrorKind;
 use clap::{Arg, ArgAction, ArgMatches, Command};
 use kb_admin::{AdminFault, Heard, Listed, NewTopic, Session, Setting, ShortText, Task};
+use kb_wire::ErrorCode;
 use std::alloc::{AllocError, Global};
 use std::fmt::{Display, Formatter, Write as _};
 use std::io::{BufWriter, Read, Write};
@@ -54,14 +55,33 @@ impl Display for TopicFault {
     }
 }
 
-/// What an error code means, where its name does not say it.
+/// What the error codes mean whose names do not say it.
+const MEANINGS: [(ErrorCode, &str); 3] = [
+    (
+        ErrorCode::InvalidTopic,
+        ": a name has 1 to 249 of a-z A-Z 0-9 . _ -",
+    ),
+    (
+        ErrorCode::PolicyViolation,
+        ": the broker makes no more topics",
+    ),
+    (
+        ErrorCode::SaslAuthenticationFailed,
+        ": no user has this name and password",
+    ),
+];
+
+/// What a fault means, where it is an error code whose name does not say it.
 fn meaning(fault: AdminFault) -> &'static str {
-    match fault {
-        AdminFault::Refused(17) => ": a name has 1 to 249 of a-z A-Z 0-9 . _ -",
-        AdminFault::Refused(44) => ": the broker makes no more topics",
-        AdminFault::Refused(58) => ": no user has this name and password",
-        _ => "",
+    let AdminFault::Refused(code) = fault else {
+        return "";
+    };
+    for (error, meaning) in &MEANINGS {
+        if error.code() == code {
+            return *meaning;
+        }
     }
+    ""
 }
 
 /// What `clap` reads the words behind `topic` by.

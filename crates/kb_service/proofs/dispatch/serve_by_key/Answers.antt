@@ -1,5 +1,6 @@
-use Rattle.std.proofs.Common.{inr, rules, ◌≡◌, ◌∙◌, pos, false, [], ap, sym, subst}
+use Rattle.std.proofs.Common.{inr, rules, ◌≡◌, ◌∙◌, false, [], ap, sym, subst}
 use Rattle.std.specs.Ordering.{int_eq}
+use Rattle.kb_wire.specs.declared.api_key.TheConstants.{OFFSET_COMMIT, JOIN_GROUP, HEARTBEAT, LEAVE_GROUP, SYNC_GROUP}
 use Rattle.kb_world.specs.Parts.{world_of}
 use Rattle.kb_service.specs.Serve.{served, AreGroupsBy, IsOutcome, IsServed}
 use Rattle.kb_service.specs.declared.answer.Answer.TheVariants as answers
@@ -13,7 +14,7 @@ returns-in-8-clause-meets g c = λ honest agree calm.
     let after = world_of g.L.PartitionLog.log c.commit_offsets.new.parts (g.S.Store.disk c.commit_offsets.new.shelf.store).files in
     let request = c.args.request.now in
     let gs = c.args.groups.now in
-    let key : request.api_key ≡ pos 8 = search rules in
+    let key : request.api_key ≡ OFFSET_COMMIT = search rules in
     subst (λ ts. IsServed request.correlation_id (served c.args.node.now w gs request.connection request.api_key request.api_version request.body.now) after c.commit_offsets.new.groups ts c.commit_offsets.result) (sym c.requires.untouched)
     (subst (λ o. IsServed request.correlation_id o after c.commit_offsets.new.groups [] c.commit_offsets.result) (sym (served_commit c.args.node.now w gs request.connection request.api_key request.api_version request.body.now key))
     (c.commit_offsets.ensures.meets honest agree calm))
@@ -23,7 +24,7 @@ returns-in-11-clause-meets g c = λ honest agree calm.
     let w = world_of g.L.PartitionLog.log c.args.parts.now (g.S.Store.disk c.args.shelf.now.store).files in
     let request = c.args.request.now in
     let gs = c.args.groups.now in
-    let key : request.api_key ≡ pos 11 = search rules in
+    let key : request.api_key ≡ JOIN_GROUP = search rules in
     subst (λ ts. IsServed request.correlation_id (served c.args.node.now w gs request.connection request.api_key request.api_version request.body.now) w c.join_group.new.groups ts c.join_group.result) (sym c.requires.untouched)
     (subst (λ o. IsServed request.correlation_id o w c.join_group.new.groups [] c.join_group.result) (sym (served_join c.args.node.now w gs request.connection request.api_key request.api_version request.body.now key))
     (c.join_group.ensures.served w (sym c.clock-clock.ensures)))
@@ -33,7 +34,7 @@ returns-in-12-clause-meets g c = λ honest agree calm.
     let w = world_of g.L.PartitionLog.log c.args.parts.now (g.S.Store.disk c.args.shelf.now.store).files in
     let request = c.args.request.now in
     let gs = c.args.groups.now in
-    let key : request.api_key ≡ pos 12 = search rules in
+    let key : request.api_key ≡ HEARTBEAT = search rules in
     subst (λ ts. IsServed request.correlation_id (served c.args.node.now w gs request.connection request.api_key request.api_version request.body.now) w c.heartbeat.new.groups ts c.heartbeat.result) (sym c.requires.untouched)
     (subst (λ o. IsServed request.correlation_id o w c.heartbeat.new.groups [] c.heartbeat.result) (sym (served_heartbeat c.args.node.now w gs request.connection request.api_key request.api_version request.body.now key))
     (c.heartbeat.ensures.served w (sym c.clock-clock.ensures)))
@@ -43,7 +44,7 @@ returns-in-13-clause-meets g c = λ honest agree calm.
     let w = world_of g.L.PartitionLog.log c.args.parts.now (g.S.Store.disk c.args.shelf.now.store).files in
     let request = c.args.request.now in
     let gs = c.args.groups.now in
-    let key : request.api_key ≡ pos 13 = search rules in
+    let key : request.api_key ≡ LEAVE_GROUP = search rules in
     subst (λ ts. IsServed request.correlation_id (served c.args.node.now w gs request.connection request.api_key request.api_version request.body.now) w c.leave_group.new.groups ts c.leave_group.result) (sym c.requires.untouched)
     (subst (λ o. IsServed request.correlation_id o w c.leave_group.new.groups [] c.leave_group.result) (sym (served_leave c.args.node.now w gs request.connection request.api_key request.api_version request.body.now key))
     (c.leave_group.ensures.served w (sym c.clock-clock.ensures)))
@@ -53,7 +54,7 @@ returns-in-14-clause-meets g c = λ honest agree calm.
     let w = world_of g.L.PartitionLog.log c.args.parts.now (g.S.Store.disk c.args.shelf.now.store).files in
     let request = c.args.request.now in
     let gs = c.args.groups.now in
-    let key : request.api_key ≡ pos 14 = search rules in
+    let key : request.api_key ≡ SYNC_GROUP = search rules in
     subst (λ ts. IsServed request.correlation_id (served c.args.node.now w gs request.connection request.api_key request.api_version request.body.now) w c.sync_group.new.groups ts c.sync_group.result) (sym c.requires.untouched)
     (subst (λ o. IsServed request.correlation_id o w c.sync_group.new.groups [] c.sync_group.result) (sym (served_sync c.args.node.now w gs request.connection request.api_key request.api_version request.body.now key))
     (c.sync_group.ensures.served w (sym c.clock-clock.ensures)))
@@ -65,13 +66,13 @@ returns-in_default-clause-meets g c = λ honest agree calm.
     let request = c.args.request.now in
     let gs = c.args.groups.now in
     let met = c.serve-served.ensures.meets honest agree calm in
-    let not_8 : int_eq request.api_key (pos 8) ≡ false = search rules in
-    let not_11 : int_eq request.api_key (pos 11) ≡ false = search rules in
-    let not_12 : int_eq request.api_key (pos 12) ≡ false = search rules in
-    let not_13 : int_eq request.api_key (pos 13) ≡ false = search rules in
-    let not_14 : int_eq request.api_key (pos 14) ≡ false = search rules in
+    let not_commit : int_eq request.api_key OFFSET_COMMIT ≡ false = search rules in
+    let not_join : int_eq request.api_key JOIN_GROUP ≡ false = search rules in
+    let not_heartbeat : int_eq request.api_key HEARTBEAT ≡ false = search rules in
+    let not_leave : int_eq request.api_key LEAVE_GROUP ≡ false = search rules in
+    let not_sync : int_eq request.api_key SYNC_GROUP ≡ false = search rules in
     subst (λ o. IsOutcome request.correlation_id o after c.silence.new.self c.serve-served.result.touched.items (answers.Plain c.serve-served.result.answer))
-    (sym (served_topics c.args.node.now w gs request.connection request.api_key request.api_version request.body.now not_8 not_11 not_12 not_13 not_14))
+    (sym (served_topics c.args.node.now w gs request.connection request.api_key request.api_version request.body.now not_commit not_join not_heartbeat not_leave not_sync))
     (met.0, c.silence.ensures, met.1, met.2)
 
 pub returns-in-8-clause-groups : goal.returns-in-8-clause-groups
@@ -79,7 +80,7 @@ returns-in-8-clause-groups g c =
     let w = world_of g.L.PartitionLog.log c.args.parts.now (g.S.Store.disk c.args.shelf.now.store).files in
     let request = c.args.request.now in
     let gs = c.args.groups.now in
-    let key : request.api_key ≡ pos 8 = search rules in
+    let key : request.api_key ≡ OFFSET_COMMIT = search rules in
     subst (λ o. AreGroupsBy gs o.groups c.commit_offsets.result c.commit_offsets.new.groups) (sym (served_commit c.args.node.now w gs request.connection request.api_key request.api_version request.body.now key))
     c.commit_offsets.ensures.groups
 
@@ -88,7 +89,7 @@ returns-in-11-clause-groups g c =
     let w = world_of g.L.PartitionLog.log c.args.parts.now (g.S.Store.disk c.args.shelf.now.store).files in
     let request = c.args.request.now in
     let gs = c.args.groups.now in
-    let key : request.api_key ≡ pos 11 = search rules in
+    let key : request.api_key ≡ JOIN_GROUP = search rules in
     subst (λ o. AreGroupsBy gs o.groups c.join_group.result c.join_group.new.groups) (sym (served_join c.args.node.now w gs request.connection request.api_key request.api_version request.body.now key))
     (c.join_group.ensures.groups w (sym c.clock-clock.ensures))
 
@@ -97,7 +98,7 @@ returns-in-12-clause-groups g c =
     let w = world_of g.L.PartitionLog.log c.args.parts.now (g.S.Store.disk c.args.shelf.now.store).files in
     let request = c.args.request.now in
     let gs = c.args.groups.now in
-    let key : request.api_key ≡ pos 12 = search rules in
+    let key : request.api_key ≡ HEARTBEAT = search rules in
     subst (λ o. AreGroupsBy gs o.groups c.heartbeat.result c.heartbeat.new.groups) (sym (served_heartbeat c.args.node.now w gs request.connection request.api_key request.api_version request.body.now key))
     (c.heartbeat.ensures.groups w (sym c.clock-clock.ensures))
 
@@ -106,7 +107,7 @@ returns-in-13-clause-groups g c =
     let w = world_of g.L.PartitionLog.log c.args.parts.now (g.S.Store.disk c.args.shelf.now.store).files in
     let request = c.args.request.now in
     let gs = c.args.groups.now in
-    let key : request.api_key ≡ pos 13 = search rules in
+    let key : request.api_key ≡ LEAVE_GROUP = search rules in
     subst (λ o. AreGroupsBy gs o.groups c.leave_group.result c.leave_group.new.groups) (sym (served_leave c.args.node.now w gs request.connection request.api_key request.api_version request.body.now key))
     (c.leave_group.ensures.groups w (sym c.clock-clock.ensures))
 
@@ -115,7 +116,7 @@ returns-in-14-clause-groups g c =
     let w = world_of g.L.PartitionLog.log c.args.parts.now (g.S.Store.disk c.args.shelf.now.store).files in
     let request = c.args.request.now in
     let gs = c.args.groups.now in
-    let key : request.api_key ≡ pos 14 = search rules in
+    let key : request.api_key ≡ SYNC_GROUP = search rules in
     subst (λ o. AreGroupsBy gs o.groups c.sync_group.result c.sync_group.new.groups) (sym (served_sync c.args.node.now w gs request.connection request.api_key request.api_version request.body.now key))
     (c.sync_group.ensures.groups w (sym c.clock-clock.ensures))
 
@@ -124,13 +125,13 @@ returns-in_default-clause-groups g c =
     let w = world_of g.L.PartitionLog.log c.args.parts.now (g.S.Store.disk c.args.shelf.now.store).files in
     let request = c.args.request.now in
     let gs = c.args.groups.now in
-    let not_8 : int_eq request.api_key (pos 8) ≡ false = search rules in
-    let not_11 : int_eq request.api_key (pos 11) ≡ false = search rules in
-    let not_12 : int_eq request.api_key (pos 12) ≡ false = search rules in
-    let not_13 : int_eq request.api_key (pos 13) ≡ false = search rules in
-    let not_14 : int_eq request.api_key (pos 14) ≡ false = search rules in
+    let not_commit : int_eq request.api_key OFFSET_COMMIT ≡ false = search rules in
+    let not_join : int_eq request.api_key JOIN_GROUP ≡ false = search rules in
+    let not_heartbeat : int_eq request.api_key HEARTBEAT ≡ false = search rules in
+    let not_leave : int_eq request.api_key LEAVE_GROUP ≡ false = search rules in
+    let not_sync : int_eq request.api_key SYNC_GROUP ≡ false = search rules in
     c.silence.ensures
-    ∙ ap (λ o. o.groups) (sym (served_topics c.args.node.now w gs request.connection request.api_key request.api_version request.body.now not_8 not_11 not_12 not_13 not_14))
+    ∙ ap (λ o. o.groups) (sym (served_topics c.args.node.now w gs request.connection request.api_key request.api_version request.body.now not_commit not_join not_heartbeat not_leave not_sync))
 
 pub returns-in-8-clause-waits : goal.returns-in-8-clause-waits
 returns-in-8-clause-waits g c =

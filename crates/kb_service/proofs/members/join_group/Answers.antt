@@ -1,5 +1,5 @@
 use Rattle.std.proofs.Common.{rules, ◌≡◌, ◌∙◌, ◌++◌, false, ap, sym, to_z, of_z, w16, w32}
-use Rattle.kb_api_group.specs.ErrorCode.{code_of}
+use Rattle.kb_wire.specs.ErrorCode.{code_of}
 use Rattle.kb_api_group.specs.Layouts.{join_group_request}
 use Rattle.kb_coordinator.specs.Calls.{after_join, is_accepted}
 use Rattle.kb_coordinator.specs.Replies.{join_refusal}

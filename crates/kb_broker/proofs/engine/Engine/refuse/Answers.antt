@@ -35,7 +35,7 @@ invariant_of-self-in-Bound g c =
     let ls = c.self.inside.connections.items in
     let q = c.self.inside.parking in
     let first : IsCarried ts us ls q = subst (λ x. IsCarried ts x ls q) (sym c.left.ensures.state) (carried-left c.self.inside.clock c.args.number (member_at c.in-Bound.tenant) ts ls q) in (
-      c.refuse.ensures.kept,
+      c.refuse.ensures.invariant,
       queue-tenants (shelf_is_honest disk old) (shelf_is_honest disk new) q ts vs ls c.self.invariant.1 (λ honest. subst (λ x. (disk x.store).honest) (c.refuse.ensures.shelf ∙ c.left.ensures.shelf) honest)
           (λ honest. carried-then ts us vs ls q first (carried-same us vs ls q c.refuse.ensures.turn.grows c.refuse.ensures.stays)),
       c.self.invariant.2,

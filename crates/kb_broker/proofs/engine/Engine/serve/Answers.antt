@@ -90,12 +90,13 @@ returns-in-Ok g c =
     subst (λ (x : BrokerState). IsMemberTurnAt l.number l.session.stage x.tenants us m.session.stage) here c.in-Ok.ensures.member in
     let left : H → IsLeftBy who b.setup b.clock l.session.stage l.number q b.tenants us l.session m.session = λ honest.
     subst (λ (x : BrokerState). IsLeftBy who x.setup x.clock l.session.stage l.number q x.tenants us l.session m.session) here (c.in-Ok.ensures.left honest) in
+    let queue : IsQueueOf G q b.tenants b.lines = subst (λ (x : BrokerState). IsQueueOf G q x.tenants x.lines) here c.self.invariant.1 in
     record {
       going = subst (λ (x : BrokerState). IsGoing b (put_with x i m us)) (sym here) (taken-going H b i l m us l.session.stage taken refl taken.turn is);
       later = earlier;
-      served = λ honest scope still. subst (λ (x : BrokerState). IsServedFor who scope b (put_with x i m us)) (sym here) (served-by H honest who scope b i l m us q still (c.requires.unready (earlier.honest honest)) taken is member c.in-Ok.ensures.whose (left honest));
+      served = λ honest scope still. subst (λ (x : BrokerState). IsServedFor who scope b (put_with x i m us)) (sym here) (served-by H honest G (t.later.honest honest) who scope b i l m us q still (c.requires.unready (earlier.honest honest)) taken is member c.in-Ok.ensures.whose queue (left honest));
       left = λ honest. subst (λ (x : BrokerState). IsLeftTo who (put_with x i m us)) (sym here)
-          (left-by H honest G (t.later.honest honest) who b i l m us q (c.requires.unready (earlier.honest honest)) taken c.in-Ok.ensures.whose (subst (λ (x : BrokerState). IsQueueOf G q x.tenants x.lines) here c.self.invariant.1) (left honest));
+          (left-by H honest G (t.later.honest honest) who b i l m us q (c.requires.unready (earlier.honest honest)) taken c.in-Ok.ensures.whose queue (left honest));
       own = subst (IsOwnTo who) (sym (number_at-is b i l taken.at)) c.in-Ok.ensures.own;
       others = others-put b i l m _ taken.at taken.number (ap (λ (x : BrokerState). set x.lines i m) here);
       less = subst (λ (x : BrokerState). work (put_with x i m us).lines < work b.lines) (sym here) (work-taken H b i l m us taken);

@@ -11,27 +11,27 @@ use Rattle.kb_tenants.proofs.tenants.Tenants.pass_groups.Goals as goal
 
 -- ---- nothing was due
 
-pub returns-in_default-clause-kept : goal.returns-in_default-clause-kept
-returns-in_default-clause-kept g c =
+pub returns-in_default-clause-invariant : goal.returns-in_default-clause-invariant
+returns-in_default-clause-invariant g c =
     kept_own g.L.PartitionLog.log g.S.Store.disk g.met.L.PartitionLog.lawful c.args.self.now c.args.tenant c.index_mut-one.result.now c.pass.new.self
-    c.requires.tenant c.index_mut-one.ensures.value c.requires.kept c.in_default.ensures.none.1
+    c.requires.tenant c.index_mut-one.ensures.value c.requires.invariant c.in_default.ensures.none.1
 
 pub returns-in_default-clause-meets : goal.returns-in_default-clause-meets
 returns-in_default-clause-meets g c =
     met_own g.L.PartitionLog.log g.S.Store.disk g.met.L.PartitionLog.lawful c.args.self.now c.args.tenant c.index_mut-one.result.now c.pass.new.self
-    c.requires.tenant c.index_mut-one.ensures.value c.requires.kept c.in_default.ensures.none.1
+    c.requires.tenant c.index_mut-one.ensures.value c.requires.invariant c.in_default.ensures.none.1
     c.args.clock c.in_default.ensures.none.0
 
 pub returns-in_default-clause-topics : goal.returns-in_default-clause-topics
 returns-in_default-clause-topics g c =
     let same = stays_own g.L.PartitionLog.log g.S.Store.disk g.met.L.PartitionLog.lawful c.args.self.now c.args.tenant c.index_mut-one.result.now c.pass.new.self
-    c.requires.tenant c.index_mut-one.ensures.value c.requires.kept c.in_default.ensures.none.1 c.args.tenant in
+    c.requires.tenant c.index_mut-one.ensures.value c.requires.invariant c.in_default.ensures.none.1 c.args.tenant in
     (ap (λ (k : Kept). k.known) same, ap (λ (k : Kept). k.logs) same)
 
 pub returns-in_default-clause-waits : goal.returns-in_default-clause-waits
 returns-in_default-clause-waits g c =
     let same = stays_own g.L.PartitionLog.log g.S.Store.disk g.met.L.PartitionLog.lawful c.args.self.now c.args.tenant c.index_mut-one.result.now c.pass.new.self
-    c.requires.tenant c.index_mut-one.ensures.value c.requires.kept c.in_default.ensures.none.1 c.args.tenant in
+    c.requires.tenant c.index_mut-one.ensures.value c.requires.invariant c.in_default.ensures.none.1 c.args.tenant in
     let was = kept_of (hosted g.L.PartitionLog.log g.S.Store.disk c.args.self.now) c.args.tenant in
     subst (λ (k : Kept). AreTicked was.groups k.groups) (sym same) (λ k. (omega arith, omega arith))
 
@@ -40,38 +40,38 @@ returns-in_default-clause-waits g c =
 pub returns-clause-waits : goal.returns-clause-waits
 returns-clause-waits g c =
     groups_counted g.L.PartitionLog.log g.S.Store.disk g.met.L.PartitionLog.lawful c.args.self.now c.args.tenant c.index_mut-one.result.now c.pass.new.self
-    c.requires.tenant c.index_mut-one.ensures.value c.requires.kept c.count.new.parts
+    c.requires.tenant c.index_mut-one.ensures.value c.requires.invariant c.count.new.parts
     (min (c.refusals-before.result + c.in-Some.refused) END) c.count.ensures
     AreTicked (passed_told c.args.clock c.index_mut-one.result.now.groups c.pass.new.self c.in-Some.refused c.in-Some.ensures.groups)
 
 pub returns-clause-topics : goal.returns-clause-topics
 returns-clause-topics g c =
     topics_counted g.L.PartitionLog.log g.S.Store.disk g.met.L.PartitionLog.lawful c.args.self.now c.args.tenant c.index_mut-one.result.now c.pass.new.self
-    c.requires.tenant c.index_mut-one.ensures.value c.requires.kept c.count.new.parts
+    c.requires.tenant c.index_mut-one.ensures.value c.requires.invariant c.count.new.parts
     (min (c.refusals-before.result + c.in-Some.refused) END) c.count.ensures
 
-pub returns-clause-kept : goal.returns-clause-kept
-returns-clause-kept g c =
+pub returns-clause-invariant : goal.returns-clause-invariant
+returns-clause-invariant g c =
     kept_counted g.L.PartitionLog.log g.S.Store.disk g.met.L.PartitionLog.lawful c.args.self.now c.args.tenant c.index_mut-one.result.now c.pass.new.self
-    c.requires.tenant c.index_mut-one.ensures.value c.requires.kept c.count.new.parts
+    c.requires.tenant c.index_mut-one.ensures.value c.requires.invariant c.count.new.parts
     (min (c.refusals-before.result + c.in-Some.refused) END) c.count.ensures (to_z w64 (of_z w64 c.min-self.result)) (omega (arith, ints, c.min-self.ensures.self_bound))
     (λ files agrees clock le. c.kept_until.ensures files agrees clock (omega (arith, ints, le, c.min-self.ensures.other_bound)))
 
 pub returns-clause-turn : goal.returns-clause-turn
 returns-clause-turn g c =
     turn_counted g.L.PartitionLog.log g.S.Store.disk g.met.L.PartitionLog.lawful c.args.self.now c.args.tenant c.index_mut-one.result.now c.pass.new.self
-    c.requires.tenant c.index_mut-one.ensures.value c.requires.kept c.count.new.parts
+    c.requires.tenant c.index_mut-one.ensures.value c.requires.invariant c.count.new.parts
     (min (c.refusals-before.result + c.in-Some.refused) END) c.count.ensures
 
 pub returns-clause-accounted : goal.returns-clause-accounted
 returns-clause-accounted g c =
     accounted_counted g.L.PartitionLog.log g.S.Store.disk g.met.L.PartitionLog.lawful c.args.self.now c.args.tenant c.index_mut-one.result.now c.pass.new.self
-    c.requires.tenant c.index_mut-one.ensures.value c.requires.kept c.count.new.parts
+    c.requires.tenant c.index_mut-one.ensures.value c.requires.invariant c.count.new.parts
     (min (c.refusals-before.result + c.in-Some.refused) END) c.count.ensures
 
 pub returns-clause-meets : goal.returns-clause-meets
 returns-clause-meets g c =
     met_counted g.L.PartitionLog.log g.S.Store.disk g.met.L.PartitionLog.lawful c.args.self.now c.args.tenant c.index_mut-one.result.now c.pass.new.self
-    c.requires.tenant c.index_mut-one.ensures.value c.requires.kept c.count.new.parts
+    c.requires.tenant c.index_mut-one.ensures.value c.requires.invariant c.count.new.parts
     (min (c.refusals-before.result + c.in-Some.refused) END) c.count.ensures
     c.args.clock c.in-Some.refused (ap (λ k. min (k + c.in-Some.refused) END) c.refusals-before.ensures) c.in-Some.ensures.all

@@ -6,16 +6,16 @@ use Rattle.kb_tenants.proofs.Added.{kept_left, kept_pushed, unknown, unknown_str
 use Rattle.kb_tenants.proofs.Idle.{idle_unknown}
 use Rattle.kb_tenants.proofs.tenants.Tenants.restore.Goals as goal
 
-pub returns-clause-kept : goal.returns-clause-kept
-returns-clause-kept g c =
+pub returns-clause-invariant : goal.returns-clause-invariant
+returns-clause-invariant g c =
     let log = g.L.PartitionLog.log in
     let disk = g.S.Store.disk in
     let x : Tenant g.row.L.Denot = record { name = c.in_ok-from_str.field-0; parts = c.args.parts; groups = c.new.result } in
     let after : Tenants g.row.L.Denot g.row.S.Denot = record c.args.self.now { tenants = c.push.new.self; kept_until = negsuc 0 } in
     kept_pushed log disk c.args.self.now after x c.in_ok-push.ensures.items refl refl c.args.name.now c.in_ok-from_str.ensures.ok c.new.ensures
     c.requires.sound c.requires.apart c.requires.named
-    (λ file stray own. unknown_strays c.args.self.now.strays c.requires.early file stray) (λ known. absurd (unknown c.args.self.now.strays c.requires.early known)) c.requires.agrees (λ honest. idle_unknown (hosted log disk after)) c.requires.kept
+    (λ file stray own. unknown_strays c.args.self.now.strays c.requires.early file stray) (λ known. absurd (unknown c.args.self.now.strays c.requires.early known)) c.requires.agrees (λ honest. idle_unknown (hosted log disk after)) c.requires.invariant
 
-pub returns-in_err-push-clause-kept : goal.returns-in_err-push-clause-kept
-returns-in_err-push-clause-kept g c =
-    kept_left g.L.PartitionLog.log g.S.Store.disk c.args.self.now (record c.args.self.now { tenants = c.push.new.self }) c.in_err-push.ensures.items refl refl refl c.requires.kept
+pub returns-in_err-push-clause-invariant : goal.returns-in_err-push-clause-invariant
+returns-in_err-push-clause-invariant g c =
+    kept_left g.L.PartitionLog.log g.S.Store.disk c.args.self.now (record c.args.self.now { tenants = c.push.new.self }) c.in_err-push.ensures.items refl refl refl c.requires.invariant

@@ -2,7 +2,7 @@ use Rattle.std.proofs.Common.{◌≡◌, true}
 use Rattle.kb_machine.specs.Machine.{work}
 use Rattle.kb_broker.specs.Parked.{AreAmong}
 use Rattle.kb_broker.proofs.Going.{HasGone}
-use Rattle.kb_broker.proofs.engine.Engine.run_known.Given as goal
+use Rattle.kb_broker.proofs.engine.Engine.run_among.Given as goal
 
 -- all that can take a turn are among those, as long as that is known
 abbrev pub invariant-loop-known : goal.invariant-loop-known

@@ -75,12 +75,12 @@ static size_t produce(struct request *r, int messages, int bytes) {
     return batch;
 }
 
-/* Fetches as many batches from an offset on, which stands 12 bytes before the request's end. Where none is there yet it waits for
-   so many milliseconds. */
-static void fetch(struct request *r, size_t batch, int batches, int wait) {
+/* Fetches as many batches from an offset on, which stands 12 bytes before the request's end. Where there are fewer bytes than the
+   least it waits for so many milliseconds. */
+static void fetch(struct request *r, size_t batch, int batches, int least, int wait) {
     uint8_t *p = put(begin(r, 1, 4), -1, 4);
     p = put(p, wait, 4);
-    p = put(p, 1, 4);
+    p = put(p, least, 4);
     p = put(p, batch * batches, 4);
     p = put_place(put(p, 0, 1));
     p = put(p, 0, 8);
@@ -184,8 +184,8 @@ static void throughput(int bytes) {
     double best[3] = {0};
     size_t batch = produce(&make, MESSAGES, bytes);
     int step = 1000000 / batch;
-    fetch(&one, batch, 1, 0);
-    fetch(&many, batch, step, 0);
+    fetch(&one, batch, 1, 1, 0);
+    fetch(&many, batch, step, 1, 0);
     for (int i = 0; i < RUNS; i++) {
         int batches = 0, fetched = 0;
         topic(1);
@@ -250,7 +250,7 @@ static void woken(const char *what, int consumers) {
     }
     topic(0);
     topic(1);
-    fetch(&all, batch, 1, 60000);
+    fetch(&all, batch, 1, 1, 60000);
     for (double end = now() + SECONDS; n < SAMPLES && now() < end; n++) {
         put(all.bytes + all.size - 12, n, 8);
         for (int k = 1; k <= consumers; k++)
@@ -266,6 +266,20 @@ static void woken(const char *what, int consumers) {
     qsort(took, n, sizeof *took, by_size);
     printf("%s|%.0f|%.0f\n", what, took[n / 2], took[n - 1 - n / 100]);
     fflush(stdout);
+}
+
+/* What one message takes while a consumer waits, on the last connection, for more than it may be given at once: 2 GB, of 8 MB. */
+static void patient(const char *what) {
+    static struct request all;
+    if (echo) {
+        printf("%s||\n", what);
+        return;
+    }
+    topic(0);
+    topic(1);
+    fetch(&all, 8 << 20, 1, INT32_MAX, 60000);
+    send_all(sockets[MOST - 1], all.bytes, all.size);
+    latency(what, 1, 0);
 }
 
 /* How long it takes to have that many connections more, each logged in, in microseconds a connection. */
@@ -314,7 +328,7 @@ static void unread(void) {
     topic(1);
     for (int k = 0; k < batches; k++)
         ask(sockets[0], &one);
-    fetch(&all, batch, batches, 0);
+    fetch(&all, batch, batches, 1, 0);
     for (int k = 0; k < 40; k++)
         n = put_bytes(asked + n, (char *)all.bytes, all.size) - asked;
     double before = memory();
@@ -352,6 +366,7 @@ int main(int count, char **words) {
         woken("a consumer waits", 1);
         woken("999 consumers wait", MOST - 1);
         unread();
+        patient("one message while one waits for 2 GB");
         return 0;
     }
     idle("idle, no connection");
@@ -371,5 +386,6 @@ int main(int count, char **words) {
     woken("a consumer waits", 1);
     woken("999 consumers wait", MOST - 1);
     idle("idle, 1000 connections");
+    patient("one message while one waits for 2 GB");
     return 0;
 }

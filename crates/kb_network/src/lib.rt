@@ -6,8 +6,12 @@
 //!
 //! `specs/Partition.antt` says what a partition is and what a fetch is answered, `specs/Consuming.antt` what happens between a
 //! consumer and what keeps that partition, in the same way.
+//!
+//! Both sides name the APIs by the same constants; [`keys_are_the_protocols`] says that these are Kafka's.
 #![tactic(auto)]
 
 mod delivery;
+mod keys;
 
 pub use delivery::{lines_are_given_once, lines_are_stored_once, no_fault_with_the_right_login};
+pub use keys::keys_are_the_protocols;

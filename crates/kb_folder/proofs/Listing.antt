@@ -7,7 +7,6 @@ use Rattle.std.proofs.lemmas.Bool.{cases_eq}
 use Rattle.kb_store.specs.Disk.{Table, Files}
 use Rattle.kb_store.proofs.Maps.{get_inserted, get_other}
 use Rattle.kb_folder.specs.Folder.{AreNumbersOf}
-use Rattle.kb_folder.specs.Store.{AreLengths}
 
 -- each length in the table is that of a file, and the first numbers are in it
 pub record Lists (numbers : List ℕ) (i : ℕ) (files : Files) (table : Table) : Type 0 where
@@ -56,16 +55,6 @@ is_there numbers files k are l = are.only (slice_index_or numbers k 0) (k, l, sa
 is_none : {X : Type 0} (o : Option X) → (IsSome o → ⊥) → o ≡ None
 is_none None h = refl
 is_none (Some x) h = absurd (h refl)
-
-either_some : (t : Option ℕ) (f : Option (List ℕ)) → (IsSome t → t ≡ option_map length f) → (IsSome f → IsSome t) → t ≡ option_map length f
-either_some (Some n) f given there = given refl
-either_some None f given there = sym (ap (option_map length) (is_none f (λ s. let n : IsSome {T = ℕ} None = there s in cc)))
-
--- where the numbers are those of the files, the lengths are those of all
-pub lists_all : (numbers : List ℕ) (files : Files) (table : Table) → AreNumbersOf numbers files → Lists numbers (length numbers) files table → AreLengths table files
-lists_all numbers files table are l q =
-    either_some (get table q) (get files q) (l.given q)
-    (λ some. let at = are.all q some in subst (λ x. IsSome (get table x)) (same_default numbers at.0 0 q at.1 ∙ at.2) (l.listed at.0 at.1))
 
 pub of_length : (o : Option (List ℕ)) (len : ℕ) → IsSome o → len ≡ length (unwrap_or o []) → option_map length o ≡ Some len
 of_length None len some e = absurd cc

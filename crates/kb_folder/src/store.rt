@@ -8,9 +8,9 @@ ghost use Rattle.std.specs.Map.{lookup};
 ghost use Rattle.std.specs.List.{filter_map};
 ghost use Rattle.kb_store.specs.declared.fault.StoreFault.TheVariants.{Device, Memory};
 ghost use Rattle.kb_folder.specs.declared.folder.FolderFault.TheVariants as faults;
-ghost use Rattle.kb_folder.specs.Folder.{AreNumbersOf, Has, Stays};
+ghost use Rattle.kb_folder.specs.Folder.{AreNumbersOf, Stays};
 ghost use Rattle.kb_folder.specs.Names.{numbers_named};
-ghost use Rattle.kb_folder.specs.Store.{Foldered, counted, disk_over, folder_disk, table_of, AreLengths};
+ghost use Rattle.kb_folder.specs.Store.{Foldered, counted, disk_over, table_of, AreLengths};
 
 use crate::name::file_number;
 use crate::{Folder, FolderFault};
@@ -167,7 +167,7 @@ impl<F: Folder> Store for FolderStore<F> {
 
     fn list(&mut self, alloc: Global) -> Result<Vec<u64>, StoreFault>
         ensures numbers { IfOk result (λ numbers. numbers.items ≡ map.keys (disk_over F.contents self.old).table) }
-        ensures kept { Keeps (disk_over F.contents self.old) (disk_over F.contents self.new) }
+        ensures unchanged { Keeps (disk_over F.contents self.old) (disk_over F.contents self.new) }
         ensures cause { HasCause (disk_over F.contents self.old) result (disk_over F.contents self.new) }
         ensures counts { self.new.failures ≡ counted self.old.failures result }
     {
@@ -177,7 +177,7 @@ impl<F: Folder> Store for FolderStore<F> {
     fn len(&mut self, file: u64) -> Result<u64, StoreFault>
         requires { IsThere (disk_over F.contents self.old) file }
         ensures len { IfOk result (λ n. n ≡ len_of (disk_over F.contents self.old) file) }
-        ensures kept { Keeps (disk_over F.contents self.old) (disk_over F.contents self.new) }
+        ensures unchanged { Keeps (disk_over F.contents self.old) (disk_over F.contents self.new) }
         ensures cause { HasCause (disk_over F.contents self.old) result (disk_over F.contents self.new) }
         ensures counts { self.new.failures ≡ counted self.old.failures result }
     {
@@ -230,7 +230,7 @@ impl<F: Folder> Store for FolderStore<F> {
         requires within { at + length buffer.old ≤ len_of (disk_over F.contents self.old) file }
         ensures bytes { OnOk result ((disk_over F.contents self.new).honest
             → buffer.new ≡ take (length buffer.old) (drop at (bytes_of (disk_over F.contents self.old) file))) }
-        ensures kept { Keeps (disk_over F.contents self.old) (disk_over F.contents self.new) }
+        ensures unchanged { Keeps (disk_over F.contents self.old) (disk_over F.contents self.new) }
         ensures cause { HasCause (disk_over F.contents self.old) result (disk_over F.contents self.new) }
         ensures counts { self.new.failures ≡ counted self.old.failures result }
     {

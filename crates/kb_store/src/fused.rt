@@ -1,5 +1,5 @@
 //! A store that refuses chosen calls of another.
-ghost use Rattle.std.specs.Prelude.{◌≡◌, ◌+◌, ◌≤◌, ◌<◌, IfOk, OnOk, OnErr, length, take, drop, None, true, false, if◌then◌else◌, min};
+ghost use Rattle.std.specs.Prelude.{◌≡◌, ◌+◌, ◌≤◌, ◌<◌, IfOk, OnOk, OnErr, length, take, drop, None, true, if◌then◌else◌, min};
 ghost use Rattle.std.specs.FinMap as map;
 
 use crate::{Store, StoreFault};
@@ -92,7 +92,7 @@ impl<S: Store> Store for FusedStore<S> {
 
     fn list(&mut self, alloc: Global) -> Result<Vec<u64>, StoreFault>
         ensures numbers { IfOk result (λ numbers. numbers.items ≡ map.keys (S.disk self.old.store).table) }
-        ensures kept { Keeps (disk_through S.disk self.old) (disk_through S.disk self.new) }
+        ensures unchanged { Keeps (disk_through S.disk self.old) (disk_through S.disk self.new) }
         ensures cause { HasCause (disk_through S.disk self.old) result (disk_through S.disk self.new) }
         ensures counts { Counts self.old result self.new }
     {
@@ -105,7 +105,7 @@ impl<S: Store> Store for FusedStore<S> {
     fn len(&mut self, file: u64) -> Result<u64, StoreFault>
         requires { IsThere (disk_through S.disk self.old) file }
         ensures len { IfOk result (λ n. n ≡ len_of (disk_through S.disk self.old) file) }
-        ensures kept { Keeps (disk_through S.disk self.old) (disk_through S.disk self.new) }
+        ensures unchanged { Keeps (disk_through S.disk self.old) (disk_through S.disk self.new) }
         ensures cause { HasCause (disk_through S.disk self.old) result (disk_through S.disk self.new) }
         ensures counts { Counts self.old result self.new }
     {
@@ -156,7 +156,7 @@ impl<S: Store> Store for FusedStore<S> {
         requires within { at + length buffer.old ≤ len_of (disk_through S.disk self.old) file }
         ensures bytes { OnOk result ((disk_through S.disk self.new).honest
             → buffer.new ≡ take (length buffer.old) (drop at (bytes_of (disk_through S.disk self.old) file))) }
-        ensures kept { Keeps (disk_through S.disk self.old) (disk_through S.disk self.new) }
+        ensures unchanged { Keeps (disk_through S.disk self.old) (disk_through S.disk self.new) }
         ensures cause { HasCause (disk_through S.disk self.old) result (disk_through S.disk self.new) }
         ensures counts { Counts self.old result self.new }
     {

@@ -9,7 +9,7 @@ use std::alloc::Global;
 pub fn read_file<S: Store>(alloc: Global, store: &mut S, file: u64) -> Result<Vec<u8>, StoreFault>
     requires { IsThere (S.disk store.old) file }
     ensures bytes { IfOk result (λ bytes. (S.disk store.new).honest → bytes.items ≡ bytes_of (S.disk store.old) file) }
-    ensures kept { Keeps (S.disk store.old) (S.disk store.new) }
+    ensures unchanged { Keeps (S.disk store.old) (S.disk store.new) }
     ensures cause { HasCause (S.disk store.old) result (S.disk store.new) }
 {
     let len = store.len(file)?;

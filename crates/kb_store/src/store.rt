@@ -1,5 +1,5 @@
 //! A store of numbered files, as its callers see it.
-ghost use Rattle.std.specs.Prelude.{◌≡◌, ◌≤◌, ◌<◌, ◌+◌, ◌⊎◌, ℕ, length, take, drop, None, IfOk, OnOk, OnErr};
+ghost use Rattle.std.specs.Prelude.{◌≡◌, ◌≤◌, ◌<◌, ◌+◌, ◌⊎◌, length, take, drop, None, IfOk, OnOk, OnErr};
 ghost use Rattle.std.specs.FinMap as map;
 ghost use Rattle.kb_store.specs.Disk.{Disk, IsThere, IsLawfulDisk, len_of, bytes_of, Keeps, Creates, Appends, Cuts, Removes, MayCreate};
 ghost use Rattle.kb_store.specs.Disk.{AppendsSome, HasCause};
@@ -23,14 +23,14 @@ pub trait Store {
     /// The numbers of all files, ascending.
     fn list(&mut self, alloc: Global) -> Result<Vec<u64>, StoreFault>
         ensures numbers { IfOk result (λ numbers. numbers.items ≡ map.keys (disk self.old).table) }
-        ensures kept { Keeps (disk self.old) (disk self.new) }
+        ensures unchanged { Keeps (disk self.old) (disk self.new) }
         ensures cause { HasCause (disk self.old) result (disk self.new) };
 
     /// The length of a file.
     fn len(&mut self, file: u64) -> Result<u64, StoreFault>
         requires { IsThere (disk self.old) file }
         ensures len { IfOk result (λ n. n ≡ len_of (disk self.old) file) }
-        ensures kept { Keeps (disk self.old) (disk self.new) }
+        ensures unchanged { Keeps (disk self.old) (disk self.new) }
         ensures cause { HasCause (disk self.old) result (disk self.new) };
 
     /// Makes an empty file. After a refusal it is absent or empty.
@@ -53,7 +53,7 @@ pub trait Store {
         requires within { at + length buffer.old ≤ len_of (disk self.old) file }
         ensures bytes { OnOk result ((disk self.new).honest
             → buffer.new ≡ take (length buffer.old) (drop at (bytes_of (disk self.old) file))) }
-        ensures kept { Keeps (disk self.old) (disk self.new) }
+        ensures unchanged { Keeps (disk self.old) (disk self.new) }
         ensures cause { HasCause (disk self.old) result (disk self.new) };
 
     /// Cuts a file to its first `len` bytes. A refusal changes nothing.

@@ -1,15 +1,12 @@
 -- What an append leaves, by what the log says of it.
-use Rattle.std.proofs.Common.{◌≡◌, ◌∙◌, ◌≤◌, ◌+◌, ◌^◌, ◌↔◌, ℕ, suc, List, [], ◌∷◌, length, map, Result, Ok, Err, OnOk, OnErr, refl, sym, ap, subst, inl, arith}
+use Rattle.std.proofs.Common.{◌≡◌, ◌∙◌, ◌≤◌, ◌+◌, ◌^◌, ◌↔◌, ℕ, suc, List, [], ◌∷◌, length, map, Result, Ok, Err, OnOk, OnErr, refl, sym, ap, subst, arith}
 use Rattle.std.specs.Prelude.{ℤ, pos, IsErrOf}
 use Rattle.kb_batch.specs.Batch.{IsBatch, count_of, records_of, stamped}
 use Rattle.kb_batch.specs.Record.{view_of}
 use Rattle.kb_batch.specs.Header.{base_timestamp_of}
 use Rattle.kb_batch.specs.BatchLaws.{batch_long}
 use Rattle.kb_log.specs.Log.{added}
-use Rattle.std.specs.FinMap.{empty}
-use Rattle.kb_log.specs.ListLog.{IsListed, list_log}
-use Rattle.kb_log.specs.declared.list.ListLog.{ListLog}
-use Rattle.kb_log.specs.OnShelf.{OnShelf, IsNew, IsSound, batches_of, WhereHonest, Frames, BlamesStore}
+use Rattle.kb_log.specs.OnShelf.{OnShelf, batches_of, WhereHonest, BlamesStore}
 use Rattle.kb_log.specs.declared.fault.LogFault.{LogFault}
 use Rattle.kb_log.specs.declared.fault.LogFault.TheVariants as log
 use Rattle.kb_topics.specs.CatalogFault.{of_log}
@@ -25,20 +22,6 @@ length_map f (x ∷ xs) = ap suc (length_map f xs)
 -- a batch that records a command has one record
 pub says_counts : (s : List ℕ) (c : Command) → Says s c → count_of s ≡ 1
 says_counts s c h = sym (length_map (view_of (base_timestamp_of s)) (records_of s)) ∙ ap length h.alone
-
--- what is said of an empty log in memory
-pub new_listed : (l : ListLog) → IsNew (list_log l) → IsListed l
-new_listed l n = n.sound empty 0
-
--- nothing happened
-pub frames_same : (a : OnShelf) → IsSound a → Frames a a
-frames_same a s = record {
-  identity = refl;
-  sound = s;
-  others = record { later = omega arith; honest = λ h. h; owned = λ file o. inl o; lengths = λ file lt no. refl; contents = λ h file lt no. refl };
-  failures = omega arith;
-  agrees = λ h g. g;
-}
 
 pub unchanged_same : (a : OnShelf) → Unchanged a a
 unchanged_same a = record { start = refl; end = refl; kept = λ h g. refl }

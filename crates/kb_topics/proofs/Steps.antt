@@ -30,9 +30,6 @@ le_int x y h = grind (arith, ints, h)
 lt_int_false : (x y : ℤ) → (x <ℤ y → ⊥) → int_lt x y ≡ false
 lt_int_false x y h = grind (arith, ints, h)
 
-lt_int_true : (x y : ℤ) → x <ℤ y → int_lt x y ≡ true
-lt_int_true x y h = grind (arith, ints, h)
-
 int_le_is : (x y : ℤ) → int_le x y ≡ true → x ≤ℤ y
 int_le_is x y h = grind (arith, ints, h)
 
@@ -88,12 +85,6 @@ not_recorded a b old new c answer refusal f none same h = (subst (λ r. IsCause 
 -- a call that was refused before the log was asked
 pub refused : {T : Type 0} (a : OnShelf) (old new : Known) (c : Command) (answer : T) (refusal : Option CatalogFault) (f : CatalogFault) → refusal ≡ Some f → new ≡ old → Records a old c answer refusal (Err f) a new
 refused a old new c answer refusal f some same = (subst (λ r. IsCause a r f a) (sym some) refl, same, unchanged_same a, still a a old new same (unchanged_same a))
-
--- a call that was refused for memory before the log was asked
-pub starved : {T : Type 0} (a : OnShelf) (old new : Known) (c : Command) (answer : T) (refusal : Option CatalogFault) → refusal ≡ None → new ≡ old → Records a old c answer refusal (Err faults.Memory) a new
-starved a old new c answer refusal none same = (subst (λ r. IsCause a r faults.Memory a) (sym none) tt, same, unchanged_same a, still a a old new same (unchanged_same a))
-
--- ---- a topic is made
 
 chain : (legal there count limits many used : Bool) → cond (not legal) (Some faults.Name) (cond there (Some faults.Exists) (cond (not count) (Some faults.Partitions) (cond (not limits) (Some faults.Limit) (cond many (Some faults.TooMany) (cond used (Some faults.Full) None))))) ≡ None → (legal ≡ true) × (there ≡ false) × (count ≡ true) × (limits ≡ true) × (many ≡ false) × (used ≡ false)
 chain false there count limits many used e = absurd cc
@@ -176,9 +167,6 @@ step_issue k m e = rw (own_int (pos k.issues)) (ap Some (sym e))
 pub ids_left : (k : Known) → k.issues < 2 ^ 63 - 1 → issue_refusal k ≡ None
 ids_left k h = grind (arith, h)
 
-pub no_ids_left : (k : Known) → 2 ^ 63 - 1 ≤ k.issues → issue_refusal k ≡ Some faults.UsedUp
-no_ids_left k h = grind (arith, h)
-
 pub step_start : (k m : Known) (i p : ℤ) (offset : ℤ) (part : PartitionState) → partition_at k i p ≡ Some part → (offset <ℤ part.start → ⊥) → IfSome (partition_at k i p) (λ q. m ≡ with_partition k i p (with_start q offset)) → step k (start_command i p offset) ≡ Some m
 step_start k m i p offset part e ahead h =
     let is : m ≡ with_partition k i p (with_start part offset) = subst (λ o. IfSome o (λ q. m ≡ with_partition k i p (with_start q offset))) e h in
@@ -188,12 +176,6 @@ step_start k m i p offset part e ahead h =
 
 pub start_passes : (offset : ℤ) (o : Option PartitionState) (part : PartitionState) → o ≡ Some part → (offset <ℤ part.start → ⊥) → start_refusal offset o ≡ None
 start_passes offset o part e ahead = ap (start_refusal offset) e ∙ ap (λ b. cond b (Some faults.Back) None) (lt_int_false offset part.start ahead)
-
-pub start_back : (offset : ℤ) (o : Option PartitionState) (part : PartitionState) → o ≡ Some part → offset <ℤ part.start → start_refusal offset o ≡ Some faults.Back
-start_back offset o part e behind = ap (start_refusal offset) e ∙ ap (λ b. cond b (Some faults.Back) None) (lt_int_true offset part.start behind)
-
-pub start_unknown : (offset : ℤ) (o : Option PartitionState) → o ≡ None → start_refusal offset o ≡ Some faults.Unknown
-start_unknown offset o e = ap (start_refusal offset) e
 
 pub on_ok : {T E P : Type 0} (r : Result T E) → is_err r ≡ false → OnOk r P → P
 on_ok (Ok x) e p = p

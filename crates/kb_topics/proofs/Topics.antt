@@ -1,6 +1,6 @@
 -- What a catalog's topics are after a change.
-use Rattle.std.proofs.Common.{◌≡◌, ◌∙◌, ◌+◌, ◌<◌, ℕ, zero, suc, cond, List, [], ◌∷◌, ◌++◌, Option, Some, None, Result, Ok, Err, OnOk, OnErr, IfOk, inl, inr, refl, sym, ap, subst, length, arith}
-use Rattle.std.specs.Prelude.{pos, replicate, slice_get, slice_index_or, IsSome, IfSome, MatchOption}
+use Rattle.std.proofs.Common.{◌≡◌, ◌∙◌, ◌+◌, ℕ, zero, suc, cond, List, [], ◌∷◌, ◌++◌, Option, Some, None, Result, Ok, Err, OnOk, OnErr, IfOk, inl, inr, refl, sym, ap, subst, arith}
+use Rattle.std.specs.Prelude.{pos, replicate, slice_get, slice_index_or, IfSome, MatchOption}
 use Rattle.std.specs.Ordering.{nat_cmp}
 use Rattle.std.specs.Map.{keys_of, remove_entry, set_value}
 use Rattle.std.specs.BTreeMap.{BTreeMap, get_by_text, is_at, insert_entry}
@@ -28,14 +28,6 @@ found_part : (ps : List PartitionState) (m : ℕ) (part : PartitionState) → sl
 found_part [] m part e = absurd cc
 found_part (p ∷ ps) zero part e = cc
 found_part (p ∷ ps) (suc m) part e = found_part ps m part e
-
-part_within : (ps : List PartitionState) (m : ℕ) → IsSome (slice_get ps m) → m < length ps
-part_within [] m e = absurd cc
-part_within (p ∷ ps) zero e = omega arith
-part_within (p ∷ ps) (suc m) e = let lt = part_within ps m e in omega arith
-
-pub there_within : (k : Known) (n m : ℕ) (t : TopicState) → topic_at n k.topics ≡ Some t → IsSome (partition_at k (pos n) (pos m)) → m < length t.partitions
-there_within k n m t e some = part_within t.partitions m (subst (λ o. IsSome (option_and_then (λ (u : TopicState). slice_get u.partitions m) o)) e some)
 
 part_put : (k : Known) (n m : ℕ) (new : PartitionState → PartitionState) (t : TopicState) (ts' : List (ℕ × TopicState)) (o : Option PartitionState) → topic_at n k.topics ≡ Some t → ts' ≡ set_value (is_at (nat_cmp n)) k.topics (with_part m (new (slice_index_or t.partitions m new_partition)) t) → slice_get t.partitions m ≡ o → IfSome o (λ part. record k { topics = ts' } ≡ with_partition k (pos n) (pos m) (new part))
 part_put k n m new t ts' None e f g = tt

@@ -96,7 +96,7 @@ impl ConfigReader {
     pub fn read(&mut self, name: &str, value: Option<&str>) -> bool
         ensures taken { result ≡ true → with_entry self.old (entry_of name.now (option_copied value.entry)) ≡ Some self.new }
         ensures refused { result ≡ false → with_entry self.old (entry_of name.now (option_copied value.entry)) ≡ None }
-        ensures kept { result ≡ false → self.new ≡ self.old }
+        ensures unchanged { result ≡ false → self.new ≡ self.old }
     {
         match config_entry(name, value) {
             Some(ConfigEntry::RetentionMs(limit)) if self.retention_ms.is_none() => {

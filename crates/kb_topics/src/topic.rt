@@ -1,5 +1,5 @@
 //! A topic of the catalog, its partitions, and what groups committed to them.
-ghost use Rattle.std.specs.Prelude.{◌≡◌, ◌<◌, pos, length, slice_get, slice_set, slice_index_or, replicate, OnOk, OnErr, IfOk};
+ghost use Rattle.std.specs.Prelude.{◌≡◌, ◌<◌, pos, length, slice_index_or, replicate, OnOk, OnErr, IfOk};
 ghost use Rattle.std.specs.Option.{option_copied};
 ghost use Rattle.std.specs.String.{string_bytes};
 ghost use Rattle.kb_topics.specs.Known.{CommittedOffset, PartitionState, TopicState, new_partition, new_topic, committed_at, with_part};

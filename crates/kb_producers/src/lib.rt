@@ -13,7 +13,6 @@ mod recent;
 mod table;
 mod verdict;
 
-pub use judge::last_sequence;
 pub use kept::Kept;
 pub use table::ProducerTable;
 pub use verdict::Verdict;

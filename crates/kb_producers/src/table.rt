@@ -19,7 +19,7 @@ pub struct ProducerTable {
 }
 
 impl Model for ProducerTable {
-    ghost use Rattle.std.specs.Prelude.{ℕ, ◌-◌, min};
+    ghost use Rattle.std.specs.Prelude.{◌-◌, min};
     ghost use Rattle.std.specs.Ordering.{int_eq};
     ghost use Rattle.std.specs.VecDeque.{deque_len, deque_capacity};
     ghost use Rattle.std.specs.HashMap.{get, spare};
@@ -59,7 +59,7 @@ impl ProducerTable {
     /// Asks for the memory that one more batch takes.
     pub fn reserve(&mut self) -> Result<(), AllocError>
         ensures ok { OnOk result (1 ≤ self.new.room) }
-        ensures kept { self.new.kept ≡ self.old.kept }
+        ensures unchanged { self.new.kept ≡ self.old.kept }
         ensures room { self.old.room ≤ self.new.room }
     {
         self.list.reserve(1)?;

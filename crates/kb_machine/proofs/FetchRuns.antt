@@ -6,7 +6,7 @@ use Rattle.kb_world.specs.World as tenants
 use Rattle.kb_world.specs.Calls.{all_places, retain, retain_each}
 use Rattle.kb_world.specs.declared.topic_partition.TopicPartition.{TopicPartition}
 use Rattle.kb_tenant.specs.Batches.{HasSmallLogs}
-use Rattle.kb_service.specs.Hosted.{Kept, left, passed, world_at}
+use Rattle.kb_service.specs.Hosted.{Kept, left, passed}
 use Rattle.kb_tenant.proofs.Small.{retained_small}
 use Rattle.kb_service.proofs.Laws.{served_small}
 use Rattle.kb_machine.specs.Requests.{Asked, Versions, OtherVersions, Handshake, Authenticate, Another, Malformed, request}
@@ -20,53 +20,53 @@ use Rattle.kb_machine.proofs.Fetches.{served-batches, woken-batches}
 
 -- the logs of what the tenant keeps are within their limits
 abbrev IsSmall : View → Type 0
-IsSmall w = HasSmallLogs (world_at w.kept w.clock)
+IsSmall w = HasSmallLogs w.kept.world
 
 -- 1. Logs stay within their limits
 
-each-small : (places : List TopicPartition) (w : tenants.World) → HasSmallLogs w → HasSmallLogs (retain_each places w).0
-each-small [] w small = small
-each-small (place ∷ places) w small = each-small places (retain w place).0 (retained_small w place small)
+each-small : (clock : ℕ) (places : List TopicPartition) (w : tenants.World) → HasSmallLogs w → HasSmallLogs (retain_each clock places w).0
+each-small clock [] w small = small
+each-small clock (place ∷ places) w small = each-small clock places (retain clock w place).0 (retained_small clock w place small)
 
-small-passed : (clock : ℕ) (kept : Kept) → HasSmallLogs (world_at kept clock) → HasSmallLogs (world_at (passed clock kept) clock)
+small-passed : (clock : ℕ) (kept : Kept) → HasSmallLogs kept.world → HasSmallLogs (passed clock kept).world
 unfolding passed
-small-passed clock kept small = each-small (all_places (world_at kept clock)) (world_at kept clock) small
+small-passed clock kept small = each-small clock (all_places kept.world) kept.world small
 
-small-left : (clock n : ℕ) (kept : Kept) → HasSmallLogs (world_at kept clock) → HasSmallLogs (world_at (left clock n kept) clock)
+small-left : (clock n : ℕ) (kept : Kept) → HasSmallLogs kept.world → HasSmallLogs (left clock n kept).world
 unfolding left
 small-left clock n kept small = small
 
-small-if : (clock : ℕ) (b : Bool) (k l : Kept) → HasSmallLogs (world_at k clock) → HasSmallLogs (world_at l clock) → HasSmallLogs (world_at (cond b k l) clock)
-small-if clock true k l small also = small
-small-if clock false k l small also = also
+small-if : (b : Bool) (k l : Kept) → HasSmallLogs k.world → HasSmallLogs l.world → HasSmallLogs (cond b k l).world
+small-if true k l small also = small
+small-if false k l small also = also
 
-small-without : (clock n : ℕ) (stage : Stage) (kept : Kept) → HasSmallLogs (world_at kept clock) → HasSmallLogs (world_at (kept_without clock n stage kept) clock)
-small-without clock n stage kept small = small-if clock (has_member stage) (left clock n kept) kept (small-left clock n kept small) small
+small-without : (clock n : ℕ) (stage : Stage) (kept : Kept) → HasSmallLogs kept.world → HasSmallLogs (kept_without clock n stage kept).world
+small-without clock n stage kept small = small-if (has_member stage) (left clock n kept) kept (small-left clock n kept small) small
 
-small-closed : (clock n : ℕ) (o : Option Session) (kept : Kept) → HasSmallLogs (world_at kept clock) → HasSmallLogs (world_at (kept_closed clock n o kept) clock)
+small-closed : (clock n : ℕ) (o : Option Session) (kept : Kept) → HasSmallLogs kept.world → HasSmallLogs (kept_closed clock n o kept).world
 small-closed clock n None kept small = small
 small-closed clock n (Some s) kept small = small-without clock n s.stage kept small
 
-small-fed : (piece : List ℕ) (clock n : ℕ) (o : Option Session) (kept : Kept) → HasSmallLogs (world_at kept clock) → HasSmallLogs (world_at (kept_fed piece clock n o kept) clock)
+small-fed : (piece : List ℕ) (clock n : ℕ) (o : Option Session) (kept : Kept) → HasSmallLogs kept.world → HasSmallLogs (kept_fed piece clock n o kept).world
 small-fed piece clock n None kept small = small
-small-fed piece clock n (Some s) kept small = small-if clock (overruns piece s) (kept_without clock n s.stage kept) kept (small-without clock n s.stage kept small) small
+small-fed piece clock n (Some s) kept small = small-if (overruns piece s) (kept_without clock n s.stage kept) kept (small-without clock n s.stage kept small) small
 
-small-by : (setup : Setup) (kept : Kept) (clock n : ℕ) (a : Asked) → HasSmallLogs (world_at kept clock) → HasSmallLogs (world_at (kept_by setup kept clock n a) clock)
+small-by : (setup : Setup) (kept : Kept) (clock n : ℕ) (a : Asked) → HasSmallLogs kept.world → HasSmallLogs (kept_by setup kept clock n a).world
 unfolding kept_after
 small-by setup kept clock n Versions small = small
 small-by setup kept clock n OtherVersions small = small
 small-by setup kept clock n (Handshake version mechanism) small = small
 small-by setup kept clock n (Authenticate message) small = small
-small-by setup kept clock n (Another key version body) small = served_small setup.node (world_at kept clock) kept.groups n key version body small
+small-by setup kept clock n (Another key version body) small = served_small setup.node kept.world clock kept.groups n key version body small
 small-by setup kept clock n Malformed small = small
 
-small-at : (setup : Setup) (kept : Kept) (clock n : ℕ) (f : Front) → HasSmallLogs (world_at kept clock) → HasSmallLogs (world_at (kept_at setup kept clock n f) clock)
+small-at : (setup : Setup) (kept : Kept) (clock n : ℕ) (f : Front) → HasSmallLogs kept.world → HasSmallLogs (kept_at setup kept clock n f).world
 small-at setup kept clock n (Whole frame rest) small = small-by setup kept clock n (request setup.versions frame).asked small
 small-at setup kept clock n TooSmall small = small
 small-at setup kept clock n TooLarge small = small
 small-at setup kept clock n Partial small = small
 
-small-put : (setup : Setup) (kept : Kept) (clock n : ℕ) (unread : List ℕ) → HasSmallLogs (world_at kept clock) → HasSmallLogs (world_at (put setup kept clock n unread) clock)
+small-put : (setup : Setup) (kept : Kept) (clock n : ℕ) (unread : List ℕ) → HasSmallLogs kept.world → HasSmallLogs (put setup kept clock n unread).world
 unfolding put
 small-put setup kept clock n unread small = small-at setup kept clock n (front unread) small
 

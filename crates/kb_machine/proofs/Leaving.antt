@@ -3,7 +3,7 @@ use Rattle.std.proofs.Common.{◌≡◌, ◌≢◌, ℕ, zero, suc, List, [], �
 use Rattle.std.specs.Prelude.{cond}
 use Rattle.std.specs.List.{AllByRecursion}
 use Rattle.std.proofs.lemmas.Bool.Decides.{nat_tests}
-use Rattle.kb_service.specs.Hosted.{Kept, TenantState, kept_of, refusals_of, names_of, left, world_at}
+use Rattle.kb_service.specs.Hosted.{Kept, TenantState, kept_of, refusals_of, names_of, left}
 use Rattle.kb_service.specs.Turns.{with_kept}
 use Rattle.kb_machine.specs.Tenant.{Wait, Awaited, Records, Group, ready, ready_for, asked, asked_for}
 use Rattle.kb_machine.specs.Session.{Stage, Greets, BoundTo, Session, has_member, overruns}
@@ -15,11 +15,6 @@ use Rattle.kb_machine.proofs.Owners.{IsBound, IsMine, mine-bound}
 use Rattle.kb_machine.proofs.Parts.{each-tenant, eqb_same, eqb_other}
 
 -- 1. What is kept
-
--- topics and logs stay
-pub world-left : (clock n at : ℕ) (kept : Kept) → world_at (left clock n kept) at ≡ world_at kept at
-unfolding left
-world-left clock n at kept = refl
 
 -- nothing becomes ready
 pub ready-left : (clock n : ℕ) (kept : Kept) (at k : ℕ) (w : Wait) → ready (left clock n kept) at k w ≡ ready kept at k w

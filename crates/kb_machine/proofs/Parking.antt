@@ -10,7 +10,7 @@ use Rattle.kb_api_data.specs.declared.fetch.FetchRequest.{FetchRequest}
 use Rattle.kb_api_data.specs.declared.fetch_v5.FetchReplyV5.{FetchReplyV5}
 use Rattle.kb_api_group.specs.Layouts.{heartbeat_request, join_group_request, leave_group_request, offset_commit_request, sync_group_request}
 use Rattle.kb_coordinator.specs.Calls.{is_accepted, join_code, sync_answer}
-use Rattle.kb_coordinator.specs.Groups.{Groups, silent}
+use Rattle.kb_coordinator.specs.Groups.{Groups}
 use Rattle.kb_groups.specs.declared.reply.SyncAnswer.{SyncAnswer}
 use Rattle.kb_groups.specs.declared.reply.SyncAnswer.TheVariants as sync
 use Rattle.kb_world.specs.World.{World}
@@ -23,7 +23,6 @@ use Rattle.kb_tenant.specs.Serve as tenant
 use Rattle.kb_tenant.specs.Serve.{stays, fetch_reaction, of_fetch, looked, looked_at}
 use Rattle.kb_tenant.specs.declared.node.Node.{Node}
 use Rattle.kb_tenant.proofs.ByRequest.{by_request}
-use Rattle.kb_service.specs.Hosted.{Kept, kept_in, world_at}
 use Rattle.kb_service.specs.Replies.{Plain, Rebalances, replies}
 use Rattle.kb_service.specs.Serve.{Outcome, if_read, of_groups, of_heartbeat, of_join, of_leave, of_offset_commit, of_sync, of_topics, sync_reaction, served}
 use Rattle.kb_machine.specs.Tenant.{asked_in}
@@ -35,41 +34,40 @@ abbrev pub told_as : ℤ → Option FetchReplyV5 → Reaction
 told_as version o = elim o [ Some reply ↦ Replies (fetched_in version reply) | None ↦ Silent ]
 
 -- a request that is to wait would be told nothing at once, and waits for what it asks for
-pub record IsParked (version : ℤ) (body : List ℕ) (clock : ℕ) (v : World) (gs : Groups) (deadline : ℕ) (places : List TopicPartition) : Type 0 where
-  pub silent : looked (world_at (kept_in v gs) clock) deadline version body ≡ Silent
+pub record IsParked (version : ℤ) (body : List ℕ) (clock : ℕ) (v : World) (deadline : ℕ) (places : List TopicPartition) : Type 0 where
+  pub silent : looked v clock deadline version body ≡ Silent
   pub asks : places ≡ asked_in v (asked_fetch version body)
 
-abbrev ParksPlain : ℤ → List ℕ → ℕ → Groups → tenant.Outcome → Type 0
-ParksPlain version body clock gs o = (deadline : ℕ) (places : List TopicPartition) → o.reaction ≡ Waits deadline places → IsParked version body clock o.world gs deadline places
+abbrev ParksPlain : ℤ → List ℕ → ℕ → tenant.Outcome → Type 0
+ParksPlain version body clock o = (deadline : ℕ) (places : List TopicPartition) → o.reaction ≡ Waits deadline places → IsParked version body clock o.world deadline places
 
-produce-parks : (version : ℤ) (body : List ℕ) (clock : ℕ) (gs : Groups) (v : World) (touched : List TopicPartition) (reply : List ℕ) (b : Bool) → ParksPlain version body clock gs (record { world = v; touched = touched; reaction = cond b (Replies reply) Silent })
-produce-parks version body clock gs v touched reply true deadline places e = absurd (cc)
-produce-parks version body clock gs v touched reply false deadline places e = absurd (cc)
+produce-parks : (version : ℤ) (body : List ℕ) (clock : ℕ) (v : World) (touched : List TopicPartition) (reply : List ℕ) (b : Bool) → ParksPlain version body clock (record { world = v; touched = touched; reaction = cond b (Replies reply) Silent })
+produce-parks version body clock v touched reply true deadline places e = absurd (cc)
+produce-parks version body clock v touched reply false deadline places e = absurd (cc)
 
-plain-either : (version : ℤ) (body : List ℕ) (clock : ℕ) (gs : Groups) (b : Bool) (o p : tenant.Outcome) → ParksPlain version body clock gs o → ParksPlain version body clock gs p → ParksPlain version body clock gs (if b then o else p)
-plain-either version body clock gs true o p first second = first
-plain-either version body clock gs false o p first second = second
+plain-either : (version : ℤ) (body : List ℕ) (clock : ℕ) (b : Bool) (o p : tenant.Outcome) → ParksPlain version body clock o → ParksPlain version body clock p → ParksPlain version body clock (if b then o else p)
+plain-either version body clock true o p first second = first
+plain-either version body clock false o p first second = second
 
-fetch-parks : (k : Kept) (clock : ℕ) (gs : Groups) (version : ℤ) (body : List ℕ) (r : FetchRequest) → asked_fetch version body ≡ Ok r → ParksPlain version body clock gs (of_fetch version (world_at k clock) r)
+fetch-parks : (w : World) (clock : ℕ) (version : ℤ) (body : List ℕ) (r : FetchRequest) → asked_fetch version body ≡ Ok r → ParksPlain version body clock (of_fetch version w clock r)
 unfolding looked
-fetch-parks k clock gs version body r read = by (fetch_answer (world_at k clock) r (deadline_of (world_at k clock) r)) refl
+fetch-parks w clock version body r read = by (fetch_answer w clock r (deadline_of clock r)) refl
   where
-    by : (o : Option FetchReplyV5) → fetch_answer (world_at k clock) r (deadline_of (world_at k clock) r) ≡ o → ParksPlain version body clock gs (stays (world_at k clock) (fetch_reaction version (world_at k clock) r o))
+    by : (o : Option FetchReplyV5) → fetch_answer w clock r (deadline_of clock r) ≡ o → ParksPlain version body clock (stays w (fetch_reaction version w clock r o))
     by (Some reply) e deadline places f = absurd (cc)
     by None e deadline places f =
-        let until : deadline_of (world_at k clock) r ≡ deadline = cc in
-        let same : places_of (world_at k clock) r ≡ places = cc in
+        let until : deadline_of clock r ≡ deadline = cc in
+        let same : places_of w r ≡ places = cc in
         record {
-          silent = ap (looked_at (world_at k clock) deadline version) read ∙ ap (told_as version) (subst (λ d. fetch_answer (world_at k clock) r d ≡ None) until e);
-          asks = sym same ∙ sym (ap (asked_in (world_at k clock)) read);
+          silent = ap (looked_at w clock deadline version) read ∙ ap (told_as version) (subst (λ d. fetch_answer w clock r d ≡ None) until e);
+          asks = sym same ∙ sym (ap (asked_in w) read);
         }
 
-plain-parks : (node : Node) (k : Kept) (clock n : ℕ) (gs : Groups) (key version : ℤ) (body : List ℕ) → ParksPlain version body clock gs (tenant.plainly_served node (world_at k clock) n key version body)
-plain-parks node k clock n gs key version body =
-    let w = world_at k clock in
-    by_request (ParksPlain version body clock gs) node w n key version body (record {
-      produce = λ r read. produce-parks version body clock gs (produced w [] r).0.world (produced w [] r).0.touched (produce_reply.written (produced w [] r).1) (is_due r.acks);
-      fetch = λ r read. fetch-parks k clock gs version body r read;
+plain-parks : (node : Node) (w : World) (clock n : ℕ) (key version : ℤ) (body : List ℕ) → ParksPlain version body clock (tenant.plainly_served node w clock n key version body)
+plain-parks node w clock n key version body =
+    by_request (ParksPlain version body clock) node w clock n key version body (record {
+      produce = λ r read. produce-parks version body clock (produced w [] r).0.world (produced w [] r).0.touched (produce_reply.written (produced w [] r).1) (is_due r.acks);
+      fetch = λ r read. fetch-parks w clock version body r read;
       list_offsets = λ r read deadline places e. absurd (cc);
       metadata = λ r read deadline places e. absurd (cc);
       offset_commit = λ r read deadline places e. absurd (cc);
@@ -77,7 +75,7 @@ plain-parks node k clock n gs key version body =
       find_coordinator = λ r read deadline places e. absurd (cc);
       create_topics = λ r read.
           let made = created_all w (made_of r) in
-          plain-either version body clock gs r.validate_only (stays w (Replies (creations_in version (checked_all w r.topics)))) (record { world = made.0; touched = []; reaction = Replies (creations_in version made.1) })
+          plain-either version body clock r.validate_only (stays w (Replies (creations_in version (checked_all w r.topics)))) (record { world = made.0; touched = []; reaction = Replies (creations_in version made.1) })
           (λ deadline places e. absurd (cc)) (λ deadline places e. absurd (cc));
       delete_topics = λ r read deadline places e. absurd (cc);
       delete_records = λ r read deadline places e. absurd (cc);
@@ -88,7 +86,7 @@ plain-parks node k clock n gs key version body =
 -- 2. Any request
 
 abbrev pub Parks : ℤ → List ℕ → ℕ → Outcome → Type 0
-Parks version body clock o = (deadline : ℕ) (places : List TopicPartition) → o.reaction ≡ Plain (Waits deadline places) → IsParked version body clock o.world o.groups deadline places
+Parks version body clock o = (deadline : ℕ) (places : List TopicPartition) → o.reaction ≡ Plain (Waits deadline places) → IsParked version body clock o.world deadline places
 
 read-parks : {A : Type 0} (version : ℤ) (body : List ℕ) (clock : ℕ) (w : World) (gs : Groups) (r : Result A WireFault) (f : A → Outcome) → ((a : A) → Parks version body clock (f a)) → Parks version body clock (if_read w gs r f)
 read-parks version body clock w gs (Ok a) f each = each a
@@ -108,27 +106,25 @@ sync-parks version body clock w gs (sync.Got assignment) deadline places e = abs
 sync-parks version body clock w gs sync.Waits deadline places e = absurd (cc)
 
 -- one that is for no group
-topics-parks : (node : Node) (k : Kept) (clock n : ℕ) (key version : ℤ) (body : List ℕ) → Parks version body clock (of_topics k.groups (tenant.plainly_served node (world_at k clock) n key version body))
-topics-parks node k clock n key version body deadline places e = (let f : (tenant.plainly_served node (world_at k clock) n key version body).reaction ≡ Waits deadline places = cc in plain-parks node k clock n (silent k.groups) key version body deadline places f)
+topics-parks : (node : Node) (w : World) (clock : ℕ) (gs : Groups) (n : ℕ) (key version : ℤ) (body : List ℕ) → Parks version body clock (of_topics gs (tenant.plainly_served node w clock n key version body))
+topics-parks node w clock gs n key version body deadline places e = (let f : (tenant.plainly_served node w clock n key version body).reaction ≡ Waits deadline places = cc in plain-parks node w clock n key version body deadline places f)
 
-pub parks : (node : Node) (k : Kept) (clock n : ℕ) (key version : ℤ) (body : List ℕ) → Parks version body clock (served node (world_at k clock) k.groups n key version body)
+pub parks : (node : Node) (w : World) (clock : ℕ) (gs : Groups) (n : ℕ) (key version : ℤ) (body : List ℕ) → Parks version body clock (served node w clock gs n key version body)
 unfolding served
-parks node k clock n key version body =
-    let w = world_at k clock in
-    let gs = k.groups in
-    let others : Outcome = of_topics gs (tenant.plainly_served node w n key version body) in
-    let syncs : Outcome = if_read w gs (whole sync_group_request body) (of_sync w n gs) in
-    let leaves : Outcome = if_read w gs (whole leave_group_request body) (of_leave w gs) in
-    let beats : Outcome = if_read w gs (whole heartbeat_request body) (of_heartbeat w gs) in
-    let joins : Outcome = if_read w gs (whole join_group_request body) (of_join w n gs) in
-    let commits : Outcome = if_read w gs (whole offset_commit_request body) (of_offset_commit w gs) in
+parks node w clock gs n key version body =
+    let others : Outcome = of_topics gs (tenant.plainly_served node w clock n key version body) in
+    let syncs : Outcome = if_read w gs (whole sync_group_request body) (of_sync w clock n gs) in
+    let leaves : Outcome = if_read w gs (whole leave_group_request body) (of_leave w clock gs) in
+    let beats : Outcome = if_read w gs (whole heartbeat_request body) (of_heartbeat w clock gs) in
+    let joins : Outcome = if_read w gs (whole join_group_request body) (of_join w clock n gs) in
+    let commits : Outcome = if_read w gs (whole offset_commit_request body) (of_offset_commit w clock gs) in
     let from_sync : Outcome = if int_eq key SYNC_GROUP then syncs else others in
     let from_leave : Outcome = if int_eq key LEAVE_GROUP then leaves else from_sync in
     let from_heartbeat : Outcome = if int_eq key HEARTBEAT then beats else from_leave in
     let from_join : Outcome = if int_eq key JOIN_GROUP then joins else from_heartbeat in
-    either version body clock (int_eq key OFFSET_COMMIT) commits from_join (read-parks version body clock w gs (whole offset_commit_request body) (of_offset_commit w gs) (λ r deadline places e. absurd (cc)))
-    (either version body clock (int_eq key JOIN_GROUP) joins from_heartbeat (read-parks version body clock w gs (whole join_group_request body) (of_join w n gs) (λ r. join-parks version body clock w (of_join w n gs r).groups (is_accepted (join_code n r gs)) _))
-    (either version body clock (int_eq key HEARTBEAT) beats from_leave (read-parks version body clock w gs (whole heartbeat_request body) (of_heartbeat w gs) (λ r deadline places e. absurd (cc)))
-    (either version body clock (int_eq key LEAVE_GROUP) leaves from_sync (read-parks version body clock w gs (whole leave_group_request body) (of_leave w gs) (λ r deadline places e. absurd (cc)))
-    (either version body clock (int_eq key SYNC_GROUP) syncs others (read-parks version body clock w gs (whole sync_group_request body) (of_sync w n gs) (λ r. sync-parks version body clock w (of_sync w n gs r).groups (sync_answer w.clock n r gs)))
-    (topics-parks node k clock n key version body)))))
+    either version body clock (int_eq key OFFSET_COMMIT) commits from_join (read-parks version body clock w gs (whole offset_commit_request body) (of_offset_commit w clock gs) (λ r deadline places e. absurd (cc)))
+    (either version body clock (int_eq key JOIN_GROUP) joins from_heartbeat (read-parks version body clock w gs (whole join_group_request body) (of_join w clock n gs) (λ r. join-parks version body clock w (of_join w clock n gs r).groups (is_accepted (join_code n r gs)) _))
+    (either version body clock (int_eq key HEARTBEAT) beats from_leave (read-parks version body clock w gs (whole heartbeat_request body) (of_heartbeat w clock gs) (λ r deadline places e. absurd (cc)))
+    (either version body clock (int_eq key LEAVE_GROUP) leaves from_sync (read-parks version body clock w gs (whole leave_group_request body) (of_leave w clock gs) (λ r deadline places e. absurd (cc)))
+    (either version body clock (int_eq key SYNC_GROUP) syncs others (read-parks version body clock w gs (whole sync_group_request body) (of_sync w clock n gs) (λ r. sync-parks version body clock w (of_sync w clock n gs r).groups (sync_answer clock n r gs)))
+    (topics-parks node w clock gs n key version body)))))

@@ -1,6 +1,6 @@
 -- A request makes no waiting request ready that its group does not answer and that waits for no partition that it touched, and one that
 -- waits on asks for the same partitions.
-use Rattle.std.proofs.Common.{◌≡◌, ◌+◌, eqb, ℕ, ℤ, List, [], ◌∷◌, length, true, false, Option, Some, None, refl, sym, ◌∙◌, ap, subst, arith}
+use Rattle.std.proofs.Common.{◌≡◌, ◌<◌, ◌+◌, eqb, ℕ, ℤ, List, [], ◌∷◌, length, true, false, Option, Some, None, refl, sym, ◌∙◌, ap, subst, arith}
 use Rattle.std.specs.Prelude.{nat_le, Result, Ok, Err}
 use Rattle.std.proofs.lemmas.Bool.Decides.{nat_tests}
 use Rattle.kb_wire.specs.declared.fault.WireFault.{WireFault}
@@ -16,7 +16,7 @@ use Rattle.kb_tenant.specs.Fetch.{asked_fetch, fetch_answer, places_of}
 use Rattle.kb_tenant.specs.Replies.{Replies, Waits, Silent, Shuts}
 use Rattle.kb_tenant.specs.Serve.{looked, looked_at}
 use Rattle.kb_service.specs.Hosted as hosted
-use Rattle.kb_service.specs.Hosted.{Kept, TenantState, kept_in, passed, world_at}
+use Rattle.kb_service.specs.Hosted.{Kept, TenantState, passed}
 use Rattle.kb_service.specs.Turns.{IsTurn}
 use Rattle.kb_service.specs.Replies as service
 use Rattle.kb_service.specs.Replies.{Reaction, Plain, Rebalances, told_to}
@@ -25,7 +25,7 @@ use Rattle.kb_world.specs.Tied.{IsTied}
 use Rattle.kb_tenant.specs.Waiting.{AreApart, HasOwnNames}
 use Rattle.kb_tenant.specs.declared.node.Node.{Node}
 use Rattle.kb_tenant.proofs.Again.{retained_again}
-use Rattle.kb_tenant.proofs.Asked.{before_end, waits_at, waits_until}
+use Rattle.kb_tenant.proofs.Asked.{before_end, waits_until}
 use Rattle.kb_service.proofs.Laws.{served_again, served_waits}
 use Rattle.kb_machine.specs.Tenant.{Wait, Awaited, Records, Group, ready, ready_for, asked, asked_in, asked_for, kept_after, answer}
 use Rattle.kb_machine.specs.Greeting.{Setup}
@@ -45,18 +45,20 @@ pub silent-none : (version : ℤ) (o : Option FetchReplyV5) → told_as version 
 silent-none version (Some reply) h = absurd (cc)
 silent-none version None h = refl
 
--- a fetch that is not ready is not ready in another world, if what its body asks has no answer there either
-silent-there : (w v : World) (deadline : ℕ) (version : ℤ) (body : List ℕ) → ((r : FetchRequest) → asked_fetch version body ≡ Ok r → fetch_answer w r deadline ≡ None → fetch_answer v r deadline ≡ None) → looked w deadline version body ≡ Silent → looked v deadline version body ≡ Silent
+-- a fetch that is not ready is not ready in another world or at another time, if what its body asks has no answer then either
+silent-there : (w v : World) (clock now deadline : ℕ) (version : ℤ) (body : List ℕ) → ((r : FetchRequest) → asked_fetch version body ≡ Ok r → fetch_answer w clock r deadline ≡ None → fetch_answer v now r deadline ≡ None)
+    → looked w clock deadline version body ≡ Silent → looked v now deadline version body ≡ Silent
 unfolding looked
-silent-there w v deadline version body none e = by (asked_fetch version body) refl e
+silent-there w v clock now deadline version body none e = by (asked_fetch version body) refl e
   where
-    by : (r : Result FetchRequest WireFault) → asked_fetch version body ≡ r → looked_at w deadline version r ≡ Silent → looked_at v deadline version r ≡ Silent
-    by (Ok r) read h = ap (told_as version) (none r read (silent-none version (fetch_answer w r deadline) h))
+    by : (r : Result FetchRequest WireFault) → asked_fetch version body ≡ r → looked_at w clock deadline version r ≡ Silent → looked_at v now deadline version r ≡ Silent
+    by (Ok r) read h = ap (told_as version) (none r read (silent-none version (fetch_answer w clock r deadline) h))
     by (Err fault) read h = absurd (cc)
 
--- the same, if nothing that has no answer here has one there
-pub still-silent : (w v : World) (deadline : ℕ) (version : ℤ) (body : List ℕ) → ((r : FetchRequest) → fetch_answer w r deadline ≡ None → fetch_answer v r deadline ≡ None) → looked w deadline version body ≡ Silent → looked v deadline version body ≡ Silent
-still-silent w v deadline version body none e = silent-there w v deadline version body (λ r read. none r) e
+-- a fetch that is not ready, which is before its deadline, is not ready at another time before it either
+pub still-silent : (w : World) (clock now deadline : ℕ) (version : ℤ) (body : List ℕ) → (clock < deadline → now < deadline) → looked w clock deadline version body ≡ Silent → looked w now deadline version body ≡ Silent
+still-silent w clock now deadline version body early e =
+    silent-there w w clock now deadline version body (λ r read waits. waits_until w clock r deadline waits now deadline (early (before_end w clock r deadline waits))) e
 
 -- where a request or a moment answered nobody, nobody is told anything
 pub told-nothing : (n : ℕ) (gs : Groups) → has_released gs ≡ false → told_to n gs ≡ Silent
@@ -69,50 +71,44 @@ told-nothing n gs none = by gs.released none
 
 -- 2. Those that waited before
 
--- what a fetch asks for, whatever the time
-asked-is : (k : Kept) (clock : ℕ) (version : ℤ) (body : List ℕ) (deadline : ℕ) (r : FetchRequest) → asked_fetch version body ≡ Ok r → asked_for k (Records version body deadline) ≡ places_of (world_at k clock) r
-asked-is k clock version body deadline r read = ap (asked_in (world_at k 0)) read
-
 -- a request that is not ready was not at the first moment
 pub first-silent : (k : Kept) (clock n : ℕ) (w : Wait) → ready k clock n w ≡ Silent → ready k 0 n w ≡ Silent
 unfolding ready
 first-silent k clock n w silent = by w.awaited silent
   where
     by : (x : Awaited) → ready_for k clock n x ≡ Silent → ready_for k 0 n x ≡ Silent
-    by (Records version body deadline) h =
-        still-silent (world_at k clock) (world_at k 0) deadline version body
-        (λ r waits. (waits_at (world_at k clock) r deadline waits 0 (let early = before_end (world_at k clock) r deadline waits in omega (arith, early))).0) h
+    by (Records version body deadline) h = still-silent k.world clock 0 deadline version body (λ early. omega (arith, early)) h
     by Group h = h
 
 -- after a request that touched no partition that it asks for, and that answered nobody, a request is as little ready as before
-pub apart-ready : (node : Node) (k l : Kept) (clock n : ℕ) (key version : ℤ) (body : List ℕ) (m : ℕ) (w : Wait) → IsTied (world_at k clock) → world_at l clock ≡ (request node (world_at k clock) k.groups n key version body).world
-    → AreApart (asked k w) (request node (world_at k clock) k.groups n key version body).touched → has_released l.groups ≡ false → ready k clock m w ≡ Silent → ready l clock m w ≡ Silent
+pub apart-ready : (node : Node) (k l : Kept) (clock n : ℕ) (key version : ℤ) (body : List ℕ) (m : ℕ) (w : Wait) → IsTied k.world → l.world ≡ (request node k.world clock k.groups n key version body).world
+    → AreApart (asked k w) (request node k.world clock k.groups n key version body).touched → has_released l.groups ≡ false → ready k clock m w ≡ Silent → ready l clock m w ≡ Silent
 unfolding ready asked
 apart-ready node k l clock n key version body m w tied same apart none silent = by w.awaited apart silent
   where
     touched : List TopicPartition
-    touched = (request node (world_at k clock) k.groups n key version body).touched
+    touched = (request node k.world clock k.groups n key version body).touched
 
     by : (x : Awaited) → AreApart (asked_for k x) touched → ready_for k clock m x ≡ Silent → ready_for l clock m x ≡ Silent
     by (Records asks fetch deadline) far h =
-        silent-there (world_at k clock) (world_at l clock) deadline asks fetch
-        (λ r read waits. ap (λ x. fetch_answer x r deadline) same
-        ∙ (served_waits node (world_at k clock) k.groups n key version body r deadline tied waits (subst (λ ps. AreApart ps touched) (asked-is k clock asks fetch deadline r read) far)).0)
+        silent-there k.world l.world clock clock deadline asks fetch
+        (λ r read waits. ap (λ x. fetch_answer x clock r deadline) same
+        ∙ (served_waits node k.world clock k.groups n key version body r deadline tied waits (subst (λ ps. AreApart ps touched) (ap (asked_in k.world) read) far)).0)
         h
     by Group far h = told-nothing m l.groups none
 
 -- a request that is ready neither before nor after another asks for the same partitions, whatever was touched
-pub asked-again : (node : Node) (k l : Kept) (clock n : ℕ) (key version : ℤ) (body : List ℕ) (m : ℕ) (w : Wait) → IsTied (world_at k clock) → HasOwnNames (world_at k clock) → world_at l clock ≡ (request node (world_at k clock) k.groups n key version body).world →
+pub asked-again : (node : Node) (k l : Kept) (clock n : ℕ) (key version : ℤ) (body : List ℕ) (m : ℕ) (w : Wait) → IsTied k.world → HasOwnNames k.world → l.world ≡ (request node k.world clock k.groups n key version body).world →
     ready k 0 m w ≡ Silent → ready l 0 m w ≡ Silent → asked l w ≡ asked k w
 unfolding ready looked asked
 asked-again node k l clock n key version body m w tied own same before after = for w.awaited before after
   where
-    by : (deadline : ℕ) (asks : ℤ) (r : Result FetchRequest WireFault) → looked_at (world_at k 0) deadline asks r ≡ Silent → looked_at (world_at l 0) deadline asks r ≡ Silent → asked_in (world_at l 0) r ≡ asked_in (world_at k 0) r
+    by : (deadline : ℕ) (asks : ℤ) (r : Result FetchRequest WireFault) → looked_at k.world 0 deadline asks r ≡ Silent → looked_at l.world 0 deadline asks r ≡ Silent → asked_in l.world r ≡ asked_in k.world r
     by deadline asks (Ok r) p q =
-        let old : fetch_answer (world_at k clock) r (clock + 1) ≡ None = waits_until (world_at k 0) r deadline (silent-none asks (fetch_answer (world_at k 0) r deadline) p) clock (clock + 1) (omega arith) in
-        let new : fetch_answer (world_at l clock) r (clock + 1) ≡ None = waits_until (world_at l 0) r deadline (silent-none asks (fetch_answer (world_at l 0) r deadline) q) clock (clock + 1) (omega arith) in
+        let old : fetch_answer k.world clock r (clock + 1) ≡ None = waits_until k.world 0 r deadline (silent-none asks (fetch_answer k.world 0 r deadline) p) clock (clock + 1) (omega arith) in
+        let new : fetch_answer l.world clock r (clock + 1) ≡ None = waits_until l.world 0 r deadline (silent-none asks (fetch_answer l.world 0 r deadline) q) clock (clock + 1) (omega arith) in
         ap (λ x. places_of x r) same
-        ∙ served_again node (world_at k clock) k.groups n key version body r (clock + 1) tied own old (subst (λ x. fetch_answer x r (clock + 1) ≡ None) same new)
+        ∙ served_again node k.world clock k.groups n key version body r (clock + 1) tied own old (subst (λ x. fetch_answer x clock r (clock + 1) ≡ None) same new)
     by deadline asks (Err fault) p q = absurd (cc)
 
     for : (x : Awaited) → ready_for k 0 m x ≡ Silent → ready_for l 0 m x ≡ Silent → asked_for l x ≡ asked_for k x
@@ -124,8 +120,8 @@ pub asked-passed : (clock : ℕ) (k : Kept) (w : Wait) → asked (passed clock k
 unfolding asked passed
 asked-passed clock k w = for w.awaited
   where
-    by : (r : Result FetchRequest WireFault) → asked_in (world_at (passed clock k) 0) r ≡ asked_in (world_at k 0) r
-    by (Ok r) = retained_again (world_at k clock) r
+    by : (r : Result FetchRequest WireFault) → asked_in (passed clock k).world r ≡ asked_in k.world r
+    by (Ok r) = retained_again clock k.world r
     by (Err fault) = refl
 
     for : (x : Awaited) → asked_for (passed clock k) x ≡ asked_for k x
@@ -143,11 +139,7 @@ asked-group k id = refl
 pub asked-parks : (node : Node) (k : Kept) (clock n : ℕ) (key version : ℤ) (body : List ℕ) (deadline : ℕ) (places : List TopicPartition) (id : ℤ) → answer node k clock n key version body ≡ Plain (Waits deadline places) →
     places ≡ asked (kept_after node k clock n key version body) (record { correlation_id = id; awaited = Records version body deadline })
 unfolding answer kept_after asked
-asked-parks node k clock n key version body deadline places id e = (parks node k clock n key version body deadline places e).asks ∙ at (asked_fetch version body)
-  where
-    at : (r : Result FetchRequest WireFault) → asked_in (request node (world_at k clock) k.groups n key version body).world r ≡ asked_in (world_at (kept_after node k clock n key version body) 0) r
-    at (Ok r) = refl
-    at (Err fault) = refl
+asked-parks node k clock n key version body deadline places id e = (parks node k.world clock k.groups n key version body deadline places e).asks
 
 -- what waits at that stage, on the connection of number n, is not ready
 abbrev pub IsIdle : ℕ → Kept → ℕ → Stage → Type 0
@@ -180,7 +172,7 @@ by-idle setup kept clock n id (Handshake version mechanism) s free none = free-i
 by-idle setup kept clock n id (Authenticate message) s free none = free-idle clock kept n _ (free-replied id _ s free)
 by-idle setup kept clock n id (Another key version body) s free none =
     answered-idle clock (kept_after setup.node kept clock n key version body) n (answer setup.node kept clock n key version body) id version body s free none
-    (λ deadline places e. (parks setup.node kept clock n key version body deadline places e).silent)
+    (λ deadline places e. (parks setup.node kept.world clock kept.groups n key version body deadline places e).silent)
 by-idle setup kept clock n id Malformed s free none = free-idle clock kept n _ (free-without s.stage)
 
 at-idle : (setup : Setup) (kept : Kept) (clock n : ℕ) (s : Session) (f : Front) → is_free s.stage ≡ true → has_released (kept_at setup kept clock n f).groups ≡ false → IsIdle clock (kept_at setup kept clock n f) n (served_at setup kept clock n s f).stage

@@ -7,12 +7,11 @@ use Rattle.kb_api_group.specs.Frames.{front}
 use Rattle.kb_wire.specs.Codec.{int}
 use Rattle.kb_world.specs.Counts.{IsCalm}
 use Rattle.kb_service.specs.Hosted as hosted
-use Rattle.kb_service.specs.Hosted.{Kept, TenantState, names_of, world_at}
+use Rattle.kb_service.specs.Hosted.{Kept, TenantState}
 use Rattle.kb_service.specs.Turns.{HavePassed}
 use Rattle.std.specs.Prelude.{Some}
 use Rattle.kb_tenant.specs.Replies.{Silent}
 use Rattle.kb_machine.proofs.Quiet.{still-silent}
-use Rattle.kb_tenant.proofs.Asked.{waits_at}
 use Rattle.kb_machine.specs.Tenant.{Wait, Awaited, Records, Group, is_past, ready, ready_for}
 use Rattle.kb_machine.specs.Session.{Stage, Greets, BoundTo, fresh, can}
 use Rattle.kb_machine.specs.Greeting.{Setup, User}
@@ -235,7 +234,7 @@ later kept clock now n w e early = by w.awaited e early
     by : (x : Awaited) → ready_for kept clock n x ≡ Silent → is_past now x ≡ false → ready_for kept now n x ≡ Silent
     by (Records version body deadline) h early =
         let before : now < deadline = grind (arith, nat_tests, early) in
-        still-silent (world_at kept clock) (world_at kept now) deadline version body (λ r waits. (waits_at (world_at kept clock) r deadline waits now before).0) h
+        still-silent kept.world clock now deadline version body (λ still. before) h
     by Group h early = h
 
 -- so where nothing happened to the tenants only those can be ready after the clock moved whose deadline has come

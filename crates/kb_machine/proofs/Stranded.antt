@@ -1,10 +1,8 @@
 -- Members that wait, and the connections on which they do.
 use Rattle.std.proofs.Common.{◌≡◌, ◌≢◌, ◌<◌, ◌≤◌, ◌+◌, ◌++◌, ◌∷◌, ℕ, zero, suc, [], List, length, set, eqb, nat_eq, Bool, true, false, not, ◌&&◌, Option, Some, None, refl, sym, ◌∙◌, ap, subst, arith, ◌⊎◌, inl, inr}
-use Rattle.std.specs.Prelude.{cond, nat_lt, map}
+use Rattle.std.specs.Prelude.{cond, nat_lt}
 use Rattle.std.proofs.lemmas.Bool.Decides.{nat_tests}
 use Rattle.kb_groups.specs.declared.reply.Release.{Release}
-use Rattle.kb_groups.specs.declared.reply.Reply.{Reply}
-use Rattle.kb_coordinator.specs.Calls as groups
 use Rattle.kb_coordinator.specs.Calls.{reply_among}
 use Rattle.kb_coordinator.specs.Groups.{Groups}
 use Rattle.kb_service.specs.Hosted as hosted
@@ -15,14 +13,14 @@ use Rattle.kb_service.specs.Waiters.{AreServed, given, members_on, once, replies
 use Rattle.kb_service.proofs.WaitersServed.{left_none, left_on}
 use Rattle.kb_tenant.specs.Replies.{Silent}
 use Rattle.kb_machine.specs.Tenant.{Awaited, Records, Group, Wait, is_members, ready, ready_for}
-use Rattle.kb_machine.specs.Session.{Greeting, Stage, Greets, BoundTo, Session, fed, fresh, has_member, is_free, overruns, room, shut_down}
+use Rattle.kb_machine.specs.Session.{Stage, Greets, BoundTo, Session, fed, fresh, has_member, is_free, overruns, room, shut_down}
 use Rattle.kb_machine.specs.Machine.{Line, each, on, those, find_line}
 use Rattle.kb_machine.specs.Broker.{BrokerState, IsSound}
 use Rattle.kb_machine.specs.Calls.{closed, left_by, left_in, moved, opened, other_than, taken, without_output}
 use Rattle.kb_machine.specs.Told.{quieted_lines}
 use Rattle.kb_machine.specs.Stranded.{IsMembersAt, IsMembersIn, NoneStranded, members_of, replies_of}
 use Rattle.kb_machine.proofs.Leaving.{kept-other, kept-with, left_fed}
-use Rattle.kb_machine.proofs.Parts.{each-tenant, eqb_same, eqb_other}
+use Rattle.kb_machine.proofs.Parts.{each-tenant, eqb_same}
 use Rattle.kb_machine.proofs.Sets.{IsAt, find-at, find-set_other, rising-set, set-at}
 
 -- 1. What holds of a connection on which a member waits

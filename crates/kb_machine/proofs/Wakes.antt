@@ -5,7 +5,7 @@ use Rattle.std.specs.List.{AllByRecursion}
 use Rattle.std.proofs.lemmas.Bool.Decides.{nat_tests}
 use Rattle.kb_world.specs.Counts.{IsCalm}
 use Rattle.kb_service.specs.Hosted as hosted
-use Rattle.kb_service.specs.Hosted.{Kept, TenantState, world_at}
+use Rattle.kb_service.specs.Hosted.{Kept, TenantState}
 use Rattle.kb_service.specs.Turns.{IsTurn}
 use Rattle.kb_tenant.specs.Fetch.{asked_fetch, fetch_answer, fetched_in}
 use Rattle.kb_tenant.specs.Serve.{looked, looked_at}
@@ -166,8 +166,8 @@ never-waits kept clock n w deadline places e = for w.awaited e
     answers version (Some reply) h = absurd (cc)
     answers version None h = absurd (cc)
 
-    by : (until : ℕ) (version : ℤ) (r : Result FetchRequest WireFault) → looked_at (world_at kept clock) until version r ≡ Waits deadline places → ⊥
-    by until version (Ok r) h = answers version (fetch_answer (world_at kept clock) r until) h
+    by : (until : ℕ) (version : ℤ) (r : Result FetchRequest WireFault) → looked_at kept.world clock until version r ≡ Waits deadline places → ⊥
+    by until version (Ok r) h = answers version (fetch_answer kept.world clock r until) h
     by until version (Err fault) h = absurd (cc)
 
     tells : (o : Option Reply) → service.told o ≡ Waits deadline places → ⊥

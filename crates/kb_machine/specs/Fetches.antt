@@ -7,7 +7,7 @@ use Rattle.kb_api_data.specs.declared.fetch.FetchRequest.{FetchRequest}
 use Rattle.kb_world.specs.World as tenants
 use Rattle.kb_tenant.specs.Batches.{HoldsBatches}
 use Rattle.kb_tenant.specs.Fetch.{asked_fetch}
-use Rattle.kb_service.specs.Hosted.{passed, world_at}
+use Rattle.kb_service.specs.Hosted.{passed}
 use Rattle.kb_machine.specs.Requests.{Another, request}
 use Rattle.kb_machine.specs.Tenant.{Records}
 use Rattle.kb_machine.specs.Session.{Stage, Greets, BoundTo, Session, fed, replied, without_wait}
@@ -26,7 +26,7 @@ abbrev pub ServesBatches : View → ℕ → Session → Type 0
 ServesBatches w n s = (frame rest : List ℕ) (version : ℤ) (body : List ℕ) (fetch : FetchRequest)
     → front s.unread ≡ Whole frame rest → (request w.setup.versions frame).asked ≡ Another FETCH version body
     → asked_fetch version body ≡ Ok fetch
-    → GetsBatches (world_at w.kept w.clock) version fetch (request w.setup.versions frame).correlation_id (record s { unread = rest })
+    → GetsBatches w.kept.world version fetch (request w.setup.versions frame).correlation_id (record s { unread = rest })
     (after_turn w.setup w.kept w.clock n s)
 
 -- where a fetch waits on a connection, of number n, that is looked at, the connection gets such batches
@@ -34,7 +34,7 @@ abbrev pub WakesWithBatches : View → ℕ → Session → Type 0
 WakesWithBatches w n s = (tenant : ℕ) (id version : ℤ) (body : List ℕ) (deadline : ℕ) (fetch : FetchRequest)
     → s.stage ≡ BoundTo tenant (Some (record { correlation_id = id; awaited = Records version body deadline }))
     → asked_fetch version body ≡ Ok fetch
-    → GetsBatches (world_at w.kept w.clock) version fetch id (record s { stage = without_wait s.stage }) (woken w.kept w.clock n s)
+    → GetsBatches w.kept.world version fetch id (record s { stage = without_wait s.stage }) (woken w.kept w.clock n s)
 
 -- so does each that waits
 abbrev pub AllWakeWithBatches : View → Type 0

@@ -3,7 +3,7 @@ use Rattle.std.specs.Prelude.{◌≡◌, ◌+◌, ◌<◌, ◌≤◌, ℕ, List,
 use Rattle.kb_service.specs.Hosted as hosted
 use Rattle.kb_service.specs.Hosted.{TenantState}
 use Rattle.kb_service.specs.Waiters.{members_on, replies_on}
-use Rattle.kb_machine.specs.Tenant.{Wait, is_members}
+use Rattle.kb_machine.specs.Tenant.{is_members}
 use Rattle.kb_machine.specs.Session.{Stage, Greets, BoundTo, Session}
 use Rattle.kb_machine.specs.Machine.{find_line}
 use Rattle.kb_machine.specs.Broker.{BrokerState}

@@ -5,7 +5,7 @@ use Rattle.kb_api_data.specs.declared.fetch.FetchRequest.{FetchRequest}
 use Rattle.kb_world.specs.World.{World}
 use Rattle.kb_world.specs.declared.topic_partition.TopicPartition.{TopicPartition}
 use Rattle.kb_tenant.specs.Fetch.{asked_fetch, places_of}
-use Rattle.kb_service.specs.Hosted.{Kept, world_at, kept_in}
+use Rattle.kb_service.specs.Hosted.{Kept, kept_in}
 use Rattle.kb_tenant.specs.Replies as tenant
 use Rattle.kb_tenant.specs.Serve.{looked}
 use Rattle.kb_service.specs.Replies.{Reaction, told_to}
@@ -24,7 +24,7 @@ pub record Wait : Type 0 where
 
 -- what a request on the connection of number n makes of the tenant's world, and comes to
 abbrev pub outcome : Node → Kept → ℕ → ℕ → ℤ → ℤ → List ℕ → Outcome
-outcome node kept clock n key version body = served node (world_at kept clock) kept.groups n key version body
+outcome node kept clock n key version body = served node kept.world clock kept.groups n key version body
 
 -- what is kept after a request
 unfoldable pub kept_after : Node → Kept → ℕ → ℕ → ℤ → ℤ → List ℕ → Kept
@@ -35,7 +35,7 @@ unfoldable pub answer : Node → Kept → ℕ → ℕ → ℤ → ℤ → List �
 answer node kept clock n key version body = (outcome node kept clock n key version body).reaction
 
 abbrev pub ready_for : Kept → ℕ → ℕ → Awaited → tenant.Reaction
-ready_for kept clock n (Records version body deadline) = looked (world_at kept clock) deadline version body
+ready_for kept clock n (Records version body deadline) = looked kept.world clock deadline version body
 ready_for kept clock n Group = told_to n kept.groups
 
 -- what the request comes to now that waits on the connection of number n: a reply where it is ready, else silence
@@ -48,10 +48,10 @@ asked_in w (Ok r) = places_of w r
 asked_in w (Err fault) = []
 
 abbrev pub asked_for : Kept → Awaited → List TopicPartition
-asked_for kept (Records version body deadline) = asked_in (world_at kept 0) (asked_fetch version body)
+asked_for kept (Records version body deadline) = asked_in kept.world (asked_fetch version body)
 asked_for kept Group = []
 
--- the partitions that a waiting request asks for, which are the same at each time
+-- the partitions that a waiting request asks for
 unfoldable pub asked : Kept → Wait → List TopicPartition
 asked kept wait = asked_for kept wait.awaited
 

@@ -14,7 +14,7 @@ ghost use Rattle.kb_tenant.specs.Batches.{HasSmallLogs};
 ghost use Rattle.kb_tenant.specs.Fetch.{asked_fetch, fetched, fetched_in};
 ghost use Rattle.kb_tenant.specs.Replies.{Replies};
 ghost use Rattle.kb_coordinator.specs.Calls.{left};
-ghost use Rattle.kb_service.specs.Hosted.{Kept, passed, world_at};
+ghost use Rattle.kb_service.specs.Hosted.{Kept, passed};
 ghost use Rattle.kb_machine.specs.Greeting.{Setup, greeted, greeted_by, login};
 ghost use Rattle.kb_machine.specs.Machine.{View, Line, Happening, Opens, Comes, Closes, Moment, Sent, again, all_woken, each, on};
 ghost use Rattle.kb_machine.specs.Machine.{first_able, turn, turns, work, those, those_sent, find_line, after_turn, kept_fed, step};
@@ -93,25 +93,24 @@ pub fn strangers_are_greeted()
 pub fn fetches_get_whole_batches()
     ensures at_once { (setup : Setup) (kept : Kept) (clock n : ℕ) (s : Session) (frame rest : List ℕ) (version : ℤ) (body : List ℕ)
         (fetch : FetchRequest)
-        → HasSmallLogs (world_at kept clock) → front s.unread ≡ Whole frame rest
+        → HasSmallLogs kept.world → front s.unread ≡ Whole frame rest
         → (request setup.versions frame).asked ≡ Another FETCH version body → asked_fetch version body ≡ Ok fetch
-        → GetsBatches (world_at kept clock) version fetch (request setup.versions frame).correlation_id (record s { unread = rest })
+        → GetsBatches kept.world version fetch (request setup.versions frame).correlation_id (record s { unread = rest })
         (after_turn setup kept clock n s) }
     ensures after_a_wait { (kept : Kept) (clock n tenant : ℕ) (s : Session) (id version : ℤ) (body : List ℕ) (deadline : ℕ)
         (fetch : FetchRequest)
-        → HasSmallLogs (world_at kept clock) → s.stage
+        → HasSmallLogs kept.world → s.stage
         ≡ BoundTo tenant (Some (record { correlation_id = id; awaited = Records version body deadline }))
         → asked_fetch version body ≡ Ok fetch
-        → GetsBatches (world_at kept clock) version fetch id (record s { stage = without_wait s.stage }) (woken kept clock n s) }
+        → GetsBatches kept.world version fetch id (record s { stage = without_wait s.stage }) (woken kept clock n s) }
 {}
 
 /// In a whole run of a machine each reply to a fetch, at once or after a wait, holds whole batches of each partition that it answers
 /// without an error, as the partition is at that moment, one after the other, from the one that holds the asked offset. The logs of
 /// what the tenant keeps are within their limits before the run, and then after it too.
 pub fn fetches_get_batches_in_runs()
-    ensures run { (es : List Happening) (w : View) → HasSmallLogs (world_at w.kept w.clock) → FetchesGetBatches es w }
-    ensures later { (es : List Happening) (w : View) → HasSmallLogs (world_at w.kept w.clock)
-        → HasSmallLogs (world_at (last_world es w).kept (last_world es w).clock) }
+    ensures run { (es : List Happening) (w : View) → HasSmallLogs w.kept.world → FetchesGetBatches es w }
+    ensures later { (es : List Happening) (w : View) → HasSmallLogs w.kept.world → HasSmallLogs (last_world es w).kept.world }
 {}
 
 /// What is said of the fetches of an event is said of the very worlds through which the machine's step goes: those of each of its
@@ -141,13 +140,13 @@ pub fn fetches_end_at_their_deadline()
     ensures ready { (kept : Kept) (clock n : ℕ) (id version : ℤ) (body : List ℕ) (deadline : ℕ) (fetch : FetchRequest)
         → asked_fetch version body ≡ Ok fetch → deadline ≤ clock
         → ready kept clock n (record { correlation_id = id; awaited = Records version body deadline })
-        ≡ Replies (fetched_in version (fetched (world_at kept clock) fetch).1) }
+        ≡ Replies (fetched_in version (fetched kept.world fetch).1) }
     ensures answered { (kept : Kept) (clock n tenant : ℕ) (s : Session) (id version : ℤ) (body : List ℕ) (deadline : ℕ)
         (fetch : FetchRequest)
         → s.stage ≡ BoundTo tenant (Some (record { correlation_id = id; awaited = Records version body deadline }))
         → asked_fetch version body ≡ Ok fetch → deadline ≤ clock
         → woken kept clock n s
-        ≡ replied id (fetched_in version (fetched (world_at kept clock) fetch).1) (record s { stage = without_wait s.stage }) }
+        ≡ replied id (fetched_in version (fetched kept.world fetch).1) (record s { stage = without_wait s.stage }) }
 {}
 
 /// A connection never has more unread bytes than its limit, and one that was shut takes no piece.

@@ -14,9 +14,9 @@ use Rattle.kb_log.specs.OnShelf.{no_file}
 use Rattle.kb_segment_log.specs.SegmentLog.{segment_log, Clears}
 use Rattle.kb_segment_log.specs.declared.log.SegmentLog.{SegmentLog}
 use Rattle.kb_topics.specs.Known.{Known, PartitionState, TopicState, topic_at, partition_at}
-use Rattle.kb_partitions.specs.Logs.{log_at}
-use Rattle.kb_partitions.specs.Partitions.{Entries, Owned, IsUnmade}
-use Rattle.kb_partitions.proofs.Put.{cases}
+use Rattle.kb_world.specs.Logs.{log_at}
+use Rattle.kb_world.specs.Partitions.{Entries, Owned, IsUnmade}
+use Rattle.kb_world.proofs.Put.{cases}
 use Rattle.kb_world.specs.Tied.{partition_count}
 use Rattle.kb_opening.specs.Directory.{all_files, files_at}
 use Rattle.kb_opening.specs.Tenant.{AreListed}
@@ -105,13 +105,6 @@ known_before d t k n file o = elim (cases_lt o.instance n) [
       let below = o.below in
       let is : o.instance ≡ n = omega (arith, below, ge) in
       inr (o.number, subst (λ i. IsSome (partition_at k (pos i) (pos o.number))) is o.known, subst (λ i. Contains (files_at (owners.Partition t i o.number) d) file) is o.has)
-]
-
--- a log below the next instance
-logs_next : (P : ℕ → Type 0) (n : ℕ) → ((i : ℕ) → i < n → P i) → P n → (i : ℕ) → i < n + 1 → P i
-logs_next P n below here i lt = elim (cases_lt i n) [
-  | inl less ↦ below i less
-  | inr ge ↦ subst P (let is : n ≡ i = omega (arith, lt, ge) in is) here
 ]
 
 pub all_moved : (old new : Disk) (numbers : List ℕ) → ((file : ℕ) → Contains numbers file → get new.table file ≡ get old.table file) → All (λ n. IsThere old n) numbers → All (λ n. IsThere new n) numbers

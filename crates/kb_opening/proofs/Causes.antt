@@ -1,6 +1,5 @@
 -- What a refusal says, of a part of a call and of the whole.
 use Rattle.std.proofs.Common.{◌≡◌, ◌≤◌, ◌<◌, ◌^◌, ◌⊎◌, inl, inr, ⊎_elim, ℕ, Result, Ok, Err, refl, sym, ap, subst, arith}
-use Rattle.std.specs.Prelude.{IsErrOf}
 use Rattle.std.specs.Result.{IsErrAnd}
 use Rattle.kb_store.specs.Disk.{Disk, Grew}
 use Rattle.kb_log.specs.declared.fault.LogFault.{LogFault}
@@ -16,11 +15,6 @@ clears_none d = record { honest = λ h. h; lengths = λ file not. refl; contents
 pub misses_ok : {T : Type 0} (old new : Disk) (next : ℕ) (As : Type 0) (x : T) → old.failures ≤ new.failures → MissesShelf old next As (Ok x) new
 misses_ok old new next As x later = record { later = later; store = λ h such is. absurd cc; range = λ is. absurd cc; full = λ is. absurd cc }
 
--- memory alone
-pub misses_memory : {T : Type 0} (old new : Disk) (next : ℕ) (As : Type 0) (r : Result T LogFault) → r ≡ Err faults.Memory → old.failures ≤ new.failures → MissesShelf old next As r new
-misses_memory {T} old new next As r e later =
-    subst (λ (q : Result T LogFault). MissesShelf old next As q new) (sym e) record { later = later; store = λ h such is. absurd cc; range = λ is. absurd cc; full = λ is. absurd cc }
-
 -- a call that was refused
 abbrev refused : (T : Type 0) → LogFault → Result T LogFault
 refused T e = Err e
@@ -30,9 +24,6 @@ same_err T U e f is = ap (λ x. refused U x) (let same : e ≡ f = cc in same)
 
 grown : (a b c : ℕ) → Grew b c → a ≤ b → Grew a c
 grown a b c g le = omega (arith, g, le)
-
-grown_on : (a b c : ℕ) → Grew a b → b ≤ c → Grew a c
-grown_on a b c g le = omega (arith, g, le)
 
 -- a part's fault is the whole's, after what came before it
 pub misses_passed : {T U : Type 0} (first old new : Disk) (next : ℕ) (As As' : Type 0) (e : LogFault) → (new.honest → As' → As) → first.failures ≤ old.failures
@@ -95,20 +86,4 @@ misses_store_handed {T} {U} old new next As As' e (Err f) is weaker m =
       store = λ h such same. inl (m.store h (weaker such) (same_err U T e faults.Store same));
       range = λ same. m.range (same_err U T e faults.Range same);
       full = λ same. m.full (same_err U T e faults.Full same);
-    }
-
--- a call on a log that agrees with its files
-pub misses_blamed : {T U : Type 0} (first old new : Disk) (next next' : ℕ) (Agreed As' : Type 0) (e : LogFault) (r : Result U LogFault) → IsErrAnd r (λ f. f ≡ e) → next' ≡ next → first.failures ≤ old.failures → old.failures ≤ new.failures
-    → (new.honest → As' → Agreed) → (new.honest → Agreed → IsErrOf (refused T e) faults.Store → Grew old.failures new.failures ⊎ (2 ^ 64 ≤ next'))
-    → (refused T e ≡ Err faults.Range → ⊥) → (refused T e ≡ Err faults.Full → ⊥) → MissesShelf {T = U} first next As' r new
-misses_blamed first old new next next' Agreed As' e (Ok x) is left before after weaker store range full = absurd is
-misses_blamed {T} {U} first old new next next' Agreed As' e (Err f) is left before after weaker store range full =
-    subst (λ (g : LogFault). MissesShelf {T = U} first next As' (Err g) new) (sym is) record {
-      later = omega (arith, before, after);
-      store = λ h such same. ⊎_elim
-          (λ g. inl (grown first.failures old.failures new.failures g before))
-          (λ none. inr (subst (λ (n : ℕ). 2 ^ 64 ≤ n) left none))
-          (store h (weaker h such) (same_err U T e faults.Store same));
-      range = λ same. range (same_err U T e faults.Range same);
-      full = λ same. full (same_err U T e faults.Full same);
     }

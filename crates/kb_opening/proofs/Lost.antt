@@ -1,5 +1,5 @@
 -- What files come to, those that are left come to, also where others change.
-use Rattle.std.proofs.Common.{◌≡◌, ◌∙◌, ◌<◌, ◌++◌, ◌∷◌, [], ℕ, zero, suc, Bool, true, false, cond, List, max, refl, sym, ap, subst, arith}
+use Rattle.std.proofs.Common.{◌≡◌, ◌∙◌, ◌∷◌, [], ℕ, zero, suc, Bool, true, false, cond, List, refl, sym, ap, subst, arith}
 use Rattle.std.specs.Prelude.{is_some, filter, IsSome, IsPermutation}
 use Rattle.std.specs.FinMap.{get}
 use Rattle.std.specs.List.{All, Contains}

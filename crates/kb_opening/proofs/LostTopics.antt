@@ -1,9 +1,7 @@
 -- Of the partitions of a tenant nothing is lost.
-use Rattle.std.proofs.Common.{◌≡◌, ◌≢◌, ◌∙◌, ◌⊎◌, ◌<◌, ◌+◌, inl, inr, ⊎_elim, ℕ, List, Some, refl, sym, ap, subst, arith, map, length}
-use Rattle.std.specs.Prelude.{pos, slice_get, option_map, IsSome}
+use Rattle.std.proofs.Common.{◌≡◌, ◌≢◌, ◌∙◌, ◌⊎◌, ◌<◌, inl, inr, ⊎_elim, ℕ, List, Some, sym, ap, subst, arith, map, length}
+use Rattle.std.specs.Prelude.{pos, slice_get, option_map}
 use Rattle.std.specs.List.{All, Contains}
-use Rattle.std.specs.declared.alloc.Global.{Global}
-use Rattle.std.specs.declared.vec.Vec.{Vec}
 use Rattle.std.proofs.lemmas.Bool.{cases_eq, cases_lt}
 use Rattle.std.proofs.lemmas.Option.{slice_get_within, slice_get-map}
 use Rattle.std.proofs.lemmas.List.Elements.{All-contains, All-contains_itself}
@@ -12,7 +10,7 @@ use Rattle.kb_segment_log.specs.SegmentLog.{Clears}
 use Rattle.kb_segment_log.specs.Chain.{LosesNothing}
 use Rattle.kb_segment_log.specs.declared.log.SegmentLog.{SegmentLog}
 use Rattle.kb_topics.specs.Known.{Known, PartitionState, TopicState, topic_at, partition_at}
-use Rattle.kb_partitions.specs.Partitions.{Entries}
+use Rattle.kb_world.specs.Partitions.{Entries}
 use Rattle.kb_opening.specs.Directory.{all_files, files_at}
 use Rattle.kb_opening.specs.Partition.{Lists, IsAmong, LoseNothing}
 use Rattle.kb_opening.specs.Tenant.{AreListed, IsOfTenant, PartitionsLoseNothing, recorded_start}

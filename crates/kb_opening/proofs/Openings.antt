@@ -20,10 +20,10 @@ use Rattle.kb_segment_log.specs.Chain.{Opens, LosesNothing}
 use Rattle.kb_segment_log.specs.SegmentLaws.{segment_lawful}
 use Rattle.kb_segment_log.specs.SegmentLog.{segment_log, AreNamed, Clears}
 use Rattle.kb_segment_log.specs.declared.log.SegmentLog.{SegmentLog}
-use Rattle.kb_partitions.specs.Logs.{LogState}
-use Rattle.kb_partitions.specs.Partitions.{log_state, partition_identity}
-use Rattle.kb_partitions.specs.Topic.{AreApartLogs, OwnedAmong}
-use Rattle.kb_partitions.specs.declared.partition.Partition.{Partition}
+use Rattle.kb_world.specs.Logs.{LogState}
+use Rattle.kb_world.specs.Partitions.{log_state, partition_identity}
+use Rattle.kb_world.specs.Topic.{AreApartLogs, OwnedAmong}
+use Rattle.kb_world.specs.declared.partition.Partition.{Partition}
 use Rattle.kb_opening.specs.Opened.{IsLogOf}
 use Rattle.kb_opening.specs.Partition.{LoseNothing, IsPartitionOf, MissesShelf, Lists, IsAmong, AreGiven, AreAllNamed, ArePartitionsOf, AreNumbered}
 use Rattle.kb_opening.proofs.Lost.{log_else, log_then, log_from}
@@ -180,17 +180,6 @@ pub among_owned : (As : Type 0) (lists : Lists) (starts : List ℕ) (xs : List O
 among_owned As lists starts xs first now next so_far file o =
     let its = so_far.owned o.number o.partition o.at file o.own in
     record { number = o.number; list = its.list; at = its.at; has = its.has }
-
-pub none_opened : (As : Type 0) (lists : Lists) (starts : List ℕ) (xs : List Opened) (d : Disk) (next : ℕ) → xs ≡ [] → Opening As lists starts xs d d next
-none_opened As lists starts xs d next none =
-    let nothing : (p : ℕ) (x : Opened) → slice_get xs p ≡ Some x → ⊥ = λ p x at. absurd (let e : slice_get {X = Opened} [] p ≡ Some x = subst (λ (ys : List Opened). slice_get ys p ≡ Some x) none at in cc) in
-    record {
-      sound = record { each = λ p x at. absurd (nothing p x at); apart = λ p q x y at there differ file own other. nothing p x at };
-      owned = λ p x at. absurd (nothing p x at);
-      opened = λ h such p x list start at. absurd (nothing p x at);
-      others = record { honest = λ h. h; lengths = λ file not. refl; contents = λ h file not. refl };
-      lost = λ h p list start below. absurd (omega (arith, below, ap length none));
-    }
 
 -- of none of the others anything changed
 pub so_far_lost : (As : Type 0) (lists : Lists) (starts : List ℕ) (xs : List Opened) (first now : Disk) (next : ℕ) → AreGiven lists first next → Opening As lists starts xs first now next → now.honest → LoseNothing lists starts first now

@@ -14,7 +14,7 @@ use Rattle.kb_segment.specs.declared.segment.Segment.{Segment}
 use Rattle.kb_segment_log.specs.SegmentLaws.{segment_lawful}
 use Rattle.kb_segment_log.specs.SegmentLog.{segment_log, IsFileOf, IsKept, Clears}
 use Rattle.kb_segment_log.specs.declared.log.SegmentLog.{SegmentLog}
-use Rattle.kb_partitions.specs.declared.partition.Partition.{Partition}
+use Rattle.kb_world.specs.declared.partition.Partition.{Partition}
 use Rattle.kb_opening.specs.Partition.{Lists, IsAmong, AreGiven}
 use Rattle.kb_opening.specs.Settled.{IsSettledFrom, AreSettledFrom}
 use Rattle.kb_opening.specs.Topics.{numbers_in}
@@ -74,9 +74,6 @@ settled_stays numbers start log old new owned given was = record {
 }
 
 -- ---- those of a topic
-
-pub none_settled : (lists : Lists) (starts : List ℕ) (xs : List (Partition SegmentLog)) (d : Disk) → xs ≡ [] → AreSettledFrom lists starts xs d
-none_settled lists starts xs d none p x list start at = absurd (let e : slice_get {X = Partition SegmentLog} [] p ≡ Some x = subst (λ (ys : List (Partition SegmentLog)). slice_get ys p ≡ Some x) none at in cc)
 
 module _ (As : Type 0) (lists : Lists) (starts : List ℕ) (xs : List (Partition SegmentLog)) (list : Vec ℕ Global) (first mid : Disk) (next : ℕ)
     (given : AreGiven lists first next) (so_far : Opening As lists starts xs first mid next) (at : slice_get lists (length xs) ≡ Some list)

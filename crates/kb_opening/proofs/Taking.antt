@@ -8,7 +8,7 @@ use Rattle.std.specs.declared.vec.Vec.{Vec}
 use Rattle.std.proofs.lemmas.Bool.{cases_lt}
 use Rattle.std.proofs.lemmas.Option.{same_Some}
 use Rattle.std.proofs.lemmas.List.Elements.{All-contains, All-contains_itself, Contains-append_left, Contains-append_right}
-use Rattle.std.proofs.lemmas.List.Sorted.{IsPermutation-refl, IsPermutation-sym, IsPermutation-trans, IsPermutation-append_right, Contains-permutation}
+use Rattle.std.proofs.lemmas.List.Sorted.{IsPermutation-sym, IsPermutation-trans, IsPermutation-append_right, Contains-permutation}
 use Rattle.kb_store.specs.Disk.{Disk, IsThere}
 use Rattle.kb_segment_log.proofs.Opened.{distinct_moved}
 use Rattle.kb_opening.specs.Owners.{owner_cmp}
@@ -66,16 +66,6 @@ numbers_more [] taken = append-nil taken.items
 numbers_more (l ∷ ls) taken = ap (λ ns. l.items ++ ns) (numbers_more ls taken) ∙ sym (append_assoc l.items (numbers_in ls) taken.items)
 
 -- ---- one list after another
-
-pub none_taken : (t i : ℕ) (d : Directory) (lists : Lists) → lists ≡ [] → TakesTopic t i 0 d lists d
-none_taken t i d lists e = record {
-  count = ap length e;
-  files = λ p list at. absurd (let no : slice_get {X = Vec ℕ Global} [] p ≡ Some list = subst (λ (ls : Lists). slice_get ls p ≡ Some list) e at in cc);
-  none = λ p lt. absurd (omega (arith, lt));
-  others = λ o apart. refl;
-  strays = refl;
-  all = subst (λ (ls : Lists). IsPermutation (all_files d) (numbers_in ls ++ all_files d)) (sym e) (IsPermutation-refl (all_files d));
-}
 
 module _ (t i n : ℕ) (old mid new : Directory) (lists : Lists) (taken : Vec ℕ Global) (so_far : TakesTopic t i n old lists mid) (takes : Takes (owners.Partition t i n) mid taken.items new) where
   count_more : length (lists ++ taken ∷ []) ≡ n + 1

@@ -1,5 +1,5 @@
 -- The files of a tenant come to one world.
-use Rattle.std.proofs.Common.{◌≡◌, ◌∙◌, ◌≤◌, ◌<◌, ◌+◌, ◌++◌, ℕ, zero, suc, true, false, List, [], ◌∷◌, Option, Some, None, refl, sym, ap, subst, arith, max, length, get_or}
+use Rattle.std.proofs.Common.{◌≡◌, ◌∙◌, ◌≤◌, ◌<◌, ◌+◌, ◌++◌, ℕ, zero, suc, true, false, List, [], ◌∷◌, Option, Some, None, refl, sym, ap, subst, arith, max, get_or}
 use Rattle.std.specs.Prelude.{pos, IsSome, IsSorted, IsPermutation}
 use Rattle.std.specs.Option.{option_and_then}
 use Rattle.std.specs.List.{All}
@@ -19,9 +19,9 @@ use Rattle.kb_segment_log.proofs.Unique.{one_chain}
 use Rattle.kb_topics.specs.declared.command.Command.{Command}
 use Rattle.kb_topics.specs.Known.{Known, PartitionState, partition_at, empty, step, folded}
 use Rattle.kb_topics.specs.MetaLog.{Says, SayEach}
-use Rattle.kb_partitions.specs.Logs.{LogState, Logs, log_at}
+use Rattle.kb_world.specs.Logs.{LogState, Logs}
 use Rattle.kb_replay.proofs.Reading.{one_command}
-use Rattle.kb_opening.specs.Opened.{IsLogOf, EndsWith, IsLongestFold, Owners, IsOpened, IsSame, IsOnly}
+use Rattle.kb_opening.specs.Opened.{IsLogOf, EndsWith, IsLongestFold, Owners, IsOpened, IsOnly}
 use Rattle.kb_opening.proofs.Catalogs.{chain_run}
 
 -- ---- one first file

@@ -6,7 +6,7 @@ use Rattle.kb_segment_log.specs.Chain.{Chain, ComesTo, remaining}
 use Rattle.kb_topics.specs.declared.command.Command.{Command}
 use Rattle.kb_topics.specs.Known.{Known, PartitionState, partition_at, step}
 use Rattle.kb_topics.specs.MetaLog.{Says, IsFold}
-use Rattle.kb_partitions.specs.Logs.{LogState, Logs, log_at}
+use Rattle.kb_world.specs.Logs.{LogState, Logs, log_at}
 use Rattle.kb_world.specs.Tied.{counted, partition_count}
 
 -- A log that those files come to, from a start that was recorded of it.

@@ -13,10 +13,10 @@ use Rattle.kb_log.specs.OnShelf.{no_file}
 use Rattle.kb_segment_log.specs.SegmentLog.{segment_log, Clears}
 use Rattle.kb_segment_log.specs.declared.log.SegmentLog.{SegmentLog}
 use Rattle.kb_topics.specs.Known.{Known, PartitionState, TopicState, topic_at, partition_at}
-use Rattle.kb_partitions.specs.Logs.{LogState, log_at}
-use Rattle.kb_partitions.specs.Partitions.{Entries, Owned, AreSound, AreExact, AreStarted, AreNamed, Agree, logs_of, places_of, IsRestored}
-use Rattle.kb_partitions.specs.Topic.{AreApartLogs, OwnedAmong}
-use Rattle.kb_partitions.specs.declared.partition.Partition.{Partition}
+use Rattle.kb_world.specs.Logs.{LogState, log_at}
+use Rattle.kb_world.specs.Partitions.{Entries, Owned, AreSound, AreExact, AreStarted, AreNamed, Agree, logs_of, places_of, IsRestored}
+use Rattle.kb_world.specs.Topic.{AreApartLogs, OwnedAmong}
+use Rattle.kb_world.specs.declared.partition.Partition.{Partition}
 use Rattle.kb_world.specs.Parts as parts
 use Rattle.kb_world.specs.Tied.{partition_count}
 use Rattle.kb_opening.specs.Opened.{IsLogOf}

@@ -6,7 +6,7 @@ ghost use Rattle.std.specs.Ordering.{nat_cmp};
 ghost use Rattle.std.specs.Cmp.Lexicographic.{slice_cmp};
 ghost use Rattle.kb_store.specs.Disk.{IsThere, Keeps};
 ghost use Rattle.kb_opening.specs.Owners.{HasFault, owner_by};
-ghost use Rattle.kb_opening.specs.Directory.{all_files, owned_in, IsDirectory, IsEmpty, Adds, Takes};
+ghost use Rattle.kb_opening.specs.Directory.{all_files, IsDirectory, IsEmpty, Adds, Takes};
 ghost use Rattle.kb_opening.specs.declared.owner.Owner.{Owner};
 ghost use Rattle.kb_opening.specs.declared.owner.Owner.TheVariants as owners;
 ghost use Rattle.kb_opening.specs.declared.directory.Directory.{Directory};
@@ -53,7 +53,7 @@ impl Directory {
     ) -> Result<Directory, LogFault>
         requires there { All (λ n. IsThere (S.disk shelf.old.store) n) files.now }
         requires rise { IsStrictlySortedBy (slice_cmp nat_cmp) (map (λ name. name.now) names.now) }
-        ensures kept { Keeps (S.disk shelf.old.store) (S.disk shelf.new.store) }
+        ensures unchanged { Keeps (S.disk shelf.old.store) (S.disk shelf.new.store) }
         ensures next { shelf.new.next ≡ shelf.old.next }
         ensures all { IfOk result (λ d. IsPermutation files.now (all_files d)) }
         ensures what { IfOk result (λ d. (S.disk shelf.new.store).honest

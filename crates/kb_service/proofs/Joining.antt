@@ -18,12 +18,12 @@ pub was_read : {A : Type 0} (id : ℤ) (w after : World) (gs new : Groups) (r : 
 was_read id w after gs new r v f answer read h = subst (λ x. IsServed id (if_read w gs x f) after new [] (Ok answer)) (sym read) h
 
 -- a join, where the last replies were forgotten first
-pub joined : (id : ℤ) (w : World) (n clock : ℕ) (gs quiet new : Groups) (r : JoinGroupRequest) (code : ErrorCode) (b : Bool) (answer : Answer) → w.clock ≡ clock → quiet ≡ silent gs → code ≡ join_code n r quiet → new ≡ after_join clock n r quiet
-    → is_accepted code ≡ b → IsAnswer id (if b then Rebalances else replies (join_refusal (code_of code) r.member_id)) answer → IsOutcome id (of_join w n gs r) w new [] answer
-joined id w n clock gs quiet new r code b answer at is coded after tested h =
+pub joined : (id : ℤ) (w : World) (clock n : ℕ) (gs quiet new : Groups) (r : JoinGroupRequest) (code : ErrorCode) (b : Bool) (answer : Answer) → quiet ≡ silent gs → code ≡ join_code n r quiet → new ≡ after_join clock n r quiet
+    → is_accepted code ≡ b → IsAnswer id (if b then Rebalances else replies (join_refusal (code_of code) r.member_id)) answer → IsOutcome id (of_join w clock n gs r) w new [] answer
+joined id w clock n gs quiet new r code b answer is coded after tested h =
     let told : join_code n r gs ≡ code = sym (coded ∙ ap (join_code n r) is) in (
       refl,
-      after ∙ (λ k. after_join (sym at k) n r (is k)),
+      after ∙ ap (after_join clock n r) is,
       refl,
       subst (λ c. IsAnswer id (if is_accepted c then Rebalances else replies (join_refusal (code_of c) r.member_id)) answer) (sym told)
           (subst (λ x. IsAnswer id (if x then Rebalances else replies (join_refusal (code_of code) r.member_id)) answer) (sym tested) h),

@@ -21,47 +21,47 @@ use Rattle.kb_service.specs.Replies.{Plain, replies, told_to}
 use Rattle.kb_service.specs.Serve.{Outcome, commit_refusal, served}
 use Rattle.kb_service.proofs.ByRequest.{by_request}
 
-pub served_tied : (node : Node) (w : World) (gs : Groups) (n : ℕ) (key version : ℤ) (body : List ℕ) → IsTied w → IsTied (served node w gs n key version body).world
-served_tied node w gs n key version body tied = by_request (λ (o : Outcome). IsTied o.world) node w gs n key version body (record {
+pub served_tied : (node : Node) (w : World) (clock : ℕ) (gs : Groups) (n : ℕ) (key version : ℤ) (body : List ℕ) → IsTied w → IsTied (served node w clock gs n key version body).world
+served_tied node w clock gs n key version body tied = by_request (λ (o : Outcome). IsTied o.world) node w clock gs n key version body (record {
   stays = λ after reaction. tied;
   commit = λ r. commit_tied w (commit_refusal gs r) r tied;
-  topics = topics_tied node w n key version body tied;
+  topics = topics_tied node w clock n key version body tied;
 })
 
-pub served_names : (node : Node) (w : World) (gs : Groups) (n : ℕ) (key version : ℤ) (body : List ℕ) → HasOwnNames w → HasOwnNames (served node w gs n key version body).world
-served_names node w gs n key version body own = by_request (λ (o : Outcome). HasOwnNames o.world) node w gs n key version body (record {
+pub served_names : (node : Node) (w : World) (clock : ℕ) (gs : Groups) (n : ℕ) (key version : ℤ) (body : List ℕ) → HasOwnNames w → HasOwnNames (served node w clock gs n key version body).world
+served_names node w clock gs n key version body own = by_request (λ (o : Outcome). HasOwnNames o.world) node w clock gs n key version body (record {
   stays = λ after reaction. own;
   commit = λ r. commit_names w (commit_refusal gs r) r own;
-  topics = topics_names node w n key version body own;
+  topics = topics_names node w clock n key version body own;
 })
 
-pub served_small : (node : Node) (w : World) (gs : Groups) (n : ℕ) (key version : ℤ) (body : List ℕ) → HasSmallLogs w → HasSmallLogs (served node w gs n key version body).world
-served_small node w gs n key version body small = by_request (λ (o : Outcome). HasSmallLogs o.world) node w gs n key version body (record {
+pub served_small : (node : Node) (w : World) (clock : ℕ) (gs : Groups) (n : ℕ) (key version : ℤ) (body : List ℕ) → HasSmallLogs w → HasSmallLogs (served node w clock gs n key version body).world
+served_small node w clock gs n key version body small = by_request (λ (o : Outcome). HasSmallLogs o.world) node w clock gs n key version body (record {
   stays = λ after reaction. small;
   commit = λ r. committed_small w (commit_refusal gs r) r small;
-  topics = topics_small node w n key version body small;
+  topics = topics_small node w clock n key version body small;
 })
 
 -- ---- a fetch that waits
 
 -- It waits on in the same world.
-waits_here : (w : World) (r : FetchRequest) (deadline : ℕ) → fetch_answer w r deadline ≡ None → StillWaits w w r deadline
-waits_here w r deadline waits = (waits, refl)
+waits_here : (w : World) (clock : ℕ) (r : FetchRequest) (deadline : ℕ) → fetch_answer w clock r deadline ≡ None → StillWaits w w clock r deadline
+waits_here w clock r deadline waits = (waits, refl)
 
-pub served_waits : (node : Node) (w : World) (gs : Groups) (n : ℕ) (key version : ℤ) (body : List ℕ) (r : FetchRequest) (deadline : ℕ) → IsTied w → fetch_answer w r deadline ≡ None
-    → AreApart (places_of w r) (served node w gs n key version body).touched → StillWaits w (served node w gs n key version body).world r deadline
-served_waits node w gs n key version body r deadline tied waits = by_request (λ (o : Outcome). AreApart (places_of w r) o.touched → StillWaits w o.world r deadline) node w gs n key version body (record {
-  stays = λ after reaction apart. waits_here w r deadline waits;
-  commit = λ q apart. committed_waits w (commit_refusal gs q) q r deadline tied waits;
-  topics = topics_waits node w n key version body r deadline tied waits;
+pub served_waits : (node : Node) (w : World) (clock : ℕ) (gs : Groups) (n : ℕ) (key version : ℤ) (body : List ℕ) (r : FetchRequest) (deadline : ℕ) → IsTied w → fetch_answer w clock r deadline ≡ None
+    → AreApart (places_of w r) (served node w clock gs n key version body).touched → StillWaits w (served node w clock gs n key version body).world clock r deadline
+served_waits node w clock gs n key version body r deadline tied waits = by_request (λ (o : Outcome). AreApart (places_of w r) o.touched → StillWaits w o.world clock r deadline) node w clock gs n key version body (record {
+  stays = λ after reaction apart. waits_here w clock r deadline waits;
+  commit = λ q apart. committed_waits w clock (commit_refusal gs q) q r deadline tied waits;
+  topics = topics_waits node w clock n key version body r deadline tied waits;
 })
 
-pub served_again : (node : Node) (w : World) (gs : Groups) (n : ℕ) (key version : ℤ) (body : List ℕ) (r : FetchRequest) (deadline : ℕ) → IsTied w → HasOwnNames w → fetch_answer w r deadline ≡ None
-    → fetch_answer (served node w gs n key version body).world r deadline ≡ None → places_of (served node w gs n key version body).world r ≡ places_of w r
-served_again node w gs n key version body r deadline tied own waits = by_request (λ (o : Outcome). fetch_answer o.world r deadline ≡ None → places_of o.world r ≡ places_of w r) node w gs n key version body (record {
+pub served_again : (node : Node) (w : World) (clock : ℕ) (gs : Groups) (n : ℕ) (key version : ℤ) (body : List ℕ) (r : FetchRequest) (deadline : ℕ) → IsTied w → HasOwnNames w → fetch_answer w clock r deadline ≡ None
+    → fetch_answer (served node w clock gs n key version body).world clock r deadline ≡ None → places_of (served node w clock gs n key version body).world r ≡ places_of w r
+served_again node w clock gs n key version body r deadline tied own waits = by_request (λ (o : Outcome). fetch_answer o.world clock r deadline ≡ None → places_of o.world r ≡ places_of w r) node w clock gs n key version body (record {
   stays = λ after reaction none. refl;
-  commit = λ q. committed_again w (commit_refusal gs q) q r deadline tied own waits;
-  topics = topics_again node w n key version body r deadline tied own waits;
+  commit = λ q. committed_again w clock (commit_refusal gs q) q r deadline tied own waits;
+  topics = topics_again node w clock n key version body r deadline tied own waits;
 })
 
 -- ---- a request that waits for its group
@@ -70,15 +70,15 @@ silent_told : (k : ℕ) (gs : Groups) → told_to k (silent gs) ≡ Silent
 unfolding reply_among
 silent_told k gs = refl
 
-pub waits_unreleased : (node : Node) (w : World) (gs : Groups) (n k : ℕ) (key version : ℤ) (body : List ℕ) → (served node w gs n key version body).groups ≡ silent gs → told_to k (served node w gs n key version body).groups ≡ Silent
-waits_unreleased node w gs n k key version body is = ap (told_to k) is ∙ silent_told k gs
+pub waits_unreleased : (node : Node) (w : World) (clock : ℕ) (gs : Groups) (n k : ℕ) (key version : ℤ) (body : List ℕ) → (served node w clock gs n key version body).groups ≡ silent gs → told_to k (served node w clock gs n key version body).groups ≡ Silent
+waits_unreleased node w clock gs n k key version body is = ap (told_to k) is ∙ silent_told k gs
 
 -- ---- a fetch at once
 
 same_plain : {x y : tenant_reaction.Reaction} → Plain x ≡ Plain y → x ≡ y
 same_plain h = cc
 
-pub served-holds : (node : Node) (w : World) (gs : Groups) (n : ℕ) (version : ℤ) (body bytes : List ℕ) (r : FetchRequest) → HasSmallLogs w → asked_fetch version body ≡ Ok r
-    → (served node w gs n FETCH version body).reaction ≡ replies bytes → HoldsBatches version w r bytes
+pub served-holds : (node : Node) (w : World) (clock : ℕ) (gs : Groups) (n : ℕ) (version : ℤ) (body bytes : List ℕ) (r : FetchRequest) → HasSmallLogs w → asked_fetch version body ≡ Ok r
+    → (served node w clock gs n FETCH version body).reaction ≡ replies bytes → HoldsBatches version w r bytes
 unfolding served
-served-holds node w gs n version body bytes r small read is = topics-hold node w n version body bytes r small read (same_plain is)
+served-holds node w clock gs n version body bytes r small read is = topics-hold node w clock n version body bytes r small read (same_plain is)

@@ -17,7 +17,6 @@ use Rattle.kb_groups.specs.declared.state.State.{State}
 use Rattle.kb_groups.specs.declared.reply.Release.{Release}
 use Rattle.kb_groups.specs.declared.reply.SyncAnswer.{SyncAnswer}
 use Rattle.kb_groups.specs.declared.reply.SyncAnswer.TheVariants.{Refused, Got, Waits}
-use Rattle.kb_topics.specs.Known.{empty}
 use Rattle.kb_wire.specs.declared.fault.ReadFault.{ReadFault}
 use Rattle.kb_wire.specs.declared.fault.ReadFault.TheVariants as faults
 use Rattle.kb_groups.specs.declared.code.Code.TheVariants as of
@@ -31,7 +30,7 @@ use Rattle.kb_coordinator.specs.Groups as co
 use Rattle.kb_coordinator.specs.Groups.{Groups, first_above, found, silent}
 use Rattle.kb_coordinator.specs.Replies.{join_refusal}
 use Rattle.kb_coordinator.specs.Requests.{assigned_to, join_of, named}
-use Rattle.kb_world.specs.World.{World}
+use Rattle.kb_world.specs.World.{World, new_world}
 use Rattle.kb_tenant.specs.Replies.{Shuts}
 use Rattle.kb_tenant.specs.Serve as tenant
 use Rattle.kb_tenant.specs.declared.node.Node.{Node}
@@ -79,56 +78,56 @@ IsTold n gs o = AreServed n (rebalances o.reaction) gs o.groups
 silent_served : (n : ℕ) (more : Bool) (gs : Groups) → AreServed n more gs (silent gs)
 silent_served n more gs k = omega arith
 
-join_told : (w : World) (n : ℕ) (gs : Groups) (r : JoinGroupRequest) → IsTold n gs (of_join w n gs r)
-join_told w n gs r = by (is_accepted (join_code n r gs))
+join_told : (w : World) (clock n : ℕ) (gs : Groups) (r : JoinGroupRequest) → IsTold n gs (of_join w clock n gs r)
+join_told w clock n gs r = by (is_accepted (join_code n r gs))
   where
     j : Join
     j = join_of gs.members n r
 
-    made : (k : ℕ) (o : Option State) → in_it (λ g. waiting k g.members) o + waiting_in k (co.changed r.group_id (λ h. (one.join w.clock j h).group) gs.groups) ≡ waiting_in k gs.groups + in_it (λ g. waiting k (one.join w.clock j g).group.members) o
-        → members_on k (joined_by w.clock j r.group_id gs o) + replies_on k (joined_by w.clock j r.group_id gs o) ≤ members_on k gs + once (nat_eq n k)
-    made k None s = omega (arith, join_waits k w.clock j one.fresh, insert_in k gs.groups (first_above r.group_id gs.groups) (record { id = r.group_id; group = (one.join w.clock j one.fresh).group }))
-    made k (Some g) s = omega (arith, s, join_waits k w.clock j g)
+    made : (k : ℕ) (o : Option State) → in_it (λ g. waiting k g.members) o + waiting_in k (co.changed r.group_id (λ h. (one.join clock j h).group) gs.groups) ≡ waiting_in k gs.groups + in_it (λ g. waiting k (one.join clock j g).group.members) o
+        → members_on k (joined_by clock j r.group_id gs o) + replies_on k (joined_by clock j r.group_id gs o) ≤ members_on k gs + once (nat_eq n k)
+    made k None s = omega (arith, join_waits k clock j one.fresh, insert_in k gs.groups (first_above r.group_id gs.groups) (record { id = r.group_id; group = (one.join clock j one.fresh).group }))
+    made k (Some g) s = omega (arith, s, join_waits k clock j g)
 
     more : (a c : ℕ) (b : Bool) → a ≤ c + once b → a ≤ c + once (b && true)
     more a c true h = h
     more a c false h = h
 
-    by : (b : Bool) → AreServed n (rebalances (if b then Rebalances else replies (join_refusal (code_of (join_code n r gs)) r.member_id))) gs (if b then joined_by w.clock j r.group_id gs (found r.group_id gs.groups) else silent gs)
-    by true = λ k. more (members_on k (joined_by w.clock j r.group_id gs (found r.group_id gs.groups)) + replies_on k (joined_by w.clock j r.group_id gs (found r.group_id gs.groups))) (members_on k gs) (nat_eq n k)
-        (made k (found r.group_id gs.groups) (swapped k r.group_id (λ h. (one.join w.clock j h).group) gs.groups))
+    by : (b : Bool) → AreServed n (rebalances (if b then Rebalances else replies (join_refusal (code_of (join_code n r gs)) r.member_id))) gs (if b then joined_by clock j r.group_id gs (found r.group_id gs.groups) else silent gs)
+    by true = λ k. more (members_on k (joined_by clock j r.group_id gs (found r.group_id gs.groups)) + replies_on k (joined_by clock j r.group_id gs (found r.group_id gs.groups))) (members_on k gs) (nat_eq n k)
+        (made k (found r.group_id gs.groups) (swapped k r.group_id (λ h. (one.join clock j h).group) gs.groups))
     by false = silent_served n false gs
 
-sync_told : (w : World) (n : ℕ) (gs : Groups) (r : SyncGroupRequest) → IsTold n gs (of_sync w n gs r)
-sync_told w n gs r k = by (found r.group_id gs.groups) (swapped k r.group_id (λ g. (sync_in w.clock n r g).1.group) gs.groups)
+sync_told : (w : World) (clock n : ℕ) (gs : Groups) (r : SyncGroupRequest) → IsTold n gs (of_sync w clock n gs r)
+sync_told w clock n gs r k = by (found r.group_id gs.groups) (swapped k r.group_id (λ g. (sync_in clock n r g).1.group) gs.groups)
   where
-    by : (o : Option State) → in_it (λ g. waiting k g.members) o + waiting_in k (co.changed r.group_id (λ g. (sync_in w.clock n r g).1.group) gs.groups) ≡ waiting_in k gs.groups + in_it (λ g. waiting k (sync_in w.clock n r g).1.group.members) o
-        → waiting_in k (co.changed r.group_id (λ g. (sync_in w.clock n r g).1.group) gs.groups) + given k (by_group [] (λ g. (sync_in w.clock n r g).1.released) o) ≤ waiting_in k gs.groups + once (nat_eq n k && rebalances (sync_reaction (by_group (Refused of.UnknownMemberId) (λ g. (sync_in w.clock n r g).0) o)))
+    by : (o : Option State) → in_it (λ g. waiting k g.members) o + waiting_in k (co.changed r.group_id (λ g. (sync_in clock n r g).1.group) gs.groups) ≡ waiting_in k gs.groups + in_it (λ g. waiting k (sync_in clock n r g).1.group.members) o
+        → waiting_in k (co.changed r.group_id (λ g. (sync_in clock n r g).1.group) gs.groups) + given k (by_group [] (λ g. (sync_in clock n r g).1.released) o) ≤ waiting_in k gs.groups + once (nat_eq n k && rebalances (sync_reaction (by_group (Refused of.UnknownMemberId) (λ g. (sync_in clock n r g).0) o)))
     by None s = omega (arith, s)
-    by (Some g) s = omega (arith, s, sync_known_waits k w.clock n (named r.member_id) r.generation_id (map assigned_to r.assignments) g)
+    by (Some g) s = omega (arith, s, sync_known_waits k clock n (named r.member_id) r.generation_id (map assigned_to r.assignments) g)
 
-leave_told : (w : World) (n : ℕ) (gs : Groups) (r : LeaveGroupRequest) → IsTold n gs (of_leave w gs r)
-leave_told w n gs r k = by (found r.group_id gs.groups) (swapped k r.group_id (λ g. (one.leave w.clock (named r.member_id) g).group) gs.groups)
+leave_told : (w : World) (clock n : ℕ) (gs : Groups) (r : LeaveGroupRequest) → IsTold n gs (of_leave w clock gs r)
+leave_told w clock n gs r k = by (found r.group_id gs.groups) (swapped k r.group_id (λ g. (one.leave clock (named r.member_id) g).group) gs.groups)
   where
-    by : (o : Option State) → in_it (λ g. waiting k g.members) o + waiting_in k (co.changed r.group_id (λ g. (one.leave w.clock (named r.member_id) g).group) gs.groups) ≡ waiting_in k gs.groups + in_it (λ g. waiting k (one.leave w.clock (named r.member_id) g).group.members) o
-        → waiting_in k (co.changed r.group_id (λ g. (one.leave w.clock (named r.member_id) g).group) gs.groups) + given k (by_group [] (λ g. (one.leave w.clock (named r.member_id) g).released) o) ≤ waiting_in k gs.groups + once (nat_eq n k && false)
+    by : (o : Option State) → in_it (λ g. waiting k g.members) o + waiting_in k (co.changed r.group_id (λ g. (one.leave clock (named r.member_id) g).group) gs.groups) ≡ waiting_in k gs.groups + in_it (λ g. waiting k (one.leave clock (named r.member_id) g).group.members) o
+        → waiting_in k (co.changed r.group_id (λ g. (one.leave clock (named r.member_id) g).group) gs.groups) + given k (by_group [] (λ g. (one.leave clock (named r.member_id) g).released) o) ≤ waiting_in k gs.groups + once (nat_eq n k && false)
     by None s = omega (arith, s)
-    by (Some g) s = omega (arith, s, leave_waits k w.clock (named r.member_id) g)
+    by (Some g) s = omega (arith, s, leave_waits k clock (named r.member_id) g)
 
-heartbeat_told : (w : World) (n : ℕ) (gs : Groups) (r : HeartbeatRequest) → IsTold n gs (of_heartbeat w gs r)
-heartbeat_told w n gs r k =
-    let f : State → State = one.after_heartbeat w.clock (named r.member_id) r.generation_id in
-    omega (arith, same_in k r.group_id f (λ g. touched_waits k (one.starts (one.heartbeat (named r.member_id) r.generation_id g)) w.clock (named r.member_id) g) gs.groups)
+heartbeat_told : (w : World) (clock n : ℕ) (gs : Groups) (r : HeartbeatRequest) → IsTold n gs (of_heartbeat w clock gs r)
+heartbeat_told w clock n gs r k =
+    let f : State → State = one.after_heartbeat clock (named r.member_id) r.generation_id in
+    omega (arith, same_in k r.group_id f (λ g. touched_waits k (one.starts (one.heartbeat (named r.member_id) r.generation_id g)) clock (named r.member_id) g) gs.groups)
 
-commit_told : (w : World) (n : ℕ) (gs : Groups) (r : OffsetCommitRequest) → IsTold n gs (of_offset_commit w gs r)
-commit_told w n gs r = by (one.is_empty r.group_id)
+commit_told : (w : World) (clock n : ℕ) (gs : Groups) (r : OffsetCommitRequest) → IsTold n gs (of_offset_commit w clock gs r)
+commit_told w clock n gs r = by (one.is_empty r.group_id)
   where
     f : State → State
-    f = one.after_may_commit w.clock (named r.member_id) r.generation_id
+    f = one.after_may_commit clock (named r.member_id) r.generation_id
 
     by : (b : Bool) → AreServed n false gs (if b then silent gs else record gs { groups = co.changed r.group_id f gs.groups; released = [] })
     by true = silent_served n false gs
-    by false = λ k. omega (arith, same_in k r.group_id f (λ g. touched_waits k (one.is_fine (one.may_commit (named r.member_id) r.generation_id g)) w.clock (named r.member_id) g) gs.groups)
+    by false = λ k. omega (arith, same_in k r.group_id f (λ g. touched_waits k (one.is_fine (one.may_commit (named r.member_id) r.generation_id g)) clock (named r.member_id) g) gs.groups)
 
 read_told : {A : Type 0} (w : World) (n : ℕ) (gs : Groups) (r : Result A WireFault) (f : A → Outcome) → ((a : A) → IsTold n gs (f a)) → IsTold n gs (if_read w gs r f)
 read_told w n gs (Ok a) f each = each a
@@ -138,24 +137,24 @@ either : (n : ℕ) (gs : Groups) (b : Bool) (o p : Outcome) → IsTold n gs o �
 either n gs true o p first second = first
 either n gs false o p first second = second
 
-pub served_told : (node : Node) (w : World) (gs : Groups) (n : ℕ) (key version : ℤ) (body : List ℕ) → AreServed n (rebalances (served node w gs n key version body).reaction) gs (served node w gs n key version body).groups
+pub served_told : (node : Node) (w : World) (clock : ℕ) (gs : Groups) (n : ℕ) (key version : ℤ) (body : List ℕ) → AreServed n (rebalances (served node w clock gs n key version body).reaction) gs (served node w clock gs n key version body).groups
 unfolding served
-served_told node w gs n key version body =
-    let others : Outcome = of_topics gs (tenant.plainly_served node w n key version body) in
-    let syncs : Outcome = if_read w gs (whole sync_group_request body) (of_sync w n gs) in
-    let leaves : Outcome = if_read w gs (whole leave_group_request body) (of_leave w gs) in
-    let beats : Outcome = if_read w gs (whole heartbeat_request body) (of_heartbeat w gs) in
-    let joins : Outcome = if_read w gs (whole join_group_request body) (of_join w n gs) in
-    let commits : Outcome = if_read w gs (whole offset_commit_request body) (of_offset_commit w gs) in
+served_told node w clock gs n key version body =
+    let others : Outcome = of_topics gs (tenant.plainly_served node w clock n key version body) in
+    let syncs : Outcome = if_read w gs (whole sync_group_request body) (of_sync w clock n gs) in
+    let leaves : Outcome = if_read w gs (whole leave_group_request body) (of_leave w clock gs) in
+    let beats : Outcome = if_read w gs (whole heartbeat_request body) (of_heartbeat w clock gs) in
+    let joins : Outcome = if_read w gs (whole join_group_request body) (of_join w clock n gs) in
+    let commits : Outcome = if_read w gs (whole offset_commit_request body) (of_offset_commit w clock gs) in
     let from_sync : Outcome = if int_eq key SYNC_GROUP then syncs else others in
     let from_leave : Outcome = if int_eq key LEAVE_GROUP then leaves else from_sync in
     let from_heartbeat : Outcome = if int_eq key HEARTBEAT then beats else from_leave in
     let from_join : Outcome = if int_eq key JOIN_GROUP then joins else from_heartbeat in
-    either n gs (int_eq key OFFSET_COMMIT) commits from_join (read_told w n gs (whole offset_commit_request body) (of_offset_commit w gs) (commit_told w n gs))
-    (either n gs (int_eq key JOIN_GROUP) joins from_heartbeat (read_told w n gs (whole join_group_request body) (of_join w n gs) (join_told w n gs))
-    (either n gs (int_eq key HEARTBEAT) beats from_leave (read_told w n gs (whole heartbeat_request body) (of_heartbeat w gs) (heartbeat_told w n gs))
-    (either n gs (int_eq key LEAVE_GROUP) leaves from_sync (read_told w n gs (whole leave_group_request body) (of_leave w gs) (leave_told w n gs))
-    (either n gs (int_eq key SYNC_GROUP) syncs others (read_told w n gs (whole sync_group_request body) (of_sync w n gs) (sync_told w n gs)) (silent_served n false gs)))))
+    either n gs (int_eq key OFFSET_COMMIT) commits from_join (read_told w n gs (whole offset_commit_request body) (of_offset_commit w clock gs) (commit_told w clock n gs))
+    (either n gs (int_eq key JOIN_GROUP) joins from_heartbeat (read_told w n gs (whole join_group_request body) (of_join w clock n gs) (join_told w clock n gs))
+    (either n gs (int_eq key HEARTBEAT) beats from_leave (read_told w n gs (whole heartbeat_request body) (of_heartbeat w clock gs) (heartbeat_told w clock n gs))
+    (either n gs (int_eq key LEAVE_GROUP) leaves from_sync (read_told w n gs (whole leave_group_request body) (of_leave w clock gs) (leave_told w clock n gs))
+    (either n gs (int_eq key SYNC_GROUP) syncs others (read_told w n gs (whole sync_group_request body) (of_sync w clock n gs) (sync_told w clock n gs)) (silent_served n false gs)))))
 
 -- 3. A moment, and a connection that is gone
 
@@ -189,19 +188,19 @@ left_none clock n [] = refl
 left_none clock n (e ∷ es) = omega (arith, left_none clock n es, dropped_none clock n e.group.members)
 
 -- whatever was refused to a request
-pub after_told : (node : Node) (w : World) (gs : Groups) (n : ℕ) (key version : ℤ) (body : List ℕ) (answer : Answer) (new : Groups) → AreGroupsAfter gs (served node w gs n key version body).groups answer new → AreServed n true gs new
-after_told node w gs n key version body answer new (inl made) = λ k. subst (λ (x : Groups). members_on k x + replies_on k x ≤ members_on k gs + once (nat_eq n k && true)) (sym made)
-    (by k (nat_eq n k) (rebalances (served node w gs n key version body).reaction) (served_told node w gs n key version body k))
+pub after_told : (node : Node) (w : World) (clock : ℕ) (gs : Groups) (n : ℕ) (key version : ℤ) (body : List ℕ) (answer : Answer) (new : Groups) → AreGroupsAfter gs (served node w clock gs n key version body).groups answer new → AreServed n true gs new
+after_told node w clock gs n key version body answer new (inl made) = λ k. subst (λ (x : Groups). members_on k x + replies_on k x ≤ members_on k gs + once (nat_eq n k && true)) (sym made)
+    (by k (nat_eq n k) (rebalances (served node w clock gs n key version body).reaction) (served_told node w clock gs n key version body k))
   where
-    by : (k : ℕ) (a b : Bool) → members_on k (served node w gs n key version body).groups + replies_on k (served node w gs n key version body).groups ≤ members_on k gs + once (a && b)
-        → members_on k (served node w gs n key version body).groups + replies_on k (served node w gs n key version body).groups ≤ members_on k gs + once (a && true)
+    by : (k : ℕ) (a b : Bool) → members_on k (served node w clock gs n key version body).groups + replies_on k (served node w clock gs n key version body).groups ≤ members_on k gs + once (a && b)
+        → members_on k (served node w clock gs n key version body).groups + replies_on k (served node w clock gs n key version body).groups ≤ members_on k gs + once (a && true)
     by k a true h = h
     by k a false h = let less : once (a && false) ≡ 0 = none a in omega (arith, h, less)
       where
         none : (a : Bool) → once (a && false) ≡ 0
         none true = refl
         none false = refl
-after_told node w gs n key version body answer new (inr stays) = subst (AreServed n true gs) (sym stays.0) (silent_served n true gs)
+after_told node w clock gs n key version body answer new (inr stays) = subst (AreServed n true gs) (sym stays.0) (silent_served n true gs)
 
 -- a moment of the groups
 pub passed_told : (clock : ℕ) (old new : Groups) (refused : ℕ) → Ticks clock old.groups new.groups new.released refused → AreTicked old new
@@ -221,25 +220,25 @@ told_groups n old made new (Err (faults.Wire fault)) served is = subst (λ (x : 
 told_groups n old made new (Err faults.Memory) served (inl is) = subst (λ (x : Groups). members_on n x ≤ members_on n old) (sym is) (fewer_on n old made served)
 told_groups n old made new (Err faults.Memory) served (inr is) = subst (λ (x : Groups). members_on n x ≤ members_on n old) (sym is) (omega arith)
 
-pub heartbeat_waits : (w : World) (n : ℕ) (gs new : Groups) (body : List ℕ) (r : Result Answer ReadFault) → AreGroupsBy gs (if_read w gs (whole heartbeat_request body) (of_heartbeat w gs)).groups r new → IsWaitToldBy n gs r new
-heartbeat_waits w n gs new body r is = told_groups n gs (if_read w gs (whole heartbeat_request body) (of_heartbeat w gs)).groups new r (by (whole heartbeat_request body)) is
+pub heartbeat_waits : (w : World) (clock n : ℕ) (gs new : Groups) (body : List ℕ) (r : Result Answer ReadFault) → AreGroupsBy gs (if_read w gs (whole heartbeat_request body) (of_heartbeat w clock gs)).groups r new → IsWaitToldBy n gs r new
+heartbeat_waits w clock n gs new body r is = told_groups n gs (if_read w gs (whole heartbeat_request body) (of_heartbeat w clock gs)).groups new r (by (whole heartbeat_request body)) is
   where
-    by : (q : Result HeartbeatRequest WireFault) → AreServed n false gs (if_read w gs q (of_heartbeat w gs)).groups
-    by (Ok q) = heartbeat_told w n gs q
+    by : (q : Result HeartbeatRequest WireFault) → AreServed n false gs (if_read w gs q (of_heartbeat w clock gs)).groups
+    by (Ok q) = heartbeat_told w clock n gs q
     by (Err fault) = silent_served n false gs
 
-pub leave_waits_told : (w : World) (n : ℕ) (gs new : Groups) (body : List ℕ) (r : Result Answer ReadFault) → AreGroupsBy gs (if_read w gs (whole leave_group_request body) (of_leave w gs)).groups r new → IsWaitToldBy n gs r new
-leave_waits_told w n gs new body r is = told_groups n gs (if_read w gs (whole leave_group_request body) (of_leave w gs)).groups new r (by (whole leave_group_request body)) is
+pub leave_waits_told : (w : World) (clock n : ℕ) (gs new : Groups) (body : List ℕ) (r : Result Answer ReadFault) → AreGroupsBy gs (if_read w gs (whole leave_group_request body) (of_leave w clock gs)).groups r new → IsWaitToldBy n gs r new
+leave_waits_told w clock n gs new body r is = told_groups n gs (if_read w gs (whole leave_group_request body) (of_leave w clock gs)).groups new r (by (whole leave_group_request body)) is
   where
-    by : (q : Result LeaveGroupRequest WireFault) → AreServed n false gs (if_read w gs q (of_leave w gs)).groups
-    by (Ok q) = leave_told w n gs q
+    by : (q : Result LeaveGroupRequest WireFault) → AreServed n false gs (if_read w gs q (of_leave w clock gs)).groups
+    by (Ok q) = leave_told w clock n gs q
     by (Err fault) = silent_served n false gs
 
-pub commit_waits : (w : World) (n : ℕ) (gs new : Groups) (body : List ℕ) (r : Result Answer ReadFault) → AreGroupsBy gs (if_read w gs (whole offset_commit_request body) (of_offset_commit w gs)).groups r new → IsWaitToldBy n gs r new
-commit_waits w n gs new body r is = told_groups n gs (if_read w gs (whole offset_commit_request body) (of_offset_commit w gs)).groups new r (by (whole offset_commit_request body)) is
+pub commit_waits : (w : World) (clock n : ℕ) (gs new : Groups) (body : List ℕ) (r : Result Answer ReadFault) → AreGroupsBy gs (if_read w gs (whole offset_commit_request body) (of_offset_commit w clock gs)).groups r new → IsWaitToldBy n gs r new
+commit_waits w clock n gs new body r is = told_groups n gs (if_read w gs (whole offset_commit_request body) (of_offset_commit w clock gs)).groups new r (by (whole offset_commit_request body)) is
   where
-    by : (q : Result OffsetCommitRequest WireFault) → AreServed n false gs (if_read w gs q (of_offset_commit w gs)).groups
-    by (Ok q) = commit_told w n gs q
+    by : (q : Result OffsetCommitRequest WireFault) → AreServed n false gs (if_read w gs q (of_offset_commit w clock gs)).groups
+    by (Ok q) = commit_told w clock n gs q
     by (Err fault) = silent_served n false gs
 
 -- a join that is not accepted
@@ -253,8 +252,7 @@ join_refused_waits n clock gs quiet new r is after refused =
 -- a sync that does not wait
 pub sync_waits_told : (n clock : ℕ) (gs quiet new : Groups) (r : SyncGroupRequest) (answer : SyncAnswer) → quiet ≡ silent gs → new ≡ after_sync clock n r quiet → answer ≡ sync_answer clock n r quiet → (answer ≡ Waits → ⊥) → members_on n new ≤ members_on n gs
 sync_waits_told n clock gs quiet new r answer is after says never =
-    let w : World = record { known = empty; logs = []; clock = clock } in
-    let told = sync_told w n quiet r n in
+    let told = sync_told new_world clock n quiet r n in
     let same = ap (members_on n) after in
     let c = ap (members_on n) is in
     let none : once (nat_eq n n && rebalances (sync_reaction (sync_answer clock n r quiet))) ≡ 0 = by (nat_eq n n) (sync_answer clock n r quiet) (λ e. never (says ∙ e)) in

@@ -1,33 +1,26 @@
 -- A tenant among the others of a broker: what it keeps, and what a moment and the end of a connection leave of it.
-use Rattle.std.specs.Prelude.{ℕ, List, [], map, get_or}
+use Rattle.std.specs.Prelude.{ℕ, List, map, get_or}
 use Rattle.kb_coordinator.specs.Calls as groups
 use Rattle.kb_coordinator.specs.Groups.{Groups, none}
-use Rattle.kb_topics.specs.Known.{Known, empty}
-use Rattle.kb_partitions.specs.Logs.{Logs}
 use Rattle.kb_world.specs.Calls.{retain_all}
-use Rattle.kb_world.specs.World.{World}
+use Rattle.kb_world.specs.World.{World, new_world}
 
--- what a tenant keeps from one request to the next: its topics with what is recorded of them, their logs, and its consumer groups
+-- what a tenant keeps from one request to the next: its topics with what is recorded of them and their logs, and its consumer groups
 pub record Kept : Type 0 where
-  pub known : Known
-  pub logs : Logs
+  pub world : World
   pub groups : Groups
 
 -- nothing was made yet
 abbrev pub nothing : Kept
-nothing = record { known = empty; logs = []; groups = none }
-
--- what a tenant sees of its topics at a time
-abbrev pub world_at : Kept → ℕ → World
-world_at kept clock = record { known = kept.known; logs = kept.logs; clock = clock }
+nothing = record { world = new_world; groups = none }
 
 abbrev pub kept_in : World → Groups → Kept
-kept_in w gs = record { known = w.known; logs = w.logs; groups = gs }
+kept_in w gs = record { world = w; groups = gs }
 
--- what is kept after a moment: its groups', if a session of one ends or a deadline comes, and then retention, for which each
--- partition's settings are asked, by topic name and number
+-- what is kept after a moment, at a time of the clock in milliseconds: its groups', if a session of one ends or a deadline comes, and
+-- then retention, for which each partition's settings are asked, by topic name and number
 unfoldable pub passed : ℕ → Kept → Kept
-passed clock kept = kept_in (retain_all (world_at kept clock)).0 (groups.passed clock kept.groups)
+passed clock kept = kept_in (retain_all clock kept.world).0 (groups.passed clock kept.groups)
 
 -- what is kept once the connection of number n is gone on which a member waited: the member stays, and its session starts
 unfoldable pub left : ℕ → ℕ → Kept → Kept

@@ -47,25 +47,25 @@ of_groups w gs reaction = record { world = w; groups = gs; touched = []; reactio
 -- ---- JoinGroup, SyncGroup, Heartbeat, LeaveGroup
 
 -- A join that is accepted waits; its reply may come with it.
-abbrev pub of_join : World → ℕ → Groups → JoinGroupRequest → Outcome
-of_join w n gs r = let code = join_code n r gs in
-    of_groups w (after_join w.clock n r gs) (if is_accepted code then Rebalances else replies (join_refusal (code_of code) r.member_id))
+abbrev pub of_join : World → ℕ → ℕ → Groups → JoinGroupRequest → Outcome
+of_join w clock n gs r = let code = join_code n r gs in
+    of_groups w (after_join clock n r gs) (if is_accepted code then Rebalances else replies (join_refusal (code_of code) r.member_id))
 
 abbrev pub sync_reaction : SyncAnswer → Reaction
 sync_reaction (sync.Refused code) = replies (sync_spelled (sync.Refused code))
 sync_reaction (sync.Got assignment) = replies (sync_spelled (sync.Got assignment))
 sync_reaction sync.Waits = Rebalances
 
-abbrev pub of_sync : World → ℕ → Groups → SyncGroupRequest → Outcome
-of_sync w n gs r = of_groups w (after_sync w.clock n r gs) (sync_reaction (sync_answer w.clock n r gs))
+abbrev pub of_sync : World → ℕ → ℕ → Groups → SyncGroupRequest → Outcome
+of_sync w clock n gs r = of_groups w (after_sync clock n r gs) (sync_reaction (sync_answer clock n r gs))
 
-abbrev pub of_heartbeat : World → Groups → HeartbeatRequest → Outcome
-of_heartbeat w gs r =
-    of_groups w (after_heartbeat w.clock r gs) (replies (heartbeat_reply.written (record { error_code = number (heartbeat_code r gs) })))
+abbrev pub of_heartbeat : World → ℕ → Groups → HeartbeatRequest → Outcome
+of_heartbeat w clock gs r =
+    of_groups w (after_heartbeat clock r gs) (replies (heartbeat_reply.written (record { error_code = number (heartbeat_code r gs) })))
 
-abbrev pub of_leave : World → Groups → LeaveGroupRequest → Outcome
-of_leave w gs r =
-    of_groups w (after_leave w.clock r gs) (replies (leave_group_reply.written (record { error_code = number (leave_code r gs) })))
+abbrev pub of_leave : World → ℕ → Groups → LeaveGroupRequest → Outcome
+of_leave w clock gs r =
+    of_groups w (after_leave clock r gs) (replies (leave_group_reply.written (record { error_code = number (leave_code r gs) })))
 
 -- ---- OffsetCommit
 
@@ -76,12 +76,12 @@ refusal_in code = if is_accepted code then None else Some (code_of code)
 abbrev pub commit_refusal : Groups → OffsetCommitRequest → Option ℤ
 commit_refusal gs r = refusal_in (may_commit r.group_id r.member_id r.generation_id gs)
 
-abbrev pub of_offset_commit : World → Groups → OffsetCommitRequest → Outcome
-of_offset_commit w gs r =
+abbrev pub of_offset_commit : World → ℕ → Groups → OffsetCommitRequest → Outcome
+of_offset_commit w clock gs r =
     let c = committed_all w (commit_refusal gs r) r in
     record {
       world = c.0;
-      groups = after_may_commit w.clock r.group_id r.member_id r.generation_id gs;
+      groups = after_may_commit clock r.group_id r.member_id r.generation_id gs;
       touched = [];
       reaction = replies (offset_commit_reply.written c.1);
     }
@@ -97,15 +97,15 @@ abbrev pub if_read : {A : Type 0} → World → Groups → Result A WireFault �
 if_read w gs (Ok v) f = f v
 if_read w gs (Err fault) f = of_groups w (silent gs) (Plain Shuts)
 
--- a request on the connection of number n; those of other APIs are for no group
-unfoldable pub served : Node → World → Groups → ℕ → ℤ → ℤ → List ℕ → Outcome
-served node w gs n key version body =
-    if int_eq key OFFSET_COMMIT then if_read w gs (whole offset_commit_request body) (of_offset_commit w gs)
-    else if int_eq key JOIN_GROUP then if_read w gs (whole join_group_request body) (of_join w n gs)
-    else if int_eq key HEARTBEAT then if_read w gs (whole heartbeat_request body) (of_heartbeat w gs)
-    else if int_eq key LEAVE_GROUP then if_read w gs (whole leave_group_request body) (of_leave w gs)
-    else if int_eq key SYNC_GROUP then if_read w gs (whole sync_group_request body) (of_sync w n gs)
-    else of_topics gs (tenant.plainly_served node w n key version body)
+-- a request on the connection of number n, at a time of the clock in milliseconds; those of other APIs are for no group
+unfoldable pub served : Node → World → ℕ → Groups → ℕ → ℤ → ℤ → List ℕ → Outcome
+served node w clock gs n key version body =
+    if int_eq key OFFSET_COMMIT then if_read w gs (whole offset_commit_request body) (of_offset_commit w clock gs)
+    else if int_eq key JOIN_GROUP then if_read w gs (whole join_group_request body) (of_join w clock n gs)
+    else if int_eq key HEARTBEAT then if_read w gs (whole heartbeat_request body) (of_heartbeat w clock gs)
+    else if int_eq key LEAVE_GROUP then if_read w gs (whole leave_group_request body) (of_leave w clock gs)
+    else if int_eq key SYNC_GROUP then if_read w gs (whole sync_group_request body) (of_sync w clock n gs)
+    else of_topics gs (tenant.plainly_served node w clock n key version body)
 
 -- whether the last request or moment answered requests that waited
 abbrev pub has_released : Groups → Bool

@@ -3,7 +3,7 @@ ghost use Rattle.std.specs.Prelude.{◌≡◌, [], IfOk};
 ghost use Rattle.kb_api_group.specs.Layouts.{offset_commit_request};
 ghost use Rattle.kb_coordinator.specs.Calls.{after_may_commit};
 ghost use Rattle.kb_wire.specs.Codec.{whole};
-ghost use Rattle.kb_partitions.specs.Scene.{WhereHonest};
+ghost use Rattle.kb_world.specs.Scene.{WhereHonest};
 ghost use Rattle.kb_tenant.specs.Told.{CatalogFailed};
 ghost use Rattle.kb_world.specs.Parts.{scene};
 ghost use Rattle.kb_world.specs.Steps.{IsStep, Meets};
@@ -36,32 +36,33 @@ fn refusal(groups: &mut Coordinator, clock: u64, request: &OffsetCommitRequest<'
     if error == 0 { None } else { Some(error) }
 }
 
-/// OffsetCommit.
+/// OffsetCommit, at that clock in milliseconds.
 pub(crate) fn commit_offsets<L: PartitionLog + Drop, S: Store>(
     alloc: Global,
     parts: &mut Parts<L>,
     groups: &mut Coordinator,
     shelf: &mut Shelf<S>,
+    clock: u64,
     request: &Request<'_>,
 ) -> Result<Answer, ReadFault>
     requires { (scene L.log S.disk parts.old shelf.old).sound }
     ensures step { IsStep (scene L.log S.disk parts.old shelf.old) (scene L.log S.disk parts.new shelf.new) }
     ensures meets { let a = scene L.log S.disk parts.old shelf.old in let b = scene L.log S.disk parts.new shelf.new in
         Meets a b (IsServed request.now.correlation_id
-        (if_read a.state.world groups.old (whole offset_commit_request request.now.body.now) (of_offset_commit a.state.world groups.old))
-        b.state.world groups.new [] result) }
+        (if_read a.state.world groups.old (whole offset_commit_request request.now.body.now)
+        (of_offset_commit a.state.world clock groups.old)) b.state.world groups.new [] result) }
     // An offset that is answered with no error is what the catalog has, whatever else was refused.
     ensures acknowledged { let a = scene L.log S.disk parts.old shelf.old in let b = scene L.log S.disk parts.new shelf.new in
         IfOk result (λ answer. WhereHonest a b (AcknowledgesCommits
         (CatalogFailed a b) request.now.correlation_id groups.old a.state.world request.now.body.now b.state.world answer)) }
     ensures groups { let a = scene L.log S.disk parts.old shelf.old in
         AreGroupsBy groups.old (if_read a.state.world groups.old (whole offset_commit_request request.now.body.now)
-        (of_offset_commit a.state.world groups.old)).groups result groups.new }
+        (of_offset_commit a.state.world clock groups.old)).groups result groups.new }
 {
     groups.silence();
     let asked = OffsetCommitRequest::read(alloc, request.body)?;
     let mut sink = begin(alloc, request.correlation_id)?;
-    let refusal = refusal(groups, parts.clock(), &asked);
+    let refusal = refusal(groups, clock, &asked);
     offset_commit(parts, shelf, &asked, refusal, &mut sink)?;
     Ok(Answer::Plain(finish(sink)))
 }

@@ -3,7 +3,7 @@ ghost use Rattle.std.specs.Prelude.{◌≡◌, ◌≤◌, ◌^◌, [], IfOk, IsO
 ghost use Rattle.kb_wire.specs.Codec.{string};
 ghost use Rattle.kb_wire.specs.declared.api_key.TheConstants.{PRODUCE, FETCH, LIST_OFFSETS, OFFSET_COMMIT, CREATE_TOPICS, DELETE_TOPICS};
 ghost use Rattle.kb_wire.specs.declared.api_key.TheConstants.{DELETE_RECORDS, INIT_PRODUCER_ID};
-ghost use Rattle.kb_partitions.specs.Scene.{WhereHonest};
+ghost use Rattle.kb_world.specs.Scene.{WhereHonest};
 ghost use Rattle.kb_world.specs.Parts.{scene};
 ghost use Rattle.kb_world.specs.Steps.{IsStep, Meets};
 ghost use Rattle.kb_tenant.specs.Told.{HasFailed, CatalogFailed, CreationFailed, Acknowledges, AcknowledgesCreations};
@@ -32,18 +32,19 @@ fn serve_by_key<L: PartitionLog + Drop, S: Store>(
     groups: &mut Coordinator,
     shelf: &mut Shelf<S>,
     node: &Node<'_>,
+    clock: u64,
     request: &Request<'_>,
     touched: &mut Vec<TopicPartition>,
 ) -> Result<Answer, ReadFault>
     requires untouched { touched.old.items ≡ [] }
     requires host { string.Fits node.now.host }
-    requires clock { parts.old.clock ≤ 4611686018427387904 }
+    requires clock { clock ≤ 4611686018427387904 }
     requires sound { (scene L.log S.disk parts.old shelf.old).sound }
     ensures step { IsStep (scene L.log S.disk parts.old shelf.old) (scene L.log S.disk parts.new shelf.new) }
     ensures meets { let a = scene L.log S.disk parts.old shelf.old in let b = scene L.log S.disk parts.new shelf.new in
         Meets a b (IsServed request.now.correlation_id
-        (served node.now a.state.world groups.old request.now.connection request.now.api_key request.now.api_version request.now.body.now)
-        b.state.world groups.new touched.new.items result) }
+        (served node.now a.state.world clock groups.old request.now.connection request.now.api_key request.now.api_version
+        request.now.body.now) b.state.world groups.new touched.new.items result) }
     ensures acknowledged { let a = scene L.log S.disk parts.old shelf.old in let b = scene L.log S.disk parts.new shelf.new in
         request.now.api_key ≡ PRODUCE → IfOk result (λ answer. WhereHonest a b (IsPlainly (Acknowledges (HasFailed a b)
         request.now.correlation_id a.state.world request.now.body.now b.state.world touched.new.items) answer)) }
@@ -53,7 +54,7 @@ fn serve_by_key<L: PartitionLog + Drop, S: Store>(
     ensures answered { request.now.api_key ≡ PRODUCE → IsOk result }
     ensures fetched { let a = scene L.log S.disk parts.old shelf.old in let b = scene L.log S.disk parts.new shelf.new in
         request.now.api_key ≡ FETCH → IfOk result (λ answer. WhereHonest a b (IsPlainly (AnswersFetch (HasFailed a b)
-        request.now.correlation_id request.now.api_version a.state.world request.now.body.now) answer)) }
+        request.now.correlation_id request.now.api_version a.state.world clock request.now.body.now) answer)) }
     ensures listed { let a = scene L.log S.disk parts.old shelf.old in let b = scene L.log S.disk parts.new shelf.new in
         request.now.api_key ≡ LIST_OFFSETS → IfOk result (λ answer. WhereHonest a b (IsPlainly (AnswersListing (HasFailed a b)
         request.now.correlation_id a.state.world request.now.body.now) answer)) }
@@ -73,20 +74,19 @@ fn serve_by_key<L: PartitionLog + Drop, S: Store>(
         request.now.api_key ≡ OFFSET_COMMIT → IfOk result (λ answer. WhereHonest a b (AcknowledgesCommits (CatalogFailed a b)
         request.now.correlation_id groups.old a.state.world request.now.body.now b.state.world answer)) }
     ensures groups { let a = scene L.log S.disk parts.old shelf.old in
-        AreGroupsBy groups.old (served node.now a.state.world groups.old request.now.connection request.now.api_key request.now.api_version
-        request.now.body.now).groups result groups.new }
+        AreGroupsBy groups.old (served node.now a.state.world clock groups.old request.now.connection request.now.api_key
+        request.now.api_version request.now.body.now).groups result groups.new }
     ensures waits { IsWaitToldBy request.now.connection groups.old result groups.new }
 {
-    let clock = parts.clock();
     match request.api_key {
-        api_key::OFFSET_COMMIT => commit_offsets(alloc, parts, groups, shelf, request),
+        api_key::OFFSET_COMMIT => commit_offsets(alloc, parts, groups, shelf, clock, request),
         api_key::JOIN_GROUP => join_group(alloc, groups, clock, request),
         api_key::HEARTBEAT => heartbeat(alloc, groups, clock, request),
         api_key::LEAVE_GROUP => leave_group(alloc, groups, clock, request),
         api_key::SYNC_GROUP => sync_group(alloc, groups, clock, request),
         _ => {
             groups.silence();
-            let served = kb_tenant::serve(alloc, parts, shelf, node, request);
+            let served = kb_tenant::serve(alloc, parts, shelf, node, clock, request);
             *touched = served.touched;
             Ok(Answer::Plain(served.answer))
         }
@@ -107,7 +107,7 @@ fn served_with(answer: Answer, touched: Vec<TopicPartition>, groups: &Coordinato
     }
 }
 
-/// Serves a request of a tenant, at the clock of its parts, in milliseconds.
+/// Serves a request of a tenant, at a time of the clock in milliseconds.
 ///
 /// A body that is not the API's, a key that is not a tenant's and a reply whose size does not fit an INT32 shut the connection. So does
 /// want of memory for the read request, the reply or a wait, which is counted. Whatever was refused, and on any store, the groups are
@@ -118,16 +118,17 @@ pub fn serve<L: PartitionLog + Drop, S: Store>(
     groups: &mut Coordinator,
     shelf: &mut Shelf<S>,
     node: &Node<'_>,
+    clock: u64,
     request: &Request<'_>,
 ) -> Served
     requires host { string.Fits node.now.host }
-    requires clock { (scene L.log S.disk parts.old shelf.old).state.world.clock ≤ 2 ^ 62 }
+    requires clock { clock ≤ 2 ^ 62 }
     requires sound { (scene L.log S.disk parts.old shelf.old).sound }
     ensures step { IsStep (scene L.log S.disk parts.old shelf.old) (scene L.log S.disk parts.new shelf.new) }
     ensures meets { let a = scene L.log S.disk parts.old shelf.old in let b = scene L.log S.disk parts.new shelf.new in
         Meets a b (IsOutcome request.now.correlation_id
-        (served node.now a.state.world groups.old request.now.connection request.now.api_key request.now.api_version request.now.body.now)
-        b.state.world groups.new result.touched.items result.answer) }
+        (served node.now a.state.world clock groups.old request.now.connection request.now.api_key request.now.api_version
+        request.now.body.now) b.state.world groups.new result.touched.items result.answer) }
     // A batch of a Produce that is answered with no error is in its partition's log, whatever else was refused.
     ensures acknowledged { let a = scene L.log S.disk parts.old shelf.old in let b = scene L.log S.disk parts.new shelf.new in
         request.now.api_key ≡ PRODUCE → WhereHonest a b (IsPlainly (Acknowledges (HasFailed a b)
@@ -138,7 +139,7 @@ pub fn serve<L: PartitionLog + Drop, S: Store>(
     // A Fetch has of each partition what is defined, or the code of what refused it, whatever was refused.
     ensures fetched { let a = scene L.log S.disk parts.old shelf.old in let b = scene L.log S.disk parts.new shelf.new in
         request.now.api_key ≡ FETCH → WhereHonest a b (IsPlainly (AnswersFetch (HasFailed a b)
-        request.now.correlation_id request.now.api_version a.state.world request.now.body.now) result.answer) }
+        request.now.correlation_id request.now.api_version a.state.world clock request.now.body.now) result.answer) }
     // So has a ListOffsets.
     ensures listed { let a = scene L.log S.disk parts.old shelf.old in let b = scene L.log S.disk parts.new shelf.new in
         request.now.api_key ≡ LIST_OFFSETS → WhereHonest a b (IsPlainly (AnswersListing (HasFailed a b)
@@ -165,13 +166,22 @@ pub fn serve<L: PartitionLog + Drop, S: Store>(
         request.now.api_key ≡ OFFSET_COMMIT → WhereHonest a b (AcknowledgesCommits (CatalogFailed a b)
         request.now.correlation_id groups.old a.state.world request.now.body.now b.state.world result.answer) }
     ensures groups { let a = scene L.log S.disk parts.old shelf.old in
-        AreGroupsAfter groups.old (served node.now a.state.world groups.old request.now.connection request.now.api_key
+        AreGroupsAfter groups.old (served node.now a.state.world clock groups.old request.now.connection request.now.api_key
         request.now.api_version request.now.body.now).groups result.answer groups.new }
     ensures waits { IsWaitTold request.now.connection groups.old result.answer groups.new }
     ensures released { result.released ≡ has_released groups.new }
 {
     let mut touched = Vec::new(alloc);
-    match serve_by_key(alloc, parts, groups, shelf, node, request, &mut touched) {
+    match serve_by_key(
+        alloc,
+        parts,
+        groups,
+        shelf,
+        node,
+        clock,
+        request,
+        &mut touched,
+    ) {
         Ok(answer) => served_with(answer, touched, groups),
         Err(ReadFault::Wire(_)) => served_with(
             Answer::Plain(kb_tenant::Answer::Shut),

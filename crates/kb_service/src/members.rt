@@ -33,12 +33,12 @@ pub(crate) fn join_group(
     request: &Request<'_>,
 ) -> Result<Answer, ReadFault>
     requires { clock ≤ 4611686018427387904 }
-    ensures served { (w : World) → w.clock ≡ clock →
-        IsServed request.now.correlation_id (if_read w groups.old (whole join_group_request request.now.body.now)
-        (of_join w request.now.connection groups.old)) w groups.new [] result }
-    ensures groups { (w : World) → w.clock ≡ clock →
-        AreGroupsBy groups.old (if_read w groups.old (whole join_group_request request.now.body.now)
-        (of_join w request.now.connection groups.old)).groups result groups.new }
+    ensures served { (w : World)
+        → IsServed request.now.correlation_id (if_read w groups.old (whole join_group_request request.now.body.now)
+        (of_join w clock request.now.connection groups.old)) w groups.new [] result }
+    ensures groups { (w : World)
+        → AreGroupsBy groups.old (if_read w groups.old (whole join_group_request request.now.body.now)
+        (of_join w clock request.now.connection groups.old)).groups result groups.new }
     ensures waits { IsWaitToldBy request.now.connection groups.old result groups.new }
 {
     groups.silence();
@@ -71,12 +71,12 @@ pub(crate) fn sync_group(
     clock: u64,
     request: &Request<'_>,
 ) -> Result<Answer, ReadFault>
-    ensures served { (w : World) → w.clock ≡ clock →
-        IsServed request.now.correlation_id (if_read w groups.old (whole sync_group_request request.now.body.now)
-        (of_sync w request.now.connection groups.old)) w groups.new [] result }
-    ensures groups { (w : World) → w.clock ≡ clock →
-        AreGroupsBy groups.old (if_read w groups.old (whole sync_group_request request.now.body.now)
-        (of_sync w request.now.connection groups.old)).groups result groups.new }
+    ensures served { (w : World)
+        → IsServed request.now.correlation_id (if_read w groups.old (whole sync_group_request request.now.body.now)
+        (of_sync w clock request.now.connection groups.old)) w groups.new [] result }
+    ensures groups { (w : World)
+        → AreGroupsBy groups.old (if_read w groups.old (whole sync_group_request request.now.body.now)
+        (of_sync w clock request.now.connection groups.old)).groups result groups.new }
     ensures waits { IsWaitToldBy request.now.connection groups.old result groups.new }
 {
     groups.silence();
@@ -94,12 +94,12 @@ pub(crate) fn heartbeat(
     clock: u64,
     request: &Request<'_>,
 ) -> Result<Answer, ReadFault>
-    ensures served { (w : World) → w.clock ≡ clock →
-        IsServed request.now.correlation_id (if_read w groups.old (whole heartbeat_request request.now.body.now)
-        (of_heartbeat w groups.old)) w groups.new [] result }
-    ensures groups { (w : World) → w.clock ≡ clock →
-        AreGroupsBy groups.old (if_read w groups.old (whole heartbeat_request request.now.body.now) (of_heartbeat w groups.old)).groups
-        result groups.new }
+    ensures served { (w : World)
+        → IsServed request.now.correlation_id (if_read w groups.old (whole heartbeat_request request.now.body.now)
+        (of_heartbeat w clock groups.old)) w groups.new [] result }
+    ensures groups { (w : World)
+        → AreGroupsBy groups.old (if_read w groups.old (whole heartbeat_request request.now.body.now)
+        (of_heartbeat w clock groups.old)).groups result groups.new }
 {
     groups.silence();
     let asked = HeartbeatRequest::read(alloc, request.body)?;
@@ -122,12 +122,12 @@ pub(crate) fn leave_group(
     request: &Request<'_>,
 ) -> Result<Answer, ReadFault>
     requires { clock ≤ 4611686018427387904 }
-    ensures served { (w : World) → w.clock ≡ clock →
-        IsServed request.now.correlation_id (if_read w groups.old (whole leave_group_request request.now.body.now) (of_leave w groups.old))
-        w groups.new [] result }
-    ensures groups { (w : World) → w.clock ≡ clock →
-        AreGroupsBy groups.old (if_read w groups.old (whole leave_group_request request.now.body.now) (of_leave w groups.old)).groups result
-        groups.new }
+    ensures served { (w : World)
+        → IsServed request.now.correlation_id (if_read w groups.old (whole leave_group_request request.now.body.now)
+        (of_leave w clock groups.old)) w groups.new [] result }
+    ensures groups { (w : World)
+        → AreGroupsBy groups.old (if_read w groups.old (whole leave_group_request request.now.body.now)
+        (of_leave w clock groups.old)).groups result groups.new }
 {
     groups.silence();
     let asked = LeaveGroupRequest::read(alloc, request.body)?;

@@ -2,13 +2,13 @@
 ghost use Rattle.std.specs.Prelude.{IfOk, ℕ};
 ghost use Rattle.kb_store.specs.Disk.{Table};
 ghost use Rattle.kb_log.specs.ListLog.{list_log};
-ghost use Rattle.kb_partitions.specs.Partitions.{AreSound};
+ghost use Rattle.kb_world.specs.Partitions.{AreSound};
 
 use crate::words::bytes;
 use kb_batch::BatchView;
 use kb_log::{ListLog, Shelf};
-use kb_partitions::Partitions;
 use kb_store::MemoryStore;
+use kb_world::Partitions;
 use std::alloc::Global;
 use std::process::Abort;
 use std::test::Fail;
@@ -52,7 +52,7 @@ fn last_clocks_without_a_drop(rt: HostRuntime) -> Result<(), Fail> {
         (2, 0, i64::MAX),
     ];
     for (number, bytes, until) in &rows {
-        assert!(rt; partitions.kept_until(7, *number, 1000, *bytes) == *until);
+        assert!(rt; partitions.next_retention_time(7, *number, 1000, *bytes) == *until);
     }
     Ok(())
 }

@@ -2,7 +2,7 @@
 
 mod steps;
 
-use Step::{Append, Create, KeptUntil, RetainAll};
+use Step::{Append, Create, NextRetentionTime, RetainAll};
 use kb_topics::TopicConfig;
 use kb_world::TopicPartition;
 use std::test::Fail;
@@ -42,13 +42,13 @@ const BESIDE_SECOND: TopicPartition = TopicPartition {
 fn nothing_is_due(rt: HostRuntime) -> Result<(), Fail> {
     let steps = [
         Create("t", 1, ONE_SECOND),
-        KeptUntil(i64::MAX),
+        NextRetentionTime(i64::MAX),
         Append(FIRST, 0),
-        KeptUntil(1005),
-        RetainAll(false),
-        KeptUntil(1005),
+        NextRetentionTime(1005),
+        RetainAll(1005, false),
+        NextRetentionTime(1005),
     ];
-    plays(&rt, rt.alloc(), 1005, &steps)
+    plays(&rt, rt.alloc(), &steps)
 }
 
 #[test]
@@ -60,9 +60,9 @@ fn all_is_dropped_that_was_due(rt: HostRuntime) -> Result<(), Fail> {
         Append(SECOND, 0),
         Append(BESIDE_SECOND, 0),
         Append(BESIDE_SECOND, 1),
-        RetainAll(true),
-        RetainAll(false),
-        KeptUntil(i64::MAX),
+        RetainAll(1006, true),
+        RetainAll(1006, false),
+        NextRetentionTime(i64::MAX),
     ];
-    plays(&rt, rt.alloc(), 1006, &steps)
+    plays(&rt, rt.alloc(), &steps)
 }

@@ -1,5 +1,5 @@
 -- Entries that are told one after another, whatever memory and the store refuse.
-use Rattle.std.proofs.Common.{◌≡◌, ◌∙◌, sym, ap, refl, subst, ℕ, suc, ℤ, ◌+◌, ◌^◌, ◌<◌, ◌≤◌, ◌⊎◌, Bool, true, List, [], ◌∷◌, ◌++◌, length, take, get_or, Option, append_assoc, append-nil, arith, inl, inr, ⊎_elim, w32}
+use Rattle.std.proofs.Common.{◌≡◌, ◌∙◌, sym, ap, refl, subst, ℕ, suc, ℤ, ◌+◌, ◌<◌, ◌≤◌, ◌⊎◌, Bool, true, List, [], ◌∷◌, ◌++◌, length, take, get_or, Option, append_assoc, append-nil, arith, inl, inr, ⊎_elim, w32}
 use Rattle.std.specs.Prelude.{pos, Err, Ok}
 use Rattle.std.specs.List.{flat_map}
 use Rattle.std.proofs.lemmas.List.{take_all, take_more}
@@ -13,7 +13,7 @@ use Rattle.kb_api_data.specs.declared.produce.ProduceTopicReply.{ProduceTopicRep
 use Rattle.kb_api_data.specs.declared.produce.ProducePartition.{ProducePartition}
 use Rattle.kb_api_data.specs.declared.produce.ProducePartitionReply.{ProducePartitionReply}
 use Rattle.kb_store.specs.Disk.{Grew}
-use Rattle.kb_partitions.specs.Scene.{Scene, WhereHonest}
+use Rattle.kb_world.specs.Scene.{Scene, WhereHonest}
 use Rattle.kb_world.specs.Parts.{Seen}
 use Rattle.kb_world.specs.Steps.{IsStep}
 use Rattle.kb_world.specs.Told.{Failed}

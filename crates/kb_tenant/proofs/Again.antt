@@ -6,9 +6,9 @@ use Rattle.kb_api_data.specs.declared.fetch.FetchTopic.{FetchTopic}
 use Rattle.kb_api_data.specs.declared.fetch.FetchRequest.{FetchRequest}
 use Rattle.kb_api_group.specs.declared.offset_commit.OffsetCommitRequest.{OffsetCommitRequest}
 use Rattle.kb_topics.specs.Known.{named}
-use Rattle.kb_world.specs.Calls.{all_places, at_clock, retain, retain_all, retain_each}
+use Rattle.kb_world.specs.Calls.{all_places, retain, retain_all, retain_each}
 use Rattle.kb_world.specs.Tied.{IsTied}
-use Rattle.kb_world.specs.World.{World, new_world}
+use Rattle.kb_world.specs.World.{World}
 use Rattle.kb_world.specs.declared.topic_partition.TopicPartition.{TopicPartition}
 use Rattle.kb_tenant.specs.CreateTopics.{created_all, made_of}
 use Rattle.kb_tenant.specs.Fetch.{fetch_answer, places_in, places_of}
@@ -58,42 +58,42 @@ module _ (w v : World) where
     found_same (t ∷ ts) all = (entries_same t.topic t.partitions all.0, found_same ts all.1)
 
     -- a fetch that has no answer finds all that it asks for, and found it there before
-    pub places_back : (r : FetchRequest) (deadline : ℕ) → fetch_answer v r deadline ≡ None → places_of v r ≡ places_of w r
-    places_back r deadline waits = topics_same w v r.topics (found_same r.topics (all_found v r deadline waits))
+    pub places_back : (clock : ℕ) (r : FetchRequest) (deadline : ℕ) → fetch_answer v clock r deadline ≡ None → places_of v r ≡ places_of w r
+    places_back clock r deadline waits = topics_same w v r.topics (found_same r.topics (all_found v clock r deadline waits))
 
 -- ---- a request
 
 -- a change that tells no place
-untold : (w v : World) → Moves [] [] w v → IsTied w → (r : FetchRequest) (deadline : ℕ) → fetch_answer w r deadline ≡ None → places_of v r ≡ places_of w r
-untold w v moves tied r deadline waits = (waits_through [] w v moves tied r deadline waits (λ place asked none. nowhere place none)).1
+untold : (w v : World) → Moves [] [] w v → IsTied w → (clock : ℕ) (r : FetchRequest) (deadline : ℕ) → fetch_answer w clock r deadline ≡ None → places_of v r ≡ places_of w r
+untold w v moves tied clock r deadline waits = (waits_through [] w v moves tied clock r deadline waits (λ place asked none. nowhere place none)).1
 
-pub served_again : (node : Node) (w : World) (n : ℕ) (key version : ℤ) (body : List ℕ) (r : FetchRequest) (deadline : ℕ) → IsTied w → HasOwnNames w → fetch_answer w r deadline ≡ None
-    → fetch_answer (plainly_served node w n key version body).world r deadline ≡ None → places_of (plainly_served node w n key version body).world r ≡ places_of w r
-served_again node w n key version body r deadline tied own waits =
-    by_request (λ (o : Outcome). fetch_answer o.world r deadline ≡ None → places_of o.world r ≡ places_of w r) node w n key version body (record {
-      produce = λ q read after. places_back w (of_produce w q).world ((produce_loses w q).before own) r deadline after;
+pub served_again : (node : Node) (w : World) (clock n : ℕ) (key version : ℤ) (body : List ℕ) (r : FetchRequest) (deadline : ℕ) → IsTied w → HasOwnNames w → fetch_answer w clock r deadline ≡ None
+    → fetch_answer (plainly_served node w clock n key version body).world clock r deadline ≡ None → places_of (plainly_served node w clock n key version body).world r ≡ places_of w r
+served_again node w clock n key version body r deadline tied own waits =
+    by_request (λ (o : Outcome). fetch_answer o.world clock r deadline ≡ None → places_of o.world r ≡ places_of w r) node w clock n key version body (record {
+      produce = λ q read after. places_back w (of_produce w q).world ((produce_loses w q).before own) clock r deadline after;
       fetch = λ q read after. refl;
       list_offsets = λ q read after. refl;
       metadata = λ q read after. refl;
-      offset_commit = λ q read after. untold w (of_offset_commit w q).world (commit_moves w (refusal_of q.group_id q.generation_id) q) tied r deadline waits;
+      offset_commit = λ q read after. untold w (of_offset_commit w q).world (commit_moves w (refusal_of q.group_id q.generation_id) q) tied clock r deadline waits;
       offset_fetch = λ q read after. refl;
       find_coordinator = λ q read after. refl;
-      create_topics = λ q read. of_creations (λ (o : Outcome). fetch_answer o.world r deadline ≡ None → places_of o.world r ≡ places_of w r) version w q (λ reaction after. refl)
-          (λ after. untold w (created_all w (made_of q)).0 (create_moves w (made_of q)) tied r deadline waits);
-      delete_topics = λ q read after. places_back w (of_delete_topics version w q).world ((delete_loses w q).before own) r deadline after;
+      create_topics = λ q read. of_creations (λ (o : Outcome). fetch_answer o.world clock r deadline ≡ None → places_of o.world r ≡ places_of w r) version w q (λ reaction after. refl)
+          (λ after. untold w (created_all w (made_of q)).0 (create_moves w (made_of q)) tied clock r deadline waits);
+      delete_topics = λ q read after. places_back w (of_delete_topics version w q).world ((delete_loses w q).before own) clock r deadline after;
       delete_records = λ q read after. same_places w (of_delete_records w q).world (records_alike w q).names r;
-      init_producer_id = λ q read after. untold w (of_init_producer_id w q).world (init_moves w q) tied r deadline waits;
+      init_producer_id = λ q read after. untold w (of_init_producer_id w q).world (init_moves w q) tied clock r deadline waits;
       shut = λ after. refl;
     })
 
 -- the same after each commit
-pub committed_again : (w : World) (refusal : Option ℤ) (q : OffsetCommitRequest) (r : FetchRequest) (deadline : ℕ) → IsTied w → HasOwnNames w → fetch_answer w r deadline ≡ None
-    → fetch_answer (committed_all w refusal q).0 r deadline ≡ None → places_of (committed_all w refusal q).0 r ≡ places_of w r
-committed_again w refusal q r deadline tied own waits after = (committed_waits w refusal q r deadline tied waits).1
+pub committed_again : (w : World) (clock : ℕ) (refusal : Option ℤ) (q : OffsetCommitRequest) (r : FetchRequest) (deadline : ℕ) → IsTied w → HasOwnNames w → fetch_answer w clock r deadline ≡ None
+    → fetch_answer (committed_all w refusal q).0 clock r deadline ≡ None → places_of (committed_all w refusal q).0 r ≡ places_of w r
+committed_again w clock refusal q r deadline tied own waits after = (committed_waits w clock refusal q r deadline tied waits).1
 
 -- the names of topics stay apart
-pub served_names : (node : Node) (w : World) (n : ℕ) (key version : ℤ) (body : List ℕ) → HasOwnNames w → HasOwnNames (plainly_served node w n key version body).world
-served_names node w n key version body own = by_request (λ (o : Outcome). HasOwnNames o.world) node w n key version body (record {
+pub served_names : (node : Node) (w : World) (clock n : ℕ) (key version : ℤ) (body : List ℕ) → HasOwnNames w → HasOwnNames (plainly_served node w clock n key version body).world
+served_names node w clock n key version body own = by_request (λ (o : Outcome). HasOwnNames o.world) node w clock n key version body (record {
   produce = λ q read. (produce_loses w q).apart own;
   fetch = λ q read. own;
   list_offsets = λ q read. own;
@@ -110,20 +110,13 @@ served_names node w n key version body own = by_request (λ (o : Outcome). HasOw
 
 -- ---- retention
 
-pub retained_names : (w : World) (place : TopicPartition) → HasOwnNames w → HasOwnNames (retain w place).0
-retained_names w place = (retain_alike w place).apart
+pub retained_names : (clock : ℕ) (w : World) (place : TopicPartition) → HasOwnNames w → HasOwnNames (retain clock w place).0
+retained_names clock w place = (retain_alike clock w place).apart
 
-each_again : (places : List TopicPartition) (w : World) (r : FetchRequest) → places_of (retain_each places w).0 r ≡ places_of w r
-each_again [] w r = refl
-each_again (place ∷ places) w r = each_again places (retain w place).0 r ∙ same_places w (retain w place).0 (retain_alike w place).names r
+each_again : (clock : ℕ) (places : List TopicPartition) (w : World) (r : FetchRequest) → places_of (retain_each clock places w).0 r ≡ places_of w r
+each_again clock [] w r = refl
+each_again clock (place ∷ places) w r =
+    let v = (retain clock w place).0 in each_again clock places v r ∙ same_places w v (retain_alike clock w place).names r
 
-pub retained_again : (w : World) (r : FetchRequest) → places_of (retain_all w).0 r ≡ places_of w r
-retained_again w r = each_again (all_places w) w r
-
--- ---- the first world, and each at another time
-
-pub new_names : (clock : ℕ) → HasOwnNames (at_clock new_world clock)
-new_names clock = tt
-
-pub clock_names : (w : World) (now : ℕ) → HasOwnNames w → HasOwnNames (at_clock w now)
-clock_names w now own = own
+pub retained_again : (clock : ℕ) (w : World) (r : FetchRequest) → places_of (retain_all clock w).0 r ≡ places_of w r
+retained_again clock w r = each_again clock (all_places w) w r

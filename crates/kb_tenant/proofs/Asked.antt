@@ -12,8 +12,8 @@ use Rattle.kb_api_data.specs.declared.fetch_v5.FetchPartitionReplyV5.{FetchParti
 use Rattle.kb_api_data.specs.declared.fetch_v5.FetchTopicReplyV5.{FetchTopicReplyV5}
 use Rattle.kb_api_data.specs.declared.fetch_v5.FetchReplyV5.{FetchReplyV5}
 use Rattle.kb_topics.specs.Known.{named}
-use Rattle.kb_partitions.specs.Logs.{LogState}
-use Rattle.kb_world.specs.Calls.{at_clock, fetched_from}
+use Rattle.kb_world.specs.Logs.{LogState}
+use Rattle.kb_world.specs.Calls.{fetched_from}
 use Rattle.kb_world.specs.World.{World, log_in, place_in}
 use Rattle.kb_world.specs.declared.topic_partition.TopicPartition.{TopicPartition}
 use Rattle.kb_tenant.specs.Fetch.{Limits, fetch_answered, answered_at, answered_by, answered_topic, begun, bytes_of, fetch_answer, fetched, is_error, is_ready, limit_of, places_in, places_of, some_partition}
@@ -181,7 +181,7 @@ last_changed false true c d x e f = absurd cc
 last_changed false false true d x e f = absurd cc
 last_changed false false false d x e f = f
 
-module _ (w : World) (r : FetchRequest) (deadline : ℕ) (waits : fetch_answer w r deadline ≡ None) where
+module _ (w : World) (clock : ℕ) (r : FetchRequest) (deadline : ℕ) (waits : fetch_answer w clock r deadline ≡ None) where
   abbrev reply : FetchReplyV5
   reply = (fetched w r).1
 
@@ -195,44 +195,41 @@ module _ (w : World) (r : FetchRequest) (deadline : ℕ) (waits : fetch_answer w
   abbrev has_bytes : Bool
   has_bytes = nat_le (natural r.min_bytes) (bytes_of reply)
 
-  unready : is_ready w r reply deadline ≡ false
-  unready = no_answer (is_ready w r reply deadline) reply waits
+  unready : is_ready clock r reply deadline ≡ false
+  unready = no_answer (is_ready clock r reply deadline) reply waits
 
   pub all_found : AllByRecursion (λ t. AllByRecursion (λ e. Finds w t.topic e) t.partitions) r.topics
   all_found =
       let is_bad = λ (p : FetchPartitionReplyV5). is_error p.error_code in
-      let good : list_any (λ (t : FetchTopicReplyV5). list_any is_bad t.partitions) reply.topics ≡ false = second_false nothing_asked some_error has_bytes (nat_le deadline w.clock) unready in
+      let good : list_any (λ (t : FetchTopicReplyV5). list_any is_bad t.partitions) reply.topics ≡ false = second_false nothing_asked some_error has_bytes (nat_le deadline clock) unready in
       each_then (λ t. (g : Limits) × (list_any is_bad (answered_topic w g t).1.partitions ≡ false)) (λ t. AllByRecursion (λ e. Finds w t.topic e) t.partitions) r.topics
       (λ t one. each_then (λ e. (g : Limits) × (is_error (fetch_answered w (named t.topic w.known.topics) g e).1.error_code ≡ false)) (λ e. Finds w t.topic e) t.partitions
       (λ e it. place_found w t.topic it.0 e (place_in (named t.topic w.known.topics) e.partition) refl it.1)
       (none_passes (fetch_answered w (named t.topic w.known.topics)) is_bad t.partitions one.0 one.1))
       (none_passes (answered_topic w) (λ (t : FetchTopicReplyV5). list_any is_bad t.partitions) r.topics (begun r) good)
 
-  in_time : nat_le deadline w.clock ≡ false
-  in_time = last_false nothing_asked some_error has_bytes (nat_le deadline w.clock) unready
+  in_time : nat_le deadline clock ≡ false
+  in_time = last_false nothing_asked some_error has_bytes (nat_le deadline clock) unready
 
   -- its deadline is still to come
-  pub before_end : w.clock < deadline
+  pub before_end : clock < deadline
   before_end = let early = in_time in grind (arith, nat_tests)
 
-  -- the same reply at a clock before a deadline
-  still_unready : (v : World) (later : ℕ) → fetched v r ≡ fetched w r → nat_le later v.clock ≡ false → fetch_answer v r later ≡ None
-  still_unready v later same early =
-      ap (λ (f : Limits × FetchReplyV5). (if is_ready v r f.1 later then Some f.1 else None)) same
-      ∙ ap (λ b. (if b then Some reply else None)) (last_changed nothing_asked some_error has_bytes (nat_le deadline w.clock) (nat_le later v.clock) unready early)
+  -- the same reply at a time before a deadline
+  still_unready : (v : World) (now later : ℕ) → fetched v r ≡ fetched w r → nat_le later now ≡ false → fetch_answer v now r later ≡ None
+  still_unready v now later same early =
+      ap (λ (f : Limits × FetchReplyV5). (if is_ready now r f.1 later then Some f.1 else None)) same
+      ∙ ap (λ b. (if b then Some reply else None)) (last_changed nothing_asked some_error has_bytes (nat_le deadline clock) (nat_le later now) unready early)
 
-  -- It waits on in each world that holds what it asks for, at the same clock.
+  -- It waits on in each world that holds what it asks for.
   pub waits_on : (v : World) (asked : TopicPartition → Type 0) → ((name : List ℕ) (place : TopicPartition) (log : LogState) → asked place → IsHeld w name place log → IsHeld v name place log)
-      → v.clock ≡ w.clock → ((place : TopicPartition) → Contains (places_of w r) place → asked place) → StillWaits w v r deadline
-  waits_on v asked keeps clock asks =
+      → ((place : TopicPartition) → Contains (places_of w r) place → asked place) → StillWaits w v clock r deadline
+  waits_on v asked keeps asks =
       let all = topics_alike w v asked keeps r.topics all_found asks in (
-        still_unready v deadline (fetched_alike w v asked keeps r all) (ap (nat_le deadline) clock ∙ in_time),
+        still_unready v clock deadline (fetched_alike w v asked keeps r all) in_time,
         places_alike w v asked keeps r.topics all,
       )
 
-  -- and at each other clock before whatever deadline it then has
-  pub waits_until : (now later : ℕ) → now < later → fetch_answer (at_clock w now) r later ≡ None
-  waits_until now later early = still_unready (at_clock w now) later refl (grind (arith, nat_tests))
-
-  pub waits_at : (now : ℕ) → now < deadline → StillWaits w (at_clock w now) r deadline
-  waits_at now early = (waits_until now deadline early, refl)
+  -- and at each other time before whatever deadline it then has
+  pub waits_until : (now later : ℕ) → now < later → fetch_answer w now r later ≡ None
+  waits_until now later early = still_unready w now later refl (grind (arith, nat_tests))

@@ -11,8 +11,8 @@ use Rattle.kb_api_data.specs.declared.fetch.FetchTopic.{FetchTopic}
 use Rattle.kb_api_data.specs.declared.fetch.FetchRequest.{FetchRequest}
 use Rattle.kb_api_data.specs.declared.fetch_v5.FetchReplyV5.{FetchReplyV5}
 use Rattle.kb_topics.specs.Known.{named}
-use Rattle.kb_partitions.specs.Logs.{LogState}
-use Rattle.kb_partitions.specs.declared.fault.PartitionFault.TheVariants as ranges
+use Rattle.kb_world.specs.Logs.{LogState}
+use Rattle.kb_world.specs.declared.fault.PartitionFault.TheVariants as ranges
 use Rattle.kb_world.specs.Calls.{fetched_from}
 use Rattle.kb_world.specs.World.{World, log_in, place_in}
 use Rattle.kb_world.specs.declared.topic_partition.TopicPartition.{TopicPartition}
@@ -124,8 +124,8 @@ all-answered : (w : World) (r : FetchRequest) → EachAnswered (IsTopicAnswered 
 all-answered w r = each (answered_topic w) (IsTopicAnswered w) (λ s t. topic-answered w s t) (begun r) r.topics
 
 -- a fetch that has an answer has that one
-answer-is : (w : World) (r : FetchRequest) (deadline : ℕ) (reply : FetchReplyV5) → fetch_answer w r deadline ≡ Some reply → reply ≡ (fetched w r).1
-answer-is w r deadline reply e = by (is_ready w r (fetched w r).1 deadline) refl
+answer-is : (w : World) (clock : ℕ) (r : FetchRequest) (deadline : ℕ) (reply : FetchReplyV5) → fetch_answer w clock r deadline ≡ Some reply → reply ≡ (fetched w r).1
+answer-is w clock r deadline reply e = by (is_ready clock r (fetched w r).1 deadline) refl
   where
     same : {x y : FetchReplyV5} → Some x ≡ Some y → x ≡ y
     same h = cc
@@ -133,7 +133,7 @@ answer-is w r deadline reply e = by (is_ready w r (fetched w r).1 deadline) refl
     none : {P : Type 0} {x : FetchReplyV5} → None ≡ Some x → P
     none h = absurd (cc)
 
-    by : (t : Bool) → is_ready w r (fetched w r).1 deadline ≡ t → reply ≡ (fetched w r).1
+    by : (t : Bool) → is_ready clock r (fetched w r).1 deadline ≡ t → reply ≡ (fetched w r).1
     by true ready = sym (same (sym (ap (λ t. if t then Some (fetched w r).1 else None) ready) ∙ e))
     by false ready = none (sym (ap (λ t. if t then Some (fetched w r).1 else None) ready) ∙ e)
 
@@ -141,33 +141,33 @@ answer-is w r deadline reply e = by (is_ready w r (fetched w r).1 deadline) refl
 abbrev Spelled : ℤ → World → FetchRequest → Type 0
 Spelled version w r = Spells (has_starts version) (fetched_in version (fetched w r).1) (fetched w r).1
 
-written-holds : (version : ℤ) (w : World) (r : FetchRequest) (deadline : ℕ) (reply : FetchReplyV5) (bytes : List ℕ) → Spelled version w r → fetch_answer w r deadline ≡ Some reply → bytes ≡ fetched_in version reply → HoldsBatches version w r bytes
-written-holds version w r deadline reply bytes spelled e is = record {
+written-holds : (version : ℤ) (w : World) (clock : ℕ) (r : FetchRequest) (deadline : ℕ) (reply : FetchReplyV5) (bytes : List ℕ) → Spelled version w r → fetch_answer w clock r deadline ≡ Some reply → bytes ≡ fetched_in version reply → HoldsBatches version w r bytes
+written-holds version w clock r deadline reply bytes spelled e is = record {
   reply = (fetched w r).1;
-  spelled = subst (λ s. Spells (has_starts version) s (fetched w r).1) (sym (is ∙ ap (λ (x : FetchReplyV5). fetched_in version x) (answer-is w r deadline reply e))) spelled;
+  spelled = subst (λ s. Spells (has_starts version) s (fetched w r).1) (sym (is ∙ ap (λ (x : FetchReplyV5). fetched_in version x) (answer-is w clock r deadline reply e))) spelled;
   answered = all-answered w r;
 }
 
 -- ---- at once, and after a wait
 
-reaction-holds : (version : ℤ) (w : World) (r : FetchRequest) (bytes : List ℕ) (answer : Option FetchReplyV5) → Spelled version w r → fetch_answer w r (deadline_of w r) ≡ answer → fetch_reaction version w r answer ≡ Replies bytes → HoldsBatches version w r bytes
-reaction-holds version w r bytes None spelled e is = absurd (cc)
-reaction-holds version w r bytes (Some reply) spelled e is = written-holds version w r (deadline_of w r) reply bytes spelled e (sym (replied-is is))
+reaction-holds : (version : ℤ) (w : World) (clock : ℕ) (r : FetchRequest) (bytes : List ℕ) (answer : Option FetchReplyV5) → Spelled version w r → fetch_answer w clock r (deadline_of clock r) ≡ answer → fetch_reaction version w clock r answer ≡ Replies bytes → HoldsBatches version w r bytes
+reaction-holds version w clock r bytes None spelled e is = absurd (cc)
+reaction-holds version w clock r bytes (Some reply) spelled e is = written-holds version w clock r (deadline_of clock r) reply bytes spelled e (sym (replied-is is))
   where
     replied-is : {x y : List ℕ} → Replies x ≡ Replies y → x ≡ y
     replied-is h = cc
 
-pub served-holds : (node : Node) (w : World) (n : ℕ) (version : ℤ) (body bytes : List ℕ) (r : FetchRequest) → HasSmallLogs w → asked_fetch version body ≡ Ok r → (plainly_served node w n FETCH version body).reaction ≡ Replies bytes → HoldsBatches version w r bytes
+pub served-holds : (node : Node) (w : World) (clock n : ℕ) (version : ℤ) (body bytes : List ℕ) (r : FetchRequest) → HasSmallLogs w → asked_fetch version body ≡ Ok r → (plainly_served node w clock n FETCH version body).reaction ≡ Replies bytes → HoldsBatches version w r bytes
 unfolding plainly_served
-served-holds node w n version body bytes r small read replies = reaction-holds version w r bytes (fetch_answer w r (deadline_of w r)) (reply_spelled w (has_starts version) body r small read) refl (sym (ap (λ x. (if_read w x (of_fetch version w)).reaction) read) ∙ replies)
+served-holds node w clock n version body bytes r small read replies = reaction-holds version w clock r bytes (fetch_answer w clock r (deadline_of clock r)) (reply_spelled w (has_starts version) body r small read) refl (sym (ap (λ x. (if_read w x (of_fetch version w clock)).reaction) read) ∙ replies)
 
-look-holds : (version : ℤ) (w : World) (deadline : ℕ) (r : FetchRequest) (bytes : List ℕ) (answer : Option FetchReplyV5) → Spelled version w r → fetch_answer w r deadline ≡ answer → (elim answer [ Some reply ↦ Replies (fetched_in version reply) | None ↦ Silent ]) ≡ Replies bytes → HoldsBatches version w r bytes
-look-holds version w deadline r bytes None spelled e is = absurd (cc)
-look-holds version w deadline r bytes (Some reply) spelled e is = written-holds version w r deadline reply bytes spelled e (sym (replied-is is))
+look-holds : (version : ℤ) (w : World) (clock deadline : ℕ) (r : FetchRequest) (bytes : List ℕ) (answer : Option FetchReplyV5) → Spelled version w r → fetch_answer w clock r deadline ≡ answer → (elim answer [ Some reply ↦ Replies (fetched_in version reply) | None ↦ Silent ]) ≡ Replies bytes → HoldsBatches version w r bytes
+look-holds version w clock deadline r bytes None spelled e is = absurd (cc)
+look-holds version w clock deadline r bytes (Some reply) spelled e is = written-holds version w clock r deadline reply bytes spelled e (sym (replied-is is))
   where
     replied-is : {x y : List ℕ} → Replies x ≡ Replies y → x ≡ y
     replied-is h = cc
 
-pub looked-holds : (w : World) (deadline : ℕ) (version : ℤ) (body bytes : List ℕ) (r : FetchRequest) → HasSmallLogs w → asked_fetch version body ≡ Ok r → looked w deadline version body ≡ Replies bytes → HoldsBatches version w r bytes
+pub looked-holds : (w : World) (clock deadline : ℕ) (version : ℤ) (body bytes : List ℕ) (r : FetchRequest) → HasSmallLogs w → asked_fetch version body ≡ Ok r → looked w clock deadline version body ≡ Replies bytes → HoldsBatches version w r bytes
 unfolding looked
-looked-holds w deadline version body bytes r small read replies = look-holds version w deadline r bytes (fetch_answer w r deadline) (reply_spelled w (has_starts version) body r small read) refl (sym (ap (looked_at w deadline version) read) ∙ replies)
+looked-holds w clock deadline version body bytes r small read replies = look-holds version w clock deadline r bytes (fetch_answer w clock r deadline) (reply_spelled w (has_starts version) body r small read) refl (sym (ap (looked_at w clock deadline version) read) ∙ replies)

@@ -28,9 +28,9 @@ use Rattle.kb_tenant.specs.Serve.{Outcome, if_read, of_produce, of_fetch, of_lis
 use Rattle.kb_tenant.specs.declared.node.Node.{Node}
 
 -- It holds of what each API's request comes to, where the body is one, and of a connection that is shut.
-pub record Cases (P : Outcome → Type 0) (node : Node) (w : World) (version : ℤ) (body : List ℕ) : Type 0 where
+pub record Cases (P : Outcome → Type 0) (node : Node) (w : World) (clock : ℕ) (version : ℤ) (body : List ℕ) : Type 0 where
   pub produce : (r : ProduceRequest) → whole produce_request body ≡ Ok r → P (of_produce w r)
-  pub fetch : (r : FetchRequest) → asked_fetch version body ≡ Ok r → P (of_fetch version w r)
+  pub fetch : (r : FetchRequest) → asked_fetch version body ≡ Ok r → P (of_fetch version w clock r)
   pub list_offsets : (r : ListOffsetsRequest) → whole list_offsets_request body ≡ Ok r → P (of_list_offsets w r)
   pub metadata : (r : MetadataRequest) → asked_metadata version body ≡ Ok r → P (of_metadata node version w r)
   pub offset_commit : (r : OffsetCommitRequest) → whole offset_commit_request body ≡ Ok r → P (of_offset_commit w r)
@@ -57,9 +57,9 @@ of_creations P version w r checked made =
     either P r.validate_only (stays w (Replies (creations_in version (checked_all w r.topics))))
     (record { world = (created_all w (made_of r)).0; touched = []; reaction = Replies (creations_in version (created_all w (made_of r)).1) }) (checked _) made
 
-pub by_request : (P : Outcome → Type 0) (node : Node) (w : World) (n : ℕ) (key version : ℤ) (body : List ℕ) → Cases P node w version body → P (plainly_served node w n key version body)
+pub by_request : (P : Outcome → Type 0) (node : Node) (w : World) (clock n : ℕ) (key version : ℤ) (body : List ℕ) → Cases P node w clock version body → P (plainly_served node w clock n key version body)
 unfolding plainly_served
-by_request P node w n key version body c =
+by_request P node w clock n key version body c =
     let shut : Outcome = stays w Shuts in
     let inits : Outcome = if_read w (whole init_producer_id_request body) (of_init_producer_id w) in
     let trims : Outcome = if_read w (whole delete_records_request body) (of_delete_records w) in
@@ -70,7 +70,7 @@ by_request P node w n key version body c =
     let commits : Outcome = if_read w (whole offset_commit_request body) (of_offset_commit w) in
     let tells : Outcome = if_read w (asked_metadata version body) (of_metadata node version w) in
     let lists : Outcome = if_read w (whole list_offsets_request body) (of_list_offsets w) in
-    let fetches : Outcome = if_read w (asked_fetch version body) (of_fetch version w) in
+    let fetches : Outcome = if_read w (asked_fetch version body) (of_fetch version w clock) in
     let produces : Outcome = if_read w (whole produce_request body) (of_produce w) in
     let from_inits : Outcome = if int_eq key INIT_PRODUCER_ID then inits else shut in
     let from_trims : Outcome = if int_eq key DELETE_RECORDS then trims else from_inits in
@@ -83,7 +83,7 @@ by_request P node w n key version body c =
     let from_lists : Outcome = if int_eq key LIST_OFFSETS then lists else from_tells in
     let from_fetches : Outcome = if int_eq key FETCH then fetches else from_lists in
     either P (int_eq key PRODUCE) produces from_fetches (read_by P w (whole produce_request body) (of_produce w) c.produce c.shut)
-    (either P (int_eq key FETCH) fetches from_lists (read_by P w (asked_fetch version body) (of_fetch version w) c.fetch c.shut)
+    (either P (int_eq key FETCH) fetches from_lists (read_by P w (asked_fetch version body) (of_fetch version w clock) c.fetch c.shut)
     (either P (int_eq key LIST_OFFSETS) lists from_tells (read_by P w (whole list_offsets_request body) (of_list_offsets w) c.list_offsets c.shut)
     (either P (int_eq key METADATA) tells from_commits (read_by P w (asked_metadata version body) (of_metadata node version w) c.metadata c.shut)
     (either P (int_eq key OFFSET_COMMIT) commits from_asks (read_by P w (whole offset_commit_request body) (of_offset_commit w) c.offset_commit c.shut)

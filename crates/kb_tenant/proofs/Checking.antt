@@ -1,6 +1,6 @@
 -- A request of CreateTopics that is only checked is answered as one that makes its topics, where an instance is left for each.
 use Rattle.std.proofs.Common.{◌≡◌, ◌∙◌, ℕ, ℤ, ◌+◌, ◌-◌, ◌<◌, ◌≤◌, ◌^◌, Bool, true, false, cond, List, [], ◌∷◌, ◌++◌, length, Option, Some, None, refl, sym, subst, ap, append_assoc, arith}
-use Rattle.std.specs.Prelude.{pos, negsuc, ⊤, codes, is_none, is_some, nat_le, nat_lt, not, option_map, unwrap_or, ◌&&◌, if◌then◌else◌, Err}
+use Rattle.std.specs.Prelude.{pos, negsuc, ⊤, codes, is_some, nat_le, nat_lt, not, unwrap_or, ◌&&◌, if◌then◌else◌, Err}
 use Rattle.std.specs.Option.{option_and_then}
 use Rattle.std.specs.List.{count_by}
 use Rattle.std.specs.Ordering.{int_eq, nat_cmp, match_ordering, is_eq}

@@ -7,7 +7,7 @@ use Rattle.kb_topics.specs.Known.{CommittedOffset, PartitionState, named, topic_
 use Rattle.kb_topics.specs.Refusals.{commit_refusal}
 use Rattle.kb_topics.specs.declared.fault.CatalogFault.{CatalogFault}
 use Rattle.kb_world.specs.Calls.{committed_unless, known_at, with_committed}
-use Rattle.kb_partitions.specs.Logs.{log_at}
+use Rattle.kb_world.specs.Logs.{log_at}
 use Rattle.kb_world.specs.Tied.{IsTied, counted}
 use Rattle.kb_world.specs.World.{World, place_in}
 use Rattle.kb_world.specs.declared.topic_partition.TopicPartition.{TopicPartition}
@@ -17,19 +17,17 @@ use Rattle.kb_tenant.specs.Waiting.{HasOwnNames}
 use Rattle.kb_tenant.proofs.Moves.{Moves}
 use Rattle.kb_tenant.proofs.RetainMoves.{IsAlike, alike_same, put_alike}
 
--- The logs and the clock stay, and what is known is as before but for what groups committed.
+-- The logs stay, and what is known is as before but for what groups committed.
 record Commits (w v : World) : Type 0 where
   pub logs : v.logs ≡ w.logs
-  pub clock : v.clock ≡ w.clock
   pub alike : IsAlike w.known v.known
 
 commits_none : (w : World) → Commits w w
-commits_none w = record { logs = refl; clock = refl; alike = alike_same w.known }
+commits_none w = record { logs = refl; alike = alike_same w.known }
 
 commits_then : (w v u : World) → Commits w v → Commits v u → Commits w u
 commits_then w v u p q = record {
   logs = q.logs ∙ p.logs;
-  clock = q.clock ∙ p.clock;
   alike = record {
     creates = q.alike.creates ∙ p.alike.creates;
     none = λ i none. q.alike.none i (p.alike.none i none);
@@ -48,7 +46,6 @@ put_commits : (w : World) (place : TopicPartition) (group : List ℕ) (c : Commi
 put_commits w place group c None = commits_none w
 put_commits w place group c (Some p) = record {
   logs = refl;
-  clock = refl;
   alike = put_alike w.known place.instance place.number (with_commit p group c) (topic_at place.instance w.known.topics) refl;
 }
 
@@ -82,7 +79,6 @@ moves_by w v c = record {
     next = λ i le. c.alike.none i (t.next i (subst (λ n. n ≤ i) c.alike.creates le));
     logs = ap (counted length) c.logs ∙ t.logs ∙ sym c.alike.counts;
   };
-  clock = c.clock;
   told = λ place at. at;
   held = λ t name place log none h. record {
     topic = c.alike.names name ∙ h.topic;

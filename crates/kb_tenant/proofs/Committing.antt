@@ -8,7 +8,7 @@ use Rattle.kb_api_group.specs.declared.offset_commit.CommitPartition.{CommitPart
 use Rattle.kb_api_group.specs.declared.offset_commit.CommitPartitionReply.{CommitPartitionReply}
 use Rattle.kb_api_group.specs.declared.offset_commit.CommitTopic.{CommitTopic}
 use Rattle.kb_api_group.specs.declared.offset_commit.OffsetCommitRequest.{OffsetCommitRequest}
-use Rattle.kb_partitions.specs.Scene.{Scene}
+use Rattle.kb_world.specs.Scene.{Scene}
 use Rattle.kb_topics.specs.CatalogFault.{code_of as fault_code}
 use Rattle.kb_topics.specs.Known.{named}
 use Rattle.kb_topics.specs.declared.fault.CatalogFault.{CatalogFault}

@@ -16,7 +16,7 @@ use Rattle.kb_topics.specs.declared.config.TopicConfig.{TopicConfig}
 use Rattle.kb_topics.specs.declared.fault.CatalogFault.{CatalogFault}
 use Rattle.kb_topics.proofs.Links.{bytes_same}
 use Rattle.kb_topics.proofs.Steps.{unnamed}
-use Rattle.kb_partitions.specs.Logs.{LogState, no_log, with_new_logs}
+use Rattle.kb_world.specs.Logs.{LogState, no_log, with_new_logs}
 use Rattle.kb_world.specs.Calls.{created_unless}
 use Rattle.kb_world.specs.Tied.{IsTied, counted, partition_count}
 use Rattle.kb_world.specs.World.{World}
@@ -66,7 +66,6 @@ one_more_held w name count config new tied q place log h = record {
 one_more_moves : (w : World) (name : List ℕ) (count : ℕ) (config : TopicConfig) → named name w.known.topics ≡ None → Moves [] [] w (one_more w name count config)
 one_more_moves w name count config new = record {
   tied = one_more_tied w name count config;
-  clock = refl;
   told = λ place at. at;
   held = λ tied q place log none h. one_more_held w name count config new tied q place log h;
 }

@@ -1,5 +1,5 @@
 -- DeleteTopics tells the place of each log that goes.
-use Rattle.std.proofs.Common.{◌≡◌, ◌∙◌, ◌<◌, ℕ, List, [], ◌++◌, length, Option, Some, refl, sym, subst, ap, arith}
+use Rattle.std.proofs.Common.{◌≡◌, ◌∙◌, ◌<◌, ℕ, List, [], ◌++◌, length, Option, Some, sym, subst, ap, arith}
 use Rattle.std.specs.Prelude.{None, slice_get}
 use Rattle.std.specs.Option.{option_and_then}
 use Rattle.std.specs.Ordering.{nat_cmp}
@@ -10,7 +10,7 @@ use Rattle.std.proofs.lemmas.List.Elements.{Contains-append_left, Contains-appen
 use Rattle.std.proofs.lemmas.List.FromFn.{get_or-map-range_with_len, length-map-range_with_len}
 use Rattle.kb_api_data.specs.declared.delete_topics.DeleteTopicsRequest.{DeleteTopicsRequest}
 use Rattle.kb_topics.specs.Known.{named, without_topic}
-use Rattle.kb_partitions.specs.Logs.{LogState, without_logs}
+use Rattle.kb_world.specs.Logs.{LogState, without_logs}
 use Rattle.kb_world.specs.Calls.{deleted_at}
 use Rattle.kb_world.specs.Tied.{IsTied, partition_count}
 use Rattle.kb_world.specs.World.{World}
@@ -63,7 +63,6 @@ delete_moves_by : (w : World) (before : List TopicPartition) (o : Option ℕ) �
 delete_moves_by w before None = stays_told w before []
 delete_moves_by w before (Some i) = record {
   tied = without_tied w i;
-  clock = refl;
   told = λ place at. Contains-append_left before (places_at w (Some i)) place at;
   held = λ tied name place log none h. without_held w i before tied name place log none h;
 }

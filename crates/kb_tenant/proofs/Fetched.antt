@@ -11,9 +11,9 @@ use Rattle.kb_api_data.specs.declared.fetch_v5.FetchPartitionReplyV5.{FetchParti
 use Rattle.kb_api_data.specs.declared.fetch_v5.FetchReplyV5.{FetchReplyV5}
 use Rattle.kb_api_data.specs.declared.fetch_v5.FetchTopicReplyV5.{FetchTopicReplyV5}
 use Rattle.kb_topics.specs.Known.{named}
-use Rattle.kb_partitions.specs.Scene.{Scene, WhereHonest}
-use Rattle.kb_partitions.specs.declared.fault.PartitionFault.{PartitionFault}
-use Rattle.kb_partitions.specs.declared.fault.PartitionFault.TheVariants as partition
+use Rattle.kb_world.specs.Scene.{Scene, WhereHonest}
+use Rattle.kb_world.specs.declared.fault.PartitionFault.{PartitionFault}
+use Rattle.kb_world.specs.declared.fault.PartitionFault.TheVariants as partition
 use Rattle.kb_world.specs.Calls.{IsGiven}
 use Rattle.kb_world.specs.Parts.{Seen}
 use Rattle.kb_world.specs.Steps.{IsStep}
@@ -180,34 +180,33 @@ all_fetched failed starts w q g h n topics s0 s1 s2 s3 start len list first seco
 -- ---- a look
 
 -- what the limits that are left tell of the fetch, and what is written where it is ready
-pub fetched_ready : (failed : Type 0) (starts : Bool) (w v : World) (q : FetchRequest) (left : Given) (clock deadline : ℕ) (ready is : Bool)
-    (old mid new : List ℕ) → ready ≡ has_enough left clock deadline → ready ≡ is → clock ≡ v.clock → v ≡ w → (is ≡ true → new ≡ mid)
+pub fetched_ready : (failed : Type 0) (starts : Bool) (w : World) (clock : ℕ) (q : FetchRequest) (left : Given) (deadline : ℕ) (ready is : Bool)
+    (old mid new : List ℕ) → ready ≡ has_enough left clock deadline → ready ≡ is → (is ≡ true → new ≡ mid)
     → (reply : FetchReplyV5) × ((mid ≡ old ++ reply_written starts reply) × AreFetchesTold failed w q left reply)
     → (reply : FetchReplyV5)
-    × (IsFetchReady failed w deadline q is reply × (is ≡ true → new ≡ old ++ reply_written starts reply))
-fetched_ready failed starts w v q left clock deadline ready is old mid new enough so at stays written told =
-    let now : w.clock ≡ clock = sym (at ∙ ap (λ u. u.clock) stays) in (
-      told.0,
+    × (IsFetchReady failed w clock deadline q is reply × (is ≡ true → new ≡ old ++ reply_written starts reply))
+fetched_ready failed starts w clock q left deadline ready is old mid new enough so written told = (
+  told.0,
+  (
+    (
+      limits_of left,
       (
-        (
-          limits_of left,
-          (
-            all_told failed w q left told.0 told.1.1,
-            sym (told_ready failed w q left told.0 deadline told.1.1) ∙ ap (λ n. has_enough left n deadline) now ∙ sym enough ∙ so,
-          ),
-        ),
-        λ over. written over ∙ told.1.0,
+        all_told failed w q left told.0 told.1.1,
+        sym (told_ready failed w clock q left told.0 deadline told.1.1) ∙ sym enough ∙ so,
       ),
-    )
+    ),
+    λ over. written over ∙ told.1.0,
+  ),
+)
 
 -- the answer to a look that wrote its reply behind what was begun
-pub look_replied : (failed Unready : Type 0) (id version : ℤ) (starts : Bool) (w : World) (deadline : ℕ) (asked q : FetchRequest) (old new : List ℕ)
+pub look_replied : (failed Unready : Type 0) (id version : ℤ) (starts : Bool) (w : World) (clock deadline : ℕ) (asked q : FetchRequest) (old new : List ℕ)
     (done : Bool) (answer : Answer) → starts ≡ has_starts version → old ≡ reply_begun id → done ≡ true → asked ≡ q
     → (reply : FetchReplyV5)
-    × (IsFetchReady failed w deadline asked done reply × (done ≡ true → new ≡ old ++ reply_written starts reply))
+    × (IsFetchReady failed w clock deadline asked done reply × (done ≡ true → new ≡ old ++ reply_written starts reply))
     → ((id : ℤ) (body : List ℕ) → new ≡ reply_begun id ++ body → IsAnswer id (Replies body) answer)
-    → IsRepliedOrWaits id (TellsFetch failed version w deadline q) Unready answer
-look_replied failed Unready id version starts w deadline asked q old new done answer same from over one told made =
+    → IsRepliedOrWaits id (TellsFetch failed version w clock deadline q) Unready answer
+look_replied failed Unready id version starts w clock deadline asked q old new done answer same from over one told made =
     by answer (made id body (told.1.1 over ∙ ap (λ s. s ++ reply_written starts reply) from ∙ ap (λ b. reply_begun id ++ reply_written b reply) same))
   where
     reply : FetchReplyV5
@@ -216,59 +215,59 @@ look_replied failed Unready id version starts w deadline asked q old new done an
     body : List ℕ
     body = fetched_in version reply
 
-    ready : IsFetchReady failed w deadline q true reply
-    ready = subst (λ r. IsFetchReady failed w deadline r true reply) one
-        (subst (λ b. IsFetchReady failed w deadline asked b reply) over told.1.0)
+    ready : IsFetchReady failed w clock deadline q true reply
+    ready = subst (λ r. IsFetchReady failed w clock deadline r true reply) one
+        (subst (λ b. IsFetchReady failed w clock deadline asked b reply) over told.1.0)
 
-    by : (x : Answer) → IsAnswer id (Replies body) x → IsRepliedOrWaits id (TellsFetch failed version w deadline q) Unready x
+    by : (x : Answer) → IsAnswer id (Replies body) x → IsRepliedOrWaits id (TellsFetch failed version w clock deadline q) Unready x
     by (answers.Reply bytes) h = (body, (h.1, (reply, (refl, ready))))
     by (answers.Wait until keys) h = absurd h
     by answers.NoReply h = absurd h
     by answers.Shut h = tt
 
 -- a look at one that still waits
-pub look_unready : (failed : Type 0) (w : World) (deadline : ℕ) (asked q : FetchRequest) (done : Bool) (Also : FetchReplyV5 → Type 0)
-    → done ≡ false → asked ≡ q → (reply : FetchReplyV5) × (IsFetchReady failed w deadline asked done reply × Also reply)
-    → IsUnready failed w deadline q
-look_unready failed w deadline asked q done Also not one told = (
+pub look_unready : (failed : Type 0) (w : World) (clock deadline : ℕ) (asked q : FetchRequest) (done : Bool) (Also : FetchReplyV5 → Type 0)
+    → done ≡ false → asked ≡ q → (reply : FetchReplyV5) × (IsFetchReady failed w clock deadline asked done reply × Also reply)
+    → IsUnready failed w clock deadline q
+look_unready failed w clock deadline asked q done Also not one told = (
   told.0,
-  subst (λ r. IsFetchReady failed w deadline r false told.0) one
-      (subst (λ b. IsFetchReady failed w deadline asked b told.0) not told.1.0),
+  subst (λ r. IsFetchReady failed w clock deadline r false told.0) one
+      (subst (λ b. IsFetchReady failed w clock deadline asked b told.0) not told.1.0),
 )
 
 -- ---- a fetch
 
 -- one that wrote its reply
-pub made_reply : (failed : Type 0) (starts : Bool) (w : World) (q : FetchRequest) (d : ℕ) (old new : List ℕ) (done : Bool)
-    → done ≡ true → d ≡ deadline_of w q
-    → (reply : FetchReplyV5) × (IsFetchReady failed w d q done reply × (done ≡ true → new ≡ old ++ reply_written starts reply))
-    → IsFetchMade failed starts w q old fetching.Reply new
-made_reply failed starts w q d old new done over until told =
-    (told.0, (subst (λ n. IsFetchReady failed w n q true told.0) until (subst (λ b. IsFetchReady failed w d q b told.0) over told.1.0), told.1.1 over))
+pub made_reply : (failed : Type 0) (starts : Bool) (w : World) (clock : ℕ) (q : FetchRequest) (d : ℕ) (old new : List ℕ) (done : Bool)
+    → done ≡ true → d ≡ deadline_of clock q
+    → (reply : FetchReplyV5) × (IsFetchReady failed w clock d q done reply × (done ≡ true → new ≡ old ++ reply_written starts reply))
+    → IsFetchMade failed starts w clock q old fetching.Reply new
+made_reply failed starts w clock q d old new done over until told =
+    (told.0, (subst (λ n. IsFetchReady failed w clock n q true told.0) until (subst (λ b. IsFetchReady failed w clock d q b told.0) over told.1.0), told.1.1 over))
 
 -- one that waits
-pub made_wait : (failed : Type 0) (w v : World) (q : FetchRequest) (d : ℕ) (places : List TopicPartition) (done : Bool)
-    (Also : FetchReplyV5 → Type 0) → done ≡ false → d ≡ deadline_of w q → places ≡ places_of v q → v ≡ w
-    → (reply : FetchReplyV5) × (IsFetchReady failed w d q done reply × Also reply) → IsLeftWaiting failed w q d places
-made_wait failed w v q d places done Also not until there stays told = (
-  subst (λ n. IsUnready failed w n q) until (look_unready failed w d q q done Also not refl told),
+pub made_wait : (failed : Type 0) (w v : World) (clock : ℕ) (q : FetchRequest) (d : ℕ) (places : List TopicPartition) (done : Bool)
+    (Also : FetchReplyV5 → Type 0) → done ≡ false → d ≡ deadline_of clock q → places ≡ places_of v q → v ≡ w
+    → (reply : FetchReplyV5) × (IsFetchReady failed w clock d q done reply × Also reply) → IsLeftWaiting failed w clock q d places
+made_wait failed w v clock q d places done Also not until there stays told = (
+  subst (λ n. IsUnready failed w clock n q) until (look_unready failed w clock d q q done Also not refl told),
   (until, there ∙ ap (λ u. places_of u q) stays),
 )
 
 -- its reply behind what was begun
-pub fetch_replied : (failed : Type 0) (id version : ℤ) (starts : Bool) (w : World) (asked q : FetchRequest) (old new : List ℕ)
+pub fetch_replied : (failed : Type 0) (id version : ℤ) (starts : Bool) (w : World) (clock : ℕ) (asked q : FetchRequest) (old new : List ℕ)
     (answer : Answer) → starts ≡ has_starts version → old ≡ reply_begun id → asked ≡ q
-    → IsFetchMade failed starts w asked old fetching.Reply new
+    → IsFetchMade failed starts w clock asked old fetching.Reply new
     → ((id : ℤ) (body : List ℕ) → new ≡ reply_begun id ++ body → IsAnswer id (Replies body) answer)
-    → IsFetchReplied failed id version w q answer
-fetch_replied failed id version starts w asked q old new answer same from one told made =
-    by answer (look_replied failed ⊥ id version starts w (deadline_of w q) q q old new true answer same from refl refl
+    → IsFetchReplied failed id version w clock q answer
+fetch_replied failed id version starts w clock asked q old new answer same from one told made =
+    by answer (look_replied failed ⊥ id version starts w clock (deadline_of clock q) q q old new true answer same from refl refl
     (ready.0, (ready.1.0, λ over. ready.1.1)) made)
   where
-    ready : IsFetchMade failed starts w q old fetching.Reply new
-    ready = subst (λ r. IsFetchMade failed starts w r old fetching.Reply new) one told
+    ready : IsFetchMade failed starts w clock q old fetching.Reply new
+    ready = subst (λ r. IsFetchMade failed starts w clock r old fetching.Reply new) one told
 
-    by : (x : Answer) → IsRepliedOrWaits id (TellsFetch failed version w (deadline_of w q) q) ⊥ x → IsFetchReplied failed id version w q x
+    by : (x : Answer) → IsRepliedOrWaits id (TellsFetch failed version w clock (deadline_of clock q) q) ⊥ x → IsFetchReplied failed id version w clock q x
     by (answers.Reply bytes) h = h
     by (answers.Wait until keys) h = absurd h
     by answers.NoReply h = absurd h

@@ -15,9 +15,9 @@ use Rattle.kb_api_data.specs.declared.fetch_v5.FetchReplyV5.{FetchReplyV5}
 use Rattle.kb_api_data.specs.declared.fetch_records.FetchPartitionFront.{FetchPartitionFront}
 use Rattle.kb_api_data.specs.declared.fetch_records_v5.FetchPartitionFrontV5.{FetchPartitionFrontV5}
 use Rattle.kb_topics.specs.Known.{named}
-use Rattle.kb_partitions.specs.Scene.{Scene}
-use Rattle.kb_partitions.specs.declared.fault.PartitionFault.{PartitionFault}
-use Rattle.kb_partitions.specs.declared.fault.PartitionFault.TheVariants as partition
+use Rattle.kb_world.specs.Scene.{Scene}
+use Rattle.kb_world.specs.declared.fault.PartitionFault.{PartitionFault}
+use Rattle.kb_world.specs.declared.fault.PartitionFault.TheVariants as partition
 use Rattle.kb_world.specs.Calls.{IsGiven}
 use Rattle.kb_tenant.specs.Counted.{fetch_answered, answered_at, answered_by, answered_topic, begun, fetched, fetched_at, less, refused}
 use Rattle.kb_tenant.specs.Fetch.{bounds_of, front_of}

@@ -22,17 +22,17 @@ use Rattle.kb_tenant.specs.declared.answer.Answer.TheVariants as answers
 use Rattle.kb_tenant.specs.declared.fetch.waiting.Fetching.TheVariants as fetching
 use Rattle.kb_tenant.specs.declared.node.Node.{Node}
 
-pub served_metadata : (node : Node) (w : World) (n : ℕ) (key version : ℤ) (body : List ℕ) → key ≡ METADATA → plainly_served node w n key version body ≡ if_read w (asked_metadata version body) (of_metadata node version w)
+pub served_metadata : (node : Node) (w : World) (clock n : ℕ) (key version : ℤ) (body : List ℕ) → key ≡ METADATA → plainly_served node w clock n key version body ≡ if_read w (asked_metadata version body) (of_metadata node version w)
 unfolding plainly_served
-served_metadata node w n key version body is = ap (λ k. plainly_served node w n k version body) is
+served_metadata node w clock n key version body is = ap (λ k. plainly_served node w clock n k version body) is
 
-pub served_offset_fetch : (node : Node) (w : World) (n : ℕ) (key version : ℤ) (body : List ℕ) → key ≡ OFFSET_FETCH → plainly_served node w n key version body ≡ if_read w (whole offset_fetch_request body) (of_offset_fetch w)
+pub served_offset_fetch : (node : Node) (w : World) (clock n : ℕ) (key version : ℤ) (body : List ℕ) → key ≡ OFFSET_FETCH → plainly_served node w clock n key version body ≡ if_read w (whole offset_fetch_request body) (of_offset_fetch w)
 unfolding plainly_served
-served_offset_fetch node w n key version body is = ap (λ k. plainly_served node w n k version body) is
+served_offset_fetch node w clock n key version body is = ap (λ k. plainly_served node w clock n k version body) is
 
-pub served_find_coordinator : (node : Node) (w : World) (n : ℕ) (key version : ℤ) (body : List ℕ) → key ≡ FIND_COORDINATOR → plainly_served node w n key version body ≡ if_read w (whole find_coordinator_request body) (of_find_coordinator node w)
+pub served_find_coordinator : (node : Node) (w : World) (clock n : ℕ) (key version : ℤ) (body : List ℕ) → key ≡ FIND_COORDINATOR → plainly_served node w clock n key version body ≡ if_read w (whole find_coordinator_request body) (of_find_coordinator node w)
 unfolding plainly_served
-served_find_coordinator node w n key version body is = ap (λ k. plainly_served node w n k version body) is
+served_find_coordinator node w clock n key version body is = ap (λ k. plainly_served node w clock n k version body) is
 
 -- ---- CreateTopics: a request that is only checked, and one that is not
 
@@ -49,17 +49,17 @@ made_outcome id version w v r answer is world told =
     subst (λ b. IsOutcome id (if b then stays w (Replies (creations_in version (checked_all w r.topics))) else made) v [] answer) (sym is) (world, refl, told)
 
 -- a fetch that waits is a wait
-pub waits : (id version : ℤ) (starts : Bool) (w : World) (r : FetchRequest) (o : Option FetchReplyV5) (old new : List ℕ) (deadline : ℕ) (keys : Vec TopicPartition Global)
-    → IsServed starts w r o old (fetching.Wait deadline keys) new → IsAnswer id (fetch_reaction version w r o) (answers.Wait deadline keys)
-waits id version starts w r (Some reply) old new deadline keys h = h
-waits id version starts w r None old new deadline keys h = (h.0, h.1)
+pub waits : (id version : ℤ) (starts : Bool) (w : World) (clock : ℕ) (r : FetchRequest) (o : Option FetchReplyV5) (old new : List ℕ) (deadline : ℕ) (keys : Vec TopicPartition Global)
+    → IsServed starts w clock r o old (fetching.Wait deadline keys) new → IsAnswer id (fetch_reaction version w clock r o) (answers.Wait deadline keys)
+waits id version starts w clock r (Some reply) old new deadline keys h = h
+waits id version starts w clock r None old new deadline keys h = (h.0, h.1)
 
 -- a fetch that is answered is a reply
-pub replied : (id version : ℤ) (starts : Bool) (w : World) (r : FetchRequest) (o : Option FetchReplyV5) (old new : List ℕ) (answer : Answer) → starts ≡ has_starts version → old ≡ begun id
-    → IsServed starts w r o old fetching.Reply new → ((id : ℤ) (body : List ℕ) → new ≡ begun id ++ body → IsAnswer id (Replies body) answer) → IsAnswer id (fetch_reaction version w r o) answer
-replied id version starts w r (Some reply) old new answer is from h made =
+pub replied : (id version : ℤ) (starts : Bool) (w : World) (clock : ℕ) (r : FetchRequest) (o : Option FetchReplyV5) (old new : List ℕ) (answer : Answer) → starts ≡ has_starts version → old ≡ begun id
+    → IsServed starts w clock r o old fetching.Reply new → ((id : ℤ) (body : List ℕ) → new ≡ begun id ++ body → IsAnswer id (Replies body) answer) → IsAnswer id (fetch_reaction version w clock r o) answer
+replied id version starts w clock r (Some reply) old new answer is from h made =
     made id (fetched_in version reply) (h ∙ ap (λ s. s ++ reply_written starts reply) from ∙ ap (λ b. begun id ++ reply_written b reply) is)
-replied id version starts w r None old new answer is from h made = absurd h
+replied id version starts w clock r None old new answer is from h made = absurd h
 
 -- so is one that waited
 pub woken : (id version : ℤ) (starts : Bool) (o : Option FetchReplyV5) (old new : List ℕ) (done : Bool) (answer : Answer) → starts ≡ has_starts version → old ≡ begun id → done ≡ true

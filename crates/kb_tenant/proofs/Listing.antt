@@ -12,7 +12,7 @@ use Rattle.kb_api_data.specs.declared.list_offsets.ListOffsetsRequest.{ListOffse
 use Rattle.kb_api_data.specs.declared.list_offsets.ListOffsetsTopic.{ListOffsetsTopic}
 use Rattle.kb_api_data.specs.declared.list_offsets.ListOffsetsTopicReply.{ListOffsetsTopicReply}
 use Rattle.kb_topics.specs.Known.{named}
-use Rattle.kb_partitions.specs.Scene.{Scene, WhereHonest}
+use Rattle.kb_world.specs.Scene.{Scene, WhereHonest}
 use Rattle.kb_world.specs.Parts.{Seen}
 use Rattle.kb_world.specs.Steps.{IsStep}
 use Rattle.kb_world.specs.World.{World}

@@ -8,7 +8,7 @@ use Rattle.std.specs.Map.{lookup}
 use Rattle.std.specs.BTreeMap.{is_at}
 use Rattle.std.proofs.lemmas.List.{length-set}
 use Rattle.std.proofs.lemmas.List.Elements.{Contains-append_left, Contains-push}
-use Rattle.kb_partitions.specs.Logs.{LogState, Logs, log_at, put_log, with_log}
+use Rattle.kb_world.specs.Logs.{LogState, Logs, log_at, put_log, with_log}
 use Rattle.kb_world.specs.Calls.{with_log_at}
 use Rattle.kb_world.specs.Tied.{counted}
 use Rattle.kb_world.specs.World.{World}
@@ -63,7 +63,6 @@ log_elsewhere place other l ls ne =
 pub with_log_moves : (w : World) (before : List TopicPartition) (place : TopicPartition) (l : LogState) → Moves before (before ++ place ∷ []) w (with_log_at w place l)
 with_log_moves w before place l = record {
   tied = λ t. record { next = t.next; logs = same_counts place.instance place.number l w.logs ∙ t.logs };
-  clock = refl;
   told = λ other at. Contains-append_left before (place ∷ []) other at;
   held = λ t name other log none h.
       let apart : other ≡ place → ⊥ = λ same. none (subst (λ x. Contains (before ++ x ∷ []) other) same (Contains-push before other)) in

@@ -15,12 +15,12 @@ use Rattle.kb_api_data.specs.declared.fetch.FetchRequest.{FetchRequest}
 use Rattle.kb_api_data.specs.declared.fetch.FetchTopic.{FetchTopic}
 use Rattle.kb_api_data.specs.declared.fetch_v5.FetchReplyV5.{FetchReplyV5}
 use Rattle.kb_topics.specs.Known.{named}
-use Rattle.kb_partitions.specs.Logs.{LogState, log_at}
-use Rattle.kb_partitions.specs.Partitions.{Agree, Entries, log_state, logs_of, partition_at}
-use Rattle.kb_partitions.specs.declared.fault.PartitionFault.{PartitionFault}
-use Rattle.kb_partitions.specs.declared.fault.PartitionFault.TheVariants as partition
-use Rattle.kb_partitions.specs.declared.partition.Partition.{Partition}
-use Rattle.kb_partitions.proofs.Placed.{placed}
+use Rattle.kb_world.specs.Logs.{LogState, log_at}
+use Rattle.kb_world.specs.Partitions.{Agree, Entries, log_state, logs_of, partition_at}
+use Rattle.kb_world.specs.declared.fault.PartitionFault.{PartitionFault}
+use Rattle.kb_world.specs.declared.fault.PartitionFault.TheVariants as partition
+use Rattle.kb_world.specs.declared.partition.Partition.{Partition}
+use Rattle.kb_world.proofs.Placed.{placed}
 use Rattle.kb_world.specs.Calls.{fetched_from, GivesAtMost, HasAtMost}
 use Rattle.kb_world.specs.Parts.{entries, world_of, Agrees}
 use Rattle.kb_world.specs.declared.parts.Parts.{Parts}
@@ -214,18 +214,17 @@ none_if true reply is = absurd cc
 none_if false reply is = refl
 
 -- it has no answer
-unanswered : (w : World) (r : FetchRequest) (deadline n : ℕ) → Behind w r r.topics n true → w.clock < deadline
-    → fetch_answer w r deadline ≡ None
-unanswered w r deadline n behind early =
+unanswered : (w : World) (clock : ℕ) (r : FetchRequest) (deadline n : ℕ) → Behind w r r.topics n true → clock < deadline
+    → fetch_answer w clock r deadline ≡ None
+unanswered w clock r deadline n behind early =
     let reply : FetchReplyV5 = (fetched w r).1 in
-    ap (λ x. if is_ready w r x deadline then Some x else None) (ap (λ x. x.1) (fetched_same w r))
-    ∙ none_if (is_ready w r reply deadline) reply
-    (sym (ready_is w r deadline) ∙ not_enough n w.clock deadline (fetched w r).0 behind.misses (behind.asked refl) early)
+    ap (λ x. if is_ready clock r x deadline then Some x else None) (ap (λ x. x.1) (fetched_same w r))
+    ∙ none_if (is_ready clock r reply deadline) reply
+    (sym (ready_is w clock r deadline) ∙ not_enough n clock deadline (fetched w r).0 behind.misses (behind.asked refl) early)
 
-pub unanswered_if : (w : World) (r : FetchRequest) (deadline clock n : ℕ) (asked : Bool) → asked ≡ true → clock ≡ w.clock
-    → clock < deadline → Behind w r r.topics n asked → fetch_answer w r deadline ≡ None
-unanswered_if w r deadline clock n asked is at early behind =
-    unanswered w r deadline n (subst (Behind w r r.topics n) is behind) (subst (λ x. x < deadline) at early)
+pub unanswered_if : (w : World) (clock : ℕ) (r : FetchRequest) (deadline n : ℕ) (asked : Bool) → asked ≡ true
+    → clock < deadline → Behind w r r.topics n asked → fetch_answer w clock r deadline ≡ None
+unanswered_if w clock r deadline n asked is early behind = unanswered w clock r deadline n (subst (Behind w r r.topics n) is behind) early
 
 -- ---- what is told of it
 
@@ -249,18 +248,18 @@ unready true reply is = absurd cc
 unready false reply is = refl
 
 -- A look at one that has no answer writes nothing.
-pub unanswered_looked : (starts : Bool) (w : World) (r : FetchRequest) (deadline : ℕ) (old : List ℕ) → fetch_answer w r deadline ≡ None
-    → (false, old) ≡ look_written starts old (fetch_answer w r deadline)
-unanswered_looked starts w r deadline old none = ap (look_written starts old) (sym none)
+pub unanswered_looked : (starts : Bool) (w : World) (clock : ℕ) (r : FetchRequest) (deadline : ℕ) (old : List ℕ) → fetch_answer w clock r deadline ≡ None
+    → (false, old) ≡ look_written starts old (fetch_answer w clock r deadline)
+unanswered_looked starts w clock r deadline old none = ap (look_written starts old) (sym none)
 
-pub unanswered_told : (failed : Type 0) (starts : Bool) (w : World) (r : FetchRequest) (deadline : ℕ) (old : List ℕ)
-    → fetch_answer w r deadline ≡ None
-    → (reply : FetchReplyV5) × (IsFetchReady failed w deadline r false reply × (false ≡ true → old ≡ old ++ reply_written starts reply))
-unanswered_told failed starts w r deadline old none =
+pub unanswered_told : (failed : Type 0) (starts : Bool) (w : World) (clock : ℕ) (r : FetchRequest) (deadline : ℕ) (old : List ℕ)
+    → fetch_answer w clock r deadline ≡ None
+    → (reply : FetchReplyV5) × (IsFetchReady failed w clock deadline r false reply × (false ≡ true → old ≡ old ++ reply_written starts reply))
+unanswered_told failed starts w clock r deadline old none =
     let reply : FetchReplyV5 = (fetch.fetched w r).1 in (
       reply,
       (
-        ((fetch.fetched w r).0, (defined_told failed w r, unready (is_ready w r reply deadline) reply none)),
+        ((fetch.fetched w r).0, (defined_told failed w r, unready (is_ready clock r reply deadline) reply none)),
         λ over. absurd cc,
       ),
     )

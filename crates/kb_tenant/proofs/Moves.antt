@@ -1,10 +1,10 @@
 -- What a change of a world leaves of the logs that fetches wait for.
-use Rattle.std.proofs.Common.{◌≡◌, ◌∙◌, ℕ, List, [], ◌∷◌, ◌++◌, refl}
+use Rattle.std.proofs.Common.{◌≡◌, ℕ, List, [], ◌∷◌, ◌++◌}
 use Rattle.std.specs.List.{Contains}
 use Rattle.std.proofs.lemmas.List.Elements.{Contains-append_left}
 use Rattle.kb_api_data.specs.declared.fetch.FetchRequest.{FetchRequest}
 use Rattle.std.specs.Prelude.{None}
-use Rattle.kb_partitions.specs.Logs.{LogState}
+use Rattle.kb_world.specs.Logs.{LogState}
 use Rattle.kb_world.specs.Tied.{IsTied}
 use Rattle.kb_world.specs.World.{World}
 use Rattle.kb_world.specs.declared.topic_partition.TopicPartition.{TopicPartition}
@@ -13,10 +13,9 @@ use Rattle.kb_tenant.specs.Turns.{in_turn}
 use Rattle.kb_tenant.specs.Waiting.{AreApart, StillWaits}
 use Rattle.kb_tenant.proofs.Asked.{IsHeld, waits_on}
 
--- A tied world stays tied, at the same clock; and each log stays under its topic's name, unless its place is told.
+-- A tied world stays tied; and each log stays under its topic's name, unless its place is told.
 pub record Moves (before after : List TopicPartition) (w v : World) : Type 0 where
   pub tied : IsTied w → IsTied v
-  pub clock : v.clock ≡ w.clock
   pub told : (place : TopicPartition) → Contains before place → Contains after place
   pub held : IsTied w → (name : List ℕ) (place : TopicPartition) (log : LogState) → (Contains after place → ⊥) → IsHeld w name place log → IsHeld v name place log
 
@@ -24,18 +23,16 @@ pub record Moves (before after : List TopicPartition) (w v : World) : Type 0 whe
 pub stays_told : (w : World) (before more : List TopicPartition) → Moves before (before ++ more) w w
 stays_told w before more = record {
   tied = λ t. t;
-  clock = refl;
   told = λ place c. Contains-append_left before more place c;
   held = λ t name place log none h. h;
 }
 
 pub stays_same : (w : World) (before : List TopicPartition) → Moves before before w w
-stays_same w before = record { tied = λ t. t; clock = refl; told = λ place c. c; held = λ t name place log none h. h }
+stays_same w before = record { tied = λ t. t; told = λ place c. c; held = λ t name place log none h. h }
 
 pub moves_then : (a b c : List TopicPartition) (w v u : World) → Moves a b w v → Moves b c v u → Moves a c w u
 moves_then a b c w v u p q = record {
   tied = λ t. q.tied (p.tied t);
-  clock = q.clock ∙ p.clock;
   told = λ place at. q.told place (p.told place at);
   held = λ t name place log none h. q.held (p.tied t) name place log none (p.held t name place log (λ at. none (q.told place at)) h);
 }
@@ -50,6 +47,6 @@ turns_move {S} {E} {A} world places f each s (e ∷ es) =
     moves_then (places s) (places t) (places u) (world s) (world t) (world u) (each s e) (turns_move world places f each t es)
 
 -- a fetch that waits for no place that is told waits on
-pub waits_through : (after : List TopicPartition) (w v : World) → Moves [] after w v → IsTied w → (r : FetchRequest) (deadline : ℕ) → fetch_answer w r deadline ≡ None → AreApart (places_of w r) after → StillWaits w v r deadline
-waits_through after w v moves tied r deadline waits none =
-    waits_on w r deadline waits v (λ place. (Contains after place → ⊥)) (moves.held tied) moves.clock none
+pub waits_through : (after : List TopicPartition) (w v : World) → Moves [] after w v → IsTied w → (clock : ℕ) (r : FetchRequest) (deadline : ℕ) → fetch_answer w clock r deadline ≡ None → AreApart (places_of w r) after → StillWaits w v clock r deadline
+waits_through after w v moves tied clock r deadline waits none =
+    waits_on w clock r deadline waits v (λ place. (Contains after place → ⊥)) (moves.held tied) none

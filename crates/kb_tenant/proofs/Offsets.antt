@@ -12,7 +12,7 @@ use Rattle.kb_api_data.specs.declared.list_offsets.ListOffsetsPartition.{ListOff
 use Rattle.kb_api_data.specs.declared.list_offsets.ListOffsetsTopic.{ListOffsetsTopic}
 use Rattle.kb_api_data.specs.declared.list_offsets.ListOffsetsRequest.{ListOffsetsRequest}
 use Rattle.kb_topics.specs.Known.{named}
-use Rattle.kb_partitions.specs.Logs.{LogState}
+use Rattle.kb_world.specs.Logs.{LogState}
 use Rattle.kb_world.specs.Calls.{found_in}
 use Rattle.kb_tenant.specs.ListOffsets.{offset_refused, edge_answered, offset_found, listed_in, listed_at, listed, listed_topic, list_offsets}
 use Rattle.kb_world.specs.World.{World, place_in, log_in}

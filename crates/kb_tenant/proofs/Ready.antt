@@ -13,8 +13,8 @@ use Rattle.kb_api_data.specs.declared.fetch_v5.FetchPartitionReplyV5.{FetchParti
 use Rattle.kb_api_data.specs.declared.fetch_v5.FetchTopicReplyV5.{FetchTopicReplyV5}
 use Rattle.kb_api_data.specs.declared.fetch_v5.FetchReplyV5.{FetchReplyV5}
 use Rattle.kb_topics.specs.Known.{named}
-use Rattle.kb_partitions.specs.declared.fault.PartitionFault.{PartitionFault}
-use Rattle.kb_partitions.specs.declared.fault.PartitionFault.TheVariants as partition
+use Rattle.kb_world.specs.declared.fault.PartitionFault.{PartitionFault}
+use Rattle.kb_world.specs.declared.fault.PartitionFault.TheVariants as partition
 use Rattle.kb_tenant.specs.Counted.{fetch_answered, answered_at, answered_by, answered_topic, fetched, fetched_at, refused, begun, has_enough}
 use Rattle.kb_tenant.specs.Fetch.{bounds_of, is_ready, records_size, is_error, look_written, fetch_answer, reply_written}
 use Rattle.kb_tenant.specs.Counted.{AreFetchesTold, IsFetchTold, IsFetchTopicTold}
@@ -107,13 +107,13 @@ none_missing : (n s : ℕ) → ((n - s) == 0) ≡ nat_le n s
 none_missing n s = grind (arith, nat_tests)
 
 -- what was counted on the way says whether the reply waits no longer
-pub ready_is : (w : World) (r : FetchRequest) (deadline : ℕ) → has_enough (fetched w r).0 w.clock deadline ≡ is_ready w r (fetched w r).1 deadline
-ready_is w r deadline =
+pub ready_is : (w : World) (clock : ℕ) (r : FetchRequest) (deadline : ℕ) → has_enough (fetched w r).0 clock deadline ≡ is_ready clock r (fetched w r).1 deadline
+ready_is w clock r deadline =
     let all = in_turn_tells (λ (a : FetchTopicReplyV5). sum_by records_size a.partitions) (λ a. list_any is_refusal a.partitions) (λ a. list_any (λ p. true) a.partitions) (answered_topic w) (topic_tells w) (begun r) r.topics in
     let g = (fetched w r).0 in
-    ap (λ b. not b || g.is_wrong || (g.missing == 0) || nat_le deadline w.clock) all.asked
-    ∙ ap (λ b. not (list_any (λ a. list_any (λ p. true) a.partitions) (fetched w r).1.topics) || b || (g.missing == 0) || nat_le deadline w.clock) all.wrong
-    ∙ ap (λ b. not (list_any (λ a. list_any (λ p. true) a.partitions) (fetched w r).1.topics) || list_any (λ a. list_any is_refusal a.partitions) (fetched w r).1.topics || b || nat_le deadline w.clock)
+    ap (λ b. not b || g.is_wrong || (g.missing == 0) || nat_le deadline clock) all.asked
+    ∙ ap (λ b. not (list_any (λ a. list_any (λ p. true) a.partitions) (fetched w r).1.topics) || b || (g.missing == 0) || nat_le deadline clock) all.wrong
+    ∙ ap (λ b. not (list_any (λ a. list_any (λ p. true) a.partitions) (fetched w r).1.topics) || list_any (λ a. list_any is_refusal a.partitions) (fetched w r).1.topics || b || nat_le deadline clock)
     (ap (λ n. n == 0) all.missing ∙ none_missing (natural r.min_bytes) (sum_by (λ (a : FetchTopicReplyV5). sum_by records_size a.partitions) (fetched w r).1.topics))
 
 -- the same where something is refused
@@ -154,28 +154,27 @@ topic_told_tells failed w g t h x so =
     x.partitions so.1 in
     record { missing = all.missing; wrong = all.wrong; asked = all.asked }
 
-pub told_ready : (failed : Type 0) (w : World) (q : FetchRequest) (g : Given) (x : FetchReplyV5) (deadline : ℕ) → AreFetchesTold failed w q g x
-    → has_enough g w.clock deadline ≡ is_ready w q x deadline
-told_ready failed w q g x deadline so =
+pub told_ready : (failed : Type 0) (w : World) (clock : ℕ) (q : FetchRequest) (g : Given) (x : FetchReplyV5) (deadline : ℕ) → AreFetchesTold failed w q g x
+    → has_enough g clock deadline ≡ is_ready clock q x deadline
+told_ready failed w clock q g x deadline so =
     let all = served_tells (λ (a : FetchTopicReplyV5). sum_by records_size a.partitions) (λ a. list_any is_refusal a.partitions)
     (λ a. list_any (λ p. true) a.partitions) (IsFetchTopicTold failed w) (topic_told_tells failed w) (begun q) g q.topics x.topics so.1 in
-    ap (λ b. not b || g.is_wrong || (g.missing == 0) || nat_le deadline w.clock) all.asked
-    ∙ ap (λ b. not (list_any (λ a. list_any (λ p. true) a.partitions) x.topics) || b || (g.missing == 0) || nat_le deadline w.clock) all.wrong
-    ∙ ap (λ b. not (list_any (λ a. list_any (λ p. true) a.partitions) x.topics) || list_any (λ a. list_any is_refusal a.partitions) x.topics || b || nat_le deadline w.clock)
+    ap (λ b. not b || g.is_wrong || (g.missing == 0) || nat_le deadline clock) all.asked
+    ∙ ap (λ b. not (list_any (λ a. list_any (λ p. true) a.partitions) x.topics) || b || (g.missing == 0) || nat_le deadline clock) all.wrong
+    ∙ ap (λ b. not (list_any (λ a. list_any (λ p. true) a.partitions) x.topics) || list_any (λ a. list_any is_refusal a.partitions) x.topics || b || nat_le deadline clock)
     (ap (λ n. n == 0) all.missing ∙ none_missing (natural q.min_bytes) (sum_by (λ (a : FetchTopicReplyV5). sum_by records_size a.partitions) x.topics))
 
 -- ---- what a look answers
 
 -- the reply is the definition's
-reply_same : (starts : Bool) (w : World) (r : FetchRequest) (deadline : ℕ) (old : List ℕ)
-    → look_written starts old (if is_ready w r (fetched w r).1 deadline then Some (fetched w r).1 else None)
-    ≡ look_written starts old (fetch_answer w r deadline)
-reply_same starts w r deadline old =
-    ap (λ (x : FetchReplyV5). look_written starts old (if is_ready w r x deadline then Some x else None)) (sym (ap (λ x. x.1) (fetched_same w r)))
+reply_same : (starts : Bool) (w : World) (clock : ℕ) (r : FetchRequest) (deadline : ℕ) (old : List ℕ)
+    → look_written starts old (if is_ready clock r (fetched w r).1 deadline then Some (fetched w r).1 else None)
+    ≡ look_written starts old (fetch_answer w clock r deadline)
+reply_same starts w clock r deadline old =
+    ap (λ (x : FetchReplyV5). look_written starts old (if is_ready clock r x deadline then Some x else None)) (sym (ap (λ x. x.1) (fetched_same w r)))
 
-done_is : (w v : World) (r : FetchRequest) (given : Given) (clock deadline : ℕ) (ready : Bool) → ready ≡ has_enough given clock deadline → clock ≡ v.clock → v ≡ w → given ≡ (fetched w r).0 → is_ready w r (fetched w r).1 deadline ≡ ready
-done_is w v r given clock deadline ready is at stays same =
-    sym (ready_is w r deadline) ∙ sym (ap (λ g. has_enough g w.clock deadline) same) ∙ sym (ap (λ n. has_enough given n deadline) (at ∙ ap (λ u. u.clock) stays)) ∙ sym is
+done_is : (w : World) (clock : ℕ) (r : FetchRequest) (given : Given) (deadline : ℕ) (ready : Bool) → ready ≡ has_enough given clock deadline → given ≡ (fetched w r).0 → is_ready clock r (fetched w r).1 deadline ≡ ready
+done_is w clock r given deadline ready is same = sym (ready_is w clock r deadline) ∙ sym (ap (λ g. has_enough g clock deadline) same) ∙ sym is
 
 when_done : (starts : Bool) (old : List ℕ) (reply : FetchReplyV5) (b : Bool) → b ≡ true → (true, old ++ reply_written starts reply) ≡ look_written starts old (if b then Some reply else None)
 when_done starts old reply true is = refl
@@ -185,14 +184,14 @@ when_not : (starts : Bool) (old : List ℕ) (reply : FetchReplyV5) (b : Bool) �
 when_not starts old reply true is = absurd cc
 when_not starts old reply false is = refl
 
-pub looked_done : (starts : Bool) (w v : World) (r : FetchRequest) (given : Given) (clock deadline : ℕ) (ready : Bool) (old new : List ℕ) → ready ≡ has_enough given clock deadline → ready ≡ true → clock ≡ v.clock → v ≡ w
-    → (given ≡ (fetched w r).0) × (new ≡ old ++ reply_written starts (fetched w r).1) → (true, new) ≡ look_written starts old (fetch_answer w r deadline)
-looked_done starts w v r given clock deadline ready old new is over at stays told =
-    ap (λ s. (true, s)) told.1 ∙ when_done starts old (fetched w r).1 (is_ready w r (fetched w r).1 deadline) (done_is w v r given clock deadline ready is at stays told.0 ∙ over)
-    ∙ reply_same starts w r deadline old
+pub looked_done : (starts : Bool) (w : World) (clock : ℕ) (r : FetchRequest) (given : Given) (deadline : ℕ) (ready : Bool) (old new : List ℕ) → ready ≡ has_enough given clock deadline → ready ≡ true
+    → (given ≡ (fetched w r).0) × (new ≡ old ++ reply_written starts (fetched w r).1) → (true, new) ≡ look_written starts old (fetch_answer w clock r deadline)
+looked_done starts w clock r given deadline ready old new is over told =
+    ap (λ s. (true, s)) told.1 ∙ when_done starts old (fetched w r).1 (is_ready clock r (fetched w r).1 deadline) (done_is w clock r given deadline ready is told.0 ∙ over)
+    ∙ reply_same starts w clock r deadline old
 
-pub looked_not : (starts : Bool) (w v : World) (r : FetchRequest) (given : Given) (clock deadline : ℕ) (ready : Bool) (old mid new : List ℕ) (n : ℕ) → ready ≡ has_enough given clock deadline → ready ≡ false → clock ≡ v.clock → v ≡ w
-    → (given ≡ (fetched w r).0) × (mid ≡ old ++ reply_written starts (fetched w r).1) → n ≡ length old → new ≡ take n mid → (false, new) ≡ look_written starts old (fetch_answer w r deadline)
-looked_not starts w v r given clock deadline ready old mid new n is early at stays told len back =
-    ap (λ s. (false, s)) (back ∙ cut_back old (reply_written starts (fetched w r).1) mid n told.1 len) ∙ when_not starts old (fetched w r).1 (is_ready w r (fetched w r).1 deadline) (done_is w v r given clock deadline ready is at stays told.0 ∙ early)
-    ∙ reply_same starts w r deadline old
+pub looked_not : (starts : Bool) (w : World) (clock : ℕ) (r : FetchRequest) (given : Given) (deadline : ℕ) (ready : Bool) (old mid new : List ℕ) (n : ℕ) → ready ≡ has_enough given clock deadline → ready ≡ false
+    → (given ≡ (fetched w r).0) × (mid ≡ old ++ reply_written starts (fetched w r).1) → n ≡ length old → new ≡ take n mid → (false, new) ≡ look_written starts old (fetch_answer w clock r deadline)
+looked_not starts w clock r given deadline ready old mid new n is early told len back =
+    ap (λ s. (false, s)) (back ∙ cut_back old (reply_written starts (fetched w r).1) mid n told.1 len) ∙ when_not starts old (fetched w r).1 (is_ready clock r (fetched w r).1 deadline) (done_is w clock r given deadline ready is told.0 ∙ early)
+    ∙ reply_same starts w clock r deadline old

@@ -7,9 +7,9 @@ use Rattle.kb_api_data.specs.declared.delete_records.DeleteRecordsRequest.{Delet
 use Rattle.kb_api_data.specs.declared.delete_records.DeleteRecordsTopic.{DeleteRecordsTopic}
 use Rattle.kb_topics.specs.Commands.{start_command}
 use Rattle.kb_topics.specs.Known.{Known, named, step}
-use Rattle.kb_partitions.specs.Logs.{LogState}
-use Rattle.kb_partitions.specs.declared.fault.PartitionFault.{PartitionFault}
-use Rattle.kb_partitions.specs.declared.fault.PartitionFault.TheVariants as partition
+use Rattle.kb_world.specs.Logs.{LogState}
+use Rattle.kb_world.specs.declared.fault.PartitionFault.{PartitionFault}
+use Rattle.kb_world.specs.declared.fault.PartitionFault.TheVariants as partition
 use Rattle.kb_world.specs.Calls.{delete_records, deleted_from, deleted_to, start_asked, start_moved}
 use Rattle.kb_world.specs.World.{World, log_in, place_in}
 use Rattle.kb_world.specs.declared.topic_partition.TopicPartition.{TopicPartition}
@@ -52,7 +52,6 @@ module _ (P : World × Result ℤ PartitionFault → Type 0) (w : World) (place 
 wider : (w v : World) (more before : List TopicPartition) → Moves [] more w v → Moves before (before ++ more) w v
 wider w v more before m = record {
   tied = m.tied;
-  clock = m.clock;
   told = λ place at. Contains-append_left before more place at;
   held = λ t name place log none h. m.held t name place log (λ at. none (Contains-append_right before more place at)) h;
 }

@@ -8,7 +8,7 @@ use Rattle.std.specs.BTreeMap.{is_at}
 use Rattle.std.proofs.lemmas.List.{length-set}
 use Rattle.kb_topics.specs.Commands.{start_command}
 use Rattle.kb_topics.specs.Known.{Known, PartitionState, TopicState, named, partition_at, put_topic, step, topic_at, with_part, with_partition, with_start}
-use Rattle.kb_partitions.specs.Logs.{LogState, Logs, dropped, log_at, without_below}
+use Rattle.kb_world.specs.Logs.{LogState, Logs, dropped, log_at, without_below}
 use Rattle.kb_world.specs.Calls.{due, moved_to, retain, retained_from}
 use Rattle.kb_world.specs.Tied.{counted, partition_count}
 use Rattle.kb_world.specs.World.{World, log_in}
@@ -78,7 +78,6 @@ moved_moves w place start k alike = record {
     next = λ i le. alike.none i (t.next i (subst (λ n. n ≤ i) alike.creates le));
     logs = dropped_counts place start w.logs (log_in w place) ∙ t.logs ∙ sym alike.counts;
   };
-  clock = refl;
   told = λ other at. absurd (none_in other at);
   held = λ t name other log none h.
       let apart : other ≡ place → ⊥ = λ same. none (subst (λ x. Contains (x ∷ []) other) same (here_first other [])) in
@@ -96,8 +95,8 @@ due_moves : (w : World) (place : TopicPartition) (o : Option ℕ) → Moves [] (
 due_moves w place None = stays_told w [] (place ∷ [])
 due_moves w place (Some start) = stepped_moves w place start (step w.known (start_command (pos place.instance) (pos place.number) (pos start))) refl
 
-pub retain_moves : (w : World) (place : TopicPartition) → Moves [] (place ∷ []) w (retain w place).0
-retain_moves w place = due_moves w place (due w place)
+pub retain_moves : (clock : ℕ) (w : World) (place : TopicPartition) → Moves [] (place ∷ []) w (retain clock w place).0
+retain_moves clock w place = due_moves w place (due clock w place)
 
 -- ---- what is known
 
@@ -110,5 +109,5 @@ due_alike w place None = alike_same w.known
 due_alike w place (Some start) = stepped_alike w place start (step w.known (start_command (pos place.instance) (pos place.number) (pos start))) refl
 
 -- It is as before, but for the state of one partition.
-pub retain_alike : (w : World) (place : TopicPartition) → IsAlike w.known (retain w place).0.known
-retain_alike w place = due_alike w place (due w place)
+pub retain_alike : (clock : ℕ) (w : World) (place : TopicPartition) → IsAlike w.known (retain clock w place).0.known
+retain_alike clock w place = due_alike w place (due clock w place)

@@ -35,7 +35,6 @@ issued_moves : (w : World) (o : Option CatalogFault) → Moves [] [] w (issued_u
 issued_moves w (Some f) = stays_same w []
 issued_moves w None = record {
   tied = λ t. record { next = t.next; logs = t.logs };
-  clock = refl;
   told = λ place at. at;
   held = λ t name place log none h. record { topic = h.topic; there = h.there };
 }
@@ -70,8 +69,8 @@ init_topics w r = given_topics w r.transactional_id
 abbrev Leaves : World → Outcome → Type 0
 Leaves w o = Moves [] o.touched w o.world
 
-pub serve_leaves : (node : Node) (w : World) (n : ℕ) (key version : ℤ) (body : List ℕ) → Leaves w (plainly_served node w n key version body)
-serve_leaves node w n key version body = by_request (Leaves w) node w n key version body (record {
+pub serve_leaves : (node : Node) (w : World) (clock n : ℕ) (key version : ℤ) (body : List ℕ) → Leaves w (plainly_served node w clock n key version body)
+serve_leaves node w clock n key version body = by_request (Leaves w) node w clock n key version body (record {
   produce = λ r read. produce_moves w r;
   fetch = λ r read. stays_same w [];
   list_offsets = λ r read. stays_same w [];
@@ -93,32 +92,32 @@ pub nowhere : (place : TopicPartition) → Contains [] place → ⊥
 nowhere place c = omega (arith, c.1)
 
 -- a request keeps a world tied
-pub served_tied : (node : Node) (w : World) (n : ℕ) (key version : ℤ) (body : List ℕ) → IsTied w → IsTied (plainly_served node w n key version body).world
-served_tied node w n key version body = (serve_leaves node w n key version body).tied
+pub served_tied : (node : Node) (w : World) (clock n : ℕ) (key version : ℤ) (body : List ℕ) → IsTied w → IsTied (plainly_served node w clock n key version body).world
+served_tied node w clock n key version body = (serve_leaves node w clock n key version body).tied
 
 -- a fetch waits on through a request that touches none of its places
-pub served_waits : (node : Node) (w : World) (n : ℕ) (key version : ℤ) (body : List ℕ) (r : FetchRequest) (deadline : ℕ) → IsTied w → fetch_answer w r deadline ≡ None
-    → AreApart (places_of w r) (plainly_served node w n key version body).touched → StillWaits w (plainly_served node w n key version body).world r deadline
-served_waits node w n key version body r deadline tied waits none =
-    let o = plainly_served node w n key version body in
-    waits_through o.touched w o.world (serve_leaves node w n key version body) tied r deadline waits none
+pub served_waits : (node : Node) (w : World) (clock n : ℕ) (key version : ℤ) (body : List ℕ) (r : FetchRequest) (deadline : ℕ) → IsTied w → fetch_answer w clock r deadline ≡ None
+    → AreApart (places_of w r) (plainly_served node w clock n key version body).touched → StillWaits w (plainly_served node w clock n key version body).world clock r deadline
+served_waits node w clock n key version body r deadline tied waits none =
+    let o = plainly_served node w clock n key version body in
+    waits_through o.touched w o.world (serve_leaves node w clock n key version body) tied clock r deadline waits none
 
 -- it waits on through each commit
-pub committed_waits : (w : World) (refusal : Option ℤ) (q : OffsetCommitRequest) (r : FetchRequest) (deadline : ℕ) → IsTied w → fetch_answer w r deadline ≡ None → StillWaits w (committed_all w refusal q).0 r deadline
-committed_waits w refusal q r deadline tied waits =
-    waits_through [] w (committed_all w refusal q).0 (commit_moves w refusal q) tied r deadline waits (λ place asked none. nowhere place none)
+pub committed_waits : (w : World) (clock : ℕ) (refusal : Option ℤ) (q : OffsetCommitRequest) (r : FetchRequest) (deadline : ℕ) → IsTied w → fetch_answer w clock r deadline ≡ None → StillWaits w (committed_all w refusal q).0 clock r deadline
+committed_waits w clock refusal q r deadline tied waits =
+    waits_through [] w (committed_all w refusal q).0 (commit_moves w refusal q) tied clock r deadline waits (λ place asked none. nowhere place none)
 
 -- the same for retention
-pub retained_tied : (w : World) (place : TopicPartition) → IsTied w → IsTied (retain w place).0
-retained_tied w place = (retain_moves w place).tied
+pub retained_tied : (clock : ℕ) (w : World) (place : TopicPartition) → IsTied w → IsTied (retain clock w place).0
+retained_tied clock w place = (retain_moves clock w place).tied
 
 only_one : (place other : TopicPartition) → Contains (place ∷ []) other → place ≡ other
 only_one place other c =
     let first : c.0 ≡ 0 = omega (arith, c.1) in
     subst (λ (k : ℕ). get_or (place ∷ []) k other ≡ other) first c.2
 
-pub retained_waits : (w : World) (place : TopicPartition) (r : FetchRequest) (deadline : ℕ) → IsTied w → fetch_answer w r deadline ≡ None
-    → (Contains (places_of w r) place → ⊥) → StillWaits w (retain w place).0 r deadline
-retained_waits w place r deadline tied waits none =
-    waits_through (place ∷ []) w (retain w place).0 (retain_moves w place) tied r deadline waits
+pub retained_waits : (clock : ℕ) (w : World) (place : TopicPartition) (r : FetchRequest) (deadline : ℕ) → IsTied w → fetch_answer w clock r deadline ≡ None
+    → (Contains (places_of w r) place → ⊥) → StillWaits w (retain clock w place).0 clock r deadline
+retained_waits clock w place r deadline tied waits none =
+    waits_through (place ∷ []) w (retain clock w place).0 (retain_moves clock w place) tied clock r deadline waits
     (λ other asked c. none (subst (λ x. Contains (places_of w r) x) (sym (only_one place other c)) asked))

@@ -2,7 +2,7 @@
 use Rattle.std.proofs.Common.{◌≡◌, ◌∙◌, sym, ap, refl, ℕ, zero, suc, ◌+◌, ◌<◌, ◌≤◌, List, [], ◌∷◌, ◌++◌, length, map, drop, get_or, drop-cons, add-one, append_assoc, arith}
 use Rattle.std.specs.List.{flat_map}
 use Rattle.std.proofs.lemmas.List.{append-nil}
-use Rattle.kb_partitions.specs.Scene.{Scene}
+use Rattle.kb_world.specs.Scene.{Scene}
 use Rattle.kb_world.specs.Parts.{Seen}
 use Rattle.kb_world.specs.Steps.{IsStep, Meets, meets_then}
 use Rattle.kb_world.specs.World.{World}

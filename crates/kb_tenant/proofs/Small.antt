@@ -35,10 +35,10 @@ use Rattle.kb_topics.specs.Commands.{start_command}
 use Rattle.kb_topics.specs.Refusals.{create_refusal, issue_refusal}
 use Rattle.kb_topics.specs.declared.config.TopicConfig.{TopicConfig}
 use Rattle.kb_topics.specs.declared.fault.CatalogFault.{CatalogFault}
-use Rattle.kb_partitions.specs.Logs.{LogState, Logs, appended, dropped, log_at, no_log, put_log, with_log, without_below}
-use Rattle.kb_partitions.specs.declared.fault.PartitionFault.{PartitionFault}
-use Rattle.kb_partitions.specs.declared.fault.PartitionFault.TheVariants as partition
-use Rattle.kb_world.specs.Calls.{appended_to, at_clock, created_unless, delete_records, deleted_at, due, due_in, issue, issued_unless, moved_to, retain, retained_from, with_log_at}
+use Rattle.kb_world.specs.Logs.{LogState, Logs, appended, dropped, log_at, no_log, put_log, with_log, without_below}
+use Rattle.kb_world.specs.declared.fault.PartitionFault.{PartitionFault}
+use Rattle.kb_world.specs.declared.fault.PartitionFault.TheVariants as partition
+use Rattle.kb_world.specs.Calls.{appended_to, created_unless, delete_records, deleted_at, due, due_in, issue, issued_unless, moved_to, retain, retained_from, with_log_at}
 use Rattle.kb_world.specs.World.{World, log_in, new_world, place_in}
 use Rattle.kb_world.specs.declared.topic_partition.TopicPartition.{TopicPartition}
 use Rattle.kb_tenant.specs.Batches.{HasSmallLogs, IsSmall}
@@ -315,22 +315,22 @@ moved_keeps w place start None lt all = all
 moved_keeps w place start (Some k) lt all = below_small place.instance place.number (pos start) w.logs (log_in w place) lt refl all
 
 -- the new start of a log that is small
-due_small : (w : World) (t : Option TopicState) (o : Option LogState) (start : ℕ) → ((l : LogState) → o ≡ Some l → IsSmall l) → due_in w t o ≡ Some start → start < 2 ^ 63
-due_small w None o start small e = absurd cc
-due_small w (Some t) None start small e = absurd cc
-due_small w (Some t) (Some l) start small e = by (nat_le after l.start) e
+due_small : (clock : ℕ) (t : Option TopicState) (o : Option LogState) (start : ℕ) → ((l : LogState) → o ≡ Some l → IsSmall l) → due_in clock t o ≡ Some start → start < 2 ^ 63
+due_small clock None o start small e = absurd cc
+due_small clock (Some t) None start small e = absurd cc
+due_small clock (Some t) (Some l) start small e = by (nat_le after l.start) e
   where
     after : ℕ
-    after = retained_start (pos w.clock) t.config.retention_ms t.config.retention_bytes l.start l.end l.batches
+    after = retained_start (pos clock) t.config.retention_ms t.config.retention_bytes l.start l.end l.batches
 
     by : (b : Bool) → cond b None (Some after) ≡ Some start → start < 2 ^ 63
     by true none = absurd cc
-    by false some = let same : after ≡ start = cc in subst (λ n. n < 2 ^ 63) same (retained_start_small (pos w.clock) t.config.retention_ms t.config.retention_bytes l (small l refl))
+    by false some = let same : after ≡ start = cc in subst (λ n. n < 2 ^ 63) same (retained_start_small (pos clock) t.config.retention_ms t.config.retention_bytes l (small l refl))
 
-due_keeps : (w : World) (place : TopicPartition) (o : Option ℕ) → due w place ≡ o → Keeps w (retained_from w place o).0
-due_keeps w place None is all = all
-due_keeps w place (Some start) is all = moved_keeps w place start (step w.known (start_command (pos place.instance) (pos place.number) (pos start)))
-    (due_small w (topic_at place.instance w.known.topics) (log_in w place) start (λ l at. small_at w.logs place.instance place.number l all at) is) all
+due_keeps : (clock : ℕ) (w : World) (place : TopicPartition) (o : Option ℕ) → due clock w place ≡ o → Keeps w (retained_from w place o).0
+due_keeps clock w place None is all = all
+due_keeps clock w place (Some start) is all = moved_keeps w place start (step w.known (start_command (pos place.instance) (pos place.number) (pos start)))
+    (due_small clock (topic_at place.instance w.known.topics) (log_in w place) start (λ l at. small_at w.logs place.instance place.number l all at) is) all
 
 -- ---- DeleteRecords
 
@@ -372,20 +372,17 @@ out_of w small = All-from_recursion (λ (e : ℕ × List LogState). AreSmall e.1
 pub small_in : (w : World) (place : TopicPartition) (l : LogState) → HasSmallLogs w → log_in w place ≡ Some l → IsSmall l
 small_in w place l small at = small_at w.logs place.instance place.number l (into w small) at
 
-pub new_small : (clock : ℕ) → HasSmallLogs (at_clock new_world clock)
-new_small clock = out_of (at_clock new_world clock) tt
+pub new_small : HasSmallLogs new_world
+new_small = out_of new_world tt
 
-pub clock_small : (w : World) (now : ℕ) → HasSmallLogs w → HasSmallLogs (at_clock w now)
-clock_small w now small = small
-
-pub retained_small : (w : World) (place : TopicPartition) → HasSmallLogs w → HasSmallLogs (retain w place).0
-retained_small w place small = out_of (retain w place).0 (due_keeps w place (due w place) refl (into w small))
+pub retained_small : (clock : ℕ) (w : World) (place : TopicPartition) → HasSmallLogs w → HasSmallLogs (retain clock w place).0
+retained_small clock w place small = out_of (retain clock w place).0 (due_keeps clock w place (due clock w place) refl (into w small))
 
 pub committed_small : (w : World) (refusal : Option ℤ) (r : OffsetCommitRequest) → HasSmallLogs w → HasSmallLogs (committed_all w refusal r).0
 committed_small w refusal r small = out_of (committed_all w refusal r).0 (commit_keeps w refusal r (into w small))
 
-pub served_small : (node : Node) (w : World) (n : ℕ) (key version : ℤ) (body : List ℕ) → HasSmallLogs w → HasSmallLogs (served_by_key node w n key version body).world
-served_small node w n key version body small = out_of (served_by_key node w n key version body).world (by_request (λ (o : Outcome). Keeps w o.world) node w n key version body (record {
+pub served_small : (node : Node) (w : World) (clock n : ℕ) (key version : ℤ) (body : List ℕ) → HasSmallLogs w → HasSmallLogs (served_by_key node w clock n key version body).world
+served_small node w clock n key version body small = out_of (served_by_key node w clock n key version body).world (by_request (λ (o : Outcome). Keeps w o.world) node w clock n key version body (record {
   produce = λ r read. produce_keeps w r;
   fetch = λ r read all. all;
   list_offsets = λ r read all. all;

@@ -20,10 +20,10 @@ use Rattle.kb_api_data.specs.declared.fetch.FetchTopic.{FetchTopic}
 use Rattle.kb_api_data.specs.declared.fetch_v5.FetchReplyV5.{FetchReplyV5}
 use Rattle.kb_api_data.specs.declared.fetch_v5.FetchTopicReplyV5.{FetchTopicReplyV5}
 use Rattle.kb_api_data.specs.declared.fetch_records_v5.FetchPartitionFrontV5.{FetchPartitionFrontV5}
-use Rattle.kb_partitions.specs.Fault.{code_of}
-use Rattle.kb_partitions.specs.Logs.{LogState}
-use Rattle.kb_partitions.specs.declared.fault.PartitionFault.{PartitionFault}
-use Rattle.kb_partitions.specs.declared.fault.PartitionFault.TheVariants as partition
+use Rattle.kb_world.specs.Fault.{code_of}
+use Rattle.kb_world.specs.Logs.{LogState}
+use Rattle.kb_world.specs.declared.fault.PartitionFault.{PartitionFault}
+use Rattle.kb_world.specs.declared.fault.PartitionFault.TheVariants as partition
 use Rattle.kb_topics.specs.Known.{named}
 use Rattle.kb_world.specs.Calls.{fetched_from}
 use Rattle.kb_world.specs.World.{World, log_in, place_in}

@@ -2,7 +2,7 @@
 use Rattle.std.proofs.Common.{◌≡◌, ⊎_elim, inl, inr, ℕ, ℤ, List, Option, Some, None, Result, Ok, Err, sym, subst, ap, refl}
 use Rattle.kb_api_data.specs.declared.produce.ProducePartition.{ProducePartition}
 use Rattle.kb_api_data.specs.declared.produce.ProducePartitionReply.{ProducePartitionReply}
-use Rattle.kb_partitions.specs.Scene.{Scene}
+use Rattle.kb_world.specs.Scene.{Scene}
 use Rattle.kb_world.specs.Parts.{Seen}
 use Rattle.kb_world.specs.Told.{IsDone, Tells}
 use Rattle.kb_world.specs.World.{place_in}

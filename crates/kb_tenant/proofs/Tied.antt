@@ -8,8 +8,7 @@ use Rattle.std.specs.BTreeMap.{is_at}
 use Rattle.std.proofs.lemmas.Map.Made.{lookup-map_values}
 use Rattle.std.proofs.lemmas.Option.{slice_get_within}
 use Rattle.kb_topics.specs.Known.{TopicState, topic_at}
-use Rattle.kb_partitions.specs.Logs.{LogState, log_at}
-use Rattle.kb_world.specs.Calls.{at_clock}
+use Rattle.kb_world.specs.Logs.{LogState, log_at}
 use Rattle.kb_world.specs.Tied.{IsTied, partition_count}
 use Rattle.kb_world.specs.World.{World, new_world}
 
@@ -46,8 +45,5 @@ not_next w i p log tied at le =
     let none = tied.next i le in
     let bad : Some own.topic ≡ None = sym own.there ∙ none in cc
 
-pub new_tied : (clock : ℕ) → IsTied (at_clock new_world clock)
-new_tied clock = record { next = λ i le. refl; logs = refl }
-
-pub clock_tied : (w : World) (now : ℕ) → IsTied w → IsTied (at_clock w now)
-clock_tied w now tied = record { next = tied.next; logs = tied.logs }
+pub new_tied : IsTied new_world
+new_tied = record { next = λ i le. refl; logs = refl }

@@ -11,13 +11,13 @@ use Rattle.kb_api_data.specs.declared.delete_records.DeleteRecordsRequest.{Delet
 use Rattle.kb_api_data.specs.declared.delete_records.DeleteRecordsTopic.{DeleteRecordsTopic}
 use Rattle.kb_api_data.specs.declared.delete_records.DeleteRecordsTopicReply.{DeleteRecordsTopicReply}
 use Rattle.kb_topics.specs.Known.{named}
-use Rattle.kb_partitions.specs.Fault.{code_of}
-use Rattle.kb_partitions.specs.Scene.{Scene, WhereHonest}
-use Rattle.kb_partitions.specs.declared.fault.PartitionFault.{PartitionFault}
-use Rattle.kb_partitions.specs.declared.fault.PartitionFault.TheVariants as partition
+use Rattle.kb_world.specs.Fault.{code_of}
+use Rattle.kb_world.specs.Scene.{Scene, WhereHonest}
+use Rattle.kb_world.specs.declared.fault.PartitionFault.{PartitionFault}
+use Rattle.kb_world.specs.declared.fault.PartitionFault.TheVariants as partition
 use Rattle.kb_world.specs.Parts.{Seen}
 use Rattle.kb_world.specs.Steps.{IsStep}
-use Rattle.kb_world.specs.Told.{Deletes, IsDeletionWant, IsDone}
+use Rattle.kb_world.specs.Told.{Deletes, IsDeletionWant}
 use Rattle.kb_world.specs.World.{World, place_in}
 use Rattle.kb_world.specs.declared.topic_partition.TopicPartition.{TopicPartition}
 use Rattle.kb_tenant.specs.DeleteRecords.{deleted, deleted_at, deleted_in, deletion_answered, told}

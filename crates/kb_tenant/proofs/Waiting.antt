@@ -66,17 +66,17 @@ topics_done w r ts i here list le before =
 
 -- ---- what became of it
 
-pub reply_served : (starts : Bool) (w : World) (r : FetchRequest) (d : ℕ) (f : ℕ → Option FetchReplyV5) (old new : List ℕ) (done : Bool) → done ≡ true → d ≡ deadline_of w r → (done, new) ≡ look_written starts old (f d) → IsServed starts w r (f (deadline_of w r)) old fetching.Reply new
-reply_served starts w r d f old new done is same told = by_cases (f (deadline_of w r)) (told ∙ ap (λ n. look_written starts old (f n)) same)
+pub reply_served : (starts : Bool) (w : World) (clock : ℕ) (r : FetchRequest) (d : ℕ) (f : ℕ → Option FetchReplyV5) (old new : List ℕ) (done : Bool) → done ≡ true → d ≡ deadline_of clock r → (done, new) ≡ look_written starts old (f d) → IsServed starts w clock r (f (deadline_of clock r)) old fetching.Reply new
+reply_served starts w clock r d f old new done is same told = by_cases (f (deadline_of clock r)) (told ∙ ap (λ n. look_written starts old (f n)) same)
   where
-    by_cases : (o : Option FetchReplyV5) → (done, new) ≡ look_written starts old o → IsServed starts w r o old fetching.Reply new
+    by_cases : (o : Option FetchReplyV5) → (done, new) ≡ look_written starts old o → IsServed starts w clock r o old fetching.Reply new
     by_cases (Some reply) told = ap (λ x. x.1) told
     by_cases None told = let e : true ≡ false = sym is ∙ ap (λ x. x.0) told in absurd cc
 
-pub wait_served : (starts : Bool) (w v : World) (r : FetchRequest) (d : ℕ) (f : ℕ → Option FetchReplyV5) (old new : List ℕ) (done : Bool) (keys : Vec TopicPartition Global) → done ≡ false → d ≡ deadline_of w r → (done, new) ≡ look_written starts old (f d) → keys.items ≡ places_of v r → v ≡ w
-    → IsServed starts w r (f (deadline_of w r)) old (fetching.Wait d keys) new
-wait_served starts w v r d f old new done keys is same told there stays = by_cases (f (deadline_of w r)) (told ∙ ap (λ n. look_written starts old (f n)) same)
+pub wait_served : (starts : Bool) (w v : World) (clock : ℕ) (r : FetchRequest) (d : ℕ) (f : ℕ → Option FetchReplyV5) (old new : List ℕ) (done : Bool) (keys : Vec TopicPartition Global) → done ≡ false → d ≡ deadline_of clock r → (done, new) ≡ look_written starts old (f d) → keys.items ≡ places_of v r → v ≡ w
+    → IsServed starts w clock r (f (deadline_of clock r)) old (fetching.Wait d keys) new
+wait_served starts w v clock r d f old new done keys is same told there stays = by_cases (f (deadline_of clock r)) (told ∙ ap (λ n. look_written starts old (f n)) same)
   where
-    by_cases : (o : Option FetchReplyV5) → (done, new) ≡ look_written starts old o → IsServed starts w r o old (fetching.Wait d keys) new
+    by_cases : (o : Option FetchReplyV5) → (done, new) ≡ look_written starts old o → IsServed starts w clock r o old (fetching.Wait d keys) new
     by_cases (Some reply) told = let e : false ≡ true = sym is ∙ ap (λ x. x.0) told in absurd cc
     by_cases None told = (same, there ∙ ap (λ u. places_of u r) stays, ap (λ x. x.1) told)

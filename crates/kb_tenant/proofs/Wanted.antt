@@ -19,7 +19,7 @@ use Rattle.kb_api_group.specs.declared.offset_commit.CommitTopicReply.{CommitTop
 use Rattle.kb_api_group.specs.declared.offset_commit.OffsetCommitReply.{OffsetCommitReply}
 use Rattle.kb_api_group.specs.declared.offset_commit.OffsetCommitRequest.{OffsetCommitRequest}
 use Rattle.kb_wire.specs.Codec.{array, count, string}
-use Rattle.kb_partitions.specs.Scene.{Scene, WhereHonest}
+use Rattle.kb_world.specs.Scene.{Scene, WhereHonest}
 use Rattle.kb_topics.specs.CatalogFault.{code_of as fault_code}
 use Rattle.kb_topics.specs.Known.{named}
 use Rattle.kb_topics.specs.declared.config.TopicConfig.{TopicConfig}

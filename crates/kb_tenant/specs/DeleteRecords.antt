@@ -7,9 +7,9 @@ use Rattle.kb_api_data.specs.declared.delete_records.DeleteRecordsPartitionReply
 use Rattle.kb_api_data.specs.declared.delete_records.DeleteRecordsTopicReply.{DeleteRecordsTopicReply}
 use Rattle.kb_api_data.specs.declared.delete_records.DeleteRecordsReply.{DeleteRecordsReply}
 use Rattle.kb_topics.specs.Known.{named}
-use Rattle.kb_partitions.specs.Fault.{code_of}
-use Rattle.kb_partitions.specs.declared.fault.PartitionFault.{PartitionFault}
-use Rattle.kb_partitions.specs.declared.fault.PartitionFault.TheVariants as partition
+use Rattle.kb_world.specs.Fault.{code_of}
+use Rattle.kb_world.specs.declared.fault.PartitionFault.{PartitionFault}
+use Rattle.kb_world.specs.declared.fault.PartitionFault.TheVariants as partition
 use Rattle.kb_world.specs.Calls.{delete_records}
 use Rattle.kb_world.specs.World.{World, place_in}
 use Rattle.kb_world.specs.declared.topic_partition.TopicPartition.{TopicPartition}

@@ -24,10 +24,10 @@ use Rattle.kb_api_data.specs.declared.fetch_v5.FetchReplyV5.{FetchReplyV5}
 use Rattle.kb_api_data.specs.declared.fetch_records_v5.FetchPartitionFrontV5.{FetchPartitionFrontV5}
 use Rattle.kb_api_data.specs.FetchRecords.{answer_with_v5}
 use Rattle.kb_topics.specs.Known.{named}
-use Rattle.kb_partitions.specs.Fault.{code_of}
-use Rattle.kb_partitions.specs.declared.fault.PartitionFault.{PartitionFault}
-use Rattle.kb_partitions.specs.declared.fault.PartitionFault.TheVariants as partition
-use Rattle.kb_partitions.specs.Logs.{LogState}
+use Rattle.kb_world.specs.Fault.{code_of}
+use Rattle.kb_world.specs.declared.fault.PartitionFault.{PartitionFault}
+use Rattle.kb_world.specs.declared.fault.PartitionFault.TheVariants as partition
+use Rattle.kb_world.specs.Logs.{LogState}
 use Rattle.kb_world.specs.Calls.{fetch}
 use Rattle.kb_tenant.specs.Turns.{in_turn}
 use Rattle.kb_world.specs.World.{World, log_in, place_in}
@@ -167,20 +167,20 @@ is_error (negsuc n) = true
 
 -- A fetch waits no longer for its reply: no partition is asked, or one is refused, or all records have the bytes that are
 -- wanted, or the time is over.
-abbrev pub is_ready : World → FetchRequest → FetchReplyV5 → ℕ → Bool
-is_ready w r reply deadline =
+abbrev pub is_ready : ℕ → FetchRequest → FetchReplyV5 → ℕ → Bool
+is_ready clock r reply deadline =
     not (some_partition (λ p. true) reply)
     || some_partition (λ p. is_error p.error_code) reply
     || nat_le (natural r.min_bytes) (bytes_of reply)
-    || nat_le deadline w.clock
+    || nat_le deadline clock
 
 -- Until when a fetch of this moment waits at most; a time below 0 counts as 0.
-abbrev pub deadline_of : World → FetchRequest → ℕ
-deadline_of w r = w.clock + natural r.max_wait_ms
+abbrev pub deadline_of : ℕ → FetchRequest → ℕ
+deadline_of clock r = clock + natural r.max_wait_ms
 
--- what a fetch is answered, where it waits no longer
-abbrev pub fetch_answer : World → FetchRequest → ℕ → Option FetchReplyV5
-fetch_answer w r deadline = let reply = (fetched w r).1 in if is_ready w r reply deadline then Some reply else None
+-- what a fetch is answered at a time of the clock, where it waits no longer
+abbrev pub fetch_answer : World → ℕ → FetchRequest → ℕ → Option FetchReplyV5
+fetch_answer w clock r deadline = let reply = (fetched w r).1 in if is_ready clock r reply deadline then Some reply else None
 
 -- the partitions that a topic's entries ask for
 abbrev pub places_in : Option ℕ → List FetchPartition → List TopicPartition
@@ -229,12 +229,12 @@ abbrev pub fetched_in : ℤ → FetchReplyV5 → List ℕ
 fetched_in version r = reply_written (has_starts version) r
 
 -- The reply was written, or the fetch waits until then and for these partitions, and nothing was written.
-abbrev pub IsServed : Bool → World → FetchRequest → Option FetchReplyV5 → List ℕ → Fetching → List ℕ → Type 0
-IsServed starts w r (Some reply) old fetching.Reply new = new ≡ old ++ reply_written starts reply
-IsServed starts w r (Some reply) old (fetching.Wait deadline keys) new = ⊥
-IsServed starts w r None old fetching.Reply new = ⊥
-IsServed starts w r None old (fetching.Wait deadline keys) new =
-    (deadline ≡ deadline_of w r) × (keys.items ≡ places_of w r) × (new ≡ old)
+abbrev pub IsServed : Bool → World → ℕ → FetchRequest → Option FetchReplyV5 → List ℕ → Fetching → List ℕ → Type 0
+IsServed starts w clock r (Some reply) old fetching.Reply new = new ≡ old ++ reply_written starts reply
+IsServed starts w clock r (Some reply) old (fetching.Wait deadline keys) new = ⊥
+IsServed starts w clock r None old fetching.Reply new = ⊥
+IsServed starts w clock r None old (fetching.Wait deadline keys) new =
+    (deadline ≡ deadline_of clock r) × (keys.items ≡ places_of w r) × (new ≡ old)
 
 -- The reply was written, or the fetch still waits, and nothing was written.
 abbrev pub look_written : Bool → List ℕ → Option FetchReplyV5 → Bool × List ℕ

@@ -20,9 +20,9 @@ use Rattle.kb_api_data.specs.declared.produce.ProduceReply.{ProduceReply}
 use Rattle.kb_producers.specs.declared.verdict.Verdict.{Verdict}
 use Rattle.kb_producers.specs.declared.verdict.Verdict.TheVariants.{Append, Repeat, Refuse}
 use Rattle.kb_topics.specs.Known.{named}
-use Rattle.kb_partitions.specs.Fault.{code_of as partition_code}
-use Rattle.kb_partitions.specs.Logs.{LogState}
-use Rattle.kb_partitions.specs.declared.fault.PartitionFault.{PartitionFault}
+use Rattle.kb_world.specs.Fault.{code_of as partition_code}
+use Rattle.kb_world.specs.Logs.{LogState}
+use Rattle.kb_world.specs.declared.fault.PartitionFault.{PartitionFault}
 use Rattle.kb_world.specs.World.{World, log_in, place_in}
 use Rattle.kb_world.specs.Calls.{append, judged}
 use Rattle.kb_tenant.specs.Turns.{in_turn}

@@ -60,12 +60,12 @@ of_produce w r =
     let p = produced w [] r in
     record { world = p.0.world; touched = p.0.touched; reaction = if is_due r.acks then Replies (produce_reply.written p.1) else Silent }
 
-abbrev pub fetch_reaction : ℤ → World → FetchRequest → Option FetchReplyV5 → Reaction
-fetch_reaction version w r (Some reply) = Replies (fetched_in version reply)
-fetch_reaction version w r None = Waits (deadline_of w r) (places_of w r)
+abbrev pub fetch_reaction : ℤ → World → ℕ → FetchRequest → Option FetchReplyV5 → Reaction
+fetch_reaction version w clock r (Some reply) = Replies (fetched_in version reply)
+fetch_reaction version w clock r None = Waits (deadline_of clock r) (places_of w r)
 
-abbrev pub of_fetch : ℤ → World → FetchRequest → Outcome
-of_fetch version w r = stays w (fetch_reaction version w r (fetch_answer w r (deadline_of w r)))
+abbrev pub of_fetch : ℤ → World → ℕ → FetchRequest → Outcome
+of_fetch version w clock r = stays w (fetch_reaction version w clock r (fetch_answer w clock r (deadline_of clock r)))
 
 abbrev pub of_list_offsets : World → ListOffsetsRequest → Outcome
 of_list_offsets w r = stays w (Replies (list_offsets_reply.written (list_offsets w r)))
@@ -108,11 +108,11 @@ abbrev pub if_read : {A : Type 0} → World → Result A WireFault → (A → Ou
 if_read w (Ok v) f = f v
 if_read w (Err fault) f = stays w Shuts
 
--- a request on the connection of number n, by the key of its API
-unfoldable pub plainly_served : Node → World → ℕ → ℤ → ℤ → List ℕ → Outcome
-plainly_served node w n key version body =
+-- a request on the connection of number n, at a time of the clock in milliseconds, by the key of its API
+unfoldable pub plainly_served : Node → World → ℕ → ℕ → ℤ → ℤ → List ℕ → Outcome
+plainly_served node w clock n key version body =
     if int_eq key PRODUCE then if_read w (whole produce_request body) (of_produce w)
-    else if int_eq key FETCH then if_read w (asked_fetch version body) (of_fetch version w)
+    else if int_eq key FETCH then if_read w (asked_fetch version body) (of_fetch version w clock)
     else if int_eq key LIST_OFFSETS then if_read w (whole list_offsets_request body) (of_list_offsets w)
     else if int_eq key METADATA then if_read w (asked_metadata version body) (of_metadata node version w)
     else if int_eq key OFFSET_COMMIT then if_read w (whole offset_commit_request body) (of_offset_commit w)
@@ -124,13 +124,14 @@ plainly_served node w n key version body =
     else if int_eq key INIT_PRODUCER_ID then if_read w (whole init_producer_id_request body) (of_init_producer_id w)
     else stays w Shuts
 
--- a waiting fetch, of that deadline, version and body: its reply, where it waits no longer
-abbrev pub looked_at : World → ℕ → ℤ → Result FetchRequest WireFault → Reaction
-looked_at w deadline version (Err fault) = Shuts
-looked_at w deadline version (Ok r) = elim (fetch_answer w r deadline) [ Some reply ↦ Replies (fetched_in version reply) | None ↦ Silent ]
+-- a waiting fetch, of that deadline, version and body, at a time of the clock: its reply, where it waits no longer
+abbrev pub looked_at : World → ℕ → ℕ → ℤ → Result FetchRequest WireFault → Reaction
+looked_at w clock deadline version (Err fault) = Shuts
+looked_at w clock deadline version (Ok r) =
+    elim (fetch_answer w clock r deadline) [ Some reply ↦ Replies (fetched_in version reply) | None ↦ Silent ]
 
-unfoldable pub looked : World → ℕ → ℤ → List ℕ → Reaction
-looked w deadline version body = looked_at w deadline version (asked_fetch version body)
+unfoldable pub looked : World → ℕ → ℕ → ℤ → List ℕ → Reaction
+looked w clock deadline version body = looked_at w clock deadline version (asked_fetch version body)
 
 -- ---- what the code answers
 

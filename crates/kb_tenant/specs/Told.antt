@@ -47,9 +47,9 @@ use Rattle.kb_api_group.specs.declared.offset_commit.CommitPartitionReply.{Commi
 use Rattle.kb_api_group.specs.declared.offset_commit.CommitTopic.{CommitTopic}
 use Rattle.kb_api_group.specs.declared.offset_commit.CommitTopicReply.{CommitTopicReply}
 use Rattle.kb_store.specs.Disk.{Grew}
-use Rattle.kb_partitions.specs.Scene.{Scene}
-use Rattle.kb_partitions.specs.declared.fault.PartitionFault.{PartitionFault}
-use Rattle.kb_partitions.specs.declared.fault.PartitionFault.TheVariants as partition
+use Rattle.kb_world.specs.Scene.{Scene}
+use Rattle.kb_world.specs.declared.fault.PartitionFault.{PartitionFault}
+use Rattle.kb_world.specs.declared.fault.PartitionFault.TheVariants as partition
 use Rattle.kb_world.specs.Parts.{Seen}
 use Rattle.kb_topics.specs.CatalogFault.{code_of as fault_code}
 use Rattle.kb_topics.specs.declared.fault.CatalogFault.{CatalogFault}
@@ -330,18 +330,19 @@ IsFetchTopicTold failed w l t m x =
 abbrev pub AreFetchesTold : Type 0 → World → FetchRequest → Limits → FetchReplyV5 → Type 0
 AreFetchesTold failed w q left x = (x.throttle_time_ms ≡ pos 0) × AreServed (IsFetchTopicTold failed w) (begun q) q.topics left x.topics
 
--- A fetch comes to such a reply, by which it is ready or not. A refused entry makes it ready.
-abbrev pub IsFetchReady : Type 0 → World → ℕ → FetchRequest → Bool → FetchReplyV5 → Type 0
-IsFetchReady failed w deadline q ready x = (left : Limits) × (AreFetchesTold failed w q left x × (is_ready w q x deadline ≡ ready))
+-- A fetch comes to such a reply at a time of the clock, by which it is ready or not. A refused entry makes it ready.
+abbrev pub IsFetchReady : Type 0 → World → ℕ → ℕ → FetchRequest → Bool → FetchReplyV5 → Type 0
+IsFetchReady failed w clock deadline q ready x =
+    (left : Limits) × (AreFetchesTold failed w q left x × (is_ready clock q x deadline ≡ ready))
 
 -- It is the reply of a Fetch that is ready, in a version of the API.
-abbrev pub TellsFetch : Type 0 → ℤ → World → ℕ → FetchRequest → List ℕ → Type 0
-TellsFetch failed version w deadline q body =
-    (reply : FetchReplyV5) × ((body ≡ fetched_in version reply) × IsFetchReady failed w deadline q true reply)
+abbrev pub TellsFetch : Type 0 → ℤ → World → ℕ → ℕ → FetchRequest → List ℕ → Type 0
+TellsFetch failed version w clock deadline q body =
+    (reply : FetchReplyV5) × ((body ≡ fetched_in version reply) × IsFetchReady failed w clock deadline q true reply)
 
 -- A Fetch is not ready, by what it would be answered.
-abbrev pub IsUnready : Type 0 → World → ℕ → FetchRequest → Type 0
-IsUnready failed w deadline q = (reply : FetchReplyV5) × IsFetchReady failed w deadline q false reply
+abbrev pub IsUnready : Type 0 → World → ℕ → ℕ → FetchRequest → Type 0
+IsUnready failed w clock deadline q = (reply : FetchReplyV5) × IsFetchReady failed w clock deadline q false reply
 
 -- The answer to what waited is a reply whose body tells that; or none, where it still waits; or the connection is shut.
 abbrev pub IsRepliedOrWaits : ℤ → (List ℕ → Type 0) → Type 0 → Answer → Type 0
@@ -351,28 +352,30 @@ IsRepliedOrWaits id Told Unready answers.NoReply = Unready
 IsRepliedOrWaits id Told Unready answers.Shut = ⊤
 
 -- The same of a look at a body that waits until a deadline at most, where it is a request of Fetch in that version.
-abbrev pub AnswersLook : Type 0 → ℤ → ℤ → World → ℕ → List ℕ → Answer → Type 0
-AnswersLook failed id version w deadline body a = (q : FetchRequest) → asked_fetch version body ≡ Ok q
-    → IsRepliedOrWaits id (TellsFetch failed version w deadline q) (IsUnready failed w deadline q) a
+abbrev pub AnswersLook : Type 0 → ℤ → ℤ → World → ℕ → ℕ → List ℕ → Answer → Type 0
+AnswersLook failed id version w clock deadline body a = (q : FetchRequest) → asked_fetch version body ≡ Ok q
+    → IsRepliedOrWaits id (TellsFetch failed version w clock deadline q) (IsUnready failed w clock deadline q) a
 
 -- A Fetch that is not ready waits until its deadline, for the partitions that it asks.
-abbrev pub IsLeftWaiting : Type 0 → World → FetchRequest → ℕ → List TopicPartition → Type 0
-IsLeftWaiting failed w q until places = IsUnready failed w (deadline_of w q) q × ((until ≡ deadline_of w q) × (places ≡ places_of w q))
+abbrev pub IsLeftWaiting : Type 0 → World → ℕ → FetchRequest → ℕ → List TopicPartition → Type 0
+IsLeftWaiting failed w clock q until places =
+    IsUnready failed w clock (deadline_of clock q) q × ((until ≡ deadline_of clock q) × (places ≡ places_of w q))
 
 -- Its reply was written, or it is left waiting.
-abbrev pub IsFetchMade : Type 0 → Bool → World → FetchRequest → List ℕ → Fetching → List ℕ → Type 0
-IsFetchMade failed starts w q old fetching.Reply new =
-    (reply : FetchReplyV5) × (IsFetchReady failed w (deadline_of w q) q true reply × (new ≡ old ++ reply_written starts reply))
-IsFetchMade failed starts w q old (fetching.Wait until keys) new = IsLeftWaiting failed w q until keys.items
+abbrev pub IsFetchMade : Type 0 → Bool → World → ℕ → FetchRequest → List ℕ → Fetching → List ℕ → Type 0
+IsFetchMade failed starts w clock q old fetching.Reply new =
+    (reply : FetchReplyV5) × (IsFetchReady failed w clock (deadline_of clock q) q true reply × (new ≡ old ++ reply_written starts reply))
+IsFetchMade failed starts w clock q old (fetching.Wait until keys) new = IsLeftWaiting failed w clock q until keys.items
 
 -- The answer to a Fetch is such a reply or such a wait, or the connection is shut.
-abbrev pub IsFetchReplied : Type 0 → ℤ → ℤ → World → FetchRequest → Answer → Type 0
-IsFetchReplied failed id version w q (answers.Reply bytes) =
-    (body : List ℕ) × ((bytes.items ≡ framed id body) × TellsFetch failed version w (deadline_of w q) q body)
-IsFetchReplied failed id version w q (answers.Wait until keys) = IsLeftWaiting failed w q until keys.items
-IsFetchReplied failed id version w q answers.NoReply = ⊥
-IsFetchReplied failed id version w q answers.Shut = ⊤
+abbrev pub IsFetchReplied : Type 0 → ℤ → ℤ → World → ℕ → FetchRequest → Answer → Type 0
+IsFetchReplied failed id version w clock q (answers.Reply bytes) =
+    (body : List ℕ) × ((bytes.items ≡ framed id body) × TellsFetch failed version w clock (deadline_of clock q) q body)
+IsFetchReplied failed id version w clock q (answers.Wait until keys) = IsLeftWaiting failed w clock q until keys.items
+IsFetchReplied failed id version w clock q answers.NoReply = ⊥
+IsFetchReplied failed id version w clock q answers.Shut = ⊤
 
 -- The same of a body, where it is a request of Fetch in that version.
-abbrev pub AnswersFetch : Type 0 → ℤ → ℤ → World → List ℕ → Answer → Type 0
-AnswersFetch failed id version w body a = (q : FetchRequest) → asked_fetch version body ≡ Ok q → IsFetchReplied failed id version w q a
+abbrev pub AnswersFetch : Type 0 → ℤ → ℤ → World → ℕ → List ℕ → Answer → Type 0
+AnswersFetch failed id version w clock body a = (q : FetchRequest) → asked_fetch version body ≡ Ok q
+    → IsFetchReplied failed id version w clock q a

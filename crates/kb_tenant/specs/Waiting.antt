@@ -12,8 +12,8 @@ abbrev pub AreApart : List TopicPartition → List TopicPartition → Type 0
 AreApart xs ys = (place : TopicPartition) → Contains xs place → Contains ys place → ⊥
 
 -- In the other world a fetch still has no answer, and waits for the same places.
-abbrev pub StillWaits : World → World → FetchRequest → ℕ → Type 0
-StillWaits w v r deadline = (fetch_answer v r deadline ≡ None) × (places_of v r ≡ places_of w r)
+abbrev pub StillWaits : World → World → ℕ → FetchRequest → ℕ → Type 0
+StillWaits w v clock r deadline = (fetch_answer v clock r deadline ≡ None) × (places_of v r ≡ places_of w r)
 
 -- no two of these topics have one name
 abbrev pub AreNamedApart : List (ℕ × TopicState) → Type 0

@@ -6,7 +6,7 @@ ghost use Rattle.kb_api_data.specs.Layouts.{delete_records_topic, delete_records
 ghost use Rattle.kb_api_data.specs.declared.delete_records.DeleteRecordsPartitionReply.{DeleteRecordsPartitionReply};
 ghost use Rattle.kb_api_data.specs.declared.delete_records.DeleteRecordsReply.{DeleteRecordsReply};
 ghost use Rattle.kb_api_data.specs.declared.delete_records.DeleteRecordsTopicReply.{DeleteRecordsTopicReply};
-ghost use Rattle.kb_partitions.specs.Scene.{WhereHonest};
+ghost use Rattle.kb_world.specs.Scene.{WhereHonest};
 ghost use Rattle.kb_tenant.specs.DeleteRecords.{deletion_answered as answered_with, deleted, deleted_all, deleted_at, deleted_topic, told};
 ghost use Rattle.kb_tenant.specs.Told.{AreTrimsTold, CatalogFailed, IsDeleted, IsDeletionTold, IsRefusalFor, IsTrimTold, IsTrimTopicTold};
 ghost use Rattle.kb_tenant.specs.Turns.{in_turn, written_behind, AreServed};
@@ -20,10 +20,9 @@ use kb_api_data::{
     DeleteRecordsPartition, DeleteRecordsPartitionReply, DeleteRecordsRequest, DeleteRecordsTopic,
 };
 use kb_log::{PartitionLog, Shelf};
-use kb_partitions::PartitionFault;
 use kb_store::Store;
 use kb_wire::{Layout, Sink};
-use kb_world::{Parts, TopicPartition};
+use kb_world::{PartitionFault, Parts, TopicPartition};
 use std::alloc::AllocError;
 
 /// The answer of a partition: its start, or -1 where it is refused.
@@ -83,7 +82,7 @@ fn delete_entry<L: PartitionLog + Drop, S: Store>(
 ) -> DeleteRecordsPartitionReply
     requires { (scene L.log S.disk parts.old shelf.old).sound }
     ensures step { IsStep (scene L.log S.disk parts.old shelf.old) (scene L.log S.disk parts.new shelf.new) }
-    ensures kept { take (length touched.old.items) touched.new.items ≡ touched.old.items }
+    ensures unchanged { take (length touched.old.items) touched.new.items ≡ touched.old.items }
     ensures meets { let a = scene L.log S.disk parts.old shelf.old in let b = scene L.log S.disk parts.new shelf.new in
         Meets a b (((b.state.world, touched.new.items), result) ≡ deleted topic (a.state.world, touched.old.items) entry.now) }
     ensures told { let a = scene L.log S.disk parts.old shelf.old in let b = scene L.log S.disk parts.new shelf.new in
@@ -113,7 +112,7 @@ fn delete_entries<L: PartitionLog + Drop, S: Store>(
 ) -> Result<(), AllocError>
     requires { (scene L.log S.disk parts.old shelf.old).sound }
     ensures step { IsStep (scene L.log S.disk parts.old shelf.old) (scene L.log S.disk parts.new shelf.new) }
-    ensures kept { take (length touched.old.items) touched.new.items ≡ touched.old.items }
+    ensures unchanged { take (length touched.old.items) touched.new.items ≡ touched.old.items }
     ensures meets { OnOk result (let a = scene L.log S.disk parts.old shelf.old in let b = scene L.log S.disk parts.new shelf.new in
         Meets a b (((b.state.world, touched.new.items), sink.new.bytes)
         ≡ written_behind delete_records_partition_reply.written sink.old.bytes
@@ -142,7 +141,7 @@ fn delete_in_topic<L: PartitionLog + Drop, S: Store>(
     requires sound { (scene L.log S.disk parts.old shelf.old).sound }
     requires fits { delete_records_topic.Fits topic.now }
     ensures step { IsStep (scene L.log S.disk parts.old shelf.old) (scene L.log S.disk parts.new shelf.new) }
-    ensures kept { take (length touched.old.items) touched.new.items ≡ touched.old.items }
+    ensures unchanged { take (length touched.old.items) touched.new.items ≡ touched.old.items }
     ensures meets { OnOk result (let a = scene L.log S.disk parts.old shelf.old in let b = scene L.log S.disk parts.new shelf.new in
         let r = deleted_topic (a.state.world, touched.old.items) topic.now in
         Meets a b (◌≡◌ {A = (World × List TopicPartition)
@@ -180,7 +179,7 @@ pub(crate) fn delete_records<L: PartitionLog + Drop, S: Store>(
     requires fits { delete_records_request.Fits request.now }
     ensures step { IsStep (scene L.log S.disk parts.old shelf.old) (scene L.log S.disk parts.new shelf.new) }
     // Also on an `Err`, and whatever was refused.
-    ensures kept { take (length touched.old.items) touched.new.items ≡ touched.old.items }
+    ensures unchanged { take (length touched.old.items) touched.new.items ≡ touched.old.items }
     ensures meets { OnOk result (let a = scene L.log S.disk parts.old shelf.old in let b = scene L.log S.disk parts.new shelf.new in
         let r = deleted_all (a.state.world, touched.old.items) request.now in
         Meets a b ((b.state.world ≡ r.0.0) × (touched.new.items ≡ r.0.1)

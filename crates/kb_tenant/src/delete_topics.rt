@@ -2,7 +2,7 @@
 //! back, which is never; any other version is answered as 0.
 ghost use Rattle.std.specs.Prelude.{◌≡◌, ◌++◌, ◌<◌, ◌^◌, length, pos, take, List, Some, OnOk, OnErr};
 ghost use Rattle.kb_api_data.specs.declared.delete_topics.DeleteTopicReply.{DeleteTopicReply};
-ghost use Rattle.kb_partitions.specs.Scene.{WhereHonest};
+ghost use Rattle.kb_world.specs.Scene.{WhereHonest};
 ghost use Rattle.kb_store.specs.Disk.{Files};
 ghost use Rattle.kb_api_data.specs.Layouts.{delete_topics_request};
 ghost use Rattle.kb_tenant.specs.DeleteTopics.{places_at, places_named, told_if, deleted, deleted_all, deletions_in, throttle_in};
@@ -107,7 +107,7 @@ pub fn delete_topics<L: PartitionLog + Drop, S: Store>(
     requires fits { delete_topics_request.Fits request.now }
     ensures step { IsStep (scene L.log S.disk parts.old shelf.old) (scene L.log S.disk parts.new shelf.new) }
     // Also on an `Err`, and whatever was refused.
-    ensures kept { take (length touched.old.items) touched.new.items ≡ touched.old.items }
+    ensures unchanged { take (length touched.old.items) touched.new.items ≡ touched.old.items }
     ensures meets { let a = scene L.log S.disk parts.old shelf.old in let b = scene L.log S.disk parts.new shelf.new in
         OnOk result (Meets a b (let r = deleted_all (a.state.world, touched.old.items) request.now in
         (b.state.world ≡ r.0.0) × (touched.new.items ≡ r.0.1)

@@ -6,7 +6,7 @@ ghost use Rattle.kb_wire.specs.declared.api_key.TheConstants.{DELETE_RECORDS, IN
 ghost use Rattle.kb_api_data.specs.Layouts.{produce_request, list_offsets_request, metadata_request, create_topics_request};
 ghost use Rattle.kb_api_data.specs.Layouts.{delete_records_request, delete_topics_request, init_producer_id_request};
 ghost use Rattle.kb_store.specs.Disk.{Files};
-ghost use Rattle.kb_partitions.specs.Scene.{WhereHonest};
+ghost use Rattle.kb_world.specs.Scene.{WhereHonest};
 ghost use Rattle.kb_world.specs.Parts.{scene, world_of};
 ghost use Rattle.kb_world.specs.Steps.{IsStep, Meets};
 ghost use Rattle.kb_tenant.specs.CreateTopics.{asked_creations};
@@ -88,23 +88,24 @@ fn serve_a_fetch<L: PartitionLog + Drop, S: Store>(
     alloc: Global,
     parts: &mut Parts<L>,
     shelf: &mut Shelf<S>,
+    clock: u64,
     request: &Request<'_>,
 ) -> Result<Answer, ReadFault>
-    requires clock { (scene L.log S.disk parts.old shelf.old).state.world.clock ≤ 2 ^ 62 }
+    requires clock { clock ≤ 2 ^ 62 }
     requires sound { (scene L.log S.disk parts.old shelf.old).sound }
     ensures step { IsStep (scene L.log S.disk parts.old shelf.old) (scene L.log S.disk parts.new shelf.new) }
     ensures meets { let a = scene L.log S.disk parts.old shelf.old in let b = scene L.log S.disk parts.new shelf.new in
         Meets a b (IsServed request.now.correlation_id
-        (if_read a.state.world (asked_fetch request.now.api_version request.now.body.now) (of_fetch request.now.api_version a.state.world))
-        b.state.world [] result) }
+        (if_read a.state.world (asked_fetch request.now.api_version request.now.body.now)
+        (of_fetch request.now.api_version a.state.world clock)) b.state.world [] result) }
     ensures fetched { let a = scene L.log S.disk parts.old shelf.old in let b = scene L.log S.disk parts.new shelf.new in
         IfOk result (λ answer. WhereHonest a b (AnswersFetch (HasFailed a b)
-        request.now.correlation_id request.now.api_version a.state.world request.now.body.now answer)) }
+        request.now.correlation_id request.now.api_version a.state.world clock request.now.body.now answer)) }
 {
     let has_starts = fetch::has_starts(request.api_version);
     let asked = read_request(alloc, has_starts, request.body)?;
     let mut sink = begin(alloc, request.correlation_id)?;
-    match serve_fetch(alloc, parts, shelf, has_starts, &asked, &mut sink)? {
+    match serve_fetch(alloc, parts, shelf, clock, has_starts, &asked, &mut sink)? {
         Fetching::Reply => Ok(finish(sink)),
         Fetching::Wait { deadline, keys } => Ok(Answer::Wait { deadline, keys }),
     }
@@ -266,17 +267,19 @@ fn serve_by_key<L: PartitionLog + Drop, S: Store>(
     parts: &mut Parts<L>,
     shelf: &mut Shelf<S>,
     node: &Node<'_>,
+    clock: u64,
     request: &Request<'_>,
     touched: &mut Vec<TopicPartition>,
 ) -> Result<Answer, ReadFault>
     requires untouched { touched.old.items ≡ [] }
     requires host { string.Fits node.now.host }
-    requires clock { (scene L.log S.disk parts.old shelf.old).state.world.clock ≤ 2 ^ 62 }
+    requires clock { clock ≤ 2 ^ 62 }
     requires sound { (scene L.log S.disk parts.old shelf.old).sound }
     ensures step { IsStep (scene L.log S.disk parts.old shelf.old) (scene L.log S.disk parts.new shelf.new) }
     ensures meets { let a = scene L.log S.disk parts.old shelf.old in let b = scene L.log S.disk parts.new shelf.new in
         Meets a b (IsServed request.now.correlation_id
-        (plainly_served node.now a.state.world request.now.connection request.now.api_key request.now.api_version request.now.body.now)
+        (plainly_served node.now a.state.world clock request.now.connection request.now.api_key request.now.api_version
+        request.now.body.now)
         b.state.world touched.new.items result) }
     ensures acknowledged { let a = scene L.log S.disk parts.old shelf.old in let b = scene L.log S.disk parts.new shelf.new in
         request.now.api_key ≡ PRODUCE → IfOk result (λ answer.
@@ -288,7 +291,7 @@ fn serve_by_key<L: PartitionLog + Drop, S: Store>(
         request.now.api_key ≡ PRODUCE → IfOk result (λ answer. IsSpared a.state.world request.now.body.now b.state.world answer) }
     ensures fetched { let a = scene L.log S.disk parts.old shelf.old in let b = scene L.log S.disk parts.new shelf.new in
         request.now.api_key ≡ FETCH → IfOk result (λ answer. WhereHonest a b (AnswersFetch (HasFailed a b)
-        request.now.correlation_id request.now.api_version a.state.world request.now.body.now answer)) }
+        request.now.correlation_id request.now.api_version a.state.world clock request.now.body.now answer)) }
     ensures listed { let a = scene L.log S.disk parts.old shelf.old in let b = scene L.log S.disk parts.new shelf.new in
         request.now.api_key ≡ LIST_OFFSETS → IfOk result (λ answer. WhereHonest a b (AnswersListing (HasFailed a b)
         request.now.correlation_id a.state.world request.now.body.now answer)) }
@@ -314,7 +317,7 @@ fn serve_by_key<L: PartitionLog + Drop, S: Store>(
 {
     match request.api_key {
         api_key::PRODUCE => serve_produce(alloc, parts, shelf, request, touched),
-        api_key::FETCH => serve_a_fetch(alloc, parts, shelf, request),
+        api_key::FETCH => serve_a_fetch(alloc, parts, shelf, clock, request),
         api_key::LIST_OFFSETS => serve_list_offsets(alloc, parts, shelf, request),
         api_key::METADATA => serve_metadata(alloc, parts, node, request),
         api_key::OFFSET_COMMIT => serve_offset_commit(alloc, parts, shelf, request),
@@ -328,7 +331,7 @@ fn serve_by_key<L: PartitionLog + Drop, S: Store>(
     }
 }
 
-/// Serves a request of a tenant, at the clock of its parts.
+/// Serves a request of a tenant, at a time of the clock.
 ///
 /// A body that is not the API's, a key that is not a tenant's and a reply whose size does not fit an INT32 shut the
 /// connection. So does want of memory for the read request, the reply or the wait, which is counted; changes that were made
@@ -339,15 +342,17 @@ pub fn serve<L: PartitionLog + Drop, S: Store>(
     parts: &mut Parts<L>,
     shelf: &mut Shelf<S>,
     node: &Node<'_>,
+    clock: u64,
     request: &Request<'_>,
 ) -> Served
     requires host { string.Fits node.now.host }
-    requires clock { (scene L.log S.disk parts.old shelf.old).state.world.clock ≤ 2 ^ 62 }
+    requires clock { clock ≤ 2 ^ 62 }
     requires sound { (scene L.log S.disk parts.old shelf.old).sound }
     ensures step { IsStep (scene L.log S.disk parts.old shelf.old) (scene L.log S.disk parts.new shelf.new) }
     ensures meets { let a = scene L.log S.disk parts.old shelf.old in let b = scene L.log S.disk parts.new shelf.new in
         Meets a b (IsOutcome request.now.correlation_id
-        (plainly_served node.now a.state.world request.now.connection request.now.api_key request.now.api_version request.now.body.now)
+        (plainly_served node.now a.state.world clock request.now.connection request.now.api_key request.now.api_version
+        request.now.body.now)
         b.state.world result.touched.items result.answer) }
     // A batch of a Produce that is answered with no error is in its partition's log, whatever else was refused.
     ensures acknowledged { let a = scene L.log S.disk parts.old shelf.old in let b = scene L.log S.disk parts.new shelf.new in
@@ -360,7 +365,7 @@ pub fn serve<L: PartitionLog + Drop, S: Store>(
     // A Fetch has of each partition what is defined, or the code of what refused it, whatever was refused.
     ensures fetched { let a = scene L.log S.disk parts.old shelf.old in let b = scene L.log S.disk parts.new shelf.new in
         request.now.api_key ≡ FETCH → WhereHonest a b (AnswersFetch (HasFailed a b)
-        request.now.correlation_id request.now.api_version a.state.world request.now.body.now result.answer) }
+        request.now.correlation_id request.now.api_version a.state.world clock request.now.body.now result.answer) }
     // So has a ListOffsets.
     ensures listed { let a = scene L.log S.disk parts.old shelf.old in let b = scene L.log S.disk parts.new shelf.new in
         request.now.api_key ≡ LIST_OFFSETS → WhereHonest a b (AnswersListing (HasFailed a b)
@@ -390,7 +395,7 @@ pub fn serve<L: PartitionLog + Drop, S: Store>(
         result.answer) }
 {
     let mut touched = Vec::new(alloc);
-    match serve_by_key(alloc, parts, shelf, node, request, &mut touched) {
+    match serve_by_key(alloc, parts, shelf, node, clock, request, &mut touched) {
         Ok(answer) => Served { answer, touched },
         Err(ReadFault::Wire(_)) => Served {
             answer: Answer::Shut,
@@ -406,12 +411,13 @@ pub fn serve<L: PartitionLog + Drop, S: Store>(
     }
 }
 
-/// Looks at a fetch that waits until its deadline at most.
+/// Looks at a fetch that waits until its deadline at most, at a time of the clock.
 #[tactic(auto, unfolding(crate::specs::Serve::looked))]
 fn look_at<L: PartitionLog + Drop, S: Store>(
     alloc: Global,
     parts: &mut Parts<L>,
     shelf: &mut Shelf<S>,
+    clock: u64,
     wait: &Wait<'_>,
 ) -> Result<Answer, ReadFault>
     requires { (scene L.log S.disk parts.old shelf.old).sound }
@@ -420,10 +426,11 @@ fn look_at<L: PartitionLog + Drop, S: Store>(
         b.disk.honest → a.agrees → b.state.world ≡ a.state.world }
     ensures meets { let a = scene L.log S.disk parts.old shelf.old in let b = scene L.log S.disk parts.new shelf.new in
         Meets a b (IsServed wait.now.correlation_id
-        (stays a.state.world (looked a.state.world wait.now.deadline wait.now.api_version wait.now.body.now)) b.state.world [] result) }
+        (stays a.state.world (looked a.state.world clock wait.now.deadline wait.now.api_version wait.now.body.now))
+        b.state.world [] result) }
     ensures told { let a = scene L.log S.disk parts.old shelf.old in let b = scene L.log S.disk parts.new shelf.new in
         IfOk result (λ answer. WhereHonest a b (AnswersLook (HasFailed a b) wait.now.correlation_id wait.now.api_version
-        a.state.world wait.now.deadline wait.now.body.now answer)) }
+        a.state.world clock wait.now.deadline wait.now.body.now answer)) }
 {
     let has_starts = fetch::has_starts(wait.api_version);
     let asked = read_request(alloc, has_starts, wait.body)?;
@@ -432,6 +439,7 @@ fn look_at<L: PartitionLog + Drop, S: Store>(
         alloc,
         parts,
         shelf,
+        clock,
         has_starts,
         &asked,
         wait.deadline,
@@ -442,7 +450,7 @@ fn look_at<L: PartitionLog + Drop, S: Store>(
     Ok(Answer::NoReply)
 }
 
-/// Looks at a fetch that waits until its deadline at most.
+/// Looks at a fetch that waits until its deadline at most, at a time of the clock.
 ///
 /// It is answered where it waits no longer; `NoReply` says that it still waits. The world stays, whatever is refused. A partition that
 /// memory or the store refused is answered with the code that names it, and then the fetch waits no longer. Want of memory for the
@@ -451,6 +459,7 @@ pub fn look<L: PartitionLog + Drop, S: Store>(
     alloc: Global,
     parts: &mut Parts<L>,
     shelf: &mut Shelf<S>,
+    clock: u64,
     wait: &Wait<'_>,
 ) -> Answer
     requires { (scene L.log S.disk parts.old shelf.old).sound }
@@ -459,13 +468,13 @@ pub fn look<L: PartitionLog + Drop, S: Store>(
         b.disk.honest → a.agrees → b.state.world ≡ a.state.world }
     ensures meets { let a = scene L.log S.disk parts.old shelf.old in let b = scene L.log S.disk parts.new shelf.new in
         Meets a b ((b.state.world ≡ a.state.world)
-        × IsAnswer wait.now.correlation_id (looked a.state.world wait.now.deadline wait.now.api_version wait.now.body.now) result) }
+        × IsAnswer wait.now.correlation_id (looked a.state.world clock wait.now.deadline wait.now.api_version wait.now.body.now) result) }
     // Whatever was refused, a reply has of each partition what is defined, or the code of what refused it.
     ensures told { let a = scene L.log S.disk parts.old shelf.old in let b = scene L.log S.disk parts.new shelf.new in
         WhereHonest a b (AnswersLook (HasFailed a b) wait.now.correlation_id wait.now.api_version
-        a.state.world wait.now.deadline wait.now.body.now result) }
+        a.state.world clock wait.now.deadline wait.now.body.now result) }
 {
-    match look_at(alloc, parts, shelf, wait) {
+    match look_at(alloc, parts, shelf, clock, wait) {
         Ok(answer) => answer,
         Err(ReadFault::Wire(_)) => Answer::Shut,
         Err(ReadFault::Memory) => {

@@ -2,7 +2,7 @@
 ghost use Rattle.std.specs.Prelude.{◌≡◌, [], IfOk};
 ghost use Rattle.kb_api_group.specs.Layouts.{find_coordinator_request, offset_commit_request, offset_fetch_request};
 ghost use Rattle.kb_store.specs.Disk.{Files};
-ghost use Rattle.kb_partitions.specs.Scene.{WhereHonest};
+ghost use Rattle.kb_world.specs.Scene.{WhereHonest};
 ghost use Rattle.kb_tenant.specs.Told.{AcknowledgesCommits, CatalogFailed};
 ghost use Rattle.kb_tenant.specs.Serve.{if_read, of_find_coordinator, of_offset_commit, of_offset_fetch, IsServed};
 ghost use Rattle.kb_wire.specs.Codec.{string, whole};

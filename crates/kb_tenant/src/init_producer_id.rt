@@ -2,7 +2,7 @@
 ghost use Rattle.std.specs.Prelude.{◌≡◌, ◌++◌, pos, OnOk};
 ghost use Rattle.kb_api_data.specs.Layouts.{init_producer_id_reply};
 ghost use Rattle.kb_api_data.specs.declared.init_producer_id.InitProducerIdReply.{InitProducerIdReply};
-ghost use Rattle.kb_partitions.specs.Scene.{WhereHonest};
+ghost use Rattle.kb_world.specs.Scene.{WhereHonest};
 ghost use Rattle.kb_tenant.specs.InitProducerId.{id_refused, init_producer_id};
 ghost use Rattle.kb_tenant.specs.Told.{CatalogFailed, IsFaultOf, IsIssueTold, IsTold};
 ghost use Rattle.kb_world.specs.Parts.{scene};

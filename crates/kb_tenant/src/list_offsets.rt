@@ -6,7 +6,7 @@ ghost use Rattle.kb_api_data.specs.Layouts.{list_offsets_topic_reply, list_offse
 ghost use Rattle.kb_api_data.specs.declared.list_offsets.ListOffsetsPartitionReply.{ListOffsetsPartitionReply};
 ghost use Rattle.kb_api_data.specs.declared.list_offsets.ListOffsetsReply.{ListOffsetsReply};
 ghost use Rattle.kb_api_data.specs.declared.list_offsets.ListOffsetsTopicReply.{ListOffsetsTopicReply};
-ghost use Rattle.kb_partitions.specs.Scene.{WhereHonest};
+ghost use Rattle.kb_world.specs.Scene.{WhereHonest};
 ghost use Rattle.kb_tenant.specs.ListOffsets.{offset_refused, offset_answered, edge_answered, offset_found, listed, listed_at};
 ghost use Rattle.kb_tenant.specs.ListOffsets.{listed_topic, list_offsets};
 ghost use Rattle.kb_tenant.specs.Told.{HasFailed, IsListingTold, IsListingTopicTold, IsUnlisted};
@@ -17,10 +17,9 @@ use kb_api_data::{
     ListOffsetsPartition, ListOffsetsPartitionReply, ListOffsetsRequest, ListOffsetsTopic,
 };
 use kb_log::{OffsetAndTimestamp, PartitionLog, Shelf};
-use kb_partitions::PartitionFault;
 use kb_store::Store;
 use kb_wire::{ErrorCode, Layout, Sink};
-use kb_world::{Parts, TopicPartition};
+use kb_world::{PartitionFault, Parts, TopicPartition};
 use std::alloc::AllocError;
 
 fn refused(partition: i32, error_code: i16) -> ListOffsetsPartitionReply

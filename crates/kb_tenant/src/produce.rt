@@ -4,7 +4,7 @@ ghost use Rattle.std.specs.List.{flat_map};
 ghost use Rattle.kb_api_data.specs.declared.produce.ProducePartitionReply.{ProducePartitionReply};
 ghost use Rattle.kb_api_data.specs.declared.produce.ProduceReply.{ProduceReply};
 ghost use Rattle.kb_api_data.specs.declared.produce.ProduceTopicReply.{ProduceTopicReply};
-ghost use Rattle.kb_partitions.specs.Scene.{WhereHonest};
+ghost use Rattle.kb_world.specs.Scene.{WhereHonest};
 ghost use Rattle.kb_api_data.specs.Layouts.{produce_request, produce_topic, produce_partition_reply, produce_topic_reply};
 ghost use Rattle.kb_world.specs.Parts.{scene};
 ghost use Rattle.kb_tenant.specs.Produce.{progress, refusal_of as refusal_for, is_due, entry_served, served_topic, produced, where_due};

@@ -6,7 +6,7 @@ ghost use Rattle.kb_api_data.specs.declared.fetch.FetchRequest.{FetchRequest};
 ghost use Rattle.kb_api_group.specs.declared.offset_commit.OffsetCommitRequest.{OffsetCommitRequest};
 ghost use Rattle.kb_world.specs.Tied.{IsTied};
 ghost use Rattle.kb_world.specs.World.{World, new_world};
-ghost use Rattle.kb_world.specs.Calls.{at_clock, retain, retain_all};
+ghost use Rattle.kb_world.specs.Calls.{retain, retain_all};
 ghost use Rattle.kb_world.specs.declared.topic_partition.TopicPartition.{TopicPartition};
 ghost use Rattle.kb_tenant.specs.Batches.{HasSmallLogs, HoldsBatches};
 ghost use Rattle.kb_tenant.specs.Fetch.{asked_fetch, fetch_answer, places_of};
@@ -16,87 +16,87 @@ ghost use Rattle.kb_tenant.specs.Serve.{plainly_served, looked};
 ghost use Rattle.kb_tenant.specs.Waiting.{AreApart, HasOwnNames, StillWaits};
 ghost use Rattle.kb_tenant.specs.declared.node.Node.{Node};
 
-/// The topics of a world are tied to its logs from the start on, whatever is asked, committed, dropped by retention, or the time.
-/// Here and below a commit may be refused for any reason, or for none.
+/// The topics of a world are tied to its logs from the start on, whatever is asked, committed or dropped by retention, at whatever
+/// time. Here and below a commit may be refused for any reason, or for none.
 pub fn worlds_stay_tied()
-    ensures begun { (clock : ℕ) → IsTied (at_clock new_world clock) }
-    ensures served { (node : Node) (w : World) (n : ℕ) (key version : ℤ) (body : List ℕ) → IsTied w
-        → IsTied (plainly_served node w n key version body).world }
+    ensures begun { IsTied new_world }
+    ensures served { (node : Node) (w : World) (clock n : ℕ) (key version : ℤ) (body : List ℕ) → IsTied w
+        → IsTied (plainly_served node w clock n key version body).world }
     ensures committed { (w : World) (refusal : Option ℤ) (q : OffsetCommitRequest) → IsTied w → IsTied (committed_all w refusal q).0 }
-    ensures retained { (w : World) (place : TopicPartition) → IsTied w → IsTied (retain w place).0 }
-    ensures clocked { (w : World) (now : ℕ) → IsTied w → IsTied (at_clock w now) }
+    ensures retained { (clock : ℕ) (w : World) (place : TopicPartition) → IsTied w → IsTied (retain clock w place).0 }
 {}
 
-/// No two topics of a world have one name, from the start on, whatever is asked, committed, dropped by retention, or the time.
+/// No two topics of a world have one name, from the start on, whatever is asked, committed or dropped by retention, at whatever time.
 pub fn names_stay_apart()
-    ensures begun { (clock : ℕ) → HasOwnNames (at_clock new_world clock) }
-    ensures served { (node : Node) (w : World) (n : ℕ) (key version : ℤ) (body : List ℕ) → HasOwnNames w
-        → HasOwnNames (plainly_served node w n key version body).world }
+    ensures begun { HasOwnNames new_world }
+    ensures served { (node : Node) (w : World) (clock n : ℕ) (key version : ℤ) (body : List ℕ) → HasOwnNames w
+        → HasOwnNames (plainly_served node w clock n key version body).world }
     ensures committed { (w : World) (refusal : Option ℤ) (q : OffsetCommitRequest) → HasOwnNames w
         → HasOwnNames (committed_all w refusal q).0 }
-    ensures retained { (w : World) (place : TopicPartition) → HasOwnNames w → HasOwnNames (retain w place).0 }
-    ensures clocked { (w : World) (now : ℕ) → HasOwnNames w → HasOwnNames (at_clock w now) }
+    ensures retained { (clock : ℕ) (w : World) (place : TopicPartition) → HasOwnNames w → HasOwnNames (retain clock w place).0 }
 {}
 
-/// A fetch that waits has no answer after a request that touches none of the places that it waits for, and waits for the
-/// same places. So it is after each commit.
+/// A fetch that waits has no answer after a request of that time that touches none of the places that it waits for, and waits for
+/// the same places. So it is after each commit.
 pub fn requests_elsewhere()
-    ensures served { (node : Node) (w : World) (n : ℕ) (key version : ℤ) (body : List ℕ) (r : FetchRequest) (deadline : ℕ) → IsTied w
-        → fetch_answer w r deadline ≡ None → AreApart (places_of w r) (plainly_served node w n key version body).touched
-        → StillWaits w (plainly_served node w n key version body).world r deadline }
-    ensures committed { (w : World) (refusal : Option ℤ) (q : OffsetCommitRequest) (r : FetchRequest) (deadline : ℕ) → IsTied w
-        → fetch_answer w r deadline ≡ None → StillWaits w (committed_all w refusal q).0 r deadline }
+    ensures served { (node : Node) (w : World) (clock n : ℕ) (key version : ℤ) (body : List ℕ) (r : FetchRequest) (deadline : ℕ)
+        → IsTied w → fetch_answer w clock r deadline ≡ None
+        → AreApart (places_of w r) (plainly_served node w clock n key version body).touched
+        → StillWaits w (plainly_served node w clock n key version body).world clock r deadline }
+    ensures committed { (w : World) (clock : ℕ) (refusal : Option ℤ) (q : OffsetCommitRequest) (r : FetchRequest) (deadline : ℕ)
+        → IsTied w → fetch_answer w clock r deadline ≡ None → StillWaits w (committed_all w refusal q).0 clock r deadline }
 {}
 
 /// The same after retention at a place that it does not wait for.
 pub fn retention_elsewhere()
-    ensures { (w : World) (place : TopicPartition) (r : FetchRequest) (deadline : ℕ) → IsTied w
-        → fetch_answer w r deadline ≡ None → (Contains (places_of w r) place → ⊥) → StillWaits w (retain w place).0 r deadline }
+    ensures { (clock : ℕ) (w : World) (place : TopicPartition) (r : FetchRequest) (deadline : ℕ) → IsTied w
+        → fetch_answer w clock r deadline ≡ None → (Contains (places_of w r) place → ⊥)
+        → StillWaits w (retain clock w place).0 clock r deadline }
 {}
 
-/// The same at each time before its deadline.
+/// A fetch that waits has no answer at each time before its deadline, while the world stays.
 pub fn before_deadline()
-    ensures { (w : World) (r : FetchRequest) (deadline now : ℕ) → fetch_answer w r deadline ≡ None → now < deadline
-        → StillWaits w (at_clock w now) r deadline }
+    ensures { (w : World) (r : FetchRequest) (clock deadline now : ℕ) → fetch_answer w clock r deadline ≡ None → now < deadline
+        → fetch_answer w now r deadline ≡ None }
 {}
 
 /// A fetch that has no answer before and after a request, or a commit, waits for the same places, whatever the request touched.
 pub fn requests_again()
-    ensures served { (node : Node) (w : World) (n : ℕ) (key version : ℤ) (body : List ℕ) (r : FetchRequest) (deadline : ℕ) → IsTied w
-        → HasOwnNames w
-        → fetch_answer w r deadline ≡ None → fetch_answer (plainly_served node w n key version body).world r deadline ≡ None
-        → places_of (plainly_served node w n key version body).world r ≡ places_of w r }
-    ensures committed { (w : World) (refusal : Option ℤ) (q : OffsetCommitRequest) (r : FetchRequest) (deadline : ℕ) → IsTied w
-        → HasOwnNames w
-        → fetch_answer w r deadline ≡ None → fetch_answer (committed_all w refusal q).0 r deadline ≡ None
+    ensures served { (node : Node) (w : World) (clock n : ℕ) (key version : ℤ) (body : List ℕ) (r : FetchRequest) (deadline : ℕ)
+        → IsTied w → HasOwnNames w
+        → fetch_answer w clock r deadline ≡ None
+        → fetch_answer (plainly_served node w clock n key version body).world clock r deadline ≡ None
+        → places_of (plainly_served node w clock n key version body).world r ≡ places_of w r }
+    ensures committed { (w : World) (clock : ℕ) (refusal : Option ℤ) (q : OffsetCommitRequest) (r : FetchRequest) (deadline : ℕ)
+        → IsTied w → HasOwnNames w
+        → fetch_answer w clock r deadline ≡ None → fetch_answer (committed_all w refusal q).0 clock r deadline ≡ None
         → places_of (committed_all w refusal q).0 r ≡ places_of w r }
 {}
 
 /// Retention changes no place that a fetch asks for.
 pub fn retention_again()
-    ensures { (w : World) (r : FetchRequest) → places_of (retain_all w).0 r ≡ places_of w r }
+    ensures { (clock : ℕ) (w : World) (r : FetchRequest) → places_of (retain_all clock w).0 r ≡ places_of w r }
 {}
 
-/// The bounds and the batches of a world's logs are within their limits from the start on, whatever is asked, committed, dropped by
-/// retention, or the time.
+/// The bounds and the batches of a world's logs are within their limits from the start on, whatever is asked, committed or dropped by
+/// retention, at whatever time.
 pub fn logs_stay_small()
-    ensures begun { (clock : ℕ) → HasSmallLogs (at_clock new_world clock) }
-    ensures served { (node : Node) (w : World) (n : ℕ) (key version : ℤ) (body : List ℕ) → HasSmallLogs w
-        → HasSmallLogs (plainly_served node w n key version body).world }
+    ensures begun { HasSmallLogs new_world }
+    ensures served { (node : Node) (w : World) (clock n : ℕ) (key version : ℤ) (body : List ℕ) → HasSmallLogs w
+        → HasSmallLogs (plainly_served node w clock n key version body).world }
     ensures committed { (w : World) (refusal : Option ℤ) (q : OffsetCommitRequest) → HasSmallLogs w
         → HasSmallLogs (committed_all w refusal q).0 }
-    ensures retained { (w : World) (place : TopicPartition) → HasSmallLogs w → HasSmallLogs (retain w place).0 }
-    ensures clocked { (w : World) (now : ℕ) → HasSmallLogs w → HasSmallLogs (at_clock w now) }
+    ensures retained { (clock : ℕ) (w : World) (place : TopicPartition) → HasSmallLogs w → HasSmallLogs (retain clock w place).0 }
 {}
 
 /// What a fetch is answered, at once (its key is 1) or after a wait: the one reply that the bytes spell, in which each partition
 /// without an error gives whole batches of its log as it is at that moment, one after the other, from the one that holds the
 /// asked offset, and from version 5 on tells where that log starts.
 pub fn fetches_give_whole_batches()
-    ensures served { (node : Node) (w : World) (n : ℕ) (version : ℤ) (body bytes : List ℕ) (r : FetchRequest) → HasSmallLogs w
+    ensures served { (node : Node) (w : World) (clock n : ℕ) (version : ℤ) (body bytes : List ℕ) (r : FetchRequest) → HasSmallLogs w
         → asked_fetch version body ≡ Ok r
-        → (plainly_served node w n FETCH version body).reaction ≡ Replies bytes → HoldsBatches version w r bytes }
-    ensures looked { (w : World) (deadline : ℕ) (version : ℤ) (body bytes : List ℕ) (r : FetchRequest) → HasSmallLogs w
+        → (plainly_served node w clock n FETCH version body).reaction ≡ Replies bytes → HoldsBatches version w r bytes }
+    ensures looked { (w : World) (clock deadline : ℕ) (version : ℤ) (body bytes : List ℕ) (r : FetchRequest) → HasSmallLogs w
         → asked_fetch version body ≡ Ok r
-        → looked w deadline version body ≡ Replies bytes → HoldsBatches version w r bytes }
+        → looked w clock deadline version body ≡ Replies bytes → HoldsBatches version w r bytes }
 {}

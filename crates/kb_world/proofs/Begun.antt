@@ -6,8 +6,8 @@ use Rattle.kb_log.specs.OnShelf.{Log, IsLawfulLog, IsNew}
 use Rattle.kb_topics.specs.Catalog.{known, meta_log}
 use Rattle.kb_topics.specs.Known.{empty}
 use Rattle.kb_topics.specs.MetaLog.{SayEach}
-use Rattle.kb_partitions.specs.Logs.{log_at}
-use Rattle.kb_partitions.specs.Partitions.{Agree, AreStarted, Entries, logs_of}
+use Rattle.kb_world.specs.Logs.{log_at}
+use Rattle.kb_world.specs.Partitions.{Agree, AreStarted, Entries, logs_of}
 use Rattle.kb_world.specs.Parts.{Agrees, entries, meta, recorded_start}
 use Rattle.kb_world.specs.declared.parts.Parts.{Parts}
 

@@ -14,7 +14,7 @@ use Rattle.kb_topics.specs.Commands.{commit_command}
 use Rattle.kb_topics.specs.Known.{Known, CommittedOffset, PartitionState, TopicState, step, topic_at, partition_at, with_commit, with_partition}
 use Rattle.kb_topics.specs.Refusals.{commit_refusal}
 use Rattle.kb_topics.specs.declared.fault.CatalogFault.TheVariants as faults
-use Rattle.kb_partitions.specs.Partitions.{places_of}
+use Rattle.kb_world.specs.Partitions.{places_of}
 use Rattle.kb_world.specs.Calls.{commit, committed_unless, known_at, with_committed}
 use Rattle.kb_world.specs.Dropping.{IsThere}
 use Rattle.kb_world.specs.Parts.{IsSound, entries}

@@ -14,10 +14,10 @@ use Rattle.kb_topics.specs.Catalog.{known, meta_log}
 use Rattle.kb_topics.specs.Calls.{StaysFold}
 use Rattle.kb_topics.specs.Known.{TopicState, new_partition, topic_at}
 use Rattle.kb_topics.specs.declared.catalog.Catalog.{Catalog}
-use Rattle.kb_partitions.specs.Logs.{with_new_logs}
-use Rattle.kb_partitions.specs.Partitions.{Owned, AreNamed, AreStarted, IsMade, IsUnmade, logs_of, places_of}
-use Rattle.kb_partitions.specs.Scene.{Settles}
-use Rattle.kb_partitions.specs.declared.partitions.Partitions.{Partitions}
+use Rattle.kb_world.specs.Logs.{with_new_logs}
+use Rattle.kb_world.specs.Partitions.{Owned, AreNamed, AreStarted, IsMade, IsUnmade, logs_of, places_of}
+use Rattle.kb_world.specs.Scene.{Settles}
+use Rattle.kb_world.specs.declared.partitions.Partitions.{Partitions}
 use Rattle.kb_world.specs.Parts as parts
 use Rattle.kb_world.specs.Parts.{IsSound, meta, entries, recorded_start, world_of}
 use Rattle.kb_world.specs.Steps.{IsStep}
@@ -116,7 +116,7 @@ module _ {L : Type 0} (log : L → Log) (law : (l : L) → IsLawfulLog (log l)) 
         started = begun (recorded_start (known changed)) (new_starts (known p.catalog) (known changed) count new topics many)
             (still_started log (entries p) (recorded_start (known p.catalog)) (recorded_start (known changed)) (create_starts (known p.catalog) (known changed) count new none topics many) agree.started);
         meta_started = resumes 0 agree.meta_started;
-        until = kept_created p.kept_until (world_of log p d.files) (world_of log (record p { catalog = changed; partitions = ps }) d'.files) (known p.catalog).creates count new topics (created_logs honest) agree.until;
+        until = kept_created p.next_retention_time (world_of log p d.files) (world_of log (record p { catalog = changed; partitions = ps }) d'.files) (known p.catalog).creates count new topics (created_logs honest) agree.until;
       };
     };
     named = refl;

@@ -19,12 +19,12 @@ use Rattle.kb_topics.specs.Catalog.{known, meta_log}
 use Rattle.kb_topics.specs.declared.catalog.Catalog.{Catalog}
 use Rattle.kb_topics.specs.Known.{Known, named, topic_at, without_topic, step}
 use Rattle.kb_topics.specs.declared.command.Command.TheVariants as commands
-use Rattle.kb_partitions.specs.Logs.{without_logs}
-use Rattle.kb_partitions.specs.Partitions.{AreStarted, Entries, IsUnmade, logs_of, partition_at, places_of, scene_on}
-use Rattle.kb_partitions.specs.Scene.{Frame, Settles, WhereHonest}
-use Rattle.kb_partitions.specs.declared.partition.Partition.{Partition}
-use Rattle.kb_partitions.specs.declared.partitions.Partitions.{Partitions}
-use Rattle.kb_partitions.proofs.Put.{own_number}
+use Rattle.kb_world.specs.Logs.{without_logs}
+use Rattle.kb_world.specs.Partitions.{AreStarted, Entries, IsUnmade, logs_of, partition_at, places_of, scene_on}
+use Rattle.kb_world.specs.Scene.{Frame, Settles, WhereHonest}
+use Rattle.kb_world.specs.declared.partition.Partition.{Partition}
+use Rattle.kb_world.specs.declared.partitions.Partitions.{Partitions}
+use Rattle.kb_world.proofs.Put.{own_number}
 use Rattle.kb_world.specs.Parts as parts
 use Rattle.kb_world.specs.Parts.{IsSound, Agrees, meta, entries, recorded_start, world_of}
 use Rattle.kb_world.specs.Steps.{IsStep, settles_then}
@@ -112,7 +112,7 @@ module _ {L : Type 0} (log : L → Log) (law : (l : L) → IsLawfulLog (log l)) 
         (parts_move log law (recorded_start (known old.catalog)) (record old { catalog = changed }) (record old { catalog = changed; partitions = ps }) d' e next' last refl (refl, refl) named
         (still_unmade i (entries old) ps.topics.entries sound.logs.ordered places) (still_small i (entries old) ps.topics.entries sound.logs.ordered places) (omega arith) tied
         recorded.frame.sound frame (λ honest agree. still (starts (recorded_start (known old.catalog)) agree.started))
-        (λ honest agree. kept_deleted old.kept_until (world_of log (record old { catalog = changed }) d'.files) (world_of log (record old { catalog = changed; partitions = ps }) e.files) i gone
+        (λ honest agree. kept_deleted old.next_retention_time (world_of log (record old { catalog = changed }) d'.files) (world_of log (record old { catalog = changed; partitions = ps }) e.files) i gone
         (as_before (known changed) (known changed) refl) (removed honest agree.logs) agree.until))
 
     pub delete_step : KeepNames log (entries old) ps.topics.entries → KeepStarts log (entries old) ps.topics.entries
@@ -132,4 +132,4 @@ module _ {L : Type 0} (log : L → Log) (law : (l : L) → IsLawfulLog (log l)) 
     deleted_world honest agree =
         let before = frame.others.honest honest in
         let logs = removed honest (recorded.frame.agrees before agree).logs ∙ ap (without_logs i) (recorded_logs log law old changed d d' next next' sound frames before) in
-        λ j. record { known = new j; logs = logs j; clock = old.clock }
+        λ j. record { known = new j; logs = logs j }

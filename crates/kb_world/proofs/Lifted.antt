@@ -6,21 +6,21 @@ use Rattle.std.specs.FinMap.{get}
 use Rattle.std.specs.Ordering.{nat_cmp}
 use Rattle.std.specs.Map.{lookup}
 use Rattle.std.specs.BTreeMap.{is_at}
-use Rattle.kb_store.specs.Disk.{Disk, Table, Keeps}
+use Rattle.kb_store.specs.Disk.{Disk, Keeps}
 use Rattle.kb_log.specs.OnShelf.{Log, IsLawfulLog}
 use Rattle.kb_topics.specs.MetaLog.{IsFold}
 use Rattle.kb_topics.specs.Catalog.{known, meta_log}
 use Rattle.kb_topics.specs.declared.catalog.Catalog.{Catalog}
 use Rattle.kb_topics.specs.CatalogFault.{IsWant}
-use Rattle.kb_partitions.specs.Calls.{IsRefusedWant, Same}
-use Rattle.kb_partitions.specs.Partitions.{Entries, Owned, AreSound, AreExact, AreNamed, AreStarted, Agree, IsUnmade, logs_of, scene_on, places_of}
-use Rattle.kb_partitions.specs.Scene.{Scene, Frame, Settles}
-use Rattle.kb_partitions.specs.declared.fault.PartitionFault.{PartitionFault}
-use Rattle.kb_partitions.specs.declared.fault.PartitionFault.TheVariants as partition
+use Rattle.kb_world.specs.PartitionCalls.{IsRefusedWant, Same}
+use Rattle.kb_world.specs.Partitions.{Entries, Owned, AreSound, AreExact, AreNamed, AreStarted, Agree, IsUnmade, logs_of, scene_on, places_of}
+use Rattle.kb_world.specs.Scene.{Scene, Frame, Settles}
+use Rattle.kb_world.specs.declared.fault.PartitionFault.{PartitionFault}
+use Rattle.kb_world.specs.declared.fault.PartitionFault.TheVariants as partition
 use Rattle.kb_topics.specs.declared.fault.CatalogFault.{CatalogFault}
 use Rattle.kb_topics.specs.declared.fault.CatalogFault.TheVariants as catalog
 use Rattle.kb_world.specs.Parts as parts
-use Rattle.kb_world.specs.KeptUntil.{AreAllKept}
+use Rattle.kb_world.specs.RetentionTime.{AreAllKept}
 use Rattle.kb_world.specs.Parts.{IsSound, Agrees, Seen, meta, entries, recorded_start, world_of, raised, refused, counted_for, counted_for_catalog}
 use Rattle.kb_world.specs.Counts.{END, IsCalm}
 use Rattle.kb_world.specs.Steps.{IsStep, Meets, calm_then}
@@ -39,7 +39,7 @@ pub parts_move : {L : Type 0} (log : L → Log) (law : (l : L) → IsLawfulLog (
     → places_of (entries p') ≡ counted partition_count (known p'.catalog).topics
     → IsUntied log p d.table next → Frame (scene_on log (entries p) d next) (scene_on log (entries p') d' next')
     → (d'.honest → AgreesBy log recorded p d.files → AreStarted log (recorded_start (known p'.catalog)) (entries p'))
-    → (d'.honest → AgreesBy log recorded p d.files → AreAllKept p'.kept_until (world_of log p' d'.files))
+    → (d'.honest → AgreesBy log recorded p d.files → AreAllKept p'.next_retention_time (world_of log p' d'.files))
     → IsMove (untied_on log recorded p d next) (parts.scene_on log p' d' next')
 parts_move {L} log law recorded p p' d d' next next' catalog of named unmade small grows tied sound frame started until =
     let m = meta log p in
@@ -116,7 +116,7 @@ pub logs_move : {L : Type 0} (log : L → Log) (law : (l : L) → IsLawfulLog (l
     → p'.catalog ≡ p.catalog → AreOf p' p → KeepNames log (entries p) (entries p') → KeepStarts log (entries p) (entries p')
     → places_of (entries p') ≡ places_of (entries p) → p.refusals ≤ p'.refusals
     → IsSound log p d.table next → Frame (scene_on log (entries p) d next) (scene_on log (entries p') d' next')
-    → (d'.honest → AgreesBy log (recorded_start (known p.catalog)) p d.files → AreAllKept p'.kept_until (world_of log p' d'.files))
+    → (d'.honest → AgreesBy log (recorded_start (known p.catalog)) p d.files → AreAllKept p'.next_retention_time (world_of log p' d'.files))
     → IsMove (parts.scene_on log p d next) (parts.scene_on log p' d' next')
 logs_move log law p p' d d' next next' catalog of named starts places grows sound frame until =
     from_untied log p (parts.scene_on log p' d' next') d next
@@ -129,13 +129,13 @@ logs_move log law p p' d d' next next' catalog of named starts places grows soun
 -- A call for the partitions that leaves them as they are, and each log's batches as they were.
 pub read_move : {L : Type 0} (log : L → Log) (law : (l : L) → IsLawfulLog (log l)) (p p' : Parts L) (d d' : Disk) (next next' : ℕ)
     → p'.catalog ≡ p.catalog → AreOf p' p → KeepNames log (entries p) (entries p') → KeepStarts log (entries p) (entries p')
-    → places_of (entries p') ≡ places_of (entries p) → p.refusals ≤ p'.refusals → p'.kept_until ≡ p.kept_until
+    → places_of (entries p') ≡ places_of (entries p) → p.refusals ≤ p'.refusals → p'.next_retention_time ≡ p.next_retention_time
     → IsSound log p d.table next → Frame (scene_on log (entries p) d next) (scene_on log (entries p') d' next') → Same (scene_on log (entries p) d next) (scene_on log (entries p') d' next')
     → IsMove (parts.scene_on log p d next) (parts.scene_on log p' d' next')
 read_move log law p p' d d' next next' catalog of named starts places grows until sound frame same =
     logs_move log law p p' d d' next next' catalog of named starts places grows sound frame
     (λ honest agree. subst (λ u. AreAllKept u (world_of log p' d'.files)) (sym until)
-    (kept_by p.kept_until (world_of log p d.files) (world_of log p' d'.files)
+    (kept_by p.next_retention_time (world_of log p d.files) (world_of log p' d'.files)
     (as_before (known p.catalog) (known p'.catalog) (ap (λ c. (known c).topics) catalog)) (same honest agree.logs) agree.until))
 
 -- a call that changes no file
@@ -161,7 +161,7 @@ more_counted a n true le = omega (arith, le)
 more_counted a n false le = le
 
 -- the same catalog and partitions, under another count
-pub recast_move : {L : Type 0} (log : L → Log) (a : Scene Seen) (p q : Parts L) (d : Disk) (next : ℕ) → q.catalog ≡ p.catalog → AreOf q p → entries q ≡ entries p → q.kept_until ≡ p.kept_until → a.state.refusals ≤ q.refusals
+pub recast_move : {L : Type 0} (log : L → Log) (a : Scene Seen) (p q : Parts L) (d : Disk) (next : ℕ) → q.catalog ≡ p.catalog → AreOf q p → entries q ≡ entries p → q.next_retention_time ≡ p.next_retention_time → a.state.refusals ≤ q.refusals
     → IsMove a (parts.scene_on log p d next) → IsMove a (parts.scene_on log q d next)
 recast_move {L} log a p q d next c of e until le move =
     let s = move.frame.sound in
@@ -194,7 +194,7 @@ recast_move {L} log a p q d next c of e until le move =
           started = subst (λ (k : Catalog L). AreStarted log (recorded_start (known k)) (entries q)) (sym c) (subst (λ (es : Entries L). AreStarted log (recorded_start (known p.catalog)) es) (sym e) g.started);
           meta_started = subst (λ (l : Log). l.resumes 0) (sym m) g.meta_started;
           until = subst (λ u. AreAllKept u (world_of log q d.files)) (sym until)
-              (kept_by p.kept_until (world_of log p d.files) (world_of log q d.files)
+              (kept_by p.next_retention_time (world_of log p d.files) (world_of log q d.files)
               (as_before (known p.catalog) (known q.catalog) (ap (λ (k : Catalog L). (known k).topics) c)) (ap (λ (es : Entries L). logs_of log es d.files) e) g.until);
         };
       };
@@ -215,7 +215,7 @@ recast_settles {L} log a p q d next c e settles =
           (subst (λ (l : Log). l.exact d.table) (sym m) x.0, subst (λ (es : Entries L). AreExact log es d.table) (sym e) x.1);
     }
 
-pub recast : {L : Type 0} (log : L → Log) (a : Scene Seen) (p q : Parts L) (d : Disk) (next : ℕ) → q.catalog ≡ p.catalog → AreOf q p → entries q ≡ entries p → q.kept_until ≡ p.kept_until → p.refusals ≤ q.refusals
+pub recast : {L : Type 0} (log : L → Log) (a : Scene Seen) (p q : Parts L) (d : Disk) (next : ℕ) → q.catalog ≡ p.catalog → AreOf q p → entries q ≡ entries p → q.next_retention_time ≡ p.next_retention_time → p.refusals ≤ q.refusals
     → IsStep a (parts.scene_on log p d next) → IsStep a (parts.scene_on log q d next)
 recast log a p q d next c of e until le step =
     as_step a (parts.scene_on log q d next)
@@ -285,7 +285,7 @@ raised_meets log a p n d next P step meets honest agree calm = meets honest agre
 
 -- a step, and then another clock up to which no partition has anything to drop
 pub kept_step : {L : Type 0} (log : L → Log) (a : Scene Seen) (p : Parts L) (u : ℤ) (d : Disk) (next : ℕ) → (d.honest → Agrees log p d.files → AreAllKept u (world_of log p d.files))
-    → IsStep a (parts.scene_on log p d next) → IsStep a (parts.scene_on log (record p { kept_until = u }) d next)
+    → IsStep a (parts.scene_on log p d next) → IsStep a (parts.scene_on log (record p { next_retention_time = u }) d next)
 kept_step log a p u d next until step =
     let s = step.frame.sound in
     record {
@@ -324,19 +324,3 @@ kept_step log a p u d next until step =
       creates = step.creates;
       settles = λ calm. let s = step.settles calm in record { accounts = s.accounts; exact = s.exact };
     }
-
--- ---- the clock
-
--- at another clock the parts are as sound
-pub clocked : {L : Type 0} (log : L → Log) (p : Parts L) (now : ℕ) (table : Table) (next : ℕ) → IsSound log p table next → IsSound log (record p { clock = now }) table next
-clocked log p now table next s = record {
-  catalog = s.catalog;
-  logs = s.logs;
-  apart = s.apart;
-  few = s.few;
-  unmade = s.unmade;
-  small = s.small;
-  tied = s.tied;
-  catalog_named = s.catalog_named;
-  logs_named = s.logs_named;
-}

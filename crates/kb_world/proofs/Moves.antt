@@ -1,6 +1,6 @@
 -- A call before its refusal is counted, and what it leaves where it was refused nothing.
 use Rattle.std.proofs.Common.{◌≡◌, ◌∙◌, ◌≤◌, arith}
-use Rattle.kb_partitions.specs.Scene.{Scene, Frame, Settles}
+use Rattle.kb_world.specs.Scene.{Scene, Frame, Settles}
 use Rattle.kb_world.specs.Parts.{Seen}
 use Rattle.kb_world.specs.Steps.{IsStep, spares_then}
 use Rattle.kb_world.specs.Counts.{IsCalm}

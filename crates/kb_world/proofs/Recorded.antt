@@ -12,10 +12,10 @@ use Rattle.kb_topics.specs.Known.{Known}
 use Rattle.kb_topics.specs.declared.fault.CatalogFault.{CatalogFault}
 use Rattle.kb_topics.specs.declared.fault.CatalogFault.TheVariants as catalog
 use Rattle.kb_topics.specs.declared.catalog.Catalog.{Catalog}
-use Rattle.kb_partitions.specs.Partitions.{Owned, logs_of}
-use Rattle.kb_partitions.specs.Scene.{Settles}
+use Rattle.kb_world.specs.Partitions.{Owned, logs_of}
+use Rattle.kb_world.specs.Scene.{Settles}
 use Rattle.kb_world.specs.Parts as parts
-use Rattle.kb_world.specs.Parts.{IsSound, Agrees, meta, entries, recorded_start, world_of, counted_for_catalog}
+use Rattle.kb_world.specs.Parts.{IsSound, meta, entries, recorded_start, world_of, counted_for_catalog}
 use Rattle.kb_world.specs.Steps.{IsStep}
 use Rattle.kb_world.specs.Counts.{IsCalm}
 use Rattle.kb_world.specs.Tied.{counted, partition_count}
@@ -82,7 +82,7 @@ module _ {L : Type 0} (log : L → Log) (law : (l : L) → IsLawfulLog (log l)) 
         logs = spared.spared_agree log law (entries p) d d' next next' sound.logs frames.others.later lengths contents honest agree.logs;
         started = agree.started;
         meta_started = resumes 0 agree.meta_started;
-        until = kept_by p.kept_until (world_of log p d.files) (world_of log (record p { catalog = changed }) d'.files) were (recorded_logs honest) agree.until;
+        until = kept_by p.next_retention_time (world_of log p d.files) (world_of log (record p { catalog = changed }) d'.files) were (recorded_logs honest) agree.until;
       };
     };
     named = refl;
@@ -120,7 +120,7 @@ module _ {L : Type 0} (log : L → Log) (law : (l : L) → IsLawfulLog (log l)) 
       (λ calm. ⊎_elim (λ bad. absurd bad) catalog_settles settled)
 
   -- a call that was refused, and whose refusal is counted: what is known is as before
-  pub refused_catalog : (T : Type 0) (q : Parts L) → q.catalog ≡ changed → AreOf q p → entries q ≡ entries p → q.kept_until ≡ p.kept_until → p.refusals ≤ q.refusals
+  pub refused_catalog : (T : Type 0) (q : Parts L) → q.catalog ≡ changed → AreOf q p → entries q ≡ entries p → q.next_retention_time ≡ p.next_retention_time → p.refusals ≤ q.refusals
       → (f : CatalogFault) → (log (meta_log changed)).end ≡ (meta log p).end → StaysFold (on_shelf (meta log p) d next) (known p.catalog) (on_shelf (log (meta_log changed)) d' next') (known changed)
       → known changed ≡ known p.catalog → Resume (meta log p) (log (meta_log changed)) → IsWant {T = T} (Err f) ⊎ one.Settles (on_shelf (meta log p) d next) (on_shelf (log (meta_log changed)) d' next')
       → IsStep (parts.scene_on log p d next) (parts.scene_on log (counted_for_catalog f q) d' next')

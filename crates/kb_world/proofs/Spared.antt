@@ -4,11 +4,11 @@ use Rattle.std.specs.FinMap.{get}
 use Rattle.kb_store.specs.Disk.{Disk}
 use Rattle.kb_log.specs.OnShelf.{Log, IsLawfulLog}
 use Rattle.kb_producers.specs.Batches.{kept_all}
-use Rattle.kb_partitions.specs.Logs.{LogState}
-use Rattle.kb_partitions.specs.Partitions.{Entries, Owned, AreSound, AreExact, Agree, partition_at, log_state, logs_of}
-use Rattle.kb_partitions.specs.declared.partition.Partition.{Partition}
-use Rattle.kb_partitions.proofs.Changed.{found_at, shown}
-use Rattle.kb_partitions.proofs.Put.{map_same, values_same}
+use Rattle.kb_world.specs.Logs.{LogState}
+use Rattle.kb_world.specs.Partitions.{Entries, Owned, AreSound, AreExact, Agree, partition_at, log_state, logs_of}
+use Rattle.kb_world.specs.declared.partition.Partition.{Partition}
+use Rattle.kb_world.proofs.Changed.{found_at, shown}
+use Rattle.kb_world.proofs.Put.{map_same, values_same}
 
 module _ {L : Type 0} (log : L → Log) (law : (l : L) → IsLawfulLog (log l)) (es : Entries L) (d d' : Disk) (next next' : ℕ)
     (sound : AreSound log es d.table next) (later : next ≤ next')

@@ -9,8 +9,8 @@ use Rattle.kb_log.specs.OnShelf.{Log}
 use Rattle.kb_topics.specs.Commands.{start_command}
 use Rattle.kb_topics.specs.Known as topics
 use Rattle.kb_topics.specs.Known.{Known, CommittedOffset, PartitionState, TopicState, new_partition, put_topic, step, topic_at, with_commit, with_part, with_partition, with_start, without_topic}
-use Rattle.kb_partitions.specs.Partitions.{AreStarted, Entries, Restarts}
-use Rattle.kb_partitions.proofs.Put.{cases, found_put, get_here, other_number, own_number, same_number}
+use Rattle.kb_world.specs.Partitions.{AreStarted, Entries, Restarts}
+use Rattle.kb_world.proofs.Put.{cases, found_put, get_here, other_number, own_number, same_number}
 use Rattle.kb_world.specs.Calls.{known_at, with_committed}
 use Rattle.kb_world.specs.Parts.{recorded_start, start_said}
 use Rattle.kb_world.specs.declared.topic_partition.TopicPartition.{TopicPartition}

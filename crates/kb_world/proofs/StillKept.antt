@@ -15,9 +15,9 @@ use Rattle.kb_topics.specs.Commands.{start_command}
 use Rattle.kb_topics.specs.Known as topics
 use Rattle.kb_topics.specs.Known.{Known, PartitionState, TopicState, put_topic, step, topic_at, with_part, with_partition, with_start, without_topic}
 use Rattle.kb_topics.specs.declared.config.TopicConfig.{TopicConfig}
-use Rattle.kb_partitions.specs.Logs.{Logs, LogState, dropped, log_at, no_log, put_log, with_log, with_new_logs, without_below, without_logs}
-use Rattle.kb_partitions.proofs.Put.{cases, lookup_put, other_number, own_number}
-use Rattle.kb_world.specs.KeptUntil.{AreAllKept, IsKeptAt}
+use Rattle.kb_world.specs.Logs.{Logs, LogState, dropped, log_at, no_log, put_log, with_log, with_new_logs, without_below, without_logs}
+use Rattle.kb_world.proofs.Put.{cases, lookup_put, other_number, own_number}
+use Rattle.kb_world.specs.RetentionTime.{AreAllKept, IsKeptAt}
 use Rattle.kb_world.specs.World.{World}
 use Rattle.kb_world.specs.declared.topic_partition.TopicPartition.{TopicPartition}
 

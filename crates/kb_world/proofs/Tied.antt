@@ -17,10 +17,10 @@ use Rattle.kb_topics.specs.Commands.{start_command}
 use Rattle.kb_topics.specs.Known.{Known, PartitionState, TopicState, put_topic, step, topic_at, with_part, with_partition, with_start}
 use Rattle.kb_topics.specs.Known as topics
 use Rattle.kb_topics.specs.MetaLog.{IsFold}
-use Rattle.kb_partitions.specs.Partitions.{Entries, Owned, Agree, AreSound, AreNamed, AreStarted, IsUnmade, log_state, logs_of, places_of}
-use Rattle.kb_partitions.specs.Scene.{Scene}
-use Rattle.kb_partitions.specs.declared.partition.Partition.{Partition}
-use Rattle.kb_world.specs.KeptUntil.{AreAllKept}
+use Rattle.kb_world.specs.Partitions.{Entries, Owned, Agree, AreSound, AreNamed, AreStarted, IsUnmade, log_state, logs_of, places_of}
+use Rattle.kb_world.specs.Scene.{Scene}
+use Rattle.kb_world.specs.declared.partition.Partition.{Partition}
+use Rattle.kb_world.specs.RetentionTime.{AreAllKept}
 use Rattle.kb_world.specs.Parts.{IsSound, Seen, entries, meta, recorded_start, scene_on, world_of}
 use Rattle.kb_world.specs.Tied.{IsTied, counted, partition_count}
 use Rattle.kb_world.specs.declared.parts.Parts.{Parts}
@@ -126,7 +126,7 @@ pub record AgreesBy {L : Type 0} (log : L → Log) (recorded : ℕ → ℕ → �
   pub logs : Agree log (entries p) files
   pub started : AreStarted log recorded (entries p)
   pub meta_started : (meta log p).resumes 0
-  pub until : AreAllKept p.kept_until (world_of log p files)
+  pub until : AreAllKept p.next_retention_time (world_of log p files)
 
 abbrev pub untied_on : {L : Type 0} → (L → Log) → (ℕ → ℕ → ℕ) → Parts L → Disk → ℕ → Scene Seen
 untied_on log recorded p d next = record (scene_on log p d next) { sound = IsUntied log p d.table next; agrees = AgreesBy log recorded p d.files }

@@ -18,9 +18,9 @@ use Rattle.kb_topics.specs.Refusals.{commit_refusal, create_refusal, issue_refus
 use Rattle.kb_topics.specs.declared.config.TopicConfig.{TopicConfig}
 use Rattle.kb_topics.specs.declared.fault.CatalogFault.{CatalogFault}
 use Rattle.kb_topics.specs.declared.fault.CatalogFault.TheVariants as catalog
-use Rattle.kb_partitions.specs.Logs.{LogState, with_log, with_new_logs, without_logs, appended, without_below}
-use Rattle.kb_partitions.specs.declared.fault.PartitionFault.{PartitionFault}
-use Rattle.kb_partitions.specs.declared.fault.PartitionFault.TheVariants as partition
+use Rattle.kb_world.specs.Logs.{LogState, with_log, with_new_logs, without_logs, appended, without_below}
+use Rattle.kb_world.specs.declared.fault.PartitionFault.{PartitionFault}
+use Rattle.kb_world.specs.declared.fault.PartitionFault.TheVariants as partition
 use Rattle.kb_world.specs.World.{World, log_in}
 use Rattle.kb_world.specs.declared.topic_partition.TopicPartition.{TopicPartition}
 
@@ -183,16 +183,17 @@ delete_records w place offset = deleted_from w place offset (log_in w place)
 
 -- ---- retention
 
-abbrev pub due_in : World → Option TopicState → Option LogState → Option ℕ
-due_in w (Some t) (Some l) =
-    let start = retained_start (pos w.clock) t.config.retention_ms t.config.retention_bytes l.start l.end l.batches in
+abbrev pub due_in : ℕ → Option TopicState → Option LogState → Option ℕ
+due_in clock (Some t) (Some l) =
+    let start = retained_start (pos clock) t.config.retention_ms t.config.retention_bytes l.start l.end l.batches in
     if nat_le start l.start then None else Some start
-due_in w None l = None
-due_in w (Some t) None = None
+due_in clock None l = None
+due_in clock (Some t) None = None
 
--- the start of a partition after retention by its topic's settings, where it is above the one that it has
-abbrev pub due : World → TopicPartition → Option ℕ
-due w place = due_in w (topic_at place.instance w.known.topics) (log_in w place)
+-- the start of a partition after retention at a time of the clock, in milliseconds, by its topic's settings, where it is above the one
+-- that it has
+abbrev pub due : ℕ → World → TopicPartition → Option ℕ
+due clock w place = due_in clock (topic_at place.instance w.known.topics) (log_in w place)
 
 abbrev pub moved_to : World → TopicPartition → ℕ → Option Known → World × Bool
 moved_to w place start None = (w, false)
@@ -205,8 +206,8 @@ retained_from w place (Some start) =
     moved_to w place start (step w.known (start_command (pos place.instance) (pos place.number) (pos start)))
 
 -- The new start of a partition is recorded, and the batches that end at most there go; and whether any goes.
-abbrev pub retain : World → TopicPartition → World × Bool
-retain w place = retained_from w place (due w place)
+abbrev pub retain : ℕ → World → TopicPartition → World × Bool
+retain clock w place = retained_from w place (due clock w place)
 
 -- the partition of that number of the topic of an instance
 abbrev pub numbered : ℕ → ℕ → TopicPartition
@@ -221,17 +222,13 @@ abbrev pub all_places : World → List TopicPartition
 all_places w = flat_map places_of_topic (by_name w.known.topics)
 
 -- The batches that the settings keep no longer go from each of these partitions in turn; and whether any goes.
-abbrev pub retain_each : List TopicPartition → World → World × Bool
-retain_each [] w = (w, false)
-retain_each (place ∷ places) w =
-    let first = retain w place in
-    let rest = retain_each places first.0 in
+abbrev pub retain_each : ℕ → List TopicPartition → World → World × Bool
+retain_each clock [] w = (w, false)
+retain_each clock (place ∷ places) w =
+    let first = retain clock w place in
+    let rest = retain_each clock places first.0 in
     (rest.0, first.1 || rest.1)
 
 -- ... from all partitions
-abbrev pub retain_all : World → World × Bool
-retain_all w = retain_each (all_places w) w
-
--- the clock is set
-abbrev pub at_clock : World → ℕ → World
-at_clock w now = record w { clock = now }
+abbrev pub retain_all : ℕ → World → World × Bool
+retain_all clock w = retain_each clock (all_places w) w

@@ -1,5 +1,5 @@
 -- The parts of a tenant on a shelf: its catalog over a meta log, and its partitions.
-use Rattle.std.specs.Prelude.{◌≡◌, ◌≤◌, ◌<◌, ◌+◌, ◌-◌, ◌^◌, ◌⊎◌, ℕ, pos, List, Option, Some, None, nat_lt, string_bytes, if◌then◌else◌, max}
+use Rattle.std.specs.Prelude.{◌≡◌, ◌≤◌, ◌<◌, ◌+◌, ◌^◌, ◌⊎◌, ℕ, pos, List, Option, Some, None, nat_lt, string_bytes, if◌then◌else◌, max}
 use Rattle.std.specs.Ordering.{nat_cmp}
 use Rattle.std.specs.Map.{lookup}
 use Rattle.std.specs.BTreeMap.{is_at}
@@ -10,13 +10,13 @@ use Rattle.kb_batch.specs.Batch.{natural}
 use Rattle.kb_topics.specs.Known.{Known, PartitionState, partition_at}
 use Rattle.kb_topics.specs.MetaLog.{IsFold}
 use Rattle.kb_topics.specs.Catalog.{known, meta_log, catalog_identity}
-use Rattle.kb_partitions.specs.Partitions.{Entries, Owned, AreSound, AreExact, AreStarted, AreNamed, Agree, logs_of, places_of, IsUnmade}
-use Rattle.kb_partitions.specs.Scene.{Scene}
+use Rattle.kb_world.specs.Partitions.{Entries, Owned, AreSound, AreExact, AreStarted, AreNamed, Agree, logs_of, places_of, IsUnmade}
+use Rattle.kb_world.specs.Scene.{Scene}
 use Rattle.kb_topics.specs.declared.fault.CatalogFault.{CatalogFault}
 use Rattle.kb_topics.specs.declared.fault.CatalogFault.TheVariants as catalog
-use Rattle.kb_partitions.specs.declared.fault.PartitionFault.{PartitionFault}
-use Rattle.kb_partitions.specs.declared.fault.PartitionFault.TheVariants as partition
-use Rattle.kb_world.specs.KeptUntil.{AreAllKept}
+use Rattle.kb_world.specs.declared.fault.PartitionFault.{PartitionFault}
+use Rattle.kb_world.specs.declared.fault.PartitionFault.TheVariants as partition
+use Rattle.kb_world.specs.RetentionTime.{AreAllKept}
 use Rattle.kb_world.specs.Tied.{counted, partition_count}
 use Rattle.kb_world.specs.World.{World}
 use Rattle.kb_world.specs.declared.parts.Parts.{Parts}
@@ -48,7 +48,7 @@ pub record IsSound {L : Type 0} (log : L → Log) (p : Parts L) (table : Table) 
 
 -- what the tenant sees
 abbrev pub world_of : {L : Type 0} → (L → Log) → Parts L → Files → World
-world_of log p files = record { known = known p.catalog; logs = logs_of log (entries p) files; clock = p.clock }
+world_of log p files = record { known = known p.catalog; logs = logs_of log (entries p) files }
 
 -- the start that is recorded of a partition, 0 where there is none
 abbrev pub start_said : Option PartitionState → ℕ
@@ -66,7 +66,7 @@ pub record Agrees {L : Type 0} (log : L → Log) (p : Parts L) (files : Files) :
   pub logs : Agree log (entries p) files
   pub started : AreStarted log (recorded_start (known p.catalog)) (entries p)
   pub meta_started : (meta log p).resumes 0
-  pub until : AreAllKept p.kept_until (world_of log p files)
+  pub until : AreAllKept p.next_retention_time (world_of log p files)
 
 -- whose the parts are, what the tenant sees, how many refusals were counted for it, and how many commands its meta log has recorded,
 -- which is where that log ends

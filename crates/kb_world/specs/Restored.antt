@@ -8,8 +8,8 @@ use Rattle.kb_log.specs.OnShelf.{Log}
 use Rattle.kb_topics.specs.MetaLog.{IsFold}
 use Rattle.kb_topics.specs.Catalog.{known, meta_log, catalog_identity}
 use Rattle.kb_topics.specs.declared.catalog.Catalog.{Catalog}
-use Rattle.kb_partitions.specs.Partitions.{Owned, AreSound, AreStarted, AreNamed, Agree, logs_of, places_of, IsUnmade}
-use Rattle.kb_partitions.specs.declared.partitions.Partitions.{Partitions}
+use Rattle.kb_world.specs.Partitions.{Owned, AreSound, AreStarted, AreNamed, Agree, logs_of, places_of, IsUnmade}
+use Rattle.kb_world.specs.declared.partitions.Partitions.{Partitions}
 use Rattle.kb_world.specs.Parts.{recorded_start}
 use Rattle.kb_world.specs.Tied.{counted, partition_count}
 use Rattle.kb_world.specs.World.{World}
@@ -18,9 +18,9 @@ use Rattle.kb_world.specs.World.{World}
 abbrev pub IsOfEither : {L : Type 0} → (L → Log) → Catalog L → Partitions L → ℕ → Type 0
 IsOfEither log c ps file = (log (meta_log c)).owns file ⊎ Owned log ps.topics.entries file
 
--- what the tenant sees at clock 0
+-- what the tenant sees
 abbrev pub restored_world : {L : Type 0} → (L → Log) → Catalog L → Partitions L → Files → World
-restored_world log c ps files = record { known = known c; logs = logs_of log ps.topics.entries files; clock = 0 }
+restored_world log c ps files = record { known = known c; logs = logs_of log ps.topics.entries files }
 
 -- Each log is sound and the tenant's own, with files of so many bytes, and no file is of two logs. No instance that is still to be
 -- given out has partitions, and no topic has more than 64. Each topic has as many partitions as the catalog says, under its

@@ -3,7 +3,7 @@ use Rattle.std.specs.Prelude.{◌≡◌, ◌≤◌, ◌<◌, ℕ}
 use Rattle.std.proofs.Common.{◌∙◌, sym, refl, subst, inl, inr, ⊎_elim, arith}
 use Rattle.kb_store.specs.Disk.{Disk}
 use Rattle.kb_log.specs.OnShelf.{Spares}
-use Rattle.kb_partitions.specs.Scene.{Scene, Frame, Settles}
+use Rattle.kb_world.specs.Scene.{Scene, Frame, Settles}
 use Rattle.kb_world.specs.Parts.{Seen}
 use Rattle.kb_world.specs.Counts.{END, IsCalm}
 

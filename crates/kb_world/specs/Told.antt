@@ -3,11 +3,11 @@ use Rattle.std.specs.Prelude.{◌≡◌, ◌≤◌, ◌+◌, ◌^◌, ◌⊎◌,
 use Rattle.kb_store.specs.Disk.{Grew}
 use Rattle.kb_topics.specs.declared.fault.CatalogFault.{CatalogFault}
 use Rattle.kb_topics.specs.declared.fault.CatalogFault.TheVariants as catalog
-use Rattle.kb_partitions.specs.Scene.{Scene, WhereHonest}
-use Rattle.kb_partitions.specs.declared.fault.PartitionFault.{PartitionFault}
-use Rattle.kb_partitions.specs.declared.fault.PartitionFault.TheVariants as partition
+use Rattle.kb_world.specs.Scene.{Scene, WhereHonest}
+use Rattle.kb_world.specs.declared.fault.PartitionFault.{PartitionFault}
+use Rattle.kb_world.specs.declared.fault.PartitionFault.TheVariants as partition
 use Rattle.kb_world.specs.Parts.{Seen}
-use Rattle.kb_world.specs.Counts.{END, counted_once}
+use Rattle.kb_world.specs.Counts.{counted_once}
 
 -- It did what is defined, and no refusal was counted.
 pub record IsDone (a b : Scene Seen) (P : Type 0) : Type 0 where

@@ -1,19 +1,18 @@
 -- The world of a tenant: all that its replies depend on. No file, index or cache is in it, and no other tenant.
 use Rattle.std.specs.Prelude.{ℕ, ℤ, pos, negsuc, [], Option, Some, None}
 use Rattle.kb_topics.specs.Known.{Known, empty}
-use Rattle.kb_partitions.specs.Logs.{Logs, LogState, log_at}
+use Rattle.kb_world.specs.Logs.{Logs, LogState, log_at}
 use Rattle.kb_world.specs.declared.topic_partition.TopicPartition.{TopicPartition}
 
 -- its topics with their settings, recorded starts and committed offsets, and how many topics were made and producer ids given out;
--- the logs of each topic, under its instance; and the clock, in milliseconds
+-- and the logs of each topic, under its instance
 pub record World : Type 0 where
   pub known : Known
   pub logs : Logs
-  pub clock : ℕ
 
 -- nothing was made yet
 abbrev pub new_world : World
-new_world = record { known = empty; logs = []; clock = 0 }
+new_world = record { known = empty; logs = [] }
 
 -- where a partition of a topic would be; no topic has a partition of a negative number
 abbrev pub place_in : Option ℕ → ℤ → Option TopicPartition

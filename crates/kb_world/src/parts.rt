@@ -1,25 +1,25 @@
 //! The parts of a tenant.
-ghost use Rattle.std.specs.Prelude.{◌≡◌, ◌⊎◌, ◌≤◌, ◌≤ℤ◌, ℕ, [], pos, negsuc, false, length, string_bytes, IfOk};
+ghost use Rattle.std.specs.Prelude.{◌≡◌, ◌⊎◌, ◌≤◌, ◌≤ℤ◌, ℕ, pos, negsuc, false, length, string_bytes, IfOk};
 ghost use Rattle.std.specs.Option.{option_copied};
 ghost use Rattle.kb_store.specs.Disk.{Table, Files};
 ghost use Rattle.kb_topics.specs.ByName.{by_name};
 ghost use Rattle.kb_topics.specs.Catalog.{known};
 ghost use Rattle.kb_topics.specs.Known.{named, topic_at};
-ghost use Rattle.kb_world.specs.Calls.{start_of, end_of, judged, committed, at_clock, retain_all};
-ghost use Rattle.kb_partitions.specs.Partitions.{AreExact};
+ghost use Rattle.kb_world.specs.Calls.{start_of, end_of, judged, committed, retain_all};
+ghost use Rattle.kb_world.specs.Partitions.{AreExact};
 ghost use Rattle.kb_world.specs.Parts.{Agrees, IsSound, Owns, entries, meta, raised, refused, world_of};
 ghost use Rattle.kb_world.specs.Restored.{AreFitting, DoAgree, IsOfEither, restored_world};
 ghost use Rattle.kb_world.specs.World.{new_world};
 
+use crate::partitions::Partitions;
 use crate::topic_partition::TopicPartition;
 use kb_batch::BatchView;
 use kb_log::PartitionLog;
-use kb_partitions::Partitions;
 use kb_producers::Verdict;
 use kb_topics::{Catalog, Committed, Topic, TopicsByName};
 use std::alloc::{AllocError, Global};
 
-/// A tenant's catalog and its partitions, the clock, a clock up to which no partition has anything to drop, and how many refusals of
+/// A tenant's catalog and its partitions, a clock up to which no partition has anything to drop, and how many refusals of
 /// memory and of the store were counted for it.
 #[derive(Drop)]
 pub struct Parts<L: PartitionLog> {
@@ -28,13 +28,12 @@ pub struct Parts<L: PartitionLog> {
     pub(crate) segment_bytes: u64,
     pub(crate) catalog: Catalog<L>,
     pub(crate) partitions: Partitions<L>,
-    pub(crate) clock: u64,
-    pub(crate) kept_until: i64,
+    pub(crate) next_retention_time: i64,
     pub(crate) refusals: u64,
 }
 
 impl<L: PartitionLog> Parts<L> {
-    /// A tenant of that name without topics, at clock 0. It makes no store call. Files are to hold about `segment_bytes`.
+    /// A tenant of that name without topics. It makes no store call. Files are to hold about `segment_bytes`.
     pub fn new(alloc: Global, tenant: &str, segment_bytes: u64) -> Result<Self, AllocError>
         ensures world { IfOk result (λ parts. (files : Files) → world_of L.log parts files ≡ new_world) }
         ensures sound { IfOk result (λ parts. (table : Table) (next : ℕ) → IsSound L.log parts table next) }
@@ -52,11 +51,11 @@ impl<L: PartitionLog> Parts<L> {
         let partitions = Partitions::new(alloc);
         let mut parts = Parts::restored(alloc, tenant, segment_bytes, catalog, partitions);
         // there is nothing to drop
-        parts.kept_until = i64::MAX;
+        parts.next_retention_time = i64::MAX;
         Ok(parts)
     }
 
-    /// A tenant of a catalog and of partitions that are there, at clock 0, to which nothing was refused. Files are to hold about
+    /// A tenant of a catalog and of partitions that are there, to which nothing was refused. Files are to hold about
     /// `segment_bytes`.
     pub fn restored(
         alloc: Global,
@@ -78,8 +77,7 @@ impl<L: PartitionLog> Parts<L> {
           segment_bytes = segment_bytes;
           catalog = catalog;
           partitions = partitions;
-          clock = 0;
-          kept_until = negsuc 0;
+          next_retention_time = negsuc 0;
           refusals = 0;
         } }
     {
@@ -89,34 +87,18 @@ impl<L: PartitionLog> Parts<L> {
             segment_bytes,
             catalog,
             partitions,
-            clock: 0,
             // when retention is due is not known yet, so it may be at each clock
-            kept_until: -1,
+            next_retention_time: -1,
             refusals: 0,
         }
     }
 
-    /// The clock, in milliseconds.
-    pub fn clock(&self) -> u64
-        ensures { result ≡ self.now.clock }
-    {
-        self.clock
-    }
-
-    /// Sets the clock, in milliseconds.
-    pub fn set_clock(&mut self, now: u64)
-        ensures world { (files : Files) → world_of L.log self.new files ≡ at_clock (world_of L.log self.old files) now }
-        ensures parts { self.new ≡ record self.old { clock = now } }
-    {
-        self.clock = now;
-    }
-
     /// A clock, in milliseconds, up to which no partition has anything to drop.
-    pub fn kept_until(&self) -> i64
+    pub fn next_retention_time(&self) -> i64
         ensures { (files : Files) → Agrees L.log self.now files → (clock : ℕ) → pos clock ≤ℤ result
-            → retain_all (at_clock (world_of L.log self.now files) clock) ≡ (at_clock (world_of L.log self.now files) clock, false) }
+            → retain_all clock (world_of L.log self.now files) ≡ (world_of L.log self.now files, false) }
     {
-        self.kept_until
+        self.next_retention_time
     }
 
     /// How many refusals of memory and of the store were counted. The count stays at its end.

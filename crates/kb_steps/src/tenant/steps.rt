@@ -62,8 +62,7 @@ impl Tenant {
             host: Text::new("localhost"),
             port: 9092,
         };
-        self.parts.set_clock(0);
-        serve(alloc, &mut self.parts, &mut self.shelf, &node, request)
+        serve(alloc, &mut self.parts, &mut self.shelf, &node, 0, request)
     }
 
     /// Serves the request of a text.

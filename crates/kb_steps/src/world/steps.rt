@@ -1,9 +1,8 @@
 //! The steps of an exchange with a tenant, over logs and files in memory.
-ghost use Rattle.std.specs.Prelude.{ℕ, IfOk};
-ghost use Rattle.kb_store.specs.Disk.{Table};
+ghost use Rattle.std.specs.Prelude.{IfOk};
 ghost use Rattle.kb_store.specs.Memory.{memory_disk};
 ghost use Rattle.kb_log.specs.ListLog.{list_log};
-ghost use Rattle.kb_world.specs.Parts.{IsSound, scene};
+ghost use Rattle.kb_world.specs.Parts.{scene};
 
 use crate::words::bytes;
 use kb_batch::BatchView;
@@ -22,19 +21,10 @@ pub(super) enum Step<'a> {
     Create(&'a str, i32, TopicConfig),
     /// The batch is appended to a partition, at that offset.
     Append(TopicPartition, i64),
-    /// Retention of all partitions, and whether it dropped a batch.
-    RetainAll(bool),
+    /// Retention of all partitions at a time of the clock, and whether it dropped a batch.
+    RetainAll(u32, bool),
     /// The clock up to which no partition has anything to drop.
-    KeptUntil(i64),
-}
-
-/// The parts of a tenant without topics.
-fn parts_at(alloc: Global, clock: u64) -> Result<Parts<ListLog>, Fail>
-    ensures { IfOk result (λ parts. (table : Table) (next : ℕ) → IsSound list_log parts table next) }
-{
-    let mut parts = Parts::new(alloc, "a tenant", 1_048_576)?;
-    parts.set_clock(clock);
-    Ok(parts)
+    NextRetentionTime(i64),
 }
 
 /// A tenant and its files.
@@ -46,13 +36,13 @@ struct Tenant {
 
 impl Tenant {
     /// A tenant without topics.
-    fn new(alloc: Global, clock: u64) -> Result<Tenant, Fail>
+    fn new(alloc: Global) -> Result<Tenant, Fail>
         ensures { IfOk result (λ t. (scene list_log (λ s. memory_disk s.files.entries) t.parts t.shelf).sound) }
     {
         let shelf = Shelf::new(alloc, MemoryStore::new(alloc), 0)
             .ok()
             .ok_or("a shelf")?;
-        let parts = parts_at(alloc, clock)?;
+        let parts = Parts::new(alloc, "a tenant", 1_048_576)?;
         Ok(Tenant { parts, shelf })
     }
 
@@ -66,8 +56,8 @@ impl Tenant {
             Step::Create(name, count, config) => parts.create(shelf, name, *count, *config)
                 == Ok(()),
             Step::Append(place, want) => parts.append(shelf, *place, batch) == Ok(*want),
-            Step::RetainAll(want) => parts.clock() < 2000 && parts.retain_all(shelf) == *want,
-            Step::KeptUntil(clock) => parts.kept_until() == *clock,
+            Step::RetainAll(clock, want) => parts.retain_all(shelf, u64::from(*clock)) == *want,
+            Step::NextRetentionTime(clock) => parts.next_retention_time() == *clock,
         }
     }
 
@@ -82,15 +72,10 @@ impl Tenant {
     }
 }
 
-/// Takes some steps from a tenant without topics on, at a clock.
-pub(super) fn plays(
-    rt: &impl Abort,
-    alloc: Global,
-    clock: u64,
-    steps: &[Step<'_>],
-) -> Result<(), Fail> {
+/// Takes some steps from a tenant without topics on.
+pub(super) fn plays(rt: &impl Abort, alloc: Global, steps: &[Step<'_>]) -> Result<(), Fail> {
     let hi = bytes(rt, alloc, "hi")?;
     let batch = BatchView::read(&hi).ok().ok_or("a batch")?;
-    Tenant::new(alloc, clock)?.take_all(rt, &batch, steps);
+    Tenant::new(alloc)?.take_all(rt, &batch, steps);
     Ok(())
 }

@@ -5,7 +5,7 @@ ghost use Rattle.kb_api_data.specs.Layouts.{fetch_request, fetch_topic};
 ghost use Rattle.kb_api_data.specs.declared.fetch_v5.FetchPartitionReplyV5.{FetchPartitionReplyV5};
 ghost use Rattle.kb_api_data.specs.declared.fetch_v5.FetchReplyV5.{FetchReplyV5};
 ghost use Rattle.kb_api_data.specs.declared.fetch_v5.FetchTopicReplyV5.{FetchTopicReplyV5};
-ghost use Rattle.kb_partitions.specs.Scene.{WhereHonest};
+ghost use Rattle.kb_world.specs.Scene.{WhereHonest};
 ghost use Rattle.kb_tenant.specs.Counted.{fetch_answered, answered_topic, fetched, AreFetchesTold, IsFetchTold, IsFetchTopicTold};
 ghost use Rattle.kb_tenant.specs.Fetch.{partition_written, reply_written, topic_written};
 ghost use Rattle.kb_world.specs.Parts.{scene};

@@ -3,7 +3,7 @@ ghost use Rattle.std.specs.Prelude.{◌≡◌, ◌≤◌, ◌++◌, ◌^◌, tru
 ghost use Rattle.kb_store.specs.Disk.{Files};
 ghost use Rattle.kb_api_data.specs.Layouts.{fetch_request};
 ghost use Rattle.kb_api_data.specs.declared.fetch_v5.FetchReplyV5.{FetchReplyV5};
-ghost use Rattle.kb_partitions.specs.Scene.{WhereHonest};
+ghost use Rattle.kb_world.specs.Scene.{WhereHonest};
 ghost use Rattle.kb_tenant.specs.Fetch.{deadline_of, fetch_answer, look_written, places_in, places_of, reply_written, IsServed};
 ghost use Rattle.kb_tenant.specs.Told.{HasFailed, IsFetchMade, IsFetchReady};
 ghost use Rattle.kb_world.specs.Parts.{scene, world_of};
@@ -66,11 +66,11 @@ fn places<L: PartitionLog + Drop>(
 }
 
 /// Until when a fetch of this moment waits at most.
-fn deadline<L: PartitionLog + Drop>(parts: &Parts<L>, request: &FetchRequest<'_>) -> u64
-    requires { parts.now.clock ≤ 2 ^ 62 }
-    ensures { (files : Files) → result ≡ deadline_of (world_of L.log parts.now files) request.now }
+fn deadline(clock: u64, request: &FetchRequest<'_>) -> u64
+    requires { clock ≤ 2 ^ 62 }
+    ensures { result ≡ deadline_of clock request.now }
 {
-    parts.clock() + not_negative(request.max_wait_ms)
+    clock + not_negative(request.max_wait_ms)
 }
 
 /// Looks at a waiting fetch: writes its reply if it waits no longer, and answers whether it did.
@@ -81,6 +81,7 @@ pub(crate) fn look<L: PartitionLog + Drop, S: Store>(
     alloc: Global,
     parts: &mut Parts<L>,
     shelf: &mut Shelf<S>,
+    clock: u64,
     has_starts: bool,
     request: &FetchRequest<'_>,
     deadline: u64,
@@ -93,18 +94,18 @@ pub(crate) fn look<L: PartitionLog + Drop, S: Store>(
         b.disk.honest → a.agrees → b.state.world ≡ a.state.world }
     ensures meets { let a = scene L.log S.disk parts.old shelf.old in
         IfOk result (λ done. Meets a (scene L.log S.disk parts.new shelf.new)
-        ((done, sink.new.bytes) ≡ look_written has_starts sink.old.bytes (fetch_answer a.state.world request.now deadline))) }
+        ((done, sink.new.bytes) ≡ look_written has_starts sink.old.bytes (fetch_answer a.state.world clock request.now deadline))) }
     ensures told { let a = scene L.log S.disk parts.old shelf.old in let b = scene L.log S.disk parts.new shelf.new in
         IfOk result (λ done. WhereHonest a b ((reply : FetchReplyV5)
-        × (IsFetchReady (HasFailed a b) a.state.world deadline request.now done reply
+        × (IsFetchReady (HasFailed a b) a.state.world clock deadline request.now done reply
         × (done ≡ true → sink.new.bytes ≡ sink.old.bytes ++ reply_written has_starts reply)))) }
 {
-    if surely_waits(parts, request, deadline) {
+    if surely_waits(parts, clock, request, deadline) {
         return Ok(false);
     }
     let before = sink.len();
     let given = fetch_now(alloc, parts, shelf, has_starts, request, sink)?;
-    if given.is_ready(parts.clock(), deadline) {
+    if given.is_ready(clock, deadline) {
         return Ok(true);
     }
     sink.truncate(before);
@@ -118,27 +119,30 @@ pub(crate) fn serve_fetch<L: PartitionLog + Drop, S: Store>(
     alloc: Global,
     parts: &mut Parts<L>,
     shelf: &mut Shelf<S>,
+    clock: u64,
     has_starts: bool,
     request: &FetchRequest<'_>,
     sink: &mut Sink,
 ) -> Result<Fetching, AllocError>
     requires sound { (scene L.log S.disk parts.old shelf.old).sound }
-    requires clock { (scene L.log S.disk parts.old shelf.old).state.world.clock ≤ 2 ^ 62 }
+    requires clock { clock ≤ 2 ^ 62 }
     requires fits { fetch_request.Fits request.now }
     ensures step { IsStep (scene L.log S.disk parts.old shelf.old) (scene L.log S.disk parts.new shelf.new) }
     ensures same { let a = scene L.log S.disk parts.old shelf.old in let b = scene L.log S.disk parts.new shelf.new in
         b.disk.honest → a.agrees → b.state.world ≡ a.state.world }
     ensures meets { let a = scene L.log S.disk parts.old shelf.old in
         IfOk result (λ served. Meets a (scene L.log S.disk parts.new shelf.new)
-        (IsServed has_starts a.state.world request.now
-        (fetch_answer a.state.world request.now (deadline_of a.state.world request.now))
+        (IsServed has_starts a.state.world clock request.now
+        (fetch_answer a.state.world clock request.now (deadline_of clock request.now))
         sink.old.bytes served sink.new.bytes)) }
     ensures told { let a = scene L.log S.disk parts.old shelf.old in let b = scene L.log S.disk parts.new shelf.new in
         IfOk result (λ served. WhereHonest a b
-        (IsFetchMade (HasFailed a b) has_starts a.state.world request.now sink.old.bytes served sink.new.bytes)) }
+        (IsFetchMade (HasFailed a b) has_starts a.state.world clock request.now sink.old.bytes served sink.new.bytes)) }
 {
-    let deadline = deadline(parts, request);
-    if look(alloc, parts, shelf, has_starts, request, deadline, sink)? {
+    let deadline = deadline(clock, request);
+    if look(
+        alloc, parts, shelf, clock, has_starts, request, deadline, sink,
+    )? {
         return Ok(Fetching::Reply);
     }
     Ok(Fetching::Wait {

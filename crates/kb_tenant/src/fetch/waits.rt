@@ -55,14 +55,15 @@ fn missing_behind_all<L: PartitionLog + Drop>(
 /// Whether a fetch surely has no answer before its deadline, as its partitions are now. Where that is not sure it may wait, too.
 pub(crate) fn surely_waits<L: PartitionLog + Drop>(
     parts: &Parts<L>,
+    clock: u64,
     request: &FetchRequest<'_>,
     deadline: u64,
 ) -> bool
     ensures { (files : Files) → Agrees L.log parts.now files → result ≡ true
-        → fetch_answer (world_of L.log parts.now files) request.now deadline ≡ None }
+        → fetch_answer (world_of L.log parts.now files) clock request.now deadline ≡ None }
 {
     let mut missing = not_negative(request.min_bytes);
-    if missing == 0 || deadline <= parts.clock() {
+    if missing == 0 || deadline <= clock {
         return false;
     }
     let mut is_asked = false;

@@ -25,8 +25,8 @@ returns-clause-meets g c = λ honest agree calm.
     let body = offset_commit_reply.written (committed_all w refusal asked).1 in
     let met = c.in_ok-offset_commit.ensures.meets honest agree calm in
     let id : to_z w32 (of_z w32 request.correlation_id) ≡ request.correlation_id = search rules in
-    was_read request.correlation_id w after gs c.refusal-refusal.new.groups (whole offset_commit_request request.body.now) asked (of_offset_commit w gs) (answers.Plain c.finish.result) c.in_ok-asked.ensures.exact
-    (commits request.correlation_id w after c.clock.result gs c.silence.new.self c.refusal-refusal.new.groups asked refusal (answers.Plain c.finish.result) (sym c.clock.ensures) c.silence.ensures c.refusal-refusal.ensures.refusal c.refusal-refusal.ensures.after met.0
+    was_read request.correlation_id w after gs c.refusal-refusal.new.groups (whole offset_commit_request request.body.now) asked (of_offset_commit w c.args.clock gs) (answers.Plain c.finish.result) c.in_ok-asked.ensures.exact
+    (commits request.correlation_id w after c.args.clock gs c.silence.new.self c.refusal-refusal.new.groups asked refusal (answers.Plain c.finish.result) c.silence.ensures c.refusal-refusal.ensures.refusal c.refusal-refusal.ensures.after met.0
     (c.finish.ensures request.correlation_id body (met.1 ∙ ap (λ s. s ++ body) (c.in_ok-sink.ensures ∙ ap begun id))))
 
 pub returns-clause-acknowledged : goal.returns-clause-acknowledged

@@ -11,7 +11,7 @@ use Rattle.kb_service.proofs.Joining.{joined, was_read}
 use Rattle.kb_service.proofs.members.join_group.Goals as goal
 
 pub returns-clause-served : goal.returns-clause-served
-returns-clause-served c = λ w at.
+returns-clause-served c = λ w.
     let request = c.args.request.now in
     let asked = c.in_ok-asked.asked in
     let code = c.in_ok-join.field-0 in
@@ -24,15 +24,15 @@ returns-clause-served c = λ w at.
     let member : c.as_bytes.result.now ≡ asked.member_id = search rules in
     let written : c.put_join_refusal.new.sink.bytes ≡ begun request.correlation_id ++ body =
     c.in_ok-put_join_refusal.ensures ∙ (λ k. (c.in_ok-sink.ensures ∙ ap begun id) k ++ join_refusal (number k) (member k)) in
-    was_read request.correlation_id w w gs c.join.new.self (whole join_group_request request.body.now) asked (of_join w n gs) (answers.Plain c.finish.result) c.in_ok-asked.ensures.exact
-    (joined request.correlation_id w n c.args.clock gs c.silence.new.self c.join.new.self asked code false (answers.Plain c.finish.result) at c.silence.ensures c.in_ok-join.ensures.code c.in_ok-join.ensures.after refused
+    was_read request.correlation_id w w gs c.join.new.self (whole join_group_request request.body.now) asked (of_join w c.args.clock n gs) (answers.Plain c.finish.result) c.in_ok-asked.ensures.exact
+    (joined request.correlation_id w c.args.clock n gs c.silence.new.self c.join.new.self asked code false (answers.Plain c.finish.result) c.silence.ensures c.in_ok-join.ensures.code c.in_ok-join.ensures.after refused
     (c.finish.ensures request.correlation_id body written))
 
 pub returns-clause-groups : goal.returns-clause-groups
-returns-clause-groups c = λ w at.
+returns-clause-groups c = λ w.
     let asked = c.in_ok-asked.asked in
     let gs = c.args.groups.now in
     let n = c.args.request.now.connection in
     c.in_ok-join.ensures.after
-    ∙ (λ k. after_join (sym at k) n asked (c.silence.ensures k))
-    ∙ ap (λ r. (if_read w gs r (of_join w n gs)).groups) (sym c.in_ok-asked.ensures.exact)
+    ∙ ap (after_join c.args.clock n asked) c.silence.ensures
+    ∙ ap (λ r. (if_read w gs r (of_join w c.args.clock n gs)).groups) (sym c.in_ok-asked.ensures.exact)

@@ -5,7 +5,7 @@ use Rattle.kb_wire.specs.Codec.{array}
 use Rattle.kb_api_data.specs.Layouts.{create_topic}
 use Rattle.kb_api_data.specs.declared.create_topics.CreateTopic.{CreateTopic}
 use Rattle.kb_api_data.specs.declared.create_topics.CreateTopicReply.{CreateTopicReply}
-use Rattle.kb_partitions.specs.Scene.{Scene}
+use Rattle.kb_world.specs.Scene.{Scene}
 use Rattle.kb_tenant.specs.CreateTopics.{created_topic, creation_in, creations_in, stands_twice}
 use Rattle.kb_world.specs.Parts.{Seen, scene}
 use Rattle.kb_world.specs.Steps.{step_then, meets_then, meets_so}

@@ -1,7 +1,7 @@
 use Rattle.std.proofs.Common.{◌≡◌, ◌++◌, List, drop, take}
 use Rattle.std.specs.List.{flat_map}
 use Rattle.kb_api_data.specs.declared.create_topics.CreateTopicReply.{CreateTopicReply}
-use Rattle.kb_partitions.specs.Scene.{WhereHonest}
+use Rattle.kb_world.specs.Scene.{WhereHonest}
 use Rattle.kb_tenant.specs.CreateTopics.{created_topic, creation_in}
 use Rattle.kb_world.specs.Parts.{scene}
 use Rattle.kb_world.specs.Steps.{IsStep, Meets}

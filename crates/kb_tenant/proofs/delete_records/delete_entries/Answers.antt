@@ -27,13 +27,13 @@ returns-in_err-write-clause-step g c =
     let d = scene log disk c.delete_entry-reply.new.parts c.delete_entry-reply.new.shelf in
     step_then a b d c.loop-entry.invariant.step c.delete_entry-reply.ensures.step
 
-pub returns-in_err-write-clause-kept : goal.returns-in_err-write-clause-kept
-returns-in_err-write-clause-kept g c = kept_then c.args.touched.now.items c.loop-entry.touched.items c.delete_entry-reply.new.touched.items c.loop-entry.invariant.kept c.delete_entry-reply.ensures.kept
+pub returns-in_err-write-clause-unchanged : goal.returns-in_err-write-clause-unchanged
+returns-in_err-write-clause-unchanged g c = kept_then c.args.touched.now.items c.loop-entry.touched.items c.delete_entry-reply.new.touched.items c.loop-entry.invariant.unchanged c.delete_entry-reply.ensures.unchanged
 
 pub loop-entry-init : goal.loop-entry-init
 loop-entry-init g c = record {
   step = step_same (scene g.L.PartitionLog.log g.S.Store.disk c.args.parts.now c.args.shelf.now) c.requires;
-  kept = take-length c.args.touched.now.items;
+  unchanged = take-length c.args.touched.now.items;
   told = λ honest agrees calm. refl;
   answers = λ honest agree. ([], (sym (append-nil c.args.sink.now.bytes), refl));
 }
@@ -51,7 +51,7 @@ loop-entry-preserved g c =
     let q : World × List TopicPartition = (d.state.world, c.delete_entry-reply.new.touched.items) in
     record {
       step = step_then a b d c.loop-entry.invariant.step c.delete_entry-reply.ensures.step;
-      kept = kept_then c.args.touched.now.items c.loop-entry.touched.items c.delete_entry-reply.new.touched.items c.loop-entry.invariant.kept c.delete_entry-reply.ensures.kept;
+      unchanged = kept_then c.args.touched.now.items c.loop-entry.touched.items c.delete_entry-reply.new.touched.items c.loop-entry.invariant.unchanged c.delete_entry-reply.ensures.unchanged;
       told = meets_so a d _ _
           (λ both. told_next write f c.loop-entry.sink.bytes c.write.new.sink.bytes p q c.args.entries.now c.loop-entry.entry-index _ _ c.loop-entry-test.true (get_or_any c.args.entries.now c.loop-entry.entry-index _ _ c.loop-entry-test.true)
           (both.0, written_one write c.loop-entry.sink.bytes c.write.new.sink.bytes q c.delete_entry-reply.result _ c.in_ok-write.ensures.ok both.1))

@@ -2,7 +2,7 @@ use Rattle.std.proofs.Common.{◌≡◌, ◌++◌, List, drop, length, take}
 use Rattle.std.specs.List.{flat_map}
 use Rattle.kb_api_data.specs.Layouts.{delete_records_partition_reply}
 use Rattle.kb_api_data.specs.declared.delete_records.DeleteRecordsPartitionReply.{DeleteRecordsPartitionReply}
-use Rattle.kb_partitions.specs.Scene.{WhereHonest}
+use Rattle.kb_world.specs.Scene.{WhereHonest}
 use Rattle.kb_world.specs.Parts.{scene}
 use Rattle.kb_world.specs.Steps.{IsStep, Meets}
 use Rattle.kb_tenant.specs.DeleteRecords.{deleted}
@@ -19,7 +19,7 @@ invariant-loop-entry g l =
     let b = scene log disk l.parts l.shelf in
     record {
       step : IsStep a b;
-      kept : take (length l.initial.touched.items) l.touched.items ≡ l.initial.touched.items;
+      unchanged : take (length l.initial.touched.items) l.touched.items ≡ l.initial.touched.items;
       told : Meets a b (written_behind delete_records_partition_reply.written l.sink.bytes (in_turn (deleted l.topic) (b.state.world, l.touched.items) (drop l.entry-index l.entries)) ≡ written_behind delete_records_partition_reply.written l.initial.sink.bytes (in_turn (deleted l.topic) (a.state.world, l.initial.touched.items) l.entries));
       answers : WhereHonest a b ((replies : List DeleteRecordsPartitionReply)
           × ((l.sink.bytes ≡ l.initial.sink.bytes ++ flat_map delete_records_partition_reply.written replies)

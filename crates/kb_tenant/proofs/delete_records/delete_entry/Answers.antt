@@ -28,8 +28,8 @@ returns-clause-step g c =
       | in-None w ↦ subst (λ p. IsStep a (scene log disk p c.match-new.shelf)) (sym w.parts-is) (subst (λ s. IsStep a (scene log disk c.args.parts.now s)) (sym w.shelf-is) (step_same a c.requires))
     ]
 
-pub returns-clause-kept : goal.returns-clause-kept
-returns-clause-kept g c =
+pub returns-clause-unchanged : goal.returns-clause-unchanged
+returns-clause-unchanged g c =
     let old = c.args.touched.now.items in
     elim c.match-new.branch [
       | in-Some w ↦ ap (take (length old)) (ap (λ (v : Vec TopicPartition Global). v.items) w.touched-is) ∙ told_more old old w.delete_at-deleted.new.touched.items w.in-Some.place w.delete_at-deleted.result w.delete_at-deleted.ensures.touched (take_all (length old) old (omega arith))

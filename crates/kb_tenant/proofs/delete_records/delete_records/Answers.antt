@@ -34,13 +34,13 @@ returns-in_err-delete_in_topic-clause-step g c =
     let d = scene log disk c.delete_in_topic.new.parts c.delete_in_topic.new.shelf in
     step_then a b d c.loop-topic.invariant.step c.delete_in_topic.ensures.step
 
-pub returns-in_err-delete_in_topic-clause-kept : goal.returns-in_err-delete_in_topic-clause-kept
-returns-in_err-delete_in_topic-clause-kept g c = kept_then c.args.touched.now.items c.loop-topic.touched.items c.delete_in_topic.new.touched.items c.loop-topic.invariant.kept c.delete_in_topic.ensures.kept
+pub returns-in_err-delete_in_topic-clause-unchanged : goal.returns-in_err-delete_in_topic-clause-unchanged
+returns-in_err-delete_in_topic-clause-unchanged g c = kept_then c.args.touched.now.items c.loop-topic.touched.items c.delete_in_topic.new.touched.items c.loop-topic.invariant.unchanged c.delete_in_topic.ensures.unchanged
 
 pub loop-topic-init : goal.loop-topic-init
 loop-topic-init g c = record {
   step = step_same (scene g.L.PartitionLog.log g.S.Store.disk c.args.parts.now c.args.shelf.now) c.requires.sound;
-  kept = take-length c.args.touched.now.items;
+  unchanged = take-length c.args.touched.now.items;
   told = λ honest agrees calm. refl;
   answers = λ honest agree. ([], (sym (append-nil c.put_count.new.self.bytes), refl));
 }
@@ -58,7 +58,7 @@ loop-topic-preserved g c =
     let i = c.loop-topic.topic-index in
     record {
       step = step_then a b d c.loop-topic.invariant.step c.delete_in_topic.ensures.step;
-      kept = kept_then c.args.touched.now.items c.loop-topic.touched.items c.delete_in_topic.new.touched.items c.loop-topic.invariant.kept c.delete_in_topic.ensures.kept;
+      unchanged = kept_then c.args.touched.now.items c.loop-topic.touched.items c.delete_in_topic.new.touched.items c.loop-topic.invariant.unchanged c.delete_in_topic.ensures.unchanged;
       told = meets_so a d _ _
           (told_next write deleted_topic c.loop-topic.sink.bytes c.delete_in_topic.new.sink.bytes p q c.args.request.now.topics i c.topic-item.result _
           (subst (λ ts. i < length ts) c.as_slice-topic-items.ensures c.loop-topic-test.true)

@@ -5,7 +5,7 @@ use Rattle.std.proofs.Math.Seq.{take-length}
 use Rattle.kb_wire.specs.Codec.{count, string, array}
 use Rattle.kb_api_data.specs.Layouts.{delete_topic_reply}
 use Rattle.kb_api_data.specs.declared.delete_topics.DeleteTopicReply.{DeleteTopicReply}
-use Rattle.kb_partitions.specs.Scene.{Scene}
+use Rattle.kb_world.specs.Scene.{Scene}
 use Rattle.kb_tenant.specs.DeleteTopics.{deleted_topic, deletions_in, throttle_in}
 use Rattle.kb_world.specs.Parts.{Seen, scene}
 use Rattle.kb_world.specs.Steps.{step_same, step_then, meets_then, meets_so}
@@ -46,14 +46,14 @@ returns-in_err-write-clause-step g c =
     let d : Scene Seen = scene log disk c.delete_topic.new.parts c.delete_topic.new.shelf in
     step_then a b d c.loop-name.invariant.step c.delete_topic.ensures.step
 
-pub returns-in_err-write-clause-kept : goal.returns-in_err-write-clause-kept
-returns-in_err-write-clause-kept g c =
-    kept_more c.args.touched.now.items c.loop-name.touched.items c.delete_topic.new.touched.items _ (c.delete_topic.ensures.told (g.S.Store.disk c.loop-name.shelf.store).files) c.loop-name.invariant.kept
+pub returns-in_err-write-clause-unchanged : goal.returns-in_err-write-clause-unchanged
+returns-in_err-write-clause-unchanged g c =
+    kept_more c.args.touched.now.items c.loop-name.touched.items c.delete_topic.new.touched.items _ (c.delete_topic.ensures.told (g.S.Store.disk c.loop-name.shelf.store).files) c.loop-name.invariant.unchanged
 
 pub loop-name-init : goal.loop-name-init
 loop-name-init g c = record {
   step = step_same (scene g.L.PartitionLog.log g.S.Store.disk c.args.parts.now c.args.shelf.now) c.requires.sound;
-  kept = take-length c.args.touched.now.items;
+  unchanged = take-length c.args.touched.now.items;
   told = λ honest agrees calm. refl;
   answers = λ honest agree. ([], (sym (append-nil c.put_count.new.self.bytes), refl));
 }
@@ -73,7 +73,7 @@ loop-name-preserved g c =
     let sent = to_z-of_z w16 c.delete_topic.result (record { sfits = c.delete_topic.type_inv }) in
     record {
       step = step_then a b d c.loop-name.invariant.step c.delete_topic.ensures.step;
-      kept = kept_more c.args.touched.now.items old now _ (c.delete_topic.ensures.told (disk c.loop-name.shelf.store).files) c.loop-name.invariant.kept;
+      unchanged = kept_more c.args.touched.now.items old now _ (c.delete_topic.ensures.told (disk c.loop-name.shelf.store).files) c.loop-name.invariant.unchanged;
       told = meets_so a d _ _ (λ both. entry_next delete_topic_reply deleted_topic c.loop-name.sink.bytes c.write.new.sink.bytes (b.state.world, old) (d.state.world, now) _ names i t _ c.loop-name-test.true c.name-item.is c.in_ok-write.ensures.ok
           (answered_is b.state.world d.state.world old now t c.as_str-name.result.now c.new.result c.delete_topic.result _ c.as_str-name.ensures c.new.ensures both.1 sent) both.0)
           (meets_then a b d _ _ c.loop-name.invariant.step c.delete_topic.ensures.step c.loop-name.invariant.told c.delete_topic.ensures.meets);

@@ -2,7 +2,7 @@ use Rattle.std.proofs.Common.{◌≡◌, ◌++◌, List, drop, take, length}
 use Rattle.std.specs.List.{flat_map}
 use Rattle.kb_api_data.specs.Layouts.{delete_topic_reply}
 use Rattle.kb_api_data.specs.declared.delete_topics.DeleteTopicReply.{DeleteTopicReply}
-use Rattle.kb_partitions.specs.Scene.{WhereHonest}
+use Rattle.kb_world.specs.Scene.{WhereHonest}
 use Rattle.kb_tenant.specs.DeleteTopics.{deleted_topic}
 use Rattle.kb_world.specs.Parts.{scene}
 use Rattle.kb_world.specs.Steps.{IsStep, Meets}
@@ -17,7 +17,7 @@ invariant-loop-name g l =
     let b = scene g.L.PartitionLog.log g.S.Store.disk l.parts l.shelf in
     record {
       step : IsStep a b;
-      kept : take (length l.initial.touched.items) l.touched.items ≡ l.initial.touched.items;
+      unchanged : take (length l.initial.touched.items) l.touched.items ≡ l.initial.touched.items;
       told : Meets a b (written_behind delete_topic_reply.written l.sink.bytes (in_turn deleted_topic (b.state.world, l.touched.items) (drop l.name-index l.names))
           ≡ written_behind delete_topic_reply.written l.initial.sink.bytes (in_turn deleted_topic (a.state.world, l.initial.touched.items) l.names));
       answers : WhereHonest a b ((replies : List DeleteTopicReply) × ((l.sink.bytes ≡ l.initial.sink.bytes ++ flat_map delete_topic_reply.written replies)

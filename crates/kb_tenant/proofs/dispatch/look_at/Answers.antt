@@ -23,8 +23,8 @@ returns-then-branch-clause-meets g c = λ honest agree calm.
     let read : asked_fetch version c.args.wait.now.body.now ≡ Ok asked = ap (λ b. read_as b c.args.wait.now.body.now) (sym same) ∙ c.in_ok-asked.ensures.exact in (
       c.look.ensures.same honest agree,
       refl,
-      subst (λ r. IsAnswer id (looked_at w deadline version r) c.finish.result) (sym read)
-          (woken id version starts (fetch_answer w asked deadline) c.in_ok-sink.sink.bytes c.look.new.sink.bytes c.in_ok-look.field-0 c.finish.result same from c.if-branch.true (c.in_ok-look.ensures.meets honest agree calm) c.finish.ensures),
+      subst (λ r. IsAnswer id (looked_at w c.args.clock deadline version r) c.finish.result) (sym read)
+          (woken id version starts (fetch_answer w c.args.clock asked deadline) c.in_ok-sink.sink.bytes c.look.new.sink.bytes c.in_ok-look.field-0 c.finish.result same from c.if-branch.true (c.in_ok-look.ensures.meets honest agree calm) c.finish.ensures),
     )
 
 pub returns-clause-meets : goal.returns-clause-meets
@@ -40,8 +40,8 @@ returns-clause-meets g c = λ honest agree calm.
     let read : asked_fetch version c.args.wait.now.body.now ≡ Ok asked = ap (λ b. read_as b c.args.wait.now.body.now) (sym same) ∙ c.in_ok-asked.ensures.exact in (
       c.look.ensures.same honest agree,
       refl,
-      subst (λ r. IsAnswer id (looked_at w deadline version r) answers.NoReply) (sym read)
-          (waiting id version starts (fetch_answer w asked deadline) c.in_ok-sink.sink.bytes c.look.new.sink.bytes c.in_ok-look.field-0 c.if-branch.false (c.in_ok-look.ensures.meets honest agree calm)),
+      subst (λ r. IsAnswer id (looked_at w c.args.clock deadline version r) answers.NoReply) (sym read)
+          (waiting id version starts (fetch_answer w c.args.clock asked deadline) c.in_ok-sink.sink.bytes c.look.new.sink.bytes c.in_ok-look.field-0 c.if-branch.false (c.in_ok-look.ensures.meets honest agree calm)),
     )
 
 pub returns-then-branch-clause-told : goal.returns-then-branch-clause-told
@@ -57,8 +57,8 @@ returns-then-branch-clause-told g c = λ honest agree q is.
     let from : c.in_ok-sink.sink.bytes ≡ begun wait.correlation_id = search rules in
     let both : Ok asked ≡ Ok q = sym (ap (λ b. read_as b wait.body.now) (sym same) ∙ c.in_ok-asked.ensures.exact) ∙ is in
     let one : asked ≡ q = cc in
-    look_replied (HasFailed a b) (IsUnready (HasFailed a b) a.state.world wait.deadline q) wait.correlation_id wait.api_version
-    starts a.state.world wait.deadline asked q c.in_ok-sink.sink.bytes c.look.new.sink.bytes c.in_ok-look.field-0 c.finish.result same from c.if-branch.true one (c.in_ok-look.ensures.told honest agree)
+    look_replied (HasFailed a b) (IsUnready (HasFailed a b) a.state.world c.args.clock wait.deadline q) wait.correlation_id wait.api_version
+    starts a.state.world c.args.clock wait.deadline asked q c.in_ok-sink.sink.bytes c.look.new.sink.bytes c.in_ok-look.field-0 c.finish.result same from c.if-branch.true one (c.in_ok-look.ensures.told honest agree)
     c.finish.ensures
 
 pub returns-clause-told : goal.returns-clause-told
@@ -73,5 +73,5 @@ returns-clause-told g c = λ honest agree q is.
     let same : starts ≡ has_starts wait.api_version = search rules in
     let both : Ok asked ≡ Ok q = sym (ap (λ b. read_as b wait.body.now) (sym same) ∙ c.in_ok-asked.ensures.exact) ∙ is in
     let one : asked ≡ q = cc in
-    look_unready (HasFailed a b) a.state.world wait.deadline asked q c.in_ok-look.field-0 _ c.if-branch.false one
+    look_unready (HasFailed a b) a.state.world c.args.clock wait.deadline asked q c.in_ok-look.field-0 _ c.if-branch.false one
     (c.in_ok-look.ensures.told honest agree)

@@ -15,6 +15,7 @@ pub returns-in-Reply-clause-meets : goal.returns-in-Reply-clause-meets
 returns-in-Reply-clause-meets g c = λ honest agree calm.
     let w = world_of g.L.PartitionLog.log c.args.parts.now (g.S.Store.disk c.args.shelf.now.store).files in
     let after = world_of g.L.PartitionLog.log c.serve_fetch.new.parts (g.S.Store.disk c.serve_fetch.new.shelf.store).files in
+    let clock = c.args.clock in
     let asked = c.in_ok-asked.asked in
     let id = c.args.request.now.correlation_id in
     let version = c.args.request.now.api_version in
@@ -22,11 +23,11 @@ returns-in-Reply-clause-meets g c = λ honest agree calm.
     let same : starts ≡ has_starts version = search rules in
     let from : c.in_ok-sink.sink.bytes ≡ begun id = search rules in
     let read : asked_fetch version c.args.request.now.body.now ≡ Ok asked = ap (λ b. read_as b c.args.request.now.body.now) (sym same) ∙ c.in_ok-asked.ensures.exact in
-    subst (λ r. IsServed id (if_read w r (of_fetch version w)) after [] (Ok c.finish.result)) (sym read) (
+    subst (λ r. IsServed id (if_read w r (of_fetch version w clock)) after [] (Ok c.finish.result)) (sym read) (
       c.serve_fetch.ensures.same honest agree,
       refl,
-      replied id version starts w asked (fetch_answer w asked (deadline_of w asked)) c.in_ok-sink.sink.bytes c.serve_fetch.new.sink.bytes c.finish.result same from
-          (subst (λ f. fetch.IsServed starts w asked (fetch_answer w asked (deadline_of w asked)) c.in_ok-sink.sink.bytes f c.serve_fetch.new.sink.bytes) c.in-Reply.is (c.in_ok-serve_fetch.ensures.meets honest agree calm))
+      replied id version starts w clock asked (fetch_answer w clock asked (deadline_of clock asked)) c.in_ok-sink.sink.bytes c.serve_fetch.new.sink.bytes c.finish.result same from
+          (subst (λ f. fetch.IsServed starts w clock asked (fetch_answer w clock asked (deadline_of clock asked)) c.in_ok-sink.sink.bytes f c.serve_fetch.new.sink.bytes) c.in-Reply.is (c.in_ok-serve_fetch.ensures.meets honest agree calm))
           c.finish.ensures,
     )
 
@@ -34,17 +35,18 @@ pub returns-clause-meets : goal.returns-clause-meets
 returns-clause-meets g c = λ honest agree calm.
     let w = world_of g.L.PartitionLog.log c.args.parts.now (g.S.Store.disk c.args.shelf.now.store).files in
     let after = world_of g.L.PartitionLog.log c.serve_fetch.new.parts (g.S.Store.disk c.serve_fetch.new.shelf.store).files in
+    let clock = c.args.clock in
     let asked = c.in_ok-asked.asked in
     let id = c.args.request.now.correlation_id in
     let version = c.args.request.now.api_version in
     let starts : Bool = c.has_starts-has_starts.result in
     let same : starts ≡ has_starts version = search rules in
     let read : asked_fetch version c.args.request.now.body.now ≡ Ok asked = ap (λ b. read_as b c.args.request.now.body.now) (sym same) ∙ c.in_ok-asked.ensures.exact in
-    subst (λ r. IsServed id (if_read w r (of_fetch version w)) after [] (Ok (answers.Wait c.in-Wait.deadline c.in-Wait.keys))) (sym read) (
+    subst (λ r. IsServed id (if_read w r (of_fetch version w clock)) after [] (Ok (answers.Wait c.in-Wait.deadline c.in-Wait.keys))) (sym read) (
       c.serve_fetch.ensures.same honest agree,
       refl,
-      waits id version starts w asked (fetch_answer w asked (deadline_of w asked)) c.in_ok-sink.sink.bytes c.serve_fetch.new.sink.bytes c.in-Wait.deadline c.in-Wait.keys
-          (subst (λ f. fetch.IsServed starts w asked (fetch_answer w asked (deadline_of w asked)) c.in_ok-sink.sink.bytes f c.serve_fetch.new.sink.bytes) c.in-Wait.is (c.in_ok-serve_fetch.ensures.meets honest agree calm)),
+      waits id version starts w clock asked (fetch_answer w clock asked (deadline_of clock asked)) c.in_ok-sink.sink.bytes c.serve_fetch.new.sink.bytes c.in-Wait.deadline c.in-Wait.keys
+          (subst (λ f. fetch.IsServed starts w clock asked (fetch_answer w clock asked (deadline_of clock asked)) c.in_ok-sink.sink.bytes f c.serve_fetch.new.sink.bytes) c.in-Wait.is (c.in_ok-serve_fetch.ensures.meets honest agree calm)),
     )
 
 pub returns-in-Reply-clause-fetched : goal.returns-in-Reply-clause-fetched
@@ -60,10 +62,10 @@ returns-in-Reply-clause-fetched g c = λ honest agree q is.
     let from : c.in_ok-sink.sink.bytes ≡ begun request.correlation_id = search rules in
     let both : Ok asked ≡ Ok q = sym (ap (λ b. read_as b request.body.now) (sym same) ∙ c.in_ok-asked.ensures.exact) ∙ is in
     let one : asked ≡ q = cc in
-    let made : IsFetchMade (HasFailed a b) starts a.state.world asked c.in_ok-sink.sink.bytes fetching.Reply c.serve_fetch.new.sink.bytes =
-    subst (λ f. IsFetchMade (HasFailed a b) starts a.state.world asked c.in_ok-sink.sink.bytes f c.serve_fetch.new.sink.bytes) c.in-Reply.is
+    let made : IsFetchMade (HasFailed a b) starts a.state.world c.args.clock asked c.in_ok-sink.sink.bytes fetching.Reply c.serve_fetch.new.sink.bytes =
+    subst (λ f. IsFetchMade (HasFailed a b) starts a.state.world c.args.clock asked c.in_ok-sink.sink.bytes f c.serve_fetch.new.sink.bytes) c.in-Reply.is
     (c.in_ok-serve_fetch.ensures.told honest agree) in
-    fetch_replied (HasFailed a b) request.correlation_id request.api_version starts a.state.world asked q c.in_ok-sink.sink.bytes
+    fetch_replied (HasFailed a b) request.correlation_id request.api_version starts a.state.world c.args.clock asked q c.in_ok-sink.sink.bytes
     c.serve_fetch.new.sink.bytes c.finish.result same from one made c.finish.ensures
 
 pub returns-clause-fetched : goal.returns-clause-fetched
@@ -79,6 +81,6 @@ returns-clause-fetched g c = λ honest agree q is.
     let both : Ok asked ≡ Ok q = sym (ap (λ b. read_as b request.body.now) (sym same) ∙ c.in_ok-asked.ensures.exact) ∙ is in
     let one : asked ≡ q = cc in
     let wait = c.in-Wait in
-    subst (λ r. IsLeftWaiting (HasFailed a b) a.state.world r wait.deadline wait.keys.items) one
-    (subst (λ f. IsFetchMade (HasFailed a b) starts a.state.world asked c.in_ok-sink.sink.bytes f c.serve_fetch.new.sink.bytes) wait.is
+    subst (λ r. IsLeftWaiting (HasFailed a b) a.state.world c.args.clock r wait.deadline wait.keys.items) one
+    (subst (λ f. IsFetchMade (HasFailed a b) starts a.state.world c.args.clock asked c.in_ok-sink.sink.bytes f c.serve_fetch.new.sink.bytes) wait.is
     (c.in_ok-serve_fetch.ensures.told honest agree))

@@ -11,8 +11,8 @@ returns-in-3-clause-meets g c = λ honest agree calm.
     let w = world_of g.L.PartitionLog.log c.args.parts.now files in
     let request = c.args.request.now in
     let key : request.api_key ≡ METADATA = search rules in
-    subst (λ ts. IsServed request.correlation_id (plainly_served c.args.node.now w request.connection request.api_key request.api_version request.body.now) w ts c.serve_metadata.result) (sym c.requires.untouched)
-    (subst (λ o. IsServed request.correlation_id o w [] c.serve_metadata.result) (sym (served_metadata c.args.node.now w request.connection request.api_key request.api_version request.body.now key))
+    subst (λ ts. IsServed request.correlation_id (plainly_served c.args.node.now w c.args.clock request.connection request.api_key request.api_version request.body.now) w ts c.serve_metadata.result) (sym c.requires.untouched)
+    (subst (λ o. IsServed request.correlation_id o w [] c.serve_metadata.result) (sym (served_metadata c.args.node.now w c.args.clock request.connection request.api_key request.api_version request.body.now key))
     (c.serve_metadata.ensures files))
 
 pub returns-in-9-clause-meets : goal.returns-in-9-clause-meets
@@ -21,8 +21,8 @@ returns-in-9-clause-meets g c = λ honest agree calm.
     let w = world_of g.L.PartitionLog.log c.args.parts.now files in
     let request = c.args.request.now in
     let key : request.api_key ≡ OFFSET_FETCH = search rules in
-    subst (λ ts. IsServed request.correlation_id (plainly_served c.args.node.now w request.connection request.api_key request.api_version request.body.now) w ts c.serve_offset_fetch.result) (sym c.requires.untouched)
-    (subst (λ o. IsServed request.correlation_id o w [] c.serve_offset_fetch.result) (sym (served_offset_fetch c.args.node.now w request.connection request.api_key request.api_version request.body.now key))
+    subst (λ ts. IsServed request.correlation_id (plainly_served c.args.node.now w c.args.clock request.connection request.api_key request.api_version request.body.now) w ts c.serve_offset_fetch.result) (sym c.requires.untouched)
+    (subst (λ o. IsServed request.correlation_id o w [] c.serve_offset_fetch.result) (sym (served_offset_fetch c.args.node.now w c.args.clock request.connection request.api_key request.api_version request.body.now key))
     (c.serve_offset_fetch.ensures files))
 
 pub returns-in-10-clause-meets : goal.returns-in-10-clause-meets
@@ -31,6 +31,6 @@ returns-in-10-clause-meets g c = λ honest agree calm.
     let w = world_of g.L.PartitionLog.log c.args.parts.now files in
     let request = c.args.request.now in
     let key : request.api_key ≡ FIND_COORDINATOR = search rules in
-    subst (λ ts. IsServed request.correlation_id (plainly_served c.args.node.now w request.connection request.api_key request.api_version request.body.now) w ts c.serve_find_coordinator.result) (sym c.requires.untouched)
-    (subst (λ o. IsServed request.correlation_id o w [] c.serve_find_coordinator.result) (sym (served_find_coordinator c.args.node.now w request.connection request.api_key request.api_version request.body.now key))
+    subst (λ ts. IsServed request.correlation_id (plainly_served c.args.node.now w c.args.clock request.connection request.api_key request.api_version request.body.now) w ts c.serve_find_coordinator.result) (sym c.requires.untouched)
+    (subst (λ o. IsServed request.correlation_id o w [] c.serve_find_coordinator.result) (sym (served_find_coordinator c.args.node.now w c.args.clock request.connection request.api_key request.api_version request.body.now key))
     (c.serve_find_coordinator.ensures w))

@@ -2,7 +2,7 @@ use Rattle.std.proofs.Common.{[], ◌∷◌, ◌++◌, append-nil, of_z, refl, r
 use Rattle.std.proofs.lemmas.Int.{to_z-of_z}
 use Rattle.kb_api_group.specs.Layouts.{commit_partition_reply}
 use Rattle.kb_api_group.specs.declared.offset_commit.CommitPartitionReply.{CommitPartitionReply}
-use Rattle.kb_partitions.specs.Scene.{Scene}
+use Rattle.kb_world.specs.Scene.{Scene}
 use Rattle.kb_world.specs.Parts.{Seen, scene}
 use Rattle.kb_world.specs.Steps.{step_same, step_then, meets_then, meets_so}
 use Rattle.kb_tenant.specs.OffsetCommit.{committed_entry}

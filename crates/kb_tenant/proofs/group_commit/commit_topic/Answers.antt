@@ -3,7 +3,7 @@ use Rattle.std.proofs.lemmas.Result.{on_ok_weaker}
 use Rattle.kb_wire.specs.Codec.{string}
 use Rattle.kb_api_group.specs.Layouts.{commit_partition}
 use Rattle.kb_topics.specs.Known.{named}
-use Rattle.kb_partitions.specs.Scene.{Scene}
+use Rattle.kb_world.specs.Scene.{Scene}
 use Rattle.kb_world.specs.Parts.{Seen, scene}
 use Rattle.kb_world.specs.Steps.{meets_so}
 use Rattle.kb_world.specs.World.{World}

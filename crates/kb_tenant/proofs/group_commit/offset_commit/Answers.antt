@@ -1,6 +1,6 @@
 use Rattle.std.proofs.Common.{[], ◌∷◌, ◌++◌, ◌∙◌, ◌<◌, ◌≤◌, ap, append-nil, sym, refl, subst, take, length, get_or}
 use Rattle.kb_api_group.specs.Layouts.{commit_topic, commit_topic_reply}
-use Rattle.kb_partitions.specs.Scene.{Scene}
+use Rattle.kb_world.specs.Scene.{Scene}
 use Rattle.kb_world.specs.Parts.{Seen, scene}
 use Rattle.kb_world.specs.Steps.{step_same, step_then, meets_then, meets_so}
 use Rattle.kb_tenant.specs.OffsetCommit.{committed_topic}

@@ -2,7 +2,7 @@ use mir.Val.{to_z, of_z}
 use Rattle.std.proofs.Common.{◌∙◌, ap, inl, sym, pos, w16, w32, w64}
 use Rattle.std.specs.Prelude.{is_some}
 use Rattle.std.proofs.lemmas.Int.{to_z-of_z}
-use Rattle.kb_partitions.specs.Logs.{LogState}
+use Rattle.kb_world.specs.Logs.{LogState}
 use Rattle.kb_tenant.specs.ListOffsets.{offset_refused, edge_answered}
 use Rattle.kb_world.specs.Parts.{scene, world_of}
 use Rattle.kb_world.specs.Steps.{step_same}

@@ -2,7 +2,7 @@ use Rattle.std.proofs.Common.{◌≡◌, ◌≤◌, ◌++◌, ℕ, List, Ok, dro
 use Rattle.std.specs.List.{flat_map, sum_by}
 use Rattle.kb_api_data.specs.Layouts.{produce_topic_reply}
 use Rattle.kb_api_data.specs.declared.produce.ProduceTopicReply.{ProduceTopicReply}
-use Rattle.kb_partitions.specs.Scene.{WhereHonest}
+use Rattle.kb_world.specs.Scene.{WhereHonest}
 use Rattle.kb_world.specs.Parts.{scene}
 use Rattle.kb_tenant.specs.Produce.{progress, served_topic, where_due}
 use Rattle.kb_tenant.specs.Room.{length_due, topic_length, IsPut}

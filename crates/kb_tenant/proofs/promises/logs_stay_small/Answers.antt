@@ -1,4 +1,4 @@
-use Rattle.kb_tenant.proofs.Small.{clock_small, committed_small, new_small, retained_small, served_small}
+use Rattle.kb_tenant.proofs.Small.{committed_small, new_small, retained_small, served_small}
 use Rattle.kb_tenant.proofs.promises.logs_stay_small.Goals as goal
 
 pub returns-clause-begun : goal.returns-clause-begun
@@ -12,6 +12,3 @@ returns-clause-committed c = committed_small
 
 pub returns-clause-retained : goal.returns-clause-retained
 returns-clause-retained c = retained_small
-
-pub returns-clause-clocked : goal.returns-clause-clocked
-returns-clause-clocked c = clock_small

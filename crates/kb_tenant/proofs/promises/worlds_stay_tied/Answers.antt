@@ -1,6 +1,6 @@
 use Rattle.kb_tenant.proofs.CommitMoves.{commit_tied}
 use Rattle.kb_tenant.proofs.ServeMoves.{retained_tied, served_tied}
-use Rattle.kb_tenant.proofs.Tied.{clock_tied, new_tied}
+use Rattle.kb_tenant.proofs.Tied.{new_tied}
 use Rattle.kb_tenant.proofs.promises.worlds_stay_tied.Goals as goal
 
 pub returns-clause-begun : goal.returns-clause-begun
@@ -14,6 +14,3 @@ returns-clause-committed c = commit_tied
 
 pub returns-clause-retained : goal.returns-clause-retained
 returns-clause-retained c = retained_tied
-
-pub returns-clause-clocked : goal.returns-clause-clocked
-returns-clause-clocked c = clock_tied

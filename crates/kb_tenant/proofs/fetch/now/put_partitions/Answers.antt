@@ -1,5 +1,5 @@
 use Rattle.std.proofs.Common.{[], append-nil, refl, sym}
-use Rattle.kb_partitions.specs.Scene.{Scene}
+use Rattle.kb_world.specs.Scene.{Scene}
 use Rattle.kb_tenant.specs.Counted.{fetch_answered, IsFetchTold}
 use Rattle.kb_tenant.specs.Fetch.{partition_written}
 use Rattle.kb_world.specs.Parts.{Seen, scene}

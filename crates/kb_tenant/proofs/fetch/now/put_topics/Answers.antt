@@ -1,5 +1,5 @@
 use Rattle.std.proofs.Common.{[], append-nil, refl, sym}
-use Rattle.kb_partitions.specs.Scene.{Scene}
+use Rattle.kb_world.specs.Scene.{Scene}
 use Rattle.kb_tenant.specs.Counted.{answered_topic, IsFetchTopicTold}
 use Rattle.kb_tenant.specs.Fetch.{topic_written}
 use Rattle.kb_world.specs.Parts.{Seen, scene}

@@ -1,7 +1,7 @@
 use Rattle.std.proofs.Common.{◌≡◌, ◌++◌, List, drop, take}
 use Rattle.std.specs.List.{flat_map}
 use Rattle.kb_api_data.specs.declared.fetch_v5.FetchTopicReplyV5.{FetchTopicReplyV5}
-use Rattle.kb_partitions.specs.Scene.{WhereHonest}
+use Rattle.kb_world.specs.Scene.{WhereHonest}
 use Rattle.kb_tenant.specs.Counted.{answered_topic, IsFetchTopicTold}
 use Rattle.kb_tenant.specs.Fetch.{topic_written}
 use Rattle.kb_world.specs.Parts.{scene}

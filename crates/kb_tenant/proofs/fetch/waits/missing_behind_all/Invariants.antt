@@ -1,4 +1,4 @@
-use Rattle.std.proofs.Common.{◌≡◌, take}
+use Rattle.std.proofs.Common.{take}
 use Rattle.kb_store.specs.Disk.{Files}
 use Rattle.kb_tenant.specs.Counted.{fetch_answered, Misses}
 use Rattle.kb_tenant.specs.Turns.{in_turn}

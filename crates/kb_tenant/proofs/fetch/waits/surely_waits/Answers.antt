@@ -13,7 +13,7 @@ loop-topic-preserved g c = λ files agree.
 pub returns : goal.returns
 returns g c = λ files agree asked.
     let w = world_of g.L.PartitionLog.log c.args.parts.now files in
-    unanswered_if w c.args.request.now c.args.deadline c.clock.result c.loop-topic.missing c.loop-topic.is_asked asked c.clock.ensures
+    unanswered_if w c.args.clock c.args.request.now c.args.deadline c.loop-topic.missing c.loop-topic.is_asked asked
     c.if-deadline-clock.false
     (topics_over w c.args.request.now c.as_slice-topic-items.result.now c.loop-topic.topic-index c.loop-topic.missing c.loop-topic.is_asked
     c.as_slice-topic-items.ensures c.loop-topic-test.false (c.loop-topic.invariant files agree))

@@ -1,6 +1,6 @@
 use Rattle.std.proofs.Common.{◌≡◌, ◌∙◌, sym, ap, subst}
 use Rattle.std.proofs.lemmas.Option.{none-some}
-use Rattle.kb_partitions.specs.Partitions.{AreExact}
+use Rattle.kb_world.specs.Partitions.{AreExact}
 use Rattle.kb_log.specs.OnShelf.{IsNew}
 use Rattle.kb_topics.specs.Catalog.{known, meta_log}
 use Rattle.kb_topics.specs.Known.{empty}

@@ -85,7 +85,7 @@ impl Session {
     /// An `Err` ends it: from then on each call is `Protocol`.
     pub fn input(&mut self, piece: &[u8]) -> Result<Heard, AdminFault>
         ensures answer { Comes (heard (self.old.unread ++ piece.now) self.old) result }
-        ensures left { self.new ≡ moved result (self.old.unread ++ piece.now) self.old }
+        ensures moved { self.new ≡ moved result (self.old.unread ++ piece.now) self.old }
     {
         let heard = self.read(piece);
         self.settle(&heard);
@@ -95,7 +95,7 @@ impl Session {
     /// What the unread bytes come to with a piece more, which stays where it is less than the reply.
     fn read(&mut self, piece: &[u8]) -> Result<Heard, AdminFault>
         ensures answer { Comes (heard (self.old.unread ++ piece.now) self.old) result }
-        ensures left { self.new ≡ record self.old { unread = self.new.unread } }
+        ensures rest { self.new ≡ record self.old { unread = self.new.unread } }
         ensures unread { Stays result (self.old.unread ++ piece.now) self.new.unread }
     {
         if self.stage == Stage::Ended {

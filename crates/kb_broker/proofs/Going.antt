@@ -1,12 +1,11 @@
 -- Turns that go on: among which connections, and what they leave of the broker on its store.
-use Rattle.std.proofs.Common.{◌≡◌, ◌≢◌, ◌<◌, ◌≤◌, ◌+◌, ℕ, zero, suc, List, [], ◌∷◌, length, get_or, set, take, eqb, nat_cmp, Option, Some, None, Bool, true, false, inl, inr, IfSome, refl, sym, ◌∙◌, ap, subst, arith}
-use Rattle.std.specs.Prelude.{Contains, ◌⊎◌, ◌↔◌, IsSome, cond, max}
+use Rattle.std.proofs.Common.{◌≡◌, ◌≢◌, ◌<◌, ◌≤◌, ◌+◌, ℕ, zero, suc, List, [], ◌∷◌, length, get_or, set, take, eqb, Option, Some, None, Bool, true, false, inl, inr, refl, sym, ◌∙◌, ap, subst, arith}
+use Rattle.std.specs.Prelude.{Contains, ◌⊎◌, cond, max}
 use Rattle.std.specs.Bool.{OnTrue}
 use Rattle.std.specs.FinMap as fin
 use Rattle.std.specs.List.{All, AllByRecursion}
 use Rattle.std.specs.List.Sorted.{IsPermutation}
 use Rattle.std.proofs.lemmas.Bool.Decides.{nat_tests}
-use Rattle.std.proofs.lemmas.Cmp.{ranked}
 use Rattle.std.proofs.lemmas.List.{get_or_default, take_more}
 use Rattle.std.proofs.lemmas.List.Elements.{All-contains, Contains-push_cases}
 use Rattle.std.proofs.lemmas.List.Sorted.{Contains-permutation}
@@ -19,7 +18,7 @@ use Rattle.kb_service.specs.Serve.{has_released}
 use Rattle.kb_service.specs.Turns.{IsTurn}
 use Rattle.kb_tenant.specs.Replies.{Silent}
 use Rattle.kb_machine.specs.Tenant.{Wait, ready}
-use Rattle.kb_machine.specs.Session.{Stage, Greets, BoundTo, Session, can, fresh, is_free, without_wait}
+use Rattle.kb_machine.specs.Session.{Stage, Greets, BoundTo, Session, can, is_free, without_wait}
 use Rattle.kb_machine.specs.Machine.{Line, Moment, first_able}
 use Rattle.std.specs.declared.alloc.Global.{Global}
 use Rattle.std.specs.declared.vec.Vec.{Vec}
@@ -36,13 +35,12 @@ use Rattle.kb_machine.proofs.Turns.{free-unready, going-same, going-then, turned
 use Rattle.kb_machine.proofs.Wakes.{turned-quiet, turned-served}
 use Rattle.kb_machine.specs.Stranded.{NoneStranded}
 use Rattle.kb_broker.specs.Hosts.{OnStore, is_honest, IsLater, IsReadyOn, NoneReady, StepsTo}
-use Rattle.kb_broker.specs.Places.{numbers, number_at, waits_in, AreIdle, IsNext, IsScoped, IsMemberTurnAt, IsServedAt, IsTakenAt, IsTurnAt}
+use Rattle.kb_broker.specs.Places.{numbers, waits_in, AreIdle, IsNext, IsScoped, IsMemberTurnAt, IsServedAt, IsTakenAt, IsTurnAt}
 use Rattle.kb_broker.specs.Parked.{deadline_at, deadline_in, until_of, AreAllOf, AreAnswered, IsKeyedAt, IsKeyedIn, IsOwnedAt, IsOwnedIn, IsQueueOf, IsAskedOnAt, IsPassedOn, IsWhose, IsLeftAmong, IsLeftBy, IsQuietAt, IsUnreadyAt, IsUnreadyIn, IsSoughtAt, IsSoughtIn, IsMinded, AreMinded, SameBut, IsServedFor, IsOwnTo, IsAllOf, IsLeftTo, IsReadyAmong, can_in, AreAmong}
 use Rattle.kb_broker.specs.declared.serving.Concerned.{Concerned}
 use Rattle.kb_broker.specs.declared.serving.Concerned.TheVariants as concerned
 use Rattle.kb_broker.proofs.Honest.{later-same, later-then, ready-of}
-use Rattle.kb_broker.proofs.Placed.{get-at, number_at-is}
-use Rattle.kb_broker.proofs.Handled.{HasBegun, IsMoved, IsTaken, idle-none, moved-going, moved-held, moved-others, moved-step, moved-unready, put_with, unready-over, waked-still, next-can, scoped-turned, served-for, served-taken}
+use Rattle.kb_broker.proofs.Handled.{HasBegun, IsMoved, IsTaken, idle-none, moved-going, moved-held, moved-others, moved-step, moved-unready, put_with, unready-over, waked-still, scoped-turned, served-for, served-taken}
 use Rattle.kb_broker.proofs.Parked.{IsCarried, among, among-same, among-settled, at-unready, carried-same, carried-turn, deadline-free, each-find, find-set, first-least, minded-all, queue-put, unready-at, waiting-on}
 
 -- 1. Numbers that are put in

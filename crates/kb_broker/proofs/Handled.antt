@@ -12,7 +12,7 @@ use Rattle.std.specs.List.{AllByRecursion}
 use Rattle.std.proofs.lemmas.Bool.Decides.{nat_tests}
 use Rattle.std.proofs.lemmas.List.{get_or_default, length-map}
 use Rattle.kb_world.specs.Counts.{IsCalm, counted_once}
-use Rattle.kb_service.specs.Hosted.{Kept, TenantState, names_of, refusals_of, world_at}
+use Rattle.kb_service.specs.Hosted.{Kept, TenantState, names_of, refusals_of}
 use Rattle.kb_service.specs.Turns.{IsTurn, HavePassed}
 use Rattle.kb_machine.specs.Session.{Stage, Greets, BoundTo, Session, fresh, shut_down, without_wait, is_free, fed, overruns, room, can}
 use Rattle.kb_service.specs.Hosted as hosted
@@ -587,11 +587,8 @@ quiet-ready : (ns : List ℕ) (k l : Kept) (clock n : ℕ) (w : Wait) → IsQuie
 unfolding ready
 quiet-ready ns k l clock n w q apart silent = by w.awaited silent
   where
-    same : world_at l clock ≡ world_at k clock
-    same = ap (λ x. world_at (record l { known = x }) clock) q.known ∙ ap (λ x. world_at (record l { known = k.known; logs = x }) clock) q.logs
-
     by : (x : Awaited) → ready_for k clock n x ≡ Silent → ready_for l clock n x ≡ Silent
-    by (Records version body deadline) h = ap (λ x. looked x deadline version body) same ∙ h
+    by (Records version body deadline) h = ap (λ x. looked x clock deadline version body) q.world ∙ h
     by Group h = q.told n apart h
 
 -- only what is due or was answered can be ready then

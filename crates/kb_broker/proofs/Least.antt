@@ -1,5 +1,5 @@
 -- The numbers of the connections that may take a turn, in a heap of which the least comes first.
-use Rattle.std.proofs.Common.{Ordering, ◌≡◌, ◌≤◌, ℕ, List, ◌∷◌, map, Result, Ok, Err, Bool, true, false, OnOk, All, IsPermutation, nat_cmp}
+use Rattle.std.proofs.Common.{◌≡◌, ◌≤◌, ℕ, List, ◌∷◌, map, Result, Ok, Err, Bool, true, false, OnOk, All, IsPermutation, nat_cmp}
 use Rattle.std.specs.Bool.{OnTrue}
 use Rattle.std.specs.BinaryHeap.{IsUpperBound, lt_by_cmp}
 use Rattle.std.specs.Result.{is_ok}

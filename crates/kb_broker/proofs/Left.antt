@@ -1,5 +1,5 @@
 -- The tenants, where one keeps what is left once a connection is gone on which a member of a group waited.
-use Rattle.std.proofs.Common.{◌≡◌, ◌<◌, ℕ, List, [], ◌∷◌, length, Option, None, Bool, true, false, zero, suc, refl, ◌∙◌, ap, arith}
+use Rattle.std.proofs.Common.{◌≡◌, ℕ, List, [], ◌∷◌, length, Option, None, Bool, true, false, zero, suc, refl, ◌∙◌, ap}
 use Rattle.std.specs.Prelude.{cond}
 use Rattle.kb_service.specs.Hosted.{Kept, TenantState, kept_of, refusals_of, names_of, left}
 use Rattle.kb_service.specs.Turns.{with_kept}
@@ -39,12 +39,6 @@ with-each P zero k (x ∷ xs) each own (suc u) = each (suc u)
 with-each P (suc t) k (x ∷ xs) each own zero = each zero
 with-each P (suc t) k (x ∷ xs) each own (suc u) = with-each (λ v. P (suc v)) t k xs (λ v. each (suc v)) own u
 
-pub with-own : (t : ℕ) (k : Kept) (ts : List TenantState) → t < length ts → kept_of (with_kept t k ts) t ≡ k
-unfolding with_kept
-with-own t k [] lt = absurd (omega (arith, lt))
-with-own zero k (x ∷ xs) lt = refl
-with-own (suc t) k (x ∷ xs) lt = with-own t k xs (omega (arith, lt))
-
 pub with-other : (t : ℕ) (k : Kept) (ts : List TenantState) (u : ℕ) → (u ≡ t → ⊥) → kept_of (with_kept t k ts) u ≡ kept_of ts u
 with-other t k ts u ne = with-each (λ v x. (v ≡ t → ⊥) → x ≡ kept_of ts v) t k ts (λ v apart. refl) (λ apart. absurd (apart refl)) u ne
 
@@ -58,11 +52,6 @@ left-cases P clock n (BoundTo t wait) ts stays goes = by (has_member (BoundTo t 
     by : (b : Bool) → P (cond b (with_kept t (left clock n (kept_of ts t)) ts) ts)
     by true = goes t
     by false = stays
-
--- no member waited on it
-pub left-none : (clock n : ℕ) (st : Stage) (ts : List TenantState) → has_member st ≡ false → left_by clock n st ts ≡ ts
-left-none clock n (Greets h) ts none = refl
-left-none clock n (BoundTo t wait) ts none = ap (λ (b : Bool). cond b (with_kept t (left clock n (kept_of ts t)) ts) ts) none
 
 -- one waited on it, whose tenant this is
 pub left-some : (clock n t : ℕ) (st : Stage) (ts : List TenantState) → true ≡ has_member st → BoundTo t None ≡ without_wait st → with_kept t (left clock n (kept_of ts t)) ts ≡ left_by clock n st ts

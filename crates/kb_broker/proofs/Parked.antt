@@ -6,7 +6,7 @@ use Rattle.std.specs.declared.alloc.Global.{Global}
 use Rattle.std.specs.declared.vec.Vec.{Vec}
 use Rattle.std.specs.List.{All, AllByRecursion}
 use Rattle.std.proofs.lemmas.Bool.Decides.{nat_tests}
-use Rattle.std.proofs.lemmas.List.Elements.{All-contains, All-map, Contains-append_cases, Contains-append_left, Contains-append_right, Contains-push_cases}
+use Rattle.std.proofs.lemmas.List.Elements.{All-contains, All-map, Contains-append_cases, Contains-append_left, Contains-append_right, Contains-push, Contains-push_cases}
 use Rattle.kb_waits.specs.Queue as queue
 use Rattle.kb_waits.specs.Queue.{Queue, AreParked}
 use Rattle.kb_world.specs.Counts.{IsCalm}
@@ -113,6 +113,27 @@ none-parked q t places none = record {
     by k (Some w) e any =
         All-contains (λ key. (k : ℕ) → IsSomeAnd (fin.get q k) (queue.IsUnder key) → ⊥) (keys_of t places) any.1 (All-map (λ key. (k : ℕ) → IsSomeAnd (fin.get q k) (queue.IsUnder key) → ⊥) (key_of t) places none) (any.0, any.2, any.3) k
         (subst (λ o. IsSomeAnd o (queue.IsUnder any.1)) (sym e) any.4)
+
+-- of one partition alone, those that stand there under it
+pub alone-parked : (q : Queue) (t : ℕ) (places : List TopicPartition) (d : TopicPartition) (ns : List ℕ) → length places ≡ 1 → AreParked q (queue.IsUnder (key_of t (get_or places 0 d))) ns → AreParked q (queue.IsUnderAny (keys_of t places)) ns
+alone-parked q t [] d ns one parked = absurd (omega (arith, one))
+alone-parked q t (p ∷ x ∷ xs) d ns one parked = absurd (omega (arith, one))
+alone-parked q t (p ∷ []) d ns one parked = record {
+  exactly = λ k. (λ c. under (fin.get q k) ((parked.exactly k).0 c), λ any. (parked.exactly k).1 (back (fin.get q k) any));
+  ascending = parked.ascending;
+}
+  where
+    under : (o : Option queue.Wait) → IsSomeAnd o (queue.IsUnder (key_of t p)) → IsSomeAnd o (queue.IsUnderAny (keys_of t (p ∷ [])))
+    under None h = h
+    under (Some w) h = let here = Contains-push [] (key_of t p) in (here.0, key_of t p, here.1, here.2, h)
+
+    back : (o : Option queue.Wait) → IsSomeAnd o (queue.IsUnderAny (keys_of t (p ∷ []))) → IsSomeAnd o (queue.IsUnder (key_of t p))
+    back None h = h
+    back (Some w) any = by (Contains-push_cases [] (key_of t p) any.1 (any.0, any.2, any.3))
+      where
+        by : Contains [] any.1 ⊎ (key_of t p ≡ any.1) → queue.IsUnder (key_of t p) w
+        by (inl c) = absurd (let none = c.1 in omega (arith, none))
+        by (inr e) = subst (λ key. queue.IsUnder key w) (sym e) any.4
 
 -- what holds of the tenants then
 pub record IsCarried (ts us : List TenantState) (ls : List Line) (q : Queue) : Type 0 where

@@ -15,12 +15,6 @@ use Rattle.kb_machine.proofs.Parts.{eqb_same}
 abbrev pub quieted_to : ℕ → List Line → List Line
 quieted_to i ls = quieted_lines (take i ls) ++ drop i ls
 
-pub length-quieted : (i : ℕ) (ls : List Line) → length (quieted_to i ls) ≡ length ls
-length-quieted zero [] = refl
-length-quieted (suc i) [] = refl
-length-quieted zero (l ∷ ls) = refl
-length-quieted (suc i) (l ∷ ls) = ap suc (length-quieted i ls)
-
 -- the next is as it was
 pub quieted-at : (i : ℕ) (ls : List Line) (d : Line) → get_or (quieted_to i ls) i d ≡ get_or ls i d
 quieted-at zero [] d = refl
@@ -54,10 +48,6 @@ quieted-more low last (suc i) (k ∷ ls) l r a =
     let ne : eqb k.number l.number ≡ false = grind (arith, nat_tests) in
     let rest = quieted-more k.number last i ls l r.1 (tail-at k ls i l a) in
     rw (ne, rest) refl
-
-pub quieted-all : (ls : List Line) → quieted_to (length ls) ls ≡ quieted_lines ls
-quieted-all [] = refl
-quieted-all (l ∷ ls) = ap (λ ks. record { number = l.number; session = without_output l.session } ∷ ks) (quieted-all ls)
 
 -- the broker after the first of them
 abbrev pub drained_to : ℕ → BrokerState → BrokerState

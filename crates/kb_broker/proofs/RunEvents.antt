@@ -1,6 +1,6 @@
 -- What one event leads to.
 use Rattle.std.proofs.Common.{◌≡◌, ℕ, ◌≤◌, List, [], ◌∷◌, eqb, Bool, true, false, Option, Some, None, refl, sym, ◌∙◌, ap, arith}
-use Rattle.std.specs.Prelude.{map, Result, Ok, Err, OnErr}
+use Rattle.std.specs.Prelude.{map, Result, Ok, Err, OnOk, OnErr}
 use Rattle.std.specs.Result.{is_err}
 use Rattle.std.proofs.lemmas.Bool.Decides.{nat_tests}
 use Rattle.kb_machine.specs.Session.{Session}
@@ -58,6 +58,11 @@ closes-closed n b r o = closes-found 0 b.last n b.lines r.rising ∙ by (find_li
 pub when_err : {A E : Type 0} (r : Result A E) (P : Type 0) → is_err r ≡ true → OnErr r P → P
 when_err (Ok a) P e h = absurd (cc)
 when_err (Err x) P e h = h
+
+-- ... and one that was
+pub when_ok : {A E : Type 0} (r : Result A E) (P : Type 0) → is_err r ≡ false → OnOk r P → P
+when_ok (Ok a) P e h = h
+when_ok (Err x) P e h = absurd (cc)
 
 -- 3. A broker on its store whose state alone changes
 

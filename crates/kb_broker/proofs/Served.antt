@@ -1,7 +1,7 @@
 -- What a turn leaves of the connection that took it and of its place in the queue, and whom it concerns.
 use Rattle.std.proofs.Common.{◌≡◌, ◌≢◌, ◌<◌, ℕ, ℤ, List, [], ◌∷◌, length, get_or, Option, Some, None, Result, Ok, Err, OnOk, OnErr, true, false, zero, suc, inl, inr, refl, sym, ◌∙◌, ap, subst, arith}
 use Rattle.std.proofs.lemmas.List.Elements.{Contains-append_left, Contains-push, Contains-push_cases}
-use Rattle.std.specs.Prelude.{◌++◌, ◌⊎◌, Contains, IsSomeAnd, IfSome, cond}
+use Rattle.std.specs.Prelude.{◌++◌, ◌⊎◌, Contains, IsSomeAnd, cond}
 use Rattle.std.specs.Result.{is_err}
 use Rattle.std.specs.FinMap as fin
 use Rattle.std.specs.Cmp.{nat_cmp_total}

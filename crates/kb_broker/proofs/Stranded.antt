@@ -1,9 +1,8 @@
 -- Members that wait, as the broker's users see it.
-use Rattle.std.proofs.Common.{◌≡◌, ◌≢◌, ◌<◌, ◌≤◌, ℕ, zero, suc, List, [], ◌∷◌, map, Bool, true, false, Option, Some, None, refl, sym, ◌∙◌, ap, subst, arith}
+use Rattle.std.proofs.Common.{◌≡◌, ◌≢◌, ◌<◌, ℕ, zero, suc, List, [], ◌∷◌, map, true, false, Option, Some, None, refl, ap, arith}
 use Rattle.kb_service.specs.Hosted.{Kept, TenantState, kept_of, new_tenant, nothing}
 use Rattle.kb_service.specs.Waiters.{members_on, replies_on}
 use Rattle.kb_settings.specs.declared.settings.Settings.{Settings}
-use Rattle.kb_machine.specs.Tenant.{Wait}
 use Rattle.kb_machine.specs.Session.{Stage, Greets, BoundTo, Session, is_free}
 use Rattle.kb_machine.specs.Machine.{find_line}
 use Rattle.kb_machine.specs.Broker.{BrokerState, bound_as, bound_to}

@@ -6,7 +6,7 @@ use Rattle.kb_world.specs.World.{World}
 use Rattle.kb_service.proofs.ByRequest.{by_request}
 use Rattle.kb_world.specs.Counts.{END, IsCalm}
 use Rattle.kb_world.specs.declared.topic_partition.TopicPartition.{TopicPartition}
-use Rattle.kb_service.specs.Hosted.{Kept, nothing, TenantState, kept_in, kept_of, refusals_of, world_at}
+use Rattle.kb_service.specs.Hosted.{Kept, nothing, TenantState, kept_in, kept_of, refusals_of}
 use Rattle.kb_service.specs.Turns.{IsTurn, IsMet}
 use Rattle.kb_tenant.specs.Replies as plain
 use Rattle.kb_tenant.specs.Replies.{Replies, Waits, Silent, Shuts}
@@ -40,7 +40,7 @@ use Rattle.kb_broker.specs.Hosts.{AreHosted, tenants_in}
 use Rattle.kb_broker.specs.Places.{IsSpent, IsLookAnswer, IsLookedAt}
 use Rattle.kb_broker.proofs.Handled.{from_ok, turn-sure}
 use Rattle.std.proofs.Common.{eqb}
-use Rattle.std.specs.Prelude.{Contains, nat_lt, ◌<◌, ◌&&◌, ◌⊎◌}
+use Rattle.std.specs.Prelude.{Contains, nat_lt, ◌&&◌, ◌⊎◌}
 use Rattle.std.specs.Result.{is_err}
 use Rattle.kb_machine.specs.declared.whom.Whom.{Whom}
 use Rattle.kb_machine.specs.Turned.{IsLookedFor}
@@ -53,11 +53,11 @@ use Rattle.kb_machine.proofs.Parts.{turn-then, calm-right}
 -- 1. A request of the tenant
 
 -- what is answered, and kept
-pub answered-now : (node : Node) (k l : Kept) (clock n : ℕ) (id key version : ℤ) (body : List ℕ) (touched : List TopicPartition) (r : Answer) → IsOutcome id (served node (world_at k clock) k.groups n key version body) (world_at l clock) l.groups touched r
+pub answered-now : (node : Node) (k l : Kept) (clock n : ℕ) (id key version : ℤ) (body : List ℕ) (touched : List TopicPartition) (r : Answer) → IsOutcome id (served node k.world clock k.groups n key version body) l.world l.groups touched r
     → (l ≡ kept_after node k clock n key version body) × IsAnswer id (answer node k clock n key version body) r
 unfolding answer kept_after
 answered-now node k l clock n id key version body touched r h =
-    let o = served node (world_at k clock) k.groups n key version body in
+    let o = served node k.world clock k.groups n key version body in
     (ap (λ w. kept_in w l.groups) h.0 ∙ ap (kept_in o.world) h.1, h.3)
 
 -- what stands in front was asked, and answered so: the connection is the machine's
@@ -68,25 +68,21 @@ asked-now setup clock n k m l new key version id body r asked kept told ok =
     let is = ok key version id body (answer setup.node k clock n key version body) asked told in
     (ap (λ (x : Line). x.session) is ∙ sym (asked.served k clock n), kept ∙ sym (asked.put k clock n))
 
--- the code's word for it
-pub calm-of : (x y before after : ℕ) → before ≡ x → after ≡ y → after ≡ before → before < END → IsCalm x y
-calm-of x y before after p q same up = record { same = sym q ∙ (same ∙ p); below = subst (λ n. n < END) p up }
-
 -- where nothing was refused, and nobody's group answered it, only a fetch that asks a touched partition may have become ready
 pub touched-now : {L S : Type 0} (log : L → Log) (disk : S → Disk) (H : Type 0) → H → (node : Node) (hosts : Tenants L S) (us : List TenantState) (clock t n : ℕ) (id key version : ℤ) (body : List ℕ) (touched : List TopicPartition) (r : Answer) → AreHosted log disk hosts
-    → IsMet t H (tenants_in log disk hosts) us (λ k l. IsOutcome id (served node (world_at k clock) k.groups n key version body) (world_at l clock) l.groups touched r)
+    → IsMet t H (tenants_in log disk hosts) us (λ k l. IsOutcome id (served node k.world clock k.groups n key version body) l.world l.groups touched r)
     → IsCalm (refusals_of (tenants_in log disk hosts) t) (refusals_of us t) → has_released (kept_of us t).groups ≡ false → IsTouched t clock (tenants_in log disk hosts) us touched
 touched-now log disk H honest node hosts us clock t n id key version body touched r kept meets calm nobody =
     let h = meets honest calm in
-    record { calm = calm; none = nobody; ready = λ k w apart. apart-ready node (kept_of (tenants_in log disk hosts) t) (kept_of us t) clock n key version body k w (kept_tied log disk hosts kept t clock) h.0 (subst (AreApart (asked (kept_of (tenants_in log disk hosts) t) w)) h.2 apart) nobody }
+    record { calm = calm; none = nobody; ready = λ k w apart. apart-ready node (kept_of (tenants_in log disk hosts) t) (kept_of us t) clock n key version body k w (kept_tied log disk hosts kept t) h.0 (subst (AreApart (asked (kept_of (tenants_in log disk hosts) t) w)) h.2 apart) nobody }
 
 -- a request that touches a partition answers nobody who waited for a group
-one-alone : (node : Node) (w : World) (gs : Groups) (n : ℕ) (key version : ℤ) (body : List ℕ) → let o = served node w gs n key version body in (o.touched ≡ []) ⊎ (o.groups ≡ silent gs)
-one-alone node w gs n key version body = by_request (λ (o : Outcome). (o.touched ≡ []) ⊎ (o.groups ≡ silent gs)) node w gs n key version body (record { stays = λ after reaction. inl refl; commit = λ r. inl refl; topics = inr refl })
+one-alone : (node : Node) (w : World) (clock : ℕ) (gs : Groups) (n : ℕ) (key version : ℤ) (body : List ℕ) → let o = served node w clock gs n key version body in (o.touched ≡ []) ⊎ (o.groups ≡ silent gs)
+one-alone node w clock gs n key version body = by_request (λ (o : Outcome). (o.touched ≡ []) ⊎ (o.groups ≡ silent gs)) node w clock gs n key version body (record { stays = λ after reaction. inl refl; commit = λ r. inl refl; topics = inr refl })
 
 -- after a request that touched no partition what its groups do not answer is as little ready as before
-answered-ready : (node : Node) (k l : Kept) (clock n : ℕ) (key version : ℤ) (body : List ℕ) (m : ℕ) (w : Wait) → IsTied (world_at k clock) → world_at l clock ≡ (served node (world_at k clock) k.groups n key version body).world
-    → (served node (world_at k clock) k.groups n key version body).touched ≡ [] → told_to m l.groups ≡ plain.Silent → ready k clock m w ≡ plain.Silent → ready l clock m w ≡ plain.Silent
+answered-ready : (node : Node) (k l : Kept) (clock n : ℕ) (key version : ℤ) (body : List ℕ) (m : ℕ) (w : Wait) → IsTied k.world → l.world ≡ (served node k.world clock k.groups n key version body).world
+    → (served node k.world clock k.groups n key version body).touched ≡ [] → told_to m l.groups ≡ plain.Silent → ready k clock m w ≡ plain.Silent → ready l clock m w ≡ plain.Silent
 unfolding ready
 answered-ready node k l clock n key version body m w tied same untouched still silence = by w.awaited quietly
   where
@@ -105,7 +101,7 @@ answered-ready node k l clock n key version body m w tied same untouched still s
 
 -- where nothing was refused, and groups answered requests that waited, only those may have become ready
 pub released-now : {L S : Type 0} (log : L → Log) (disk : S → Disk) (H : Type 0) → H → (node : Node) (hosts : Tenants L S) (us : List TenantState) (clock t n : ℕ) (id key version : ℤ) (body : List ℕ) (touched : List TopicPartition) (r : Answer) → AreHosted log disk hosts
-    → IsMet t H (tenants_in log disk hosts) us (λ k l. IsOutcome id (served node (world_at k clock) k.groups n key version body) (world_at l clock) l.groups touched r)
+    → IsMet t H (tenants_in log disk hosts) us (λ k l. IsOutcome id (served node k.world clock k.groups n key version body) l.world l.groups touched r)
     → IsCalm (refusals_of (tenants_in log disk hosts) t) (refusals_of us t) → has_released (kept_of us t).groups ≡ true → IsReleased t clock (tenants_in log disk hosts) us
 released-now log disk H honest node hosts us clock t n id key version body touched r kept meets calm some =
     let h = meets honest calm in
@@ -113,7 +109,7 @@ released-now log disk H honest node hosts us clock t n id key version body touch
     let l = kept_of us t in
     record {
       calm = calm;
-      ready = λ m w apart. answered-ready node k l clock n key version body m w (kept_tied log disk hosts kept t clock) h.0 (by (served node (world_at k clock) k.groups n key version body) k.groups l.groups h.1 some (one-alone node (world_at k clock) k.groups n key version body)) (untold m l.groups apart);
+      ready = λ m w apart. answered-ready node k l clock n key version body m w (kept_tied log disk hosts kept t) h.0 (by (served node k.world clock k.groups n key version body) k.groups l.groups h.1 some (one-alone node k.world clock k.groups n key version body)) (untold m l.groups apart);
     }
   where
     by : (o : Outcome) (gs after : Groups) → after ≡ o.groups → has_released after ≡ true → (o.touched ≡ []) ⊎ (o.groups ≡ silent gs) → o.touched ≡ []
@@ -123,14 +119,14 @@ released-now log disk H honest node hosts us clock t n id key version body touch
 -- where nothing was ever refused to the tenant, a fetch that still waits asks for the same
 pub asked-on : {L S : Type 0} (log : L → Log) (disk : S → Disk) (H : Type 0) → H → (hosts : Tenants L S) → shelf_is_honest disk hosts → (node : Node) (us : List TenantState) (clock t n : ℕ) (id key version : ℤ) (body : List ℕ) (touched : List TopicPartition) (r : Answer) → AreHosted log disk hosts
     → IsTurn t H (tenants_in log disk hosts) us
-    → IsMet t H (tenants_in log disk hosts) us (λ k l. IsOutcome id (served node (world_at k clock) k.groups n key version body) (world_at l clock) l.groups touched r)
+    → IsMet t H (tenants_in log disk hosts) us (λ k l. IsOutcome id (served node k.world clock k.groups n key version body) l.world l.groups touched r)
     → IsAskedOn t (tenants_in log disk hosts) us
 asked-on log disk H honest hosts before-honest node us clock t n id key version body touched r kept turn meets calm =
     let ts = tenants_in log disk hosts in
     let up = turn.grows t in
     let before : refusals_of ts t ≡ 0 = omega (arith, calm, up) in
     let h = meets honest (record { same = calm ∙ sym before; below = grind (arith, nat_tests, before) }) in
-    λ k w old new. asked-again node (kept_of ts t) (kept_of us t) clock n key version body k w (kept_tied log disk hosts kept t clock) (kept_names log disk hosts kept before-honest t clock) h.0 old new
+    λ k w old new. asked-again node (kept_of ts t) (kept_of us t) clock n key version body k w (kept_tied log disk hosts kept t) (kept_names log disk hosts kept before-honest t) h.0 old new
 
 -- 2. What a turn leaves of a connection in any case
 

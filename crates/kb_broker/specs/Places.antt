@@ -7,7 +7,7 @@ use Rattle.std.specs.declared.vec.Vec.{Vec}
 use Rattle.kb_tenants.specs.Tenants.{AreQuietBut}
 use Rattle.kb_world.specs.Counts.{IsCalm, counted_once}
 use Rattle.kb_service.specs.Hosted as hosted
-use Rattle.kb_service.specs.Hosted.{Kept, TenantState, world_at}
+use Rattle.kb_service.specs.Hosted.{Kept, TenantState}
 use Rattle.kb_service.specs.Turns.{IsTurn, IsMet}
 use Rattle.kb_tenant.specs.Replies.{Silent, IsAnswer}
 use Rattle.kb_tenant.specs.Told.{AnswersLook}
@@ -128,7 +128,7 @@ pub record IsRefusedReply (t : ℕ) (old new : List TenantState) (w : Wait) (a :
 
 -- The answer to a fetch that waits has of each partition what is defined, or the code of what refused it; of a member's that says nothing.
 abbrev pub TellsAwaited : Type 0 → ℤ → ℕ → Kept → Awaited → Answer → Type 0
-TellsAwaited failed id clock kept (Records version body deadline) a = AnswersLook failed id version (world_at kept clock) deadline body a
+TellsAwaited failed id clock kept (Records version body deadline) a = AnswersLook failed id version kept.world clock deadline body a
 TellsAwaited failed id clock kept Group a = ⊤
 
 -- what the request that waits on the connection of number n is answered: what it is told; or its connection is shut, and a member

@@ -148,8 +148,8 @@ impl<S: Store, L: PartitionLog + Drop> Broker<S, L> {
         ensures strays { IfOk result (λ opened. opened.strays.items ≡ []) }
         // Which files are of no log is not known yet.
         ensures unknown { IfOk result (λ opened. opened.broker.strays ≡ None) }
-        ensures kept { IfOk result (λ opened. Keeps (S.disk store) (S.disk opened.broker.store)) }
-        ensures kept_err { IfErr result (λ refused. Keeps (S.disk store) (S.disk refused.store)) }
+        ensures unchanged { IfOk result (λ opened. Keeps (S.disk store) (S.disk opened.broker.store)) }
+        ensures unchanged_err { IfErr result (λ refused. Keeps (S.disk store) (S.disk refused.store)) }
         ensures cause { IfErr result (λ refused. BlamesStore (S.disk store) refused.fault (S.disk refused.store)) }
     {
         Broker::open_listing(alloc, settings, Listing::Served, store)
@@ -166,8 +166,8 @@ impl<S: Store, L: PartitionLog + Drop> Broker<S, L> {
         ensures strays { IfOk result (λ opened. opened.strays.items ≡ []) }
         // Which files are of no log is not known yet.
         ensures unknown { IfOk result (λ opened. opened.broker.strays ≡ None) }
-        ensures kept { IfOk result (λ opened. Keeps (S.disk store) (S.disk opened.broker.store)) }
-        ensures kept_err { IfErr result (λ refused. Keeps (S.disk store) (S.disk refused.store)) }
+        ensures unchanged { IfOk result (λ opened. Keeps (S.disk store) (S.disk opened.broker.store)) }
+        ensures unchanged_err { IfErr result (λ refused. Keeps (S.disk store) (S.disk refused.store)) }
         ensures cause { IfErr result (λ refused. BlamesStore (S.disk store) refused.fault (S.disk refused.store)) }
     {
         let Ok(names) = tenant_names(alloc, &settings.users) else {

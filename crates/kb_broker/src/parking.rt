@@ -123,6 +123,10 @@ impl Parking {
         ensures { IfOk result (λ ns. AreParked self.now (IsUnderAny (keys_of tenant places.now)) ns.items) }
     {
         let mut numbers = Vec::new(alloc);
+        if let [place] = places {
+            self.waits.touched(&key_of(tenant, place), &mut numbers)?;
+            return Ok(numbers);
+        }
         for place in places {
             self.waits.touched(&key_of(tenant, place), &mut numbers)?;
             if !numbers.is_empty() {

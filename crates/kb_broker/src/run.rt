@@ -72,7 +72,7 @@ impl<S: Store, L: PartitionLog + Drop> Broker<S, L> {
         ensures fetches { is_honest S.disk self.old → (t : ℕ) →
             FetchesGetBatches (own_events t (happenings events.now) self.old.state)
             (view_of t (owned_by t (happenings events.now) self.old.state) self.old.state) }
-        ensures left { IfOk result (λ written. is_honest S.disk self.new
+        ensures worlds { IfOk result (λ written. is_honest S.disk self.new
             → LeavesWorlds (happenings events.now) self.old.state self.new.state (map sent_of written.items)) }
         ensures connections { IfOk result (λ written.
             map (λ (w : Written). w.conn) written.items ≡ connections_of (happenings events.now) self.old.state) }
@@ -133,7 +133,7 @@ impl<S: Store, L: PartitionLog + Drop> Broker<S, L> {
         ensures step { StepsTo S.disk (Closes conn) self.old self.new }
         ensures state { self.new ≡ record self.old { state = closed self.old.state conn } }
         ensures held { NoneStranded self.old.state → NoneStranded self.new.state }
-        ensures left { map sent_of written.new.items ≡ map sent_of written.old.items ++ leaving (Closes conn) self.old.state.lines }
+        ensures written { map sent_of written.new.items ≡ map sent_of written.old.items ++ leaving (Closes conn) self.old.state.lines }
         ensures capacity { vec_capacity written.new ≡ vec_capacity written.old }
     {
         let open = self.is_open(conn);
@@ -150,7 +150,7 @@ impl<S: Store, L: PartitionLog + Drop> Broker<S, L> {
         requires room { vec_len written.old + length self.old.state.lines ≤ vec_capacity written.old }
         ensures state { self.new ≡ record self.old { state = emptied self.old.state } }
         ensures in_files { IsInFiles L.log S.disk self.new }
-        ensures left { map sent_of written.new.items ≡ map sent_of written.old.items ++ map sent self.old.state.lines }
+        ensures written { map sent_of written.new.items ≡ map sent_of written.old.items ++ map sent self.old.state.lines }
     {
         for i in 0..self.connections().len() {
             let connection = &self.connections()[i];

@@ -1,6 +1,6 @@
 //! Scripts: lines that say what happens to a broker, and what it says after each.
 
-ghost use Rattle.std.specs.Prelude.{◌≡◌, ◌≤◌, ◌<◌, ◌^◌, ◌&&◌, ℕ, true, not, IfSome, IfErr, OnOk};
+ghost use Rattle.std.specs.Prelude.{◌≡◌, ◌≤◌, ◌<◌, ◌^◌, ◌&&◌, true, not, IfSome, IfErr, OnOk};
 ghost use Rattle.std.specs.Io.BufRead.{strip_last};
 ghost use Rattle.kb_machine.specs.Machine.{Opens, Comes, Closes, Moment};
 ghost use Rattle.kb_machine.specs.Broker.{IsReady};

@@ -1,10 +1,10 @@
 //! The turn of one connection, beside the tenants.
 
-ghost use Rattle.std.specs.Prelude.{◌≡◌, ◌≢◌, ◌<◌, ◌≤◌, ◌^◌, ◌⊎◌, ℕ, ℤ, List, Option, length, OnOk, OnErr, IfOk, IfSome, Ok, None, true};
+ghost use Rattle.std.specs.Prelude.{◌≡◌, ◌≢◌, ◌<◌, ◌≤◌, ◌^◌, ◌⊎◌, ℕ, ℤ, List, length, OnOk, OnErr, IfOk, Ok, None, true};
 ghost use Rattle.std.specs.Prelude.{false};
 ghost use Rattle.std.specs.FinMap as fin;
 ghost use Rattle.kb_api_group.specs.Frames.{front};
-ghost use Rattle.kb_service.specs.Hosted.{kept_of, refusals_of};
+ghost use Rattle.kb_service.specs.Hosted.{kept_of};
 ghost use Rattle.kb_service.specs.Turns.{IsTurn, IsMet};
 ghost use Rattle.kb_service.specs.Replies.{Reaction, IsAnswer};
 ghost use Rattle.kb_service.specs.declared.answer.Answer.TheVariants as any;
@@ -30,10 +30,10 @@ use crate::parking::Parking;
 use kb_connection::{Awaited, Connection, Phase, Setup, Waiting};
 use kb_log::PartitionLog;
 use kb_machine::Whom;
-use kb_service::{Answer, Served};
+use kb_service::Answer;
 use kb_store::Store;
 use kb_tenant::{Request, Wait};
-use kb_tenants::Tenants;
+use kb_tenants::{Outcome, Tenants};
 use kb_world::TopicPartition;
 use std::alloc::{AllocError, Global};
 
@@ -93,9 +93,9 @@ pub fn take_turn<L: PartitionLog + Drop, S: Store>(
     ensures ok { OnOk result (IsTakenAt (shelf_is_honest S.disk tenants.new) setup.now clock connection.old.number
         connection.old.session.stage (tenants_in L.log S.disk tenants.old)
         (tenants_in L.log S.disk tenants.new) connection.old.session connection.new.session) }
-    ensures whose { IfOk result (λ c. IsWhose c connection.old.session.stage) }
-    ensures own { IfOk result (λ c. IsOwnTo c connection.old.number) }
-    ensures left { shelf_is_honest S.disk tenants.new
+    ensures tenant { IfOk result (λ c. IsWhose c connection.old.session.stage) }
+    ensures includes_itself { IfOk result (λ c. IsOwnTo c connection.old.number) }
+    ensures remaining { shelf_is_honest S.disk tenants.new
         → IfOk result (λ c. IsLeftBy c setup.now clock connection.old.session.stage connection.old.number parking.old
         (tenants_in L.log S.disk tenants.old) (tenants_in L.log S.disk tenants.new) connection.old.session connection.new.session) }
     ensures waits { IsWaitTurnAt connection.old.number connection.old.session.stage (tenants_in L.log S.disk tenants.old)
@@ -373,21 +373,19 @@ fn ask<L: PartitionLog + Drop, S: Store>(
     ensures told { IsWaitTold request.now.connection (kept_of (tenants_in L.log S.disk tenants.old) tenant).groups result.0
         (kept_of (tenants_in L.log S.disk tenants.new) tenant).groups }
 {
-    let before = tenants.refusals(tenant);
     let node = setup.node();
-    let Served {
+    let Outcome {
         answer,
         touched,
         released,
+        refused,
     } = tenants.serve(alloc, tenant, clock, &node, request);
-    if tenants.refusals(tenant) == before && before < u64::MAX {
-        if released {
-            (answer, Touched::Groups)
-        } else {
-            (answer, Touched::Partitions(touched))
-        }
-    } else {
+    if refused {
         (answer, Touched::Unknown)
+    } else if released {
+        (answer, Touched::Groups)
+    } else {
+        (answer, Touched::Partitions(touched))
     }
 }
 

@@ -124,7 +124,7 @@ impl ConsumerCore {
     /// Takes the lines that were found: each value and a line feed, where null is an empty line. It takes no memory.
     pub fn take_lines(&mut self) -> Vec<u8>
         ensures taken { result.items ≡ self.old.found.text }
-        ensures left { self.new ≡ without_text self.old }
+        ensures emptied { self.new ≡ without_text self.old }
     {
         self.found.take(self.alloc)
     }

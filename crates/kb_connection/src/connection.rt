@@ -303,7 +303,7 @@ impl Connection {
         alloc: Global,
         setup: &Setup,
     ) -> Result<Option<kb_tenant::Request<'_>>, AllocError>
-        ensures own { IfOk result (λ found. IfNone found (IsOwn setup.now self.now.session)) }
+        ensures none { IfOk result (λ found. IfNone found (IsOwn setup.now self.now.session)) }
         ensures asked { IfOk result (λ found. IfSome found (λ asked.
             IsAsked setup.now self.now.session asked.api_key asked.api_version asked.correlation_id asked.body.now)) }
         ensures number { IfOk result (λ found. IfSome found (λ asked. asked.connection ≡ self.now.number)) }
@@ -340,7 +340,7 @@ impl Connection {
         // whatever the answer is, also where a refusal spoiled it
         ensures number { self.new.number ≡ self.old.number }
         ensures stage { without_wait self.new.session.stage ≡ without_wait self.old.session.stage }
-        ensures less { is_tenants_at setup.now.versions (front self.old.session.unread) ≡ true
+        ensures shrinks { is_tenants_at setup.now.versions (front self.old.session.unread) ≡ true
             → length self.new.session.unread < length self.old.session.unread }
         ensures free { is_wait answer ≡ false → is_free self.old.session.stage ≡ true → is_free self.new.session.stage ≡ true }
     {

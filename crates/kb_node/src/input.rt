@@ -43,7 +43,7 @@ impl Progress {
     /// nor more than there is room for.
     pub fn advance(&mut self, bytes: &[u8], room: usize) -> usize
         ensures cut { result ≡ piece_len self.old.left room bytes.now }
-        ensures left { self.new.left ≡ request_end self.old.left bytes.now - result }
+        ensures remaining { self.new.left ≡ request_end self.old.left bytes.now - result }
         ensures within { result ≤ length bytes.now }
         ensures fits { result ≤ room }
     {

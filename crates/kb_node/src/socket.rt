@@ -238,7 +238,7 @@ impl<T: Read + Write + Drop> Socket<T> {
         ensures ended { self.new.is_ended ≡ self.old.is_ended }
         ensures numbers { numbers broker.new.state ≡ numbers broker.old.state }
         ensures read { turn.new.read ≡ turn.old.read }
-        ensures kept { self.old.written < vec_len self.old.output → broker.new ≡ broker.old }
+        ensures unchanged { self.old.written < vec_len self.old.output → broker.new ≡ broker.old }
     {
         if self.unwritten() == 0 {
             self.take_output(alloc, broker);

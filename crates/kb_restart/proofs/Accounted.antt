@@ -1,5 +1,5 @@
 -- Each file that is there is of a tenant's log, or is left alone.
-use Rattle.std.proofs.Common.{◌≡◌, ◌∙◌, ◌⊎◌, ◌<◌, ◌++◌, inl, inr, ⊎_elim, ℕ, zero, suc, true, List, [], ◌∷◌, Option, Some, None, refl, sym, ap, subst, arith, length}
+use Rattle.std.proofs.Common.{◌≡◌, ◌∙◌, ◌⊎◌, ◌<◌, ◌++◌, inl, inr, ⊎_elim, ℕ, zero, suc, true, List, [], ◌∷◌, Some, None, refl, sym, ap, subst, arith, length}
 use Rattle.std.specs.Prelude.{nat_eq, slice_get, is_some, IsSome, IsPermutation}
 use Rattle.std.specs.FinMap.{get, keys, contains_key-keys}
 use Rattle.std.specs.Ordering.{nat_cmp, eq_by_cmp}
@@ -19,7 +19,7 @@ use Rattle.kb_opening.specs.Settled.{AreAccounted}
 use Rattle.kb_opening.specs.Tenant.{AreListed, IsOfTenant}
 use Rattle.kb_opening.specs.declared.directory.Directory.{Directory}
 use Rattle.kb_opening.proofs.Settled.{not_there}
-use Rattle.kb_restart.specs.Restart.{AreRestored, IsOfFirst}
+use Rattle.kb_restart.specs.Restart.{AreRestored}
 use Rattle.kb_restart.proofs.Owners.{listed_at}
 
 -- ---- one tenant more

@@ -1,15 +1,13 @@
 -- For what a broker that cannot open is refused.
-use Rattle.std.proofs.Common.{◌≡◌, ◌∙◌, ◌≤◌, ◌-◌, ◌^◌, inl, inr, ⊎_elim, ℕ, Err, refl, sym, ap, subst, arith}
+use Rattle.std.proofs.Common.{◌≡◌, ◌∙◌, ◌≤◌, ◌^◌, inl, inr, ⊎_elim, ℕ, Err, refl, ap, subst, arith}
 use Rattle.std.specs.FinMap.{keys}
-use Rattle.kb_store.specs.Disk.{Disk, Keeps, HasCause, Grew}
-use Rattle.kb_store.specs.declared.fault.StoreFault.{StoreFault}
-use Rattle.kb_store.specs.declared.fault.StoreFault.TheVariants.{Device, Memory as StoreMemory}
+use Rattle.kb_store.specs.Disk.{Disk, Keeps, Grew}
 use Rattle.kb_log.specs.Shelf.{one_above}
 use Rattle.kb_log.specs.declared.fault.LogFault.{LogFault}
 use Rattle.kb_log.specs.declared.fault.LogFault.TheVariants.{Range, Full, Store, Memory}
 use Rattle.kb_opening.specs.Partition.{MissesShelf}
 use Rattle.kb_broker.specs.declared.opening.OpenFault.TheVariants as faults
-use Rattle.kb_restart.specs.Restart.{open_fault, store_fault, BlamesShelf}
+use Rattle.kb_restart.specs.Restart.{open_fault, BlamesShelf}
 
 -- no offset is blamed
 store_blamed : (fault : LogFault) → open_fault fault ≡ faults.Store → (fault ≡ Range → ⊥) → (fault ≡ Full → ⊥) → fault ≡ Store
@@ -21,15 +19,6 @@ store_blamed Full e range full = absurd (full refl)
 -- failures that grew since grew since before
 pub grown_since : (a b c : ℕ) → Grew b c → a ≤ b → Grew a c
 grown_since a b c grew le = omega (arith, grew, le)
-
--- the store is blamed for a device's fault alone
-device_blamed : (fault : StoreFault) → store_fault fault ≡ faults.Store → fault ≡ Device
-device_blamed Device e = refl
-device_blamed StoreMemory e = absurd cc
-
--- also where a call before it was not refused
-pub store_blamed_for : {T : Type 0} (old mid new : Disk) (fault : StoreFault) → old.failures ≤ mid.failures → HasCause {T = T} mid (Err fault) new → BlamesShelf old (store_fault fault) new
-store_blamed_for old mid new fault le cause h e = inl (grown_since old.failures mid.failures new.failures (cause.device (ap Err (device_blamed fault e))) le)
 
 pub shelf_blamed : {T : Type 0} (old mid first now : Disk) (next : ℕ) (fault : LogFault) → Keeps old mid → old.failures ≤ first.failures → next ≡ one_above (keys mid.table)
     → MissesShelf {T = T} first next (Unit {0}) (Err fault) now → BlamesShelf old (open_fault fault) now

@@ -15,7 +15,7 @@ pub no_files : Files
 no_files = empty {R = nat_cmp}
 
 pub knowns_restored : (files : Files) (names : List (List ℕ)) (ps : List (Parts SegmentLog)) → length ps ≡ length names
-    → map (λ (p : Parts SegmentLog). known p.catalog) ps ≡ map (λ (x : TenantState). x.kept.known) (tenants_restored files names ps)
+    → map (λ (p : Parts SegmentLog). known p.catalog) ps ≡ map (λ (x : TenantState). x.kept.world.known) (tenants_restored files names ps)
 knowns_restored files [] [] many = refl
 knowns_restored files [] (p ∷ ps) many = absurd (omega (arith, many))
 knowns_restored files (name ∷ names) [] many = absurd (omega (arith, many))

@@ -1,5 +1,5 @@
 -- What tenants have whose files are accounted for is what their files come to.
-use Rattle.std.proofs.Common.{◌≡◌, ◌∙◌, ◌<◌, ◌⊎◌, inl, inr, ⊎_elim, ◌↔◌, ℕ, Bool, true, false, not, cond, List, [], ◌∷◌, ◌++◌, Option, Some, None, refl, sym, ap, subst, get_or, eqb-true, arith}
+use Rattle.std.proofs.Common.{◌≡◌, ◌∙◌, ◌<◌, ◌⊎◌, inl, inr, ⊎_elim, ℕ, Bool, true, false, not, cond, List, [], ◌∷◌, Option, Some, None, refl, sym, ap, subst, eqb-true, arith}
 use Rattle.std.specs.Prelude.{ℤ, pos, ◌&&◌, IfOk, Result, Ok, Err, slice_get, map, max, nat_eq, IsSome, option_map, length, string_bytes}
 use Rattle.std.specs.FinMap.{get, keys, contains_key-keys}
 use Rattle.std.specs.Bool.{Decides}
@@ -25,8 +25,8 @@ use Rattle.kb_segment.specs.Header.{Header, header_in}
 use Rattle.kb_segment.specs.declared.segment.Segment.{Segment}
 use Rattle.kb_log.specs.Log.{starting}
 use Rattle.kb_log.specs.OnShelf.{Identity}
-use Rattle.kb_segment_log.specs.SegmentLog.{bytes_at, segment_log, whose, AreOwn, AreSound, IsFileOf, IsHeaded, IsKept, IsNamed, Names}
-use Rattle.kb_segment_log.specs.Chain.{ComesTo, Chain, first_of}
+use Rattle.kb_segment_log.specs.SegmentLog.{bytes_at, segment_log, whose, IsFileOf, IsHeaded, IsKept, IsNamed}
+use Rattle.kb_segment_log.specs.Chain.{ComesTo, first_of}
 use Rattle.kb_segment_log.specs.Chain as chained
 use Rattle.kb_segment_log.specs.Reopened.{AreFilesOf}
 use Rattle.kb_segment_log.specs.declared.log.SegmentLog.{SegmentLog}
@@ -34,12 +34,11 @@ use Rattle.kb_segment_log.proofs.Reopens.{reopens}
 use Rattle.kb_topics.specs.Catalog.{known, meta_log, catalog_identity}
 use Rattle.kb_topics.specs.Known.{Known, PartitionState, TopicState, partition_at, topic_at}
 use Rattle.kb_topics.specs.MetaLog.{IsFold}
-use Rattle.kb_partitions.specs.Logs.{log_at}
-use Rattle.kb_partitions.specs.Partitions.{log_state, logs_of, partition_identity}
-use Rattle.kb_partitions.specs.Partitions as partitions
-use Rattle.kb_partitions.specs.declared.partition.Partition.{Partition}
-use Rattle.kb_partitions.proofs.Changed.{log_at_is}
-use Rattle.kb_world.specs.Parts.{IsSound, Agrees, Owns, entries, meta, start_said}
+use Rattle.kb_world.specs.Partitions.{log_state, logs_of, partition_identity}
+use Rattle.kb_world.specs.Partitions as partitions
+use Rattle.kb_world.specs.declared.partition.Partition.{Partition}
+use Rattle.kb_world.proofs.Changed.{log_at_is}
+use Rattle.kb_world.specs.Parts.{IsSound, Agrees, entries, meta, start_said}
 use Rattle.kb_world.specs.Tied.{counted, partition_count}
 use Rattle.kb_world.specs.declared.parts.Parts.{Parts}
 use Rattle.kb_service.specs.Hosted.{TenantState, kept_of, names_of}
@@ -395,10 +394,10 @@ module _ (d : Disk) (lawful : IsLawfulDisk d) (honest : d.honest) (strays : List
                     let place : t ≡ u.tenant = apart t u.tenant (name t p at) (name_at t p at) (u.named ∙ ap Some one) in
                     let instance : u.instance ≡ i = one_number i u.instance h.instance (number_is u.instance h.instance b.instance) a.instance in
                     let number : u.partition ≡ n = one_number n u.partition h.partition (number_is u.partition h.partition b.partition) a.partition in
-                    let same : (kept_of ts t).known ≡ known p.catalog = k.known_is t p at in
+                    let same : (kept_of ts t).world.known ≡ known p.catalog = k.known_is t p at in
                     let none : partition_at (known p.catalog) (pos i) (pos n) ≡ None =
-                    ap (λ w. partition_at w (pos i) (pos n)) (sym same) ∙ ap (λ v. partition_at (kept_of ts v).known (pos i) (pos n)) place
-                    ∙ ap (λ j. partition_at (kept_of ts u.tenant).known (pos j) (pos n)) (sym instance) ∙ ap (λ m. partition_at (kept_of ts u.tenant).known (pos u.instance) (pos m)) (sym number) ∙ u.unknown in
+                    ap (λ w. partition_at w (pos i) (pos n)) (sym same) ∙ ap (λ v. partition_at (kept_of ts v).world.known (pos i) (pos n)) place
+                    ∙ ap (λ j. partition_at (kept_of ts u.tenant).world.known (pos j) (pos n)) (sym instance) ∙ ap (λ m. partition_at (kept_of ts u.tenant).world.known (pos u.instance) (pos m)) (sym number) ∙ u.unknown in
                     none-some part (sym none ∙ known_at)
 
         log_owned : (segment_log x.log).owns file
@@ -464,7 +463,7 @@ module _ (d : Disk) (lawful : IsLawfulDisk d) (honest : d.honest) (strays : List
     names_are = refl;
     each = λ t name at.
         let p = parts_at t name at in
-        subst (λ n. IsOpened d.files (owners_of d.files numbers n) (kept_of ts t).known (kept_of ts t).logs) p.2
-        (subst (λ w. IsOpened d.files (owners_of d.files numbers (string_bytes p.0.tenant)) w (kept_of ts t).logs) (sym (k.known_is t p.0 p.1))
+        subst (λ n. IsOpened d.files (owners_of d.files numbers n) (kept_of ts t).world.known (kept_of ts t).world.logs) p.2
+        (subst (λ w. IsOpened d.files (owners_of d.files numbers (string_bytes p.0.tenant)) w (kept_of ts t).world.logs) (sym (k.known_is t p.0 p.1))
         (subst (λ ls. IsOpened d.files (owners_of d.files numbers (string_bytes p.0.tenant)) (known p.0.catalog) ls) (sym (k.logs_are t p.0 p.1)) (is_found t p.0 p.1)));
   }

@@ -1,11 +1,11 @@
 -- A directory that was read: its files are those of logs, and those of none.
-use Rattle.std.proofs.Common.{◌≡◌, ◌∙◌, ◌⊎◌, inl, inr, ⊎_elim, ◌≤◌, ◌<◌, ◌+◌, ◌++◌, ℕ, zero, suc, Bool, true, false, not, cond, List, [], ◌∷◌, Option, Some, None, refl, sym, ap, subst, arith, length, get_or}
-use Rattle.std.specs.Prelude.{◌&&◌, nat_eq, pos, slice_get, string_bytes, map, option_map, IsSome, IsPermutation}
+use Rattle.std.proofs.Common.{◌≡◌, ◌∙◌, inl, inr, ◌<◌, ℕ, zero, suc, Bool, true, false, not, cond, List, [], ◌∷◌, Option, Some, None, sym, ap, subst, arith, length, get_or}
+use Rattle.std.specs.Prelude.{◌&&◌, nat_eq, pos, slice_get, string_bytes, map, option_map, IsPermutation}
 use Rattle.std.specs.List.{All, Contains, IsDistinct, filter, list_any}
 use Rattle.std.specs.Str.{bytes_eq}
 use Rattle.std.proofs.lemmas.Bool.{and_parts, false≢true}
 use Rattle.std.proofs.lemmas.Option.{slice_get-get_or, get_or_from_slice_get, slice_get_within, slice_get-map, same_Some}
-use Rattle.std.proofs.lemmas.List.Elements.{All-contains, All-contains_itself, All-filter, filter_passes, Contains-append_left, Contains-append_right}
+use Rattle.std.proofs.lemmas.List.Elements.{All-contains, All-contains_itself, All-filter, filter_passes, Contains-append_right}
 use Rattle.std.proofs.lemmas.List.Folds.{list_any_at}
 use Rattle.std.proofs.lemmas.List.Sorted.{All-permutation, IsPermutation-sym, Contains-permutation}
 use Rattle.kb_store.specs.Disk.{Disk, Files, IsThere, Keeps}
@@ -19,14 +19,13 @@ use Rattle.kb_tenants.specs.Tenants.{AreSound}
 use Rattle.kb_opening.specs.Opened.{Owners}
 use Rattle.kb_opening.specs.Owners.{is_of_catalog, is_of_partition, is_of_one, passes, says, strays_of}
 use Rattle.kb_opening.specs.Directory.{all_files, files_at, owned_in, IsDirectory}
-use Rattle.kb_opening.specs.Tenant.{owners_in, tenant_in, AreListed, AreOwnNamed, IsOfTenant, IsTenantOf}
+use Rattle.kb_opening.specs.Tenant.{owners_in, tenant_in, AreListed, AreOwnNamed, IsTenantOf}
 use Rattle.kb_opening.specs.declared.directory.Directory.{Directory}
 use Rattle.kb_opening.specs.declared.owner.Owner.{Owner}
 use Rattle.kb_opening.specs.declared.owner.Owner.TheVariants.{Catalog, Partition}
-use Rattle.kb_opening.proofs.Openings.{clears_then, clears_wider}
-use Rattle.kb_restart.specs.Restart.{owners_of, names_in, AreOpened, AreOwnedNamed, AreRestored, IsLeft, IsOfFirst, IsOfLog, IsOfNone}
+use Rattle.kb_opening.proofs.Openings.{clears_wider}
+use Rattle.kb_restart.specs.Restart.{owners_of, names_in, AreOpened, AreOwnedNamed, AreRestored, IsLeft, IsOfFirst, IsOfLog}
 use Rattle.kb_restart.proofs.Owners.{listed_at, tenants_apart}
-use Rattle.kb_restart.proofs.Restored.{all_from}
 
 -- ---- what a filter keeps
 

@@ -1,8 +1,8 @@
 -- What the broker's tenants have, by the parts that were opened.
-use Rattle.std.proofs.Common.{◌≡◌, ◌∙◌, ◌⊎◌, inl, inr, ◌<◌, ℕ, zero, suc, List, [], ◌∷◌, None, Some, refl, sym, ap, subst, arith, map, length, get_or}
+use Rattle.std.proofs.Common.{◌≡◌, ◌∙◌, inl, inr, ◌<◌, ℕ, zero, suc, List, [], ◌∷◌, Some, refl, sym, ap, subst, arith, map, length}
 use Rattle.std.specs.Prelude.{slice_get, option_map, pos}
-use Rattle.std.specs.FinMap.{get, keys}
-use Rattle.std.specs.List.{All, Contains, zip}
+use Rattle.std.specs.FinMap.{keys}
+use Rattle.std.specs.List.{All, zip}
 use Rattle.std.proofs.lemmas.Option.{get_or_from_slice_get, slice_get-map, slice_get_within}
 use Rattle.std.proofs.lemmas.List.Elements.{All-cons, All-head, All-nil, All-tail}
 use Rattle.std.proofs.lemmas.Simd.{map-map}
@@ -13,12 +13,12 @@ use Rattle.kb_segment_log.specs.declared.log.SegmentLog.{SegmentLog}
 use Rattle.kb_segment_log.proofs.Opened.{clears_kept}
 use Rattle.kb_topics.specs.Catalog.{known}
 use Rattle.kb_topics.specs.Known.{partition_at}
-use Rattle.kb_world.specs.Parts.{Agrees, world_of}
+use Rattle.kb_world.specs.Parts.{world_of}
 use Rattle.kb_world.specs.declared.parts.Parts.{Parts}
 use Rattle.kb_service.specs.Hosted.{Kept, TenantState, kept_in, kept_of, names_of, nothing}
 use Rattle.kb_tenants.specs.Tenants.{restored_tenant, Agree}
 use Rattle.kb_opening.proofs.Unique.{only_opened}
-use Rattle.kb_restart.specs.Restart.{owners_of, AreOnly, AreOpened, AreReopened, IsLeft, IsOfLog, IsOfNone, IsReopened, IsStray, IsUnknown, have_nothing_refused, tenants_restored}
+use Rattle.kb_restart.specs.Restart.{owners_of, AreOnly, AreOpened, AreReopened, IsLeft, IsOfLog, IsReopened, IsStray, have_nothing_refused, tenants_restored}
 use Rattle.kb_restart.proofs.Hosting.{zip_at, zip_firsts}
 
 pub item_within : {A : Type 0} (xs : List A) (p : ℕ) → p < length xs → (x : A) × (slice_get xs p ≡ Some x)
@@ -68,7 +68,7 @@ module _ (now : Files) (names : List (List ℕ)) (ps : List (Parts SegmentLog)) 
       partition = none_has.partition;
       named = none_has.named;
       has = none_has.has;
-      unknown = ap (λ (k : Kept). partition_at k.known (pos none_has.instance) (pos none_has.partition)) (kept_at none_has.tenant none_has.name none_has.parts none_has.named none_has.at) ∙ none_has.unknown;
+      unknown = ap (λ (k : Kept). partition_at k.world.known (pos none_has.instance) (pos none_has.partition)) (kept_at none_has.tenant none_has.name none_has.parts none_has.named none_has.at) ∙ none_has.unknown;
     }
 
     pub is_left : (file : ℕ) → IsStray files numbers names (tenants_restored now names ps) file → IsLeft files numbers names ps file
@@ -84,12 +84,12 @@ module _ (now : Files) (names : List (List ℕ)) (ps : List (Parts SegmentLog)) 
           named = none_has.named;
           at = p.1;
           has = none_has.has;
-          unknown = sym (ap (λ (k : Kept). partition_at k.known (pos none_has.instance) (pos none_has.partition)) (kept_at none_has.tenant none_has.name p.0 none_has.named p.1)) ∙ none_has.unknown;
+          unknown = sym (ap (λ (k : Kept). partition_at k.world.known (pos none_has.instance) (pos none_has.partition)) (kept_at none_has.tenant none_has.name p.0 none_has.named p.1)) ∙ none_has.unknown;
         }
 
 pub only_reopened : (files : Files) (numbers : List ℕ) (names : List (List ℕ)) (ts : List TenantState) → AreReopened files numbers names ts → AreOnly files numbers names ts
 only_reopened files numbers names ts reopened t name at =
-    only_opened files (owners_of files numbers name) (kept_of ts t).known (kept_of ts t).logs (reopened.each t name at).opened
+    only_opened files (owners_of files numbers name) (kept_of ts t).world.known (kept_of ts t).world.logs (reopened.each t name at).opened
 
 pub none_counted : (now : Files) (names : List (List ℕ)) (ps : List (Parts SegmentLog)) → All (λ (p : Parts SegmentLog). p.refusals ≡ 0) ps → have_nothing_refused (tenants_restored now names ps)
 none_counted now [] ps all = All-nil (λ (x : TenantState). x.refusals ≡ 0)
@@ -102,9 +102,6 @@ none_counted now (n ∷ names) (p ∷ ps) all =
 
 pub keeps_then : (old mid new : Disk) → Keeps old mid → Keeps mid new → Keeps old new
 keeps_then old mid new a b = record { table = b.table ∙ a.table; honest = λ h. a.honest (b.honest h); files = λ h. b.files h ∙ a.files (b.honest h) }
-
-pub keeps_clears : {owns : ℕ → Type 0} (old new : Disk) → Keeps old new → Clears owns old new
-keeps_clears old new kept = record { honest = kept.honest; lengths = λ file not. ap (λ t. get t file) kept.table; contents = λ h file not. ap (λ t. get t file) (kept.files h) }
 
 module _ (old first now : Disk) (kept : Keeps old first) (numbers : List ℕ) (same : numbers ≡ keys old.table) (names whole : List (List ℕ)) (named : names ≡ whole) where
   -- what is said by the files and the names, as they were

@@ -1,5 +1,5 @@
 -- The tenants are opened one after another.
-use Rattle.std.proofs.Common.{◌≡◌, ◌∙◌, ◌⊎◌, ◌≤◌, ◌<◌, ◌+◌, ◌++◌, inl, inr, ⊎_elim, ℕ, zero, suc, List, [], ◌∷◌, Some, None, refl, sym, ap, subst, arith, length, length-append, map, take, get_or, Bor, Result, Err}
+use Rattle.std.proofs.Common.{◌≡◌, ◌∙◌, ◌⊎◌, ◌≤◌, ◌<◌, ◌+◌, ◌++◌, inl, inr, ⊎_elim, ℕ, zero, suc, List, [], ◌∷◌, Some, refl, sym, ap, subst, arith, length, length-append, map, take, get_or, Bor, Result, Err}
 use Rattle.std.specs.Prelude.{nat_eq, pos, slice_get, string_bytes, option_map, IsSome, IsPermutation}
 use Rattle.std.specs.FinMap.{get}
 use Rattle.std.specs.List.{All, Contains, IsDistinct}
@@ -15,9 +15,9 @@ use Rattle.kb_segment_log.specs.Chain.{IsAsBefore}
 use Rattle.kb_segment_log.specs.declared.log.SegmentLog.{SegmentLog}
 use Rattle.kb_segment_log.proofs.Opened.{distinct_moved}
 use Rattle.kb_topics.specs.Catalog.{known, meta_log}
-use Rattle.kb_topics.specs.Known.{Known, partition_at}
-use Rattle.kb_partitions.specs.Logs.{Logs}
-use Rattle.kb_partitions.specs.Partitions.{logs_of, AreExact}
+use Rattle.kb_topics.specs.Known.{Known}
+use Rattle.kb_world.specs.Logs.{Logs}
+use Rattle.kb_world.specs.Partitions.{logs_of, AreExact}
 use Rattle.kb_world.specs.Parts.{IsSound, Owns, entries, meta}
 use Rattle.kb_world.specs.declared.parts.Parts.{Parts}
 use Rattle.kb_tenants.proofs.Others.{still_sound, still_seen, still_agrees}
@@ -37,7 +37,7 @@ use Rattle.kb_log.specs.declared.fault.LogFault.{LogFault}
 use Rattle.kb_broker.proofs.OpeningParts.{mapped-more}
 use Rattle.kb_restart.specs.Restart.{names_in, AreOwnedNamed, IsOfFirst, IsRestored, AreRestored}
 use Rattle.kb_restart.proofs.Accounted.{next_accounted}
-use Rattle.kb_restart.proofs.Owners.{distinct_parts, listed_at, tenants_apart}
+use Rattle.kb_restart.proofs.Owners.{distinct_parts, tenants_apart}
 
 -- ---- lists
 

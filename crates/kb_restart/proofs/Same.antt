@@ -1,6 +1,6 @@
 -- What the files come to that are left, when they are opened again.
-use Rattle.std.proofs.Common.{◌≡◌, ◌∙◌, ◌⊎◌, ◌≤◌, ◌<◌, ◌+◌, ◌++◌, inl, inr, ⊎_elim, ℕ, zero, suc, Bool, true, false, cond, List, [], ◌∷◌, Some, refl, sym, ap, subst, arith, length}
-use Rattle.std.specs.Prelude.{nat_eq, pos, slice_get, is_some, filter, ◌||◌, IsSome, IsPermutation}
+use Rattle.std.proofs.Common.{◌≡◌, ◌∙◌, ◌⊎◌, ◌+◌, ◌++◌, inl, inr, ⊎_elim, ℕ, zero, suc, Bool, true, false, cond, List, [], ◌∷◌, Some, refl, sym, ap, subst, arith, length}
+use Rattle.std.specs.Prelude.{nat_eq, pos, slice_get, is_some, filter, ◌||◌, IsPermutation}
 use Rattle.std.specs.FinMap.{get, keys, contains_key-keys}
 use Rattle.std.specs.List.{All, AllByRecursion, Contains, IsDistinct, list_any}
 use Rattle.std.specs.Ordering.{nat_cmp, eq_by_cmp}
@@ -11,23 +11,21 @@ use Rattle.std.proofs.lemmas.List.Sorted.{IsPermutation-refl, IsPermutation-sym,
 use Rattle.std.proofs.lemmas.Map.Keys.{IsDistinct-tail}
 use Rattle.kb_store.specs.Disk.{Disk, Table, Files, IsThere, Keeps}
 use Rattle.kb_batch.specs.Batch.{natural}
-use Rattle.kb_segment.specs.Header.{Header, header_in}
-use Rattle.kb_segment_log.specs.SegmentLog.{bytes_at, Clears}
+use Rattle.kb_segment.specs.Header.{Header}
+use Rattle.kb_segment_log.specs.SegmentLog.{Clears}
 use Rattle.kb_segment_log.specs.Chain.{ComesTo, remaining, KeepsHeaders}
 use Rattle.kb_segment_log.specs.declared.log.SegmentLog.{SegmentLog}
 use Rattle.kb_segment_log.proofs.Comes.{kept_headers, headers_then}
 use Rattle.kb_segment_log.proofs.Opened.{distinct_moved, head_apart}
 use Rattle.kb_segment_log.proofs.Remaining.{all_there, permutation_filter}
 use Rattle.kb_topics.specs.Known.{Known}
-use Rattle.kb_partitions.specs.Logs.{Logs}
+use Rattle.kb_world.specs.Logs.{Logs}
 use Rattle.kb_world.specs.declared.parts.Parts.{Parts}
-use Rattle.kb_service.specs.Hosted.{TenantState, kept_of}
+use Rattle.kb_service.specs.Hosted.{kept_of}
 use Rattle.kb_opening.specs.Opened.{Owners, IsOpened, TenantLosesNothing, remaining_of}
 use Rattle.kb_opening.specs.Owners.{says, passes, is_of_catalog, is_of_partition}
-use Rattle.kb_opening.specs.Directory.{all_files, files_at}
 use Rattle.kb_opening.specs.Tenant.{owners_in, AreListed, IsOfTenant}
 use Rattle.kb_opening.specs.declared.directory.Directory.{Directory}
-use Rattle.kb_opening.specs.declared.owner.Owner.{Owner}
 use Rattle.kb_opening.specs.declared.owner.Owner.TheVariants.{Catalog, Partition}
 use Rattle.kb_opening.proofs.Lost.{of_filter, remaining_same, chain_moved}
 use Rattle.kb_opening.proofs.LostTopics.{owner_there}
@@ -35,7 +33,7 @@ use Rattle.kb_restart.specs.Restart.{owners_of, AreReopened, AreRestored, ComeTo
 use Rattle.kb_restart.proofs.Listed.{all_listed, listed_apart}
 use Rattle.kb_restart.proofs.Owners.{tenants_apart}
 use Rattle.kb_restart.proofs.Read.{of_filter as filtered}
-use Rattle.kb_restart.proofs.Restored.{opened_stays, first_had, no_other, next_clears}
+use Rattle.kb_restart.proofs.Restored.{opened_stays, first_had, no_other}
 
 -- ---- of some owners' files
 
@@ -254,9 +252,9 @@ come_to_same names old new headers lost h ts was = record {
       let its = was.each t name at in
       let k = kept_of ts t in
       record {
-        opened = opened_moved new.files (remaining_of new.table (owners_of old.files (keys old.table) name)) (owners_of new.files (keys new.table) name) k.known k.logs
+        opened = opened_moved new.files (remaining_of new.table (owners_of old.files (keys old.table) name)) (owners_of new.files (keys new.table) name) k.world.known k.world.logs
             (says_left old new (headers h) (is_of_catalog name)) (λ i p. says_left old new (headers h) (is_of_partition name i p))
-            (lost h t name at k.known k.logs its.opened);
+            (lost h t name at k.world.known k.world.logs its.opened);
         groups = its.groups;
       };
 }

@@ -1,11 +1,11 @@
 -- A file that nobody took out is of no log.
-use Rattle.std.proofs.Common.{◌≡◌, ◌∙◌, ◌⊎◌, inl, inr, ⊎_elim, ◌≤◌, ◌<◌, ◌+◌, ◌++◌, ℕ, zero, suc, Bool, true, false, not, cond, List, [], ◌∷◌, Option, Some, None, Ok, Err, refl, sym, ap, subst, arith, length, take}
-use Rattle.std.specs.Prelude.{ℤ, pos, negsuc, ◌&&◌, ◌||◌, slice_get, nat_eq, IsSome, IsPermutation}
-use Rattle.std.specs.List.{All, Contains, IsDistinct, list_any}
+use Rattle.std.proofs.Common.{◌≡◌, ◌∙◌, ◌⊎◌, inl, inr, ⊎_elim, ◌<◌, ℕ, zero, suc, true, false, not, List, [], ◌∷◌, Option, Some, None, Ok, Err, refl, sym, ap, subst, arith, length, take}
+use Rattle.std.specs.Prelude.{ℤ, pos, negsuc, ◌&&◌, ◌||◌, slice_get, IsSome}
+use Rattle.std.specs.List.{Contains, list_any}
 use Rattle.std.specs.Str.{bytes_eq}
 use Rattle.std.proofs.lemmas.Bool.{and_parts, or_cases, eq-eqb, false≢true}
 use Rattle.std.proofs.lemmas.Option.{none-some, cond_some, slice_get_within}
-use Rattle.kb_store.specs.Disk.{Disk, Files, IsThere}
+use Rattle.kb_store.specs.Disk.{Disk, Files}
 use Rattle.kb_batch.specs.Batch.{is_natural, natural}
 use Rattle.kb_segment.specs.Header.{Header, is_legal, is_partition, is_meta, is_tenant, is_not_negative, is_readable, is_sealed, said_size, header_with, header_in, header_of, said_read}
 use Rattle.kb_segment_log.specs.SegmentLog.{bytes_at}

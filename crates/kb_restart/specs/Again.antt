@@ -10,7 +10,7 @@ use Rattle.kb_restart.specs.Restart.{IsStray, owners_of}
 pub record AreFound (files : Files) (numbers : List ℕ) (names : List (List ℕ)) (ts : List TenantState) : Type 0 where
   pub names_are : names_of ts ≡ names
   pub each : (t : ℕ) (name : List ℕ) → slice_get names t ≡ Some name
-      → IsOpened files (owners_of files numbers name) (kept_of ts t).known (kept_of ts t).logs
+      → IsOpened files (owners_of files numbers name) (kept_of ts t).world.known (kept_of ts t).world.logs
 
 -- files that were of no log are of none of what the tenants have now
 abbrev pub AreStillStrays : Files → List ℕ → List (List ℕ) → List TenantState → List ℕ → Type 0
@@ -24,4 +24,4 @@ AreApart names = (t u : ℕ) (name : List ℕ) → slice_get names t ≡ Some na
 -- of each partition the same log.
 abbrev pub HaveSame : List TenantState → List TenantState → Type 0
 HaveSame ts us = (t : ℕ) (name : List ℕ) → slice_get (names_of ts) t ≡ Some name
-    → IsSame (kept_of ts t).known (kept_of ts t).logs (kept_of us t).known (kept_of us t).logs
+    → IsSame (kept_of ts t).world.known (kept_of ts t).world.logs (kept_of us t).world.known (kept_of us t).world.logs

@@ -13,7 +13,7 @@ use Rattle.kb_segment_log.specs.SegmentLog.{segment_log, Clears}
 use Rattle.kb_segment_log.specs.declared.log.SegmentLog.{SegmentLog}
 use Rattle.kb_topics.specs.Catalog.{known}
 use Rattle.kb_topics.specs.Known.{partition_at}
-use Rattle.kb_partitions.specs.Partitions.{AreExact}
+use Rattle.kb_world.specs.Partitions.{AreExact}
 use Rattle.kb_world.specs.Parts.{IsSound, Owns, entries, meta}
 use Rattle.kb_world.specs.declared.parts.Parts.{Parts}
 use Rattle.kb_service.specs.Hosted.{Kept, TenantState, kept_of, names_of}
@@ -35,7 +35,7 @@ owners_of files numbers name = record { catalog = catalog_of files name numbers;
 
 -- A tenant keeps what its files come to, and has no groups.
 pub record IsReopened (files : Files) (numbers name : List ℕ) (kept : Kept) : Type 0 where
-  pub opened : IsOpened files (owners_of files numbers name) kept.known kept.logs
+  pub opened : IsOpened files (owners_of files numbers name) kept.world.known kept.world.logs
   pub groups : kept.groups ≡ none
 
 -- So does each, at the place of its name.
@@ -46,7 +46,7 @@ pub record AreReopened (files : Files) (numbers : List ℕ) (names : List (List 
 -- Each world that a tenant's files come to is the one that it keeps.
 abbrev pub AreOnly : Files → List ℕ → List (List ℕ) → List TenantState → Type 0
 AreOnly files numbers names ts = (t : ℕ) (name : List ℕ) → slice_get names t ≡ Some name
-    → IsOnly files (owners_of files numbers name) (kept_of ts t).known (kept_of ts t).logs
+    → IsOnly files (owners_of files numbers name) (kept_of ts t).world.known (kept_of ts t).world.logs
 
 abbrev pub have_nothing_refused : List TenantState → Type 0
 have_nothing_refused ts = All (λ (x : TenantState). x.refusals ≡ 0) ts
@@ -59,7 +59,7 @@ pub record IsUnknown (files : Files) (numbers : List ℕ) (names : List (List �
   pub partition : ℕ
   pub named : slice_get names tenant ≡ Some name
   pub has : Contains (partition_of files name instance partition numbers) file
-  pub unknown : partition_at (kept_of ts tenant).known (pos instance) (pos partition) ≡ None
+  pub unknown : partition_at (kept_of ts tenant).world.known (pos instance) (pos partition) ≡ None
 
 -- The file is of no log: its header is unreadable, or of a tenant that is not named or of a later generation; or its tenant has no
 -- such partition.

@@ -51,7 +51,7 @@ pub struct Dropped {
 pub fn file_lengths<S: Store>(alloc: Global, store: &mut S) -> Result<Vec<FileLength>, StoreFault>
     ensures lengths { IfOk result (λ lengths. lengths.items ≡ lengths_of (S.disk store.old)) }
     ensures rise { IfOk result (λ lengths. AreRising lengths.items) }
-    ensures kept { Keeps (S.disk store.old) (S.disk store.new) }
+    ensures unchanged { Keeps (S.disk store.old) (S.disk store.new) }
     ensures cause { HasCause (S.disk store.old) result (S.disk store.new) }
 {
     let files = store.list(alloc)?;

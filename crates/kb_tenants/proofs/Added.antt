@@ -3,7 +3,7 @@ use Rattle.std.proofs.Common.{◌≡◌, ◌∙◌, ◌⊎◌, ⊎_elim, inl, in
 use Rattle.std.specs.Prelude.{Contains, IsSome, length, map, slice_get, string_bytes}
 use Rattle.std.specs.declared.alloc.Global.{Global}
 use Rattle.std.specs.declared.vec.Vec.{Vec}
-use Rattle.kb_partitions.specs.Partitions.{AreExact}
+use Rattle.kb_world.specs.Partitions.{AreExact}
 use Rattle.std.proofs.lemmas.List.{map_push}
 use Rattle.kb_coordinator.specs.Groups.{none}
 use Rattle.kb_store.specs.Disk.{Disk, Table, Files}
@@ -103,7 +103,7 @@ module _ {L : Type 0} (log : L → Log) (ps : List (Parts L)) (p : Parts L) wher
   }
 
 -- nothing was added
-module _ {L S : Type 0} (log : L → Log) (disk : S → Disk) (old new : Tenants L S) (left : new.tenants.items ≡ old.tenants.items) (same : new.shelf ≡ old.shelf) (until : new.kept_until ≡ old.kept_until) (strays : new.strays ≡ old.strays) where
+module _ {L S : Type 0} (log : L → Log) (disk : S → Disk) (old new : Tenants L S) (left : new.tenants.items ≡ old.tenants.items) (same : new.shelf ≡ old.shelf) (until : new.next_retention_time ≡ old.next_retention_time) (strays : new.strays ≡ old.strays) where
   pub hosted_left : hosted log disk new ≡ hosted log disk old
   hosted_left = ap (λ (s : Shelved S). map (state_of log (disk s.store).files) new.tenants.items) same ∙ ap (map (state_of log (disk old.shelf.store).files)) left
 
@@ -121,7 +121,7 @@ module _ {L S : Type 0} (log : L → Log) (disk : S → Disk) (old new : Tenants
     agree = λ honest. subst (λ (s : Shelved S). Agree log (parts_of new.tenants.items) (disk s.store).files) (sym same)
         (subst (λ (xs : List (Tenant L)). Agree log (parts_of xs) (disk old.shelf.store).files) (sym left) (kept.agree (subst (λ (s : Shelved S). (disk s.store).honest) same honest)));
     until = λ honest. subst (λ z. IsIdleUntil z (hosted log disk new)) (sym until)
-        (subst (IsIdleUntil old.kept_until) (sym hosted_left) (kept.until (subst (λ (s : Shelved S). (disk s.store).honest) same honest)));
+        (subst (IsIdleUntil old.next_retention_time) (sym hosted_left) (kept.until (subst (λ (s : Shelved S). (disk s.store).honest) same honest)));
   }
 
 -- a tenant of parts that were there was added behind the others
@@ -143,7 +143,7 @@ module _ {L S : Type 0} (log : L → Log) (disk : S → Disk) (old new : Tenants
 
   pub kept_pushed : IsSound log x.parts (disk old.shelf.store).table old.shelf.next → IsApart log (parts_of old.tenants.items) x.parts
       → string_bytes x.parts.tenant ≡ name → ((file : ℕ) → Contains (strays_of old.strays) file → Owns log x.parts file → ⊥) → (IsSome old.strays → IsExact log x.parts (disk old.shelf.store).table)
-      → (shelf_is_honest disk old → Agrees log x.parts (disk old.shelf.store).files) → (shelf_is_honest disk old → IsIdleUntil new.kept_until (hosted log disk new))
+      → (shelf_is_honest disk old → Agrees log x.parts (disk old.shelf.store).files) → (shelf_is_honest disk old → IsIdleUntil new.next_retention_time (hosted log disk new))
       → AreKept log disk old → AreKept log disk new
   kept_pushed sound alone own free exact agrees idle kept =
       let before : shelf_is_honest disk new → shelf_is_honest disk old = subst (λ (s : Shelved S). (disk s.store).honest) same in
@@ -171,7 +171,7 @@ module _ {L S : Type 0} (log : L → Log) (disk : S → Disk) (old new : Tenants
 
 -- a tenant without files was added behind the others
 module _ {L S : Type 0} (log : L → Log) (disk : S → Disk) (old new : Tenants L S) (x : Tenant L)
-    (pushed : new.tenants.items ≡ old.tenants.items ++ x ∷ []) (same : new.shelf ≡ old.shelf) (until : new.kept_until ≡ old.kept_until) (strays : new.strays ≡ old.strays)
+    (pushed : new.tenants.items ≡ old.tenants.items ++ x ∷ []) (same : new.shelf ≡ old.shelf) (until : new.next_retention_time ≡ old.next_retention_time) (strays : new.strays ≡ old.strays)
     (name : List ℕ) (named : string_bytes x.name ≡ name) (world : (files : Files) → world_of log x.parts files ≡ new_world) (calm : x.parts.refusals ≡ 0) (bare : x.groups ≡ none) where
   pub hosted_added : hosted log disk new ≡ hosted log disk old ++ new_tenant name ∷ []
   hosted_added =
@@ -184,5 +184,5 @@ module _ {L S : Type 0} (log : L → Log) (disk : S → Disk) (old new : Tenants
       → string_bytes x.parts.tenant ≡ name → ((table : Table) → IsExact log x.parts table) → AreKept log disk old → AreKept log disk new
   kept_added sound agrees none own exact kept = kept_pushed log disk old new x pushed same strays name named bare
       (sound (disk old.shelf.store).table old.shelf.next) (λ t p at file own theirs. none file theirs) own (λ file stray theirs. none file theirs) (λ known. exact (disk old.shelf.store).table) (λ honest. agrees (disk old.shelf.store).files)
-      (λ honest. subst (λ z. IsIdleUntil z (hosted log disk new)) (sym until) (subst (IsIdleUntil old.kept_until) (sym hosted_added) (idle_added old.kept_until (hosted log disk old) name (kept.until honest))))
+      (λ honest. subst (λ z. IsIdleUntil z (hosted log disk new)) (sym until) (subst (IsIdleUntil old.next_retention_time) (sym hosted_added) (idle_added old.next_retention_time (hosted log disk old) name (kept.until honest))))
       kept

@@ -34,23 +34,21 @@ untold k gs apart = by gs.released apart
 -- nothing has changed
 pub quiet_same : (ns : List ℕ) (k l : Kept) → l ≡ k → IsQuietBut ns k l
 quiet_same ns k l same = record {
-  known = ap (λ (x : Kept). x.known) same;
-  logs = ap (λ (x : Kept). x.logs) same;
+  world = ap (λ (x : Kept). x.world) same;
   told = λ n apart silent. ap (λ (x : Kept). told_to n x.groups) same ∙ silent;
 }
 
 -- more connections are listed
 pub quiet_longer : (ns ms : List ℕ) (k l : Kept) → ((n : ℕ) → Contains ns n → Contains ms n) → IsQuietBut ns k l → IsQuietBut ms k l
-quiet_longer ns ms k l longer q = record { known = q.known; logs = q.logs; told = λ n apart. q.told n (λ c. apart (longer n c)) }
+quiet_longer ns ms k l longer q = record { world = q.world; told = λ n apart. q.told n (λ c. apart (longer n c)) }
 
 pub quiet_then : (ns : List ℕ) (k l m : Kept) → IsQuietBut ns k l → IsQuietBut ns l m → IsQuietBut ns k m
-quiet_then ns k l m p q = record { known = q.known ∙ p.known; logs = q.logs ∙ p.logs; told = λ n apart silent. q.told n apart (p.told n apart silent) }
+quiet_then ns k l m p q = record { world = q.world ∙ p.world; told = λ n apart silent. q.told n apart (p.told n apart silent) }
 
 -- the groups had their moment, and whom they answered is listed
-pub quiet_listed : (ns ms : List ℕ) (k l : Kept) → l.known ≡ k.known → l.logs ≡ k.logs → ms ≡ ns ++ answered_connections l.groups → IsQuietBut ms k l
-quiet_listed ns ms k l known logs listed = record {
-  known = known;
-  logs = logs;
+pub quiet_listed : (ns ms : List ℕ) (k l : Kept) → l.world ≡ k.world → ms ≡ ns ++ answered_connections l.groups → IsQuietBut ms k l
+quiet_listed ns ms k l world listed = record {
+  world = world;
   told = λ n apart silent. untold n l.groups (λ c. apart (subst (λ xs. Contains xs n) (sym listed) (Contains-append_right ns (answered_connections l.groups) n c)));
 }
 

@@ -14,17 +14,16 @@ use Rattle.kb_coordinator.specs.Groups.{Groups, none}
 use Rattle.kb_store.specs.Disk.{Disk, Files}
 use Rattle.kb_log.specs.OnShelf.{Log, IsLawfulLog}
 use Rattle.kb_log.specs.Shelf.{Shelved}
-use Rattle.kb_partitions.specs.Scene.{WhereHonest}
-use Rattle.kb_world.specs.Calls.{at_clock}
-use Rattle.kb_world.specs.Parts.{Agrees, IsSound, scene, world_of, entries, raised, refused}
+use Rattle.kb_world.specs.Scene.{WhereHonest}
+use Rattle.kb_world.specs.Parts.{Agrees, IsSound, scene, world_of, raised, refused}
 use Rattle.kb_world.specs.Counts.{END, IsCalm, counted_once}
-use Rattle.kb_world.specs.Steps.{IsStep, Meets, step_same, step_then}
+use Rattle.kb_world.specs.Steps.{IsStep, Meets, step_same}
 use Rattle.kb_world.specs.World.{World}
 use Rattle.kb_world.specs.declared.parts.Parts.{Parts}
-use Rattle.kb_world.proofs.Lifted.{clocked, recast, loud, raised_meets, raised_step, refused_step}
-use Rattle.kb_service.specs.Hosted.{TenantState, Kept, nothing, kept_in, kept_of, left, passed, refusals_of, names_of, world_at}
+use Rattle.kb_world.proofs.Lifted.{loud, raised_meets, raised_step, refused_step}
+use Rattle.kb_service.specs.Hosted.{TenantState, Kept, nothing, kept_in, kept_of, left, passed, refusals_of, names_of}
 use Rattle.kb_service.specs.Turns.{IsAccounted, IsTurn, IsMet, with_kept, all_calm}
-use Rattle.kb_partitions.proofs.Put.{get_put}
+use Rattle.kb_world.proofs.Put.{get_put}
 use Rattle.kb_tenant.proofs.LogMoves.{same_or_not}
 use Rattle.kb_tenants.specs.Tenants.{AreKept, AreLeftAlone, AreSettled, HaveNothingRefused, IsIdleUntil, IsLeftAlone, hosted, parts_of, regrouped, state_of, strays_of}
 use Rattle.kb_tenants.specs.Turns.{IsShelfTurn, seen_at}
@@ -117,7 +116,7 @@ module _ {L : Type 0} (log : L → Log) (files : Files) where
 
 -- the tenants after a call that left the tenant at a place these parts and groups, and this shelf
 abbrev pub after : {L S : Type 0} → Tenants L S → ℕ → Tenant L → Parts L → Groups → Shelved S → Tenants L S
-after ts t x p gs shelf = record { tenants = with_item ts.tenants t (record x { parts = p; groups = gs }); shelf = shelf; kept_until = ts.kept_until; strays = ts.strays }
+after ts t x p gs shelf = record { tenants = with_item ts.tenants t (record x { parts = p; groups = gs }); shelf = shelf; next_retention_time = ts.next_retention_time; strays = ts.strays }
 
 -- what is due for a tenant is what it is seen to be
 pub idle_here : {L : Type 0} (log : L → Log) (files : Files) (ts : List (Tenant L)) (t : ℕ) (x : Tenant L) (until : ℤ) → slice_get ts t ≡ Some x → Agrees log x.parts files → IsQuiet log x until
@@ -125,14 +124,25 @@ pub idle_here : {L : Type 0} (log : L → Log) (files : Files) (ts : List (Tenan
 idle_here log files ts t x until at agree quiet clock le =
     subst (λ k. passed clock k ≡ k) (sym (kept_here log files ts t x at)) (quiet files agree clock le)
 
+-- where the tenant of a call stands
+module _ {L S : Type 0} (log : L → Log) (disk : S → Disk) (old : Tenants L S) (t : ℕ) (x : Tenant L) (lt : t < length (hosted log disk old)) (read : x ≡ get_or old.tenants.items t x) where
+  stands : slice_get old.tenants.items t ≡ Some x
+  stands = found old.tenants.items t x (within (state_of log (disk old.shelf.store).files) old.tenants.items t lt) read
+
+  parts_stand : slice_get (parts_of old.tenants.items) t ≡ Some x.parts
+  parts_stand = slice_get-map (λ (z : Tenant L). z.parts) old.tenants.items t ∙ ap (option_map (λ (z : Tenant L). z.parts)) stands
+
+  pub sound_here : AreKept log disk old → IsSound log x.parts (disk old.shelf.store).table old.shelf.next
+  sound_here kept = kept.sound.each t x.parts parts_stand
+
 module _ {L S : Type 0} (log : L → Log) (disk : S → Disk) (law : (l : L) → IsLawfulLog (log l)) (old : Tenants L S) (t : ℕ) (x : Tenant L) (p : Parts L) (gs : Groups) (shelf : Shelved S)
     (lt : t < length (hosted log disk old)) (read : x ≡ get_or old.tenants.items t x)
     (kept : AreKept log disk old) (step : IsStep (scene log disk x.parts old.shelf) (scene log disk p shelf)) where
   there : slice_get old.tenants.items t ≡ Some x
-  there = found old.tenants.items t x (within (state_of log (disk old.shelf.store).files) old.tenants.items t lt) read
+  there = stands log disk old t x lt read
 
   parts_there : slice_get (parts_of old.tenants.items) t ≡ Some x.parts
-  parts_there = slice_get-map (λ (z : Tenant L). z.parts) old.tenants.items t ∙ ap (option_map (λ (z : Tenant L). z.parts)) there
+  parts_there = parts_stand log disk old t x lt read
 
   there_after : slice_get (after old t x p gs shelf).tenants.items t ≡ Some (record x { parts = p; groups = gs })
   there_after = put_here old.tenants.items t x (record x { parts = p; groups = gs }) there
@@ -145,8 +155,8 @@ module _ {L S : Type 0} (log : L → Log) (disk : S → Disk) (law : (l : L) →
       subst (λ qs. IsShelfTurn log t (parts_of old.tenants.items) qs (disk old.shelf.store) (disk shelf.store) old.shelf.next shelf.next) (sym parts_after)
       (turn log law (parts_of old.tenants.items) t x.parts p (disk old.shelf.store) (disk shelf.store) old.shelf.next shelf.next parts_there kept.sound step)
 
-  kept_until : (until : ℤ) → ((disk shelf.store).honest → IsIdleUntil until (hosted log disk (after old t x p gs shelf))) → AreKept log disk (record (after old t x p gs shelf) { kept_until = until })
-  kept_until until idle = record {
+  kept_idle : (until : ℤ) → ((disk shelf.store).honest → IsIdleUntil until (hosted log disk (after old t x p gs shelf))) → AreKept log disk (record (after old t x p gs shelf) { next_retention_time = until })
+  kept_idle until idle = record {
     sound = shelf_turn.sound;
     named = λ u y here. ⊎_elim
         (λ s. subst (λ (z : Tenant L). string_bytes z.parts.tenant ≡ string_bytes z.name) (sym s.1) (step.named ∙ kept.named t x there))
@@ -216,16 +226,16 @@ module _ {L S : Type 0} (log : L → Log) (disk : S → Disk) (law : (l : L) →
   kept_now = kept_here log (disk shelf.store).files (after old t x p gs shelf).tenants.items t (record x { parts = p; groups = gs }) there_after
 
   -- where the tenant is looked at
-  pub kept_after : (until : ℤ) → until ≤ℤ old.kept_until → IsQuiet log (record x { parts = p; groups = gs }) until → AreKept log disk (record (after old t x p gs shelf) { kept_until = until })
-  kept_after until sooner quiet = kept_until until (λ honest.
+  pub kept_after : (until : ℤ) → until ≤ℤ old.next_retention_time → IsQuiet log (record x { parts = p; groups = gs }) until → AreKept log disk (record (after old t x p gs shelf) { next_retention_time = until })
+  kept_after until sooner quiet = kept_idle until (λ honest.
       let before = shelf_turn.honest honest in
-      idle_turn until old.kept_until t (disk shelf.store).honest (hosted log disk old) (hosted log disk (after old t x p gs shelf)) turn_after honest sooner (kept.until before)
+      idle_turn until old.next_retention_time t (disk shelf.store).honest (hosted log disk old) (hosted log disk (after old t x p gs shelf)) turn_after honest sooner (kept.until before)
       (idle_here log (disk shelf.store).files (after old t x p gs shelf).tenants.items t (record x { parts = p; groups = gs }) until there_after (step.frame.agrees honest (kept.agree before t x.parts parts_there)) quiet))
 
   -- where all keep what they kept
   pub kept_same : ((disk shelf.store).honest → (u : ℕ) → kept_of (hosted log disk (after old t x p gs shelf)) u ≡ kept_of (hosted log disk old) u) → AreKept log disk (after old t x p gs shelf)
-  kept_same same = kept_until old.kept_until (λ honest.
-      idle_stays old.kept_until (hosted log disk old) (hosted log disk (after old t x p gs shelf)) (same honest) (kept.until (shelf_turn.honest honest)))
+  kept_same same = kept_idle old.next_retention_time (λ honest.
+      idle_stays old.next_retention_time (hosted log disk old) (hosted log disk (after old t x p gs shelf)) (same honest) (kept.until (shelf_turn.honest honest)))
 
   -- a calm that is seen is one of the tenant's parts
   pub calm_here : IsCalm (refusals_of (hosted log disk old) t) (refusals_of (hosted log disk (after old t x p gs shelf)) t) → IsCalm x.parts.refusals p.refusals
@@ -268,17 +278,15 @@ module _ {L S : Type 0} (log : L → Log) (disk : S → Disk) (law : (l : L) →
   refused_at : IsStep (scene log disk x.parts old.shelf) (scene log disk p old.shelf)
   refused_at =
       let a = scene log disk x.parts old.shelf in
-      let here = found old.tenants.items t x (within (state_of log (disk old.shelf.store).files) old.tenants.items t lt) read in
-      let sound = kept.sound.each t x.parts (slice_get-map (λ (z : Tenant L). z.parts) old.tenants.items t ∙ ap (option_map (λ (z : Tenant L). z.parts)) here) in
-      subst (λ (v : Parts L). IsStep a (scene log disk v old.shelf)) (sym counted) (refused_step log a x.parts (disk old.shelf.store) old.shelf.next (step_same a sound))
+      subst (λ (v : Parts L). IsStep a (scene log disk v old.shelf)) (sym counted)
+      (refused_step log a x.parts (disk old.shelf.store) old.shelf.next (step_same a (sound_here log disk old t x lt read kept)))
 
   kepts_stay : kepts_in log (disk old.shelf.store).files (after old t x p x.groups old.shelf).tenants.items ≡ kepts_in log (disk old.shelf.store).files old.tenants.items
   unfolding kepts_in
   kepts_stay =
       let files = (disk old.shelf.store).files in
-      let here = found old.tenants.items t x (within (state_of log files) old.tenants.items t lt) read in
       map-set_same (λ (z : Tenant L). kept_in (world_of log z.parts files) z.groups) old.tenants.items t (record x { parts = p }) x
-      (ap (λ (v : Parts L). kept_in (world_of log v files) x.groups) counted ∙ ap (λ (z : Tenant L). kept_in (world_of log z.parts files) z.groups) (sym (get_or_from_slice_get old.tenants.items t x x here)))
+      (ap (λ (v : Parts L). kept_in (world_of log v files) x.groups) counted ∙ ap (λ (z : Tenant L). kept_in (world_of log z.parts files) z.groups) (sym (get_or_from_slice_get old.tenants.items t x x (stands log disk old t x lt read))))
 
   pub kept_stays : (u : ℕ) → kept_of (hosted log disk (after old t x p x.groups old.shelf)) u ≡ kept_of (hosted log disk old) u
   kept_stays u =
@@ -303,7 +311,7 @@ module _ {L S : Type 0} (log : L → Log) (disk : S → Disk) (law : (l : L) →
   pub once_refused : refusals_of (hosted log disk (after old t x p x.groups old.shelf)) t ≡ counted_once (refusals_of (hosted log disk old) t)
   once_refused =
       let files = (disk old.shelf.store).files in
-      let was = refusals_here log files old.tenants.items t x (there log disk law old t x p x.groups old.shelf lt read kept refused_at) in
+      let was = refusals_here log files old.tenants.items t x (stands log disk old t x lt read) in
       let is = refusals_here log files (after old t x p x.groups old.shelf).tenants.items t (record x { parts = p }) (there_after log disk law old t x p x.groups old.shelf lt read kept refused_at) in
       is ∙ ap (λ (v : Parts L). v.refusals) counted ∙ sym (ap counted_once was)
 
@@ -316,15 +324,10 @@ module _ {L S : Type 0} (log : L → Log) (disk : S → Disk) (law : (l : L) →
 
 module _ {L S : Type 0} (log : L → Log) (disk : S → Disk) (law : (l : L) → IsLawfulLog (log l)) (old : Tenants L S) (t : ℕ) (x : Tenant L) (gs : Groups)
     (lt : t < length (hosted log disk old)) (read : x ≡ get_or old.tenants.items t x) (kept : AreKept log disk old) where
-  sound_own : IsSound log x.parts (disk old.shelf.store).table old.shelf.next
-  sound_own =
-      let here = found old.tenants.items t x (within (state_of log (disk old.shelf.store).files) old.tenants.items t lt) read in
-      kept.sound.each t x.parts (slice_get-map (λ (z : Tenant L). z.parts) old.tenants.items t ∙ ap (option_map (λ (z : Tenant L). z.parts)) here)
-
   step_own : IsStep (scene log disk x.parts old.shelf) (scene log disk x.parts old.shelf)
-  step_own = step_same (scene log disk x.parts old.shelf) sound_own
+  step_own = step_same (scene log disk x.parts old.shelf) (sound_here log disk old t x lt read kept)
 
-  pub kept_left : (until : ℤ) → until ≤ℤ old.kept_until → IsQuiet log (record x { groups = gs }) until → AreKept log disk (record (after old t x x.parts gs old.shelf) { kept_until = until })
+  pub kept_left : (until : ℤ) → until ≤ℤ old.next_retention_time → IsQuiet log (record x { groups = gs }) until → AreKept log disk (record (after old t x x.parts gs old.shelf) { next_retention_time = until })
   kept_left = kept_after log disk law old t x x.parts gs old.shelf lt read kept step_own
 
   pub state_left : (clock n : ℕ) → gs ≡ groups.left clock n x.groups
@@ -332,7 +335,7 @@ module _ {L S : Type 0} (log : L → Log) (disk : S → Disk) (law : (l : L) →
   unfolding left
   state_left clock n is =
       let files = (disk old.shelf.store).files in
-      let here = found old.tenants.items t x (within (state_of log files) old.tenants.items t lt) read in
+      let here = stands log disk old t x lt read in
       let seen = kept_here log files old.tenants.items t x here in
       put_groups log files old.tenants.items t x gs here
       ∙ ap (λ k. with_kept t k (hosted log disk old)) (ap (kept_in (world_of log x.parts files)) is ∙ ap (left clock n) (sym seen))
@@ -342,7 +345,7 @@ module _ {L S : Type 0} (log : L → Log) (disk : S → Disk) (law : (l : L) →
     counted_own = subst (λ (v : Parts L). IsStep (scene log disk x.parts old.shelf) (scene log disk v old.shelf)) (sym counted)
         (raised_step log (scene log disk x.parts old.shelf) x.parts n (disk old.shelf.store) old.shelf.next step_own)
 
-    pub kept_counted : (until : ℤ) → until ≤ℤ old.kept_until → IsQuiet log (record x { parts = p; groups = gs }) until → AreKept log disk (record (after old t x p gs old.shelf) { kept_until = until })
+    pub kept_counted : (until : ℤ) → until ≤ℤ old.next_retention_time → IsQuiet log (record x { parts = p; groups = gs }) until → AreKept log disk (record (after old t x p gs old.shelf) { next_retention_time = until })
     kept_counted = kept_after log disk law old t x p gs old.shelf lt read kept counted_own
 
     pub turn_counted : IsTurn t (disk old.shelf.store).honest (hosted log disk old) (hosted log disk (after old t x p gs old.shelf))
@@ -354,18 +357,18 @@ module _ {L S : Type 0} (log : L → Log) (disk : S → Disk) (law : (l : L) →
         (length_named (hosted log disk old) (hosted log disk (after old t x p gs old.shelf)) turn_counted.names) turn_counted.grows
 
     -- the topics and the logs stay
-    pub topics_counted : let k = kept_of (hosted log disk old) t in let l = kept_of (hosted log disk (after old t x p gs old.shelf)) t in (l.known ≡ k.known) × (l.logs ≡ k.logs)
+    pub topics_counted : (kept_of (hosted log disk (after old t x p gs old.shelf)) t).world ≡ (kept_of (hosted log disk old) t).world
     topics_counted =
         let files = (disk old.shelf.store).files in
-        let was = kept_here log files old.tenants.items t x (found old.tenants.items t x (within (state_of log files) old.tenants.items t lt) read) in
+        let was = kept_here log files old.tenants.items t x (stands log disk old t x lt read) in
         let is = kept_now log disk law old t x p gs old.shelf lt read kept counted_own ∙ ap (λ (v : Parts L). kept_in (world_of log v files) gs) counted in
-        (ap (λ (k : Kept). k.known) is ∙ sym (ap (λ (k : Kept). k.known) was), ap (λ (k : Kept). k.logs) is ∙ sym (ap (λ (k : Kept). k.logs) was))
+        ap (λ (k : Kept). k.world) is ∙ ap (λ (k : Kept). k.world) (sym was)
 
     -- what holds of the groups before and now is seen
     pub groups_counted : (P : Groups → Groups → Type 0) → P x.groups gs → P (kept_of (hosted log disk old) t).groups (kept_of (hosted log disk (after old t x p gs old.shelf)) t).groups
     groups_counted P h =
         let files = (disk old.shelf.store).files in
-        let was = kept_here log files old.tenants.items t x (found old.tenants.items t x (within (state_of log files) old.tenants.items t lt) read) in
+        let was = kept_here log files old.tenants.items t x (stands log disk old t x lt read) in
         subst (λ (k : Kept). P k.groups (kept_of (hosted log disk (after old t x p gs old.shelf)) t).groups) (sym was)
         (subst (λ (k : Kept). P x.groups k.groups) (sym (kept_now log disk law old t x p gs old.shelf lt read kept counted_own)) h)
 
@@ -383,7 +386,7 @@ module _ {L S : Type 0} (log : L → Log) (disk : S → Disk) (law : (l : L) →
     pub stays_own : (u : ℕ) → kept_of (hosted log disk (after old t x x.parts gs old.shelf)) u ≡ kept_of (hosted log disk old) u
     stays_own u =
         let files = (disk old.shelf.store).files in
-        let here = found old.tenants.items t x (within (state_of log files) old.tenants.items t lt) read in
+        let here = stands log disk old t x lt read in
         ap (λ ss. kept_of ss u) (map-set_same (state_of log files) old.tenants.items t (record x { groups = gs }) x
         (ap (λ v. state_of log files (record x { groups = v })) same ∙ ap (state_of log files) (sym (get_or_from_slice_get old.tenants.items t x x here))))
 
@@ -420,112 +423,80 @@ module _ {L : Type 0} (log : L → Log) (files : Files) where
   calm_cases [] false h = absurd (omega (arith, h.1))
   calm_cases (x ∷ ts) false h = sym (list_all_at (λ (x : Tenant L). uncounted x) (x ∷ ts) h.0 x h.1 (h.2 x)) ∙ calm_list (x ∷ ts)
 
--- ---- the clock is set first, and what the store refused is counted last
+-- ---- a call, after which what the store refused is counted
 
-module _ {L S : Type 0} (log : L → Log) (disk : S → Disk) (law : (l : L) → IsLawfulLog (log l)) (old : Tenants L S) (t : ℕ) (x : Tenant L) (q : Parts L) (clock : ℕ)
-    (lt : t < length (hosted log disk old)) (read : x ≡ get_or old.tenants.items t x) (kept : AreKept log disk old) (set : q ≡ record x.parts { clock = clock }) where
-  sound_here : IsSound log x.parts (disk old.shelf.store).table old.shelf.next
-  sound_here =
-      let here = found old.tenants.items t x (within (state_of log (disk old.shelf.store).files) old.tenants.items t lt) read in
-      kept.sound.each t x.parts (slice_get-map (λ (z : Tenant L). z.parts) old.tenants.items t ∙ ap (option_map (λ (z : Tenant L). z.parts)) here)
+module _ {L S : Type 0} (log : L → Log) (disk : S → Disk) (law : (l : L) → IsLawfulLog (log l)) (old : Tenants L S) (t : ℕ) (x : Tenant L)
+    (lt : t < length (hosted log disk old)) (read : x ≡ get_or old.tenants.items t x) (kept : AreKept log disk old)
+    (mid p : Parts L) (n : ℕ) (gs : Groups) (shelf : Shelved S) (counted : p ≡ raised mid n) (step : IsStep (scene log disk x.parts old.shelf) (scene log disk mid shelf)) where
+  step_called : IsStep (scene log disk x.parts old.shelf) (scene log disk p shelf)
+  step_called = subst (λ (v : Parts L). IsStep (scene log disk x.parts old.shelf) (scene log disk v shelf)) (sym counted) (raised_step log (scene log disk x.parts old.shelf) mid n (disk shelf.store) shelf.next step)
 
-  pub sound_at : IsSound log q (disk old.shelf.store).table old.shelf.next
-  sound_at = subst (λ (v : Parts L). IsSound log v (disk old.shelf.store).table old.shelf.next) (sym set) (clocked log x.parts clock (disk old.shelf.store).table old.shelf.next sound_here)
+  -- where the tenant is looked at
+  pub kept_called : (until : ℤ) → until ≤ℤ old.next_retention_time → IsQuiet log (record x { parts = p; groups = gs }) until → AreKept log disk (record (after old t x p gs shelf) { next_retention_time = until })
+  kept_called = kept_after log disk law old t x p gs shelf lt read kept step_called
 
-  set_step : IsStep (scene log disk x.parts old.shelf) (scene log disk q old.shelf)
-  set_step =
+  pub alone_called : AreLeftAlone (strays_of old.strays) (disk old.shelf.store) (disk shelf.store)
+  alone_called = alone_after log disk law old t x p gs shelf lt read kept step_called
+
+  pub turn_called : IsTurn t (disk shelf.store).honest (hosted log disk old) (hosted log disk (after old t x p gs shelf))
+  turn_called = turn_after log disk law old t x p gs shelf lt read kept step_called
+
+  -- what is told, where the store is honest, is told of what the tenant is seen to keep
+  pub told_called : (P : World → Type 0)
+      → WhereHonest (scene log disk x.parts old.shelf) (scene log disk mid shelf) (P (world_of log x.parts (disk old.shelf.store).files))
+      → (disk shelf.store).honest → P (kept_of (hosted log disk old) t).world
+  told_called P told honest =
+      subst (λ (k : Kept). P k.world) (sym (kept_here log (disk old.shelf.store).files old.tenants.items t x (stands log disk old t x lt read)))
+      (told honest (kept.agree (step.frame.others.honest honest) t x.parts (parts_stand log disk old t x lt read)))
+
+  -- what the tenant keeps now
+  pub now_called : kept_of (hosted log disk (after old t x p gs shelf)) t ≡ kept_in (world_of log p (disk shelf.store).files) gs
+  now_called = kept_now log disk law old t x p gs shelf lt read kept step_called
+
+  -- what holds of the groups before and now is seen
+  pub groups_called : (P : Groups → Groups → Type 0) → P x.groups gs → P (kept_of (hosted log disk old) t).groups (kept_of (hosted log disk (after old t x p gs shelf)) t).groups
+  groups_called P h =
+      let was = kept_here log (disk old.shelf.store).files old.tenants.items t x (stands log disk old t x lt read) in
+      subst (λ (k : Kept). P k.groups (kept_of (hosted log disk (after old t x p gs shelf)) t).groups) (sym was) (subst (λ (k : Kept). P x.groups k.groups) (sym now_called) h)
+
+  -- what is met is what is seen
+  pub met_called : (P : Kept → Kept → Type 0)
+      → Meets (scene log disk x.parts old.shelf) (scene log disk mid shelf) (P (kept_in (world_of log x.parts (disk old.shelf.store).files) x.groups) (kept_in (world_of log mid (disk shelf.store).files) gs))
+      → IsMet t (disk shelf.store).honest (hosted log disk old) (hosted log disk (after old t x p gs shelf)) P
+  met_called P meets =
       let a = scene log disk x.parts old.shelf in
-      let same = ap (λ (v : Parts L). v.refusals) set in
-      recast log a x.parts q (disk old.shelf.store) old.shelf.next (ap (λ (v : Parts L). v.catalog) set) (ap (λ (v : Parts L). v.tenant) set, ap (λ (v : Parts L). v.segment_bytes) set) (ap (λ (v : Parts L). entries v) set) (ap (λ (v : Parts L). v.kept_until) set) (omega (arith, same)) (step_same a sound_here)
+      let was = kept_in (world_of log x.parts (disk old.shelf.store).files) x.groups in
+      let now : Parts L → Kept = λ v. kept_in (world_of log v (disk shelf.store).files) gs in
+      met_after log disk law old t x p gs shelf lt read kept step_called P
+      (subst (λ (v : Parts L). Meets a (scene log disk v shelf) (P was (now v))) (sym counted)
+      (raised_meets log a mid n (disk shelf.store) shelf.next (P was (now mid)) step meets))
 
-  agrees_at : Agrees log x.parts (disk old.shelf.store).files → Agrees log (record x.parts { clock = clock }) (disk old.shelf.store).files
-  agrees_at agree = record { catalog = agree.catalog; fold = agree.fold; logs = agree.logs; started = agree.started; meta_started = agree.meta_started; until = agree.until }
+  -- where the world and the groups stay, all keep what they kept
+  pub stays_called : gs ≡ x.groups → ((disk shelf.store).honest → Agrees log x.parts (disk old.shelf.store).files → world_of log mid (disk shelf.store).files ≡ world_of log x.parts (disk old.shelf.store).files)
+      → (disk shelf.store).honest → (u : ℕ) → kept_of (hosted log disk (after old t x p gs shelf)) u ≡ kept_of (hosted log disk old) u
+  stays_called is same = stays_after log disk law old t x p gs shelf lt read kept step_called (λ honest agree.
+      ap (λ (v : Parts L). kept_in (world_of log v (disk shelf.store).files) gs) counted
+      ∙ ap (λ w. kept_in w gs) (same honest agree)
+      ∙ ap (kept_in (world_of log x.parts (disk old.shelf.store).files)) is)
 
-  module _ (mid p : Parts L) (n : ℕ) (gs : Groups) (shelf : Shelved S) (counted : p ≡ raised mid n) (step : IsStep (scene log disk q old.shelf) (scene log disk mid shelf)) where
-    counted_at : IsStep (scene log disk q old.shelf) (scene log disk p shelf)
-    counted_at = subst (λ (v : Parts L). IsStep (scene log disk q old.shelf) (scene log disk v shelf)) (sym counted) (raised_step log (scene log disk q old.shelf) mid n (disk shelf.store) shelf.next step)
+  pub kept_stay_called : gs ≡ x.groups → ((disk shelf.store).honest → Agrees log x.parts (disk old.shelf.store).files → world_of log mid (disk shelf.store).files ≡ world_of log x.parts (disk old.shelf.store).files) → AreKept log disk (after old t x p gs shelf)
+  kept_stay_called is same = kept_same log disk law old t x p gs shelf lt read kept step_called (stays_called is same)
 
-    step_at : IsStep (scene log disk x.parts old.shelf) (scene log disk p shelf)
-    step_at = step_then (scene log disk x.parts old.shelf) (scene log disk q old.shelf) (scene log disk p shelf) set_step counted_at
+  -- what is calm for its parts is seen to be calm
+  pub calm_called : IsCalm x.parts.refusals p.refusals → IsCalm (refusals_of (hosted log disk old) t) (refusals_of (hosted log disk (after old t x p gs shelf)) t)
+  calm_called = calm_seen log disk law old t x p gs shelf lt read kept step_called
 
-    same_world : world_of log p (disk shelf.store).files ≡ world_of log mid (disk shelf.store).files
-    same_world = ap (λ (v : Parts L). world_of log v (disk shelf.store).files) counted
+  -- and the other way round
+  pub calm_from : IsCalm (refusals_of (hosted log disk old) t) (refusals_of (hosted log disk (after old t x p gs shelf)) t) → IsCalm x.parts.refusals p.refusals
+  calm_from = calm_here log disk law old t x p gs shelf lt read kept step_called
 
-    meets_counted : (P : Type 0) → Meets (scene log disk q old.shelf) (scene log disk mid shelf) P → Meets (scene log disk q old.shelf) (scene log disk p shelf) P
-    meets_counted P meets = subst (λ (v : Parts L). Meets (scene log disk q old.shelf) (scene log disk v shelf) P) (sym counted) (raised_meets log (scene log disk q old.shelf) mid n (disk shelf.store) shelf.next P step meets)
-
-    -- where the tenant is looked at
-    pub kept_at : (until : ℤ) → until ≤ℤ old.kept_until → IsQuiet log (record x { parts = p; groups = gs }) until → AreKept log disk (record (after old t x p gs shelf) { kept_until = until })
-    kept_at = kept_after log disk law old t x p gs shelf lt read kept step_at
-
-    pub alone_at : AreLeftAlone (strays_of old.strays) (disk old.shelf.store) (disk shelf.store)
-    alone_at = alone_after log disk law old t x p gs shelf lt read kept step_at
-
-    pub turn_at : IsTurn t (disk shelf.store).honest (hosted log disk old) (hosted log disk (after old t x p gs shelf))
-    turn_at = turn_after log disk law old t x p gs shelf lt read kept step_at
-
-    -- what is told at that clock, where the store is honest, is told of what the tenant is seen to keep
-    pub told_at : (P : World → Type 0)
-        → WhereHonest (scene log disk q old.shelf) (scene log disk mid shelf) (P (world_of log q (disk old.shelf.store).files))
-        → (disk shelf.store).honest → P (world_at (kept_of (hosted log disk old) t) clock)
-    told_at P told honest =
-        let files = (disk old.shelf.store).files in
-        let here = found old.tenants.items t x (within (state_of log files) old.tenants.items t lt) read in
-        let there = slice_get-map (λ (z : Tenant L). z.parts) old.tenants.items t ∙ ap (option_map (λ (z : Tenant L). z.parts)) here in
-        let agree = kept.agree (step.frame.others.honest honest) t x.parts there in
-        let at = told honest (subst (λ (v : Parts L). Agrees log v files) (sym set) (agrees_at agree)) in
-        subst (λ (k : Kept). P (world_at k clock)) (sym (kept_here log files old.tenants.items t x here))
-        (subst (λ (v : Parts L). P (world_of log v files)) set at)
-
-    -- what the tenant keeps now
-    pub now_at : kept_of (hosted log disk (after old t x p gs shelf)) t ≡ kept_in (world_of log p (disk shelf.store).files) gs
-    now_at = kept_now log disk law old t x p gs shelf lt read kept step_at
-
-    -- what holds of the groups before and now is seen
-    pub groups_at : (P : Groups → Groups → Type 0) → P x.groups gs → P (kept_of (hosted log disk old) t).groups (kept_of (hosted log disk (after old t x p gs shelf)) t).groups
-    groups_at P h =
-        let files = (disk old.shelf.store).files in
-        let was = kept_here log files old.tenants.items t x (found old.tenants.items t x (within (state_of log files) old.tenants.items t lt) read) in
-        subst (λ (k : Kept). P k.groups (kept_of (hosted log disk (after old t x p gs shelf)) t).groups) (sym was) (subst (λ (k : Kept). P x.groups k.groups) (sym now_at) h)
-
-    -- what is met at that clock is what is seen
-    pub met_at : (P : World → World → Type 0) (Q : Kept → Kept → Type 0)
-        → (P (at_clock (world_of log x.parts (disk old.shelf.store).files) clock) (world_of log mid (disk shelf.store).files) → Q (kept_in (world_of log x.parts (disk old.shelf.store).files) x.groups) (kept_in (world_of log mid (disk shelf.store).files) gs))
-        → Meets (scene log disk q old.shelf) (scene log disk mid shelf) (P (world_of log q (disk old.shelf.store).files) (world_of log mid (disk shelf.store).files))
-        → IsMet t (disk shelf.store).honest (hosted log disk old) (hosted log disk (after old t x p gs shelf)) Q
-    met_at P Q so meets = met_after log disk law old t x p gs shelf lt read kept step_at Q (λ honest agree calm.
-        let all = meets_counted (P (world_of log q (disk old.shelf.store).files) (world_of log mid (disk shelf.store).files)) meets in
-        subst (λ w. Q (kept_in (world_of log x.parts (disk old.shelf.store).files) x.groups) (kept_in w gs)) (sym same_world)
-        (so (subst (λ (v : Parts L). Meets (scene log disk v old.shelf) (scene log disk p shelf) (P (world_of log v (disk old.shelf.store).files) (world_of log mid (disk shelf.store).files))) set all honest (agrees_at agree) calm)))
-
-    -- where the world at that clock and the groups stay, all keep what they kept
-    pub stays_at : gs ≡ x.groups → ((disk shelf.store).honest → Agrees log q (disk old.shelf.store).files → world_of log mid (disk shelf.store).files ≡ world_of log q (disk old.shelf.store).files)
-        → (disk shelf.store).honest → (u : ℕ) → kept_of (hosted log disk (after old t x p gs shelf)) u ≡ kept_of (hosted log disk old) u
-    stays_at is same = stays_after log disk law old t x p gs shelf lt read kept step_at (λ honest agree.
-        ap (λ w. kept_in w gs) (same_world ∙ same honest (subst (λ (v : Parts L). Agrees log v (disk old.shelf.store).files) (sym set) (agrees_at agree)))
-        ∙ ap (λ (v : Parts L). kept_in (world_of log v (disk old.shelf.store).files) gs) set
-        ∙ ap (kept_in (world_of log x.parts (disk old.shelf.store).files)) is)
-
-    pub kept_stay_at : gs ≡ x.groups → ((disk shelf.store).honest → Agrees log q (disk old.shelf.store).files → world_of log mid (disk shelf.store).files ≡ world_of log q (disk old.shelf.store).files) → AreKept log disk (after old t x p gs shelf)
-    kept_stay_at is same = kept_same log disk law old t x p gs shelf lt read kept step_at (stays_at is same)
-
-    -- what is calm at that clock is seen to be calm
-    pub calm_at : IsCalm q.refusals p.refusals → IsCalm (refusals_of (hosted log disk old) t) (refusals_of (hosted log disk (after old t x p gs shelf)) t)
-    calm_at calm = calm_seen log disk law old t x p gs shelf lt read kept step_at (subst (λ (v : Parts L). IsCalm v.refusals p.refusals) set calm)
-
-    -- and the other way round
-    pub calm_from : IsCalm (refusals_of (hosted log disk old) t) (refusals_of (hosted log disk (after old t x p gs shelf)) t) → IsCalm q.refusals p.refusals
-    calm_from calm = subst (λ (v : Parts L). IsCalm v.refusals p.refusals) (sym set) (calm_here log disk law old t x p gs shelf lt read kept step_at calm)
-
-    -- what the store refused meanwhile was counted
-    pub accounted_at : (m : ℕ) → n ≡ min (q.refusals + m) END → (disk shelf.store).failures ≡ (disk old.shelf.store).failures + m
-        → IsAccounted (hosted log disk old) (hosted log disk (after old t x p gs shelf)) (disk old.shelf.store).failures (disk shelf.store).failures
-    accounted_at m count sum =
-        let at = there log disk law old t x p gs shelf lt read kept step_at in
-        let was = refusals_here log (disk old.shelf.store).files old.tenants.items t x at in
-        let is = refusals_here log (disk shelf.store).files (after old t x p gs shelf).tenants.items t (record x { parts = p; groups = gs }) (there_after log disk law old t x p gs shelf lt read kept step_at) in
-        let same = ap (λ (v : Parts L). v.refusals) set in
-        let more = ap (λ (v : Parts L). v.refusals) counted in
-        subst (λ f. IsAccounted (hosted log disk old) (hosted log disk (after old t x p gs shelf)) (disk old.shelf.store).failures f) (sym sum)
-        (accounted_turn (hosted log disk old) (hosted log disk (after old t x p gs shelf)) t (disk old.shelf.store).failures m lt
-        (length_named (hosted log disk old) (hosted log disk (after old t x p gs shelf)) turn_at.names) turn_at.grows (omega (arith, count, more, was, is, same)))
+  -- what the store refused meanwhile was counted
+  pub accounted_called : (m : ℕ) → n ≡ min (x.parts.refusals + m) END → (disk shelf.store).failures ≡ (disk old.shelf.store).failures + m
+      → IsAccounted (hosted log disk old) (hosted log disk (after old t x p gs shelf)) (disk old.shelf.store).failures (disk shelf.store).failures
+  accounted_called m count sum =
+      let was = refusals_here log (disk old.shelf.store).files old.tenants.items t x (stands log disk old t x lt read) in
+      let is = refusals_here log (disk shelf.store).files (after old t x p gs shelf).tenants.items t (record x { parts = p; groups = gs }) (there_after log disk law old t x p gs shelf lt read kept step_called) in
+      let more = ap (λ (v : Parts L). v.refusals) counted in
+      subst (λ f. IsAccounted (hosted log disk old) (hosted log disk (after old t x p gs shelf)) (disk old.shelf.store).failures f) (sym sum)
+      (accounted_turn (hosted log disk old) (hosted log disk (after old t x p gs shelf)) t (disk old.shelf.store).failures m lt
+      (length_named (hosted log disk old) (hosted log disk (after old t x p gs shelf)) turn_called.names) turn_called.grows (omega (arith, count, more, was, is)))

@@ -15,10 +15,10 @@ use Rattle.kb_store.specs.Disk.{Files}
 use Rattle.kb_log.specs.OnShelf.{Log}
 use Rattle.kb_topics.specs.ByName.{by_name}
 use Rattle.kb_topics.specs.Known.{TopicState}
-use Rattle.kb_world.specs.Calls.{at_clock, places_of_topic, retain_all, retain_each}
+use Rattle.kb_world.specs.Calls.{places_of_topic, retain_all, retain_each}
 use Rattle.kb_world.specs.Parts.{Agrees, world_of}
-use Rattle.kb_world.specs.World.{World}
-use Rattle.kb_service.specs.Hosted.{TenantState, nothing, new_tenant, kept_in, kept_of, passed, world_at}
+use Rattle.kb_world.specs.World.{World, new_world}
+use Rattle.kb_service.specs.Hosted.{TenantState, nothing, new_tenant, kept_in, kept_of, passed}
 use Rattle.kb_service.specs.Turns.{IsTurn}
 use Rattle.kb_tenant.proofs.LogMoves.{same_or_not}
 use Rattle.kb_tenants.specs.Tenants.{IsIdleUntil}
@@ -48,8 +48,8 @@ no_group clock = by (nat_le (earliest none.groups) clock)
 nothing_passed : (clock : ℕ) → passed clock nothing ≡ nothing
 unfolding passed
 nothing_passed clock =
-    ap (λ ts. kept_in (retain_each (flat_map places_of_topic ts) (world_at nothing clock)).0 (groups.passed clock none)) no_topic
-    ∙ ap (kept_in (world_at nothing clock)) (no_group clock)
+    ap (λ ts. kept_in (retain_each clock (flat_map places_of_topic ts) new_world).0 (groups.passed clock none)) no_topic
+    ∙ ap (kept_in new_world) (no_group clock)
 
 pub past_passed : (ts : List TenantState) (t clock : ℕ) → length ts ≤ t → passed clock (kept_of ts t) ≡ kept_of ts t
 past_passed ts t clock le = subst (λ k. passed clock k ≡ k) (sym (past ts t le)) (nothing_passed clock)
@@ -68,7 +68,7 @@ not_due clock gs early =
     ap (λ b. cond b (at_moment clock gs) gs) before
 
 -- where the topics have nothing to drop, and the groups nothing due
-pub quiet_kept : (w : World) (gs : Groups) (clock : ℕ) → retain_all (at_clock w clock) ≡ (at_clock w clock, false) → clock < earliest gs.groups → passed clock (kept_in w gs) ≡ kept_in w gs
+pub quiet_kept : (w : World) (gs : Groups) (clock : ℕ) → retain_all clock w ≡ (w, false) → clock < earliest gs.groups → passed clock (kept_in w gs) ≡ kept_in w gs
 unfolding passed
 quiet_kept w gs clock quiet early = ap (λ r. kept_in r.0 (groups.passed clock gs)) quiet ∙ ap (kept_in w) (not_due clock gs early)
 

@@ -4,7 +4,7 @@ use Rattle.std.specs.Prelude.{IsSome, map, slice_get, string_bytes}
 use Rattle.kb_store.specs.Disk.{Disk, Files}
 use Rattle.kb_log.specs.OnShelf.{Log}
 use Rattle.kb_topics.specs.Catalog.{known}
-use Rattle.kb_partitions.specs.Partitions.{logs_of}
+use Rattle.kb_world.specs.Partitions.{logs_of}
 use Rattle.kb_world.specs.Parts.{entries}
 use Rattle.kb_world.specs.declared.parts.Parts.{Parts}
 use Rattle.kb_service.specs.Hosted.{kept_of, names_of}
@@ -23,12 +23,12 @@ module _ {L : Type 0} (log : L → Log) (files : Files) where
       let rest = named_in ts (λ t y at. each (suc t) y at) in
       λ i. here i ∷ rest i
 
-  known_in : (ts : List (Tenant L)) (t : ℕ) (p : Parts L) → slice_get (parts_of ts) t ≡ Some p → (kept_of (map (state_of log files) ts) t).known ≡ known p.catalog
+  known_in : (ts : List (Tenant L)) (t : ℕ) (p : Parts L) → slice_get (parts_of ts) t ≡ Some p → (kept_of (map (state_of log files) ts) t).world.known ≡ known p.catalog
   known_in [] t p at = absurd cc
   known_in (x ∷ ts) zero p at = let same : x.parts ≡ p = cc in ap (λ (v : Parts L). known v.catalog) same
   known_in (x ∷ ts) (suc t) p at = known_in ts t p at
 
-  logs_in : (ts : List (Tenant L)) (t : ℕ) (p : Parts L) → slice_get (parts_of ts) t ≡ Some p → (kept_of (map (state_of log files) ts) t).logs ≡ logs_of log (entries p) files
+  logs_in : (ts : List (Tenant L)) (t : ℕ) (p : Parts L) → slice_get (parts_of ts) t ≡ Some p → (kept_of (map (state_of log files) ts) t).world.logs ≡ logs_of log (entries p) files
   logs_in [] t p at = absurd cc
   logs_in (x ∷ ts) zero p at = let same : x.parts ≡ p = cc in ap (λ (v : Parts L). logs_of log (entries v) files) same
   logs_in (x ∷ ts) (suc t) p at = logs_in ts t p at

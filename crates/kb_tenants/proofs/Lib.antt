@@ -2,7 +2,6 @@ pub mod Accounted
 pub mod Added
 pub mod Alone
 pub mod Answered
-pub mod Clock
 pub mod Ended
 pub mod Hosted
 pub mod Idle

@@ -1,15 +1,15 @@
 -- What a tenant's own call leaves of the other tenants, and of the files that are left alone.
 use Rattle.std.proofs.Common.{◌≡◌, ◌∙◌, ◌⊎◌, ⊎_elim, inl, inr, ◌≤◌, ◌<◌, ℕ, zero, suc, List, [], ◌∷◌, Option, Some, None, sym, ap, refl, subst, arith, length, get_or}
 use Rattle.std.specs.Prelude.{slice_get, slice_set, option_map}
-use Rattle.kb_partitions.specs.Partitions.{AreExact}
+use Rattle.kb_world.specs.Partitions.{AreExact}
 use Rattle.std.specs.FinMap.{get}
 use Rattle.kb_store.specs.Disk.{Disk}
 use Rattle.kb_log.specs.OnShelf.{Log, IsLawfulLog}
 use Rattle.kb_topics.specs.Catalog.{known, meta_log}
 use Rattle.kb_topics.specs.MetaLog.{IsFold}
 use Rattle.std.proofs.lemmas.List.{length-set}
-use Rattle.kb_partitions.proofs.Put.{get_put}
-use Rattle.kb_world.specs.KeptUntil.{AreAllKept}
+use Rattle.kb_world.proofs.Put.{get_put}
+use Rattle.kb_world.specs.RetentionTime.{AreAllKept}
 use Rattle.kb_world.specs.Parts as parts
 use Rattle.kb_world.specs.Parts.{IsSound, Agrees, Owns, entries, meta, world_of}
 use Rattle.kb_world.specs.Counts.{END, IsCalm}
@@ -51,7 +51,7 @@ module _ {L : Type 0} (log : L → Log) (law : (l : L) → IsLawfulLog (log l)) 
 
   pub still_seen : e.honest → world_of log q e.files ≡ world_of log q d.files
   still_seen honest =
-      ap (λ ls. (let w : World = record { known = known q.catalog; logs = ls; clock = q.clock } in w))
+      ap (λ ls. (let w : World = record { known = known q.catalog; logs = ls } in w))
       (spared.spared_logs log law (entries q) d e next last sound.logs later (λ file lt own. lengths file lt (inr own)) (λ h file lt own. contents h file lt (inr own)) honest)
 
   pub still_agrees : e.honest → Agrees log q d.files → Agrees log q e.files
@@ -61,7 +61,7 @@ module _ {L : Type 0} (log : L → Log) (law : (l : L) → IsLawfulLog (log l)) 
     logs = spared.spared_agree log law (entries q) d e next last sound.logs later (λ file lt own. lengths file lt (inr own)) (λ h file lt own. contents h file lt (inr own)) honest agree.logs;
     started = agree.started;
     meta_started = agree.meta_started;
-    until = subst (AreAllKept q.kept_until) (sym (still_seen honest)) agree.until;
+    until = subst (AreAllKept q.next_retention_time) (sym (still_seen honest)) agree.until;
   }
 
   pub still_exact : (meta log q).exact d.table → (meta log q).exact e.table

@@ -52,11 +52,11 @@ module _ (clock t : ℕ) (H G : Type 0) (ps qs rs : List TenantState) (before : 
 
   -- batches were dropped, or a refusal was counted
   pub disturbed_both : (dropped : Bool) → dropped ≡ true → IsMet t G qs rs (λ k l. (l ≡ retained clock k) × (dropped ≡ drops clock k))
-      → ((kept_of qs t).known ≡ (kept_of ps t).known) × ((kept_of qs t).logs ≡ (kept_of ps t).logs) → G → IsDisturbed clock t ps rs
+      → (kept_of qs t).world ≡ (kept_of ps t).world → G → IsDisturbed clock t ps rs
   disturbed_both dropped so topics same honest = ⊎_elim
       (λ calm.
       let calms = calm_then (refusals_of ps t) (refusals_of qs t) (refusals_of rs t) (first.grows t) (second.grows t) calm in
-      let seen : drops clock (kept_of qs t) ≡ drops clock (kept_of ps t) = (λ i. (retain_all (record { known = same.0 i; logs = same.1 i; clock = clock })).1) in
+      let seen : drops clock (kept_of qs t) ≡ drops clock (kept_of ps t) = ap (λ w. (retain_all clock w).1) same in
       inl (sym seen ∙ sym (topics honest calms.1).1 ∙ so))
       (λ loud. inr loud)
       (calm_or_not (refusals_of ps t) (refusals_of rs t))

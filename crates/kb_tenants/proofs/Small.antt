@@ -17,12 +17,12 @@ use Rattle.kb_batch.specs.Batch.{natural, count_of}
 use Rattle.kb_batch.specs.BatchLaws.{batch_small}
 use Rattle.kb_log.specs.Log.{IsRun, base_of, first_base}
 use Rattle.kb_log.specs.OnShelf.{Log, IsLawfulLog}
-use Rattle.kb_partitions.specs.Logs.{LogState, Logs}
-use Rattle.kb_partitions.specs.Partitions.{Agree, AreSound, Entries, log_state, logs_of}
-use Rattle.kb_partitions.specs.declared.partition.Partition.{Partition}
+use Rattle.kb_world.specs.Logs.{LogState, Logs}
+use Rattle.kb_world.specs.Partitions.{Agree, AreSound, Entries, log_state, logs_of}
+use Rattle.kb_world.specs.declared.partition.Partition.{Partition}
 use Rattle.kb_world.specs.Parts.{entries}
 use Rattle.kb_tenant.specs.Batches.{HasSmallLogs, IsSmall}
-use Rattle.kb_service.specs.Hosted.{kept_of, world_at}
+use Rattle.kb_service.specs.Hosted.{kept_of}
 use Rattle.kb_tenants.specs.Tenants.{AreKept, hosted, shelf_is_honest, state_of}
 use Rattle.kb_tenants.specs.declared.tenants.Tenant.{Tenant}
 use Rattle.kb_tenants.specs.declared.tenants.Tenants.{Tenants}
@@ -80,13 +80,13 @@ module _ {L : Type 0} (log : L → Log) (law : (l : L) → IsLawfulLog (log l)) 
       small_log (log x.log) table next files (law x.log) (sound.each e.0 p x at) (agree.each e.0 p x at)))))
 
   small_kept : (files : Files) (ts : List (Tenant L)) (t : ℕ) → ((u : ℕ) (x : Tenant L) → slice_get ts u ≡ Some x → AreSmall (logs_of log (entries x.parts) files))
-      → AreSmall (kept_of (map (state_of log files) ts) t).logs
+      → AreSmall (kept_of (map (state_of log files) ts) t).world.logs
   small_kept files [] t each = All-nil (λ (e : ℕ × List LogState). All IsSmall e.1)
   small_kept files (x ∷ ts) zero each = each 0 x refl
   small_kept files (x ∷ ts) (suc t) each = small_kept files ts t (λ u y at. each (suc u) y at)
 
-  pub small_hosted : {S : Type 0} (disk : S → Disk) (ts : Tenants L S) → AreKept log disk ts → shelf_is_honest disk ts → (t clock : ℕ) → HasSmallLogs (world_at (kept_of (hosted log disk ts) t) clock)
-  small_hosted disk ts kept honest t clock =
+  pub small_hosted : {S : Type 0} (disk : S → Disk) (ts : Tenants L S) → AreKept log disk ts → shelf_is_honest disk ts → (t : ℕ) → HasSmallLogs (kept_of (hosted log disk ts) t).world
+  small_hosted disk ts kept honest t =
       let d = disk ts.shelf.store in
       small_kept d.files ts.tenants.items t (λ u x at.
       let parts = slice_get-map (λ (z : Tenant L). z.parts) ts.tenants.items u ∙ ap (option_map (λ (z : Tenant L). z.parts)) at in

@@ -11,11 +11,11 @@ use Rattle.kb_coordinator.specs.Groups.{Groups, none}
 use Rattle.kb_groups.specs.declared.reply.Release.{Release}
 use Rattle.kb_world.specs.Calls.{retain_all}
 use Rattle.kb_topics.specs.Catalog.{known}
-use Rattle.kb_partitions.specs.Partitions.{AreExact, logs_of}
+use Rattle.kb_world.specs.Partitions.{AreExact, logs_of}
 use Rattle.kb_world.specs.Parts.{IsSound, Agrees, Owns, entries, meta, world_of}
 use Rattle.kb_world.specs.Counts.{IsCalm}
 use Rattle.kb_world.specs.declared.parts.Parts.{Parts}
-use Rattle.kb_service.specs.Hosted.{Kept, TenantState, kept_in, kept_of, names_of, passed, refusals_of, world_at}
+use Rattle.kb_service.specs.Hosted.{Kept, TenantState, kept_in, kept_of, names_of, passed, refusals_of}
 use Rattle.kb_service.specs.Replies.{told_to}
 use Rattle.kb_tenant.specs.Replies.{Silent}
 use Rattle.kb_tenant.specs.declared.answer.Answer.{Answer}
@@ -92,8 +92,7 @@ answered_connections gs = map connection_of gs.released
 
 -- of what a tenant keeps at most its groups have changed, and a request that they told nothing is told nothing, but on those connections
 pub record IsQuietBut (ns : List ℕ) (old new : Kept) : Type 0 where
-  pub known : new.known ≡ old.known
-  pub logs : new.logs ≡ old.logs
+  pub world : new.world ≡ old.world
   pub told : (n : ℕ) → (Contains ns n → ⊥) → told_to n old.groups ≡ Silent → told_to n new.groups ≡ Silent
 
 -- so it is of each tenant
@@ -108,11 +107,11 @@ regrouped clock kept = record kept { groups = groups.passed clock kept.groups }
 
 -- and what retention leaves then
 unfoldable pub retained : ℕ → Kept → Kept
-retained clock kept = kept_in (retain_all (world_at kept clock)).0 kept.groups
+retained clock kept = record kept { world = (retain_all clock kept.world).0 }
 
 -- whether there is anything that it drops then
 abbrev pub drops : ℕ → Kept → Bool
-drops clock kept = (retain_all (world_at kept clock)).1
+drops clock kept = (retain_all clock kept.world).1
 
 -- batches of that tenant were dropped then, or a refusal was counted for it
 abbrev pub IsDisturbed : (clock t : ℕ) (old new : List TenantState) → Type 0
@@ -171,8 +170,8 @@ pub record AreKeptIn {L : Type 0} (log : L → Log) (disk : Disk) (strays : List
   pub settled : AreSettled log parts strays disk
   pub apart : (file : ℕ) → Contains strays file → IsLeftAlone log parts next file
   pub named : names_of ts ≡ map (λ p. string_bytes p.tenant) parts
-  pub known_is : (t : ℕ) (p : Parts L) → slice_get parts t ≡ Some p → (kept_of ts t).known ≡ known p.catalog
-  pub logs_are : (t : ℕ) (p : Parts L) → slice_get parts t ≡ Some p → (kept_of ts t).logs ≡ logs_of log (entries p) disk.files
+  pub known_is : (t : ℕ) (p : Parts L) → slice_get parts t ≡ Some p → (kept_of ts t).world.known ≡ known p.catalog
+  pub logs_are : (t : ℕ) (p : Parts L) → slice_get parts t ≡ Some p → (kept_of ts t).world.logs ≡ logs_of log (entries p) disk.files
 
 -- ---- between the calls
 
@@ -186,4 +185,4 @@ pub record AreKept {L S : Type 0} (log : L → Log) (disk : S → Disk) (ts : Te
   pub settled : IsSome ts.strays → HaveNothingRefused (parts_of ts.tenants.items)
       → AreSettled log (parts_of ts.tenants.items) (strays_of ts.strays) (disk ts.shelf.store)
   pub agree : shelf_is_honest disk ts → Agree log (parts_of ts.tenants.items) (disk ts.shelf.store).files
-  pub until : shelf_is_honest disk ts → IsIdleUntil ts.kept_until (hosted log disk ts)
+  pub until : shelf_is_honest disk ts → IsIdleUntil ts.next_retention_time (hosted log disk ts)

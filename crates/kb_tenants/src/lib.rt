@@ -2,8 +2,10 @@
 //! as it is, byte for byte, whatever it does and whatever is refused to it.
 #![tactic(auto)]
 
+mod outcome;
 mod promises;
 mod tenants;
 
+pub use outcome::Outcome;
 pub use promises::kept_logs_are_small;
 pub use tenants::Tenants;

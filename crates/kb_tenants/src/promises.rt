@@ -1,7 +1,7 @@
 //! Laws about what tenants keep, each as the contract of a function with an empty body.
 ghost use Rattle.std.specs.Prelude.{ℕ};
 ghost use Rattle.kb_tenant.specs.Batches.{HasSmallLogs};
-ghost use Rattle.kb_service.specs.Hosted.{kept_of, world_at};
+ghost use Rattle.kb_service.specs.Hosted.{kept_of};
 ghost use Rattle.kb_tenants.specs.Tenants.{AreKept, hosted, shelf_is_honest};
 
 use crate::tenants::Tenants;
@@ -12,6 +12,6 @@ use kb_store::Store;
 /// none but accepted batches are read of them.
 pub fn kept_logs_are_small<L: PartitionLog, S: Store>(tenants: &Tenants<L, S>)
     requires { AreKept L.log S.disk tenants.now }
-    ensures { shelf_is_honest S.disk tenants.now → (t clock : ℕ)
-        → HasSmallLogs (world_at (kept_of (hosted L.log S.disk tenants.now) t) clock) }
+    ensures { shelf_is_honest S.disk tenants.now → (t : ℕ)
+        → HasSmallLogs (kept_of (hosted L.log S.disk tenants.now) t).world }
 {}

@@ -1,9 +1,9 @@
 use Rattle.std.proofs.Common.{subst, sym, ◌∙◌}
-use Rattle.kb_service.specs.Hosted.{kept_of, refusals_of, world_at}
+use Rattle.kb_service.specs.Hosted.{kept_of}
 use Rattle.kb_service.specs.Serve.{IsOutcome, served}
 use Rattle.kb_tenants.specs.Tenants.{shelf_is_honest}
 use Rattle.kb_broker.specs.Hosts.{tenants_in}
-use Rattle.kb_broker.proofs.TenantTurns.{answered-now, asked-on, calm-of, released-now, touched-now}
+use Rattle.kb_broker.proofs.TenantTurns.{answered-now, asked-on, released-now, touched-now}
 use Rattle.kb_broker.proofs.serving.ask.Goals as goal
 
 pub returns-then-released-clause-meets : goal.returns-then-released-clause-meets
@@ -14,7 +14,7 @@ returns-then-released-clause-meets g c = λ honest calm.
     let l = kept_of (tenants_in g.L.PartitionLog.log g.S.Store.disk c.serve-answer.new.self) a.tenant in
     let r = c.serve-answer.result in
     answered-now a.setup.now.node k l a.clock q.connection q.correlation_id q.api_key q.api_version q.body.now r.touched.items r.answer
-    (subst (λ n. IsOutcome q.correlation_id (served n (world_at k a.clock) k.groups q.connection q.api_key q.api_version q.body.now) (world_at l a.clock) l.groups r.touched.items r.answer) c.node-node.ensures.node (c.serve-answer.ensures.meets honest calm))
+    (subst (λ n. IsOutcome q.correlation_id (served n k.world a.clock k.groups q.connection q.api_key q.api_version q.body.now) l.world l.groups r.touched.items r.answer) c.node-node.ensures.node (c.serve-answer.ensures.meets honest calm))
 
 pub returns-then-released-clause-asked : goal.returns-then-released-clause-asked
 returns-then-released-clause-asked g c = λ honest.
@@ -28,7 +28,7 @@ returns-then-released-clause-touched g c = λ honest.
     let a = c.args in
     let q = a.request.now in
     let r = c.serve-answer.result in
-    let calm = calm-of (refusals_of (tenants_in g.L.PartitionLog.log g.S.Store.disk a.tenants.now) a.tenant) (refusals_of (tenants_in g.L.PartitionLog.log g.S.Store.disk c.serve-answer.new.self) a.tenant) c.refusals-before.result c.refusals.result c.refusals-before.ensures c.refusals.ensures c.if-refusals-before.true c.if-before-lt18446744073709551615.true in
+    let calm = c.serve-answer.ensures.calm c.if-refused.false in
     released-now g.L.PartitionLog.log g.S.Store.disk (shelf_is_honest g.S.Store.disk c.serve-answer.new.self) honest c.node-node.result a.tenants.now (tenants_in g.L.PartitionLog.log g.S.Store.disk c.serve-answer.new.self) a.clock a.tenant q.connection q.correlation_id q.api_key q.api_version q.body.now r.touched.items r.answer c.requires.hosted c.serve-answer.ensures.meets calm (sym c.serve-answer.ensures.released ∙ c.if-released.true)
 
 pub returns-else-released-clause-meets : goal.returns-else-released-clause-meets
@@ -39,7 +39,7 @@ returns-else-released-clause-meets g c = λ honest calm.
     let l = kept_of (tenants_in g.L.PartitionLog.log g.S.Store.disk c.serve-answer.new.self) a.tenant in
     let r = c.serve-answer.result in
     answered-now a.setup.now.node k l a.clock q.connection q.correlation_id q.api_key q.api_version q.body.now r.touched.items r.answer
-    (subst (λ n. IsOutcome q.correlation_id (served n (world_at k a.clock) k.groups q.connection q.api_key q.api_version q.body.now) (world_at l a.clock) l.groups r.touched.items r.answer) c.node-node.ensures.node (c.serve-answer.ensures.meets honest calm))
+    (subst (λ n. IsOutcome q.correlation_id (served n k.world a.clock k.groups q.connection q.api_key q.api_version q.body.now) l.world l.groups r.touched.items r.answer) c.node-node.ensures.node (c.serve-answer.ensures.meets honest calm))
 
 pub returns-else-released-clause-asked : goal.returns-else-released-clause-asked
 returns-else-released-clause-asked g c = λ honest.
@@ -53,21 +53,21 @@ returns-else-released-clause-touched g c = λ honest.
     let a = c.args in
     let q = a.request.now in
     let r = c.serve-answer.result in
-    let calm = calm-of (refusals_of (tenants_in g.L.PartitionLog.log g.S.Store.disk a.tenants.now) a.tenant) (refusals_of (tenants_in g.L.PartitionLog.log g.S.Store.disk c.serve-answer.new.self) a.tenant) c.refusals-before.result c.refusals.result c.refusals-before.ensures c.refusals.ensures c.if-refusals-before.true c.if-before-lt18446744073709551615.true in
+    let calm = c.serve-answer.ensures.calm c.if-refused.false in
     touched-now g.L.PartitionLog.log g.S.Store.disk (shelf_is_honest g.S.Store.disk c.serve-answer.new.self) honest c.node-node.result a.tenants.now (tenants_in g.L.PartitionLog.log g.S.Store.disk c.serve-answer.new.self) a.clock a.tenant q.connection q.correlation_id q.api_key q.api_version q.body.now r.touched.items r.answer c.requires.hosted c.serve-answer.ensures.meets calm (sym c.serve-answer.ensures.released ∙ c.if-released.false)
 
-pub returns-else-refusals-before-clause-meets : goal.returns-else-refusals-before-clause-meets
-returns-else-refusals-before-clause-meets g c = λ honest calm.
+pub returns-then-refused-clause-meets : goal.returns-then-refused-clause-meets
+returns-then-refused-clause-meets g c = λ honest calm.
     let a = c.args in
     let q = a.request.now in
     let k = kept_of (tenants_in g.L.PartitionLog.log g.S.Store.disk a.tenants.now) a.tenant in
     let l = kept_of (tenants_in g.L.PartitionLog.log g.S.Store.disk c.serve-answer.new.self) a.tenant in
     let r = c.serve-answer.result in
     answered-now a.setup.now.node k l a.clock q.connection q.correlation_id q.api_key q.api_version q.body.now r.touched.items r.answer
-    (subst (λ n. IsOutcome q.correlation_id (served n (world_at k a.clock) k.groups q.connection q.api_key q.api_version q.body.now) (world_at l a.clock) l.groups r.touched.items r.answer) c.node-node.ensures.node (c.serve-answer.ensures.meets honest calm))
+    (subst (λ n. IsOutcome q.correlation_id (served n k.world a.clock k.groups q.connection q.api_key q.api_version q.body.now) l.world l.groups r.touched.items r.answer) c.node-node.ensures.node (c.serve-answer.ensures.meets honest calm))
 
-pub returns-else-refusals-before-clause-asked : goal.returns-else-refusals-before-clause-asked
-returns-else-refusals-before-clause-asked g c = λ honest.
+pub returns-then-refused-clause-asked : goal.returns-then-refused-clause-asked
+returns-then-refused-clause-asked g c = λ honest.
     let a = c.args in
     let q = a.request.now in
     let r = c.serve-answer.result in

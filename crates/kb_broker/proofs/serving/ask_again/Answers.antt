@@ -1,6 +1,6 @@
 use Rattle.std.proofs.Common.{⊎_elim, inl, inr, ap, ◌≡◌, FitsSigned, of_z, rules, subst, sym, to_z, w16, w32}
 use Rattle.std.proofs.lemmas.Int.{to_z-of_z}
-use Rattle.kb_service.specs.Hosted.{kept_of, refusals_of, world_at}
+use Rattle.kb_service.specs.Hosted.{kept_of, refusals_of}
 use Rattle.kb_service.specs.Replies.{told_to}
 use Rattle.kb_tenant.specs.Replies.{IsAnswer, Silent}
 use Rattle.kb_tenant.specs.Serve.{looked}
@@ -22,9 +22,9 @@ returns-in-Records-clause-meets g c = λ honest calm.
     let fits : FitsSigned w32 w.correlation_id = search rules in
     let version : FitsSigned w16 f.api_version = search rules in
     let met = c.look.ensures.meets honest calm in
-    let bodied = subst (λ body. IsAnswer (to_z w32 (of_z w32 w.correlation_id)) (looked (world_at k a.clock) f.deadline (to_z w16 (of_z w16 f.api_version)) body) c.look.result) c.deref.ensures.value met.1 in
-    let versioned = subst (λ v. IsAnswer (to_z w32 (of_z w32 w.correlation_id)) (looked (world_at k a.clock) f.deadline v f.body.items) c.look.result) (to_z-of_z w16 f.api_version version) bodied in
-    (met.0, subst (λ x. IsAnswer w.correlation_id (ready_for k a.clock a.number (awaited_of x)) c.look.result) (sym f.is) (subst (λ z. IsAnswer z (looked (world_at k a.clock) f.deadline f.api_version f.body.items) c.look.result) (to_z-of_z w32 w.correlation_id fits) versioned))
+    let bodied = subst (λ body. IsAnswer (to_z w32 (of_z w32 w.correlation_id)) (looked k.world a.clock f.deadline (to_z w16 (of_z w16 f.api_version)) body) c.look.result) c.deref.ensures.value met.1 in
+    let versioned = subst (λ v. IsAnswer (to_z w32 (of_z w32 w.correlation_id)) (looked k.world a.clock f.deadline v f.body.items) c.look.result) (to_z-of_z w16 f.api_version version) bodied in
+    (met.0, subst (λ x. IsAnswer w.correlation_id (ready_for k a.clock a.number (awaited_of x)) c.look.result) (sym f.is) (subst (λ z. IsAnswer z (looked k.world a.clock f.deadline f.api_version f.body.items) c.look.result) (to_z-of_z w32 w.correlation_id fits) versioned))
 
 pub returns-in-Group-clause-meets : goal.returns-in-Group-clause-meets
 unfolding ready
@@ -66,16 +66,15 @@ returns-in-Records-clause-told g c = λ honest.
     let disk = g.S.Store.disk in
     let shelf = c.look.new.self.shelf in
     let k = kept_of (tenants_in g.L.PartitionLog.log disk a.tenants.now) a.tenant in
-    let v = world_at k a.clock in
     let r = c.look.result in
     let failed = FailedBy (disk a.tenants.now.shelf.store).failures (disk shelf.store).failures shelf.next in
     let id = to_z w32 (of_z w32 w.correlation_id) in
     let version = to_z w16 (of_z w16 f.api_version) in
     let fits : FitsSigned w32 w.correlation_id = search rules in
     let small : FitsSigned w16 f.api_version = search rules in
-    let bodied = subst (λ body. AnswersLook failed id version v f.deadline body r) c.deref.ensures.value (c.look.ensures.told honest) in
-    let versioned = subst (λ n. AnswersLook failed id n v f.deadline f.body.items r) (to_z-of_z w16 f.api_version small) bodied in
-    let told = subst (λ z. AnswersLook failed z f.api_version v f.deadline f.body.items r) (to_z-of_z w32 w.correlation_id fits) versioned in
+    let bodied = subst (λ body. AnswersLook failed id version k.world a.clock f.deadline body r) c.deref.ensures.value (c.look.ensures.told honest) in
+    let versioned = subst (λ n. AnswersLook failed id n k.world a.clock f.deadline f.body.items r) (to_z-of_z w16 f.api_version small) bodied in
+    let told = subst (λ z. AnswersLook failed z f.api_version k.world a.clock f.deadline f.body.items r) (to_z-of_z w32 w.correlation_id fits) versioned in
     subst (λ x. TellsAwaited failed w.correlation_id a.clock k (awaited_of x) r) (sym f.is) told
 
 pub returns-in-Group-clause-told : goal.returns-in-Group-clause-told

@@ -27,7 +27,7 @@ returns-in-Ok-None-clause-spent g c = spent-served c.serve.result c.args.setup.n
 pub returns-in-Ok-None-clause-dated : goal.returns-in-Ok-None-clause-dated
 returns-in-Ok-None-clause-dated g c =
     let a = c.args in
-    let own = subst (λ found. IfNone found (IsOwn a.setup.now a.connection.now.session)) c.in-Ok-None.field-0-is c.in-Ok-None.ensures.own in
+    let own = subst (λ found. IfNone found (IsOwn a.setup.now a.connection.now.session)) c.in-Ok-None.field-0-is c.in-Ok-None.ensures.none in
     dated-none (fin.get a.parking.now a.connection.now.number) c.serve.new.self.session.stage c.requires.free (own-free a.setup.now a.tenant a.connection.now c.serve.new.self c.requires.bound own c.in_ok-serve-in-Ok-None.ensures.ok)
 
 pub returns-in_err-serve-in-Ok-None-clause-owned : goal.returns-in_err-serve-in-Ok-None-clause-owned
@@ -36,7 +36,7 @@ returns-in_err-serve-in-Ok-None-clause-owned g c = owned-shut c.args.connection.
 pub returns-in-Ok-None-clause-owned : goal.returns-in-Ok-None-clause-owned
 returns-in-Ok-None-clause-owned g c =
     let a = c.args in
-    let own = subst (λ found. IfNone found (IsOwn a.setup.now a.connection.now.session)) c.in-Ok-None.field-0-is c.in-Ok-None.ensures.own in
+    let own = subst (λ found. IfNone found (IsOwn a.setup.now a.connection.now.session)) c.in-Ok-None.field-0-is c.in-Ok-None.ensures.none in
     owned-none c.serve.new.self.session.stage (fin.get a.parking.now a.connection.now.number) (own-free a.setup.now a.tenant a.connection.now c.serve.new.self c.requires.bound own c.in_ok-serve-in-Ok-None.ensures.ok)
 
 pub returns-in-Err-clause-owned : goal.returns-in-Err-clause-owned
@@ -45,13 +45,13 @@ returns-in-Err-clause-owned g c = owned-shut c.args.connection.now c.shut_down.n
 pub returns-in-Ok-None-clause-keyed : goal.returns-in-Ok-None-clause-keyed
 returns-in-Ok-None-clause-keyed g c = λ honest.
     let a = c.args in
-    let own = subst (λ found. IfNone found (IsOwn a.setup.now a.connection.now.session)) c.in-Ok-None.field-0-is c.in-Ok-None.ensures.own in
+    let own = subst (λ found. IfNone found (IsOwn a.setup.now a.connection.now.session)) c.in-Ok-None.field-0-is c.in-Ok-None.ensures.none in
     keyed-none (tenants_in g.L.PartitionLog.log g.S.Store.disk a.tenants.now) a.connection.now.number c.serve.new.self.session.stage (fin.get a.parking.now a.connection.now.number) (own-free a.setup.now a.tenant a.connection.now c.serve.new.self c.requires.bound own c.in_ok-serve-in-Ok-None.ensures.ok)
 
 pub returns-in-Ok-None-clause-touched : goal.returns-in-Ok-None-clause-touched
 returns-in-Ok-None-clause-touched g c = λ honest.
     let a = c.args in
-    let own = subst (λ found. IfNone found (IsOwn a.setup.now a.connection.now.session)) c.in-Ok-None.field-0-is c.in-Ok-None.ensures.own in
+    let own = subst (λ found. IfNone found (IsOwn a.setup.now a.connection.now.session)) c.in-Ok-None.field-0-is c.in-Ok-None.ensures.none in
     own-touched a.setup.now a.tenant a.clock a.connection.now.number (tenants_in g.L.PartitionLog.log g.S.Store.disk a.tenants.now) a.connection.now c.serve.new.self c.new.result.items c.requires.bound own c.in_ok-serve-in-Ok-None.ensures.ok
 
 pub returns-in-Err-clause-spent : goal.returns-in-Err-clause-spent

@@ -44,8 +44,8 @@ returns-in_ok-greet-in-Greets-clause-keyed g c = λ honest.
     let greets = sym (able-stage a.connection.now.session c.requires.able) ∙ sym c.in-Greets.ensures in
     keyed-none (tenants_in g.L.PartitionLog.log g.S.Store.disk a.tenants.now) a.connection.now.number c.greet.new.self.session.stage (fin.get a.parking.now a.connection.now.number) (greeted-free a.setup.now (greeting_of c.in-Greets.greeting) a.connection.now c.greet.new.self greets c.in_ok-greet-in-Greets.ensures.ok)
 
-pub returns-in_ok-touched-in-Bound-clause-left : goal.returns-in_ok-touched-in-Bound-clause-left
-returns-in_ok-touched-in-Bound-clause-left g c = λ honest.
+pub returns-in_ok-touched-in-Bound-clause-remaining : goal.returns-in_ok-touched-in-Bound-clause-remaining
+returns-in_ok-touched-in-Bound-clause-remaining g c = λ honest.
     let a = c.args in
     let t = c.in-Bound.tenant in
     let us = tenants_in g.L.PartitionLog.log g.S.Store.disk c.serve_bound.new.tenants in
@@ -57,8 +57,8 @@ returns-in_ok-touched-in-Bound-clause-left g c = λ honest.
     left-counted t (tenants_in g.L.PartitionLog.log g.S.Store.disk a.tenants.now) us (tenants_in g.L.PartitionLog.log g.S.Store.disk c.whom_it_concerns.new.tenants) c.whom_it_concerns.ensures.turn c.whom_it_concerns.ensures.stays c.whom_it_concerns.result a.setup.now a.clock a.connection.now.session.stage a.connection.now.number a.parking.now a.connection.now.session c.serve_bound.new.connection.session c.whom_it_concerns.ensures.counted
     (left-by (shelf_is_honest g.S.Store.disk c.serve_bound.new.tenants) before c.whom_it_concerns.result a.setup.now t a.clock a.connection.now.number a.parking.now p (tenants_in g.L.PartitionLog.log g.S.Store.disk a.tenants.now) us a.connection.now.session c.serve_bound.new.connection.session a.connection.now.session.stage touched bound c.serve_bound.ensures.parked concern c.in_ok-touched-in-Bound.ensures.touched)
 
-pub returns-in_ok-touched-in-Bound-clause-own : goal.returns-in_ok-touched-in-Bound-clause-own
-returns-in_ok-touched-in-Bound-clause-own g c =
+pub returns-in_ok-touched-in-Bound-clause-includes_itself : goal.returns-in_ok-touched-in-Bound-clause-includes_itself
+returns-in_ok-touched-in-Bound-clause-includes_itself g c =
     let t = c.in-Bound.tenant in
     let us = tenants_in g.L.PartitionLog.log g.S.Store.disk c.serve_bound.new.tenants in
     let p = c.serve_bound.new.parking in

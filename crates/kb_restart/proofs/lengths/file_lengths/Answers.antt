@@ -7,7 +7,7 @@ use Rattle.kb_restart.proofs.lengths.file_lengths.Goals as goal
 
 pub len-requires : goal.len-requires
 len-requires g c =
-    all_listed (g.S.Store.disk c.args.store.now) (g.S.Store.disk c.loop-file.store) c.deref-file-items.result.now c.loop-file.invariant.listed c.loop-file.invariant.kept c.loop-file.file-index 0 c.loop-file-test.true
+    all_listed (g.S.Store.disk c.args.store.now) (g.S.Store.disk c.loop-file.store) c.deref-file-items.result.now c.loop-file.invariant.listed c.loop-file.invariant.unchanged c.loop-file.file-index 0 c.loop-file-test.true
 
 pub returns-clause-rise : goal.returns-clause-rise
 returns-clause-rise g c =

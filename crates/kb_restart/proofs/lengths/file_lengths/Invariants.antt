@@ -10,7 +10,7 @@ invariant-loop-file g l =
     let old = g.S.Store.disk l.fn.store in
     let now = g.S.Store.disk l.store in
     record {
-      kept : Keeps old now;
+      unchanged : Keeps old now;
       later : old.failures ≤ now.failures;
       listed : l.file-items ≡ keys old.table;
       told : l.lengths.items ++ map (λ file. record { file = file; length = len_of old file }) (drop l.file-index l.file-items) ≡ lengths_of old;

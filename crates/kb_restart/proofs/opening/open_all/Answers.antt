@@ -21,7 +21,7 @@ open_tenants-requires g c =
     let first = g.S.Store.disk c.args.shelf.now.store in
     let e = c.in_ok-directory.ensures in
     let q = c.requires in
-    read_listed first c.args.files.now c.args.shelf.now.next q.there q.given_out q.once c.in_ok-directory.directory e.all (g.S.Store.disk c.read.new.shelf.store) c.read.new.shelf.next e.kept e.next
+    read_listed first c.args.files.now c.args.shelf.now.next q.there q.given_out q.once c.in_ok-directory.directory e.all (g.S.Store.disk c.read.new.shelf.store) c.read.new.shelf.next e.unchanged e.next
 
 pub returns-in_err-parts-clause-others : goal.returns-in_err-parts-clause-others
 returns-in_err-parts-clause-others g c =
@@ -34,7 +34,7 @@ returns-in_err-parts-clause-others g c =
     let d = c.in_ok-directory.directory in
     let e = c.in_ok-directory.ensures in
     let q = c.requires in
-    λ h. cleared first files next q.there q.given_out q.once d e.all names (e.what (c.in_err-parts.ensures.others.honest h)) mid now (length c.args.names.now) e.kept (sym (length-map c.args.names.now (λ name. name.now))) c.in_err-parts.ensures.others
+    λ h. cleared first files next q.there q.given_out q.once d e.all names (e.what (c.in_err-parts.ensures.others.honest h)) mid now (length c.args.names.now) e.unchanged (sym (length-map c.args.names.now (λ name. name.now))) c.in_err-parts.ensures.others
 
 pub returns-in_err-parts-clause-cause : goal.returns-in_err-parts-clause-cause
 returns-in_err-parts-clause-cause g c =
@@ -50,7 +50,7 @@ returns-in_err-parts-clause-cause g c =
     let p = err_from_is_err_and c.from_residual-in_err-parts.result c.from_residual-in_err-parts.ensures.1 in
     let f = c.in_err-parts.ensures in
     missed_since first mid now next c.read.new.shelf.next (Unit {0}) (AreOwnedNamed names c.args.segment_bytes mid.files d) c.from_residual-in_err-parts.result c.in_err-parts.field-0.0 (p.1 ∙ ap Err p.2) e.next e.cause.later
-    (λ h u. subst (λ (fs : Files). AreOwnedNamed names c.args.segment_bytes fs d) (sym (e.kept.files (f.others.honest h))) (all_headed first.files names files d (e.what (f.others.honest h)) c.args.segment_bytes)) f.cause
+    (λ h u. subst (λ (fs : Files). AreOwnedNamed names c.args.segment_bytes fs d) (sym (e.unchanged.files (f.others.honest h))) (all_headed first.files names files d (e.what (f.others.honest h)) c.args.segment_bytes)) f.cause
 
 pub returns-in_err-strays-clause-others : goal.returns-in_err-strays-clause-others
 returns-in_err-strays-clause-others g c =
@@ -63,7 +63,7 @@ returns-in_err-strays-clause-others g c =
     let d = c.in_ok-directory.directory in
     let e = c.in_ok-directory.ensures in
     let q = c.requires in
-    λ h. cleared first files next q.there q.given_out q.once d e.all names (e.what (c.in_ok-parts.ensures.others.honest h)) mid now (length c.args.names.now) e.kept (sym (length-map c.args.names.now (λ name. name.now))) c.in_ok-parts.ensures.others
+    λ h. cleared first files next q.there q.given_out q.once d e.all names (e.what (c.in_ok-parts.ensures.others.honest h)) mid now (length c.args.names.now) e.unchanged (sym (length-map c.args.names.now (λ name. name.now))) c.in_ok-parts.ensures.others
 
 pub returns-clause-sound : goal.returns-clause-sound
 returns-clause-sound g c =
@@ -76,7 +76,7 @@ returns-clause-sound g c =
     let d = c.in_ok-directory.directory in
     let e = c.in_ok-directory.ensures in
     let q = c.requires in
-    are_sound first files next q.there q.given_out q.once d e.all mid c.in_ok-parts.parts.items now c.open_tenants.new.shelf.next c.open_tenants.new.directory e.kept c.in_ok-parts.ensures.restored
+    are_sound first files next q.there q.given_out q.once d e.all mid c.in_ok-parts.parts.items now c.open_tenants.new.shelf.next c.open_tenants.new.directory e.unchanged c.in_ok-parts.ensures.restored
 
 pub returns-clause-opened : goal.returns-clause-opened
 returns-clause-opened g c =
@@ -89,7 +89,7 @@ returns-clause-opened g c =
     let d = c.in_ok-directory.directory in
     let e = c.in_ok-directory.ensures in
     let q = c.requires in
-    λ h. are_opened first files next q.there q.given_out q.once d e.all mid c.in_ok-parts.parts.items now c.open_tenants.new.shelf.next c.open_tenants.new.directory e.kept c.in_ok-parts.ensures.restored names h (e.what (c.in_ok-parts.ensures.others.honest h)) c.in_ok-parts.ensures.names
+    λ h. are_opened first files next q.there q.given_out q.once d e.all mid c.in_ok-parts.parts.items now c.open_tenants.new.shelf.next c.open_tenants.new.directory e.unchanged c.in_ok-parts.ensures.restored names h (e.what (c.in_ok-parts.ensures.others.honest h)) c.in_ok-parts.ensures.names
     (all_headed first.files names files d (e.what (c.in_ok-parts.ensures.others.honest h)))
 
 pub returns-clause-refusals : goal.returns-clause-refusals
@@ -103,7 +103,7 @@ returns-clause-refusals g c =
     let d = c.in_ok-directory.directory in
     let e = c.in_ok-directory.ensures in
     let q = c.requires in
-    none_refused first files next q.there q.given_out q.once d e.all mid c.in_ok-parts.parts.items now c.open_tenants.new.shelf.next c.open_tenants.new.directory e.kept c.in_ok-parts.ensures.restored
+    none_refused first files next q.there q.given_out q.once d e.all mid c.in_ok-parts.parts.items now c.open_tenants.new.shelf.next c.open_tenants.new.directory e.unchanged c.in_ok-parts.ensures.restored
 
 pub returns-clause-strays : goal.returns-clause-strays
 returns-clause-strays g c =
@@ -135,7 +135,7 @@ returns-clause-all_strays g c =
     let e = c.in_ok-directory.ensures in
     let q = c.requires in
     λ h file none. Contains-permutation (all_files c.open_tenants.new.directory) c.in_ok-strays.strays.items file c.in_ok-strays.ensures.these
-    (left_all first files next q.there q.given_out q.once d e.all mid c.in_ok-parts.parts.items now c.open_tenants.new.shelf.next c.open_tenants.new.directory e.kept c.in_ok-parts.ensures.restored names h (e.what (c.in_ok-parts.ensures.others.honest h)) file none)
+    (left_all first files next q.there q.given_out q.once d e.all mid c.in_ok-parts.parts.items now c.open_tenants.new.shelf.next c.open_tenants.new.directory e.unchanged c.in_ok-parts.ensures.restored names h (e.what (c.in_ok-parts.ensures.others.honest h)) file none)
 
 pub returns-clause-once : goal.returns-clause-once
 returns-clause-once g c = distinct_moved (all_files c.open_tenants.new.directory) c.in_ok-strays.strays.items c.in_ok-strays.ensures.these c.in_ok-parts.ensures.restored.listed.once
@@ -151,7 +151,7 @@ returns-clause-others g c =
     let d = c.in_ok-directory.directory in
     let e = c.in_ok-directory.ensures in
     let q = c.requires in
-    λ h. cleared first files next q.there q.given_out q.once d e.all names (e.what (c.in_ok-parts.ensures.others.honest h)) mid now (length c.args.names.now) e.kept (sym (length-map c.args.names.now (λ name. name.now))) c.in_ok-parts.ensures.others
+    λ h. cleared first files next q.there q.given_out q.once d e.all names (e.what (c.in_ok-parts.ensures.others.honest h)) mid now (length c.args.names.now) e.unchanged (sym (length-map c.args.names.now (λ name. name.now))) c.in_ok-parts.ensures.others
 
 pub returns-clause-alone : goal.returns-clause-alone
 returns-clause-alone g c =
@@ -159,7 +159,7 @@ returns-clause-alone g c =
     let mid = g.S.Store.disk c.read.new.shelf.store in
     let now = g.S.Store.disk c.open_tenants.new.shelf.store in
     let e = c.in_ok-directory.ensures in
-    all_alone first mid now c.open_tenants.new.shelf.next c.args.files.now c.in_ok-strays.strays.items c.in_ok-directory.directory c.open_tenants.new.directory c.in_ok-parts.parts.items e.kept c.requires.there e.all
+    all_alone first mid now c.open_tenants.new.shelf.next c.args.files.now c.in_ok-strays.strays.items c.in_ok-directory.directory c.open_tenants.new.directory c.in_ok-parts.parts.items e.unchanged c.requires.there e.all
     c.in_ok-parts.ensures.restored c.in_ok-strays.ensures.these
 
 pub returns-clause-settled : goal.returns-clause-settled
@@ -168,7 +168,7 @@ returns-clause-settled g c all =
     let mid = g.S.Store.disk c.read.new.shelf.store in
     let now = g.S.Store.disk c.open_tenants.new.shelf.store in
     let e = c.in_ok-directory.ensures in
-    all_settled first mid now c.open_tenants.new.shelf.next c.args.files.now c.in_ok-strays.strays.items c.in_ok-directory.directory c.open_tenants.new.directory c.in_ok-parts.parts.items e.kept c.requires.there e.all
+    all_settled first mid now c.open_tenants.new.shelf.next c.args.files.now c.in_ok-strays.strays.items c.in_ok-directory.directory c.open_tenants.new.directory c.in_ok-parts.parts.items e.unchanged c.requires.there e.all
     c.in_ok-parts.ensures.restored c.in_ok-strays.ensures.these all
 
 pub returns-in_err-parts-clause-headers : goal.returns-in_err-parts-clause-headers
@@ -184,8 +184,8 @@ returns-in_err-parts-clause-headers g c = λ h.
     let q = c.requires in
     let before = f.others.honest h in
     let dir = e.what before in
-    let headed = subst (λ (fs : Files). AreOwnedNamed names c.args.segment_bytes fs d) (sym (e.kept.files before)) (all_headed first.files names files d dir c.args.segment_bytes) in
-    headers_then first mid now (kept_headers first mid e.kept before) (f.headers h headed)
+    let headed = subst (λ (fs : Files). AreOwnedNamed names c.args.segment_bytes fs d) (sym (e.unchanged.files before)) (all_headed first.files names files d dir c.args.segment_bytes) in
+    headers_then first mid now (kept_headers first mid e.unchanged before) (f.headers h headed)
 
 pub returns-in_err-parts-clause-lost_nothing : goal.returns-in_err-parts-clause-lost_nothing
 returns-in_err-parts-clause-lost_nothing g c = λ h t name at.
@@ -200,8 +200,8 @@ returns-in_err-parts-clause-lost_nothing g c = λ h t name at.
     let q = c.requires in
     let before = f.others.honest h in
     let dir = e.what before in
-    let headed = subst (λ (fs : Files). AreOwnedNamed names c.args.segment_bytes fs d) (sym (e.kept.files before)) (all_headed first.files names files d dir c.args.segment_bytes) in
-    tenant_kept (owners_of first.files files name) first mid now e.kept before (subst (λ (of : Owners). TenantLosesNothing of mid now) (same_owners first files c.args.shelf.now.next q.there q.given_out q.once d e.all names dir t name at) (f.lost_nothing h headed t))
+    let headed = subst (λ (fs : Files). AreOwnedNamed names c.args.segment_bytes fs d) (sym (e.unchanged.files before)) (all_headed first.files names files d dir c.args.segment_bytes) in
+    tenant_kept (owners_of first.files files name) first mid now e.unchanged before (subst (λ (of : Owners). TenantLosesNothing of mid now) (same_owners first files c.args.shelf.now.next q.there q.given_out q.once d e.all names dir t name at) (f.lost_nothing h headed t))
 
 pub returns-in_err-strays-clause-headers : goal.returns-in_err-strays-clause-headers
 returns-in_err-strays-clause-headers g c = λ h.
@@ -216,8 +216,8 @@ returns-in_err-strays-clause-headers g c = λ h.
     let q = c.requires in
     let before = f.others.honest h in
     let dir = e.what before in
-    let headed = subst (λ (fs : Files). AreOwnedNamed names c.args.segment_bytes fs d) (sym (e.kept.files before)) (all_headed first.files names files d dir c.args.segment_bytes) in
-    headers_then first mid now (kept_headers first mid e.kept before) (f.headers h headed)
+    let headed = subst (λ (fs : Files). AreOwnedNamed names c.args.segment_bytes fs d) (sym (e.unchanged.files before)) (all_headed first.files names files d dir c.args.segment_bytes) in
+    headers_then first mid now (kept_headers first mid e.unchanged before) (f.headers h headed)
 
 pub returns-in_err-strays-clause-lost_nothing : goal.returns-in_err-strays-clause-lost_nothing
 returns-in_err-strays-clause-lost_nothing g c = λ h t name at.
@@ -232,8 +232,8 @@ returns-in_err-strays-clause-lost_nothing g c = λ h t name at.
     let q = c.requires in
     let before = f.others.honest h in
     let dir = e.what before in
-    let headed = subst (λ (fs : Files). AreOwnedNamed names c.args.segment_bytes fs d) (sym (e.kept.files before)) (all_headed first.files names files d dir c.args.segment_bytes) in
-    tenant_kept (owners_of first.files files name) first mid now e.kept before (subst (λ (of : Owners). TenantLosesNothing of mid now) (same_owners first files c.args.shelf.now.next q.there q.given_out q.once d e.all names dir t name at) (f.lost_nothing h headed t))
+    let headed = subst (λ (fs : Files). AreOwnedNamed names c.args.segment_bytes fs d) (sym (e.unchanged.files before)) (all_headed first.files names files d dir c.args.segment_bytes) in
+    tenant_kept (owners_of first.files files name) first mid now e.unchanged before (subst (λ (of : Owners). TenantLosesNothing of mid now) (same_owners first files c.args.shelf.now.next q.there q.given_out q.once d e.all names dir t name at) (f.lost_nothing h headed t))
 
 pub returns-clause-headers : goal.returns-clause-headers
 returns-clause-headers g c = λ h.
@@ -248,8 +248,8 @@ returns-clause-headers g c = λ h.
     let q = c.requires in
     let before = f.others.honest h in
     let dir = e.what before in
-    let headed = subst (λ (fs : Files). AreOwnedNamed names c.args.segment_bytes fs d) (sym (e.kept.files before)) (all_headed first.files names files d dir c.args.segment_bytes) in
-    headers_then first mid now (kept_headers first mid e.kept before) (f.headers h headed)
+    let headed = subst (λ (fs : Files). AreOwnedNamed names c.args.segment_bytes fs d) (sym (e.unchanged.files before)) (all_headed first.files names files d dir c.args.segment_bytes) in
+    headers_then first mid now (kept_headers first mid e.unchanged before) (f.headers h headed)
 
 pub returns-clause-lost_nothing : goal.returns-clause-lost_nothing
 returns-clause-lost_nothing g c = λ h t name at.
@@ -264,13 +264,13 @@ returns-clause-lost_nothing g c = λ h t name at.
     let q = c.requires in
     let before = f.others.honest h in
     let dir = e.what before in
-    let headed = subst (λ (fs : Files). AreOwnedNamed names c.args.segment_bytes fs d) (sym (e.kept.files before)) (all_headed first.files names files d dir c.args.segment_bytes) in
-    tenant_kept (owners_of first.files files name) first mid now e.kept before (subst (λ (of : Owners). TenantLosesNothing of mid now) (same_owners first files c.args.shelf.now.next q.there q.given_out q.once d e.all names dir t name at) (f.lost_nothing h headed t))
+    let headed = subst (λ (fs : Files). AreOwnedNamed names c.args.segment_bytes fs d) (sym (e.unchanged.files before)) (all_headed first.files names files d dir c.args.segment_bytes) in
+    tenant_kept (owners_of first.files files name) first mid now e.unchanged before (subst (λ (of : Owners). TenantLosesNothing of mid now) (same_owners first files c.args.shelf.now.next q.there q.given_out q.once d e.all names dir t name at) (f.lost_nothing h headed t))
 
 pub returns-in_err-directory-clause-headers : goal.returns-in_err-directory-clause-headers
-returns-in_err-directory-clause-headers g c = λ h. kept_headers (g.S.Store.disk c.args.shelf.now.store) (g.S.Store.disk c.read.new.shelf.store) c.in_err-directory.ensures.kept h
+returns-in_err-directory-clause-headers g c = λ h. kept_headers (g.S.Store.disk c.args.shelf.now.store) (g.S.Store.disk c.read.new.shelf.store) c.in_err-directory.ensures.unchanged h
 
 pub returns-in_err-directory-clause-lost_nothing : goal.returns-in_err-directory-clause-lost_nothing
 returns-in_err-directory-clause-lost_nothing g c = λ h t name at.
     let first = g.S.Store.disk c.args.shelf.now.store in
-    named_still c.args.files.now (map (λ name. name.now) c.args.names.now) first (g.S.Store.disk c.read.new.shelf.store) c.requires.there c.in_err-directory.ensures.kept h t name at
+    named_still c.args.files.now (map (λ name. name.now) c.args.names.now) first (g.S.Store.disk c.read.new.shelf.store) c.requires.there c.in_err-directory.ensures.unchanged h t name at

@@ -32,8 +32,8 @@ open_all-requires-clause-there g c =
     let d0 = g.S.Store.disk c.args.store in
     let d1 = g.S.Store.disk c.list.new.self in
     let d2 = g.S.Store.disk c.in-Ok-new.shelf.store in
-    let k1 = c.in-Ok-list.ensures.kept in
-    let k2 = c.in-Ok-new.ensures.kept in
+    let k1 = c.in-Ok-list.ensures.unchanged in
+    let k2 = c.in-Ok-new.ensures.unchanged in
     let numbers = c.deref-3.result.now in
     let same = c.deref-3.ensures.value ∙ c.in-Ok-list.ensures.numbers in
     all_shelved d0 d1 d2 numbers same k1 k2
@@ -43,8 +43,8 @@ open_all-requires-clause-given_out g c =
     let d0 = g.S.Store.disk c.args.store in
     let d1 = g.S.Store.disk c.list.new.self in
     let d2 = g.S.Store.disk c.in-Ok-new.shelf.store in
-    let k1 = c.in-Ok-list.ensures.kept in
-    let k2 = c.in-Ok-new.ensures.kept in
+    let k1 = c.in-Ok-list.ensures.unchanged in
+    let k2 = c.in-Ok-new.ensures.unchanged in
     let numbers = c.deref-3.result.now in
     let same = c.deref-3.ensures.value ∙ c.in-Ok-list.ensures.numbers in
     all_given_out d0 d1 d2 numbers c.in-Ok-new.shelf.next same k1 k2 c.in-Ok-new.ensures.next
@@ -79,8 +79,8 @@ returns-in_err-tenants-in-Ok-open_all-clause-others_err g c =
     let d1 = g.S.Store.disk c.list.new.self in
     let d2 = g.S.Store.disk c.in-Ok-new.shelf.store in
     let d3 = g.S.Store.disk c.open_all.new.shelf.store in
-    let k1 = c.in-Ok-list.ensures.kept in
-    let k2 = c.in-Ok-new.ensures.kept in
+    let k1 = c.in-Ok-list.ensures.unchanged in
+    let k2 = c.in-Ok-new.ensures.unchanged in
     let numbers = c.deref-3.result.now in
     let same = c.deref-3.ensures.value ∙ c.in-Ok-list.ensures.numbers in
     let names = map (λ (name : Bor (List ℕ)). name.now) c.deref-2.result.now in
@@ -115,8 +115,8 @@ returns-in_err-broker-in-Ok-open_all-clause-others_err g c =
     let d1 = g.S.Store.disk c.list.new.self in
     let d2 = g.S.Store.disk c.in-Ok-new.shelf.store in
     let d3 = g.S.Store.disk c.open_all.new.shelf.store in
-    let k1 = c.in-Ok-list.ensures.kept in
-    let k2 = c.in-Ok-new.ensures.kept in
+    let k1 = c.in-Ok-list.ensures.unchanged in
+    let k2 = c.in-Ok-new.ensures.unchanged in
     let numbers = c.deref-3.result.now in
     let same = c.deref-3.ensures.value ∙ c.in-Ok-list.ensures.numbers in
     let names = map (λ (name : Bor (List ℕ)). name.now) c.deref-2.result.now in
@@ -147,8 +147,8 @@ returns-in-Ok-open_all-clause-state g c =
     let d1 = g.S.Store.disk c.list.new.self in
     let d2 = g.S.Store.disk c.in-Ok-new.shelf.store in
     let d3 = g.S.Store.disk c.open_all.new.shelf.store in
-    let k1 = c.in-Ok-list.ensures.kept in
-    let k2 = c.in-Ok-new.ensures.kept in
+    let k1 = c.in-Ok-list.ensures.unchanged in
+    let k2 = c.in-Ok-new.ensures.unchanged in
     let numbers = c.deref-3.result.now in
     let same = c.deref-3.ensures.value ∙ c.in-Ok-list.ensures.numbers in
     let names = map (λ (name : Bor (List ℕ)). name.now) c.deref-2.result.now in
@@ -173,8 +173,8 @@ returns-in-Ok-open_all-clause-only g c =
     let d1 = g.S.Store.disk c.list.new.self in
     let d2 = g.S.Store.disk c.in-Ok-new.shelf.store in
     let d3 = g.S.Store.disk c.open_all.new.shelf.store in
-    let k1 = c.in-Ok-list.ensures.kept in
-    let k2 = c.in-Ok-new.ensures.kept in
+    let k1 = c.in-Ok-list.ensures.unchanged in
+    let k2 = c.in-Ok-new.ensures.unchanged in
     let numbers = c.deref-3.result.now in
     let same = c.deref-3.ensures.value ∙ c.in-Ok-list.ensures.numbers in
     let names = map (λ (name : Bor (List ℕ)). name.now) c.deref-2.result.now in
@@ -200,8 +200,8 @@ returns-in-Ok-open_all-clause-strays g c =
     let d1 = g.S.Store.disk c.list.new.self in
     let d2 = g.S.Store.disk c.in-Ok-new.shelf.store in
     let d3 = g.S.Store.disk c.open_all.new.shelf.store in
-    let k1 = c.in-Ok-list.ensures.kept in
-    let k2 = c.in-Ok-new.ensures.kept in
+    let k1 = c.in-Ok-list.ensures.unchanged in
+    let k2 = c.in-Ok-new.ensures.unchanged in
     let numbers = c.deref-3.result.now in
     let same = c.deref-3.ensures.value ∙ c.in-Ok-list.ensures.numbers in
     let names = map (λ (name : Bor (List ℕ)). name.now) c.deref-2.result.now in
@@ -226,8 +226,8 @@ returns-in-Ok-open_all-clause-all_strays g c =
     let d1 = g.S.Store.disk c.list.new.self in
     let d2 = g.S.Store.disk c.in-Ok-new.shelf.store in
     let d3 = g.S.Store.disk c.open_all.new.shelf.store in
-    let k1 = c.in-Ok-list.ensures.kept in
-    let k2 = c.in-Ok-new.ensures.kept in
+    let k1 = c.in-Ok-list.ensures.unchanged in
+    let k2 = c.in-Ok-new.ensures.unchanged in
     let numbers = c.deref-3.result.now in
     let same = c.deref-3.ensures.value ∙ c.in-Ok-list.ensures.numbers in
     let names = map (λ (name : Bor (List ℕ)). name.now) c.deref-2.result.now in
@@ -255,7 +255,7 @@ returns-clause-cause g c =
     let fault = c.in-Err-open_all.fault in
     let listed = c.in-Ok-list.ensures.cause.later in
     let shelved = c.in-Ok-new.ensures.later in
-    let blamed = shelf_blamed d0 d1 d2 d3 c.in-Ok-new.shelf.next fault c.in-Ok-list.ensures.kept (omega (arith, listed, shelved)) c.in-Ok-new.ensures.next c.in-Err-open_all.ensures.cause in
+    let blamed = shelf_blamed d0 d1 d2 d3 c.in-Ok-new.shelf.next fault c.in-Ok-list.ensures.unchanged (omega (arith, listed, shelved)) c.in-Ok-new.ensures.next c.in-Err-open_all.ensures.cause in
     subst (λ (s : g.row.S.Denot). BlamesShelf d0 c.fault_of.result (g.S.Store.disk s)) (sym c.into_store.ensures) (subst (λ f. BlamesShelf d0 f d3) (sym c.fault_of.ensures) blamed)
 
 pub host-requires-clause-settled : goal.host-requires-clause-settled
@@ -267,7 +267,7 @@ host-requires-clause-settled g c =
     let numbers = c.deref-3.result.now in
     let same = c.deref-3.ensures.value ∙ c.in-Ok-list.ensures.numbers in
     subst (λ (ns : List ℕ). AreSettled segment_log c.in-Ok-open_all.parts.items ns d3) (sym c.deref-in-Ok-open_all-4.ensures.value)
-    (c.in-Ok-open_all.ensures.settled (there_listed d0 d1 d2 numbers same c.in-Ok-list.ensures.kept c.in-Ok-new.ensures.kept))
+    (c.in-Ok-open_all.ensures.settled (there_listed d0 d1 d2 numbers same c.in-Ok-list.ensures.unchanged c.in-Ok-new.ensures.unchanged))
 
 pub host-requires-clause-names : goal.host-requires-clause-names
 host-requires-clause-names g c =
@@ -278,8 +278,8 @@ pub host-requires-clause-alone : goal.host-requires-clause-alone
 host-requires-clause-alone g c file has =
     c.in-Ok-open_all.ensures.alone file (subst (λ (ns : List ℕ). Contains ns file) c.deref-in-Ok-open_all-4.ensures.value has)
 
-pub returns-in-Ok-open_all-clause-left : goal.returns-in-Ok-open_all-clause-left
-returns-in-Ok-open_all-clause-left g c =
+pub returns-in-Ok-open_all-clause-known_strays : goal.returns-in-Ok-open_all-clause-known_strays
+returns-in-Ok-open_all-clause-known_strays g c =
     c.in_ok-broker-in-Ok-open_all.ensures.strays ∙ c.in_ok-tenants-in-Ok-open_all.ensures.strays ∙ ap (λ (ns : List ℕ). Some ns) c.deref-in-Ok-open_all-4.ensures.value
 
 pub returns-in-Ok-open_all-clause-held : goal.returns-in-Ok-open_all-clause-held
@@ -295,8 +295,8 @@ returns-in_err-tenants-in-Ok-open_all-clause-lost_nothing_err g c =
     let d1 = g.S.Store.disk c.list.new.self in
     let d2 = g.S.Store.disk c.in-Ok-new.shelf.store in
     let d3 = g.S.Store.disk c.open_all.new.shelf.store in
-    let k1 = c.in-Ok-list.ensures.kept in
-    let k2 = c.in-Ok-new.ensures.kept in
+    let k1 = c.in-Ok-list.ensures.unchanged in
+    let k2 = c.in-Ok-new.ensures.unchanged in
     let numbers = c.deref-3.result.now in
     let same = c.deref-3.ensures.value ∙ c.in-Ok-list.ensures.numbers in
     let names = map (λ (name : Bor (List ℕ)). name.now) c.deref-2.result.now in
@@ -317,8 +317,8 @@ returns-in_err-broker-in-Ok-open_all-clause-lost_nothing_err g c =
     let d1 = g.S.Store.disk c.list.new.self in
     let d2 = g.S.Store.disk c.in-Ok-new.shelf.store in
     let d3 = g.S.Store.disk c.open_all.new.shelf.store in
-    let k1 = c.in-Ok-list.ensures.kept in
-    let k2 = c.in-Ok-new.ensures.kept in
+    let k1 = c.in-Ok-list.ensures.unchanged in
+    let k2 = c.in-Ok-new.ensures.unchanged in
     let numbers = c.deref-3.result.now in
     let same = c.deref-3.ensures.value ∙ c.in-Ok-list.ensures.numbers in
     let names = map (λ (name : Bor (List ℕ)). name.now) c.deref-2.result.now in
@@ -339,8 +339,8 @@ returns-in-Ok-open_all-clause-lost_nothing g c =
     let d1 = g.S.Store.disk c.list.new.self in
     let d2 = g.S.Store.disk c.in-Ok-new.shelf.store in
     let d3 = g.S.Store.disk c.open_all.new.shelf.store in
-    let k1 = c.in-Ok-list.ensures.kept in
-    let k2 = c.in-Ok-new.ensures.kept in
+    let k1 = c.in-Ok-list.ensures.unchanged in
+    let k2 = c.in-Ok-new.ensures.unchanged in
     let numbers = c.deref-3.result.now in
     let same = c.deref-3.ensures.value ∙ c.in-Ok-list.ensures.numbers in
     let names = map (λ (name : Bor (List ℕ)). name.now) c.deref-2.result.now in
@@ -359,8 +359,8 @@ returns-clause-lost_nothing_err g c =
     let d1 = g.S.Store.disk c.list.new.self in
     let d2 = g.S.Store.disk c.in-Ok-new.shelf.store in
     let d3 = g.S.Store.disk c.open_all.new.shelf.store in
-    let k1 = c.in-Ok-list.ensures.kept in
-    let k2 = c.in-Ok-new.ensures.kept in
+    let k1 = c.in-Ok-list.ensures.unchanged in
+    let k2 = c.in-Ok-new.ensures.unchanged in
     let numbers = c.deref-3.result.now in
     let same = c.deref-3.ensures.value ∙ c.in-Ok-list.ensures.numbers in
     let names = map (λ (name : Bor (List ℕ)). name.now) c.deref-2.result.now in
@@ -384,7 +384,7 @@ returns-in-Ok-open_all-clause-others g c =
     let whole = tenants_of c.args.settings.now.users.items in
     let own = c.in-Ok.ensures ∙ ap tenants_of c.deref.ensures.value in
     let named = ap (map (λ (name : Bor (List ℕ)). name.now)) c.deref-2.ensures.value ∙ own in
-    let kept = keeps_then d0 d1 d2 c.in-Ok-list.ensures.kept c.in-Ok-new.ensures.kept in
+    let kept = keeps_then d0 d1 d2 c.in-Ok-list.ensures.unchanged c.in-Ok-new.ensures.unchanged in
     let back = c.in_ok-broker-in-Ok-open_all.ensures.store ∙ ap (λ s. s.store) c.in_ok-tenants-in-Ok-open_all.ensures.shelf in
     subst (λ (s : g.row.S.Denot). (g.S.Store.disk s).honest → Clears (IsOfLog d0.files (keys d0.table) whole) d0 (g.S.Store.disk s)) (sym back)
     (cleared_since d0 d2 d3 kept numbers same names whole named c.in-Ok-open_all.ensures.others)
@@ -394,7 +394,7 @@ returns-in-Ok-open_all-clause-counts g c =
     let ps = c.in-Ok-open_all.parts.items in
     let shown = λ (name : Bor (List ℕ)). name.now in
     let had = λ (p : Parts SegmentLog). known p.catalog in
-    let has = λ (x : TenantState). x.kept.known in
+    let has = λ (x : TenantState). x.kept.world.known in
     let last = map shown c.deref-in-Ok-open_all-3.result.now in
     let again = ap (map shown) c.deref-in-Ok-open_all-3.ensures.value ∙ sym (ap (map shown) c.deref-2.ensures.value) in
     let many : length ps ≡ length last = c.in-Ok-open_all.ensures.count ∙ sym (length-map c.deref-2.result.now shown) ∙ sym (ap length again) in

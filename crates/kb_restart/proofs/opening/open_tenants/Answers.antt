@@ -87,7 +87,7 @@ loop-tenant-preserved g c =
           (subst (λ n. AreOwnNamed (string_bytes p.tenant) p.segment_bytes n mid.files has) (sym count) own)))))
           e.refusals
           (subst (λ n. TakesTenant n (known p.catalog) has left) count e.taken)
-          e.left e.stay
+          e.directory e.stay
           (subst (λ n. (o : Owner) → IsTaken n (known p.catalog) o → (file : ℕ) → Contains (files_at o has) file → Contains (all_files left) file → ⊥) count e.gone)
           (subst (λ n. Clears (IsOfTenant has n) mid now) count e.others)
           e.exact e.accounted e.apart

@@ -33,9 +33,9 @@ loop-i-preserved g c =
       end = v.end;
       state = then-state c.args.self.now c.loop-i.self c.take_output-bytes.new.self (drained_to i old) (drained_to (i + 1) old) (taken b c.number-conn.result) v.state c.take_output-bytes.ensures.state
           (rw add-one (drained-more b old i c.number-conn.result l rising a c.number-conn.ensures state));
-      left = ap (map sent_of) c.push_reserved.ensures.items
+      written = ap (map sent_of) c.push_reserved.ensures.items
           ∙ (map_push sent_of c.loop-i.written.items w
-          ∙ (ap (λ ss. ss ++ sent_of w ∷ []) v.left
+          ∙ (ap (λ ss. ss ++ sent_of w ∷ []) v.written
           ∙ (ap (λ s. (first ++ before) ++ s ∷ []) got
           ∙ (append_assoc first before (sent l ∷ [])
           ∙ ap (λ ss. first ++ ss) more))));

@@ -10,7 +10,7 @@ abbrev pub invariant-loop-i : goal.invariant-loop-i
 invariant-loop-i g l = record {
   end : l.i-end ≡ length l.fn.self.state.lines;
   state : l.self ≡ record l.fn.self { state = drained_to l.i l.fn.self.state };
-  left : map sent_of l.written.items ≡ map sent_of l.fn.written.items ++ map sent (take l.i l.fn.self.state.lines);
+  written : map sent_of l.written.items ≡ map sent_of l.fn.written.items ++ map sent (take l.i l.fn.self.state.lines);
   len : vec_len l.written ≡ vec_len l.fn.written + l.i;
   capacity : vec_capacity l.written ≡ vec_capacity l.fn.written;
 }

@@ -1,14 +1,14 @@
-use Rattle.std.proofs.Common.{◌++◌, ◌∷◌, [], refl, sym, ◌∙◌, ap, subst, inr}
+use Rattle.std.proofs.Common.{◌≡◌, ◌++◌, ◌∷◌, [], refl, sym, ◌∙◌, ap, subst, inl, inr}
 use Rattle.std.specs.Prelude.{map, true}
 use Rattle.std.proofs.lemmas.List.{map_push, append-nil}
 use Rattle.kb_machine.specs.Machine.{Sent, Comes}
 use Rattle.kb_machine.specs.Broker.{IsStep}
-use Rattle.kb_machine.specs.Calls.{IsRefused}
+use Rattle.kb_machine.specs.Calls.{IsRefused, opened}
 use Rattle.kb_broker.specs.Hosts.{is_honest, StepsTo}
 use Rattle.kb_broker.specs.Runs.{sent_of, unkept}
 use Rattle.kb_broker.specs.declared.run.Written.{Written}
 use Rattle.kb_broker.proofs.Happened.{connected-later, disconnected-later, disconnected-ready}
-use Rattle.kb_broker.proofs.RunEvents.{when_err}
+use Rattle.kb_broker.proofs.RunEvents.{when_err, when_ok}
 use Rattle.kb_broker.proofs.broker.Broker.happen.Goals as goal
 
 pub returns-then-is_err-clause-passed : goal.returns-then-is_err-clause-passed
@@ -21,6 +21,12 @@ returns-then-is_err-clause-passed g c =
     let added = ap (map sent_of) c.push_reserved.ensures.items ∙ (map_push sent_of ws w ∙ ap (λ b. map sent_of ws ++ (let s : Sent = record { number = n; bytes = b; shut = true } in s) ∷ []) c.new.ensures.items) in
     let refused = when_err c.connect.result (IsRefused old new) (sym c.is_err.ensures.value ∙ c.if-is_err.true) c.connect.ensures.err in
     rw c.in-Open.is (unkept n ∷ [], added, record { step = c.connect.ensures.step; leads = inr (refused, refl) })
+
+pub returns-else-is_err-clause-passed : goal.returns-else-is_err-clause-passed
+returns-else-is_err-clause-passed g c =
+    let n = c.in-Open.number in
+    let kept = when_ok c.connect.result (c.connect.new.self.state ≡ opened c.args.self.now.state n) (sym c.is_err.ensures.value ∙ c.if-is_err.false) c.connect.ensures.ok in
+    rw c.in-Open.is ([], sym (append-nil (map sent_of c.args.written.now.items)), record { step = c.connect.ensures.step; leads = inl (kept, refl) })
 
 pub returns-in-In-clause-passed : goal.returns-in-In-clause-passed
 returns-in-In-clause-passed g c =

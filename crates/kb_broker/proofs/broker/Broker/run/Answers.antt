@@ -106,7 +106,7 @@ whole g c =
     let all = c.args.events.now in
     let none : happenings (drop c.loop-event.event-index all) ≡ [] = ap happenings (drop_all c.loop-event.event-index all (omega arith)) in
     let last : Passes truthful (happenings (drop c.loop-event.event-index all)) b new (map sent b.lines) = subst (λ es. Passes truthful es b new (map sent b.lines)) (sym none) (state-is _ _ c.drain.ensures.state, refl) in
-    subst (Passes truthful (happenings all) c.args.self.now.state new) (sym c.drain.ensures.left) (c.loop-event.invariant.passes end.store (drained-later g c).honest new (map sent b.lines) last)
+    subst (Passes truthful (happenings all) c.args.self.now.state new) (sym c.drain.ensures.written) (c.loop-event.invariant.passes end.store (drained-later g c).honest new (map sent b.lines) last)
 
 in_order : (g : given.Over) (c : goal.After-sort_unstable_by_key g) → IsOrdered (connections_of (happenings c.args.events.now) c.args.self.now.state) (map sent_of c.drain.new.written.items) (map sent_of c.sort_unstable_by_key.new.self.items)
 in_order g c =
@@ -144,8 +144,8 @@ returns-clause-greeted g c = λ honest n h q.
     let before = (later-then disk c.args.self.now c.loop-event.self c.drain.new.self c.loop-event.invariant.later (drained-later g c)).honest honest in
     returns-clause-unowned g c honest n h q ∙ unowned-greets n (happenings c.args.events.now) c.args.self.now.state (ready-of disk c.args.self.now ready before) c.requires h
 
-pub returns-clause-left : goal.returns-clause-left
-returns-clause-left g c = λ honest t mine later m q.
+pub returns-clause-worlds : goal.returns-clause-worlds
+returns-clause-worlds g c = λ honest t mine later m q.
     let a = c.args.self.now.state in
     let hs = happenings c.args.events.now in
     let got = map sent_of c.drain.new.written.items in

@@ -19,7 +19,7 @@ use Rattle.kb_broker.proofs.engine.Engine.disconnect.Goals as goal
 
 -- the connection, in the state in which a member that waited on it waits no longer
 gone : (g : given.Over) (c : goal.After-into_output g) → IsLeft c.leave.new.self.state c.args.self.now.state c.in-Some.i c.args.number c.remove.result
-gone g c = left-found _ c.leave.new.self.state c.args.self.now.state c.in-Some.i c.args.number c.remove.result (state-is _ _ c.self.view_is) c.leave.ensures.left c.in-Some.ensures.within c.in-Some.ensures.some c.remove.ensures.value
+gone g c = left-found _ c.leave.new.self.state c.args.self.now.state c.in-Some.i c.args.number c.remove.result (state-is _ _ c.self.view_is) c.leave.ensures.state c.in-Some.ensures.within c.in-Some.ensures.some c.remove.ensures.value
 
 pub note-requires : goal.note-requires
 note-requires g c =
@@ -28,7 +28,7 @@ note-requires g c =
     let i = c.in-Some.i in
     let ls = c.self.inside.connections.items in
     let l = get_or ls i d in
-    let inside = state-is _ _ c.self.view_is ∙ c.leave.ensures.left d in
+    let inside = state-is _ _ c.self.view_is ∙ c.leave.ensures.state d in
     let lines : ls ≡ b.lines = ap (λ (x : BrokerState). x.lines) inside in
     let within = c.in-Some.ensures.within in
     roomy-removed 0 b.last ls i l c.self.inside.speakers c.args.number c.self.invariant.2 (subst (Rising 0 b.last) (sym lines) c.requires.rising)
@@ -37,7 +37,7 @@ note-requires g c =
 pub remove-requires : goal.remove-requires
 remove-requires g c =
     let d : Line = record { number = 0; session = fresh } in
-    let same : length c.self.inside.connections.items ≡ length c.args.self.now.state.lines = ap (λ (x : BrokerState). length x.lines) (state-is _ _ c.self.view_is ∙ c.leave.ensures.left d) in
+    let same : length c.self.inside.connections.items ≡ length c.args.self.now.state.lines = ap (λ (x : BrokerState). length x.lines) (state-is _ _ c.self.view_is ∙ c.leave.ensures.state d) in
     omega (arith, c.in-Some.ensures.within, same, c.self.inside.connections.ok.0)
 
 pub returns-in-Some-clause-state : goal.returns-in-Some-clause-state

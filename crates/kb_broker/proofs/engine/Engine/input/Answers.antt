@@ -48,7 +48,7 @@ returns g c =
     let f = found _ a i n l (state-is _ _ c.self.view_is) c.in-Some.ensures.within c.in-Some.ensures.some c.index.ensures in
     let given = c.take_piece.ensures.fed in
     let turned = c.run_turns.ensures.turned in
-    let going = going-then a b d given.going c.run_turns.ensures.going in
+    let going = going-then a b d given.going c.run_turns.ensures.continues in
     let kept = later-on disk c.args.self.now.store c.take_piece.new.self.store c.args.self.now.strays c.take_piece.new.self.strays a.tenants b.tenants c.take_piece.ensures.store c.take_piece.ensures.strays given.going.grows.names given.going.grows.own in
     let before : is_honest disk c.run_turns.new.self → is_honest disk c.args.self.now = λ honest. kept.honest (c.run_turns.ensures.later.honest honest) in
     record {

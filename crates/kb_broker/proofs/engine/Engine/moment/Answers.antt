@@ -39,13 +39,13 @@ run_among-requires g c =
       ready = c.requires.ready;
       first = subst (λ x. IsLater disk x s) c.self.view_is r.later;
       begun = has-begun (is_honest disk s) now c.max-self-inside.result answered _ a.state s.state (state-is _ _ c.self.view_is) c.max-self-inside.ensures r.passed r.rest r.leaves;
-      going = w.going;
+      going = w.continues;
       later = w.later;
       waked = w.waked;
       rest = w.rest;
     } in
     record {
-      sound = w.going.sound;
+      sound = w.continues.sound;
       unready = awake-unready disk now answered a s b awake;
       still = awake-still disk now answered a s b awake;
       among = subst (λ ns. AreAmong ns b.state) (sym c.deref.ensures.value) (awake-among disk now answered a s b c.in-Some.numbers.items awake c.in-Some.ensures.known);
@@ -65,13 +65,13 @@ run_all_turns-requires g c =
       ready = c.requires.ready;
       first = subst (λ x. IsLater disk x s) c.self.view_is r.later;
       begun = has-begun (is_honest disk s) now c.max-self-inside.result answered _ a.state s.state (state-is _ _ c.self.view_is) c.max-self-inside.ensures r.passed r.rest r.leaves;
-      going = w.going;
+      going = w.continues;
       later = w.later;
       waked = w.waked;
       rest = w.rest;
     } in
     record {
-      sound = w.going.sound;
+      sound = w.continues.sound;
       unready = awake-unready disk now answered a s b awake;
       still = awake-still disk now answered a s b awake;
     }
@@ -90,13 +90,13 @@ returns-in-Some g c =
       ready = c.requires.ready;
       first = subst (λ x. IsLater disk x s) c.self.view_is r.later;
       begun = has-begun (is_honest disk s) now c.max-self-inside.result answered _ a.state s.state (state-is _ _ c.self.view_is) c.max-self-inside.ensures r.passed r.rest r.leaves;
-      going = w.going;
+      going = w.continues;
       later = w.later;
       waked = w.waked;
       rest = w.rest;
     } in
     let t = c.run_among.ensures in
-    let h = subst (IsMovedOn disk now a) (sym c.self-in-Some.view_is) (moved-on disk now answered a s b c.run_among.new.self awake t.going t.later t.turned t.settled) in
+    let h = subst (IsMovedOn disk now a) (sym c.self-in-Some.view_is) (moved-on disk now answered a s b c.run_among.new.self awake t.continues t.later t.turned t.settled) in
     record { ready = h.ready; later = h.later; step = h.step; clock = h.clock; last = h.last; numbers = h.numbers; others = h.others; held = h.held }
 
 pub returns-in-None : goal.returns-in-None
@@ -113,11 +113,11 @@ returns-in-None g c =
       ready = c.requires.ready;
       first = subst (λ x. IsLater disk x s) c.self.view_is r.later;
       begun = has-begun (is_honest disk s) now c.max-self-inside.result answered _ a.state s.state (state-is _ _ c.self.view_is) c.max-self-inside.ensures r.passed r.rest r.leaves;
-      going = w.going;
+      going = w.continues;
       later = w.later;
       waked = w.waked;
       rest = w.rest;
     } in
     let t = c.run_all_turns.ensures in
-    let h = moved-on disk now answered a s b c.run_all_turns.new.self awake t.going t.later t.turned t.settled in
+    let h = moved-on disk now answered a s b c.run_all_turns.new.self awake t.continues t.later t.turned t.settled in
     record { ready = h.ready; later = h.later; step = h.step; clock = h.clock; last = h.last; numbers = h.numbers; others = h.others; held = h.held }

@@ -12,17 +12,17 @@ turn-requires g c = record {
 }
 
 pub loop-i-preserved : goal.loop-i-preserved
-loop-i-preserved g c = record { gone = gone-then g.S.Store.disk c.args.self.now c.loop-i.self c.turn.new.self c.loop-i.invariant.gone c.turn.ensures.going c.turn.ensures.later c.turn.ensures.turned }
+loop-i-preserved g c = record { gone = gone-then g.S.Store.disk c.args.self.now c.loop-i.self c.turn.new.self c.loop-i.invariant.gone c.turn.ensures.continues c.turn.ensures.later c.turn.ensures.turned }
 
 -- the same, where the answer has numbers to drop
 pub loop-i-preserved-in-Some : goal.loop-i-preserved-in-Some
-loop-i-preserved-in-Some g c = record { gone = gone-then g.S.Store.disk c.args.self.now c.loop-i.self c.turn.new.self c.loop-i.invariant.gone c.turn.ensures.going c.turn.ensures.later c.turn.ensures.turned }
+loop-i-preserved-in-Some g c = record { gone = gone-then g.S.Store.disk c.args.self.now c.loop-i.self c.turn.new.self c.loop-i.invariant.gone c.turn.ensures.continues c.turn.ensures.later c.turn.ensures.turned }
 
 pub returns : goal.returns
 returns g c =
     let gone = c.loop-i.invariant.gone in
     record {
-      going = gone.going;
+      continues = gone.going;
       later = gone.later;
       turned = gone.turned;
       settled = nowhere-able c.loop-i.self.state.lines c.next_able.result c.next_able.ensures c.in_default.not-Some;

@@ -17,7 +17,7 @@ loop-known-preserved-in-Nobody g c =
     let joined = c.join-known-in-Nobody in
     let own = ap (λ k. k ∷ []) (c.number-number.ensures ∙ sym (number_at-is b i l (at-read _ b i l (state-is _ _ c.self-in-loop-known.view_is) c.in-Some.ensures.next.within c.index.ensures))) in
     record {
-      gone = gone-then g.S.Store.disk c.args.self.now c.loop-known.self c.turn.new.self c.loop-known.invariant.gone t.going t.later t.turned;
+      gone = gone-then g.S.Store.disk c.args.self.now c.loop-known.self c.turn.new.self c.loop-known.invariant.gone t.continues t.later t.turned;
       among = λ known. among-nobody b d (number_at i b) (c.number-number.result ∷ []) c.next_among.new.able.items joined.new.able.items
           (subst (λ r. IsConfined r (number_at i b) b d) c.in-Nobody.is t.confined) c.in-Some.ensures.among own (from-true joined.result _ known joined.ensures);
     }
@@ -31,7 +31,7 @@ loop-known-preserved-in-These g c =
     let joined = c.join-known-in-These in
     let confined = subst (λ r. IsConfined r n b d) c.in-These.is t.confined in
     record {
-      gone = gone-then g.S.Store.disk c.args.self.now c.loop-known.self c.turn.new.self c.loop-known.invariant.gone t.going t.later t.turned;
+      gone = gone-then g.S.Store.disk c.args.self.now c.loop-known.self c.turn.new.self c.loop-known.invariant.gone t.continues t.later t.turned;
       among = λ known. among-joined b d n c.deref.result.now c.next_among.new.able.items joined.new.able.items
           (subst (λ ns. Contains ns n) (sym c.deref.ensures.value) confined.0) (subst (λ ns. SameBut ns b d) (sym c.deref.ensures.value) confined.1)
           c.in-Some.ensures.among (from-true joined.result _ known joined.ensures);
@@ -41,7 +41,7 @@ pub loop-known-preserved : goal.loop-known-preserved
 loop-known-preserved g c =
     let t = c.turn.ensures in
     record {
-      gone = gone-then g.S.Store.disk c.args.self.now c.loop-known.self c.turn.new.self c.loop-known.invariant.gone t.going t.later t.turned;
+      gone = gone-then g.S.Store.disk c.args.self.now c.loop-known.self c.turn.new.self c.loop-known.invariant.gone t.continues t.later t.turned;
       among = λ known. (let no : false ≡ true = known in absurd (cc));
     }
 
@@ -50,7 +50,7 @@ returns-then-not-known-clause-turned g c =
     let disk = g.S.Store.disk in
     let a = c.args.self.now in
     let t = c.run_all_turns.ensures in
-    (gone-then disk a _ c.run_all_turns.new.self (subst (HasGone disk a) (sym c.self-2.view_is) c.loop-known.invariant.gone) t.going t.later t.turned).turned
+    (gone-then disk a _ c.run_all_turns.new.self (subst (HasGone disk a) (sym c.self-2.view_is) c.loop-known.invariant.gone) t.continues t.later t.turned).turned
 
 pub returns-else-not-known-clause-turned : goal.returns-else-not-known-clause-turned
 returns-else-not-known-clause-turned g c = (subst (HasGone g.S.Store.disk c.args.self.now) (sym c.self-2.view_is) c.loop-known.invariant.gone).turned

@@ -32,9 +32,9 @@ loop-alloc-preserved-in-Nobody g c =
     let v = c.loop-alloc.invariant in
     let t = c.turn.ensures in
     record {
-      gone = gone-then g.S.Store.disk c.args.self.now c.loop-alloc.self c.turn.new.self v.gone t.going t.later t.turned;
-      within = within-going b d i t.going v.within;
-      idle = subst (λ k. AreIdle k d) (sym (number-going b d i t.going)) (idle-others n b d t.going.sound (subst (λ r. IsConfined r n b d) c.in-Nobody.is t.confined) v.idle);
+      gone = gone-then g.S.Store.disk c.args.self.now c.loop-alloc.self c.turn.new.self v.gone t.continues t.later t.turned;
+      within = within-going b d i t.continues v.within;
+      idle = subst (λ k. AreIdle k d) (sym (number-going b d i t.continues)) (idle-others n b d t.continues.sound (subst (λ r. IsConfined r n b d) c.in-Nobody.is t.confined) v.idle);
     }
 
 pub loop-alloc-preserved : goal.loop-alloc-preserved
@@ -49,9 +49,9 @@ loop-alloc-preserved g c =
     let confined = subst (λ r. IsConfined r n b d) c.in-These.is t.confined in
     let one : length ns ≤ 1 = search rules in
     record {
-      gone = gone-then g.S.Store.disk c.args.self.now c.loop-alloc.self c.turn.new.self v.gone t.going t.later t.turned;
-      within = within-going b d i t.going v.within;
-      idle = subst (λ k. AreIdle k d) (sym (number-going b d i t.going)) (idle-others n b d t.going.sound (one-same n ns b d confined.0 one confined.1) v.idle);
+      gone = gone-then g.S.Store.disk c.args.self.now c.loop-alloc.self c.turn.new.self v.gone t.continues t.later t.turned;
+      within = within-going b d i t.continues v.within;
+      idle = subst (λ k. AreIdle k d) (sym (number-going b d i t.continues)) (idle-others n b d t.continues.sound (one-same n ns b d confined.0 one confined.1) v.idle);
     }
 
 pub run_among-requires : goal.run_among-requires
@@ -61,7 +61,7 @@ run_among-requires g c =
     let n = number_at c.args.i b in
     let v = c.loop-alloc.invariant in
     let t = c.turn.ensures in
-    let gone = gone-then g.S.Store.disk c.args.self.now c.loop-alloc.self c.turn.new.self v.gone t.going t.later t.turned in
+    let gone = gone-then g.S.Store.disk c.args.self.now c.loop-alloc.self c.turn.new.self v.gone t.continues t.later t.turned in
     let confined = subst (λ r. IsConfined r n b d) c.in-These.is t.confined in
     record {
       sound = gone.going.sound;
@@ -73,7 +73,7 @@ run_among-requires g c =
 pub run_all_turns-requires : goal.run_all_turns-requires
 run_all_turns-requires g c =
     let t = c.turn.ensures in
-    let gone = gone-then g.S.Store.disk c.args.self.now c.loop-alloc.self c.turn.new.self c.loop-alloc.invariant.gone t.going t.later t.turned in
+    let gone = gone-then g.S.Store.disk c.args.self.now c.loop-alloc.self c.turn.new.self c.loop-alloc.invariant.gone t.continues t.later t.turned in
     record { sound = gone.going.sound; unready = gone.unready; still = gone.still }
 
 pub returns-then-len-gt1 : goal.returns-then-len-gt1
@@ -82,8 +82,8 @@ returns-then-len-gt1 g c =
     let a = c.args.self.now in
     let t = c.turn.ensures in
     let r = c.run_among.ensures in
-    let gone = gone-then disk a c.turn.new.self c.run_among.new.self (gone-then disk a c.loop-alloc.self c.turn.new.self c.loop-alloc.invariant.gone t.going t.later t.turned) r.going r.later r.turned in
-    record { going = gone.going; later = gone.later; turned = gone.turned; settled = r.settled }
+    let gone = gone-then disk a c.turn.new.self c.run_among.new.self (gone-then disk a c.loop-alloc.self c.turn.new.self c.loop-alloc.invariant.gone t.continues t.later t.turned) r.continues r.later r.turned in
+    record { continues = gone.going; later = gone.later; turned = gone.turned; settled = r.settled }
 
 pub returns-in-All : goal.returns-in-All
 returns-in-All g c =
@@ -91,8 +91,8 @@ returns-in-All g c =
     let a = c.args.self.now in
     let t = c.turn.ensures in
     let r = c.run_all_turns.ensures in
-    let gone = gone-then disk a c.turn.new.self c.run_all_turns.new.self (gone-then disk a c.loop-alloc.self c.turn.new.self c.loop-alloc.invariant.gone t.going t.later t.turned) r.going r.later r.turned in
-    record { going = gone.going; later = gone.later; turned = gone.turned; settled = r.settled }
+    let gone = gone-then disk a c.turn.new.self c.run_all_turns.new.self (gone-then disk a c.loop-alloc.self c.turn.new.self c.loop-alloc.invariant.gone t.continues t.later t.turned) r.continues r.later r.turned in
+    record { continues = gone.going; later = gone.later; turned = gone.turned; settled = r.settled }
 
 pub returns : goal.returns
 returns g c =
@@ -100,7 +100,7 @@ returns g c =
     let v = c.loop-alloc.invariant in
     let l = c.index.result.now in
     record {
-      going = v.gone.going;
+      continues = v.gone.going;
       later = v.gone.later;
       turned = v.gone.turned;
       settled = idle-settled b c.args.i l v.gone.going.sound (at-read _ b c.args.i l (state-is _ _ c.self.view_is) v.within c.index.ensures) v.idle (sym c.can_turn.ensures ∙ c.loop-alloc-test.false);

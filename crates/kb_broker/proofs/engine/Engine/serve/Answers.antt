@@ -89,17 +89,17 @@ returns-in-Ok g c =
     let member : IsMemberTurnAt l.number l.session.stage b.tenants us m.session.stage =
     subst (λ (x : BrokerState). IsMemberTurnAt l.number l.session.stage x.tenants us m.session.stage) here c.in-Ok.ensures.member in
     let left : H → IsLeftBy who b.setup b.clock l.session.stage l.number q b.tenants us l.session m.session = λ honest.
-    subst (λ (x : BrokerState). IsLeftBy who x.setup x.clock l.session.stage l.number q x.tenants us l.session m.session) here (c.in-Ok.ensures.left honest) in
+    subst (λ (x : BrokerState). IsLeftBy who x.setup x.clock l.session.stage l.number q x.tenants us l.session m.session) here (c.in-Ok.ensures.remaining honest) in
     let queue : IsQueueOf G q b.tenants b.lines = subst (λ (x : BrokerState). IsQueueOf G q x.tenants x.lines) here c.self.invariant.1 in
     record {
-      going = subst (λ (x : BrokerState). IsGoing b (put_with x i m us)) (sym here) (taken-going H b i l m us l.session.stage taken refl taken.turn is);
+      continues = subst (λ (x : BrokerState). IsGoing b (put_with x i m us)) (sym here) (taken-going H b i l m us l.session.stage taken refl taken.turn is);
       later = earlier;
-      served = λ honest scope still. subst (λ (x : BrokerState). IsServedFor who scope b (put_with x i m us)) (sym here) (served-by H honest G (t.later.honest honest) who scope b i l m us q still (c.requires.unready (earlier.honest honest)) taken is member c.in-Ok.ensures.whose queue (left honest));
-      left = λ honest. subst (λ (x : BrokerState). IsLeftTo who (put_with x i m us)) (sym here)
-          (left-by H honest G (t.later.honest honest) who b i l m us q (c.requires.unready (earlier.honest honest)) taken c.in-Ok.ensures.whose queue (left honest));
-      own = subst (IsOwnTo who) (sym (number_at-is b i l taken.at)) c.in-Ok.ensures.own;
+      served = λ honest scope still. subst (λ (x : BrokerState). IsServedFor who scope b (put_with x i m us)) (sym here) (served-by H honest G (t.later.honest honest) who scope b i l m us q still (c.requires.unready (earlier.honest honest)) taken is member c.in-Ok.ensures.tenant queue (left honest));
+      remaining = λ honest. subst (λ (x : BrokerState). IsLeftTo who (put_with x i m us)) (sym here)
+          (left-by H honest G (t.later.honest honest) who b i l m us q (c.requires.unready (earlier.honest honest)) taken c.in-Ok.ensures.tenant queue (left honest));
+      includes_itself = subst (IsOwnTo who) (sym (number_at-is b i l taken.at)) c.in-Ok.ensures.includes_itself;
       others = others-put b i l m _ taken.at taken.number (ap (λ (x : BrokerState). set x.lines i m) here);
-      less = subst (λ (x : BrokerState). work (put_with x i m us).lines < work b.lines) (sym here) (work-taken H b i l m us taken);
+      shrinks = subst (λ (x : BrokerState). work (put_with x i m us).lines < work b.lines) (sym here) (work-taken H b i l m us taken);
     }
 
 pub returns-in-Err : goal.returns-in-Err
@@ -128,11 +128,11 @@ returns-in-Err g c =
     let earlier = subst (λ (x : OnStore g.row.S.Denot). IsLaterWith (disk x.store) (disk store) x.strays strays x.state.tenants us) c.self.view_is t.later in
     let same = later-on disk store c.refuse.new.self.store strays c.refuse.new.self.strays us end.tenants c.refuse.ensures.store c.refuse.ensures.strays (names-counted l.number l.session.stage (put_with b i m us) end counted) (counts-counted l.number l.session.stage (put_with b i m us) end counted) in
     record {
-      going = refused-taken H b end i l m us l.session.stage taken refl shut taken.turn counted;
+      continues = refused-taken H b end i l m us l.session.stage taken refl shut taken.turn counted;
       later = later-by (disk c.args.self.now.store) (disk store) (disk c.refuse.new.self.store) c.args.self.now.strays strays c.refuse.new.self.strays b.tenants us end.tenants earlier same;
       served = λ honest scope still. refused-for who l.session.stage scope b end all (served-refused H (same.honest honest) scope b end i l m us l.session.stage still taken refl shut taken.turn counted);
-      left = λ honest. refused-left who l.session.stage end all;
-      own = refused-own who l.session.stage _ all;
+      remaining = λ honest. refused-left who l.session.stage end all;
+      includes_itself = refused-own who l.session.stage _ all;
       others = others-put b i l m end.lines taken.at taken.number (lines-counted l.number l.session.stage (put_with b i m us) end counted);
-      less = work-refused H b end i l m us l.session.stage taken counted;
+      shrinks = work-refused H b end i l m us l.session.stage taken counted;
     }

@@ -12,10 +12,10 @@ pub serve-concerned-requires : goal.serve-concerned-requires
 serve-concerned-requires g c = c.requires
 
 pub wake_each-requires : goal.wake_each-requires
-wake_each-requires g c = c.serve-concerned.ensures.going.sound
+wake_each-requires g c = c.serve-concerned.ensures.continues.sound
 
 pub wake_all-requires : goal.wake_all-requires
-wake_all-requires g c = c.serve-concerned.ensures.going.sound
+wake_all-requires g c = c.serve-concerned.ensures.continues.sound
 
 pub returns-in-Nobody : goal.returns-in-Nobody
 returns-in-Nobody g c =
@@ -23,11 +23,11 @@ returns-in-Nobody g c =
     let b = c.serve-concerned.new.self.state in
     let s = c.serve-concerned.ensures in
     record {
-      going = s.going;
+      continues = s.continues;
       later = s.later;
       turned = λ honest scope still. subst (λ r. IsServedFor r scope a b) c.in-Nobody.is (s.served honest scope still);
       confined = subst (λ r. IsConfined r (number_at c.args.i a) a b) (sym c.in-Nobody.is) s.others;
-      less = s.less;
+      shrinks = s.shrinks;
     }
 
 pub returns-in-These : goal.returns-in-These
@@ -40,17 +40,17 @@ returns-in-These g c =
     let t = c.in-These.tenant in
     let ns = c.in-These.numbers.items in
     let n = number_at c.args.i a in
-    let own = subst (λ r. IsOwnTo r n) c.in-These.is s.own in
+    let own = subst (λ r. IsOwnTo r n) c.in-These.is s.includes_itself in
     let same : SameBut ns b d = subst (λ ks. SameBut ks b d) c.deref.ensures.value w.same in
     record {
-      going = going-then a b d s.going w.going;
+      continues = going-then a b d s.continues w.continues;
       later = later-then g.S.Store.disk c.args.self.now c.serve-concerned.new.self c.wake_each.new.self s.later w.later;
       turned = λ honest scope still.
           let before = w.later.honest honest in
           turned-these t ns scope a b d (subst (λ r. IsServedFor r scope a b) c.in-These.is (s.served before scope still))
-          (subst (AreMinded (whoms.Tenant t) b d) c.deref.ensures.value (w.minded honest)) (subst (λ r. IsLeftTo r b) c.in-These.is (s.left before));
+          (subst (AreMinded (whoms.Tenant t) b d) c.deref.ensures.value (w.minded honest)) (subst (λ r. IsLeftTo r b) c.in-These.is (s.remaining before));
       confined = subst (λ r. IsConfined r n a d) (sym c.in-These.is) (own, confined-these ns n a b d own s.others same);
-      less = (let first = s.less in let then = w.work in omega (arith, first, then));
+      shrinks = (let first = s.shrinks in let then = w.work in omega (arith, first, then));
     }
 
 pub returns-in-All : goal.returns-in-All
@@ -61,9 +61,9 @@ returns-in-All g c =
     let s = c.serve-concerned.ensures in
     let w = c.wake_all.ensures in
     record {
-      going = going-then a b d s.going w.going;
+      continues = going-then a b d s.continues w.continues;
       later = later-then g.S.Store.disk c.args.self.now c.serve-concerned.new.self c.wake_all.new.self s.later w.later;
       turned = λ honest scope still. turned-served c.in-All.tenant scope a b d (subst (λ r. IsServedFor r scope a b) c.in-All.is (s.served (w.later.honest honest) scope still)) (w.waked honest) (w.looked honest) (w.rest honest);
       confined = subst (λ r. IsConfined r (number_at c.args.i a) a d) (sym c.in-All.is) tt;
-      less = (let first = s.less in let then = w.work in omega (arith, first, then));
+      shrinks = (let first = s.shrinks in let then = w.work in omega (arith, first, then));
     }

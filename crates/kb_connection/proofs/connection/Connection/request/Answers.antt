@@ -9,7 +9,7 @@ use Rattle.kb_connection.proofs.connection.Connection.request.Goals as goal
 
 pub returns-in_default : goal.returns-in_default
 returns-in_default c = record {
-  own = own_unless_frame c.args.setup.now _ _ _ (ap (λ (l : Line). l.session.unread) c.self.view_is) c.next.ensures c.in_default.not-Frame;
+  none = own_unless_frame c.args.setup.now _ _ _ (ap (λ (l : Line). l.session.unread) c.self.view_is) c.next.ensures c.in_default.not-Frame;
   asked = tt;
   number = tt;
   unshut = tt;
@@ -24,7 +24,7 @@ returns-in-Another-clause-asked c =
 
 pub returns-in_default-asked : goal.returns-in_default-asked
 returns-in_default-asked c = record {
-  own = own_unless_another c.args.setup.now _ _ _ _ _ (ap (λ (l : Line). l.session.unread) c.self.view_is) c.in-Frame.ensures c.as_slice-2.ensures (c.in_ok-correlation_id.ensures ∙ ap (λ v. request v c.as_slice-2.result.now) (c.as_slice.ensures ∙ c.versions.ensures.versions)) c.in_default-asked.not-Another;
+  none = own_unless_another c.args.setup.now _ _ _ _ _ (ap (λ (l : Line). l.session.unread) c.self.view_is) c.in-Frame.ensures c.as_slice-2.ensures (c.in_ok-correlation_id.ensures ∙ ap (λ v. request v c.as_slice-2.result.now) (c.as_slice.ensures ∙ c.versions.ensures.versions)) c.in_default-asked.not-Another;
   asked = tt;
   number = tt;
   unshut = tt;

@@ -137,7 +137,7 @@ returns-else-not-regrouped-clause-quiet g c = λ known honest.
     let same = c.list_answered.ensures.stays t ∙ c.retain_one.ensures.stays c.if-retain_one.false (before honest) t in
     let listed : ns ≡ ks ++ answered_connections (kept_of (seen new) t).groups = c.list_answered.ensures.listed known ∙ sym (ap (λ (k : Kept). ks ++ answered_connections k.groups) (c.list_answered.ensures.stays t)) in
     quiet_turn (shelf_is_honest disk new) honest t ns (seen old) (seen new) (turn_both c.args.clock t (shelf_is_honest disk ret) (shelf_is_honest disk new) (seen old) (seen ret) (seen new) before both last)
-    (quiet_listed ks ns (kept_of (seen old) t) (kept_of (seen new) t) (ap (λ (k : Kept). k.known) same ∙ c.pass_groups-regrouped.ensures.topics.0) (ap (λ (k : Kept). k.logs) same ∙ c.pass_groups-regrouped.ensures.topics.1) listed)
+    (quiet_listed ks ns (kept_of (seen old) t) (kept_of (seen new) t) (ap (λ (k : Kept). k.world) same ∙ c.pass_groups-regrouped.ensures.topics) listed)
 
 pub returns-else-not-regrouped-clause-longer : goal.returns-else-not-regrouped-clause-longer
 returns-else-not-regrouped-clause-longer g c = λ known n there.

@@ -11,7 +11,7 @@ returns-clause-invariant g c =
     let log = g.L.PartitionLog.log in
     let disk = g.S.Store.disk in
     let x : Tenant g.row.L.Denot = record { name = c.in_ok-from_str.field-0; parts = c.args.parts; groups = c.new.result } in
-    let after : Tenants g.row.L.Denot g.row.S.Denot = record c.args.self.now { tenants = c.push.new.self; kept_until = negsuc 0 } in
+    let after : Tenants g.row.L.Denot g.row.S.Denot = record c.args.self.now { tenants = c.push.new.self; next_retention_time = negsuc 0 } in
     kept_pushed log disk c.args.self.now after x c.in_ok-push.ensures.items refl refl c.args.name.now c.in_ok-from_str.ensures.ok c.new.ensures
     c.requires.sound c.requires.apart c.requires.named
     (λ file stray own. unknown_strays c.args.self.now.strays c.requires.early file stray) (λ known. absurd (unknown c.args.self.now.strays c.requires.early known)) c.requires.agrees (λ honest. idle_unknown (hosted log disk after)) c.requires.invariant

@@ -1,3 +1,4 @@
+pub mod Answered
 pub mod ByRequest
 pub mod Committing
 pub mod Joining

@@ -1,15 +1,13 @@
 //! A request of a tenant, by its key.
 ghost use Rattle.std.specs.Prelude.{◌≡◌, ◌≤◌, ◌^◌, [], IfOk, IsOk};
 ghost use Rattle.kb_wire.specs.Codec.{string};
-ghost use Rattle.kb_wire.specs.declared.api_key.TheConstants.{PRODUCE, FETCH, LIST_OFFSETS, OFFSET_COMMIT, CREATE_TOPICS, DELETE_TOPICS};
-ghost use Rattle.kb_wire.specs.declared.api_key.TheConstants.{DELETE_RECORDS, INIT_PRODUCER_ID};
+ghost use Rattle.kb_wire.specs.declared.api_key.TheConstants.{PRODUCE, OFFSET_COMMIT};
 ghost use Rattle.kb_world.specs.Scene.{WhereHonest};
 ghost use Rattle.kb_world.specs.Parts.{scene};
 ghost use Rattle.kb_world.specs.Steps.{IsStep, Meets};
-ghost use Rattle.kb_tenant.specs.Told.{HasFailed, CatalogFailed, CreationFailed, Acknowledges, AcknowledgesCreations};
-ghost use Rattle.kb_tenant.specs.Told.{AcknowledgesDeletions, AcknowledgesIssue, AcknowledgesRemovals, AnswersFetch, AnswersListing};
-ghost use Rattle.kb_tenant.specs.Told.{IsSpared};
-ghost use Rattle.kb_service.specs.Acknowledged.{AcknowledgesCommits, IsPlainly};
+ghost use Rattle.kb_world.specs.Told.{IsLogFull};
+ghost use Rattle.kb_tenant.specs.Told.{HasFailed, IsSpared};
+ghost use Rattle.kb_service.specs.Acknowledged.{IsOfMembers, IsPlainly, IsTruthful};
 ghost use Rattle.kb_service.specs.Waiters.{IsWaitTold, IsWaitToldBy};
 ghost use Rattle.kb_service.specs.Serve.{has_released, served, AreGroupsAfter, AreGroupsBy, IsOutcome, IsServed};
 
@@ -45,34 +43,16 @@ fn serve_by_key<L: PartitionLog + Drop, S: Store>(
         Meets a b (IsServed request.now.correlation_id
         (served node.now a.state.world clock groups.old request.now.connection request.now.api_key request.now.api_version
         request.now.body.now) b.state.world groups.new touched.new.items result) }
-    ensures acknowledged { let a = scene L.log S.disk parts.old shelf.old in let b = scene L.log S.disk parts.new shelf.new in
-        request.now.api_key ≡ PRODUCE → IfOk result (λ answer. WhereHonest a b (IsPlainly (Acknowledges (HasFailed a b)
-        request.now.correlation_id a.state.world request.now.body.now b.state.world touched.new.items) answer)) }
+    ensures told { let a = scene L.log S.disk parts.old shelf.old in let b = scene L.log S.disk parts.new shelf.new in
+        IfOk result (λ answer. WhereHonest a b (IsTruthful (HasFailed a b) (IsLogFull b) node.now clock request.now.connection
+        request.now.api_key request.now.api_version request.now.correlation_id request.now.body.now a.state.world groups.old b.state.world
+        touched.new.items answer)) }
     ensures spared { let a = scene L.log S.disk parts.old shelf.old in let b = scene L.log S.disk parts.new shelf.new in
         request.now.api_key ≡ PRODUCE
         → IfOk result (λ answer. IsPlainly (IsSpared a.state.world request.now.body.now b.state.world) answer) }
-    ensures answered { request.now.api_key ≡ PRODUCE → IsOk result }
-    ensures fetched { let a = scene L.log S.disk parts.old shelf.old in let b = scene L.log S.disk parts.new shelf.new in
-        request.now.api_key ≡ FETCH → IfOk result (λ answer. WhereHonest a b (IsPlainly (AnswersFetch (HasFailed a b)
-        request.now.correlation_id request.now.api_version a.state.world clock request.now.body.now) answer)) }
-    ensures listed { let a = scene L.log S.disk parts.old shelf.old in let b = scene L.log S.disk parts.new shelf.new in
-        request.now.api_key ≡ LIST_OFFSETS → IfOk result (λ answer. WhereHonest a b (IsPlainly (AnswersListing (HasFailed a b)
-        request.now.correlation_id a.state.world request.now.body.now) answer)) }
-    ensures created { let a = scene L.log S.disk parts.old shelf.old in let b = scene L.log S.disk parts.new shelf.new in
-        request.now.api_key ≡ CREATE_TOPICS → IfOk result (λ answer. WhereHonest a b (IsPlainly (AcknowledgesCreations (CreationFailed a b)
-        request.now.correlation_id request.now.api_version a.state.world request.now.body.now b.state.world) answer)) }
-    ensures removed { let a = scene L.log S.disk parts.old shelf.old in let b = scene L.log S.disk parts.new shelf.new in
-        request.now.api_key ≡ DELETE_TOPICS → IfOk result (λ answer. WhereHonest a b (IsPlainly (AcknowledgesRemovals (CatalogFailed a b)
-        request.now.correlation_id request.now.api_version a.state.world request.now.body.now b.state.world touched.new.items) answer)) }
-    ensures trimmed { let a = scene L.log S.disk parts.old shelf.old in let b = scene L.log S.disk parts.new shelf.new in
-        request.now.api_key ≡ DELETE_RECORDS → IfOk result (λ answer. WhereHonest a b (IsPlainly (AcknowledgesDeletions (CatalogFailed a b)
-        request.now.correlation_id a.state.world request.now.body.now b.state.world touched.new.items) answer)) }
-    ensures issued { let a = scene L.log S.disk parts.old shelf.old in let b = scene L.log S.disk parts.new shelf.new in
-        request.now.api_key ≡ INIT_PRODUCER_ID → IfOk result (λ answer. WhereHonest a b (IsPlainly (AcknowledgesIssue (CatalogFailed a b)
-        request.now.correlation_id a.state.world request.now.body.now b.state.world) answer)) }
-    ensures committed { let a = scene L.log S.disk parts.old shelf.old in let b = scene L.log S.disk parts.new shelf.new in
-        request.now.api_key ≡ OFFSET_COMMIT → IfOk result (λ answer. WhereHonest a b (AcknowledgesCommits (CatalogFailed a b)
-        request.now.correlation_id groups.old a.state.world request.now.body.now b.state.world answer)) }
+    ensures answered { (IsOfMembers request.now.api_key → ⊥) → (request.now.api_key ≡ OFFSET_COMMIT → ⊥) → IsOk result }
+    ensures stays { let a = scene L.log S.disk parts.old shelf.old in let b = scene L.log S.disk parts.new shelf.new in
+        IsOfMembers request.now.api_key → b.state.world ≡ a.state.world }
     ensures groups { let a = scene L.log S.disk parts.old shelf.old in
         AreGroupsBy groups.old (served node.now a.state.world clock groups.old request.now.connection request.now.api_key
         request.now.api_version request.now.body.now).groups result groups.new }
@@ -129,42 +109,15 @@ pub fn serve<L: PartitionLog + Drop, S: Store>(
         Meets a b (IsOutcome request.now.correlation_id
         (served node.now a.state.world clock groups.old request.now.connection request.now.api_key request.now.api_version
         request.now.body.now) b.state.world groups.new result.touched.items result.answer) }
-    // A batch of a Produce that is answered with no error is in its partition's log, whatever else was refused.
-    ensures acknowledged { let a = scene L.log S.disk parts.old shelf.old in let b = scene L.log S.disk parts.new shelf.new in
-        request.now.api_key ≡ PRODUCE → WhereHonest a b (IsPlainly (Acknowledges (HasFailed a b)
-        request.now.correlation_id a.state.world request.now.body.now b.state.world result.touched.items) result.answer) }
-    // A Produce whose connection is shut for want of memory has appended nothing.
+    // What is answered with no error is done, and of what is fetched or listed each partition has what is defined, or the code of what
+    // refused it, whatever was refused.
+    ensures told { let a = scene L.log S.disk parts.old shelf.old in let b = scene L.log S.disk parts.new shelf.new in
+        WhereHonest a b (IsTruthful (HasFailed a b) (IsLogFull b) node.now clock request.now.connection request.now.api_key
+        request.now.api_version request.now.correlation_id request.now.body.now a.state.world groups.old b.state.world
+        result.touched.items result.answer) }
+    // A Produce whose connection is shut for want of memory has appended nothing, on any store.
     ensures spared { let a = scene L.log S.disk parts.old shelf.old in let b = scene L.log S.disk parts.new shelf.new in
         request.now.api_key ≡ PRODUCE → IsPlainly (IsSpared a.state.world request.now.body.now b.state.world) result.answer }
-    // A Fetch has of each partition what is defined, or the code of what refused it, whatever was refused.
-    ensures fetched { let a = scene L.log S.disk parts.old shelf.old in let b = scene L.log S.disk parts.new shelf.new in
-        request.now.api_key ≡ FETCH → WhereHonest a b (IsPlainly (AnswersFetch (HasFailed a b)
-        request.now.correlation_id request.now.api_version a.state.world clock request.now.body.now) result.answer) }
-    // So has a ListOffsets.
-    ensures listed { let a = scene L.log S.disk parts.old shelf.old in let b = scene L.log S.disk parts.new shelf.new in
-        request.now.api_key ≡ LIST_OFFSETS → WhereHonest a b (IsPlainly (AnswersListing (HasFailed a b)
-        request.now.correlation_id a.state.world request.now.body.now) result.answer) }
-    // A topic of a CreateTopics that is answered with no error is in the catalog, whatever else was refused.
-    ensures created { let a = scene L.log S.disk parts.old shelf.old in let b = scene L.log S.disk parts.new shelf.new in
-        request.now.api_key ≡ CREATE_TOPICS → WhereHonest a b (IsPlainly (AcknowledgesCreations (CreationFailed a b)
-        request.now.correlation_id request.now.api_version a.state.world request.now.body.now b.state.world) result.answer) }
-    // A topic of a DeleteTopics that is answered with no error is gone.
-    ensures removed { let a = scene L.log S.disk parts.old shelf.old in let b = scene L.log S.disk parts.new shelf.new in
-        request.now.api_key ≡ DELETE_TOPICS → WhereHonest a b (IsPlainly (AcknowledgesRemovals (CatalogFailed a b)
-        request.now.correlation_id request.now.api_version a.state.world request.now.body.now b.state.world result.touched.items)
-        result.answer) }
-    // Records that a DeleteRecords answers with no error are deleted.
-    ensures trimmed { let a = scene L.log S.disk parts.old shelf.old in let b = scene L.log S.disk parts.new shelf.new in
-        request.now.api_key ≡ DELETE_RECORDS → WhereHonest a b (IsPlainly (AcknowledgesDeletions (CatalogFailed a b)
-        request.now.correlation_id a.state.world request.now.body.now b.state.world result.touched.items) result.answer) }
-    // An id that an InitProducerId answers with no error was given out.
-    ensures issued { let a = scene L.log S.disk parts.old shelf.old in let b = scene L.log S.disk parts.new shelf.new in
-        request.now.api_key ≡ INIT_PRODUCER_ID → WhereHonest a b (IsPlainly (AcknowledgesIssue (CatalogFailed a b)
-        request.now.correlation_id a.state.world request.now.body.now b.state.world) result.answer) }
-    // An offset of an OffsetCommit that is answered with no error is what the catalog has.
-    ensures committed { let a = scene L.log S.disk parts.old shelf.old in let b = scene L.log S.disk parts.new shelf.new in
-        request.now.api_key ≡ OFFSET_COMMIT → WhereHonest a b (AcknowledgesCommits (CatalogFailed a b)
-        request.now.correlation_id groups.old a.state.world request.now.body.now b.state.world result.answer) }
     ensures groups { let a = scene L.log S.disk parts.old shelf.old in
         AreGroupsAfter groups.old (served node.now a.state.world clock groups.old request.now.connection request.now.api_key
         request.now.api_version request.now.body.now).groups result.answer groups.new }

@@ -1,5 +1,6 @@
 pub mod Acknowledging
 pub mod Again
+pub mod Answered
 pub mod Asked
 pub mod Batches
 pub mod ByRequest

@@ -1,3 +1,4 @@
+pub mod Answered
 pub mod Batches
 pub mod Counted
 pub mod CreateTopics

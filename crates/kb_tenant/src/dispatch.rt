@@ -1,19 +1,20 @@
 //! A request of a tenant, by its key.
 ghost use Rattle.std.specs.Prelude.{◌≡◌, ◌≤◌, ◌^◌, [], IfOk, OnErr};
 ghost use Rattle.kb_wire.specs.Codec.{string, whole};
-ghost use Rattle.kb_wire.specs.declared.api_key.TheConstants.{PRODUCE, FETCH, LIST_OFFSETS, OFFSET_COMMIT, CREATE_TOPICS, DELETE_TOPICS};
-ghost use Rattle.kb_wire.specs.declared.api_key.TheConstants.{DELETE_RECORDS, INIT_PRODUCER_ID};
+ghost use Rattle.kb_wire.specs.declared.api_key.TheConstants.{PRODUCE};
 ghost use Rattle.kb_api_data.specs.Layouts.{produce_request, list_offsets_request, metadata_request, create_topics_request};
 ghost use Rattle.kb_api_data.specs.Layouts.{delete_records_request, delete_topics_request, init_producer_id_request};
 ghost use Rattle.kb_store.specs.Disk.{Files};
 ghost use Rattle.kb_world.specs.Scene.{WhereHonest};
 ghost use Rattle.kb_world.specs.Parts.{scene, world_of};
 ghost use Rattle.kb_world.specs.Steps.{IsStep, Meets};
+ghost use Rattle.kb_world.specs.Told.{IsLogFull};
+ghost use Rattle.kb_tenant.specs.Answered.{IsTruthful, OnlyReads};
 ghost use Rattle.kb_tenant.specs.CreateTopics.{asked_creations};
 ghost use Rattle.kb_tenant.specs.Fetch.{asked_fetch};
 ghost use Rattle.kb_tenant.specs.Metadata.{asked_metadata};
 ghost use Rattle.kb_tenant.specs.Replies.{IsAnswer};
-ghost use Rattle.kb_tenant.specs.Told.{CatalogFailed, CreationFailed, HasFailed, Acknowledges, AcknowledgesCommits, AcknowledgesCreations};
+ghost use Rattle.kb_tenant.specs.Told.{CatalogFailed, CreationFailed, HasFailed, Acknowledges, AcknowledgesCreations};
 ghost use Rattle.kb_tenant.specs.Told.{AcknowledgesIssue, AcknowledgesRemovals, IsSpared};
 ghost use Rattle.kb_tenant.specs.Told.{AcknowledgesDeletions, AnswersFetch, AnswersListing, AnswersLook};
 ghost use Rattle.kb_tenant.specs.Serve.{if_read, of_produce, of_fetch, of_list_offsets, of_metadata, of_create_topics, of_delete_records};
@@ -94,6 +95,8 @@ fn serve_a_fetch<L: PartitionLog + Drop, S: Store>(
     requires clock { clock ≤ 2 ^ 62 }
     requires sound { (scene L.log S.disk parts.old shelf.old).sound }
     ensures step { IsStep (scene L.log S.disk parts.old shelf.old) (scene L.log S.disk parts.new shelf.new) }
+    ensures same { let a = scene L.log S.disk parts.old shelf.old in let b = scene L.log S.disk parts.new shelf.new in
+        b.disk.honest → a.agrees → b.state.world ≡ a.state.world }
     ensures meets { let a = scene L.log S.disk parts.old shelf.old in let b = scene L.log S.disk parts.new shelf.new in
         Meets a b (IsServed request.now.correlation_id
         (if_read a.state.world (asked_fetch request.now.api_version request.now.body.now)
@@ -120,6 +123,8 @@ fn serve_list_offsets<L: PartitionLog + Drop, S: Store>(
 ) -> Result<Answer, ReadFault>
     requires { (scene L.log S.disk parts.old shelf.old).sound }
     ensures step { IsStep (scene L.log S.disk parts.old shelf.old) (scene L.log S.disk parts.new shelf.new) }
+    ensures same { let a = scene L.log S.disk parts.old shelf.old in let b = scene L.log S.disk parts.new shelf.new in
+        b.disk.honest → a.agrees → b.state.world ≡ a.state.world }
     ensures meets { let a = scene L.log S.disk parts.old shelf.old in let b = scene L.log S.disk parts.new shelf.new in
         Meets a b (IsServed request.now.correlation_id
         (if_read a.state.world (whole list_offsets_request request.now.body.now) (of_list_offsets a.state.world)) b.state.world [] result) }
@@ -281,39 +286,17 @@ fn serve_by_key<L: PartitionLog + Drop, S: Store>(
         (plainly_served node.now a.state.world clock request.now.connection request.now.api_key request.now.api_version
         request.now.body.now)
         b.state.world touched.new.items result) }
-    ensures acknowledged { let a = scene L.log S.disk parts.old shelf.old in let b = scene L.log S.disk parts.new shelf.new in
-        request.now.api_key ≡ PRODUCE → IfOk result (λ answer.
-        WhereHonest a b (Acknowledges (HasFailed a b) request.now.correlation_id a.state.world request.now.body.now b.state.world
+    ensures told { let a = scene L.log S.disk parts.old shelf.old in let b = scene L.log S.disk parts.new shelf.new in
+        IfOk result (λ answer. WhereHonest a b (IsTruthful (HasFailed a b) (IsLogFull b) node.now clock request.now.connection
+        request.now.api_key request.now.api_version request.now.correlation_id request.now.body.now a.state.world b.state.world
         touched.new.items answer)) }
+    // what only reads leaves the world as it is, also where it is refused
+    ensures stays { let a = scene L.log S.disk parts.old shelf.old in let b = scene L.log S.disk parts.new shelf.new in
+        WhereHonest a b (OnlyReads request.now.api_key → b.state.world ≡ a.state.world) }
     ensures spared { let a = scene L.log S.disk parts.old shelf.old in let b = scene L.log S.disk parts.new shelf.new in
         request.now.api_key ≡ PRODUCE → OnErr result (b.state.world ≡ a.state.world) }
     ensures shut { let a = scene L.log S.disk parts.old shelf.old in let b = scene L.log S.disk parts.new shelf.new in
         request.now.api_key ≡ PRODUCE → IfOk result (λ answer. IsSpared a.state.world request.now.body.now b.state.world answer) }
-    ensures fetched { let a = scene L.log S.disk parts.old shelf.old in let b = scene L.log S.disk parts.new shelf.new in
-        request.now.api_key ≡ FETCH → IfOk result (λ answer. WhereHonest a b (AnswersFetch (HasFailed a b)
-        request.now.correlation_id request.now.api_version a.state.world clock request.now.body.now answer)) }
-    ensures listed { let a = scene L.log S.disk parts.old shelf.old in let b = scene L.log S.disk parts.new shelf.new in
-        request.now.api_key ≡ LIST_OFFSETS → IfOk result (λ answer. WhereHonest a b (AnswersListing (HasFailed a b)
-        request.now.correlation_id a.state.world request.now.body.now answer)) }
-    ensures created { let a = scene L.log S.disk parts.old shelf.old in let b = scene L.log S.disk parts.new shelf.new in
-        request.now.api_key ≡ CREATE_TOPICS → IfOk result (λ answer.
-        WhereHonest a b (AcknowledgesCreations (CreationFailed a b) request.now.correlation_id request.now.api_version a.state.world
-        request.now.body.now b.state.world answer)) }
-    ensures removed { let a = scene L.log S.disk parts.old shelf.old in let b = scene L.log S.disk parts.new shelf.new in
-        request.now.api_key ≡ DELETE_TOPICS → IfOk result (λ answer.
-        WhereHonest a b (AcknowledgesRemovals (CatalogFailed a b) request.now.correlation_id request.now.api_version a.state.world
-        request.now.body.now b.state.world touched.new.items answer)) }
-    ensures trimmed { let a = scene L.log S.disk parts.old shelf.old in let b = scene L.log S.disk parts.new shelf.new in
-        request.now.api_key ≡ DELETE_RECORDS → IfOk result (λ answer. WhereHonest a b (AcknowledgesDeletions (CatalogFailed a b)
-        request.now.correlation_id a.state.world request.now.body.now b.state.world touched.new.items answer)) }
-    ensures issued { let a = scene L.log S.disk parts.old shelf.old in let b = scene L.log S.disk parts.new shelf.new in
-        request.now.api_key ≡ INIT_PRODUCER_ID → IfOk result (λ answer.
-        WhereHonest a b (AcknowledgesIssue (CatalogFailed a b) request.now.correlation_id a.state.world request.now.body.now b.state.world
-        answer)) }
-    ensures committed { let a = scene L.log S.disk parts.old shelf.old in let b = scene L.log S.disk parts.new shelf.new in
-        request.now.api_key ≡ OFFSET_COMMIT → IfOk result (λ answer.
-        WhereHonest a b (AcknowledgesCommits (CatalogFailed a b) request.now.correlation_id a.state.world request.now.body.now b.state.world
-        answer)) }
 {
     match request.api_key {
         api_key::PRODUCE => serve_produce(alloc, parts, shelf, request, touched),
@@ -354,45 +337,15 @@ pub fn serve<L: PartitionLog + Drop, S: Store>(
         (plainly_served node.now a.state.world clock request.now.connection request.now.api_key request.now.api_version
         request.now.body.now)
         b.state.world result.touched.items result.answer) }
-    // A batch of a Produce that is answered with no error is in its partition's log, whatever else was refused.
-    ensures acknowledged { let a = scene L.log S.disk parts.old shelf.old in let b = scene L.log S.disk parts.new shelf.new in
-        request.now.api_key ≡ PRODUCE → WhereHonest a b
-        (Acknowledges (HasFailed a b) request.now.correlation_id a.state.world request.now.body.now b.state.world result.touched.items
+    // What is answered with no error is done, and of what is fetched or listed each partition has what is defined, or the code of what
+    // refused it, whatever was refused.
+    ensures told { let a = scene L.log S.disk parts.old shelf.old in let b = scene L.log S.disk parts.new shelf.new in
+        WhereHonest a b (IsTruthful (HasFailed a b) (IsLogFull b) node.now clock request.now.connection request.now.api_key
+        request.now.api_version request.now.correlation_id request.now.body.now a.state.world b.state.world result.touched.items
         result.answer) }
-    // A Produce whose connection is shut for want of memory has appended nothing.
+    // A Produce whose connection is shut for want of memory has appended nothing, on any store.
     ensures spared { let a = scene L.log S.disk parts.old shelf.old in let b = scene L.log S.disk parts.new shelf.new in
         request.now.api_key ≡ PRODUCE → IsSpared a.state.world request.now.body.now b.state.world result.answer }
-    // A Fetch has of each partition what is defined, or the code of what refused it, whatever was refused.
-    ensures fetched { let a = scene L.log S.disk parts.old shelf.old in let b = scene L.log S.disk parts.new shelf.new in
-        request.now.api_key ≡ FETCH → WhereHonest a b (AnswersFetch (HasFailed a b)
-        request.now.correlation_id request.now.api_version a.state.world clock request.now.body.now result.answer) }
-    // So has a ListOffsets.
-    ensures listed { let a = scene L.log S.disk parts.old shelf.old in let b = scene L.log S.disk parts.new shelf.new in
-        request.now.api_key ≡ LIST_OFFSETS → WhereHonest a b (AnswersListing (HasFailed a b)
-        request.now.correlation_id a.state.world request.now.body.now result.answer) }
-    // A topic of a CreateTopics that is answered with no error is in the catalog, whatever else was refused.
-    ensures created { let a = scene L.log S.disk parts.old shelf.old in let b = scene L.log S.disk parts.new shelf.new in
-        request.now.api_key ≡ CREATE_TOPICS → WhereHonest a b
-        (AcknowledgesCreations (CreationFailed a b) request.now.correlation_id request.now.api_version a.state.world request.now.body.now
-        b.state.world result.answer) }
-    // A topic of a DeleteTopics that is answered with no error is gone.
-    ensures removed { let a = scene L.log S.disk parts.old shelf.old in let b = scene L.log S.disk parts.new shelf.new in
-        request.now.api_key ≡ DELETE_TOPICS → WhereHonest a b
-        (AcknowledgesRemovals (CatalogFailed a b) request.now.correlation_id request.now.api_version a.state.world request.now.body.now
-        b.state.world result.touched.items result.answer) }
-    // Records that a DeleteRecords answers with no error are deleted.
-    ensures trimmed { let a = scene L.log S.disk parts.old shelf.old in let b = scene L.log S.disk parts.new shelf.new in
-        request.now.api_key ≡ DELETE_RECORDS → WhereHonest a b (AcknowledgesDeletions (CatalogFailed a b)
-        request.now.correlation_id a.state.world request.now.body.now b.state.world result.touched.items result.answer) }
-    // An id that an InitProducerId answers with no error was given out.
-    ensures issued { let a = scene L.log S.disk parts.old shelf.old in let b = scene L.log S.disk parts.new shelf.new in
-        request.now.api_key ≡ INIT_PRODUCER_ID → WhereHonest a b
-        (AcknowledgesIssue (CatalogFailed a b) request.now.correlation_id a.state.world request.now.body.now b.state.world result.answer) }
-    // An offset of an OffsetCommit that is answered with no error is what the catalog has.
-    ensures committed { let a = scene L.log S.disk parts.old shelf.old in let b = scene L.log S.disk parts.new shelf.new in
-        request.now.api_key ≡ OFFSET_COMMIT → WhereHonest a b
-        (AcknowledgesCommits (CatalogFailed a b) request.now.correlation_id a.state.world request.now.body.now b.state.world
-        result.answer) }
 {
     let mut touched = Vec::new(alloc);
     match serve_by_key(alloc, parts, shelf, node, clock, request, &mut touched) {

@@ -1,10 +1,11 @@
-use Rattle.std.proofs.Common.{inr, rules, ◌≡◌, ◌∙◌, false, [], ap, sym, subst}
+use Rattle.std.proofs.Common.{inl, inr, rules, ◌≡◌, ◌∙◌, false, [], refl, ap, sym, subst}
 use Rattle.std.specs.Ordering.{int_eq}
 use Rattle.kb_wire.specs.declared.api_key.TheConstants.{OFFSET_COMMIT, JOIN_GROUP, HEARTBEAT, LEAVE_GROUP, SYNC_GROUP}
 use Rattle.kb_world.specs.Parts.{world_of}
 use Rattle.kb_service.specs.Serve.{served, AreGroupsBy, IsOutcome, IsServed}
 use Rattle.kb_service.specs.declared.answer.Answer.TheVariants as answers
 use Rattle.kb_service.proofs.WaitersServed.{commit_waits, heartbeat_waits, leave_waits_told, quiet_waits}
+use Rattle.kb_service.proofs.Answered.{commit_told, differs, is_of_none, member_told, plainly_told}
 use Rattle.kb_service.proofs.Keys.{served_commit, served_heartbeat, served_join, served_leave, served_sync, served_topics}
 use Rattle.kb_service.proofs.dispatch.serve_by_key.Goals as goal
 
@@ -150,3 +151,50 @@ returns-in-13-clause-waits g c =
 
 pub returns-in_default-clause-waits : goal.returns-in_default-clause-waits
 returns-in_default-clause-waits g c = inr (quiet_waits c.args.request.now.connection c.args.groups.now c.silence.new.self c.silence.ensures)
+
+pub returns-in-8-clause-told : goal.returns-in-8-clause-told
+returns-in-8-clause-told g c =
+    let key : c.args.request.now.api_key ≡ OFFSET_COMMIT = search rules in
+    commit_told _ _ _ _ _ _ _ _ _ _ _ _ _ _ _ _ key c.commit_offsets.ensures.acknowledged
+
+pub returns-in-11-clause-told : goal.returns-in-11-clause-told
+returns-in-11-clause-told g c =
+    let w = world_of g.L.PartitionLog.log c.args.parts.now (g.S.Store.disk c.args.shelf.now.store).files in
+    let request = c.args.request.now in
+    let key : request.api_key ≡ JOIN_GROUP = search rules in
+    member_told _ _ _ _ _ _ _ _ _ _ _ _ _ _ _ _ _ _ (inl key)
+    (served_join c.args.node.now w c.args.clock c.args.groups.now request.connection request.api_key request.api_version request.body.now key) (c.join_group.ensures.served w)
+
+pub returns-in-12-clause-told : goal.returns-in-12-clause-told
+returns-in-12-clause-told g c =
+    let w = world_of g.L.PartitionLog.log c.args.parts.now (g.S.Store.disk c.args.shelf.now.store).files in
+    let request = c.args.request.now in
+    let key : request.api_key ≡ HEARTBEAT = search rules in
+    member_told _ _ _ _ _ _ _ _ _ _ _ _ _ _ _ _ _ _ (inr (inl key))
+    (served_heartbeat c.args.node.now w c.args.clock c.args.groups.now request.connection request.api_key request.api_version request.body.now key) (c.heartbeat.ensures.served w)
+
+pub returns-in-13-clause-told : goal.returns-in-13-clause-told
+returns-in-13-clause-told g c =
+    let w = world_of g.L.PartitionLog.log c.args.parts.now (g.S.Store.disk c.args.shelf.now.store).files in
+    let request = c.args.request.now in
+    let key : request.api_key ≡ LEAVE_GROUP = search rules in
+    member_told _ _ _ _ _ _ _ _ _ _ _ _ _ _ _ _ _ _ (inr (inr (inl key)))
+    (served_leave c.args.node.now w c.args.clock c.args.groups.now request.connection request.api_key request.api_version request.body.now key) (c.leave_group.ensures.served w)
+
+pub returns-in-14-clause-told : goal.returns-in-14-clause-told
+returns-in-14-clause-told g c =
+    let w = world_of g.L.PartitionLog.log c.args.parts.now (g.S.Store.disk c.args.shelf.now.store).files in
+    let request = c.args.request.now in
+    let key : request.api_key ≡ SYNC_GROUP = search rules in
+    member_told _ _ _ _ _ _ _ _ _ _ _ _ _ _ _ _ _ _ (inr (inr (inr key)))
+    (served_sync c.args.node.now w c.args.clock c.args.groups.now request.connection request.api_key request.api_version request.body.now key) (c.sync_group.ensures.served w)
+
+pub returns-in_default-clause-told : goal.returns-in_default-clause-told
+returns-in_default-clause-told g c = λ honest agree.
+    let request = c.args.request.now in
+    let not_commit : int_eq request.api_key OFFSET_COMMIT ≡ false = search rules in
+    let not_join : int_eq request.api_key JOIN_GROUP ≡ false = search rules in
+    let not_heartbeat : int_eq request.api_key HEARTBEAT ≡ false = search rules in
+    let not_leave : int_eq request.api_key LEAVE_GROUP ≡ false = search rules in
+    let not_sync : int_eq request.api_key SYNC_GROUP ≡ false = search rules in
+    plainly_told _ _ _ _ _ _ _ _ _ _ _ _ _ _ (is_of_none _ not_join not_heartbeat not_leave not_sync) (differs _ OFFSET_COMMIT not_commit refl) (c.serve-served.ensures.told honest agree)

@@ -1,5 +1,6 @@
 -- What a tenant's answer makes of its connection.
-use Rattle.std.proofs.Common.{◌≡◌, ◌<◌, ◌≤◌, ℕ, ℤ, List, length, ◌++◌, true, false, Option, Some, None, refl, sym, ap, ◌∙◌, subst, arith, nat_lt, Result, Ok, Err, OnOk, OnErr, Global}
+use Rattle.std.proofs.Common.{◌≡◌, ◌<◌, ◌≤◌, ℕ, ℤ, List, [], length, ◌++◌, append-nil, true, false, Option, Some, None, refl, sym, ap}
+use Rattle.std.proofs.Common.{◌∙◌, subst, arith, nat_lt, Result, Ok, Err, OnOk, OnErr, Global}
 use Rattle.std.proofs.lemmas.Bool.Decides.{nat_tests}
 use Rattle.std.specs.declared.vec.Vec.{Vec}
 use Rattle.kb_world.specs.declared.topic_partition.TopicPartition.{TopicPartition}
@@ -18,7 +19,7 @@ use Rattle.kb_machine.specs.Machine.{Line, after_reaction, plainly, told}
 use Rattle.kb_machine.proofs.Owners.{stage-shut}
 use Rattle.kb_machine.proofs.Turns.{free-without}
 use Rattle.kb_connection.specs.Fronts.{is_tenants_at}
-use Rattle.kb_connection.specs.TenantAnswers.{given, parked}
+use Rattle.kb_connection.specs.TenantAnswers.{given, parked, spoken}
 use Rattle.kb_connection.specs.View.{with_session, without_front}
 use Rattle.kb_connection.proofs.Fronts.{fewer-behind}
 
@@ -149,3 +150,55 @@ pub tells : {E : Type 0} (result : Result (Unit {0}) E) (l m new : Line) (id : �
     → OnOk result (new ≡ with_session m (given answer m.session)) → IsAnswer id reaction answer → OnOk result (new ≡ with_session l (told reaction id l.session))
 tells (Ok u) l m new id reaction answer no_reply left done h = done ∙ ap (λ (x : Line). with_session x (given answer x.session)) left ∙ ap (with_session l) (told_is id reaction answer l.session no_reply h)
 tells (Err fault) l m new id reaction answer no_reply left done h = tt
+
+-- 6. What is put out
+
+-- nothing that an answer says is lost, and nothing else is put out
+spoken_is : (answer : Answer) (s : Session) → (given answer s).output ≡ s.output ++ spoken (any.Plain answer)
+spoken_is (answers.Reply reply) s = refl
+spoken_is (answers.Wait deadline keys) s = sym (append-nil s.output)
+spoken_is answers.NoReply s = sym (append-nil s.output)
+spoken_is answers.Shut s = sym (append-nil s.output)
+
+-- what the answer says stands behind the output that a connection had
+abbrev PutsOut : {E : Type 0} → Result (Unit {0}) E → Line → Line → AnyAnswer → Type 0
+PutsOut result l new answer = OnOk result (new.session.output ≡ l.session.output ++ spoken answer)
+
+puts : {E : Type 0} (result : Result (Unit {0}) E) (l m new : Line) (answer : Answer) → m.session.output ≡ l.session.output
+    → OnOk result (new ≡ with_session m (given answer m.session)) → PutsOut result l new (any.Plain answer)
+puts (Ok u) l m new answer same done =
+    ap (λ (x : Line). x.session.output) done ∙ spoken_is answer m.session ∙ ap (λ bytes. bytes ++ spoken (any.Plain answer)) same
+puts (Err fault) l m new answer same done = tt
+
+pub puts_given : {E : Type 0} (result : Result (Unit {0}) E) (l m new : Line) (all : AnyAnswer) (answer : Answer)
+    → all ≡ any.Plain answer → m ≡ with_session l (without_front l.session)
+    → OnOk result (new ≡ with_session m (given answer m.session))
+    → OnOk result (new.session.output ≡ l.session.output ++ spoken all)
+puts_given result l m new all answer is left done =
+    subst (PutsOut result l new) (sym is) (puts result l m new answer (ap (λ (x : Line). x.session.output) left) done)
+
+output_parked : (deadline : Option ℕ) (asked : Option (ℤ × ℤ × ℤ × List ℕ)) (s : Session) → (parked deadline asked s).output ≡ s.output
+output_parked deadline None s = refl
+output_parked deadline (Some a) s = refl
+
+pub puts_parked : {E : Type 0} (result : Result (Unit {0}) E) (l new : Line) (deadline : Option ℕ)
+    (asked : Option (ℤ × ℤ × ℤ × List ℕ)) (all : AnyAnswer) → spoken all ≡ []
+    → OnOk result (new ≡ with_session l (parked deadline asked (without_front l.session)))
+    → OnOk result (new.session.output ≡ l.session.output ++ spoken all)
+puts_parked (Ok u) l new deadline asked all silent done =
+    ap (λ (x : Line). x.session.output) done ∙ output_parked deadline asked (without_front l.session)
+    ∙ sym (append-nil l.session.output) ∙ ap (λ bytes. l.session.output ++ bytes) (sym silent)
+puts_parked (Err fault) l new deadline asked all silent done = tt
+
+-- to a request that waits: a reply, which ends the wait
+pub puts_ending : {E : Type 0} (result : Result (Unit {0}) E) (l m new : Line) (answer : Answer)
+    → m ≡ with_session l (record l.session { stage = without_wait l.session.stage })
+    → OnOk result (new ≡ with_session m (given answer m.session))
+    → OnOk result (new.session.output ≡ l.session.output ++ spoken (any.Plain answer))
+puts_ending result l m new answer left done = puts result l m new answer (ap (λ (x : Line). x.session.output) left) done
+
+-- and any other answer
+pub puts_told : {E : Type 0} (result : Result (Unit {0}) E) (l m new : Line) (answer : Answer) → m ≡ l
+    → OnOk result (new ≡ with_session m (given answer m.session))
+    → OnOk result (new.session.output ≡ l.session.output ++ spoken (any.Plain answer))
+puts_told result l m new answer left done = puts result l m new answer (ap (λ (x : Line). x.session.output) left) done

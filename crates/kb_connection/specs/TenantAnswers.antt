@@ -1,5 +1,5 @@
 -- What a tenant's answer does to a connection.
-use Rattle.std.specs.Prelude.{ℕ, ℤ, List, ◌++◌, Bool, true, false, Option, Some, None}
+use Rattle.std.specs.Prelude.{ℕ, ℤ, List, [], ◌++◌, Bool, true, false, Option, Some, None}
 use Rattle.kb_tenant.specs.declared.answer.Answer.{Answer}
 use Rattle.kb_tenant.specs.declared.answer.Answer.TheVariants as answers
 use Rattle.kb_service.specs.declared.answer.Answer.{Answer as AnyAnswer}
@@ -13,6 +13,14 @@ given (answers.Reply reply) s = record s { output = s.output ++ reply.items }
 given (answers.Wait deadline keys) s = s
 given answers.NoReply s = s
 given answers.Shut s = shut_down s
+
+-- the bytes that an answer puts out
+abbrev pub spoken : AnyAnswer → List ℕ
+spoken (any.Plain (answers.Reply reply)) = reply.items
+spoken (any.Plain (answers.Wait deadline keys)) = []
+spoken (any.Plain answers.NoReply) = []
+spoken (any.Plain answers.Shut) = []
+spoken any.Rebalance = []
 
 -- it says nothing to a fetch that waits
 abbrev pub is_quiet : Answer → Bool

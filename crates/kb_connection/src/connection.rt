@@ -14,7 +14,8 @@ ghost use Rattle.kb_machine.specs.Greeting.{Setup, greeted, greeted_frame};
 ghost use Rattle.kb_machine.specs.Machine.{after_reaction, after_turn, served_by, told};
 ghost use Rattle.kb_machine.specs.Calls.{without_output};
 ghost use Rattle.kb_machine.specs.Owners.{whose};
-ghost use Rattle.kb_connection.specs.TenantAnswers.{given, is_quiet, is_wait, wait_for, parked};
+ghost use Rattle.kb_service.specs.declared.answer.Answer.TheVariants as any;
+ghost use Rattle.kb_connection.specs.TenantAnswers.{given, is_quiet, is_wait, wait_for, parked, spoken};
 ghost use Rattle.kb_connection.specs.Fronts.{IsOwn, IsAsked, is_tenants, is_tenants_at, asked_at};
 ghost use Rattle.kb_connection.specs.View.{greeting_of, speaks, stage_of, wait_of, with_session, without_front, IsLimited};
 ghost use Rattle.kb_connection.specs.Reactions.{reacted, IfReacts};
@@ -331,13 +332,14 @@ impl Connection {
 
     /// Leaves the tenant's request in front behind, and gives the tenant's answer to it. Where the answer is to wait, what it
     /// takes to answer the request is kept until `wake` ends the wait. Where memory is refused it is shut.
-    #[tactic(auto, using(crate::proofs::Answering::gives, crate::proofs::Answering::less_given, crate::proofs::Answering::less_parked, crate::proofs::Answering::free_given))]
+    #[tactic(auto, using(crate::proofs::Answering::gives, crate::proofs::Answering::less_given, crate::proofs::Answering::less_parked, crate::proofs::Answering::free_given, crate::proofs::Answering::puts_given, crate::proofs::Answering::puts_parked))]
     pub fn answer(&mut self, alloc: Global, setup: &Setup, answer: Answer) -> Result<(), AllocError>
         ensures ok { (key version id : ℤ) (body : List ℕ) (reaction : Reacts) → IsAsked setup.now self.old.session key version id body
             → IsAnswer id reaction answer → OnOk result
             (self.new ≡ with_session self.old (after_reaction reaction id version body (without_front self.old.session))) }
         ensures err { OnErr result (self.new ≡ with_session self.old (shut_down self.old.session)) }
         // whatever the answer is, also where a refusal spoiled it
+        ensures output { OnOk result (self.new.session.output ≡ self.old.session.output ++ spoken answer) }
         ensures number { self.new.number ≡ self.old.number }
         ensures stage { without_wait self.new.session.stage ≡ without_wait self.old.session.stage }
         ensures shrinks { is_tenants_at setup.now.versions (front self.old.session.unread) ≡ true
@@ -358,12 +360,13 @@ impl Connection {
 
     /// Gives an answer to the request that waits on it: a reply ends the wait, and no reply leaves it waiting. Where memory is
     /// refused it is shut.
-    #[tactic(auto, using(crate::proofs::Answering::ends, crate::proofs::Answering::tells))]
+    #[tactic(auto, using(crate::proofs::Answering::ends, crate::proofs::Answering::tells, crate::proofs::Answering::puts_ending, crate::proofs::Answering::puts_told))]
     pub fn wake(&mut self, answer: kb_tenant::Answer) -> Result<(), AllocError>
         ensures ok { (id : ℤ) (reaction : tenant.Reaction) → tenant.IsAnswer id reaction answer
             → OnOk result (self.new ≡ with_session self.old (told reaction id self.old.session)) }
         ensures err { OnErr result (self.new ≡ with_session self.old (shut_down self.old.session)) }
         // whatever the answer is, also where a refusal spoiled it
+        ensures output { OnOk result (self.new.session.output ≡ self.old.session.output ++ spoken (any.Plain answer)) }
         ensures number { self.new.number ≡ self.old.number }
         ensures stage { without_wait self.new.session.stage ≡ without_wait self.old.session.stage }
         ensures waits { (self.new.session.stage ≡ self.old.session.stage) ⊎ (self.new.session.stage ≡ without_wait self.old.session.stage) }

@@ -15,7 +15,7 @@ use Rattle.kb_store.specs.Disk.{Disk, Files}
 use Rattle.kb_log.specs.OnShelf.{Log, IsLawfulLog}
 use Rattle.kb_log.specs.Shelf.{Shelved}
 use Rattle.kb_world.specs.Scene.{WhereHonest}
-use Rattle.kb_world.specs.Parts.{Agrees, IsSound, scene, world_of, raised, refused}
+use Rattle.kb_world.specs.Parts.{Agrees, IsSound, meta, scene, world_of, raised, refused}
 use Rattle.kb_world.specs.Counts.{END, IsCalm, counted_once}
 use Rattle.kb_world.specs.Steps.{IsStep, Meets, step_same}
 use Rattle.kb_world.specs.World.{World}
@@ -25,7 +25,8 @@ use Rattle.kb_service.specs.Hosted.{TenantState, Kept, nothing, kept_in, kept_of
 use Rattle.kb_service.specs.Turns.{IsAccounted, IsTurn, IsMet, with_kept, all_calm}
 use Rattle.kb_world.proofs.Put.{get_put}
 use Rattle.kb_tenant.proofs.LogMoves.{same_or_not}
-use Rattle.kb_tenants.specs.Tenants.{AreKept, AreLeftAlone, AreSettled, HaveNothingRefused, IsIdleUntil, IsLeftAlone, hosted, parts_of, regrouped, state_of, strays_of}
+use Rattle.kb_tenants.specs.Tenants.{AreKept, AreLeftAlone, AreSettled, HaveNothingRefused, IsIdleUntil, IsLeftAlone, commands_of, hosted}
+use Rattle.kb_tenants.specs.Tenants.{parts_of, regrouped, state_of, strays_of}
 use Rattle.kb_tenants.specs.Turns.{IsShelfTurn, seen_at}
 use Rattle.kb_tenants.specs.declared.tenants.Tenant.{Tenant}
 use Rattle.kb_tenants.specs.declared.tenants.Tenants.{Tenants}
@@ -111,6 +112,16 @@ module _ {L : Type 0} (log : L → Log) (files : Files) where
       let same : y ≡ x = cc in
       ap (λ (z : Tenant L). (let s : TenantState = record { name = string_bytes z.name; kept = kept_in (world_of log x.parts files) gs; refusals = z.parts.refusals } in s) ∷ map (state_of log files) ts) (sym same)
   put_groups (y ∷ ts) (suc t) x gs at = ap (λ ss. state_of log files y ∷ ss) (put_groups ts t x gs at)
+
+-- how many commands the log of a catalog has recorded
+abbrev recorded : {L : Type 0} → (L → Log) → Tenant L → ℕ
+recorded log x = (meta log x.parts).end
+
+commands_here : {L : Type 0} (log : L → Log) (ts : List (Tenant L)) (t : ℕ) (x : Tenant L) → slice_get ts t ≡ Some x
+    → get_or (map (recorded log) ts) t 0 ≡ recorded log x
+commands_here log [] t x at = absurd cc
+commands_here log (y ∷ ts) zero x at = let same : y ≡ x = cc in ap (recorded log) same
+commands_here log (y ∷ ts) (suc t) x at = commands_here log ts t x at
 
 -- ---- a step of one tenant
 
@@ -315,6 +326,13 @@ module _ {L S : Type 0} (log : L → Log) (disk : S → Disk) (law : (l : L) →
       let is = refusals_here log files (after old t x p x.groups old.shelf).tenants.items t (record x { parts = p }) (there_after log disk law old t x p x.groups old.shelf lt read kept refused_at) in
       is ∙ ap (λ (v : Parts L). v.refusals) counted ∙ sym (ap counted_once was)
 
+  -- no log of a catalog has recorded more
+  pub commands_stay : (u : ℕ) → commands_of log (after old t x p x.groups old.shelf) u ≡ commands_of log old u
+  commands_stay u =
+      ap (λ ns. get_or ns u 0) (map-set_same (recorded log) old.tenants.items t (record x { parts = p }) x
+      (ap (λ (v : Parts L). (meta log v).end) counted
+      ∙ ap (recorded log) (sym (get_or_from_slice_get old.tenants.items t x x (stands log disk old t x lt read)))))
+
   pub accounted_refused : IsAccounted (hosted log disk old) (hosted log disk (after old t x p x.groups old.shelf)) (disk old.shelf.store).failures (disk old.shelf.store).failures
   accounted_refused =
       accounted_rises (hosted log disk old) (hosted log disk (after old t x p x.groups old.shelf)) (disk old.shelf.store).failures
@@ -452,6 +470,26 @@ module _ {L S : Type 0} (log : L → Log) (disk : S → Disk) (law : (l : L) →
   -- what the tenant keeps now
   pub now_called : kept_of (hosted log disk (after old t x p gs shelf)) t ≡ kept_in (world_of log p (disk shelf.store).files) gs
   now_called = kept_now log disk law old t x p gs shelf lt read kept step_called
+
+  -- what is told, where the store is honest, of what the tenant has recorded, kept before and keeps now, is told of what is seen
+  pub truthful_called : (P : ℕ → Kept → Kept → Type 0)
+      → WhereHonest (scene log disk x.parts old.shelf) (scene log disk mid shelf) (P (meta log mid).end
+      (kept_in (world_of log x.parts (disk old.shelf.store).files) x.groups) (kept_in (world_of log mid (disk shelf.store).files) gs))
+      → (disk shelf.store).honest → P (commands_of log (after old t x p gs shelf) t) (kept_of (hosted log disk old) t)
+      (kept_of (hosted log disk (after old t x p gs shelf)) t)
+  truthful_called P told honest =
+      let new = after old t x p gs shelf in
+      let n = commands_of log new t in
+      let was = kept_in (world_of log x.parts (disk old.shelf.store).files) x.groups in
+      let is : Parts L → Kept = λ v. kept_in (world_of log v (disk shelf.store).files) gs in
+      let there = there_after log disk law old t x p gs shelf lt read kept step_called in
+      let counts : n ≡ (meta log mid).end =
+      commands_here log new.tenants.items t (record x { parts = p; groups = gs }) there ∙ ap (λ (v : Parts L). (meta log v).end) counted in
+      subst (λ k. P n k (kept_of (hosted log disk new) t))
+      (sym (kept_here log (disk old.shelf.store).files old.tenants.items t x (stands log disk old t x lt read)))
+      (subst (P n was) (sym (now_called ∙ ap is counted))
+      (subst (λ m. P m was (is mid)) (sym counts)
+      (told honest (kept.agree (step.frame.others.honest honest) t x.parts (parts_stand log disk old t x lt read)))))
 
   -- what holds of the groups before and now is seen
   pub groups_called : (P : Groups → Groups → Type 0) → P x.groups gs → P (kept_of (hosted log disk old) t).groups (kept_of (hosted log disk (after old t x p gs shelf)) t).groups

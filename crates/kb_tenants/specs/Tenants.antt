@@ -1,5 +1,6 @@
 -- All tenants of a broker on one shelf.
-use Rattle.std.specs.Prelude.{◌≡◌, ◌<◌, ◌≤ℤ◌, ◌++◌, ◌∷◌, ◌⊎◌, [], ℕ, ℤ, pos, Bool, true, List, Option, Some, IsSome, option_map, unwrap_or}
+use Rattle.std.specs.Prelude.{◌≡◌, ◌<◌, ◌≤◌, ◌≤ℤ◌, ◌+◌, ◌^◌, ◌++◌, ◌∷◌, ◌⊎◌, [], ℕ, ℤ, pos, Bool, true, List, Option, Some, IsSome}
+use Rattle.std.specs.Prelude.{get_or, option_map, unwrap_or}
 use Rattle.std.specs.Prelude.{map, slice_get, string_bytes, Contains, ⊤}
 use Rattle.std.specs.FinMap.{get}
 use Rattle.std.specs.declared.alloc.Global.{Global}
@@ -15,6 +16,10 @@ use Rattle.kb_world.specs.Partitions.{AreExact, logs_of}
 use Rattle.kb_world.specs.Parts.{IsSound, Agrees, Owns, entries, meta, world_of}
 use Rattle.kb_world.specs.Counts.{IsCalm}
 use Rattle.kb_world.specs.declared.parts.Parts.{Parts}
+use Rattle.kb_world.specs.declared.topic_partition.TopicPartition.{TopicPartition}
+use Rattle.kb_service.specs.Acknowledged.{IsTruthful}
+use Rattle.kb_service.specs.declared.answer.Answer.{Answer as AnyAnswer}
+use Rattle.kb_tenant.specs.declared.node.Node.{Node}
 use Rattle.kb_service.specs.Hosted.{Kept, TenantState, kept_in, kept_of, names_of, passed, refusals_of}
 use Rattle.kb_service.specs.Replies.{told_to}
 use Rattle.kb_tenant.specs.Replies.{Silent}
@@ -56,6 +61,19 @@ shelf_is_honest disk ts = (disk ts.shelf.store).honest
 -- the tenants, by place
 abbrev pub hosted : {L S : Type 0} → (L → Log) → (S → Disk) → Tenants L S → List TenantState
 hosted log disk ts = map (state_of log (disk ts.shelf.store).files) ts.tenants.items
+
+-- how many commands the log of a tenant's catalog has recorded; 0 where there is no such tenant
+abbrev pub commands_of : {L S : Type 0} → (L → Log) → Tenants L S → ℕ → ℕ
+commands_of {L} log ts t = get_or (map (λ (x : Tenant L). (meta log x.parts).end) ts.tenants.items) t 0
+
+-- that log has no room for one more command
+abbrev pub IsCatalogFull : {L S : Type 0} → (L → Log) → Tenants L S → ℕ → Type 0
+IsCatalogFull log ts t = 2 ^ 63 ≤ commands_of log ts t + 1
+
+-- The answer to a request for a tenant, which came to what it kept and left what it keeps, is the truth, whatever was refused.
+abbrev pub IsTruthfulFor : Type 0 → Type 0 → Node → ℕ → ℕ → ℤ → ℤ → ℤ → List ℕ → Kept → Kept → List TopicPartition → AnyAnswer → Type 0
+IsTruthfulFor failed full node clock n key version id body k l touched answer =
+    IsTruthful failed full node clock n key version id body k.world k.groups l.world touched answer
 
 -- none of those tenants has a file of these parts
 abbrev pub IsApart : {L : Type 0} → (L → Log) → List (Parts L) → Parts L → Type 0

@@ -1,4 +1,4 @@
-use Rattle.kb_tenants.proofs.Hosted.{accounted_refused, kept_refused, kept_stays, once_refused, turn_refused, loud_refused}
+use Rattle.kb_tenants.proofs.Hosted.{accounted_refused, commands_stay, kept_refused, kept_stays, once_refused, turn_refused, loud_refused}
 use Rattle.kb_tenants.proofs.tenants.Tenants.refuse.Goals as goal
 
 pub returns-clause-invariant : goal.returns-clause-invariant
@@ -30,3 +30,8 @@ pub returns-clause-once : goal.returns-clause-once
 returns-clause-once g c =
     once_refused g.L.PartitionLog.log g.S.Store.disk g.met.L.PartitionLog.lawful c.args.self.now c.args.tenant c.index_mut.result.now c.refuse.new.self
     c.requires.tenant c.index_mut.ensures.value c.requires.invariant c.refuse.ensures
+
+pub returns-clause-commands : goal.returns-clause-commands
+returns-clause-commands g c =
+    commands_stay g.L.PartitionLog.log g.S.Store.disk g.met.L.PartitionLog.lawful c.args.self.now c.args.tenant c.index_mut.result.now
+    c.refuse.new.self c.requires.tenant c.index_mut.ensures.value c.requires.invariant c.refuse.ensures

@@ -1,12 +1,15 @@
 use Rattle.std.proofs.Common.{true, ◌+◌, ◌-◌, ◌∙◌, ap, sym, subst, arith, to_z, of_z, w64}
 use Rattle.std.proofs.lemmas.Int.{ints}
-use Rattle.std.specs.Prelude.{min}
+use Rattle.std.specs.Prelude.{◌≤◌, ◌^◌, min}
 use Rattle.kb_world.specs.Parts.{world_of}
 use Rattle.kb_world.specs.Counts.{END, IsCalm}
 use Rattle.kb_service.specs.Waiters.{AreServed, IsWaitTold}
 use Rattle.kb_service.proofs.WaitersServed.{after_told}
-use Rattle.kb_service.specs.Serve.{has_released, served, IsOutcome}
-use Rattle.kb_tenants.proofs.Hosted.{accounted_called, alone_called, sound_here, groups_called, kept_called, turn_called, met_called, now_called, calm_called, calm_from}
+use Rattle.kb_service.specs.Serve.{has_released, served, AreGroupsAfter, IsOutcome}
+use Rattle.kb_tenant.specs.Told.{FailedBy}
+use Rattle.kb_tenants.specs.Tenants.{IsTruthfulFor}
+use Rattle.kb_tenants.proofs.Hosted.{accounted_called, alone_called, sound_here, groups_called, kept_called, turn_called, met_called}
+use Rattle.kb_tenants.proofs.Hosted.{now_called, truthful_called, calm_called, calm_from}
 use Rattle.kb_tenants.proofs.Ended.{refused, unrefused}
 use Rattle.kb_tenants.proofs.tenants.Tenants.serve.Goals as goal
 
@@ -68,6 +71,33 @@ returns-clause-told g c =
     groups_called g.L.PartitionLog.log g.S.Store.disk g.met.L.PartitionLog.lawful c.args.self.now c.args.tenant c.index_mut-one.result.now
     c.requires.tenant c.index_mut-one.ensures.value c.requires.invariant c.serve-served.new.parts c.count.new.parts (min (c.refusals-before.result + (c.failures.result - c.failures-failures.result)) END) c.serve-served.new.groups c.serve-served.new.shelf c.count.ensures c.serve-served.ensures.step
     (λ old new. IsWaitTold n old c.serve-served.result.answer new) c.serve-served.ensures.waits
+
+pub returns-clause-truthful : goal.returns-clause-truthful
+returns-clause-truthful g c =
+    let r = c.args.request.now in
+    let disk = g.S.Store.disk in
+    let old = c.args.self.now in
+    let shelf = c.serve-served.new.shelf in
+    let failures = c.failures.result - c.failures-failures.result in
+    let failed = FailedBy (disk old.shelf.store).failures (disk shelf.store).failures shelf.next in
+    let served = c.serve-served.result in
+    truthful_called g.L.PartitionLog.log disk g.met.L.PartitionLog.lawful old c.args.tenant c.index_mut-one.result.now
+    c.requires.tenant c.index_mut-one.ensures.value c.requires.invariant c.serve-served.new.parts c.count.new.parts
+    (min (c.refusals-before.result + failures) END) c.serve-served.new.groups shelf c.count.ensures c.serve-served.ensures.step
+    (λ n k l. IsTruthfulFor failed (2 ^ 63 ≤ n + 1) c.args.node.now c.args.clock r.connection r.api_key r.api_version
+    r.correlation_id r.body.now k l served.touched.items served.answer)
+    c.serve-served.ensures.told
+
+pub returns-clause-groups : goal.returns-clause-groups
+returns-clause-groups g c =
+    let r = c.args.request.now in
+    truthful_called g.L.PartitionLog.log g.S.Store.disk g.met.L.PartitionLog.lawful c.args.self.now c.args.tenant c.index_mut-one.result.now
+    c.requires.tenant c.index_mut-one.ensures.value c.requires.invariant c.serve-served.new.parts c.count.new.parts
+    (min (c.refusals-before.result + (c.failures.result - c.failures-failures.result)) END) c.serve-served.new.groups
+    c.serve-served.new.shelf c.count.ensures c.serve-served.ensures.step
+    (λ n k l. AreGroupsAfter k.groups (served c.args.node.now k.world c.args.clock k.groups r.connection r.api_key r.api_version
+    r.body.now).groups c.serve-served.result.answer l.groups)
+    (λ honest agree. c.serve-served.ensures.groups)
 
 pub returns-clause-calm : goal.returns-clause-calm
 returns-clause-calm g c = λ quiet.

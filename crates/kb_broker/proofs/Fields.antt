@@ -127,7 +127,7 @@ find-closed_own m [] = refl
 find-closed_own m (l ∷ ls) = let rest = find-closed_own m ls in grind (arith, nat_tests, rest)
 
 -- in a list without the connection of a number
-find-closed : (P : Option Session → Type 0) (m n : ℕ) (ls : List Line) → (n ≢ m → P (find_line n ls)) → (n ≡ m → P None) → P (find_line n (those (other_than m) ls))
+pub find-closed : (P : Option Session → Type 0) (m n : ℕ) (ls : List Line) → (n ≢ m → P (find_line n ls)) → (n ≡ m → P None) → P (find_line n (those (other_than m) ls))
 find-closed P m n ls other own = by (eqb m n) refl
   where
     by : (b : Bool) → eqb m n ≡ b → P (find_line n (those (other_than m) ls))

@@ -9,8 +9,10 @@ use Rattle.kb_machine.proofs.Taken.{sound-taken, settled-taken, unready-taken}
 use Rattle.kb_machine.specs.Stranded.{NoneStranded}
 use Rattle.kb_machine.proofs.Stranded.{stranded-closed, stranded-opened, stranded-taken, stranded-unopened}
 use Rattle.kb_broker.specs.Hosts.{OnStore, is_honest, IsLater, IsReadyOn, StepsTo}
-use Rattle.kb_broker.proofs.Honest.{later-is, later-on}
+use Rattle.kb_broker.specs.Truth.{IsSilent}
+use Rattle.kb_broker.proofs.Honest.{later-is, later-silent}
 use Rattle.kb_broker.proofs.Once.{once-grows, once-loud}
+use Rattle.kb_broker.proofs.Truth.{silent_closed, silent_opened, silent_refused}
 
 -- another state on the same store
 module _ {S : Type 0} (disk : S → Disk) (a c : OnStore S) (same : c.store ≡ a.store) where
@@ -62,13 +64,16 @@ drained-ready disk a c n ready h =
 
 -- a connection that opens, or cannot be kept, or closes, leaves the store and the tenants' counts as they are
 pub connected-later : {S A E : Type 0} (disk : S → Disk) (r : Result A E) (a c : OnStore S) (n : ℕ) → c.store ≡ a.store → c.strays ≡ a.strays → OnOk r (c.state ≡ opened a.state n) → OnErr r (IsRefused a.state c.state) → IsLater disk a c
-connected-later disk (Ok x) a c n same left ok err = later-is disk a c same left (ap (λ (b : BrokerState). b.tenants) ok)
-connected-later disk (Err x) a c n same left ok err = later-is disk a c same left (ap (λ (b : BrokerState). b.tenants) err.is)
+connected-later disk (Ok x) a c n same left ok err =
+    later-is disk a c same left (ap (λ (b : BrokerState). b.tenants) ok) (subst (IsSilent a.state) (sym ok) (silent_opened a.state n))
+connected-later disk (Err x) a c n same left ok err =
+    later-is disk a c same left (ap (λ (b : BrokerState). b.tenants) err.is) (silent_refused a.state c.state err)
 
 pub disconnected-later : {S : Type 0} (disk : S → Disk) (a c : OnStore S) (n : ℕ) → c ≡ record a { state = closed a.state n } → IsLater disk a c
 disconnected-later disk a c n h =
     let grows = (left-step a c n h).grows in
-    later-on disk a.store c.store a.strays c.strays a.state.tenants c.state.tenants (ap (λ (x : OnStore _). x.store) h) (ap (λ (x : OnStore _). x.strays) h) grows.names grows.own
+    later-silent disk a c (ap (λ (x : OnStore _). x.store) h) (ap (λ (x : OnStore _). x.strays) h) grows.names grows.own
+    (subst (IsSilent a.state) (sym (ap (λ (x : OnStore _). x.state) h)) (silent_closed a.state n))
 
 -- what a call leaves of the members that wait: the engine's own a is the one that clauses see, b
 pub connected-held : {S A E : Type 0} (r : Result A E) (a b c : OnStore S) (n : ℕ) → a ≡ b → OnOk r (c.state ≡ opened a.state n) → OnErr r (IsRefused a.state c.state) → NoneStranded b.state → NoneStranded c.state

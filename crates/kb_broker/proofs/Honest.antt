@@ -6,6 +6,8 @@ use Rattle.kb_tenants.proofs.Accounted.{accounted_rises, accounted_same, account
 use Rattle.kb_tenants.proofs.Passed.{length_named}
 use Rattle.kb_machine.specs.Broker.{BrokerState, IsReady}
 use Rattle.kb_broker.specs.Hosts.{OnStore, is_honest, IsLater, IsLaterWith, IsReadyOn}
+use Rattle.kb_broker.specs.Truth.{IsSilent, SpeaksTruth}
+use Rattle.kb_broker.proofs.Truth.{silent_lines, speaks_same, speaks_silent, speaks_then}
 
 -- a broker that is ready on its store is ready
 pub ready-of : {S : Type 0} (disk : S → Disk) (b : OnStore S) → IsReadyOn disk b → is_honest disk b → IsReady b.state
@@ -41,18 +43,65 @@ pub later-on : {S : Type 0} (disk : S → Disk) (s t : S) (x y : Option (List �
 later-on disk s t x y ts us e f names counts =
     subst (λ z. IsLaterWith (disk s) (disk z) x y ts us) (sym e) (subst (λ o. IsLaterWith (disk s) (disk s) x o ts us) (sym f) (later-counted (disk s) x ts us names counts))
 
+-- at the end of what the broker said meanwhile
+pub later-from : {S : Type 0} (disk : S → Disk) (a b : OnStore S)
+    → IsLaterWith (disk a.store) (disk b.store) a.strays b.strays a.state.tenants b.state.tenants → (is_honest disk b → SpeaksTruth a.state b.state)
+    → IsLater disk a b
+later-from disk a b h spoken = record {
+  honest = h.honest;
+  failures = h.failures;
+  counts = h.counts;
+  accounted = h.accounted;
+  strays_are = h.strays_are;
+  left_alone = h.left_alone;
+  spoken = spoken;
+}
+
+-- of the store and the tenants alone
+pub later-with : {S : Type 0} (disk : S → Disk) (a b : OnStore S) → IsLater disk a b
+    → IsLaterWith (disk a.store) (disk b.store) a.strays b.strays a.state.tenants b.state.tenants
+later-with disk a b h = record {
+  honest = h.honest;
+  failures = h.failures;
+  counts = h.counts;
+  accounted = h.accounted;
+  strays_are = h.strays_are;
+  left_alone = h.left_alone;
+}
+
 pub later-same : {S : Type 0} (disk : S → Disk) (a : OnStore S) → IsLater disk a a
-later-same disk a = later-none (disk a.store) a.strays a.state.tenants
+later-same disk a = later-from disk a a (later-none (disk a.store) a.strays a.state.tenants) (λ honest. speaks_same a.state a.state refl)
 
 pub later-then : {S : Type 0} (disk : S → Disk) (a b c : OnStore S) → IsLater disk a b → IsLater disk b c → IsLater disk a c
-later-then disk a b c p q = later-by (disk a.store) (disk b.store) (disk c.store) a.strays b.strays c.strays a.state.tenants b.state.tenants c.state.tenants p q
+later-then disk a b c p q = later-from disk a c
+    (later-by (disk a.store) (disk b.store) (disk c.store) a.strays b.strays c.strays a.state.tenants b.state.tenants c.state.tenants
+    (later-with disk a b p) (later-with disk b c q))
+    (λ honest. speaks_then a.state b.state c.state (p.spoken (q.honest honest)) (q.spoken honest))
 
--- the store and the files that are left alone are the same, and no count has changed
-pub later-is : {S : Type 0} (disk : S → Disk) (a b : OnStore S) → b.store ≡ a.store → b.strays ≡ a.strays → b.state.tenants ≡ a.state.tenants → IsLater disk a b
-later-is disk a b store strays tenants =
-    subst (λ s. IsLaterWith (disk a.store) (disk s) a.strays b.strays a.state.tenants b.state.tenants) (sym store)
-    (subst (λ o. IsLaterWith (disk a.store) (disk a.store) a.strays o a.state.tenants b.state.tenants) (sym strays)
-    (subst (IsLaterWith (disk a.store) (disk a.store) a.strays a.strays a.state.tenants) (sym tenants) (later-same disk a)))
+-- the store and the files that are left alone are the same, no count is smaller, and nothing was said
+pub later-silent : {S : Type 0} (disk : S → Disk) (a b : OnStore S) → b.store ≡ a.store → b.strays ≡ a.strays
+    → names_of b.state.tenants ≡ names_of a.state.tenants → ((t : ℕ) → refusals_of a.state.tenants t ≤ refusals_of b.state.tenants t)
+    → IsSilent a.state b.state → IsLater disk a b
+later-silent disk a b store strays names counts silent = later-from disk a b
+    (later-on disk a.store b.store a.strays b.strays a.state.tenants b.state.tenants store strays names counts)
+    (λ honest. speaks_silent a.state b.state silent)
+
+-- the same, where no count has changed
+pub later-is : {S : Type 0} (disk : S → Disk) (a b : OnStore S) → b.store ≡ a.store → b.strays ≡ a.strays → b.state.tenants ≡ a.state.tenants
+    → IsSilent a.state b.state → IsLater disk a b
+later-is disk a b store strays tenants silent = later-silent disk a b store strays (ap names_of tenants)
+    (λ t. (let same = ap (λ (ts : List TenantState). refusals_of ts t) tenants in omega (arith, same))) silent
+
+-- where a is what the broker's own fields are
+pub later-seen : {S : Type 0} (disk : S → Disk) (a b c : OnStore S) → a ≡ b → IsLater disk a c → IsLater disk b c
+later-seen disk a b c e h = subst (λ x. IsLater disk x c) e h
+
+-- once the clock is set
+pub later-clocked : {S : Type 0} (disk : S → Disk) (a : OnStore S) (clock : ℕ) (b : OnStore S)
+    → IsLater disk (record a { state = record a.state { clock = clock } }) b → IsLater disk a b
+later-clocked disk a clock b h =
+    let c : OnStore _ = record a { state = record a.state { clock = clock } } in
+    later-then disk a c b (later-is disk a c refl refl refl (silent_lines a.state c.state refl (λ t. refl))) h
 
 pub state-is : {S : Type 0} (a b : OnStore S) → a ≡ b → a.state ≡ b.state
 state-is a b e = ap (λ (x : OnStore _). x.state) e

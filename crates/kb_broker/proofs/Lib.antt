@@ -7,8 +7,10 @@ pub mod Placed
 pub mod Heard
 pub mod Handled
 pub mod Looked
+pub mod PutOut
 pub mod Parked
 pub mod Fields
+pub mod Truth
 pub mod Going
 pub mod Counted
 pub mod Served

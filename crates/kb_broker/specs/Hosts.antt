@@ -8,6 +8,7 @@ use Rattle.kb_service.specs.Turns.{IsAccounted, all_calm}
 use Rattle.kb_tenants.specs.Tenants.{AreKept, AreKeptIn, AreLeftAlone, hosted, numbers_in}
 use Rattle.kb_tenants.specs.declared.tenants.Tenants.{Tenants}
 use Rattle.kb_machine.specs.Machine.{Happening, first_able}
+use Rattle.kb_broker.specs.Truth.{SpeaksTruth}
 use Rattle.kb_machine.specs.Broker.{BrokerState, AreUnready, AnyWait, IsSound, IsStep, kept_of}
 
 -- 1. The tenants
@@ -47,9 +48,16 @@ pub record OnStore (S : Type 0) : Type 0 where
 abbrev pub is_honest : {S : Type 0} → (S → Disk) → OnStore S → Type 0
 is_honest disk b = (disk b.store).honest
 
--- a broker at a later moment
-abbrev pub IsLater : {S : Type 0} → (S → Disk) → OnStore S → OnStore S → Type 0
-IsLater disk old new = IsLaterWith (disk old.store) (disk new.store) old.strays new.strays old.state.tenants new.state.tenants
+-- A broker at a later moment: the same of its store and its tenants; and what it said meanwhile to its tenants is the truth, whatever was
+-- refused, unless the store lied.
+pub record IsLater {S : Type 0} (disk : S → Disk) (old new : OnStore S) : Type 0 where
+  pub honest : is_honest disk new → is_honest disk old
+  pub failures : (disk old.store).failures ≤ (disk new.store).failures
+  pub counts : (t : ℕ) → refusals_of old.state.tenants t ≤ refusals_of new.state.tenants t
+  pub accounted : IsAccounted old.state.tenants new.state.tenants (disk old.store).failures (disk new.store).failures
+  pub strays_are : new.strays ≡ old.strays
+  pub left_alone : AreLeftAlone (unwrap_or old.strays []) (disk old.store) (disk new.store)
+  pub spoken : is_honest disk new → SpeaksTruth old.state new.state
 
 -- Where it is known which files are of no log, and nothing was ever refused to a tenant, what the tenants have is in the files of the
 -- store, unless it lied: opened again the files come to the same.

@@ -7,3 +7,4 @@ pub mod Runs
 pub mod Script
 pub mod ScriptRun
 pub mod Speakers
+pub mod Truth

@@ -1,11 +1,14 @@
 -- A connection's place in the broker, its turns there, and the count of a refusal.
 use Rattle.std.specs.Prelude.{◌≡◌, ◌≢◌, ℕ, ℤ, ◌<◌, ◌≤◌, List, [], ◌∷◌, length, take, map, get_or, Option, Some, None, Bool, true, false}
-use Rattle.std.specs.Prelude.{not, ◌||◌, ◌⊎◌, ⊤}
+use Rattle.std.specs.Prelude.{not, ◌||◌, ◌⊎◌, ◌++◌, ⊤}
 use Rattle.std.specs.List.{AllByRecursion}
 use Rattle.std.specs.declared.alloc.Global.{Global}
 use Rattle.std.specs.declared.vec.Vec.{Vec}
-use Rattle.kb_tenants.specs.Tenants.{AreQuietBut}
+use Rattle.kb_tenants.specs.Tenants.{AreQuietBut, IsTruthfulFor}
+use Rattle.kb_connection.specs.Fronts.{IsAsked, IsOwn}
+use Rattle.kb_connection.specs.TenantAnswers.{spoken}
 use Rattle.kb_world.specs.Counts.{IsCalm, counted_once}
+use Rattle.kb_world.specs.declared.topic_partition.TopicPartition.{TopicPartition}
 use Rattle.kb_service.specs.Hosted as hosted
 use Rattle.kb_service.specs.Hosted.{Kept, TenantState}
 use Rattle.kb_service.specs.Turns.{IsTurn, IsMet}
@@ -13,10 +16,14 @@ use Rattle.kb_tenant.specs.Replies.{Silent, IsAnswer}
 use Rattle.kb_tenant.specs.Told.{AnswersLook}
 use Rattle.kb_tenant.specs.declared.answer.Answer.{Answer}
 use Rattle.kb_tenant.specs.declared.answer.Answer.TheVariants as answers
+use Rattle.kb_tenant.specs.declared.node.Node.{Node}
+use Rattle.kb_service.specs.declared.answer.Answer.{Answer as AnyAnswer}
+use Rattle.kb_service.specs.declared.answer.Answer.TheVariants as any
+use Rattle.kb_service.specs.Serve.{served, AreGroupsAfter}
 use Rattle.kb_service.specs.Waiters.{AreServed}
 use Rattle.kb_machine.specs.Stranded.{IsMembersAt, members_of}
 use Rattle.kb_machine.specs.Tenant.{Awaited, Group, Records, Wait, is_members, ready}
-use Rattle.kb_machine.specs.Session.{Stage, Greets, BoundTo, Session, without_wait, is_free, can}
+use Rattle.kb_machine.specs.Session.{Stage, Greets, BoundTo, Session, shut_down, without_wait, is_free, can}
 use Rattle.kb_machine.specs.Greeting.{Setup, greeted}
 use Rattle.kb_machine.specs.Machine.{Line, after_turn, put, woken, first_able, work}
 use Rattle.kb_machine.specs.Broker.{BrokerState, IsSound, IsUnready, AreUnready, AnyWait, refusals_of}
@@ -180,3 +187,57 @@ pub record IsOneMore (i : ℕ) (old new : BrokerState) : Type 0 where
   pub going : IsGoing old new
   pub work : work new.lines ≤ work old.lines
   pub others : SameOthers (number_at i old) old new
+
+-- a connection that had s has what is defined, or was shut
+abbrev pub IsDoneOrShut : Session → Session → Session → Type 0
+IsDoneOrShut defined s r = (r ≡ defined) ⊎ (r ≡ shut_down s)
+
+-- what an answer says stands behind the output of a connection; or the connection was shut
+abbrev pub IsPutOut : AnyAnswer → Session → Session → Type 0
+IsPutOut answer s r = (r.output ≡ s.output ++ spoken answer) ⊎ (r ≡ shut_down s)
+
+-- The answer to a request of a tenant, which had kept k and keeps l, is the truth of its topics; and its groups are those that the request
+-- makes, or those of before without the last replies, and then the connection is shut.
+pub record IsTrueAnswer (failed full : Type 0) (node : Node) (clock n : ℕ) (key version id : ℤ) (body : List ℕ) (k l : Kept)
+    (touched : List TopicPartition) (answer : AnyAnswer) : Type 0 where
+  pub truthful : IsTruthfulFor failed full node clock n key version id body k l touched answer
+  pub groups : AreGroupsAfter k.groups (served node k.world clock k.groups n key version body).groups answer l.groups
+
+-- The request of a tenant, which had kept k and keeps l, was answered the truth: that was put out behind what s had, which left r.
+pub record IsToldTruth (failed full : Type 0) (node : Node) (clock n : ℕ) (key version id : ℤ) (body : List ℕ) (k l : Kept)
+    (s r : Session) : Type 0 where
+  pub answer : AnyAnswer
+  pub touched : List TopicPartition
+  pub is_true : IsTrueAnswer failed full node clock n key version id body k l touched answer
+  pub put_out : IsPutOut answer s r
+
+-- nothing was asked, as memory to read the request was refused: the tenant keeps what it kept, and the connection was shut
+abbrev pub IsUnasked : Kept → Kept → Session → Session → Type 0
+IsUnasked k l s r = (l ≡ k) × (r ≡ shut_down s)
+
+-- The turn of a bound connection, whatever was refused in it: the tenant's request in front of it is told the truth; any other is the
+-- connection's own matter, and comes to what is defined, or shuts it, and what the tenant keeps stays.
+pub record IsToldBound (failed full : Type 0) (setup : Setup) (clock n : ℕ) (k l : Kept) (s r : Session) : Type 0 where
+  pub asked : (key version id : ℤ) (body : List ℕ) → IsAsked setup s key version id body
+      → IsToldTruth failed full setup.node clock n key version id body k l s r ⊎ IsUnasked k l s r
+  pub own : IsOwn setup s → IsDoneOrShut (after_turn setup k clock n s) s r
+  pub stays : IsOwn setup s → l ≡ k
+
+-- so it is of the turn of a connection at that stage: one that greets comes to what is defined, or is shut
+abbrev pub IsToldAt : Type 0 → (ℕ → Type 0) → Setup → ℕ → ℕ → Stage → List TenantState → List TenantState → Session → Session → Type 0
+IsToldAt failed full setup clock n (Greets handshaken) old new s r = IsDoneOrShut (greeted setup handshaken s) s r
+IsToldAt failed full setup clock n (BoundTo tenant wait) old new s r =
+    IsToldBound failed (full tenant) setup clock n (hosted.kept_of old tenant) (hosted.kept_of new tenant) s r
+
+-- The answer to a member that waits for its group on the connection of number n is what the group told it, or the connection is shut.
+abbrev pub TellsMember : ℕ → ℕ → Kept → Wait → Answer → Type 0
+TellsMember clock n kept w a = is_members w.awaited ≡ true → IsAnswer w.correlation_id (ready kept clock n w) a ⊎ (a ≡ answers.Shut)
+
+-- A look at what waits on the connection of number n, whatever was refused in it: it waits on; or what was put out has of each partition
+-- what is defined, or the code of what refused it, and a member is told what its group told it.
+abbrev pub IsToldAgain : Type 0 → ℕ → ℕ → Stage → List TenantState → Session → Session → Type 0
+IsToldAgain failed clock n (Greets handshaken) old s r = r ≡ s
+IsToldAgain failed clock n (BoundTo tenant None) old s r = r ≡ s
+IsToldAgain failed clock n (BoundTo tenant (Some w)) old s r = (r ≡ s) ⊎ ((answer : Answer)
+    × (TellsAwaited failed w.correlation_id clock (hosted.kept_of old tenant) w.awaited answer
+    × (TellsMember clock n (hosted.kept_of old tenant) w answer × IsPutOut (any.Plain answer) s r)))

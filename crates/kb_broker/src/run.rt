@@ -79,6 +79,8 @@ impl<S: Store, L: PartitionLog + Drop> Broker<S, L> {
         ensures history { IfOk result (λ written.
             (got : List Sent) × (map sent_of written.items ≡ by_number got)
             × Passes (is_honest S.disk self.new) (happenings events.now) self.old.state self.new.state got) }
+        // Whatever was refused, what is answered with no error is done, unless the store lied (`spoken`): the broker did only steps in each
+        // of which what it said to a tenant's request is the truth.
         ensures later { IsLater S.disk self.old self.new }
         ensures in_files { IsInFiles L.log S.disk self.new }
         ensures memory { OnErr result (self.new ≡ self.old) }

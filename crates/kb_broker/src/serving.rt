@@ -15,13 +15,14 @@ ghost use Rattle.kb_machine.specs.Machine.{after_reaction, after_turn, put};
 ghost use Rattle.kb_machine.specs.Broker.{InRange};
 ghost use Rattle.kb_machine.specs.Tenant.{answer, kept_after, is_past, ready};
 ghost use Rattle.kb_machine.specs.Turned.{is_looked_for};
-ghost use Rattle.kb_tenants.specs.Tenants.{shelf_is_honest};
+ghost use Rattle.kb_world.specs.declared.topic_partition.TopicPartition.{TopicPartition};
+ghost use Rattle.kb_tenants.specs.Tenants.{commands_of, shelf_is_honest, IsCatalogFull};
 ghost use Rattle.kb_connection.specs.Fronts.{is_tenants_at, IsAsked};
 ghost use Rattle.kb_connection.specs.View.{awaited_of, wait_of, with_session, without_front};
 ghost use Rattle.kb_broker.specs.Hosts.{tenants_in, AreHosted, AreLater};
 ghost use Rattle.kb_service.specs.Waiters.{AreServed, IsWaitTold};
 ghost use Rattle.kb_broker.specs.Places.{IsSpent, IsTakenAt, IsTurnAt, IsLookedAt, IsLookAnswer, IsMemberTurnAt, IsWaitTurnAt};
-ghost use Rattle.kb_broker.specs.Places.{TellsAwaited};
+ghost use Rattle.kb_broker.specs.Places.{TellsAwaited, IsPutOut, IsToldAt, IsToldAgain, IsTrueAnswer};
 ghost use Rattle.kb_broker.specs.Parked.{parked_for, until_of, deadline_at, IsKeyedAt, IsOwnedAt, IsAskedOn, IsAskedOnAt, IsTouchedBy};
 ghost use Rattle.kb_broker.specs.Parked.{IsTouchedTurnBy, AreWaitingFor, IsConcern, IsKnownOrCounted, IsLeftBy, IsOwnTo};
 ghost use Rattle.kb_broker.specs.Parked.{IsWhose};
@@ -93,6 +94,11 @@ pub fn take_turn<L: PartitionLog + Drop, S: Store>(
     ensures ok { OnOk result (IsTakenAt (shelf_is_honest S.disk tenants.new) setup.now clock connection.old.number
         connection.old.session.stage (tenants_in L.log S.disk tenants.old)
         (tenants_in L.log S.disk tenants.new) connection.old.session connection.new.session) }
+    // Whatever was refused, what is put out for a tenant's request is the truth, and all else is as defined, or the connection is shut.
+    ensures told { shelf_is_honest S.disk tenants.new → IsToldAt
+        (FailedBy (S.disk tenants.old.shelf.store).failures (S.disk tenants.new.shelf.store).failures tenants.new.shelf.next)
+        (IsCatalogFull L.log tenants.new) setup.now clock connection.old.number connection.old.session.stage
+        (tenants_in L.log S.disk tenants.old) (tenants_in L.log S.disk tenants.new) connection.old.session connection.new.session }
     ensures tenant { IfOk result (λ c. IsWhose c connection.old.session.stage) }
     ensures includes_itself { IfOk result (λ c. IsOwnTo c connection.old.number) }
     ensures remaining { shelf_is_honest S.disk tenants.new
@@ -136,6 +142,7 @@ fn whom_it_concerns<L: PartitionLog + Drop, S: Store>(
     ensures counted { IsKnownOrCounted result tenant (tenants_in L.log S.disk tenants.old) (tenants_in L.log S.disk tenants.new) }
     ensures turn { IsTurn tenant (Unit {0}) (tenants_in L.log S.disk tenants.old) (tenants_in L.log S.disk tenants.new) }
     ensures stays { (t : ℕ) → kept_of (tenants_in L.log S.disk tenants.new) t ≡ kept_of (tenants_in L.log S.disk tenants.old) t }
+    ensures commands { (t : ℕ) → commands_of L.log tenants.new t ≡ commands_of L.log tenants.old t }
     ensures shelf { tenants.new.shelf ≡ tenants.old.shelf }
     ensures strays { tenants.new.strays ≡ tenants.old.strays }
 {
@@ -241,6 +248,10 @@ fn serve_bound<L: PartitionLog + Drop, S: Store>(
         (tenants_in L.log S.disk tenants.new)
         (λ k l. (connection.new.session ≡ after_turn setup.now k clock connection.old.number connection.old.session)
         × (l ≡ put setup.now k clock connection.old.number connection.old.session.unread))) }
+    ensures told { shelf_is_honest S.disk tenants.new → IsToldAt
+        (FailedBy (S.disk tenants.old.shelf.store).failures (S.disk tenants.new.shelf.store).failures tenants.new.shelf.next)
+        (IsCatalogFull L.log tenants.new) setup.now clock connection.old.number (BoundTo tenant None)
+        (tenants_in L.log S.disk tenants.old) (tenants_in L.log S.disk tenants.new) connection.old.session connection.new.session }
     ensures touched { IfOk result (λ touched.
         shelf_is_honest S.disk tenants.new → IsTouchedTurnBy touched setup.now tenant clock connection.old.number
         (tenants_in L.log S.disk tenants.old) (tenants_in L.log S.disk tenants.new) connection.old.session connection.new.session) }
@@ -283,6 +294,7 @@ fn hand_over(
     ensures ok { (key version id : ℤ) (body : List ℕ) (reaction : Reaction) → IsAsked setup.now connection.old.session key version id body
         → IsAnswer id reaction answer → OnOk result
         (connection.new ≡ with_session connection.old (after_reaction reaction id version body (without_front connection.old.session))) }
+    ensures output { IsPutOut answer connection.old.session connection.new.session }
     ensures dated { (key version id : ℤ) (body : List ℕ) → IsAsked setup.now connection.old.session key version id body
         → until_of (fin.get parking.new connection.old.number) ≡ deadline_at connection.new.session.stage }
     ensures owned { IsOwnedAt connection.new.session.stage (fin.get parking.new connection.old.number) }
@@ -364,6 +376,11 @@ fn ask<L: PartitionLog + Drop, S: Store>(
         request.now.body.now)
         × IsAnswer request.now.correlation_id (answer setup.now.node k clock request.now.connection request.now.api_key
         request.now.api_version request.now.body.now) result.0) }
+    ensures truthful { shelf_is_honest S.disk tenants.new → (touched : List TopicPartition) × IsTrueAnswer
+        (FailedBy (S.disk tenants.old.shelf.store).failures (S.disk tenants.new.shelf.store).failures tenants.new.shelf.next)
+        (IsCatalogFull L.log tenants.new tenant) setup.now.node clock request.now.connection request.now.api_key request.now.api_version
+        request.now.correlation_id request.now.body.now (kept_of (tenants_in L.log S.disk tenants.old) tenant)
+        (kept_of (tenants_in L.log S.disk tenants.new) tenant) touched result.0 }
     ensures asked { shelf_is_honest S.disk tenants.new
         → IsAskedOn tenant (tenants_in L.log S.disk tenants.old) (tenants_in L.log S.disk tenants.new) }
     ensures touched { shelf_is_honest S.disk tenants.new
@@ -404,6 +421,11 @@ pub fn look_again<L: PartitionLog + Drop, S: Store>(
     ensures later { AreLater L.log S.disk tenants.old tenants.new }
     ensures looked { IsLookedAt (shelf_is_honest S.disk tenants.new) whom clock connection.old.session.stage
         (tenants_in L.log S.disk tenants.old) (tenants_in L.log S.disk tenants.new) connection.old connection.new }
+    // Whatever was refused, what is put out for a fetch that waited is the truth, and for a member what its group told it.
+    ensures told { shelf_is_honest S.disk tenants.new → IsToldAgain
+        (FailedBy (S.disk tenants.old.shelf.store).failures (S.disk tenants.new.shelf.store).failures tenants.new.shelf.next)
+        clock connection.old.number connection.old.session.stage (tenants_in L.log S.disk tenants.old) connection.old.session
+        connection.new.session }
     ensures waits { (connection.new.session.stage ≡ connection.old.session.stage) ⊎ (deadline_at connection.new.session.stage ≡ None) }
 {
     let Some((tenant, waiting)) = connection.waiting() else {

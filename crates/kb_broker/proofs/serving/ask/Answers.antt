@@ -1,9 +1,11 @@
 use Rattle.std.proofs.Common.{subst, sym, ◌∙◌}
 use Rattle.kb_service.specs.Hosted.{kept_of}
 use Rattle.kb_service.specs.Serve.{IsOutcome, served}
-use Rattle.kb_tenants.specs.Tenants.{shelf_is_honest}
+use Rattle.kb_tenant.specs.Told.{FailedBy}
+use Rattle.kb_tenants.specs.Tenants.{shelf_is_honest, IsCatalogFull}
 use Rattle.kb_broker.specs.Hosts.{tenants_in}
 use Rattle.kb_broker.proofs.TenantTurns.{answered-now, asked-on, released-now, touched-now}
+use Rattle.kb_broker.specs.Places.{IsTrueAnswer}
 use Rattle.kb_broker.proofs.serving.ask.Goals as goal
 
 pub returns-then-released-clause-meets : goal.returns-then-released-clause-meets
@@ -72,3 +74,37 @@ returns-then-refused-clause-asked g c = λ honest.
     let q = a.request.now in
     let r = c.serve-answer.result in
     asked-on g.L.PartitionLog.log g.S.Store.disk (shelf_is_honest g.S.Store.disk c.serve-answer.new.self) honest a.tenants.now (c.serve-answer.ensures.honest honest) c.node-node.result (tenants_in g.L.PartitionLog.log g.S.Store.disk c.serve-answer.new.self) a.clock a.tenant q.connection q.correlation_id q.api_key q.api_version q.body.now r.touched.items r.answer c.requires.hosted c.serve-answer.ensures.turn c.serve-answer.ensures.meets
+
+-- what is told of the answer
+pub returns-then-released-clause-truthful : goal.returns-then-released-clause-truthful
+returns-then-released-clause-truthful g c = λ honest.
+    let a = c.args in
+    let q = a.request.now in
+    let log = g.L.PartitionLog.log in
+    let disk = g.S.Store.disk in
+    let us = c.serve-answer.new.self in
+    let r = c.serve-answer.result in
+    let failed = FailedBy (disk a.tenants.now.shelf.store).failures (disk us.shelf.store).failures us.shelf.next in
+    (r.touched.items, subst (λ node. IsTrueAnswer failed (IsCatalogFull log us a.tenant) node a.clock q.connection q.api_key q.api_version q.correlation_id q.body.now (kept_of (tenants_in log disk a.tenants.now) a.tenant) (kept_of (tenants_in log disk us) a.tenant) r.touched.items r.answer) c.node-node.ensures.node (record { truthful = c.serve-answer.ensures.truthful honest; groups = c.serve-answer.ensures.groups honest }))
+
+pub returns-else-released-clause-truthful : goal.returns-else-released-clause-truthful
+returns-else-released-clause-truthful g c = λ honest.
+    let a = c.args in
+    let q = a.request.now in
+    let log = g.L.PartitionLog.log in
+    let disk = g.S.Store.disk in
+    let us = c.serve-answer.new.self in
+    let r = c.serve-answer.result in
+    let failed = FailedBy (disk a.tenants.now.shelf.store).failures (disk us.shelf.store).failures us.shelf.next in
+    (r.touched.items, subst (λ node. IsTrueAnswer failed (IsCatalogFull log us a.tenant) node a.clock q.connection q.api_key q.api_version q.correlation_id q.body.now (kept_of (tenants_in log disk a.tenants.now) a.tenant) (kept_of (tenants_in log disk us) a.tenant) r.touched.items r.answer) c.node-node.ensures.node (record { truthful = c.serve-answer.ensures.truthful honest; groups = c.serve-answer.ensures.groups honest }))
+
+pub returns-then-refused-clause-truthful : goal.returns-then-refused-clause-truthful
+returns-then-refused-clause-truthful g c = λ honest.
+    let a = c.args in
+    let q = a.request.now in
+    let log = g.L.PartitionLog.log in
+    let disk = g.S.Store.disk in
+    let us = c.serve-answer.new.self in
+    let r = c.serve-answer.result in
+    let failed = FailedBy (disk a.tenants.now.shelf.store).failures (disk us.shelf.store).failures us.shelf.next in
+    (r.touched.items, subst (λ node. IsTrueAnswer failed (IsCatalogFull log us a.tenant) node a.clock q.connection q.api_key q.api_version q.correlation_id q.body.now (kept_of (tenants_in log disk a.tenants.now) a.tenant) (kept_of (tenants_in log disk us) a.tenant) r.touched.items r.answer) c.node-node.ensures.node (record { truthful = c.serve-answer.ensures.truthful honest; groups = c.serve-answer.ensures.groups honest }))

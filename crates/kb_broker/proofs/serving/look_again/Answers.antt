@@ -1,14 +1,18 @@
-use Rattle.std.proofs.Common.{◌≡◌, rules, subst, sym, ◌∙◌, true}
+use Rattle.std.proofs.Common.{◌≡◌, inl, rules, subst, sym, ◌∙◌, true}
 use Rattle.kb_tenants.specs.Tenants.{numbers_in, shelf_is_honest}
 use Rattle.kb_service.specs.Turns.{IsTurn, IsMet}
 use Rattle.kb_tenant.specs.Replies as plain
+use Rattle.kb_service.specs.Hosted.{kept_of}
+use Rattle.kb_tenant.specs.Told.{FailedBy}
 use Rattle.kb_machine.specs.Tenant.{ready}
 use Rattle.kb_connection.specs.View.{wait_of}
 use Rattle.kb_broker.specs.Hosts.{tenants_in, IsLaterWith}
-use Rattle.kb_broker.specs.Places.{IsLookAnswer}
-use Rattle.kb_broker.proofs.Handled.{from_err}
+use Rattle.kb_broker.specs.Places.{IsLookAnswer, TellsAwaited}
+use Rattle.kb_service.specs.declared.answer.Answer.TheVariants as any
+use Rattle.kb_broker.proofs.Handled.{from_err, from_ok}
 use Rattle.kb_broker.proofs.Honest.{later-by, later-counted}
 use Rattle.kb_broker.proofs.TenantTurns.{looked-ok, looked-err}
+use Rattle.kb_broker.proofs.PutOut.{again-told, member-answered, put-shut}
 use Rattle.kb_broker.proofs.serving.look_again.Goals as goal
 
 pub returns-else-is_err-clause-looked : goal.returns-else-is_err-clause-looked
@@ -48,3 +52,47 @@ returns-then-is_err-clause-later g c =
     later-by (disk before.shelf.store) (disk after.shelf.store) (disk end.shelf.store) (numbers_in before.strays) (numbers_in after.strays) (numbers_in end.strays) (tenants_in g.L.PartitionLog.log disk before) (tenants_in g.L.PartitionLog.log disk after) (tenants_in g.L.PartitionLog.log disk end) c.ask_again-answer.ensures.later
     (subst (λ files. IsLaterWith (disk after.shelf.store) (disk end.shelf.store) (numbers_in after.strays) (numbers_in files) (tenants_in g.L.PartitionLog.log disk after) (tenants_in g.L.PartitionLog.log disk end)) (sym r.strays)
     (subst (λ shelf. IsLaterWith (disk after.shelf.store) (disk shelf.store) (numbers_in after.strays) (numbers_in after.strays) (tenants_in g.L.PartitionLog.log disk after) (tenants_in g.L.PartitionLog.log disk end)) (sym r.shelf) counted))
+
+pub returns-else-is_err-clause-told : goal.returns-else-is_err-clause-told
+returns-else-is_err-clause-told g c = λ honest.
+    let a = c.args in
+    let t = c.in-Some.tenant in
+    let w = wait_of c.in-Some.waiting.now in
+    let n = a.connection.now.number in
+    let log = g.L.PartitionLog.log in
+    let disk = g.S.Store.disk in
+    let ts = tenants_in log disk a.tenants.now in
+    let us = tenants_in log disk c.ask_again-answer.new.tenants in
+    let shelf = c.ask_again-answer.new.tenants.shelf in
+    let failed = FailedBy (disk a.tenants.now.shelf.store).failures (disk shelf.store).failures shelf.next in
+    let answer = c.ask_again-answer.result in
+    let asked = c.ask_again-answer.ensures in
+    let answers = subst (λ k. IsLookAnswer t a.clock k ts us w answer) c.number-number.ensures (asked.answers honest) in
+    again-told failed a.clock n t ts a.connection.now.session.stage w a.connection.now.session c.wake.new.self.session answer
+    c.in-Some.ensures.some (asked.told honest) (member-answered a.clock n t ts us w answer answers)
+    (inl (from_ok c.wake.result c.is_err.result _ c.is_err.ensures.value c.if-is_err.false c.wake.ensures.output))
+
+pub returns-then-is_err-clause-told : goal.returns-then-is_err-clause-told
+returns-then-is_err-clause-told g c = λ honest.
+    let a = c.args in
+    let t = c.in-Some.tenant in
+    let w = wait_of c.in-Some.waiting.now in
+    let n = a.connection.now.number in
+    let log = g.L.PartitionLog.log in
+    let disk = g.S.Store.disk in
+    let ts = tenants_in log disk a.tenants.now in
+    let us = tenants_in log disk c.ask_again-answer.new.tenants in
+    let before = (disk a.tenants.now.shelf.store).failures in
+    let answer = c.ask_again-answer.result in
+    let asked = c.ask_again-answer.ensures in
+    let end = c.refuse.new.self.shelf in
+    let failed = FailedBy before (disk end.store).failures end.next in
+    let shut = from_err c.wake.result c.is_err.result _ c.is_err.ensures.value c.if-is_err.true c.wake.ensures.err in
+    let honest_before = subst (λ shelf. (disk shelf.store).honest) c.refuse.ensures.shelf honest in
+    let answers = subst (λ k. IsLookAnswer t a.clock k ts us w answer) c.number-number.ensures (asked.answers honest_before) in
+    let Tells : Type 0 → Type 0 = λ failing. TellsAwaited failing w.correlation_id a.clock (kept_of ts t) w.awaited answer in
+    again-told failed a.clock n t ts a.connection.now.session.stage w a.connection.now.session c.wake.new.self.session answer
+    c.in-Some.ensures.some
+    (subst (λ shelf. Tells (FailedBy before (disk shelf.store).failures shelf.next)) (sym c.refuse.ensures.shelf)
+    (asked.told honest_before))
+    (member-answered a.clock n t ts us w answer answers) (put-shut (any.Plain answer) a.connection.now c.wake.new.self shut)

@@ -9,10 +9,13 @@ use Rattle.kb_tenant.specs.declared.request.Request.{Request}
 use Rattle.kb_machine.specs.Machine.{Line}
 use Rattle.kb_machine.specs.Tenant.{answer, kept_after}
 use Rattle.kb_connection.specs.Fronts.{IsAsked, IsOwn}
-use Rattle.kb_tenants.specs.Tenants.{shelf_is_honest}
+use Rattle.kb_tenant.specs.Told.{FailedBy}
+use Rattle.kb_tenants.specs.Tenants.{shelf_is_honest, IsCatalogFull}
 use Rattle.kb_broker.specs.Hosts.{tenants_in}
+use Rattle.kb_broker.specs.Places.{IsTrueAnswer}
 use Rattle.kb_broker.proofs.TenantTurns.{member-told, spent-shut, spent-served, asked-now}
 use Rattle.kb_broker.proofs.Served.{dated-none, keyed-answered, keyed-none, owned-none, owned-shut, own-free, own-touched, turned-touched}
+use Rattle.kb_broker.proofs.PutOut.{told-asked, told-own, told-shut}
 use Rattle.kb_broker.proofs.serving.serve_bound.Goals as goal
 
 pub returns-in_err-serve-in-Ok-None-clause-spent : goal.returns-in_err-serve-in-Ok-None-clause-spent
@@ -124,3 +127,70 @@ returns-clause-member g c =
     let told = subst (λ n. IsWaitTold n (kept_of (tenants_in g.L.PartitionLog.log g.S.Store.disk a.tenants.now) t).groups c.ask.result.0 (kept_of (tenants_in g.L.PartitionLog.log g.S.Store.disk c.ask.new.tenants) t).groups) same c.ask.ensures.told in
     member-told a.tenant a.connection.now c.hand_over.new.connection c.ask.result.0 q.correlation_id q.api_version q.body.now _ c.requires.bound
     (λ rebalance. c.in_ok-hand_over.ensures.ok q.api_key q.api_version q.correlation_id q.body.now Rebalances asked (subst (IsAnswer q.correlation_id Rebalances) (sym rebalance) tt)) told
+
+-- 3. What is told
+
+pub returns-in_err-serve-in-Ok-None-clause-told : goal.returns-in_err-serve-in-Ok-None-clause-told
+returns-in_err-serve-in-Ok-None-clause-told g c = λ honest.
+    let a = c.args in
+    let us = a.tenants.now in
+    let disk = g.S.Store.disk in
+    let failures = (disk us.shelf.store).failures in
+    told-shut (FailedBy failures failures us.shelf.next) (IsCatalogFull g.L.PartitionLog.log us) a.setup.now a.clock
+    a.connection.now.number a.tenant (tenants_in g.L.PartitionLog.log disk us) a.connection.now c.serve.new.self
+    c.in_err-serve-in-Ok-None.ensures.err
+
+pub returns-in-Ok-None-clause-told : goal.returns-in-Ok-None-clause-told
+returns-in-Ok-None-clause-told g c = λ honest.
+    let a = c.args in
+    let us = a.tenants.now in
+    let disk = g.S.Store.disk in
+    let ts = tenants_in g.L.PartitionLog.log disk us in
+    let failures = (disk us.shelf.store).failures in
+    let own = subst (λ found. IfNone found (IsOwn a.setup.now a.connection.now.session)) c.in-Ok-None.field-0-is
+    c.in-Ok-None.ensures.none in
+    told-own (FailedBy failures failures us.shelf.next) (IsCatalogFull g.L.PartitionLog.log us) a.setup.now a.clock
+    a.connection.now.number a.tenant ts a.connection.now c.serve.new.self own
+    (c.in_ok-serve-in-Ok-None.ensures.ok (kept_of ts a.tenant) a.clock a.connection.now.number)
+
+pub returns-in-Err-clause-told : goal.returns-in-Err-clause-told
+returns-in-Err-clause-told g c = λ honest.
+    let a = c.args in
+    let us = a.tenants.now in
+    let disk = g.S.Store.disk in
+    let failures = (disk us.shelf.store).failures in
+    told-shut (FailedBy failures failures us.shelf.next) (IsCatalogFull g.L.PartitionLog.log us) a.setup.now a.clock a.connection.now.number a.tenant (tenants_in g.L.PartitionLog.log disk us) a.connection.now c.shut_down.new.self c.shut_down.ensures
+
+pub returns-clause-told : goal.returns-clause-told
+returns-clause-told g c = λ honest.
+    let a = c.args in
+    let t = a.tenant in
+    let q = c.in-Ok-Some.request in
+    let s = a.connection.now.session in
+    let us = c.ask.new.tenants in
+    let log = g.L.PartitionLog.log in
+    let disk = g.S.Store.disk in
+    let ts = tenants_in log disk a.tenants.now in
+    let failed = FailedBy (disk a.tenants.now.shelf.store).failures (disk us.shelf.store).failures us.shelf.next in
+    let asked = subst (λ found. IfSome found (λ (r : Request). IsAsked a.setup.now s r.api_key r.api_version r.correlation_id r.body.now)) c.in-Ok-Some.field-0-is c.in-Ok-Some.ensures.asked in
+    let same : q.connection ≡ a.connection.now.number = subst (λ found. IfSome found (λ (r : Request). r.connection ≡ a.connection.now.number)) c.in-Ok-Some.field-0-is c.in-Ok-Some.ensures.number in
+    let truth = c.ask.ensures.truthful honest in
+    let truthful = subst (λ n. IsTrueAnswer failed (IsCatalogFull log us t) a.setup.now.node a.clock n q.api_key q.api_version q.correlation_id q.body.now (kept_of ts t) (kept_of (tenants_in log disk us) t) truth.0 c.ask.result.0) same truth.1 in
+    told-asked failed (IsCatalogFull log us) a.setup.now a.clock a.connection.now.number t ts (tenants_in log disk us) s c.hand_over.new.connection.session q.api_key q.api_version q.correlation_id q.body.now truth.0 c.ask.result.0 asked truthful c.hand_over.ensures.output
+
+pub returns-in_err-hand_over-clause-told : goal.returns-in_err-hand_over-clause-told
+returns-in_err-hand_over-clause-told g c = λ honest.
+    let a = c.args in
+    let t = a.tenant in
+    let q = c.in-Ok-Some.request in
+    let s = a.connection.now.session in
+    let us = c.ask.new.tenants in
+    let log = g.L.PartitionLog.log in
+    let disk = g.S.Store.disk in
+    let ts = tenants_in log disk a.tenants.now in
+    let failed = FailedBy (disk a.tenants.now.shelf.store).failures (disk us.shelf.store).failures us.shelf.next in
+    let asked = subst (λ found. IfSome found (λ (r : Request). IsAsked a.setup.now s r.api_key r.api_version r.correlation_id r.body.now)) c.in-Ok-Some.field-0-is c.in-Ok-Some.ensures.asked in
+    let same : q.connection ≡ a.connection.now.number = subst (λ found. IfSome found (λ (r : Request). r.connection ≡ a.connection.now.number)) c.in-Ok-Some.field-0-is c.in-Ok-Some.ensures.number in
+    let truth = c.ask.ensures.truthful honest in
+    let truthful = subst (λ n. IsTrueAnswer failed (IsCatalogFull log us t) a.setup.now.node a.clock n q.api_key q.api_version q.correlation_id q.body.now (kept_of ts t) (kept_of (tenants_in log disk us) t) truth.0 c.ask.result.0) same truth.1 in
+    told-asked failed (IsCatalogFull log us) a.setup.now a.clock a.connection.now.number t ts (tenants_in log disk us) s c.hand_over.new.connection.session q.api_key q.api_version q.correlation_id q.body.now truth.0 c.ask.result.0 asked truthful c.hand_over.ensures.output

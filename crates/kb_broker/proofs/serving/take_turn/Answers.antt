@@ -1,16 +1,18 @@
-use Rattle.std.proofs.Common.{◌≡◌, None, subst, sym, ◌∙◌}
+use Rattle.std.proofs.Common.{◌≡◌, None, inl, inr, subst, sym, ◌∙◌}
 use Rattle.std.specs.FinMap as fin
-use Rattle.kb_tenants.specs.Tenants.{shelf_is_honest}
+use Rattle.kb_tenant.specs.Told.{FailedBy}
+use Rattle.kb_tenants.specs.Tenants.{commands_of, shelf_is_honest, IsCatalogFull}
 use Rattle.kb_connection.specs.View.{greeting_of}
 use Rattle.kb_broker.specs.Hosts.{tenants_in}
 use Rattle.kb_machine.specs.Session.{BoundTo}
 use Rattle.kb_machine.specs.Machine.{after_turn, put}
-use Rattle.kb_broker.specs.Places.{IsMemberTurnAt, IsTakenAt, IsTurnAt, IsWaitTurnAt}
+use Rattle.kb_broker.specs.Places.{IsMemberTurnAt, IsTakenAt, IsToldAt, IsTurnAt, IsWaitTurnAt}
 use Rattle.kb_broker.proofs.Handled.{able-stage}
 use Rattle.kb_broker.specs.Parked.{IsAskedOnAt, IsConcern}
 use Rattle.kb_broker.proofs.Counted.{asked-counted, keyed-counted, later-loss, left-counted, member-counted, met-counted, turn-counted, waits-counted}
 use Rattle.kb_broker.proofs.Served.{dated-none, greeted-free, keyed-none, left-by, own-concern, owned-none, owned-shut}
 use Rattle.kb_broker.proofs.TenantTurns.{spent-greeted, spent-shut}
+use Rattle.kb_broker.proofs.PutOut.{told-counted, told-greeted}
 use Rattle.kb_broker.proofs.serving.take_turn.Goals as goal
 
 pub returns-in_err-greet-in-Greets-clause-spent : goal.returns-in_err-greet-in-Greets-clause-spent
@@ -93,6 +95,15 @@ returns-in_err-touched-in-Bound-clause-waits g c =
     let bound = sym (able-stage a.connection.now.session c.requires.able) ∙ sym c.in-Bound.ensures in
     subst (λ st. IsWaitTurnAt a.connection.now.number st (tenants_in g.L.PartitionLog.log g.S.Store.disk a.tenants.now) (tenants_in g.L.PartitionLog.log g.S.Store.disk c.serve_bound.new.tenants)) (sym bound) c.serve_bound.ensures.waits
 
+pub returns-in_err-touched-in-Bound-clause-asked : goal.returns-in_err-touched-in-Bound-clause-asked
+returns-in_err-touched-in-Bound-clause-asked g c = λ honest.
+    let a = c.args in
+    let log = g.L.PartitionLog.log in
+    let disk = g.S.Store.disk in
+    let bound = sym (able-stage a.connection.now.session c.requires.able) ∙ sym c.in-Bound.ensures in
+    subst (λ st. IsAskedOnAt st (tenants_in log disk a.tenants.now) (tenants_in log disk c.serve_bound.new.tenants)) (sym bound)
+    (c.serve_bound.ensures.asked honest)
+
 pub returns-in_ok-touched-in-Bound-clause-later : goal.returns-in_ok-touched-in-Bound-clause-later
 returns-in_ok-touched-in-Bound-clause-later g c =
     let w = c.whom_it_concerns.ensures in
@@ -160,3 +171,57 @@ returns-in_ok-touched-in-Bound-clause-member g c =
     let vs = tenants_in log disk c.whom_it_concerns.new.tenants in
     let r = c.serve_bound.new.connection.session.stage in
     member-counted c.in-Bound.tenant ts us vs w.turn w.stays a.connection.now.number a.connection.now.session.stage r (subst (λ st. IsMemberTurnAt a.connection.now.number st ts us r) (sym (sym (able-stage c.args.connection.now.session c.requires.able) ∙ sym c.in-Bound.ensures)) c.in_ok-touched-in-Bound.ensures.member)
+
+-- what is told
+
+pub returns-in_err-greet-in-Greets-clause-told : goal.returns-in_err-greet-in-Greets-clause-told
+returns-in_err-greet-in-Greets-clause-told g c = λ honest.
+    let a = c.args in
+    let disk = g.S.Store.disk in
+    let us = a.tenants.now in
+    let failures = (disk us.shelf.store).failures in
+    let greets = sym (able-stage a.connection.now.session c.requires.able) ∙ sym c.in-Greets.ensures in
+    told-greeted (FailedBy failures failures us.shelf.next) (IsCatalogFull g.L.PartitionLog.log us) a.setup.now a.clock
+    a.connection.now.number (tenants_in g.L.PartitionLog.log disk us) a.connection.now c.greet.new.self
+    (greeting_of c.in-Greets.greeting) greets (inr c.in_err-greet-in-Greets.ensures.err)
+
+pub returns-in_ok-greet-in-Greets-clause-told : goal.returns-in_ok-greet-in-Greets-clause-told
+returns-in_ok-greet-in-Greets-clause-told g c = λ honest.
+    let a = c.args in
+    let disk = g.S.Store.disk in
+    let us = a.tenants.now in
+    let failures = (disk us.shelf.store).failures in
+    let greets = sym (able-stage a.connection.now.session c.requires.able) ∙ sym c.in-Greets.ensures in
+    told-greeted (FailedBy failures failures us.shelf.next) (IsCatalogFull g.L.PartitionLog.log us) a.setup.now a.clock
+    a.connection.now.number (tenants_in g.L.PartitionLog.log disk us) a.connection.now c.greet.new.self
+    (greeting_of c.in-Greets.greeting) greets (inl c.in_ok-greet-in-Greets.ensures.ok)
+
+pub returns-in_err-touched-in-Bound-clause-told : goal.returns-in_err-touched-in-Bound-clause-told
+returns-in_err-touched-in-Bound-clause-told g c = λ honest.
+    let a = c.args in
+    let log = g.L.PartitionLog.log in
+    let disk = g.S.Store.disk in
+    let us = c.serve_bound.new.tenants in
+    let failed = FailedBy (disk a.tenants.now.shelf.store).failures (disk us.shelf.store).failures us.shelf.next in
+    let bound = sym (able-stage a.connection.now.session c.requires.able) ∙ sym c.in-Bound.ensures in
+    subst (λ st. IsToldAt failed (IsCatalogFull log us) a.setup.now a.clock a.connection.now.number st (tenants_in log disk a.tenants.now) (tenants_in log disk us) a.connection.now.session c.serve_bound.new.connection.session) (sym bound) (c.serve_bound.ensures.told honest)
+
+pub returns-in_ok-touched-in-Bound-clause-told : goal.returns-in_ok-touched-in-Bound-clause-told
+returns-in_ok-touched-in-Bound-clause-told g c = λ honest.
+    let a = c.args in
+    let log = g.L.PartitionLog.log in
+    let disk = g.S.Store.disk in
+    let w = c.whom_it_concerns.ensures in
+    let n = a.connection.now.number in
+    let s = a.connection.now.session in
+    let r = c.serve_bound.new.connection.session in
+    let us = c.serve_bound.new.tenants in
+    let vs = c.whom_it_concerns.new.tenants in
+    let ts = tenants_in log disk a.tenants.now in
+    let before = (disk a.tenants.now.shelf.store).failures in
+    let bound = sym (able-stage s c.requires.able) ∙ sym c.in-Bound.ensures in
+    let told = subst (λ shelf. IsToldAt (FailedBy before (disk shelf.store).failures shelf.next) (IsCatalogFull log us) a.setup.now a.clock n (BoundTo c.in-Bound.tenant None) ts (tenants_in log disk us) s r) (sym w.shelf)
+    (c.serve_bound.ensures.told (subst (λ shelf. (disk shelf.store).honest) w.shelf honest)) in
+    let failed = FailedBy before (disk vs.shelf.store).failures vs.shelf.next in
+    subst (λ st. IsToldAt failed (IsCatalogFull log vs) a.setup.now a.clock n st ts (tenants_in log disk vs) s r) (sym bound)
+    (told-counted failed (commands_of log us) (commands_of log vs) a.setup.now a.clock n c.in-Bound.tenant ts (tenants_in log disk us) (tenants_in log disk vs) s r w.commands w.stays told)

@@ -1,4 +1,4 @@
-use Rattle.std.proofs.Common.{◌∷◌, ap, sym, subst, map, IsPermutation, heap_items, ℕ}
+use Rattle.std.proofs.Common.{◌∷◌, subst, map, IsPermutation, heap_items, ℕ}
 use Rattle.std.specs.Bool.{OnTrue}
 use Rattle.std.specs.declared.cmp.Reverse.{Reverse}
 use Rattle.kb_broker.specs.Able.{Numbers}

@@ -15,10 +15,12 @@ use Rattle.kb_machine.specs.Stranded.{NoneStranded}
 use Rattle.kb_machine.proofs.Stranded.{stranded-emptied}
 use Rattle.kb_broker.specs.declared.run.Written.{Written}
 use Rattle.kb_broker.specs.Hosts.{is_honest, IsLater}
+use Rattle.kb_broker.specs.Truth.{IsSilent}
 use Rattle.kb_broker.specs.Runs.{happening_of, happenings, sent_of, connections_of, Passes}
 use Rattle.kb_broker.proofs.Honest.{later-same, later-then, later-is, ready-of, state-is, store-is, strays-is}
 use Rattle.kb_machine.proofs.Greetings.{unowned-greets}
 use Rattle.kb_broker.proofs.RunLast.{told-passes}
+use Rattle.kb_broker.proofs.Truth.{silent_emptied}
 use Rattle.kb_broker.proofs.RunHistory.{happenings-next, length-connections, connections-first, room-leads, grows-passes, run-passes, numbers-passes, rising-connections, continues-next}
 use Rattle.kb_broker.proofs.RunOrder.{IsOrdered, ordered, up-sorted, AreUp, numbered}
 use Rattle.kb_broker.proofs.broker.Broker.run.Given as given
@@ -93,6 +95,7 @@ loop-event-preserved g c =
 -- the last output is taken of the store as it is
 drained-later : (g : given.Over) (c : goal.After-sort_unstable_by_key g) → IsLater g.S.Store.disk c.loop-event.self c.drain.new.self
 drained-later g c = later-is g.S.Store.disk c.loop-event.self c.drain.new.self (store-is _ _ c.drain.ensures.state) (strays-is _ _ c.drain.ensures.state) (ap (λ (x : BrokerState). x.tenants) (state-is _ _ c.drain.ensures.state))
+    (subst (IsSilent c.loop-event.self.state) (sym (state-is _ _ c.drain.ensures.state)) (silent_emptied c.loop-event.self.state))
 
 -- the whole history, and the order of its list
 whole : (g : given.Over) (c : goal.After-sort_unstable_by_key g) → Passes (is_honest g.S.Store.disk c.drain.new.self) (happenings c.args.events.now) c.args.self.now.state c.drain.new.self.state (map sent_of c.drain.new.written.items)

@@ -4,7 +4,7 @@ use Rattle.kb_machine.proofs.Turns.{going-then}
 use Rattle.kb_broker.specs.Hosts.{is_honest}
 use Rattle.kb_broker.specs.Places.{AreIdle, number_at}
 use Rattle.kb_machine.proofs.Feeds.{step-not_open}
-use Rattle.kb_broker.proofs.Honest.{later-on, later-then, ready-of, state-is}
+use Rattle.kb_broker.proofs.Honest.{later-same, later-silent, later-then, ready-of, state-is}
 use Rattle.kb_broker.proofs.Placed.{found}
 use Rattle.kb_broker.proofs.Handled.{empty-is, full-is, idle-fed, number-going, others-taken, step-empty, step-deaf, step-taken}
 use Rattle.kb_broker.proofs.engine.Engine.input.Goals as goal
@@ -12,6 +12,12 @@ use Rattle.kb_broker.proofs.engine.Engine.input.Goals.{then-is_empty-via-then-is
 
 pub returns-in_default-clause-step : goal.returns-in_default-clause-step
 returns-in_default-clause-step g c = λ honest. step-not_open c.args.self.now.state c.args.number c.args.piece.now (ready-of g.S.Store.disk c.args.self.now c.requires honest) c.in_default.ensures.none
+
+pub returns-in_default-clause-later : goal.returns-in_default-clause-later
+returns-in_default-clause-later g c = later-same g.S.Store.disk c.args.self.now
+
+pub returns-then-is_empty-clause-later : goal.returns-then-is_empty-clause-later
+returns-then-is_empty-clause-later g c = later-same g.S.Store.disk c.args.self.now
 
 pub returns-then-is_empty-clause-step : goal.returns-then-is_empty-clause-step
 returns-then-is_empty-clause-step g c = λ honest.
@@ -49,7 +55,8 @@ returns g c =
     let given = c.take_piece.ensures.fed in
     let turned = c.run_turns.ensures.turned in
     let going = going-then a b d given.going c.run_turns.ensures.continues in
-    let kept = later-on disk c.args.self.now.store c.take_piece.new.self.store c.args.self.now.strays c.take_piece.new.self.strays a.tenants b.tenants c.take_piece.ensures.store c.take_piece.ensures.strays given.going.grows.names given.going.grows.own in
+    let kept = later-silent disk c.args.self.now c.take_piece.new.self c.take_piece.ensures.store c.take_piece.ensures.strays
+    given.going.grows.names given.going.grows.own c.take_piece.ensures.silent in
     let before : is_honest disk c.run_turns.new.self → is_honest disk c.args.self.now = λ honest. kept.honest (c.run_turns.ensures.later.honest honest) in
     record {
       ready = record { sound = going.sound; settled = c.run_turns.ensures.settled; unready = λ honest. (turned honest (Of (number_at i a)) given.still).unready (given.unready (c.requires.unready (before honest))) };

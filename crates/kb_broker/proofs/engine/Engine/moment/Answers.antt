@@ -1,9 +1,9 @@
 use Rattle.std.proofs.Common.{◌≤◌, ◌^◌, ◌∙◌, ap, subst, sym}
 use Rattle.std.specs.Prelude.{max}
 use Rattle.kb_machine.specs.Broker.{BrokerState}
-use Rattle.kb_broker.specs.Hosts.{is_honest, IsLater}
+use Rattle.kb_broker.specs.Hosts.{is_honest}
 use Rattle.kb_broker.specs.Parked.{AreAmong, AreWaitingOn}
-use Rattle.kb_broker.proofs.Honest.{state-is, store-is}
+use Rattle.kb_broker.proofs.Honest.{later-clocked, later-seen, state-is, store-is}
 use Rattle.kb_broker.proofs.Handled.{has-begun, in-time, sound-after}
 use Rattle.kb_broker.proofs.Parked.{waiting-on}
 use Rattle.kb_broker.proofs.Going.{IsAwake, IsMovedOn, awake-among, awake-still, awake-unready, moved-on}
@@ -22,7 +22,7 @@ wake-requires g c =
     let r = c.pass-answered.ensures in
     let a = c.args.self.now.state in
     let H = is_honest g.S.Store.disk c.pass-answered.new.self in
-    let h = has-begun H c.args.now c.max-self-inside.result c.pass-answered.result _ a c.pass-answered.new.self.state (state-is _ _ c.self.view_is) c.max-self-inside.ensures r.passed r.rest r.leaves in
+    let h = has-begun H c.args.now c.max-self-inside.result c.pass-answered.result _ a c.pass-answered.new.self.state (state-is _ _ c.self.view_is) c.max-self-inside.ensures r.passed r.only_tenants r.leaves in
     sound-after H c.args.now c.pass-answered.result a c.pass-answered.new.self.state c.requires.ready.sound c.requires.in_time h
 
 pub run_among-requires : goal.run_among-requires
@@ -37,12 +37,12 @@ run_among-requires g c =
     let b = c.wake.new.self in
     let awake : IsAwake disk now answered a s b = record {
       ready = c.requires.ready;
-      first = subst (λ x. IsLater disk x s) c.self.view_is r.later;
-      begun = has-begun (is_honest disk s) now c.max-self-inside.result answered _ a.state s.state (state-is _ _ c.self.view_is) c.max-self-inside.ensures r.passed r.rest r.leaves;
+      first = later-seen disk _ a s c.self.view_is (later-clocked disk _ c.max-self-inside.result s r.later);
+      begun = has-begun (is_honest disk s) now c.max-self-inside.result answered _ a.state s.state (state-is _ _ c.self.view_is) c.max-self-inside.ensures r.passed r.only_tenants r.leaves;
       going = w.continues;
       later = w.later;
       waked = w.waked;
-      rest = w.rest;
+      rest = w.unready;
     } in
     record {
       sound = w.continues.sound;
@@ -63,12 +63,12 @@ run_all_turns-requires g c =
     let b = c.wake.new.self in
     let awake : IsAwake disk now answered a s b = record {
       ready = c.requires.ready;
-      first = subst (λ x. IsLater disk x s) c.self.view_is r.later;
-      begun = has-begun (is_honest disk s) now c.max-self-inside.result answered _ a.state s.state (state-is _ _ c.self.view_is) c.max-self-inside.ensures r.passed r.rest r.leaves;
+      first = later-seen disk _ a s c.self.view_is (later-clocked disk _ c.max-self-inside.result s r.later);
+      begun = has-begun (is_honest disk s) now c.max-self-inside.result answered _ a.state s.state (state-is _ _ c.self.view_is) c.max-self-inside.ensures r.passed r.only_tenants r.leaves;
       going = w.continues;
       later = w.later;
       waked = w.waked;
-      rest = w.rest;
+      rest = w.unready;
     } in
     record {
       sound = w.continues.sound;
@@ -88,12 +88,12 @@ returns-in-Some g c =
     let b = c.wake.new.self in
     let awake : IsAwake disk now answered a s b = record {
       ready = c.requires.ready;
-      first = subst (λ x. IsLater disk x s) c.self.view_is r.later;
-      begun = has-begun (is_honest disk s) now c.max-self-inside.result answered _ a.state s.state (state-is _ _ c.self.view_is) c.max-self-inside.ensures r.passed r.rest r.leaves;
+      first = later-seen disk _ a s c.self.view_is (later-clocked disk _ c.max-self-inside.result s r.later);
+      begun = has-begun (is_honest disk s) now c.max-self-inside.result answered _ a.state s.state (state-is _ _ c.self.view_is) c.max-self-inside.ensures r.passed r.only_tenants r.leaves;
       going = w.continues;
       later = w.later;
       waked = w.waked;
-      rest = w.rest;
+      rest = w.unready;
     } in
     let t = c.run_among.ensures in
     let h = subst (IsMovedOn disk now a) (sym c.self-in-Some.view_is) (moved-on disk now answered a s b c.run_among.new.self awake t.continues t.later t.turned t.settled) in
@@ -111,12 +111,12 @@ returns-in-None g c =
     let b = c.wake.new.self in
     let awake : IsAwake disk now answered a s b = record {
       ready = c.requires.ready;
-      first = subst (λ x. IsLater disk x s) c.self.view_is r.later;
-      begun = has-begun (is_honest disk s) now c.max-self-inside.result answered _ a.state s.state (state-is _ _ c.self.view_is) c.max-self-inside.ensures r.passed r.rest r.leaves;
+      first = later-seen disk _ a s c.self.view_is (later-clocked disk _ c.max-self-inside.result s r.later);
+      begun = has-begun (is_honest disk s) now c.max-self-inside.result answered _ a.state s.state (state-is _ _ c.self.view_is) c.max-self-inside.ensures r.passed r.only_tenants r.leaves;
       going = w.continues;
       later = w.later;
       waked = w.waked;
-      rest = w.rest;
+      rest = w.unready;
     } in
     let t = c.run_all_turns.ensures in
     let h = moved-on disk now answered a s b c.run_all_turns.new.self awake t.continues t.later t.turned t.settled in

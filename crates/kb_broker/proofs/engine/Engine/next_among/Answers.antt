@@ -3,7 +3,6 @@ use Rattle.std.proofs.lemmas.List.Sorted.{length_permutation}
 use Rattle.kb_machine.specs.Machine.{find_line}
 use Rattle.kb_machine.proofs.Sets.{find-none}
 use Rattle.kb_broker.specs.Parked.{can_in, AreAmong}
-use Rattle.kb_broker.specs.Places.{number_at}
 use Rattle.kb_broker.proofs.Placed.{found, find-found, number_at-is}
 use Rattle.kb_broker.proofs.Going.{among-popped, among-taken, next-least, none-among}
 use Rattle.kb_broker.proofs.Honest.{state-is}

@@ -1,18 +1,22 @@
-use Rattle.std.proofs.Common.{◌≡◌, ◌<◌, ◌∙◌, refl, ap, set, subst, sym}
+use Rattle.std.proofs.Common.{◌≡◌, ◌<◌, ℕ, ◌∙◌, refl, ap, set, subst, sym}
 use Rattle.kb_machine.specs.Machine.{Line, work}
 use Rattle.kb_machine.specs.Broker.{BrokerState}
 use Rattle.kb_machine.specs.Turned.{IsGoing}
 use Rattle.kb_connection.specs.View.{stage_of}
-use Rattle.kb_tenants.specs.Tenants.{numbers_in, shelf_is_honest}
+use Rattle.kb_tenant.specs.Told.{FailedBy}
+use Rattle.kb_tenants.specs.Tenants.{numbers_in, shelf_is_honest, commands_of, IsCatalogFull}
+use Rattle.kb_tenants.specs.declared.tenants.Tenants.{Tenants}
 use Rattle.kb_broker.specs.Hosts.{OnStore, tenants_in, IsLaterWith}
-use Rattle.kb_broker.specs.Places.{IsCountedAt, IsMemberTurnAt, IsTakenAt}
+use Rattle.kb_broker.specs.Places.{IsCountedAt, IsMemberTurnAt, IsTakenAt, IsToldAt}
+use Rattle.kb_broker.specs.Truth.{SpeaksTruth}
 use Rattle.kb_broker.specs.Parked.{IsAllOf, IsLeftBy, IsLeftTo, IsOwnTo, IsQueueOf, IsServedFor}
 use Rattle.kb_broker.proofs.Placed.{at-read, number_at-is}
 use Rattle.kb_broker.proofs.Handled.{at-inside, IsTaken, put_with, next-can, able-stage, taken-at, counts-counted, lines-counted, names-counted, others-put, refused-for, refused-taken, taken-going, served-refused, work-taken, work-refused}
 use Rattle.kb_broker.proofs.Going.{left-by, not-parked, queue-turn, refused-left, refused-own, served-by}
 use Rattle.kb_broker.proofs.Fields.{rising-inside}
 use Rattle.kb_broker.proofs.Heard.{heard-set, roomy}
-use Rattle.kb_broker.proofs.Honest.{later-by, later-on, state-is, store-is}
+use Rattle.kb_broker.proofs.Honest.{later-by, later-from, later-on, state-is, store-is}
+use Rattle.kb_broker.proofs.Truth.{silent_counted, speaks_silent, speaks_then, true_turn}
 use Rattle.kb_broker.proofs.engine.Engine.serve.Given as given
 use Rattle.kb_broker.proofs.engine.Engine.serve.Goals as goal
 
@@ -68,6 +72,15 @@ invariant_of-self-in-Err g c =
           (at-inside _ c.args.self.now.state c.args.i c.index_mut-connection.result.now (state-is _ _ c.self.view_is) (at-read _ c.args.self.now.state c.args.i c.index_mut-connection.result.now (state-is _ _ c.self.view_is) c.requires.next.within c.index_mut-connection.ensures.value)) t.number c.number-number.ensures c.speaks.ensures c.note.ensures.items c.note.ensures.capacity,
     )
 
+-- what was said in it is the truth, whether it was refused or not
+turn-told : (g : given.Over) (old : g.row.S.Denot) (new : Tenants g.row.L.Denot g.row.S.Denot) (a b : BrokerState) (i : ℕ) (l m : Line) → let us = tenants_in g.L.PartitionLog.log g.S.Store.disk new in
+    a ≡ b → shelf_is_honest g.S.Store.disk new → IsTaken (shelf_is_honest g.S.Store.disk new) b i l m us
+    → IsToldAt (FailedBy (g.S.Store.disk old).failures (g.S.Store.disk new.shelf.store).failures new.shelf.next) (IsCatalogFull g.L.PartitionLog.log new) a.setup a.clock l.number l.session.stage a.tenants us l.session m.session
+    → SpeaksTruth b (put_with a i m us)
+turn-told g old new a b i l m here honest taken told =
+    true_turn (shelf_is_honest g.S.Store.disk new) honest (g.S.Store.disk old).failures (g.S.Store.disk new.shelf.store).failures new.shelf.next (commands_of g.L.PartitionLog.log new) a b i l m (tenants_in g.L.PartitionLog.log g.S.Store.disk new)
+    here taken.next.sound taken.at taken.number taken.turn told
+
 pub returns-in-Ok : goal.returns-in-Ok
 returns-in-Ok g c =
     let disk = g.S.Store.disk in
@@ -93,7 +106,7 @@ returns-in-Ok g c =
     let queue : IsQueueOf G q b.tenants b.lines = subst (λ (x : BrokerState). IsQueueOf G q x.tenants x.lines) here c.self.invariant.1 in
     record {
       continues = subst (λ (x : BrokerState). IsGoing b (put_with x i m us)) (sym here) (taken-going H b i l m us l.session.stage taken refl taken.turn is);
-      later = earlier;
+      later = later-from disk c.args.self.now _ earlier (λ honest. turn-told g c.self.inside.tenants.shelf.store c.take_turn-taken.new.tenants _ b i l m here honest taken (t.told honest));
       served = λ honest scope still. subst (λ (x : BrokerState). IsServedFor who scope b (put_with x i m us)) (sym here) (served-by H honest G (t.later.honest honest) who scope b i l m us q still (c.requires.unready (earlier.honest honest)) taken is member c.in-Ok.ensures.tenant queue (left honest));
       remaining = λ honest. subst (λ (x : BrokerState). IsLeftTo who (put_with x i m us)) (sym here)
           (left-by H honest G (t.later.honest honest) who b i l m us q (c.requires.unready (earlier.honest honest)) taken c.in-Ok.ensures.tenant queue (left honest));
@@ -129,7 +142,12 @@ returns-in-Err g c =
     let same = later-on disk store c.refuse.new.self.store strays c.refuse.new.self.strays us end.tenants c.refuse.ensures.store c.refuse.ensures.strays (names-counted l.number l.session.stage (put_with b i m us) end counted) (counts-counted l.number l.session.stage (put_with b i m us) end counted) in
     record {
       continues = refused-taken H b end i l m us l.session.stage taken refl shut taken.turn counted;
-      later = later-by (disk c.args.self.now.store) (disk store) (disk c.refuse.new.self.store) c.args.self.now.strays strays c.refuse.new.self.strays b.tenants us end.tenants earlier same;
+      later = later-from disk c.args.self.now c.refuse.new.self
+          (later-by (disk c.args.self.now.store) (disk store) (disk c.refuse.new.self.store) c.args.self.now.strays strays c.refuse.new.self.strays b.tenants us end.tenants earlier same)
+          (λ honest. speaks_then b (put_with b i m us) end
+          (subst (λ (x : BrokerState). SpeaksTruth b (put_with x i m us)) here
+          (turn-told g c.self.inside.tenants.shelf.store c.take_turn-taken.new.tenants _ b i l m here (same.honest honest) taken (t.told (same.honest honest))))
+          (speaks_silent (put_with b i m us) end (silent_counted l.number l.session.stage (put_with b i m us) end counted)));
       served = λ honest scope still. refused-for who l.session.stage scope b end all (served-refused H (same.honest honest) scope b end i l m us l.session.stage still taken refl shut taken.turn counted);
       remaining = λ honest. refused-left who l.session.stage end all;
       includes_itself = refused-own who l.session.stage _ all;

@@ -63,7 +63,7 @@ returns-in-All g c =
     record {
       continues = going-then a b d s.continues w.continues;
       later = later-then g.S.Store.disk c.args.self.now c.serve-concerned.new.self c.wake_all.new.self s.later w.later;
-      turned = λ honest scope still. turned-served c.in-All.tenant scope a b d (subst (λ r. IsServedFor r scope a b) c.in-All.is (s.served (w.later.honest honest) scope still)) (w.waked honest) (w.looked honest) (w.rest honest);
+      turned = λ honest scope still. turned-served c.in-All.tenant scope a b d (subst (λ r. IsServedFor r scope a b) c.in-All.is (s.served (w.later.honest honest) scope still)) (w.waked honest) (w.looked honest) (w.unready honest);
       confined = subst (λ r. IsConfined r (number_at c.args.i a) a d) (sym c.in-All.is) tt;
       shrinks = (let first = s.shrinks in let then = w.work in omega (arith, first, then));
     }

@@ -23,15 +23,15 @@ loop-i-preserved g c =
 pub returns-then-not-any_waits-clause-looked : goal.returns-then-not-any_waits-clause-looked
 returns-then-not-any_waits-clause-looked g c = λ honest. passed-looked-all c.args.whom c.args.self.now.state (none-passed c.args.whom c.args.self.now.state (all-free _ (sym c.any_waits.ensures ∙ c.if-not-any_waits.true)))
 
-pub returns-then-not-any_waits-clause-rest : goal.returns-then-not-any_waits-clause-rest
-returns-then-not-any_waits-clause-rest g c = λ honest. passed-rest-all c.args.whom c.args.self.now.state (none-passed c.args.whom c.args.self.now.state (all-free _ (sym c.any_waits.ensures ∙ c.if-not-any_waits.true)))
+pub returns-then-not-any_waits-clause-unready : goal.returns-then-not-any_waits-clause-unready
+returns-then-not-any_waits-clause-unready g c = λ honest. passed-rest-all c.args.whom c.args.self.now.state (none-passed c.args.whom c.args.self.now.state (all-free _ (sym c.any_waits.ensures ∙ c.if-not-any_waits.true)))
 
 pub returns-clause-looked : goal.returns-clause-looked
 returns-clause-looked g c = λ honest.
     let end : length c.args.self.now.state.lines ≤ c.loop-i.i = search rules in
     (waked-all c.args.whom c.args.self.now.state c.loop-i.self.state c.loop-i.i (c.loop-i.invariant.waked honest) end).looked
 
-pub returns-clause-rest : goal.returns-clause-rest
-returns-clause-rest g c = λ honest.
+pub returns-clause-unready : goal.returns-clause-unready
+returns-clause-unready g c = λ honest.
     let end : length c.args.self.now.state.lines ≤ c.loop-i.i = search rules in
     (waked-all c.args.whom c.args.self.now.state c.loop-i.self.state c.loop-i.i (c.loop-i.invariant.waked honest) end).rest

@@ -1,5 +1,5 @@
 -- The groups of a tenant.
-use Rattle.std.specs.Prelude.{ℕ, suc, min, List, [], ◌∷◌, map, Option, Some, None, bytes_eq, if◌then◌else◌}
+use Rattle.std.specs.Prelude.{◌-◌, ℕ, suc, min, List, [], ◌∷◌, map, Option, Some, None, bytes_eq, if◌then◌else◌}
 use Rattle.std.specs.Option.{option_map}
 use Rattle.std.specs.Ordering.{is_lt, nat_cmp}
 use Rattle.std.specs.Cmp.Lexicographic.{slice_cmp}
@@ -10,7 +10,7 @@ use Rattle.kb_groups.specs.declared.reply.Release.{Release}
 use Rattle.kb_groups.specs.Moments.{never, next_due}
 use Rattle.kb_coordinator.specs.declared.groups.Entry.{Entry}
 
--- The groups by id in byte order, how many member numbers were given out, and the replies that the last request or moment gave to
+-- The groups by id in byte order, the number below that of the next new member, and the replies that the last request or moment gave to
 -- requests that waited, by group and then by connection number.
 pub record Groups : Type 0 where
   pub groups : List Entry
@@ -19,6 +19,10 @@ pub record Groups : Type 0 where
 
 abbrev pub none : Groups
 none = record { groups = []; members = 0; released = [] }
+
+-- The first member from now on gets that number.
+abbrev pub numbered_from : ℕ → Groups → Groups
+numbered_from first gs = record gs { members = first - 1 }
 
 -- Nobody who waited is answered.
 abbrev pub silent : Groups → Groups

@@ -28,7 +28,7 @@ offered p = record { name = p.name; metadata = p.metadata }
 abbrev pub assigned_to : SyncAssignment → Assignment
 assigned_to a = record { member_id = a.member_id; assignment = a.assignment }
 
--- A join as its group takes it, where that many member numbers were given out.
+-- A join as its group takes it, where the next new member's number is the one above that.
 abbrev pub join_of : ℕ → ℕ → JoinGroupRequest → Join
 join_of given connection r = record {
   connection = connection;

@@ -1,6 +1,6 @@
 //! The groups of a tenant, and what requests do to them.
-ghost use Rattle.std.specs.Prelude.{◌≡◌, ◌≤◌, IfOk, OnErr, OnOk};
-ghost use Rattle.kb_coordinator.specs.Groups.{none, place_of, silent};
+ghost use Rattle.std.specs.Prelude.{◌≡◌, ◌≤◌, ◌<◌, ◌^◌, [], IfOk, OnErr, OnOk};
+ghost use Rattle.kb_coordinator.specs.Groups.{none, numbered_from, place_of, silent};
 ghost use Rattle.kb_coordinator.specs.Calls.{after_heartbeat, after_leave, after_may_commit, after_sync, heartbeat_code, leave_code};
 ghost use Rattle.kb_coordinator.specs.Calls.{may_commit, sync_answer};
 
@@ -52,6 +52,18 @@ impl Coordinator {
             released: Vec::new(alloc),
             quiet_until: u64::MAX,
         }
+    }
+
+    /// The first new member is to get this number, and each later one the next. It takes no memory.
+    ///
+    /// Where each opening starts above all numbers of those before, the id of a member of before is no member's.
+    pub fn number_members_from(&mut self, first: u64)
+        requires some { 1 ≤ first }
+        requires within { first < 2 ^ 63 }
+        requires early { self.old.groups ≡ [] }
+        ensures { self.new ≡ numbered_from first self.old }
+    {
+        self.members = first - 1;
     }
 
     /// The replies of the last request or moment are forgotten, as at each request that is not for a group.

@@ -15,7 +15,7 @@ use std::alloc::{AllocError, Global};
 
 /// How many groups a tenant has at most.
 const MAX_GROUPS: usize = 1_000;
-/// How many member numbers a tenant gives out at most.
+/// The greatest member number of a tenant.
 const MAX_MEMBERS: u64 = 9_223_372_036_854_775_807;
 
 /// The error of a join: the group's refusal, if it refuses; else whether nothing is left for it.
@@ -54,7 +54,7 @@ impl Coordinator {
         request.member.is_none() && self.members >= MAX_MEMBERS
     }
 
-    /// How many member numbers are given out once it has joined.
+    /// The number below that of the next new member, once it has joined.
     fn given_with(&self, request: &Join<'_>) -> u64
         ensures { result ≡ given_with request.now self.now }
     {

@@ -14,18 +14,16 @@ mod found;
 mod journal;
 mod script;
 mod serve;
-mod topic;
 mod words;
 
 use clap::error::ErrorKind;
 use clap::{Arg, ArgAction, ArgMatches, Command};
-use kb_admin::AdminFault;
 use kb_node::{NodeFault, Settings, StartFault, read_settings};
+use kb_topic_command::{TopicFault, topic, topic_command};
 use std::alloc::{AllocError, AllocFailed, Global};
 use std::process::ExitCode;
 use std::{fs, io};
 use thiserror::Error;
-use topic::TopicFault;
 
 /// Why the program ends early.
 #[derive(Debug, Drop, Error)]
@@ -71,15 +69,6 @@ impl From<NodeFault> for Fault {
     }
 }
 
-impl From<AdminFault> for Fault {
-    fn from(e: AdminFault) -> Fault {
-        match e {
-            AdminFault::Memory => Fault::Node(NodeFault::Memory),
-            AdminFault::Refused(_) | AdminFault::Protocol => Fault::Topic(TopicFault::Admin(e)),
-        }
-    }
-}
-
 impl From<clap::Error> for Fault {
     fn from(e: clap::Error) -> Fault {
         if e.kind() == ErrorKind::OutOfMemory {
@@ -115,7 +104,7 @@ fn command<'a>(alloc: Global) -> Result<Command<'a>, AllocError> {
         .subcommand(serve)?
         .subcommand(check)?
         .subcommand(dump::dump_command(alloc)?)?
-        .subcommand(topic::topic_command(alloc)?)
+        .subcommand(topic_command(alloc)?)
 }
 
 /// The file of the settings.
@@ -135,10 +124,25 @@ fn run(rt: &HostRuntime) -> Result<(), Fault> {
         Some(("serve", found)) => serve::serve(rt, found),
         Some(("check", found)) => check::check(rt, found),
         Some(("dump", found)) => dump::dump(rt, found),
-        Some(("topic", found)) => topic::topic(rt, found),
+        Some(("topic", found)) => match topic(rt, found) {
+            Ok(()) => Ok(()),
+            Err(fault) => topic_fault(alloc, fault),
+        },
         Some((_, found)) => script::script(rt, found),
         // A subcommand is asked for: no other line is taken.
         None => Ok(()),
+    }
+}
+
+/// What a fault of `kbroker topic` is to the program: wrong words come with its usage.
+fn topic_fault(alloc: Global, fault: TopicFault) -> Result<(), Fault> {
+    match fault {
+        TopicFault::Words(text) => {
+            let fault = command(alloc)?.error(ErrorKind::ValueValidation, text)?;
+            Err(Fault::Words(fault))
+        }
+        TopicFault::Memory => Err(Fault::Node(NodeFault::Memory)),
+        fault => Err(Fault::Topic(fault)),
     }
 }
 

@@ -1,13 +1,15 @@
 //! `kbroker topic`: makes, deletes and lists topics of a broker that runs.
+//!
+//! [`topic_command`] is what the command line is read by, and [`topic`] does what it asks for over a connection of its own, by the
+//! sessions of `kb_admin`. What comes of it is printed.
+#![tactic(auto)]
 
 ghost use Rattle.std.specs.Prelude.{◌≤◌, length, IfOk};
 
-use crate::{Fault, command};
-use clap::error::ErrorKind;
 use clap::{Arg, ArgAction, ArgMatches, Command};
 use kb_admin::{AdminFault, Heard, Listed, NewTopic, Session, Setting, ShortText, Task};
 use kb_wire::ErrorCode;
-use std::alloc::{AllocError, Global};
+use std::alloc::{AllocError, AllocFailed, Global};
 use std::fmt::{Display, Formatter, Write as _};
 use std::io::{BufWriter, Read, Write};
 use std::net::TcpStream;
@@ -29,6 +31,10 @@ const BUFFER_BYTES: usize = 65_536;
 /// Why a task on topics comes to nothing.
 #[derive(Debug, Drop)]
 pub enum TopicFault {
+    /// What is wrong with the words of the command line.
+    Words(&'static str),
+    /// Memory was refused.
+    Memory,
     /// There is no connection to this address.
     Connect(String),
     /// The connection ended, or nothing came in time.
@@ -42,6 +48,8 @@ pub enum TopicFault {
 impl Display for TopicFault {
     fn fmt<W: fmt::Write>(&self, f: &mut Formatter<W>) -> fmt::Result {
         match self {
+            TopicFault::Words(text) => f.write_str(*text),
+            TopicFault::Memory => f.write_str("out of memory"),
             TopicFault::Connect(address) => write!(f, "cannot connect to {address}"),
             TopicFault::Silent => f.write_str(
                 "the broker closed the connection, or did not answer",
@@ -51,6 +59,27 @@ impl Display for TopicFault {
                 f.write_str(meaning(*fault))
             }
             TopicFault::Write => f.write_str("write fault"),
+        }
+    }
+}
+
+impl From<AllocError> for TopicFault {
+    fn from(_e: AllocError) -> TopicFault {
+        TopicFault::Memory
+    }
+}
+
+impl<T: Drop> From<AllocFailed<T>> for TopicFault {
+    fn from(_e: AllocFailed<T>) -> TopicFault {
+        TopicFault::Memory
+    }
+}
+
+impl From<AdminFault> for TopicFault {
+    fn from(e: AdminFault) -> TopicFault {
+        match e {
+            AdminFault::Memory => TopicFault::Memory,
+            AdminFault::Refused(_) | AdminFault::Protocol => TopicFault::Admin(e),
         }
     }
 }
@@ -138,7 +167,7 @@ fn name<'a>(alloc: Global) -> Arg<'a> {
 }
 
 /// Makes, deletes or lists topics, and prints what came of it.
-pub fn topic(rt: &HostRuntime, found: &ArgMatches<'_>) -> Result<(), Fault> {
+pub fn topic(rt: &HostRuntime, found: &ArgMatches<'_>) -> Result<(), TopicFault> {
     let alloc = rt.alloc();
     let Some((verb, found)) = found.subcommand() else {
         return Ok(());
@@ -155,17 +184,17 @@ pub fn topic(rt: &HostRuntime, found: &ArgMatches<'_>) -> Result<(), Fault> {
     };
     match told {
         Ok(()) => Ok(()),
-        Err(_) => Err(Fault::Topic(TopicFault::Write)),
+        Err(_) => Err(TopicFault::Write),
     }
 }
 
 /// What is asked for.
-fn task_of(alloc: Global, verb: &str, found: &ArgMatches<'_>) -> Result<Task, Fault> {
+fn task_of(alloc: Global, verb: &str, found: &ArgMatches<'_>) -> Result<Task, TopicFault> {
     let name = found.get_str("name").unwrap_or("");
     match verb {
         "create" => Ok(Task::Create(NewTopic {
             name: short_text(alloc, name)?,
-            partitions: partitions_of(alloc, found)?,
+            partitions: partitions_of(found)?,
             settings: settings_of(alloc, found)?,
         })),
         "delete" => Ok(Task::Delete(short_text(alloc, name)?)),
@@ -174,15 +203,15 @@ fn task_of(alloc: Global, verb: &str, found: &ArgMatches<'_>) -> Result<Task, Fa
 }
 
 /// How many partitions are asked for.
-fn partitions_of(alloc: Global, found: &ArgMatches<'_>) -> Result<i32, Fault> {
+fn partitions_of(found: &ArgMatches<'_>) -> Result<i32, TopicFault> {
     match u64::from_str_radix(found.get_str("partitions").unwrap_or(""), 10) {
         Ok(n) if n <= MAX_INT32 => Ok(n as i32),
-        Ok(_) | Err(_) => Err(word_fault(alloc, "--partitions is no number, or too large")?),
+        Ok(_) | Err(_) => Err(TopicFault::Words("--partitions is no number, or too large")),
     }
 }
 
 /// The settings that are asked for.
-fn settings_of(alloc: Global, found: &ArgMatches<'_>) -> Result<Vec<Setting>, Fault> {
+fn settings_of(alloc: Global, found: &ArgMatches<'_>) -> Result<Vec<Setting>, TopicFault> {
     let mut settings = Vec::new(alloc);
     let Some(texts) = found.get_strs("config") else {
         return Ok(settings);
@@ -191,10 +220,9 @@ fn settings_of(alloc: Global, found: &ArgMatches<'_>) -> Result<Vec<Setting>, Fa
         match Setting::read(alloc, text)? {
             Some(setting) => settings.push(setting)?,
             None => {
-                return Err(word_fault(
-                    alloc,
+                return Err(TopicFault::Words(
                     "--config is no KEY=VALUE, or has more than 255 bytes",
-                )?);
+                ));
             }
         }
     }
@@ -202,21 +230,15 @@ fn settings_of(alloc: Global, found: &ArgMatches<'_>) -> Result<Vec<Setting>, Fa
 }
 
 /// A text of at most 255 bytes.
-fn short_text(alloc: Global, text: &str) -> Result<ShortText, Fault> {
+fn short_text(alloc: Global, text: &str) -> Result<ShortText, TopicFault> {
     match ShortText::new(String::from_str(alloc, text)?) {
         Some(text) => Ok(text),
-        None => Err(word_fault(alloc, "a text has more than 255 bytes")?),
+        None => Err(TopicFault::Words("a text has more than 255 bytes")),
     }
 }
 
-/// A fault of the command line with this text.
-fn word_fault(alloc: Global, text: &str) -> Result<Fault, Fault> {
-    let fault = command(alloc)?.error(ErrorKind::ValueValidation, text)?;
-    Ok(Fault::Words(fault))
-}
-
 /// A connection to a broker.
-fn connect(rt: &HostRuntime, address: &str) -> Result<TcpStream, Fault> {
+fn connect(rt: &HostRuntime, address: &str) -> Result<TcpStream, TopicFault> {
     match TcpStream::connect(rt, address) {
         Ok(stream) => {
             let _ = stream.set_nodelay(true);
@@ -225,13 +247,17 @@ fn connect(rt: &HostRuntime, address: &str) -> Result<TcpStream, Fault> {
         }
         Err(_) => {
             let address = String::from_str(rt.alloc(), address)?;
-            Err(Fault::Topic(TopicFault::Connect(address)))
+            Err(TopicFault::Connect(address))
         }
     }
 }
 
 /// Sends each request of a session once the reply to the one before came, and gives what the last reply comes to.
-fn exchange(alloc: Global, mut stream: TcpStream, mut session: Session) -> Result<Heard, Fault> {
+fn exchange(
+    alloc: Global,
+    mut stream: TcpStream,
+    mut session: Session,
+) -> Result<Heard, TopicFault> {
     let mut buffer = vec![in alloc; 0; BUFFER_BYTES]?;
     send(&mut stream, &session)?;
     for _ in 0..TURNS {
@@ -242,25 +268,25 @@ fn exchange(alloc: Global, mut stream: TcpStream, mut session: Session) -> Resul
             heard => return Ok(heard),
         }
     }
-    Err(Fault::Topic(TopicFault::Silent))
+    Err(TopicFault::Silent)
 }
 
 /// Sends the request whose turn it is.
-fn send(stream: &mut TcpStream, session: &Session) -> Result<(), Fault> {
+fn send(stream: &mut TcpStream, session: &Session) -> Result<(), TopicFault> {
     let request = session.request()?;
     match stream.write_all(&request) {
         Ok(()) => Ok(()),
-        Err(_) => Err(Fault::Topic(TopicFault::Silent)),
+        Err(_) => Err(TopicFault::Silent),
     }
 }
 
 /// Waits for bytes, and puts them in front of the buffer. There is at least one.
-fn receive(stream: &mut TcpStream, buffer: &mut [u8]) -> Result<usize, Fault>
+fn receive(stream: &mut TcpStream, buffer: &mut [u8]) -> Result<usize, TopicFault>
     ensures { IfOk result (λ n. n ≤ length buffer.new) }
 {
     match stream.read(buffer) {
         Ok(n) if n > 0 => Ok(n),
-        Ok(_) | Err(_) => Err(Fault::Topic(TopicFault::Silent)),
+        Ok(_) | Err(_) => Err(TopicFault::Silent),
     }
 }
 

@@ -1,4 +1,5 @@
 pub mod Begun
+pub mod Behind
 pub mod Calls
 pub mod Changed
 pub mod Committed

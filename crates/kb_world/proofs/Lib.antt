@@ -1,5 +1,4 @@
 pub mod Begun
-pub mod Behind
 pub mod Calls
 pub mod Changed
 pub mod Committed

@@ -34,7 +34,9 @@ module _ (es : Entries SegmentLog) where
   }
 
   pub exact_stays : (old new : Table) → ((file : ℕ) → Owned segment_log es file → get new file ≡ get old file) → AreExact segment_log es old → AreExact segment_log es new
-  exact_stays old new same e i p x at = (segment_lawful x.log).exact_stays old new (e i p x at) (λ file own. same file (here i p x at file own))
+  exact_stays old new same e i p x at =
+      let was = e i p x at in
+      ((segment_lawful x.log).exact_stays old new was.0 (λ file own. same file (here i p x at file own)), was.1)
 
   pub agree_stays : (old new : Files) → ((file : ℕ) → Owned segment_log es file → get new file ≡ get old file) → Agree segment_log es old → Agree segment_log es new
   agree_stays old new same a = record {

@@ -87,15 +87,19 @@ module _ (As : Type 0) (lists : Lists) (starts : List ℕ) (xs : List (Partition
       let its = so_far.owned p y there file own in
       other_list p its.list (slice_get_within xs p y there) its.at file its.has
 
-  pub next_settled : (ys : List (Partition SegmentLog)) → ys ≡ xs ++ x ∷ [] → AreSettledFrom lists starts xs mid → IsSettledFrom list.items start x.log now → AreSettledFrom lists starts ys now
-  next_settled ys grown before its p y numbers from there listed begun = ⊎_elim
-      (λ was. settled_stays numbers.items from y.log mid now (other_owned p y was) (other_list p numbers (slice_get_within xs p y was) listed) (before p y numbers from was listed begun))
+  pub next_settled : (ys : List (Partition SegmentLog)) → ys ≡ xs ++ x ∷ [] → AreSettledFrom lists starts xs mid → IsSettledFrom list.items start x.log now → (segment_log x.log).timed → AreSettledFrom lists starts ys now
+  next_settled ys grown before its timed p y numbers from there listed begun = ⊎_elim
+      (λ was.
+      let old = before p y numbers from was listed begun in
+      (settled_stays numbers.items from y.log mid now (other_owned p y was) (other_list p numbers (slice_get_within xs p y was) listed) old.0, old.1))
       (λ (new : (p ≡ length xs) × (x ≡ y)).
       let same_list : list ≡ numbers = same_Some list numbers (sym at ∙ ap (λ k. slice_get lists k) (sym new.0) ∙ listed) in
       let same_start : start ≡ from = same_Some start from (sym starts_at ∙ ap (λ k. slice_get starts k) (sym new.0) ∙ begun) in
-      subst (λ (z : Partition SegmentLog). IsSettledFrom numbers.items from z.log now) new.1
-      (subst (λ (v : Vec ℕ Global). IsSettledFrom v.items from x.log now) same_list
-      (subst (λ (s : ℕ). IsSettledFrom list.items s x.log now) same_start its)))
+      subst (λ (z : Partition SegmentLog). IsSettledFrom numbers.items from z.log now × (segment_log z.log).timed) new.1 (
+        subst (λ (v : Vec ℕ Global). IsSettledFrom v.items from x.log now) same_list
+            (subst (λ (s : ℕ). IsSettledFrom list.items s x.log now) same_start its),
+        timed,
+      ))
       (item_at xs x y p (subst (λ (zs : List (Partition SegmentLog)). slice_get zs p ≡ Some y) grown there))
 
 -- a number in some lists is of one of them

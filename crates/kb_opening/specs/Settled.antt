@@ -19,10 +19,12 @@ pub record IsSettledFrom (numbers : List ℕ) (start : ℕ) (log : SegmentLog) (
   pub resumes : (segment_log log).resumes start
   pub gone : (file : ℕ) → Contains numbers file → (segment_log log).owns file ⊎ (get disk.table file ≡ None)
 
--- So is the log of each partition of a topic, of its own files and with its own start.
+-- So is the log of each partition of a topic, of its own files and with its own start; and its memory tells what retention asks of its
+-- first batch.
 abbrev pub AreSettledFrom : Lists → List ℕ → List (Partition SegmentLog) → Disk → Type 0
 AreSettledFrom lists starts xs disk = (p : ℕ) (x : Partition SegmentLog) (list : Vec ℕ Global) (start : ℕ)
-    → slice_get xs p ≡ Some x → slice_get lists p ≡ Some list → slice_get starts p ≡ Some start → IsSettledFrom list.items start x.log disk
+    → slice_get xs p ≡ Some x → slice_get lists p ≡ Some list → slice_get starts p ≡ Some start
+    → IsSettledFrom list.items start x.log disk × (segment_log x.log).timed
 
 -- Each file that stood in a directory is somebody's, or is gone, or stands in it still.
 abbrev pub AreAccounted : Directory → (ℕ → Type 0) → Disk → Directory → Type 0

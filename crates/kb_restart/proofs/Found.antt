@@ -287,7 +287,7 @@ module _ (d : Disk) (lawful : IsLawfulDisk d) (honest : d.honest) (strays : List
     meta_named file own = subst (λ who. IsNamed who d.files file) sound.catalog_named (owned_named (meta_log p.catalog) d k.next (k.settled.meta_exact t p at) file own agrees.catalog)
 
     log_named : (i n : ℕ) (x : Partition SegmentLog) → partitions.partition_at i n (entries p) ≡ Some x → (file : ℕ) → (segment_log x.log).owns file → IsNamed (partition_identity name i n p.segment_bytes) d.files file
-    log_named i n x there file own = subst (λ who. IsNamed who d.files file) (sound.logs_named i n x there) (owned_named x.log d k.next (k.settled.exact t p at i n x there) file own (agrees.logs.each i n x there))
+    log_named i n x there file own = subst (λ who. IsNamed who d.files file) (sound.logs_named i n x there) (owned_named x.log d k.next (k.settled.exact t p at i n x there).0 file own (agrees.logs.each i n x there))
 
   -- a file that is not left alone is a log's, if each tenant that has it has it by that log
   of_log : (l : SegmentLog) (file : ℕ) → l.spare ≡ None → Contains numbers file → (Contains strays file → ⊥) → (IsOfSome segment_log k.parts file → (segment_log l).owns file) → (segment_log l).owns file
@@ -363,7 +363,7 @@ module _ (d : Disk) (lawful : IsLawfulDisk d) (honest : d.honest) (strays : List
       log_listed : (file : ℕ) → (segment_log x.log).owns file → Contains list file
       log_listed file own =
           in_filter (says d.files test) numbers file
-          (in_keys d.table file (owned_there x.log d k.next (k.settled.exact t p at i n x there) file own ((sound t p at).logs.each i n x there)))
+          (in_keys d.table file (owned_there x.log d k.next (k.settled.exact t p at i n x there).0 file own ((sound t p at).logs.each i n x there)))
           (says_partition d.files (name t p at) i n p.segment_bytes file (log_named t p at i n x there file own))
 
       module _ (file : ℕ) (has : Contains list file) where
@@ -401,7 +401,7 @@ module _ (d : Disk) (lawful : IsLawfulDisk d) (honest : d.honest) (strays : List
                     none-some part (sym none ∙ known_at)
 
         log_owned : (segment_log x.log).owns file
-        log_owned = of_log x.log file (k.settled.exact t p at i n x there).none (of_filter (says d.files test) numbers file has).0 log_no_stray by
+        log_owned = of_log x.log file (k.settled.exact t p at i n x there).0.none (of_filter (says d.files test) numbers file has).0 log_no_stray by
           where
             by : IsOfSome segment_log k.parts file → (segment_log x.log).owns file
             by some = ⊎_elim
@@ -426,7 +426,7 @@ module _ (d : Disk) (lawful : IsLawfulDisk d) (honest : d.honest) (strays : List
       log_comes : IsLogOf d.files list (natural part.start) (log_state (segment_log x.log) d.files)
       log_comes =
           let recorded = ap start_said known_at in
-          let c = reopens x.log d k.next (natural part.start) list lawful honest log_files ((sound t p at).logs.each i n x there) ((agrees t p at).logs.each i n x there) (k.settled.exact t p at i n x there)
+          let c = reopens x.log d k.next (natural part.start) list lawful honest log_files ((sound t p at).logs.each i n x there) ((agrees t p at).logs.each i n x there) (k.settled.exact t p at i n x there).0
           (subst (λ start. (segment_log x.log).resumes start) recorded ((agrees t p at).started i n x there)) in
           record { bs = c.bs; chain = c.chain; starts = c.starts; ends = c.ends; batches = c.batches }
 

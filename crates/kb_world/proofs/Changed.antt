@@ -202,8 +202,9 @@ module _ {L : Type 0} (es es' : Entries L) (i p : ℕ) (x x' : Partition L) (c :
         (λ j q y at ne. subst (λ n. (log y.log).resumes n) (sym (restarts.others j q ne)) (started j q y at))
 
     -- what a call that was refused nothing leaves
-    pub changed_settles : one.Settles (record { log = log x.log; disk = d; next = next }) (record { log = log x'.log; disk = d'; next = next' }) → Settles (scene_on log es d next) (scene_on log es' d' next')
-    changed_settles settles = record {
+    pub changed_settles : ((log x.log).timed → (log x'.log).timed) → one.Settles (record { log = log x.log; disk = d; next = next }) (record { log = log x'.log; disk = d'; next = next' })
+        → Settles (scene_on log es d next) (scene_on log es' d' next')
+    changed_settles timed settles = record {
       accounts = λ file there not.
           let before = settles.accounts file there (λ own. not (record { instance = i; number = p; partition = x'; at = new_at; own = own })) in (
             before.0,
@@ -212,9 +213,12 @@ module _ {L : Type 0} (es es' : Entries L) (i p : ℕ) (x x' : Partition L) (c :
                 (λ at. not (record { instance = o.instance; number = o.number; partition = o.partition; at = at; own = o.own }))
                 (kept_at o.instance o.number o.partition o.at),
           );
-      exact = λ exact. each_partition (λ j q y. (log y.log).exact d'.table) (settles.exact (exact i p x old_at)) (λ j q y at ne.
-          (law y.log).exact_stays d.table d'.table (exact j q y at) (λ file mine.
-          frames.others.lengths file ((law y.log).given_out d.table next (sound.each j q y at) file mine) (λ theirs. sound.apart j q i p y x at old_at ne file mine theirs)));
+      exact = λ exact. each_partition (λ j q y. (log y.log).exact d'.table × (log y.log).timed) (let old = exact i p x old_at in (settles.exact old.0, timed old.1)) (λ j q y at ne.
+          let old = exact j q y at in (
+            (law y.log).exact_stays d.table d'.table old.0 (λ file mine.
+                frames.others.lengths file ((law y.log).given_out d.table next (sound.each j q y at) file mine) (λ theirs. sound.apart j q i p y x at old_at ne file mine theirs)),
+            old.1,
+          ));
     }
 
     same_state : d'.honest → (j q : ℕ) (y : Partition L) → partition_at j q es ≡ Some y → ((j ≡ i) × (q ≡ p) → ⊥) → log_state (log y.log) d'.files ≡ log_state (log y.log) d.files

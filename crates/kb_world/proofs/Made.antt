@@ -178,7 +178,7 @@ module _ {L : Type 0} (log : L → Log) (instance count : ℕ) (es es' : Entries
       at = kept_at instance es es' v updates unmade o.instance o.number o.partition o.at;
       own = o.own;
     };
-    exact = λ table exact i p x at. ⊎_elim (λ (new : IsEmptyPartition log x). new.begun.exact table) (λ was. exact i p x was) (made_at i p x at);
+    exact = λ table exact i p x at. ⊎_elim (λ (new : IsEmptyPartition log x). (new.begun.exact table, new.begun.timed)) (λ was. exact i p x was) (made_at i p x at);
     sound = λ table next s. record {
       ordered = ordered;
       each = λ i p x at. ⊎_elim (λ (new : IsEmptyPartition log x). new.begun.sound table next) (λ was. s.each i p x was) (made_at i p x at);

@@ -123,9 +123,12 @@ module _ {L : Type 0} (log : L → Log) (i : ℕ) (es : Entries L) (t : Vec (Par
           );
       exact = λ exact j q y at.
           let rest = rest_at j q y at in
-          (law y.log).exact_stays d.table d'.table (exact j q y rest.0) (λ file theirs.
-          others.lengths file ((law y.log).given_out d.table next (sound.each j q y rest.0) file theirs)
-          (λ o. sound.apart j q i o.number y o.partition rest.0 (at_place o.number o.partition o.at) (λ bad. rest.1 bad.0) file theirs o.own));
+          let old = exact j q y rest.0 in (
+            (law y.log).exact_stays d.table d'.table old.0 (λ file theirs.
+                others.lengths file ((law y.log).given_out d.table next (sound.each j q y rest.0) file theirs)
+                (λ o. sound.apart j q i o.number y o.partition rest.0 (at_place o.number o.partition o.at) (λ bad. rest.1 bad.0) file theirs o.own)),
+            old.1,
+          );
     }
 
     same_state : d'.honest → (j q : ℕ) (y : Partition L) → partition_at j q es' ≡ Some y → log_state (log y.log) d'.files ≡ log_state (log y.log) d.files

@@ -31,7 +31,9 @@ module _ {L : Type 0} (log : L → Log) (law : (l : L) → IsLawfulLog (log l)) 
   }
 
   pub spared_exact : AreExact log es d.table → AreExact log es d'.table
-  spared_exact exact i p x at = (law x.log).exact_stays d.table d'.table (exact i p x at) (λ file own. lengths file (below i p x at file own) (mine i p x at file own))
+  spared_exact exact i p x at =
+      let old = exact i p x at in
+      ((law x.log).exact_stays d.table d'.table old.0 (λ file own. lengths file (below i p x at file own) (mine i p x at file own)), old.1)
 
   list : d'.honest → (i p : ℕ) (x : Partition L) → partition_at i p es ≡ Some x → (log x.log).batches d'.files ≡ (log x.log).batches d.files
   list honest i p x at = (law x.log).batches_stay d.files d'.files (there honest i p x at)

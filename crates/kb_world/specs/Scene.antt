@@ -4,7 +4,7 @@ use Rattle.kb_store.specs.Disk.{Disk}
 use Rattle.kb_log.specs.OnShelf.{Spares, Accounts}
 
 -- Some logs at one moment: which files are theirs; what holds of the files' numbers and lengths on any store; whether nothing but
--- their batches is in the files, by their lengths; what holds of their bytes where the store is honest; the disk of the shelf and
+-- their batches is in the files, by their lengths, and their memory tells what retention asks of each first batch; what holds of their bytes where the store is honest; the disk of the shelf and
 -- its next file number; and what the tenant sees of the logs.
 pub record Scene (W : Type 0) : Type 1 where
   pub owns : ℕ → Type 0
@@ -27,7 +27,7 @@ pub record Frame {V W : Type 0} (a : Scene V) (b : Scene W) : Type 0 where
   pub agrees : b.disk.honest → a.agrees → b.agrees
 
 -- What a call that was refused nothing leaves: each file is accounted for, and logs that had nothing but their batches in their
--- files still have nothing else.
+-- files still have nothing else, and their memory still tells what retention asks of each first batch.
 pub record Settles {V W : Type 0} (a : Scene V) (b : Scene W) : Type 0 where
   pub accounts : Accounts a.owns b.owns a.disk b.disk
   pub exact : a.exact → b.exact

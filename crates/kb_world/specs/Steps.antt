@@ -9,7 +9,8 @@ use Rattle.kb_world.specs.Counts.{END, IsCalm}
 
 -- What each call keeps, also where it is refused: whose the parts are; the files of all others are as they were; and the counts of
 -- refusals, of recorded commands and of topics that were made only rise.
--- Where nothing was refused each file is accounted for, and nothing but batches is in the files if it was so before.
+-- Where nothing was refused each file is accounted for; and nothing but batches is in the files, and each log's memory tells what
+-- retention asks of its first batch, if it was so before.
 pub record IsStep (a b : Scene Seen) : Type 0 where
   pub frame : Frame a b
   pub named : b.state.tenant ≡ a.state.tenant

@@ -2,7 +2,7 @@
 //!
 //! A [`GuardedClock`] is the server's time: it follows the wall clock, but not each of its jumps. A [`Tally`] tells by how much a
 //! count has grown, a [`Pace`] keeps lines a second apart, and [`Missed`] counts the lines that were not taken. [`now`] reads the wall
-//! clock in milliseconds, [`time_text`] is the time at the head of a line, and a [`Change`] says how long ago a file was changed.
+//! clock in milliseconds, [`moment_at`] is any other time, [`time_text`] is the time at the head of a line, and a [`Change`] says how long ago a file was changed.
 #![tactic(auto)]
 
 mod change;
@@ -13,7 +13,7 @@ mod pace;
 mod tally;
 
 pub use change::Change;
-pub use clock::{now, time_text};
+pub use clock::{moment_at, now, time_text};
 pub use guard::{GuardedClock, Notice, Reading, Tick};
 pub use lines::{Missed, Sink};
 pub use pace::Pace;

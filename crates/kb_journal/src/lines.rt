@@ -1,7 +1,7 @@
 //! Lines for a reader that may not read them.
 
 ghost use Rattle.std.specs.Prelude.{◌≡◌, ℕ, Bool, List};
-ghost use Rattle.kb_journal.specs.Lines.{CatchesUp, Tells};
+ghost use Rattle.kb_journal.specs.Lines.{CatchesUp, Tells, one_more};
 
 /// Where lines go, if it takes them at once.
 pub trait Sink {
@@ -34,8 +34,15 @@ impl Missed {
     {
         let is_taken = self.catch_up(sink) && sink.offer_line(line);
         if !is_taken {
-            self.lines = self.lines.saturating_add(1);
+            self.miss();
         }
+    }
+
+    /// A line is missed that was not offered.
+    pub fn miss(&mut self)
+        ensures { self.new.lines ≡ one_more self.old.lines }
+    {
+        self.lines = self.lines.saturating_add(1);
     }
 
     /// Tells how many lines were missed, if any were, and says whether none are missed now.

@@ -4,7 +4,7 @@ use kb_journal::{GuardedClock, Missed, Notice, Reading, Sink};
 use std::test::*;
 
 /// Readings of the wall clock and of the steady clock in seconds, and what they come to: the moment in seconds, and what is told.
-const READINGS: [(u64, u64, u64, Option<Notice>); 10] = [
+const READINGS: [(u32, u32, u32, Option<Notice>); 10] = [
     (1001, 1, 1001, None),
     // 61 seconds ahead, and back
     (1063, 2, 1002, Some(Notice::Ahead)),
@@ -32,10 +32,10 @@ fn a_clock_is_guarded(rt: HostRuntime) -> Result<(), Fail> {
     });
     for (wall, steady, seconds, told) in READINGS {
         let tick = clock.next(Reading {
-            wall: wall * SECOND,
-            steady: steady * SECOND,
+            wall: u64::from(wall) * SECOND,
+            steady: u64::from(steady) * SECOND,
         });
-        assert_eq!(rt; tick.moment, seconds * 1000);
+        assert_eq!(rt; tick.moment, u64::from(seconds) * 1000);
         assert_eq!(rt; tick.told, told);
     }
     Ok(())

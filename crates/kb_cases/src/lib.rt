@@ -7,6 +7,8 @@
 #[cfg(test)]
 mod api_data;
 #[cfg(test)]
+mod journal;
+#[cfg(test)]
 mod numbers;
 #[cfg(test)]
 mod settings;

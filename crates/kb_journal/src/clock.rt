@@ -2,6 +2,7 @@
 
 ghost use Rattle.std.specs.Prelude.{◌≡◌, ◌≤◌, ◌/◌, ◌^◌, min};
 ghost use Rattle.std.specs.Duration.{as_nanos};
+ghost use Rattle.std.specs.Time.{system_time_nanos};
 
 use jiff::Timestamp;
 use std::alloc::{AllocError, Global};
@@ -19,18 +20,23 @@ fn moment_of(since: Duration) -> u64
         .min(LAST_MOMENT)
 }
 
-/// The moment that a clock shows: milliseconds since the beginning of 1970, at most 2^62. It is 0 where the clock cannot be read, or
-/// is set to a time before.
+/// A time as a moment: milliseconds since the beginning of 1970, at most 2^62.
+pub fn moment_at(time: SystemTime) -> u64
+    ensures { result ≡ min (system_time_nanos time / 1000000) (2 ^ 62) }
+{
+    match time.duration_since(SystemTime::UNIX_EPOCH) {
+        Ok(since) => moment_of(since),
+        // no time is before
+        Err(_) => 0,
+    }
+}
+
+/// The moment that the wall clock shows: milliseconds since the beginning of 1970, at most 2^62. It is 0 where the clock cannot be
+/// read, or is set to a time before.
 pub fn now(clock: &impl Clock) -> u64
     ensures { result ≤ 2 ^ 62 }
 {
-    let Ok(time) = SystemTime::now(clock) else {
-        return 0;
-    };
-    match time.duration_since(SystemTime::UNIX_EPOCH) {
-        Ok(since) => moment_of(since),
-        Err(_) => 0,
-    }
+    SystemTime::now(clock).map_or(0, moment_at)
 }
 
 /// A moment as text, in UTC, as `2026-11-24T21:10:42.5Z` (ISO 8601). One after the year 9999 has no text but `-`.

@@ -1,0 +1,105 @@
+//! What is tested of a server's time and of its lines.
+
+use kb_journal::{GuardedClock, Missed, Notice, Reading, Sink};
+use std::test::*;
+
+/// Readings of the wall clock and of the steady clock in seconds, and what they come to: the moment in seconds, and what is told.
+const READINGS: [(u32, u32, u32, Option<Notice>); 10] = [
+    (1001, 1, 1001, None),
+    // 61 seconds ahead, and back
+    (1063, 2, 1002, Some(Notice::Ahead)),
+    (1004, 3, 1004, Some(Notice::Back)),
+    // 59 seconds ahead
+    (1064, 4, 1064, None),
+    // behind, for ten seconds
+    (1000, 14, 1069, None),
+    (1072, 16, 1072, None),
+    // ahead for ten minutes
+    (9000, 17, 1073, Some(Notice::Ahead)),
+    (9599, 616, 1672, None),
+    (9600, 617, 9600, Some(Notice::Taken)),
+    (0, 617, 9600, None),
+];
+
+const SECOND: u64 = 1_000_000;
+
+/// A clock that starts at 1000 seconds.
+#[test]
+fn a_clock_is_guarded(rt: HostRuntime) -> Result<(), Fail> {
+    let mut clock = GuardedClock::starting(Reading {
+        wall: 1000 * SECOND,
+        steady: 0,
+    });
+    for (wall, steady, seconds, told) in READINGS {
+        let tick = clock.next(Reading {
+            wall: u64::from(wall) * SECOND,
+            steady: u64::from(steady) * SECOND,
+        });
+        assert_eq!(rt; tick.moment, u64::from(seconds) * 1000);
+        assert_eq!(rt; tick.told, told);
+    }
+    Ok(())
+}
+
+/// Turns a microsecond apart come to half of their time.
+#[test]
+fn half_of_the_pace_loses_nothing(rt: HostRuntime) -> Result<(), Fail> {
+    let mut clock = GuardedClock::starting(Reading {
+        wall: SECOND,
+        steady: 0,
+    });
+    let mut moment = 0;
+    for steady in 1..=2000 {
+        moment = clock.next(Reading { wall: 0, steady }).moment;
+    }
+    assert_eq!(rt; moment, 1001);
+    Ok(())
+}
+
+/// A reader that has room for so many lines.
+#[derive(Drop)]
+struct Reader {
+    room: usize,
+    text: String,
+}
+
+impl Reader {
+    fn take(&mut self, line: &str) -> bool {
+        if self.room == 0 {
+            return false;
+        }
+        self.room -= 1;
+        self.text.push_str(line).is_ok()
+    }
+}
+
+impl Sink for Reader {
+    ghost offers_line = { λ _ _ _ _. Unit {0} };
+
+    ghost offers_count = { λ _ _ _ _. Unit {0} };
+
+    fn offer_line(&mut self, line: &str) -> bool {
+        self.take(line)
+    }
+
+    fn offer_count(&mut self, missed: u64) -> bool {
+        self.take(if missed == 2 { "(2)" } else { "(1)" })
+    }
+}
+
+/// Of five lines two are missed, and then a third one: each count is told before the next line.
+#[test]
+fn missed_lines_are_counted(rt: HostRuntime) -> Result<(), Fail> {
+    let mut missed = Missed::default();
+    let mut reader = Reader {
+        room: 0,
+        text: String::new(rt.alloc()),
+    };
+    for (room, line) in [(1, "a"), (0, "b"), (0, "c"), (1, "d"), (2, "e")] {
+        reader.room = room;
+        missed.tell(&mut reader, line);
+    }
+    assert_eq!(rt; reader.text.as_str(), "a(2)(1)e");
+    assert_eq!(rt; missed.lines, 0);
+    Ok(())
+}

@@ -1,0 +1,3 @@
+pub mod Change
+pub mod Guard
+pub mod Lines

@@ -1,4 +1,5 @@
 pub mod NamesInOrder
 pub mod Keys
+pub mod Addresses
 pub mod Entries
 pub mod StandardText

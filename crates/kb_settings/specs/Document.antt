@@ -1,12 +1,13 @@
 -- What a settings document says, key by key.
 use Rattle.std.specs.Prelude.{ℕ, pos, List, [], ◌∷◌, map, length, codes, Bool, ◌&&◌, if◌then◌else◌}
-use Rattle.std.specs.Prelude.{Option, None, Some, option_map, option_and_then, Result, Ok, Err}
+use Rattle.std.specs.Prelude.{Option, None, Some, is_some, option_map, option_and_then, Result, Ok, Err}
 use Rattle.std.specs.List.{list_any}
 use Rattle.std.specs.Str.{bytes_eq}
 use Rattle.toml.specs.Data.{Data, as_str, integer, array, table, get_member}
 use Rattle.toml.specs.Data.{Items, no_items, item, Members, no_members, member}
 use Rattle.kb_settings.specs.Names.{in_order}
-use Rattle.kb_settings.specs.Settings.{is_within, is_host, is_credential, is_tenant, are_different}
+use Rattle.kb_settings.specs.Settings.{is_within, is_credential, is_tenant, are_different}
+use Rattle.kb_settings.specs.Address.{is_listened, bare, endpoint_in}
 use Rattle.kb_settings.specs.Values.{Account, Values}
 
 -- 1. What a value says: nothing where it is wrong
@@ -26,6 +27,18 @@ number_in low high _ = None
 -- a folder: any text
 abbrev pub folder_in : Data → Option (Option (List ℕ))
 folder_in value = option_map Some (as_str value)
+
+-- a host, with or without brackets
+abbrev pub host_in : Bool → Data → Option (List ℕ)
+host_in told value = option_and_then (λ text. fitting (is_listened told) (bare text)) (as_str value)
+
+-- `HOST:PORT`
+abbrev pub advertise_in : Data → Option (Option (List ℕ × ℕ))
+advertise_in value = option_map Some (option_and_then endpoint_in (as_str value))
+
+-- whether clients are told of another address than is listened on
+abbrev pub is_told : Members → Bool
+is_told document = is_some (get_member (codes "advertise") document)
 
 -- the keys that are none of these
 abbrev pub other_keys : List (List ℕ) → Members → List (List ℕ)
@@ -90,8 +103,8 @@ users_in _ = None
 
 abbrev pub settings_keys : List (List ℕ)
 settings_keys =
-    codes "host" ∷ codes "port" ∷ codes "segment_bytes" ∷ codes "cache_batches" ∷ codes "connections" ∷ codes "output_bytes"
-    ∷ codes "data" ∷ codes "user" ∷ []
+    codes "host" ∷ codes "port" ∷ codes "advertise" ∷ codes "segment_bytes" ∷ codes "cache_batches" ∷ codes "connections"
+    ∷ codes "output_bytes" ∷ codes "data" ∷ codes "user" ∷ []
 
 -- what is said at a key that may be missing
 abbrev pub said_or : {A : Type 0} → A → (Data → Option A) → Option Data → Option A
@@ -115,8 +128,9 @@ no_other (Some key) settings = Err key
 -- the settings of a document, or its first wrong key: the keys in this order, then those that there are not
 abbrev pub settings_in : Members → Result Values (List ℕ)
 settings_in document =
-    read_key document (codes "host") (codes "localhost") (text_in is_host) λ host.
+    read_key document (codes "host") (codes "localhost") (host_in (is_told document)) λ host.
     read_key document (codes "port") 9092 (number_in 1 65535) λ port.
+    read_key document (codes "advertise") None advertise_in λ advertise.
     read_key document (codes "segment_bytes") 16777216 (number_in 4096 1073741824) λ segment_bytes.
     read_key document (codes "cache_batches") 1024 (number_in 1 65536) λ cache_batches.
     read_key document (codes "connections") 1024 (number_in 1 1000000) λ connections.
@@ -126,6 +140,7 @@ settings_in document =
     no_other (other_key settings_keys document) (record {
       host = host;
       port = port;
+      advertise = advertise;
       segment_bytes = segment_bytes;
       cache_batches = cache_batches;
       connections = connections;

@@ -1,5 +1,6 @@
 pub mod Names
 pub mod Settings
+pub mod Address
 pub mod Values
 pub mod Document
 pub mod Reading

@@ -1,6 +1,7 @@
 -- The settings as bytes and numbers, and the standard ones.
-use Rattle.std.specs.Prelude.{ℕ, List, [], ◌∷◌, ◌++◌, map, Option, None, option_map, string_bytes, codes}
+use Rattle.std.specs.Prelude.{ℕ, List, [], ◌∷◌, ◌++◌, map, Option, None, option_map, unwrap_or, string_bytes, codes}
 use Rattle.kb_settings.specs.declared.settings.User.{User}
+use Rattle.kb_settings.specs.declared.settings.Endpoint.{Endpoint}
 use Rattle.kb_settings.specs.declared.settings.Settings.{Settings}
 
 pub record Account : Type 0 where
@@ -11,6 +12,7 @@ pub record Account : Type 0 where
 pub record Values : Type 0 where
   pub host : List ℕ
   pub port : ℕ
+  pub advertise : Option (List ℕ × ℕ)
   pub segment_bytes : ℕ
   pub cache_batches : ℕ
   pub connections : ℕ
@@ -21,10 +23,14 @@ pub record Values : Type 0 where
 abbrev pub account_of : User → Account
 account_of u = record { name = string_bytes u.name; password = string_bytes u.password; tenant = string_bytes u.tenant }
 
+abbrev pub host_and_port : Endpoint → List ℕ × ℕ
+host_and_port e = (string_bytes e.host, e.port)
+
 abbrev pub values_of : Settings → Values
 values_of s = record {
   host = string_bytes s.host;
   port = s.port;
+  advertise = option_map host_and_port s.advertise;
   segment_bytes = s.segment_bytes;
   cache_batches = s.cache_batches;
   connections = s.connections;
@@ -32,6 +38,10 @@ values_of s = record {
   folder = option_map string_bytes s.folder;
   users = map account_of s.users.items;
 }
+
+-- the host and the port that clients are told
+abbrev pub told : Values → List ℕ × ℕ
+told v = unwrap_or v.advertise (v.host, v.port)
 
 abbrev pub ann : Account
 ann = record { name = codes "ann"; password = codes "pw1"; tenant = codes "a" }
@@ -44,6 +54,7 @@ abbrev pub standard : Values
 standard = record {
   host = codes "localhost";
   port = 9092;
+  advertise = None;
   segment_bytes = 16777216;
   cache_batches = 1024;
   connections = 1024;

@@ -1,13 +1,15 @@
 //! What a settings document says, key by key.
 
-ghost use Rattle.std.specs.Prelude.{◌≡◌, ◌≤◌, None, codes, map, option_map, IfSome, IsTrue};
+ghost use Rattle.std.specs.Prelude.{◌≡◌, ◌≤◌, None, codes, false, is_some, map, option_map, option_and_then, IfSome, IsTrue};
 ghost use Rattle.std.specs.List.{list_any};
 ghost use Rattle.std.specs.Str.{bytes_eq};
-ghost use Rattle.toml.specs.Data.{get_member};
+ghost use Rattle.toml.specs.Data.{as_str, get_member};
 ghost use Rattle.toml.specs.View.{view, table_view};
-ghost use Rattle.kb_settings.specs.Settings.{is_host, is_credential, is_tenant};
-ghost use Rattle.kb_settings.specs.Document.{text_in, number_in, folder_in, said_or, text_of, other_key};
+ghost use Rattle.kb_settings.specs.Settings.{is_credential, is_tenant};
+ghost use Rattle.kb_settings.specs.Address.{is_listened, endpoint_in};
+ghost use Rattle.kb_settings.specs.Document.{text_in, number_in, host_in, is_told, advertise_in, folder_in, said_or, text_of, other_key};
 
+use crate::address::{bare, endpoint, is_listened};
 use crate::limits;
 use toml::{Table, Value};
 
@@ -18,28 +20,51 @@ pub fn at<'a>(document: &'a Table, key: &str) -> Option<&'a Value>
     document.get(key)
 }
 
-/// The host that clients are told.
+/// The host that is listened on.
 pub fn host(document: &Table) -> Option<&str>
     ensures says { option_map (λ text. text.now) result
-        ≡ said_or (codes "localhost") (text_in is_host) (get_member (codes "host") (table_view document.now)) }
-    ensures fits { IfSome result (λ text. IsTrue (is_host text.now)) }
+        ≡ said_or (codes "localhost") (host_in (is_told (table_view document.now))) (get_member (codes "host") (table_view document.now)) }
+    ensures fits { IfSome result (λ text. IsTrue (is_listened (is_told (table_view document.now)) text.now)) }
 {
+    let told = at(document, "advertise").is_some();
     match at(document, "host") {
         None => Some("localhost"),
-        Some(value) => host_in(value),
+        Some(value) => host_in(told, value),
     }
 }
 
-fn host_in(value: &Value) -> Option<&str>
-    ensures says { option_map (λ text. text.now) result ≡ text_in is_host (view value.now) }
-    ensures fits { IfSome result (λ text. IsTrue (is_host text.now)) }
+fn host_in(told: bool, value: &Value) -> Option<&str>
+    ensures says { option_map (λ text. text.now) result ≡ host_in told (view value.now) }
+    ensures fits { IfSome result (λ text. IsTrue (is_listened told text.now)) }
 {
-    let text = value.as_str()?;
-    if limits::is_host(text) {
-        Some(text)
+    let host = bare(value.as_str()?);
+    if is_listened(told, host) {
+        Some(host)
     } else {
         None
     }
+}
+
+/// The host and the port that clients are told, where they are told others than are listened on.
+pub fn advertise(document: &Table) -> Option<Option<(&str, u16)>>
+    ensures says { option_map (option_map (λ endpoint. (endpoint.0.now, endpoint.1))) result
+        ≡ said_or None advertise_in (get_member (codes "advertise") (table_view document.now)) }
+    ensures told { IfSome result (λ endpoint. is_some endpoint ≡ is_told (table_view document.now)) }
+    ensures host { IfSome result (λ endpoint. IfSome endpoint (λ e. IsTrue (is_listened false e.0.now))) }
+    ensures port { IfSome result (λ endpoint. IfSome endpoint (λ e. 1 ≤ e.1)) }
+{
+    match at(document, "advertise") {
+        None => Some(None),
+        Some(value) => Some(Some(endpoint_in(value)?)),
+    }
+}
+
+fn endpoint_in(value: &Value) -> Option<(&str, u16)>
+    ensures says { option_map (λ endpoint. (endpoint.0.now, endpoint.1)) result ≡ option_and_then endpoint_in (as_str (view value.now)) }
+    ensures host { IfSome result (λ endpoint. IsTrue (is_listened false endpoint.0.now)) }
+    ensures port { IfSome result (λ endpoint. 1 ≤ endpoint.1) }
+{
+    endpoint(value.as_str()?)
 }
 
 /// A number at a key, both limits included.

@@ -5,6 +5,7 @@
 //! see settings as bytes and numbers, by `specs/Values.antt`, and a text by `specs/Document.antt`.
 #![tactic(auto)]
 
+mod address;
 mod document;
 mod fault;
 mod limits;
@@ -15,4 +16,4 @@ mod users;
 
 pub use fault::SettingsFault;
 pub use names::tenant_names;
-pub use settings::{Settings, User};
+pub use settings::{Endpoint, Settings, User};

@@ -1,22 +1,24 @@
 //! Settings read from a text.
 
-ghost use Rattle.std.specs.Prelude.{◌≡◌, Some, Ok, Err, IfOk, IfErr, option_map, string_bytes};
+ghost use Rattle.std.specs.Prelude.{◌≡◌, Some, Ok, Err, IfOk, IfErr, IfSome, IsTrue, ◌≤◌, false, is_some, option_map, string_bytes};
 ghost use Rattle.toml.specs.View.{table_view};
-ghost use Rattle.kb_settings.specs.Values.{values_of};
+ghost use Rattle.kb_settings.specs.Values.{values_of, host_and_port};
+ghost use Rattle.kb_settings.specs.Address.{is_listened};
 ghost use Rattle.kb_settings.specs.Document.{settings_in};
 ghost use Rattle.kb_settings.specs.Reading.{settings_of, IsFaultOf, IsFaultIn};
 
-use crate::document::{folder, host, number, other_key};
+use crate::document::{advertise, folder, host, number, other_key};
 use crate::fault::SettingsFault;
-use crate::settings::Settings;
+use crate::settings::{Endpoint, Settings};
 use crate::users::users;
 use std::alloc::{AllocError, Global};
 use toml::Table;
 
 /// The keys that there are.
-const KEYS: [&str; 8] = [
+const KEYS: [&str; 9] = [
     "host",
     "port",
+    "advertise",
     "segment_bytes",
     "cache_batches",
     "connections",
@@ -26,9 +28,9 @@ const KEYS: [&str; 8] = [
 ];
 
 impl Settings {
-    /// The settings of a TOML text: `host`, `port`, `segment_bytes`, `cache_batches`, `connections`, `output_bytes` and
-    /// `data`, each as in [`Settings::standard`] where it is missing, and an array of tables `user` with `name`, `password` and
-    /// `tenant`.
+    /// The settings of a TOML text: `host`, `port`, `advertise`, `segment_bytes`, `cache_batches`, `connections`, `output_bytes`
+    /// and `data`, each as in [`Settings::standard`] where it is missing, and an array of tables `user` with `name`, `password`
+    /// and `tenant`. `advertise` is `HOST:PORT`, where an IPv6 address stands in brackets; around `host` they may be left out.
     ///
     /// `Text` comes only where the text is no TOML document. `Field` names the first key that is wrong, in this order; keys
     /// that there are not come last, in byte order. Anything wrong with a user, or with the users together, is wrong with
@@ -56,6 +58,9 @@ fn in_document(alloc: Global, document: &Table) -> Result<Settings, SettingsFaul
     let Some(port) = number(document, "port", 9092, 1, 65_535) else {
         return Err(wrong(alloc, "port"));
     };
+    let Some(advertise) = advertise(document) else {
+        return Err(wrong(alloc, "advertise"));
+    };
     let Some(segment_bytes) = number(document, "segment_bytes", 16_777_216, 4096, 1_073_741_824)
     else {
         return Err(wrong(alloc, "segment_bytes"));
@@ -82,6 +87,7 @@ fn in_document(alloc: Global, document: &Table) -> Result<Settings, SettingsFaul
     Ok(Settings {
         host: String::from_str(alloc, host)?,
         port: port as u16,
+        advertise: endpoint(alloc, advertise)?,
         segment_bytes,
         cache_batches,
         connections,
@@ -89,6 +95,22 @@ fn in_document(alloc: Global, document: &Table) -> Result<Settings, SettingsFaul
         folder: copied(alloc, folder)?,
         users,
     })
+}
+
+/// A copy of a host and a port, where there are some.
+fn endpoint(alloc: Global, told: Option<(&str, u16)>) -> Result<Option<Endpoint>, AllocError>
+    requires host { IfSome told (λ e. IsTrue (is_listened false e.0.now)) }
+    requires port { IfSome told (λ e. 1 ≤ e.1) }
+    ensures says { IfOk result (λ copy. option_map host_and_port copy ≡ option_map (λ e. (e.0.now, e.1)) told.entry) }
+    ensures some { IfOk result (λ copy. is_some copy ≡ is_some told.entry) }
+{
+    match told {
+        Some((host, port)) => Ok(Some(Endpoint {
+            host: String::from_str(alloc, host)?,
+            port,
+        })),
+        None => Ok(None),
+    }
 }
 
 /// A copy of a text, where there is one.

@@ -1,6 +1,7 @@
 //! The settings of a broker. The types keep their limits.
 
-ghost use Rattle.std.specs.Prelude.{◌≡◌, ◌≤◌, IsTrue, IfOk, map, string_bytes, length};
+ghost use Rattle.std.specs.Prelude.{◌≡◌, ◌≤◌, IsTrue, IfOk, false, is_some, map, string_bytes, length};
+ghost use Rattle.kb_settings.specs.Address.{is_listened};
 ghost use Rattle.kb_settings.specs.Settings.{is_host, is_credential, is_tenant, are_different};
 ghost use Rattle.kb_settings.specs.Names.{in_order};
 
@@ -38,13 +39,27 @@ impl User {
     }
 }
 
+/// A host and a port that clients are told.
+#[derive(Drop)]
+pub struct Endpoint {
+    /// 1 to 255 bytes, neither `0.0.0.0` nor `::`. An IPv6 address stands without brackets.
+    pub host: String,
+    /// The port, from 1.
+    pub port: u16,
+    pub ghost host_fits: { IsTrue (is_listened false (string_bytes host)) },
+    pub ghost port_fits: { 1 ≤ port },
+}
+
 /// The settings of a broker.
 #[derive(Drop)]
 pub struct Settings {
-    /// The host that clients are told to connect to: 1 to 255 bytes.
+    /// The host that is listened on: 1 to 255 bytes, an IPv6 address without brackets. It is `0.0.0.0` or `::`, every address of
+    /// the machine, only where clients are told another.
     pub host: String,
     /// The port that is listened on, from 1.
     pub port: u16,
+    /// What clients are told to connect to, where it is another host or port than is listened on.
+    pub advertise: Option<Endpoint>,
     /// The size in bytes past which a log begins a new file: 4,096 to 1,073,741,824.
     pub segment_bytes: u32,
     /// How many read batches are kept in memory: 1 to 65,536.
@@ -57,7 +72,7 @@ pub struct Settings {
     pub folder: Option<String>,
     /// 1 to 1,000 users, no two of one name, of at most 256 different tenants.
     pub users: Vec<User>,
-    pub ghost host_fits: { IsTrue (is_host (string_bytes host)) },
+    pub ghost host_fits: { IsTrue (is_listened (is_some advertise) (string_bytes host)) },
     pub ghost port_fits: { 1 ≤ port },
     pub ghost segment_bytes_fit: { (4096 ≤ segment_bytes) × (segment_bytes ≤ 1073741824) },
     pub ghost cache_batches_fit: { (1 ≤ cache_batches) × (cache_batches ≤ 65536) },
@@ -70,7 +85,7 @@ pub struct Settings {
 
 impl Settings {
     ghost use Rattle.std.specs.Prelude.{Some, Ok};
-    ghost use Rattle.kb_settings.specs.Values.{values_of, standard, standard_text};
+    ghost use Rattle.kb_settings.specs.Values.{values_of, told, standard, standard_text};
     ghost use Rattle.kb_settings.specs.Reading.{settings_of};
 
     /// The settings of a text that names two users alone: `ann` with password `pw1` of tenant `a`, and `bob` with password
@@ -86,6 +101,7 @@ impl Settings {
         Ok(Settings {
             host: String::from_str(alloc, "localhost")?,
             port: 9092,
+            advertise: None,
             segment_bytes: 16_777_216,
             cache_batches: 1024,
             connections: 1024,
@@ -93,5 +109,17 @@ impl Settings {
             folder: None,
             users,
         })
+    }
+
+    /// The host and the port that clients are told: those that are advertised, or else those that are listened on.
+    pub fn told(&self) -> (&str, u16)
+        ensures says { (result.0.now, result.1) ≡ told (values_of self.now) }
+        ensures host { IsTrue (is_listened false result.0.now) }
+        ensures port { 1 ≤ result.1 }
+    {
+        match &self.advertise {
+            Some(endpoint) => (endpoint.host.as_str(), endpoint.port),
+            None => (self.host.as_str(), self.port),
+        }
     }
 }

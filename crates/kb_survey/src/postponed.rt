@@ -1,0 +1,152 @@
+//! A store that puts off what is cut and removed.
+ghost use Rattle.std.specs.Prelude.{◌≡◌, ◌+◌, ◌≤◌, ◌<◌, ◌^◌, true, false, [], IfOk, OnOk, OnErr, length, take, drop, None};
+ghost use Rattle.std.specs.FinMap as map;
+ghost use Rattle.kb_survey.specs.Postponed.{Postponing, disk_with, IsUntouched};
+
+use crate::change::{Change, length_after, make_all, numbers_left};
+use kb_store::{Store, StoreFault};
+use std::alloc::Global;
+use std::collections::VecDeque;
+use std::marker::Model;
+
+/// A store that cuts and removes nothing before the first write.
+///
+/// To its callers it is as any other store is: a file that was cut is shorter, and one that was removed is gone. The store inside has
+/// all of it still. The first `create` or `append` makes what was put off, in the order in which it was asked for, and from then on
+/// each call is made at once. Where one of those changes is refused, so is the call, and the next one tries again.
+///
+/// So a process that ends before its first write has changed nothing. Each change that is put off takes 24 bytes, and makes a call for
+/// a file's length, or for the list, longer by one comparison.
+#[derive(Drop)]
+pub struct Postponed<S: Store> {
+    store: S,
+    put_off: VecDeque<Change>,
+    /// Whether there was no write yet.
+    waits: bool,
+}
+
+impl<S: Store> Model for Postponed<S> {
+    ghost use Rattle.kb_survey.specs.Postponed.{Postponing, postponing};
+    ghost use Rattle.kb_survey.specs.Changes.{ArePossible};
+
+    ghost Value = { Postponing S };
+
+    ghost view = { λ s. postponing s.store s.put_off.items s.waits };
+
+    ghost invariant = { λ s. ArePossible s.put_off.items (S.disk s.store).table };
+}
+
+impl<S: Store> Postponed<S> {
+    /// The store over another, with nothing put off.
+    pub fn new(alloc: Global, store: S) -> Self
+        ensures { result ≡ record { store = store; put_off = []; waits = true } }
+    {
+        Postponed {
+            store,
+            put_off: VecDeque::new(alloc),
+            waits: true,
+        }
+    }
+}
+
+impl<S: Store> Store for Postponed<S> {
+    ghost use Rattle.kb_store.specs.Disk.{IsThere, len_of, bytes_of, Keeps, Creates, Appends, Cuts, Removes, MayCreate, AppendsSome};
+    ghost use Rattle.kb_store.specs.Disk.{HasCause};
+    ghost use Rattle.kb_survey.specs.Postponed.{disk_with, postponed_lawful, IsUntouched, HasMade};
+
+    ghost disk = { disk_with S.disk };
+
+    ghost lawful = { λ s. postponed_lawful s.put_off (S.disk s.store) (S.lawful s.store) };
+
+    fn failures(&self) -> u64 {
+        self.store.failures()
+    }
+
+    fn list(&mut self, alloc: Global) -> Result<Vec<u64>, StoreFault>
+        ensures numbers { IfOk result (λ numbers. numbers.items ≡ map.keys (disk_with S.disk self.old).table) }
+        ensures unchanged { Keeps (disk_with S.disk self.old) (disk_with S.disk self.new) }
+        ensures cause { HasCause (disk_with S.disk self.old) result (disk_with S.disk self.new) }
+        ensures untouched { IsUntouched S.disk self.old self.new }
+    {
+        let numbers = self.store.list(alloc)?;
+        Ok(numbers_left(alloc, &self.put_off, &numbers)?)
+    }
+
+    fn len(&mut self, file: u64) -> Result<u64, StoreFault>
+        requires { IsThere (disk_with S.disk self.old) file }
+        ensures len { IfOk result (λ n. n ≡ len_of (disk_with S.disk self.old) file) }
+        ensures unchanged { Keeps (disk_with S.disk self.old) (disk_with S.disk self.new) }
+        ensures cause { HasCause (disk_with S.disk self.old) result (disk_with S.disk self.new) }
+        ensures untouched { IsUntouched S.disk self.old self.new }
+    {
+        let len = self.store.len(file)?;
+        Ok(length_after(&self.put_off, file, len))
+    }
+
+    fn create(&mut self, file: u64) -> Result<(), StoreFault>
+        requires { map.get (disk_with S.disk self.old).table file ≡ None }
+        ensures created { OnOk result (Creates (disk_with S.disk self.old) file (disk_with S.disk self.new)) }
+        ensures refused { OnErr result (MayCreate (disk_with S.disk self.old) file (disk_with S.disk self.new)) }
+        ensures cause { HasCause (disk_with S.disk self.old) result (disk_with S.disk self.new) }
+        ensures made { OnOk result (HasMade self.new) }
+    {
+        self.waits = false;
+        make_all(&mut self.store, &mut self.put_off)?;
+        self.store.create(file)
+    }
+
+    fn append(&mut self, file: u64, bytes: &[u8]) -> Result<(), StoreFault>
+        requires { IsThere (disk_with S.disk self.old) file }
+        ensures appended { OnOk result (Appends (disk_with S.disk self.old) file bytes.now (disk_with S.disk self.new)) }
+        ensures refused { OnErr result (AppendsSome (disk_with S.disk self.old) file bytes.now (disk_with S.disk self.new)) }
+        ensures cause { HasCause (disk_with S.disk self.old) result (disk_with S.disk self.new) }
+        ensures made { OnOk result (HasMade self.new) }
+    {
+        self.waits = false;
+        make_all(&mut self.store, &mut self.put_off)?;
+        self.store.append(file, bytes)
+    }
+
+    fn read_at(&mut self, file: u64, at: u64, buffer: &mut [u8]) -> Result<(), StoreFault>
+        requires there { IsThere (disk_with S.disk self.old) file }
+        requires within { at + length buffer.old ≤ len_of (disk_with S.disk self.old) file }
+        ensures bytes { OnOk result ((disk_with S.disk self.new).honest
+            → buffer.new ≡ take (length buffer.old) (drop at (bytes_of (disk_with S.disk self.old) file))) }
+        ensures unchanged { Keeps (disk_with S.disk self.old) (disk_with S.disk self.new) }
+        ensures cause { HasCause (disk_with S.disk self.old) result (disk_with S.disk self.new) }
+        ensures untouched { IsUntouched S.disk self.old self.new }
+    {
+        self.store.read_at(file, at, buffer)
+    }
+
+    fn cut(&mut self, file: u64, len: u64) -> Result<(), StoreFault>
+        requires there { IsThere (disk_with S.disk self.old) file }
+        requires within { len ≤ len_of (disk_with S.disk self.old) file }
+        ensures cut { OnOk result (Cuts (disk_with S.disk self.old) file len (disk_with S.disk self.new)) }
+        ensures refused { OnErr result (Keeps (disk_with S.disk self.old) (disk_with S.disk self.new)) }
+        ensures cause { HasCause (disk_with S.disk self.old) result (disk_with S.disk self.new) }
+        ensures untouched { IsUntouched S.disk self.old self.new }
+    {
+        if self.waits {
+            self.put_off.push_back(Change::Cut { file, len })?;
+            return Ok(());
+        }
+        make_all(&mut self.store, &mut self.put_off)?;
+        self.store.cut(file, len)
+    }
+
+    fn remove(&mut self, file: u64) -> Result<(), StoreFault>
+        requires { IsThere (disk_with S.disk self.old) file }
+        ensures removed { OnOk result (Removes (disk_with S.disk self.old) file (disk_with S.disk self.new)) }
+        ensures refused { OnErr result (Keeps (disk_with S.disk self.old) (disk_with S.disk self.new)) }
+        ensures cause { HasCause (disk_with S.disk self.old) result (disk_with S.disk self.new) }
+        ensures untouched { IsUntouched S.disk self.old self.new }
+    {
+        if self.waits {
+            self.put_off.push_back(Change::Remove { file })?;
+            return Ok(());
+        }
+        make_all(&mut self.store, &mut self.put_off)?;
+        self.store.remove(file)
+    }
+}

@@ -95,9 +95,11 @@ module _ (As : Type 0) (lists : Lists) (starts : List ℕ) (xs : List (Partition
       (λ (new : (p ≡ length xs) × (x ≡ y)).
       let same_list : list ≡ numbers = same_Some list numbers (sym at ∙ ap (λ k. slice_get lists k) (sym new.0) ∙ listed) in
       let same_start : start ≡ from = same_Some start from (sym starts_at ∙ ap (λ k. slice_get starts k) (sym new.0) ∙ begun) in
-      subst (λ (z : Partition SegmentLog). IsSettledFrom numbers.items from z.log now × (segment_log z.log).timed) new.1
-      (subst (λ (v : Vec ℕ Global). IsSettledFrom v.items from x.log now) same_list
-      (subst (λ (s : ℕ). IsSettledFrom list.items s x.log now) same_start its), timed))
+      subst (λ (z : Partition SegmentLog). IsSettledFrom numbers.items from z.log now × (segment_log z.log).timed) new.1 (
+        subst (λ (v : Vec ℕ Global). IsSettledFrom v.items from x.log now) same_list
+            (subst (λ (s : ℕ). IsSettledFrom list.items s x.log now) same_start its),
+        timed,
+      ))
       (item_at xs x y p (subst (λ (zs : List (Partition SegmentLog)). slice_get zs p ≡ Some y) grown there))
 
 -- a number in some lists is of one of them

@@ -1,27 +1,31 @@
 -- Up to when a moment leaves each tenant what it keeps.
-use Rattle.std.proofs.Common.{◌≡◌, ◌∙◌, ◌⊎◌, ⊎_elim, ◌≤◌, ◌<◌, ◌≤ℤ◌, ◌+◌, ℕ, ℤ, zero, suc, pos, negsuc, Bool, true, false, cond, nat_le, List, [], ◌∷◌, ◌++◌, length, sym, ap, refl, subst, arith}
+use Rattle.std.proofs.Common.{◌≡◌, ◌∙◌, ◌⊎◌, ⊎_elim, ◌≤◌, ◌<◌, ◌≤ℤ◌, ◌+◌, ◌-◌, ◌-ℤ◌, ◌^◌, ℕ, ℤ, zero, suc, pos, negsuc, Bool, true, false, cond, nat_le, nat_lt, List, [], ◌∷◌, ◌++◌, length, drop, drop-cons, add-one, Some, None, sym, ap, refl, subst, arith}
 use Rattle.std.proofs.lemmas.Bool.Decides.{nat_tests}
-use Rattle.std.proofs.lemmas.Int.{ints}
-use Rattle.std.specs.Prelude.{map}
+use Rattle.std.proofs.lemmas.Int.{ints, clamps}
+use Rattle.std.proofs.lemmas.Option.{slice_get_within, get_or_from_slice_get}
+use Rattle.std.specs.Prelude.{map, min, slice_get, unwrap_or}
+use Rattle.std.specs.Int.{int_min}
 use Rattle.std.specs.List.{flat_map}
 use Rattle.std.specs.Cmp.Lexicographic.{slice_cmp}
 use Rattle.std.specs.FinMap.{empty, entries, len-empty, len-entries}
 use Rattle.std.specs.Ordering.{nat_cmp}
 use Rattle.std.proofs.lemmas.List.{length-map, get_or_past}
 use Rattle.kb_coordinator.specs.Calls as groups
-use Rattle.kb_coordinator.specs.Calls.{at_moment}
+use Rattle.kb_coordinator.specs.Calls.{at_moment, next_due}
 use Rattle.kb_coordinator.specs.Groups.{Groups, earliest, none}
+use Rattle.kb_groups.specs.Moments.{never}
 use Rattle.kb_store.specs.Disk.{Files}
 use Rattle.kb_log.specs.OnShelf.{Log}
 use Rattle.kb_topics.specs.ByName.{by_name}
 use Rattle.kb_topics.specs.Known.{TopicState}
-use Rattle.kb_world.specs.Calls.{places_of_topic, retain_all, retain_each}
+use Rattle.kb_world.specs.Calls.{all_places, places_of_topic, retain_all, retain_each}
 use Rattle.kb_world.specs.Parts.{Agrees, world_of}
 use Rattle.kb_world.specs.World.{World, new_world}
 use Rattle.kb_service.specs.Hosted.{TenantState, nothing, new_tenant, kept_in, kept_of, passed}
 use Rattle.kb_service.specs.Turns.{IsTurn}
+use Rattle.kb_world.proofs.RetainedAll.{none_due, nothing_goes}
 use Rattle.kb_tenant.proofs.LogMoves.{same_or_not}
-use Rattle.kb_tenants.specs.Tenants.{IsIdleUntil}
+use Rattle.kb_tenants.specs.Tenants.{IsIdleUntil, clock_before, idle_time, least_idle_time}
 use Rattle.kb_tenants.specs.declared.tenants.Tenant.{Tenant}
 
 -- ---- nothing is kept
@@ -71,6 +75,65 @@ not_due clock gs early =
 pub quiet_kept : (w : World) (gs : Groups) (clock : ℕ) → retain_all clock w ≡ (w, false) → clock < earliest gs.groups → passed clock (kept_in w gs) ≡ kept_in w gs
 unfolding passed
 quiet_kept w gs clock quiet early = ap (λ r. kept_in r.0 (groups.passed clock gs)) quiet ∙ ap (kept_in w) (not_due clock gs early)
+
+-- up to its own last clock
+pub idle_quiet : {L : Type 0} (log : L → Log) (x : Tenant L) → IsQuiet log x (idle_time x)
+idle_quiet log x files agrees clock le =
+    let w = world_of log x.parts files in
+    let kept : pos clock ≤ℤ x.parts.next_retention_time = omega (arith, ints, clamps, le) in
+    let early : clock < earliest x.groups.groups = omega (arith, ints, clamps, le) in
+    quiet_kept w x.groups clock (nothing_goes clock w (λ place. none_due w x.parts.next_retention_time clock place agrees.until kept) (all_places w)) early
+
+-- a clock behind none of both
+pub idle_bound : {L : Type 0} (x : Tenant L) (u before : ℤ) (quiet : ℕ) → quiet ≤ earliest x.groups.groups → before ≡ clock_before quiet → u ≤ℤ x.parts.next_retention_time → u ≤ℤ before → u ≤ℤ idle_time x
+idle_bound x u before quiet le is own other =
+    omega (arith, ints, clamps, le, is, own, other)
+
+-- the moment at which something is due in the groups, if there is one
+pub due_before : (gs : Groups) → clock_before (unwrap_or (next_due gs) never) ≡ clock_before (earliest gs.groups)
+due_before gs = by (nat_lt (earliest gs.groups) never) refl
+  where
+    by : (b : Bool) → nat_lt (earliest gs.groups) never ≡ b → clock_before (unwrap_or (cond b (Some (earliest gs.groups)) None) never) ≡ clock_before (earliest gs.groups)
+    by true e = refl
+    by false e =
+        let far : never ≤ earliest gs.groups = grind (arith, nat_tests) in
+        let same : min never (2 ^ 63 - 1) ≡ min (earliest gs.groups) (2 ^ 63 - 1) = omega (arith, far) in
+        ap (λ n. pos n -ℤ pos 1) same
+
+-- ---- the least of some
+
+drop_next : {A : Type 0} (xs : List A) (i : ℕ) (x : A) → slice_get xs i ≡ Some x → drop i xs ≡ x ∷ drop (i + 1) xs
+drop_next xs i x at =
+    drop-cons xs i x (slice_get_within xs i x at) ∙ ap (λ y. y ∷ drop (suc i) xs) (get_or_from_slice_get xs i x x at) ∙ ap (λ n. x ∷ drop n xs) (sym (add-one i))
+
+drop_end : {A : Type 0} (xs : List A) (i : ℕ) → length xs ≤ i → drop i xs ≡ []
+drop_end [] zero h = refl
+drop_end [] (suc i) h = refl
+drop_end (x ∷ xs) zero h = absurd (omega (arith, h))
+drop_end (x ∷ xs) (suc i) h = drop_end xs i (omega (arith, h))
+
+pub least_most : {L : Type 0} (xs : List (Tenant L)) → least_idle_time xs ≤ℤ pos (2 ^ 63 - 1)
+least_most [] = omega (arith, ints)
+least_most (x ∷ xs) = let rest = least_most xs in omega (arith, ints, clamps, rest)
+
+pub least_none : (u l : ℤ) → l ≤ℤ u → int_min u l ≡ l
+least_none u l le = omega (arith, ints, clamps, le)
+
+min_regroup : (u v w : ℤ) → int_min (int_min u v) w ≡ int_min u (int_min v w)
+min_regroup u v w = omega (arith, ints, clamps)
+
+pub least_next : {L : Type 0} (xs : List (Tenant L)) (i : ℕ) (x : Tenant L) (u v all : ℤ) → slice_get xs i ≡ Some x → v ≡ int_min u (idle_time x) → int_min u (least_idle_time (drop i xs)) ≡ all
+    → int_min v (least_idle_time (drop (i + 1) xs)) ≡ all
+least_next xs i x u v all at is so_far =
+    ap (λ z. int_min z (least_idle_time (drop (i + 1) xs))) is ∙ min_regroup u (idle_time x) (least_idle_time (drop (i + 1) xs))
+    ∙ sym (ap (λ ys. int_min u (least_idle_time ys)) (drop_next xs i x at)) ∙ so_far
+
+pub least_over : {L : Type 0} (xs : List (Tenant L)) (i : ℕ) (u all : ℤ) → length xs ≤ i → u ≤ℤ pos (2 ^ 63 - 1) → int_min u (least_idle_time (drop i xs)) ≡ all → u ≡ all
+least_over xs i u all past most so_far =
+    sym (least_first u (pos (2 ^ 63 - 1)) most) ∙ sym (ap (λ ys. int_min u (least_idle_time ys)) (drop_end xs i past)) ∙ so_far
+  where
+    least_first : (a b : ℤ) → a ≤ℤ b → int_min a b ≡ a
+    least_first a b le = omega (arith, ints, clamps, le)
 
 -- ---- all tenants
 

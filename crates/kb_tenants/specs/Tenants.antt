@@ -1,14 +1,15 @@
 -- All tenants of a broker on one shelf.
-use Rattle.std.specs.Prelude.{◌≡◌, ◌<◌, ◌≤◌, ◌≤ℤ◌, ◌+◌, ◌^◌, ◌++◌, ◌∷◌, ◌⊎◌, [], ℕ, ℤ, pos, Bool, true, List, Option, Some, IsSome}
-use Rattle.std.specs.Prelude.{get_or, option_map, unwrap_or}
+use Rattle.std.specs.Prelude.{◌≡◌, ◌<◌, ◌≤◌, ◌≤ℤ◌, ◌+◌, ◌-◌, ◌-ℤ◌, ◌^◌, ◌++◌, ◌∷◌, ◌⊎◌, [], ℕ, ℤ, pos, Bool, true, List, Option, Some, IsSome}
+use Rattle.std.specs.Prelude.{get_or, min, option_map, unwrap_or}
 use Rattle.std.specs.Prelude.{map, slice_get, string_bytes, Contains, ⊤}
 use Rattle.std.specs.FinMap.{get}
+use Rattle.std.specs.Int.{int_min}
 use Rattle.std.specs.declared.alloc.Global.{Global}
 use Rattle.std.specs.declared.vec.Vec.{Vec}
 use Rattle.kb_store.specs.Disk.{Disk, Table, Files, IsThere}
 use Rattle.kb_log.specs.OnShelf.{Log}
 use Rattle.kb_coordinator.specs.Calls as groups
-use Rattle.kb_coordinator.specs.Groups.{Groups, none}
+use Rattle.kb_coordinator.specs.Groups.{Groups, earliest, none}
 use Rattle.kb_groups.specs.declared.reply.Release.{Release}
 use Rattle.kb_world.specs.Calls.{retain_all}
 use Rattle.kb_topics.specs.Catalog.{known}
@@ -143,6 +144,19 @@ IsSomeDisturbed clock old new = (t : ℕ) × IsDisturbed clock t old new
 abbrev pub IsIdleUntil : ℤ → List TenantState → Type 0
 IsIdleUntil until ts = (t clock : ℕ) → pos clock ≤ℤ until → passed clock (kept_of ts t) ≡ kept_of ts t
 
+-- the last clock before a moment, as far as clocks reach
+abbrev pub clock_before : ℕ → ℤ
+clock_before moment = pos (min moment (2 ^ 63 - 1)) -ℤ pos 1
+
+-- the last clock at which a moment leaves a tenant what it keeps: retention, by what its parts tell, and its groups
+abbrev pub idle_time : {L : Type 0} → Tenant L → ℤ
+idle_time x = int_min x.parts.next_retention_time (clock_before (earliest x.groups.groups))
+
+-- ... each of some tenants what it keeps
+abbrev pub least_idle_time : {L : Type 0} → List (Tenant L) → ℤ
+least_idle_time [] = pos (2 ^ 63 - 1)
+least_idle_time (x ∷ xs) = int_min (idle_time x) (least_idle_time xs)
+
 -- ---- the files
 
 -- the numbers of files, where it is known which these are
@@ -169,7 +183,8 @@ pub record IsLeftAlone {L : Type 0} (log : L → Log) (ps : List (Parts L)) (nex
 abbrev pub AreLeftAlone : List ℕ → Disk → Disk → Type 0
 AreLeftAlone strays old new = new.honest → (file : ℕ) → Contains strays file → get new.files file ≡ get old.files file
 
--- Each file that is there and of no tenant's log is left alone; and nothing but its batches is in the files of a log.
+-- Each file that is there and of no tenant's log is left alone; nothing but its batches is in the files of a log, and its memory tells
+-- what retention asks of its first batch.
 pub record AreSettled {L : Type 0} (log : L → Log) (ps : List (Parts L)) (strays : List ℕ) (disk : Disk) : Type 0 where
   pub accounts : (file : ℕ) → IsThere disk file → (IsOfSome log ps file → ⊥) → Contains strays file
   pub meta_exact : (t : ℕ) (p : Parts L) → slice_get ps t ≡ Some p → (meta log p).exact disk.table

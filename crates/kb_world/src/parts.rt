@@ -93,9 +93,11 @@ impl<L: PartitionLog> Parts<L> {
         }
     }
 
-    /// A clock, in milliseconds, up to which no partition has anything to drop.
+    /// A clock, in milliseconds, up to which no partition has anything to drop. After a walk of `retain_all` it is the last one, where
+    /// nothing was refused.
     pub fn next_retention_time(&self) -> i64
-        ensures { (files : Files) → Agrees L.log self.now files → (clock : ℕ) → pos clock ≤ℤ result
+        ensures is { result ≡ self.now.next_retention_time }
+        ensures until { (files : Files) → Agrees L.log self.now files → (clock : ℕ) → pos clock ≤ℤ result
             → retain_all clock (world_of L.log self.now files) ≡ (world_of L.log self.now files, false) }
     {
         self.next_retention_time

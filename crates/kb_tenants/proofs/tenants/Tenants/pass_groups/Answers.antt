@@ -54,7 +54,7 @@ returns-clause-invariant g c =
     kept_counted g.L.PartitionLog.log g.S.Store.disk g.met.L.PartitionLog.lawful c.args.self.now c.args.tenant c.index_mut-one.result.now c.pass.new.self
     c.requires.tenant c.index_mut-one.ensures.value c.requires.invariant c.count.new.parts
     (min (c.refusals-before.result + c.in-Some.refused) END) c.count.ensures (to_z w64 (of_z w64 c.min-self.result)) (omega (arith, ints, c.min-self.ensures.self_bound))
-    (λ files agrees clock le. c.next_retention_time.ensures files agrees clock (omega (arith, ints, le, c.min-self.ensures.other_bound)))
+    (λ files agrees clock le. c.next_retention_time.ensures.idle files agrees clock (omega (arith, ints, le, c.min-self.ensures.other_bound)))
 
 pub returns-clause-turn : goal.returns-clause-turn
 returns-clause-turn g c =

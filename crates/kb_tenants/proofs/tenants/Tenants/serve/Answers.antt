@@ -22,7 +22,7 @@ returns-clause-invariant g c =
     kept_called g.L.PartitionLog.log g.S.Store.disk g.met.L.PartitionLog.lawful c.args.self.now c.args.tenant c.index_mut-one.result.now
     c.requires.tenant c.index_mut-one.ensures.value c.requires.invariant c.serve-served.new.parts c.count.new.parts (min (c.refusals-before.result + (c.failures.result - c.failures-failures.result)) END) c.serve-served.new.groups c.serve-served.new.shelf c.count.ensures c.serve-served.ensures.step
     (to_z w64 (of_z w64 c.min-self.result)) (omega (arith, ints, c.min-self.ensures.self_bound))
-    (λ files agrees clock le. c.next_retention_time.ensures files agrees clock (omega (arith, ints, le, c.min-self.ensures.other_bound)))
+    (λ files agrees clock le. c.next_retention_time.ensures.idle files agrees clock (omega (arith, ints, le, c.min-self.ensures.other_bound)))
 
 pub returns-clause-turn : goal.returns-clause-turn
 returns-clause-turn g c =

@@ -4,8 +4,8 @@ use Rattle.kb_world.specs.Parts.{world_of}
 use Rattle.kb_world.proofs.RetainedAll.{none_due, nothing_goes}
 use Rattle.kb_world.proofs.parts.Parts.next_retention_time.Goals as goal
 
-pub returns : goal.returns
-returns g c files agree clock le =
+pub returns-clause-until : goal.returns-clause-until
+returns-clause-until g c files agree clock le =
     let until = c.args.self.now.next_retention_time in
     let w = world_of g.L.PartitionLog.log c.args.self.now files in
     let same : to_z w64 (of_z w64 until) ≡ until = search rules in

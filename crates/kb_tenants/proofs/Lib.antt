@@ -6,6 +6,7 @@ pub mod Ended
 pub mod Hosted
 pub mod Idle
 pub mod KeptIn
+pub mod Members
 pub mod Others
 pub mod Passed
 pub mod Small

@@ -9,13 +9,15 @@ use std::alloc::{AllocError, Global};
 const USERS: &str =
     "[[user]]\nname = \"ann\"\npassword = \"pw1\"\ntenant = \"a\"\n[[user]]\nname = \"bob\"\npassword = \"pw2\"\ntenant = \"b\"\n";
 
-/// A kind is `alone` with a text, `with` for a text before two users, `shows` for one whose settings are said, `standard`, or
-/// `many` users of so many tenants. Whether it is one of these. In a text ` | ` ends a line, and `{64}` is so many letters.
+/// A kind is `alone` with a text, `with` for a text before two users, `shows` for one whose settings are said, `tells` for one of
+/// which is said what is listened on and what clients are told, `standard`, or `many` users of so many tenants. Whether it is one
+/// of these. In a text ` | ` ends a line, and `{64}` is so many letters.
 pub fn read(alloc: Global, kind: &str, rest: &str, said: &mut Said) -> Result<bool, AllocError> {
     match kind {
         "alone" => alone(alloc, rest, said)?,
         "with" => with_users(alloc, rest, said)?,
         "shows" => shows(alloc, rest, said)?,
+        "tells" => tells(alloc, rest, said)?,
         "standard" => standard(alloc, said)?,
         "many" => many(alloc, rest, said)?,
         _ => return Ok(false),
@@ -91,6 +93,27 @@ fn shows(alloc: Global, text: &str, said: &mut Said) -> Result<(), AllocError> {
         Ok(settings) => say(&settings, said),
         Err(fault) => wrong(alloc, &fault, said),
     }
+}
+
+/// What is listened on and what clients are told, by a text before two users.
+fn tells(alloc: Global, text: &str, said: &mut Said) -> Result<(), AllocError> {
+    let mut lines = String::new(alloc);
+    add_lines(&mut lines, text)?;
+    lines.push_str(USERS)?;
+    match Settings::read(alloc, &lines) {
+        Ok(settings) => say_addresses(&settings, said),
+        Err(fault) => wrong(alloc, &fault, said),
+    }
+}
+
+fn say_addresses(settings: &Settings, said: &mut Said) -> Result<(), AllocError> {
+    let (host, port) = settings.told();
+    said.fields(&[
+        ("on", Text(settings.host.as_str())),
+        ("port", Number(settings.port as i64)),
+        ("told", Text(host)),
+        ("port", Number(port as i64)),
+    ])
 }
 
 fn standard(alloc: Global, said: &mut Said) -> Result<(), AllocError> {

@@ -1,5 +1,5 @@
 -- The parts of the broker at its start.
-use Rattle.std.proofs.Common.{◌≡◌, ◌<◌, ◌+◌, ◌++◌, ◌^◌, take, ℕ, ℤ, pos, List, [], ◌∷◌, map, length, get_or, refl, sym, ap, subst, ◌∙◌, lit≤, string_bytes, arith}
+use Rattle.std.proofs.Common.{◌≡◌, ◌<◌, ◌+◌, ◌++◌, ◌^◌, ◌&&◌, ◌||◌, Bool, false, not, take, ℕ, ℤ, pos, List, [], ◌∷◌, map, length, get_or, refl, sym, ap, subst, ◌∙◌, lit≤, string_bytes, arith}
 use Rattle.std.proofs.Math.ListN.{get_or-map, length-map}
 use Rattle.std.specs.List.{AllByRecursion, Contains}
 use Rattle.std.proofs.lemmas.List.{get_or_default, map-append, take_more}
@@ -8,7 +8,8 @@ use Rattle.std.specs.Prelude.{IsTrue}
 use Rattle.std.proofs.lemmas.Bool.Decides.{nat_tests}
 use Rattle.kb_wire.specs.Codec.{int, array, string}
 use Rattle.kb_wire.specs.Fits.{array_fits, string_fits}
-use Rattle.kb_settings.specs.Settings.{is_host, is_within}
+use Rattle.kb_settings.specs.Settings.{is_within}
+use Rattle.kb_settings.specs.Address.{is_listened, is_wildcard}
 use Rattle.kb_api_group.specs.Layouts.{api_version}
 use Rattle.kb_api_group.specs.declared.api_versions.ApiVersion.{ApiVersion}
 use Rattle.kb_service.specs.Hosted.{TenantState, names_of, new_tenant}
@@ -45,11 +46,11 @@ all-listed listings.Served = refl
 all-listed listings.StockClients = refl
 
 -- a host of at most 255 bytes fits a reply
-pub host-fits : (s : Settings) (host : List ℕ) → host ≡ string_bytes s.host → IsTrue (is_host (string_bytes s.host)) → string.Fits host
-host-fits s host same fits = subst string.Fits (sym same) (string_fits (string_bytes s.host) (short (length (string_bytes s.host)) fits))
+pub host-fits : (host text : List ℕ) → host ≡ text → IsTrue (is_listened false text) → string.Fits host
+host-fits host text same fits = subst string.Fits (sym same) (string_fits text (short (length text) (not (is_wildcard text) || false) fits))
   where
-    short : (n : ℕ) → IsTrue (is_within 1 255 n) → n < 2 ^ 15
-    short n fits = grind (arith, nat_tests)
+    short : (n : ℕ) (b : Bool) → IsTrue (is_within 1 255 n && b) → n < 2 ^ 15
+    short n b fits = grind (arith, nat_tests)
 
 contains-map : {X Y : Type 0} (f : X → Y) (xs : List X) (i : ℕ) (x : X) → i < length xs → x ≡ get_or xs i x → Contains (map f xs) (f x)
 contains-map f xs i x lt is = (i, subst (λ (n : ℕ). i < n) (sym (length-map xs f)) lt, get_or-map f xs i x ∙ ap f (sym is))

@@ -10,6 +10,7 @@ use Rattle.kb_coordinator.specs.Groups.{none}
 use Rattle.kb_service.specs.Hosted.{TenantState, kept_of, new_tenant}
 use Rattle.kb_machine.specs.Broker.{BrokerState}
 use Rattle.kb_settings.specs.Names.{in_order, place_of}
+use Rattle.kb_settings.specs.Values.{values_of, told}
 use Rattle.kb_settings.specs.declared.settings.User.{User}
 use Rattle.kb_settings.specs.declared.settings.Settings.{Settings}
 use Rattle.kb_store.specs.Disk.{Disk, Grew}
@@ -73,7 +74,7 @@ abbrev pub opening_setup : Listing → Settings → Setup
 opening_setup listing s = record {
   versions = listed listing;
   users = map (login_of (tenants_of s.users.items)) s.users.items;
-  node = record { host = string_bytes s.host; port = s.port };
+  node = record { host = (told (values_of s)).0; port = (told (values_of s)).1 };
 }
 
 -- nobody is connected, and no time has passed, and the tenants are those

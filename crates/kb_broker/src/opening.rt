@@ -235,8 +235,9 @@ fn new_setup(
 {
     let logins = logins_of(alloc, &settings.users, names)?;
     let versions = listed_versions(alloc, listing)?;
-    let host = String::from_str(alloc, settings.host.as_str())?;
-    Ok(Setup::new(versions, logins, host, settings.port))
+    let (host, port) = settings.told();
+    let host = String::from_str(alloc, host)?;
+    Ok(Setup::new(versions, logins, host, port))
 }
 
 /// The versions that are listed. They fit a reply.

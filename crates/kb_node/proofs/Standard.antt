@@ -8,7 +8,7 @@ use Rattle.kb_machine.specs.Broker.{BrokerState}
 use Rattle.kb_settings.specs.declared.settings.User.{User}
 use Rattle.kb_settings.specs.declared.settings.Settings.{Settings}
 use Rattle.kb_settings.specs.Names.{in_order, place_of}
-use Rattle.kb_settings.specs.Values.{Account, Values, account_of, values_of, standard}
+use Rattle.kb_settings.specs.Values.{Account, Values, account_of, values_of, told, standard}
 use Rattle.kb_broker.specs.Opening.{served_versions, tenants_of, login_of, opening}
 use Rattle.kb_node.specs.Node.{standard_broker}
 
@@ -23,7 +23,7 @@ broker_of node names logins = record { setup = record { versions = served_versio
 
 -- where clients are told to connect to
 abbrev told_at : Values → Node
-told_at v = record { host = v.host; port = v.port }
+told_at v = record { host = (told v).0; port = (told v).1 }
 
 abbrev broker_for : Values → BrokerState
 broker_for v = broker_of (told_at v) (names_of v.users) (map (login_in (names_of v.users)) v.users)

@@ -2,6 +2,7 @@
 
 ghost use Rattle.std.specs.Prelude.{◌≡◌, ◌≤◌, ◌<◌, ◌^◌, IfErr, vec_len};
 
+use crate::doors::{BindCause, DOOR, DoorFault, Doors};
 use crate::limits::Limits;
 use crate::login::Denied;
 use crate::socket::{Next, Socket};
@@ -13,7 +14,7 @@ use kb_store::Store;
 use mio::event::Event;
 use std::alloc::{AllocError, Global};
 use std::io::ErrorKind;
-use std::net::{Net, OpenListener, OpenStream, SocketAddr, TcpListener};
+use std::net::{Net, OpenStream, SocketAddr};
 use std::os::fd::AsRawFd;
 use std::time::Duration;
 use std::{io, mem};
@@ -32,9 +33,6 @@ const SHORT_WAIT: u64 = 5;
 
 const LONG_WAIT: u64 = 100;
 
-/// The number under which the listener is watched, which no connection has.
-const DOOR: u64 = 0;
-
 /// The most bytes that are read from a socket at once.
 const PIECE: usize = 65_536;
 
@@ -52,11 +50,13 @@ pub enum BindFault {
 pub struct BindRefused<S: Store, L: PartitionLog = ListLog> {
     /// Why.
     pub fault: BindFault,
+    /// What stood in the way, where it was not memory.
+    pub cause: Option<BindCause>,
     /// The broker.
     pub broker: Broker<S, L>,
 }
 
-/// A broker and the sockets of its connections, under a listener. Its logs are of any kind: a [`ListLog`], in memory, where none
+/// A broker and the sockets of its connections, under one listener or more. Its logs are of any kind: a [`ListLog`], in memory, where none
 /// is named.
 ///
 /// Each socket that is accepted is a new connection, of a number above all earlier ones. Its bytes are the connection's, in
@@ -65,8 +65,7 @@ pub struct BindRefused<S: Store, L: PartitionLog = ListLog> {
 /// never reads has one reply kept.
 #[derive(Drop)]
 pub struct Edge<R: Net, S: Store, L: PartitionLog = ListLog> {
-    listener: R::Listener,
-    port: u16,
+    doors: Doors<R>,
     /// The most sockets at a time: more are closed at once.
     limit: usize,
     /// How much output is kept at most before no more requests are taken.
@@ -91,7 +90,9 @@ pub struct Edge<R: Net, S: Store, L: PartitionLog = ListLog> {
 }
 
 impl<R: Net, S: Store, L: PartitionLog + Drop> Edge<R, S, L> {
-    /// Listens on an address, `HOST:PORT`; at port 0 the system chooses one. Each turn looks at all sockets.
+    /// Listens on every address that `HOST:PORT` stands for; at port 0 the system chooses one. Each turn looks at all sockets.
+    ///
+    /// Where the machine has some of them alone, those are listened on.
     pub fn bind(
         net: &R,
         alloc: Global,
@@ -116,14 +117,18 @@ impl<R: Net, S: Store, L: PartitionLog + Drop> Edge<R, S, L> {
     {
         match Watch::new(net, alloc) {
             Ok(watch) => Edge::open(net, alloc, broker, address, limits, Some(watch)),
-            Err(_) => Err(BindRefused {
+            Err(error) => Err(BindRefused {
                 fault: BindFault::Bind,
+                cause: Some(BindCause {
+                    address: None,
+                    error,
+                }),
                 broker,
             }),
         }
     }
 
-    /// Listens on an address.
+    /// Listens on the addresses.
     fn open(
         net: &R,
         alloc: Global,
@@ -134,21 +139,15 @@ impl<R: Net, S: Store, L: PartitionLog + Drop> Edge<R, S, L> {
     ) -> Result<Self, BindRefused<S, L>>
         ensures { IfErr result (λ refused. refused.broker ≡ broker) }
     {
-        let Ok((listener, port)) = listen(net, address, &watch) else {
-            return Err(BindRefused {
-                fault: BindFault::Bind,
-                broker,
-            });
+        let doors = match Doors::open(net, alloc, address, &watch) {
+            Ok(doors) => doors,
+            Err(fault) => return Err(refused(fault, broker)),
         };
         let Ok((buffer, ready, spare, denied)) = buffers(alloc, limits.sockets as usize) else {
-            return Err(BindRefused {
-                fault: BindFault::Memory,
-                broker,
-            });
+            return Err(refused(DoorFault::Memory, broker));
         };
         Ok(Edge {
-            listener,
-            port,
+            doors,
             limit: limits.sockets as usize,
             output_limit: limits.output_bytes as usize,
             broker,
@@ -165,7 +164,12 @@ impl<R: Net, S: Store, L: PartitionLog + Drop> Edge<R, S, L> {
 
     /// The port that is listened on.
     pub fn port(&self) -> u16 {
-        self.port
+        self.doors.port()
+    }
+
+    /// The addresses that are listened on.
+    pub fn addresses(&self) -> &[SocketAddr] {
+        self.doors.addresses()
     }
 
     /// The broker.
@@ -211,7 +215,7 @@ impl<R: Net, S: Store, L: PartitionLog + Drop> Edge<R, S, L> {
         self.output < self.output_limit
     }
 
-    /// What the system tells of a socket or of the listener.
+    /// What the system tells of a socket or of a listener.
     fn hear(&mut self, event: &Event) {
         let number = event.token().0 as u64;
         if number == DOOR {
@@ -268,7 +272,7 @@ impl<R: Net, S: Store, L: PartitionLog + Drop> Edge<R, S, L> {
             if !self.can_accept {
                 return;
             }
-            match self.listener.accept() {
+            match self.doors.accept() {
                 Ok((stream, peer)) => {
                     turn.count_accepted();
                     if self.sockets.len() >= self.limit {
@@ -382,6 +386,27 @@ impl<R: Net, S: Store, L: PartitionLog + Drop> Edge<R, S, L> {
     }
 }
 
+/// An edge that was not bound.
+fn refused<S: Store, L: PartitionLog>(
+    fault: DoorFault,
+    broker: Broker<S, L>,
+) -> BindRefused<S, L>
+    ensures { result.broker ≡ broker }
+{
+    match fault {
+        DoorFault::Bind(cause) => BindRefused {
+            fault: BindFault::Bind,
+            cause: Some(cause),
+            broker,
+        },
+        DoorFault::Memory => BindRefused {
+            fault: BindFault::Memory,
+            cause: None,
+            broker,
+        },
+    }
+}
+
 type Buffers = (Vec<u8>, Vec<u64>, Vec<u64>, Vec<Denied>);
 
 /// What is read into, two empty lists with room for all connections, and one for failed logins.
@@ -391,15 +416,4 @@ fn buffers(alloc: Global, limit: usize) -> Result<Buffers, AllocError> {
     let spare = Vec::with_capacity(alloc, limit)?;
     let denied = Vec::with_capacity(alloc, DENIED)?;
     Ok((buffer, ready, spare, denied))
-}
-
-/// A listener that never waits, and its port.
-fn listen<R: Net>(net: &R, address: &str, watch: &Option<Watch>) -> io::Result<(R::Listener, u16)> {
-    let listener = TcpListener::bind(net, address)?;
-    listener.set_nonblocking(true)?;
-    let port = listener.local_addr()?.port();
-    if let Some(watch) = watch {
-        watch.add(listener.as_raw_fd(), DOOR)?;
-    }
-    Ok((listener, port))
 }

@@ -6,6 +6,7 @@
 //! on a network and is turned by hand.
 #![tactic(auto)]
 
+mod doors;
 mod edge;
 mod fault;
 mod input;
@@ -17,6 +18,7 @@ mod start;
 mod turn;
 mod watch;
 
+pub use doors::BindCause;
 pub use edge::{BindFault, BindRefused, Edge};
 pub use fault::{NodeFault, StartFault};
 pub use kb_broker::{Listing, Settings};

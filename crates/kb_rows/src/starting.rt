@@ -119,6 +119,7 @@ fn faults_have_their_texts(rt: HostRuntime) -> Result<(), Fail> {
     let field = SettingsFault::Field(String::from_str(alloc, "port")?);
     let refused = BindRefused {
         fault: BindFault::Memory,
+        cause: None,
         broker: new_broker(alloc)?,
     };
     let faults = [

@@ -1,0 +1,159 @@
+//! The listeners of an edge.
+
+use crate::watch::Watch;
+use std::alloc::{AllocError, AllocFailed, Global};
+use std::io;
+use std::io::ErrorKind;
+use std::net::{Net, OpenListener, SocketAddr, TcpListener, ToSocketAddrs};
+use std::os::fd::AsRawFd;
+
+/// The number under which the listeners are watched, which no connection has.
+pub const DOOR: u64 = 0;
+
+/// Linux's number for an address of a family that the machine does not have.
+const EAFNOSUPPORT: i32 = 97;
+
+/// What stood in the way of listening: the name could not be looked up, or this address of it cannot be listened on.
+#[derive(Clone, Copy)]
+pub struct BindCause {
+    /// The address, where it is one.
+    pub address: Option<SocketAddr>,
+    /// What the system says.
+    pub error: io::Error,
+}
+
+/// Why nothing is listened on.
+#[derive(Clone, Copy)]
+pub enum DoorFault {
+    Bind(BindCause),
+    /// Memory was refused.
+    Memory,
+}
+
+impl From<AllocError> for DoorFault {
+    fn from(_e: AllocError) -> DoorFault {
+        DoorFault::Memory
+    }
+}
+
+impl<T: Drop> From<AllocFailed<T>> for DoorFault {
+    fn from(_e: AllocFailed<T>) -> DoorFault {
+        DoorFault::Memory
+    }
+}
+
+/// Listeners that never wait, each with its address.
+#[derive(Drop)]
+pub struct Doors<R: Net> {
+    listeners: Vec<R::Listener>,
+    addresses: Vec<SocketAddr>,
+}
+
+impl<R: Net> Doors<R> {
+    /// Listens on every address that `HOST:PORT` stands for. At port 0 the system chooses one, and the same for all of them.
+    ///
+    /// An address that the machine does not have is passed over where it has another of them. One that cannot be listened on for
+    /// another reason is a fault.
+    pub fn open(
+        net: &R,
+        alloc: Global,
+        address: &str,
+        watch: &Option<Watch>,
+    ) -> Result<Doors<R>, DoorFault> {
+        let found = match address.to_socket_addrs(net) {
+            Ok(found) => found,
+            Err(e) => return Err(not_bound(None, e)),
+        };
+        let mut doors = Doors {
+            listeners: Vec::new(alloc),
+            addresses: Vec::new(alloc),
+        };
+        let mut missing = not_bound(None, io::Error::from(ErrorKind::AddrNotAvailable));
+        for address in found {
+            match doors.add(net, address, watch) {
+                Err(fault) if is_missing(&fault) => missing = fault,
+                added => added?,
+            }
+        }
+        if doors.listeners.is_empty() {
+            return Err(missing);
+        }
+        Ok(doors)
+    }
+
+    /// Listens on one more address, unless it is listened on.
+    fn add(
+        &mut self,
+        net: &R,
+        mut address: SocketAddr,
+        watch: &Option<Watch>,
+    ) -> Result<(), DoorFault> {
+        if address.port() == 0 {
+            address.set_port(self.port());
+        }
+        if self.addresses.contains(&address) {
+            return Ok(());
+        }
+        self.listeners.reserve(1)?;
+        self.addresses.reserve(1)?;
+        match listen(net, address, watch) {
+            Ok((listener, address)) => {
+                self.listeners.push(listener)?;
+                self.addresses.push(address)?;
+                Ok(())
+            }
+            Err(e) => Err(not_bound(Some(address), e)),
+        }
+    }
+
+    /// The port of all of them, or 0 where there is none.
+    pub fn port(&self) -> u16 {
+        self.addresses.first().map_or(0, |address| address.port())
+    }
+
+    /// The addresses that are listened on.
+    pub fn addresses(&self) -> &[SocketAddr] {
+        &self.addresses
+    }
+
+    /// A socket that waits at one of them. `WouldBlock`: none does.
+    pub fn accept(&self) -> io::Result<(R::Stream, SocketAddr)> {
+        for listener in &self.listeners {
+            match listener.accept() {
+                Err(e) if e.kind() == ErrorKind::WouldBlock => {}
+                accepted => return accepted,
+            }
+        }
+        Err(io::Error::from(ErrorKind::WouldBlock))
+    }
+}
+
+fn not_bound(address: Option<SocketAddr>, error: io::Error) -> DoorFault {
+    DoorFault::Bind(BindCause { address, error })
+}
+
+/// Whether the machine has no such address.
+fn is_missing(fault: &DoorFault) -> bool {
+    match fault {
+        DoorFault::Bind(cause) => {
+            cause.error.kind() == ErrorKind::AddrNotAvailable
+                || cause.error.raw_os_error() == Some(EAFNOSUPPORT)
+        }
+        DoorFault::Memory => false,
+    }
+}
+
+/// A listener that never waits, and its address.
+fn listen<R: Net>(
+    net: &R,
+    address: SocketAddr,
+    watch: &Option<Watch>,
+) -> io::Result<(R::Listener, SocketAddr)> {
+    let listener = TcpListener::bind(net, address)?;
+    listener.set_nonblocking(true)?;
+    let address = listener.local_addr()?;
+    if let Some(watch) = watch {
+        watch.add(listener.as_raw_fd(), DOOR)?;
+    }
+    Ok((listener, address))
+}

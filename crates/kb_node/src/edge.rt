@@ -387,10 +387,7 @@ impl<R: Net, S: Store, L: PartitionLog + Drop> Edge<R, S, L> {
 }
 
 /// An edge that was not bound.
-fn refused<S: Store, L: PartitionLog>(
-    fault: DoorFault,
-    broker: Broker<S, L>,
-) -> BindRefused<S, L>
+fn refused<S: Store, L: PartitionLog>(fault: DoorFault, broker: Broker<S, L>) -> BindRefused<S, L>
     ensures { result.broker ≡ broker }
 {
     match fault {

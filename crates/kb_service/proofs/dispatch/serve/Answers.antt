@@ -1,5 +1,7 @@
-use Rattle.std.proofs.Common.{◌∙◌, ap}
-use Rattle.kb_world.specs.Parts.{world_of}
+use Rattle.std.proofs.Common.{◌∙◌, ap, subst, sym}
+use Rattle.kb_world.specs.Parts.{scene, world_of}
+use Rattle.kb_world.specs.Steps.{IsStep}
+use Rattle.kb_world.proofs.Lifted.{refused_step}
 use Rattle.kb_service.proofs.Answered.{shut_told, told_on}
 use Rattle.kb_service.proofs.dispatch.serve.Goals as goal
 
@@ -16,3 +18,12 @@ returns-in-Err-Memory-clause-told g c = λ honest agree.
     shut_told _ _ _ _ _ _ _ _ _ _ _ _ _ _ c.in-Err-Memory.ensures.answered
     (λ member. ap (λ p. world_of g.L.PartitionLog.log p (g.S.Store.disk c.serve_by_key.new.shelf.store).files) c.refuse.ensures ∙ c.in-Err-Memory.ensures.stays member)
     c.served_with-in-Err-Memory.ensures.answer
+
+pub returns-in-Err-Memory-clause-step : goal.returns-in-Err-Memory-clause-step
+returns-in-Err-Memory-clause-step g c =
+    let log = g.L.PartitionLog.log in
+    let disk = g.S.Store.disk in
+    let a = scene log disk c.args.parts.now c.args.shelf.now in
+    let after = c.serve_by_key.new.shelf in
+    subst (λ p. IsStep a (scene log disk p after)) (sym c.refuse.ensures)
+    (refused_step log a c.serve_by_key.new.parts (disk after.store) after.next c.in-Err-Memory.ensures.step)

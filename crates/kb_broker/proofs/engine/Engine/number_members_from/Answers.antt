@@ -1,5 +1,4 @@
 use Rattle.std.proofs.Common.{◌∙◌, List, ap, subst, sym}
-use Rattle.kb_machine.specs.Machine.{Line}
 use Rattle.kb_tenants.specs.Members.{HaveNoGroup}
 use Rattle.kb_tenants.specs.Tenants.{numbers_in, shelf_is_honest}
 use Rattle.kb_service.specs.Hosted.{TenantState}

@@ -30,6 +30,7 @@ pub mod ScriptHush
 pub mod ScriptSaid
 pub mod ScriptTells
 pub mod Stranded
+pub mod Members
 pub mod ScriptEvents
 pub mod ScriptPlay
 pub mod ScriptOpening

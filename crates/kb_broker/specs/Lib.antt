@@ -1,5 +1,6 @@
 pub mod Able
 pub mod Hosts
+pub mod Members
 pub mod Opening
 pub mod Parked
 pub mod Places

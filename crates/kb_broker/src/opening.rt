@@ -9,6 +9,7 @@ ghost use Rattle.kb_settings.specs.Names.{byte_order, in_order, place_of};
 ghost use Rattle.kb_store.specs.Disk.{Keeps};
 ghost use Rattle.kb_machine.specs.Stranded.{NoneStranded};
 ghost use Rattle.kb_service.specs.Hosted.{names_of, new_tenant};
+ghost use Rattle.kb_tenants.specs.Members.{HaveNoGroup};
 ghost use Rattle.kb_tenants.specs.Tenants.{numbers_in};
 ghost use Rattle.kb_broker.specs.Hosts.{tenants_in, AreHosted};
 ghost use Rattle.kb_broker.specs.Opening.{listed, listed_as, opening, opening_listing, opening_over, opening_setup, tenants_of, login_of};
@@ -145,6 +146,7 @@ impl<S: Store, L: PartitionLog + Drop> Broker<S, L> {
         store: S,
     ) -> Result<Opened<S, L>, OpenRefused<S>>
         ensures state { IfOk result (λ opened. opened.broker.state ≡ opening settings.now) }
+        ensures no_groups { IfOk result (λ opened. HaveNoGroup opened.broker.state.tenants) }
         ensures strays { IfOk result (λ opened. opened.strays.items ≡ []) }
         // Which files are of no log is not known yet.
         ensures unknown { IfOk result (λ opened. opened.broker.strays ≡ None) }
@@ -163,6 +165,7 @@ impl<S: Store, L: PartitionLog + Drop> Broker<S, L> {
         store: S,
     ) -> Result<Opened<S, L>, OpenRefused<S>>
         ensures state { IfOk result (λ opened. opened.broker.state ≡ opening_listing listing settings.now) }
+        ensures no_groups { IfOk result (λ opened. HaveNoGroup opened.broker.state.tenants) }
         ensures strays { IfOk result (λ opened. opened.strays.items ≡ []) }
         // Which files are of no log is not known yet.
         ensures unknown { IfOk result (λ opened. opened.broker.strays ≡ None) }

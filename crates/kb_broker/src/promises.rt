@@ -11,6 +11,7 @@ ghost use Rattle.kb_machine.specs.Isolation.{IsIsolated, own_events, own_sent};
 ghost use Rattle.kb_broker.specs.declared.opening.Listing.{Listing};
 ghost use Rattle.kb_broker.specs.declared.run.Event.{Event};
 ghost use Rattle.kb_broker.specs.declared.run.Written.{Written};
+ghost use Rattle.kb_broker.specs.Members.{numbered_from};
 ghost use Rattle.kb_broker.specs.Opening.{opening_listing};
 ghost use Rattle.kb_broker.specs.Runs.{happenings, sent_of, connections_of};
 
@@ -19,7 +20,8 @@ ghost use Rattle.kb_broker.specs.Runs.{happenings, sent_of, connections_of};
 /// second writes is what the first writes to the tenant's connections, and the second shuts those that the first shuts of them.
 ///
 /// On neither may anything be refused to the tenant or to a connection that is not bound. What is said of the brokers before is
-/// what opening them ensures (`state` of `Broker::open_listing`). What is said of the runs is what `Broker::run` ensures where the
+/// what opening them ensures (`state` of `Broker::open_listing`), and where members are numbered from another number than 1 on, what
+/// `Broker::number_members_from` ensures of both. What is said of the runs is what `Broker::run` ensures where the
 /// stores are honest to the end (`headline`, `connections`).
 ///
 /// The fewer events are a run where all the events are one.
@@ -27,6 +29,16 @@ pub fn opened_alone_is_the_same()
     ensures written { (listing : Listing) (settings : Settings) (t : ℕ) (events fewer : List Event)
         (shared after own own_after : BrokerState) (written own_written : List Written)
         → shared ≡ opening_listing listing settings → own ≡ opening_listing listing settings
+        → happenings fewer ≡ own_events t (happenings events) shared
+        → IsIsolated (happenings events) shared after (map sent_of written)
+        → IsIsolated (happenings fewer) own own_after (map sent_of own_written)
+        → map (λ (w : Written). w.conn) own_written ≡ connections_of (happenings fewer) own
+        → IsCalmFor t shared after → IsCalmFor t own own_after
+        → map sent_of own_written ≡ own_sent t (happenings events) shared (map sent_of written) }
+    // So it is where both number their members from the same number on.
+    ensures numbered { (first : ℕ) (listing : Listing) (settings : Settings) (t : ℕ) (events fewer : List Event)
+        (shared after own own_after : BrokerState) (written own_written : List Written)
+        → shared ≡ numbered_from first (opening_listing listing settings) → own ≡ numbered_from first (opening_listing listing settings)
         → happenings fewer ≡ own_events t (happenings events) shared
         → IsIsolated (happenings events) shared after (map sent_of written)
         → IsIsolated (happenings fewer) own own_after (map sent_of own_written)

@@ -28,9 +28,13 @@ def fill(client, topic):
         if code != 0:
             break
         taken += 1
+    # What groups commit fills the catalog's last block, and each further block that is still free.
     small = batch(b"y" * 100)
-    while client.produce(topic, small)[0] == 0:
-        pass
+    for size in [1000] * 20 + [100] * 20 + [0] * 60:
+        for _ in range(300):
+            if client.produce(topic, small)[0] != 0:
+                break
+        client.commit(b"g", topic, b"m" * size)
     return taken, code
 
 
@@ -48,7 +52,7 @@ def records_deleted(client, taken):
 
 def retained(client, _):
     """Waits until retention has let its records go, which are old at once."""
-    time.sleep(4)
+    time.sleep(12)
     return ""
 
 
@@ -84,7 +88,7 @@ def main():
     for name, free, config in (
         ("a topic deleted", topic_deleted, {"retention_ms": -1}),
         ("records deleted", records_deleted, {"retention_ms": -1}),
-        ("retention", retained, {"retention_ms": 3000}),
+        ("retention", retained, {"retention_ms": 8000}),
     ):
         what = way(sys.argv[1], name, free, **config)
         if what:

@@ -116,6 +116,12 @@ class Client:
         body = struct.pack(">i", 1) + text(topic) + struct.pack(">iiqi", 1, 0, offset, 5000)
         return struct.unpack_from(">h", self.ask(21, 0, body), 4 + 4 + 2 + len(topic) + 4 + 4 + 8)[0]
 
+    def commit(self, group, topic, metadata):
+        """Commits the offset 0 of a group, and answers the error code."""
+        body = text(group) + struct.pack(">i", -1) + text(b"") + struct.pack(">qi", -1, 1) + text(topic)
+        body += struct.pack(">iiq", 1, 0, 0) + text(metadata)
+        return struct.unpack_from(">h", self.ask(8, 2, body), 4 + 2 + len(topic) + 4 + 4)[0]
+
     def fetch(self, topic, offset):
         """The error code, the high watermark and the bytes of a fetch."""
         body = struct.pack(">iiiibi", -1, 0, 1, 1 << 20, 0, 1) + text(topic) + struct.pack(">iiqi", 1, 0, offset, 1 << 20)

@@ -1,12 +1,12 @@
 -- A file that grows by several calls.
-use Rattle.std.proofs.Common.{◌≡◌, ◌≢◌, ◌∙◌, ◌≤◌, ◌+◌, ◌++◌, ℕ, List, [], length, take, drop, append_assoc, ap, sym, subst, refl, arith, Some, IsSome, ⊎_elim}
+use Rattle.std.proofs.Common.{◌≡◌, ◌≢◌, ◌∙◌, ◌+◌, ◌-◌, ◌++◌, ℕ, List, [], length, take, drop, append_assoc, ap, sym, subst, refl, arith, Some, IsSome, ⊎_elim}
 use Rattle.std.specs.Prelude.{unwrap_or}
 use Rattle.std.specs.Ordering.{nat_cmp}
 use Rattle.std.specs.FinMap.{FinMap, get, insert, same_map, nat_cmp-IsAntisymmetric}
 use Rattle.std.specs.Cmp.{nat_cmp_total}
 use Rattle.std.proofs.Math.Seq.{take-add}
 use Rattle.std.proofs.lemmas.Bool.{cases_eq}
-use Rattle.std.proofs.lemmas.List.{append-nil, length-append, take_at}
+use Rattle.std.proofs.lemmas.List.{append-nil, length-append, length-drop, take_all, take_at}
 use Rattle.kb_store.specs.Disk.{Files}
 use Rattle.kb_store.proofs.Maps.{get_inserted, get_other}
 use Rattle.kb_folder.specs.Folder.{Contents, Turns, Stays, bytes_in, HasLength, Adds}
@@ -52,8 +52,10 @@ module _ (c c' : Contents) (k : ℕ) where
   }
 
   -- further bytes of a list
-  pub adds_next : (c'' : Contents) (bytes : List ℕ) (n m : ℕ) → Adds c k (take n bytes) c' → Adds c' k (take m (drop n bytes)) c'' → Adds c k (take (n + m) bytes) c''
-  adds_next c'' bytes n m t t' = subst (λ x. Adds c k x c'') (sym (take-add n m bytes)) (adds_more c'' (take n bytes) (take m (drop n bytes)) t t')
+  pub adds_next : (c'' : Contents) (bytes : List ℕ) (n m : ℕ) → Adds c k (take n bytes) c' → Adds c' k (take m (take (length bytes - n) (drop n bytes))) c'' → Adds c k (take (n + m) bytes) c''
+  adds_next c'' bytes n m t t' =
+      let all : take (length bytes - n) (drop n bytes) ≡ drop n bytes = take_all (length bytes - n) (drop n bytes) (omega (arith, length-drop n bytes)) in
+      subst (λ x. Adds c k x c'') (sym (take-add n m bytes)) (adds_more c'' (take n bytes) (take m (drop n bytes)) t (subst (λ x. Adds c' k (take m x) c'') all t'))
 
   pub adds_stays : (c'' : Contents) (s : List ℕ) → Adds c k s c' → Stays c' c'' → Adds c k s c''
   adds_stays c'' s t t' = record { honest = λ h. t.honest (t'.honest h); files = λ h. t'.files h ∙ t.files (t'.honest h) }

@@ -6,9 +6,8 @@ ghost use Rattle.kb_folder.specs.Reserve.{is_catalogs};
 
 use crate::name::{file_name, file_number};
 use crate::refusal::{FolderCall, Refusal, Refusals};
-use crate::reserve;
 use crate::reserve::{FRONT, front_of, is_full, may_take_reserve};
-use crate::{Folder, FolderFault};
+use crate::{Folder, FolderFault, reserve};
 use lru::LruCache;
 use std::alloc::{AllocError, Global};
 use std::fs::{DirBuilder, File, OpenOptions};
@@ -23,10 +22,12 @@ const MOST_OPEN: usize = 256;
 
 /// Of which powers of two so many bytes are taken from the reserve, one after another, while they are too few.
 const LEAST_POWER: u32 = 13;
+
 const MOST_POWER: u32 = 23;
 
 /// The system's codes for want of descriptors, of the process and of all.
 const EMFILE: i32 = 24;
+
 const ENFILE: i32 = 23;
 
 /// A folder of the system. No contract says what it holds.
@@ -143,7 +144,12 @@ impl<R: Files<File = File> + AllocGlobal + Clone + Drop> HostFolder<R> {
     }
 
     /// What a call came to. What the system refused is noted.
-    fn answer<T>(&self, call: FolderCall, file: Option<u64>, done: io::Result<T>) -> Result<T, FolderFault> {
+    fn answer<T>(
+        &self,
+        call: FolderCall,
+        file: Option<u64>,
+        done: io::Result<T>,
+    ) -> Result<T, FolderFault> {
         match done {
             Ok(value) => Ok(value),
             Err(error) => Err(self.fault(call, file, error)),
@@ -193,7 +199,9 @@ impl<R: Files<File = File> + AllocGlobal + Clone + Drop> HostFolder<R> {
     }
 
     /// Writes at a place. On a full disk a catalog may take room from the reserve.
-    fn write(&mut self, file: u64, at: u64, bytes: &[u8]) -> io::Result<usize> {
+    fn write(&mut self, file: u64, at: u64, bytes: &[u8]) -> io::Result<usize>
+        ensures { WritesAtMost result bytes.now }
+    {
         match write_at(self.file(file)?, at, bytes) {
             Err(error) if is_full(&error) && self.reserve.unwrap_or(0) > 0 => {
                 let front = self.front(file, at, bytes)?;
@@ -207,8 +215,15 @@ impl<R: Files<File = File> + AllocGlobal + Clone + Drop> HostFolder<R> {
     }
 
     /// Writes at a place of a file that begins with a front, and takes more and more room from the reserve while the disk is full.
-    fn write_from_reserve(&mut self, file: u64, at: u64, bytes: &[u8], front: &[u8]) -> io::Result<usize>
+    fn write_from_reserve(
+        &mut self,
+        file: u64,
+        at: u64,
+        bytes: &[u8],
+        front: &[u8],
+    ) -> io::Result<usize>
         requires { is_catalogs front.now ≡ true }
+        ensures { WritesAtMost result bytes.now }
     {
         for power in LEAST_POWER..MOST_POWER {
             self.give_up(1 << power, front)?;
@@ -243,7 +258,10 @@ impl<R: Files<File = File> + AllocGlobal + Clone + Drop> HostFolder<R> {
         let Some(len) = self.reserve else {
             return;
         };
-        if len < reserve::SIZE && let Ok(file) = self.open_reserve() && reserve::fill(&file, len).is_ok() {
+        if len < reserve::SIZE
+            && let Ok(file) = self.open_reserve()
+            && reserve::fill(&file, len).is_ok()
+        {
             self.reserve = Some(reserve::SIZE);
         }
     }
@@ -266,7 +284,10 @@ impl<R: Files<File = File> + AllocGlobal + Clone + Drop> HostFolder<R> {
 
 /// Makes a folder where there is none, for the process's own user.
 pub fn make_folder(files: &impl Files, path: &str) -> io::Result<()> {
-    DirBuilder::new().recursive(true).mode(0o700).create(files, path)
+    DirBuilder::new()
+        .recursive(true)
+        .mode(0o700)
+        .create(files, path)
 }
 
 /// Whether a call was refused for want of descriptors.
@@ -327,8 +348,10 @@ impl<R: Files<File = File> + AllocGlobal + Clone + Drop> Folder for HostFolder<R
     }
 
     fn write_end(&mut self, file: u64, end: u64, bytes: &[u8]) -> Result<usize, FolderFault> {
-        let written = self.write(file, end, bytes);
-        self.answer(FolderCall::Write, Some(file), written)
+        match self.write(file, end, bytes) {
+            Ok(written) => Ok(written),
+            Err(error) => Err(self.fault(FolderCall::Write, Some(file), error)),
+        }
     }
 
     fn read_at(&mut self, file: u64, at: u64, buffer: &mut [u8]) -> Result<usize, FolderFault> {

@@ -65,5 +65,8 @@ fn write_from(file: &File, len: u64) -> io::Result<()> {
 
 /// Whether a call was refused because the disk, or what a user may have of it, is full.
 pub fn is_full(error: &io::Error) -> bool {
-    matches!(error.kind(), ErrorKind::StorageFull | ErrorKind::QuotaExceeded)
+    matches!(
+        error.kind(),
+        ErrorKind::StorageFull | ErrorKind::QuotaExceeded
+    )
 }

@@ -154,7 +154,12 @@ impl<F: Folder> FolderStore<F> {
 
 /// Adds bytes behind the end of a file, call by call, up to the last one or to a refusal. A call that takes none is one.
 /// It answers how many were added, and what refused the rest.
-fn add_on<F: Folder>(folder: &mut F, file: u64, end: u64, bytes: &[u8]) -> (usize, Option<FolderFault>)
+fn add_on<F: Folder>(
+    folder: &mut F,
+    file: u64,
+    end: u64,
+    bytes: &[u8],
+) -> (usize, Option<FolderFault>)
     requires there { HasLength (F.contents folder.old) file end }
     requires fits { end + length bytes.now < 2 ^ 64 }
     ensures count { result.0 ≤ length bytes.now }
@@ -174,7 +179,12 @@ fn add_on<F: Folder>(folder: &mut F, file: u64, end: u64, bytes: &[u8]) -> (usiz
 
 /// Adds bytes behind the end of a file, all of them. Where the folder refuses some of them, the ones that it took are cut off
 /// again, where it lets them. It answers how many were added, and what was refused.
-fn add_whole<F: Folder>(folder: &mut F, file: u64, end: u64, bytes: &[u8]) -> (usize, Option<FolderFault>)
+fn add_whole<F: Folder>(
+    folder: &mut F,
+    file: u64,
+    end: u64,
+    bytes: &[u8],
+) -> (usize, Option<FolderFault>)
     requires there { HasLength (F.contents folder.old) file end }
     requires fits { end + length bytes.now < 2 ^ 64 }
     ensures count { result.0 ≤ length bytes.now }

@@ -1,4 +1,4 @@
-use Rattle.std.proofs.Common.{◌≡◌, ◌+◌, length, take, drop, subst, refl, arith, rules}
+use Rattle.std.proofs.Common.{◌≡◌, ◌+◌, take, subst, refl, arith, rules}
 use Rattle.std.proofs.lemmas.List.{length-take-le}
 use Rattle.kb_folder.specs.Folder.{Adds}
 use Rattle.kb_folder.proofs.Adding.{adds_none, has_added, adds_next}

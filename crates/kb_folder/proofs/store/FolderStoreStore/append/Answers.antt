@@ -1,4 +1,4 @@
-use Rattle.std.proofs.Common.{◌≡◌, ◌<◌, ◌+◌, List, ℕ, None, sym, subst, refl, take, length, arith, rules}
+use Rattle.std.proofs.Common.{◌≡◌, ◌<◌, ◌+◌, List, ℕ, None, sym, subst, refl, take, arith, rules}
 use Rattle.std.proofs.lemmas.List.{take_all}
 use Rattle.kb_store.specs.Disk.{IsThere, Appends, AppendsSome}
 use Rattle.kb_folder.specs.Store.{disk_over, folder_disk}

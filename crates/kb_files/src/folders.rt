@@ -3,8 +3,9 @@ ghost use Rattle.std.specs.Prelude.{◌≡◌, true, IfOk};
 ghost use Rattle.kb_store.specs.Disk.{IsThere};
 
 use crate::begun::is_alone;
-use kb_folder::{FolderFault, FolderStore, HostFolder};
+use kb_folder::{Folder, FolderCall, FolderFault, FolderStore, HostFolder, Refusals};
 use kb_log::{LogFault, Shelf};
+use kb_process::soft_limit;
 use kb_store::{Store, StoreFault, read_file};
 use std::alloc::Global;
 use std::fs;
@@ -80,6 +81,46 @@ fn a_folder_is_what_it_was(rt: HostRuntime) -> Result<(), Fail> {
     fs::remove_file(&rt, other.as_str())?;
     fs::remove_dir(&rt, path.as_str())?;
     Ok(())
+}
+
+#[test]
+fn a_reserve_is_no_file_of_the_store(rt: HostRuntime) -> Result<(), Fail> {
+    let (alloc, path) = (rt.alloc(), folder_of_its_own(&rt)?);
+    let folder = HostFolder::new(rt, path.as_str())?.with_reserve();
+    let mut store = FolderStore::new(alloc, folder)?;
+    let reserve = format!(in alloc; "{path}/reserve")?;
+    assert!(rt; store.list(alloc)?.is_empty());
+    assert!(rt; fs::metadata(&rt, reserve.as_str())?.len() == 4_194_304);
+    fs::remove_file(&rt, reserve.as_str())?;
+    fs::remove_dir(&rt, path.as_str())?;
+    Ok(())
+}
+
+#[test]
+fn a_refusal_is_noted(rt: HostRuntime) -> Result<(), Fail> {
+    let refusals = Refusals::new(rt.alloc())?;
+    let mut folder = HostFolder::to_read(rt, "/nowhere")?.noting(refusals.share()?);
+    assert!(rt; folder.len(5) == Err(FolderFault::Refused));
+    let refusal = refusals.take().ok_or("nothing noted")?;
+    assert!(rt; refusal.call == FolderCall::Length && refusal.file == Some(5));
+    assert!(rt; refusals.take().is_none());
+    Ok(())
+}
+
+#[test]
+fn a_limit_is_read_as_the_system_writes_it(rt: HostRuntime) {
+    let text = "Max processes             63231                63231                processes\n\
+        Max open files            1024                 524288               files\n";
+    assert!(rt; soft_limit(text) == Some(1024));
+    assert!(rt;
+        soft_limit("Max open files            unlimited            unlimited            files\n")
+            == Some(u64::MAX)
+    );
+    assert!(rt;
+        soft_limit(
+            "Max processes             63231                63231                processes\n"
+        ).is_none()
+    );
 }
 
 /// The path of a new folder among the temporary ones.

@@ -114,14 +114,14 @@ table_back es es' es'' k none u u' = same_map nat_cmp_total nat_cmp-IsAntisymmet
 
 -- ---- a file that grows
 
-same_put : {X : Type 0} (t : FinMap nat_cmp X) (k : ℕ) (v : X) → get t k ≡ Some v → t ≡ insert t k v
+pub same_put : {X : Type 0} (t : FinMap nat_cmp X) (k : ℕ) (v : X) → get t k ≡ Some v → t ≡ insert t k v
 same_put t k v e = same_map nat_cmp_total nat_cmp-IsAntisymmetric t (insert t k v) (λ q.
     ⊎_elim
     (λ (same : q ≡ k). subst (λ x. get t x ≡ get (insert t k v) x) (sym same) (e ∙ sym (get_inserted t k v)))
     (λ (ne : q ≢ k). sym (get_other t k v q ne))
     (cases_eq q k))
 
-some_is : {X : Type 0} (o : Option X) (d : X) → IsSome o → o ≡ Some (unwrap_or o d)
+pub some_is : {X : Type 0} (o : Option X) (d : X) → IsSome o → o ≡ Some (unwrap_or o d)
 some_is None d s = absurd cc
 some_is (Some x) d s = refl
 

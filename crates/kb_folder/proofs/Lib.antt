@@ -1,3 +1,4 @@
+pub mod Adding
 pub mod Lens
 pub mod Listing
 pub mod Names

@@ -1,6 +1,6 @@
 -- A folder of numbered files, and how a call takes it from one state to the next.
-use Rattle.std.specs.Prelude.{◌≡◌, ◌≤◌, ◌+◌, ℕ, List, [], length, take, drop, unwrap_or, IsSome, Contains}
-use Rattle.std.specs.FinMap.{get}
+use Rattle.std.specs.Prelude.{◌≡◌, ◌≤◌, ◌+◌, ◌++◌, ℕ, List, [], length, take, drop, unwrap_or, IsSome, Contains}
+use Rattle.std.specs.FinMap.{get, insert}
 use Rattle.kb_store.specs.Disk.{Files}
 
 -- The bytes of a folder's files by number, and whether all its answers so far were those of these files.
@@ -28,6 +28,10 @@ pub record Turns (old : Contents) (with : Files) (new : Contents) : Type 0 where
 -- Nothing changes.
 abbrev pub Stays : Contents → Contents → Type 0
 Stays old new = Turns old old.files new
+
+-- The file ends with those bytes, behind what it had.
+abbrev pub Adds : Contents → ℕ → List ℕ → Contents → Type 0
+Adds old file bytes new = Turns old (insert old.files file (bytes_in old file ++ bytes)) new
 
 -- The numbers are those of the files, in any order.
 pub record AreNumbersOf (numbers : List ℕ) (files : Files) : Type 0 where

@@ -1,4 +1,5 @@
 pub mod Folder
 pub mod Memory
 pub mod Names
+pub mod Reserve
 pub mod Store

@@ -12,10 +12,13 @@ mod folder;
 mod host;
 mod memory;
 mod name;
+mod refusal;
+mod reserve;
 mod store;
 
 pub use folder::{Folder, FolderFault};
-pub use host::HostFolder;
+pub use host::{HostFolder, make_folder};
 pub use memory::MemoryFolder;
 pub use name::{file_name, file_number};
+pub use refusal::{FolderCall, Refusal, Refusals};
 pub use store::FolderStore;

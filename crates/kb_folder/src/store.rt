@@ -1,6 +1,6 @@
 //! A store over a folder.
 
-ghost use Rattle.std.specs.Prelude.{◌≡◌, ◌+◌, ◌≤◌, ◌<◌, ℕ, length, take, drop, cond, min, None, Some, Err, IfOk, OnOk, OnErr, IsSome};
+ghost use Rattle.std.specs.Prelude.{◌≡◌, ◌+◌, ◌≤◌, ◌<◌, ◌^◌, ℕ, length, take, drop, cond, min, None, Some, Err, IfOk, OnOk, OnErr, IsSome};
 ghost use Rattle.std.specs.FinMap as map;
 ghost use Rattle.std.specs.Ordering.{nat_cmp};
 ghost use Rattle.std.specs.BTreeMap.{is_at};
@@ -8,7 +8,7 @@ ghost use Rattle.std.specs.Map.{lookup};
 ghost use Rattle.std.specs.List.{filter_map};
 ghost use Rattle.kb_store.specs.declared.fault.StoreFault.TheVariants.{Device, Memory};
 ghost use Rattle.kb_folder.specs.declared.folder.FolderFault.TheVariants as faults;
-ghost use Rattle.kb_folder.specs.Folder.{AreNumbersOf, Stays};
+ghost use Rattle.kb_folder.specs.Folder.{AreNumbersOf, Stays, HasLength, Adds};
 ghost use Rattle.kb_folder.specs.Names.{numbers_named};
 ghost use Rattle.kb_folder.specs.Store.{Foldered, counted, disk_over, table_of, AreLengths};
 
@@ -152,6 +152,55 @@ impl<F: Folder> FolderStore<F> {
     }
 }
 
+/// Adds bytes behind the end of a file, call by call, up to the last one or to a refusal. A call that takes none is one.
+/// It answers how many were added, and what refused the rest.
+fn add_on<F: Folder>(
+    folder: &mut F,
+    file: u64,
+    end: u64,
+    bytes: &[u8],
+) -> (usize, Option<FolderFault>)
+    requires there { HasLength (F.contents folder.old) file end }
+    requires fits { end + length bytes.now < 2 ^ 64 }
+    ensures count { result.0 ≤ length bytes.now }
+    ensures whole { result.1 ≡ None → result.0 ≡ length bytes.now }
+    ensures added { Adds (F.contents folder.old) file (take result.0 bytes.now) (F.contents folder.new) }
+{
+    let mut added = 0;
+    while added < bytes.len() {
+        match folder.write_end(file, end + added as u64, &bytes[added..]) {
+            Ok(0) => return (added, Some(FolderFault::Refused)),
+            Ok(taken) => added += taken,
+            Err(fault) => return (added, Some(fault)),
+        }
+    }
+    (added, None)
+}
+
+/// Adds bytes behind the end of a file, all of them. Where the folder refuses some of them, the ones that it took are cut off
+/// again, where it lets them. It answers how many were added, and what was refused.
+fn add_whole<F: Folder>(
+    folder: &mut F,
+    file: u64,
+    end: u64,
+    bytes: &[u8],
+) -> (usize, Option<FolderFault>)
+    requires there { HasLength (F.contents folder.old) file end }
+    requires fits { end + length bytes.now < 2 ^ 64 }
+    ensures count { result.0 ≤ length bytes.now }
+    ensures whole { result.1 ≡ None → result.0 ≡ length bytes.now }
+    ensures added { Adds (F.contents folder.old) file (take result.0 bytes.now) (F.contents folder.new) }
+{
+    let (added, fault) = add_on(folder, file, end, bytes);
+    if fault.is_none() || added == 0 {
+        return (added, fault);
+    }
+    match folder.cut(file, end) {
+        Ok(()) => (0, fault),
+        Err(_) => (added, fault),
+    }
+}
+
 impl<F: Folder> Store for FolderStore<F> {
     ghost use Rattle.kb_store.specs.Disk.{IsThere, len_of, bytes_of, Keeps, Creates, Appends, Cuts, Removes, MayCreate, AppendsSome};
     ghost use Rattle.kb_store.specs.Disk.{HasCause};
@@ -213,15 +262,11 @@ impl<F: Folder> Store for FolderStore<F> {
         if bytes.len() as u64 > u64::MAX - end {
             return Err(refused(&mut self.failures));
         }
-        match self.folder.write_end(file, end, bytes) {
-            Ok(taken) => {
-                set_len(&mut self.lens, file, end + taken as u64);
-                if taken < bytes.len() {
-                    return Err(refused(&mut self.failures));
-                }
-                Ok(())
-            }
-            Err(fault) => Err(fault_of(&mut self.failures, fault)),
+        let (added, fault) = add_whole(&mut self.folder, file, end, bytes);
+        set_len(&mut self.lens, file, end + added as u64);
+        match fault {
+            None => Ok(()),
+            Some(fault) => Err(fault_of(&mut self.failures, fault)),
         }
     }
 

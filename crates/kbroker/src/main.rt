@@ -12,6 +12,7 @@ mod dump;
 mod folder;
 mod found;
 mod journal;
+mod process;
 mod script;
 mod serve;
 mod words;
@@ -19,6 +20,7 @@ mod words;
 use clap::error::ErrorKind;
 use clap::{Arg, ArgAction, ArgMatches, Command};
 use kb_node::{NodeFault, Settings, StartFault, read_settings};
+use kb_process::hold_streams;
 use kb_topic_command::{TopicFault, topic, topic_command};
 use std::alloc::{AllocError, AllocFailed, Global};
 use std::process::ExitCode;
@@ -43,6 +45,12 @@ enum Fault {
     /// Another process serves the folder at this path.
     #[error("kbroker: another process serves {0}")]
     Held(String),
+    /// What the system refuses at the start.
+    #[error("kbroker: {0}")]
+    System(String),
+    /// A standard stream is closed, and nothing can be opened in its place.
+    #[error("kbroker: cannot open /dev/null: {0}")]
+    Streams(io::Error),
 }
 
 impl From<AllocError> for Fault {
@@ -156,7 +164,13 @@ fn settings_of(rt: &HostRuntime, path: &str) -> Result<Settings, StartFault> {
 }
 
 fn main(rt: HostRuntime) -> ExitCode {
-    match run(&rt) {
+    // Before anything else is opened, and until the process ends.
+    let streams = hold_streams(&rt);
+    let ran = match &streams {
+        Ok(_) => run(&rt),
+        Err(error) => Err(Fault::Streams(*error)),
+    };
+    match ran {
         Ok(()) => ExitCode::SUCCESS,
         Err(Fault::Words(e)) => {
             let _ = e.print(&rt);

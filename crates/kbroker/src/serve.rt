@@ -1,8 +1,9 @@
 //! `kbroker serve`: serves sockets, and tells of it.
 
-use crate::folder::{hold, store_in};
+use crate::folder::{hold, store_noting};
 use crate::found::lengths_in;
 use crate::journal::{Journal, Word};
+use crate::process::{FolderJournal, look_at_start};
 use crate::{Fault, settings_of};
 use clap::ArgMatches;
 use kb_journal::now;
@@ -17,7 +18,12 @@ const TURNS: u64 = 9_223_372_036_854_775_807;
 /// Serves sockets until the process is stopped, or the turns are used up.
 pub fn serve(rt: &HostRuntime, found: &ArgMatches<'_>) -> Result<(), Fault> {
     let alloc = rt.alloc();
-    let settings = settings_of(rt, found.get_str("config").unwrap_or(""))?;
+    let (config, is_quiet) = (
+        found.get_str("config").unwrap_or(""),
+        found.get_flag("quiet"),
+    );
+    let settings = settings_of(rt, config)?;
+    look_at_start(rt, config, settings.connections, is_quiet)?;
     let listing = if found.get_flag("stock-clients") {
         Listing::StockClients
     } else {
@@ -25,9 +31,10 @@ pub fn serve(rt: &HostRuntime, found: &ArgMatches<'_>) -> Result<(), Fault> {
     };
     let path = data_folder(alloc, &settings)?;
     let _held = hold(rt, path)?;
-    let mut journal = Journal::new(alloc, &settings, found.get_flag("quiet"))?;
+    let mut journal = Journal::new(alloc, &settings, is_quiet)?;
+    let mut folder_journal = FolderJournal::new(alloc, path, is_quiet)?;
     let before = lengths_in(rt, path);
-    let store = store_in(rt, path)?;
+    let store = store_noting(rt, path, folder_journal.refusals())?;
     let opened = open_broker(alloc, &settings, listing, store);
     // A refused opening may have dropped something, too.
     let after = lengths_in(rt, path);
@@ -44,7 +51,7 @@ pub fn serve(rt: &HostRuntime, found: &ArgMatches<'_>) -> Result<(), Fault> {
         return Err(Fault::Node(NodeFault::Write));
     }
     journal.tell_found(rt, now(rt), Word::Start, counts, after.as_deref());
-    turn_on(rt, &mut edge, &mut journal);
+    turn_on(rt, &mut edge, &mut journal, &mut folder_journal);
     journal.tell_stop(rt, now(rt));
     Ok(())
 }
@@ -54,11 +61,13 @@ fn turn_on<R: Net, S: Store, L: PartitionLog + Drop>(
     rt: &HostRuntime,
     edge: &mut Edge<R, S, L>,
     journal: &mut Journal,
+    folder_journal: &mut FolderJournal,
 ) {
     for _ in 0..TURNS {
         edge.wait();
         let now = now(rt);
         let turn = edge.turn(rt.alloc(), now);
         journal.tell(rt, edge, &turn, now);
+        folder_journal.tell(rt, now);
     }
 }

@@ -4,8 +4,8 @@ use crate::console::LineFault;
 use kb_client::ClientFault;
 use kb_wire::ErrorCode;
 use std::alloc::{AllocError, AllocFailed};
-use std::fmt;
 use std::fmt::{Display, Formatter, Write};
+use std::{fmt, io};
 
 /// Why the program ends early.
 #[derive(Debug, Drop)]
@@ -18,6 +18,8 @@ pub enum Fault {
     Client(ClientFault),
     /// The line of this number has more than 1,000,000 bytes.
     LineTooLong(u64),
+    /// A standard stream is closed, and nothing can be opened in its place.
+    Streams(io::Error),
     /// Standard input.
     Read,
     /// Standard output.
@@ -36,6 +38,7 @@ impl Display for Fault {
                 f.write_str(meaning(*fault))
             }
             Fault::LineTooLong(number) => write!(f, "line too long: {number}"),
+            Fault::Streams(error) => write!(f, "cannot open /dev/null: {error}"),
             Fault::Read => f.write_str("read fault"),
             Fault::Write => f.write_str("write fault"),
             Fault::Memory => f.write_str("out of memory"),

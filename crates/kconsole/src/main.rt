@@ -15,6 +15,7 @@ mod words;
 
 use console::Task;
 use fault::Fault;
+use kb_process::hold_streams;
 use std::process::ExitCode;
 
 fn run(rt: &HostRuntime) -> Result<(), Fault> {
@@ -27,7 +28,13 @@ fn run(rt: &HostRuntime) -> Result<(), Fault> {
 }
 
 fn main(rt: HostRuntime) -> ExitCode {
-    match run(&rt) {
+    // Before anything else is opened, and until the process ends.
+    let streams = hold_streams(&rt);
+    let ran = match &streams {
+        Ok(_) => run(&rt),
+        Err(error) => Err(Fault::Streams(*error)),
+    };
+    match ran {
         Ok(()) => ExitCode::SUCCESS,
         Err(Fault::Words(e)) => {
             let _ = e.print(&rt);

@@ -1,0 +1,33 @@
+use Rattle.std.proofs.Common.{◌≡◌, ◌+◌, take, subst, refl, arith, rules}
+use Rattle.std.proofs.lemmas.List.{length-take-le}
+use Rattle.kb_folder.specs.Folder.{Adds}
+use Rattle.kb_folder.proofs.Adding.{adds_none, has_added, adds_next}
+use Rattle.kb_folder.proofs.store.add_on.Goals as goal
+
+pub loop-added-init : goal.loop-added-init
+loop-added-init g c =
+    let had = g.F.Folder.contents c.args.folder.now in
+    record { count = omega arith; adds = adds_none had had c.args.file c.args.end c.requires.there (record { honest = λ h. h; files = λ h. refl }) }
+
+pub write_end-requires : goal.write_end-requires
+write_end-requires g c = λ h.
+    let i = c.loop-added.invariant in
+    has_added (g.F.Folder.contents c.args.folder.now) (g.F.Folder.contents c.loop-added.folder) c.args.file (take c.loop-added.added c.args.bytes.now) c.args.end (c.args.end + c.loop-added.added) c.requires.there i.adds
+    (omega (arith, length-take-le c.loop-added.added c.args.bytes.now i.count)) h
+
+pub returns-in-Ok-eq0-clause-added : goal.returns-in-Ok-eq0-clause-added
+returns-in-Ok-eq0-clause-added g c =
+    let i = c.loop-added.invariant in
+    let had = g.F.Folder.contents c.args.folder.now in
+    let new = g.F.Folder.contents c.write_end.new.self in
+    let none : c.loop-added.added + c.in-Ok-eq0.field-0 ≡ c.loop-added.added = omega (arith, c.in-Ok-eq0.field-0-is) in
+    subst (λ m. Adds had c.args.file (take m c.args.bytes.now) new) none
+    (adds_next had (g.F.Folder.contents c.loop-added.folder) c.args.file new c.args.bytes.now c.loop-added.added c.in-Ok-eq0.field-0 i.adds c.in-Ok-eq0.ensures.written)
+
+pub loop-added-preserved : goal.loop-added-preserved
+loop-added-preserved g c =
+    let i = c.loop-added.invariant in
+    record {
+      count = search rules;
+      adds = adds_next (g.F.Folder.contents c.args.folder.now) (g.F.Folder.contents c.loop-added.folder) c.args.file (g.F.Folder.contents c.write_end.new.self) c.args.bytes.now c.loop-added.added c.in-Ok.taken i.adds c.in-Ok.ensures.written;
+    }

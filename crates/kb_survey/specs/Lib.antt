@@ -1,2 +1,4 @@
 pub mod Changes
 pub mod Postponed
+pub mod Stray
+pub mod Whole

@@ -1,11 +1,10 @@
 -- The batches that are found in some bytes, from the first one on.
-use Rattle.std.proofs.Common.{◌≡◌, ◌∙◌, ◌≤◌, ◌<◌, ◌+◌, ◌-◌, ◌++◌, ℕ, zero, suc, Bool, true, false, cond, List, [], ◌∷◌, length, drop, Option, Some, None, refl, sym, ap, subst, arith, length-drop}
+use Rattle.std.proofs.Common.{◌≡◌, ◌∙◌, ◌≤◌, ◌<◌, ◌+◌, ℕ, zero, suc, true, false, cond, List, [], ◌∷◌, length, drop, Option, Some, None, refl, ap, arith, length-drop}
 use Rattle.std.specs.List.{concat, filter}
 use Rattle.std.proofs.lemmas.List.{length-append}
 use Rattle.kb_batch.specs.Batch.{front}
 use Rattle.kb_survey.specs.declared.whole.Whole.{Whole}
 use Rattle.kb_survey.specs.Whole.{batches_in, ends_above, found_in, going_on, together, whole_in, whole_of}
-
 
 same_steps : ((s b : List ℕ) → front s ≡ Some b → 1 ≤ length b) → (n m : ℕ) (s : List ℕ) → length s ≤ n → length s ≤ m → found_in n s ≡ found_in m s
 same_steps long zero zero s l k = refl

@@ -1,5 +1,5 @@
 -- Why a file is of no log, by what its first bytes say.
-use Rattle.std.specs.Prelude.{◌==◌, ◌&&◌, ℕ, Bool, nat_le, nat_lt, List, [], ◌∷◌, length, take, Option, Some, None, if◌then◌else◌}
+use Rattle.std.specs.Prelude.{◌==◌, ◌&&◌, ℕ, Bool, true, false, nat_le, nat_lt, List, [], ◌∷◌, length, take, Option, Some, None, if◌then◌else◌}
 use Rattle.std.specs.Int.{w16, w32}
 use Rattle.std.specs.Str.{bytes_eq}
 use Rattle.kb_batch.specs.Batch.{is_natural, natural}
@@ -37,3 +37,13 @@ stray_read s (Some h) names nexts = stray_with h names nexts
 -- has 35 bytes.
 abbrev pub stray_of : List ℕ → List (List ℕ) → List ℕ → Stray
 stray_of s names nexts = if nat_lt (length s) 35 then Short else stray_read s (header_in s) names nexts
+
+-- it is of a topic or a kind of file that the tenants' catalogs do not know yet
+abbrev pub is_unfit : Stray → Bool
+is_unfit NeverGivenOut = true
+is_unfit LaterVersion = true
+is_unfit LaterGeneration = true
+is_unfit Short = false
+is_unfit Unreadable = false
+is_unfit OfNobody = false
+is_unfit OfNoTopic = false

@@ -33,3 +33,6 @@ whole_in start s = whole_of (filter (ends_above start) (batches_in s))
 
 abbrev pub together : Whole → Whole → Whole
 together a b = record { batches = a.batches + b.batches; bytes = a.bytes + b.bytes }
+
+abbrev pub none : Whole
+none = record { batches = 0; bytes = 0 }

@@ -6,10 +6,12 @@
 #![tactic(auto)]
 
 mod change;
+mod look;
 mod postponed;
 mod stray;
 mod whole;
 
+pub use look::{header_among, stray_among, whole_among};
 pub use postponed::Postponed;
 pub use stray::{Stray, read_stray};
 pub use whole::{Whole, whole_batches};

@@ -51,6 +51,7 @@ pub struct Survey {
 }
 
 /// What is known of an opening.
+#[derive(Drop)]
 pub struct Opening<'a> {
     /// The tenants, in byte order.
     pub names: &'a [&'a str],

@@ -10,7 +10,8 @@ use Rattle.std.specs.FinMap.{FinMap, get, insert, remove, entries, entries_sorte
 use Rattle.std.specs.FinMap.Entries.{find, find-where_key, is_sorted, is_sorted-where_key, below_all, where_key}
 use Rattle.kb_store.proofs.Maps.{get_inserted, get_other, get_removed, get_kept}
 use Rattle.kb_store.specs.Disk.{Table}
-use Rattle.kb_survey.specs.Changes.{ArePossible, IsPossible, is_removal, removes, table_after, table_with}
+use Rattle.kb_survey.specs.Changes.{ArePossible, IsPossible, is_removal, length_after, removes, table_after, table_with}
+use Rattle.kb_survey.proofs.Changes.{length_is}
 use Rattle.kb_survey.specs.declared.change.Change.{Change}
 use Rattle.kb_survey.specs.declared.change.Change.TheVariants.{Cut, Remove}
 
@@ -137,3 +138,27 @@ keys_after cs t can =
     same_keys (table_after cs t) (where_number (λ q. not (removes cs q)) t) (λ q.
     left_after cs t q can ∙ sym (ap is_some (get_where (λ q. not (removes cs q)) t q) ∙ is_some_cond (not (removes cs q)) (get t q)))
     ∙ keys_where_number (λ q. not (removes cs q)) t
+
+none_is : {X : Type 0} (o : Option X) → is_some o ≡ false → None ≡ o
+none_is None e = refl
+none_is (Some x) e = absurd cc
+
+some_least : (o : Option ℕ) → is_some o ≡ true → o ≡ Some (unwrap_or o 0)
+some_least None e = absurd cc
+some_least (Some x) e = refl
+
+there_is : (o : Option ℕ) → is_some o ≡ true → IsSome o
+there_is None e = absurd cc
+there_is (Some x) e = refl
+
+-- what is left of a file that some change removes
+pub left_none : (cs : List Change) (t : Table) (q : ℕ) → ArePossible cs t → removes cs q ≡ true → None ≡ get (table_after cs t) q
+left_none cs t q can gone = none_is (get (table_after cs t) q) (left_after cs t q can ∙ ap (λ b. not b && is_some (get t q)) gone)
+
+-- and of one that none does
+pub left_some : (cs : List Change) (t : Table) (q n : ℕ) → ArePossible cs t → removes cs q ≡ false → get t q ≡ Some n
+    → Some (length_after cs q n) ≡ get (table_after cs t) q
+left_some cs t q n can stays has =
+    let there : is_some (get (table_after cs t) q) ≡ true = left_after cs t q can ∙ ap (λ b. not b && is_some (get t q)) stays ∙ ap is_some has in
+    ap (λ o. Some (length_after cs q (unwrap_or o 0))) (sym has)
+    ∙ ap Some (sym (length_is cs t q can (there_is (get (table_after cs t) q) there))) ∙ sym (some_least (get (table_after cs t) q) there)

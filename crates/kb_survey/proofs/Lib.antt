@@ -1,2 +1,4 @@
 pub mod Changes
+pub mod Found
 pub mod Keys
+pub mod Listed

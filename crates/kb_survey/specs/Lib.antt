@@ -1,2 +1,5 @@
 pub mod Changes
+pub mod Listed
 pub mod Postponed
+pub mod Stray
+pub mod Whole

@@ -68,7 +68,7 @@ pub(crate) fn numbers_left(
 
 /// Whether one of some changes removes a file.
 #[tactic(auto, using(crate::proofs::Changes::removes_both))]
-fn removes(changes: &VecDeque<Change>, file: u64) -> bool
+pub(crate) fn removes(changes: &VecDeque<Change>, file: u64) -> bool
     ensures { result ≡ removes changes.now.items file }
 {
     let (front, back) = changes.as_slices();

@@ -1,9 +1,9 @@
 //! A store that puts off what is cut and removed.
-ghost use Rattle.std.specs.Prelude.{◌≡◌, ◌+◌, ◌≤◌, ◌<◌, ◌^◌, true, false, [], IfOk, OnOk, OnErr, length, take, drop, None};
+ghost use Rattle.std.specs.Prelude.{◌≡◌, ◌+◌, ◌≤◌, ◌<◌, ◌^◌, true, false, [], IfOk, OnOk, OnErr, length, take, drop, None, Some};
 ghost use Rattle.std.specs.FinMap as map;
 ghost use Rattle.kb_survey.specs.Postponed.{Postponing, disk_with, IsUntouched};
 
-use crate::change::{Change, length_after, make_all, numbers_left};
+use crate::change::{Change, length_after, make_all, numbers_left, removes};
 use kb_store::{Store, StoreFault};
 use std::alloc::Global;
 use std::collections::VecDeque;
@@ -46,6 +46,16 @@ impl<S: Store> Postponed<S> {
             put_off: VecDeque::new(alloc),
             waits: true,
         }
+    }
+
+    /// How many bytes a file has to callers that has so many in the store inside; none where it was removed.
+    pub fn left(&self, file: u64, len: u64) -> Option<u64>
+        ensures { map.get (S.disk self.now.store).table file ≡ Some len → result ≡ map.get (disk_with S.disk self.now).table file }
+    {
+        if removes(&self.put_off, file) {
+            return None;
+        }
+        Some(length_after(&self.put_off, file, len))
     }
 }
 

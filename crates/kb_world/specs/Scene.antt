@@ -4,7 +4,8 @@ use Rattle.kb_store.specs.Disk.{Disk}
 use Rattle.kb_log.specs.OnShelf.{Spares, Accounts}
 
 -- Some logs at one moment: which files are theirs; what holds of the files' numbers and lengths on any store; whether nothing but
--- their batches is in the files, by their lengths, and their memory tells what retention asks of each first batch; what holds of their bytes where the store is honest; the disk of the shelf and
+-- their batches is in the files, by their lengths, and their memory tells what retention asks of each first batch; what holds of their
+-- bytes where the store is honest; the disk of the shelf and
 -- its next file number; and what the tenant sees of the logs.
 pub record Scene (W : Type 0) : Type 1 where
   pub owns : ℕ → Type 0

@@ -152,6 +152,13 @@ impl<L: PartitionLog> Parts<L> {
         self.catalog.len()
     }
 
+    /// The instance that the next topic gets.
+    pub fn next_instance(&self) -> u64
+        ensures { result ≡ (known self.now.catalog).creates }
+    {
+        self.catalog.next_instance()
+    }
+
     /// How many producer ids were given out.
     pub fn issued(&self) -> u64
         ensures { (files : Files) → result ≡ (world_of L.log self.now files).known.issues }

@@ -1,13 +1,13 @@
 //! What is told on standard error while a data folder is open: a line each, with the time.
 
-ghost use Rattle.std.specs.Prelude.{◌≤◌, ◌^◌, IfSome};
-ghost use Rattle.kb_restart.specs.Lengths.{AreRising};
+ghost use Rattle.std.specs.Prelude.{◌≤◌, ◌^◌};
 
+use crate::survey::StrayCounts;
 use kb_broker::Broker;
 use kb_journal::{Pace, Tally, time_text};
 use kb_log::PartitionLog;
 use kb_node::{Edge, Settings, Store, Turn, tenant_names};
-use kb_restart::{Counts, Dropped, FileLength, FileTotal, dropped_between};
+use kb_restart::{Counts, Dropped, FileLength, FileTotal};
 use std::alloc::{AllocError, Global};
 use std::net::Net;
 
@@ -53,44 +53,47 @@ impl Journal {
         })
     }
 
-    /// What an opening dropped of the files that a folder had: a line for each file that is gone or shorter, where the lengths of both
-    /// times could be had.
-    pub fn tell_dropped(
-        &self,
-        rt: &HostRuntime,
-        now: u64,
-        before: Option<&[FileLength]>,
-        after: Option<&[FileLength]>,
-    )
-        requires before { IfSome before (λ files. AreRising files.now) }
-        requires after { IfSome after (λ files. AreRising files.now) }
-    {
-        let (false, Some(before), Some(after)) = (self.is_quiet, before, after) else {
+    /// What an opening dropped of the files that a folder had: a line for each.
+    pub fn tell_dropped(&self, rt: &HostRuntime, now: u64, drops: &[Dropped]) {
+        if self.is_quiet {
             return;
-        };
-        let Ok(drops) = dropped_between(rt.alloc(), before, after) else {
-            return;
-        };
-        for drop in &drops {
+        }
+        for drop in drops {
             tell_drop(rt, now, drop);
         }
     }
 
-    /// What was found in the folder, behind a word: so many tenants, topics, partitions and stray files, and so many files and bytes,
-    /// where their lengths could be had.
+    /// The files that an opening left aside: of tenants that no user names, a line each, and of a first write that was cut short.
+    pub fn tell_strays(&self, rt: &HostRuntime, now: u64, strays: &StrayCounts) {
+        if self.is_quiet {
+            return;
+        }
+        let time = time_of(rt, now);
+        for (tenant, files) in &strays.of_nobody {
+            let _ = eprintln!(rt;
+                "{time} stray files of tenant {tenant}, which no user names: {files}"
+            );
+        }
+        if strays.short > 0 {
+            let short = strays.short;
+            let _ = eprintln!(rt; "{time} stray files that are shorter than a header: {short}");
+        }
+    }
+
+    /// What was found in the folder, behind a word: so many tenants, topics, partitions and stray files, and so many files and bytes.
     pub fn tell_found(
         &self,
         rt: &HostRuntime,
         now: u64,
         word: Word,
         counts: Counts,
-        files: Option<&[FileLength]>,
+        files: &[FileLength],
     ) {
         if self.is_quiet {
             return;
         }
         let time = time_of(rt, now);
-        let holds = found_text(rt.alloc(), counts, files.map(FileTotal::of));
+        let holds = found_text(rt.alloc(), counts, FileTotal::of(files));
         let connections = self.connections;
         let _ = match word {
             Word::Start => {
@@ -195,21 +198,17 @@ fn tenants_of(alloc: Global, settings: &Settings) -> Result<Vec<Tenant>, AllocEr
 }
 
 /// What was found, which is empty where there is no memory for it.
-fn found_text(alloc: Global, counts: Counts, total: Option<FileTotal>) -> String {
+fn found_text(alloc: Global, counts: Counts, total: FileTotal) -> String {
     let Counts {
         tenants,
         topics,
         partitions,
         strays,
     } = counts;
-    let text = match total {
-        Some(FileTotal { files, bytes }) => format!(in alloc;
-            "tenants {tenants}, topics {topics}, partitions {partitions}, files {files}, bytes {bytes}, stray files {strays}"
-        ),
-        None => format!(in alloc;
-            "tenants {tenants}, topics {topics}, partitions {partitions}, stray files {strays}"
-        ),
-    };
+    let FileTotal { files, bytes } = total;
+    let text = format!(in alloc;
+        "tenants {tenants}, topics {topics}, partitions {partitions}, files {files}, bytes {bytes}, stray files {strays}"
+    );
     text.unwrap_or(String::new(alloc))
 }
 

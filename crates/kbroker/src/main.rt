@@ -10,11 +10,12 @@
 mod check;
 mod dump;
 mod folder;
-mod found;
 mod journal;
+mod judge;
 mod process;
 mod script;
 mod serve;
+mod survey;
 mod words;
 
 use clap::error::ErrorKind;
@@ -51,6 +52,12 @@ enum Fault {
     /// A standard stream is closed, and nothing can be opened in its place.
     #[error("kbroker: cannot open /dev/null: {0}")]
     Streams(io::Error),
+    /// A start would lose whole batches.
+    #[error("kbroker: {0}. Nothing was changed. Copy the folder first; then start with --drop-damaged to go on without them.")]
+    Damaged(String),
+    /// Files are there that the settings do not fit.
+    #[error("kbroker: {0}. Nothing was changed. Restore all files of a backup together into an empty folder, or start with --accept-strays to go on beside them: what is written then may be dropped later.")]
+    Strays(String),
 }
 
 impl From<AllocError> for Fault {
@@ -102,13 +109,14 @@ fn command<'a>(alloc: Global) -> Result<Command<'a>, AllocError> {
         .arg(config(alloc).required(true))?
         .arg(stock_clients)?
         .arg(quiet)?;
+    let serve = judge::with_consent(alloc, serve)?;
     let check = Command::new(alloc, "check")
         .about("Says what settings come to, or which key is wrong")
         .arg(config(alloc).required(true))?;
     Command::new(alloc, "kbroker")
         .about("A message broker for many tenants that speaks the Kafka protocol")
         .subcommand_required(true)
-        .subcommand(script::script_command(alloc)?)?
+        .subcommand(judge::with_consent(alloc, script::script_command(alloc)?)?)?
         .subcommand(serve)?
         .subcommand(check)?
         .subcommand(dump::dump_command(alloc)?)?

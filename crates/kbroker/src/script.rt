@@ -1,8 +1,8 @@
 //! `kbroker script`: plays a script of events.
 
 use crate::folder::{hold, store_in};
-use crate::found::lengths_in;
 use crate::journal::{Journal, Word};
+use crate::judge::{Consent, judge};
 use crate::{Fault, config, settings_of};
 use clap::{Arg, ArgAction, ArgMatches, Command};
 use kb_broker::ScriptFault;
@@ -11,7 +11,8 @@ use kb_log::ListLog;
 use kb_node::{
     Listing, NodeFault, Settings, StartFault, Store, play_script, play_script_on, play_script_with,
 };
-use kb_restart::{Restarted, open_broker};
+use kb_restart::{Restarted, file_lengths, open_broker};
+use kb_survey::Postponed;
 use std::alloc::{AllocError, Global};
 use std::io;
 use std::io::{BufRead, BufReader, BufWriter, Write};
@@ -42,11 +43,14 @@ pub fn script(rt: &HostRuntime, found: &ArgMatches<'_>) -> Result<(), Fault> {
     let Ok(mut writer) = BufWriter::new(alloc, io::writer(rt)) else {
         return Err(Fault::Node(NodeFault::Memory));
     };
+    let consent = Consent::of(found);
     match (found.get_str("data"), settings) {
-        (Some(path), Some(settings)) => script_on(rt, &settings, path, &mut reader, &mut writer),
+        (Some(path), Some(settings)) => {
+            script_on(rt, &settings, path, consent, &mut reader, &mut writer)
+        }
         (Some(path), None) => {
             let settings = Settings::standard(alloc)?;
-            script_on(rt, &settings, path, &mut reader, &mut writer)
+            script_on(rt, &settings, path, consent, &mut reader, &mut writer)
         }
         (None, Some(settings)) => Ok(play_script_with::<ListLog, _, _>(
             alloc,
@@ -63,24 +67,30 @@ fn script_on<R: BufRead, W: Write>(
     rt: &HostRuntime,
     settings: &Settings,
     path: &str,
+    consent: Consent,
     reader: &mut R,
     writer: &mut W,
 ) -> Result<(), Fault> {
     let alloc = rt.alloc();
     let mut journal = Journal::new(alloc, settings, false)?;
     let _held = hold(rt, path)?;
-    let before = lengths_in(rt, path);
-    let store = store_in(rt, path)?;
-    let opened = open_broker(alloc, settings, Listing::Served, store);
-    // A refused opening may have dropped something, too.
-    let after = lengths_in(rt, path);
-    journal.tell_dropped(rt, now(rt), before.as_deref(), after.as_deref());
+    let mut store = store_in(rt, path)?;
+    let before = file_lengths(alloc, &mut store)?;
+    let opened = open_broker(
+        alloc,
+        settings,
+        Listing::Served,
+        Postponed::new(alloc, store),
+    )
+    .map_err(|refused| StartFault::from(refused.fault))?;
+    let files = judge(rt, settings, path, consent, &before, &opened, &journal)?;
     let Restarted {
         mut broker,
         strays: _,
         counts,
-    } = opened.map_err(|refused| StartFault::from(refused.fault))?;
-    journal.tell_found(rt, now(rt), Word::Found, counts, after.as_deref());
+        next_instances: _,
+    } = opened;
+    journal.tell_found(rt, now(rt), Word::Found, counts, &files);
     let played = play_script_on(alloc, &mut broker, reader, writer);
     journal.tell_refusals(rt, &broker, now(rt));
     match played {

@@ -1,15 +1,16 @@
 //! `kbroker serve`: serves sockets, and tells of it.
 
 use crate::folder::{hold, store_noting};
-use crate::found::lengths_in;
 use crate::journal::{Journal, Word};
+use crate::judge::{Consent, judge};
 use crate::process::{FolderJournal, look_at_start};
 use crate::{Fault, settings_of};
 use clap::ArgMatches;
 use kb_journal::now;
 use kb_log::PartitionLog;
 use kb_node::{Edge, Limits, Listing, NodeFault, StartFault, Store, data_folder};
-use kb_restart::{Restarted, open_broker};
+use kb_restart::{Restarted, file_lengths, open_broker};
+use kb_survey::Postponed;
 use std::net::Net;
 
 /// How often the edge is turned at most.
@@ -33,24 +34,26 @@ pub fn serve(rt: &HostRuntime, found: &ArgMatches<'_>) -> Result<(), Fault> {
     let _held = hold(rt, path)?;
     let mut journal = Journal::new(alloc, &settings, is_quiet)?;
     let mut folder_journal = FolderJournal::new(alloc, path, is_quiet)?;
-    let before = lengths_in(rt, path);
-    let store = store_noting(rt, path, folder_journal.refusals())?;
-    let opened = open_broker(alloc, &settings, listing, store);
-    // A refused opening may have dropped something, too.
-    let after = lengths_in(rt, path);
-    journal.tell_dropped(rt, now(rt), before.as_deref(), after.as_deref());
+    let mut store = store_noting(rt, path, folder_journal.refusals())?;
+    let before = file_lengths(alloc, &mut store)?;
+    let opened = open_broker(alloc, &settings, listing, Postponed::new(alloc, store)).map_err(
+        |refused| StartFault::from(refused.fault),
+    )?;
+    let consent = Consent::of(found);
+    let files = judge(rt, &settings, path, consent, &before, &opened, &journal)?;
     let Restarted {
         broker,
         strays: _,
         counts,
-    } = opened.map_err(|refused| StartFault::from(refused.fault))?;
+        next_instances: _,
+    } = opened;
     let address = format!(in alloc; "{}:{}", settings.host, settings.port)?;
     let limits = Limits::of(&settings);
     let mut edge = Edge::watching(rt, alloc, broker, &address, limits).map_err(StartFault::from)?;
     if println!(rt; "listening on {}:{}", settings.host, edge.port()).is_err() {
         return Err(Fault::Node(NodeFault::Write));
     }
-    journal.tell_found(rt, now(rt), Word::Start, counts, after.as_deref());
+    journal.tell_found(rt, now(rt), Word::Start, counts, &files);
     turn_on(rt, &mut edge, &mut journal, &mut folder_journal);
     journal.tell_stop(rt, now(rt));
     Ok(())

@@ -274,3 +274,48 @@ pub returns-in_err-directory-clause-lost_nothing : goal.returns-in_err-directory
 returns-in_err-directory-clause-lost_nothing g c = λ h t name at.
     let first = g.S.Store.disk c.args.shelf.now.store in
     named_still c.args.files.now (map (λ name. name.now) c.args.names.now) first (g.S.Store.disk c.read.new.shelf.store) c.requires.there c.in_err-directory.ensures.unchanged h t name at
+
+pub returns-in_err-next_instances-clause-others : goal.returns-in_err-next_instances-clause-others
+returns-in_err-next_instances-clause-others g c =
+    let first = g.S.Store.disk c.args.shelf.now.store in
+    let mid = g.S.Store.disk c.read.new.shelf.store in
+    let now = g.S.Store.disk c.open_tenants.new.shelf.store in
+    let files = c.args.files.now in
+    let names = map (λ name. name.now) c.args.names.now in
+    let next = c.args.shelf.now.next in
+    let d = c.in_ok-directory.directory in
+    let e = c.in_ok-directory.ensures in
+    let q = c.requires in
+    λ h. cleared first files next q.there q.given_out q.once d e.all names (e.what (c.in_ok-parts.ensures.others.honest h)) mid now (length c.args.names.now) e.unchanged (sym (length-map c.args.names.now (λ name. name.now))) c.in_ok-parts.ensures.others
+
+pub returns-in_err-next_instances-clause-headers : goal.returns-in_err-next_instances-clause-headers
+returns-in_err-next_instances-clause-headers g c = λ h.
+    let first = g.S.Store.disk c.args.shelf.now.store in
+    let mid = g.S.Store.disk c.read.new.shelf.store in
+    let now = g.S.Store.disk c.open_tenants.new.shelf.store in
+    let files = c.args.files.now in
+    let names = map (λ name. name.now) c.args.names.now in
+    let d = c.in_ok-directory.directory in
+    let e = c.in_ok-directory.ensures in
+    let f = c.in_ok-parts.ensures in
+    let q = c.requires in
+    let before = f.others.honest h in
+    let dir = e.what before in
+    let headed = subst (λ (fs : Files). AreOwnedNamed names c.args.segment_bytes fs d) (sym (e.unchanged.files before)) (all_headed first.files names files d dir c.args.segment_bytes) in
+    headers_then first mid now (kept_headers first mid e.unchanged before) (f.headers h headed)
+
+pub returns-in_err-next_instances-clause-lost_nothing : goal.returns-in_err-next_instances-clause-lost_nothing
+returns-in_err-next_instances-clause-lost_nothing g c = λ h t name at.
+    let first = g.S.Store.disk c.args.shelf.now.store in
+    let mid = g.S.Store.disk c.read.new.shelf.store in
+    let now = g.S.Store.disk c.open_tenants.new.shelf.store in
+    let files = c.args.files.now in
+    let names = map (λ name. name.now) c.args.names.now in
+    let d = c.in_ok-directory.directory in
+    let e = c.in_ok-directory.ensures in
+    let f = c.in_ok-parts.ensures in
+    let q = c.requires in
+    let before = f.others.honest h in
+    let dir = e.what before in
+    let headed = subst (λ (fs : Files). AreOwnedNamed names c.args.segment_bytes fs d) (sym (e.unchanged.files before)) (all_headed first.files names files d dir c.args.segment_bytes) in
+    tenant_kept (owners_of first.files files name) first mid now e.unchanged before (subst (λ (of : Owners). TenantLosesNothing of mid now) (same_owners first files c.args.shelf.now.next q.there q.given_out q.once d e.all names dir t name at) (f.lost_nothing h headed t))

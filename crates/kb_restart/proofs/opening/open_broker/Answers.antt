@@ -405,3 +405,16 @@ returns-in-Ok-open_all-clause-counts g c =
     ∙ ap (λ (qs : List (Parts SegmentLog)). counts_of (map had qs) strays) c.deref-in-Ok-open_all.ensures.value
     ∙ ap (λ (ks : List Known). counts_of ks strays) (knowns_restored files last ps many ∙ sym (ap (map has) hosts))
     ∙ ap (counts_of (map has c.in_ok-broker-in-Ok-open_all.broker.state.tenants)) c.deref-in-Ok-open_all-2.ensures.value
+
+pub returns-in-Ok-open_all-clause-next_instances : goal.returns-in-Ok-open_all-clause-next_instances
+returns-in-Ok-open_all-clause-next_instances g c =
+    let ps = c.in-Ok-open_all.parts.items in
+    let shown = λ (name : Bor (List ℕ)). name.now in
+    let has = λ (x : TenantState). x.kept.world.known in
+    let last = map shown c.deref-in-Ok-open_all-3.result.now in
+    let again = ap (map shown) c.deref-in-Ok-open_all-3.ensures.value ∙ sym (ap (map shown) c.deref-2.ensures.value) in
+    let many : length ps ≡ length last = c.in-Ok-open_all.ensures.count ∙ sym (length-map c.deref-2.result.now shown) ∙ sym (ap length again) in
+    let hosts = ap (λ s. s.tenants) c.in_ok-broker-in-Ok-open_all.ensures.state ∙ c.in_ok-tenants-in-Ok-open_all.ensures.hosted in
+    let files = (g.S.Store.disk c.open_all.new.shelf.store).files in
+    c.in-Ok-open_all.ensures.next_instances
+    ∙ ap (map (λ (k : Known). k.creates)) (knowns_restored files last ps many ∙ sym (ap (map has) hosts))

@@ -1,0 +1,49 @@
+-- Why a file is of no log, by what its first bytes say.
+use Rattle.std.specs.Prelude.{◌==◌, ◌&&◌, ℕ, Bool, true, false, nat_le, nat_lt, List, [], ◌∷◌, length, take, Option, Some, None, if◌then◌else◌}
+use Rattle.std.specs.Int.{w16, w32}
+use Rattle.std.specs.Str.{bytes_eq}
+use Rattle.kb_batch.specs.Batch.{is_natural, natural}
+use Rattle.kb_batch.specs.Header.{number_at}
+use Rattle.kb_segment.specs.Header.{Header, header_in}
+use Rattle.kb_survey.specs.declared.stray.Stray.{Stray}
+use Rattle.kb_survey.specs.declared.stray.Stray.TheVariants.{Short, Unreadable, LaterVersion, LaterGeneration, OfNobody, NeverGivenOut, OfNoTopic}
+
+-- of some tenants' next instances that of the tenant of a name
+abbrev pub next_of : List ℕ → List (List ℕ) → List ℕ → Option ℕ
+next_of name [] nexts = None
+next_of name (n ∷ names) [] = None
+next_of name (n ∷ names) (next ∷ nexts) = if bytes_eq name n then Some next else next_of name names nexts
+
+-- A file of a topic is of none that was ever made where its instance was not given out yet.
+abbrev pub stray_by : Header → Option ℕ → Stray
+stray_by h None = OfNobody
+stray_by h (Some next) = if is_natural 0 h.kind && nat_le next (natural h.instance) then NeverGivenOut else OfNoTopic
+
+abbrev pub stray_with : Header → List (List ℕ) → List ℕ → Stray
+stray_with h names nexts = if is_natural 0 h.generation then stray_by h (next_of h.tenant names nexts) else LaterGeneration
+
+-- six bytes begin a header of a version above 2
+abbrev pub is_later : List ℕ → Bool
+is_later s = (number_at w32 0 s == 1262637895) && nat_lt 2 (number_at w16 4 s)
+
+abbrev pub unreadable : List ℕ → Stray
+unreadable s = if is_later (take 6 s) then LaterVersion else Unreadable
+
+abbrev pub stray_read : List ℕ → Option Header → List (List ℕ) → List ℕ → Stray
+stray_read s None names nexts = unreadable s
+stray_read s (Some h) names nexts = stray_with h names nexts
+
+-- Why a file of those bytes is of no log of those tenants, whose catalogs have not given out those instances yet. The shortest header
+-- has 35 bytes.
+abbrev pub stray_of : List ℕ → List (List ℕ) → List ℕ → Stray
+stray_of s names nexts = if nat_lt (length s) 35 then Short else stray_read s (header_in s) names nexts
+
+-- it is of a topic or a kind of file that the tenants' catalogs do not know yet
+abbrev pub is_unfit : Stray → Bool
+is_unfit NeverGivenOut = true
+is_unfit LaterVersion = true
+is_unfit LaterGeneration = true
+is_unfit Short = false
+is_unfit Unreadable = false
+is_unfit OfNobody = false
+is_unfit OfNoTopic = false

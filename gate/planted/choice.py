@@ -88,15 +88,15 @@ def is_current(crate, edit: str, was: Dict[str, Tried]) -> bool:
 
 
 def chosen(crates, edits, below: Libraries) -> Dict[str, List[str]]:
-    """What the gate tries, as far as there is room; says which. First the edits whose texts changed since they were tried, then those that
-    never were, then those tried longest ago."""
+    """What the gate tries, as far as there is room; says which. First the edits whose texts changed since they were refused, then those
+    tried longest ago, and last those that were never refused, which wait for a person's trial."""
     was = known()
     age = {name: number for number, name in enumerate(was)}
     rows = []
     for crate in crates.values():
         for edit in edits[crate.name]:
             name = name_of(crate, edit)
-            kind = 1 if name not in was else 2 if is_current(crate, edit, was) else 0
+            kind = 2 if name not in was or not was[name].holds else 1 if is_current(crate, edit, was) else 0
             rows.append((kind, age.get(name, 0), crate.name, edit))
     rows.sort(key=lambda it: it[:2])
     taken: Dict[str, List[str]] = {}
@@ -114,8 +114,8 @@ def chosen(crates, edits, below: Libraries) -> Dict[str, List[str]]:
         spent += costs
     for name, picked in taken.items():
         print(f"wrong bodies: of {name} {len(picked)} of its {len(edits[name])} edits")
-    print("wrong bodies: chosen: {} changed since they were tried, {} never tried, {} tried longest ago".format(*kinds))
-    print("wrong bodies: left out: {} changed, {} never tried, {} others".format(*left))
+    print("wrong bodies: chosen: {} changed since they were refused, {} refused longest ago, {} not refused yet".format(*kinds))
+    print("wrong bodies: left out: {} changed, {} others, {} not refused yet; gate/wrong_bodies --all --record tries them".format(*left))
     return taken
 
 

@@ -2,116 +2,139 @@
 import hashlib
 import os
 import re
-import subprocess
-from typing import Dict, List, NamedTuple
+from typing import Dict, List, NamedTuple, Optional
 
+from planted.libraries import Libraries, lines_of
 from planted.prover import LIB
 
-# A line for each crate: its name, the sum of its texts, how many edits were refused, and the processor seconds that they took.
+# A line for each edit, the longest tried first: crate and edit, a sum of the texts that it was judged by and of the edit itself,
+# the processor seconds that it took, and, where only goals of a new path are open, the clause that is false, in a person's words.
 TRIED = "gate/tried"
+HEAD = "# Written by gate/wrong_bodies --record, oldest first: edit, sum of what it is judged by and of itself, seconds, by: clause\n"
 # What the chosen edits may take, in processor seconds.
 ROOM = 8 * 60
-# What a line of a crate takes to prove, and what an edit takes where none was tried yet, in processor seconds.
-A_LINE = 0.06
-AN_EDIT = 15.0
+# What the first check of a crate takes over built libraries, what a line of a library that is not built takes to prove, and what an
+# edit takes that was not tried yet, in processor seconds.
+A_START, A_LINE, AN_EDIT = 10.0, 0.06, 20.0
 
 
 class Tried(NamedTuple):
     sum: str
-    edits: int
     seconds: float
+    # (None where the prover refused the edit by a goal that was there before it, and nothing where the clause has still to be named)
+    by: Optional[str]
+
+    @property
+    def holds(self) -> bool:
+        return self.by is None or bool(self.by)
 
 
 def edits_of(folder: str, parts: List[str]) -> List[str]:
+    """The crate's edits in these folders; of must-fail those that change code."""
     found = []
     for part in parts:
         at = f"{folder}/{part}"
         if os.path.isdir(at):
-            found += [f"{at}/{name}" for name in sorted(os.listdir(at)) if name.endswith(".edit")]
+            edits = [f"{at}/{name}" for name in sorted(os.listdir(at)) if name.endswith(".edit")]
+            found += [it for it in edits if part != "must-fail" or all(file.startswith("src/") for file in files_in(it))]
     return found
 
 
-def sum_of(folder: str) -> str:
-    """A sum of the crate's code, definitions and proofs, and of all its edits, in whichever folder they stand."""
+def files_in(edit: str) -> List[str]:
+    return re.findall(r"(?m)^file: (.*?)\s*$", LIB.text_of(edit))
+
+
+def name_of(crate, edit: str) -> str:
+    return f"{crate.name}/{os.path.basename(edit)[: -len('.edit')]}"
+
+
+def sum_of(crate, edit: str) -> str:
+    """A sum of all that the edit is judged by, which are the files that it changes and the crate's definitions, and one of the edit."""
     total = hashlib.sha256()
-    for file in LIB.files_of(folder):
-        with open(file, "rb") as it:
-            total.update(repr((os.path.relpath(file, folder), it.read())).encode())
-    edits = {os.path.basename(it): it for it in edits_of(folder, ["must-fail", "further-edits"])}
-    for name in sorted(edits):
-        with open(edits[name], "rb") as it:
-            total.update(repr((name, it.read())).encode())
-    return total.hexdigest()[:16]
+    specs = [it for it in LIB.files_of(crate.folder) if os.path.relpath(it, crate.folder).startswith("specs/")]
+    for file in sorted({*specs, *[f"{crate.folder}/{it}" for it in files_in(edit)]}):
+        total.update(repr((os.path.relpath(file, crate.folder), LIB.text_of(file))).encode())
+    return f"{total.hexdigest()[:12]}-{hashlib.sha256(LIB.text_of(edit).encode()).hexdigest()[:8]}"
 
 
 def known() -> Dict[str, Tried]:
-    try:
-        with open(TRIED, encoding="utf-8") as it:
-            rows = [line.split() for line in it if line.strip() and not line.startswith("#")]
-    except OSError:
-        return {}
-    return {name: Tried(sum, int(edits), float(seconds)) for name, sum, edits, seconds in rows}
+    found = {}
+    for line in LIB.text_of(TRIED).split("\n"):
+        told, has_by, by = line.partition(" by:")
+        row = told.split()
+        if len(row) == 3 and not line.startswith("#"):
+            found[row[0]] = Tried(row[1], float(row[2]), by.strip() if has_by else None)
+    return found
 
 
-def start(crate) -> float:
-    """What the first check of a crate takes, which proves all that earlier checks have not kept."""
-    if os.path.isdir(f"{crate.folder}/out/incremental"):
-        return 20.0
-    return 20.0 + A_LINE * sum(LIB.text_of(it).count("\n") for it in LIB.files_of(crate.folder))
+def is_same_edit(was: str, now: str) -> bool:
+    return was.rpartition("-")[2] == now.rpartition("-")[2]
 
 
-def each(crate) -> float:
-    """What a further edit of the crate takes."""
-    was = known().get(crate.name)
-    return was.seconds / was.edits if was and was.edits else AN_EDIT
+def by_hand(crate, edits: List[str]) -> Dict[str, str]:
+    """By edit, the clause that a person found false with the edit as it stands."""
+    was, found = known(), {}
+    for edit in edits:
+        line = was.get(name_of(crate, edit))
+        if line and line.by and is_same_edit(line.sum, sum_of(crate, edit)):
+            found[edit] = line.by
+    return found
 
 
-def turn() -> int:
-    """The number by which the crates take turns: the hour of the last commit, which a shallow clone has too."""
-    ran = subprocess.run(["git", "log", "-1", "--format=%ct"], stdout=subprocess.PIPE, stderr=subprocess.DEVNULL, universal_newlines=True)
-    return int(ran.stdout) // 3600 if ran.returncode == 0 and ran.stdout.strip() else 0
+def is_current(crate, edit: str, was: Dict[str, Tried]) -> bool:
+    """Whether the edit has a line of just these texts, which says by which clause it is refused where the prover cannot."""
+    line = was.get(name_of(crate, edit))
+    return bool(line) and line.holds and line.sum == sum_of(crate, edit)
 
 
-def chosen(crates, edits) -> Dict[str, List[str]]:
-    """The edits of the crates that have changed since theirs were tried, and of others by turns, as far as there is room; says which.
-
-    A crate whose edits were never all refused has some that show nothing of its contracts, so it waits for a person's trial.
-    """
-    was, number = known(), turn()
-    names = [it for it in crates if edits[it] and it in was]
-    untried = [it for it in crates if edits[it] and it not in was]
-    if untried:
-        print(f"wrong bodies: not in {TRIED}, so not chosen: {', '.join(untried)}; gate/wrong_bodies --record tries them")
-    changed = [it for it in names if was[it].sum != sum_of(crates[it].folder)]
-    others = [it for it in names if it not in changed]
-    shift = lambda given: given[number % len(given) :] + given[: number % len(given)] if given else []
-    taken, room = {}, ROOM
-    for name in [*shift(changed), *shift(others)]:
-        fit = int((room - start(crates[name])) / each(crates[name]))
-        if fit > 0:
-            # (where not all fit, those that stand next by the same number)
-            taken[name] = shift(edits[name])[:fit] if fit < len(edits[name]) else edits[name]
-            room -= start(crates[name]) + each(crates[name]) * len(taken[name])
+def chosen(crates, edits, below: Libraries) -> Dict[str, List[str]]:
+    """What the gate tries, as far as there is room; says which. First the edits whose texts changed since they were refused, then those
+    tried longest ago, and last those that were never refused, which wait for a person's trial."""
+    was = known()
+    age = {name: number for number, name in enumerate(was)}
+    rows = []
+    for crate in crates.values():
+        for edit in edits[crate.name]:
+            name = name_of(crate, edit)
+            kind = 2 if name not in was or not was[name].holds else 1 if is_current(crate, edit, was) else 0
+            rows.append((kind, age.get(name, 0), crate.name, edit))
+    rows.sort(key=lambda it: it[:2])
+    taken: Dict[str, List[str]] = {}
+    spent, kinds, left = 0.0, [0, 0, 0], [0, 0, 0]
+    for kind, _, name, edit in rows:
+        line = was.get(name_of(crates[name], edit))
+        costs = line.seconds if line else AN_EDIT
+        if name not in taken:
+            costs += A_START + A_LINE * sum(map(lines_of, below.sources(crates[name])))
+        if spent + costs > ROOM:
+            left[kind] += 1
+            continue
+        taken.setdefault(name, []).append(edit)
+        kinds[kind] += 1
+        spent += costs
     for name, picked in taken.items():
-        why = f"changed since {TRIED}" if name in changed else f"by turns, at number {number}"
-        print(f"wrong bodies: {name} ({why}): {len(picked)} of its {len(edits[name])} edits")
-    left = [it for it in changed if len(taken.get(it, ())) < len(edits[it])]
-    if left:
-        print(f"wrong bodies: for want of room not all were tried of: {', '.join(left)}; gate/wrong_bodies --record {' '.join(left)} does")
+        print(f"wrong bodies: of {name} {len(picked)} of its {len(edits[name])} edits")
+    print("wrong bodies: chosen: {} changed since they were refused, {} refused longest ago, {} not refused yet".format(*kinds))
+    print("wrong bodies: left out: {} changed, {} others, {} not refused yet; gate/wrong_bodies --all --record tries them".format(*left))
     return taken
 
 
-def record(crates, edits, done):
-    """Writes down what was tried, of the crates each of whose edits was refused."""
+def record(crate, plans):
+    """Writes down, behind all others, what was tried of the crate's edits and refused, or refused on a new path alone, where the clause is
+    left to be named. The lines of those that were not refused go, and of those whose edits are gone."""
     was = known()
-    for it in done:
-        if it and it.plans and all(plan.status == "refused" for plan in it.plans):
-            was[it.name] = Tried(sum_of(crates[it.name].folder), len(edits[it.name]), round(it.room.seconds, 1))
+    for plan in plans:
+        name = name_of(crate, plan.edit)
+        if plan.status and plan.status != "left out":
+            was.pop(name, None)
+        if plan.status in ("refused", "new path has no proof"):
+            was[name] = Tried(plan.sum, round(plan.seconds, 1), None if plan.status == "refused" else plan.by)
+    edits = {name_of(crate, it) for it in edits_of(crate.folder, ["must-fail", "further-edits"])}
     with open(TRIED, "w", encoding="utf-8") as out:
-        out.write("# Written by gate/wrong_bodies --record: crate, sum of its texts and edits, how many edits were refused, processor seconds\n")
-        for name in crates:
-            if name in was:
-                out.write(f"{name} {was[name].sum} {was[name].edits} {was[name].seconds}\n")
+        out.write(HEAD)
+        for name, it in was.items():
+            if not name.startswith(f"{crate.name}/") or name in edits:
+                out.write(f"{name} {it.sum} {it.seconds}{'' if it.by is None else ' by: ' + it.by}".rstrip() + "\n")
 
 
 def lanes() -> int:

@@ -7,7 +7,7 @@ import shutil
 import subprocess
 import sys
 import tempfile
-from typing import Dict, List, NamedTuple, Optional
+from typing import Dict, List, NamedTuple
 
 sys.dont_write_bytecode = True
 
@@ -26,9 +26,38 @@ def installed():
 
 RT = installed()
 LIB = RT.rtlib
-# What a proof says where the edit took away a name that it uses: that is no word on the contract.
-NAMES = re.compile(r"has no field|is not in scope|has no `|was not admitted|is no name|not a goal")
-ERROR = re.compile(r"(?:note: )?(?:\./)?((?:src|specs|proofs)/\S+?):(\d+):\d+: (?:error: )?(.*)")
+# What a proof says where the edit took away a name that it uses: that is no word on the contract. The words may begin a line of their own,
+# behind a long name or without it. (A note that a name 'is not in scope here' tells only how a goal is printed.)
+NAMES = re.compile(r"has no field|is not in scope(?! here)|has no `|was not admitted|is no name|not a goal")
+NAMES_BEGIN = re.compile(rf"\s*(?:`[^`]*`,?\s+)?(?:{NAMES.pattern})")
+# What is said of a declaration that was not looked at, as one that it names was refused: no goal, and no name that was taken away.
+NOT_LOOKED_AT = re.compile(r"depends? on .*(?:rejected|refused).*(?:was|were) not checked", re.S)
+# Where what a prover says of a place begins, and where anything else that it says does.
+PLACE = re.compile(r"(?:note: )?(?:\./)?((?:src|specs|proofs)/\S+?):(\d+):\d+: (?:error: )?(.*)", re.S)
+BEGINS = re.compile(
+    r"(?:note: )?(?:\./)?(?:src|specs|proofs)/\S+?:\d+:|(?:fn|impl|struct|enum|trait) \S+: "
+    r"|(?:note|help|warning|rattle|antt|so far|by-macro): |error\b|\w+=|(?:logic|statements|crate) \S"
+)
+
+
+class Said(NamedTuple):
+    """What the prover says of a place, with all lines of it."""
+
+    file: str
+    line: int
+    text: str
+    is_error: bool
+
+    @property
+    def is_of_names(self):
+        first, *others = self.text.split("\n")
+        return bool(NAMES.search(first)) or any(NAMES_BEGIN.match(it) for it in others)
+
+    @property
+    def goal(self):
+        """The name of what is not proved: a note has it at its end, an error before its text."""
+        name = re.match(r"`([^`]+)`", self.text) if self.is_error else re.search(r"it is not proved that [^\n]*?\(`([^`]+)`\)", self.text)
+        return name[1] if name else ""
 
 
 class Verdict(NamedTuple):
@@ -37,6 +66,8 @@ class Verdict(NamedTuple):
     kind: str
     text: str
     calls: List[str]
+    # (the names of the goals that are not proved)
+    goals: List[str] = []
 
 
 class Report(NamedTuple):
@@ -45,7 +76,7 @@ class Report(NamedTuple):
     functions: Dict[str, Verdict]
     # (an impl, a struct or an enum whose law is not proved)
     items: Dict[str, Verdict]
-    errors: List[tuple]
+    errors: List[Said]
     seconds: float
 
     @property
@@ -53,43 +84,53 @@ class Report(NamedTuple):
         return bool(self.functions)
 
 
-def own_errors(name: str, errors):
+def own_errors(name: str, errors: List[Said]) -> List[Said]:
     """The errors in the function's own proof files."""
     folder = "proofs/" + name.partition("::")[2].replace("::", "/") + "/"
-    return [text for file, _, text, is_error in errors if is_error and file.startswith(folder) and "/" not in file[len(folder) :]]
+    return [it for it in errors if it.is_error and it.file.startswith(folder) and "/" not in it.file[len(folder) :]]
 
 
-def verdict(name: str, said: str, errors) -> Verdict:
+def verdict(name: str, said: str, errors: List[Said]) -> Verdict:
     calls = re.search(r"it calls (.*)", said)
     names = re.findall(r"`([^`]+)`", calls[1]) if calls else []
     if said.startswith(("proved", "assumed")):
         return Verdict("proved", said, [])
     if said.startswith("could not tell"):
         return Verdict("unknown", said, names)
+    own = [it for it in own_errors(name, errors) if not NOT_LOOKED_AT.search(it.text)]
+    of_goals = [it for it in own if not it.is_of_names]
     if "did not prove" in said:
         goals = re.findall(r"`([^`]+)`", said.partition("did not prove")[2].partition("; it calls")[0])
-        return Verdict("own", "no proof of " + ", ".join(goals), names)
-    own = own_errors(name, errors)
-    of_goals = [it for it in own if not NAMES.search(it)]
+        return Verdict("own", "no proof of " + ", ".join(goals), names, goals + [it.goal for it in of_goals])
     if of_goals:
-        goal = re.match(r"`([^`]+)`", of_goals[0])
-        return Verdict("own", "not proved: " + (goal[1] if goal else of_goals[0][:120]), names)
+        return Verdict("own", "not proved: " + (of_goals[0].goal or of_goals[0].text[:120]), names, [it.goal for it in of_goals])
     if own:
-        return Verdict("misfit", own[0][:200], names)
+        return Verdict("misfit", re.sub(r"\s+", " ", own[0].text)[:200], names)
     if names:
         return Verdict("fell", "it calls " + ", ".join(names), names)
     return Verdict("helpless", said[:200], names)
 
 
+def messages(text: str) -> List[str]:
+    """What the prover says, each with the lines that go on with it."""
+    found: List[str] = []
+    for line in text.rstrip("\n").split("\n"):
+        if found and not BEGINS.match(line):
+            found[-1] += "\n" + line
+        else:
+            found.append(line)
+    return found
+
+
 def read(status: int, text: str, seconds: float) -> Report:
-    lines, errors = text.rstrip("\n").split("\n"), []
+    lines, errors = messages(text), []
     for line in lines:
-        at = ERROR.match(line)
+        at = PLACE.match(line)
         if at:
-            errors.append((at[1], int(at[2]), at[3], ": error" in line))
+            errors.append(Said(at[1], int(at[2]), at[3], ": error" in line.split("\n")[0]))
     functions, items = {}, {}
     for line in lines:
-        said = re.match(r"(fn|impl|struct|enum|trait) (\S+): (.*)", line)
+        said = re.match(r"(fn|impl|struct|enum|trait) (\S+): (.*)", line, re.S)
         if said:
             (functions if said[1] == "fn" else items)[said[2]] = verdict(said[2], said[3], errors)
     return Report(status, lines, functions, items, errors, seconds)
@@ -98,14 +139,13 @@ def read(status: int, text: str, seconds: float) -> Report:
 class Room:
     """A copy of a crate's sources, with the checked work that its checks share."""
 
-    def __init__(self, crate, scratch: str):
+    def __init__(self, crate, below, scratch: str):
         self.crate, self.folder, self.kept = crate, f"{scratch}/{crate.name}", f"{scratch}/{crate.name}.kept"
         for part in LIB.PARTS:
             if os.path.isdir(f"{crate.folder}/{part}"):
                 shutil.copytree(f"{crate.folder}/{part}", f"{self.folder}/{part}")
-        seed = f"{crate.folder}/out/incremental"
-        if os.path.isdir(seed):
-            shutil.copytree(seed, self.kept)
+        os.makedirs(self.kept, exist_ok=True)
+        self.words = below.words(crate)
         self.seconds = 0.0
 
     def apply(self, edit: str):
@@ -121,8 +161,8 @@ class Room:
         with open(f"{self.folder}/{path}", encoding="utf-8") as it:
             return it.read()
 
-    def check(self) -> Report:
-        words = [LIB.RATTLE, "check", *self.crate.words(["--jobs", "1"], keeps=False), "--incremental", self.kept]
+    def run(self, words: List[str]) -> Report:
+        words = [LIB.RATTLE, "check", *self.words, "--jobs", "1", "--incremental", self.kept, *words]
         with tempfile.TemporaryFile("w+", errors="replace") as out:
             how = {"cwd": self.folder, "stdin": subprocess.DEVNULL, "stdout": out, "stderr": subprocess.STDOUT}
             started = subprocess.Popen([*LIB.guarded(), *words], **how)
@@ -133,19 +173,26 @@ class Room:
             self.seconds += seconds
             return read(started.returncode, out.read(), seconds)
 
+    def check(self, names: Dict[str, str]) -> Report:
+        """Checks the functions of these names and what they call. For a name that fits none, or several, its module is asked for; and
+        all of the crate where there is no name, or a module is the crate's root."""
+        asked = [*names]
+        while True:
+            only = [] if "" in asked else [word for it in dict.fromkeys(asked) for word in ("--only", it)]
+            report = self.run(only)
+            wrong = [it for it in report.lines if it.startswith("rattle: error: ")] if not report.has_verdict else []
+            unfit = [it for it in asked if any(f"`{it}`" in line.partition(": help:")[0] for line in wrong)]
+            if not unfit:
+                return report
+            asked = [names.get(it, "") if it in unfit else it for it in asked]
 
-def lacks(crate) -> Optional[str]:
-    """Builds the libraries below the crate where they are not there as the sources say; what the gate itself built last is taken as it is."""
-    for dep in crate.below():
-        if not dep.is_built() and not is_newer(dep) and dep.build_rlib(["--jobs", "1"], anew=False):
-            return dep.name
-    return None
-
-
-def is_newer(crate) -> bool:
-    """Whether the crate's rlib was made by the gate, which leaves no stamp, after the last change of all that it is made from."""
-    made = f"{crate.rlib}/format"
-    if os.path.exists(f"{crate.folder}/out/rlib/stamp") or not os.path.exists(made):
-        return False
-    files = [file for it in [crate, *crate.below()] for file in LIB.files_of(it.folder)]
-    return max(map(os.path.getmtime, files)) < os.path.getmtime(made)
+    def goals(self, names: List[str]) -> Dict[str, set]:
+        """The goals of these functions, by the names that a check prints, in the texts that now stand in the room."""
+        found: Dict[str, set] = {}
+        with tempfile.TemporaryDirectory(prefix="wrong-bodies-goals-") as to:
+            self.run([*[f"--start={it.partition('::')[2]}" for it in names], "--generated", to])
+            for name in names:
+                at = f"{to}/Rattle-{self.crate.name}-proofs/{name.partition('::')[2].replace('::', '/')}/Goals.antt"
+                if os.path.isfile(at):
+                    found[name] = set(re.findall(r"(?m)^abbrev pub (\S+) :", LIB.text_of(at)))
+        return found

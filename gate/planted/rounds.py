@@ -4,9 +4,10 @@ import re
 from typing import Dict, List
 
 from planted import source
-from planted.prover import NAMES, Report, Room
+from planted.prover import LIB, NOT_LOOKED_AT, Report, Room
 
 REFUSED = "refused"
+NEW_PATH = "new path has no proof"
 NOT_REFUSED = "NOT REFUSED"
 CALLER = "caller fell"
 HELPER = "helper not proved"
@@ -14,9 +15,12 @@ MISFIT = "proof no longer fits"
 GONE = "text gone"
 UNREAD = "does not compile"
 NOT_CODE = "not in code"
-CONTRACT = "only a contract changes"
+CONTRACT = "a contract changes"
 UNKNOWN = "could not tell"
 NO_GOAL = "no goal was tried"
+LEFT = "left out"
+# How many edits a round takes at most, so that what it told is written down before the next.
+MOST = 12
 
 
 class Plan:
@@ -30,7 +34,16 @@ class Plan:
         outside = any(without_bodies(file, text) != bodies[file] for file, text in texts.items())
         # what others read too, as a type or a constant, is changed in a round of its own
         self.is_alone = not self.change.functions or (outside and not self.change.new)
+        # what of it gate/tried has: the sum of its texts, its processor seconds, and the clause that a person found false
+        self.sum, self.seconds, self.by = "", 0.0, ""
         self.status, self.says = "", ""
+        # the goals that are not proved, by function
+        self.open: Dict[str, List[str]] = {}
+
+    @property
+    def passes(self) -> bool:
+        """Whether it is refused: as the prover says, or, where the goal is one of a new path, by the clause that a person has named."""
+        return self.status == REFUSED or (self.status == NEW_PATH and bool(self.by))
 
     def judge(self, status: str, says: str = ""):
         self.status, self.says = status, says
@@ -52,9 +65,12 @@ def without_bodies(file: str, text: str) -> str:
 class Crate:
     """One crate's edits, and what earlier rounds told of who calls whom."""
 
-    def __init__(self, crate, edits: List[str], scratch: str):
-        self.name, self.room = crate.name, Room(crate, scratch)
+    def __init__(self, crate, edits: List[str], below, scratch: str):
+        self.name, self.room = crate.name, Room(crate, below, scratch)
+        # (where rt ci has kept the crate's own library, all of it is proved as it stands)
+        self.is_proved = below.has(crate)
         self.calls: Dict[str, set] = {}
+        self.goals: Dict[str, set] = {}
         self.rounds = 0
         self.unexplained: List[str] = []
         self.before: Dict[str, str] = {}
@@ -69,21 +85,45 @@ class Crate:
             plan.judge(GONE, why)
         elif not all(path.startswith("src/") for path in texts):
             plan.judge(NOT_CODE, "it changes " + ", ".join(sorted(texts)))
-        elif plan.change.functions and not plan.change.in_a_body:
+        elif plan.change.in_a_contract or plan.change.functions and not plan.change.in_a_body:
             plan.judge(CONTRACT)
         return plan
 
-    def run(self, has_control: bool):
+    def run(self, has_time=lambda: True, told=lambda: None):
+        """Tries all edits, as long as there is time, and says after each round that it is told."""
         while True:
             waiting = [it for it in self.plans if not it.status]
             if not waiting:
                 break
+            if not has_time():
+                for it in waiting:
+                    it.judge(LEFT, "for want of time")
+                break
             self.round(self.chosen(waiting))
-        if has_control and any(it.status == REFUSED for it in self.plans):
-            self.room.write(self.before)
-            if self.room.check().status:
-                for it in self.plans:
-                    it.judge(UNKNOWN, "the crate is not proved with no edit either")
+            told()
+
+    def names(self, plans: List[Plan]) -> Dict[str, str]:
+        """The names by which the functions of the edits are checked, and the module of each. An edit of a constant is tried by those that
+        name it, and one of any other text by all of the crate."""
+        keys = {key for it in plans for key in it.change.functions | it.change.new}
+        for plan in plans:
+            if not plan.change.functions:
+                users = self.users(plan.change.constants)
+                if not users:
+                    return {}
+                keys |= users
+        return {source.path_of(it): source.module_of(it.file) for it in sorted(keys)}
+
+    def users(self, constants) -> set:
+        """The functions that name one of the constants."""
+        found = set()
+        for at in LIB.files_of(self.room.folder):
+            file = os.path.relpath(at, self.room.folder)
+            text = self.room.text(file) if file.startswith("src/") else ""
+            for key, it in source.functions_in(file, text).items():
+                if any(re.search(rf"\b{name}\b", text[it.start : it.end]) for name in constants):
+                    found.add(key)
+        return found
 
     # -- which edits go together
 
@@ -94,7 +134,7 @@ class Crate:
             return self.plant([waiting[0]])
         picked: List[Plan] = []
         for plan in waiting:
-            if not plan.is_alone and not any(self.clash(plan, it) for it in picked):
+            if len(picked) < MOST and not plan.is_alone and not any(self.clash(plan, it) for it in picked):
                 picked += self.plant([plan])
         return picked
 
@@ -126,7 +166,9 @@ class Crate:
 
     def round(self, plans: List[Plan]):
         self.rounds += 1
-        report = self.room.check()
+        report = self.room.check(self.names(plans))
+        for plan in plans:
+            plan.seconds += report.seconds / len(plans)
         if not report.has_verdict:
             self.unread(report, plans)
             return
@@ -137,6 +179,23 @@ class Crate:
         of_an_edit = lambda name: any(it.owns(self.name, name) or it.wrote(self.name, name) for it in plans)
         if not any(it.is_alone for it in plans):
             self.unexplained += [f"{name}: {it.text}" for name, it in report.functions.items() if it.kind == "own" and not of_an_edit(name)]
+        self.control([it for it in plans if it.status in (REFUSED, NEW_PATH)])
+
+    def control(self, plans: List[Plan]):
+        """Looks whether what refuses the edits is proved without them, where that is not known, and whether new paths alone are open."""
+        self.room.write(self.before)
+        if plans and not self.is_proved and self.room.check(self.names(plans)).status:
+            for it in plans:
+                it.judge(UNKNOWN, "what it changes is not proved without it either")
+            return
+        doubtful = [it for it in plans if it.status == NEW_PATH]
+        names = [name for it in doubtful for name in it.open if name not in self.goals]
+        if names:
+            self.goals.update(self.room.goals(names))
+        for it in doubtful:
+            old = [goal for name, goals in it.open.items() for goal in goals if goal in self.goals.get(name, ())]
+            if old:
+                it.judge(REFUSED, "no proof of " + ", ".join(old))
 
     def judge(self, plan: Plan, report: Report, plans: List[Plan]):
         if not plan.change.functions:
@@ -145,10 +204,12 @@ class Crate:
         own = {name: it for name, it in report.functions.items() if plan.owns(self.name, name)}
         kinds = {it.kind: f"{name}: {it.text}" for name, it in reversed([*own.items()])}
         helpers = [name for name, it in report.functions.items() if it.kind != "proved" and plan.wrote(self.name, name)]
+        goals = self.noted(plan, report) if {*kinds} - {"proved"} else []
         if helpers:
             plan.judge(HELPER, ", ".join(helpers))
-        elif "own" in kinds:
-            plan.judge(REFUSED, kinds["own"])
+        elif "own" in kinds or goals:
+            plan.open = {name: [*it.goals, *goals] for name, it in own.items() if it.kind != "proved"}
+            plan.judge(NEW_PATH if plan.change.branches else REFUSED, kinds.get("own") or "no proof of " + ", ".join(goals))
         elif "misfit" in kinds:
             plan.judge(MISFIT, kinds["misfit"])
         elif "fell" in kinds:
@@ -163,12 +224,25 @@ class Crate:
             fallen = [name for name, it in report.functions.items() if it.kind != "proved"] if plan.is_alone else []
             plan.judge(CALLER if fallen else NOT_REFUSED, ", ".join(fallen or own))
 
+    def noted(self, plan: Plan, report: Report) -> List[str]:
+        """The goals that are noted as not proved at places of the functions that the edit changes."""
+        found = []
+        for said in report.errors:
+            if said.goal and not said.is_error and said.file in plan.files:
+                text = self.room.text(said.file)
+                line = lambda at: text.count("\n", 0, at) + 1
+                functions = source.functions_in(said.file, text)
+                if any(key in plan.change.functions and line(it.start) <= said.line <= line(it.end) for key, it in functions.items()):
+                    found.append(said.goal)
+        return found
+
     def judge_alone(self, plan: Plan, report: Report):
         """An edit of what is no function's own is refused by whoever has a goal that is not proved."""
         failed = {**report.items, **report.functions}
         kinds = {it.kind: f"{name}: {it.text}" for name, it in reversed([*failed.items()])}
         # (what a derive writes is no function's own, so a lemma may be what it makes false)
-        lemmas = [f"{file}: {text[:150]}" for file, _, text, is_error in report.errors if is_error and file.startswith("proofs/") and not NAMES.search(text)]
+        of_proofs = [it for it in report.errors if it.is_error and it.file.startswith("proofs/")]
+        lemmas = [f"{it.file}: {it.text[:150]}" for it in of_proofs if not it.is_of_names and not NOT_LOOKED_AT.search(it.text)]
         if lemmas:
             kinds.setdefault("own", lemmas[0])
         for kind, status in (("own", REFUSED), ("misfit", MISFIT), ("helpless", NO_GOAL), ("unknown", UNKNOWN), ("fell", CALLER)):
@@ -179,7 +253,7 @@ class Crate:
 
     def unread(self, report: Report, plans: List[Plan]):
         """The texts did not reach the prover: those to blame are judged so, and the others wait for another round."""
-        said = next((it for it in report.lines if "error" in it), report.lines[-1] if report.lines else "")[:200]
+        said = re.sub(r"\s+", " ", next((it for it in report.lines if "error" in it), report.lines[-1] if report.lines else ""))[:200]
         blamed = [it for it in plans if len(plans) == 1 or self.is_blamed(it, report)]
         if not blamed:
             half = len(plans) // 2

@@ -1,5 +1,6 @@
 """The functions of a Rust text: which there are, and which of them an edit changes."""
 import re
+from collections import Counter
 from typing import Dict, NamedTuple
 
 # A comment, a string or a character: no brace or word in it counts.
@@ -9,6 +10,9 @@ ASIDE = re.compile(
 TOKEN = re.compile(r"\b(?:impl|trait|mod|fn)\b|[{}]")
 HEADER_TOKEN = re.compile(r"[()\[\]{};]|\b(?:requires|ensures|ghost|decreases)\b")
 CLAUSES = ("requires", "ensures", "ghost", "decreases")
+# What a body branches or ends by.
+BRANCH = re.compile(r"\b(?:return|if|else|match|while|for|loop|break|continue)\b|=>|&&|\|\||\?")
+CONSTANT = re.compile(r"\b(?:const|static)\s+(\w+)\s*:.*?;[ \t]*$", re.S | re.M)
 
 
 class Key(NamedTuple):
@@ -106,16 +110,20 @@ def owner_of(word: str, header: str) -> str:
 
 
 class Change(NamedTuple):
-    """What an edit changes: functions that stood before, whether a body among them, and functions that it writes anew."""
+    """What an edit changes: functions that stood before, whether a body among them and whether a contract, whether it adds a branch or an
+    exit to a body, functions that it writes anew, and constants."""
 
     functions: frozenset
     in_a_body: bool
+    in_a_contract: bool
+    branches: bool
     new: frozenset
+    constants: frozenset
 
 
 def change(before: Dict[str, str], after: Dict[str, str]) -> Change:
     """What differs between two states of some files."""
-    changed, new, in_a_body = set(), set(), False
+    changed, new, constants, in_a_body, in_a_contract, branches = set(), set(), set(), False, False, False
     for file, text in after.items():
         old, now = functions_in(file, before[file]), functions_in(file, text)
         for key, it in now.items():
@@ -124,15 +132,35 @@ def change(before: Dict[str, str], after: Dict[str, str]) -> Change:
                 new.add(key)
             elif before[file][was.start : was.end] != text[it.start : it.end]:
                 changed.add(key)
-                in_a_body |= before[file][was.body : was.end] != text[it.body : it.end]
-    return Change(frozenset(changed), in_a_body, frozenset(new))
+                body, one = before[file][was.body : was.end], text[it.body : it.end]
+                in_a_body |= body != one
+                in_a_contract |= before[file][was.start : was.body].split() != text[it.start : it.body].split()
+                branches |= bool(Counter(BRANCH.findall(blanked(one))) - Counter(BRANCH.findall(blanked(body))))
+        was = constants_in(before[file])
+        constants |= {name for name, it in constants_in(text).items() if was.get(name, it) != it}
+    return Change(frozenset(changed), in_a_body, in_a_contract, branches, frozenset(new), frozenset(constants))
+
+
+def constants_in(text: str) -> Dict[str, str]:
+    return {it[1]: text[it.start() : it.end()] for it in CONSTANT.finditer(blanked(text))}
+
+
+def module_of(file: str) -> str:
+    """The module whose file this is, and nothing for the crate's root."""
+    module = re.sub(r"^src/|\.rt$|(?:^|/)mod\.rt$", "", file).replace("/", "::")
+    return "" if module in ("lib", "main") else module
+
+
+def path_of(key: Key) -> str:
+    """The function's name for a check of it alone: a method stands where its type does, so its file is left out."""
+    module = module_of(key.file)
+    return f"{key.owner}::{key.name}" if key.owner else f"{module}::{key.name}" if module else key.name
 
 
 def is_of(key: Key, crate: str, name: str) -> bool:
     """Whether the prover's name is that of the function, or of a closure in it. A method stands where its type does."""
-    module = re.sub(r"^src/|\.rt$|(?:^|/)mod\.rt$", "", key.file).replace("/", "::")
-    module = "" if module in ("lib", "main") else module + "::"
     if not key.owner:
+        module = module_of(key.file) + "::" if module_of(key.file) else ""
         return name == f"{crate}::{module}{key.name}" or name.startswith(f"{crate}::{module}fn::{key.name}::")
     own = re.escape(f"{key.owner}::{key.name}")
     return bool(re.fullmatch(rf"{crate}::(?:\w+::)*?(?:{own}|fn::{own}::.*)", name))

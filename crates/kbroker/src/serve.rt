@@ -3,11 +3,13 @@
 use crate::folder::{hold, store_in};
 use crate::found::lengths_in;
 use crate::journal::{Journal, Word};
-use crate::{Fault, settings_of};
+use crate::Fault;
+use crate::listening::{listen, tell_listening};
+use crate::settings::{not_opened, settings_of, without_folder};
 use clap::ArgMatches;
 use kb_journal::now;
 use kb_log::PartitionLog;
-use kb_node::{Edge, Limits, Listing, NodeFault, StartFault, Store, data_folder};
+use kb_node::{Edge, Listing, Store, data_folder};
 use kb_restart::{Restarted, open_broker};
 use std::net::Net;
 
@@ -23,7 +25,10 @@ pub fn serve(rt: &HostRuntime, found: &ArgMatches<'_>) -> Result<(), Fault> {
     } else {
         Listing::Served
     };
-    let path = data_folder(alloc, &settings)?;
+    let path = match data_folder(alloc, &settings) {
+        Ok(path) => path,
+        Err(fault) => return Err(without_folder(alloc, fault)),
+    };
     let _held = hold(rt, path)?;
     let mut journal = Journal::new(alloc, &settings, found.get_flag("quiet"))?;
     let before = lengths_in(rt, path);
@@ -36,13 +41,9 @@ pub fn serve(rt: &HostRuntime, found: &ArgMatches<'_>) -> Result<(), Fault> {
         broker,
         strays: _,
         counts,
-    } = opened.map_err(|refused| StartFault::from(refused.fault))?;
-    let address = format!(in alloc; "{}:{}", settings.host, settings.port)?;
-    let limits = Limits::of(&settings);
-    let mut edge = Edge::watching(rt, alloc, broker, &address, limits).map_err(StartFault::from)?;
-    if println!(rt; "listening on {}:{}", settings.host, edge.port()).is_err() {
-        return Err(Fault::Node(NodeFault::Write));
-    }
+    } = opened.map_err(|refused| not_opened(alloc, path, refused.fault))?;
+    let mut edge = listen(rt, broker, &settings)?;
+    tell_listening(rt, &edge, path)?;
     journal.tell_found(rt, now(rt), Word::Start, counts, after.as_deref());
     turn_on(rt, &mut edge, &mut journal);
     journal.tell_stop(rt, now(rt));

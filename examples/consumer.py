@@ -11,7 +11,6 @@ from confluent_kafka import Consumer, KafkaError, KafkaException, TopicPartition
 def main(address, user, password, topic, start="0"):
     consumer = Consumer({
         "bootstrap.servers": address,
-        "broker.address.family": "v4",
         "security.protocol": "SASL_PLAINTEXT",
         "sasl.mechanisms": "PLAIN",
         "sasl.username": user,

@@ -18,7 +18,6 @@ def told(what):
 def main(address, user, password, topic, group, seconds="10"):
     consumer = Consumer({
         "bootstrap.servers": address,
-        "broker.address.family": "v4",
         "security.protocol": "SASL_PLAINTEXT",
         "sasl.mechanisms": "PLAIN",
         "sasl.username": user,

@@ -17,7 +17,6 @@ class Probe:
     def __init__(self, address, user, password):
         self.settings = {
             "bootstrap.servers": address,
-            "broker.address.family": "v4",
             "security.protocol": "SASL_PLAINTEXT",
             "sasl.mechanisms": "PLAIN",
             "sasl.username": user,

@@ -8,7 +8,6 @@ from confluent_kafka import Producer
 def main(address, user, password, topic):
     producer = Producer({
         "bootstrap.servers": address,
-        "broker.address.family": "v4",
         "security.protocol": "SASL_PLAINTEXT",
         "sasl.mechanisms": "PLAIN",
         "sasl.username": user,

@@ -1,9 +1,9 @@
 #!/bin/sh
 # A session of stock clients with a broker of three tenants: try_clients.sh [KBROKER]
 #
-# It serves tenants.toml at localhost:19092 with the proved program (crates/kbroker/out/kbroker, or the one that is named), makes
-# topics with it, lets a producer and a consumer in Python and kcat speak to it, compares what they print, and ends the broker. It needs Python's
-# confluent_kafka (Debian: python3-confluent-kafka) and kcat.
+# It serves tenants.toml at localhost:19092, over a new folder, with the proved program (crates/kbroker/out/kbroker, or the one that is
+# named). It makes topics with it, lets a producer and a consumer in Python and kcat speak to it, compares what they print, and ends the
+# broker. It needs Python's confluent_kafka (Debian: python3-confluent-kafka) and kcat.
 set -u
 kbroker=$(realpath "${1:-$(dirname "$0")/../crates/kbroker/out/kbroker}")
 cd "$(dirname "$0")" || exit 1
@@ -30,7 +30,7 @@ with_kcat() {
     user=$1 password=$2
     shift 2
     timeout 60 kcat -q -b localhost:19092 -X security.protocol=SASL_PLAINTEXT -X sasl.mechanisms=PLAIN \
-        -X sasl.username="$user" -X sasl.password="$password" -X broker.address.family=v4 "$@"
+        -X sasl.username="$user" -X sasl.password="$password" "$@"
 }
 write_with_kcat() { echo "$3" | with_kcat "$1" "$2" -P -t orders; }
 
@@ -48,10 +48,12 @@ expect() {
     fi
 }
 
-said=$(mktemp)
-"$kbroker" serve --config tenants.toml --stock-clients >"$said" &
+# A folder of its own, so that it finds no topics of an earlier session.
+said=$(mktemp) home=$(mktemp -d)
+sed "s|^data = .*|data = \"$home/data\"|" tenants.toml >"$home/tenants.toml"
+"$kbroker" serve --config "$home/tenants.toml" --stock-clients >"$said" &
 broker=$!
-trap 'kill $broker 2>/dev/null; rm -f "$said"' EXIT
+trap 'kill $broker 2>/dev/null; wait $broker 2>/dev/null; rm -rf "$said" "$home"' EXIT
 for _ in 1 2 3 4 5 6 7 8 9 10; do
     grep -q listening "$said" && break
     sleep 0.5

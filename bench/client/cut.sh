@@ -46,7 +46,7 @@ cmp "$work/lines" "$work/consumed"
 tail -n 1 "$work/cuts"
 if command -v kcat > /dev/null; then
     kcat -b "localhost:$port" -X security.protocol=SASL_PLAINTEXT -X sasl.mechanisms=PLAIN -X sasl.username=ann \
-        -X sasl.password=pw1 -X broker.address.family=v4 -C -t orders -o beginning -e -q > "$work/consumed"
+        -X sasl.password=pw1 -C -t orders -o beginning -e -q > "$work/consumed"
     cmp "$work/lines" "$work/consumed"
     echo "kcat: each of $lines lines once, in order"
 fi

@@ -36,7 +36,7 @@ console() {
 }
 kc() {
     kcat -q -b "localhost:$port" -X security.protocol=SASL_PLAINTEXT -X sasl.mechanisms=PLAIN -X sasl.username=ann \
-        -X sasl.password=pw1 -X broker.address.family=v4 "$@"
+        -X sasl.password=pw1 "$@"
 }
 # seconds COMMAND..: how long it takes
 seconds() {

@@ -12,20 +12,24 @@ mod dump;
 mod folder;
 mod journal;
 mod judge;
+mod listening;
 mod process;
+mod reasons;
 mod script;
 mod serve;
+mod settings;
 mod survey;
 mod words;
 
 use clap::error::ErrorKind;
 use clap::{Arg, ArgAction, ArgMatches, Command};
-use kb_node::{NodeFault, Settings, StartFault, read_settings};
+use kb_node::{NodeFault, StartFault};
 use kb_process::hold_streams;
 use kb_topic_command::{TopicFault, topic, topic_command};
+use kb_version::VERSION;
 use std::alloc::{AllocError, AllocFailed, Global};
+use std::io;
 use std::process::ExitCode;
-use std::{fs, io};
 use thiserror::Error;
 
 /// Why the program ends early.
@@ -36,6 +40,9 @@ enum Fault {
     Words(clap::Error),
     #[error("{0}")]
     Start(StartFault),
+    /// A fault of a start, and what stands behind it.
+    #[error("{0}{1}")]
+    Because(StartFault, String),
     #[error("{0}")]
     Node(NodeFault),
     #[error("kbroker: {0}")]
@@ -105,7 +112,7 @@ fn command<'a>(alloc: Global) -> Result<Command<'a>, AllocError> {
         .help("Tells nothing on standard error while it serves")
         .action(ArgAction::SetTrue);
     let serve = Command::new(alloc, "serve")
-        .about("Serves sockets on the settings' host and port")
+        .about("Serves sockets on the addresses of the settings' host")
         .arg(config(alloc).required(true))?
         .arg(stock_clients)?
         .arg(quiet)?;
@@ -115,6 +122,7 @@ fn command<'a>(alloc: Global) -> Result<Command<'a>, AllocError> {
         .arg(config(alloc).required(true))?;
     Command::new(alloc, "kbroker")
         .about("A message broker for many tenants that speaks the Kafka protocol")
+        .version(VERSION)
         .subcommand_required(true)
         .subcommand(judge::with_consent(alloc, script::script_command(alloc)?)?)?
         .subcommand(serve)?
@@ -159,15 +167,6 @@ fn topic_fault(alloc: Global, fault: TopicFault) -> Result<(), Fault> {
         }
         TopicFault::Memory => Err(Fault::Node(NodeFault::Memory)),
         fault => Err(Fault::Topic(fault)),
-    }
-}
-
-/// The settings of a file.
-fn settings_of(rt: &HostRuntime, path: &str) -> Result<Settings, StartFault> {
-    match fs::read_to_string(rt, path) {
-        Ok(text) => read_settings(rt.alloc(), text.as_str()),
-        Err(e) if e.kind() == io::ErrorKind::OutOfMemory => Err(StartFault::Memory),
-        Err(_) => Err(StartFault::Settings),
     }
 }
 

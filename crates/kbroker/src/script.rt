@@ -3,7 +3,8 @@
 use crate::folder::{hold, store_in};
 use crate::journal::{Journal, Word};
 use crate::judge::{Consent, judge};
-use crate::{Fault, config, settings_of};
+use crate::settings::settings_of;
+use crate::{Fault, config};
 use clap::{Arg, ArgAction, ArgMatches, Command};
 use kb_broker::ScriptFault;
 use kb_journal::now;

@@ -1,14 +1,16 @@
 //! `kbroker serve`: serves sockets, and tells of it.
 
+use crate::Fault;
 use crate::folder::{hold, store_noting};
 use crate::journal::{Journal, Word};
 use crate::judge::{Consent, judge};
+use crate::listening::{listen, tell_listening};
 use crate::process::{FolderJournal, look_at_start};
-use crate::{Fault, settings_of};
+use crate::settings::{not_opened, settings_of, without_folder};
 use clap::ArgMatches;
 use kb_journal::now;
 use kb_log::PartitionLog;
-use kb_node::{Edge, Limits, Listing, NodeFault, StartFault, Store, data_folder};
+use kb_node::{Edge, Listing, Store, data_folder};
 use kb_restart::{Restarted, file_lengths, open_broker};
 use kb_survey::Postponed;
 use std::net::Net;
@@ -30,14 +32,17 @@ pub fn serve(rt: &HostRuntime, found: &ArgMatches<'_>) -> Result<(), Fault> {
     } else {
         Listing::Served
     };
-    let path = data_folder(alloc, &settings)?;
+    let path = match data_folder(alloc, &settings) {
+        Ok(path) => path,
+        Err(fault) => return Err(without_folder(alloc, fault)),
+    };
     let _held = hold(rt, path)?;
     let mut journal = Journal::new(alloc, &settings, is_quiet)?;
     let mut folder_journal = FolderJournal::new(alloc, path, is_quiet)?;
     let mut store = store_noting(rt, path, folder_journal.refusals())?;
     let before = file_lengths(alloc, &mut store)?;
     let opened = open_broker(alloc, &settings, listing, Postponed::new(alloc, store)).map_err(
-        |refused| StartFault::from(refused.fault),
+        |refused| not_opened(alloc, path, refused.fault),
     )?;
     let consent = Consent::of(found);
     let files = judge(rt, &settings, path, consent, &before, &opened, &journal)?;
@@ -47,12 +52,8 @@ pub fn serve(rt: &HostRuntime, found: &ArgMatches<'_>) -> Result<(), Fault> {
         counts,
         next_instances: _,
     } = opened;
-    let address = format!(in alloc; "{}:{}", settings.host, settings.port)?;
-    let limits = Limits::of(&settings);
-    let mut edge = Edge::watching(rt, alloc, broker, &address, limits).map_err(StartFault::from)?;
-    if println!(rt; "listening on {}:{}", settings.host, edge.port()).is_err() {
-        return Err(Fault::Node(NodeFault::Write));
-    }
+    let mut edge = listen(rt, broker, &settings)?;
+    tell_listening(rt, &edge, path)?;
     journal.tell_found(rt, now(rt), Word::Start, counts, &files);
     turn_on(rt, &mut edge, &mut journal, &mut folder_journal);
     journal.tell_stop(rt, now(rt));

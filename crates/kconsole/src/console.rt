@@ -7,6 +7,7 @@ ghost use Rattle.kconsole.specs.Console.{IsWithin, IsTextOf, IsNumberOf, IsLineO
 use clap::error::ErrorKind;
 use clap::{Arg, ArgAction, ArgMatches, Command};
 use kb_client::Login;
+use kb_version::VERSION;
 use std::alloc::{AllocError, Global};
 use thiserror::Error;
 
@@ -124,6 +125,7 @@ impl ConsoleLine {
             .arg(follow)?;
         Command::new(alloc, "kconsole")
             .about("Sends lines to a broker that speaks the Kafka protocol, and prints them")
+            .version(VERSION)
             .subcommand_required(true)
             .subcommand(produce)?
             .subcommand(consume)

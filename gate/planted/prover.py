@@ -84,10 +84,16 @@ class Report(NamedTuple):
         return bool(self.functions)
 
 
+def places_of(name: str) -> List[str]:
+    """Where the function's proof stands: in a folder of its name, which begins with a `+` where it calls itself."""
+    above, _, last = name.partition("::")[2].replace("::", "/").rpartition("/")
+    return [f"{above}{'/' if above else ''}{mark}{last}" for mark in ("", "+")]
+
+
 def own_errors(name: str, errors: List[Said]) -> List[Said]:
     """The errors in the function's own proof files."""
-    folder = "proofs/" + name.partition("::")[2].replace("::", "/") + "/"
-    return [it for it in errors if it.is_error and it.file.startswith(folder) and "/" not in it.file[len(folder) :]]
+    own = [f"proofs/{it}" for it in places_of(name)]
+    return [it for it in errors if it.is_error and os.path.dirname(it.file) in own]
 
 
 def verdict(name: str, said: str, errors: List[Said]) -> Verdict:
@@ -146,7 +152,7 @@ class Room:
                 shutil.copytree(f"{crate.folder}/{part}", f"{self.folder}/{part}")
         os.makedirs(self.kept, exist_ok=True)
         self.words = below.words(crate)
-        self.seconds = 0.0
+        self.seconds, self.said = 0.0, ""
 
     def apply(self, edit: str):
         """The texts of the files that the edit changes, over what is planted already, or why it cannot be applied."""
@@ -171,7 +177,11 @@ class Room:
             out.seek(0)
             seconds = used.ru_utime + used.ru_stime
             self.seconds += seconds
-            return read(started.returncode, out.read(), seconds)
+            text = out.read()
+            if self.said:
+                with open(self.said, "a", encoding="utf-8") as it:
+                    it.write(text)
+            return read(started.returncode, text, seconds)
 
     def check(self, names: Dict[str, str]) -> Report:
         """Checks the functions of these names and what they call. For a name that fits none, or several, its module is asked for; and
@@ -192,7 +202,7 @@ class Room:
         with tempfile.TemporaryDirectory(prefix="wrong-bodies-goals-") as to:
             self.run([*[f"--start={it.partition('::')[2]}" for it in names], "--generated", to])
             for name in names:
-                at = f"{to}/Rattle-{self.crate.name}-proofs/{name.partition('::')[2].replace('::', '/')}/Goals.antt"
-                if os.path.isfile(at):
-                    found[name] = set(re.findall(r"(?m)^abbrev pub (\S+) :", LIB.text_of(at)))
+                for at in (f"{to}/Rattle-{self.crate.name}-proofs/{it}/Goals.antt" for it in places_of(name)):
+                    if os.path.isfile(at):
+                        found[name] = set(re.findall(r"(?m)^abbrev pub (\S+) :", LIB.text_of(at)))
         return found

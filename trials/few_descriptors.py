@@ -3,7 +3,7 @@
 
     trials/few_descriptors.py KBROKER
 
-With `connections = 48` and the least limit of open files with which it starts, 80, clients of 40 connections produce into 64 topics, each
+With `connections = 48` and the least limit of open files with which it starts, 80, 40 clients produce into 64 topics, each
 with a file of its own: all of it is taken, twice, and read again. The broker says in a line of its log that the limit is too low for all
 files that it may have open. Below that limit it ends with status 1, and with 48 + 272 it says nothing. It prints how many answers were
 wrong.

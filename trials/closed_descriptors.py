@@ -1,10 +1,10 @@
 #!/usr/bin/env python3
-"""Starts both programs with each of the descriptors 0 to 2 closed, and all of them: no file and no socket takes such a number.
+"""Starts both programs with each of the descriptors 0 to 2 closed, and with several of them: no file and no socket takes such a number.
 
     trials/closed_descriptors.py KBROKER KCONSOLE
 
-A broker that is started so makes files for two tenants, and its log has something to tell. Each file begins with its own header, and
-both tenants find their records after a start. A `kconsole consume` that is started so ends, and sends nothing but requests: the broker
+A broker that is started so serves a folder with files of two tenants, and its log has something to tell. Each file begins with its own
+header afterwards, and both tenants find their records. A `kconsole consume` that is started so ends, and sends nothing but requests: the broker
 closes no connection of it. It prints how many of the ways went wrong.
 """
 
@@ -15,7 +15,7 @@ import tempfile
 
 from wire import Broker, Client, batch
 
-WAYS = [(0,), (1,), (2,), (0, 1, 2)]
+WAYS = [(0,), (1,), (2,), (0, 2), (0, 1, 2)]
 
 
 def closing(numbers):
@@ -40,36 +40,41 @@ def numbers_taken(pid):
 
 
 def served(program, numbers):
-    """What is wrong with a broker that is started with descriptors closed."""
-    wrong = []
+    """What is wrong with a broker that is started, on a folder with files, with descriptors closed."""
+    users = ((b"ann", b"pw1"), (b"bob", b"pw2"))
     with tempfile.TemporaryDirectory() as room:
-        broker = Broker(program, room, before=closing(numbers))
-        if not broker.listens():
-            # Where standard output is closed it may say so and end.
-            broker.stop()
-            return [] if 1 in numbers else ["it does not listen"]
-        for user, password in ((b"ann", b"pw1"), (b"bob", b"pw2")):
-            client = Client(broker.port, user, password)
+        first = Broker(program, room)
+        first.listens()
+        for user, password in users:
+            client = Client(first.port, user, password)
             client.create(b"t")
             client.produce(b"t", batch(b"first"))
-        try:
-            Client(broker.port, b"ann", b"wrong")
-        except ConnectionError:
-            pass
-        wrong += numbers_taken(broker.process.pid)
+        first.stop()
+        broker = Broker(program, room, before=closing(numbers))
+        wrong, records = [], 1
+        if broker.listens():
+            records = 2
+            for user, password in users:
+                Client(broker.port, user, password).produce(b"t", batch(b"second"))
+            try:
+                Client(broker.port, b"ann", b"wrong")
+            except ConnectionError:
+                pass
+            wrong = numbers_taken(broker.process.pid)
+        elif 1 not in numbers:
+            # Where standard output is closed it may say so and end.
+            wrong = ["it does not listen"]
         broker.stop()
         for name in sorted(os.listdir(f"{room}/data")):
             with open(f"{room}/data/{name}", "rb") as it:
                 if name.endswith(".seg") and it.read(4) != b"KBSG":
                     wrong.append(f"{name} has no header")
         again = Broker(program, room)
-        if not again.listens():
-            again.stop()
-            return wrong + ["it does not start again"]
-        for user, password in ((b"ann", b"pw1"), (b"bob", b"pw2")):
+        again.listens()
+        for user, password in users:
             code, mark, _ = Client(again.port, user, password).fetch(b"t", 0)
-            if (code, mark) != (0, 1):
-                wrong.append(f"{user.decode()} has lost a record: error {code}, {mark} records")
+            if (code, mark) != (0, records):
+                wrong.append(f"{user.decode()}: error {code}, {mark} of {records} records")
         again.stop()
     return wrong
 

@@ -3,9 +3,10 @@
 
     trials/few_descriptors.py KBROKER
 
-With `connections = 48` and a limit of 64 and so of 48 + 16 descriptors, which is enough to start, 40 clients produce into 64 topics,
-each with a file of its own: all of it is taken, twice, and read again. Below 48 + 32 ... see LIMITS: the broker says in one line of its
-log what is missing, or ends with status 1.
+With `connections = 48` and the least limit of open files with which it starts, 80, 40 clients produce into 64 topics, each
+with a file of its own: all of it is taken, twice, and read again. The broker says in a line of its log that the limit is too low for all
+files that it may have open. Below that limit it ends with status 1, and with 48 + 272 it says nothing. It prints how many answers were
+wrong.
 """
 
 import resource

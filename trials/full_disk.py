@@ -4,10 +4,11 @@
     trials/full_disk.py KBROKER
 
 The data folder is on a file system of 12 MB in memory, which the script mounts and unmounts: it needs root. It is filled by produces
-until one is refused. Then what should free it is asked for, and produces go on. It prints how many of the three ways did not free it.
+until one is refused. Then what should free it is asked for, and produces go on. It prints how many of the ways did not free it.
 Of each the log says once that the disk is full.
 """
 
+import signal
 import subprocess
 import sys
 import tempfile
@@ -56,14 +57,13 @@ def retained(client, _):
     return ""
 
 
-def way(program, name, free, **config):
-    """What is wrong with one way to free the disk."""
+def way(program, name, free, again, **config):
+    """What is wrong with one way to free the disk, with a broker that is started again when it is full, or without."""
     with tempfile.TemporaryDirectory() as room:
         subprocess.run(["mount", "-t", "tmpfs", "-o", f"size={SIZE}", "tmpfs", room], check=True)
         try:
             broker = Broker(program, room, MORE, data=f"{room}/data")
             if not broker.listens():
-                broker.stop()
                 return f"{name}: the broker does not start: {broker.log()}"
             client = Client(broker.port)
             client.create(b"other", retention_ms=-1)
@@ -71,30 +71,45 @@ def way(program, name, free, **config):
             taken, code = fill(client, b"big")
             if code != 56:
                 return f"{name}: a full disk is answered {code}"
+            said = broker.log().count("disk full: cannot write")
+            if said != 1:
+                return f"{name}: the log says {said} times that the disk is full"
+            if again:
+                broker.stop()
+                broker = Broker(program, room, MORE, data=f"{room}/data")
+                if not broker.listens():
+                    return f"{name}: the broker does not start on a full disk: {broker.log()}"
+                client = Client(broker.port)
             wrong = free(client, taken)
             # The log has room of its own where the disk has none.
             for _ in range(3):
                 code, _ = client.produce(b"other", batch(BIG))
                 if code:
                     wrong = wrong or f"a produce is answered {code} afterwards"
-            broker.stop()
             return wrong and f"{name}: {wrong}"
         finally:
+            broker.stop()
             subprocess.run(["umount", "-l", room], check=True)
 
 
+WAYS = [
+    ("a topic deleted", topic_deleted, False, {"retention_ms": -1}),
+    ("a topic deleted after a start", topic_deleted, True, {"retention_ms": -1}),
+    ("records deleted", records_deleted, False, {"retention_ms": -1}),
+    ("retention", retained, False, {"retention_ms": 8000}),
+]
+
+
 def main():
+    # So that the file system is unmounted where the script is ended.
+    signal.signal(signal.SIGTERM, lambda *_: sys.exit(1))
     wrong = []
-    for name, free, config in (
-        ("a topic deleted", topic_deleted, {"retention_ms": -1}),
-        ("records deleted", records_deleted, {"retention_ms": -1}),
-        ("retention", retained, {"retention_ms": 8000}),
-    ):
-        what = way(sys.argv[1], name, free, **config)
+    for name, free, again, config in WAYS:
+        what = way(sys.argv[1], name, free, again, **config)
         if what:
             wrong.append(what)
             print(what)
-    print(f"{len(wrong)} of 3 ways do not free a full disk")
+    print(f"{len(wrong)} of {len(WAYS)} ways do not free a full disk")
     sys.exit(1 if wrong else 0)
 
 

@@ -9,6 +9,7 @@ read are told in a line of the log. It prints how many of these are not so.
 """
 
 import os
+import signal
 import stat
 import subprocess
 import sys
@@ -58,6 +59,8 @@ def modes(program, room):
 
 
 def main():
+    # So that the folder is unmounted where the script is ended.
+    signal.signal(signal.SIGTERM, lambda *_: sys.exit(1))
     wrong = []
     for name, case, cause in (("read-only", read_only, "Read-only"), ("another user's", of_another, "Permission denied")):
         with tempfile.TemporaryDirectory() as room:

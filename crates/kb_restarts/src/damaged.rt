@@ -1,7 +1,9 @@
 //! A write that stops at a byte, and then the process.
 
 use crate::running::{ABC, CREATE, client_on};
+use kb_restart::file_lengths;
 use kb_store::{Fuse, FusedStore, MemoryStore};
+use kb_survey::Postponed;
 use std::alloc::{AllocError, Global};
 use std::process::Abort;
 use std::test::Fail;
@@ -34,8 +36,8 @@ fn last_of(answer: &[u8]) -> u8 {
     }
 }
 
-/// The end of the topic, where the write of three more records stopped behind so many bytes and the broker then opened again.
-fn end_after(rt: &impl Abort, alloc: Global, bytes: u64) -> Result<u8, AllocError> {
+/// That store, where the write of three more records stopped behind so many bytes.
+fn torn(rt: &impl Abort, alloc: Global, bytes: u64) -> Result<MemoryStore, AllocError> {
     let calls = opening_calls(rt, alloc)?;
     let store = FusedStore::new(
         three_records(rt, alloc)?,
@@ -45,7 +47,12 @@ fn end_after(rt: &impl Abort, alloc: Global, bytes: u64) -> Result<u8, AllocErro
     let mut client = client_on(rt, alloc, store)?;
     client.ask_all(rt, &[ABC])?;
     assert!(rt; last_of(&client.ask_all(rt, &[END])?) == 3);
-    let mut again = client_on(rt, alloc, client.stop().into_store())?;
+    Ok(client.stop().into_store())
+}
+
+/// The end of the topic, where the write of three more records stopped behind so many bytes and the broker then opened again.
+fn end_after(rt: &impl Abort, alloc: Global, bytes: u64) -> Result<u8, AllocError> {
+    let mut again = client_on(rt, alloc, torn(rt, alloc, bytes)?)?;
     Ok(last_of(&again.ask_all(rt, &[END])?))
 }
 
@@ -56,5 +63,22 @@ fn whole_batches_are_there(rt: HostRuntime) -> Result<(), Fail> {
         assert!(rt; end_after(&rt, rt.alloc(), bytes)? == 3);
     }
     assert!(rt; end_after(&rt, rt.alloc(), BATCH)? == 6);
+    Ok(())
+}
+
+/// Over a store that puts off what is cut, an opening leaves each file as it is, and the first write goes on behind the whole batches.
+#[test]
+fn nothing_is_cut_before_the_first_write(rt: HostRuntime) -> Result<(), Fail> {
+    let alloc = rt.alloc();
+    let mut store = torn(&rt, alloc, BATCH - 1)?;
+    let before = file_lengths(alloc, &mut store)?;
+    let mut client = client_on(&rt, alloc, Postponed::new(alloc, store))?;
+    assert!(rt; last_of(&client.ask_all(&rt, &[END])?) == 3);
+    let mut store = client.stop().into_store();
+    assert!(rt; file_lengths(alloc, &mut store)? == before);
+    let mut client = client_on(&rt, alloc, Postponed::new(alloc, store))?;
+    assert!(rt; last_of(&client.ask_all(&rt, &[ABC, END])?) == 6);
+    let mut client = client_on(&rt, alloc, client.stop().into_store())?;
+    assert!(rt; last_of(&client.ask_all(&rt, &[END])?) == 6);
     Ok(())
 }

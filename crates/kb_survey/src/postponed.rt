@@ -48,6 +48,14 @@ impl<S: Store> Postponed<S> {
         }
     }
 
+    /// The store inside, without what is put off.
+    pub fn into_store(self) -> S
+        ensures { result ≡ self.store }
+    {
+        let Postponed { store, .. } = self;
+        store
+    }
+
     /// How many bytes a file has to callers that has so many in the store inside; none where it was removed.
     pub fn left(&self, file: u64, len: u64) -> Option<u64>
         ensures { map.get (S.disk self.now.store).table file ≡ Some len → result ≡ map.get (disk_with S.disk self.now).table file }

@@ -2,11 +2,12 @@
 
 ghost use Rattle.std.specs.Prelude.{◌≤◌, ◌^◌};
 
+use crate::lines::Lines;
 use crate::survey::StrayCounts;
 use kb_broker::Broker;
-use kb_journal::{Pace, Tally, time_text};
+use kb_journal::{Change, Notice, Pace, Tally, Tick, now, time_text};
 use kb_log::PartitionLog;
-use kb_node::{Edge, Settings, Store, Turn, tenant_names};
+use kb_node::{Denied, Edge, Settings, Store, Turn, tenant_names};
 use kb_restart::{Counts, Dropped, FileLength, FileTotal};
 use std::alloc::{AllocError, Global};
 use std::net::Net;
@@ -27,10 +28,14 @@ pub enum Word {
     Found,
 }
 
-/// What was told so far. A line that cannot be written is passed over.
+/// How many tenants stand in a line at most: it stays below 4,096 bytes, with names of 64.
+const TENANTS: usize = 40;
+
+/// What was told so far. No line is waited for ([`Lines`]).
 #[derive(Drop)]
 pub struct Journal {
     is_quiet: bool,
+    lines: Lines,
     connections: u32,
     tenants: Vec<Tenant>,
     /// Refusals that were counted for no tenant.
@@ -42,47 +47,59 @@ pub struct Journal {
 
 impl Journal {
     /// Nothing is told yet, and with `is_quiet` nothing will be.
-    pub fn new(alloc: Global, settings: &Settings, is_quiet: bool) -> Result<Journal, AllocError> {
+    pub fn new(
+        rt: &HostRuntime,
+        settings: &Settings,
+        is_quiet: bool,
+    ) -> Result<Journal, AllocError> {
         Ok(Journal {
             is_quiet,
+            lines: Lines::new(rt)?,
             connections: settings.connections,
-            tenants: tenants_of(alloc, settings)?,
+            tenants: tenants_of(rt.alloc(), settings)?,
             unbound: Tally::default(),
             turned_away: 0,
             pace: Pace::default(),
         })
     }
 
+    /// Where other lines on the same folder go.
+    pub fn lines(&mut self) -> &mut Lines {
+        &mut self.lines
+    }
+
     /// What an opening dropped of the files that a folder had: a line for each.
-    pub fn tell_dropped(&self, rt: &HostRuntime, now: u64, drops: &[Dropped]) {
+    pub fn tell_dropped(&mut self, rt: &HostRuntime, now: u64, drops: &[Dropped]) {
         if self.is_quiet {
             return;
         }
         for drop in drops {
-            tell_drop(rt, now, drop);
+            self.lines.tell(now, drop_text(rt.alloc(), drop));
         }
     }
 
     /// The files that an opening left aside: of tenants that no user names, a line each, and of a first write that was cut short.
-    pub fn tell_strays(&self, rt: &HostRuntime, now: u64, strays: &StrayCounts) {
+    pub fn tell_strays(&mut self, rt: &HostRuntime, now: u64, strays: &StrayCounts) {
         if self.is_quiet {
             return;
         }
-        let time = time_of(rt, now);
+        let alloc = rt.alloc();
         for (tenant, files) in &strays.of_nobody {
-            let _ = eprintln!(rt;
-                "{time} stray files of tenant {tenant}, which no user names: {files}"
+            let text = format!(in alloc;
+                "stray files of tenant {tenant}, which no user names: {files}"
             );
+            self.lines.tell(now, text);
         }
         if strays.short > 0 {
             let short = strays.short;
-            let _ = eprintln!(rt; "{time} stray files that are shorter than a header: {short}");
+            let text = format!(in alloc; "stray files that are shorter than a header: {short}");
+            self.lines.tell(now, text);
         }
     }
 
     /// What was found in the folder, behind a word: so many tenants, topics, partitions and stray files, and so many files and bytes.
     pub fn tell_found(
-        &self,
+        &mut self,
         rt: &HostRuntime,
         now: u64,
         word: Word,
@@ -92,45 +109,85 @@ impl Journal {
         if self.is_quiet {
             return;
         }
-        let time = time_of(rt, now);
-        let holds = found_text(rt.alloc(), counts, FileTotal::of(files));
+        let alloc = rt.alloc();
+        let holds = found_text(alloc, counts, FileTotal::of(files));
         let connections = self.connections;
-        let _ = match word {
-            Word::Start => {
-                eprintln!(rt; "{time} start: {holds}, connections at most {connections}")
-            }
-            Word::Found => eprintln!(rt; "{time} found: {holds}"),
+        let text = match word {
+            Word::Start => format!(in alloc; "start: {holds}, connections at most {connections}"),
+            Word::Found => format!(in alloc; "found: {holds}"),
         };
+        self.lines.tell(now, text);
     }
 
-    /// The broker serves no longer.
-    pub fn tell_stop(&self, rt: &HostRuntime, now: u64) {
-        if !self.is_quiet {
-            let time = time_of(rt, now);
-            let _ = eprintln!(rt; "{time} stop");
+    /// Where the clock is, seen from the last change of a file: a line, unless that was within a day before.
+    pub fn tell_change(&mut self, rt: &HostRuntime, now: u64, changed: Option<u64>) {
+        if let (false, Some(changed)) = (self.is_quiet, changed)
+            && let Some(text) = change_text(rt.alloc(), now, changed).transpose()
+        {
+            self.lines.tell(now, text);
         }
     }
 
-    /// What happened in a turn at a moment: logins that failed at once, and counts at most once a second.
+    /// The broker serves no longer.
+    pub fn tell_stop(&mut self, rt: &HostRuntime, now: u64) {
+        if !self.is_quiet {
+            self.lines.tell(now, String::from_str(rt.alloc(), "stop"));
+        }
+    }
+
+    /// What happened in a turn at a tick: logins that failed and the clock at once, and counts at most once a second.
     pub fn tell<R: Net, S: Store, L: PartitionLog + Drop>(
         &mut self,
         rt: &HostRuntime,
         edge: &Edge<R, S, L>,
         turn: &Turn,
-        now: u64,
+        tick: Tick,
     )
-        requires { now ≤ 2 ^ 62 }
+        requires { tick.moment ≤ 2 ^ 62 }
     {
         if self.is_quiet {
             return;
         }
         if turn.denied > 0 {
-            tell_denied(rt, edge, turn.denied, now);
+            self.tell_denied(rt, edge, turn.denied);
+        }
+        if let Some(notice) = tick.told {
+            let text = String::from_str(rt.alloc(), notice_text(notice));
+            self.lines.tell(now(rt), text);
         }
         self.turned_away = self.turned_away.saturating_add(turn.turned_away);
-        if self.pace.is_due(now) {
-            self.tell_turned_away(rt, now);
-            self.tell_refusals(rt, edge.broker(), now);
+        if self.pace.is_due(tick.moment) {
+            self.tell_counts(rt, edge.broker(), now(rt));
+        }
+    }
+
+    /// The counts that grew, and how many lines were missed.
+    fn tell_counts<S: Store, L: PartitionLog + Drop>(
+        &mut self,
+        rt: &HostRuntime,
+        broker: &Broker<S, L>,
+        now: u64,
+    ) {
+        self.lines.catch_up(now);
+        self.tell_turned_away(rt, now);
+        self.tell_refusals(rt, broker, now);
+    }
+
+    /// The logins of a turn that failed.
+    fn tell_denied<R: Net, S: Store, L: PartitionLog + Drop>(
+        &mut self,
+        rt: &HostRuntime,
+        edge: &Edge<R, S, L>,
+        denied: u64,
+    ) {
+        let (alloc, now) = (rt.alloc(), now(rt));
+        for login in edge.denied() {
+            self.lines.tell(now, login_text(alloc, login));
+        }
+        let more = denied.saturating_sub(edge.denied().len() as u64);
+        if more > 0 {
+            self.lines
+                .tell(now, format!(in alloc; "login failed from others: {more}"));
         }
     }
 
@@ -140,10 +197,10 @@ impl Journal {
             return;
         }
         let (count, connections) = (self.turned_away, self.connections);
-        let time = time_of(rt, now);
-        let _ = eprintln!(rt;
-            "{time} connections closed at once: {count}, since {connections} are open"
+        let text = format!(in rt.alloc();
+            "connections closed at once: {count}, since {connections} are open"
         );
+        self.lines.tell(now, text);
         self.turned_away = 0;
     }
 
@@ -157,32 +214,36 @@ impl Journal {
         if self.is_quiet || broker.is_calm() {
             return;
         }
-        let unbound = self.unbound.grown(broker.refusals_unbound());
-        let Ok(counts) = self.refusals(rt.alloc(), broker) else {
-            return;
-        };
-        if unbound > 0 || !counts.is_empty() {
-            let time = time_of(rt, now);
-            let _ = eprintln!(rt; "{time} refusals: before a login {unbound}{counts}");
-        }
-    }
-
-    /// The tenants with refusals since the last line, and how many.
-    fn refusals<S: Store, L: PartitionLog + Drop>(
-        &mut self,
-        alloc: Global,
-        broker: &Broker<S, L>,
-    ) -> Result<String, AllocError> {
-        let mut counts = String::new(alloc);
-        for tenant in &mut self.tenants {
-            let grown = tenant.refusals.grown(broker.refusals(&tenant.name));
-            if grown > 0 {
-                let name = tenant.name.as_str();
-                counts.push_str(&format!(in alloc; ", tenant {name} {grown}")?)?;
+        let mut unbound = self.unbound.grown(broker.refusals_unbound());
+        for tenants in self.tenants.chunks_mut(TENANTS) {
+            let text = refusals_text(rt.alloc(), tenants, broker, unbound);
+            unbound = 0;
+            if let Some(text) = text.transpose() {
+                self.lines.tell(now, text);
             }
         }
-        Ok(counts)
     }
+}
+
+/// How many requests of some tenants were refused since the last line, and how many before a login: none where no request was.
+fn refusals_text<S: Store, L: PartitionLog + Drop>(
+    alloc: Global,
+    tenants: &mut [Tenant],
+    broker: &Broker<S, L>,
+    unbound: u64,
+) -> Result<Option<String>, AllocError> {
+    let mut counts = String::new(alloc);
+    for tenant in tenants {
+        let grown = tenant.refusals.grown(broker.refusals(&tenant.name));
+        if grown > 0 {
+            let name = tenant.name.as_str();
+            counts.push_str(&format!(in alloc; ", tenant {name} {grown}")?)?;
+        }
+    }
+    if unbound == 0 && counts.is_empty() {
+        return Ok(None);
+    }
+    Ok(Some(format!(in alloc; "refusals: before a login {unbound}{counts}")?))
 }
 
 /// The users' tenants, in byte order, each once.
@@ -213,45 +274,45 @@ fn found_text(alloc: Global, counts: Counts, total: FileTotal) -> String {
 }
 
 /// What an opening dropped of a file.
-fn tell_drop(rt: &HostRuntime, now: u64, drop: &Dropped) {
-    let time = time_of(rt, now);
+fn drop_text(alloc: Global, drop: &Dropped) -> Result<String, AllocError> {
     let (file, before) = (drop.file, drop.before);
-    let _ = match drop.after {
+    match drop.after {
         Some(after) => {
             let bytes = before.saturating_sub(after);
-            eprintln!(rt; "{time} dropped file {file}: {bytes} bytes behind the end of its log")
+            format!(in alloc; "dropped file {file}: {bytes} bytes behind the end of its log")
         }
-        None => {
-            eprintln!(rt;
-                "{time} dropped file {file} whole, {before} bytes: nothing in it is of its log"
-            )
-        }
+        None => format!(in alloc;
+            "dropped file {file} whole, {before} bytes: nothing in it is of its log"
+        ),
+    }
+}
+
+/// Where a clock is that is before the last change of a file, or more than a day behind it.
+fn change_text(alloc: Global, now: u64, changed: u64) -> Result<Option<String>, AllocError> {
+    let text = match Change::at(now, changed) {
+        Change::Ahead => "the clock is before the last change of a file",
+        Change::Old => "the last change of a file is more than a day ago",
+        Change::Recent => return Ok(None),
     };
+    let time = time_text(alloc, changed)?;
+    Ok(Some(format!(in alloc; "{text}: {time}")?))
 }
 
-/// The logins of a turn that failed.
-fn tell_denied<R: Net, S: Store, L: PartitionLog + Drop>(
-    rt: &HostRuntime,
-    edge: &Edge<R, S, L>,
-    denied: u64,
-    now: u64,
-) {
-    let time = time_of(rt, now);
-    for login in edge.denied() {
-        let (address, name) = (login.address, &login.name);
-        let _ = if name.is_empty() {
-            eprintln!(rt; "{time} login failed from {address}")
-        } else {
-            eprintln!(rt; "{time} login failed from {address} as {name}")
-        };
-    }
-    let more = denied.saturating_sub(edge.denied().len() as u64);
-    if more > 0 {
-        let _ = eprintln!(rt; "{time} login failed from others: {more}");
+/// What happened to the wall clock.
+fn notice_text(notice: Notice) -> &'static str {
+    match notice {
+        Notice::Ahead => "the clock went ahead: it is not followed for ten minutes",
+        Notice::Taken => "the clock was ahead for ten minutes: it is followed",
+        Notice::Back => "the clock is no longer ahead",
     }
 }
 
-/// The text of a moment, which is empty where there is no memory for it.
-fn time_of(rt: &HostRuntime, now: u64) -> String {
-    time_text(rt.alloc(), now).unwrap_or(String::new(rt.alloc()))
+/// A login that failed.
+fn login_text(alloc: Global, login: &Denied) -> Result<String, AllocError> {
+    let (address, name) = (login.address, &login.name);
+    if name.is_empty() {
+        format!(in alloc; "login failed from {address}")
+    } else {
+        format!(in alloc; "login failed from {address} as {name}")
+    }
 }

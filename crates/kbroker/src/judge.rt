@@ -65,7 +65,7 @@ pub fn judge(
     consent: Consent,
     before: &[FileLength],
     opened: &Restarted<Kept>,
-    journal: &Journal,
+    journal: &mut Journal,
 ) -> Result<Vec<FileLength>, Fault> {
     let alloc = rt.alloc();
     let store = opened.broker.store();

@@ -7,11 +7,13 @@
 //! a broker that runs. Status 0 is done, 1 a fault with one line on standard error, 2 a fault of the command line with its usage.
 #![tactic(auto)]
 
+mod changed;
 mod check;
 mod dump;
 mod folder;
 mod journal;
 mod judge;
+mod lines;
 mod listening;
 mod process;
 mod reasons;

@@ -1,6 +1,7 @@
 //! What is looked at when the process is started, and what the system refuses to its folder while it serves.
 
 use crate::Fault;
+use crate::lines::Lines;
 use kb_folder::{FolderCall, Refusal, Refusals, file_name};
 use kb_journal::{now, time_text};
 use kb_process::{OpenFiles, judge, soft_limit};
@@ -93,31 +94,21 @@ impl FolderJournal {
     }
 
     /// Tells of the last refusal at a moment in milliseconds, where none was told for a minute.
-    pub fn tell(&mut self, rt: &HostRuntime, now: u64) {
-        if self.is_quiet || self.told.is_some_and(|told| now.abs_diff(told) < MINUTE) {
+    pub fn tell(&mut self, rt: &HostRuntime, lines: &mut Lines, moment: u64) {
+        if self.is_quiet || self.told.is_some_and(|told| moment.abs_diff(told) < MINUTE) {
             return;
         }
         if let Some(refusal) = self.refusals.take() {
-            self.told = Some(now);
-            let _ = self.tell_refusal(rt, now, &refusal);
+            self.told = Some(moment);
+            lines.tell(now(rt), self.refusal_text(rt.alloc(), &refusal));
         }
     }
 
-    /// The line of a refusal. Without memory for it there is none.
-    fn tell_refusal(
-        &self,
-        rt: &HostRuntime,
-        now: u64,
-        refusal: &Refusal,
-    ) -> Result<(), AllocError> {
-        let alloc = rt.alloc();
-        let (time, path) = (
-            time_text(alloc, now)?,
-            path_of(alloc, self.folder.as_str(), refusal.file)?,
-        );
+    /// The line of a refusal.
+    fn refusal_text(&self, alloc: Global, refusal: &Refusal) -> Result<String, AllocError> {
+        let path = path_of(alloc, self.folder.as_str(), refusal.file)?;
         let (what, call, error) = (kind_of(&refusal.error), verb(refusal.call), refusal.error);
-        let _ = eprintln!(rt; "{time} {what}: cannot {call} {path}: {error}");
-        Ok(())
+        format!(in alloc; "{what}: cannot {call} {path}: {error}")
     }
 }
 

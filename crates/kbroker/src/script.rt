@@ -73,7 +73,7 @@ fn script_on<R: BufRead, W: Write>(
     writer: &mut W,
 ) -> Result<(), Fault> {
     let alloc = rt.alloc();
-    let mut journal = Journal::new(alloc, settings, false)?;
+    let mut journal = Journal::new(rt, settings, false)?;
     let _held = hold(rt, path)?;
     let mut store = store_in(rt, path)?;
     let before = file_lengths(alloc, &mut store)?;
@@ -84,7 +84,7 @@ fn script_on<R: BufRead, W: Write>(
         Postponed::new(alloc, store),
     )
     .map_err(|refused| StartFault::from(refused.fault))?;
-    let files = judge(rt, settings, path, consent, &before, &opened, &journal)?;
+    let files = judge(rt, settings, path, consent, &before, &opened, &mut journal)?;
     let Restarted {
         mut broker,
         strays: _,

@@ -1,6 +1,7 @@
 //! `kbroker serve`: serves sockets, and tells of it.
 
 use crate::Fault;
+use crate::changed::last_change;
 use crate::folder::{hold, store_noting};
 use crate::journal::{Journal, Word};
 use crate::judge::{Consent, judge};
@@ -8,7 +9,7 @@ use crate::listening::{listen, tell_listening};
 use crate::process::{FolderJournal, look_at_start};
 use crate::settings::{not_opened, settings_of, without_folder};
 use clap::ArgMatches;
-use kb_journal::now;
+use kb_journal::{GuardedClock, Reading, now};
 use kb_log::PartitionLog;
 use kb_node::{Edge, Listing, Store, data_folder};
 use kb_restart::{Restarted, file_lengths, open_broker};
@@ -36,8 +37,9 @@ pub fn serve(rt: &HostRuntime, found: &ArgMatches<'_>) -> Result<(), Fault> {
         Ok(path) => path,
         Err(fault) => return Err(without_folder(alloc, fault)),
     };
+    let changed = last_change(rt, path);
     let _held = hold(rt, path)?;
-    let mut journal = Journal::new(alloc, &settings, is_quiet)?;
+    let mut journal = Journal::new(rt, &settings, is_quiet)?;
     let mut folder_journal = FolderJournal::new(alloc, path, is_quiet)?;
     let mut store = store_noting(rt, path, folder_journal.refusals())?;
     let before = file_lengths(alloc, &mut store)?;
@@ -45,7 +47,7 @@ pub fn serve(rt: &HostRuntime, found: &ArgMatches<'_>) -> Result<(), Fault> {
         |refused| not_opened(alloc, path, refused.fault),
     )?;
     let consent = Consent::of(found);
-    let files = judge(rt, &settings, path, consent, &before, &opened, &journal)?;
+    let files = judge(rt, &settings, path, consent, &before, &opened, &mut journal)?;
     let Restarted {
         broker,
         strays: _,
@@ -55,23 +57,25 @@ pub fn serve(rt: &HostRuntime, found: &ArgMatches<'_>) -> Result<(), Fault> {
     let mut edge = listen(rt, broker, &settings)?;
     tell_listening(rt, &edge, path)?;
     journal.tell_found(rt, now(rt), Word::Start, counts, &files);
+    journal.tell_change(rt, now(rt), changed);
     turn_on(rt, &mut edge, &mut journal, &mut folder_journal);
     journal.tell_stop(rt, now(rt));
     Ok(())
 }
 
-/// Turns an edge until the turns are used up.
+/// Turns an edge until the turns are used up, by a clock that follows the wall clock but not its jumps.
 fn turn_on<R: Net, S: Store, L: PartitionLog + Drop>(
     rt: &HostRuntime,
     edge: &mut Edge<R, S, L>,
     journal: &mut Journal,
     folder_journal: &mut FolderJournal,
 ) {
+    let mut clock = GuardedClock::starting(Reading::of(rt));
     for _ in 0..TURNS {
         edge.wait();
-        let now = now(rt);
-        let turn = edge.turn(rt.alloc(), now);
-        journal.tell(rt, edge, &turn, now);
-        folder_journal.tell(rt, now);
+        let tick = clock.next(Reading::of(rt));
+        let turn = edge.turn(rt.alloc(), tick.moment);
+        journal.tell(rt, edge, &turn, tick);
+        folder_journal.tell(rt, journal.lines(), tick.moment);
     }
 }

@@ -1,0 +1,140 @@
+//! Lines on standard error that wait for no reader.
+
+use kb_journal::{Missed, Sink, time_text};
+use mio::unix::SourceFd;
+use mio::{Events, Interest, Poll, Token};
+use std::alloc::{AllocError, Global};
+use std::io::{ErrorKind, Write};
+use std::os::fd::AsRawFd;
+use std::time::Duration;
+
+/// The most bytes of a line, its end among them: a pipe that takes anything takes so many.
+const LINE: usize = 4096;
+
+/// Lines on standard error. One that the system does not take at once is passed over, and the next one that it takes is how many
+/// were.
+#[derive(Drop)]
+pub struct Lines {
+    missed: Missed,
+    output: Output,
+}
+
+/// Standard error, and what tells whether it takes a line.
+#[derive(Drop)]
+struct Output {
+    rt: HostRuntime,
+    /// With none nothing is written.
+    poll: Option<Poll>,
+    events: Events,
+    is_watched: bool,
+    /// A line was written without its end.
+    is_open: bool,
+}
+
+/// Standard error at a moment of the wall clock.
+#[derive(Drop)]
+struct Timed<'a> {
+    output: &'a mut Output,
+    now: u64,
+}
+
+impl Lines {
+    /// No line was missed.
+    pub fn new(rt: &HostRuntime) -> Result<Lines, AllocError> {
+        Ok(Lines {
+            missed: Missed::default(),
+            output: Output {
+                rt: *rt,
+                poll: Poll::new(rt).ok(),
+                events: Events::with_capacity(rt.alloc(), 1)?,
+                is_watched: false,
+                is_open: false,
+            },
+        })
+    }
+
+    /// Tells a line with a moment of the wall clock in front. A text for which there was no memory is a line that was missed.
+    pub fn tell(&mut self, now: u64, text: Result<String, AllocError>) {
+        let output = &mut self.output;
+        match text {
+            Ok(text) => self.missed.tell(&mut Timed { output, now }, &text),
+            Err(_) => self.missed.miss(),
+        }
+    }
+
+    /// Tells how many lines were missed, if any were.
+    pub fn catch_up(&mut self, now: u64) {
+        let output = &mut self.output;
+        self.missed.catch_up(&mut Timed { output, now });
+    }
+}
+
+impl Sink for Timed<'_> {
+    ghost offers_line = { λ _ _ _ _. Unit {0} };
+
+    ghost offers_count = { λ _ _ _ _. Unit {0} };
+
+    fn offer_line(&mut self, line: &str) -> bool {
+        match self.output.text_of(self.now, line) {
+            Ok(text) => self.output.write(&text),
+            Err(_) => false,
+        }
+    }
+
+    fn offer_count(&mut self, missed: u64) -> bool {
+        match format!(in self.output.rt.alloc(); "lines of this log were not taken: {missed}") {
+            Ok(line) => self.offer_line(&line),
+            Err(_) => false,
+        }
+    }
+}
+
+impl Output {
+    /// A line as it is written: behind the end of one that has none yet.
+    fn text_of(&self, now: u64, line: &str) -> Result<String, AllocError> {
+        let alloc = self.rt.alloc();
+        let start = if self.is_open { "\n" } else { "" };
+        let time = time_text(alloc, now)?;
+        format!(in alloc; "{start}{time} {line}\n")
+    }
+
+    /// Writes a line, at most its first 4,096 bytes, and says whether they were taken.
+    fn write(&mut self, line: &str) -> bool {
+        if !self.is_ready() {
+            return false;
+        }
+        let whole = line.as_bytes();
+        let bytes = whole.get(..LINE).unwrap_or(whole);
+        let taken = self.rt.stderr().write(bytes).unwrap_or(0);
+        if taken > 0 {
+            self.is_open = taken < whole.len();
+        }
+        taken == bytes.len()
+    }
+
+    /// Whether the system takes a line now.
+    fn is_ready(&mut self) -> bool {
+        let Some(poll) = &mut self.poll else {
+            return false;
+        };
+        let descriptor = self.rt.stderr().as_raw_fd();
+        let source = &mut SourceFd(&descriptor);
+        // it is told anew whether standard error is ready
+        let watched = if self.is_watched {
+            poll.registry()
+                .reregister(source, Token(0), Interest::WRITABLE)
+        } else {
+            poll.registry()
+                .register(source, Token(0), Interest::WRITABLE)
+        };
+        match watched {
+            Ok(()) => {
+                self.is_watched = true;
+                poll.poll(&mut self.events, Some(Duration::ZERO)).is_ok()
+                    && self.events.iter().any(|event| event.is_writable())
+            }
+            // a file is not watched, and takes each line
+            Err(e) => e.kind() == ErrorKind::PermissionDenied,
+        }
+    }
+}

@@ -1,5 +1,5 @@
 -- A broker that has just opened is at rest.
-use Rattle.std.proofs.Common.{◌≡◌, ◌==◌, ◌&&◌, true, List, [], ◌∷◌, refl, sym, subst}
+use Rattle.std.proofs.Common.{◌≡◌, ◌==◌, ◌&&◌, true, List, [], ◌∷◌, refl, ap, sym, subst}
 use Rattle.std.specs.List.{AllByRecursion}
 use Rattle.std.proofs.lemmas.List.Elements.{recursion_from_All}
 use Rattle.kb_service.specs.Hosted.{TenantState}
@@ -23,3 +23,7 @@ calm-opened listing s b is none = subst (λ (x : BrokerState). is_calm x ≡ tru
 -- nobody is connected, who would have output
 pub quiet-opened : (listing : Listing) (s : Settings) (b : BrokerState) → b ≡ opening_over listing s b.tenants → IsQuiet b
 quiet-opened listing s b is = subst IsQuiet (sym is) tt
+
+-- nobody is connected yet
+pub alone-opened : (listing : Listing) (s : Settings) (b : BrokerState) → b ≡ opening_over listing s b.tenants → b.lines ≡ []
+alone-opened listing s b is = ap (λ (x : BrokerState). x.lines) is

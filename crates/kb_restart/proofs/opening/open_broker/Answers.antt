@@ -12,7 +12,10 @@ use Rattle.kb_segment_log.specs.declared.log.SegmentLog.{SegmentLog}
 use Rattle.kb_topics.specs.Catalog.{known}
 use Rattle.kb_topics.specs.Known.{Known}
 use Rattle.kb_world.specs.declared.parts.Parts.{Parts}
+use Rattle.kb_coordinator.specs.Groups.{Groups}
 use Rattle.kb_service.specs.Hosted.{TenantState, names_of}
+use Rattle.kb_machine.specs.Broker.{BrokerState}
+use Rattle.kb_tenants.specs.Members.{HaveNoGroup}
 use Rattle.kb_broker.specs.Opening.{tenant_of, tenants_of, HaveNoGroups}
 use Rattle.kb_broker.specs.declared.opening.OpenRefused.{OpenRefused}
 use Rattle.kb_restart.specs.Counts.{counts_of}
@@ -288,6 +291,14 @@ returns-in-Ok-open_all-clause-held g c =
     let last = map (λ (name : Bor (List ℕ)). name.now) c.deref-in-Ok-open_all-3.result.now in
     c.in_ok-broker-in-Ok-open_all.ensures.held
     (subst (λ (xs : List TenantState). HaveNoGroups xs) (sym c.in_ok-tenants-in-Ok-open_all.ensures.hosted) (no_groups d3.files (zip last c.in-Ok-open_all.parts.items)))
+
+pub returns-in-Ok-open_all-clause-no_groups : goal.returns-in-Ok-open_all-clause-no_groups
+returns-in-Ok-open_all-clause-no_groups g c =
+    let d3 = g.S.Store.disk c.open_all.new.shelf.store in
+    let last = map (λ (name : Bor (List ℕ)). name.now) c.deref-in-Ok-open_all-3.result.now in
+    subst (λ (xs : List TenantState). HaveNoGroup xs)
+    (sym (ap (λ (s : BrokerState). s.tenants) c.in_ok-broker-in-Ok-open_all.ensures.state ∙ c.in_ok-tenants-in-Ok-open_all.ensures.hosted))
+    (λ t. ap (λ (gs : Groups). gs.groups) (no_groups d3.files (zip last c.in-Ok-open_all.parts.items) t))
 
 pub returns-in_err-tenants-in-Ok-open_all-clause-lost_nothing_err : goal.returns-in_err-tenants-in-Ok-open_all-clause-lost_nothing_err
 returns-in_err-tenants-in-Ok-open_all-clause-lost_nothing_err g c =

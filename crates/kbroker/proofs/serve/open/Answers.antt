@@ -1,0 +1,2 @@
+use Rattle.kbroker.proofs.Opened.{alone-opened}
+use Rattle.kbroker.proofs.serve.open.Goals as goal

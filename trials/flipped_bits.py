@@ -73,9 +73,9 @@ class Place:
 
 
 def contents(folder):
-    """The bytes of each file of a folder."""
+    """The bytes of each segment file of a folder."""
     found = {}
-    for name in sorted(os.listdir(folder)):
+    for name in sorted(name for name in os.listdir(folder) if name.endswith(".seg")):
         with open(f"{folder}/{name}", "rb") as file:
             found[name] = file.read()
     return found

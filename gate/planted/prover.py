@@ -136,7 +136,7 @@ def read(status: int, text: str, seconds: float) -> Report:
             errors.append(Said(at[1], int(at[2]), at[3], ": error" in line.split("\n")[0]))
     functions, items = {}, {}
     for line in lines:
-        said = re.match(r"(fn|impl|struct|enum|trait) (\S+): (.*)", line, re.S)
+        said = re.match(r"(fn|impl|struct|enum|trait) (\S+): (.*)", line)
         if said:
             (functions if said[1] == "fn" else items)[said[2]] = verdict(said[2], said[3], errors)
     return Report(status, lines, functions, items, errors, seconds)

@@ -195,7 +195,7 @@ class Crate:
         for it in doubtful:
             old = [goal for name, goals in it.open.items() for goal in goals if goal in self.goals.get(name, ())]
             if old:
-                it.judge(REFUSED, "no proof of " + ", ".join(old))
+                it.judge(REFUSED, f"{', '.join(it.open)}: no proof of {', '.join(dict.fromkeys(old))}")
 
     def judge(self, plan: Plan, report: Report, plans: List[Plan]):
         if not plan.change.functions:
@@ -209,7 +209,8 @@ class Crate:
             plan.judge(HELPER, ", ".join(helpers))
         elif "own" in kinds or goals:
             plan.open = {name: [*it.goals, *goals] for name, it in own.items() if it.kind != "proved"}
-            plan.judge(NEW_PATH if plan.change.branches else REFUSED, kinds.get("own") or "no proof of " + ", ".join(goals))
+            noted = f"{', '.join(plan.open)}: no proof of {', '.join(dict.fromkeys(goals))}"
+            plan.judge(NEW_PATH if plan.change.branches else REFUSED, kinds.get("own") or noted)
         elif "misfit" in kinds:
             plan.judge(MISFIT, kinds["misfit"])
         elif "fell" in kinds:

@@ -1,4 +1,0 @@
-use Rattle.kb_steps.proofs.partitions.append_two.Goals as goal
-
-pub append-requires : goal.append-requires
-append-requires g c = c.requires _ _

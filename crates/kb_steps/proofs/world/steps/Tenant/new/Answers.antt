@@ -1,4 +1,0 @@
-use Rattle.kb_steps.proofs.world.steps.Tenant.new.Goals as goal
-
-pub returns : goal.returns
-returns c = c.in_ok-parts.ensures.sound _ _

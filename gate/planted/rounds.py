@@ -260,10 +260,12 @@ class Crate:
             half = len(plans) // 2
             for part in (plans[:half], plans[half:]):
                 self.room.write(self.before)
-                self.round(self.plant(part))
+                planted = self.plant(part)
+                if planted:
+                    self.round(planted)
             return
         for plan in blamed:
-            plan.judge(UNREAD, said)
+            plan.judge(UNREAD if report.status > 0 else UNKNOWN, said or "the prover was killed")
 
     def is_blamed(self, plan: Plan, report: Report) -> bool:
         mine = plan.change.functions | plan.change.new

@@ -40,6 +40,8 @@ pub struct Journal {
     tenants: Vec<Tenant>,
     /// Refusals that were counted for no tenant.
     unbound: Tally,
+    /// Calls that the store refused.
+    failures: Tally,
     /// The sockets that were closed at once and are not told of.
     turned_away: u64,
     pace: Pace,
@@ -58,6 +60,7 @@ impl Journal {
             connections: settings.connections,
             tenants: tenants_of(rt.alloc(), settings)?,
             unbound: Tally::default(),
+            failures: Tally::default(),
             turned_away: 0,
             pace: Pace::default(),
         })
@@ -215,8 +218,9 @@ impl Journal {
             return;
         }
         let mut unbound = self.unbound.grown(broker.refusals_unbound());
+        let failures = self.failures.grown(broker.store().failures());
         for tenants in self.tenants.chunks_mut(TENANTS) {
-            let text = refusals_text(rt.alloc(), tenants, broker, unbound);
+            let text = refusals_text(rt.alloc(), tenants, broker, unbound, failures);
             unbound = 0;
             if let Some(text) = text.transpose() {
                 self.lines.tell(now, text);
@@ -225,12 +229,14 @@ impl Journal {
     }
 }
 
-/// How many requests of some tenants were refused since the last line, and how many before a login: none where no request was.
+/// How many requests of some tenants were refused since the last line, how many before a login, and how many calls of the store were:
+/// what the store did not refuse was refused for want of memory. None where no request was refused.
 fn refusals_text<S: Store, L: PartitionLog + Drop>(
     alloc: Global,
     tenants: &mut [Tenant],
     broker: &Broker<S, L>,
     unbound: u64,
+    failures: u64,
 ) -> Result<Option<String>, AllocError> {
     let mut counts = String::new(alloc);
     for tenant in tenants {
@@ -243,7 +249,10 @@ fn refusals_text<S: Store, L: PartitionLog + Drop>(
     if unbound == 0 && counts.is_empty() {
         return Ok(None);
     }
-    Ok(Some(format!(in alloc; "refusals: before a login {unbound}{counts}")?))
+    let text = format!(in alloc;
+        "refusals: before a login {unbound}{counts}; calls that the disk refused: {failures}"
+    )?;
+    Ok(Some(text))
 }
 
 /// The users' tenants, in byte order, each once.

@@ -123,6 +123,15 @@ def judge(place, sent, before):
     return "told" if missing else "whole"
 
 
+def place_in(size, number):
+    """A place in a file: of three, one in its header or close behind, one in its last batch, and one anywhere."""
+    if number % 3 == 0:
+        return random.randrange(min(90, size))
+    if number % 3 == 1:
+        return random.randrange(max(0, size - 300), size)
+    return random.randrange(size)
+
+
 def main():
     kbroker, kconsole = (os.path.abspath(path) for path in sys.argv[1:3])
     flips = int(sys.argv[3]) if len(sys.argv) > 3 else 60
@@ -137,8 +146,7 @@ def main():
             damaged = bytearray(kept[name])
             if not damaged:
                 continue
-            # Each third flip is in the header, or close behind it.
-            at = random.randrange(min(90, len(damaged)) if number % 3 == 0 else len(damaged))
+            at = place_in(len(damaged), number)
             damaged[at] ^= 1 << random.randrange(8)
             shutil.rmtree(place.data)
             os.mkdir(place.data)

@@ -211,10 +211,15 @@ fn stray_text(alloc: Global, path: &str, strays: &StrayCounts) -> Result<String,
     let mut text = format!(in alloc;
         "the folder {path} has {files} files that the settings do not fit"
     )?;
+    let mut later = files;
     for (tenant, files) in &strays.never_given_out {
+        later = later.saturating_sub(*files);
         text.push_str(&format!(in alloc;
             ", {files} of topics that the catalog of tenant {tenant} does not know yet"
         )?)?;
+    }
+    if later > 0 {
+        text.push_str(&format!(in alloc; ", {later} with a header of a later version")?)?;
     }
     Ok(text)
 }

@@ -38,7 +38,7 @@ write_with_kcat() { echo "$3" | with_kcat "$1" "$2" -P -t orders; }
 expect() {
     what=$1 lines=$(printf "$2")
     shift 2
-    printed=$("$@" 2>&1)
+    printed=$("$@" 2>&1 | grep -v ': unproved, ') # an executable without a proof says so first
     if [ "$printed" = "$lines" ]; then
         echo "ok: $what"
     else

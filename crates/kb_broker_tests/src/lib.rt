@@ -39,6 +39,8 @@ mod starting;
 #[cfg(test)]
 mod stores;
 #[cfg(test)]
+mod street;
+#[cfg(test)]
 mod words;
 #[cfg(test)]
 mod written;

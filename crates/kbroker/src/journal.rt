@@ -40,8 +40,8 @@ pub struct Journal {
     tenants: Vec<Tenant>,
     /// Refusals that were counted for no tenant.
     unbound: Tally,
-    /// Calls that the store refused.
-    failures: Tally,
+    /// Calls of the store that the disk refused.
+    disk: Tally,
     /// The sockets that were closed at once and are not told of.
     turned_away: u64,
     pace: Pace,
@@ -60,7 +60,7 @@ impl Journal {
             connections: settings.connections,
             tenants: tenants_of(rt.alloc(), settings)?,
             unbound: Tally::default(),
-            failures: Tally::default(),
+            disk: Tally::default(),
             turned_away: 0,
             pace: Pace::default(),
         })
@@ -207,7 +207,7 @@ impl Journal {
         self.turned_away = 0;
     }
 
-    /// How many requests were refused since the last line, by tenant.
+    /// How many requests were refused since the last line, by tenant, and how many calls of the store among that.
     pub fn tell_refusals<S: Store, L: PartitionLog + Drop>(
         &mut self,
         rt: &HostRuntime,
@@ -218,10 +218,11 @@ impl Journal {
             return;
         }
         let mut unbound = self.unbound.grown(broker.refusals_unbound());
-        let failures = self.failures.grown(broker.store().failures());
+        let mut disk = self.disk.grown(broker.store().failures());
         for tenants in self.tenants.chunks_mut(TENANTS) {
-            let text = refusals_text(rt.alloc(), tenants, broker, unbound, failures);
+            let text = refusals_text(rt.alloc(), tenants, broker, unbound, disk);
             unbound = 0;
+            disk = 0;
             if let Some(text) = text.transpose() {
                 self.lines.tell(now, text);
             }
@@ -229,14 +230,14 @@ impl Journal {
     }
 }
 
-/// How many requests of some tenants were refused since the last line, how many before a login, and how many calls of the store were:
-/// what the store did not refuse was refused for want of memory. None where no request was refused.
+/// How many requests of some tenants were refused since the last line, and how many before a login: none where no request was. Behind
+/// them stands how many calls the disk refused; what is more than those was refused for want of memory.
 fn refusals_text<S: Store, L: PartitionLog + Drop>(
     alloc: Global,
     tenants: &mut [Tenant],
     broker: &Broker<S, L>,
     unbound: u64,
-    failures: u64,
+    disk: u64,
 ) -> Result<Option<String>, AllocError> {
     let mut counts = String::new(alloc);
     for tenant in tenants {
@@ -249,10 +250,10 @@ fn refusals_text<S: Store, L: PartitionLog + Drop>(
     if unbound == 0 && counts.is_empty() {
         return Ok(None);
     }
-    let text = format!(in alloc;
-        "refusals: before a login {unbound}{counts}; calls that the disk refused: {failures}"
-    )?;
-    Ok(Some(text))
+    if disk > 0 {
+        counts.push_str(&format!(in alloc; "; by the disk {disk}")?)?;
+    }
+    Ok(Some(format!(in alloc; "refusals: before a login {unbound}{counts}")?))
 }
 
 /// The users' tenants, in byte order, each once.

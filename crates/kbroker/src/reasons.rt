@@ -22,6 +22,9 @@ pub fn field_reason(alloc: Global, text: &str, key: &str) -> Result<String, Allo
         return String::from_str(alloc, ": there is no such key");
     };
     match document.get(key) {
+        Some(Value::String(host)) if key == "host" && is_host(host) => {
+            format!(in alloc; ": {host:?} would be told to clients: set `advertise`, too")
+        }
         Some(value) => format!(in alloc; ": {} is not {wanted}", shown(alloc, value)?),
         None => String::from_str(alloc, ": is missing"),
     }
@@ -30,9 +33,7 @@ pub fn field_reason(alloc: Global, text: &str, key: &str) -> Result<String, Allo
 /// What a key may be.
 fn wanted(key: &str) -> Option<&str> {
     match key {
-        "host" => Some(
-            "a host of 1 to 255 bytes, and 0.0.0.0 and :: are taken only where `advertise` is set",
-        ),
+        "host" => Some("a host of 1 to 255 bytes"),
         "port" => Some("a port from 1 to 65535"),
         "advertise" => {
             Some("HOST:PORT that clients can connect to, with an IPv6 address in brackets")
@@ -44,6 +45,11 @@ fn wanted(key: &str) -> Option<&str> {
         "data" => Some("a path"),
         _ => None,
     }
+}
+
+/// Whether a host is wrong only since it would be told.
+fn is_host(host: &str) -> bool {
+    matches!(host, "0.0.0.0" | "::" | "[::]")
 }
 
 /// A value in short.

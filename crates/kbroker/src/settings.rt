@@ -68,6 +68,8 @@ pub fn behind(
 /// What the system says, in words.
 pub fn cause_of(alloc: Global, error: &io::Error) -> Result<String, AllocError> {
     match error.kind() {
+        io::ErrorKind::NotFound => String::from_str(alloc, "no such file"),
+        io::ErrorKind::InvalidData => String::from_str(alloc, "not UTF-8"),
         io::ErrorKind::Uncategorized => format!(in alloc; "{error}"),
         kind => format!(in alloc; "{kind}"),
     }

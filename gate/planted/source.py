@@ -10,8 +10,9 @@ ASIDE = re.compile(
 TOKEN = re.compile(r"\b(?:impl|trait|mod|fn)\b|[{}]")
 HEADER_TOKEN = re.compile(r"[()\[\]{};]|\b(?:requires|ensures|ghost|decreases)\b")
 CLAUSES = ("requires", "ensures", "ghost", "decreases")
-# What a body branches or ends by.
+# What a body branches or ends by, and which of it comes to the same number of paths.
 BRANCH = re.compile(r"\b(?:return|if|else|match|while|for|loop|break|continue)\b|=>|&&|\|\||\?")
+ALIKE = {"||": "&&", "while": "if", "for": "if", "loop": "if", "break": "return", "continue": "return"}
 CONSTANT = re.compile(r"\b(?:const|static)\s+(\w+)\s*:.*?;[ \t]*$", re.S | re.M)
 
 
@@ -135,10 +136,14 @@ def change(before: Dict[str, str], after: Dict[str, str]) -> Change:
                 body, one = before[file][was.body : was.end], text[it.body : it.end]
                 in_a_body |= body != one
                 in_a_contract |= before[file][was.start : was.body].split() != text[it.start : it.body].split()
-                branches |= bool(Counter(BRANCH.findall(blanked(one))) - Counter(BRANCH.findall(blanked(body))))
+                branches |= bool(branches_in(one) - branches_in(body))
         was = constants_in(before[file])
         constants |= {name for name, it in constants_in(text).items() if was.get(name, it) != it}
     return Change(frozenset(changed), in_a_body, in_a_contract, branches, frozenset(new), frozenset(constants))
+
+
+def branches_in(body: str) -> Counter:
+    return Counter(ALIKE.get(it, it) for it in BRANCH.findall(blanked(body)))
 
 
 def constants_in(text: str) -> Dict[str, str]:

@@ -1,12 +1,12 @@
 //! What refuses the opening of a data folder.
 
 ghost use Rattle.std.specs.Prelude.{◌≡◌, ◌&&◌, length, nat_lt, not, None, Some, if◌then◌else◌};
-ghost use Rattle.kbroker.specs.declared.judge.Reason.TheVariants.{Damage, Strays};
+ghost use Rattle.kbroker.specs.declared.judge.Cause.TheVariants.{Damage, Strays};
 
 use crate::Fault;
 use crate::folder::store_to_read;
 use crate::journal::Journal;
-use crate::survey::{Loss, Opening, StrayCounts, Survey, survey};
+use crate::survey::{Loss, Opening, StrayCounts, Surveyed, survey};
 use clap::{Arg, ArgAction, ArgMatches, Command};
 use kb_folder::{FolderStore, HostFolder, file_name};
 use kb_journal::now;
@@ -125,35 +125,35 @@ fn drops_of<S: Store>(
 
 /// Why a start is refused.
 #[derive(Clone, Copy, Debug, PartialEq, Eq)]
-enum Reason {
+enum Cause {
     Damage,
     Strays,
 }
 
 /// Why a start is refused: where whole batches would be lost, or else where files are in the way, unless there is consent.
-fn reason(consent: Consent, survey: &Survey) -> Option<Reason>
+fn why_refused(consent: Consent, survey: &Surveyed) -> Option<Cause>
     ensures { result ≡ (if nat_lt 0 (length survey.now.losses.items) && not consent.drop_damaged then Some Damage
         else (if nat_lt 0 survey.now.strays.unfit && not consent.accept_strays then Some Strays else None)) }
 {
     if !survey.losses.is_empty() && !consent.drop_damaged {
-        return Some(Reason::Damage);
+        return Some(Cause::Damage);
     }
     if survey.strays.unfit > 0 && !consent.accept_strays {
-        return Some(Reason::Strays);
+        return Some(Cause::Strays);
     }
     None
 }
 
 /// Refuses a start for a reason that there is, and tells it.
-fn refuse(rt: &HostRuntime, path: &str, consent: Consent, survey: &Survey) -> Result<(), Fault> {
+fn refuse(rt: &HostRuntime, path: &str, consent: Consent, survey: &Surveyed) -> Result<(), Fault> {
     let alloc = rt.alloc();
-    match reason(consent, survey) {
+    match why_refused(consent, survey) {
         None => Ok(()),
-        Some(Reason::Damage) => {
+        Some(Cause::Damage) => {
             tell_losses(rt, path, &survey.losses)?;
             Err(Fault::Damaged(damage_text(alloc, path, &survey.losses)?))
         }
-        Some(Reason::Strays) => Err(Fault::Strays(stray_text(alloc, path, &survey.strays)?)),
+        Some(Cause::Strays) => Err(Fault::Strays(stray_text(alloc, path, &survey.strays)?)),
     }
 }
 

@@ -45,7 +45,7 @@ pub struct StrayCounts {
 
 /// What a start on a folder would lose, and which files it would leave aside.
 #[derive(Drop)]
-pub struct Survey {
+pub struct Surveyed {
     pub losses: Vec<Loss>,
     pub strays: StrayCounts,
 }
@@ -68,9 +68,9 @@ pub fn survey<S: Store>(
     alloc: Global,
     store: &mut S,
     opening: &Opening<'_>,
-) -> Result<Survey, Fault> {
+) -> Result<Surveyed, Fault> {
     let listed = store.list(alloc)?;
-    let mut survey = Survey {
+    let mut survey = Surveyed {
         losses: Vec::new(alloc),
         strays: StrayCounts {
             unfit: 0,
@@ -132,7 +132,7 @@ fn add_strays<S: Store>(
     store: &mut S,
     listed: &[u64],
     opening: &Opening<'_>,
-    survey: &mut Survey,
+    survey: &mut Surveyed,
 ) -> Result<(), Fault>
     requires { listed.now ≡ keys (S.disk store.old).table }
     ensures { listed.now ≡ keys (S.disk store.new).table }
@@ -150,7 +150,7 @@ fn add_stray<S: Store>(
     listed: &[u64],
     opening: &Opening<'_>,
     file: u64,
-    survey: &mut Survey,
+    survey: &mut Surveyed,
 ) -> Result<(), Fault>
     requires { listed.now ≡ keys (S.disk store.old).table }
     ensures { listed.now ≡ keys (S.disk store.new).table }

@@ -221,10 +221,10 @@ impl Journal {
         let mut disk = self.disk.grown(broker.store().failures());
         for tenants in self.tenants.chunks_mut(TENANTS) {
             let text = refusals_text(rt.alloc(), tenants, broker, unbound, disk);
-            unbound = 0;
-            disk = 0;
             if let Some(text) = text.transpose() {
                 self.lines.tell(now, text);
+                unbound = 0;
+                disk = 0;
             }
         }
     }

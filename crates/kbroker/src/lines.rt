@@ -29,12 +29,7 @@ struct Output {
     is_watched: bool,
     /// A line was written without its end.
     is_open: bool,
-}
-
-/// Standard error at a moment of the wall clock.
-#[derive(Drop)]
-struct Timed<'a> {
-    output: &'a mut Output,
+    /// The moment that stands in front of a line.
     now: u64,
 }
 
@@ -49,40 +44,41 @@ impl Lines {
                 events: Events::with_capacity(rt.alloc(), 1)?,
                 is_watched: false,
                 is_open: false,
+                now: 0,
             },
         })
     }
 
     /// Tells a line with a moment of the wall clock in front. A text for which there was no memory is a line that was missed.
     pub fn tell(&mut self, now: u64, text: Result<String, AllocError>) {
-        let output = &mut self.output;
+        self.output.now = now;
         match text {
-            Ok(text) => self.missed.tell(&mut Timed { output, now }, &text),
+            Ok(text) => self.missed.tell(&mut self.output, &text),
             Err(_) => self.missed.miss(),
         }
     }
 
     /// Tells how many lines were missed, if any were.
     pub fn catch_up(&mut self, now: u64) {
-        let output = &mut self.output;
-        self.missed.catch_up(&mut Timed { output, now });
+        self.output.now = now;
+        self.missed.catch_up(&mut self.output);
     }
 }
 
-impl Sink for Timed<'_> {
+impl Sink for Output {
     ghost offers_line = { λ _ _ _ _. Unit {0} };
 
     ghost offers_count = { λ _ _ _ _. Unit {0} };
 
     fn offer_line(&mut self, line: &str) -> bool {
-        match self.output.text_of(self.now, line) {
-            Ok(text) => self.output.write(&text),
+        match self.text_of(line) {
+            Ok(text) => self.write(&text),
             Err(_) => false,
         }
     }
 
     fn offer_count(&mut self, missed: u64) -> bool {
-        match format!(in self.output.rt.alloc(); "lines of this log were not taken: {missed}") {
+        match format!(in self.rt.alloc(); "lines of this log were not taken: {missed}") {
             Ok(line) => self.offer_line(&line),
             Err(_) => false,
         }
@@ -91,10 +87,10 @@ impl Sink for Timed<'_> {
 
 impl Output {
     /// A line as it is written: behind the end of one that has none yet.
-    fn text_of(&self, now: u64, line: &str) -> Result<String, AllocError> {
+    fn text_of(&self, line: &str) -> Result<String, AllocError> {
         let alloc = self.rt.alloc();
         let start = if self.is_open { "\n" } else { "" };
-        let time = time_text(alloc, now)?;
+        let time = time_text(alloc, self.now)?;
         format!(in alloc; "{start}{time} {line}\n")
     }
 

@@ -125,10 +125,11 @@ def record(crate, plans):
     was = known()
     for plan in plans:
         name = name_of(crate, plan.edit)
-        if plan.status and plan.status != "left out":
-            was.pop(name, None)
+        old = was.pop(name, None) if plan.status and plan.status != "left out" else None
         if plan.status in ("refused", "new path has no proof"):
-            was[name] = Tried(plan.sum, round(plan.seconds, 1), None if plan.status == "refused" else plan.by)
+            # (a person may have named the clause meanwhile)
+            by = plan.by or (old.by if old and is_same_edit(old.sum, plan.sum) else "") or ""
+            was[name] = Tried(plan.sum, round(plan.seconds, 1), None if plan.status == "refused" else by)
     edits = {name_of(crate, it) for it in edits_of(crate.folder, ["must-fail", "further-edits"])}
     with open(TRIED, "w", encoding="utf-8") as out:
         out.write(HEAD)

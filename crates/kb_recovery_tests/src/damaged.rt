@@ -2,7 +2,7 @@
 
 use crate::running::{ABC, CREATE, client_on};
 use kb_restart::file_lengths;
-use kb_store::{Fuse, FusedStore, MemoryStore};
+use kb_store::{Fuse, FusedStore, MemoryStore, Store};
 use kb_survey::Postponed;
 use std::alloc::{AllocError, Global};
 use std::process::Abort;
@@ -66,19 +66,40 @@ fn whole_batches_are_there(rt: HostRuntime) -> Result<(), Fail> {
     Ok(())
 }
 
+/// The end of `t` that a broker on a store tells after some requests, and the store that it leaves.
+fn end_over<S: Store + Drop>(
+    rt: &impl Abort,
+    alloc: Global,
+    store: S,
+    requests: &[&str],
+) -> Result<(u8, S), AllocError> {
+    let mut client = client_on(rt, alloc, store)?;
+    let end = last_of(&client.ask_all(rt, requests)?);
+    Ok((end, client.stop()))
+}
+
+/// Whether an opening over a store that puts off what is cut finds three records and leaves each file as it is.
+fn leaves_all(
+    rt: &impl Abort,
+    alloc: Global,
+    mut store: MemoryStore,
+) -> Result<(bool, MemoryStore), Fail> {
+    let before = file_lengths(alloc, &mut store)?;
+    let (end, store) = end_over(rt, alloc, Postponed::new(alloc, store), &[END])?;
+    let mut store = store.into_store();
+    let is_same = file_lengths(alloc, &mut store)? == before;
+    Ok((end == 3 && is_same, store))
+}
+
 /// Over a store that puts off what is cut, an opening leaves each file as it is, and the first write goes on behind the whole batches.
 #[test]
 fn nothing_is_cut_before_the_first_write(rt: HostRuntime) -> Result<(), Fail> {
     let alloc = rt.alloc();
-    let mut store = torn(&rt, alloc, BATCH - 1)?;
-    let before = file_lengths(alloc, &mut store)?;
-    let mut client = client_on(&rt, alloc, Postponed::new(alloc, store))?;
-    assert!(rt; last_of(&client.ask_all(&rt, &[END])?) == 3);
-    let mut store = client.stop().into_store();
-    assert!(rt; file_lengths(alloc, &mut store)? == before);
-    let mut client = client_on(&rt, alloc, Postponed::new(alloc, store))?;
-    assert!(rt; last_of(&client.ask_all(&rt, &[ABC, END])?) == 6);
-    let mut client = client_on(&rt, alloc, client.stop().into_store())?;
-    assert!(rt; last_of(&client.ask_all(&rt, &[END])?) == 6);
+    let (is_left, store) = leaves_all(&rt, alloc, torn(&rt, alloc, BATCH - 1)?)?;
+    assert!(rt; is_left);
+    let (end, store) = end_over(&rt, alloc, Postponed::new(alloc, store), &[ABC, END])?;
+    assert!(rt; end == 6);
+    let (end, _) = end_over(&rt, alloc, store.into_store(), &[END])?;
+    assert!(rt; end == 6);
     Ok(())
 }

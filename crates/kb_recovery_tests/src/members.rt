@@ -17,19 +17,21 @@ const JOIN: &str =
 const JOINED_1: &str = "00000029000000280000000000010005\
     72616e676500036d2d3100036d2d310000000100036d2d310000000101";
 
-/// The same with the number 1000.
-const JOINED_1000: &str = "00000032000000280000000000010005\
-    72616e676500066d2d3130303000066d2d313030300000000100066d2d313030300000000101";
+/// Of `m-1` in generation 1 of `g`: Heartbeat 0.
+const HEARTBEAT: &str = "00000016000c00000000002affff0001670000000100036d2d31";
 
-/// Of `m-1` in generation 1 of `g`: Heartbeat 0, and OffsetCommit 2 for `t`.
-const OF_1: [&str; 2] = [
-    "00000016000c00000000002affff0001670000000100036d2d31",
-    "00000039000800020000001effff0001670000000100036d2d31ffffffffffffffff\
-    000000010001740000000100000000000000000000000200026d31",
-];
+/// The same, OffsetCommit 2 for `t`.
+const COMMIT: &str = "00000039000800020000001effff0001670000000100036d2d31ffffffffffffffff\
+    000000010001740000000100000000000000000000000200026d31";
 
-/// The answers to those where `m-1` is no member: 25 (UNKNOWN_MEMBER_ID).
-const UNKNOWN: &str = "000000060000002a0019000000150000001e0000000100017400000001000000000019";
+/// What is asked once the broker has opened again: of `m-1`, then a join, and of `m-1` again.
+const AGAIN: [&str; 5] = [HEARTBEAT, COMMIT, JOIN, HEARTBEAT, COMMIT];
+
+/// The answers to those: 25 (UNKNOWN_MEMBER_ID), the member 1000 leads, and 25 again.
+const ANSWERS: &str = "000000060000002a0019000000150000001e0000000100017400000001000000000019\
+    00000032000000280000000000010005\
+    72616e676500066d2d3130303000066d2d313030300000000100066d2d313030300000000101\
+    000000060000002a0019000000150000001e0000000100017400000001000000000019";
 
 /// A client of a broker that opened on a store and numbers its members from that number on.
 fn client_from<S: Store + Drop>(
@@ -52,17 +54,30 @@ fn client_from<S: Store + Drop>(
     }
 }
 
+/// What such a client is answered to some requests, and the store that the broker leaves.
+fn answer_from<S: Store + Drop>(
+    rt: &impl Abort,
+    alloc: Global,
+    store: S,
+    first: u64,
+    requests: &[&str],
+) -> Result<(Vec<u8>, S), AllocError>
+    requires some { 1 ≤ first }
+    requires within { first < 2 ^ 63 }
+{
+    let mut client = client_from(rt, alloc, store, first)?;
+    let answer = client.ask_all(rt, requests)?;
+    Ok((answer, client.stop()))
+}
+
 /// A member of before is unknown once the broker has opened again with another first number, and its number does not come again.
 #[test]
 fn members_are_of_one_opening(rt: HostRuntime) -> Result<(), Fail> {
     let alloc = rt.alloc();
-    let mut client = client_from(&rt, alloc, MemoryStore::new(alloc), 1)?;
-    client.ask_all(&rt, &[CREATE])?;
-    assert!(rt; client.ask_all(&rt, &[JOIN])? == bytes_of(&rt, alloc, JOINED_1)?);
-    let mut again = client_from(&rt, alloc, client.stop(), 1_000)?;
-    let unknown = bytes_of(&rt, alloc, UNKNOWN)?;
-    assert!(rt; again.ask_all(&rt, &OF_1)? == unknown);
-    assert!(rt; again.ask_all(&rt, &[JOIN])? == bytes_of(&rt, alloc, JOINED_1000)?);
-    assert!(rt; again.ask_all(&rt, &OF_1)? == unknown);
+    let store = MemoryStore::new(alloc);
+    let (joined, store) = answer_from(&rt, alloc, store, 1, &[CREATE, JOIN])?;
+    assert!(rt; joined.ends_with(&bytes_of(&rt, alloc, JOINED_1)?));
+    let (answers, _) = answer_from(&rt, alloc, store, 1_000, &AGAIN)?;
+    assert!(rt; answers == bytes_of(&rt, alloc, ANSWERS)?);
     Ok(())
 }

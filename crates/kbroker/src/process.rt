@@ -2,10 +2,8 @@
 
 use crate::Fault;
 use crate::lines::Lines;
-use crate::settings::because;
 use kb_folder::{FolderCall, Refusal, Refusals, file_name};
 use kb_journal::{now, time_text};
-use kb_node::StartFault;
 use kb_process::{OpenFiles, judge, soft_limit};
 use std::alloc::{AllocError, Global};
 use std::io::ErrorKind;
@@ -104,24 +102,6 @@ impl FolderJournal {
             self.told = Some(moment);
             lines.tell(now(rt), self.refusal_text(rt.alloc(), &refusal));
         }
-    }
-
-    /// The fault of a start. Where it is the store's, the call that the system refused last stands behind it.
-    pub fn explained(&self, alloc: Global, fault: Fault) -> Fault {
-        match (&fault, self.refusals.take()) {
-            (
-                Fault::Start(StartFault::Store) | Fault::Because(StartFault::Store, _),
-                Some(refusal),
-            ) => { because(StartFault::Store, self.cause_text(alloc, &refusal)) }
-            _ => fault,
-        }
-    }
-
-    /// A refusal, as it stands behind a fault.
-    fn cause_text(&self, alloc: Global, refusal: &Refusal) -> Result<String, AllocError> {
-        let path = path_of(alloc, self.folder.as_str(), refusal.file)?;
-        let (call, error) = (verb(refusal.call), refusal.error);
-        format!(in alloc; ": {path}: cannot {call} it: {error}")
     }
 
     /// The line of a refusal.

@@ -55,10 +55,7 @@ pub fn serve(rt: &HostRuntime, found: &ArgMatches<'_>) -> Result<(), Fault> {
     let mut folder_journal = FolderJournal::new(alloc, path, is_quiet)?;
     let asked = Asked::of(found);
     let refusals = folder_journal.refusals();
-    let (opened, files) = match open(rt, &settings, path, asked, refusals, &mut journal) {
-        Ok(opened) => opened,
-        Err(fault) => return Err(folder_journal.explained(alloc, fault)),
-    };
+    let (opened, files) = open(rt, &settings, path, asked, refusals, &mut journal)?;
     let mut edge = listen(rt, opened.broker, &settings)?;
     tell_listening(rt, &edge, path)?;
     journal.tell_found(rt, now(rt), Word::Start, opened.counts, &files);

@@ -6,8 +6,6 @@
 #[cfg(test)]
 mod damaged;
 #[cfg(test)]
-mod members;
-#[cfg(test)]
 mod refused;
 #[cfg(test)]
 mod restarted;

@@ -2,12 +2,12 @@
 use Rattle.std.proofs.Common.{◌≡◌, ℕ, List, [], ◌∷◌, ◌++◌, Bool, true, false, cond, refl, sym, ◌∙◌, ap, subst, arith}
 use Rattle.std.specs.Prelude.{map}
 use Rattle.std.specs.List.{AllByRecursion}
-use Rattle.kb_machine.specs.Machine.{Happening, Opens, Comes, Closes, Moment, Line, Sent, those, those_sent}
-use Rattle.kb_machine.specs.Owners.{purge}
-use Rattle.kb_machine.specs.Broker.{BrokerState, IsCalmFor, IsRun, owned_by}
-use Rattle.kb_machine.specs.Isolation.{IsIsolated, own_events, own_sent}
-use Rattle.kb_machine.specs.Alone.{HasToItself}
-use Rattle.kb_machine.proofs.Alone.{sent-alone, owners-alone, unused-alone, run-own}
+use Rattle.kb_isolation_spec.specs.Machine.{Happening, Opens, Comes, Closes, Moment, Line, Sent, those, those_sent}
+use Rattle.kb_isolation_spec.specs.Owners.{purge}
+use Rattle.kb_isolation_spec.specs.Broker.{BrokerState, IsCalmFor, IsRun, owned_by}
+use Rattle.kb_isolation_spec.specs.Isolation.{IsIsolated, own_events, own_sent}
+use Rattle.kb_isolation_spec.specs.Alone.{HasToItself}
+use Rattle.kb_isolation_spec.proofs.Alone.{sent-alone, owners-alone, unused-alone, run-own}
 use Rattle.kb_broker.specs.Runs.{sent_of, numbers_of_lines, opening, connections_of}
 use Rattle.kb_broker.specs.declared.run.Written.{Written}
 

@@ -5,17 +5,17 @@ use Rattle.kb_store.specs.Disk.{Disk}
 use Rattle.kb_log.specs.OnShelf.{Log}
 use Rattle.kb_waits.specs.Queue as queue
 use Rattle.kb_waits.specs.Queue.{Queue}
-use Rattle.kb_world.specs.Steps.{calm_then}
-use Rattle.kb_service.specs.Hosted.{Kept, TenantState, kept_of, refusals_of}
-use Rattle.kb_service.specs.Turns.{IsMet, IsTurn}
-use Rattle.kb_service.specs.Waiters.{AreServed, members_on}
+use Rattle.kb_tenant_state.specs.Steps.{calm_then}
+use Rattle.kb_tenant_api.specs.Hosted.{Kept, TenantState, kept_of, refusals_of}
+use Rattle.kb_tenant_api.specs.Turns.{IsMet, IsTurn}
+use Rattle.kb_tenant_api.specs.Waiters.{AreServed, members_on}
 use Rattle.kb_tenant.specs.Replies.{Silent}
 use Rattle.kb_tenants.specs.Tenants.{numbers_in}
 use Rattle.kb_tenants.specs.declared.tenants.Tenants.{Tenants}
-use Rattle.kb_machine.specs.Tenant.{Wait, asked, ready}
-use Rattle.kb_machine.specs.Session.{Stage, Greets, BoundTo, Session}
-use Rattle.kb_machine.specs.Greeting.{Setup}
-use Rattle.kb_machine.specs.Stranded.{IsMembersAt, members_of}
+use Rattle.kb_isolation_spec.specs.Tenant.{Wait, asked, ready}
+use Rattle.kb_isolation_spec.specs.Session.{Stage, Greets, BoundTo, Session}
+use Rattle.kb_isolation_spec.specs.Greeting.{Setup}
+use Rattle.kb_isolation_spec.specs.Stranded.{IsMembersAt, members_of}
 use Rattle.kb_broker.specs.Hosts.{AreLater, IsLaterWith, tenants_in}
 use Rattle.kb_broker.specs.Parked.{IsAskedOn, IsKeyedAt, IsKnownOrCounted, IsLeftBy, keys_for}
 use Rattle.kb_broker.specs.Places.{IsMemberTurnAt, IsWaitTurnAt}

@@ -10,22 +10,22 @@ use Rattle.std.proofs.lemmas.Bool.{eqb-true}
 use Rattle.std.proofs.lemmas.Bool.Decides.{nat_tests}
 use Rattle.kb_waits.specs.Queue as queue
 use Rattle.kb_waits.specs.Queue.{Queue}
-use Rattle.kb_service.specs.Hosted.{TenantState}
-use Rattle.kb_machine.specs.Tenant.{Wait}
-use Rattle.kb_machine.specs.Session.{Stage, Greets, BoundTo, Session, fresh, is_free, fed, without_wait, shut_down}
-use Rattle.kb_machine.specs.Machine.{Line, those}
-use Rattle.kb_machine.specs.Calls.{other_than}
-use Rattle.kb_machine.specs.Machine.{find_line}
-use Rattle.kb_machine.specs.Broker.{BrokerState, IsSound, IsUnready, AreUnready, AnyWait, Rising}
-use Rattle.kb_machine.specs.declared.whom.Whom.{Whom}
-use Rattle.kb_machine.specs.declared.whom.Whom.TheVariants as whoms
-use Rattle.kb_machine.specs.Turned.{SameOthers, Waked}
+use Rattle.kb_tenant_api.specs.Hosted.{TenantState}
+use Rattle.kb_isolation_spec.specs.Tenant.{Wait}
+use Rattle.kb_isolation_spec.specs.Session.{Stage, Greets, BoundTo, Session, fresh, is_free, fed, without_wait, shut_down}
+use Rattle.kb_isolation_spec.specs.Machine.{Line, those}
+use Rattle.kb_isolation_spec.specs.Calls.{other_than}
+use Rattle.kb_isolation_spec.specs.Machine.{find_line}
+use Rattle.kb_isolation_spec.specs.Broker.{BrokerState, IsSound, IsUnready, AreUnready, AnyWait, Rising}
+use Rattle.kb_isolation_spec.specs.declared.whom.Whom.{Whom}
+use Rattle.kb_isolation_spec.specs.declared.whom.Whom.TheVariants as whoms
+use Rattle.kb_isolation_spec.specs.Turned.{SameOthers, Waked}
 use Rattle.std.specs.declared.alloc.Global.{Global}
 use Rattle.std.specs.declared.vec.Vec.{Vec}
-use Rattle.kb_machine.proofs.Sets.{IsAt, all-map, find-at, rising-set, set-at}
-use Rattle.kb_machine.proofs.Parts.{eqb_same, eqb_other}
-use Rattle.kb_machine.proofs.Steps.{remove-those}
-use Rattle.kb_machine.proofs.Turns.{unready-same}
+use Rattle.kb_isolation_spec.proofs.Sets.{IsAt, all-map, find-at, rising-set, set-at}
+use Rattle.kb_isolation_spec.proofs.Parts.{eqb_same, eqb_other}
+use Rattle.kb_isolation_spec.proofs.Steps.{remove-those}
+use Rattle.kb_isolation_spec.proofs.Turns.{unready-same}
 use Rattle.kb_connection.specs.View.{with_session}
 use Rattle.kb_broker.specs.Places.{number_at, waits_in, any_waits, IsPassed, ArePassed, AreWaked, IsLookedAt, IsOneMore}
 use Rattle.kb_broker.specs.Parked.{until, deadline_at, deadline_in, until_of, IsKeyedIn, IsOwnedIn, IsQueueOf, IsReadyAmong, IsUnreadyIn, IsUnreadyAt, AreSought, IsSoughtAt, IsSoughtIn, SameBut, AreMinded}

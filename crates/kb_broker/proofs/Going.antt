@@ -12,28 +12,28 @@ use Rattle.std.proofs.lemmas.List.Sorted.{Contains-permutation}
 use Rattle.kb_waits.specs.Queue as queue
 use Rattle.kb_waits.specs.Queue.{Queue}
 use Rattle.kb_store.specs.Disk.{Disk}
-use Rattle.kb_service.specs.Hosted as hosted
-use Rattle.kb_service.specs.Hosted.{TenantState}
-use Rattle.kb_service.specs.Serve.{has_released}
-use Rattle.kb_service.specs.Turns.{IsTurn}
+use Rattle.kb_tenant_api.specs.Hosted as hosted
+use Rattle.kb_tenant_api.specs.Hosted.{TenantState}
+use Rattle.kb_tenant_api.specs.Serve.{has_released}
+use Rattle.kb_tenant_api.specs.Turns.{IsTurn}
 use Rattle.kb_tenant.specs.Replies.{Silent}
-use Rattle.kb_machine.specs.Tenant.{Wait, ready}
-use Rattle.kb_machine.specs.Session.{Stage, Greets, BoundTo, Session, can, is_free, without_wait}
-use Rattle.kb_machine.specs.Machine.{Line, Moment, first_able}
+use Rattle.kb_isolation_spec.specs.Tenant.{Wait, ready}
+use Rattle.kb_isolation_spec.specs.Session.{Stage, Greets, BoundTo, Session, can, is_free, without_wait}
+use Rattle.kb_isolation_spec.specs.Machine.{Line, Moment, first_able}
 use Rattle.std.specs.declared.alloc.Global.{Global}
 use Rattle.std.specs.declared.vec.Vec.{Vec}
-use Rattle.kb_machine.specs.Owners.{whose}
-use Rattle.kb_machine.specs.Machine.{find_line}
-use Rattle.kb_machine.specs.Broker.{BrokerState, IsSound, IsUnready, AreUnready, AnyWait}
-use Rattle.kb_machine.specs.declared.whom.Whom.TheVariants as whoms
-use Rattle.kb_machine.specs.Turned.{Scope, Everybody, AreStill, IsGoing, IsLookedFor, SameOthers, Served, Turned, Waked}
-use Rattle.kb_machine.proofs.Sets.{IsAt, all-map, none-able, find-at}
-use Rattle.kb_machine.proofs.Parts.{each-tenant, eqb_same, eqb_other}
-use Rattle.kb_machine.proofs.Owned.{found as found-all}
-use Rattle.kb_machine.proofs.Quiet.{first-silent, own-turn}
-use Rattle.kb_machine.proofs.Turns.{free-unready, going-same, going-then, turned-same, turned-then, unready-weaken}
-use Rattle.kb_machine.proofs.Wakes.{turned-quiet, turned-served}
-use Rattle.kb_machine.specs.Stranded.{NoneStranded}
+use Rattle.kb_isolation_spec.specs.Owners.{whose}
+use Rattle.kb_isolation_spec.specs.Machine.{find_line}
+use Rattle.kb_isolation_spec.specs.Broker.{BrokerState, IsSound, IsUnready, AreUnready, AnyWait}
+use Rattle.kb_isolation_spec.specs.declared.whom.Whom.TheVariants as whoms
+use Rattle.kb_isolation_spec.specs.Turned.{Scope, Everybody, AreStill, IsGoing, IsLookedFor, SameOthers, Served, Turned, Waked}
+use Rattle.kb_isolation_spec.proofs.Sets.{IsAt, all-map, none-able, find-at}
+use Rattle.kb_isolation_spec.proofs.Parts.{each-tenant, eqb_same, eqb_other}
+use Rattle.kb_isolation_spec.proofs.Owned.{found as found-all}
+use Rattle.kb_isolation_spec.proofs.Quiet.{first-silent, own-turn}
+use Rattle.kb_isolation_spec.proofs.Turns.{free-unready, going-same, going-then, turned-same, turned-then, unready-weaken}
+use Rattle.kb_isolation_spec.proofs.Wakes.{turned-quiet, turned-served}
+use Rattle.kb_isolation_spec.specs.Stranded.{NoneStranded}
 use Rattle.kb_broker.specs.Hosts.{OnStore, is_honest, IsLater, IsReadyOn, NoneReady, StepsTo}
 use Rattle.kb_broker.specs.Places.{numbers, waits_in, AreIdle, IsNext, IsScoped, IsMemberTurnAt, IsServedAt, IsTakenAt, IsTurnAt}
 use Rattle.kb_broker.specs.Parked.{deadline_at, deadline_in, until_of, AreAllOf, AreAnswered, IsKeyedAt, IsKeyedIn, IsOwnedAt, IsOwnedIn, IsQueueOf, IsAskedOnAt, IsPassedOn, IsWhose, IsLeftAmong, IsLeftBy, IsQuietAt, IsUnreadyAt, IsUnreadyIn, IsSoughtAt, IsSoughtIn, IsMinded, AreMinded, SameBut, IsServedFor, IsOwnTo, IsAllOf, IsLeftTo, IsReadyAmong, can_in, AreAmong}

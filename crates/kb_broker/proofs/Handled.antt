@@ -11,32 +11,32 @@ use Rattle.std.specs.Result.{is_err}
 use Rattle.std.specs.List.{AllByRecursion}
 use Rattle.std.proofs.lemmas.Bool.Decides.{nat_tests}
 use Rattle.std.proofs.lemmas.List.{get_or_default, length-map}
-use Rattle.kb_world.specs.Counts.{IsCalm, counted_once}
-use Rattle.kb_service.specs.Hosted.{Kept, TenantState, names_of, refusals_of}
-use Rattle.kb_service.specs.Turns.{IsTurn, HavePassed}
-use Rattle.kb_machine.specs.Session.{Stage, Greets, BoundTo, Session, fresh, shut_down, without_wait, is_free, fed, overruns, room, can}
-use Rattle.kb_service.specs.Hosted as hosted
+use Rattle.kb_tenant_state.specs.Counts.{IsCalm, counted_once}
+use Rattle.kb_tenant_api.specs.Hosted.{Kept, TenantState, names_of, refusals_of}
+use Rattle.kb_tenant_api.specs.Turns.{IsTurn, HavePassed}
+use Rattle.kb_isolation_spec.specs.Session.{Stage, Greets, BoundTo, Session, fresh, shut_down, without_wait, is_free, fed, overruns, room, can}
+use Rattle.kb_tenant_api.specs.Hosted as hosted
 use Rattle.kb_tenant.specs.Replies.{Silent}
-use Rattle.kb_machine.specs.Tenant.{Awaited, Records, Group, Wait, ready, ready_for}
-use Rattle.kb_machine.specs.Greeting.{User}
-use Rattle.kb_machine.specs.Machine.{Happening, Comes, Moment, Line, find_line, first_able, stepped, turns, work}
-use Rattle.kb_machine.specs.Owners.{whose}
-use Rattle.kb_machine.specs.Calls.{left_by}
-use Rattle.kb_machine.specs.Broker.{BrokerState, AreUnready, AnyWait, InRange, IsCalmFor, IsReady, IsSound, IsStep, IsUnready, IsUntaken, Mine, is_deaf, view_of}
-use Rattle.kb_machine.specs.declared.whom.Whom.TheVariants as whoms
-use Rattle.kb_machine.specs.Turned.{Scope, Of, Everybody, IsStill, AreStill, IsGoing, is_resting, IsFed, SameOthers, Turned, Served, Waked, IsPassedOver}
-use Rattle.kb_machine.proofs.Sets.{IsAt, all-at, all-map, all-still, find-set_other, work-set, first-still, still-none}
-use Rattle.kb_machine.proofs.Parts.{count, each-tenant, turn-then, calm-right, eqb_same}
-use Rattle.kb_machine.proofs.Owned.{found as found-all}
-use Rattle.kb_machine.proofs.Steps.{begun, sound-begun, due-unready, step-moment}
-use Rattle.kb_machine.proofs.Leaving.{left_fed, kept-unfed, left-names, left-other, left-own, left-refusals, names-fed, own-whose, ready-fed, ready-left, refusals-fed}
-use Rattle.kb_machine.proofs.Owners.{IsMine}
+use Rattle.kb_isolation_spec.specs.Tenant.{Awaited, Records, Group, Wait, ready, ready_for}
+use Rattle.kb_isolation_spec.specs.Greeting.{User}
+use Rattle.kb_isolation_spec.specs.Machine.{Happening, Comes, Moment, Line, find_line, first_able, stepped, turns, work}
+use Rattle.kb_isolation_spec.specs.Owners.{whose}
+use Rattle.kb_isolation_spec.specs.Calls.{left_by}
+use Rattle.kb_isolation_spec.specs.Broker.{BrokerState, AreUnready, AnyWait, InRange, IsCalmFor, IsReady, IsSound, IsStep, IsUnready, IsUntaken, Mine, is_deaf, view_of}
+use Rattle.kb_isolation_spec.specs.declared.whom.Whom.TheVariants as whoms
+use Rattle.kb_isolation_spec.specs.Turned.{Scope, Of, Everybody, IsStill, AreStill, IsGoing, is_resting, IsFed, SameOthers, Turned, Served, Waked, IsPassedOver}
+use Rattle.kb_isolation_spec.proofs.Sets.{IsAt, all-at, all-map, all-still, find-set_other, work-set, first-still, still-none}
+use Rattle.kb_isolation_spec.proofs.Parts.{count, each-tenant, turn-then, calm-right, eqb_same}
+use Rattle.kb_isolation_spec.proofs.Owned.{found as found-all}
+use Rattle.kb_isolation_spec.proofs.Steps.{begun, sound-begun, due-unready, step-moment}
+use Rattle.kb_isolation_spec.proofs.Leaving.{left_fed, kept-unfed, left-names, left-other, left-own, left-refusals, names-fed, own-whose, ready-fed, ready-left, refusals-fed}
+use Rattle.kb_isolation_spec.proofs.Owners.{IsMine}
 use Rattle.kb_tenants.proofs.Passed.{length_named}
-use Rattle.kb_machine.proofs.Turns.{going-then, unready-quiet, untouched-then, turned-greeting, called-going, greeting-going, refused-going, served-bound, refused-greeting}
-use Rattle.kb_machine.proofs.Feeds.{still-settled, fed-kept, fed-refused, fed-loud, step-comes, step-nothing, step-shut}
+use Rattle.kb_isolation_spec.proofs.Turns.{going-then, unready-quiet, untouched-then, turned-greeting, called-going, greeting-going, refused-going, served-bound, refused-greeting}
+use Rattle.kb_isolation_spec.proofs.Feeds.{still-settled, fed-kept, fed-refused, fed-loud, step-comes, step-nothing, step-shut}
 use Rattle.kb_connection.specs.View.{with_session}
-use Rattle.kb_machine.specs.Stranded.{NoneStranded}
-use Rattle.kb_machine.proofs.Stranded.{left-nobody, spared-left, spared-served, stranded-begun, stranded-left, stranded-over, stranded-served}
+use Rattle.kb_isolation_spec.specs.Stranded.{NoneStranded}
+use Rattle.kb_isolation_spec.proofs.Stranded.{left-nobody, spared-left, spared-served, stranded-begun, stranded-left, stranded-over, stranded-served}
 use Rattle.kb_broker.specs.Places.{numbers, number_at, waits_in, Leaves, IsSpent, IsTakenAt, IsMemberTurnAt, IsWaitTurnAt, IsTurnAt, AreIdle, IsNext, IsScoped, IsCountedAt, IsCountedFor, IsServedAt}
 use Rattle.kb_broker.specs.Parked.{deadline_at, IsReadyAmong, IsServedFor, IsWhose, IsAllOf}
 use Rattle.kb_broker.specs.declared.serving.Concerned.{Concerned}

@@ -1,13 +1,13 @@
 -- What each call is to the broker on its store: the engine's own a is the one that clauses see, b.
 use Rattle.std.proofs.Common.{◌≡◌, ◌<◌, ℕ, None, Result, Ok, Err, OnOk, OnErr, sym, ◌∙◌, subst, ap}
 use Rattle.kb_store.specs.Disk.{Disk}
-use Rattle.kb_machine.specs.Machine.{Opens, Closes, first_able}
-use Rattle.kb_machine.specs.Broker.{BrokerState, AreUnready, AnyWait, IsSound, IsStep}
-use Rattle.kb_machine.specs.Calls.{IsRefused, opened, closed, taken}
-use Rattle.kb_machine.proofs.Steps.{sound-opened, settled-opened, unready-opened, step-opened, step-unopened, sound-closed, settled-closed, unready-closed, step-closed}
-use Rattle.kb_machine.proofs.Taken.{sound-taken, settled-taken, unready-taken}
-use Rattle.kb_machine.specs.Stranded.{NoneStranded}
-use Rattle.kb_machine.proofs.Stranded.{stranded-closed, stranded-opened, stranded-taken, stranded-unopened}
+use Rattle.kb_isolation_spec.specs.Machine.{Opens, Closes, first_able}
+use Rattle.kb_isolation_spec.specs.Broker.{BrokerState, AreUnready, AnyWait, IsSound, IsStep}
+use Rattle.kb_isolation_spec.specs.Calls.{IsRefused, opened, closed, taken}
+use Rattle.kb_isolation_spec.proofs.Steps.{sound-opened, settled-opened, unready-opened, step-opened, step-unopened, sound-closed, settled-closed, unready-closed, step-closed}
+use Rattle.kb_isolation_spec.proofs.Taken.{sound-taken, settled-taken, unready-taken}
+use Rattle.kb_isolation_spec.specs.Stranded.{NoneStranded}
+use Rattle.kb_isolation_spec.proofs.Stranded.{stranded-closed, stranded-opened, stranded-taken, stranded-unopened}
 use Rattle.kb_broker.specs.Hosts.{OnStore, is_honest, IsLater, IsReadyOn, StepsTo}
 use Rattle.kb_broker.specs.Truth.{IsSilent}
 use Rattle.kb_broker.proofs.Honest.{later-is, later-silent}

@@ -9,10 +9,10 @@ use Rattle.std.specs.declared.alloc.Global.{Global}
 use Rattle.std.specs.declared.vec.Vec.{Vec}
 use Rattle.std.proofs.lemmas.Bool.Decides.{nat_tests}
 use Rattle.std.proofs.lemmas.Cmp.{ranked}
-use Rattle.kb_machine.specs.Session.{Session}
-use Rattle.kb_machine.specs.Machine.{Line}
-use Rattle.kb_machine.specs.Broker.{Rising}
-use Rattle.kb_machine.proofs.Sets.{IsAt, no-at, tail-at, rising-above}
+use Rattle.kb_isolation_spec.specs.Session.{Session}
+use Rattle.kb_isolation_spec.specs.Machine.{Line}
+use Rattle.kb_isolation_spec.specs.Broker.{Rising}
+use Rattle.kb_isolation_spec.proofs.Sets.{IsAt, no-at, tail-at, rising-above}
 use Rattle.kb_connection.specs.View.{speaks}
 use Rattle.kb_broker.specs.Speakers.{speakers, with_number, Ascends, IsRoomy, IsHeard}
 

@@ -1,10 +1,10 @@
 -- What may be said where a store has told the truth.
 use Rattle.std.proofs.Common.{◌≡◌, ◌≤◌, ◌∙◌, ℕ, List, [], Option, Contains, refl, ap, sym, subst, arith, unwrap_or}
 use Rattle.kb_store.specs.Disk.{Disk}
-use Rattle.kb_service.specs.Hosted.{TenantState, names_of, refusals_of}
+use Rattle.kb_tenant_api.specs.Hosted.{TenantState, names_of, refusals_of}
 use Rattle.kb_tenants.proofs.Accounted.{accounted_rises, accounted_same, accounted_then}
 use Rattle.kb_tenants.proofs.Passed.{length_named}
-use Rattle.kb_machine.specs.Broker.{BrokerState, IsReady}
+use Rattle.kb_isolation_spec.specs.Broker.{BrokerState, IsReady}
 use Rattle.kb_broker.specs.Hosts.{OnStore, is_honest, IsLater, IsLaterWith, IsReadyOn}
 use Rattle.kb_broker.specs.Truth.{IsSilent, SpeaksTruth}
 use Rattle.kb_broker.proofs.Truth.{silent_lines, speaks_same, speaks_silent, speaks_then}

@@ -5,7 +5,7 @@ use Rattle.std.specs.declared.alloc.Global.{Global}
 use Rattle.std.specs.declared.vec.Vec.{Vec}
 use Rattle.kb_store.specs.Disk.{Disk}
 use Rattle.kb_log.specs.OnShelf.{Log}
-use Rattle.kb_service.specs.Turns.{all_calm}
+use Rattle.kb_tenant_api.specs.Turns.{all_calm}
 use Rattle.kb_tenants.specs.Tenants.{AreKeptIn, numbers_in, shelf_is_honest}
 use Rattle.kb_tenants.specs.declared.tenants.Tenants.{Tenants}
 use Rattle.kb_tenants.proofs.KeptIn.{are_kept_in}

@@ -1,12 +1,12 @@
 -- The tenants, where one keeps what is left once a connection is gone on which a member of a group waited.
 use Rattle.std.proofs.Common.{◌≡◌, ℕ, List, [], ◌∷◌, length, Option, None, Bool, true, false, zero, suc, refl, ◌∙◌, ap}
 use Rattle.std.specs.Prelude.{cond}
-use Rattle.kb_service.specs.Hosted.{Kept, TenantState, kept_of, refusals_of, names_of, left}
-use Rattle.kb_service.specs.Turns.{with_kept}
-use Rattle.kb_machine.specs.Tenant.{Wait, ready, asked}
-use Rattle.kb_machine.specs.Session.{Stage, Greets, BoundTo, has_member, without_wait}
-use Rattle.kb_machine.specs.Calls.{left_by}
-use Rattle.kb_machine.proofs.Leaving.{ready-left, asked-left}
+use Rattle.kb_tenant_api.specs.Hosted.{Kept, TenantState, kept_of, refusals_of, names_of, left}
+use Rattle.kb_tenant_api.specs.Turns.{with_kept}
+use Rattle.kb_isolation_spec.specs.Tenant.{Wait, ready, asked}
+use Rattle.kb_isolation_spec.specs.Session.{Stage, Greets, BoundTo, has_member, without_wait}
+use Rattle.kb_isolation_spec.specs.Calls.{left_by}
+use Rattle.kb_isolation_spec.proofs.Leaving.{ready-left, asked-left}
 
 -- 1. One tenant keeps something else
 

@@ -2,20 +2,20 @@
 use Rattle.std.proofs.Common.{◌≡◌, ◌≤◌, ℕ, zero, suc, List, [], ◌∷◌, length, take, set, true, false, Some, None, refl, sym, ◌∙◌, ap, subst, arith, inl, inr}
 use Rattle.std.specs.List.{AllByRecursion}
 use Rattle.std.proofs.lemmas.List.{set-get_or, take_all}
-use Rattle.kb_service.specs.Hosted.{TenantState}
-use Rattle.kb_machine.specs.Session.{Stage, Greets, BoundTo}
-use Rattle.kb_machine.specs.Machine.{Line}
-use Rattle.kb_machine.specs.Broker.{BrokerState, IsSound, IsUnready, AreUnready, AnyWait, kept_of}
-use Rattle.kb_machine.specs.declared.whom.Whom.{Whom}
-use Rattle.kb_machine.specs.declared.whom.Whom.TheVariants as whoms
-use Rattle.kb_machine.specs.Turned.{Concerns, IsGoing, Waked, IsLookedFor, IsPassedOver}
-use Rattle.kb_machine.proofs.Sets.{IsAt, all-at, all-set, all-map, tail-at, no-at, work-set}
-use Rattle.kb_machine.proofs.Wakes.{waked-same, waked-then, waked-line}
-use Rattle.kb_machine.proofs.Stranded.{stranded-looked}
+use Rattle.kb_tenant_api.specs.Hosted.{TenantState}
+use Rattle.kb_isolation_spec.specs.Session.{Stage, Greets, BoundTo}
+use Rattle.kb_isolation_spec.specs.Machine.{Line}
+use Rattle.kb_isolation_spec.specs.Broker.{BrokerState, IsSound, IsUnready, AreUnready, AnyWait, kept_of}
+use Rattle.kb_isolation_spec.specs.declared.whom.Whom.{Whom}
+use Rattle.kb_isolation_spec.specs.declared.whom.Whom.TheVariants as whoms
+use Rattle.kb_isolation_spec.specs.Turned.{Concerns, IsGoing, Waked, IsLookedFor, IsPassedOver}
+use Rattle.kb_isolation_spec.proofs.Sets.{IsAt, all-at, all-set, all-map, tail-at, no-at, work-set}
+use Rattle.kb_isolation_spec.proofs.Wakes.{waked-same, waked-then, waked-line}
+use Rattle.kb_isolation_spec.proofs.Stranded.{stranded-looked}
 use Rattle.kb_broker.specs.Places.{numbers, IsPassed, ArePassed, IsPassedBy, IsLookedAt, AreWaked, IsOneMore}
-use Rattle.kb_machine.proofs.Turns.{unready-same, weaken, called-going}
-use Rattle.kb_machine.proofs.Parts.{eqb_same}
-use Rattle.kb_machine.specs.Tenant.{Wait}
+use Rattle.kb_isolation_spec.proofs.Turns.{unready-same, weaken, called-going}
+use Rattle.kb_isolation_spec.proofs.Parts.{eqb_same}
+use Rattle.kb_isolation_spec.specs.Tenant.{Wait}
 use Rattle.kb_broker.proofs.Handled.{put_with, length-numbers, others-put}
 
 -- 1. One look

@@ -5,17 +5,17 @@ use Rattle.std.specs.List.{AllByRecursion}
 use Rattle.std.proofs.lemmas.List.{length-map}
 use Rattle.kb_store.specs.Disk.{Disk}
 use Rattle.kb_coordinator.specs.Groups.{Groups}
-use Rattle.kb_service.specs.Hosted.{Kept, TenantState, kept_of, new_tenant, nothing}
-use Rattle.kb_service.specs.Waiters.{members_on, replies_on}
+use Rattle.kb_tenant_api.specs.Hosted.{Kept, TenantState, kept_of, new_tenant, nothing}
+use Rattle.kb_tenant_api.specs.Waiters.{members_on, replies_on}
 use Rattle.kb_waits.specs.Queue.{Queue}
 use Rattle.kb_tenants.specs.Members as tenants
 use Rattle.kb_tenants.specs.Members.{HaveNoGroup, tenant_numbered_from}
 use Rattle.kb_settings.specs.declared.settings.Settings.{Settings}
-use Rattle.kb_machine.specs.Session.{Session}
-use Rattle.kb_machine.specs.Machine.{Line, find_line}
-use Rattle.kb_machine.specs.Greeting.{User}
-use Rattle.kb_machine.specs.Broker.{BrokerState, AnyWait, AreUnready, InRange, IsSound, IsUnready}
-use Rattle.kb_machine.specs.Stranded.{NoneStranded, members_of, replies_of, IsMembersIn}
+use Rattle.kb_isolation_spec.specs.Session.{Session}
+use Rattle.kb_isolation_spec.specs.Machine.{Line, find_line}
+use Rattle.kb_isolation_spec.specs.Greeting.{User}
+use Rattle.kb_isolation_spec.specs.Broker.{BrokerState, AnyWait, AreUnready, InRange, IsSound, IsUnready}
+use Rattle.kb_isolation_spec.specs.Stranded.{NoneStranded, members_of, replies_of, IsMembersIn}
 use Rattle.kb_broker.specs.declared.opening.Listing.{Listing}
 use Rattle.kb_broker.specs.Hosts.{OnStore, IsReadyOn}
 use Rattle.kb_broker.specs.Members.{numbered_from}

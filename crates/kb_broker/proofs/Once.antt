@@ -2,7 +2,7 @@
 use Rattle.std.proofs.Common.{◌≡◌, ◌+◌, ℕ, Bool, true, false, refl, arith}
 use Rattle.std.specs.Prelude.{◌≤◌, cond, nat_lt}
 use Rattle.std.proofs.lemmas.Bool.Decides.{nat_tests}
-use Rattle.kb_world.specs.Counts.{END, IsCalm, counted_once}
+use Rattle.kb_tenant_state.specs.Counts.{END, IsCalm, counted_once}
 
 -- it is not less
 pub once-grows : (x y : ℕ) → y ≡ counted_once x → x ≤ y

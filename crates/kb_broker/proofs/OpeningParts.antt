@@ -12,10 +12,10 @@ use Rattle.kb_settings.specs.Settings.{is_within}
 use Rattle.kb_settings.specs.Address.{is_listened, is_wildcard}
 use Rattle.kb_api_group.specs.Layouts.{api_version}
 use Rattle.kb_api_group.specs.declared.api_versions.ApiVersion.{ApiVersion}
-use Rattle.kb_service.specs.Hosted.{TenantState, names_of, new_tenant}
-use Rattle.kb_machine.specs.Greeting.{User as Login, Setup}
-use Rattle.kb_machine.specs.Machine.{first_able}
-use Rattle.kb_machine.specs.Broker.{BrokerState, AreUnready, AnyWait, IsSound}
+use Rattle.kb_tenant_api.specs.Hosted.{TenantState, names_of, new_tenant}
+use Rattle.kb_isolation_spec.specs.Greeting.{User as Login, Setup}
+use Rattle.kb_isolation_spec.specs.Machine.{first_able}
+use Rattle.kb_isolation_spec.specs.Broker.{BrokerState, AreUnready, AnyWait, IsSound}
 use Rattle.kb_store.specs.Disk.{Disk}
 use Rattle.kb_broker.specs.Hosts.{OnStore, IsReadyOn}
 use Rattle.kb_settings.specs.Names.{place_of}

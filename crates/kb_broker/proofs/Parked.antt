@@ -9,27 +9,27 @@ use Rattle.std.proofs.lemmas.Bool.Decides.{nat_tests}
 use Rattle.std.proofs.lemmas.List.Elements.{All-contains, All-map, Contains-append_cases, Contains-append_left, Contains-append_right, Contains-push, Contains-push_cases}
 use Rattle.kb_waits.specs.Queue as queue
 use Rattle.kb_waits.specs.Queue.{Queue, AreParked}
-use Rattle.kb_world.specs.Counts.{IsCalm}
-use Rattle.kb_world.specs.declared.topic_partition.TopicPartition.{TopicPartition}
-use Rattle.kb_service.specs.Hosted as hosted
-use Rattle.kb_service.specs.Hosted.{TenantState}
-use Rattle.kb_service.specs.Turns.{IsTurn, HavePassed}
+use Rattle.kb_tenant_state.specs.Counts.{IsCalm}
+use Rattle.kb_tenant_state.specs.declared.topic_partition.TopicPartition.{TopicPartition}
+use Rattle.kb_tenant_api.specs.Hosted as hosted
+use Rattle.kb_tenant_api.specs.Hosted.{TenantState}
+use Rattle.kb_tenant_api.specs.Turns.{IsTurn, HavePassed}
 use Rattle.kb_tenant.specs.Replies.{Silent}
-use Rattle.kb_machine.specs.Tenant.{Awaited, Wait, Records, Group, is_past, ready, asked}
-use Rattle.kb_machine.specs.Session.{Stage, Greets, BoundTo, Session, is_free, can}
-use Rattle.kb_machine.specs.Machine.{Line, first_able}
-use Rattle.kb_machine.specs.Machine.{find_line}
-use Rattle.kb_machine.specs.Broker.{BrokerState, IsSound, IsUnready, AreUnready, AnyWait, Rising, kept_of}
-use Rattle.kb_machine.specs.declared.whom.Whom.{Whom}
-use Rattle.kb_machine.specs.declared.whom.Whom.TheVariants as whoms
-use Rattle.kb_machine.specs.Turned.{Waked, IsPassedOver, SameOthers}
-use Rattle.kb_machine.proofs.Sets.{IsAt, all-map, all-still, find-at, find-set_other, rising-set, rising-above, set-at, tail-at, no-at}
-use Rattle.kb_machine.proofs.Parts.{each-tenant, eqb_same, eqb_other}
-use Rattle.kb_machine.proofs.Owned.{found as found-all}
-use Rattle.kb_machine.proofs.Quiet.{first-silent, asked-passed}
-use Rattle.kb_machine.proofs.Turns.{unready-same}
-use Rattle.kb_machine.proofs.Wakes.{waked-then}
-use Rattle.kb_machine.specs.Calls.{left_by}
+use Rattle.kb_isolation_spec.specs.Tenant.{Awaited, Wait, Records, Group, is_past, ready, asked}
+use Rattle.kb_isolation_spec.specs.Session.{Stage, Greets, BoundTo, Session, is_free, can}
+use Rattle.kb_isolation_spec.specs.Machine.{Line, first_able}
+use Rattle.kb_isolation_spec.specs.Machine.{find_line}
+use Rattle.kb_isolation_spec.specs.Broker.{BrokerState, IsSound, IsUnready, AreUnready, AnyWait, Rising, kept_of}
+use Rattle.kb_isolation_spec.specs.declared.whom.Whom.{Whom}
+use Rattle.kb_isolation_spec.specs.declared.whom.Whom.TheVariants as whoms
+use Rattle.kb_isolation_spec.specs.Turned.{Waked, IsPassedOver, SameOthers}
+use Rattle.kb_isolation_spec.proofs.Sets.{IsAt, all-map, all-still, find-at, find-set_other, rising-set, rising-above, set-at, tail-at, no-at}
+use Rattle.kb_isolation_spec.proofs.Parts.{each-tenant, eqb_same, eqb_other}
+use Rattle.kb_isolation_spec.proofs.Owned.{found as found-all}
+use Rattle.kb_isolation_spec.proofs.Quiet.{first-silent, asked-passed}
+use Rattle.kb_isolation_spec.proofs.Turns.{unready-same}
+use Rattle.kb_isolation_spec.proofs.Wakes.{waked-then}
+use Rattle.kb_isolation_spec.specs.Calls.{left_by}
 use Rattle.kb_broker.proofs.Left.{left-refusals, left-ready_in, left-asked_in}
 use Rattle.kb_broker.specs.Parked.{until, key_of, keys_for, keys_of, deadline_at, deadline_in, until_of, IsKeyedAt, IsKeyedIn, IsOwnedAt, IsOwnedIn, IsQueueOf, IsAskedOn, IsWaitingOnAt, AreWaitingOn, IsReadyAmong, IsUnreadyIn, IsUnreadyAt, AreSought, IsSoughtAt, IsSoughtIn, IsMinded, AreMinded, SameBut, can_in, AreAmong}
 

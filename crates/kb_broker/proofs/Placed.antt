@@ -8,13 +8,13 @@ use Rattle.std.specs.Ordering.{nat_cmp, ordering_index}
 use Rattle.std.proofs.lemmas.Bool.Decides.{nat_tests}
 use Rattle.std.proofs.lemmas.Cmp.{ranked}
 use Rattle.std.proofs.lemmas.List.{get_or-map, get_or_default}
-use Rattle.kb_machine.specs.Session.{fresh}
-use Rattle.kb_machine.specs.Machine.{Line, each, on, those}
-use Rattle.kb_machine.specs.Machine.{find_line}
-use Rattle.kb_machine.specs.Broker.{BrokerState, Rising}
-use Rattle.kb_machine.specs.Calls.{closed, left_by, left_in, other_than, taken, without_output, is_open, open_in}
-use Rattle.kb_machine.proofs.Sets.{IsAt, rising-places, set-on, each-on_none, find-at, find-none}
-use Rattle.kb_machine.proofs.Steps.{remove-those, those-all}
+use Rattle.kb_isolation_spec.specs.Session.{fresh}
+use Rattle.kb_isolation_spec.specs.Machine.{Line, each, on, those}
+use Rattle.kb_isolation_spec.specs.Machine.{find_line}
+use Rattle.kb_isolation_spec.specs.Broker.{BrokerState, Rising}
+use Rattle.kb_isolation_spec.specs.Calls.{closed, left_by, left_in, other_than, taken, without_output, is_open, open_in}
+use Rattle.kb_isolation_spec.proofs.Sets.{IsAt, rising-places, set-on, each-on_none, find-at, find-none}
+use Rattle.kb_isolation_spec.proofs.Steps.{remove-those, those-all}
 use Rattle.kb_connection.specs.View.{with_session}
 use Rattle.kb_broker.specs.Places.{number_at}
 

@@ -1,14 +1,14 @@
 -- The truth of an answer, carried to the output of the connection that asked.
 use Rattle.std.proofs.Common.{◌≡◌, ◌≤◌, ◌+◌, ◌^◌, ◌⊎◌, ℕ, ℤ, List, [], Some, None, true, false, inl, inr, refl, sym, ap, subst, ◌∙◌}
-use Rattle.kb_world.specs.declared.topic_partition.TopicPartition.{TopicPartition}
+use Rattle.kb_tenant_state.specs.declared.topic_partition.TopicPartition.{TopicPartition}
 use Rattle.kb_tenant.specs.declared.answer.Answer.{Answer as Plain}
-use Rattle.kb_service.specs.Hosted.{Kept, TenantState, kept_of}
-use Rattle.kb_service.specs.declared.answer.Answer.{Answer}
-use Rattle.kb_service.specs.declared.answer.Answer.TheVariants as any
-use Rattle.kb_machine.specs.Greeting.{Setup, greeted}
-use Rattle.kb_machine.specs.Machine.{Line, after_turn}
-use Rattle.kb_machine.specs.Session.{Greeting, Stage, Greets, BoundTo, Session, shut_down}
-use Rattle.kb_machine.specs.Tenant.{Wait}
+use Rattle.kb_tenant_api.specs.Hosted.{Kept, TenantState, kept_of}
+use Rattle.kb_tenant_api.specs.declared.answer.Answer.{Answer}
+use Rattle.kb_tenant_api.specs.declared.answer.Answer.TheVariants as any
+use Rattle.kb_isolation_spec.specs.Greeting.{Setup, greeted}
+use Rattle.kb_isolation_spec.specs.Machine.{Line, after_turn}
+use Rattle.kb_isolation_spec.specs.Session.{Greeting, Stage, Greets, BoundTo, Session, shut_down}
+use Rattle.kb_isolation_spec.specs.Tenant.{Wait}
 use Rattle.kb_connection.specs.Fronts.{IsAsked, IsOwn}
 use Rattle.kb_connection.specs.View.{with_session}
 use Rattle.kb_broker.specs.Places.{IsLookAnswer, IsPutOut, IsToldAgain, IsToldAt, IsToldTruth, IsTrueAnswer, IsUnasked, TellsAwaited, TellsMember}

@@ -2,14 +2,14 @@
 use Rattle.std.proofs.Common.{◌≡◌, ◌≢◌, ℕ, zero, suc, ◌<◌, ◌≤◌, List, [], ◌∷◌, ◌++◌, length, take, drop, get_or, eqb, Bool, true, false, cond, Some, refl, sym, ◌∙◌, ap, arith}
 use Rattle.std.specs.List.{AllByRecursion}
 use Rattle.std.proofs.lemmas.Bool.Decides.{nat_tests}
-use Rattle.kb_machine.specs.Machine.{Line, Sent, sent, each, on}
-use Rattle.kb_machine.specs.Machine.{find_line}
-use Rattle.kb_machine.specs.Broker.{BrokerState, Rising}
-use Rattle.kb_machine.specs.Calls.{without_output, taken, output_of, output_in}
-use Rattle.kb_machine.specs.Told.{quieted_lines}
+use Rattle.kb_isolation_spec.specs.Machine.{Line, Sent, sent, each, on}
+use Rattle.kb_isolation_spec.specs.Machine.{find_line}
+use Rattle.kb_isolation_spec.specs.Broker.{BrokerState, Rising}
+use Rattle.kb_isolation_spec.specs.Calls.{without_output, taken, output_of, output_in}
+use Rattle.kb_isolation_spec.specs.Told.{quieted_lines}
 use Rattle.kb_broker.proofs.RunEvents.{same_sent}
-use Rattle.kb_machine.proofs.Sets.{IsAt, tail-at, no-at, rising-above, each-on_none}
-use Rattle.kb_machine.proofs.Parts.{eqb_same}
+use Rattle.kb_isolation_spec.proofs.Sets.{IsAt, tail-at, no-at, rising-above, each-on_none}
+use Rattle.kb_isolation_spec.proofs.Parts.{eqb_same}
 
 -- the first of them are quiet
 abbrev pub quieted_to : ℕ → List Line → List Line

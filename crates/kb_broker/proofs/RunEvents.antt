@@ -3,11 +3,11 @@ use Rattle.std.proofs.Common.{◌≡◌, ℕ, ◌≤◌, List, [], ◌∷◌, eq
 use Rattle.std.specs.Prelude.{map, Result, Ok, Err, OnOk, OnErr}
 use Rattle.std.specs.Result.{is_err}
 use Rattle.std.proofs.lemmas.Bool.Decides.{nat_tests}
-use Rattle.kb_machine.specs.Session.{Session}
-use Rattle.kb_machine.specs.Machine.{Line, Sent, Closes, sent, those, leaving}
-use Rattle.kb_machine.specs.Machine.{find_line}
-use Rattle.kb_machine.specs.Broker.{BrokerState, IsSound, Rising}
-use Rattle.kb_machine.specs.Calls.{is_open, is_shut, output_of, open_in, shut_in, output_in}
+use Rattle.kb_isolation_spec.specs.Session.{Session}
+use Rattle.kb_isolation_spec.specs.Machine.{Line, Sent, Closes, sent, those, leaving}
+use Rattle.kb_isolation_spec.specs.Machine.{find_line}
+use Rattle.kb_isolation_spec.specs.Broker.{BrokerState, IsSound, Rising}
+use Rattle.kb_isolation_spec.specs.Calls.{is_open, is_shut, output_of, open_in, shut_in, output_in}
 use Rattle.kb_broker.specs.Hosts.{OnStore}
 
 -- 1. What a closing connection got

@@ -7,13 +7,13 @@ use Rattle.std.proofs.lemmas.List.{map-append, append-nil, length-map}
 use Rattle.std.proofs.lemmas.List.Sums.{sum_by-cons}
 use Rattle.std.proofs.lemmas.Simd.{map-map}
 use Rattle.std.proofs.lemmas.List.Sorted.{IsPermutation-refl, IsPermutation-trans, IsPermutation-middle, IsPermutation-map, IsPermutation-append_left, IsPermutation-append_right, IsPermutation-filter_both, length_permutation}
-use Rattle.kb_machine.specs.Session.{fresh}
-use Rattle.kb_machine.specs.Machine.{Happening, Opens, Comes, Closes, Moment, Line, Sent, sent, leaving, those_sent, run}
-use Rattle.kb_machine.specs.Owners.{purge}
-use Rattle.kb_world.specs.Counts.{IsCalm}
-use Rattle.kb_machine.specs.Broker.{BrokerState, IsCalmFor, Grows, Mine, Rising, IsRun, view_of}
-use Rattle.kb_machine.proofs.Runs.{run-step, those_sent-append, those_sent-map}
-use Rattle.kb_machine.proofs.Parts.{grows-then, calm-first, calm-then}
+use Rattle.kb_isolation_spec.specs.Session.{fresh}
+use Rattle.kb_isolation_spec.specs.Machine.{Happening, Opens, Comes, Closes, Moment, Line, Sent, sent, leaving, those_sent, run}
+use Rattle.kb_isolation_spec.specs.Owners.{purge}
+use Rattle.kb_tenant_state.specs.Counts.{IsCalm}
+use Rattle.kb_isolation_spec.specs.Broker.{BrokerState, IsCalmFor, Grows, Mine, Rising, IsRun, view_of}
+use Rattle.kb_isolation_spec.proofs.Runs.{run-step, those_sent-append, those_sent-map}
+use Rattle.kb_isolation_spec.proofs.Parts.{grows-then, calm-first, calm-then}
 use Rattle.kb_broker.specs.declared.run.Event.{Event}
 use Rattle.kb_broker.specs.declared.run.Event.TheVariants as events
 use Rattle.kb_store.specs.Disk.{Disk}

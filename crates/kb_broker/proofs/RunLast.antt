@@ -1,15 +1,15 @@
 -- What a history leaves to each tenant.
 use Rattle.std.proofs.Common.{◌≡◌, ℕ, List, [], ◌∷◌, ◌++◌, Bool, refl, sym, ◌∙◌, ap, subst}
-use Rattle.kb_machine.specs.Machine.{Happening, Sent, leaving, run, those_sent}
-use Rattle.kb_machine.specs.Owners.{purge}
-use Rattle.kb_machine.specs.Broker.{BrokerState, IsCalmFor, Mine, view_of}
-use Rattle.kb_machine.specs.Calls.{without_output}
-use Rattle.kb_machine.specs.Told.{quieted}
-use Rattle.kb_machine.specs.Left.{last_world}
-use Rattle.kb_machine.proofs.Isolation.{last-step}
-use Rattle.kb_machine.proofs.Laws.{those-each}
-use Rattle.kb_machine.proofs.Runs.{run-step, those_sent-append, those_sent-map}
-use Rattle.kb_machine.proofs.Parts.{calm-first, calm-then}
+use Rattle.kb_isolation_spec.specs.Machine.{Happening, Sent, leaving, run, those_sent}
+use Rattle.kb_isolation_spec.specs.Owners.{purge}
+use Rattle.kb_isolation_spec.specs.Broker.{BrokerState, IsCalmFor, Mine, view_of}
+use Rattle.kb_isolation_spec.specs.Calls.{without_output}
+use Rattle.kb_isolation_spec.specs.Told.{quieted}
+use Rattle.kb_isolation_spec.specs.Left.{last_world}
+use Rattle.kb_isolation_spec.proofs.Isolation.{last-step}
+use Rattle.kb_isolation_spec.proofs.Laws.{those-each}
+use Rattle.kb_isolation_spec.proofs.Runs.{run-step, those_sent-append, those_sent-map}
+use Rattle.kb_isolation_spec.proofs.Parts.{calm-first, calm-then}
 use Rattle.kb_broker.specs.Runs.{emptied, Passes}
 use Rattle.kb_broker.proofs.RunHistory.{ended-leaving, grows-passes}
 use Rattle.kb_broker.proofs.ScriptHush.{mine-hushed}

@@ -8,7 +8,7 @@ use Rattle.std.proofs.lemmas.Bool.Decides.{nat_tests}
 use Rattle.std.proofs.lemmas.List.Elements.{All-from_recursion, recursion_from_All}
 use Rattle.std.proofs.lemmas.List.Sums.{sum_by-cons}
 use Rattle.std.proofs.lemmas.List.Sorted.{IsPermutation-refl, IsPermutation-sym, IsPermutation-trans, IsPermutation-cons, IsPermutation-middle, IsPermutation-map, All-permutation, sum_by-IsPermutation}
-use Rattle.kb_machine.specs.Machine.{Sent, place, by_number}
+use Rattle.kb_isolation_spec.specs.Machine.{Sent, place, by_number}
 
 -- 1. Lists of numbers that do not fall
 

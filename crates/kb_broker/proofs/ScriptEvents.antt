@@ -2,15 +2,15 @@
 use Rattle.std.proofs.Common.{◌≡◌, ◌==◌, ℕ, zero, suc, ◌<◌, ◌&&◌, Bool, true, not, List, [], ◌∷◌, ◌++◌, refl, sym, ap, subst, ◌∙◌, Option, Some, None, Result, Ok, Err, OnOk, OnErr, IfErr, cond}
 use Rattle.std.specs.Io.KnownBytes.{Appends}
 use Rattle.std.proofs.KnownBytes.{Appends-nil}
-use Rattle.kb_service.specs.Hosted.{Kept, TenantState, kept_of, left}
-use Rattle.kb_service.specs.Turns.{with_kept, all_calm}
-use Rattle.kb_machine.specs.Session.{Session}
-use Rattle.kb_machine.specs.Machine.{Happening, Opens, Comes, Closes, Moment}
-use Rattle.kb_machine.specs.Broker.{BrokerState, IsReady, IsStep}
-use Rattle.kb_machine.specs.Machine.{find_line}
-use Rattle.kb_machine.specs.Calls.{opened, closed, left_in, taken, is_calm, is_shut, output_of}
-use Rattle.kb_machine.specs.Turned.{SameOthers}
-use Rattle.kb_machine.proofs.Steps.{sound-opened, settled-opened, unready-opened, step-opened, sound-closed, settled-closed, unready-closed, step-closed}
+use Rattle.kb_tenant_api.specs.Hosted.{Kept, TenantState, kept_of, left}
+use Rattle.kb_tenant_api.specs.Turns.{with_kept, all_calm}
+use Rattle.kb_isolation_spec.specs.Session.{Session}
+use Rattle.kb_isolation_spec.specs.Machine.{Happening, Opens, Comes, Closes, Moment}
+use Rattle.kb_isolation_spec.specs.Broker.{BrokerState, IsReady, IsStep}
+use Rattle.kb_isolation_spec.specs.Machine.{find_line}
+use Rattle.kb_isolation_spec.specs.Calls.{opened, closed, left_in, taken, is_calm, is_shut, output_of}
+use Rattle.kb_isolation_spec.specs.Turned.{SameOthers}
+use Rattle.kb_isolation_spec.proofs.Steps.{sound-opened, settled-opened, unready-opened, step-opened, sound-closed, settled-closed, unready-closed, step-closed}
 use Rattle.kb_broker.specs.declared.script.ScriptFault.{ScriptFault}
 use Rattle.kb_broker.specs.declared.script.ScriptFault.TheVariants as faults
 use Rattle.kb_broker.specs.Places.{numbers}

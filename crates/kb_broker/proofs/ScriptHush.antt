@@ -5,15 +5,15 @@ use Rattle.std.specs.Prelude.{codes}
 use Rattle.kb_api_group.specs.Frames.{Front, Whole, Partial, TooSmall, TooLarge, front}
 use Rattle.kb_wire.specs.declared.error_code.ErrorCode.TheVariants as errors
 use Rattle.kb_tenant.specs.Replies.{reply_size}
-use Rattle.kb_machine.specs.Requests.{Asked, Versions, OtherVersions, Handshake, Authenticate, Another, Malformed, request}
-use Rattle.kb_machine.specs.Session.{Greeting, Unshaken, Shaken, Bare, Stage, Greets, BoundTo, Session, shut_down, replied, fed, room}
-use Rattle.kb_machine.specs.Greeting.{Setup, authenticate_reply, login, logged_in, bare_login, greeting_after, shaken, authenticated, greeted_by, greeted_frame, greeted_at, greeted}
-use Rattle.kb_machine.specs.Machine.{Happening, Opens, Comes, Closes, Moment, Line, again}
-use Rattle.kb_machine.specs.Owners.{greet_turn_at, greet_turn, heard, whose, destiny, Pairwise}
-use Rattle.kb_machine.specs.Broker.{BrokerState, Mine}
-use Rattle.kb_machine.specs.Calls.{without_output}
-use Rattle.kb_machine.specs.Told.{quieted_lines}
-use Rattle.kb_machine.proofs.Owners.{SameFate, owns-fates}
+use Rattle.kb_isolation_spec.specs.Requests.{Asked, Versions, OtherVersions, Handshake, Authenticate, Another, Malformed, request}
+use Rattle.kb_isolation_spec.specs.Session.{Greeting, Unshaken, Shaken, Bare, Stage, Greets, BoundTo, Session, shut_down, replied, fed, room}
+use Rattle.kb_isolation_spec.specs.Greeting.{Setup, authenticate_reply, login, logged_in, bare_login, greeting_after, shaken, authenticated, greeted_by, greeted_frame, greeted_at, greeted}
+use Rattle.kb_isolation_spec.specs.Machine.{Happening, Opens, Comes, Closes, Moment, Line, again}
+use Rattle.kb_isolation_spec.specs.Owners.{greet_turn_at, greet_turn, heard, whose, destiny, Pairwise}
+use Rattle.kb_isolation_spec.specs.Broker.{BrokerState, Mine}
+use Rattle.kb_isolation_spec.specs.Calls.{without_output}
+use Rattle.kb_isolation_spec.specs.Told.{quieted_lines}
+use Rattle.kb_isolation_spec.proofs.Owners.{SameFate, owns-fates}
 use Rattle.kb_broker.specs.ScriptRun.{hushed}
 
 -- but for their output, the same

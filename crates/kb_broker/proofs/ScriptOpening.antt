@@ -1,8 +1,8 @@
 -- A script on a broker that has just opened.
 use Rattle.std.proofs.Common.{◌≡◌, ℕ, true, List, [], ◌∷◌, map, refl}
-use Rattle.kb_service.specs.Hosted.{new_tenant}
-use Rattle.kb_service.specs.Turns.{all_calm}
-use Rattle.kb_machine.specs.Calls.{is_calm}
+use Rattle.kb_tenant_api.specs.Hosted.{new_tenant}
+use Rattle.kb_tenant_api.specs.Turns.{all_calm}
+use Rattle.kb_isolation_spec.specs.Calls.{is_calm}
 use Rattle.kb_settings.specs.declared.settings.Settings.{Settings}
 use Rattle.kb_broker.specs.Opening.{opening, tenants_of}
 

@@ -7,10 +7,10 @@ use Rattle.std.specs.Io.BufRead.{take_through, drop_through, strip_last, DropsTh
 use Rattle.std.specs.Io.KnownBytes.{Appends, Consumes}
 use Rattle.std.proofs.KnownBytes.{Appends-nil, Appends-trans}
 use Rattle.std.proofs.BufReadLemmas.{take_through-append, take_through-nil}
-use Rattle.kb_machine.specs.Machine.{Happening, Opens, Comes, Closes, Moment, Sent}
-use Rattle.kb_machine.specs.Broker.{BrokerState, IsSound, IsReady}
-use Rattle.kb_machine.specs.Calls.{is_calm}
-use Rattle.kb_machine.specs.Told.{said}
+use Rattle.kb_isolation_spec.specs.Machine.{Happening, Opens, Comes, Closes, Moment, Sent}
+use Rattle.kb_isolation_spec.specs.Broker.{BrokerState, IsSound, IsReady}
+use Rattle.kb_isolation_spec.specs.Calls.{is_calm}
+use Rattle.kb_isolation_spec.specs.Told.{said}
 use Rattle.kb_broker.specs.declared.script.ScriptFault.{ScriptFault}
 use Rattle.kb_broker.specs.declared.script.ScriptFault.TheVariants as faults
 use Rattle.kb_broker.specs.Script.{MOST_LINES, MOST_BYTES, LONGEST_LINE, Place, Told, Event, Nothing, Wrong, Course, Plays, Passes, Stops, Script, here, told, is_in_place, after_event, after_course, has_room, fault_where, fault_within, IsLengthFault, course_of, course_by, course, onto, pieces, and_then, read_from, said_by, script, script_text}

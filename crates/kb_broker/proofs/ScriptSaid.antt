@@ -1,13 +1,13 @@
 -- What a broker says to all connections, spelled place by place.
 use Rattle.std.proofs.Common.{◌≡◌, ℕ, zero, suc, ◌<◌, ◌&&◌, Bool, false, not, List, [], ◌∷◌, ◌++◌, length, map, take, get_or, refl, sym, ap, ◌∙◌, arith, Some, append_assoc, append-nil}
 use Rattle.std.specs.List.{AllByRecursion}
-use Rattle.kb_machine.specs.Machine.{Line, Sent, sent}
-use Rattle.kb_machine.specs.Machine.{find_line}
-use Rattle.kb_machine.specs.Broker.{BrokerState, Rising}
-use Rattle.kb_machine.specs.Calls.{shut_in}
-use Rattle.kb_machine.specs.Told.{said}
-use Rattle.kb_machine.proofs.Sets.{IsAt, tail-at, no-at}
-use Rattle.kb_machine.proofs.Owned.{found}
+use Rattle.kb_isolation_spec.specs.Machine.{Line, Sent, sent}
+use Rattle.kb_isolation_spec.specs.Machine.{find_line}
+use Rattle.kb_isolation_spec.specs.Broker.{BrokerState, Rising}
+use Rattle.kb_isolation_spec.specs.Calls.{shut_in}
+use Rattle.kb_isolation_spec.specs.Told.{said}
+use Rattle.kb_isolation_spec.proofs.Sets.{IsAt, tail-at, no-at}
+use Rattle.kb_isolation_spec.proofs.Owned.{found}
 use Rattle.kb_connection.specs.View.{speaks}
 use Rattle.kb_broker.specs.Places.{numbers}
 use Rattle.kb_broker.specs.Script.{sent_text, step_text}

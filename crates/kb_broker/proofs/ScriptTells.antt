@@ -2,18 +2,18 @@
 use Rattle.std.proofs.Common.{◌≡◌, ℕ, zero, suc, ◌&&◌, Bool, true, false, not, cond, eqb, List, [], ◌∷◌, ◌++◌, length, map, refl, sym, ap, subst, ◌∙◌, arith, lit<, Some, append_assoc, append-nil}
 use Rattle.std.specs.List.{AllByRecursion}
 use Rattle.std.proofs.lemmas.Bool.Decides.{nat_tests}
-use Rattle.kb_machine.specs.Machine.{Happening, Line, Sent, View, those, those_sent, stepped}
-use Rattle.kb_machine.specs.Owners.{concerns}
-use Rattle.kb_machine.specs.Machine.{find_line}
-use Rattle.kb_world.specs.Counts.{IsCalm}
-use Rattle.kb_service.specs.Hosted as hosted
-use Rattle.kb_service.specs.Hosted.{TenantState}
-use Rattle.kb_service.specs.Turns.{all_calm}
-use Rattle.kb_machine.specs.Broker.{BrokerState, IsSound, IsCalmFor, Mine, Rising, view_of, refusals_of, owned_by, only}
-use Rattle.kb_machine.specs.Calls.{is_calm, without_output, shut_in}
-use Rattle.kb_machine.specs.Told.{said, quieted, tell, RisesAbove, Tells}
-use Rattle.kb_machine.proofs.Laws.{those-each}
-use Rattle.kb_machine.proofs.Owned.{owned-mine, unowned-mine}
+use Rattle.kb_isolation_spec.specs.Machine.{Happening, Line, Sent, View, those, those_sent, stepped}
+use Rattle.kb_isolation_spec.specs.Owners.{concerns}
+use Rattle.kb_isolation_spec.specs.Machine.{find_line}
+use Rattle.kb_tenant_state.specs.Counts.{IsCalm}
+use Rattle.kb_tenant_api.specs.Hosted as hosted
+use Rattle.kb_tenant_api.specs.Hosted.{TenantState}
+use Rattle.kb_tenant_api.specs.Turns.{all_calm}
+use Rattle.kb_isolation_spec.specs.Broker.{BrokerState, IsSound, IsCalmFor, Mine, Rising, view_of, refusals_of, owned_by, only}
+use Rattle.kb_isolation_spec.specs.Calls.{is_calm, without_output, shut_in}
+use Rattle.kb_isolation_spec.specs.Told.{said, quieted, tell, RisesAbove, Tells}
+use Rattle.kb_isolation_spec.proofs.Laws.{those-each}
+use Rattle.kb_isolation_spec.proofs.Owned.{owned-mine, unowned-mine}
 use Rattle.kb_broker.specs.Script.{step_text, script_text}
 use Rattle.kb_broker.specs.ScriptRun.{Happens, hushed}
 use Rattle.kb_broker.proofs.ScriptHush.{mine-hushed}

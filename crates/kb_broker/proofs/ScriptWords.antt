@@ -2,15 +2,15 @@
 use Rattle.std.proofs.Common.{◌≡◌, ◌≢◌, ℕ, ◌≤◌, ◌==◌, ◌&&◌, ◌||◌, Bool, true, false, not, cond, eqb, List, [], ◌∷◌, ◌++◌, length, map, refl, sym, ap, subst, ◌∙◌, arith, Option, Some, None, append-nil}
 use Rattle.std.proofs.lemmas.Bool.Decides.{nat_tests}
 use Rattle.std.specs.List.{AllByRecursion}
-use Rattle.kb_machine.specs.Session.{Session, fresh, can}
-use Rattle.kb_machine.specs.Machine.{Line, each, on, those}
-use Rattle.kb_machine.specs.Machine.{find_line}
-use Rattle.kb_machine.specs.Broker.{IsUnready, AnyWait, BrokerState, Rising, InRange, IsReady}
-use Rattle.kb_machine.specs.Calls.{opened, closed, taken, without_output, other_than, open_in, output_in, shut_in, is_open, is_shut, output_of}
-use Rattle.kb_machine.specs.Told.{said, quieted_lines}
-use Rattle.kb_machine.specs.Turned.{SameOthers}
-use Rattle.kb_machine.proofs.Sets.{all-map, all-those, all-push, none-able, all-still as all-settled}
-use Rattle.kb_machine.proofs.Owned.{found}
+use Rattle.kb_isolation_spec.specs.Session.{Session, fresh, can}
+use Rattle.kb_isolation_spec.specs.Machine.{Line, each, on, those}
+use Rattle.kb_isolation_spec.specs.Machine.{find_line}
+use Rattle.kb_isolation_spec.specs.Broker.{IsUnready, AnyWait, BrokerState, Rising, InRange, IsReady}
+use Rattle.kb_isolation_spec.specs.Calls.{opened, closed, taken, without_output, other_than, open_in, output_in, shut_in, is_open, is_shut, output_of}
+use Rattle.kb_isolation_spec.specs.Told.{said, quieted_lines}
+use Rattle.kb_isolation_spec.specs.Turned.{SameOthers}
+use Rattle.kb_isolation_spec.proofs.Sets.{all-map, all-those, all-push, none-able, all-still as all-settled}
+use Rattle.kb_isolation_spec.proofs.Owned.{found}
 use Rattle.kb_broker.specs.Places.{numbers, waits_in}
 use Rattle.kb_broker.specs.Script.{Place, sent_text, step_text}
 use Rattle.kb_broker.specs.ScriptRun.{IsQuiet, IsAt, hushed, words}

@@ -13,25 +13,25 @@ use Rattle.kb_waits.specs.Queue as queue
 use Rattle.kb_waits.specs.Queue.{Queue, AreParked, IsUnder, IsUnderAny}
 use Rattle.kb_waits.specs.declared.key.WaitKey.{WaitKey}
 use Rattle.kb_waits.proofs.Queues.{get-insert_other, tied-itself}
-use Rattle.kb_world.specs.declared.topic_partition.TopicPartition.{TopicPartition}
-use Rattle.kb_service.specs.Hosted.{Kept, TenantState, kept_of, refusals_of, nothing}
-use Rattle.kb_service.specs.Turns.{IsTurn, IsMet}
+use Rattle.kb_tenant_state.specs.declared.topic_partition.TopicPartition.{TopicPartition}
+use Rattle.kb_tenant_api.specs.Hosted.{Kept, TenantState, kept_of, refusals_of, nothing}
+use Rattle.kb_tenant_api.specs.Turns.{IsTurn, IsMet}
 use Rattle.kb_tenant.specs.Replies.{Replies, Waits, Silent, Shuts}
 use Rattle.kb_tenant.specs.declared.answer.Answer.TheVariants as plain
-use Rattle.kb_service.specs.Replies.{Reaction, Plain, Rebalances, IsAnswer}
-use Rattle.kb_service.specs.declared.answer.Answer.{Answer}
-use Rattle.kb_service.specs.declared.answer.Answer.TheVariants as answers
+use Rattle.kb_tenant_api.specs.Replies.{Reaction, Plain, Rebalances, IsAnswer}
+use Rattle.kb_tenant_api.specs.declared.answer.Answer.{Answer}
+use Rattle.kb_tenant_api.specs.declared.answer.Answer.TheVariants as answers
 use Rattle.kb_tenant.specs.declared.node.Node.{Node}
-use Rattle.kb_machine.specs.Tenant.{Awaited, Wait, Records, Group, answer, asked, kept_after}
-use Rattle.kb_machine.specs.Requests as requests
+use Rattle.kb_isolation_spec.specs.Tenant.{Awaited, Wait, Records, Group, answer, asked, kept_after}
+use Rattle.kb_isolation_spec.specs.Requests as requests
 use Rattle.kb_api_group.specs.declared.api_versions.ApiVersion.{ApiVersion}
-use Rattle.kb_machine.specs.Requests.{Asked, Versions, OtherVersions, Handshake, Authenticate, Another, Malformed}
-use Rattle.kb_machine.specs.Session.{Greeting, Stage, Greets, BoundTo, Session, shut_down, waiting, without_wait, is_free}
-use Rattle.kb_machine.specs.Greeting.{Setup, greeted}
-use Rattle.kb_machine.specs.Machine.{Line, after_reaction, after_turn, served_by, served_at, put}
-use Rattle.kb_machine.proofs.Owners.{stage-shut}
-use Rattle.kb_machine.proofs.Quiet.{asked-group, asked-parks}
-use Rattle.kb_machine.proofs.Turns.{free-greeted, free-replied, free-without}
+use Rattle.kb_isolation_spec.specs.Requests.{Asked, Versions, OtherVersions, Handshake, Authenticate, Another, Malformed}
+use Rattle.kb_isolation_spec.specs.Session.{Greeting, Stage, Greets, BoundTo, Session, shut_down, waiting, without_wait, is_free}
+use Rattle.kb_isolation_spec.specs.Greeting.{Setup, greeted}
+use Rattle.kb_isolation_spec.specs.Machine.{Line, after_reaction, after_turn, served_by, served_at, put}
+use Rattle.kb_isolation_spec.proofs.Owners.{stage-shut}
+use Rattle.kb_isolation_spec.proofs.Quiet.{asked-group, asked-parks}
+use Rattle.kb_isolation_spec.proofs.Turns.{free-greeted, free-replied, free-without}
 use Rattle.kb_connection.specs.Fronts.{IsOwn, IsAsked, is_tenants, is_tenants_at}
 use Rattle.kb_connection.specs.TenantAnswers.{is_wait}
 use Rattle.kb_connection.specs.View.{with_session, without_front}

@@ -1,14 +1,14 @@
 -- Members that wait, as the broker's users see it.
 use Rattle.std.proofs.Common.{◌≡◌, ◌≢◌, ◌<◌, ℕ, zero, suc, List, [], ◌∷◌, map, true, false, Option, Some, None, refl, ap, arith}
-use Rattle.kb_service.specs.Hosted.{Kept, TenantState, kept_of, new_tenant, nothing}
-use Rattle.kb_service.specs.Waiters.{members_on, replies_on}
+use Rattle.kb_tenant_api.specs.Hosted.{Kept, TenantState, kept_of, new_tenant, nothing}
+use Rattle.kb_tenant_api.specs.Waiters.{members_on, replies_on}
 use Rattle.kb_settings.specs.declared.settings.Settings.{Settings}
-use Rattle.kb_machine.specs.Session.{Stage, Greets, BoundTo, Session, is_free}
-use Rattle.kb_machine.specs.Machine.{find_line}
-use Rattle.kb_machine.specs.Broker.{BrokerState, bound_as, bound_to}
-use Rattle.kb_machine.specs.Owners.{whose}
-use Rattle.kb_machine.specs.Calls.{is_open, is_shut, open_in, shut_in}
-use Rattle.kb_machine.specs.Stranded.{IsMembersAt, IsMembersIn, NoneStranded, members_of}
+use Rattle.kb_isolation_spec.specs.Session.{Stage, Greets, BoundTo, Session, is_free}
+use Rattle.kb_isolation_spec.specs.Machine.{find_line}
+use Rattle.kb_isolation_spec.specs.Broker.{BrokerState, bound_as, bound_to}
+use Rattle.kb_isolation_spec.specs.Owners.{whose}
+use Rattle.kb_isolation_spec.specs.Calls.{is_open, is_shut, open_in, shut_in}
+use Rattle.kb_isolation_spec.specs.Stranded.{IsMembersAt, IsMembersIn, NoneStranded, members_of}
 use Rattle.kb_connection.specs.View.{IsLimitedIn}
 use Rattle.kb_broker.specs.declared.opening.Listing.{Listing}
 use Rattle.kb_broker.specs.Opening.{opening_listing, opening_over, tenants_of, HaveNoGroups}

@@ -1,36 +1,36 @@
 -- What a tenant's call is to the connection that it is for.
 use Rattle.std.proofs.Common.{◌≡◌, ◌≤◌, false, None, Some, inl, inr, ℕ, ℤ, List, [], length, Bool, true, Result, Ok, Err, OnOk, OnErr, refl, sym, ap, subst, ◌∙◌, arith}
 use Rattle.kb_coordinator.specs.Groups.{Groups, silent}
-use Rattle.kb_world.specs.Tied.{IsTied}
-use Rattle.kb_world.specs.World.{World}
-use Rattle.kb_service.proofs.ByRequest.{by_request}
-use Rattle.kb_world.specs.Counts.{END, IsCalm}
-use Rattle.kb_world.specs.declared.topic_partition.TopicPartition.{TopicPartition}
-use Rattle.kb_service.specs.Hosted.{Kept, nothing, TenantState, kept_in, kept_of, refusals_of}
-use Rattle.kb_service.specs.Turns.{IsTurn, IsMet}
+use Rattle.kb_tenant_state.specs.Tied.{IsTied}
+use Rattle.kb_tenant_state.specs.World.{World}
+use Rattle.kb_tenant_api.proofs.ByRequest.{by_request}
+use Rattle.kb_tenant_state.specs.Counts.{END, IsCalm}
+use Rattle.kb_tenant_state.specs.declared.topic_partition.TopicPartition.{TopicPartition}
+use Rattle.kb_tenant_api.specs.Hosted.{Kept, nothing, TenantState, kept_in, kept_of, refusals_of}
+use Rattle.kb_tenant_api.specs.Turns.{IsTurn, IsMet}
 use Rattle.kb_tenant.specs.Replies as plain
 use Rattle.kb_tenant.specs.Replies.{Replies, Waits, Silent, Shuts}
 use Rattle.kb_tenant.specs.declared.answer.Answer.{Answer as Plain}
-use Rattle.kb_service.specs.Replies.{Reaction, Rebalances, IsAnswer, told_to}
-use Rattle.kb_service.specs.declared.answer.Answer.TheVariants as group
-use Rattle.kb_machine.specs.Stranded.{IsMembersAt}
-use Rattle.kb_service.specs.Serve.{Outcome, IsOutcome, has_released, served}
-use Rattle.kb_service.specs.declared.answer.Answer.{Answer}
+use Rattle.kb_tenant_api.specs.Replies.{Reaction, Rebalances, IsAnswer, told_to}
+use Rattle.kb_tenant_api.specs.declared.answer.Answer.TheVariants as group
+use Rattle.kb_isolation_spec.specs.Stranded.{IsMembersAt}
+use Rattle.kb_tenant_api.specs.Serve.{Outcome, IsOutcome, has_released, served}
+use Rattle.kb_tenant_api.specs.declared.answer.Answer.{Answer}
 use Rattle.kb_tenant.specs.declared.answer.Answer.TheVariants as answers
 use Rattle.kb_tenant.specs.declared.node.Node.{Node}
-use Rattle.kb_machine.specs.Tenant.{Awaited, Records, Group, Wait, is_members, answer, asked, ready, ready_for, kept_after}
-use Rattle.kb_machine.specs.Session.{Greeting, Greets, BoundTo, Session, can, shut_down, waiting, without_wait}
-use Rattle.kb_machine.specs.Greeting.{Setup, greeted}
-use Rattle.kb_machine.specs.Machine.{Line, after_reaction, told, woken, woken_by, after_turn as served_by_turn, put}
-use Rattle.kb_machine.proofs.Laws.{can-turn, some-left, greeted-less, served-less}
-use Rattle.kb_machine.proofs.Owners.{stage-served, stage-shut}
+use Rattle.kb_isolation_spec.specs.Tenant.{Awaited, Records, Group, Wait, is_members, answer, asked, ready, ready_for, kept_after}
+use Rattle.kb_isolation_spec.specs.Session.{Greeting, Greets, BoundTo, Session, can, shut_down, waiting, without_wait}
+use Rattle.kb_isolation_spec.specs.Greeting.{Setup, greeted}
+use Rattle.kb_isolation_spec.specs.Machine.{Line, after_reaction, told, woken, woken_by, after_turn as served_by_turn, put}
+use Rattle.kb_isolation_spec.proofs.Laws.{can-turn, some-left, greeted-less, served-less}
+use Rattle.kb_isolation_spec.proofs.Owners.{stage-served, stage-shut}
 use Rattle.kb_connection.specs.Fronts.{IsAsked}
 use Rattle.kb_connection.specs.View.{with_session, without_front}
 use Rattle.kb_connection.specs.TenantAnswers.{is_quiet}
 use Rattle.kb_tenants.proofs.Tied.{kept_names, kept_tied}
 use Rattle.kb_tenants.proofs.Answered.{untold}
 use Rattle.kb_tenants.specs.Tenants.{EndsWait, shelf_is_honest}
-use Rattle.kb_machine.proofs.Quiet.{apart-ready, asked-again}
+use Rattle.kb_isolation_spec.proofs.Quiet.{apart-ready, asked-again}
 use Rattle.kb_tenant.specs.Waiting.{AreApart}
 use Rattle.kb_broker.specs.Parked.{IsReleased, IsTouched, IsAskedOn}
 use Rattle.kb_store.specs.Disk.{Disk}
@@ -42,13 +42,13 @@ use Rattle.kb_broker.proofs.Handled.{from_ok, turn-sure}
 use Rattle.std.proofs.Common.{eqb}
 use Rattle.std.specs.Prelude.{Contains, nat_lt, ◌&&◌, ◌⊎◌}
 use Rattle.std.specs.Result.{is_err}
-use Rattle.kb_machine.specs.declared.whom.Whom.{Whom}
-use Rattle.kb_machine.specs.Turned.{IsLookedFor}
-use Rattle.kb_machine.specs.Broker.{BrokerState, IsUnready, AnyWait}
-use Rattle.kb_machine.proofs.Turns.{shut-unready}
-use Rattle.kb_machine.proofs.Wakes.{unready-woken, woken-at}
+use Rattle.kb_isolation_spec.specs.declared.whom.Whom.{Whom}
+use Rattle.kb_isolation_spec.specs.Turned.{IsLookedFor}
+use Rattle.kb_isolation_spec.specs.Broker.{BrokerState, IsUnready, AnyWait}
+use Rattle.kb_isolation_spec.proofs.Turns.{shut-unready}
+use Rattle.kb_isolation_spec.proofs.Wakes.{unready-woken, woken-at}
 use Rattle.std.proofs.lemmas.Bool.Decides.{nat_tests}
-use Rattle.kb_machine.proofs.Parts.{turn-then, calm-right}
+use Rattle.kb_isolation_spec.proofs.Parts.{turn-then, calm-right}
 
 -- 1. A request of the tenant
 

@@ -2,19 +2,19 @@
 use Rattle.std.proofs.Common.{◌≡◌, ◌++◌, ℕ, zero, suc, List, [], ◌∷◌, set, cond, eqb, Option, Some, None}
 use Rattle.std.proofs.Common.{Result, Ok, Err, OnOk, OnErr, Bool, true, false, inl, inr, refl, sym, ◌∙◌, ap, subst}
 use Rattle.std.specs.Prelude.{◌≤◌, ◌+◌, ◌^◌, ◌⊎◌, nat_lt, length, ⊤}
-use Rattle.kb_service.specs.Hosted as hosted
-use Rattle.kb_service.specs.Hosted.{Kept, TenantState, left}
-use Rattle.kb_service.specs.Turns.{HavePassed, with_kept}
+use Rattle.kb_tenant_api.specs.Hosted as hosted
+use Rattle.kb_tenant_api.specs.Hosted.{Kept, TenantState, left}
+use Rattle.kb_tenant_api.specs.Turns.{HavePassed, with_kept}
 use Rattle.kb_tenant.specs.Told.{FailedBy}
-use Rattle.kb_machine.specs.Session.{Stage, Greets, BoundTo, Session, fed, fresh, has_member, overruns, room, shut_down}
-use Rattle.kb_machine.specs.Machine.{Line, find_line}
-use Rattle.kb_machine.specs.Broker.{BrokerState, IsSound, kept_of}
-use Rattle.kb_machine.specs.Calls.{IsRefused, closed, left_by, left_in, opened, output_in, without_output}
-use Rattle.kb_machine.specs.declared.whom.Whom.{Whom}
-use Rattle.kb_machine.specs.Told.{quieted_lines}
-use Rattle.kb_machine.proofs.Leaving.{left_fed, kept-other, kept-with}
-use Rattle.kb_machine.proofs.Parts.{each-tenant}
-use Rattle.kb_machine.proofs.Sets.{IsAt, find-at, find-set_other, no-at, rising-set, set-at, tail-at}
+use Rattle.kb_isolation_spec.specs.Session.{Stage, Greets, BoundTo, Session, fed, fresh, has_member, overruns, room, shut_down}
+use Rattle.kb_isolation_spec.specs.Machine.{Line, find_line}
+use Rattle.kb_isolation_spec.specs.Broker.{BrokerState, IsSound, kept_of}
+use Rattle.kb_isolation_spec.specs.Calls.{IsRefused, closed, left_by, left_in, opened, output_in, without_output}
+use Rattle.kb_isolation_spec.specs.declared.whom.Whom.{Whom}
+use Rattle.kb_isolation_spec.specs.Told.{quieted_lines}
+use Rattle.kb_isolation_spec.proofs.Leaving.{left_fed, kept-other, kept-with}
+use Rattle.kb_isolation_spec.proofs.Parts.{each-tenant}
+use Rattle.kb_isolation_spec.proofs.Sets.{IsAt, find-at, find-set_other, no-at, rising-set, set-at, tail-at}
 use Rattle.kb_connection.specs.View.{with_session}
 use Rattle.kb_broker.specs.Places.{IsCountedAt, IsLookedAt, IsToldAgain, IsToldAt, IsTurnAt}
 use Rattle.kb_broker.specs.Truth.{IsOfOne, IsSilent, IsTrueStep, LeadTo, SpeaksTruth}

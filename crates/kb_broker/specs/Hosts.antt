@@ -3,13 +3,13 @@ use Rattle.std.specs.Prelude.{◌≡◌, ◌≤◌, ℕ, true, List, [], Option,
 use Rattle.kb_store.specs.Disk.{Disk}
 use Rattle.kb_log.specs.OnShelf.{Log}
 use Rattle.kb_tenant.specs.Batches.{HasSmallLogs}
-use Rattle.kb_service.specs.Hosted.{TenantState, refusals_of}
-use Rattle.kb_service.specs.Turns.{IsAccounted, all_calm}
+use Rattle.kb_tenant_api.specs.Hosted.{TenantState, refusals_of}
+use Rattle.kb_tenant_api.specs.Turns.{IsAccounted, all_calm}
 use Rattle.kb_tenants.specs.Tenants.{AreKept, AreKeptIn, AreLeftAlone, hosted, numbers_in}
 use Rattle.kb_tenants.specs.declared.tenants.Tenants.{Tenants}
-use Rattle.kb_machine.specs.Machine.{Happening, first_able}
+use Rattle.kb_isolation_spec.specs.Machine.{Happening, first_able}
 use Rattle.kb_broker.specs.Truth.{SpeaksTruth}
-use Rattle.kb_machine.specs.Broker.{BrokerState, AreUnready, AnyWait, IsSound, IsStep, kept_of}
+use Rattle.kb_isolation_spec.specs.Broker.{BrokerState, AreUnready, AnyWait, IsSound, IsStep, kept_of}
 
 -- 1. The tenants
 

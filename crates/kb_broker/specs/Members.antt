@@ -1,7 +1,7 @@
 -- From which number on a broker numbers the members of its tenants' groups.
 use Rattle.std.specs.Prelude.{ℕ}
 use Rattle.kb_tenants.specs.Members as tenants
-use Rattle.kb_machine.specs.Broker.{BrokerState}
+use Rattle.kb_isolation_spec.specs.Broker.{BrokerState}
 
 -- the same broker, where the first new member of each tenant gets that number
 abbrev pub numbered_from : ℕ → BrokerState → BrokerState

@@ -5,10 +5,10 @@ use Rattle.kb_wire.specs.declared.api_key.TheConstants.{FIND_COORDINATOR, JOIN_G
 use Rattle.kb_wire.specs.declared.api_key.TheConstants.{API_VERSIONS, CREATE_TOPICS, DELETE_TOPICS, DELETE_RECORDS, INIT_PRODUCER_ID}
 use Rattle.kb_wire.specs.declared.api_key.TheConstants.{SASL_AUTHENTICATE}
 use Rattle.kb_api_group.specs.declared.api_versions.ApiVersion.{ApiVersion}
-use Rattle.kb_machine.specs.Greeting.{Setup, User as Login}
+use Rattle.kb_isolation_spec.specs.Greeting.{Setup, User as Login}
 use Rattle.kb_coordinator.specs.Groups.{none}
-use Rattle.kb_service.specs.Hosted.{TenantState, kept_of, new_tenant}
-use Rattle.kb_machine.specs.Broker.{BrokerState}
+use Rattle.kb_tenant_api.specs.Hosted.{TenantState, kept_of, new_tenant}
+use Rattle.kb_isolation_spec.specs.Broker.{BrokerState}
 use Rattle.kb_settings.specs.Names.{in_order, place_of}
 use Rattle.kb_settings.specs.Values.{values_of, told}
 use Rattle.kb_settings.specs.declared.settings.User.{User}

@@ -8,27 +8,27 @@ use Rattle.kb_waits.specs.Queue as queue
 use Rattle.kb_waits.specs.Queue.{Queue, AreParked}
 use Rattle.kb_waits.specs.declared.key.WaitKey.{WaitKey}
 use Rattle.kb_waits.specs.declared.key.WaitKey.TheVariants as keys
-use Rattle.kb_world.specs.declared.topic_partition.TopicPartition.{TopicPartition}
-use Rattle.kb_service.specs.Hosted as hosted
-use Rattle.kb_service.specs.Hosted.{TenantState}
-use Rattle.kb_service.specs.Serve.{has_released}
+use Rattle.kb_tenant_state.specs.declared.topic_partition.TopicPartition.{TopicPartition}
+use Rattle.kb_tenant_api.specs.Hosted as hosted
+use Rattle.kb_tenant_api.specs.Hosted.{TenantState}
+use Rattle.kb_tenant_api.specs.Serve.{has_released}
 use Rattle.kb_tenant.specs.Replies.{Silent}
 use Rattle.kb_tenant.specs.Waiting.{AreApart}
 use Rattle.kb_tenants.specs.Tenants.{answered_connections}
-use Rattle.kb_world.specs.Counts.{IsCalm}
+use Rattle.kb_tenant_state.specs.Counts.{IsCalm}
 use Rattle.kb_tenant.specs.declared.answer.Answer.TheVariants as plain
-use Rattle.kb_service.specs.declared.answer.Answer.{Answer}
-use Rattle.kb_service.specs.declared.answer.Answer.TheVariants as answers
-use Rattle.kb_machine.specs.Tenant.{Awaited, Records, Group, Wait, ready, asked}
-use Rattle.kb_machine.specs.Session.{Stage, Greets, BoundTo, Session, can, is_free}
-use Rattle.kb_machine.specs.Greeting.{Setup}
-use Rattle.kb_machine.specs.Machine.{Line, after_turn, put}
-use Rattle.kb_machine.specs.Owners.{whose}
-use Rattle.kb_machine.specs.Machine.{find_line}
-use Rattle.kb_machine.specs.Broker.{BrokerState, IsUnready, AnyWait}
-use Rattle.kb_machine.specs.declared.whom.Whom.{Whom}
-use Rattle.kb_machine.specs.declared.whom.Whom.TheVariants as whoms
-use Rattle.kb_machine.specs.Turned.{Scope, SameOthers, Turned, Served, Waked, IsLookedFor, IsPassedOver}
+use Rattle.kb_tenant_api.specs.declared.answer.Answer.{Answer}
+use Rattle.kb_tenant_api.specs.declared.answer.Answer.TheVariants as answers
+use Rattle.kb_isolation_spec.specs.Tenant.{Awaited, Records, Group, Wait, ready, asked}
+use Rattle.kb_isolation_spec.specs.Session.{Stage, Greets, BoundTo, Session, can, is_free}
+use Rattle.kb_isolation_spec.specs.Greeting.{Setup}
+use Rattle.kb_isolation_spec.specs.Machine.{Line, after_turn, put}
+use Rattle.kb_isolation_spec.specs.Owners.{whose}
+use Rattle.kb_isolation_spec.specs.Machine.{find_line}
+use Rattle.kb_isolation_spec.specs.Broker.{BrokerState, IsUnready, AnyWait}
+use Rattle.kb_isolation_spec.specs.declared.whom.Whom.{Whom}
+use Rattle.kb_isolation_spec.specs.declared.whom.Whom.TheVariants as whoms
+use Rattle.kb_isolation_spec.specs.Turned.{Scope, SameOthers, Turned, Served, Waked, IsLookedFor, IsPassedOver}
 use Rattle.std.specs.List.{AllByRecursion}
 use Rattle.kb_broker.specs.declared.serving.Concerned.{Concerned}
 use Rattle.kb_broker.specs.declared.serving.Concerned.TheVariants as concerned

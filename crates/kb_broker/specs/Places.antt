@@ -7,29 +7,29 @@ use Rattle.std.specs.declared.vec.Vec.{Vec}
 use Rattle.kb_tenants.specs.Tenants.{AreQuietBut, IsTruthfulFor}
 use Rattle.kb_connection.specs.Fronts.{IsAsked, IsOwn}
 use Rattle.kb_connection.specs.TenantAnswers.{spoken}
-use Rattle.kb_world.specs.Counts.{IsCalm, counted_once}
-use Rattle.kb_world.specs.declared.topic_partition.TopicPartition.{TopicPartition}
-use Rattle.kb_service.specs.Hosted as hosted
-use Rattle.kb_service.specs.Hosted.{Kept, TenantState}
-use Rattle.kb_service.specs.Turns.{IsTurn, IsMet}
+use Rattle.kb_tenant_state.specs.Counts.{IsCalm, counted_once}
+use Rattle.kb_tenant_state.specs.declared.topic_partition.TopicPartition.{TopicPartition}
+use Rattle.kb_tenant_api.specs.Hosted as hosted
+use Rattle.kb_tenant_api.specs.Hosted.{Kept, TenantState}
+use Rattle.kb_tenant_api.specs.Turns.{IsTurn, IsMet}
 use Rattle.kb_tenant.specs.Replies.{Silent, IsAnswer}
 use Rattle.kb_tenant.specs.Told.{AnswersLook}
 use Rattle.kb_tenant.specs.declared.answer.Answer.{Answer}
 use Rattle.kb_tenant.specs.declared.answer.Answer.TheVariants as answers
 use Rattle.kb_tenant.specs.declared.node.Node.{Node}
-use Rattle.kb_service.specs.declared.answer.Answer.{Answer as AnyAnswer}
-use Rattle.kb_service.specs.declared.answer.Answer.TheVariants as any
-use Rattle.kb_service.specs.Serve.{served, AreGroupsAfter}
-use Rattle.kb_service.specs.Waiters.{AreServed}
-use Rattle.kb_machine.specs.Stranded.{IsMembersAt, members_of}
-use Rattle.kb_machine.specs.Tenant.{Awaited, Group, Records, Wait, is_members, ready}
-use Rattle.kb_machine.specs.Session.{Stage, Greets, BoundTo, Session, shut_down, without_wait, is_free, can}
-use Rattle.kb_machine.specs.Greeting.{Setup, greeted}
-use Rattle.kb_machine.specs.Machine.{Line, after_turn, put, woken, first_able, work}
-use Rattle.kb_machine.specs.Broker.{BrokerState, IsSound, IsUnready, AreUnready, AnyWait, refusals_of}
-use Rattle.kb_machine.specs.Calls.{IsRefused}
-use Rattle.kb_machine.specs.declared.whom.Whom.{Whom}
-use Rattle.kb_machine.specs.Turned.{Scope, AreStill, IsGoing, SameOthers, Turned, Served, Waked, IsLookedFor, IsPassedOver}
+use Rattle.kb_tenant_api.specs.declared.answer.Answer.{Answer as AnyAnswer}
+use Rattle.kb_tenant_api.specs.declared.answer.Answer.TheVariants as any
+use Rattle.kb_tenant_api.specs.Serve.{served, AreGroupsAfter}
+use Rattle.kb_tenant_api.specs.Waiters.{AreServed}
+use Rattle.kb_isolation_spec.specs.Stranded.{IsMembersAt, members_of}
+use Rattle.kb_isolation_spec.specs.Tenant.{Awaited, Group, Records, Wait, is_members, ready}
+use Rattle.kb_isolation_spec.specs.Session.{Stage, Greets, BoundTo, Session, shut_down, without_wait, is_free, can}
+use Rattle.kb_isolation_spec.specs.Greeting.{Setup, greeted}
+use Rattle.kb_isolation_spec.specs.Machine.{Line, after_turn, put, woken, first_able, work}
+use Rattle.kb_isolation_spec.specs.Broker.{BrokerState, IsSound, IsUnready, AreUnready, AnyWait, refusals_of}
+use Rattle.kb_isolation_spec.specs.Calls.{IsRefused}
+use Rattle.kb_isolation_spec.specs.declared.whom.Whom.{Whom}
+use Rattle.kb_isolation_spec.specs.Turned.{Scope, AreStill, IsGoing, SameOthers, Turned, Served, Waked, IsLookedFor, IsPassedOver}
 
 -- the numbers of the open connections, in order
 abbrev pub numbers : BrokerState → List ℕ

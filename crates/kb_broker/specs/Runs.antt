@@ -1,9 +1,9 @@
 -- Whole runs: what comes in, what goes out, and the states in between.
 use Rattle.std.specs.Prelude.{◌≡◌, ℕ, List, [], ◌∷◌, ◌++◌, map, Bool, true, false, ◌⊎◌}
-use Rattle.kb_machine.specs.Machine.{Happening, Opens, Comes, Closes, Moment, Line, Sent, sent, leaving}
-use Rattle.kb_machine.specs.Broker.{BrokerState, IsStep}
-use Rattle.kb_machine.specs.Calls.{opened, closed, IsRefused}
-use Rattle.kb_machine.specs.Told.{quieted_lines}
+use Rattle.kb_isolation_spec.specs.Machine.{Happening, Opens, Comes, Closes, Moment, Line, Sent, sent, leaving}
+use Rattle.kb_isolation_spec.specs.Broker.{BrokerState, IsStep}
+use Rattle.kb_isolation_spec.specs.Calls.{opened, closed, IsRefused}
+use Rattle.kb_isolation_spec.specs.Told.{quieted_lines}
 use Rattle.kb_broker.specs.declared.run.Event.{Event}
 use Rattle.kb_broker.specs.declared.run.Event.TheVariants as events
 use Rattle.kb_broker.specs.declared.run.Written.{Written}

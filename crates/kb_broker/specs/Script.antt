@@ -7,9 +7,9 @@ use Rattle.std.specs.Str.Parse.{digits_value}
 use Rattle.std.specs.Io.BufRead.{strip_last}
 use Rattle.hex.specs.Hex.{decode_of, encode_lower}
 use Rattle.hex.specs.declared.error.FromHexError.{FromHexError}
-use Rattle.kb_machine.specs.Machine.{Happening, Opens, Comes, Closes, Moment, Sent}
-use Rattle.kb_machine.specs.Broker.{BrokerState}
-use Rattle.kb_machine.specs.Calls.{is_open}
+use Rattle.kb_isolation_spec.specs.Machine.{Happening, Opens, Comes, Closes, Moment, Sent}
+use Rattle.kb_isolation_spec.specs.Broker.{BrokerState}
+use Rattle.kb_isolation_spec.specs.Calls.{is_open}
 use Rattle.kb_broker.specs.declared.script.ScriptFault.{ScriptFault}
 use Rattle.kb_broker.specs.declared.script.ScriptFault.TheVariants as faults
 use Rattle.kb_broker.specs.declared.script.line.Line.{Line}

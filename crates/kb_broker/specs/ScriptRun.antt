@@ -3,10 +3,10 @@ use Rattle.std.specs.Prelude.{◌≡◌, ◌≢◌, ℕ, ◌+◌, List, [], ◌�
 use Rattle.std.specs.List.{AllByRecursion}
 use Rattle.std.specs.Io.BufRead.{take_through}
 use Rattle.std.specs.Io.KnownBytes.{Appends, Consumes}
-use Rattle.kb_machine.specs.Machine.{Happening, Line, Sent}
-use Rattle.kb_machine.specs.Broker.{BrokerState, IsReady, IsStep}
-use Rattle.kb_machine.specs.Calls.{is_open, is_calm}
-use Rattle.kb_machine.specs.Told.{quieted_lines, said, Tells}
+use Rattle.kb_isolation_spec.specs.Machine.{Happening, Line, Sent}
+use Rattle.kb_isolation_spec.specs.Broker.{BrokerState, IsReady, IsStep}
+use Rattle.kb_isolation_spec.specs.Calls.{is_open, is_calm}
+use Rattle.kb_isolation_spec.specs.Told.{quieted_lines, said, Tells}
 use Rattle.kb_broker.specs.declared.script.ScriptFault.{ScriptFault}
 use Rattle.kb_broker.specs.declared.script.ScriptFault.TheVariants as faults
 use Rattle.kb_broker.specs.Places.{waits_in}

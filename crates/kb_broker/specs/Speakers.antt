@@ -4,8 +4,8 @@ use Rattle.std.specs.Prelude.{⊤}
 use Rattle.std.specs.Vec.{vec_capacity}
 use Rattle.std.specs.declared.alloc.Global.{Global}
 use Rattle.std.specs.declared.vec.Vec.{Vec}
-use Rattle.kb_machine.specs.Session.{Stage, Greets, BoundTo, Session, Unshaken, Shaken, Bare}
-use Rattle.kb_machine.specs.Machine.{Line}
+use Rattle.kb_isolation_spec.specs.Session.{Stage, Greets, BoundTo, Session, Unshaken, Shaken, Bare}
+use Rattle.kb_isolation_spec.specs.Machine.{Line}
 use Rattle.kb_connection.specs.View.{speaks}
 
 -- the numbers of those that have, in their order

@@ -1,11 +1,11 @@
 -- What a broker says to its tenants, whatever memory and the store refused.
 use Rattle.std.specs.Prelude.{◌≡◌, ◌≤◌, ◌+◌, ◌^◌, ◌⊎◌, ℕ, List, [], ◌∷◌, Some, ⊤}
-use Rattle.kb_service.specs.Turns.{HavePassed}
+use Rattle.kb_tenant_api.specs.Turns.{HavePassed}
 use Rattle.kb_tenant.specs.Told.{FailedBy}
-use Rattle.kb_machine.specs.Machine.{Line, find_line}
-use Rattle.kb_machine.specs.Broker.{BrokerState, kept_of}
-use Rattle.kb_machine.specs.Calls.{output_in}
-use Rattle.kb_machine.specs.Turned.{SameOthers}
+use Rattle.kb_isolation_spec.specs.Machine.{Line, find_line}
+use Rattle.kb_isolation_spec.specs.Broker.{BrokerState, kept_of}
+use Rattle.kb_isolation_spec.specs.Calls.{output_in}
+use Rattle.kb_isolation_spec.specs.Turned.{SameOthers}
 use Rattle.kb_broker.specs.Places.{IsToldAgain, IsToldAt, IsTurnAt}
 
 -- 1. What happens from one moment to the next

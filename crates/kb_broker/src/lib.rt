@@ -5,7 +5,7 @@
 //! from a text, and [`run_script_on`] does so on a broker that is there. A connection greets and logs in (Kafka protocol guide,
 //! "SASL Authentication Sequence"; RFC 4616); then it is served the requests of its tenant, over any store.
 //!
-//! The definitions that the contracts speak of are those of `kb_machine`, seen through `specs/`.
+//! The definitions that the contracts speak of are those of `kb_isolation_spec`, seen through `specs/`.
 #![tactic(auto)]
 
 mod able;

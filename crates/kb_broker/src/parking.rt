@@ -7,8 +7,8 @@ ghost use Rattle.std.specs.FinMap as fin;
 ghost use Rattle.kb_waits.specs.Queue.{AreParked, IsDue, IsUnder, IsUnderAny};
 ghost use Rattle.kb_broker.specs.Parked.{key_of, keys_for, keys_of, tenant_key, AreSought};
 
+use kb_tenant_state::TopicPartition;
 use kb_waits::{WaitKey, Waits};
-use kb_world::TopicPartition;
 use std::alloc::{AllocError, Global};
 use std::marker::Model;
 use std::mem;

@@ -2,12 +2,12 @@
 
 ghost use Rattle.std.specs.Prelude.{◌≡◌, ◌≢◌, ℕ, List, Some, true, false, map};
 ghost use Rattle.kb_settings.specs.declared.settings.Settings.{Settings};
-ghost use Rattle.kb_machine.specs.Broker.{BrokerState, IsCalmFor, IsRun, bound_to};
-ghost use Rattle.kb_machine.specs.Calls.{is_open, is_shut};
-ghost use Rattle.kb_machine.specs.Machine.{find_line};
-ghost use Rattle.kb_machine.specs.Stranded.{NoneStranded, members_of};
+ghost use Rattle.kb_isolation_spec.specs.Broker.{BrokerState, IsCalmFor, IsRun, bound_to};
+ghost use Rattle.kb_isolation_spec.specs.Calls.{is_open, is_shut};
+ghost use Rattle.kb_isolation_spec.specs.Machine.{find_line};
+ghost use Rattle.kb_isolation_spec.specs.Stranded.{NoneStranded, members_of};
 ghost use Rattle.kb_connection.specs.View.{IsLimitedIn};
-ghost use Rattle.kb_machine.specs.Isolation.{IsIsolated, own_events, own_sent};
+ghost use Rattle.kb_isolation_spec.specs.Isolation.{IsIsolated, own_events, own_sent};
 ghost use Rattle.kb_broker.specs.declared.opening.Listing.{Listing};
 ghost use Rattle.kb_broker.specs.declared.run.Event.{Event};
 ghost use Rattle.kb_broker.specs.declared.run.Written.{Written};

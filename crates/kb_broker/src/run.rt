@@ -2,16 +2,16 @@
 
 ghost use Rattle.std.specs.Prelude.{◌≡◌, ◌+◌, ◌≤◌, ℕ, List, [], ◌∷◌, ◌++◌, map, length, count_by, IfOk, OnErr};
 ghost use Rattle.std.specs.Vec.{vec_len, vec_capacity};
-ghost use Rattle.kb_machine.specs.Machine.{Closes, Sent, those_sent, by_number, sent, leaving};
-ghost use Rattle.kb_machine.specs.Calls.{closed};
-ghost use Rattle.kb_machine.specs.Stranded.{NoneStranded};
-ghost use Rattle.kb_world.specs.Counts.{IsCalm};
-ghost use Rattle.kb_machine.specs.Broker.{IsCalmFor, IsRun, IsUnowned, alone_unowned, last_after, only, owned_by, view_of};
-ghost use Rattle.kb_machine.specs.Fetches.{FetchesGetBatches};
-ghost use Rattle.kb_machine.specs.Isolation.{IsIsolated, AreAlike, own_events, own_sent};
-ghost use Rattle.kb_machine.specs.Left.{LeavesWorlds};
-ghost use Rattle.kb_machine.specs.Alone.{HasToItself};
-ghost use Rattle.kb_machine.specs.Greetings.{greeted_alone};
+ghost use Rattle.kb_isolation_spec.specs.Machine.{Closes, Sent, those_sent, by_number, sent, leaving};
+ghost use Rattle.kb_isolation_spec.specs.Calls.{closed};
+ghost use Rattle.kb_isolation_spec.specs.Stranded.{NoneStranded};
+ghost use Rattle.kb_tenant_state.specs.Counts.{IsCalm};
+ghost use Rattle.kb_isolation_spec.specs.Broker.{IsCalmFor, IsRun, IsUnowned, alone_unowned, last_after, only, owned_by, view_of};
+ghost use Rattle.kb_isolation_spec.specs.Fetches.{FetchesGetBatches};
+ghost use Rattle.kb_isolation_spec.specs.Isolation.{IsIsolated, AreAlike, own_events, own_sent};
+ghost use Rattle.kb_isolation_spec.specs.Left.{LeavesWorlds};
+ghost use Rattle.kb_isolation_spec.specs.Alone.{HasToItself};
+ghost use Rattle.kb_isolation_spec.specs.Greetings.{greeted_alone};
 ghost use Rattle.kb_broker.specs.Hosts.{is_honest, IsInFiles, IsLater, IsReadyOn, StepsTo};
 ghost use Rattle.kb_broker.specs.Runs.{happening_of, happenings, sent_of, is_opening, connections_of, emptied, IsPassed, Passes};
 

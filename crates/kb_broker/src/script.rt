@@ -2,9 +2,9 @@
 
 ghost use Rattle.std.specs.Prelude.{◌≡◌, ◌≤◌, ◌<◌, ◌^◌, ◌&&◌, true, not, IfSome, IfErr, OnOk};
 ghost use Rattle.std.specs.Io.BufRead.{strip_last};
-ghost use Rattle.kb_machine.specs.Machine.{Opens, Comes, Closes, Moment};
-ghost use Rattle.kb_machine.specs.Broker.{IsReady};
-ghost use Rattle.kb_machine.specs.Calls.{is_calm, is_shut};
+ghost use Rattle.kb_isolation_spec.specs.Machine.{Opens, Comes, Closes, Moment};
+ghost use Rattle.kb_isolation_spec.specs.Broker.{IsReady};
+ghost use Rattle.kb_isolation_spec.specs.Calls.{is_calm, is_shut};
 ghost use Rattle.kb_broker.specs.Hosts.{is_honest};
 ghost use Rattle.kb_broker.specs.Opening.{opening};
 ghost use Rattle.kb_broker.specs.Script.{Plays, script, told, told_of, course_of, here, is_placed};

@@ -1,8 +1,8 @@
 //! Runs of a new broker.
 
 ghost use Rattle.std.specs.Prelude.{◌≡◌, ◌∷◌, List, true, IfSome};
-ghost use Rattle.kb_machine.specs.Machine.{Happening};
-ghost use Rattle.kb_machine.specs.Broker.{IsRun};
+ghost use Rattle.kb_isolation_spec.specs.Machine.{Happening};
+ghost use Rattle.kb_isolation_spec.specs.Broker.{IsRun};
 ghost use Rattle.kb_broker.specs.Runs.{happening_of, happenings};
 
 use kb_broker::{Broker, Event, Listing, Settings, Written};

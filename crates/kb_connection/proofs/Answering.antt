@@ -3,21 +3,21 @@ use Rattle.std.proofs.Common.{◌≡◌, ◌<◌, ◌≤◌, ℕ, ℤ, List, [],
 use Rattle.std.proofs.Common.{◌∙◌, subst, arith, nat_lt, Result, Ok, Err, OnOk, OnErr, Global}
 use Rattle.std.proofs.lemmas.Bool.Decides.{nat_tests}
 use Rattle.std.specs.declared.vec.Vec.{Vec}
-use Rattle.kb_world.specs.declared.topic_partition.TopicPartition.{TopicPartition}
+use Rattle.kb_tenant_state.specs.declared.topic_partition.TopicPartition.{TopicPartition}
 use Rattle.kb_api_group.specs.Frames.{front}
 use Rattle.kb_api_group.specs.FrameStream.{behind}
 use Rattle.kb_api_group.specs.declared.api_versions.ApiVersion.{ApiVersion}
 use Rattle.kb_tenant.specs.Replies.{Reaction, Replies, Waits, Silent, Shuts, IsAnswer, reply_size}
 use Rattle.kb_tenant.specs.declared.answer.Answer.{Answer}
 use Rattle.kb_tenant.specs.declared.answer.Answer.TheVariants as answers
-use Rattle.kb_service.specs.Replies as service
-use Rattle.kb_service.specs.Replies.{Plain, Rebalances}
-use Rattle.kb_service.specs.declared.answer.Answer.{Answer as AnyAnswer}
-use Rattle.kb_service.specs.declared.answer.Answer.TheVariants as any
-use Rattle.kb_machine.specs.Session.{Session, shut_down, replied, without_wait, is_free}
-use Rattle.kb_machine.specs.Machine.{Line, after_reaction, plainly, told}
-use Rattle.kb_machine.proofs.Owners.{stage-shut}
-use Rattle.kb_machine.proofs.Turns.{free-without}
+use Rattle.kb_tenant_api.specs.Replies as service
+use Rattle.kb_tenant_api.specs.Replies.{Plain, Rebalances}
+use Rattle.kb_tenant_api.specs.declared.answer.Answer.{Answer as AnyAnswer}
+use Rattle.kb_tenant_api.specs.declared.answer.Answer.TheVariants as any
+use Rattle.kb_isolation_spec.specs.Session.{Session, shut_down, replied, without_wait, is_free}
+use Rattle.kb_isolation_spec.specs.Machine.{Line, after_reaction, plainly, told}
+use Rattle.kb_isolation_spec.proofs.Owners.{stage-shut}
+use Rattle.kb_isolation_spec.proofs.Turns.{free-without}
 use Rattle.kb_connection.specs.Fronts.{is_tenants_at}
 use Rattle.kb_connection.specs.TenantAnswers.{given, parked, spoken}
 use Rattle.kb_connection.specs.View.{with_session, without_front}

@@ -5,12 +5,12 @@ use Rattle.kb_api_group.specs.FrameStream.{answer, behind}
 use Rattle.kb_api_group.specs.declared.frames.Next.{Next}
 use Rattle.kb_api_group.specs.declared.frames.Next.TheVariants as answers
 use Rattle.kb_api_group.specs.declared.api_versions.ApiVersion.{ApiVersion}
-use Rattle.kb_service.specs.Hosted.{Kept}
-use Rattle.kb_machine.specs.Requests.{Asked, Versions, OtherVersions, Handshake, Authenticate, Another, Malformed, Request, request}
-use Rattle.kb_machine.specs.Session.{Session}
-use Rattle.kb_machine.specs.Greeting.{Setup}
-use Rattle.kb_machine.specs.Machine.{after_turn, served_at, served_by, put, kept_at, kept_by}
-use Rattle.kb_machine.proofs.Laws.{front-rest}
+use Rattle.kb_tenant_api.specs.Hosted.{Kept}
+use Rattle.kb_isolation_spec.specs.Requests.{Asked, Versions, OtherVersions, Handshake, Authenticate, Another, Malformed, Request, request}
+use Rattle.kb_isolation_spec.specs.Session.{Session}
+use Rattle.kb_isolation_spec.specs.Greeting.{Setup}
+use Rattle.kb_isolation_spec.specs.Machine.{after_turn, served_at, served_by, put, kept_at, kept_by}
+use Rattle.kb_isolation_spec.proofs.Laws.{front-rest}
 use Rattle.kb_connection.specs.declared.request.Asked.{Asked as Read}
 use Rattle.kb_connection.specs.declared.request.Asked.TheVariants as asked
 use Rattle.kb_connection.specs.declared.request.Request.{Request as ReadRequest}

@@ -4,8 +4,8 @@ use Rattle.kb_wire.specs.Codec.{int}
 use Rattle.kb_api_group.specs.Frames.{Front, Whole, Partial, TooSmall, TooLarge, front}
 use Rattle.kb_api_group.specs.FrameStream.{behind, answer}
 use Rattle.kb_api_group.specs.declared.frames.Next.TheVariants as answers
-use Rattle.kb_machine.proofs.Laws.{front-rest}
-use Rattle.kb_machine.specs.Session.{Stage, Greets, BoundTo, is_free, without_wait}
+use Rattle.kb_isolation_spec.proofs.Laws.{front-rest}
+use Rattle.kb_isolation_spec.specs.Session.{Stage, Greets, BoundTo, is_free, without_wait}
 use Rattle.kb_connection.specs.View.{IsLimited}
 
 -- the request in front was left behind

@@ -2,9 +2,9 @@
 use Rattle.std.proofs.Common.{◌≡◌, ℕ, ℤ, List, ◌++◌, true, false, None, Some, refl, sym, ap, ◌∙◌, nat_lt, if◌then◌else◌, Result, Ok, Err, OnOk, codes}
 use Rattle.kb_wire.specs.declared.error_code.ErrorCode.TheVariants as errors
 use Rattle.kb_tenant.specs.Replies.{framed, reply_size}
-use Rattle.kb_machine.specs.Session.{Stage, Greets, BoundTo, Session, shut_down, replied, without_wait}
-use Rattle.kb_machine.specs.Greeting.{Setup, handshake_reply, authenticate_reply}
-use Rattle.kb_machine.specs.Machine.{Line}
+use Rattle.kb_isolation_spec.specs.Session.{Stage, Greets, BoundTo, Session, shut_down, replied, without_wait}
+use Rattle.kb_isolation_spec.specs.Greeting.{Setup, handshake_reply, authenticate_reply}
+use Rattle.kb_isolation_spec.specs.Machine.{Line}
 use Rattle.kb_connection.specs.declared.greeting.Greeting.{Greeting}
 use Rattle.kb_connection.specs.declared.reaction.Reaction.{Reaction}
 use Rattle.kb_connection.specs.declared.reaction.Reaction.TheVariants as reactions

@@ -5,11 +5,11 @@ use Rattle.kb_api_group.specs.Frames.{Front, Whole, Partial, TooSmall, TooLarge,
 use Rattle.kb_api_group.specs.FrameStream.{answer, behind}
 use Rattle.kb_api_group.specs.declared.frames.Next.{Next}
 use Rattle.kb_api_group.specs.declared.frames.Next.TheVariants as answers
-use Rattle.kb_machine.specs.Requests.{request}
-use Rattle.kb_machine.specs.Session.{Greeting, Session, shut_down}
-use Rattle.kb_service.specs.Hosted.{Kept}
-use Rattle.kb_machine.specs.Greeting.{Setup, greeted, greeted_at, greeted_frame}
-use Rattle.kb_machine.specs.Machine.{Line, after_turn, served_at, served_by}
+use Rattle.kb_isolation_spec.specs.Requests.{request}
+use Rattle.kb_isolation_spec.specs.Session.{Greeting, Session, shut_down}
+use Rattle.kb_tenant_api.specs.Hosted.{Kept}
+use Rattle.kb_isolation_spec.specs.Greeting.{Setup, greeted, greeted_at, greeted_frame}
+use Rattle.kb_isolation_spec.specs.Machine.{Line, after_turn, served_at, served_by}
 use Rattle.kb_connection.specs.declared.reaction.Reaction.{Reaction}
 use Rattle.kb_connection.specs.View.{with_session, without_front}
 use Rattle.kb_connection.specs.Reactions.{reacted, IfReacts}

@@ -1,13 +1,13 @@
 -- Whose the request is that stands in front of a bound connection: its tenant's, or a matter of the connection alone.
 use Rattle.std.specs.Prelude.{◌≡◌, ℕ, ℤ, List, Bool, true, false, Option, Some, None}
 use Rattle.kb_api_group.specs.Frames.{Front, Whole, Partial, TooSmall, TooLarge, front}
-use Rattle.kb_service.specs.Hosted.{Kept}
+use Rattle.kb_tenant_api.specs.Hosted.{Kept}
 use Rattle.kb_api_group.specs.declared.api_versions.ApiVersion.{ApiVersion}
-use Rattle.kb_machine.specs.Requests.{Asked, Versions, OtherVersions, Handshake, Authenticate, Another, Malformed, request}
-use Rattle.kb_machine.specs.Session.{Session}
-use Rattle.kb_machine.specs.Tenant.{answer, kept_after}
-use Rattle.kb_machine.specs.Greeting.{Setup}
-use Rattle.kb_machine.specs.Machine.{after_reaction, after_turn, put}
+use Rattle.kb_isolation_spec.specs.Requests.{Asked, Versions, OtherVersions, Handshake, Authenticate, Another, Malformed, request}
+use Rattle.kb_isolation_spec.specs.Session.{Session}
+use Rattle.kb_isolation_spec.specs.Tenant.{answer, kept_after}
+use Rattle.kb_isolation_spec.specs.Greeting.{Setup}
+use Rattle.kb_isolation_spec.specs.Machine.{after_reaction, after_turn, put}
 use Rattle.kb_connection.specs.View.{without_front}
 
 abbrev pub is_tenants : Asked → Bool

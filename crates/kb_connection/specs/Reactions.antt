@@ -2,8 +2,8 @@
 use Rattle.std.specs.Prelude.{ℤ, None, Some, Result, Ok, Err, codes}
 use Rattle.std.specs.declared.alloc.AllocError.{AllocError}
 use Rattle.kb_wire.specs.declared.error_code.ErrorCode.TheVariants as errors
-use Rattle.kb_machine.specs.Session.{Greets, BoundTo, Session, shut_down, replied}
-use Rattle.kb_machine.specs.Greeting.{Setup, versions_reply, handshake_reply, authenticate_reply, illegal_state, bare_login}
+use Rattle.kb_isolation_spec.specs.Session.{Greets, BoundTo, Session, shut_down, replied}
+use Rattle.kb_isolation_spec.specs.Greeting.{Setup, versions_reply, handshake_reply, authenticate_reply, illegal_state, bare_login}
 use Rattle.kb_connection.specs.declared.reaction.Reaction.{Reaction}
 use Rattle.kb_connection.specs.declared.reaction.Reaction.TheVariants as reactions
 use Rattle.kb_connection.specs.View.{greeting_of}

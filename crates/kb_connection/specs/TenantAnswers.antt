@@ -2,10 +2,10 @@
 use Rattle.std.specs.Prelude.{ℕ, ℤ, List, [], ◌++◌, Bool, true, false, Option, Some, None}
 use Rattle.kb_tenant.specs.declared.answer.Answer.{Answer}
 use Rattle.kb_tenant.specs.declared.answer.Answer.TheVariants as answers
-use Rattle.kb_service.specs.declared.answer.Answer.{Answer as AnyAnswer}
-use Rattle.kb_service.specs.declared.answer.Answer.TheVariants as any
-use Rattle.kb_machine.specs.Tenant.{Awaited, Records, Group, Wait}
-use Rattle.kb_machine.specs.Session.{Session, shut_down, waiting}
+use Rattle.kb_tenant_api.specs.declared.answer.Answer.{Answer as AnyAnswer}
+use Rattle.kb_tenant_api.specs.declared.answer.Answer.TheVariants as any
+use Rattle.kb_isolation_spec.specs.Tenant.{Awaited, Records, Group, Wait}
+use Rattle.kb_isolation_spec.specs.Session.{Session, shut_down, waiting}
 
 -- an answer, but for a wait
 abbrev pub given : Answer → Session → Session

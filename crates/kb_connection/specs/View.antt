@@ -2,10 +2,10 @@
 use Rattle.std.specs.Prelude.{◌≡◌, ◌≤◌, ◌==◌, ◌||◌, ℕ, List, [], length, Bool, true, not, Option, Some, None, Result, Ok, Err}
 use Rattle.kb_wire.specs.declared.fault.ReadFault.{ReadFault}
 use Rattle.kb_wire.specs.declared.fault.ReadFault.TheVariants as faults
-use Rattle.kb_machine.specs.Tenant.{Awaited, Records, Group, Wait}
-use Rattle.kb_machine.specs.Requests.{Asked, Versions, OtherVersions, Handshake, Authenticate, Another, Malformed, Request}
-use Rattle.kb_machine.specs.Session.{Greeting, Unshaken, Shaken, Bare, Stage, Greets, BoundTo, Session, LIMIT, is_free}
-use Rattle.kb_machine.specs.Machine.{Line}
+use Rattle.kb_isolation_spec.specs.Tenant.{Awaited, Records, Group, Wait}
+use Rattle.kb_isolation_spec.specs.Requests.{Asked, Versions, OtherVersions, Handshake, Authenticate, Another, Malformed, Request}
+use Rattle.kb_isolation_spec.specs.Session.{Greeting, Unshaken, Shaken, Bare, Stage, Greets, BoundTo, Session, LIMIT, is_free}
+use Rattle.kb_isolation_spec.specs.Machine.{Line}
 use Rattle.kb_api_group.specs.Frames.{front}
 use Rattle.kb_api_group.specs.FrameStream.{behind}
 use Rattle.kb_connection.specs.declared.request.Asked.TheVariants as asked

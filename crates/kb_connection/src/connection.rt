@@ -3,18 +3,18 @@
 ghost use Rattle.std.specs.Prelude.{◌≡◌, ◌<◌, ◌≤◌, ◌^◌, ◌++◌, ℕ, ℤ, List, length, true, false, option_map, IfOk, IfSome, IfNone, OnOk};
 ghost use Rattle.std.specs.Prelude.{OnErr, ◌⊎◌};
 ghost use Rattle.kb_api_group.specs.Frames.{front};
-ghost use Rattle.kb_service.specs.Hosted.{Kept};
-ghost use Rattle.kb_service.specs.Replies.{Reaction as Reacts, IsAnswer};
+ghost use Rattle.kb_tenant_api.specs.Hosted.{Kept};
+ghost use Rattle.kb_tenant_api.specs.Replies.{Reaction as Reacts, IsAnswer};
 ghost use Rattle.kb_tenant.specs.Replies as tenant;
 ghost use Rattle.kb_tenant.specs.Replies.{framed, reply_size};
-ghost use Rattle.kb_machine.specs.Requests.{request};
-ghost use Rattle.kb_machine.specs.Session.{Session, Greets, BoundTo, fresh, room, overruns, fed, replied, shut_down, without_wait, waiting};
-ghost use Rattle.kb_machine.specs.Session.{has_member, is_free, can};
-ghost use Rattle.kb_machine.specs.Greeting.{Setup, greeted, greeted_frame};
-ghost use Rattle.kb_machine.specs.Machine.{after_reaction, after_turn, served_by, told};
-ghost use Rattle.kb_machine.specs.Calls.{without_output};
-ghost use Rattle.kb_machine.specs.Owners.{whose};
-ghost use Rattle.kb_service.specs.declared.answer.Answer.TheVariants as any;
+ghost use Rattle.kb_isolation_spec.specs.Requests.{request};
+ghost use Rattle.kb_isolation_spec.specs.Session.{Session, Greets, BoundTo, fresh, room, overruns, fed, replied, shut_down, without_wait, waiting};
+ghost use Rattle.kb_isolation_spec.specs.Session.{has_member, is_free, can};
+ghost use Rattle.kb_isolation_spec.specs.Greeting.{Setup, greeted, greeted_frame};
+ghost use Rattle.kb_isolation_spec.specs.Machine.{after_reaction, after_turn, served_by, told};
+ghost use Rattle.kb_isolation_spec.specs.Calls.{without_output};
+ghost use Rattle.kb_isolation_spec.specs.Owners.{whose};
+ghost use Rattle.kb_tenant_api.specs.declared.answer.Answer.TheVariants as any;
 ghost use Rattle.kb_connection.specs.TenantAnswers.{given, is_quiet, is_wait, wait_for, parked, spoken};
 ghost use Rattle.kb_connection.specs.Fronts.{IsOwn, IsAsked, is_tenants, is_tenants_at, asked_at};
 ghost use Rattle.kb_connection.specs.View.{greeting_of, speaks, stage_of, wait_of, with_session, without_front, IsLimited};
@@ -26,7 +26,7 @@ use crate::reply::{authenticate_body, handshake_body, versions_body};
 use crate::request::{Asked, Request};
 use crate::setup::Setup;
 use kb_api_group::{FrameFeed, Next};
-use kb_service::Answer;
+use kb_tenant_api::Answer;
 use kb_wire::{ErrorCode, Text};
 use std::alloc::{AllocError, Global};
 use std::marker::Model;
@@ -109,7 +109,7 @@ pub struct Connection {
 }
 
 impl Model for Connection {
-    ghost use Rattle.kb_machine.specs.Machine.{Line};
+    ghost use Rattle.kb_isolation_spec.specs.Machine.{Line};
     ghost use Rattle.kb_connection.specs.View.{stage_with_wait, IsLimited};
 
     ghost Value = { Line };
@@ -204,7 +204,7 @@ impl Connection {
     }
 
     /// Whether it can take a turn: it waits for nothing, and a whole request or a bad size stands in front.
-    #[tactic(auto, unfolding(kb_machine::specs::Session::can))]
+    #[tactic(auto, unfolding(kb_isolation_spec::specs::Session::can))]
     pub fn can_turn(&self) -> bool
         ensures { result ≡ can self.now.session }
     {
@@ -253,7 +253,7 @@ impl Connection {
     }
 
     /// Takes a piece. One longer than the room shuts it, and where the piece cannot be kept it is shut too.
-    #[tactic(auto, unfolding(kb_machine::specs::Session::fed))]
+    #[tactic(auto, unfolding(kb_isolation_spec::specs::Session::fed))]
     pub fn feed(&mut self, piece: &[u8]) -> Result<(), AllocError>
         ensures ok { OnOk result (self.new ≡ with_session self.old (fed piece.now self.old.session)) }
         ensures err { OnErr result (self.new ≡ with_session self.old (shut_down self.old.session)) }
@@ -586,7 +586,7 @@ impl Connection {
 
     /// Adds a reply to the output. One whose size fits no INT32 is not sent and shuts the connection. An `Err` leaves
     /// everything as it was.
-    #[tactic(auto, unfolding(kb_machine::specs::Session::replied, kb_tenant::specs::Replies::framed))]
+    #[tactic(auto, unfolding(kb_isolation_spec::specs::Session::replied, kb_tenant::specs::Replies::framed))]
     fn reply(&mut self, correlation_id: i32, body: &[u8]) -> Result<(), AllocError>
         ensures ok { OnOk result (self.new ≡ with_session self.old (replied correlation_id body.now self.old.session)) }
         ensures err { OnErr result (self.new ≡ self.old) }

@@ -1,7 +1,7 @@
 //! How far a greeting is.
 
 ghost use Rattle.std.specs.Prelude.{◌≡◌};
-ghost use Rattle.kb_machine.specs.Greeting.{greeting_after};
+ghost use Rattle.kb_isolation_spec.specs.Greeting.{greeting_after};
 ghost use Rattle.kb_connection.specs.View.{greeting_of};
 
 /// How far a greeting is (Kafka protocol guide, "SASL Authentication Sequence").

@@ -5,7 +5,7 @@
 //! Sequence"; RFC 4616), by what is fixed in a [`Setup`], and after a handshake of version 0 takes the next frame for PLAIN's message
 //! itself; of one that is bound to a tenant the tenant's requests are handed out,
 //! and answered by the tenant's own answer to them. Where that is to wait, for records or for the request's group, the connection
-//! keeps what it takes to answer and takes no turn until it is woken with a reply. A contract sees it as a line of `kb_machine`'s
+//! keeps what it takes to answer and takes no turn until it is woken with a reply. A contract sees it as a line of `kb_isolation_spec`'s
 //! worlds, so each call is a word of the one-tenant machine.
 #![tactic(auto)]
 

@@ -1,10 +1,10 @@
 //! What a request comes to for its connection.
 
 ghost use Rattle.std.specs.Prelude.{◌≡◌, ℤ, ℕ, false};
-ghost use Rattle.kb_machine.specs.Session.{Session};
-ghost use Rattle.kb_service.specs.Hosted.{Kept};
-ghost use Rattle.kb_machine.specs.Greeting.{Setup, bare_login, greeted_by, login};
-ghost use Rattle.kb_machine.specs.Machine.{served_by};
+ghost use Rattle.kb_isolation_spec.specs.Session.{Session};
+ghost use Rattle.kb_tenant_api.specs.Hosted.{Kept};
+ghost use Rattle.kb_isolation_spec.specs.Greeting.{Setup, bare_login, greeted_by, login};
+ghost use Rattle.kb_isolation_spec.specs.Machine.{served_by};
 ghost use Rattle.kb_connection.specs.Fronts.{is_tenants};
 ghost use Rattle.kb_connection.specs.View.{asked_of};
 ghost use Rattle.kb_connection.specs.Reactions.{reacted};
@@ -37,7 +37,7 @@ pub enum Reaction {
 
 impl Reaction {
     /// What a request of a greeting connection comes to (Kafka protocol guide, "SASL Authentication Sequence").
-    #[tactic(auto, unfolding(kb_machine::specs::Greeting::greeted_by))]
+    #[tactic(auto, unfolding(kb_isolation_spec::specs::Greeting::greeted_by))]
     pub fn greeting(setup: &Setup, handshaken: bool, asked: &Asked<'_>) -> Reaction
         ensures { (id : ℤ) (s : Session) → reacted setup.now result id s ≡ greeted_by setup.now handshaken id (asked_of asked.now) s }
     {
@@ -68,7 +68,7 @@ impl Reaction {
     }
 
     /// What a request of a bound connection comes to that is no request of its tenant.
-    #[tactic(auto, unfolding(kb_machine::specs::Machine::served_by))]
+    #[tactic(auto, unfolding(kb_isolation_spec::specs::Machine::served_by))]
     pub fn bound(asked: &Asked<'_>) -> Reaction
         ensures { is_tenants (asked_of asked.now) ≡ false → (setup : Setup) (kept : Kept) (clock n : ℕ) (id : ℤ) (s : Session)
             → reacted setup result id s ≡ served_by setup kept clock n id (asked_of asked.now) s }

@@ -3,7 +3,7 @@
 ghost use Rattle.std.specs.Prelude.{◌≡◌, ◌<◌, ◌^◌, IfOk, IfSome, length};
 ghost use Rattle.kb_wire.specs.Codec.{array};
 ghost use Rattle.kb_api_group.specs.Layouts.{api_version};
-ghost use Rattle.kb_machine.specs.Greeting.{versions_reply, handshake_reply, authenticate_reply};
+ghost use Rattle.kb_isolation_spec.specs.Greeting.{versions_reply, handshake_reply, authenticate_reply};
 
 use kb_api_group::{ApiVersion, SaslAuthenticateReply, SaslHandshakeReply};
 use kb_wire::{Array, Blob, ErrorCode, Layout, Sink, Text};

@@ -2,7 +2,7 @@
 
 ghost use Rattle.std.specs.Prelude.{◌≡◌, IfOk};
 ghost use Rattle.kb_api_group.specs.Layouts.{request_header};
-ghost use Rattle.kb_machine.specs.Requests.{request, asked_by, asked_behind, is_served};
+ghost use Rattle.kb_isolation_spec.specs.Requests.{request, asked_by, asked_behind, is_served};
 ghost use Rattle.kb_connection.specs.View.{asked_of, request_of, Reads};
 
 use kb_api_group::{
@@ -47,7 +47,7 @@ pub struct Request<'a> {
 impl<'a> Request<'a> {
     /// The request of a frame, where those versions are listed. ApiVersions of another version than 0 is known by its key and
     /// version alone.
-    #[tactic(auto, unfolding(kb_machine::specs::Requests::request))]
+    #[tactic(auto, unfolding(kb_isolation_spec::specs::Requests::request))]
     pub fn read(
         alloc: Global,
         versions: &[ApiVersion],
@@ -120,7 +120,7 @@ fn read_body(alloc: Global, key: i16, version: i16, body: &[u8]) -> Result<Asked
 }
 
 /// Whether a key is served at a version: where an entry of what is listed has it, from its least version to its greatest.
-#[tactic(auto, unfolding(kb_machine::specs::Requests::is_served))]
+#[tactic(auto, unfolding(kb_isolation_spec::specs::Requests::is_served))]
 fn is_served(versions: &[ApiVersion], key: i16, version: i16) -> bool
     ensures { result ≡ is_served versions.now key version }
 {

@@ -3,7 +3,7 @@
 ghost use Rattle.std.specs.Prelude.{◌≡◌, string_bytes};
 ghost use Rattle.kb_wire.specs.Codec.{array, string};
 ghost use Rattle.kb_api_group.specs.Layouts.{api_version};
-ghost use Rattle.kb_machine.specs.Greeting.{tenant_of, login};
+ghost use Rattle.kb_isolation_spec.specs.Greeting.{tenant_of, login};
 
 use kb_api_group::{ApiVersion, PlainLogin, read_plain};
 use kb_tenant::Node;
@@ -19,7 +19,7 @@ pub struct Login {
 }
 
 impl Model for Login {
-    ghost use Rattle.kb_machine.specs.Greeting.{User};
+    ghost use Rattle.kb_isolation_spec.specs.Greeting.{User};
 
     ghost Value = { User };
 
@@ -52,7 +52,7 @@ impl Model for Setup {
     ghost use Rattle.std.specs.Prelude.{string_bytes};
     ghost use Rattle.kb_wire.specs.Codec.{array, string};
     ghost use Rattle.kb_api_group.specs.Layouts.{api_version};
-    ghost use Rattle.kb_machine.specs.Greeting.{Setup};
+    ghost use Rattle.kb_isolation_spec.specs.Greeting.{Setup};
 
     ghost Value = { Setup };
 
@@ -100,7 +100,7 @@ impl Setup {
     }
 
     /// The tenant that a PLAIN message names with its password (RFC 4616).
-    #[tactic(auto, unfolding(kb_machine::specs::Greeting::login))]
+    #[tactic(auto, unfolding(kb_isolation_spec::specs::Greeting::login))]
     pub fn login(&self, message: &[u8]) -> Option<usize>
         ensures { result ≡ login self.now.users message.now }
     {

@@ -2,9 +2,9 @@
 use Rattle.std.proofs.Common.{◌≡◌, ℕ, true, false, not, ◌&&◌, eqb, sym, ap, ◌∙◌, arith}
 use Rattle.std.proofs.lemmas.Simd.{map-map}
 use Rattle.std.proofs.lemmas.Bool.Decides.{nat_tests}
-use Rattle.kb_machine.specs.Machine.{Line, on}
-use Rattle.kb_machine.specs.Broker.{BrokerState}
-use Rattle.kb_machine.specs.Calls.{closed, taken, is_open, without_output}
+use Rattle.kb_isolation_spec.specs.Machine.{Line, on}
+use Rattle.kb_isolation_spec.specs.Broker.{BrokerState}
+use Rattle.kb_isolation_spec.specs.Calls.{closed, taken, is_open, without_output}
 use Rattle.kb_broker.specs.Places.{numbers}
 use Rattle.kb_broker.proofs.ScriptWords.{open-closed}
 

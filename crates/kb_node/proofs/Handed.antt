@@ -2,8 +2,8 @@
 use Rattle.std.proofs.Common.{◌≡◌, ℕ, List, Option, None, Some, IfSome, Result, Ok, Err, OnOk, IfErr, IsOk, subst, inl, inr}
 use Rattle.std.specs.Io.KnownBytes.{Keeps}
 use Rattle.std.proofs.KnownBytes.{Appends-kept}
-use Rattle.kb_machine.specs.Machine.{Happening}
-use Rattle.kb_machine.specs.Broker.{BrokerState}
+use Rattle.kb_isolation_spec.specs.Machine.{Happening}
+use Rattle.kb_isolation_spec.specs.Broker.{BrokerState}
 use Rattle.kb_broker.specs.declared.script.ScriptFault.{ScriptFault}
 use Rattle.kb_broker.specs.declared.script.ScriptFault.TheVariants as script_faults
 use Rattle.kb_broker.specs.Script.{Script, said_by, script}

@@ -1,10 +1,10 @@
 -- The broker that opens with the standard settings.
 use Rattle.std.proofs.Common.{◌≡◌, ℕ, List, [], map, sym, ap, subst, ◌∙◌}
 use Rattle.std.proofs.lemmas.Simd.{map-map}
-use Rattle.kb_service.specs.Hosted.{new_tenant}
+use Rattle.kb_tenant_api.specs.Hosted.{new_tenant}
 use Rattle.kb_tenant.specs.declared.node.Node.{Node}
-use Rattle.kb_machine.specs.Greeting.{User as Login}
-use Rattle.kb_machine.specs.Broker.{BrokerState}
+use Rattle.kb_isolation_spec.specs.Greeting.{User as Login}
+use Rattle.kb_isolation_spec.specs.Broker.{BrokerState}
 use Rattle.kb_settings.specs.declared.settings.User.{User}
 use Rattle.kb_settings.specs.declared.settings.Settings.{Settings}
 use Rattle.kb_settings.specs.Names.{in_order, place_of}

@@ -1,8 +1,8 @@
 -- What a program of the broker writes.
 use Rattle.std.specs.Prelude.{◌≡◌, ◌⊎◌, ℕ, List, [], ◌∷◌, codes, Option, Result, Err}
 use Rattle.std.specs.Io.KnownBytes.{Keeps}
-use Rattle.kb_service.specs.Hosted.{new_tenant}
-use Rattle.kb_machine.specs.Broker.{BrokerState}
+use Rattle.kb_tenant_api.specs.Hosted.{new_tenant}
+use Rattle.kb_isolation_spec.specs.Broker.{BrokerState}
 use Rattle.kb_broker.specs.declared.script.ScriptFault.{ScriptFault}
 use Rattle.kb_broker.specs.Opening.{served_versions}
 use Rattle.kb_broker.specs.Script.{Script, script}

@@ -1,8 +1,8 @@
 -- When a socket's connection is asked, and when it is closed.
 use Rattle.std.specs.Prelude.{ℕ, Bool, not, ◌==◌, ◌&&◌, ◌||◌}
-use Rattle.kb_machine.specs.Broker.{BrokerState}
-use Rattle.kb_machine.specs.Calls.{is_shut}
-use Rattle.kb_machine.specs.Machine.{find_line}
+use Rattle.kb_isolation_spec.specs.Broker.{BrokerState}
+use Rattle.kb_isolation_spec.specs.Calls.{is_shut}
+use Rattle.kb_isolation_spec.specs.Machine.{find_line}
 use Rattle.kb_broker.specs.Places.{waits_in}
 
 -- the connection waits for the answer to a request

@@ -2,8 +2,8 @@
 
 ghost use Rattle.std.specs.Prelude.{◌≡◌, true, IfSome, IfErr, OnOk, IsOk};
 ghost use Rattle.std.specs.Io.KnownBytes.{Keeps};
-ghost use Rattle.kb_machine.specs.Broker.{IsReady};
-ghost use Rattle.kb_machine.specs.Calls.{is_calm};
+ghost use Rattle.kb_isolation_spec.specs.Broker.{IsReady};
+ghost use Rattle.kb_isolation_spec.specs.Calls.{is_calm};
 ghost use Rattle.kb_broker.specs.Hosts.{is_honest};
 ghost use Rattle.kb_broker.specs.Opening.{opening};
 ghost use Rattle.kb_broker.specs.Script.{script};

@@ -1,7 +1,7 @@
 //! A socket and the connection that it carries.
 
 ghost use Rattle.std.specs.Prelude.{◌≡◌, ◌≢◌, ◌≤◌, ◌<◌, ◌+◌, ◌-◌, true, false, length, vec_len, IfOk};
-ghost use Rattle.kb_machine.specs.Calls.{is_open, room_of};
+ghost use Rattle.kb_isolation_spec.specs.Calls.{is_open, room_of};
 ghost use Rattle.kb_broker.specs.Places.{numbers};
 ghost use Rattle.kb_node.specs.Sockets.{can_ask, is_done};
 ghost use Rattle.kb_node.specs.declared.socket.Next.TheVariants.{End};

@@ -14,10 +14,10 @@ use Rattle.kb_log.specs.OnShelf.{no_file}
 use Rattle.kb_segment_log.specs.SegmentLog.{segment_log, Clears}
 use Rattle.kb_segment_log.specs.declared.log.SegmentLog.{SegmentLog}
 use Rattle.kb_topics.specs.Known.{Known, PartitionState, TopicState, topic_at, partition_at}
-use Rattle.kb_world.specs.Logs.{log_at}
-use Rattle.kb_world.specs.Partitions.{Entries, Owned, IsUnmade}
-use Rattle.kb_world.proofs.Put.{cases}
-use Rattle.kb_world.specs.Tied.{partition_count}
+use Rattle.kb_tenant_state.specs.Logs.{log_at}
+use Rattle.kb_tenant_state.specs.Partitions.{Entries, Owned, IsUnmade}
+use Rattle.kb_tenant_state.proofs.Put.{cases}
+use Rattle.kb_tenant_state.specs.Tied.{partition_count}
 use Rattle.kb_opening.specs.Directory.{all_files, files_at}
 use Rattle.kb_opening.specs.Tenant.{AreListed}
 use Rattle.kb_opening.specs.Topics.{IsOfKnown, OpensBelow}

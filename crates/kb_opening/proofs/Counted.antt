@@ -20,9 +20,9 @@ use Rattle.std.proofs.lemmas.Option.{none-some, same_Some}
 use Rattle.kb_store.specs.Disk.{Files}
 use Rattle.kb_log.specs.OnShelf.{Log}
 use Rattle.kb_topics.specs.Known.{Known, TopicState, topic_at}
-use Rattle.kb_world.specs.Partitions.{Entries, log_state, logs_of, places_of}
-use Rattle.kb_world.specs.declared.partition.Partition.{Partition}
-use Rattle.kb_world.specs.Tied.{counted, partition_count}
+use Rattle.kb_tenant_state.specs.Partitions.{Entries, log_state, logs_of, places_of}
+use Rattle.kb_tenant_state.specs.declared.partition.Partition.{Partition}
+use Rattle.kb_tenant_state.specs.Tied.{counted, partition_count}
 use Rattle.kb_opening.proofs.Below.{counts_below}
 
 -- ---- lists of entries with the same look-ups

@@ -14,11 +14,11 @@ use Rattle.kb_producers.specs.Batches.{kept_all}
 use Rattle.kb_segment_log.specs.SegmentLog.{segment_log}
 use Rattle.kb_segment_log.specs.SegmentLaws.{segment_lawful}
 use Rattle.kb_segment_log.specs.declared.log.SegmentLog.{SegmentLog}
-use Rattle.kb_world.specs.Logs.{LogState, Logs, log_at}
-use Rattle.kb_world.specs.Partitions.{Entries, Owned, AreSound, AreExact, Agree, partition_at, log_state, logs_of}
-use Rattle.kb_world.specs.declared.partition.Partition.{Partition}
-use Rattle.kb_world.proofs.Changed.{found_at, shown}
-use Rattle.kb_world.proofs.Put.{own_number, same_number, map_same, values_same}
+use Rattle.kb_tenant_state.specs.Logs.{LogState, Logs, log_at}
+use Rattle.kb_tenant_state.specs.Partitions.{Entries, Owned, AreSound, AreExact, Agree, partition_at, log_state, logs_of}
+use Rattle.kb_tenant_state.specs.declared.partition.Partition.{Partition}
+use Rattle.kb_tenant_state.proofs.Changed.{found_at, shown}
+use Rattle.kb_tenant_state.proofs.Put.{own_number, same_number, map_same, values_same}
 
 -- ---- their own files stay
 

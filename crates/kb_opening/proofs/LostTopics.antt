@@ -10,7 +10,7 @@ use Rattle.kb_segment_log.specs.SegmentLog.{Clears}
 use Rattle.kb_segment_log.specs.Chain.{LosesNothing}
 use Rattle.kb_segment_log.specs.declared.log.SegmentLog.{SegmentLog}
 use Rattle.kb_topics.specs.Known.{Known, PartitionState, TopicState, topic_at, partition_at}
-use Rattle.kb_world.specs.Partitions.{Entries}
+use Rattle.kb_tenant_state.specs.Partitions.{Entries}
 use Rattle.kb_opening.specs.Directory.{all_files, files_at}
 use Rattle.kb_opening.specs.Partition.{Lists, IsAmong, LoseNothing}
 use Rattle.kb_opening.specs.Tenant.{AreListed, IsOfTenant, PartitionsLoseNothing, recorded_start}

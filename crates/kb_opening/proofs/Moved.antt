@@ -11,7 +11,7 @@ use Rattle.kb_log.specs.OnShelf.{Identity}
 use Rattle.kb_segment_log.specs.SegmentLog.{IsNamed}
 use Rattle.kb_segment_log.specs.Chain.{Chain, Part, base_said, behind_header, part_at, place_at, parts_at, first_of, IsChain, AreInOrder}
 use Rattle.kb_segment_log.proofs.Chained.{all_unmap}
-use Rattle.kb_world.specs.Logs.{LogState}
+use Rattle.kb_tenant_state.specs.Logs.{LogState}
 use Rattle.kb_opening.specs.Opened.{IsLogOf}
 
 -- ---- lists

@@ -20,10 +20,10 @@ use Rattle.kb_segment_log.specs.Chain.{Opens, LosesNothing}
 use Rattle.kb_segment_log.specs.SegmentLaws.{segment_lawful}
 use Rattle.kb_segment_log.specs.SegmentLog.{segment_log, AreNamed, Clears}
 use Rattle.kb_segment_log.specs.declared.log.SegmentLog.{SegmentLog}
-use Rattle.kb_world.specs.Logs.{LogState}
-use Rattle.kb_world.specs.Partitions.{log_state, partition_identity}
-use Rattle.kb_world.specs.Topic.{AreApartLogs, OwnedAmong}
-use Rattle.kb_world.specs.declared.partition.Partition.{Partition}
+use Rattle.kb_tenant_state.specs.Logs.{LogState}
+use Rattle.kb_tenant_state.specs.Partitions.{log_state, partition_identity}
+use Rattle.kb_tenant_state.specs.Topic.{AreApartLogs, OwnedAmong}
+use Rattle.kb_tenant_state.specs.declared.partition.Partition.{Partition}
 use Rattle.kb_opening.specs.Opened.{IsLogOf}
 use Rattle.kb_opening.specs.Partition.{LoseNothing, IsPartitionOf, MissesShelf, Lists, IsAmong, AreGiven, AreAllNamed, ArePartitionsOf, AreNumbered}
 use Rattle.kb_opening.proofs.Lost.{log_else, log_then, log_from}

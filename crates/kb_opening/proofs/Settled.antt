@@ -14,7 +14,7 @@ use Rattle.kb_segment.specs.declared.segment.Segment.{Segment}
 use Rattle.kb_segment_log.specs.SegmentLaws.{segment_lawful}
 use Rattle.kb_segment_log.specs.SegmentLog.{segment_log, IsFileOf, IsKept, Clears}
 use Rattle.kb_segment_log.specs.declared.log.SegmentLog.{SegmentLog}
-use Rattle.kb_world.specs.declared.partition.Partition.{Partition}
+use Rattle.kb_tenant_state.specs.declared.partition.Partition.{Partition}
 use Rattle.kb_opening.specs.Partition.{Lists, IsAmong, AreGiven}
 use Rattle.kb_opening.specs.Settled.{IsSettledFrom, AreSettledFrom}
 use Rattle.kb_opening.specs.Topics.{numbers_in}

@@ -19,7 +19,7 @@ use Rattle.kb_segment_log.proofs.Unique.{one_chain}
 use Rattle.kb_topics.specs.declared.command.Command.{Command}
 use Rattle.kb_topics.specs.Known.{Known, PartitionState, partition_at, empty, step, folded}
 use Rattle.kb_topics.specs.MetaLog.{Says, SayEach}
-use Rattle.kb_world.specs.Logs.{LogState, Logs}
+use Rattle.kb_tenant_state.specs.Logs.{LogState, Logs}
 use Rattle.kb_replay.proofs.Reading.{one_command}
 use Rattle.kb_opening.specs.Opened.{IsLogOf, EndsWith, IsLongestFold, Owners, IsOpened, IsOnly}
 use Rattle.kb_opening.proofs.Catalogs.{chain_run}

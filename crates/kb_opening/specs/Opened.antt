@@ -6,8 +6,8 @@ use Rattle.kb_segment_log.specs.Chain.{Chain, ComesTo, remaining}
 use Rattle.kb_topics.specs.declared.command.Command.{Command}
 use Rattle.kb_topics.specs.Known.{Known, PartitionState, partition_at, step}
 use Rattle.kb_topics.specs.MetaLog.{Says, IsFold}
-use Rattle.kb_world.specs.Logs.{LogState, Logs, log_at}
-use Rattle.kb_world.specs.Tied.{counted, partition_count}
+use Rattle.kb_tenant_state.specs.Logs.{LogState, Logs, log_at}
+use Rattle.kb_tenant_state.specs.Tied.{counted, partition_count}
 
 -- A log that those files come to, from a start that was recorded of it.
 abbrev pub IsLogOf : Files → List ℕ → ℕ → LogState → Type 0

@@ -10,8 +10,8 @@ use Rattle.kb_producers.specs.Batches.{kept_all}
 use Rattle.kb_segment_log.specs.SegmentLog.{segment_log, AreNamed}
 use Rattle.kb_segment_log.specs.Chain.{LosesNothing}
 use Rattle.kb_segment_log.specs.declared.log.SegmentLog.{SegmentLog}
-use Rattle.kb_world.specs.Partitions.{log_state, partition_identity}
-use Rattle.kb_world.specs.declared.partition.Partition.{Partition}
+use Rattle.kb_tenant_state.specs.Partitions.{log_state, partition_identity}
+use Rattle.kb_tenant_state.specs.declared.partition.Partition.{Partition}
 use Rattle.kb_opening.specs.Opened.{IsLogOf}
 
 -- ---- one partition

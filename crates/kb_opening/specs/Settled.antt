@@ -7,7 +7,7 @@ use Rattle.std.specs.declared.vec.Vec.{Vec}
 use Rattle.kb_store.specs.Disk.{Disk}
 use Rattle.kb_segment_log.specs.SegmentLog.{segment_log}
 use Rattle.kb_segment_log.specs.declared.log.SegmentLog.{SegmentLog}
-use Rattle.kb_world.specs.declared.partition.Partition.{Partition}
+use Rattle.kb_tenant_state.specs.declared.partition.Partition.{Partition}
 use Rattle.kb_opening.specs.Directory.{all_files}
 use Rattle.kb_opening.specs.Partition.{Lists}
 use Rattle.kb_opening.specs.declared.directory.Directory.{Directory}

@@ -9,9 +9,9 @@ use Rattle.kb_segment_log.specs.Chain.{LosesNothing}
 use Rattle.kb_segment_log.specs.declared.log.SegmentLog.{SegmentLog}
 use Rattle.kb_topics.specs.Catalog.{known, catalog_identity}
 use Rattle.kb_topics.specs.Known.{Known, PartitionState, partition_at}
-use Rattle.kb_world.specs.Partitions.{logs_of, partition_identity}
-use Rattle.kb_world.specs.Parts.{Agrees, entries}
-use Rattle.kb_world.specs.declared.parts.Parts.{Parts}
+use Rattle.kb_tenant_state.specs.Partitions.{logs_of, partition_identity}
+use Rattle.kb_tenant_state.specs.Parts.{Agrees, entries}
+use Rattle.kb_tenant_state.specs.declared.parts.Parts.{Parts}
 use Rattle.kb_opening.specs.Opened.{Owners, IsOpened}
 use Rattle.kb_opening.specs.Directory.{all_files, files_at}
 use Rattle.kb_opening.specs.declared.owner.Owner.{Owner}

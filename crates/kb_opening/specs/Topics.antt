@@ -13,12 +13,12 @@ use Rattle.kb_log.specs.OnShelf.{no_file}
 use Rattle.kb_segment_log.specs.SegmentLog.{segment_log, Clears}
 use Rattle.kb_segment_log.specs.declared.log.SegmentLog.{SegmentLog}
 use Rattle.kb_topics.specs.Known.{Known, PartitionState, TopicState, topic_at, partition_at}
-use Rattle.kb_world.specs.Logs.{LogState, log_at}
-use Rattle.kb_world.specs.Partitions.{Entries, Owned, AreSound, AreExact, AreStarted, AreNamed, Agree, logs_of, places_of, IsRestored}
-use Rattle.kb_world.specs.Topic.{AreApartLogs, OwnedAmong}
-use Rattle.kb_world.specs.declared.partition.Partition.{Partition}
-use Rattle.kb_world.specs.Parts as parts
-use Rattle.kb_world.specs.Tied.{partition_count}
+use Rattle.kb_tenant_state.specs.Logs.{LogState, log_at}
+use Rattle.kb_tenant_state.specs.Partitions.{Entries, Owned, AreSound, AreExact, AreStarted, AreNamed, Agree, logs_of, places_of, IsRestored}
+use Rattle.kb_tenant_state.specs.Topic.{AreApartLogs, OwnedAmong}
+use Rattle.kb_tenant_state.specs.declared.partition.Partition.{Partition}
+use Rattle.kb_tenant_state.specs.Parts as parts
+use Rattle.kb_tenant_state.specs.Tied.{partition_count}
 use Rattle.kb_opening.specs.Opened.{IsLogOf}
 use Rattle.kb_opening.specs.Directory.{all_files, files_at}
 use Rattle.kb_opening.specs.Partition.{Lists, IsAmong, AreAllNamed, ArePartitionsOf, AreNumbered}

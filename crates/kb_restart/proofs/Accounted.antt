@@ -11,8 +11,8 @@ use Rattle.std.proofs.lemmas.List.Sorted.{IsPermutation-sym, Contains-permutatio
 use Rattle.kb_store.specs.Disk.{Disk, Table, IsThere, Keeps}
 use Rattle.kb_segment_log.specs.SegmentLog.{segment_log, Clears}
 use Rattle.kb_segment_log.specs.declared.log.SegmentLog.{SegmentLog}
-use Rattle.kb_world.specs.Parts.{Owns}
-use Rattle.kb_world.specs.declared.parts.Parts.{Parts}
+use Rattle.kb_tenant_state.specs.Parts.{Owns}
+use Rattle.kb_tenant_state.specs.declared.parts.Parts.{Parts}
 use Rattle.kb_tenants.specs.Tenants.{AreSettled, IsLeftAlone, IsOfSome}
 use Rattle.kb_opening.specs.Directory.{all_files}
 use Rattle.kb_opening.specs.Settled.{AreAccounted}

@@ -6,8 +6,8 @@ use Rattle.kb_store.specs.Disk.{Files}
 use Rattle.kb_segment_log.specs.declared.log.SegmentLog.{SegmentLog}
 use Rattle.kb_topics.specs.Catalog.{known}
 use Rattle.kb_topics.specs.Known.{Known}
-use Rattle.kb_world.specs.declared.parts.Parts.{Parts}
-use Rattle.kb_service.specs.Hosted.{TenantState}
+use Rattle.kb_tenant_state.specs.declared.parts.Parts.{Parts}
+use Rattle.kb_tenant_api.specs.Hosted.{TenantState}
 use Rattle.kb_restart.specs.Restart.{tenants_restored}
 
 -- what parts have does not depend on the files: it is asked where there are none

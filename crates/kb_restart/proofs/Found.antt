@@ -34,14 +34,14 @@ use Rattle.kb_segment_log.proofs.Reopens.{reopens}
 use Rattle.kb_topics.specs.Catalog.{known, meta_log, catalog_identity}
 use Rattle.kb_topics.specs.Known.{Known, PartitionState, TopicState, partition_at, topic_at}
 use Rattle.kb_topics.specs.MetaLog.{IsFold}
-use Rattle.kb_world.specs.Partitions.{log_state, logs_of, partition_identity}
-use Rattle.kb_world.specs.Partitions as partitions
-use Rattle.kb_world.specs.declared.partition.Partition.{Partition}
-use Rattle.kb_world.proofs.Changed.{log_at_is}
-use Rattle.kb_world.specs.Parts.{IsSound, Agrees, entries, meta, start_said}
-use Rattle.kb_world.specs.Tied.{counted, partition_count}
-use Rattle.kb_world.specs.declared.parts.Parts.{Parts}
-use Rattle.kb_service.specs.Hosted.{TenantState, kept_of, names_of}
+use Rattle.kb_tenant_state.specs.Partitions.{log_state, logs_of, partition_identity}
+use Rattle.kb_tenant_state.specs.Partitions as partitions
+use Rattle.kb_tenant_state.specs.declared.partition.Partition.{Partition}
+use Rattle.kb_tenant_state.proofs.Changed.{log_at_is}
+use Rattle.kb_tenant_state.specs.Parts.{IsSound, Agrees, entries, meta, start_said}
+use Rattle.kb_tenant_state.specs.Tied.{counted, partition_count}
+use Rattle.kb_tenant_state.specs.declared.parts.Parts.{Parts}
+use Rattle.kb_tenant_api.specs.Hosted.{TenantState, kept_of, names_of}
 use Rattle.kb_tenants.specs.Tenants.{AreKeptIn, IsOfSome}
 use Rattle.kb_opening.specs.Opened.{IsLogOf, IsOpened}
 use Rattle.kb_opening.proofs.Catalogs.{chain_run, starting_all}

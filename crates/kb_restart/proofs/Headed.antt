@@ -10,7 +10,7 @@ use Rattle.kb_batch.specs.Batch.{is_natural}
 use Rattle.kb_segment.specs.Header.{Header, is_legal, is_partition, is_meta, is_not_negative, header_in}
 use Rattle.kb_segment_log.specs.SegmentLog.{bytes_at, Names, IsNamed}
 use Rattle.kb_topics.specs.Catalog.{catalog_identity}
-use Rattle.kb_world.specs.Partitions.{partition_identity}
+use Rattle.kb_tenant_state.specs.Partitions.{partition_identity}
 use Rattle.kb_opening.specs.Owners.{is_of_catalog, is_of_partition, passes, says}
 use Rattle.kb_opening.specs.Directory.{files_at, IsDirectory}
 use Rattle.kb_opening.specs.declared.directory.Directory.{Directory}

@@ -14,7 +14,7 @@ use Rattle.kb_segment.specs.Header.{Header, header_in}
 use Rattle.kb_segment_log.specs.SegmentLog.{segment_log, bytes_at, Clears}
 use Rattle.kb_segment_log.specs.declared.log.SegmentLog.{SegmentLog}
 use Rattle.kb_segment_log.proofs.Opened.{clears_kept, distinct_moved}
-use Rattle.kb_world.specs.declared.parts.Parts.{Parts}
+use Rattle.kb_tenant_state.specs.declared.parts.Parts.{Parts}
 use Rattle.kb_tenants.specs.Tenants.{AreSound}
 use Rattle.kb_opening.specs.Opened.{Owners}
 use Rattle.kb_opening.specs.Owners.{is_of_catalog, is_of_partition, is_of_one, passes, says, strays_of}

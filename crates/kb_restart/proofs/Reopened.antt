@@ -13,9 +13,9 @@ use Rattle.kb_segment_log.specs.declared.log.SegmentLog.{SegmentLog}
 use Rattle.kb_segment_log.proofs.Opened.{clears_kept}
 use Rattle.kb_topics.specs.Catalog.{known}
 use Rattle.kb_topics.specs.Known.{partition_at}
-use Rattle.kb_world.specs.Parts.{world_of}
-use Rattle.kb_world.specs.declared.parts.Parts.{Parts}
-use Rattle.kb_service.specs.Hosted.{Kept, TenantState, kept_in, kept_of, names_of, nothing}
+use Rattle.kb_tenant_state.specs.Parts.{world_of}
+use Rattle.kb_tenant_state.specs.declared.parts.Parts.{Parts}
+use Rattle.kb_tenant_api.specs.Hosted.{Kept, TenantState, kept_in, kept_of, names_of, nothing}
 use Rattle.kb_tenants.specs.Tenants.{restored_tenant, Agree}
 use Rattle.kb_opening.proofs.Unique.{only_opened}
 use Rattle.kb_restart.specs.Restart.{owners_of, AreOnly, AreOpened, AreReopened, IsLeft, IsOfLog, IsReopened, IsStray, have_nothing_refused, tenants_restored}

@@ -16,10 +16,10 @@ use Rattle.kb_segment_log.specs.declared.log.SegmentLog.{SegmentLog}
 use Rattle.kb_segment_log.proofs.Opened.{distinct_moved}
 use Rattle.kb_topics.specs.Catalog.{known, meta_log}
 use Rattle.kb_topics.specs.Known.{Known}
-use Rattle.kb_world.specs.Logs.{Logs}
-use Rattle.kb_world.specs.Partitions.{logs_of, AreExact}
-use Rattle.kb_world.specs.Parts.{IsSound, Owns, entries, meta}
-use Rattle.kb_world.specs.declared.parts.Parts.{Parts}
+use Rattle.kb_tenant_state.specs.Logs.{Logs}
+use Rattle.kb_tenant_state.specs.Partitions.{logs_of, AreExact}
+use Rattle.kb_tenant_state.specs.Parts.{IsSound, Owns, entries, meta}
+use Rattle.kb_tenant_state.specs.declared.parts.Parts.{Parts}
 use Rattle.kb_tenants.proofs.Others.{still_sound, still_seen, still_agrees}
 use Rattle.kb_opening.specs.Opened.{Owners, IsOpened}
 use Rattle.kb_opening.specs.Directory.{all_files, files_at}

@@ -19,9 +19,9 @@ use Rattle.kb_segment_log.proofs.Comes.{kept_headers, headers_then}
 use Rattle.kb_segment_log.proofs.Opened.{distinct_moved, head_apart}
 use Rattle.kb_segment_log.proofs.Remaining.{all_there, permutation_filter}
 use Rattle.kb_topics.specs.Known.{Known}
-use Rattle.kb_world.specs.Logs.{Logs}
-use Rattle.kb_world.specs.declared.parts.Parts.{Parts}
-use Rattle.kb_service.specs.Hosted.{kept_of}
+use Rattle.kb_tenant_state.specs.Logs.{Logs}
+use Rattle.kb_tenant_state.specs.declared.parts.Parts.{Parts}
+use Rattle.kb_tenant_api.specs.Hosted.{kept_of}
 use Rattle.kb_opening.specs.Opened.{Owners, IsOpened, TenantLosesNothing, remaining_of}
 use Rattle.kb_opening.specs.Owners.{says, passes, is_of_catalog, is_of_partition}
 use Rattle.kb_opening.specs.Tenant.{owners_in, AreListed, IsOfTenant}

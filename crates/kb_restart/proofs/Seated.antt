@@ -9,8 +9,8 @@ use Rattle.kb_store.specs.Disk.{Files}
 use Rattle.kb_coordinator.specs.Groups.{none}
 use Rattle.kb_segment_log.specs.SegmentLog.{segment_log}
 use Rattle.kb_segment_log.specs.declared.log.SegmentLog.{SegmentLog}
-use Rattle.kb_world.specs.declared.parts.Parts.{Parts}
-use Rattle.kb_service.specs.Hosted.{kept_of}
+use Rattle.kb_tenant_state.specs.declared.parts.Parts.{Parts}
+use Rattle.kb_tenant_api.specs.Hosted.{kept_of}
 use Rattle.kb_tenants.specs.Tenants.{restored_tenant}
 use Rattle.kb_restart.specs.Restart.{names_in}
 use Rattle.kb_restart.proofs.Hosting.{zip_second}

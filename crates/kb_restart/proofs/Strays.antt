@@ -12,7 +12,7 @@ use Rattle.kb_segment_log.specs.SegmentLog.{bytes_at}
 use Rattle.kb_segment_log.specs.declared.log.SegmentLog.{SegmentLog}
 use Rattle.kb_topics.specs.Catalog.{known}
 use Rattle.kb_topics.specs.Known.{partition_at}
-use Rattle.kb_world.specs.declared.parts.Parts.{Parts}
+use Rattle.kb_tenant_state.specs.declared.parts.Parts.{Parts}
 use Rattle.kb_opening.specs.Owners.{is_of_catalog, is_of_partition, is_of_one, passes, says}
 use Rattle.kb_opening.specs.Directory.{all_files, files_at, IsDirectory}
 use Rattle.kb_opening.specs.Tenant.{tenant_in}

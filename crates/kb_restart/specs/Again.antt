@@ -2,7 +2,7 @@
 use Rattle.std.specs.Prelude.{◌≡◌, ℕ, List, Some, slice_get}
 use Rattle.std.specs.List.{Contains}
 use Rattle.kb_store.specs.Disk.{Files}
-use Rattle.kb_service.specs.Hosted.{TenantState, kept_of, names_of}
+use Rattle.kb_tenant_api.specs.Hosted.{TenantState, kept_of, names_of}
 use Rattle.kb_opening.specs.Opened.{IsOpened, IsSame}
 use Rattle.kb_restart.specs.Restart.{IsStray, owners_of}
 

@@ -3,7 +3,7 @@ use Rattle.std.specs.Prelude.{◌^◌, ◌-◌, ℕ, List, length, min}
 use Rattle.std.specs.List.{sum_by}
 use Rattle.kb_topics.specs.ByName.{by_name}
 use Rattle.kb_topics.specs.Known.{Known}
-use Rattle.kb_world.specs.Tied.{partition_count}
+use Rattle.kb_tenant_state.specs.Tied.{partition_count}
 use Rattle.kb_restart.specs.declared.counts.Counts.{Counts}
 
 -- A number as a count of 64 bits: one that is greater than all of these is told as the greatest.

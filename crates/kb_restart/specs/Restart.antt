@@ -13,10 +13,10 @@ use Rattle.kb_segment_log.specs.SegmentLog.{segment_log, Clears}
 use Rattle.kb_segment_log.specs.declared.log.SegmentLog.{SegmentLog}
 use Rattle.kb_topics.specs.Catalog.{known}
 use Rattle.kb_topics.specs.Known.{partition_at}
-use Rattle.kb_world.specs.Partitions.{AreExact}
-use Rattle.kb_world.specs.Parts.{IsSound, Owns, entries, meta}
-use Rattle.kb_world.specs.declared.parts.Parts.{Parts}
-use Rattle.kb_service.specs.Hosted.{Kept, TenantState, kept_of, names_of}
+use Rattle.kb_tenant_state.specs.Partitions.{AreExact}
+use Rattle.kb_tenant_state.specs.Parts.{IsSound, Owns, entries, meta}
+use Rattle.kb_tenant_state.specs.declared.parts.Parts.{Parts}
+use Rattle.kb_tenant_api.specs.Hosted.{Kept, TenantState, kept_of, names_of}
 use Rattle.kb_tenants.specs.Tenants.{restored_tenant, IsOfSome}
 use Rattle.kb_opening.specs.Opened.{Owners, IsOpened, IsOnly, TenantLosesNothing}
 use Rattle.kb_opening.specs.Owners.{catalog_of, partition_of, strays_of}

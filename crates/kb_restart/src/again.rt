@@ -1,8 +1,8 @@
 //! A broker that is stopped and opened again.
 ghost use Rattle.std.specs.Prelude.{◌≡◌, ℕ, List, Some, true, IfOk};
 ghost use Rattle.std.specs.FinMap.{keys};
-ghost use Rattle.kb_service.specs.Hosted.{names_of};
-ghost use Rattle.kb_service.specs.Turns.{all_calm};
+ghost use Rattle.kb_tenant_api.specs.Hosted.{names_of};
+ghost use Rattle.kb_tenant_api.specs.Turns.{all_calm};
 ghost use Rattle.kb_broker.specs.Opening.{tenants_of};
 ghost use Rattle.kb_restart.specs.Again.{AreStillStrays, HaveSame};
 

@@ -4,7 +4,7 @@ ghost use Rattle.kb_topics.specs.Catalog.{known};
 ghost use Rattle.kb_restart.specs.Counts.{counts_of, partitions_of, told};
 
 use kb_segment_log::SegmentLog;
-use kb_world::Parts;
+use kb_tenant_state::Parts;
 
 /// How much a broker has that opened with files. A count that is greater than each `u64` stays at the greatest.
 #[derive(Clone, Copy, Debug, PartialEq, Eq)]

@@ -13,12 +13,12 @@ use Rattle.kb_api_data.specs.declared.produce.ProduceTopicReply.{ProduceTopicRep
 use Rattle.kb_api_data.specs.declared.produce.ProducePartition.{ProducePartition}
 use Rattle.kb_api_data.specs.declared.produce.ProducePartitionReply.{ProducePartitionReply}
 use Rattle.kb_store.specs.Disk.{Grew}
-use Rattle.kb_world.specs.Scene.{Scene, WhereHonest}
-use Rattle.kb_world.specs.Parts.{Seen}
-use Rattle.kb_world.specs.Steps.{IsStep}
-use Rattle.kb_world.specs.Told.{Failed}
-use Rattle.kb_world.specs.World.{World}
-use Rattle.kb_world.specs.declared.topic_partition.TopicPartition.{TopicPartition}
+use Rattle.kb_tenant_state.specs.Scene.{Scene, WhereHonest}
+use Rattle.kb_tenant_state.specs.Parts.{Seen}
+use Rattle.kb_tenant_state.specs.Steps.{IsStep}
+use Rattle.kb_tenant_state.specs.Told.{Failed}
+use Rattle.kb_tenant_state.specs.World.{World}
+use Rattle.kb_tenant_state.specs.declared.topic_partition.TopicPartition.{TopicPartition}
 use Rattle.kb_topics.specs.Known.{named}
 use Rattle.kb_tenant.specs.Produce.{Progress, answer, is_due, progress, refusal_of, reply_bytes, entry_served, where_due}
 use Rattle.kb_tenant.specs.Replies.{begun, IsAnswer, Replies}

@@ -6,10 +6,10 @@ use Rattle.kb_api_data.specs.declared.fetch.FetchTopic.{FetchTopic}
 use Rattle.kb_api_data.specs.declared.fetch.FetchRequest.{FetchRequest}
 use Rattle.kb_api_group.specs.declared.offset_commit.OffsetCommitRequest.{OffsetCommitRequest}
 use Rattle.kb_topics.specs.Known.{named}
-use Rattle.kb_world.specs.Calls.{all_places, retain, retain_all, retain_each}
-use Rattle.kb_world.specs.Tied.{IsTied}
-use Rattle.kb_world.specs.World.{World}
-use Rattle.kb_world.specs.declared.topic_partition.TopicPartition.{TopicPartition}
+use Rattle.kb_tenant_state.specs.Calls.{all_places, retain, retain_all, retain_each}
+use Rattle.kb_tenant_state.specs.Tied.{IsTied}
+use Rattle.kb_tenant_state.specs.World.{World}
+use Rattle.kb_tenant_state.specs.declared.topic_partition.TopicPartition.{TopicPartition}
 use Rattle.kb_tenant.specs.CreateTopics.{created_all, made_of}
 use Rattle.kb_tenant.specs.Fetch.{fetch_answer, places_in, places_of}
 use Rattle.kb_tenant.specs.OffsetCommit.{committed_all, refusal_of}

@@ -5,10 +5,10 @@ use Rattle.std.specs.Ordering.{int_eq}
 use Rattle.kb_wire.specs.declared.api_key.TheConstants.{PRODUCE, FETCH, LIST_OFFSETS, METADATA, OFFSET_COMMIT, OFFSET_FETCH}
 use Rattle.kb_wire.specs.declared.api_key.TheConstants.{FIND_COORDINATOR, CREATE_TOPICS, DELETE_TOPICS, DELETE_RECORDS, INIT_PRODUCER_ID}
 use Rattle.kb_wire.specs.declared.fault.ReadFault.{ReadFault}
-use Rattle.kb_world.specs.Parts.{Seen}
-use Rattle.kb_world.specs.Scene.{Scene, WhereHonest}
-use Rattle.kb_world.specs.Told.{IsLogFull}
-use Rattle.kb_world.specs.declared.topic_partition.TopicPartition.{TopicPartition}
+use Rattle.kb_tenant_state.specs.Parts.{Seen}
+use Rattle.kb_tenant_state.specs.Scene.{Scene, WhereHonest}
+use Rattle.kb_tenant_state.specs.Told.{IsLogFull}
+use Rattle.kb_tenant_state.specs.declared.topic_partition.TopicPartition.{TopicPartition}
 use Rattle.kb_tenant.specs.Answered.{IsTruthful, LooksUp, OnlyReads}
 use Rattle.kb_tenant.specs.Serve.{plainly_served, IsServed}
 use Rattle.kb_tenant.specs.Told.{Acknowledges, AcknowledgesCommits, AcknowledgesCreations, AcknowledgesDeletions, AcknowledgesIssue}

@@ -12,10 +12,10 @@ use Rattle.kb_api_data.specs.declared.fetch_v5.FetchPartitionReplyV5.{FetchParti
 use Rattle.kb_api_data.specs.declared.fetch_v5.FetchTopicReplyV5.{FetchTopicReplyV5}
 use Rattle.kb_api_data.specs.declared.fetch_v5.FetchReplyV5.{FetchReplyV5}
 use Rattle.kb_topics.specs.Known.{named}
-use Rattle.kb_world.specs.Logs.{LogState}
-use Rattle.kb_world.specs.Calls.{fetched_from}
-use Rattle.kb_world.specs.World.{World, log_in, place_in}
-use Rattle.kb_world.specs.declared.topic_partition.TopicPartition.{TopicPartition}
+use Rattle.kb_tenant_state.specs.Logs.{LogState}
+use Rattle.kb_tenant_state.specs.Calls.{fetched_from}
+use Rattle.kb_tenant_state.specs.World.{World, log_in, place_in}
+use Rattle.kb_tenant_state.specs.declared.topic_partition.TopicPartition.{TopicPartition}
 use Rattle.kb_tenant.specs.Fetch.{Limits, fetch_answered, answered_at, answered_by, answered_topic, begun, bytes_of, fetch_answer, fetched, is_error, is_ready, limit_of, places_in, places_of, some_partition}
 use Rattle.kb_tenant.specs.Turns.{in_turn}
 use Rattle.kb_tenant.specs.Waiting.{StillWaits}

@@ -19,7 +19,7 @@ use Rattle.kb_api_group.specs.Layouts.{find_coordinator_request, offset_commit_r
 use Rattle.kb_api_group.specs.declared.find_coordinator.FindCoordinatorRequest.{FindCoordinatorRequest}
 use Rattle.kb_api_group.specs.declared.offset_commit.OffsetCommitRequest.{OffsetCommitRequest}
 use Rattle.kb_api_group.specs.declared.offset_fetch.OffsetFetchRequest.{OffsetFetchRequest}
-use Rattle.kb_world.specs.World.{World}
+use Rattle.kb_tenant_state.specs.World.{World}
 use Rattle.kb_tenant.specs.CreateTopics.{asked_creations, checked_all, created_all, creations_in, made_of}
 use Rattle.kb_tenant.specs.Fetch.{asked_fetch}
 use Rattle.kb_tenant.specs.Metadata.{asked_metadata}

@@ -26,9 +26,9 @@ use Rattle.kb_topics.specs.Refusals.{create_refusal}
 use Rattle.kb_topics.specs.declared.config.TopicConfig.{TopicConfig}
 use Rattle.kb_topics.specs.declared.fault.CatalogFault.{CatalogFault}
 use Rattle.kb_topics.specs.declared.fault.CatalogFault.TheVariants as faults
-use Rattle.kb_world.specs.Calls.{created_unless}
-use Rattle.kb_world.specs.Tied.{IsTied}
-use Rattle.kb_world.specs.World.{World}
+use Rattle.kb_tenant_state.specs.Calls.{created_unless}
+use Rattle.kb_tenant_state.specs.Tied.{IsTied}
+use Rattle.kb_tenant_state.specs.World.{World}
 use Rattle.kb_tenant.specs.CreateTopics.{checked_all, checked_topic, checked_unless, checked_with, code_in}
 use Rattle.kb_tenant.specs.CreateTopics.{created_all, created_topic, made_unless, made_with, refusal, stands_twice}
 use Rattle.kb_tenant.specs.Settings.{are_allowed, entry_named, limit_named, settings_in, settings_of}

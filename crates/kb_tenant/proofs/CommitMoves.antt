@@ -6,11 +6,11 @@ use Rattle.kb_api_group.specs.declared.offset_commit.OffsetCommitRequest.{Offset
 use Rattle.kb_topics.specs.Known.{CommittedOffset, PartitionState, named, topic_at, with_commit}
 use Rattle.kb_topics.specs.Refusals.{commit_refusal}
 use Rattle.kb_topics.specs.declared.fault.CatalogFault.{CatalogFault}
-use Rattle.kb_world.specs.Calls.{committed_unless, known_at, with_committed}
-use Rattle.kb_world.specs.Logs.{log_at}
-use Rattle.kb_world.specs.Tied.{IsTied, counted}
-use Rattle.kb_world.specs.World.{World, place_in}
-use Rattle.kb_world.specs.declared.topic_partition.TopicPartition.{TopicPartition}
+use Rattle.kb_tenant_state.specs.Calls.{committed_unless, known_at, with_committed}
+use Rattle.kb_tenant_state.specs.Logs.{log_at}
+use Rattle.kb_tenant_state.specs.Tied.{IsTied, counted}
+use Rattle.kb_tenant_state.specs.World.{World, place_in}
+use Rattle.kb_tenant_state.specs.declared.topic_partition.TopicPartition.{TopicPartition}
 use Rattle.kb_tenant.specs.OffsetCommit.{committed_all, committed_at, committed_entry, committed_topic, metadata_in}
 use Rattle.kb_tenant.specs.Turns.{in_turn}
 use Rattle.kb_tenant.specs.Waiting.{HasOwnNames}

@@ -8,16 +8,16 @@ use Rattle.kb_api_group.specs.declared.offset_commit.CommitPartition.{CommitPart
 use Rattle.kb_api_group.specs.declared.offset_commit.CommitPartitionReply.{CommitPartitionReply}
 use Rattle.kb_api_group.specs.declared.offset_commit.CommitTopic.{CommitTopic}
 use Rattle.kb_api_group.specs.declared.offset_commit.OffsetCommitRequest.{OffsetCommitRequest}
-use Rattle.kb_world.specs.Scene.{Scene}
+use Rattle.kb_tenant_state.specs.Scene.{Scene}
 use Rattle.kb_topics.specs.CatalogFault.{code_of as fault_code}
 use Rattle.kb_topics.specs.Known.{named}
 use Rattle.kb_topics.specs.declared.fault.CatalogFault.{CatalogFault}
 use Rattle.kb_topics.specs.declared.fault.CatalogFault.TheVariants as catalog
-use Rattle.kb_world.specs.Calls.{commit}
-use Rattle.kb_world.specs.Parts.{Seen}
-use Rattle.kb_world.specs.Told.{IsCatalogWant, IsDone, Tells}
-use Rattle.kb_world.specs.World.{World, place_in}
-use Rattle.kb_world.specs.declared.topic_partition.TopicPartition.{TopicPartition}
+use Rattle.kb_tenant_state.specs.Calls.{commit}
+use Rattle.kb_tenant_state.specs.Parts.{Seen}
+use Rattle.kb_tenant_state.specs.Told.{IsCatalogWant, IsDone, Tells}
+use Rattle.kb_tenant_state.specs.World.{World, place_in}
+use Rattle.kb_tenant_state.specs.declared.topic_partition.TopicPartition.{TopicPartition}
 use Rattle.kb_tenant.specs.CreateTopics.{code_in}
 use Rattle.kb_tenant.specs.OffsetCommit.{committed, committed_all, committed_at, committed_entry, committed_topic, metadata_in}
 use Rattle.kb_tenant.specs.Produce.{written_next}

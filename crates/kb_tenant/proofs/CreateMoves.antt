@@ -16,11 +16,11 @@ use Rattle.kb_topics.specs.declared.config.TopicConfig.{TopicConfig}
 use Rattle.kb_topics.specs.declared.fault.CatalogFault.{CatalogFault}
 use Rattle.kb_topics.proofs.Links.{bytes_same}
 use Rattle.kb_topics.proofs.Steps.{unnamed}
-use Rattle.kb_world.specs.Logs.{LogState, no_log, with_new_logs}
-use Rattle.kb_world.specs.Calls.{created_unless}
-use Rattle.kb_world.specs.Tied.{IsTied, counted, partition_count}
-use Rattle.kb_world.specs.World.{World}
-use Rattle.kb_world.specs.declared.topic_partition.TopicPartition.{TopicPartition}
+use Rattle.kb_tenant_state.specs.Logs.{LogState, no_log, with_new_logs}
+use Rattle.kb_tenant_state.specs.Calls.{created_unless}
+use Rattle.kb_tenant_state.specs.Tied.{IsTied, counted, partition_count}
+use Rattle.kb_tenant_state.specs.World.{World}
+use Rattle.kb_tenant_state.specs.declared.topic_partition.TopicPartition.{TopicPartition}
 use Rattle.kb_tenant.specs.CreateTopics.{created_all, created_topic, made_unless, made_with, refusal, stands_twice}
 use Rattle.kb_tenant.specs.Settings.{settings_in}
 use Rattle.kb_tenant.proofs.Asked.{IsHeld}

@@ -19,12 +19,12 @@ use Rattle.kb_api_data.specs.declared.create_topics_v1.CreateTopicsRequestV1.{Cr
 use Rattle.kb_topics.specs.Known.{named}
 use Rattle.kb_topics.specs.declared.config.TopicConfig.{TopicConfig}
 use Rattle.kb_topics.specs.declared.fault.CatalogFault.{CatalogFault}
-use Rattle.kb_world.specs.Calls.{create}
+use Rattle.kb_tenant_state.specs.Calls.{create}
 use Rattle.kb_tenant.specs.CreateTopics.{stands_twice, code_in, refusal, made, made_unless, made_with}
 use Rattle.kb_tenant.specs.CreateTopics.{created_topic, checked_topic, checked_unless, creation_in, creations_in, reply_v1, topic_reply_v1}
 use Rattle.kb_tenant.specs.Settings.{settings_in}
 use Rattle.kb_tenant.specs.Turns.{in_turn, written_behind}
-use Rattle.kb_world.specs.World.{World}
+use Rattle.kb_tenant_state.specs.World.{World}
 use Rattle.kb_tenant.proofs.Turning.{turn_length, turn_next, turn_over}
 
 -- where its test says so

@@ -10,11 +10,11 @@ use Rattle.std.proofs.lemmas.List.Elements.{Contains-append_left, Contains-appen
 use Rattle.std.proofs.lemmas.List.FromFn.{get_or-map-range_with_len, length-map-range_with_len}
 use Rattle.kb_api_data.specs.declared.delete_topics.DeleteTopicsRequest.{DeleteTopicsRequest}
 use Rattle.kb_topics.specs.Known.{named, without_topic}
-use Rattle.kb_world.specs.Logs.{LogState, without_logs}
-use Rattle.kb_world.specs.Calls.{deleted_at}
-use Rattle.kb_world.specs.Tied.{IsTied, partition_count}
-use Rattle.kb_world.specs.World.{World}
-use Rattle.kb_world.specs.declared.topic_partition.TopicPartition.{TopicPartition}
+use Rattle.kb_tenant_state.specs.Logs.{LogState, without_logs}
+use Rattle.kb_tenant_state.specs.Calls.{deleted_at}
+use Rattle.kb_tenant_state.specs.Tied.{IsTied, partition_count}
+use Rattle.kb_tenant_state.specs.World.{World}
+use Rattle.kb_tenant_state.specs.declared.topic_partition.TopicPartition.{TopicPartition}
 use Rattle.kb_tenant.specs.DeleteTopics.{deleted_all, deleted_topic, place_at, places, places_at, places_in}
 use Rattle.kb_tenant.proofs.Asked.{IsHeld}
 use Rattle.kb_tenant.proofs.Entries.{counted_removed, none_removed, remove_other}

@@ -12,11 +12,11 @@ use Rattle.kb_api_data.specs.declared.delete_topics.DeleteTopicReply.{DeleteTopi
 use Rattle.kb_topics.specs.Known.{TopicState, named}
 use Rattle.kb_topics.specs.declared.fault.CatalogFault.{CatalogFault}
 use Rattle.kb_topics.specs.declared.fault.CatalogFault.TheVariants as faults
-use Rattle.kb_world.specs.Calls.{delete, deleted_at}
+use Rattle.kb_tenant_state.specs.Calls.{delete, deleted_at}
 use Rattle.kb_tenant.specs.CreateTopics.{code_in}
 use Rattle.kb_tenant.specs.DeleteTopics.{place_at, places, places_in, places_at, places_named, told_if, deleted, deleted_topic, deletions_in, throttle_in}
-use Rattle.kb_world.specs.World.{World}
-use Rattle.kb_world.specs.declared.topic_partition.TopicPartition.{TopicPartition}
+use Rattle.kb_tenant_state.specs.World.{World}
+use Rattle.kb_tenant_state.specs.declared.topic_partition.TopicPartition.{TopicPartition}
 
 -- one more partition is told
 pub places_more : (old new : List TopicPartition) (start : List TopicPartition) (instance n : ℕ) → new ≡ old ++ place_at instance n ∷ [] → old ≡ start ++ places instance n → new ≡ start ++ places instance (n + 1)

@@ -21,7 +21,7 @@ use Rattle.kb_api_data.specs.declared.metadata_versions.MetadataRequestV4.{Metad
 use Rattle.kb_topics.specs.Known.{TopicState, named, topic_at}
 use Rattle.kb_topics.specs.Name.{is_legal}
 use Rattle.kb_tenant.specs.Metadata.{broker, broker_v0, internal_in, metadata_in, metadata_of, partition_described, reply_v3, topic_asked, topic_described, topic_found, topic_in, topic_v0, topics_asked, topics_in}
-use Rattle.kb_world.specs.World.{World}
+use Rattle.kb_tenant_state.specs.World.{World}
 use Rattle.kb_tenant.specs.declared.node.Node.{Node}
 use Rattle.kb_tenant.proofs.Fitting.{array_written, written_both}
 

@@ -7,7 +7,7 @@ use Rattle.std.specs.declared.cmp.Ordering.TheVariants.{Less, Equal, Greater}
 use Rattle.std.specs.Map.{lookup, remove_entry, set_value}
 use Rattle.std.specs.BTreeMap.{insert_entry, is_at}
 use Rattle.kb_topics.proofs.Links.{own_number, same_number}
-use Rattle.kb_world.specs.Tied.{counted}
+use Rattle.kb_tenant_state.specs.Tied.{counted}
 
 -- a key that is one number is not another
 apart : (i j k : ℕ) → (j ≡ i → ⊥) → is_at (nat_cmp i) k ≡ true → is_at (nat_cmp j) k ≡ false

@@ -11,15 +11,15 @@ use Rattle.kb_api_data.specs.declared.fetch_v5.FetchPartitionReplyV5.{FetchParti
 use Rattle.kb_api_data.specs.declared.fetch_v5.FetchReplyV5.{FetchReplyV5}
 use Rattle.kb_api_data.specs.declared.fetch_v5.FetchTopicReplyV5.{FetchTopicReplyV5}
 use Rattle.kb_topics.specs.Known.{named}
-use Rattle.kb_world.specs.Scene.{Scene, WhereHonest}
-use Rattle.kb_world.specs.declared.fault.PartitionFault.{PartitionFault}
-use Rattle.kb_world.specs.declared.fault.PartitionFault.TheVariants as partition
-use Rattle.kb_world.specs.Calls.{IsGiven}
-use Rattle.kb_world.specs.Parts.{Seen}
-use Rattle.kb_world.specs.Steps.{IsStep}
-use Rattle.kb_world.specs.Told.{IsDone, IsRefused, IsWant}
-use Rattle.kb_world.specs.World.{World}
-use Rattle.kb_world.specs.declared.topic_partition.TopicPartition.{TopicPartition}
+use Rattle.kb_tenant_state.specs.Scene.{Scene, WhereHonest}
+use Rattle.kb_tenant_state.specs.declared.fault.PartitionFault.{PartitionFault}
+use Rattle.kb_tenant_state.specs.declared.fault.PartitionFault.TheVariants as partition
+use Rattle.kb_tenant_state.specs.Calls.{IsGiven}
+use Rattle.kb_tenant_state.specs.Parts.{Seen}
+use Rattle.kb_tenant_state.specs.Steps.{IsStep}
+use Rattle.kb_tenant_state.specs.Told.{IsDone, IsRefused, IsWant}
+use Rattle.kb_tenant_state.specs.World.{World}
+use Rattle.kb_tenant_state.specs.declared.topic_partition.TopicPartition.{TopicPartition}
 use Rattle.kb_tenant.specs.Counted.{limits_of, answered_at, begun, fetched_at, has_enough, refused, AreFetchesTold, IsFetchTold, IsFetchTopicTold, IsReadOr, IsUnread}
 use Rattle.kb_tenant.specs.Fetch.{bounds_of, deadline_of, fetched_in, front_of, has_starts}
 use Rattle.kb_tenant.specs.Fetch.{partition_written, places_of, reply_written, topic_written}

@@ -15,19 +15,19 @@ use Rattle.kb_api_data.specs.declared.fetch_v5.FetchReplyV5.{FetchReplyV5}
 use Rattle.kb_api_data.specs.declared.fetch_records.FetchPartitionFront.{FetchPartitionFront}
 use Rattle.kb_api_data.specs.declared.fetch_records_v5.FetchPartitionFrontV5.{FetchPartitionFrontV5}
 use Rattle.kb_topics.specs.Known.{named}
-use Rattle.kb_world.specs.Scene.{Scene}
-use Rattle.kb_world.specs.declared.fault.PartitionFault.{PartitionFault}
-use Rattle.kb_world.specs.declared.fault.PartitionFault.TheVariants as partition
-use Rattle.kb_world.specs.Calls.{IsGiven}
+use Rattle.kb_tenant_state.specs.Scene.{Scene}
+use Rattle.kb_tenant_state.specs.declared.fault.PartitionFault.{PartitionFault}
+use Rattle.kb_tenant_state.specs.declared.fault.PartitionFault.TheVariants as partition
+use Rattle.kb_tenant_state.specs.Calls.{IsGiven}
 use Rattle.kb_tenant.specs.Counted.{fetch_answered, answered_at, answered_by, answered_topic, begun, fetched, fetched_at, less, refused}
 use Rattle.kb_tenant.specs.Fetch.{bounds_of, front_of}
 use Rattle.kb_tenant.specs.Fetch.{front_written, partition_written, reply_written, topic_written, topic_without_starts, without_start}
-use Rattle.kb_world.specs.Parts.{Seen}
-use Rattle.kb_world.specs.Steps.{IsStep, Meets, calm_then}
+use Rattle.kb_tenant_state.specs.Parts.{Seen}
+use Rattle.kb_tenant_state.specs.Steps.{IsStep, Meets, calm_then}
 use Rattle.kb_tenant.specs.Turns.{in_turn, written_behind}
-use Rattle.kb_world.specs.World.{World, place_in}
+use Rattle.kb_tenant_state.specs.World.{World, place_in}
 use Rattle.kb_tenant.specs.declared.fetch.given.Given.{Given}
-use Rattle.kb_world.specs.declared.topic_partition.TopicPartition.{TopicPartition}
+use Rattle.kb_tenant_state.specs.declared.topic_partition.TopicPartition.{TopicPartition}
 use Rattle.kb_tenant.proofs.Mapped.{flat_map-map}
 use Rattle.kb_tenant.proofs.Turning.{turn_next, turn_length}
 

@@ -12,8 +12,8 @@ use Rattle.kb_topics.specs.declared.command.Command.TheVariants.{Create, Delete,
 use Rattle.kb_topics.specs.declared.command.CreateTopic.{CreateTopic}
 use Rattle.kb_log.specs.OnShelf.{Log}
 use Rattle.kb_store.specs.Disk.{Files}
-use Rattle.kb_world.specs.Parts.{Agrees, world_of}
-use Rattle.kb_world.specs.declared.parts.Parts.{Parts}
+use Rattle.kb_tenant_state.specs.Parts.{Agrees, world_of}
+use Rattle.kb_tenant_state.specs.declared.parts.Parts.{Parts}
 use Rattle.kb_tenant.specs.Waiting.{AreNamedApart, HasOwnNames}
 use Rattle.kb_tenant.proofs.OwnNames.{apart_inserted, apart_put, apart_removed}
 

@@ -12,10 +12,10 @@ use Rattle.kb_api_data.specs.declared.list_offsets.ListOffsetsRequest.{ListOffse
 use Rattle.kb_api_data.specs.declared.list_offsets.ListOffsetsTopic.{ListOffsetsTopic}
 use Rattle.kb_api_data.specs.declared.list_offsets.ListOffsetsTopicReply.{ListOffsetsTopicReply}
 use Rattle.kb_topics.specs.Known.{named}
-use Rattle.kb_world.specs.Scene.{Scene, WhereHonest}
-use Rattle.kb_world.specs.Parts.{Seen}
-use Rattle.kb_world.specs.Steps.{IsStep}
-use Rattle.kb_world.specs.World.{World}
+use Rattle.kb_tenant_state.specs.Scene.{Scene, WhereHonest}
+use Rattle.kb_tenant_state.specs.Parts.{Seen}
+use Rattle.kb_tenant_state.specs.Steps.{IsStep}
+use Rattle.kb_tenant_state.specs.World.{World}
 use Rattle.kb_tenant.specs.Told.{HasFailed, IsListingTold, IsListingTopicTold}
 use Rattle.kb_tenant.proofs.Acknowledging.{honest_then, written_more}
 use Rattle.kb_tenant.proofs.Fetched.{failed_later, failed_since}

@@ -8,11 +8,11 @@ use Rattle.std.specs.Map.{lookup}
 use Rattle.std.specs.BTreeMap.{is_at}
 use Rattle.std.proofs.lemmas.List.{length-set}
 use Rattle.std.proofs.lemmas.List.Elements.{Contains-append_left, Contains-push}
-use Rattle.kb_world.specs.Logs.{LogState, Logs, log_at, put_log, with_log}
-use Rattle.kb_world.specs.Calls.{with_log_at}
-use Rattle.kb_world.specs.Tied.{counted}
-use Rattle.kb_world.specs.World.{World}
-use Rattle.kb_world.specs.declared.topic_partition.TopicPartition.{TopicPartition}
+use Rattle.kb_tenant_state.specs.Logs.{LogState, Logs, log_at, put_log, with_log}
+use Rattle.kb_tenant_state.specs.Calls.{with_log_at}
+use Rattle.kb_tenant_state.specs.Tied.{counted}
+use Rattle.kb_tenant_state.specs.World.{World}
+use Rattle.kb_tenant_state.specs.declared.topic_partition.TopicPartition.{TopicPartition}
 use Rattle.kb_tenant.proofs.Entries.{counted_set, get_other, set_other, set_same}
 use Rattle.kb_tenant.proofs.Moves.{Moves}
 

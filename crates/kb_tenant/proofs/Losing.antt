@@ -18,11 +18,11 @@ use Rattle.kb_topics.specs.Refusals.{create_refusal}
 use Rattle.kb_topics.specs.declared.config.TopicConfig.{TopicConfig}
 use Rattle.kb_topics.specs.declared.fault.CatalogFault.{CatalogFault}
 use Rattle.kb_topics.proofs.Steps.{unnamed}
-use Rattle.kb_world.specs.Logs.{LogState, appended}
-use Rattle.kb_world.specs.declared.fault.PartitionFault.TheVariants as partition
-use Rattle.kb_world.specs.Calls.{appended_to, created_unless, deleted_at, with_log_at}
-use Rattle.kb_world.specs.World.{World, log_in, place_in}
-use Rattle.kb_world.specs.declared.topic_partition.TopicPartition.{TopicPartition}
+use Rattle.kb_tenant_state.specs.Logs.{LogState, appended}
+use Rattle.kb_tenant_state.specs.declared.fault.PartitionFault.TheVariants as partition
+use Rattle.kb_tenant_state.specs.Calls.{appended_to, created_unless, deleted_at, with_log_at}
+use Rattle.kb_tenant_state.specs.World.{World, log_in, place_in}
+use Rattle.kb_tenant_state.specs.declared.topic_partition.TopicPartition.{TopicPartition}
 use Rattle.kb_tenant.specs.CreateTopics.{created_all, created_topic, made_unless, made_with, refusal, stands_twice}
 use Rattle.kb_tenant.specs.DeleteTopics.{deleted_all, deleted_topic}
 use Rattle.kb_tenant.specs.Produce.{Progress, appended_at, batch_in, decided, known_place, offered_unless, produced, progress, refusal_of, entry_served, served_topic, tried, verdict_on}

@@ -15,17 +15,17 @@ use Rattle.kb_api_data.specs.declared.fetch.FetchRequest.{FetchRequest}
 use Rattle.kb_api_data.specs.declared.fetch.FetchTopic.{FetchTopic}
 use Rattle.kb_api_data.specs.declared.fetch_v5.FetchReplyV5.{FetchReplyV5}
 use Rattle.kb_topics.specs.Known.{named}
-use Rattle.kb_world.specs.Logs.{LogState, log_at}
-use Rattle.kb_world.specs.Partitions.{Agree, Entries, log_state, logs_of, partition_at}
-use Rattle.kb_world.specs.declared.fault.PartitionFault.{PartitionFault}
-use Rattle.kb_world.specs.declared.fault.PartitionFault.TheVariants as partition
-use Rattle.kb_world.specs.declared.partition.Partition.{Partition}
-use Rattle.kb_world.proofs.Placed.{placed}
-use Rattle.kb_world.specs.Calls.{fetched_from, GivesAtMost, HasAtMost}
-use Rattle.kb_world.specs.Parts.{entries, world_of, Agrees}
-use Rattle.kb_world.specs.declared.parts.Parts.{Parts}
-use Rattle.kb_world.specs.World.{World, log_in, place_in}
-use Rattle.kb_world.specs.declared.topic_partition.TopicPartition.{TopicPartition}
+use Rattle.kb_tenant_state.specs.Logs.{LogState, log_at}
+use Rattle.kb_tenant_state.specs.Partitions.{Agree, Entries, log_state, logs_of, partition_at}
+use Rattle.kb_tenant_state.specs.declared.fault.PartitionFault.{PartitionFault}
+use Rattle.kb_tenant_state.specs.declared.fault.PartitionFault.TheVariants as partition
+use Rattle.kb_tenant_state.specs.declared.partition.Partition.{Partition}
+use Rattle.kb_tenant_state.proofs.Placed.{placed}
+use Rattle.kb_tenant_state.specs.Calls.{fetched_from, GivesAtMost, HasAtMost}
+use Rattle.kb_tenant_state.specs.Parts.{entries, world_of, Agrees}
+use Rattle.kb_tenant_state.specs.declared.parts.Parts.{Parts}
+use Rattle.kb_tenant_state.specs.World.{World, log_in, place_in}
+use Rattle.kb_tenant_state.specs.declared.topic_partition.TopicPartition.{TopicPartition}
 use Rattle.kb_tenant.specs.Counted.{answered_at, answered_by, answered_topic, begun, fetch_answered, fetched, has_enough, limit_of, Misses}
 use Rattle.kb_tenant.specs.Fetch as fetch
 use Rattle.kb_tenant.specs.Fetch.{fetch_answer, is_ready, look_written, reply_written}

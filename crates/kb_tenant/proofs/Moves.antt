@@ -4,10 +4,10 @@ use Rattle.std.specs.List.{Contains}
 use Rattle.std.proofs.lemmas.List.Elements.{Contains-append_left}
 use Rattle.kb_api_data.specs.declared.fetch.FetchRequest.{FetchRequest}
 use Rattle.std.specs.Prelude.{None}
-use Rattle.kb_world.specs.Logs.{LogState}
-use Rattle.kb_world.specs.Tied.{IsTied}
-use Rattle.kb_world.specs.World.{World}
-use Rattle.kb_world.specs.declared.topic_partition.TopicPartition.{TopicPartition}
+use Rattle.kb_tenant_state.specs.Logs.{LogState}
+use Rattle.kb_tenant_state.specs.Tied.{IsTied}
+use Rattle.kb_tenant_state.specs.World.{World}
+use Rattle.kb_tenant_state.specs.declared.topic_partition.TopicPartition.{TopicPartition}
 use Rattle.kb_tenant.specs.Fetch.{fetch_answer, places_of}
 use Rattle.kb_tenant.specs.Turns.{in_turn}
 use Rattle.kb_tenant.specs.Waiting.{AreApart, StillWaits}

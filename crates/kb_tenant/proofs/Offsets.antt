@@ -12,11 +12,11 @@ use Rattle.kb_api_data.specs.declared.list_offsets.ListOffsetsPartition.{ListOff
 use Rattle.kb_api_data.specs.declared.list_offsets.ListOffsetsTopic.{ListOffsetsTopic}
 use Rattle.kb_api_data.specs.declared.list_offsets.ListOffsetsRequest.{ListOffsetsRequest}
 use Rattle.kb_topics.specs.Known.{named}
-use Rattle.kb_world.specs.Logs.{LogState}
-use Rattle.kb_world.specs.Calls.{found_in}
+use Rattle.kb_tenant_state.specs.Logs.{LogState}
+use Rattle.kb_tenant_state.specs.Calls.{found_in}
 use Rattle.kb_tenant.specs.ListOffsets.{offset_refused, edge_answered, offset_found, listed_in, listed_at, listed, listed_topic, list_offsets}
-use Rattle.kb_world.specs.World.{World, place_in, log_in}
-use Rattle.kb_world.specs.declared.topic_partition.TopicPartition.{TopicPartition}
+use Rattle.kb_tenant_state.specs.World.{World, place_in, log_in}
+use Rattle.kb_tenant_state.specs.declared.topic_partition.TopicPartition.{TopicPartition}
 use Rattle.kb_tenant.proofs.Fitting.{array_written, written_both}
 
 -- a partition is at its place

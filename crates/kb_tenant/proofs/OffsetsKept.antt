@@ -8,9 +8,9 @@ use Rattle.kb_api_group.specs.Layouts.{offset_fetch_partition_reply, offset_fetc
 use Rattle.kb_api_group.specs.declared.offset_fetch.OffsetFetchTopic.{OffsetFetchTopic}
 use Rattle.kb_api_group.specs.declared.offset_fetch.OffsetFetchRequest.{OffsetFetchRequest}
 use Rattle.kb_topics.specs.Known.{named}
-use Rattle.kb_world.specs.Calls.{committed}
-use Rattle.kb_world.specs.World.{World, place_in}
-use Rattle.kb_world.specs.declared.topic_partition.TopicPartition.{TopicPartition}
+use Rattle.kb_tenant_state.specs.Calls.{committed}
+use Rattle.kb_tenant_state.specs.World.{World, place_in}
+use Rattle.kb_tenant_state.specs.declared.topic_partition.TopicPartition.{TopicPartition}
 use Rattle.kb_tenant.specs.OffsetFetch.{fetched, fetched_all, fetched_topic, kept}
 use Rattle.kb_tenant.proofs.Fitting.{array_written, written_both}
 

@@ -5,14 +5,14 @@ use Rattle.kb_batch.specs.Batch.{count_of}
 use Rattle.kb_producers.specs.declared.verdict.Verdict.{Verdict}
 use Rattle.kb_producers.specs.declared.verdict.Verdict.TheVariants.{Append, Repeat, Refuse}
 use Rattle.kb_topics.specs.Known.{named}
-use Rattle.kb_world.specs.Logs.{LogState, appended}
-use Rattle.kb_world.specs.declared.fault.PartitionFault.TheVariants as partition
+use Rattle.kb_tenant_state.specs.Logs.{LogState, appended}
+use Rattle.kb_tenant_state.specs.declared.fault.PartitionFault.TheVariants as partition
 use Rattle.kb_api_data.specs.declared.produce.ProducePartition.{ProducePartition}
 use Rattle.kb_api_data.specs.declared.produce.ProduceTopic.{ProduceTopic}
 use Rattle.kb_api_data.specs.declared.produce.ProduceRequest.{ProduceRequest}
-use Rattle.kb_world.specs.Calls.{appended_to, with_log_at}
-use Rattle.kb_world.specs.World.{World, log_in, place_in}
-use Rattle.kb_world.specs.declared.topic_partition.TopicPartition.{TopicPartition}
+use Rattle.kb_tenant_state.specs.Calls.{appended_to, with_log_at}
+use Rattle.kb_tenant_state.specs.World.{World, log_in, place_in}
+use Rattle.kb_tenant_state.specs.declared.topic_partition.TopicPartition.{TopicPartition}
 use Rattle.kb_tenant.specs.Produce.{Progress, appended_at, batch_in, decided, known_place, offered_unless, produced, progress, refusal_of, entry_served, served_topic, tried, verdict_on}
 use Rattle.kb_tenant.proofs.LogMoves.{with_log_moves}
 use Rattle.kb_tenant.proofs.Moves.{Moves, stays_same, turns_move}

@@ -20,12 +20,12 @@ use Rattle.kb_api_data.specs.declared.produce.ProduceTopic.{ProduceTopic}
 use Rattle.kb_api_data.specs.declared.produce.ProducePartition.{ProducePartition}
 use Rattle.kb_api_data.specs.declared.produce.ProducePartitionReply.{ProducePartitionReply}
 use Rattle.kb_api_data.specs.declared.produce.ProduceTopicReply.{ProduceTopicReply}
-use Rattle.kb_world.specs.World.{World}
-use Rattle.kb_world.specs.Calls.{judged}
+use Rattle.kb_tenant_state.specs.World.{World}
+use Rattle.kb_tenant_state.specs.Calls.{judged}
 use Rattle.kb_tenant.specs.Turns.{in_turn, written_behind}
 use Rattle.kb_tenant.specs.Produce.{Progress, progress, batch_in, read_unless, is_issued, verdict_on, offered, tried, refusal_of, entry_served, served_topic, produced, where_due, is_due, reply_bytes, written_next}
 use Rattle.kb_tenant.specs.declared.produce.Terms.{Terms}
-use Rattle.kb_world.specs.declared.topic_partition.TopicPartition.{TopicPartition}
+use Rattle.kb_tenant_state.specs.declared.topic_partition.TopicPartition.{TopicPartition}
 use Rattle.kb_tenant.proofs.Turning.{turn_next, turn_length}
 
 -- ---- one entry

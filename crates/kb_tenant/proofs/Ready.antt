@@ -13,17 +13,17 @@ use Rattle.kb_api_data.specs.declared.fetch_v5.FetchPartitionReplyV5.{FetchParti
 use Rattle.kb_api_data.specs.declared.fetch_v5.FetchTopicReplyV5.{FetchTopicReplyV5}
 use Rattle.kb_api_data.specs.declared.fetch_v5.FetchReplyV5.{FetchReplyV5}
 use Rattle.kb_topics.specs.Known.{named}
-use Rattle.kb_world.specs.declared.fault.PartitionFault.{PartitionFault}
-use Rattle.kb_world.specs.declared.fault.PartitionFault.TheVariants as partition
+use Rattle.kb_tenant_state.specs.declared.fault.PartitionFault.{PartitionFault}
+use Rattle.kb_tenant_state.specs.declared.fault.PartitionFault.TheVariants as partition
 use Rattle.kb_tenant.specs.Counted.{fetch_answered, answered_at, answered_by, answered_topic, fetched, fetched_at, refused, begun, has_enough}
 use Rattle.kb_tenant.specs.Fetch.{bounds_of, is_ready, records_size, is_error, look_written, fetch_answer, reply_written}
 use Rattle.kb_tenant.specs.Counted.{AreFetchesTold, IsFetchTold, IsFetchTopicTold}
 use Rattle.kb_tenant.proofs.Counting.{fetched_same}
 use Rattle.kb_tenant.proofs.Fetching.{cut_back}
 use Rattle.kb_tenant.specs.Turns.{in_turn, AreServed}
-use Rattle.kb_world.specs.World.{World, place_in}
+use Rattle.kb_tenant_state.specs.World.{World, place_in}
 use Rattle.kb_tenant.specs.declared.fetch.given.Given.{Given}
-use Rattle.kb_world.specs.declared.topic_partition.TopicPartition.{TopicPartition}
+use Rattle.kb_tenant_state.specs.declared.topic_partition.TopicPartition.{TopicPartition}
 
 -- what an answer adds to what was given before
 record Tells {A : Type 0} (size : A → ℕ) (bad some : A → Bool) (g h : Given) (a : A) : Type 0 where

@@ -8,11 +8,11 @@ use Rattle.std.specs.BTreeMap.{is_at}
 use Rattle.std.proofs.lemmas.List.{length-set}
 use Rattle.kb_topics.specs.Commands.{start_command}
 use Rattle.kb_topics.specs.Known.{Known, PartitionState, TopicState, named, partition_at, put_topic, step, topic_at, with_part, with_partition, with_start}
-use Rattle.kb_world.specs.Logs.{LogState, Logs, dropped, log_at, without_below}
-use Rattle.kb_world.specs.Calls.{due, moved_to, retain, retained_from}
-use Rattle.kb_world.specs.Tied.{counted, partition_count}
-use Rattle.kb_world.specs.World.{World, log_in}
-use Rattle.kb_world.specs.declared.topic_partition.TopicPartition.{TopicPartition}
+use Rattle.kb_tenant_state.specs.Logs.{LogState, Logs, dropped, log_at, without_below}
+use Rattle.kb_tenant_state.specs.Calls.{due, moved_to, retain, retained_from}
+use Rattle.kb_tenant_state.specs.Tied.{counted, partition_count}
+use Rattle.kb_tenant_state.specs.World.{World, log_in}
+use Rattle.kb_tenant_state.specs.declared.topic_partition.TopicPartition.{TopicPartition}
 use Rattle.kb_tenant.specs.Waiting.{AreNamedApart}
 use Rattle.kb_tenant.proofs.Asked.{here_first}
 use Rattle.kb_tenant.proofs.Entries.{counted_set, none_set}

@@ -35,12 +35,12 @@ use Rattle.kb_topics.specs.Commands.{start_command}
 use Rattle.kb_topics.specs.Refusals.{create_refusal, issue_refusal}
 use Rattle.kb_topics.specs.declared.config.TopicConfig.{TopicConfig}
 use Rattle.kb_topics.specs.declared.fault.CatalogFault.{CatalogFault}
-use Rattle.kb_world.specs.Logs.{LogState, Logs, appended, dropped, log_at, no_log, put_log, with_log, without_below}
-use Rattle.kb_world.specs.declared.fault.PartitionFault.{PartitionFault}
-use Rattle.kb_world.specs.declared.fault.PartitionFault.TheVariants as partition
-use Rattle.kb_world.specs.Calls.{appended_to, created_unless, delete_records, deleted_at, due, due_in, issue, issued_unless, moved_to, retain, retained_from, with_log_at}
-use Rattle.kb_world.specs.World.{World, log_in, new_world, place_in}
-use Rattle.kb_world.specs.declared.topic_partition.TopicPartition.{TopicPartition}
+use Rattle.kb_tenant_state.specs.Logs.{LogState, Logs, appended, dropped, log_at, no_log, put_log, with_log, without_below}
+use Rattle.kb_tenant_state.specs.declared.fault.PartitionFault.{PartitionFault}
+use Rattle.kb_tenant_state.specs.declared.fault.PartitionFault.TheVariants as partition
+use Rattle.kb_tenant_state.specs.Calls.{appended_to, created_unless, delete_records, deleted_at, due, due_in, issue, issued_unless, moved_to, retain, retained_from, with_log_at}
+use Rattle.kb_tenant_state.specs.World.{World, log_in, new_world, place_in}
+use Rattle.kb_tenant_state.specs.declared.topic_partition.TopicPartition.{TopicPartition}
 use Rattle.kb_tenant.specs.Batches.{HasSmallLogs, IsSmall}
 use Rattle.kb_tenant.specs.CreateTopics.{created_all, created_topic, made_of, made_unless, made_with, refusal, stands_twice}
 use Rattle.kb_tenant.specs.DeleteRecords.{deleted as records_deleted, deleted_all as all_records_deleted, deleted_in, deleted_topic as topic_records_deleted}

@@ -20,14 +20,14 @@ use Rattle.kb_api_data.specs.declared.fetch.FetchTopic.{FetchTopic}
 use Rattle.kb_api_data.specs.declared.fetch_v5.FetchReplyV5.{FetchReplyV5}
 use Rattle.kb_api_data.specs.declared.fetch_v5.FetchTopicReplyV5.{FetchTopicReplyV5}
 use Rattle.kb_api_data.specs.declared.fetch_records_v5.FetchPartitionFrontV5.{FetchPartitionFrontV5}
-use Rattle.kb_world.specs.Fault.{code_of}
-use Rattle.kb_world.specs.Logs.{LogState}
-use Rattle.kb_world.specs.declared.fault.PartitionFault.{PartitionFault}
-use Rattle.kb_world.specs.declared.fault.PartitionFault.TheVariants as partition
+use Rattle.kb_tenant_state.specs.Fault.{code_of}
+use Rattle.kb_tenant_state.specs.Logs.{LogState}
+use Rattle.kb_tenant_state.specs.declared.fault.PartitionFault.{PartitionFault}
+use Rattle.kb_tenant_state.specs.declared.fault.PartitionFault.TheVariants as partition
 use Rattle.kb_topics.specs.Known.{named}
-use Rattle.kb_world.specs.Calls.{fetched_from}
-use Rattle.kb_world.specs.World.{World, log_in, place_in}
-use Rattle.kb_world.specs.declared.topic_partition.TopicPartition.{TopicPartition}
+use Rattle.kb_tenant_state.specs.Calls.{fetched_from}
+use Rattle.kb_tenant_state.specs.World.{World, log_in, place_in}
+use Rattle.kb_tenant_state.specs.declared.topic_partition.TopicPartition.{TopicPartition}
 use Rattle.kb_tenant.specs.Batches.{HasSmallLogs, IsSmall, Spells}
 use Rattle.kb_tenant.specs.Fetch.{Limits, fetch_answered, answered_at, answered_by, answered_topic, begun, fetched, front_of, limit_of, read_as, refusal_of}
 use Rattle.kb_tenant.specs.Fetch.{reply_written, topic_without_starts, without_start, without_starts}

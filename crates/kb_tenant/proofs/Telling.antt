@@ -2,11 +2,11 @@
 use Rattle.std.proofs.Common.{◌≡◌, ⊎_elim, inl, inr, ℕ, ℤ, List, Option, Some, None, Result, Ok, Err, sym, subst, ap, refl}
 use Rattle.kb_api_data.specs.declared.produce.ProducePartition.{ProducePartition}
 use Rattle.kb_api_data.specs.declared.produce.ProducePartitionReply.{ProducePartitionReply}
-use Rattle.kb_world.specs.Scene.{Scene}
-use Rattle.kb_world.specs.Parts.{Seen}
-use Rattle.kb_world.specs.Told.{IsDone, Tells}
-use Rattle.kb_world.specs.World.{place_in}
-use Rattle.kb_world.specs.declared.topic_partition.TopicPartition.{TopicPartition}
+use Rattle.kb_tenant_state.specs.Scene.{Scene}
+use Rattle.kb_tenant_state.specs.Parts.{Seen}
+use Rattle.kb_tenant_state.specs.Told.{IsDone, Tells}
+use Rattle.kb_tenant_state.specs.World.{place_in}
+use Rattle.kb_tenant_state.specs.declared.topic_partition.TopicPartition.{TopicPartition}
 use Rattle.kb_tenant.specs.Produce.{Progress, answer, produce_answered, batch_in, known_place, entry_served, tried}
 use Rattle.kb_tenant.specs.Told.{IsAppendWant, IsTold}
 

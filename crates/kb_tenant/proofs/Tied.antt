@@ -8,9 +8,9 @@ use Rattle.std.specs.BTreeMap.{is_at}
 use Rattle.std.proofs.lemmas.Map.Made.{lookup-map_values}
 use Rattle.std.proofs.lemmas.Option.{slice_get_within}
 use Rattle.kb_topics.specs.Known.{TopicState, topic_at}
-use Rattle.kb_world.specs.Logs.{LogState, log_at}
-use Rattle.kb_world.specs.Tied.{IsTied, partition_count}
-use Rattle.kb_world.specs.World.{World, new_world}
+use Rattle.kb_tenant_state.specs.Logs.{LogState, log_at}
+use Rattle.kb_tenant_state.specs.Tied.{IsTied, partition_count}
+use Rattle.kb_tenant_state.specs.World.{World, new_world}
 
 -- the topic of a log, which has a partition of its number
 pub record Owner (w : World) (i p : ℕ) : Type 0 where

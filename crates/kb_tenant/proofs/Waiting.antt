@@ -13,9 +13,9 @@ use Rattle.kb_api_data.specs.declared.fetch.FetchRequest.{FetchRequest}
 use Rattle.kb_api_data.specs.declared.fetch_v5.FetchReplyV5.{FetchReplyV5}
 use Rattle.kb_topics.specs.Known.{named}
 use Rattle.kb_tenant.specs.Fetch.{places_in, places_of, look_written, IsServed, deadline_of}
-use Rattle.kb_world.specs.World.{World, place_in}
+use Rattle.kb_tenant_state.specs.World.{World, place_in}
 use Rattle.kb_tenant.specs.declared.fetch.waiting.Fetching.TheVariants as fetching
-use Rattle.kb_world.specs.declared.topic_partition.TopicPartition.{TopicPartition}
+use Rattle.kb_tenant_state.specs.declared.topic_partition.TopicPartition.{TopicPartition}
 
 -- one item more
 pub one_longer : {A : Type 0} (xs : List A) (i : ℕ) (x : A) → i < length xs → x ≡ get_or xs i x → take (i + 1) xs ≡ take i xs ++ x ∷ []

@@ -19,19 +19,19 @@ use Rattle.kb_api_group.specs.declared.offset_commit.CommitTopicReply.{CommitTop
 use Rattle.kb_api_group.specs.declared.offset_commit.OffsetCommitReply.{OffsetCommitReply}
 use Rattle.kb_api_group.specs.declared.offset_commit.OffsetCommitRequest.{OffsetCommitRequest}
 use Rattle.kb_wire.specs.Codec.{array, count, string}
-use Rattle.kb_world.specs.Scene.{Scene, WhereHonest}
+use Rattle.kb_tenant_state.specs.Scene.{Scene, WhereHonest}
 use Rattle.kb_topics.specs.CatalogFault.{code_of as fault_code}
 use Rattle.kb_topics.specs.Known.{named}
 use Rattle.kb_topics.specs.declared.config.TopicConfig.{TopicConfig}
 use Rattle.kb_topics.specs.declared.fault.CatalogFault.{CatalogFault}
 use Rattle.kb_topics.specs.declared.fault.CatalogFault.TheVariants as catalog
-use Rattle.kb_world.specs.Calls.{create, delete}
-use Rattle.kb_world.specs.Parts.{Seen}
-use Rattle.kb_world.specs.Steps.{IsStep}
-use Rattle.kb_world.specs.Told.{Failed, IsCatalogWant, IsCreationWant, IsDone, IsRefused, Tells}
-use Rattle.kb_world.specs.Counts.{counted_once}
-use Rattle.kb_world.specs.World.{World}
-use Rattle.kb_world.specs.declared.topic_partition.TopicPartition.{TopicPartition}
+use Rattle.kb_tenant_state.specs.Calls.{create, delete}
+use Rattle.kb_tenant_state.specs.Parts.{Seen}
+use Rattle.kb_tenant_state.specs.Steps.{IsStep}
+use Rattle.kb_tenant_state.specs.Told.{Failed, IsCatalogWant, IsCreationWant, IsDone, IsRefused, Tells}
+use Rattle.kb_tenant_state.specs.Counts.{counted_once}
+use Rattle.kb_tenant_state.specs.World.{World}
+use Rattle.kb_tenant_state.specs.declared.topic_partition.TopicPartition.{TopicPartition}
 use Rattle.kb_tenant.specs.CreateTopics.{code_in, made, refusal, stands_twice}
 use Rattle.kb_tenant.specs.DeleteTopics.{deleted, deleted_topic, places_at}
 use Rattle.kb_tenant.specs.InitProducerId.{id_refused, init_producer_id}

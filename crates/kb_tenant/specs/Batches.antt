@@ -12,9 +12,9 @@ use Rattle.kb_api_data.specs.declared.fetch_v5.FetchPartitionReplyV5.{FetchParti
 use Rattle.kb_api_data.specs.declared.fetch_v5.FetchTopicReplyV5.{FetchTopicReplyV5}
 use Rattle.kb_api_data.specs.declared.fetch_v5.FetchReplyV5.{FetchReplyV5}
 use Rattle.kb_topics.specs.Known.{named}
-use Rattle.kb_world.specs.Logs.{LogState}
-use Rattle.kb_world.specs.World.{World, log_in, place_in}
-use Rattle.kb_world.specs.declared.topic_partition.TopicPartition.{TopicPartition}
+use Rattle.kb_tenant_state.specs.Logs.{LogState}
+use Rattle.kb_tenant_state.specs.World.{World, log_in, place_in}
+use Rattle.kb_tenant_state.specs.declared.topic_partition.TopicPartition.{TopicPartition}
 use Rattle.kb_tenant.specs.Fetch.{has_starts, without_starts}
 
 -- these batches stand in a list, one after the other

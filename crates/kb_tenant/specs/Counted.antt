@@ -11,11 +11,11 @@ use Rattle.kb_api_data.specs.declared.fetch_v5.FetchPartitionReplyV5.{FetchParti
 use Rattle.kb_api_data.specs.declared.fetch_v5.FetchReplyV5.{FetchReplyV5}
 use Rattle.kb_api_data.specs.declared.fetch_v5.FetchTopicReplyV5.{FetchTopicReplyV5}
 use Rattle.kb_topics.specs.Known.{named}
-use Rattle.kb_world.specs.declared.fault.PartitionFault.{PartitionFault}
-use Rattle.kb_world.specs.declared.fault.PartitionFault.TheVariants as partition
-use Rattle.kb_world.specs.Calls.{fetch}
-use Rattle.kb_world.specs.World.{World, place_in}
-use Rattle.kb_world.specs.declared.topic_partition.TopicPartition.{TopicPartition}
+use Rattle.kb_tenant_state.specs.declared.fault.PartitionFault.{PartitionFault}
+use Rattle.kb_tenant_state.specs.declared.fault.PartitionFault.TheVariants as partition
+use Rattle.kb_tenant_state.specs.Calls.{fetch}
+use Rattle.kb_tenant_state.specs.World.{World, place_in}
+use Rattle.kb_tenant_state.specs.declared.topic_partition.TopicPartition.{TopicPartition}
 use Rattle.kb_tenant.specs.Fetch.{Limits, bounds_of, front_of, refusal_of}
 use Rattle.kb_tenant.specs.Turns.{in_turn, AreServed}
 use Rattle.kb_tenant.specs.declared.fetch.given.Given.{Given}

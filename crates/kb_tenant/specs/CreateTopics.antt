@@ -24,10 +24,10 @@ use Rattle.kb_topics.specs.Name.{is_legal}
 use Rattle.kb_topics.specs.declared.config.TopicConfig.{TopicConfig}
 use Rattle.kb_topics.specs.declared.fault.CatalogFault.{CatalogFault}
 use Rattle.kb_topics.specs.declared.fault.CatalogFault.TheVariants as faults
-use Rattle.kb_world.specs.Calls.{create}
+use Rattle.kb_tenant_state.specs.Calls.{create}
 use Rattle.kb_tenant.specs.Settings.{settings_in}
 use Rattle.kb_tenant.specs.Turns.{in_turn}
-use Rattle.kb_world.specs.World.{World}
+use Rattle.kb_tenant_state.specs.World.{World}
 
 -- whether a name stands in more than one entry
 abbrev pub stands_twice : List ℕ → List CreateTopic → Bool

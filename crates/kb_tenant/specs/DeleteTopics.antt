@@ -11,11 +11,11 @@ use Rattle.kb_api_data.specs.declared.delete_topics.DeleteTopicReply.{DeleteTopi
 use Rattle.kb_api_data.specs.declared.delete_topics.DeleteTopicsReply.{DeleteTopicsReply}
 use Rattle.kb_api_data.specs.declared.delete_topics_v1.DeleteTopicsReplyV1.{DeleteTopicsReplyV1}
 use Rattle.kb_topics.specs.Known.{TopicState, named, topic_at}
-use Rattle.kb_world.specs.Calls.{delete}
+use Rattle.kb_tenant_state.specs.Calls.{delete}
 use Rattle.kb_tenant.specs.CreateTopics.{code_in}
 use Rattle.kb_tenant.specs.Turns.{in_turn}
-use Rattle.kb_world.specs.World.{World}
-use Rattle.kb_world.specs.declared.topic_partition.TopicPartition.{TopicPartition}
+use Rattle.kb_tenant_state.specs.World.{World}
+use Rattle.kb_tenant_state.specs.declared.topic_partition.TopicPartition.{TopicPartition}
 
 -- a partition of an instance
 abbrev pub place_at : ℕ → ℕ → TopicPartition

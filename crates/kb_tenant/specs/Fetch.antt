@@ -24,16 +24,16 @@ use Rattle.kb_api_data.specs.declared.fetch_v5.FetchReplyV5.{FetchReplyV5}
 use Rattle.kb_api_data.specs.declared.fetch_records_v5.FetchPartitionFrontV5.{FetchPartitionFrontV5}
 use Rattle.kb_api_data.specs.FetchRecords.{answer_with_v5}
 use Rattle.kb_topics.specs.Known.{named}
-use Rattle.kb_world.specs.Fault.{code_of}
-use Rattle.kb_world.specs.declared.fault.PartitionFault.{PartitionFault}
-use Rattle.kb_world.specs.declared.fault.PartitionFault.TheVariants as partition
-use Rattle.kb_world.specs.Logs.{LogState}
-use Rattle.kb_world.specs.Calls.{fetch}
+use Rattle.kb_tenant_state.specs.Fault.{code_of}
+use Rattle.kb_tenant_state.specs.declared.fault.PartitionFault.{PartitionFault}
+use Rattle.kb_tenant_state.specs.declared.fault.PartitionFault.TheVariants as partition
+use Rattle.kb_tenant_state.specs.Logs.{LogState}
+use Rattle.kb_tenant_state.specs.Calls.{fetch}
 use Rattle.kb_tenant.specs.Turns.{in_turn}
-use Rattle.kb_world.specs.World.{World, log_in, place_in}
+use Rattle.kb_tenant_state.specs.World.{World, log_in, place_in}
 use Rattle.kb_tenant.specs.declared.fetch.waiting.Fetching.{Fetching}
 use Rattle.kb_tenant.specs.declared.fetch.waiting.Fetching.TheVariants as fetching
-use Rattle.kb_world.specs.declared.topic_partition.TopicPartition.{TopicPartition}
+use Rattle.kb_tenant_state.specs.declared.topic_partition.TopicPartition.{TopicPartition}
 
 -- ---- the versions
 

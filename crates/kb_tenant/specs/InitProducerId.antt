@@ -6,8 +6,8 @@ use Rattle.kb_wire.specs.ErrorCode.{code_of as code}
 use Rattle.kb_wire.specs.declared.error_code.ErrorCode.TheVariants as codes
 use Rattle.kb_topics.specs.CatalogFault.{code_of as fault_code}
 use Rattle.kb_topics.specs.declared.fault.CatalogFault.{CatalogFault}
-use Rattle.kb_world.specs.Calls.{issue}
-use Rattle.kb_world.specs.World.{World}
+use Rattle.kb_tenant_state.specs.Calls.{issue}
+use Rattle.kb_tenant_state.specs.World.{World}
 
 -- no id and no epoch
 abbrev pub id_refused : ℤ → InitProducerIdReply

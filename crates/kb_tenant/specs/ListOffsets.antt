@@ -13,10 +13,10 @@ use Rattle.kb_wire.specs.declared.error_code.ErrorCode.TheVariants as codes
 use Rattle.kb_log.specs.Log.{first_at}
 use Rattle.kb_log.specs.declared.time.OffsetAndTimestamp.{OffsetAndTimestamp}
 use Rattle.kb_topics.specs.Known.{named}
-use Rattle.kb_world.specs.Fault.{code_of as fault_code}
-use Rattle.kb_world.specs.Logs.{LogState}
-use Rattle.kb_world.specs.declared.fault.PartitionFault.{PartitionFault}
-use Rattle.kb_world.specs.World.{World, place_in, log_in}
+use Rattle.kb_tenant_state.specs.Fault.{code_of as fault_code}
+use Rattle.kb_tenant_state.specs.Logs.{LogState}
+use Rattle.kb_tenant_state.specs.declared.fault.PartitionFault.{PartitionFault}
+use Rattle.kb_tenant_state.specs.World.{World, place_in, log_in}
 
 -- no timestamp and no offset
 abbrev pub offset_refused : ℤ → ℤ → ListOffsetsPartitionReply

@@ -23,7 +23,7 @@ use Rattle.kb_wire.specs.declared.error_code.ErrorCode.TheVariants as codes
 use Rattle.kb_topics.specs.ByName.{by_name}
 use Rattle.kb_topics.specs.Known.{TopicState, named, topic_at}
 use Rattle.kb_topics.specs.Name.{is_legal}
-use Rattle.kb_world.specs.World.{World}
+use Rattle.kb_tenant_state.specs.World.{World}
 use Rattle.kb_tenant.specs.declared.node.Node.{Node}
 
 -- the one broker

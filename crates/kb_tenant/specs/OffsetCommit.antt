@@ -11,9 +11,9 @@ use Rattle.kb_api_group.specs.declared.offset_commit.CommitTopicReply.{CommitTop
 use Rattle.kb_api_group.specs.declared.offset_commit.OffsetCommitRequest.{OffsetCommitRequest}
 use Rattle.kb_api_group.specs.declared.offset_commit.OffsetCommitReply.{OffsetCommitReply}
 use Rattle.kb_topics.specs.Known.{named}
-use Rattle.kb_world.specs.Calls.{commit}
-use Rattle.kb_world.specs.World.{World, place_in}
-use Rattle.kb_world.specs.declared.topic_partition.TopicPartition.{TopicPartition}
+use Rattle.kb_tenant_state.specs.Calls.{commit}
+use Rattle.kb_tenant_state.specs.World.{World, place_in}
+use Rattle.kb_tenant_state.specs.declared.topic_partition.TopicPartition.{TopicPartition}
 use Rattle.kb_tenant.specs.CreateTopics.{code_in}
 use Rattle.kb_tenant.specs.Turns.{in_turn}
 

@@ -9,8 +9,8 @@ use Rattle.kb_api_group.specs.declared.offset_fetch.OffsetFetchPartitionReply.{O
 use Rattle.kb_api_group.specs.declared.offset_fetch.OffsetFetchTopicReply.{OffsetFetchTopicReply}
 use Rattle.kb_api_group.specs.declared.offset_fetch.OffsetFetchReply.{OffsetFetchReply}
 use Rattle.kb_topics.specs.Known.{CommittedOffset, named}
-use Rattle.kb_world.specs.Calls.{committed}
-use Rattle.kb_world.specs.World.{World, place_in}
+use Rattle.kb_tenant_state.specs.Calls.{committed}
+use Rattle.kb_tenant_state.specs.World.{World, place_in}
 
 abbrev pub committed_answered : ℤ → ℤ → List ℕ → OffsetFetchPartitionReply
 committed_answered partition offset metadata =

@@ -20,13 +20,13 @@ use Rattle.kb_api_data.specs.declared.produce.ProduceReply.{ProduceReply}
 use Rattle.kb_producers.specs.declared.verdict.Verdict.{Verdict}
 use Rattle.kb_producers.specs.declared.verdict.Verdict.TheVariants.{Append, Repeat, Refuse}
 use Rattle.kb_topics.specs.Known.{named}
-use Rattle.kb_world.specs.Fault.{code_of as partition_code}
-use Rattle.kb_world.specs.Logs.{LogState}
-use Rattle.kb_world.specs.declared.fault.PartitionFault.{PartitionFault}
-use Rattle.kb_world.specs.World.{World, log_in, place_in}
-use Rattle.kb_world.specs.Calls.{append, judged}
+use Rattle.kb_tenant_state.specs.Fault.{code_of as partition_code}
+use Rattle.kb_tenant_state.specs.Logs.{LogState}
+use Rattle.kb_tenant_state.specs.declared.fault.PartitionFault.{PartitionFault}
+use Rattle.kb_tenant_state.specs.World.{World, log_in, place_in}
+use Rattle.kb_tenant_state.specs.Calls.{append, judged}
 use Rattle.kb_tenant.specs.Turns.{in_turn}
-use Rattle.kb_world.specs.declared.topic_partition.TopicPartition.{TopicPartition}
+use Rattle.kb_tenant_state.specs.declared.topic_partition.TopicPartition.{TopicPartition}
 
 -- how far a produce came: the world, and where batches were appended, in order
 pub record Progress : Type 0 where

@@ -47,16 +47,16 @@ use Rattle.kb_api_group.specs.declared.offset_commit.CommitPartitionReply.{Commi
 use Rattle.kb_api_group.specs.declared.offset_commit.CommitTopic.{CommitTopic}
 use Rattle.kb_api_group.specs.declared.offset_commit.CommitTopicReply.{CommitTopicReply}
 use Rattle.kb_store.specs.Disk.{Grew}
-use Rattle.kb_world.specs.Scene.{Scene}
-use Rattle.kb_world.specs.declared.fault.PartitionFault.{PartitionFault}
-use Rattle.kb_world.specs.declared.fault.PartitionFault.TheVariants as partition
-use Rattle.kb_world.specs.Parts.{Seen}
+use Rattle.kb_tenant_state.specs.Scene.{Scene}
+use Rattle.kb_tenant_state.specs.declared.fault.PartitionFault.{PartitionFault}
+use Rattle.kb_tenant_state.specs.declared.fault.PartitionFault.TheVariants as partition
+use Rattle.kb_tenant_state.specs.Parts.{Seen}
 use Rattle.kb_topics.specs.CatalogFault.{code_of as fault_code}
 use Rattle.kb_topics.specs.declared.fault.CatalogFault.{CatalogFault}
-use Rattle.kb_world.specs.Told.{AreInstancesUsedUp, Failed, IsDone, IsLeft, IsLogFull, IsRefused}
+use Rattle.kb_tenant_state.specs.Told.{AreInstancesUsedUp, Failed, IsDone, IsLeft, IsLogFull, IsRefused}
 use Rattle.kb_topics.specs.Known.{named}
-use Rattle.kb_world.specs.World.{World}
-use Rattle.kb_world.specs.declared.topic_partition.TopicPartition.{TopicPartition}
+use Rattle.kb_tenant_state.specs.World.{World}
+use Rattle.kb_tenant_state.specs.declared.topic_partition.TopicPartition.{TopicPartition}
 use Rattle.kb_tenant.specs.CreateTopics.{asked_creations, created_topic, creations_in}
 use Rattle.kb_tenant.specs.DeleteRecords.{deletion_answered, deleted}
 use Rattle.kb_tenant.specs.DeleteTopics.{deleted_topic, deletions_in}

@@ -4,8 +4,8 @@ use Rattle.std.specs.List.{Contains}
 use Rattle.kb_api_data.specs.declared.fetch.FetchRequest.{FetchRequest}
 use Rattle.kb_topics.specs.Known.{TopicState, named}
 use Rattle.kb_tenant.specs.Fetch.{fetch_answer, places_of}
-use Rattle.kb_world.specs.World.{World}
-use Rattle.kb_world.specs.declared.topic_partition.TopicPartition.{TopicPartition}
+use Rattle.kb_tenant_state.specs.World.{World}
+use Rattle.kb_tenant_state.specs.declared.topic_partition.TopicPartition.{TopicPartition}
 
 -- no place is in both
 abbrev pub AreApart : List TopicPartition → List TopicPartition → Type 0

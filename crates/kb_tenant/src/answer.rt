@@ -3,8 +3,8 @@ ghost use Rattle.std.specs.Prelude.{◌≡◌, ◌≤◌, ◌<◌, ◌-◌, ◌^
 ghost use Rattle.std.specs.Int.{w32, to_be_bytes};
 ghost use Rattle.kb_tenant.specs.Replies.{begun, framed, IsAnswer, Replies};
 
+use kb_tenant_state::TopicPartition;
 use kb_wire::Sink;
-use kb_world::TopicPartition;
 use std::alloc::{AllocError, Global};
 
 /// What a request comes to for the connection that sent it.

@@ -3,7 +3,7 @@
 ghost use Rattle.std.specs.Prelude.{◌≡◌, ◌++◌, ◌+◌, ◌<◌, ◌^◌, length, pos, IfOk, List, OnOk};
 ghost use Rattle.kb_api_data.specs.Layouts.{create_topics_request_v1};
 ghost use Rattle.kb_api_data.specs.declared.create_topics.CreateTopicReply.{CreateTopicReply};
-ghost use Rattle.kb_world.specs.Scene.{WhereHonest};
+ghost use Rattle.kb_tenant_state.specs.Scene.{WhereHonest};
 ghost use Rattle.kb_store.specs.Disk.{Files};
 ghost use Rattle.kb_wire.specs.Codec.{string};
 ghost use Rattle.kb_wire.specs.Reads.{ReadsWhole};
@@ -12,10 +12,10 @@ ghost use Rattle.kb_tenant.specs.CreateTopics.{creations_in, made, made_of, refu
 ghost use Rattle.kb_tenant.specs.Settings.{settings_in};
 ghost use Rattle.kb_tenant.specs.Told.{CreationFailed, IsCreationTold, IsFaultOf, IsTold};
 ghost use Rattle.kb_tenant.specs.Turns.{AreServed};
-ghost use Rattle.kb_world.specs.Parts.{scene, world_of};
-ghost use Rattle.kb_world.specs.Steps.{IsStep, Meets};
-ghost use Rattle.kb_world.specs.Tied.{IsTied};
-ghost use Rattle.kb_world.specs.Told.{IsCreationWant, IsDone};
+ghost use Rattle.kb_tenant_state.specs.Parts.{scene, world_of};
+ghost use Rattle.kb_tenant_state.specs.Steps.{IsStep, Meets};
+ghost use Rattle.kb_tenant_state.specs.Tied.{IsTied};
+ghost use Rattle.kb_tenant_state.specs.Told.{IsCreationWant, IsDone};
 
 use crate::repeated::Repeated;
 use kb_api_data::{
@@ -24,9 +24,9 @@ use kb_api_data::{
 };
 use kb_log::{PartitionLog, Shelf};
 use kb_store::Store;
+use kb_tenant_state::Parts;
 use kb_topics::{CatalogFault, ConfigReader, TopicConfig, is_legal_name};
 use kb_wire::{ErrorCode, Layout, ReadFault, Sink, Text};
-use kb_world::Parts;
 use std::alloc::{AllocError, Global};
 
 /// The error code for what a call of the catalog answered.

@@ -6,23 +6,23 @@ ghost use Rattle.kb_api_data.specs.Layouts.{delete_records_topic, delete_records
 ghost use Rattle.kb_api_data.specs.declared.delete_records.DeleteRecordsPartitionReply.{DeleteRecordsPartitionReply};
 ghost use Rattle.kb_api_data.specs.declared.delete_records.DeleteRecordsReply.{DeleteRecordsReply};
 ghost use Rattle.kb_api_data.specs.declared.delete_records.DeleteRecordsTopicReply.{DeleteRecordsTopicReply};
-ghost use Rattle.kb_world.specs.Scene.{WhereHonest};
+ghost use Rattle.kb_tenant_state.specs.Scene.{WhereHonest};
 ghost use Rattle.kb_tenant.specs.DeleteRecords.{deletion_answered as answered_with, deleted, deleted_all, deleted_at, deleted_topic, told};
 ghost use Rattle.kb_tenant.specs.Told.{AreTrimsTold, CatalogFailed, IsDeleted, IsDeletionTold, IsRefusalFor, IsTrimTold, IsTrimTopicTold};
 ghost use Rattle.kb_tenant.specs.Turns.{in_turn, written_behind, AreServed};
-ghost use Rattle.kb_world.specs.Parts.{scene};
-ghost use Rattle.kb_world.specs.Steps.{IsStep, Meets};
-ghost use Rattle.kb_world.specs.Told.{Deletes, IsDeletionWant};
-ghost use Rattle.kb_world.specs.World.{World};
-ghost use Rattle.kb_world.specs.declared.topic_partition.TopicPartition.{TopicPartition};
+ghost use Rattle.kb_tenant_state.specs.Parts.{scene};
+ghost use Rattle.kb_tenant_state.specs.Steps.{IsStep, Meets};
+ghost use Rattle.kb_tenant_state.specs.Told.{Deletes, IsDeletionWant};
+ghost use Rattle.kb_tenant_state.specs.World.{World};
+ghost use Rattle.kb_tenant_state.specs.declared.topic_partition.TopicPartition.{TopicPartition};
 
 use kb_api_data::{
     DeleteRecordsPartition, DeleteRecordsPartitionReply, DeleteRecordsRequest, DeleteRecordsTopic,
 };
 use kb_log::{PartitionLog, Shelf};
 use kb_store::Store;
+use kb_tenant_state::{PartitionFault, Parts, TopicPartition};
 use kb_wire::{Layout, Sink};
-use kb_world::{PartitionFault, Parts, TopicPartition};
 use std::alloc::AllocError;
 
 /// The answer of a partition: its start, or -1 where it is refused.

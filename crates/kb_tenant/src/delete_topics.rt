@@ -2,21 +2,21 @@
 //! back, which is never; any other version is answered as 0.
 ghost use Rattle.std.specs.Prelude.{◌≡◌, ◌++◌, ◌<◌, ◌^◌, length, pos, take, List, Some, OnOk, OnErr};
 ghost use Rattle.kb_api_data.specs.declared.delete_topics.DeleteTopicReply.{DeleteTopicReply};
-ghost use Rattle.kb_world.specs.Scene.{WhereHonest};
+ghost use Rattle.kb_tenant_state.specs.Scene.{WhereHonest};
 ghost use Rattle.kb_store.specs.Disk.{Files};
 ghost use Rattle.kb_api_data.specs.Layouts.{delete_topics_request};
 ghost use Rattle.kb_tenant.specs.DeleteTopics.{places_at, places_named, told_if, deleted, deleted_all, deletions_in, throttle_in};
 ghost use Rattle.kb_tenant.specs.Told.{CatalogFailed, IsDeleted, IsDeletionTold, IsFaultOf, IsRemovalTold};
 ghost use Rattle.kb_tenant.specs.Turns.{AreServed};
-ghost use Rattle.kb_world.specs.Parts.{scene, world_of};
-ghost use Rattle.kb_world.specs.Steps.{IsStep, Meets};
-ghost use Rattle.kb_world.specs.Told.{IsCatalogWant};
+ghost use Rattle.kb_tenant_state.specs.Parts.{scene, world_of};
+ghost use Rattle.kb_tenant_state.specs.Steps.{IsStep, Meets};
+ghost use Rattle.kb_tenant_state.specs.Told.{IsCatalogWant};
 
 use kb_api_data::{DeleteTopicReply, DeleteTopicsRequest};
 use kb_log::{PartitionLog, Shelf};
 use kb_store::Store;
+use kb_tenant_state::{Parts, TopicPartition};
 use kb_wire::{ErrorCode, Layout, Sink, Text};
-use kb_world::{Parts, TopicPartition};
 use std::alloc::AllocError;
 
 /// Tells where the partitions of a topic are. An `Err` leaves what was told.

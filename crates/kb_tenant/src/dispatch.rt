@@ -5,10 +5,10 @@ ghost use Rattle.kb_wire.specs.declared.api_key.TheConstants.{PRODUCE};
 ghost use Rattle.kb_api_data.specs.Layouts.{produce_request, list_offsets_request, metadata_request, create_topics_request};
 ghost use Rattle.kb_api_data.specs.Layouts.{delete_records_request, delete_topics_request, init_producer_id_request};
 ghost use Rattle.kb_store.specs.Disk.{Files};
-ghost use Rattle.kb_world.specs.Scene.{WhereHonest};
-ghost use Rattle.kb_world.specs.Parts.{scene, world_of};
-ghost use Rattle.kb_world.specs.Steps.{IsStep, Meets};
-ghost use Rattle.kb_world.specs.Told.{IsLogFull};
+ghost use Rattle.kb_tenant_state.specs.Scene.{WhereHonest};
+ghost use Rattle.kb_tenant_state.specs.Parts.{scene, world_of};
+ghost use Rattle.kb_tenant_state.specs.Steps.{IsStep, Meets};
+ghost use Rattle.kb_tenant_state.specs.Told.{IsLogFull};
 ghost use Rattle.kb_tenant.specs.Answered.{IsTruthful, OnlyReads};
 ghost use Rattle.kb_tenant.specs.CreateTopics.{asked_creations};
 ghost use Rattle.kb_tenant.specs.Fetch.{asked_fetch};
@@ -39,8 +39,8 @@ use kb_api_data::{
 };
 use kb_log::{PartitionLog, Shelf};
 use kb_store::Store;
+use kb_tenant_state::{Parts, TopicPartition};
 use kb_wire::{Layout, ReadFault, api_key};
-use kb_world::{Parts, TopicPartition};
 use std::alloc::Global;
 
 /// What became of a request.

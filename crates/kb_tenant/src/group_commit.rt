@@ -6,24 +6,24 @@ ghost use Rattle.kb_api_group.specs.Layouts.{offset_commit_reply};
 ghost use Rattle.kb_api_group.specs.declared.offset_commit.CommitPartitionReply.{CommitPartitionReply};
 ghost use Rattle.kb_api_group.specs.declared.offset_commit.CommitTopicReply.{CommitTopicReply};
 ghost use Rattle.kb_api_group.specs.declared.offset_commit.OffsetCommitReply.{OffsetCommitReply};
-ghost use Rattle.kb_world.specs.Scene.{WhereHonest};
+ghost use Rattle.kb_tenant_state.specs.Scene.{WhereHonest};
 ghost use Rattle.kb_tenant.specs.OffsetCommit.{refusal_of as refusal_for, metadata_in as metadata_for, committed_at, committed};
 ghost use Rattle.kb_tenant.specs.OffsetCommit.{committed_entry, committed_topic, committed_all};
 ghost use Rattle.kb_tenant.specs.Produce.{written_next};
 ghost use Rattle.kb_tenant.specs.Told.{CatalogFailed, IsCommitTold, IsCommitTopicTold, IsFaultOf, IsTold};
 ghost use Rattle.kb_tenant.specs.Turns.{in_turn, written_behind, AreServed};
 ghost use Rattle.kb_wire.specs.Codec.{string};
-ghost use Rattle.kb_world.specs.Parts.{scene};
-ghost use Rattle.kb_world.specs.Steps.{IsStep, Meets};
-ghost use Rattle.kb_world.specs.Told.{IsCatalogWant, IsDone};
+ghost use Rattle.kb_tenant_state.specs.Parts.{scene};
+ghost use Rattle.kb_tenant_state.specs.Steps.{IsStep, Meets};
+ghost use Rattle.kb_tenant_state.specs.Told.{IsCatalogWant, IsDone};
 ghost use Rattle.std.specs.Prelude.{Some};
 
 use crate::create_topics::code_in;
 use kb_api_group::{CommitPartition, CommitPartitionReply, CommitTopic, OffsetCommitRequest};
 use kb_log::{PartitionLog, Shelf};
 use kb_store::Store;
+use kb_tenant_state::{Parts, TopicPartition};
 use kb_wire::{ErrorCode, Layout, Sink};
-use kb_world::{Parts, TopicPartition};
 use std::alloc::AllocError;
 
 /// What every entry is refused for where groups have no members: the group has no name, or a member of it commits, and it has

@@ -2,13 +2,13 @@
 ghost use Rattle.std.specs.Prelude.{◌≡◌, [], IfOk};
 ghost use Rattle.kb_api_group.specs.Layouts.{find_coordinator_request, offset_commit_request, offset_fetch_request};
 ghost use Rattle.kb_store.specs.Disk.{Files};
-ghost use Rattle.kb_world.specs.Scene.{WhereHonest};
+ghost use Rattle.kb_tenant_state.specs.Scene.{WhereHonest};
 ghost use Rattle.kb_tenant.specs.Told.{AcknowledgesCommits, CatalogFailed};
 ghost use Rattle.kb_tenant.specs.Serve.{if_read, of_find_coordinator, of_offset_commit, of_offset_fetch, IsServed};
 ghost use Rattle.kb_wire.specs.Codec.{string, whole};
-ghost use Rattle.kb_world.specs.Parts.{scene, world_of};
-ghost use Rattle.kb_world.specs.Steps.{IsStep, Meets};
-ghost use Rattle.kb_world.specs.World.{World};
+ghost use Rattle.kb_tenant_state.specs.Parts.{scene, world_of};
+ghost use Rattle.kb_tenant_state.specs.Steps.{IsStep, Meets};
+ghost use Rattle.kb_tenant_state.specs.World.{World};
 
 use crate::answer::{Answer, begin, finish};
 use crate::find_coordinator::find_coordinator;
@@ -19,8 +19,8 @@ use crate::request::Request;
 use kb_api_group::{FindCoordinatorRequest, OffsetCommitRequest, OffsetFetchRequest};
 use kb_log::{PartitionLog, Shelf};
 use kb_store::Store;
+use kb_tenant_state::Parts;
 use kb_wire::{Layout, ReadFault, Sink};
-use kb_world::Parts;
 use std::alloc::Global;
 
 /// OffsetCommit, of a tenant whose groups have no members.

@@ -2,18 +2,18 @@
 ghost use Rattle.std.specs.Prelude.{◌≡◌, ◌++◌, pos, OnOk};
 ghost use Rattle.kb_api_data.specs.Layouts.{init_producer_id_reply};
 ghost use Rattle.kb_api_data.specs.declared.init_producer_id.InitProducerIdReply.{InitProducerIdReply};
-ghost use Rattle.kb_world.specs.Scene.{WhereHonest};
+ghost use Rattle.kb_tenant_state.specs.Scene.{WhereHonest};
 ghost use Rattle.kb_tenant.specs.InitProducerId.{id_refused, init_producer_id};
 ghost use Rattle.kb_tenant.specs.Told.{CatalogFailed, IsFaultOf, IsIssueTold, IsTold};
-ghost use Rattle.kb_world.specs.Parts.{scene};
-ghost use Rattle.kb_world.specs.Steps.{IsStep, Meets};
-ghost use Rattle.kb_world.specs.Told.{IsCatalogWant, IsDone};
+ghost use Rattle.kb_tenant_state.specs.Parts.{scene};
+ghost use Rattle.kb_tenant_state.specs.Steps.{IsStep, Meets};
+ghost use Rattle.kb_tenant_state.specs.Told.{IsCatalogWant, IsDone};
 
 use kb_api_data::{InitProducerIdReply, InitProducerIdRequest};
 use kb_log::{PartitionLog, Shelf};
 use kb_store::Store;
+use kb_tenant_state::Parts;
 use kb_wire::{ErrorCode, Layout, Sink};
-use kb_world::Parts;
 use std::alloc::AllocError;
 
 fn refused(error_code: i16) -> InitProducerIdReply

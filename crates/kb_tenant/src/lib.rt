@@ -1,5 +1,5 @@
 //! The requests of one tenant for its topics, and what its groups commit: what each does to its world, and answers. Requests of
-//! groups' members are not among them: `kb_service` has these too.
+//! groups' members are not among them: `kb_tenant_api` has these too.
 #![tactic(auto)]
 
 mod answer;

@@ -6,20 +6,20 @@ ghost use Rattle.kb_api_data.specs.Layouts.{list_offsets_topic_reply, list_offse
 ghost use Rattle.kb_api_data.specs.declared.list_offsets.ListOffsetsPartitionReply.{ListOffsetsPartitionReply};
 ghost use Rattle.kb_api_data.specs.declared.list_offsets.ListOffsetsReply.{ListOffsetsReply};
 ghost use Rattle.kb_api_data.specs.declared.list_offsets.ListOffsetsTopicReply.{ListOffsetsTopicReply};
-ghost use Rattle.kb_world.specs.Scene.{WhereHonest};
+ghost use Rattle.kb_tenant_state.specs.Scene.{WhereHonest};
 ghost use Rattle.kb_tenant.specs.ListOffsets.{offset_refused, offset_answered, edge_answered, offset_found, listed, listed_at};
 ghost use Rattle.kb_tenant.specs.ListOffsets.{listed_topic, list_offsets};
 ghost use Rattle.kb_tenant.specs.Told.{HasFailed, IsListingTold, IsListingTopicTold, IsUnlisted};
-ghost use Rattle.kb_world.specs.Parts.{scene};
-ghost use Rattle.kb_world.specs.Steps.{IsStep, Meets};
+ghost use Rattle.kb_tenant_state.specs.Parts.{scene};
+ghost use Rattle.kb_tenant_state.specs.Steps.{IsStep, Meets};
 
 use kb_api_data::{
     ListOffsetsPartition, ListOffsetsPartitionReply, ListOffsetsRequest, ListOffsetsTopic,
 };
 use kb_log::{OffsetAndTimestamp, PartitionLog, Shelf};
 use kb_store::Store;
+use kb_tenant_state::{PartitionFault, Parts, TopicPartition};
 use kb_wire::{ErrorCode, Layout, Sink};
-use kb_world::{PartitionFault, Parts, TopicPartition};
 use std::alloc::AllocError;
 
 fn refused(partition: i32, error_code: i16) -> ListOffsetsPartitionReply

@@ -9,16 +9,16 @@ ghost use Rattle.kb_wire.specs.Codec.{array, int32, nullable_string, string};
 ghost use Rattle.kb_wire.specs.Reads.{ReadsWhole};
 ghost use Rattle.kb_tenant.specs.Metadata.{asked_metadata, broker, broker_v0, internal_in, metadata_in, metadata_of, partition_described};
 ghost use Rattle.kb_tenant.specs.Metadata.{topic_asked, topic_described, topic_in, topic_known, topics_asked, topics_in};
-ghost use Rattle.kb_world.specs.Parts.{world_of};
+ghost use Rattle.kb_tenant_state.specs.Parts.{world_of};
 
 use crate::node::Node;
 use kb_api_data::{
     MetadataBroker, MetadataBrokerV0, MetadataRequest, MetadataRequestV0, MetadataRequestV4,
 };
 use kb_log::PartitionLog;
+use kb_tenant_state::Parts;
 use kb_topics::{Topic, is_legal_name};
 use kb_wire::{ErrorCode, Layout, ReadFault, Sink, Text};
-use kb_world::Parts;
 use std::alloc::{AllocError, Global};
 
 /// The request that a body of version 0 spells. No topics mean all topics.

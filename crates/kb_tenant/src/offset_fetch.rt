@@ -6,13 +6,13 @@ ghost use Rattle.kb_store.specs.Disk.{Files};
 ghost use Rattle.kb_api_group.specs.Layouts.{offset_fetch_topic, offset_fetch_request, offset_fetch_partition_reply};
 ghost use Rattle.kb_api_group.specs.Layouts.{offset_fetch_topic_reply, offset_fetch_reply};
 ghost use Rattle.kb_tenant.specs.OffsetFetch.{committed_answered, told, kept, fetched, fetched_topic, fetched_all};
-ghost use Rattle.kb_world.specs.Parts.{world_of};
+ghost use Rattle.kb_tenant_state.specs.Parts.{world_of};
 
 use kb_api_group::{OffsetFetchPartitionReply, OffsetFetchRequest, OffsetFetchTopic};
 use kb_log::PartitionLog;
+use kb_tenant_state::{Parts, TopicPartition};
 use kb_topics::Committed;
 use kb_wire::{ErrorCode, Layout, Sink, Text};
-use kb_world::{Parts, TopicPartition};
 use std::alloc::AllocError;
 
 /// What a group committed to a partition of the topic of an instance.

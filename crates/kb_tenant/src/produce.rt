@@ -4,12 +4,12 @@ ghost use Rattle.std.specs.List.{flat_map};
 ghost use Rattle.kb_api_data.specs.declared.produce.ProducePartitionReply.{ProducePartitionReply};
 ghost use Rattle.kb_api_data.specs.declared.produce.ProduceReply.{ProduceReply};
 ghost use Rattle.kb_api_data.specs.declared.produce.ProduceTopicReply.{ProduceTopicReply};
-ghost use Rattle.kb_world.specs.Scene.{WhereHonest};
+ghost use Rattle.kb_tenant_state.specs.Scene.{WhereHonest};
 ghost use Rattle.kb_api_data.specs.Layouts.{produce_request, produce_topic, produce_partition_reply, produce_topic_reply};
-ghost use Rattle.kb_world.specs.Parts.{scene};
+ghost use Rattle.kb_tenant_state.specs.Parts.{scene};
 ghost use Rattle.kb_tenant.specs.Produce.{progress, refusal_of as refusal_for, is_due, entry_served, served_topic, produced, where_due};
 ghost use Rattle.kb_tenant.specs.Produce.{written_next, reply_bytes};
-ghost use Rattle.kb_world.specs.Steps.{IsStep, Meets};
+ghost use Rattle.kb_tenant_state.specs.Steps.{IsStep, Meets};
 ghost use Rattle.kb_tenant.specs.Room.{entries_length, length_due, reply_length, topic_length, IsLonger, IsPut};
 ghost use Rattle.kb_tenant.specs.Told.{FailedBy, HasFailed, IsEntryTold, IsProduceTold, IsTopicTold};
 ghost use Rattle.kb_tenant.specs.Turns.{in_turn, written_behind, AreServed};
@@ -25,8 +25,8 @@ use crate::produce::room::make_room;
 use kb_api_data::{ProducePartition, ProduceRequest, ProduceTopic};
 use kb_log::{PartitionLog, Shelf};
 use kb_store::Store;
+use kb_tenant_state::{Parts, TopicPartition};
 use kb_wire::{ErrorCode, Sink};
-use kb_world::{Parts, TopicPartition};
 use std::alloc::AllocError;
 
 /// What a request says of all its entries: why they are refused, if they are, and whether a reply is due.

@@ -4,7 +4,7 @@ use Rattle.std.specs.List.Sorted.{IsStrictlySortedBy}
 use Rattle.std.specs.Ordering.{nat_cmp}
 use Rattle.kb_store.specs.Disk.{Table}
 use Rattle.kb_log.specs.OnShelf.{Log}
-use Rattle.kb_world.specs.Partitions.{AreSound}
+use Rattle.kb_tenant_state.specs.Partitions.{AreSound}
 
 nothing : {A : Type 0} (x : A) → None ≡ Some x → ⊥
 nothing x e = absurd cc

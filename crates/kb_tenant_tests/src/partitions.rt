@@ -2,13 +2,13 @@
 ghost use Rattle.std.specs.Prelude.{IfOk, ℕ};
 ghost use Rattle.kb_store.specs.Disk.{Table};
 ghost use Rattle.kb_log.specs.ListLog.{list_log};
-ghost use Rattle.kb_world.specs.Partitions.{AreSound};
+ghost use Rattle.kb_tenant_state.specs.Partitions.{AreSound};
 
 use crate::words::bytes;
 use kb_batch::BatchView;
 use kb_log::{ListLog, Shelf};
 use kb_store::MemoryStore;
-use kb_world::Partitions;
+use kb_tenant_state::Partitions;
 use std::alloc::Global;
 use std::process::Abort;
 use std::test::Fail;

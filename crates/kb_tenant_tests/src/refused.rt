@@ -76,7 +76,7 @@ fn ask<L: PartitionLog + Drop, S: Store>(
     tenants: &mut Tenants<L, S>,
     api_key: i16,
     body: &[u8],
-) -> kb_service::Answer
+) -> kb_tenant_api::Answer
     requires { AreKept L.log S.disk tenants.old }
     ensures { AreKept L.log S.disk tenants.new }
 {
@@ -143,7 +143,7 @@ fn is_told<L: PartitionLog + Drop, S: Store>(
         ),
     };
     match answer {
-        kb_service::Answer::Plain(answer) => is_reply(&answer, reply),
+        kb_tenant_api::Answer::Plain(answer) => is_reply(&answer, reply),
         _ => false,
     }
 }

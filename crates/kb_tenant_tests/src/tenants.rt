@@ -2,7 +2,7 @@
 ghost use Rattle.std.specs.Prelude.{◌≡◌, [], ◌∷◌, IfOk};
 ghost use Rattle.kb_store.specs.Memory.{memory_disk};
 ghost use Rattle.kb_log.specs.ListLog.{list_log};
-ghost use Rattle.kb_service.specs.Hosted.{new_tenant};
+ghost use Rattle.kb_tenant_api.specs.Hosted.{new_tenant};
 ghost use Rattle.kb_tenants.specs.Tenants.{AreKept, hosted};
 
 use kb_log::{ListLog, Shelf};
@@ -47,9 +47,9 @@ fn two(alloc: Global) -> Result<Tenants<ListLog, MemoryStore>, Fail>
 }
 
 /// Whether an answer is that reply.
-fn is_reply(answer: &kb_service::Answer, reply: &[u8]) -> bool {
+fn is_reply(answer: &kb_tenant_api::Answer, reply: &[u8]) -> bool {
     match answer {
-        kb_service::Answer::Plain(Answer::Reply(bytes)) => bytes.as_slice() == reply,
+        kb_tenant_api::Answer::Plain(Answer::Reply(bytes)) => bytes.as_slice() == reply,
         _ => false,
     }
 }

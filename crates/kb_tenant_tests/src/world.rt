@@ -3,8 +3,8 @@
 mod steps;
 
 use Step::{Append, Create, NextRetentionTime, RetainAll};
+use kb_tenant_state::TopicPartition;
 use kb_topics::TopicConfig;
-use kb_world::TopicPartition;
 use std::test::Fail;
 use steps::{Step, plays};
 

@@ -2,9 +2,9 @@
 use Rattle.std.proofs.Common.{◌≡◌, ◌⊎◌, ⊎_elim, inl, inr, ◌≤◌, ◌<◌, ◌+◌, ℕ, zero, suc, List, [], ◌∷◌, length, arith}
 use Rattle.std.specs.Prelude.{min}
 use Rattle.std.proofs.lemmas.List.Sums.{sum_by-cons}
-use Rattle.kb_world.specs.Counts.{END}
-use Rattle.kb_service.specs.Hosted.{TenantState, refusals_of}
-use Rattle.kb_service.specs.Turns.{IsAccounted, HasEnded, total}
+use Rattle.kb_tenant_state.specs.Counts.{END}
+use Rattle.kb_tenant_api.specs.Hosted.{TenantState, refusals_of}
+use Rattle.kb_tenant_api.specs.Turns.{IsAccounted, HasEnded, total}
 
 -- ---- calls in turn
 

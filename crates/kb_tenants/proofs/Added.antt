@@ -3,16 +3,16 @@ use Rattle.std.proofs.Common.{◌≡◌, ◌∙◌, ◌⊎◌, ⊎_elim, inl, in
 use Rattle.std.specs.Prelude.{Contains, IsSome, length, map, slice_get, string_bytes}
 use Rattle.std.specs.declared.alloc.Global.{Global}
 use Rattle.std.specs.declared.vec.Vec.{Vec}
-use Rattle.kb_world.specs.Partitions.{AreExact}
+use Rattle.kb_tenant_state.specs.Partitions.{AreExact}
 use Rattle.std.proofs.lemmas.List.{map_push}
 use Rattle.kb_coordinator.specs.Groups.{none}
 use Rattle.kb_store.specs.Disk.{Disk, Table, Files}
 use Rattle.kb_log.specs.OnShelf.{Log}
 use Rattle.kb_log.specs.Shelf.{Shelved}
-use Rattle.kb_world.specs.Parts.{Agrees, IsSound, Owns, entries, meta, world_of}
-use Rattle.kb_world.specs.World.{World, new_world}
-use Rattle.kb_world.specs.declared.parts.Parts.{Parts}
-use Rattle.kb_service.specs.Hosted.{TenantState, kept_in, new_tenant}
+use Rattle.kb_tenant_state.specs.Parts.{Agrees, IsSound, Owns, entries, meta, world_of}
+use Rattle.kb_tenant_state.specs.World.{World, new_world}
+use Rattle.kb_tenant_state.specs.declared.parts.Parts.{Parts}
+use Rattle.kb_tenant_api.specs.Hosted.{TenantState, kept_in, new_tenant}
 use Rattle.kb_tenants.specs.Tenants.{AreKept, AreSettled, AreSound, Agree, HaveNothingRefused, IsApart, IsIdleUntil, IsLeftAlone, hosted, shelf_is_honest, parts_of, restored_tenant, state_of, strays_of}
 use Rattle.kb_tenants.specs.declared.tenants.Tenant.{Tenant}
 use Rattle.kb_tenants.specs.declared.tenants.Tenants.{Tenants}

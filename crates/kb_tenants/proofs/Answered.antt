@@ -7,9 +7,9 @@ use Rattle.kb_coordinator.specs.Calls.{reply_among}
 use Rattle.kb_coordinator.specs.Groups.{Groups}
 use Rattle.kb_groups.specs.declared.reply.Release.{Release}
 use Rattle.kb_tenant.specs.Replies.{Silent}
-use Rattle.kb_service.specs.Hosted.{Kept, TenantState, kept_of}
-use Rattle.kb_service.specs.Turns.{IsTurn}
-use Rattle.kb_service.specs.Replies.{told, told_to}
+use Rattle.kb_tenant_api.specs.Hosted.{Kept, TenantState, kept_of}
+use Rattle.kb_tenant_api.specs.Turns.{IsTurn}
+use Rattle.kb_tenant_api.specs.Replies.{told, told_to}
 use Rattle.kb_tenant.proofs.LogMoves.{same_or_not}
 use Rattle.kb_tenants.specs.Tenants.{AreQuietBut, IsQuietBut, answered_connections, connection_of}
 

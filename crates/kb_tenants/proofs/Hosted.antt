@@ -14,16 +14,16 @@ use Rattle.kb_coordinator.specs.Groups.{Groups, none}
 use Rattle.kb_store.specs.Disk.{Disk, Files}
 use Rattle.kb_log.specs.OnShelf.{Log, IsLawfulLog}
 use Rattle.kb_log.specs.Shelf.{Shelved}
-use Rattle.kb_world.specs.Scene.{WhereHonest}
-use Rattle.kb_world.specs.Parts.{Agrees, IsSound, meta, scene, world_of, raised, refused}
-use Rattle.kb_world.specs.Counts.{END, IsCalm, counted_once}
-use Rattle.kb_world.specs.Steps.{IsStep, Meets, step_same}
-use Rattle.kb_world.specs.World.{World}
-use Rattle.kb_world.specs.declared.parts.Parts.{Parts}
-use Rattle.kb_world.proofs.Lifted.{loud, raised_meets, raised_step, refused_step}
-use Rattle.kb_service.specs.Hosted.{TenantState, Kept, nothing, kept_in, kept_of, left, passed, refusals_of, names_of}
-use Rattle.kb_service.specs.Turns.{IsAccounted, IsTurn, IsMet, with_kept, all_calm}
-use Rattle.kb_world.proofs.Put.{get_put}
+use Rattle.kb_tenant_state.specs.Scene.{WhereHonest}
+use Rattle.kb_tenant_state.specs.Parts.{Agrees, IsSound, meta, scene, world_of, raised, refused}
+use Rattle.kb_tenant_state.specs.Counts.{END, IsCalm, counted_once}
+use Rattle.kb_tenant_state.specs.Steps.{IsStep, Meets, step_same}
+use Rattle.kb_tenant_state.specs.World.{World}
+use Rattle.kb_tenant_state.specs.declared.parts.Parts.{Parts}
+use Rattle.kb_tenant_state.proofs.Lifted.{loud, raised_meets, raised_step, refused_step}
+use Rattle.kb_tenant_api.specs.Hosted.{TenantState, Kept, nothing, kept_in, kept_of, left, passed, refusals_of, names_of}
+use Rattle.kb_tenant_api.specs.Turns.{IsAccounted, IsTurn, IsMet, with_kept, all_calm}
+use Rattle.kb_tenant_state.proofs.Put.{get_put}
 use Rattle.kb_tenant.proofs.LogMoves.{same_or_not}
 use Rattle.kb_tenants.specs.Tenants.{AreKept, AreLeftAlone, AreSettled, HaveNothingRefused, IsIdleUntil, IsLeftAlone, commands_of, hosted}
 use Rattle.kb_tenants.specs.Tenants.{parts_of, regrouped, state_of, strays_of}

@@ -18,12 +18,12 @@ use Rattle.kb_store.specs.Disk.{Files}
 use Rattle.kb_log.specs.OnShelf.{Log}
 use Rattle.kb_topics.specs.ByName.{by_name}
 use Rattle.kb_topics.specs.Known.{TopicState}
-use Rattle.kb_world.specs.Calls.{all_places, places_of_topic, retain_all, retain_each}
-use Rattle.kb_world.specs.Parts.{Agrees, world_of}
-use Rattle.kb_world.specs.World.{World, new_world}
-use Rattle.kb_service.specs.Hosted.{TenantState, nothing, new_tenant, kept_in, kept_of, passed}
-use Rattle.kb_service.specs.Turns.{IsTurn}
-use Rattle.kb_world.proofs.RetainedAll.{none_due, nothing_goes}
+use Rattle.kb_tenant_state.specs.Calls.{all_places, places_of_topic, retain_all, retain_each}
+use Rattle.kb_tenant_state.specs.Parts.{Agrees, world_of}
+use Rattle.kb_tenant_state.specs.World.{World, new_world}
+use Rattle.kb_tenant_api.specs.Hosted.{TenantState, nothing, new_tenant, kept_in, kept_of, passed}
+use Rattle.kb_tenant_api.specs.Turns.{IsTurn}
+use Rattle.kb_tenant_state.proofs.RetainedAll.{none_due, nothing_goes}
 use Rattle.kb_tenant.proofs.LogMoves.{same_or_not}
 use Rattle.kb_tenants.specs.Tenants.{IsIdleUntil, clock_before, idle_time, least_idle_time}
 use Rattle.kb_tenants.specs.declared.tenants.Tenant.{Tenant}

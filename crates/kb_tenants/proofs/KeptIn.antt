@@ -4,11 +4,11 @@ use Rattle.std.specs.Prelude.{IsSome, map, slice_get, string_bytes}
 use Rattle.kb_store.specs.Disk.{Disk, Files}
 use Rattle.kb_log.specs.OnShelf.{Log}
 use Rattle.kb_topics.specs.Catalog.{known}
-use Rattle.kb_world.specs.Partitions.{logs_of}
-use Rattle.kb_world.specs.Parts.{entries}
-use Rattle.kb_world.specs.declared.parts.Parts.{Parts}
-use Rattle.kb_service.specs.Hosted.{kept_of, names_of}
-use Rattle.kb_service.specs.Turns.{all_calm}
+use Rattle.kb_tenant_state.specs.Partitions.{logs_of}
+use Rattle.kb_tenant_state.specs.Parts.{entries}
+use Rattle.kb_tenant_state.specs.declared.parts.Parts.{Parts}
+use Rattle.kb_tenant_api.specs.Hosted.{kept_of, names_of}
+use Rattle.kb_tenant_api.specs.Turns.{all_calm}
 use Rattle.kb_tenants.specs.Tenants.{AreKept, AreKeptIn, HaveNothingRefused, hosted, parts_of, shelf_is_honest, state_of, strays_of}
 use Rattle.kb_tenants.specs.declared.tenants.Tenant.{Tenant}
 use Rattle.kb_tenants.specs.declared.tenants.Tenants.{Tenants}

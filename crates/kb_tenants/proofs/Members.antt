@@ -11,8 +11,8 @@ use Rattle.kb_coordinator.specs.Groups.{Groups, earliest}
 use Rattle.kb_coordinator.specs.Groups as groups
 use Rattle.kb_store.specs.Disk.{Disk, Files}
 use Rattle.kb_log.specs.OnShelf.{Log}
-use Rattle.kb_world.specs.Calls.{retain_all}
-use Rattle.kb_service.specs.Hosted.{Kept, TenantState, kept_in, passed}
+use Rattle.kb_tenant_state.specs.Calls.{retain_all}
+use Rattle.kb_tenant_api.specs.Hosted.{Kept, TenantState, kept_in, passed}
 use Rattle.kb_tenants.specs.Members.{HasNoGroup, HaveNoGroup, kept_numbered_from, numbered_from, renumbered, tenant_numbered_from}
 use Rattle.kb_tenants.specs.Tenants.{Agree, AreKept, AreSettled, AreSound, HaveNothingRefused, IsIdleUntil, IsLeftAlone, hosted, parts_of, state_of, strays_of}
 use Rattle.kb_tenants.specs.declared.tenants.Tenant.{Tenant}

@@ -1,22 +1,22 @@
 -- What a tenant's own call leaves of the other tenants, and of the files that are left alone.
 use Rattle.std.proofs.Common.{◌≡◌, ◌∙◌, ◌⊎◌, ⊎_elim, inl, inr, ◌≤◌, ◌<◌, ℕ, zero, suc, List, [], ◌∷◌, Option, Some, None, sym, ap, refl, subst, arith, length, get_or}
 use Rattle.std.specs.Prelude.{slice_get, slice_set, option_map}
-use Rattle.kb_world.specs.Partitions.{AreExact}
+use Rattle.kb_tenant_state.specs.Partitions.{AreExact}
 use Rattle.std.specs.FinMap.{get}
 use Rattle.kb_store.specs.Disk.{Disk}
 use Rattle.kb_log.specs.OnShelf.{Log, IsLawfulLog}
 use Rattle.kb_topics.specs.Catalog.{known, meta_log}
 use Rattle.kb_topics.specs.MetaLog.{IsFold}
 use Rattle.std.proofs.lemmas.List.{length-set}
-use Rattle.kb_world.proofs.Put.{get_put}
-use Rattle.kb_world.specs.RetentionTime.{AreAllKept}
-use Rattle.kb_world.specs.Parts as parts
-use Rattle.kb_world.specs.Parts.{IsSound, Agrees, Owns, entries, meta, world_of}
-use Rattle.kb_world.specs.Counts.{END, IsCalm}
-use Rattle.kb_world.specs.Steps.{IsStep, Meets}
-use Rattle.kb_world.specs.World.{World}
-use Rattle.kb_world.specs.declared.parts.Parts.{Parts}
-use Rattle.kb_world.proofs.Spared as spared
+use Rattle.kb_tenant_state.proofs.Put.{get_put}
+use Rattle.kb_tenant_state.specs.RetentionTime.{AreAllKept}
+use Rattle.kb_tenant_state.specs.Parts as parts
+use Rattle.kb_tenant_state.specs.Parts.{IsSound, Agrees, Owns, entries, meta, world_of}
+use Rattle.kb_tenant_state.specs.Counts.{END, IsCalm}
+use Rattle.kb_tenant_state.specs.Steps.{IsStep, Meets}
+use Rattle.kb_tenant_state.specs.World.{World}
+use Rattle.kb_tenant_state.specs.declared.parts.Parts.{Parts}
+use Rattle.kb_tenant_state.proofs.Spared as spared
 use Rattle.kb_tenants.specs.Tenants.{AreSettled, AreSound, HaveNothingRefused, IsLeftAlone}
 use Rattle.kb_tenants.specs.Turns.{IsShelfTurn, IsShelfMet}
 use Rattle.kb_tenant.proofs.LogMoves.{same_or_not}

@@ -1,12 +1,12 @@
 -- A moment of the tenants in turn.
 use Rattle.std.proofs.Common.{◌≡◌, ◌∙◌, ◌⊎◌, ⊎_elim, inl, inr, ◌≤◌, ◌<◌, ◌+◌, ℕ, Bool, true, List, length, sym, ap, refl, subst, arith}
 use Rattle.std.proofs.lemmas.List.{length-map}
-use Rattle.kb_world.specs.Calls.{retain_all}
-use Rattle.kb_world.specs.Counts.{END, IsCalm}
-use Rattle.kb_world.specs.Steps.{calm_then}
-use Rattle.kb_service.specs.Waiters.{AreTicked}
-use Rattle.kb_service.specs.Hosted.{Kept, TenantState, kept_of, refusals_of, names_of, passed}
-use Rattle.kb_service.specs.Turns.{HavePassed, IsTurn, IsMet}
+use Rattle.kb_tenant_state.specs.Calls.{retain_all}
+use Rattle.kb_tenant_state.specs.Counts.{END, IsCalm}
+use Rattle.kb_tenant_state.specs.Steps.{calm_then}
+use Rattle.kb_tenant_api.specs.Waiters.{AreTicked}
+use Rattle.kb_tenant_api.specs.Hosted.{Kept, TenantState, kept_of, refusals_of, names_of, passed}
+use Rattle.kb_tenant_api.specs.Turns.{HavePassed, IsTurn, IsMet}
 use Rattle.kb_tenant.proofs.LogMoves.{same_or_not}
 use Rattle.kb_tenants.specs.Tenants.{IsDisturbed, drops, regrouped, retained}
 use Rattle.kb_tenants.proofs.Idle.{below_or_not, past_passed}

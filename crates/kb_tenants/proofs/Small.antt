@@ -17,12 +17,12 @@ use Rattle.kb_batch.specs.Batch.{natural, count_of}
 use Rattle.kb_batch.specs.BatchLaws.{batch_small}
 use Rattle.kb_log.specs.Log.{IsRun, base_of, first_base}
 use Rattle.kb_log.specs.OnShelf.{Log, IsLawfulLog}
-use Rattle.kb_world.specs.Logs.{LogState, Logs}
-use Rattle.kb_world.specs.Partitions.{Agree, AreSound, Entries, log_state, logs_of}
-use Rattle.kb_world.specs.declared.partition.Partition.{Partition}
-use Rattle.kb_world.specs.Parts.{entries}
+use Rattle.kb_tenant_state.specs.Logs.{LogState, Logs}
+use Rattle.kb_tenant_state.specs.Partitions.{Agree, AreSound, Entries, log_state, logs_of}
+use Rattle.kb_tenant_state.specs.declared.partition.Partition.{Partition}
+use Rattle.kb_tenant_state.specs.Parts.{entries}
 use Rattle.kb_tenant.specs.Batches.{HasSmallLogs, IsSmall}
-use Rattle.kb_service.specs.Hosted.{kept_of}
+use Rattle.kb_tenant_api.specs.Hosted.{kept_of}
 use Rattle.kb_tenants.specs.Tenants.{AreKept, hosted, shelf_is_honest, state_of}
 use Rattle.kb_tenants.specs.declared.tenants.Tenant.{Tenant}
 use Rattle.kb_tenants.specs.declared.tenants.Tenants.{Tenants}

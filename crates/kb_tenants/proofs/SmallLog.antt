@@ -7,7 +7,7 @@ use Rattle.kb_batch.specs.Batch.{natural, count_of}
 use Rattle.kb_batch.specs.BatchLaws.{batch_small}
 use Rattle.kb_log.specs.Log.{IsRun, base_of, first_base}
 use Rattle.kb_log.specs.OnShelf.{Log, IsLawfulLog}
-use Rattle.kb_world.specs.Partitions.{log_state}
+use Rattle.kb_tenant_state.specs.Partitions.{log_state}
 use Rattle.kb_tenant.specs.Batches.{IsSmall}
 
 abbrev IsBased : List ℕ → Type 0

@@ -3,11 +3,11 @@ use Rattle.std.proofs.Common.{◌≡◌, ℕ, zero, suc, List, [], ◌∷◌, So
 use Rattle.std.specs.Prelude.{map, slice_get}
 use Rattle.kb_store.specs.Disk.{Disk, Files, Table}
 use Rattle.kb_log.specs.OnShelf.{Log}
-use Rattle.kb_world.specs.Parts.{IsSound}
-use Rattle.kb_world.specs.Tied.{IsTied}
-use Rattle.kb_world.specs.declared.parts.Parts.{Parts}
-use Rattle.kb_world.proofs.Tied.{tied_world}
-use Rattle.kb_service.specs.Hosted.{kept_of}
+use Rattle.kb_tenant_state.specs.Parts.{IsSound}
+use Rattle.kb_tenant_state.specs.Tied.{IsTied}
+use Rattle.kb_tenant_state.specs.declared.parts.Parts.{Parts}
+use Rattle.kb_tenant_state.proofs.Tied.{tied_world}
+use Rattle.kb_tenant_api.specs.Hosted.{kept_of}
 use Rattle.kb_tenant.proofs.Tied.{new_tied}
 use Rattle.kb_tenant.specs.Waiting.{HasOwnNames}
 use Rattle.kb_tenant.proofs.Folding.{agreed_names}

@@ -1,7 +1,7 @@
 -- From which number on the members of tenants' groups are numbered.
 use Rattle.std.specs.Prelude.{◌≡◌, ℕ, List, [], map}
 use Rattle.kb_coordinator.specs.Groups as groups
-use Rattle.kb_service.specs.Hosted.{Kept, TenantState, kept_of}
+use Rattle.kb_tenant_api.specs.Hosted.{Kept, TenantState, kept_of}
 use Rattle.kb_tenants.specs.declared.tenants.Tenant.{Tenant}
 
 -- what is kept, where the first new member gets that number

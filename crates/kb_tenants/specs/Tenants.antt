@@ -11,18 +11,18 @@ use Rattle.kb_log.specs.OnShelf.{Log}
 use Rattle.kb_coordinator.specs.Calls as groups
 use Rattle.kb_coordinator.specs.Groups.{Groups, earliest, none}
 use Rattle.kb_groups.specs.declared.reply.Release.{Release}
-use Rattle.kb_world.specs.Calls.{retain_all}
+use Rattle.kb_tenant_state.specs.Calls.{retain_all}
 use Rattle.kb_topics.specs.Catalog.{known}
-use Rattle.kb_world.specs.Partitions.{AreExact, logs_of}
-use Rattle.kb_world.specs.Parts.{IsSound, Agrees, Owns, entries, meta, world_of}
-use Rattle.kb_world.specs.Counts.{IsCalm}
-use Rattle.kb_world.specs.declared.parts.Parts.{Parts}
-use Rattle.kb_world.specs.declared.topic_partition.TopicPartition.{TopicPartition}
-use Rattle.kb_service.specs.Acknowledged.{IsTruthful}
-use Rattle.kb_service.specs.declared.answer.Answer.{Answer as AnyAnswer}
+use Rattle.kb_tenant_state.specs.Partitions.{AreExact, logs_of}
+use Rattle.kb_tenant_state.specs.Parts.{IsSound, Agrees, Owns, entries, meta, world_of}
+use Rattle.kb_tenant_state.specs.Counts.{IsCalm}
+use Rattle.kb_tenant_state.specs.declared.parts.Parts.{Parts}
+use Rattle.kb_tenant_state.specs.declared.topic_partition.TopicPartition.{TopicPartition}
+use Rattle.kb_tenant_api.specs.Acknowledged.{IsTruthful}
+use Rattle.kb_tenant_api.specs.declared.answer.Answer.{Answer as AnyAnswer}
 use Rattle.kb_tenant.specs.declared.node.Node.{Node}
-use Rattle.kb_service.specs.Hosted.{Kept, TenantState, kept_in, kept_of, names_of, passed, refusals_of}
-use Rattle.kb_service.specs.Replies.{told_to}
+use Rattle.kb_tenant_api.specs.Hosted.{Kept, TenantState, kept_in, kept_of, names_of, passed, refusals_of}
+use Rattle.kb_tenant_api.specs.Replies.{told_to}
 use Rattle.kb_tenant.specs.Replies.{Silent}
 use Rattle.kb_tenant.specs.declared.answer.Answer.{Answer}
 use Rattle.kb_tenant.specs.declared.answer.Answer.TheVariants as answers

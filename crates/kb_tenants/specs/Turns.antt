@@ -2,11 +2,11 @@
 use Rattle.std.specs.Prelude.{◌≡◌, ◌≤◌, ℕ, List, Option, Some, length, slice_get, option_map}
 use Rattle.kb_store.specs.Disk.{Disk, Files}
 use Rattle.kb_log.specs.OnShelf.{Log}
-use Rattle.kb_world.specs.Parts as parts
-use Rattle.kb_world.specs.Parts.{world_of}
-use Rattle.kb_world.specs.Steps.{Meets}
-use Rattle.kb_world.specs.World.{World}
-use Rattle.kb_world.specs.declared.parts.Parts.{Parts}
+use Rattle.kb_tenant_state.specs.Parts as parts
+use Rattle.kb_tenant_state.specs.Parts.{world_of}
+use Rattle.kb_tenant_state.specs.Steps.{Meets}
+use Rattle.kb_tenant_state.specs.World.{World}
+use Rattle.kb_tenant_state.specs.declared.parts.Parts.{Parts}
 use Rattle.kb_tenants.specs.Tenants.{AreSound, Agree}
 
 -- what a tenant sees

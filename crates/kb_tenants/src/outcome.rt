@@ -1,7 +1,7 @@
 //! What becomes of a request of one of the tenants.
 
-use kb_service::Answer;
-use kb_world::TopicPartition;
+use kb_tenant_api::Answer;
+use kb_tenant_state::TopicPartition;
 
 /// What became of a request.
 #[derive(Drop)]

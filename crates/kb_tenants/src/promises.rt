@@ -1,7 +1,7 @@
 //! Laws about what tenants keep, each as the contract of a function with an empty body.
 ghost use Rattle.std.specs.Prelude.{ℕ};
 ghost use Rattle.kb_tenant.specs.Batches.{HasSmallLogs};
-ghost use Rattle.kb_service.specs.Hosted.{kept_of};
+ghost use Rattle.kb_tenant_api.specs.Hosted.{kept_of};
 ghost use Rattle.kb_tenants.specs.Tenants.{AreKept, hosted, shelf_is_honest};
 
 use crate::tenants::Tenants;

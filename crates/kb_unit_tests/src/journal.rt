@@ -1,6 +1,6 @@
 //! What is tested of a server's time and of its lines.
 
-use kb_journal::{GuardedClock, Missed, Notice, Reading, Sink};
+use kb_server_log::{GuardedClock, Missed, Notice, Reading, Sink};
 use std::test::*;
 
 /// Readings of the wall clock and of the steady clock in seconds, and what they come to: the moment in seconds, and what is told.

@@ -2,10 +2,10 @@
 use Rattle.std.proofs.Common.{◌≡◌, ◌==◌, ◌&&◌, true, List, [], ◌∷◌, refl, ap, sym, subst}
 use Rattle.std.specs.List.{AllByRecursion}
 use Rattle.std.proofs.lemmas.List.Elements.{recursion_from_All}
-use Rattle.kb_service.specs.Hosted.{TenantState}
-use Rattle.kb_service.specs.Turns.{all_calm}
-use Rattle.kb_machine.specs.Broker.{BrokerState}
-use Rattle.kb_machine.specs.Calls.{is_calm}
+use Rattle.kb_tenant_api.specs.Hosted.{TenantState}
+use Rattle.kb_tenant_api.specs.Turns.{all_calm}
+use Rattle.kb_isolation_spec.specs.Broker.{BrokerState}
+use Rattle.kb_isolation_spec.specs.Calls.{is_calm}
 use Rattle.kb_settings.specs.declared.settings.Settings.{Settings}
 use Rattle.kb_broker.specs.declared.opening.Listing.{Listing}
 use Rattle.kb_broker.specs.Opening.{opening_over}

@@ -1,6 +1,6 @@
 //! When the files of a data folder were changed last.
 
-use kb_journal::moment_at;
+use kb_server_log::moment_at;
 use std::fs;
 use std::fs::DirEntry;
 

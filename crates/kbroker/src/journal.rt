@@ -5,10 +5,10 @@ ghost use Rattle.std.specs.Prelude.{◌≤◌, ◌^◌};
 use crate::lines::Lines;
 use crate::survey::StrayCounts;
 use kb_broker::Broker;
-use kb_journal::{Change, Notice, Pace, Tally, Tick, now, time_text};
 use kb_log::PartitionLog;
 use kb_node::{Denied, Edge, Settings, Store, Turn, tenant_names};
 use kb_restart::{Counts, Dropped, FileLength, FileTotal};
+use kb_server_log::{Change, Notice, Pace, Tally, Tick, now, time_text};
 use std::alloc::{AllocError, Global};
 use std::net::Net;
 

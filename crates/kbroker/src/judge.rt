@@ -9,10 +9,10 @@ use crate::journal::Journal;
 use crate::survey::{Loss, Opening, StrayCounts, Surveyed, survey};
 use clap::{Arg, ArgAction, ArgMatches, Command};
 use kb_folder::{FolderStore, HostFolder, file_name};
-use kb_journal::now;
 use kb_node::{Settings, Store, tenant_names};
 use kb_restart::{Dropped, FileLength, Restarted};
 use kb_segment::SegmentHeader;
+use kb_server_log::now;
 use kb_survey::{Postponed, Whole};
 use std::alloc::{AllocError, Global};
 

@@ -1,6 +1,6 @@
 //! Lines on standard error that wait for no reader.
 
-use kb_journal::{Missed, Sink, time_text};
+use kb_server_log::{Missed, Sink, time_text};
 use mio::unix::SourceFd;
 use mio::{Events, Interest, Poll, Token};
 use std::alloc::{AllocError, Global};

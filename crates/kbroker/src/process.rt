@@ -3,8 +3,8 @@
 use crate::Fault;
 use crate::lines::Lines;
 use kb_folder::{FolderCall, Refusal, Refusals, file_name};
-use kb_journal::{now, time_text};
 use kb_process::{OpenFiles, judge, soft_limit};
+use kb_server_log::{now, time_text};
 use std::alloc::{AllocError, Global};
 use std::io::ErrorKind;
 use std::os::unix::fs::MetadataExt;

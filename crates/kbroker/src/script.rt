@@ -7,12 +7,12 @@ use crate::settings::settings_of;
 use crate::{Fault, config};
 use clap::{Arg, ArgAction, ArgMatches, Command};
 use kb_broker::ScriptFault;
-use kb_journal::now;
 use kb_log::ListLog;
 use kb_node::{
     Listing, NodeFault, Settings, StartFault, Store, play_script, play_script_on, play_script_with,
 };
 use kb_restart::{Restarted, file_lengths, open_broker};
+use kb_server_log::now;
 use kb_survey::Postponed;
 use std::alloc::{AllocError, Global};
 use std::io;

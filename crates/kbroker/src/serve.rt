@@ -12,10 +12,10 @@ use crate::process::{FolderJournal, look_at_start};
 use crate::settings::{not_opened, settings_of, without_folder};
 use clap::ArgMatches;
 use kb_folder::Refusals;
-use kb_journal::{GuardedClock, Reading, now};
 use kb_log::PartitionLog;
 use kb_node::{Edge, Listing, Settings, Store, data_folder};
 use kb_restart::{FileLength, Restarted, file_lengths, open_broker};
+use kb_server_log::{GuardedClock, Reading, now};
 use kb_survey::Postponed;
 use std::net::Net;
 

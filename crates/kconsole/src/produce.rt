@@ -8,7 +8,7 @@ use crate::fault::Fault;
 use crate::link::Link;
 use crate::progress::Progress;
 use kb_client::{ClientFault, MAX_LINE_BYTES, ProducerCore};
-use kb_journal::now;
+use kb_server_log::now;
 use std::io::Read;
 
 /// How often it asks or waits at most.

@@ -5,11 +5,11 @@ ghost use Rattle.kb_api_data.specs.Layouts.{fetch_request, fetch_topic};
 ghost use Rattle.kb_api_data.specs.declared.fetch_v5.FetchPartitionReplyV5.{FetchPartitionReplyV5};
 ghost use Rattle.kb_api_data.specs.declared.fetch_v5.FetchReplyV5.{FetchReplyV5};
 ghost use Rattle.kb_api_data.specs.declared.fetch_v5.FetchTopicReplyV5.{FetchTopicReplyV5};
-ghost use Rattle.kb_world.specs.Scene.{WhereHonest};
+ghost use Rattle.kb_tenant_state.specs.Scene.{WhereHonest};
 ghost use Rattle.kb_tenant.specs.Counted.{fetch_answered, answered_topic, fetched, AreFetchesTold, IsFetchTold, IsFetchTopicTold};
 ghost use Rattle.kb_tenant.specs.Fetch.{partition_written, reply_written, topic_written};
-ghost use Rattle.kb_world.specs.Parts.{scene};
-ghost use Rattle.kb_world.specs.Steps.{IsStep, Meets};
+ghost use Rattle.kb_tenant_state.specs.Parts.{scene};
+ghost use Rattle.kb_tenant_state.specs.Steps.{IsStep, Meets};
 ghost use Rattle.kb_tenant.specs.Told.{HasFailed};
 ghost use Rattle.kb_tenant.specs.Turns.{in_turn, written_behind, AreServed};
 
@@ -18,8 +18,8 @@ use crate::fetch::partition::put_partition;
 use kb_api_data::{FetchPartition, FetchRequest, FetchTopic};
 use kb_log::{PartitionLog, Shelf};
 use kb_store::Store;
+use kb_tenant_state::Parts;
 use kb_wire::Sink;
-use kb_world::Parts;
 use std::alloc::{AllocError, Global};
 
 /// Answers a topic's entries in order. Here and below the reply is written with the starts of the logs, or without them.

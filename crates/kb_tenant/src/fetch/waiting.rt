@@ -3,11 +3,11 @@ ghost use Rattle.std.specs.Prelude.{◌≡◌, ◌≤◌, ◌++◌, ◌^◌, tru
 ghost use Rattle.kb_store.specs.Disk.{Files};
 ghost use Rattle.kb_api_data.specs.Layouts.{fetch_request};
 ghost use Rattle.kb_api_data.specs.declared.fetch_v5.FetchReplyV5.{FetchReplyV5};
-ghost use Rattle.kb_world.specs.Scene.{WhereHonest};
+ghost use Rattle.kb_tenant_state.specs.Scene.{WhereHonest};
 ghost use Rattle.kb_tenant.specs.Fetch.{deadline_of, fetch_answer, look_written, places_in, places_of, reply_written, IsServed};
 ghost use Rattle.kb_tenant.specs.Told.{HasFailed, IsFetchMade, IsFetchReady};
-ghost use Rattle.kb_world.specs.Parts.{scene, world_of};
-ghost use Rattle.kb_world.specs.Steps.{IsStep, Meets};
+ghost use Rattle.kb_tenant_state.specs.Parts.{scene, world_of};
+ghost use Rattle.kb_tenant_state.specs.Steps.{IsStep, Meets};
 
 use crate::fetch::given::not_negative;
 use crate::fetch::now::fetch_now;
@@ -16,8 +16,8 @@ use crate::fetch::waits::surely_waits;
 use kb_api_data::{FetchPartition, FetchRequest};
 use kb_log::{PartitionLog, Shelf};
 use kb_store::Store;
+use kb_tenant_state::{Parts, TopicPartition};
 use kb_wire::Sink;
-use kb_world::{Parts, TopicPartition};
 use std::alloc::{AllocError, Global};
 
 /// What became of a fetch.

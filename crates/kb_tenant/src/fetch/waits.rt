@@ -5,14 +5,14 @@ ghost use Rattle.kb_tenant.specs.Counted.{fetch_answered, Misses};
 ghost use Rattle.kb_tenant.specs.Fetch.{fetch_answer};
 ghost use Rattle.kb_tenant.specs.Turns.{in_turn};
 ghost use Rattle.kb_tenant.specs.declared.fetch.given.Given.{Given};
-ghost use Rattle.kb_world.specs.Parts.{world_of, Agrees};
+ghost use Rattle.kb_tenant_state.specs.Parts.{world_of, Agrees};
 
 use crate::fetch::given::not_negative;
 use crate::fetch::partition::place_of;
 use kb_api_data::{FetchPartition, FetchRequest};
 use kb_batch::MAX_BATCH_BYTES;
 use kb_log::PartitionLog;
-use kb_world::Parts;
+use kb_tenant_state::Parts;
 
 /// How many bytes a fetch surely misses behind one more entry, of as many as it missed before. None where it may miss none, or the
 /// entry may be refused.

@@ -2,14 +2,14 @@
 ghost use Rattle.std.specs.Prelude.{IfOk};
 ghost use Rattle.kb_store.specs.Memory.{memory_disk};
 ghost use Rattle.kb_log.specs.ListLog.{list_log};
-ghost use Rattle.kb_world.specs.Parts.{scene};
+ghost use Rattle.kb_tenant_state.specs.Parts.{scene};
 
 use crate::words::bytes;
 use kb_batch::BatchView;
 use kb_log::{ListLog, Shelf};
 use kb_store::MemoryStore;
+use kb_tenant_state::{Parts, TopicPartition};
 use kb_topics::TopicConfig;
-use kb_world::{Parts, TopicPartition};
 use std::alloc::Global;
 use std::process::Abort;
 use std::test::Fail;

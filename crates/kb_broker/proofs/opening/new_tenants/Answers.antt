@@ -1,5 +1,5 @@
 use Rattle.std.proofs.Common.{◌∙◌}
-use Rattle.kb_service.specs.Hosted.{new_tenant}
+use Rattle.kb_tenant_api.specs.Hosted.{new_tenant}
 use Rattle.kb_broker.proofs.Handled.{from_ok}
 use Rattle.kb_broker.proofs.OpeningParts.{mapped-more}
 use Rattle.kb_broker.proofs.opening.new_tenants.Goals as goal

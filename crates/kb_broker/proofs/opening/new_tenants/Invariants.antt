@@ -1,5 +1,5 @@
 use Rattle.std.proofs.Common.{◌≡◌, None, map, take}
-use Rattle.kb_service.specs.Hosted.{new_tenant}
+use Rattle.kb_tenant_api.specs.Hosted.{new_tenant}
 use Rattle.kb_broker.specs.Hosts.{tenants_in, AreHosted}
 use Rattle.kb_broker.proofs.opening.new_tenants.Given as goal
 

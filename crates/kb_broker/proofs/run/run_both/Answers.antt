@@ -1,5 +1,5 @@
 use Rattle.std.specs.Prelude.{map}
-use Rattle.kb_machine.proofs.Isolation.{sent-alike}
+use Rattle.kb_isolation_spec.proofs.Isolation.{sent-alike}
 use Rattle.kb_broker.specs.Runs.{happenings, sent_of}
 use Rattle.kb_broker.proofs.Alone.{written-alone}
 use Rattle.kb_broker.proofs.run.run_both.Goals as goal

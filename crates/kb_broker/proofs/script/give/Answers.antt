@@ -1,7 +1,7 @@
 use Rattle.std.proofs.Common.{◌≡◌, true, sym, subst, ◌∙◌}
-use Rattle.kb_machine.specs.Machine.{Comes}
-use Rattle.kb_machine.specs.Broker.{IsReady}
-use Rattle.kb_machine.specs.Calls.{is_calm}
+use Rattle.kb_isolation_spec.specs.Machine.{Comes}
+use Rattle.kb_isolation_spec.specs.Broker.{IsReady}
+use Rattle.kb_isolation_spec.specs.Calls.{is_calm}
 use Rattle.kb_broker.proofs.Fields.{all-free}
 use Rattle.kb_broker.specs.Hosts.{is_honest}
 use Rattle.kb_broker.proofs.Honest.{ready-of}

@@ -1,11 +1,11 @@
 use Rattle.std.proofs.Common.{◌≡◌, ◌&&◌, not, true, rules, ap, subst, ◌∙◌}
 use Rattle.std.specs.Io.KnownBytes.{Appends}
-use Rattle.kb_machine.specs.Machine.{Comes}
-use Rattle.kb_machine.specs.Broker.{IsReady}
-use Rattle.kb_machine.specs.Calls.{is_calm, is_shut}
+use Rattle.kb_isolation_spec.specs.Machine.{Comes}
+use Rattle.kb_isolation_spec.specs.Broker.{IsReady}
+use Rattle.kb_isolation_spec.specs.Calls.{is_calm, is_shut}
 use Rattle.kb_broker.specs.Hosts.{is_honest}
 use Rattle.kb_broker.proofs.Honest.{ready-of, state-is, store-is}
-use Rattle.kb_machine.specs.Turned.{SameOthers}
+use Rattle.kb_isolation_spec.specs.Turned.{SameOthers}
 use Rattle.kb_broker.specs.Script.{sent_text}
 use Rattle.kb_broker.proofs.ScriptWords.{none-waits}
 use Rattle.kb_broker.proofs.ScriptEvents.{comes, text-is, final-is, on-ok, cut-off}

@@ -1,6 +1,6 @@
 use Rattle.std.proofs.Common.{◌≡◌, true, rules, sym, ap, ◌∙◌}
 use Rattle.std.specs.Io.BufRead.{strip_last}
-use Rattle.kb_machine.specs.Machine.{Opens, Closes}
+use Rattle.kb_isolation_spec.specs.Machine.{Opens, Closes}
 use Rattle.kb_broker.specs.Script.{told, told_of, Event, here, is_placed, is_in_place}
 use Rattle.kb_broker.proofs.ScriptEvents.{done-silently}
 use Rattle.kb_broker.proofs.script.play_line.Goals as goal

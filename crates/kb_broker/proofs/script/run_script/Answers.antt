@@ -1,6 +1,6 @@
 use Rattle.std.proofs.Common.{◌≡◌, true, sym, subst, OnOk, IfErr, IfSome}
-use Rattle.kb_machine.specs.Broker.{BrokerState}
-use Rattle.kb_machine.specs.Calls.{is_calm}
+use Rattle.kb_isolation_spec.specs.Broker.{BrokerState}
+use Rattle.kb_isolation_spec.specs.Calls.{is_calm}
 use Rattle.kb_broker.specs.Opening.{opening}
 use Rattle.kb_broker.specs.Script.{script}
 use Rattle.kb_broker.specs.ScriptRun.{IsPlayed, IsEnded, IsStopped}

@@ -1,7 +1,7 @@
 -- The lines that were taken have been played, and the broker is as it was at rest.
 use Rattle.std.proofs.Common.{◌≡◌, ◌+◌, true, IfSome}
-use Rattle.kb_machine.specs.Broker.{IsReady}
-use Rattle.kb_machine.specs.Calls.{is_calm}
+use Rattle.kb_isolation_spec.specs.Broker.{IsReady}
+use Rattle.kb_isolation_spec.specs.Calls.{is_calm}
 use Rattle.kb_broker.specs.Hosts.{is_honest}
 use Rattle.kb_broker.specs.ScriptRun.{IsQuiet}
 use Rattle.kb_broker.proofs.ScriptPlay.{Played}

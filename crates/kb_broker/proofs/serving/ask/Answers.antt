@@ -1,6 +1,6 @@
 use Rattle.std.proofs.Common.{subst, sym, ◌∙◌}
-use Rattle.kb_service.specs.Hosted.{kept_of}
-use Rattle.kb_service.specs.Serve.{IsOutcome, served}
+use Rattle.kb_tenant_api.specs.Hosted.{kept_of}
+use Rattle.kb_tenant_api.specs.Serve.{IsOutcome, served}
 use Rattle.kb_tenant.specs.Told.{FailedBy}
 use Rattle.kb_tenants.specs.Tenants.{shelf_is_honest, IsCatalogFull}
 use Rattle.kb_broker.specs.Hosts.{tenants_in}

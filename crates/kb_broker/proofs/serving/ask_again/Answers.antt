@@ -1,11 +1,11 @@
 use Rattle.std.proofs.Common.{⊎_elim, inl, inr, ap, ◌≡◌, FitsSigned, of_z, rules, subst, sym, to_z, w16, w32}
 use Rattle.std.proofs.lemmas.Int.{to_z-of_z}
-use Rattle.kb_service.specs.Hosted.{kept_of, refusals_of}
-use Rattle.kb_service.specs.Replies.{told_to}
+use Rattle.kb_tenant_api.specs.Hosted.{kept_of, refusals_of}
+use Rattle.kb_tenant_api.specs.Replies.{told_to}
 use Rattle.kb_tenant.specs.Replies.{IsAnswer, Silent}
 use Rattle.kb_tenant.specs.Serve.{looked}
 use Rattle.kb_tenant.specs.Told.{AnswersLook, FailedBy}
-use Rattle.kb_machine.specs.Tenant.{is_members, ready_for, ready}
+use Rattle.kb_isolation_spec.specs.Tenant.{is_members, ready_for, ready}
 use Rattle.kb_connection.specs.View.{awaited_of, wait_of}
 use Rattle.kb_broker.specs.Hosts.{tenants_in}
 use Rattle.kb_broker.specs.Places.{TellsAwaited}

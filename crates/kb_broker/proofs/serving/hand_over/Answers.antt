@@ -1,6 +1,6 @@
 use Rattle.std.proofs.Common.{inl, ◌≡◌, sym, ◌∙◌, ap}
 use Rattle.std.specs.FinMap as fin
-use Rattle.kb_machine.specs.Session.{is_free, without_wait}
+use Rattle.kb_isolation_spec.specs.Session.{is_free, without_wait}
 use Rattle.kb_broker.specs.Parked.{parked_for}
 use Rattle.kb_broker.proofs.Handled.{from_err, from_ok}
 use Rattle.kb_broker.proofs.Served.{IsParkedBy, spent-refused, parked-by, parked-gone, dated-answered, on-ok, owned-answered, owned-shut}

@@ -1,14 +1,14 @@
 use Rattle.std.proofs.Common.{◌≡◌, inl, rules, subst, sym, ◌∙◌, true}
 use Rattle.kb_tenants.specs.Tenants.{numbers_in, shelf_is_honest}
-use Rattle.kb_service.specs.Turns.{IsTurn, IsMet}
+use Rattle.kb_tenant_api.specs.Turns.{IsTurn, IsMet}
 use Rattle.kb_tenant.specs.Replies as plain
-use Rattle.kb_service.specs.Hosted.{kept_of}
+use Rattle.kb_tenant_api.specs.Hosted.{kept_of}
 use Rattle.kb_tenant.specs.Told.{FailedBy}
-use Rattle.kb_machine.specs.Tenant.{ready}
+use Rattle.kb_isolation_spec.specs.Tenant.{ready}
 use Rattle.kb_connection.specs.View.{wait_of}
 use Rattle.kb_broker.specs.Hosts.{tenants_in, IsLaterWith}
 use Rattle.kb_broker.specs.Places.{IsLookAnswer, TellsAwaited}
-use Rattle.kb_service.specs.declared.answer.Answer.TheVariants as any
+use Rattle.kb_tenant_api.specs.declared.answer.Answer.TheVariants as any
 use Rattle.kb_broker.proofs.Handled.{from_err, from_ok}
 use Rattle.kb_broker.proofs.Honest.{later-by, later-counted}
 use Rattle.kb_broker.proofs.TenantTurns.{looked-ok, looked-err}

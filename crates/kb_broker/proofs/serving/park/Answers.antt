@@ -1,6 +1,6 @@
 use Rattle.std.proofs.Common.{◌≡◌, [], subst, sym, OnOk}
 use Rattle.std.specs.FinMap as fin
-use Rattle.kb_machine.specs.Tenant.{Group}
+use Rattle.kb_isolation_spec.specs.Tenant.{Group}
 use Rattle.kb_broker.specs.Parked.{keys_for, parked_for, until}
 use Rattle.kb_broker.proofs.Served.{parked-own, parked-others}
 use Rattle.kb_broker.proofs.serving.park.Goals as goal

@@ -1,6 +1,6 @@
 use Rattle.std.proofs.Common.{◌≡◌, subst, sym, Some, OnOk}
 use Rattle.std.specs.FinMap as fin
-use Rattle.kb_service.specs.declared.answer.Answer.TheVariants as any
+use Rattle.kb_tenant_api.specs.declared.answer.Answer.TheVariants as any
 use Rattle.kb_broker.specs.Parked.{keys_for, parked_for}
 use Rattle.kb_broker.proofs.Served.{parked-own, parked-others}
 use Rattle.kb_broker.proofs.serving.park_fetch.Goals as goal

@@ -1,13 +1,13 @@
 use Rattle.std.proofs.Common.{arith, inl, inr, refl, sym, true, ◌≡◌, ap, subst}
 use Rattle.std.specs.Prelude.{IfNone, IfSome}
 use Rattle.std.specs.FinMap as fin
-use Rattle.kb_service.specs.Hosted.{kept_of, nothing}
-use Rattle.kb_service.specs.Turns.{IsMet}
-use Rattle.kb_service.specs.Replies.{IsAnswer, Rebalances}
-use Rattle.kb_service.specs.Waiters.{AreServed, IsWaitTold}
+use Rattle.kb_tenant_api.specs.Hosted.{kept_of, nothing}
+use Rattle.kb_tenant_api.specs.Turns.{IsMet}
+use Rattle.kb_tenant_api.specs.Replies.{IsAnswer, Rebalances}
+use Rattle.kb_tenant_api.specs.Waiters.{AreServed, IsWaitTold}
 use Rattle.kb_tenant.specs.declared.request.Request.{Request}
-use Rattle.kb_machine.specs.Machine.{Line}
-use Rattle.kb_machine.specs.Tenant.{answer, kept_after}
+use Rattle.kb_isolation_spec.specs.Machine.{Line}
+use Rattle.kb_isolation_spec.specs.Tenant.{answer, kept_after}
 use Rattle.kb_connection.specs.Fronts.{IsAsked, IsOwn}
 use Rattle.kb_tenant.specs.Told.{FailedBy}
 use Rattle.kb_tenants.specs.Tenants.{shelf_is_honest, IsCatalogFull}

@@ -4,8 +4,8 @@ use Rattle.kb_tenant.specs.Told.{FailedBy}
 use Rattle.kb_tenants.specs.Tenants.{commands_of, shelf_is_honest, IsCatalogFull}
 use Rattle.kb_connection.specs.View.{greeting_of}
 use Rattle.kb_broker.specs.Hosts.{tenants_in}
-use Rattle.kb_machine.specs.Session.{BoundTo}
-use Rattle.kb_machine.specs.Machine.{after_turn, put}
+use Rattle.kb_isolation_spec.specs.Session.{BoundTo}
+use Rattle.kb_isolation_spec.specs.Machine.{after_turn, put}
 use Rattle.kb_broker.specs.Places.{IsMemberTurnAt, IsTakenAt, IsToldAt, IsTurnAt, IsWaitTurnAt}
 use Rattle.kb_broker.proofs.Handled.{able-stage}
 use Rattle.kb_broker.specs.Parked.{IsAskedOnAt, IsConcern}

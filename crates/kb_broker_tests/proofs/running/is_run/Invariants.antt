@@ -1,5 +1,5 @@
 use Rattle.std.proofs.Common.{drop}
-use Rattle.kb_machine.specs.Broker.{IsRun}
+use Rattle.kb_isolation_spec.specs.Broker.{IsRun}
 use Rattle.kb_broker.specs.Runs.{happenings}
 use Rattle.kb_broker_tests.proofs.running.is_run.Given as goal
 

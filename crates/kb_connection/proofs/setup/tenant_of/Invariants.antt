@@ -1,5 +1,5 @@
 use Rattle.std.proofs.Common.{◌≡◌, drop}
-use Rattle.kb_machine.specs.Greeting.{tenant_of}
+use Rattle.kb_isolation_spec.specs.Greeting.{tenant_of}
 use Rattle.kb_connection.proofs.setup.tenant_of.Given as goal
 
 -- the users that are left have the answer

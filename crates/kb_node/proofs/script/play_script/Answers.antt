@@ -1,5 +1,5 @@
 use Rattle.std.proofs.Common.{OnOk, IfErr, IfSome}
-use Rattle.kb_machine.specs.Broker.{BrokerState}
+use Rattle.kb_isolation_spec.specs.Broker.{BrokerState}
 use Rattle.kb_broker.specs.Script.{script}
 use Rattle.kb_broker.specs.ScriptRun.{IsPlayed}
 use Rattle.kb_node.specs.Node.{IsHalted, IsHaltedAt}

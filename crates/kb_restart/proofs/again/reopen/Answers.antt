@@ -2,7 +2,7 @@ use Rattle.std.proofs.Common.{◌≡◌, ◌∙◌, ℕ, List, Some, true, sym, 
 use Rattle.std.specs.Prelude.{map, slice_get, IfOk}
 use Rattle.std.specs.FinMap.{keys}
 use Rattle.kb_segment_log.specs.SegmentLog.{Clears}
-use Rattle.kb_service.specs.Hosted.{names_of}
+use Rattle.kb_tenant_api.specs.Hosted.{names_of}
 use Rattle.kb_settings.proofs.NamesInOrder.{rises-in_order}
 use Rattle.kb_broker.specs.Opening.{tenant_of, tenants_of}
 use Rattle.kb_restart.specs.Again.{AreApart}

@@ -1,7 +1,7 @@
 use Rattle.std.proofs.Common.{◌≡◌, ◌∙◌, ◌+◌, ℕ, List, ap, arith}
 use Rattle.std.specs.List.{sum_by}
 use Rattle.kb_topics.specs.Known.{TopicState}
-use Rattle.kb_world.specs.Tied.{partition_count}
+use Rattle.kb_tenant_state.specs.Tied.{partition_count}
 use Rattle.kb_restart.specs.Counts.{told}
 use Rattle.kb_restart.proofs.Counted.{no_files}
 use Rattle.kb_restart.proofs.counts.partitions_of.Goals as goal

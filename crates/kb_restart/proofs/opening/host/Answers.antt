@@ -8,8 +8,8 @@ use Rattle.std.proofs.lemmas.Simd.{map-map}
 use Rattle.kb_log.specs.Shelf.{Shelved}
 use Rattle.kb_segment_log.specs.SegmentLog.{segment_log}
 use Rattle.kb_segment_log.specs.declared.log.SegmentLog.{SegmentLog}
-use Rattle.kb_world.specs.Parts.{Agrees, IsSound}
-use Rattle.kb_world.specs.declared.parts.Parts.{Parts}
+use Rattle.kb_tenant_state.specs.Parts.{Agrees, IsSound}
+use Rattle.kb_tenant_state.specs.declared.parts.Parts.{Parts}
 use Rattle.kb_tenants.specs.Tenants.{restored_tenant, AreSettled, IsLeftAlone}
 use Rattle.kb_restart.proofs.Hosting.{zip_second, front_second, zip_shown}
 use Rattle.kb_restart.proofs.Seated.{own_name, all_seated}

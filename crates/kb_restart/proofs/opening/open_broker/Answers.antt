@@ -11,10 +11,10 @@ use Rattle.kb_segment_log.specs.SegmentLog.{segment_log, Clears}
 use Rattle.kb_segment_log.specs.declared.log.SegmentLog.{SegmentLog}
 use Rattle.kb_topics.specs.Catalog.{known}
 use Rattle.kb_topics.specs.Known.{Known}
-use Rattle.kb_world.specs.declared.parts.Parts.{Parts}
+use Rattle.kb_tenant_state.specs.declared.parts.Parts.{Parts}
 use Rattle.kb_coordinator.specs.Groups.{Groups}
-use Rattle.kb_service.specs.Hosted.{TenantState, names_of}
-use Rattle.kb_machine.specs.Broker.{BrokerState}
+use Rattle.kb_tenant_api.specs.Hosted.{TenantState, names_of}
+use Rattle.kb_isolation_spec.specs.Broker.{BrokerState}
 use Rattle.kb_tenants.specs.Members.{HaveNoGroup}
 use Rattle.kb_broker.specs.Opening.{tenant_of, tenants_of, HaveNoGroups}
 use Rattle.kb_broker.specs.declared.opening.OpenRefused.{OpenRefused}

@@ -3,9 +3,9 @@ use Rattle.std.specs.List.{All, Contains}
 use Rattle.std.proofs.lemmas.Result.{err_from_is_err_and}
 use Rattle.kb_segment_log.specs.SegmentLog.{segment_log, Clears}
 use Rattle.kb_topics.specs.Catalog.{known}
-use Rattle.kb_world.specs.Parts.{IsSound, Owns}
+use Rattle.kb_tenant_state.specs.Parts.{IsSound, Owns}
 use Rattle.kb_segment_log.specs.declared.log.SegmentLog.{SegmentLog}
-use Rattle.kb_world.specs.declared.parts.Parts.{Parts}
+use Rattle.kb_tenant_state.specs.declared.parts.Parts.{Parts}
 use Rattle.kb_opening.specs.Tenant.{owners_in, AreOwnNamed, IsOfTenant, IsTaken, IsTenantOf, TakesTenant}
 use Rattle.kb_opening.specs.Directory.{all_files, files_at}
 use Rattle.kb_opening.specs.declared.owner.Owner.{Owner}

@@ -8,8 +8,8 @@ use Rattle.kb_api_data.specs.declared.create_topics.CreateTopic.{CreateTopic}
 use Rattle.kb_topics.specs.Known.{named}
 use Rattle.kb_tenant.specs.CreateTopics.{checked_topic, creations_in, made_of, stands_twice}
 use Rattle.kb_tenant.specs.Turns.{in_turn}
-use Rattle.kb_world.specs.Parts.{world_of}
-use Rattle.kb_world.specs.World.{World}
+use Rattle.kb_tenant_state.specs.Parts.{world_of}
+use Rattle.kb_tenant_state.specs.World.{World}
 use Rattle.kb_tenant.proofs.Checking.{checks_foretell}
 use Rattle.kb_tenant.proofs.Creating.{answer_next, answers_over, checked_is, name_fits, topics_fit}
 use Rattle.kb_tenant.proofs.Replies.{count_fits, item_fits}

@@ -1,7 +1,7 @@
 use Rattle.std.proofs.Common.{◌≡◌, drop}
 use Rattle.kb_store.specs.Disk.{Files}
 use Rattle.kb_tenant.specs.CreateTopics.{checked_topic, creation_in}
-use Rattle.kb_world.specs.Parts.{world_of}
+use Rattle.kb_tenant_state.specs.Parts.{world_of}
 use Rattle.kb_tenant.specs.Turns.{in_turn, written_behind}
 use Rattle.kb_tenant.proofs.create_topics.check_topics.Given as goal
 

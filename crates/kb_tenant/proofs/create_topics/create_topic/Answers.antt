@@ -4,9 +4,9 @@ use Rattle.std.specs.Prelude.{is_some}
 use Rattle.kb_topics.specs.Known.{named}
 use Rattle.kb_tenant.specs.CreateTopics.{made}
 use Rattle.kb_tenant.specs.Settings.{settings_in}
-use Rattle.kb_world.specs.Parts.{scene, world_of}
-use Rattle.kb_world.specs.Told.{IsCreationWant}
-use Rattle.kb_world.specs.World.{World}
+use Rattle.kb_tenant_state.specs.Parts.{scene, world_of}
+use Rattle.kb_tenant_state.specs.Told.{IsCreationWant}
+use Rattle.kb_tenant_state.specs.World.{World}
 use Rattle.kb_tenant.proofs.Committing.{acknowledged}
 use Rattle.kb_tenant.proofs.Creating.{made_refused, made_unset, made_set}
 use Rattle.kb_tenant.proofs.Wanted.{made_told}

@@ -5,13 +5,13 @@ use Rattle.kb_wire.specs.Codec.{array}
 use Rattle.kb_api_data.specs.Layouts.{create_topic}
 use Rattle.kb_api_data.specs.declared.create_topics.CreateTopic.{CreateTopic}
 use Rattle.kb_api_data.specs.declared.create_topics.CreateTopicReply.{CreateTopicReply}
-use Rattle.kb_world.specs.Scene.{Scene}
+use Rattle.kb_tenant_state.specs.Scene.{Scene}
 use Rattle.kb_tenant.specs.CreateTopics.{created_topic, creation_in, creations_in, stands_twice}
-use Rattle.kb_world.specs.Parts.{Seen, scene}
-use Rattle.kb_world.specs.Steps.{step_then, meets_then, meets_so}
+use Rattle.kb_tenant_state.specs.Parts.{Seen, scene}
+use Rattle.kb_tenant_state.specs.Steps.{step_then, meets_then, meets_so}
 use Rattle.kb_tenant.specs.Told.{CreationFailed, IsCreationTold}
 use Rattle.kb_tenant.specs.Turns.{in_turn, AreServed}
-use Rattle.kb_world.specs.World.{World}
+use Rattle.kb_tenant_state.specs.World.{World}
 use Rattle.kb_tenant.proofs.Acknowledging.{honest_then, served_all, served_length, served_next, written_more}
 use Rattle.kb_tenant.proofs.Creating.{answer_next, answers_over, created_is, name_fits, replies_written, topics_fit}
 use Rattle.kb_tenant.proofs.Replies.{count_fits, item_fits}

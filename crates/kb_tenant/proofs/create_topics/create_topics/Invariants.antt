@@ -1,10 +1,10 @@
 use Rattle.std.proofs.Common.{◌≡◌, ◌++◌, List, drop, take}
 use Rattle.std.specs.List.{flat_map}
 use Rattle.kb_api_data.specs.declared.create_topics.CreateTopicReply.{CreateTopicReply}
-use Rattle.kb_world.specs.Scene.{WhereHonest}
+use Rattle.kb_tenant_state.specs.Scene.{WhereHonest}
 use Rattle.kb_tenant.specs.CreateTopics.{created_topic, creation_in}
-use Rattle.kb_world.specs.Parts.{scene}
-use Rattle.kb_world.specs.Steps.{IsStep, Meets}
+use Rattle.kb_tenant_state.specs.Parts.{scene}
+use Rattle.kb_tenant_state.specs.Steps.{IsStep, Meets}
 use Rattle.kb_tenant.specs.Told.{CreationFailed, IsCreationTold}
 use Rattle.kb_tenant.specs.Turns.{in_turn, written_behind, AreServed}
 use Rattle.kb_tenant.proofs.create_topics.create_topics.Given as goal

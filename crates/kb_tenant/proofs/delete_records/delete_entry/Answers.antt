@@ -5,12 +5,12 @@ use Rattle.std.specs.declared.vec.Vec.{Vec}
 use Rattle.std.proofs.lemmas.Int.{to_z-of_z}
 use Rattle.std.proofs.lemmas.List.{take_all}
 use Rattle.kb_log.specs.Shelf.{Shelved}
-use Rattle.kb_world.specs.Parts.{scene}
-use Rattle.kb_world.specs.Steps.{IsStep, step_same}
-use Rattle.kb_world.specs.Told.{Deletes, IsDeletionWant}
-use Rattle.kb_world.specs.World.{place_in}
-use Rattle.kb_world.specs.declared.parts.Parts.{Parts}
-use Rattle.kb_world.specs.declared.topic_partition.TopicPartition.{TopicPartition}
+use Rattle.kb_tenant_state.specs.Parts.{scene}
+use Rattle.kb_tenant_state.specs.Steps.{IsStep, step_same}
+use Rattle.kb_tenant_state.specs.Told.{Deletes, IsDeletionWant}
+use Rattle.kb_tenant_state.specs.World.{place_in}
+use Rattle.kb_tenant_state.specs.declared.parts.Parts.{Parts}
+use Rattle.kb_tenant_state.specs.declared.topic_partition.TopicPartition.{TopicPartition}
 use Rattle.kb_tenant.specs.DeleteRecords.{deleted, deleted_at, deletion_answered}
 use Rattle.kb_tenant.specs.Told.{IsDeletionTold, IsRefusalFor}
 use Rattle.kb_tenant.proofs.DeletedRecords.{told_more}

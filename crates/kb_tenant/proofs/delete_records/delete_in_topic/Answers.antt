@@ -1,8 +1,8 @@
 use Rattle.std.proofs.Common.{◌∙◌, ap}
 use Rattle.std.proofs.lemmas.Result.{on_ok_weaker}
 use Rattle.kb_topics.specs.Known.{named}
-use Rattle.kb_world.specs.Parts.{scene}
-use Rattle.kb_world.specs.Steps.{meets_so}
+use Rattle.kb_tenant_state.specs.Parts.{scene}
+use Rattle.kb_tenant_state.specs.Steps.{meets_so}
 use Rattle.kb_tenant.specs.Told.{CatalogFailed}
 use Rattle.kb_tenant.proofs.DeletedRecords.{name_fits, entries_fit, topic_told}
 use Rattle.kb_tenant.proofs.Trimming.{topic_trimmed}

@@ -1,10 +1,10 @@
 use Rattle.std.proofs.Common.{◌∙◌, ◌++◌, ◌∷◌, [], List, ◌<◌, ◌≤◌, append-nil, ap, refl, sym, subst, length, get_or, take}
 use Rattle.std.proofs.Math.Seq.{take-length}
 use Rattle.kb_api_data.specs.Layouts.{delete_records_topic_reply}
-use Rattle.kb_world.specs.Parts.{scene}
-use Rattle.kb_world.specs.Steps.{step_same, step_then, meets_then, meets_so}
-use Rattle.kb_world.specs.World.{World}
-use Rattle.kb_world.specs.declared.topic_partition.TopicPartition.{TopicPartition}
+use Rattle.kb_tenant_state.specs.Parts.{scene}
+use Rattle.kb_tenant_state.specs.Steps.{step_same, step_then, meets_then, meets_so}
+use Rattle.kb_tenant_state.specs.World.{World}
+use Rattle.kb_tenant_state.specs.declared.topic_partition.TopicPartition.{TopicPartition}
 use Rattle.kb_tenant.specs.DeleteRecords.{deleted_topic}
 use Rattle.kb_tenant.specs.Told.{CatalogFailed, IsTrimTopicTold}
 use Rattle.kb_tenant.proofs.Acknowledging.{honest_then, served_all, served_next, written_more}

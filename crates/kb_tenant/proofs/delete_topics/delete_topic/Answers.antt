@@ -1,9 +1,9 @@
 use Rattle.std.proofs.Common.{◌≡◌, ◌∙◌, ℤ, ap, arith, inl, of_z, refl, subst, sym, to_z, w16}
 use Rattle.std.proofs.lemmas.Int.{to_z-of_z}
 use Rattle.kb_tenant.specs.DeleteTopics.{deleted}
-use Rattle.kb_world.specs.Parts.{scene, world_of}
-use Rattle.kb_world.specs.Steps.{IsStep}
-use Rattle.kb_world.specs.World.{World}
+use Rattle.kb_tenant_state.specs.Parts.{scene, world_of}
+use Rattle.kb_tenant_state.specs.Steps.{IsStep}
+use Rattle.kb_tenant_state.specs.World.{World}
 use Rattle.kb_tenant.proofs.Deleting.{unknown_is, deleted_is, told_all, told_none, never_refused, taken_back, unless_err, where_err}
 use Rattle.kb_tenant.proofs.Refusing.{step_refused}
 use Rattle.kb_tenant.proofs.Wanted.{deletion_acknowledged, deletion_refused, deletion_told, untold_deletion}

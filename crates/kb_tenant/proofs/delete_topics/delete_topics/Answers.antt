@@ -5,14 +5,14 @@ use Rattle.std.proofs.Math.Seq.{take-length}
 use Rattle.kb_wire.specs.Codec.{count, string, array}
 use Rattle.kb_api_data.specs.Layouts.{delete_topic_reply}
 use Rattle.kb_api_data.specs.declared.delete_topics.DeleteTopicReply.{DeleteTopicReply}
-use Rattle.kb_world.specs.Scene.{Scene}
+use Rattle.kb_tenant_state.specs.Scene.{Scene}
 use Rattle.kb_tenant.specs.DeleteTopics.{deleted_topic, deletions_in, throttle_in}
-use Rattle.kb_world.specs.Parts.{Seen, scene}
-use Rattle.kb_world.specs.Steps.{step_same, step_then, meets_then, meets_so}
+use Rattle.kb_tenant_state.specs.Parts.{Seen, scene}
+use Rattle.kb_tenant_state.specs.Steps.{step_same, step_then, meets_then, meets_so}
 use Rattle.kb_tenant.specs.Told.{CatalogFailed, IsRemovalTold}
 use Rattle.kb_tenant.specs.Turns.{in_turn, AreServed}
-use Rattle.kb_world.specs.World.{World}
-use Rattle.kb_world.specs.declared.topic_partition.TopicPartition.{TopicPartition}
+use Rattle.kb_tenant_state.specs.World.{World}
+use Rattle.kb_tenant_state.specs.declared.topic_partition.TopicPartition.{TopicPartition}
 use Rattle.kb_tenant.proofs.Acknowledging.{honest_then, served_all, served_length, served_next, written_more}
 use Rattle.kb_tenant.proofs.Deleting.{answered_is, deleted_fits, name_short, names_fit, deletions_written, kept_more}
 use Rattle.kb_tenant.proofs.Fitting.{array_written, written_both}

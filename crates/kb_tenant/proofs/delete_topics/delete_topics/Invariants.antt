@@ -2,10 +2,10 @@ use Rattle.std.proofs.Common.{◌≡◌, ◌++◌, List, drop, take, length}
 use Rattle.std.specs.List.{flat_map}
 use Rattle.kb_api_data.specs.Layouts.{delete_topic_reply}
 use Rattle.kb_api_data.specs.declared.delete_topics.DeleteTopicReply.{DeleteTopicReply}
-use Rattle.kb_world.specs.Scene.{WhereHonest}
+use Rattle.kb_tenant_state.specs.Scene.{WhereHonest}
 use Rattle.kb_tenant.specs.DeleteTopics.{deleted_topic}
-use Rattle.kb_world.specs.Parts.{scene}
-use Rattle.kb_world.specs.Steps.{IsStep, Meets}
+use Rattle.kb_tenant_state.specs.Parts.{scene}
+use Rattle.kb_tenant_state.specs.Steps.{IsStep, Meets}
 use Rattle.kb_tenant.specs.Told.{CatalogFailed, IsRemovalTold}
 use Rattle.kb_tenant.specs.Turns.{in_turn, written_behind, AreServed}
 use Rattle.kb_tenant.proofs.delete_topics.delete_topics.Given as goal

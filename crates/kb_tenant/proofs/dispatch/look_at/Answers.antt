@@ -1,5 +1,5 @@
 use Rattle.std.proofs.Common.{rules, ◌≡◌, ◌∙◌, Bool, Ok, ap, sym, refl, subst}
-use Rattle.kb_world.specs.Parts.{scene, world_of}
+use Rattle.kb_tenant_state.specs.Parts.{scene, world_of}
 use Rattle.kb_tenant.specs.Fetch.{asked_fetch, fetch_answer, has_starts, read_as}
 use Rattle.kb_tenant.specs.Replies.{begun, IsAnswer}
 use Rattle.kb_tenant.specs.Serve.{looked, looked_at}

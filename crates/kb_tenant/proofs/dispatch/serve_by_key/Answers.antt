@@ -2,7 +2,7 @@ use Rattle.std.proofs.Common.{rules, ◌≡◌, [], false, refl, sym, subst}
 use Rattle.std.specs.Ordering.{int_eq}
 use Rattle.kb_wire.specs.declared.api_key.TheConstants.{PRODUCE, FETCH, LIST_OFFSETS, METADATA, OFFSET_COMMIT, OFFSET_FETCH}
 use Rattle.kb_wire.specs.declared.api_key.TheConstants.{FIND_COORDINATOR, CREATE_TOPICS, DELETE_TOPICS, DELETE_RECORDS, INIT_PRODUCER_ID}
-use Rattle.kb_world.specs.Parts.{scene, world_of}
+use Rattle.kb_tenant_state.specs.Parts.{scene, world_of}
 use Rattle.kb_tenant.specs.Serve.{plainly_served, IsServed}
 use Rattle.kb_tenant.proofs.Answered.{create_topics_told, delete_records_told, delete_topics_told, fetch_told, init_producer_id_told}
 use Rattle.kb_tenant.proofs.Answered.{list_offsets_told, looked_up_told, none_told, offset_commit_told, produce_told, reads_not}

@@ -4,8 +4,8 @@ use Rattle.kb_tenant.specs.CreateTopics.{asked_creations, checked_all, created_a
 use Rattle.kb_tenant.specs.Replies.{begun}
 use Rattle.kb_tenant.specs.Serve.{if_read, of_create_topics, IsServed}
 use Rattle.kb_tenant.specs.Told.{CreationFailed, IsReplied, TellsCreations}
-use Rattle.kb_world.specs.Parts.{scene, world_of}
-use Rattle.kb_world.specs.Steps.{step_same}
+use Rattle.kb_tenant_state.specs.Parts.{scene, world_of}
+use Rattle.kb_tenant_state.specs.Steps.{step_same}
 use Rattle.kb_tenant.proofs.Acknowledging.{replied_by}
 use Rattle.kb_tenant.proofs.Keys.{checked_outcome, made_outcome}
 use Rattle.kb_tenant.proofs.dispatch.serve_create_topics.Goals as goal

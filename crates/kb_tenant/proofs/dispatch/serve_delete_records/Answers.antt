@@ -3,7 +3,7 @@ use Rattle.std.specs.Int.{w32}
 use Rattle.kb_api_data.specs.Layouts.{delete_records_reply}
 use Rattle.kb_tenant.specs.Replies.{begun}
 use Rattle.kb_tenant.specs.Told.{AreTrimsTold, CatalogFailed, IsReplied, TellsDeletions}
-use Rattle.kb_world.specs.Parts.{scene, world_of}
+use Rattle.kb_tenant_state.specs.Parts.{scene, world_of}
 use Rattle.kb_tenant.proofs.Acknowledging.{replied_by}
 use Rattle.kb_tenant.proofs.dispatch.serve_delete_records.Goals as goal
 

@@ -4,7 +4,7 @@ use Rattle.kb_tenant.specs.DeleteTopics.{deletions_in}
 use Rattle.kb_tenant.specs.Replies.{begun}
 use Rattle.kb_tenant.specs.Told.{CatalogFailed, IsRemovalTold, IsReplied, TellsRemovals}
 use Rattle.kb_tenant.specs.Turns.{AreServed}
-use Rattle.kb_world.specs.Parts.{scene, world_of}
+use Rattle.kb_tenant_state.specs.Parts.{scene, world_of}
 use Rattle.kb_tenant.proofs.Acknowledging.{replied_by}
 use Rattle.kb_tenant.proofs.dispatch.serve_delete_topics.Goals as goal
 

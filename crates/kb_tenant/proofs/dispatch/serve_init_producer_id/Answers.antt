@@ -3,7 +3,7 @@ use Rattle.std.specs.Int.{w32}
 use Rattle.kb_api_data.specs.Layouts.{init_producer_id_reply}
 use Rattle.kb_tenant.specs.Replies.{begun}
 use Rattle.kb_tenant.specs.Told.{CatalogFailed, IsReplied, TellsIssue}
-use Rattle.kb_world.specs.Parts.{scene, world_of}
+use Rattle.kb_tenant_state.specs.Parts.{scene, world_of}
 use Rattle.kb_tenant.proofs.Acknowledging.{replied_by}
 use Rattle.kb_tenant.proofs.dispatch.serve_init_producer_id.Goals as goal
 

@@ -3,7 +3,7 @@ use Rattle.std.specs.Int.{w32}
 use Rattle.kb_api_data.specs.Layouts.{list_offsets_reply}
 use Rattle.kb_tenant.specs.Replies.{begun}
 use Rattle.kb_tenant.specs.Told.{HasFailed, IsReplied, TellsListing}
-use Rattle.kb_world.specs.Parts.{scene}
+use Rattle.kb_tenant_state.specs.Parts.{scene}
 use Rattle.kb_tenant.proofs.Acknowledging.{replied_by}
 use Rattle.kb_tenant.proofs.dispatch.serve_list_offsets.Goals as goal
 

@@ -1,6 +1,6 @@
 use Rattle.std.proofs.Common.{rules, ◌≡◌, ◌∙◌, ◌++◌, [], Ok, sym, ap, refl, subst, to_z, of_z}
 use Rattle.std.specs.Int.{w16, w32}
-use Rattle.kb_world.specs.Parts.{world_of}
+use Rattle.kb_tenant_state.specs.Parts.{world_of}
 use Rattle.kb_tenant.specs.Metadata.{asked_metadata, metadata_in, metadata_of}
 use Rattle.kb_tenant.specs.Replies.{begun}
 use Rattle.kb_tenant.specs.Serve.{if_read, of_metadata, IsServed}

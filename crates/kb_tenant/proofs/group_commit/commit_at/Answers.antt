@@ -1,6 +1,6 @@
 use Rattle.std.proofs.Common.{◌∙◌, rules, w16, w64}
 use Rattle.std.proofs.lemmas.Int.{to_z-of_z}
-use Rattle.kb_world.specs.Parts.{scene, world_of}
+use Rattle.kb_tenant_state.specs.Parts.{scene, world_of}
 use Rattle.kb_tenant.proofs.Committing.{commit_code, commit_told}
 use Rattle.kb_tenant.proofs.group_commit.commit_at.Goals as goal
 

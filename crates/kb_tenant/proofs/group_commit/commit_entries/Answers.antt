@@ -2,9 +2,9 @@ use Rattle.std.proofs.Common.{[], ◌∷◌, ◌++◌, append-nil, of_z, refl, r
 use Rattle.std.proofs.lemmas.Int.{to_z-of_z}
 use Rattle.kb_api_group.specs.Layouts.{commit_partition_reply}
 use Rattle.kb_api_group.specs.declared.offset_commit.CommitPartitionReply.{CommitPartitionReply}
-use Rattle.kb_world.specs.Scene.{Scene}
-use Rattle.kb_world.specs.Parts.{Seen, scene}
-use Rattle.kb_world.specs.Steps.{step_same, step_then, meets_then, meets_so}
+use Rattle.kb_tenant_state.specs.Scene.{Scene}
+use Rattle.kb_tenant_state.specs.Parts.{Seen, scene}
+use Rattle.kb_tenant_state.specs.Steps.{step_same, step_then, meets_then, meets_so}
 use Rattle.kb_tenant.specs.OffsetCommit.{committed_entry}
 use Rattle.kb_tenant.specs.Told.{CatalogFailed, IsCommitTold}
 use Rattle.kb_tenant.proofs.Acknowledging.{honest_then, served_all, served_next, written_more}

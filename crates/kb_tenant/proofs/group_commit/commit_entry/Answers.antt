@@ -1,8 +1,8 @@
 use Rattle.std.proofs.Common.{◌≡◌, ◌∙◌, ℤ, ap, sym, rules, subst, Some, to_z, of_z, w16, w32}
 use Rattle.std.proofs.lemmas.Int.{to_z-of_z}
-use Rattle.kb_world.specs.Parts.{scene, world_of}
-use Rattle.kb_world.specs.Told.{IsCatalogWant}
-use Rattle.kb_world.specs.World.{World, place_in}
+use Rattle.kb_tenant_state.specs.Parts.{scene, world_of}
+use Rattle.kb_tenant_state.specs.Told.{IsCatalogWant}
+use Rattle.kb_tenant_state.specs.World.{World, place_in}
 use Rattle.kb_tenant.specs.OffsetCommit.{committed, committed_at}
 use Rattle.kb_tenant.specs.Told.{IsFaultOf, IsTold}
 use Rattle.kb_tenant.proofs.Committing.{acknowledged, entry_at, told_so}

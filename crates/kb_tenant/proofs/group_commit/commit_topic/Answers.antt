@@ -3,10 +3,10 @@ use Rattle.std.proofs.lemmas.Result.{on_ok_weaker}
 use Rattle.kb_wire.specs.Codec.{string}
 use Rattle.kb_api_group.specs.Layouts.{commit_partition}
 use Rattle.kb_topics.specs.Known.{named}
-use Rattle.kb_world.specs.Scene.{Scene}
-use Rattle.kb_world.specs.Parts.{Seen, scene}
-use Rattle.kb_world.specs.Steps.{meets_so}
-use Rattle.kb_world.specs.World.{World}
+use Rattle.kb_tenant_state.specs.Scene.{Scene}
+use Rattle.kb_tenant_state.specs.Parts.{Seen, scene}
+use Rattle.kb_tenant_state.specs.Steps.{meets_so}
+use Rattle.kb_tenant_state.specs.World.{World}
 use Rattle.kb_tenant.specs.Told.{CatalogFailed}
 use Rattle.kb_tenant.proofs.Committing.{entries_fit, name_fits, topic_told}
 use Rattle.kb_tenant.proofs.Fitting.{count_fits}

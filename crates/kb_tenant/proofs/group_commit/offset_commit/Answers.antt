@@ -1,8 +1,8 @@
 use Rattle.std.proofs.Common.{[], ◌∷◌, ◌++◌, ◌∙◌, ◌<◌, ◌≤◌, ap, append-nil, sym, refl, subst, take, length, get_or}
 use Rattle.kb_api_group.specs.Layouts.{commit_topic, commit_topic_reply}
-use Rattle.kb_world.specs.Scene.{Scene}
-use Rattle.kb_world.specs.Parts.{Seen, scene}
-use Rattle.kb_world.specs.Steps.{step_same, step_then, meets_then, meets_so}
+use Rattle.kb_tenant_state.specs.Scene.{Scene}
+use Rattle.kb_tenant_state.specs.Parts.{Seen, scene}
+use Rattle.kb_tenant_state.specs.Steps.{step_same, step_then, meets_then, meets_so}
 use Rattle.kb_tenant.specs.OffsetCommit.{committed_topic}
 use Rattle.kb_tenant.specs.Told.{CatalogFailed, IsCommitTopicTold}
 use Rattle.kb_tenant.proofs.Acknowledging.{honest_then, served_all, served_next, written_more}

@@ -2,9 +2,9 @@ use Rattle.std.proofs.Common.{◌≡◌, ◌++◌, List, drop, take}
 use Rattle.std.specs.List.{flat_map}
 use Rattle.kb_api_group.specs.Layouts.{commit_topic_reply}
 use Rattle.kb_api_group.specs.declared.offset_commit.CommitTopicReply.{CommitTopicReply}
-use Rattle.kb_world.specs.Scene.{WhereHonest}
-use Rattle.kb_world.specs.Parts.{scene}
-use Rattle.kb_world.specs.Steps.{IsStep, Meets}
+use Rattle.kb_tenant_state.specs.Scene.{WhereHonest}
+use Rattle.kb_tenant_state.specs.Parts.{scene}
+use Rattle.kb_tenant_state.specs.Steps.{IsStep, Meets}
 use Rattle.kb_tenant.specs.OffsetCommit.{committed_topic}
 use Rattle.kb_tenant.specs.Told.{CatalogFailed, IsCommitTopicTold}
 use Rattle.kb_tenant.specs.Turns.{in_turn, written_behind, AreServed}

@@ -5,7 +5,7 @@ use Rattle.kb_tenant.specs.OffsetCommit.{refusal_of}
 use Rattle.kb_tenant.specs.Replies.{begun}
 use Rattle.kb_tenant.specs.Told.{CatalogFailed, IsCommitTopicTold, IsReplied, TellsCommits}
 use Rattle.kb_tenant.specs.Turns.{AreServed}
-use Rattle.kb_world.specs.Parts.{scene, world_of}
+use Rattle.kb_tenant_state.specs.Parts.{scene, world_of}
 use Rattle.kb_tenant.proofs.Acknowledging.{replied_by}
 use Rattle.kb_tenant.proofs.group_offsets.serve_offset_commit.Goals as goal
 

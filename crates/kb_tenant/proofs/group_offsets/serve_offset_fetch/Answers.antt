@@ -1,7 +1,7 @@
 use Rattle.std.proofs.Common.{rules, ◌≡◌, ◌∙◌, ◌++◌, [], Ok, sym, ap, refl, subst, to_z, of_z}
 use Rattle.std.specs.Int.{w32}
 use Rattle.kb_api_group.specs.Layouts.{offset_fetch_reply}
-use Rattle.kb_world.specs.Parts.{world_of}
+use Rattle.kb_tenant_state.specs.Parts.{world_of}
 use Rattle.kb_tenant.specs.OffsetFetch.{fetched_all}
 use Rattle.kb_tenant.specs.Replies.{begun}
 use Rattle.kb_tenant.specs.Serve.{if_read, of_offset_fetch, IsServed}

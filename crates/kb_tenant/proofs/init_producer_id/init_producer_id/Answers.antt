@@ -2,8 +2,8 @@ use Rattle.std.proofs.Common.{◌∙◌, ap, ◌++◌}
 use Rattle.std.proofs.lemmas.Result.{on_ok_weaker}
 use Rattle.kb_api_data.specs.Layouts.{init_producer_id_reply}
 use Rattle.kb_api_data.specs.declared.init_producer_id.InitProducerIdReply.{InitProducerIdReply}
-use Rattle.kb_world.specs.Parts.{scene}
-use Rattle.kb_world.specs.World.{World}
+use Rattle.kb_tenant_state.specs.Parts.{scene}
+use Rattle.kb_tenant_state.specs.World.{World}
 use Rattle.kb_tenant.proofs.Wanted.{issue_told_so}
 use Rattle.kb_tenant.proofs.init_producer_id.init_producer_id.Goals as goal
 

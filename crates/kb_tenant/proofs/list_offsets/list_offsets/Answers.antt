@@ -1,10 +1,10 @@
 use Rattle.std.proofs.Common.{◌∙◌, ◌<◌, ◌≤◌, ap, subst, ◌++◌, map, get_or, length}
 use Rattle.std.specs.List.{flat_map}
 use Rattle.kb_api_data.specs.Layouts.{list_offsets_request, list_offsets_topic, list_offsets_topic_reply}
-use Rattle.kb_world.specs.Scene.{Scene}
+use Rattle.kb_tenant_state.specs.Scene.{Scene}
 use Rattle.kb_tenant.specs.ListOffsets.{listed_topic}
-use Rattle.kb_world.specs.Parts.{Seen, scene}
-use Rattle.kb_world.specs.Steps.{step_then}
+use Rattle.kb_tenant_state.specs.Parts.{Seen, scene}
+use Rattle.kb_tenant_state.specs.Steps.{step_then}
 use Rattle.kb_tenant.specs.Told.{HasFailed, IsListingTopicTold}
 use Rattle.kb_tenant.proofs.Fitting.{count_fits, item_fits}
 use Rattle.kb_tenant.proofs.Listing.{all_listing, listed_next, listed_over, listing_topic_so}

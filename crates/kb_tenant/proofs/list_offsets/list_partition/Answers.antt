@@ -2,11 +2,11 @@ use mir.Val.{to_z, of_z}
 use Rattle.std.proofs.Common.{◌∙◌, ap, inl, sym, pos, w16, w32, w64}
 use Rattle.std.specs.Prelude.{is_some}
 use Rattle.std.proofs.lemmas.Int.{to_z-of_z}
-use Rattle.kb_world.specs.Logs.{LogState}
+use Rattle.kb_tenant_state.specs.Logs.{LogState}
 use Rattle.kb_tenant.specs.ListOffsets.{offset_refused, edge_answered}
-use Rattle.kb_world.specs.Parts.{scene, world_of}
-use Rattle.kb_world.specs.Steps.{step_same}
-use Rattle.kb_world.specs.World.{World, log_in, place_in}
+use Rattle.kb_tenant_state.specs.Parts.{scene, world_of}
+use Rattle.kb_tenant_state.specs.Steps.{step_same}
+use Rattle.kb_tenant_state.specs.World.{World, log_in, place_in}
 use Rattle.kb_tenant.proofs.Offsets.{at_place, listed_none, listed_end, listed_start, listed_wrong}
 use Rattle.kb_tenant.proofs.list_offsets.list_partition.Goals as goal
 

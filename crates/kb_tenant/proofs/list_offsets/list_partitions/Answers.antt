@@ -2,10 +2,10 @@ use Rattle.std.proofs.Common.{◌∙◌, ap, refl, ◌++◌, map}
 use Rattle.std.specs.List.{flat_map}
 use Rattle.kb_api_data.specs.Layouts.{list_offsets_partition_reply}
 use Rattle.kb_wire.specs.Codec.{int}
-use Rattle.kb_world.specs.Scene.{Scene}
+use Rattle.kb_tenant_state.specs.Scene.{Scene}
 use Rattle.kb_tenant.specs.ListOffsets.{listed}
-use Rattle.kb_world.specs.Parts.{Seen, scene}
-use Rattle.kb_world.specs.Steps.{step_then}
+use Rattle.kb_tenant_state.specs.Parts.{Seen, scene}
+use Rattle.kb_tenant_state.specs.Steps.{step_then}
 use Rattle.kb_tenant.specs.Told.{HasFailed, IsListingTold}
 use Rattle.kb_tenant.proofs.Listing.{listed_next, listed_over, listing_so}
 use Rattle.kb_tenant.proofs.Serving.{stays_then, told_next, get_or_any}

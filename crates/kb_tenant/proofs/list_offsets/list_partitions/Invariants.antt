@@ -2,11 +2,11 @@ use Rattle.std.proofs.Common.{◌≡◌, ◌++◌, List, map, drop, take}
 use Rattle.std.specs.List.{AllZip, flat_map}
 use Rattle.kb_api_data.specs.Layouts.{list_offsets_partition_reply}
 use Rattle.kb_api_data.specs.declared.list_offsets.ListOffsetsPartitionReply.{ListOffsetsPartitionReply}
-use Rattle.kb_world.specs.Scene.{WhereHonest}
+use Rattle.kb_tenant_state.specs.Scene.{WhereHonest}
 use Rattle.kb_tenant.specs.ListOffsets.{listed}
 use Rattle.kb_tenant.specs.Told.{HasFailed, IsListingTold}
-use Rattle.kb_world.specs.Parts.{scene}
-use Rattle.kb_world.specs.Steps.{IsStep, Meets}
+use Rattle.kb_tenant_state.specs.Parts.{scene}
+use Rattle.kb_tenant_state.specs.Steps.{IsStep, Meets}
 use Rattle.kb_tenant.proofs.Serving.{Stays}
 use Rattle.kb_tenant.proofs.list_offsets.list_partitions.Given as goal
 

@@ -3,8 +3,8 @@ use Rattle.std.proofs.lemmas.Result.{on_ok_weaker}
 use Rattle.kb_wire.specs.Codec.{string}
 use Rattle.kb_api_data.specs.Layouts.{list_offsets_topic, list_offsets_partition}
 use Rattle.kb_topics.specs.Known.{named}
-use Rattle.kb_world.specs.Parts.{scene, world_of}
-use Rattle.kb_world.specs.World.{World}
+use Rattle.kb_tenant_state.specs.Parts.{scene, world_of}
+use Rattle.kb_tenant_state.specs.World.{World}
 use Rattle.kb_tenant.proofs.Fitting.{count_fits}
 use Rattle.kb_tenant.specs.Told.{HasFailed}
 use Rattle.kb_tenant.proofs.Listing.{topic_listing}

@@ -6,7 +6,7 @@ use Rattle.std.proofs.lemmas.Result.{on_ok_weaker}
 use Rattle.kb_wire.specs.Codec.{array, string}
 use Rattle.kb_api_data.specs.Layouts.{metadata_request}
 use Rattle.kb_tenant.specs.Metadata.{metadata_in, metadata_of, topics_asked, topics_in}
-use Rattle.kb_world.specs.Parts.{world_of}
+use Rattle.kb_tenant_state.specs.Parts.{world_of}
 use Rattle.kb_tenant.proofs.Described.{metadata_written}
 use Rattle.kb_tenant.proofs.Fitting.{array_of_nullable}
 use Rattle.kb_tenant.proofs.metadata.metadata.Goals as goal

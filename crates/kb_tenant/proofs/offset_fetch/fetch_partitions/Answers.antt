@@ -2,7 +2,7 @@ use Rattle.std.proofs.Common.{◌≡◌, ◌∙◌, rules, ap, sym, pos, to_z, o
 use Rattle.std.specs.Prelude.{slice_index_or}
 use Rattle.std.specs.Option.{option_copied}
 use Rattle.kb_api_group.specs.Layouts.{offset_fetch_partition_reply}
-use Rattle.kb_world.specs.Parts.{world_of}
+use Rattle.kb_tenant_state.specs.Parts.{world_of}
 use Rattle.kb_tenant.specs.OffsetFetch.{fetched, kept, told}
 use Rattle.kb_tenant.proofs.Serving.{get_or_any, write_next, write_over}
 use Rattle.kb_tenant.proofs.offset_fetch.fetch_partitions.Goals as goal

@@ -3,8 +3,8 @@ use Rattle.std.proofs.lemmas.Result.{on_ok_weaker}
 use Rattle.kb_wire.specs.Codec.{int32, string}
 use Rattle.kb_api_group.specs.Layouts.{offset_fetch_topic}
 use Rattle.kb_topics.specs.Known.{named}
-use Rattle.kb_world.specs.Parts.{world_of}
-use Rattle.kb_world.specs.World.{World}
+use Rattle.kb_tenant_state.specs.Parts.{world_of}
+use Rattle.kb_tenant_state.specs.World.{World}
 use Rattle.kb_tenant.proofs.Fitting.{count_fits}
 use Rattle.kb_tenant.proofs.OffsetsKept.{topic_written}
 use Rattle.kb_tenant.proofs.offset_fetch.fetch_topic.Goals as goal

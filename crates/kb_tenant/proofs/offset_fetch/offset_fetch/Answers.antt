@@ -1,8 +1,8 @@
 use Rattle.std.proofs.Common.{◌≡◌, ◌∙◌, ◌<◌, ◌≤◌, ap, sym, subst, ◌++◌, map, length, get_or}
 use Rattle.std.specs.List.{flat_map}
 use Rattle.kb_api_group.specs.Layouts.{offset_fetch_request, offset_fetch_topic, offset_fetch_topic_reply}
-use Rattle.kb_world.specs.Parts.{world_of}
-use Rattle.kb_world.specs.World.{World}
+use Rattle.kb_tenant_state.specs.Parts.{world_of}
+use Rattle.kb_tenant_state.specs.World.{World}
 use Rattle.kb_tenant.specs.OffsetFetch.{fetched_topic}
 use Rattle.kb_tenant.proofs.Fitting.{count_fits, item_fits}
 use Rattle.kb_tenant.proofs.OffsetsKept.{all_written}

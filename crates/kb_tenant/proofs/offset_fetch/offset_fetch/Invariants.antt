@@ -2,7 +2,7 @@ use Rattle.std.proofs.Common.{◌≡◌, ◌++◌, map, drop}
 use Rattle.std.specs.List.{flat_map}
 use Rattle.kb_api_group.specs.Layouts.{offset_fetch_topic_reply}
 use Rattle.kb_store.specs.Disk.{Files}
-use Rattle.kb_world.specs.Parts.{world_of}
+use Rattle.kb_tenant_state.specs.Parts.{world_of}
 use Rattle.kb_tenant.specs.OffsetFetch.{fetched_topic}
 use Rattle.kb_tenant.proofs.offset_fetch.offset_fetch.Given as goal
 

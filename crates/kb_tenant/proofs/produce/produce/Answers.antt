@@ -3,10 +3,10 @@ use Rattle.std.proofs.lemmas.Result.{on_ok_weaker}
 use Rattle.kb_wire.specs.Codec.{count}
 use Rattle.kb_api_data.specs.Layouts.{produce_topic_reply}
 use Rattle.kb_api_data.specs.declared.produce.ProduceTopicReply.{ProduceTopicReply}
-use Rattle.kb_world.specs.Parts.{scene}
+use Rattle.kb_tenant_state.specs.Parts.{scene}
 use Rattle.kb_tenant.specs.Produce.{progress, served_topic, where_due}
 use Rattle.kb_tenant.specs.Room.{length_due, reply_length, IsLonger}
-use Rattle.kb_world.specs.Steps.{step_then, meets_then, meets_so}
+use Rattle.kb_tenant_state.specs.Steps.{step_then, meets_then, meets_so}
 use Rattle.kb_tenant.specs.Told.{FailedBy, HasFailed, IsTopicTold}
 use Rattle.kb_tenant.proofs.Acknowledging.{failures_by, failures_since, honest_then, next_by, produce_told_so, served_all, served_next, written_more}
 use Rattle.kb_tenant.proofs.Produced.{number_fits, topics_fit, topic_fits, told_next, produce_told}

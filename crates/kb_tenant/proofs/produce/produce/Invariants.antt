@@ -2,11 +2,11 @@ use Rattle.std.proofs.Common.{◌≡◌, ◌≤◌, ◌++◌, ℕ, List, Ok, dro
 use Rattle.std.specs.List.{flat_map, sum_by}
 use Rattle.kb_api_data.specs.Layouts.{produce_topic_reply}
 use Rattle.kb_api_data.specs.declared.produce.ProduceTopicReply.{ProduceTopicReply}
-use Rattle.kb_world.specs.Scene.{WhereHonest}
-use Rattle.kb_world.specs.Parts.{scene}
+use Rattle.kb_tenant_state.specs.Scene.{WhereHonest}
+use Rattle.kb_tenant_state.specs.Parts.{scene}
 use Rattle.kb_tenant.specs.Produce.{progress, served_topic, where_due}
 use Rattle.kb_tenant.specs.Room.{length_due, topic_length, IsPut}
-use Rattle.kb_world.specs.Steps.{IsStep, Meets}
+use Rattle.kb_tenant_state.specs.Steps.{IsStep, Meets}
 use Rattle.kb_tenant.specs.Told.{FailedBy, IsTopicTold}
 use Rattle.kb_tenant.specs.Turns.{in_turn, written_behind, AreServed}
 use Rattle.kb_tenant.proofs.produce.produce.Given as goal

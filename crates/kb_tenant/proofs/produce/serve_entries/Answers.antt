@@ -1,10 +1,10 @@
 use Rattle.std.proofs.Common.{◌++◌, ◌∷◌, [], IsErr, Ok, refl, rules}
 use Rattle.kb_api_data.specs.Layouts.{produce_partition_reply}
 use Rattle.kb_api_data.specs.declared.produce.ProducePartitionReply.{ProducePartitionReply}
-use Rattle.kb_world.specs.Parts.{scene}
+use Rattle.kb_tenant_state.specs.Parts.{scene}
 use Rattle.kb_tenant.specs.Produce.{progress, entry_served, where_due}
 use Rattle.kb_tenant.specs.Room.{entries_length, length_due}
-use Rattle.kb_world.specs.Steps.{step_then, meets_then, meets_so}
+use Rattle.kb_tenant_state.specs.Steps.{step_then, meets_then, meets_so}
 use Rattle.kb_tenant.specs.Told.{FailedBy, IsEntryTold}
 use Rattle.kb_tenant.proofs.Acknowledging.{entry_told_so, failures_by, failures_since, honest_then, next_by, served_all, served_next, written_more}
 use Rattle.kb_tenant.proofs.Produced.{entry_reply_fits, told_next, written_one}

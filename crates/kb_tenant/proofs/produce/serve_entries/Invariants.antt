@@ -2,11 +2,11 @@ use Rattle.std.proofs.Common.{◌≡◌, ◌≤◌, ◌++◌, ℕ, List, Ok, dro
 use Rattle.std.specs.List.{flat_map}
 use Rattle.kb_api_data.specs.Layouts.{produce_partition_reply}
 use Rattle.kb_api_data.specs.declared.produce.ProducePartitionReply.{ProducePartitionReply}
-use Rattle.kb_world.specs.Scene.{WhereHonest}
-use Rattle.kb_world.specs.Parts.{scene}
+use Rattle.kb_tenant_state.specs.Scene.{WhereHonest}
+use Rattle.kb_tenant_state.specs.Parts.{scene}
 use Rattle.kb_tenant.specs.Produce.{progress, entry_served, where_due}
 use Rattle.kb_tenant.specs.Room.{entries_length, length_due, IsPut}
-use Rattle.kb_world.specs.Steps.{IsStep, Meets}
+use Rattle.kb_tenant_state.specs.Steps.{IsStep, Meets}
 use Rattle.kb_tenant.specs.Told.{FailedBy, IsEntryTold}
 use Rattle.kb_tenant.specs.Turns.{in_turn, written_behind, AreServed}
 use Rattle.kb_tenant.proofs.produce.serve_entries.Given as goal

@@ -1,10 +1,10 @@
 use Rattle.std.proofs.Common.{◌∙◌, IsErr, ap, rules}
 use Rattle.std.proofs.lemmas.Result.{on_ok_weaker}
 use Rattle.kb_topics.specs.Known.{named}
-use Rattle.kb_world.specs.Parts.{scene}
+use Rattle.kb_tenant_state.specs.Parts.{scene}
 use Rattle.kb_tenant.specs.Produce.{progress}
 use Rattle.kb_tenant.specs.Room.{length_due, topic_length}
-use Rattle.kb_world.specs.Steps.{meets_so}
+use Rattle.kb_tenant_state.specs.Steps.{meets_so}
 use Rattle.kb_tenant.specs.Told.{FailedBy}
 use Rattle.kb_tenant.proofs.Acknowledging.{topic_told_so}
 use Rattle.kb_tenant.proofs.Produced.{name_fits, entries_fit, topic_told}

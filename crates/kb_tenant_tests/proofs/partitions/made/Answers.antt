@@ -3,7 +3,7 @@ use Rattle.std.specs.Ordering.{nat_cmp}
 use Rattle.std.specs.Map.{lookup}
 use Rattle.std.specs.BTreeMap.{is_at}
 use Rattle.kb_log.specs.ListLog.{list_log}
-use Rattle.kb_world.specs.Partitions.{AreSound, places_of}
+use Rattle.kb_tenant_state.specs.Partitions.{AreSound, places_of}
 use Rattle.kb_tenant_tests.proofs.Empty.{none_sound}
 use Rattle.kb_tenant_tests.proofs.partitions.made.Goals as goal
 

@@ -1,12 +1,12 @@
 use Rattle.std.proofs.Common.{◌≡◌, ◌+◌, ◌++◌, ◌∷◌, [], ◌<◌, length, take, sym, ◌∙◌, ap, arith, add-one, append_assoc}
 use Rattle.std.specs.Prelude.{map}
 use Rattle.std.proofs.lemmas.List.{map_push, take_more}
-use Rattle.kb_machine.specs.Machine.{sent}
+use Rattle.kb_isolation_spec.specs.Machine.{sent}
 use Rattle.kb_broker.specs.Runs.{sent_of}
 use Rattle.kb_broker.specs.declared.run.Written.{Written}
-use Rattle.kb_machine.specs.Calls.{taken}
+use Rattle.kb_isolation_spec.specs.Calls.{taken}
 use Rattle.kb_broker.proofs.RunDrain.{drained_to, drained-at, drained-more, drained-sent}
-use Rattle.kb_machine.specs.Broker.{BrokerState}
+use Rattle.kb_isolation_spec.specs.Broker.{BrokerState}
 use Rattle.kb_broker.proofs.Honest.{state-is, store-is, strays-is}
 use Rattle.kb_broker.proofs.InFiles.{in-files-same}
 use Rattle.kb_broker.proofs.RunEvents.{then-state}

@@ -1,6 +1,6 @@
 use Rattle.std.proofs.Common.{◌≡◌, ◌+◌, ◌++◌, length, take, vec_len, vec_capacity}
 use Rattle.std.specs.Prelude.{map}
-use Rattle.kb_machine.specs.Machine.{sent}
+use Rattle.kb_isolation_spec.specs.Machine.{sent}
 use Rattle.kb_broker.specs.Runs.{sent_of}
 use Rattle.kb_broker.proofs.RunDrain.{drained_to}
 use Rattle.kb_broker.proofs.broker.Broker.drain.Given as goal

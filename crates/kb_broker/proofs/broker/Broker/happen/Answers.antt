@@ -1,9 +1,9 @@
 use Rattle.std.proofs.Common.{◌≡◌, ◌++◌, ◌∷◌, [], refl, sym, ◌∙◌, ap, subst, inl, inr}
 use Rattle.std.specs.Prelude.{map, true}
 use Rattle.std.proofs.lemmas.List.{map_push, append-nil}
-use Rattle.kb_machine.specs.Machine.{Sent, Comes}
-use Rattle.kb_machine.specs.Broker.{IsStep}
-use Rattle.kb_machine.specs.Calls.{IsRefused, opened}
+use Rattle.kb_isolation_spec.specs.Machine.{Sent, Comes}
+use Rattle.kb_isolation_spec.specs.Broker.{IsStep}
+use Rattle.kb_isolation_spec.specs.Calls.{IsRefused, opened}
 use Rattle.kb_broker.specs.Hosts.{is_honest, StepsTo}
 use Rattle.kb_broker.specs.Runs.{sent_of, unkept}
 use Rattle.kb_broker.specs.declared.run.Written.{Written}

@@ -1,6 +1,6 @@
 use Rattle.std.proofs.Common.{◌∙◌, List, ap, subst, sym}
-use Rattle.kb_machine.specs.Stranded.{NoneStranded}
-use Rattle.kb_service.specs.Hosted.{TenantState}
+use Rattle.kb_isolation_spec.specs.Stranded.{NoneStranded}
+use Rattle.kb_tenant_api.specs.Hosted.{TenantState}
 use Rattle.kb_tenants.specs.Members.{HaveNoGroup}
 use Rattle.kb_broker.specs.Hosts.{OnStore}
 use Rattle.kb_broker.specs.Members.{numbered_from}

@@ -1,7 +1,7 @@
 use Rattle.std.proofs.Common.{◌∙◌, List, ap, map, subst, sym, Bor, ℕ}
-use Rattle.kb_service.specs.Hosted.{new_tenant}
+use Rattle.kb_tenant_api.specs.Hosted.{new_tenant}
 use Rattle.kb_tenants.specs.Members.{HaveNoGroup}
-use Rattle.kb_machine.specs.Broker.{BrokerState}
+use Rattle.kb_isolation_spec.specs.Broker.{BrokerState}
 use Rattle.kb_broker.proofs.Members.{none-first}
 use Rattle.kb_broker.proofs.OpeningParts.{opening-made, opening-ready}
 use Rattle.kb_broker.proofs.broker.Broker.open_listing.Goals as goal

@@ -1,5 +1,5 @@
 use Rattle.std.proofs.Common.{◌∙◌, ap, subst, sym}
-use Rattle.kb_machine.specs.Stranded.{NoneStranded}
+use Rattle.kb_isolation_spec.specs.Stranded.{NoneStranded}
 use Rattle.kb_broker.specs.Hosts.{tenants_in}
 use Rattle.kb_broker.proofs.OpeningParts.{over-made, over-ready}
 use Rattle.kb_broker.proofs.Stranded.{stranded-over}

@@ -5,20 +5,20 @@ use Rattle.std.specs.List.Sorted.{IsNonDecreasingBy}
 use Rattle.std.proofs.lemmas.List.{drop_all, length-map}
 use Rattle.std.proofs.lemmas.Simd.{map-map}
 use Rattle.std.proofs.lemmas.List.Sorted.{IsPermutation-map, IsNonDecreasingBy-from_sort_by_key}
-use Rattle.kb_machine.specs.Machine.{Sent, sent, those_sent, by_number}
-use Rattle.kb_machine.specs.Broker.{BrokerState, owned_by, only, view_of}
-use Rattle.kb_machine.specs.Isolation.{own_events}
-use Rattle.kb_machine.proofs.FetchRuns.{run-gives}
-use Rattle.kb_machine.proofs.Runs.{those-by_number}
-use Rattle.kb_machine.proofs.Owned.{owned-mine, run-after, run-first, unowned-mine, calm-nobody}
-use Rattle.kb_machine.specs.Stranded.{NoneStranded}
-use Rattle.kb_machine.proofs.Stranded.{stranded-emptied}
+use Rattle.kb_isolation_spec.specs.Machine.{Sent, sent, those_sent, by_number}
+use Rattle.kb_isolation_spec.specs.Broker.{BrokerState, owned_by, only, view_of}
+use Rattle.kb_isolation_spec.specs.Isolation.{own_events}
+use Rattle.kb_isolation_spec.proofs.FetchRuns.{run-gives}
+use Rattle.kb_isolation_spec.proofs.Runs.{those-by_number}
+use Rattle.kb_isolation_spec.proofs.Owned.{owned-mine, run-after, run-first, unowned-mine, calm-nobody}
+use Rattle.kb_isolation_spec.specs.Stranded.{NoneStranded}
+use Rattle.kb_isolation_spec.proofs.Stranded.{stranded-emptied}
 use Rattle.kb_broker.specs.declared.run.Written.{Written}
 use Rattle.kb_broker.specs.Hosts.{is_honest, IsLater}
 use Rattle.kb_broker.specs.Truth.{IsSilent}
 use Rattle.kb_broker.specs.Runs.{happening_of, happenings, sent_of, connections_of, Passes}
 use Rattle.kb_broker.proofs.Honest.{later-same, later-then, later-is, ready-of, state-is, store-is, strays-is}
-use Rattle.kb_machine.proofs.Greetings.{unowned-greets}
+use Rattle.kb_isolation_spec.proofs.Greetings.{unowned-greets}
 use Rattle.kb_broker.proofs.RunLast.{told-passes}
 use Rattle.kb_broker.proofs.Truth.{silent_emptied}
 use Rattle.kb_broker.proofs.RunHistory.{happenings-next, length-connections, connections-first, room-leads, grows-passes, run-passes, numbers-passes, rising-connections, continues-next}

@@ -1,7 +1,7 @@
 use Rattle.std.proofs.Common.{◌+◌, ◌≤◌, length, drop, vec_len, vec_capacity}
 use Rattle.std.specs.Prelude.{map}
-use Rattle.kb_machine.specs.Broker.{IsRun}
-use Rattle.kb_machine.specs.Stranded.{NoneStranded}
+use Rattle.kb_isolation_spec.specs.Broker.{IsRun}
+use Rattle.kb_isolation_spec.specs.Stranded.{NoneStranded}
 use Rattle.kb_broker.specs.Hosts.{is_honest, IsLater, IsReadyOn}
 use Rattle.kb_broker.specs.Runs.{happenings, sent_of, connections_of}
 use Rattle.kb_broker.proofs.RunHistory.{Continues}

@@ -1,5 +1,5 @@
 use Rattle.std.proofs.Common.{sym, ap, subst, List}
-use Rattle.kb_machine.specs.Machine.{Line}
+use Rattle.kb_isolation_spec.specs.Machine.{Line}
 use Rattle.kb_tenants.specs.Tenants.{shelf_is_honest}
 use Rattle.kb_broker.specs.Hosts.{tenants_in}
 use Rattle.kb_broker.specs.Parked.{IsQueueOf, deadline_at}

@@ -1,10 +1,10 @@
 use Rattle.std.proofs.Common.{◌≡◌, ◌<◌, List, arith, get_or, length, refl, sym, ◌∙◌, ap, subst}
 use Rattle.std.specs.FinMap as fin
-use Rattle.kb_machine.specs.Session.{fresh}
-use Rattle.kb_machine.specs.Machine.{Line}
-use Rattle.kb_machine.specs.Broker.{BrokerState, Rising}
-use Rattle.kb_machine.specs.Calls.{left_by, output_in}
-use Rattle.kb_machine.proofs.Sets.{find-none}
+use Rattle.kb_isolation_spec.specs.Session.{fresh}
+use Rattle.kb_isolation_spec.specs.Machine.{Line}
+use Rattle.kb_isolation_spec.specs.Broker.{BrokerState, Rising}
+use Rattle.kb_isolation_spec.specs.Calls.{left_by, output_in}
+use Rattle.kb_isolation_spec.proofs.Sets.{find-none}
 use Rattle.kb_broker.proofs.Placed.{IsLeft, get-at, left-found, find-found, closed-found, closed-none}
 use Rattle.kb_tenants.specs.Tenants.{shelf_is_honest}
 use Rattle.kb_broker.specs.Hosts.{tenants_in}

@@ -1,9 +1,9 @@
 use Rattle.std.proofs.Common.{◌∙◌, subst, sym}
-use Rattle.kb_machine.specs.Turned.{Of}
-use Rattle.kb_machine.proofs.Turns.{going-then}
+use Rattle.kb_isolation_spec.specs.Turned.{Of}
+use Rattle.kb_isolation_spec.proofs.Turns.{going-then}
 use Rattle.kb_broker.specs.Hosts.{is_honest}
 use Rattle.kb_broker.specs.Places.{AreIdle, number_at}
-use Rattle.kb_machine.proofs.Feeds.{step-not_open}
+use Rattle.kb_isolation_spec.proofs.Feeds.{step-not_open}
 use Rattle.kb_broker.proofs.Honest.{later-same, later-silent, later-then, ready-of, state-is}
 use Rattle.kb_broker.proofs.Placed.{found}
 use Rattle.kb_broker.proofs.Handled.{empty-is, full-is, idle-fed, number-going, others-taken, step-empty, step-deaf, step-taken}

@@ -1,6 +1,6 @@
 use Rattle.std.proofs.Common.{sym, ◌∙◌, ap}
-use Rattle.kb_machine.specs.Calls.{shut_in}
-use Rattle.kb_machine.proofs.Sets.{find-none}
+use Rattle.kb_isolation_spec.specs.Calls.{shut_in}
+use Rattle.kb_isolation_spec.proofs.Sets.{find-none}
 use Rattle.kb_broker.proofs.Placed.{found, find-found}
 use Rattle.kb_broker.proofs.Honest.{state-is}
 use Rattle.kb_broker.proofs.engine.Engine.is_shut.Goals as goal

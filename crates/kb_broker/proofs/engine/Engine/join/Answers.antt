@@ -1,7 +1,7 @@
 use Rattle.std.proofs.Common.{◌≡◌, ◌≤◌, ◌∷◌, ◌∙◌, ◌+◌, ℕ, true, false, length, take, get_or, inl, inr, sym, subst, rules, IsPermutation}
 use Rattle.std.specs.Prelude.{Contains}
 use Rattle.std.proofs.lemmas.List.{take_all}
-use Rattle.kb_machine.specs.Machine.{find_line}
+use Rattle.kb_isolation_spec.specs.Machine.{find_line}
 use Rattle.kb_broker.specs.Able.{Numbers}
 use Rattle.kb_broker.specs.Parked.{can_in}
 use Rattle.kb_broker.proofs.Going.{from-true, put-keeps, put-more, skip-more}

@@ -1,6 +1,6 @@
 use Rattle.std.proofs.Common.{◌≡◌, ℕ, take, true}
 use Rattle.std.specs.Prelude.{Contains}
-use Rattle.kb_machine.specs.Machine.{find_line}
+use Rattle.kb_isolation_spec.specs.Machine.{find_line}
 use Rattle.kb_broker.specs.Parked.{can_in}
 use Rattle.kb_broker.proofs.engine.Engine.join.Given as goal
 

@@ -1,8 +1,8 @@
 use Rattle.std.proofs.Common.{◌≡◌, ap, sym, ◌∙◌, subst}
-use Rattle.kb_service.specs.Hosted.{kept_of, left}
-use Rattle.kb_service.specs.Turns.{with_kept}
+use Rattle.kb_tenant_api.specs.Hosted.{kept_of, left}
+use Rattle.kb_tenant_api.specs.Turns.{with_kept}
 use Rattle.kb_tenants.specs.Tenants.{shelf_is_honest}
-use Rattle.kb_machine.specs.Calls.{left_by}
+use Rattle.kb_isolation_spec.specs.Calls.{left_by}
 use Rattle.kb_connection.specs.View.{stage_of}
 use Rattle.kb_broker.specs.Hosts.{tenants_in}
 use Rattle.kb_broker.proofs.Left.{left-some}

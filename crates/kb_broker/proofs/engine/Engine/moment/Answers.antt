@@ -1,6 +1,6 @@
 use Rattle.std.proofs.Common.{◌≤◌, ◌^◌, ◌∙◌, ap, subst, sym}
 use Rattle.std.specs.Prelude.{max}
-use Rattle.kb_machine.specs.Broker.{BrokerState}
+use Rattle.kb_isolation_spec.specs.Broker.{BrokerState}
 use Rattle.kb_broker.specs.Hosts.{is_honest}
 use Rattle.kb_broker.specs.Parked.{AreAmong, AreWaitingOn}
 use Rattle.kb_broker.proofs.Honest.{later-clocked, later-seen, state-is, store-is}

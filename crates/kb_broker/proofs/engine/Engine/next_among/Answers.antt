@@ -1,7 +1,7 @@
 use Rattle.std.proofs.Common.{◌≡◌, ◌≤◌, ◌∷◌, All, false, sym, ◌∙◌, ap, subst, arith}
 use Rattle.std.proofs.lemmas.List.Sorted.{length_permutation}
-use Rattle.kb_machine.specs.Machine.{find_line}
-use Rattle.kb_machine.proofs.Sets.{find-none}
+use Rattle.kb_isolation_spec.specs.Machine.{find_line}
+use Rattle.kb_isolation_spec.proofs.Sets.{find-none}
 use Rattle.kb_broker.specs.Parked.{can_in, AreAmong}
 use Rattle.kb_broker.proofs.Placed.{found, find-found, number_at-is}
 use Rattle.kb_broker.proofs.Going.{among-popped, among-taken, next-least, none-among}

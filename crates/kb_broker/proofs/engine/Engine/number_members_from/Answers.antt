@@ -1,7 +1,7 @@
 use Rattle.std.proofs.Common.{◌∙◌, List, ap, subst, sym}
 use Rattle.kb_tenants.specs.Members.{HaveNoGroup}
 use Rattle.kb_tenants.specs.Tenants.{numbers_in, shelf_is_honest}
-use Rattle.kb_service.specs.Hosted.{TenantState}
+use Rattle.kb_tenant_api.specs.Hosted.{TenantState}
 use Rattle.kb_broker.specs.Hosts.{OnStore, tenants_in}
 use Rattle.kb_broker.proofs.Members.{numbered-made, queue-numbered}
 use Rattle.kb_broker.proofs.engine.Engine.number_members_from.Goals as goal

@@ -1,6 +1,6 @@
 use Rattle.std.proofs.Common.{◌≡◌, ◌∙◌, ◌<◌, List, length, ap, arith, sym, subst}
-use Rattle.kb_service.specs.Hosted.{TenantState}
-use Rattle.kb_machine.specs.Broker.{BrokerState, InRange}
+use Rattle.kb_tenant_api.specs.Hosted.{TenantState}
+use Rattle.kb_isolation_spec.specs.Broker.{BrokerState, InRange}
 use Rattle.kb_connection.specs.View.{stage_of}
 use Rattle.kb_tenants.specs.Tenants.{shelf_is_honest}
 use Rattle.kb_broker.specs.Hosts.{tenants_in}

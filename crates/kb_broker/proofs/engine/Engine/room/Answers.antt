@@ -1,6 +1,6 @@
 use Rattle.std.proofs.Common.{sym, ◌∙◌, ap, subst}
-use Rattle.kb_machine.specs.Calls.{room_in}
-use Rattle.kb_machine.proofs.Sets.{find-none}
+use Rattle.kb_isolation_spec.specs.Calls.{room_in}
+use Rattle.kb_isolation_spec.proofs.Sets.{find-none}
 use Rattle.kb_connection.specs.View.{IsLimitedIn}
 use Rattle.kb_broker.proofs.Placed.{found, find-found}
 use Rattle.kb_broker.proofs.Honest.{state-is}

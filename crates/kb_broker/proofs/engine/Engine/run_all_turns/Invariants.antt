@@ -1,4 +1,4 @@
-use Rattle.kb_machine.specs.Machine.{work}
+use Rattle.kb_isolation_spec.specs.Machine.{work}
 use Rattle.kb_broker.proofs.Going.{HasGone}
 use Rattle.kb_broker.proofs.engine.Engine.run_all_turns.Given as goal
 

@@ -1,5 +1,5 @@
 use Rattle.std.proofs.Common.{◌≡◌, true}
-use Rattle.kb_machine.specs.Machine.{work}
+use Rattle.kb_isolation_spec.specs.Machine.{work}
 use Rattle.kb_broker.specs.Parked.{AreAmong}
 use Rattle.kb_broker.proofs.Going.{HasGone}
 use Rattle.kb_broker.proofs.engine.Engine.run_among.Given as goal

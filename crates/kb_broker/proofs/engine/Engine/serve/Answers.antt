@@ -1,7 +1,7 @@
 use Rattle.std.proofs.Common.{◌≡◌, ◌<◌, ℕ, ◌∙◌, refl, ap, set, subst, sym}
-use Rattle.kb_machine.specs.Machine.{Line, work}
-use Rattle.kb_machine.specs.Broker.{BrokerState}
-use Rattle.kb_machine.specs.Turned.{IsGoing}
+use Rattle.kb_isolation_spec.specs.Machine.{Line, work}
+use Rattle.kb_isolation_spec.specs.Broker.{BrokerState}
+use Rattle.kb_isolation_spec.specs.Turned.{IsGoing}
 use Rattle.kb_connection.specs.View.{stage_of}
 use Rattle.kb_tenant.specs.Told.{FailedBy}
 use Rattle.kb_tenants.specs.Tenants.{numbers_in, shelf_is_honest, commands_of, IsCatalogFull}

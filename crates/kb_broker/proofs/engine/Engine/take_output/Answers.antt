@@ -1,7 +1,7 @@
 use Rattle.std.proofs.Common.{refl, sym, ◌∙◌, ap}
-use Rattle.kb_machine.specs.Machine.{Line}
-use Rattle.kb_machine.specs.Calls.{output_in}
-use Rattle.kb_machine.proofs.Sets.{find-none}
+use Rattle.kb_isolation_spec.specs.Machine.{Line}
+use Rattle.kb_isolation_spec.specs.Calls.{output_in}
+use Rattle.kb_isolation_spec.proofs.Sets.{find-none}
 use Rattle.kb_broker.proofs.Placed.{at-read, found, find-found, taken-found, taken-none}
 use Rattle.kb_tenants.specs.Tenants.{shelf_is_honest}
 use Rattle.kb_broker.specs.Hosts.{tenants_in}

@@ -1,5 +1,5 @@
 use Rattle.std.proofs.Common.{sym, ◌∙◌, ap}
-use Rattle.kb_machine.proofs.Sets.{find-none}
+use Rattle.kb_isolation_spec.proofs.Sets.{find-none}
 use Rattle.kb_broker.specs.Speakers.{takes_login_in}
 use Rattle.kb_broker.proofs.Placed.{found, find-found}
 use Rattle.kb_broker.proofs.Honest.{state-is}

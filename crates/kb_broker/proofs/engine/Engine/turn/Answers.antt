@@ -1,7 +1,7 @@
 use Rattle.std.proofs.Common.{arith, subst, sym}
-use Rattle.kb_machine.specs.declared.whom.Whom.TheVariants as whoms
-use Rattle.kb_machine.proofs.Turns.{going-then}
-use Rattle.kb_machine.proofs.Wakes.{turned-served}
+use Rattle.kb_isolation_spec.specs.declared.whom.Whom.TheVariants as whoms
+use Rattle.kb_isolation_spec.proofs.Turns.{going-then}
+use Rattle.kb_isolation_spec.proofs.Wakes.{turned-served}
 use Rattle.kb_broker.specs.Places.{number_at}
 use Rattle.kb_broker.specs.Parked.{AreMinded, IsConfined, IsLeftTo, IsOwnTo, IsServedFor, SameBut}
 use Rattle.kb_broker.proofs.Going.{confined-these, turned-these}

@@ -1,5 +1,5 @@
 use Rattle.std.proofs.Common.{◌≤◌, ◌∙◌, arith, length, rules, sym}
-use Rattle.kb_machine.proofs.Turns.{going-then}
+use Rattle.kb_isolation_spec.proofs.Turns.{going-then}
 use Rattle.kb_broker.proofs.Fields.{all-free, none-passed}
 use Rattle.kb_broker.proofs.Honest.{later-then}
 use Rattle.kb_broker.proofs.Looked.{passed-looked-all, passed-rest-all, waked-all}

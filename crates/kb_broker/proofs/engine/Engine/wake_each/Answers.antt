@@ -1,9 +1,9 @@
 use Rattle.std.proofs.Common.{◌≡◌, ◌≤◌, ◌+◌, length, take, get_or, refl, subst, sym, arith}
 use Rattle.std.proofs.lemmas.List.Elements.{Contains-get_or}
-use Rattle.kb_machine.specs.Machine.{work}
-use Rattle.kb_machine.specs.Turned.{IsGoing, SameOthers}
-use Rattle.kb_machine.proofs.Sets.{find-none}
-use Rattle.kb_machine.proofs.Turns.{going-then}
+use Rattle.kb_isolation_spec.specs.Machine.{work}
+use Rattle.kb_isolation_spec.specs.Turned.{IsGoing, SameOthers}
+use Rattle.kb_isolation_spec.proofs.Sets.{find-none}
+use Rattle.kb_isolation_spec.proofs.Turns.{going-then}
 use Rattle.kb_broker.specs.Hosts.{OnStore, is_honest, IsLater}
 use Rattle.kb_broker.specs.Parked.{AreMinded, SameBut}
 use Rattle.kb_broker.specs.Places.{number_at}

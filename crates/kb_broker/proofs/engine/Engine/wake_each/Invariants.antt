@@ -1,6 +1,6 @@
 use Rattle.std.proofs.Common.{◌≡◌, ◌≤◌, length, take}
-use Rattle.kb_machine.specs.Machine.{work}
-use Rattle.kb_machine.specs.Turned.{IsGoing}
+use Rattle.kb_isolation_spec.specs.Machine.{work}
+use Rattle.kb_isolation_spec.specs.Turned.{IsGoing}
 use Rattle.kb_broker.specs.Hosts.{is_honest, IsLater}
 use Rattle.kb_broker.specs.Parked.{AreMinded, SameBut}
 use Rattle.kb_broker.proofs.engine.Engine.wake_each.Given as goal

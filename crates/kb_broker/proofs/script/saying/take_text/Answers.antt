@@ -1,5 +1,5 @@
 use Rattle.std.proofs.Common.{◌≡◌, ◌+◌, ◌++◌, ◌&&◌, ◌<◌, not, false, length, take, get_or, refl, sym, ◌∙◌, ap, arith, rules, add-one, append-nil}
-use Rattle.kb_machine.specs.Machine.{Sent, sent}
+use Rattle.kb_isolation_spec.specs.Machine.{Sent, sent}
 use Rattle.kb_connection.specs.View.{speaks}
 use Rattle.kb_broker.specs.Script.{sent_text, step_text}
 use Rattle.kb_broker.specs.ScriptRun.{said_since}

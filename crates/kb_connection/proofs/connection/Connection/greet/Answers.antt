@@ -1,5 +1,5 @@
 use Rattle.std.proofs.Common.{ap}
-use Rattle.kb_machine.specs.Machine.{Line}
+use Rattle.kb_isolation_spec.specs.Machine.{Line}
 use Rattle.kb_connection.specs.View.{greeting_of}
 use Rattle.kb_connection.proofs.Turning.{greet_more, greet_bad, greet_frame}
 use Rattle.kb_connection.proofs.connection.Connection.greet.Goals as goal

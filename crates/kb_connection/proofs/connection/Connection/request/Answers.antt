@@ -1,7 +1,7 @@
 use Rattle.std.proofs.Common.{sym, ◌∙◌, ap, w16, w32, rules, FitsSigned}
 use Rattle.std.proofs.lemmas.Int.{to_z-of_z}
-use Rattle.kb_machine.specs.Machine.{Line}
-use Rattle.kb_machine.specs.Requests.{request}
+use Rattle.kb_isolation_spec.specs.Machine.{Line}
+use Rattle.kb_isolation_spec.specs.Requests.{request}
 use Rattle.kb_connection.proofs.Fronts.{own_unless_frame, own_unless_another, is_handed}
 use Rattle.kb_connection.specs.View.{stage_with_wait}
 use Rattle.kb_connection.proofs.Limits.{framed-open}

@@ -1,5 +1,5 @@
 use Rattle.std.proofs.Common.{ap}
-use Rattle.kb_machine.specs.Machine.{Line}
+use Rattle.kb_isolation_spec.specs.Machine.{Line}
 use Rattle.kb_connection.proofs.Fronts.{own_frame}
 use Rattle.kb_connection.proofs.Turning.{serve_more, serve_bad, serve_frame}
 use Rattle.kb_connection.proofs.connection.Connection.serve.Goals as goal

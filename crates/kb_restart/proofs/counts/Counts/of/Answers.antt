@@ -2,7 +2,7 @@ use Rattle.std.proofs.Common.{◌≡◌, ◌∙◌, ◌+◌, length, sym, ap, ar
 use Rattle.std.proofs.lemmas.List.Sums.{sum_by_more}
 use Rattle.kb_segment_log.specs.declared.log.SegmentLog.{SegmentLog}
 use Rattle.kb_topics.specs.Catalog.{known}
-use Rattle.kb_world.specs.declared.parts.Parts.{Parts}
+use Rattle.kb_tenant_state.specs.declared.parts.Parts.{Parts}
 use Rattle.kb_restart.specs.Counts.{partitions_of}
 use Rattle.kb_restart.proofs.Counted.{no_files}
 use Rattle.kb_restart.proofs.counts.Counts.of.Goals as goal

@@ -2,7 +2,7 @@ use Rattle.std.proofs.Common.{sym, subst, w32}
 use Rattle.std.specs.Prelude.{All}
 use Rattle.kb_wire.specs.Codec.{count}
 use Rattle.kb_api_data.specs.Layouts.{fetch_topic}
-use Rattle.kb_world.specs.Parts.{scene, world_of}
+use Rattle.kb_tenant_state.specs.Parts.{scene, world_of}
 use Rattle.kb_tenant.specs.Told.{HasFailed}
 use Rattle.kb_tenant.proofs.Fetched.{all_fetched}
 use Rattle.kb_tenant.proofs.Fetching.{reply_told, request_count_fits, request_topics_fit}

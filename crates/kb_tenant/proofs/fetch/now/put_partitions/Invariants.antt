@@ -1,11 +1,11 @@
 use Rattle.std.proofs.Common.{◌≡◌, ◌++◌, List, drop, take}
 use Rattle.std.specs.List.{flat_map}
 use Rattle.kb_api_data.specs.declared.fetch_v5.FetchPartitionReplyV5.{FetchPartitionReplyV5}
-use Rattle.kb_world.specs.Scene.{WhereHonest}
+use Rattle.kb_tenant_state.specs.Scene.{WhereHonest}
 use Rattle.kb_tenant.specs.Counted.{fetch_answered, IsFetchTold}
 use Rattle.kb_tenant.specs.Fetch.{partition_written}
-use Rattle.kb_world.specs.Parts.{scene}
-use Rattle.kb_world.specs.Steps.{IsStep, Meets}
+use Rattle.kb_tenant_state.specs.Parts.{scene}
+use Rattle.kb_tenant_state.specs.Steps.{IsStep, Meets}
 use Rattle.kb_tenant.specs.Told.{HasFailed}
 use Rattle.kb_tenant.specs.Turns.{in_turn, written_behind, AreServed}
 use Rattle.kb_tenant.proofs.fetch.now.put_partitions.Given as goal

@@ -1,7 +1,7 @@
 use Rattle.std.proofs.Common.{sym, subst, w32}
 use Rattle.std.proofs.lemmas.Result.{on_ok_weaker}
 use Rattle.kb_wire.specs.Codec.{count, string}
-use Rattle.kb_world.specs.Parts.{scene, world_of}
+use Rattle.kb_tenant_state.specs.Parts.{scene, world_of}
 use Rattle.kb_tenant.specs.Told.{HasFailed}
 use Rattle.kb_tenant.proofs.Fetched.{topic_fetched}
 use Rattle.kb_tenant.proofs.Fetching.{topic_told, topic_name_fits, topic_count_fits}

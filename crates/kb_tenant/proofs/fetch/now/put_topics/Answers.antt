@@ -1,9 +1,9 @@
 use Rattle.std.proofs.Common.{[], append-nil, refl, sym}
-use Rattle.kb_world.specs.Scene.{Scene}
+use Rattle.kb_tenant_state.specs.Scene.{Scene}
 use Rattle.kb_tenant.specs.Counted.{answered_topic, IsFetchTopicTold}
 use Rattle.kb_tenant.specs.Fetch.{topic_written}
-use Rattle.kb_world.specs.Parts.{Seen, scene}
-use Rattle.kb_world.specs.Steps.{step_same, step_then}
+use Rattle.kb_tenant_state.specs.Parts.{Seen, scene}
+use Rattle.kb_tenant_state.specs.Steps.{step_same, step_then}
 use Rattle.kb_tenant.specs.Told.{HasFailed}
 use Rattle.kb_tenant.proofs.Acknowledging.{served_all}
 use Rattle.kb_tenant.proofs.Fetched.{answered_next, fetch_topic_so}

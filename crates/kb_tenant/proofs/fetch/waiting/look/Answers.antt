@@ -1,6 +1,6 @@
 use Rattle.std.proofs.Common.{◌≡◌, false, refl, true}
-use Rattle.kb_world.specs.Parts.{scene, world_of}
-use Rattle.kb_world.specs.Steps.{step_same}
+use Rattle.kb_tenant_state.specs.Parts.{scene, world_of}
+use Rattle.kb_tenant_state.specs.Steps.{step_same}
 use Rattle.kb_tenant.specs.Told.{HasFailed}
 use Rattle.kb_tenant.proofs.Fetched.{fetched_ready}
 use Rattle.kb_tenant.proofs.Missing.{unanswered_looked, unanswered_told}

@@ -1,4 +1,4 @@
-use Rattle.kb_world.specs.Parts.{world_of}
+use Rattle.kb_tenant_state.specs.Parts.{world_of}
 use Rattle.kb_tenant.proofs.Waiting.{topic_added, topics_done}
 use Rattle.kb_tenant.proofs.fetch.waiting.places.Goals as goal
 

@@ -1,7 +1,7 @@
 use Rattle.std.proofs.Common.{◌≡◌, take}
 use Rattle.kb_store.specs.Disk.{Files}
 use Rattle.kb_tenant.specs.Fetch.{places_of}
-use Rattle.kb_world.specs.Parts.{world_of}
+use Rattle.kb_tenant_state.specs.Parts.{world_of}
 use Rattle.kb_tenant.proofs.fetch.waiting.places.Given as goal
 
 -- the places of the topics so far

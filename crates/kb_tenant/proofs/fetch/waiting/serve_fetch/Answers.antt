@@ -1,5 +1,5 @@
 use Rattle.kb_tenant.specs.Fetch.{fetch_answer}
-use Rattle.kb_world.specs.Parts.{scene, world_of}
+use Rattle.kb_tenant_state.specs.Parts.{scene, world_of}
 use Rattle.kb_tenant.specs.Told.{HasFailed}
 use Rattle.kb_tenant.proofs.Fetched.{made_reply, made_wait}
 use Rattle.kb_tenant.proofs.Waiting.{reply_served, wait_served}

@@ -1,7 +1,7 @@
 use Rattle.std.proofs.Common.{rules, ◌≤◌, ◌<◌, ◌^◌}
 use Rattle.kb_batch.specs.Batch.{natural}
-use Rattle.kb_world.specs.Calls.{GivesAtMost}
-use Rattle.kb_world.specs.Parts.{world_of}
+use Rattle.kb_tenant_state.specs.Calls.{GivesAtMost}
+use Rattle.kb_tenant_state.specs.Parts.{world_of}
 use Rattle.kb_tenant.proofs.Missing.{entry_misses}
 use Rattle.kb_tenant.proofs.fetch.waits.missing_behind.Goals as goal
 

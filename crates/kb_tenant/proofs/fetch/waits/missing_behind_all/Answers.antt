@@ -1,7 +1,7 @@
 use Rattle.std.proofs.Common.{take}
 use Rattle.kb_tenant.specs.Counted.{fetch_answered}
 use Rattle.kb_tenant.specs.Turns.{in_turn}
-use Rattle.kb_world.specs.Parts.{world_of}
+use Rattle.kb_tenant_state.specs.Parts.{world_of}
 use Rattle.kb_tenant.proofs.Fetching.{get_or_any}
 use Rattle.kb_tenant.proofs.Missing.{misses_more}
 use Rattle.kb_tenant.proofs.fetch.waits.missing_behind_all.Goals as goal

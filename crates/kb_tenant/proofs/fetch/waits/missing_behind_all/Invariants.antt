@@ -3,7 +3,7 @@ use Rattle.kb_store.specs.Disk.{Files}
 use Rattle.kb_tenant.specs.Counted.{fetch_answered, Misses}
 use Rattle.kb_tenant.specs.Turns.{in_turn}
 use Rattle.kb_tenant.specs.declared.fetch.given.Given.{Given}
-use Rattle.kb_world.specs.Parts.{world_of, Agrees}
+use Rattle.kb_tenant_state.specs.Parts.{world_of, Agrees}
 use Rattle.kb_tenant.proofs.fetch.waits.missing_behind_all.Given as goal
 
 -- what is missing behind the entries so far

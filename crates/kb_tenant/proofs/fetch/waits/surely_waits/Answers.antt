@@ -1,4 +1,4 @@
-use Rattle.kb_world.specs.Parts.{world_of}
+use Rattle.kb_tenant_state.specs.Parts.{world_of}
 use Rattle.kb_tenant.proofs.Missing.{topic_more, topics_over, unanswered_if}
 use Rattle.kb_tenant.proofs.fetch.waits.surely_waits.Goals as goal
 

@@ -1,6 +1,6 @@
 use Rattle.std.proofs.Common.{take}
 use Rattle.kb_store.specs.Disk.{Files}
-use Rattle.kb_world.specs.Parts.{world_of, Agrees}
+use Rattle.kb_tenant_state.specs.Parts.{world_of, Agrees}
 use Rattle.kb_tenant.proofs.Missing.{Behind}
 use Rattle.kb_tenant.proofs.fetch.waits.surely_waits.Given as goal
 

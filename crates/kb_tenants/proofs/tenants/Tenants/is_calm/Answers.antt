@@ -2,7 +2,7 @@ use Rattle.std.proofs.Common.{◌≡◌, ◌∙◌, ap, true, false, rules}
 use Rattle.std.specs.Prelude.{map}
 use Rattle.std.proofs.lemmas.Iterator.{cases_from_all, YieldsList-from_slice}
 use borrow.Author.Tests.{tests}
-use Rattle.kb_service.specs.Turns.{all_calm}
+use Rattle.kb_tenant_api.specs.Turns.{all_calm}
 use Rattle.kb_tenants.specs.Tenants.{state_of}
 use Rattle.kb_tenants.proofs.Hosted.{uncounted, calm_cases}
 use Rattle.kb_tenants.proofs.tenants.Tenants.is_calm.Goals as goal

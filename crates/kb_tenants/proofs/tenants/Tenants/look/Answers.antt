@@ -1,7 +1,7 @@
 use Rattle.std.proofs.Common.{◌≡◌, ◌∙◌, ◌+◌, ◌-◌, ◌<◌, ap, refl, subst, sym, arith}
 use Rattle.std.specs.Prelude.{min}
-use Rattle.kb_world.specs.Counts.{END, IsCalm}
-use Rattle.kb_service.specs.Hosted.{kept_in, kept_of}
+use Rattle.kb_tenant_state.specs.Counts.{END, IsCalm}
+use Rattle.kb_tenant_api.specs.Hosted.{kept_in, kept_of}
 use Rattle.kb_tenant.specs.Replies.{IsAnswer}
 use Rattle.kb_tenant.specs.Serve.{looked}
 use Rattle.kb_tenant.specs.Told.{AnswersLook, FailedBy}

@@ -1,10 +1,10 @@
 use Rattle.std.proofs.Common.{◌+◌, ap, sym, subst, arith, to_z, of_z, w64}
 use Rattle.std.proofs.lemmas.Int.{ints}
 use Rattle.std.specs.Prelude.{min}
-use Rattle.kb_world.specs.Counts.{END}
-use Rattle.kb_service.specs.Hosted.{Kept, kept_of}
-use Rattle.kb_service.specs.Waiters.{AreTicked}
-use Rattle.kb_service.proofs.WaitersServed.{passed_told}
+use Rattle.kb_tenant_state.specs.Counts.{END}
+use Rattle.kb_tenant_api.specs.Hosted.{Kept, kept_of}
+use Rattle.kb_tenant_api.specs.Waiters.{AreTicked}
+use Rattle.kb_tenant_api.proofs.WaitersServed.{passed_told}
 use Rattle.kb_tenants.specs.Tenants.{hosted}
 use Rattle.kb_tenants.proofs.Hosted.{accounted_counted, groups_counted, kept_counted, kept_own, met_counted, met_own, stays_own, topics_counted, turn_counted}
 use Rattle.kb_tenants.proofs.tenants.Tenants.pass_groups.Goals as goal

@@ -1,8 +1,8 @@
 use Rattle.std.proofs.Common.{◌≡◌, ◌∙◌, ◌++◌, inr, ap, subst, sym}
 use Rattle.std.specs.Prelude.{Contains}
 use Rattle.std.proofs.lemmas.List.Elements.{Contains-append_left}
-use Rattle.kb_service.specs.Hosted.{Kept, kept_of, passed}
-use Rattle.kb_service.specs.Waiters.{AreTicked}
+use Rattle.kb_tenant_api.specs.Hosted.{Kept, kept_of, passed}
+use Rattle.kb_tenant_api.specs.Waiters.{AreTicked}
 use Rattle.kb_tenants.specs.Tenants.{answered_connections, hosted, shelf_is_honest}
 use Rattle.kb_tenants.proofs.Accounted.{accounted_then}
 use Rattle.kb_tenants.proofs.Alone.{alone_since, alone_still, honest_before}

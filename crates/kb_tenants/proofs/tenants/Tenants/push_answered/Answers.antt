@@ -2,7 +2,7 @@ use Rattle.std.proofs.Common.{◌≡◌, ◌∙◌, ◌++◌, ap, arith, map, su
 use Rattle.std.specs.Prelude.{◌<◌}
 use Rattle.std.specs.List.{flat_map}
 use Rattle.std.proofs.lemmas.List.{length-map, take_all}
-use Rattle.kb_service.specs.Hosted.{Kept}
+use Rattle.kb_tenant_api.specs.Hosted.{Kept}
 use Rattle.kb_tenants.specs.Tenants.{answered_connections, connection_of, state_of}
 use Rattle.kb_tenants.proofs.Hosted.{kept_here}
 use Rattle.kb_tenants.proofs.Others.{found}

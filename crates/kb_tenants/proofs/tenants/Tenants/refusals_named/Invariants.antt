@@ -1,6 +1,6 @@
 use Rattle.std.proofs.Common.{◌≡◌, drop}
 use Rattle.std.specs.Prelude.{map}
-use Rattle.kb_service.specs.Turns.{count_named}
+use Rattle.kb_tenant_api.specs.Turns.{count_named}
 use Rattle.kb_tenants.specs.Tenants.{state_of}
 use Rattle.kb_tenants.proofs.tenants.Tenants.refusals_named.Given as goal
 

@@ -1,8 +1,8 @@
 use Rattle.std.proofs.Common.{◌≡◌, ◌+◌, ◌-◌, ap, refl, arith, to_z, of_z, w64}
 use Rattle.std.proofs.lemmas.Int.{ints}
 use Rattle.std.specs.Prelude.{min}
-use Rattle.kb_world.specs.Counts.{END}
-use Rattle.kb_service.specs.Hosted.{kept_in}
+use Rattle.kb_tenant_state.specs.Counts.{END}
+use Rattle.kb_tenant_api.specs.Hosted.{kept_in}
 use Rattle.kb_tenants.specs.Tenants.{drops, retained}
 use Rattle.kb_tenants.proofs.Hosted.{accounted_called, alone_called, sound_here, groups_called, kept_called, turn_called, met_called, stays_called}
 use Rattle.kb_tenants.proofs.tenants.Tenants.retain_one.Goals as goal

@@ -1,11 +1,11 @@
 use Rattle.std.proofs.Common.{true, ◌+◌, ◌-◌, ◌∙◌, ap, sym, subst, arith, to_z, of_z, w64}
 use Rattle.std.proofs.lemmas.Int.{ints}
 use Rattle.std.specs.Prelude.{◌≤◌, ◌^◌, min}
-use Rattle.kb_world.specs.Parts.{world_of}
-use Rattle.kb_world.specs.Counts.{END, IsCalm}
-use Rattle.kb_service.specs.Waiters.{AreServed, IsWaitTold}
-use Rattle.kb_service.proofs.WaitersServed.{after_told}
-use Rattle.kb_service.specs.Serve.{has_released, served, AreGroupsAfter, IsOutcome}
+use Rattle.kb_tenant_state.specs.Parts.{world_of}
+use Rattle.kb_tenant_state.specs.Counts.{END, IsCalm}
+use Rattle.kb_tenant_api.specs.Waiters.{AreServed, IsWaitTold}
+use Rattle.kb_tenant_api.proofs.WaitersServed.{after_told}
+use Rattle.kb_tenant_api.specs.Serve.{has_released, served, AreGroupsAfter, IsOutcome}
 use Rattle.kb_tenant.specs.Told.{FailedBy}
 use Rattle.kb_tenants.specs.Tenants.{IsTruthfulFor}
 use Rattle.kb_tenants.proofs.Hosted.{accounted_called, alone_called, sound_here, groups_called, kept_called, turn_called, met_called}

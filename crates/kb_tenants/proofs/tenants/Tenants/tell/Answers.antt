@@ -3,7 +3,7 @@ use Rattle.std.specs.Prelude.{◌<◌}
 use Rattle.std.proofs.lemmas.Int.{to_z-of_z}
 use Rattle.std.proofs.lemmas.List.{length-map}
 use Rattle.kb_tenant.specs.Replies.{IsAnswer}
-use Rattle.kb_service.specs.Replies.{told_to}
+use Rattle.kb_tenant_api.specs.Replies.{told_to}
 use Rattle.kb_tenants.specs.Tenants.{state_of}
 use Rattle.kb_tenants.proofs.Hosted.{kept_here}
 use Rattle.kb_tenants.proofs.Others.{found}

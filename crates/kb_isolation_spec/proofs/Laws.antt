@@ -1,0 +1,280 @@
+-- Laws of the one-tenant machine.
+use Rattle.std.proofs.Common.{◌≡◌, ℕ, ℤ, pos, negsuc, zero, suc, ◌<◌, ◌≤◌, List, [], ◌∷◌, length, take, drop, Bool, true, false, Some, None, Option, refl, sym, ◌∙◌, ap, arith, length-drop}
+use Rattle.std.specs.Prelude.{nat_lt, cond}
+use Rattle.std.proofs.lemmas.Bool.Decides.{nat_tests}
+use Rattle.std.specs.Int.{w32, cast_signed, from_be_bytes}
+use Rattle.kb_wire.specs.Codec.{int}
+use Rattle.kb_api_group.specs.Frames.{Front, Whole, Partial, TooSmall, TooLarge, front, front_by}
+use Rattle.kb_isolation_spec.specs.Requests.{Asked, Versions, OtherVersions, Handshake, Authenticate, Another, Malformed, request}
+use Rattle.kb_tenant_api.specs.Hosted.{Kept}
+use Rattle.kb_tenant.specs.Replies as tenant
+use Rattle.kb_tenant.specs.Replies.{Replies, Waits, Silent, Shuts}
+use Rattle.kb_tenant_api.specs.Replies.{Reaction, Plain, Rebalances}
+use Rattle.kb_isolation_spec.specs.Tenant.{answer, ready}
+use Rattle.kb_isolation_spec.specs.Session.{Greeting, Unshaken, Shaken, Bare, Stage, Greets, BoundTo, Session, replied, is_turn, can}
+use Rattle.kb_isolation_spec.specs.Greeting.{Setup, greeted_by, greeted_frame, greeted_at, greeted, greeting_after, shaken, authenticated, logged_in, bare_login, login}
+use Rattle.kb_isolation_spec.specs.Machine.{Line, View, plainly, after_reaction, served_by, served_at, after_turn, put, told, woken_by, woken, each, on, those, first_able, turn_at, turn_of, turn, again, work, turns}
+
+-- 1. Lists of connections
+
+-- a change of each connection, cut down to some
+pub those-each : (mine : ℕ → Bool) (g : ℕ → Session → Session) (ls : List Line) → those mine (each g ls) ≡ each g (those mine ls)
+those-each mine g [] = refl
+those-each mine g (l ∷ ls) = grind (arith, nat_tests, those-each mine g ls)
+
+pub first-those : (mine : ℕ → Bool) (ls : List Line) (l : Line) → first_able ls ≡ Some l → mine l.number ≡ true → first_able (those mine ls) ≡ Some l
+first-those mine [] l h m = cc
+first-those mine (k ∷ ls) l h m = grind (arith, nat_tests, first-those mine ls l)
+
+pub none-those : (mine : ℕ → Bool) (ls : List Line) → first_able ls ≡ None → first_able (those mine ls) ≡ None
+none-those mine [] h = refl
+none-those mine (k ∷ ls) h = grind (arith, nat_tests, none-those mine ls)
+
+-- the one that takes its turn can
+pub first-can : (ls : List Line) (l : Line) → first_able ls ≡ Some l → can l.session ≡ true
+first-can [] l h = cc
+first-can (k ∷ ls) l h = grind (arith, nat_tests, first-can ls l)
+
+-- 2. A turn takes unread bytes
+
+last-rest : (n : ℕ) (behind frame rest : List ℕ) → Whole (take n behind) (drop n behind) ≡ Whole frame rest → length rest ≤ length behind
+last-rest n behind frame rest e = let d : drop n behind ≡ rest = cc in omega (arith, ap length d, length-drop n behind)
+
+by-rest : (z : ℤ) (behind frame rest : List ℕ) → front_by z behind ≡ Whole frame rest → length rest ≤ length behind
+by-rest (negsuc n) behind frame rest e = cc
+by-rest (pos n) behind frame rest e = cases n behind frame rest (nat_lt n 8) (nat_lt 2097152 n) (nat_lt (length behind) n) e
+  where
+    cases : (n : ℕ) (behind frame rest : List ℕ) (a b c : Bool) → cond a TooSmall (cond b TooLarge (cond c Partial (Whole (take n behind) (drop n behind)))) ≡ Whole frame rest → length rest ≤ length behind
+    cases n behind frame rest true b c e = cc
+    cases n behind frame rest false true c e = cc
+    cases n behind frame rest false false true e = cc
+    cases n behind frame rest false false false e = last-rest n behind frame rest e
+
+front-rest_by : (unread frame rest : List ℕ) (b : Bool) → nat_lt (length unread) 4 ≡ b → front unread ≡ Whole frame rest → length rest < length unread
+unfolding front int
+front-rest_by unread frame rest true h e = let f : Partial ≡ Whole frame rest = rw h at e in cc
+front-rest_by unread frame rest false h e =
+    let le : 4 ≤ length unread = grind (arith, nat_tests) in
+    let size = cast_signed w32 (from_be_bytes w32 (take 4 unread)) in
+    let f : front_by size (drop 4 unread) ≡ Whole frame rest = rw h at e in
+    let g = by-rest size (drop 4 unread) frame rest f in
+    omega (arith, g, length-drop 4 unread)
+
+-- what stands behind a frame is shorter
+pub front-rest : (unread frame rest : List ℕ) → front unread ≡ Whole frame rest → length rest < length unread
+front-rest unread frame rest e = front-rest_by unread frame rest (nat_lt (length unread) 4) refl e
+
+pub some-left : (unread : List ℕ) → is_turn (front unread) ≡ true → 0 < length unread
+unfolding front int
+some-left [] h = cc
+some-left (b ∷ unread) h = omega arith
+
+pub replied-le : (id : ℤ) (body : List ℕ) (s : Session) → length (replied id body s).unread ≤ length s.unread
+unfolding replied
+replied-le id body s = grind (arith, nat_tests)
+
+pub greeted_by-le : (setup : Setup) (h : Bool) (id : ℤ) (a : Asked) (s : Session) → length (greeted_by setup h id a s).unread ≤ length s.unread
+unfolding greeted_by
+greeted_by-le setup h id Versions s = replied-le id _ s
+greeted_by-le setup h id OtherVersions s = replied-le id _ s
+greeted_by-le setup h id (Handshake v m) s = shaken-le _ id v s
+  where
+    shaken-le : (b : Bool) (id v : ℤ) (s : Session) → length (shaken b id v s).unread ≤ length s.unread
+    shaken-le true id v s = replied-le id _ (record s { stage = Greets (greeting_after v) })
+    shaken-le false id v s = replied-le id _ s
+greeted_by-le setup h id (Authenticate m) s = authenticated-le setup h id m s
+  where
+    logged_in-le : (o : Option ℕ) (id : ℤ) (s : Session) → length (logged_in o id s).unread ≤ length s.unread
+    logged_in-le (Some t) id s = replied-le id _ (record s { stage = BoundTo t None })
+    logged_in-le None id s = omega arith
+
+    authenticated-le : (setup : Setup) (h : Bool) (id : ℤ) (m : List ℕ) (s : Session) → length (authenticated setup h id m s).unread ≤ length s.unread
+    authenticated-le setup true id m s = logged_in-le (login setup.users m) id s
+    authenticated-le setup false id m s = replied-le id _ s
+greeted_by-le setup h id (Another k v b) s = omega arith
+greeted_by-le setup h id Malformed s = omega arith
+
+plainly-le : (r : tenant.Reaction) (id version : ℤ) (body : List ℕ) (s : Session) → length (plainly r id version body s).unread ≤ length s.unread
+plainly-le (Replies reply) id version body s = replied-le id reply s
+plainly-le (Waits deadline places) id version body s = omega arith
+plainly-le Silent id version body s = omega arith
+plainly-le Shuts id version body s = omega arith
+
+answered-le : (r : Reaction) (id version : ℤ) (body : List ℕ) (s : Session) → length (after_reaction r id version body s).unread ≤ length s.unread
+answered-le (Plain r) id version body s = plainly-le r id version body s
+answered-le Rebalances id version body s = omega arith
+
+pub served_by-le : (setup : Setup) (kept : Kept) (clock n : ℕ) (id : ℤ) (a : Asked) (s : Session) → length (served_by setup kept clock n id a s).unread ≤ length s.unread
+unfolding served_by
+served_by-le setup kept clock n id Versions s = replied-le id _ s
+served_by-le setup kept clock n id OtherVersions s = replied-le id _ s
+served_by-le setup kept clock n id (Handshake v m) s = replied-le id _ s
+served_by-le setup kept clock n id (Authenticate m) s = replied-le id _ s
+served_by-le setup kept clock n id (Another k v b) s = answered-le (answer setup.node kept clock n k v b) id v b s
+served_by-le setup kept clock n id Malformed s = omega arith
+
+bare_login-le : (o : Option ℕ) (s : Session) → length (bare_login o s).unread ≤ length s.unread
+bare_login-le (Some t) s = omega arith
+bare_login-le None s = omega arith
+
+greeted_frame-le : (setup : Setup) (h : Greeting) (frame : List ℕ) (s : Session) → length (greeted_frame setup h frame s).unread ≤ length s.unread
+greeted_frame-le setup Unshaken frame s = let r = request setup.versions frame in greeted_by-le setup false r.correlation_id r.asked s
+greeted_frame-le setup Shaken frame s = let r = request setup.versions frame in greeted_by-le setup true r.correlation_id r.asked s
+greeted_frame-le setup Bare frame s = bare_login-le (login setup.users frame) s
+
+greeted_at-less : (setup : Setup) (h : Greeting) (s : Session) (f : Front) → front s.unread ≡ f → is_turn f ≡ true → length (greeted_at setup h s f).unread < length s.unread
+greeted_at-less setup h s (Whole frame rest) e t =
+    let le = greeted_frame-le setup h frame (record s { unread = rest }) in
+    let lt = front-rest s.unread frame rest e in
+    omega arith
+greeted_at-less setup h s TooSmall e t = some-left s.unread (ap is_turn e)
+greeted_at-less setup h s TooLarge e t = some-left s.unread (ap is_turn e)
+greeted_at-less setup h s Partial e t = cc
+
+-- a greeting connection's turn takes bytes
+pub greeted-less : (setup : Setup) (h : Greeting) (s : Session) → is_turn (front s.unread) ≡ true → length (greeted setup h s).unread < length s.unread
+unfolding greeted
+greeted-less setup h s t = greeted_at-less setup h s (front s.unread) refl t
+
+greeted_at-still : (setup : Setup) (h : Greeting) (s : Session) (f : Front) → is_turn f ≡ false → greeted_at setup h s f ≡ s
+greeted_at-still setup h s (Whole frame rest) t = cc
+greeted_at-still setup h s TooSmall t = cc
+greeted_at-still setup h s TooLarge t = cc
+greeted_at-still setup h s Partial t = refl
+
+-- or changes nothing
+pub greeted-still : (setup : Setup) (h : Greeting) (s : Session) → is_turn (front s.unread) ≡ false → greeted setup h s ≡ s
+unfolding greeted
+greeted-still setup h s t = greeted_at-still setup h s (front s.unread) t
+
+served_at-less : (setup : Setup) (kept : Kept) (clock n : ℕ) (s : Session) (f : Front) → front s.unread ≡ f → is_turn f ≡ true → length (served_at setup kept clock n s f).unread < length s.unread
+served_at-less setup kept clock n s (Whole frame rest) e t =
+    let r = request setup.versions frame in
+    let le = served_by-le setup kept clock n r.correlation_id r.asked (record s { unread = rest }) in
+    let lt = front-rest s.unread frame rest e in
+    omega arith
+served_at-less setup kept clock n s TooSmall e t = some-left s.unread (ap is_turn e)
+served_at-less setup kept clock n s TooLarge e t = some-left s.unread (ap is_turn e)
+served_at-less setup kept clock n s Partial e t = cc
+
+-- a bound connection's turn takes bytes
+pub served-less : (setup : Setup) (kept : Kept) (clock n : ℕ) (s : Session) → is_turn (front s.unread) ≡ true → length (after_turn setup kept clock n s).unread < length s.unread
+unfolding after_turn
+served-less setup kept clock n s t = served_at-less setup kept clock n s (front s.unread) refl t
+
+served_at-still : (setup : Setup) (kept : Kept) (clock n : ℕ) (s : Session) (f : Front) → is_turn f ≡ false → served_at setup kept clock n s f ≡ s
+served_at-still setup kept clock n s (Whole frame rest) t = cc
+served_at-still setup kept clock n s TooSmall t = cc
+served_at-still setup kept clock n s TooLarge t = cc
+served_at-still setup kept clock n s Partial t = refl
+
+served-still : (setup : Setup) (kept : Kept) (clock n : ℕ) (s : Session) → is_turn (front s.unread) ≡ false → after_turn setup kept clock n s ≡ s
+unfolding after_turn
+served-still setup kept clock n s t = served_at-still setup kept clock n s (front s.unread) t
+
+pub can-turn : (s : Session) → can s ≡ true → is_turn (front s.unread) ≡ true
+unfolding can
+can-turn s h = grind arith
+
+-- a change that takes bytes from whoever can take a turn
+pub record Takes (f : Session → Session) : Type 0 where
+  pub le : (s : Session) → length (f s).unread ≤ length s.unread
+  pub less : (s : Session) → can s ≡ true → length (f s).unread < length s.unread
+
+le_by : (b : Bool) (x y : Session) → (b ≡ true → length x.unread < length y.unread) → (b ≡ false → x ≡ y) → length x.unread ≤ length y.unread
+le_by true x y p q = let lt = p refl in omega arith
+le_by false x y p q = let e = ap (λ (s : Session). length s.unread) (q refl) in omega arith
+
+pub greeted-takes : (setup : Setup) (h : Greeting) → Takes (greeted setup h)
+greeted-takes setup h = record {
+  le = λ s. le_by (is_turn (front s.unread)) (greeted setup h s) s (greeted-less setup h s) (greeted-still setup h s);
+  less = λ s c. greeted-less setup h s (can-turn s c);
+}
+
+pub served-takes : (setup : Setup) (kept : Kept) (clock n : ℕ) → Takes (after_turn setup kept clock n)
+served-takes setup kept clock n = record {
+  le = λ s. le_by (is_turn (front s.unread)) (after_turn setup kept clock n s) s (served-less setup kept clock n s) (served-still setup kept clock n s);
+  less = λ s c. served-less setup kept clock n s (can-turn s c);
+}
+
+le-on : (n : ℕ) (f : Session → Session) (t : Takes f) (l : Line) → length (on n f l.number l.session).unread ≤ length l.session.unread
+le-on n f t l = let h = t.le l.session in grind (arith, nat_tests, h)
+
+pub work-on_le : (n : ℕ) (f : Session → Session) (t : Takes f) (ls : List Line) → work (each (on n f) ls) ≤ work ls
+work-on_le n f t [] = omega arith
+work-on_le n f t (l ∷ ls) = omega (arith, le-on n f t l, work-on_le n f t ls)
+
+pub work-on : (n : ℕ) (f : Session → Session) (t : Takes f) (ls : List Line) (l : Line) → first_able ls ≡ Some l → l.number ≡ n → work (each (on n f) ls) < work ls
+work-on n f t [] l h e = cc
+work-on n f t (k ∷ ls) l h e =
+    let rest = work-on n f t ls l in
+    let here = t.less k.session in
+    let le = le-on n f t k in
+    let les = work-on_le n f t ls in
+    grind (arith, nat_tests, rest, here, le, les)
+
+told-le : (r : tenant.Reaction) (id : ℤ) (s : Session) → length (told r id s).unread ≤ length s.unread
+told-le (Replies reply) id s = replied-le id reply _
+told-le (Waits deadline places) id s = omega arith
+told-le Silent id s = omega arith
+told-le Shuts id s = omega arith
+
+woken_by-le : (kept : Kept) (clock n : ℕ) (s : Session) (st : Stage) → length (woken_by kept clock n s st).unread ≤ length s.unread
+unfolding woken_by
+woken_by-le kept clock n s (Greets h) = omega arith
+woken_by-le kept clock n s (BoundTo u None) = omega arith
+woken_by-le kept clock n s (BoundTo u (Some w)) = told-le (ready kept clock n w) w.correlation_id s
+
+pub work-woken : (kept : Kept) (clock : ℕ) (ls : List Line) → work (each (λ k s. woken kept clock k s) ls) ≤ work ls
+work-woken kept clock [] = omega arith
+work-woken kept clock (l ∷ ls) = let h = woken_by-le kept clock l.number l.session l.session.stage in omega (arith, h, work-woken kept clock ls)
+
+work-turn_at : (w : View) (l : Line) (st : Stage) → first_able w.lines ≡ Some l → work (turn_at w l.number l.session.unread st).lines < work w.lines
+work-turn_at w l (Greets h) f = work-on l.number (greeted w.setup h) (greeted-takes w.setup h) w.lines l f refl
+work-turn_at w l (BoundTo u wait) f =
+    let e = work-woken (put w.setup w.kept w.clock l.number l.session.unread) w.clock (each (on l.number (after_turn w.setup w.kept w.clock l.number)) w.lines) in
+    let lt = work-on l.number (after_turn w.setup w.kept w.clock l.number) (served-takes w.setup w.kept w.clock l.number) w.lines l f refl in
+    omega (arith, e, lt)
+
+-- 3. The turn of a world
+
+pub turn-none : (w : View) → first_able w.lines ≡ None → turn w ≡ w
+unfolding turn
+turn-none w h = ap (turn_of w) h
+
+pub turn-some : (w : View) (l : Line) → first_able w.lines ≡ Some l → turn w ≡ turn_at w l.number l.session.unread l.session.stage
+unfolding turn
+turn-some w l h = ap (turn_of w) h
+
+pub work-turn : (w : View) (l : Line) → first_able w.lines ≡ Some l → work (turn w).lines < work w.lines
+work-turn w l h = rw (turn-some w l h) (work-turn_at w l l.session.stage h)
+
+-- where no connection can take a turn, turns change nothing
+pub again-none : (n : ℕ) (w : View) → first_able w.lines ≡ None → again turn n w ≡ w
+again-none zero w h = refl
+again-none (suc n) w h = ap (again turn n) (turn-none w h) ∙ again-none n w h
+
+-- more turns than unread bytes are as good
+enough_by : (n m : ℕ) (w : View) (o : Option Line) → first_able w.lines ≡ o → work w.lines ≤ n → work w.lines ≤ m → again turn n w ≡ again turn m w
+enough_by n m w None h p q = again-none n w h ∙ sym (again-none m w h)
+enough_by zero m w (Some l) h p q = absurd (omega (arith, work-turn w l h))
+enough_by (suc n) zero w (Some l) h p q = absurd (omega (arith, work-turn w l h))
+enough_by (suc n) (suc m) w (Some l) h p q =
+    let lt = work-turn w l h in
+    enough_by n m (turn w) (first_able (turn w).lines) refl (omega (arith, lt)) (omega (arith, lt))
+
+pub turns-none : (w : View) → first_able w.lines ≡ None → turns w ≡ w
+unfolding turns
+turns-none w h = again-none (work w.lines) w h
+
+-- a turn is the first of the turns
+turns-turn_by : (w : View) (o : Option Line) → first_able w.lines ≡ o → turns (turn w) ≡ turns w
+unfolding turns
+turns-turn_by w None h = ap turns (turn-none w h)
+turns-turn_by w (Some l) h =
+    let lt = work-turn w l h in
+    enough_by (work (turn w).lines) (work w.lines) (turn w) (first_able (turn w).lines) refl (omega arith) (omega (arith, lt))
+    ∙ enough_by (suc (work w.lines)) (work w.lines) w (Some l) h (omega arith) (omega arith)
+
+pub turns-turn : (w : View) → turns (turn w) ≡ turns w
+turns-turn w = turns-turn_by w (first_able w.lines) refl

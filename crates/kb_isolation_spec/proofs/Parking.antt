@@ -1,0 +1,130 @@
+-- A request that begins to wait for partitions is not ready at once, and waits for those that it asks for.
+use Rattle.std.proofs.Common.{◌≡◌, ℕ, ℤ, List, [], Bool, true, false, Option, Some, None, refl, sym, ◌∙◌, ap, subst}
+use Rattle.std.specs.Prelude.{cond, Result, Ok, Err, if◌then◌else◌}
+use Rattle.std.specs.Ordering.{int_eq}
+use Rattle.kb_wire.specs.Codec.{whole}
+use Rattle.kb_wire.specs.declared.api_key.TheConstants.{OFFSET_COMMIT, JOIN_GROUP, HEARTBEAT, LEAVE_GROUP, SYNC_GROUP}
+use Rattle.kb_wire.specs.declared.fault.WireFault.{WireFault}
+use Rattle.kb_api_data.specs.Layouts.{produce_reply}
+use Rattle.kb_api_data.specs.declared.fetch.FetchRequest.{FetchRequest}
+use Rattle.kb_api_data.specs.declared.fetch_v5.FetchReplyV5.{FetchReplyV5}
+use Rattle.kb_api_group.specs.Layouts.{heartbeat_request, join_group_request, leave_group_request, offset_commit_request, sync_group_request}
+use Rattle.kb_coordinator.specs.Calls.{is_accepted, join_code, sync_answer}
+use Rattle.kb_coordinator.specs.Groups.{Groups}
+use Rattle.kb_groups.specs.declared.reply.SyncAnswer.{SyncAnswer}
+use Rattle.kb_groups.specs.declared.reply.SyncAnswer.TheVariants as sync
+use Rattle.kb_tenant_state.specs.World.{World}
+use Rattle.kb_tenant_state.specs.declared.topic_partition.TopicPartition.{TopicPartition}
+use Rattle.kb_tenant.specs.CreateTopics.{checked_all, created_all, creations_in, made_of}
+use Rattle.kb_tenant.specs.Fetch.{asked_fetch, deadline_of, fetch_answer, places_of, fetched_in}
+use Rattle.kb_tenant.specs.Produce.{produced, is_due}
+use Rattle.kb_tenant.specs.Replies.{Reaction, Replies, Waits, Silent}
+use Rattle.kb_tenant.specs.Serve as tenant
+use Rattle.kb_tenant.specs.Serve.{stays, fetch_reaction, of_fetch, looked, looked_at}
+use Rattle.kb_tenant.specs.declared.node.Node.{Node}
+use Rattle.kb_tenant.proofs.ByRequest.{by_request}
+use Rattle.kb_tenant_api.specs.Replies.{Plain, Rebalances, replies}
+use Rattle.kb_tenant_api.specs.Serve.{Outcome, if_read, of_groups, of_heartbeat, of_join, of_leave, of_offset_commit, of_sync, of_topics, sync_reaction, served}
+use Rattle.kb_isolation_spec.specs.Tenant.{asked_in}
+
+-- 1. A request that is for no group
+
+-- what a look tells
+abbrev pub told_as : ℤ → Option FetchReplyV5 → Reaction
+told_as version o = elim o [ Some reply ↦ Replies (fetched_in version reply) | None ↦ Silent ]
+
+-- a request that is to wait would be told nothing at once, and waits for what it asks for
+pub record IsParked (version : ℤ) (body : List ℕ) (clock : ℕ) (v : World) (deadline : ℕ) (places : List TopicPartition) : Type 0 where
+  pub silent : looked v clock deadline version body ≡ Silent
+  pub asks : places ≡ asked_in v (asked_fetch version body)
+
+abbrev ParksPlain : ℤ → List ℕ → ℕ → tenant.Outcome → Type 0
+ParksPlain version body clock o = (deadline : ℕ) (places : List TopicPartition) → o.reaction ≡ Waits deadline places → IsParked version body clock o.world deadline places
+
+produce-parks : (version : ℤ) (body : List ℕ) (clock : ℕ) (v : World) (touched : List TopicPartition) (reply : List ℕ) (b : Bool) → ParksPlain version body clock (record { world = v; touched = touched; reaction = cond b (Replies reply) Silent })
+produce-parks version body clock v touched reply true deadline places e = absurd (cc)
+produce-parks version body clock v touched reply false deadline places e = absurd (cc)
+
+plain-either : (version : ℤ) (body : List ℕ) (clock : ℕ) (b : Bool) (o p : tenant.Outcome) → ParksPlain version body clock o → ParksPlain version body clock p → ParksPlain version body clock (if b then o else p)
+plain-either version body clock true o p first second = first
+plain-either version body clock false o p first second = second
+
+fetch-parks : (w : World) (clock : ℕ) (version : ℤ) (body : List ℕ) (r : FetchRequest) → asked_fetch version body ≡ Ok r → ParksPlain version body clock (of_fetch version w clock r)
+unfolding looked
+fetch-parks w clock version body r read = by (fetch_answer w clock r (deadline_of clock r)) refl
+  where
+    by : (o : Option FetchReplyV5) → fetch_answer w clock r (deadline_of clock r) ≡ o → ParksPlain version body clock (stays w (fetch_reaction version w clock r o))
+    by (Some reply) e deadline places f = absurd (cc)
+    by None e deadline places f =
+        let until : deadline_of clock r ≡ deadline = cc in
+        let same : places_of w r ≡ places = cc in
+        record {
+          silent = ap (looked_at w clock deadline version) read ∙ ap (told_as version) (subst (λ d. fetch_answer w clock r d ≡ None) until e);
+          asks = sym same ∙ sym (ap (asked_in w) read);
+        }
+
+plain-parks : (node : Node) (w : World) (clock n : ℕ) (key version : ℤ) (body : List ℕ) → ParksPlain version body clock (tenant.plainly_served node w clock n key version body)
+plain-parks node w clock n key version body =
+    by_request (ParksPlain version body clock) node w clock n key version body (record {
+      produce = λ r read. produce-parks version body clock (produced w [] r).0.world (produced w [] r).0.touched (produce_reply.written (produced w [] r).1) (is_due r.acks);
+      fetch = λ r read. fetch-parks w clock version body r read;
+      list_offsets = λ r read deadline places e. absurd (cc);
+      metadata = λ r read deadline places e. absurd (cc);
+      offset_commit = λ r read deadline places e. absurd (cc);
+      offset_fetch = λ r read deadline places e. absurd (cc);
+      find_coordinator = λ r read deadline places e. absurd (cc);
+      create_topics = λ r read.
+          let made = created_all w (made_of r) in
+          plain-either version body clock r.validate_only (stays w (Replies (creations_in version (checked_all w r.topics)))) (record { world = made.0; touched = []; reaction = Replies (creations_in version made.1) })
+          (λ deadline places e. absurd (cc)) (λ deadline places e. absurd (cc));
+      delete_topics = λ r read deadline places e. absurd (cc);
+      delete_records = λ r read deadline places e. absurd (cc);
+      init_producer_id = λ r read deadline places e. absurd (cc);
+      shut = λ deadline places e. absurd (cc);
+    })
+
+-- 2. Any request
+
+abbrev pub Parks : ℤ → List ℕ → ℕ → Outcome → Type 0
+Parks version body clock o = (deadline : ℕ) (places : List TopicPartition) → o.reaction ≡ Plain (Waits deadline places) → IsParked version body clock o.world deadline places
+
+read-parks : {A : Type 0} (version : ℤ) (body : List ℕ) (clock : ℕ) (w : World) (gs : Groups) (r : Result A WireFault) (f : A → Outcome) → ((a : A) → Parks version body clock (f a)) → Parks version body clock (if_read w gs r f)
+read-parks version body clock w gs (Ok a) f each = each a
+read-parks version body clock w gs (Err fault) f each = λ deadline places e. absurd (cc)
+
+either : (version : ℤ) (body : List ℕ) (clock : ℕ) (b : Bool) (o p : Outcome) → Parks version body clock o → Parks version body clock p → Parks version body clock (if b then o else p)
+either version body clock true o p first second = first
+either version body clock false o p first second = second
+
+join-parks : (version : ℤ) (body : List ℕ) (clock : ℕ) (w : World) (gs : Groups) (b : Bool) (reply : List ℕ) → Parks version body clock (of_groups w gs (if b then Rebalances else replies reply))
+join-parks version body clock w gs true reply deadline places e = absurd (cc)
+join-parks version body clock w gs false reply deadline places e = absurd (cc)
+
+sync-parks : (version : ℤ) (body : List ℕ) (clock : ℕ) (w : World) (gs : Groups) (a : SyncAnswer) → Parks version body clock (of_groups w gs (sync_reaction a))
+sync-parks version body clock w gs (sync.Refused code) deadline places e = absurd (cc)
+sync-parks version body clock w gs (sync.Got assignment) deadline places e = absurd (cc)
+sync-parks version body clock w gs sync.Waits deadline places e = absurd (cc)
+
+-- one that is for no group
+topics-parks : (node : Node) (w : World) (clock : ℕ) (gs : Groups) (n : ℕ) (key version : ℤ) (body : List ℕ) → Parks version body clock (of_topics gs (tenant.plainly_served node w clock n key version body))
+topics-parks node w clock gs n key version body deadline places e = (let f : (tenant.plainly_served node w clock n key version body).reaction ≡ Waits deadline places = cc in plain-parks node w clock n key version body deadline places f)
+
+pub parks : (node : Node) (w : World) (clock : ℕ) (gs : Groups) (n : ℕ) (key version : ℤ) (body : List ℕ) → Parks version body clock (served node w clock gs n key version body)
+unfolding served
+parks node w clock gs n key version body =
+    let others : Outcome = of_topics gs (tenant.plainly_served node w clock n key version body) in
+    let syncs : Outcome = if_read w gs (whole sync_group_request body) (of_sync w clock n gs) in
+    let leaves : Outcome = if_read w gs (whole leave_group_request body) (of_leave w clock gs) in
+    let beats : Outcome = if_read w gs (whole heartbeat_request body) (of_heartbeat w clock gs) in
+    let joins : Outcome = if_read w gs (whole join_group_request body) (of_join w clock n gs) in
+    let commits : Outcome = if_read w gs (whole offset_commit_request body) (of_offset_commit w clock gs) in
+    let from_sync : Outcome = if int_eq key SYNC_GROUP then syncs else others in
+    let from_leave : Outcome = if int_eq key LEAVE_GROUP then leaves else from_sync in
+    let from_heartbeat : Outcome = if int_eq key HEARTBEAT then beats else from_leave in
+    let from_join : Outcome = if int_eq key JOIN_GROUP then joins else from_heartbeat in
+    either version body clock (int_eq key OFFSET_COMMIT) commits from_join (read-parks version body clock w gs (whole offset_commit_request body) (of_offset_commit w clock gs) (λ r deadline places e. absurd (cc)))
+    (either version body clock (int_eq key JOIN_GROUP) joins from_heartbeat (read-parks version body clock w gs (whole join_group_request body) (of_join w clock n gs) (λ r. join-parks version body clock w (of_join w clock n gs r).groups (is_accepted (join_code n r gs)) _))
+    (either version body clock (int_eq key HEARTBEAT) beats from_leave (read-parks version body clock w gs (whole heartbeat_request body) (of_heartbeat w clock gs) (λ r deadline places e. absurd (cc)))
+    (either version body clock (int_eq key LEAVE_GROUP) leaves from_sync (read-parks version body clock w gs (whole leave_group_request body) (of_leave w clock gs) (λ r deadline places e. absurd (cc)))
+    (either version body clock (int_eq key SYNC_GROUP) syncs others (read-parks version body clock w gs (whole sync_group_request body) (of_sync w clock n gs) (λ r. sync-parks version body clock w (of_sync w clock n gs r).groups (sync_answer clock n r gs)))
+    (topics-parks node w clock gs n key version body)))))

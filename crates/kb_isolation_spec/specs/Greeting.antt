@@ -1,0 +1,113 @@
+-- The requests that need no tenant: ApiVersions, and the SASL greeting (Kafka protocol guide, "SASL Authentication Sequence"; RFC 4616).
+use Rattle.std.specs.Prelude.{ℕ, ℤ, pos, List, [], ◌∷◌, ◌++◌, Bool, true, false, ◌&&◌, if◌then◌else◌, Option, Some, None, codes}
+use Rattle.std.specs.Ordering.{int_eq}
+use Rattle.std.specs.Str.{bytes_eq}
+use Rattle.kb_api_group.specs.Plain.{plain}
+use Rattle.kb_api_group.specs.Frames.{Front, Whole, Partial, TooSmall, TooLarge, front}
+use Rattle.kb_api_group.specs.Layouts.{sasl_handshake_reply, sasl_authenticate_reply, api_versions_reply}
+use Rattle.kb_wire.specs.ErrorCode.{code_of}
+use Rattle.kb_wire.specs.declared.error_code.ErrorCode.{ErrorCode}
+use Rattle.kb_wire.specs.declared.error_code.ErrorCode.TheVariants as errors
+use Rattle.kb_api_group.specs.declared.plain.PlainLogin.{PlainLogin}
+use Rattle.kb_api_group.specs.declared.api_versions.ApiVersion.{ApiVersion}
+use Rattle.kb_tenant.specs.declared.node.Node.{Node}
+use Rattle.kb_isolation_spec.specs.Requests.{Asked, Versions, OtherVersions, Handshake, Authenticate, Another, Malformed, request}
+use Rattle.kb_isolation_spec.specs.Session.{Greeting, Unshaken, Shaken, Bare, Greets, BoundTo, Session, shut_down, replied}
+
+-- a user: the name and password of its login, and its tenant
+pub record User : Type 0 where
+  pub name : List ℕ
+  pub password : List ℕ
+  pub tenant : ℕ
+
+-- what is fixed while a broker runs: the versions that it lists, its users, and where clients are told to connect to
+pub record Setup : Type 0 where
+  pub versions : List ApiVersion
+  pub users : List User
+  pub node : Node
+
+-- the tenant of the first user of that name and password
+abbrev pub tenant_of : List User → List ℕ → List ℕ → Option ℕ
+tenant_of [] name password = None
+tenant_of (u ∷ us) name password =
+    if bytes_eq u.name name && bytes_eq u.password password then Some u.tenant else tenant_of us name password
+
+abbrev pub tenant_at : List User → Option PlainLogin → Option ℕ
+tenant_at users None = None
+tenant_at users (Some p) = tenant_of users p.authcid p.passwd
+
+-- the tenant that a PLAIN message names with its password
+unfoldable pub login : List User → List ℕ → Option ℕ
+login users message = tenant_at users (plain message)
+
+-- 1. The replies
+
+-- ApiVersions: a code and the whole table
+abbrev pub versions_reply : List ApiVersion → ErrorCode → List ℕ
+versions_reply versions code = api_versions_reply.written (record { error_code = code_of code; versions = versions })
+
+-- SaslHandshake: a code and the mechanisms, PLAIN alone
+abbrev pub handshake_reply : ErrorCode → List ℕ
+handshake_reply code = sasl_handshake_reply.written (record { error_code = code_of code; mechanisms = codes "PLAIN" ∷ [] })
+
+-- SaslAuthenticate: a code, and a text where it is not 0
+abbrev pub authenticate_reply : ErrorCode → Option (List ℕ) → List ℕ
+authenticate_reply code text = sasl_authenticate_reply.written (record { error_code = code_of code; error_message = text; auth_bytes = [] })
+
+-- SaslAuthenticate where no mechanism was accepted, or after authentication
+abbrev pub illegal_state : List ℕ
+illegal_state = authenticate_reply errors.IllegalSaslState (Some (codes "illegal SASL state"))
+
+-- to a bare message of PLAIN that is right: a frame of no bytes, which is a size of 0
+abbrev pub empty_frame : List ℕ
+empty_frame = 0 ∷ 0 ∷ 0 ∷ 0 ∷ []
+
+-- 2. Before authentication
+
+-- a login that names a user with its password binds the connection, any other shuts it after the reply
+abbrev pub logged_in : Option ℕ → ℤ → Session → Session
+logged_in (Some tenant) id s = replied id (authenticate_reply errors.None None) (record s { stage = BoundTo tenant None })
+logged_in None id s = shut_down (replied id (authenticate_reply errors.SaslAuthenticationFailed (Some (codes "authentication failed"))) s)
+
+-- how far the greeting is after a handshake of that version which accepted PLAIN
+abbrev pub greeting_after : ℤ → Greeting
+greeting_after version = if int_eq version (pos 0) then Bare else Shaken
+
+-- the mechanism PLAIN is accepted, another changes nothing
+abbrev pub shaken : Bool → ℤ → ℤ → Session → Session
+shaken true id version s = replied id (handshake_reply errors.None) (record s { stage = Greets (greeting_after version) })
+shaken false id version s = replied id (handshake_reply errors.UnsupportedSaslMechanism) s
+
+abbrev pub authenticated : Setup → Bool → ℤ → List ℕ → Session → Session
+authenticated setup true id message s = logged_in (login setup.users message) id s
+authenticated setup false id message s = replied id illegal_state s
+
+-- a bare message that names a user with its password binds the connection, any other shuts it without a reply
+abbrev pub bare_login : Option ℕ → Session → Session
+bare_login (Some tenant) s = record s { stage = BoundTo tenant None; output = s.output ++ empty_frame }
+bare_login None s = shut_down s
+
+-- what a request of a greeting connection does to it, where a mechanism was accepted or not; s is the connection without the request
+unfoldable pub greeted_by : Setup → Bool → ℤ → Asked → Session → Session
+greeted_by setup handshaken id Versions s = replied id (versions_reply setup.versions errors.None) s
+greeted_by setup handshaken id OtherVersions s = replied id (versions_reply setup.versions errors.UnsupportedVersion) s
+greeted_by setup handshaken id (Handshake version mechanism) s = shaken (bytes_eq mechanism (codes "PLAIN")) id version s
+greeted_by setup handshaken id (Authenticate message) s = authenticated setup handshaken id message s
+greeted_by setup handshaken id (Another key version body) s = shut_down s
+greeted_by setup handshaken id Malformed s = shut_down s
+
+-- what a whole frame does to it: it is a request, or PLAIN's message itself; s is the connection without the frame
+abbrev pub greeted_frame : Setup → Greeting → List ℕ → Session → Session
+greeted_frame setup Unshaken frame s = let r = request setup.versions frame in greeted_by setup false r.correlation_id r.asked s
+greeted_frame setup Shaken frame s = let r = request setup.versions frame in greeted_by setup true r.correlation_id r.asked s
+greeted_frame setup Bare frame s = bare_login (login setup.users frame) s
+
+abbrev pub greeted_at : Setup → Greeting → Session → Front → Session
+greeted_at setup greeting s (Whole frame rest) = greeted_frame setup greeting frame (record s { unread = rest })
+greeted_at setup greeting s TooSmall = shut_down s
+greeted_at setup greeting s TooLarge = shut_down s
+greeted_at setup greeting s Partial = s
+
+-- the turn of a greeting connection
+unfoldable pub greeted : Setup → Greeting → Session → Session
+greeted setup greeting s = greeted_at setup greeting s (front s.unread)

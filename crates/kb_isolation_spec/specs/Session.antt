@@ -1,0 +1,82 @@
+-- What a connection has, and what happens to it alone.
+use Rattle.std.specs.Prelude.{ℕ, ℤ, ◌-◌, List, [], ◌++◌, length, Bool, true, false, not, ◌&&◌, if◌then◌else◌, nat_lt, Option, Some, None}
+use Rattle.kb_api_group.specs.Frames.{Front, Whole, Partial, TooSmall, TooLarge, front}
+use Rattle.kb_tenant.specs.Replies.{framed, reply_size}
+use Rattle.kb_isolation_spec.specs.Tenant.{Wait, is_members}
+
+-- how far a greeting is: no mechanism was accepted; PLAIN was, and its message comes in a request of SaslAuthenticate; or PLAIN was,
+-- and its message comes bare, as the next frame
+pub data Greeting : Type 0 where
+  Unshaken : Greeting
+  Shaken : Greeting
+  Bare : Greeting
+
+-- whether a connection still greets, and then how far it is, or the tenant that it is bound to and its waiting request
+pub data Stage : Type 0 where
+  Greets : (greeting : Greeting) → Stage
+  BoundTo : (tenant : ℕ) (wait : Option Wait) → Stage
+
+-- what a connection has, but for its number: unread bytes, untaken output, and whether the broker shut it
+pub record Session : Type 0 where
+  pub stage : Stage
+  pub unread : List ℕ
+  pub output : List ℕ
+  pub shut : Bool
+
+abbrev pub fresh : Session
+fresh = record { stage = Greets Unshaken; unread = []; output = []; shut = false }
+
+abbrev pub without_wait : Stage → Stage
+without_wait (Greets greeting) = Greets greeting
+without_wait (BoundTo tenant wait) = BoundTo tenant None
+
+-- it waits for the answer to a request
+abbrev pub waiting : Wait → Stage → Stage
+waiting wait (Greets greeting) = Greets greeting
+waiting wait (BoundTo tenant earlier) = BoundTo tenant (Some wait)
+
+-- the broker shuts it: unread bytes and wait are dropped, untaken output stays
+abbrev pub shut_down : Session → Session
+shut_down s = record { stage = without_wait s.stage; unread = []; output = s.output; shut = true }
+
+-- how many unread bytes a connection may have: a size and the largest request, twice
+abbrev pub LIMIT : ℕ
+LIMIT = 4194312
+
+-- how many more bytes are taken
+abbrev pub room : Session → ℕ
+room s = LIMIT - length s.unread
+
+-- whether a piece is longer than the room of a connection that is not shut
+abbrev pub overruns : List ℕ → Session → Bool
+overruns piece s = not s.shut && nat_lt (room s) (length piece)
+
+-- a piece came: one longer than the room is not taken and shuts the connection; a shut one ignores it
+unfoldable pub fed : List ℕ → Session → Session
+fed piece s = if s.shut then s else if nat_lt (room s) (length piece) then shut_down s else record s { unread = s.unread ++ piece }
+
+-- a reply is sent, unless its size does not fit an INT32: then the connection is shut
+unfoldable pub replied : ℤ → List ℕ → Session → Session
+replied correlation_id body s =
+    if nat_lt 2147483647 (reply_size body) then shut_down s else record s { output = s.output ++ framed correlation_id body }
+
+-- whether a member of a group waits on it
+abbrev pub has_member : Stage → Bool
+has_member (Greets greeting) = false
+has_member (BoundTo tenant None) = false
+has_member (BoundTo tenant (Some wait)) = is_members wait.awaited
+
+abbrev pub is_free : Stage → Bool
+is_free (Greets greeting) = true
+is_free (BoundTo tenant None) = true
+is_free (BoundTo tenant (Some wait)) = false
+
+abbrev pub is_turn : Front → Bool
+is_turn (Whole frame rest) = true
+is_turn TooSmall = true
+is_turn TooLarge = true
+is_turn Partial = false
+
+-- it can take a turn: it has no wait, and a whole unread request or a bad size (a shut one has no unread bytes)
+unfoldable pub can : Session → Bool
+can s = is_free s.stage && is_turn (front s.unread)

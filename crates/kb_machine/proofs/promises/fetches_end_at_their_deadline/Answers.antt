@@ -1,8 +1,0 @@
-use Rattle.kb_machine.proofs.Moments.{ready-late, woken-late}
-use Rattle.kb_machine.proofs.promises.fetches_end_at_their_deadline.Goals as goal
-
-pub returns-clause-ready : goal.returns-clause-ready
-returns-clause-ready c = ready-late
-
-pub returns-clause-answered : goal.returns-clause-answered
-returns-clause-answered c = woken-late

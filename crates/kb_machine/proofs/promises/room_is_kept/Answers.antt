@@ -1,8 +1,0 @@
-use Rattle.kb_machine.proofs.Pinned.{fed-limit, fed-shut}
-use Rattle.kb_machine.proofs.promises.room_is_kept.Goals as goal
-
-pub returns-clause-limit : goal.returns-clause-limit
-returns-clause-limit c = fed-limit
-
-pub returns-clause-shut : goal.returns-clause-shut
-returns-clause-shut c = fed-shut

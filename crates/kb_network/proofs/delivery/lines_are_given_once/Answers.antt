@@ -1,5 +1,0 @@
-use Rattle.kb_network.proofs.Consuming.{lines_read}
-use Rattle.kb_network.proofs.delivery.lines_are_given_once.Goals as goal
-
-pub returns : goal.returns
-returns c = lines_read

@@ -1,5 +1,0 @@
-use Rattle.kb_network.proofs.Delivering.{no_fault}
-use Rattle.kb_network.proofs.delivery.no_fault_with_the_right_login.Goals as goal
-
-pub returns : goal.returns
-returns c = no_fault

@@ -1,5 +1,0 @@
-use Rattle.kb_service.proofs.Laws.{served-holds}
-use Rattle.kb_service.proofs.promises.fetches_give_whole_batches.Goals as goal
-
-pub returns : goal.returns
-returns c = served-holds

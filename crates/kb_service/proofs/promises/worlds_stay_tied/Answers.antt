@@ -1,5 +1,0 @@
-use Rattle.kb_service.proofs.Laws.{served_tied}
-use Rattle.kb_service.proofs.promises.worlds_stay_tied.Goals as goal
-
-pub returns : goal.returns
-returns c = served_tied

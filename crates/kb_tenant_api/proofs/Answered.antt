@@ -1,0 +1,86 @@
+-- What is answered to a request of a member, to a commit, to any other, and where the connection is shut, whatever was refused.
+use Rattle.std.proofs.Common.{◌≡◌, ◌⊎◌, ℕ, ℤ, List, true, false, inl, inr, refl, ap, subst, sym, Result, Ok, Err, IfOk}
+use Rattle.std.specs.Ordering.{int_eq}
+use Rattle.kb_wire.specs.declared.api_key.TheConstants.{OFFSET_COMMIT, JOIN_GROUP, HEARTBEAT, LEAVE_GROUP, SYNC_GROUP}
+use Rattle.kb_wire.specs.declared.fault.ReadFault.{ReadFault}
+use Rattle.kb_coordinator.specs.Groups.{Groups}
+use Rattle.kb_tenant_state.specs.World.{World}
+use Rattle.kb_tenant_state.specs.declared.topic_partition.TopicPartition.{TopicPartition}
+use Rattle.kb_tenant.specs.Answered as tenant
+use Rattle.kb_tenant.specs.Told.{IsReplied}
+use Rattle.kb_tenant.specs.declared.answer.Answer.TheVariants as plain
+use Rattle.kb_tenant.specs.declared.node.Node.{Node}
+use Rattle.kb_tenant_api.specs.Acknowledged.{AcknowledgesCommits, IsOfMembers, IsPlainly, IsTruthful, TellsCommits}
+use Rattle.kb_tenant_api.specs.Replies.{IsAnswer}
+use Rattle.kb_tenant_api.specs.Serve.{Outcome, served, IsServed}
+use Rattle.kb_tenant_api.specs.declared.answer.Answer.{Answer}
+use Rattle.kb_tenant_api.specs.declared.answer.Answer.TheVariants as answers
+
+-- A key is not one that it differs from.
+pub differs : (key other : ℤ) → int_eq key other ≡ false → int_eq other other ≡ true → key ≡ other → ⊥
+differs key other apart same is = let yes : int_eq key other ≡ int_eq other other = ap (λ k. int_eq k other) is in absurd (cc)
+
+pub is_of_none : (key : ℤ) → int_eq key JOIN_GROUP ≡ false → int_eq key HEARTBEAT ≡ false → int_eq key LEAVE_GROUP ≡ false → int_eq key SYNC_GROUP ≡ false → IsOfMembers key → ⊥
+is_of_none key a b c d (inl join) = differs key JOIN_GROUP a refl join
+is_of_none key a b c d (inr (inl heartbeat)) = differs key HEARTBEAT b refl heartbeat
+is_of_none key a b c d (inr (inr (inl leave))) = differs key LEAVE_GROUP c refl leave
+is_of_none key a b c d (inr (inr (inr sync))) = differs key SYNC_GROUP d refl sync
+
+-- A commit is no request of a member.
+pub commits_for_no_member : (key : ℤ) → key ≡ OFFSET_COMMIT → IsOfMembers key → ⊥
+commits_for_no_member key is =
+    is_of_none key (ap (λ k. int_eq k JOIN_GROUP) is) (ap (λ k. int_eq k HEARTBEAT) is) (ap (λ k. int_eq k LEAVE_GROUP) is) (ap (λ k. int_eq k SYNC_GROUP) is)
+
+-- a request of a member that is answered what is defined
+pub member_told : (failed full honest agree : Type 0) (node : Node) (clock n : ℕ) (key version id : ℤ) (body : List ℕ) (w : World) (gs new : Groups) (some touched : List TopicPartition) (o : Outcome) (result : Result Answer ReadFault) → IsOfMembers key
+    → served node w clock gs n key version body ≡ o → IsServed id o w new some result
+    → IfOk result (λ answer. honest → agree → IsTruthful failed full node clock n key version id body w gs w touched answer)
+member_told failed full honest agree node clock n key version id body w gs new some touched o (Ok answer) member is met = λ h a. record {
+  plain = λ none other. absurd (none member);
+  committed = λ commit. absurd (commits_for_no_member key commit member);
+  members = λ m. inl (subst (λ x. IsAnswer id x.reaction answer) (sym is) met.3);
+  stays = λ m. refl;
+}
+member_told failed full honest agree node clock n key version id body w gs new some touched o (Err fault) member is met = tt
+
+-- a commit that is told
+pub commit_told : (failed full honest agree : Type 0) (node : Node) (clock n : ℕ) (key version id : ℤ) (body : List ℕ) (w v : World) (gs : Groups) (touched : List TopicPartition) (result : Result Answer ReadFault) → key ≡ OFFSET_COMMIT
+    → IfOk result (λ answer. honest → agree → AcknowledgesCommits (failed ⊎ full) id gs w body v answer)
+    → IfOk result (λ answer. honest → agree → IsTruthful failed full node clock n key version id body w gs v touched answer)
+commit_told failed full honest agree node clock n key version id body w v gs touched (Ok answer) is told = λ h a. record {
+  plain = λ none other. absurd (other is);
+  committed = λ same. told h a;
+  members = λ member. absurd (commits_for_no_member key is member);
+  stays = λ member. absurd (commits_for_no_member key is member);
+}
+commit_told failed full honest agree node clock n key version id body w v gs touched (Err fault) is told = tt
+
+-- any other request, which is answered as if there were no groups
+pub plainly_told : (failed full : Type 0) (node : Node) (clock n : ℕ) (key version id : ℤ) (body : List ℕ) (w v : World) (gs : Groups) (touched : List TopicPartition) (answer : Answer) → (IsOfMembers key → ⊥) → (key ≡ OFFSET_COMMIT → ⊥)
+    → IsPlainly (tenant.IsTruthful failed full node clock n key version id body w v touched) answer
+    → IsTruthful failed full node clock n key version id body w gs v touched answer
+plainly_told failed full node clock n key version id body w v gs touched answer none other told = record {
+  plain = λ no_member no_commit. told;
+  committed = λ is. absurd (other is);
+  members = λ member. absurd (none member);
+  stays = λ member. absurd (none member);
+}
+
+-- a request of a member or a commit after which the connection is shut
+pub shut_told : (failed full : Type 0) (node : Node) (clock n : ℕ) (key version id : ℤ) (body : List ℕ) (w v : World) (gs : Groups) (touched : List TopicPartition) (answer : Answer) → ((IsOfMembers key → ⊥) → (key ≡ OFFSET_COMMIT → ⊥) → false ≡ true)
+    → (IsOfMembers key → v ≡ w) → answer ≡ answers.Plain plain.Shut
+    → IsTruthful failed full node clock n key version id body w gs v touched answer
+shut_told failed full node clock n key version id body w v gs touched answer either same shut = record {
+  plain = λ none other. let no_answer : false ≡ true = either none other in absurd cc;
+  committed = λ is q read. subst (IsPlainly (IsReplied id (TellsCommits (failed ⊎ full) gs w q v))) (sym shut) tt;
+  members = λ member. inr shut;
+  stays = same;
+}
+
+-- That is told of what is passed on.
+pub told_on : (failed full : Type 0) (node : Node) (clock n : ℕ) (key version id : ℤ) (body : List ℕ) (w v : World) (gs : Groups) (some touched : List TopicPartition) (same answer : Answer) → touched ≡ some → answer ≡ same
+    → IsTruthful failed full node clock n key version id body w gs v some same
+    → IsTruthful failed full node clock n key version id body w gs v touched answer
+told_on failed full node clock n key version id body w v gs some touched same answer of_some is told =
+    subst (λ x. IsTruthful failed full node clock n key version id body w gs v x answer) (sym of_some)
+    (subst (IsTruthful failed full node clock n key version id body w gs v some) (sym is) told)

@@ -1,0 +1,136 @@
+-- What a request of a tenant makes of what it keeps, and comes to for the connection that sent it.
+use Rattle.std.specs.Prelude.{◌≡◌, ◌⊎◌, ℕ, ℤ, List, [], Bool, Option, Some, None, Result, Ok, Err, length, nat_le, if◌then◌else◌}
+use Rattle.std.specs.Ordering.{int_eq}
+use Rattle.kb_wire.specs.Codec.{whole}
+use Rattle.kb_wire.specs.declared.fault.WireFault.{WireFault}
+use Rattle.kb_wire.specs.declared.fault.ReadFault.{ReadFault}
+use Rattle.kb_wire.specs.declared.fault.ReadFault.TheVariants as faults
+use Rattle.kb_wire.specs.ErrorCode.{code_of}
+use Rattle.kb_wire.specs.declared.api_key.TheConstants.{OFFSET_COMMIT, JOIN_GROUP, HEARTBEAT, LEAVE_GROUP, SYNC_GROUP}
+use Rattle.kb_api_group.specs.Layouts.{heartbeat_reply, heartbeat_request, join_group_request, leave_group_reply, leave_group_request}
+use Rattle.kb_api_group.specs.Layouts.{offset_commit_reply, offset_commit_request, sync_group_request}
+use Rattle.kb_wire.specs.declared.error_code.ErrorCode.{ErrorCode}
+use Rattle.kb_api_group.specs.declared.heartbeat.HeartbeatRequest.{HeartbeatRequest}
+use Rattle.kb_api_group.specs.declared.join_group.JoinGroupRequest.{JoinGroupRequest}
+use Rattle.kb_api_group.specs.declared.leave_group.LeaveGroupRequest.{LeaveGroupRequest}
+use Rattle.kb_api_group.specs.declared.offset_commit.OffsetCommitRequest.{OffsetCommitRequest}
+use Rattle.kb_api_group.specs.declared.sync_group.SyncGroupRequest.{SyncGroupRequest}
+use Rattle.kb_coordinator.specs.Calls.{after_heartbeat, after_join, after_leave, after_may_commit, after_sync, heartbeat_code, is_accepted}
+use Rattle.kb_coordinator.specs.Calls.{join_code, leave_code, may_commit, sync_answer}
+use Rattle.kb_coordinator.specs.Groups.{Groups, silent}
+use Rattle.kb_coordinator.specs.Replies.{join_refusal, sync_spelled}
+use Rattle.kb_groups.specs.Codes.{number}
+use Rattle.kb_groups.specs.declared.reply.SyncAnswer.{SyncAnswer}
+use Rattle.kb_groups.specs.declared.reply.SyncAnswer.TheVariants as sync
+use Rattle.kb_tenant_state.specs.World.{World}
+use Rattle.kb_tenant_state.specs.declared.topic_partition.TopicPartition.{TopicPartition}
+use Rattle.kb_tenant.specs.OffsetCommit.{committed_all}
+use Rattle.kb_tenant.specs.Replies.{Shuts}
+use Rattle.kb_tenant.specs.Serve as tenant
+use Rattle.kb_tenant.specs.declared.node.Node.{Node}
+use Rattle.kb_tenant_api.specs.Replies.{Reaction, Plain, Rebalances, IsAnswer, replies}
+use Rattle.kb_tenant_api.specs.declared.answer.Answer.{Answer}
+use Rattle.kb_tenant_api.specs.declared.answer.Answer.TheVariants as answers
+use Rattle.kb_tenant.specs.declared.answer.Answer.TheVariants as plain
+
+-- the topics and the groups after a request, the partitions that it changed, in order, and what it comes to
+pub record Outcome : Type 0 where
+  pub world : World
+  pub groups : Groups
+  pub touched : List TopicPartition
+  pub reaction : Reaction
+
+-- the topics stay
+abbrev pub of_groups : World → Groups → Reaction → Outcome
+of_groups w gs reaction = record { world = w; groups = gs; touched = []; reaction = reaction }
+
+-- ---- JoinGroup, SyncGroup, Heartbeat, LeaveGroup
+
+-- A join that is accepted waits; its reply may come with it.
+abbrev pub of_join : World → ℕ → ℕ → Groups → JoinGroupRequest → Outcome
+of_join w clock n gs r = let code = join_code n r gs in
+    of_groups w (after_join clock n r gs) (if is_accepted code then Rebalances else replies (join_refusal (code_of code) r.member_id))
+
+abbrev pub sync_reaction : SyncAnswer → Reaction
+sync_reaction (sync.Refused code) = replies (sync_spelled (sync.Refused code))
+sync_reaction (sync.Got assignment) = replies (sync_spelled (sync.Got assignment))
+sync_reaction sync.Waits = Rebalances
+
+abbrev pub of_sync : World → ℕ → ℕ → Groups → SyncGroupRequest → Outcome
+of_sync w clock n gs r = of_groups w (after_sync clock n r gs) (sync_reaction (sync_answer clock n r gs))
+
+abbrev pub of_heartbeat : World → ℕ → Groups → HeartbeatRequest → Outcome
+of_heartbeat w clock gs r =
+    of_groups w (after_heartbeat clock r gs) (replies (heartbeat_reply.written (record { error_code = number (heartbeat_code r gs) })))
+
+abbrev pub of_leave : World → ℕ → Groups → LeaveGroupRequest → Outcome
+of_leave w clock gs r =
+    of_groups w (after_leave clock r gs) (replies (leave_group_reply.written (record { error_code = number (leave_code r gs) })))
+
+-- ---- OffsetCommit
+
+-- what each entry of a commit is refused for, if its group refuses the member
+abbrev pub refusal_in : ErrorCode → Option ℤ
+refusal_in code = if is_accepted code then None else Some (code_of code)
+
+abbrev pub commit_refusal : Groups → OffsetCommitRequest → Option ℤ
+commit_refusal gs r = refusal_in (may_commit r.group_id r.member_id r.generation_id gs)
+
+abbrev pub of_offset_commit : World → ℕ → Groups → OffsetCommitRequest → Outcome
+of_offset_commit w clock gs r =
+    let c = committed_all w (commit_refusal gs r) r in
+    record {
+      world = c.0;
+      groups = after_may_commit clock r.group_id r.member_id r.generation_id gs;
+      touched = [];
+      reaction = replies (offset_commit_reply.written c.1);
+    }
+
+-- ---- all
+
+-- a request that is for no group
+abbrev pub of_topics : Groups → tenant.Outcome → Outcome
+of_topics gs o = record { world = o.world; groups = silent gs; touched = o.touched; reaction = Plain o.reaction }
+
+-- A body that is not the API's shuts the connection.
+abbrev pub if_read : {A : Type 0} → World → Groups → Result A WireFault → (A → Outcome) → Outcome
+if_read w gs (Ok v) f = f v
+if_read w gs (Err fault) f = of_groups w (silent gs) (Plain Shuts)
+
+-- a request on the connection of number n, at a time of the clock in milliseconds; those of other APIs are for no group
+unfoldable pub served : Node → World → ℕ → Groups → ℕ → ℤ → ℤ → List ℕ → Outcome
+served node w clock gs n key version body =
+    if int_eq key OFFSET_COMMIT then if_read w gs (whole offset_commit_request body) (of_offset_commit w clock gs)
+    else if int_eq key JOIN_GROUP then if_read w gs (whole join_group_request body) (of_join w clock n gs)
+    else if int_eq key HEARTBEAT then if_read w gs (whole heartbeat_request body) (of_heartbeat w clock gs)
+    else if int_eq key LEAVE_GROUP then if_read w gs (whole leave_group_request body) (of_leave w clock gs)
+    else if int_eq key SYNC_GROUP then if_read w gs (whole sync_group_request body) (of_sync w clock n gs)
+    else of_topics gs (tenant.plainly_served node w clock n key version body)
+
+-- whether the last request or moment answered requests that waited
+abbrev pub has_released : Groups → Bool
+has_released gs = nat_le 1 (length gs.released)
+
+-- ---- what the code answers
+
+-- The outcome's topics, groups, touched partitions and answer.
+abbrev pub IsOutcome : ℤ → Outcome → World → Groups → List TopicPartition → Answer → Type 0
+IsOutcome id o w gs touched answer = (w ≡ o.world) × (gs ≡ o.groups) × (touched ≡ o.touched) × IsAnswer id o.reaction answer
+
+-- the same, where a body that is not the API's is a fault; nothing is said where memory ran out
+abbrev pub IsServed : ℤ → Outcome → World → Groups → List TopicPartition → Result Answer ReadFault → Type 0
+IsServed id o w gs touched (Ok answer) = IsOutcome id o w gs touched answer
+IsServed id o w gs touched (Err (faults.Wire fault)) = IsOutcome id o w gs touched (answers.Plain plain.Shut)
+IsServed id o w gs touched (Err faults.Memory) = Unit {0}
+
+-- ---- where memory was refused
+
+-- The groups are those that the request makes, or those of before without the last replies; and then the connection is shut.
+abbrev pub AreGroupsAfter : (old made : Groups) → Answer → Groups → Type 0
+AreGroupsAfter old made answer new = (new ≡ made) ⊎ ((new ≡ silent old) × (answer ≡ answers.Plain plain.Shut))
+
+-- the same, where want of memory is a fault
+abbrev pub AreGroupsBy : (old made : Groups) → Result Answer ReadFault → Groups → Type 0
+AreGroupsBy old made (Ok answer) new = new ≡ made
+AreGroupsBy old made (Err (faults.Wire fault)) new = new ≡ made
+AreGroupsBy old made (Err faults.Memory) new = (new ≡ made) ⊎ (new ≡ silent old)

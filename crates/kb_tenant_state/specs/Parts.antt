@@ -1,0 +1,114 @@
+-- The parts of a tenant on a shelf: its catalog over a meta log, and its partitions.
+use Rattle.std.specs.Prelude.{◌≡◌, ◌≤◌, ◌<◌, ◌+◌, ◌^◌, ◌⊎◌, ℕ, pos, List, Option, Some, None, nat_lt, string_bytes, if◌then◌else◌, max}
+use Rattle.std.specs.Ordering.{nat_cmp}
+use Rattle.std.specs.Map.{lookup}
+use Rattle.std.specs.BTreeMap.{is_at}
+use Rattle.kb_store.specs.Disk.{Disk, Table, Files}
+use Rattle.kb_log.specs.OnShelf.{Log}
+use Rattle.kb_log.specs.Shelf.{Shelved}
+use Rattle.kb_batch.specs.Batch.{natural}
+use Rattle.kb_topics.specs.Known.{Known, PartitionState, partition_at}
+use Rattle.kb_topics.specs.MetaLog.{IsFold}
+use Rattle.kb_topics.specs.Catalog.{known, meta_log, catalog_identity}
+use Rattle.kb_tenant_state.specs.Partitions.{Entries, Owned, AreSound, AreExact, AreStarted, AreNamed, Agree, logs_of, places_of, IsUnmade}
+use Rattle.kb_tenant_state.specs.Scene.{Scene}
+use Rattle.kb_topics.specs.declared.fault.CatalogFault.{CatalogFault}
+use Rattle.kb_topics.specs.declared.fault.CatalogFault.TheVariants as catalog
+use Rattle.kb_tenant_state.specs.declared.fault.PartitionFault.{PartitionFault}
+use Rattle.kb_tenant_state.specs.declared.fault.PartitionFault.TheVariants as partition
+use Rattle.kb_tenant_state.specs.RetentionTime.{AreAllKept}
+use Rattle.kb_tenant_state.specs.Tied.{counted, partition_count}
+use Rattle.kb_tenant_state.specs.World.{World}
+use Rattle.kb_tenant_state.specs.declared.parts.Parts.{Parts}
+use Rattle.kb_tenant_state.specs.Counts.{END}
+
+-- the meta log
+abbrev pub meta : {L : Type 0} → (L → Log) → Parts L → Log
+meta log p = log (meta_log p.catalog)
+
+abbrev pub entries : {L : Type 0} → Parts L → Entries L
+entries p = p.partitions.topics.entries
+
+-- the files of the meta log and of the partitions' logs
+abbrev pub Owns : {L : Type 0} → (L → Log) → Parts L → ℕ → Type 0
+Owns log p file = (meta log p).owns file ⊎ Owned log (entries p) file
+
+-- Each log is sound and the tenant's own, and no file is of two logs. No instance that is still to be given out has partitions, and
+-- no topic has more than 64. Each topic has as many partitions as the catalog says, under its instance, and there are no others.
+pub record IsSound {L : Type 0} (log : L → Log) (p : Parts L) (table : Table) (next : ℕ) : Type 0 where
+  pub catalog : (meta log p).sound table next
+  pub logs : AreSound log (entries p) table next
+  pub apart : (file : ℕ) → (meta log p).owns file → Owned log (entries p) file → ⊥
+  pub few : (known p.catalog).creates < 2 ^ 63
+  pub unmade : (i : ℕ) → (known p.catalog).creates ≤ i → IsUnmade i (entries p)
+  pub small : (i count : ℕ) → lookup (is_at (nat_cmp i)) (places_of (entries p)) ≡ Some count → count ≤ 64
+  pub tied : places_of (entries p) ≡ counted partition_count (known p.catalog).topics
+  pub catalog_named : (meta log p).identity ≡ catalog_identity (string_bytes p.tenant) p.segment_bytes
+  pub logs_named : AreNamed log (string_bytes p.tenant) p.segment_bytes (entries p)
+
+-- what the tenant sees
+abbrev pub world_of : {L : Type 0} → (L → Log) → Parts L → Files → World
+world_of log p files = record { known = known p.catalog; logs = logs_of log (entries p) files }
+
+-- the start that is recorded of a partition, 0 where there is none
+abbrev pub start_said : Option PartitionState → ℕ
+start_said None = 0
+start_said (Some p) = natural p.start
+
+abbrev pub recorded_start : Known → ℕ → ℕ → ℕ
+recorded_start k i p = start_said (partition_at k (pos i) (pos p))
+
+-- Each log agrees with its files, and would start where it does if it were opened from them again; the catalog is what its meta log
+-- comes to; and up to a clock no partition has anything to drop.
+pub record Agrees {L : Type 0} (log : L → Log) (p : Parts L) (files : Files) : Type 0 where
+  pub catalog : (meta log p).agrees files
+  pub fold : IsFold ((meta log p).batches files) (known p.catalog)
+  pub logs : Agree log (entries p) files
+  pub started : AreStarted log (recorded_start (known p.catalog)) (entries p)
+  pub meta_started : (meta log p).resumes 0
+  pub until : AreAllKept p.next_retention_time (world_of log p files)
+
+-- whose the parts are, what the tenant sees, how many refusals were counted for it, and how many commands its meta log has recorded,
+-- which is where that log ends
+pub record Seen : Type 0 where
+  pub tenant : List ℕ
+  pub world : World
+  pub refusals : ℕ
+  pub commands : ℕ
+
+-- the parts with any disk and next file number
+abbrev pub scene_on : {L : Type 0} → (L → Log) → Parts L → Disk → ℕ → Scene Seen
+scene_on log p d next = record {
+  owns = Owns log p;
+  sound = IsSound log p d.table next;
+  exact = (meta log p).exact d.table × AreExact log (entries p) d.table;
+  agrees = Agrees log p d.files;
+  disk = d;
+  next = next;
+  state = record { tenant = string_bytes p.tenant; world = world_of log p d.files; refusals = p.refusals; commands = (meta log p).end };
+}
+
+-- the parts and their shelf at one moment
+abbrev pub scene : {L S : Type 0} → (L → Log) → (S → Disk) → Parts L → Shelved S → Scene Seen
+scene log disk p shelf = scene_on log p (disk shelf.store) shelf.next
+
+-- one refusal more is counted
+abbrev pub refused : {L : Type 0} → Parts L → Parts L
+refused p = record p { refusals = if nat_lt p.refusals END then p.refusals + 1 else p.refusals }
+
+-- the count of refusals is at least that
+abbrev pub raised : {L : Type 0} → Parts L → ℕ → Parts L
+raised p count = record p { refusals = max p.refusals count }
+
+-- after a partition's fault: one that memory or the store has is counted
+abbrev pub counted_for : {L : Type 0} → PartitionFault → Parts L → Parts L
+counted_for partition.Store p = refused p
+counted_for partition.Memory p = refused p
+counted_for _ p = p
+
+-- after a fault of the catalog: one that memory or the store has is counted, and a meta log that is full
+abbrev pub counted_for_catalog : {L : Type 0} → CatalogFault → Parts L → Parts L
+counted_for_catalog catalog.Full p = refused p
+counted_for_catalog catalog.Store p = refused p
+counted_for_catalog catalog.Memory p = refused p
+counted_for_catalog _ p = p

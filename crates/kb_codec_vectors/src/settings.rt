@@ -129,6 +129,7 @@ fn say(settings: &Settings, said: &mut Said) -> Result<(), AllocError> {
         ("port", Number(settings.port as i64)),
         ("segment_bytes", Number(settings.segment_bytes as i64)),
         ("cache_batches", Number(settings.cache_batches as i64)),
+        ("cache_bytes", Number(settings.cache_bytes as i64)),
         ("connections", Number(settings.connections as i64)),
         ("output_bytes", Number(settings.output_bytes as i64)),
         ("data", Text(settings.folder.as_deref().unwrap_or("none"))),

@@ -103,8 +103,8 @@ users_in _ = None
 
 abbrev pub settings_keys : List (List ℕ)
 settings_keys =
-    codes "host" ∷ codes "port" ∷ codes "advertise" ∷ codes "segment_bytes" ∷ codes "cache_batches" ∷ codes "connections"
-    ∷ codes "output_bytes" ∷ codes "data" ∷ codes "user" ∷ []
+    codes "host" ∷ codes "port" ∷ codes "advertise" ∷ codes "segment_bytes" ∷ codes "cache_batches" ∷ codes "cache_bytes"
+    ∷ codes "connections" ∷ codes "output_bytes" ∷ codes "data" ∷ codes "user" ∷ []
 
 -- what is said at a key that may be missing
 abbrev pub said_or : {A : Type 0} → A → (Data → Option A) → Option Data → Option A
@@ -133,6 +133,7 @@ settings_in document =
     read_key document (codes "advertise") None advertise_in λ advertise.
     read_key document (codes "segment_bytes") 16777216 (number_in 4096 1073741824) λ segment_bytes.
     read_key document (codes "cache_batches") 1024 (number_in 1 65536) λ cache_batches.
+    read_key document (codes "cache_bytes") 67108864 (number_in 0 1099511627776) λ cache_bytes.
     read_key document (codes "connections") 1024 (number_in 1 1000000) λ connections.
     read_key document (codes "output_bytes") 268435456 (number_in 1048576 4294967295) λ output_bytes.
     read_key document (codes "data") None folder_in λ folder.
@@ -143,6 +144,7 @@ settings_in document =
       advertise = advertise;
       segment_bytes = segment_bytes;
       cache_batches = cache_batches;
+      cache_bytes = cache_bytes;
       connections = connections;
       output_bytes = output_bytes;
       folder = folder;

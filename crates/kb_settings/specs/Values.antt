@@ -15,6 +15,7 @@ pub record Values : Type 0 where
   pub advertise : Option (List ℕ × ℕ)
   pub segment_bytes : ℕ
   pub cache_batches : ℕ
+  pub cache_bytes : ℕ
   pub connections : ℕ
   pub output_bytes : ℕ
   pub folder : Option (List ℕ)
@@ -33,6 +34,7 @@ values_of s = record {
   advertise = option_map host_and_port s.advertise;
   segment_bytes = s.segment_bytes;
   cache_batches = s.cache_batches;
+  cache_bytes = s.cache_bytes;
   connections = s.connections;
   output_bytes = s.output_bytes;
   folder = option_map string_bytes s.folder;
@@ -57,6 +59,7 @@ standard = record {
   advertise = None;
   segment_bytes = 16777216;
   cache_batches = 1024;
+  cache_bytes = 67108864;
   connections = 1024;
   output_bytes = 268435456;
   folder = None;

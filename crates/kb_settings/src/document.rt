@@ -95,6 +95,31 @@ fn number_in(value: &Value, low: u32, high: u32) -> Option<u32>
     }
 }
 
+/// How many bytes are said at a key, the limit included.
+pub fn size(document: &Table, key: &str, standard: u64, high: u64) -> Option<u64>
+    requires high { standard ≤ high }
+    ensures says { result ≡ said_or standard (number_in 0 high) (get_member key.now (table_view document.now)) }
+    ensures high { IfSome result (λ n. n ≤ high) }
+{
+    match at(document, key) {
+        None => Some(standard),
+        Some(value) => size_in(value, high),
+    }
+}
+
+fn size_in(value: &Value, high: u64) -> Option<u64>
+    ensures says { result ≡ number_in 0 high (view value.now) }
+    ensures high { IfSome result (λ n. n ≤ high) }
+{
+    let Value::Integer(integer) = value else {
+        return None;
+    };
+    match u64::try_from(*integer) {
+        Ok(n) if n <= high => Some(n),
+        _ => None,
+    }
+}
+
 /// The data folder, where there is one.
 pub fn folder(document: &Table) -> Option<Option<&str>>
     ensures { option_map (option_map (λ text. text.now)) result

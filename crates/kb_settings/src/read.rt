@@ -7,7 +7,7 @@ ghost use Rattle.kb_settings.specs.Address.{is_listened};
 ghost use Rattle.kb_settings.specs.Document.{settings_in};
 ghost use Rattle.kb_settings.specs.Reading.{settings_of, IsFaultOf, IsFaultIn};
 
-use crate::document::{advertise, folder, host, number, other_key};
+use crate::document::{advertise, folder, host, number, other_key, size};
 use crate::fault::SettingsFault;
 use crate::settings::{Endpoint, Settings};
 use crate::users::users;
@@ -15,12 +15,13 @@ use std::alloc::{AllocError, Global};
 use toml::Table;
 
 /// The keys that there are.
-const KEYS: [&str; 9] = [
+const KEYS: [&str; 10] = [
     "host",
     "port",
     "advertise",
     "segment_bytes",
     "cache_batches",
+    "cache_bytes",
     "connections",
     "output_bytes",
     "data",
@@ -28,9 +29,9 @@ const KEYS: [&str; 9] = [
 ];
 
 impl Settings {
-    /// The settings of a TOML text: `host`, `port`, `advertise`, `segment_bytes`, `cache_batches`, `connections`, `output_bytes`
-    /// and `data`, each as in [`Settings::standard`] where it is missing, and an array of tables `user` with `name`, `password`
-    /// and `tenant`. `advertise` is `HOST:PORT`, where an IPv6 address stands in brackets; around `host` they may be left out.
+    /// The settings of a TOML text: `host`, `port`, `advertise`, `segment_bytes`, `cache_batches`, `cache_bytes`, `connections`,
+    /// `output_bytes` and `data`, each as in [`Settings::standard`] where it is missing, and an array of tables `user` with `name`,
+    /// `password` and `tenant`. `advertise` is `HOST:PORT`, where an IPv6 address stands in brackets; around `host` they may be left out.
     ///
     /// `Text` comes only where the text is no TOML document. `Field` names the first key that is wrong, in this order; keys
     /// that there are not come last, in byte order. Anything wrong with a user, or with the users together, is wrong with
@@ -68,6 +69,9 @@ fn in_document(alloc: Global, document: &Table) -> Result<Settings, SettingsFaul
     let Some(cache_batches) = number(document, "cache_batches", 1024, 1, 65_536) else {
         return Err(wrong(alloc, "cache_batches"));
     };
+    let Some(cache_bytes) = size(document, "cache_bytes", 67_108_864, 1_099_511_627_776) else {
+        return Err(wrong(alloc, "cache_bytes"));
+    };
     let Some(connections) = number(document, "connections", 1024, 1, 1_000_000) else {
         return Err(wrong(alloc, "connections"));
     };
@@ -90,6 +94,7 @@ fn in_document(alloc: Global, document: &Table) -> Result<Settings, SettingsFaul
         advertise: endpoint(alloc, advertise)?,
         segment_bytes,
         cache_batches,
+        cache_bytes,
         connections,
         output_bytes,
         folder: copied(alloc, folder)?,

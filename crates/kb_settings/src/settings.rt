@@ -64,6 +64,8 @@ pub struct Settings {
     pub segment_bytes: u32,
     /// How many read batches are kept in memory: 1 to 65,536.
     pub cache_batches: u32,
+    /// How many bytes read batches take in memory at most: 0 to 1,099,511,627,776. With 0 none is kept.
+    pub cache_bytes: u64,
     /// How many clients are connected at most: 1 to 1,000,000.
     pub connections: u32,
     /// How many bytes of output are kept at most before no more requests are taken: 1,048,576 to 4,294,967,295.
@@ -76,6 +78,7 @@ pub struct Settings {
     pub ghost port_fits: { 1 ≤ port },
     pub ghost segment_bytes_fit: { (4096 ≤ segment_bytes) × (segment_bytes ≤ 1073741824) },
     pub ghost cache_batches_fit: { (1 ≤ cache_batches) × (cache_batches ≤ 65536) },
+    pub ghost cache_bytes_fit: { cache_bytes ≤ 1099511627776 },
     pub ghost connections_fit: { (1 ≤ connections) × (connections ≤ 1000000) },
     pub ghost output_bytes_fit: { 1048576 ≤ output_bytes },
     pub ghost users_fit: { (1 ≤ length users.items) × (length users.items ≤ 1000) },
@@ -89,8 +92,9 @@ impl Settings {
     ghost use Rattle.kb_settings.specs.Reading.{settings_of};
 
     /// The settings of a text that names two users alone: `ann` with password `pw1` of tenant `a`, and `bob` with password
-    /// `pw2` of tenant `b`. The host is `localhost`, the port 9092, a file has 16,777,216 bytes, 1,024 read batches are kept,
-    /// 1,024 clients are connected at most, 268,435,456 bytes of output are kept, and there is no folder.
+    /// `pw2` of tenant `b`. The host is `localhost`, the port 9092, a file has 16,777,216 bytes, 1,024 read batches are kept
+    /// of 67,108,864 bytes at most, 1,024 clients are connected at most, 268,435,456 bytes of output are kept, and there is no
+    /// folder.
     pub fn standard(alloc: Global) -> Result<Settings, AllocError>
         ensures value { IfOk result (λ settings. values_of settings ≡ standard) }
         ensures text { IfOk result (λ settings. settings_of standard_text ≡ Some (Ok (values_of settings))) }
@@ -104,6 +108,7 @@ impl Settings {
             advertise: None,
             segment_bytes: 16_777_216,
             cache_batches: 1024,
+            cache_bytes: 67_108_864,
             connections: 1024,
             output_bytes: 268_435_456,
             folder: None,

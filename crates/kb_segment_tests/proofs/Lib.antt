@@ -1,2 +1,3 @@
 pub mod Listed
 pub mod Reopened
+pub mod StillSound

@@ -22,7 +22,7 @@ pub(crate) fn is_alone<S: Store>(alloc: Global, store: &mut S) -> Result<bool, S
 
 /// Whether there is no file.
 #[tactic(auto, using(crate::proofs::Listed::none_listed))]
-fn is_empty<S: Store>(alloc: Global, store: &mut S) -> Result<bool, StoreFault>
+pub(crate) fn is_empty<S: Store>(alloc: Global, store: &mut S) -> Result<bool, StoreFault>
     ensures { IfOk result (λ yes. yes ≡ true → map.get (S.disk store.new).table 0 ≡ None) }
 {
     let none: [u64; 0] = [];

@@ -37,12 +37,16 @@ fn written<S: Store + Drop>(alloc: Global, store: S) -> Result<S, Fail> {
 }
 
 /// Whether there is no file but 0, and that has those bytes.
-fn has<S: Store>(alloc: Global, store: &mut S, bytes: &[u8]) -> Result<bool, StoreFault> {
+pub(crate) fn has<S: Store>(
+    alloc: Global,
+    store: &mut S,
+    bytes: &[u8],
+) -> Result<bool, StoreFault> {
     Ok(is_alone(alloc, store)? && read_file(alloc, store, 0)?.as_slice() == bytes)
 }
 
 /// Cuts the file 0, which is the only one.
-fn cut<S: Store>(alloc: Global, store: &mut S, len: u64) -> Result<(), Fail> {
+pub(crate) fn cut<S: Store>(alloc: Global, store: &mut S, len: u64) -> Result<(), Fail> {
     if !is_alone(alloc, store)? || store.len(0)? < len {
         return Err("another file".into());
     }
@@ -50,7 +54,7 @@ fn cut<S: Store>(alloc: Global, store: &mut S, len: u64) -> Result<(), Fail> {
 }
 
 /// Takes the file 0 away, which is the only one.
-fn remove<S: Store>(alloc: Global, store: &mut S) -> Result<(), Fail> {
+pub(crate) fn remove<S: Store>(alloc: Global, store: &mut S) -> Result<(), Fail> {
     if !is_alone(alloc, store)? {
         return Err("another file".into());
     }
@@ -103,6 +107,35 @@ fn a_refusal_is_noted(rt: HostRuntime) -> Result<(), Fail> {
     assert!(rt; folder.len(5) == Err(FolderFault::Refused));
     let refusal = refusals.take().ok_or("nothing noted")?;
     assert!(rt; refusal.call == FolderCall::Length && refusal.file == Some(5));
+    assert!(rt; refusals.take().is_none());
+    Ok(())
+}
+
+/// A folder in it that has a file's name has no bytes, and is noted, whether it is opened for writing or to be read alone.
+#[test]
+fn a_folder_in_it_has_no_bytes(rt: HostRuntime) -> Result<(), Fail> {
+    let path = folder_of_its_own(&rt)?;
+    let inner = format!(in rt.alloc(); "{path}/00000000000000000007.seg")?;
+    fs::create_dir(&rt, inner.as_str())?;
+    has_a_folder(&rt, &rt, HostFolder::new(rt, path.as_str())?)?;
+    has_a_folder(&rt, &rt, HostFolder::to_read(rt, path.as_str())?)?;
+    fs::remove_dir(&rt, inner.as_str())?;
+    fs::remove_dir(&rt, path.as_str())?;
+    Ok(())
+}
+
+/// The file 7 of a folder is a folder.
+fn has_a_folder(
+    files: &HostRuntime,
+    rt: &impl Abort,
+    folder: HostFolder<HostRuntime>,
+) -> Result<(), Fail> {
+    let refusals = Refusals::new(files.alloc())?;
+    let mut folder = folder.noting(refusals.share()?);
+    assert!(rt; folder.len(7) == Ok(0));
+    let refusal = refusals.take().ok_or("nothing noted")?;
+    assert!(rt; refusal.call == FolderCall::Length && refusal.file == Some(7));
+    assert!(rt; folder.read_at(7, 0, &mut []) == Ok(0));
     assert!(rt; refusals.take().is_none());
     Ok(())
 }

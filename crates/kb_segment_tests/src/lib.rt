@@ -6,6 +6,8 @@
 #[cfg(test)]
 mod begun;
 #[cfg(test)]
+mod cached;
+#[cfg(test)]
 mod dumped;
 #[cfg(test)]
 mod folders;

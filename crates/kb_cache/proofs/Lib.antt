@@ -1,0 +1,4 @@
+pub mod Filling
+pub mod Right
+pub mod Seen
+pub mod Sums

@@ -12,6 +12,7 @@ pub mod Parked
 pub mod Fields
 pub mod Truth
 pub mod Going
+pub mod Quiet
 pub mod Counted
 pub mod Served
 pub mod Happened

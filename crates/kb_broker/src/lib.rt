@@ -11,6 +11,7 @@
 mod able;
 mod broker;
 mod count;
+mod deadline;
 mod engine;
 mod opening;
 mod parking;

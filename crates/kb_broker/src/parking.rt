@@ -4,7 +4,7 @@ ghost use Rattle.std.specs.Prelude.{◌≡◌, ◌≢◌, ◌≤◌, ◌==◌, �
 ghost use Rattle.std.specs.Prelude.{vec_capacity};
 ghost use Rattle.std.specs.Bool.{OnTrue};
 ghost use Rattle.std.specs.FinMap as fin;
-ghost use Rattle.kb_waits.specs.Queue.{AreParked, IsDue, IsUnder, IsUnderAny};
+ghost use Rattle.kb_waits.specs.Queue.{AreParked, IsDue, IsFirstDeadline, IsUnder, IsUnderAny};
 ghost use Rattle.kb_broker.specs.Parked.{key_of, keys_for, keys_of, tenant_key, AreSought};
 
 use kb_tenant_state::TopicPartition;
@@ -48,6 +48,13 @@ impl Parking {
         ensures { result ≡ (fin.len self.now == 0) }
     {
         self.waits.parked() == 0
+    }
+
+    /// The first deadline of a connection that waits; `None` where nobody does. It goes over no other connection.
+    pub fn first_deadline(&self) -> Option<u64>
+        ensures { IsFirstDeadline self.now result }
+    {
+        self.waits.first_deadline()
     }
 
     /// Parks a connection that is not parked until a deadline, under its tenant and some partitions of it. After an `Err` nothing

@@ -1,5 +1,6 @@
 pub mod Answered
 pub mod Due
+pub mod First
 pub mod Indexed
 pub mod Keys
 pub mod Queues

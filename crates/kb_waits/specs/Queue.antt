@@ -1,5 +1,5 @@
 -- What the queue of waiting requests is: a finite map from connections to their waits.
-use Rattle.std.specs.Prelude.{ℕ, ⊤, ◌≤◌, ◌↔◌, List, Any, Contains, IsSomeAnd, refl}
+use Rattle.std.specs.Prelude.{◌≡◌, ℕ, ⊤, ◌≤◌, ◌↔◌, List, Option, Some, None, Any, Contains, IsSomeAnd, refl}
 use Rattle.std.specs.Coded.{Coded, code_by, coded×, coded_ℕ, coded_list}
 use Rattle.std.specs.FinMap.{FinMap, get, code}
 use Rattle.std.specs.List.Sorted.{IsStrictlyIncreasing}
@@ -36,6 +36,17 @@ IsUnderAny keys wait = Any (λ key. IsUnder key wait) keys
 pub record AreParked (queue : Queue) (IsSuch : Wait → Type 0) (connections : List ℕ) : Type 0 where
   pub exactly : (n : ℕ) → Contains connections n ↔ IsSomeAnd (get queue n) IsSuch
   pub ascending : IsStrictlyIncreasing connections
+
+-- Some connection is parked until this deadline, and none until an earlier one.
+pub record IsLeastDeadline (queue : Queue) (deadline : ℕ) : Type 0 where
+  pub connection : ℕ
+  pub parked : IsSomeAnd (get queue connection) (λ wait. wait.deadline ≡ deadline)
+  pub least : (n : ℕ) (wait : Wait) → get queue n ≡ Some wait → deadline ≤ wait.deadline
+
+-- The least deadline of a parked connection, and none exactly where none is parked.
+abbrev pub IsFirstDeadline : Queue → Option ℕ → Type 0
+IsFirstDeadline queue None = (n : ℕ) → get queue n ≡ None
+IsFirstDeadline queue (Some deadline) = IsLeastDeadline queue deadline
 
 -- a wait is stored as the pair of its fields
 abbrev pub wait_code : Coded Wait

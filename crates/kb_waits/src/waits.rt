@@ -2,7 +2,7 @@
 ghost use Rattle.std.specs.Prelude.{◌≡◌, ◌≢◌, ℕ, ◌≤◌, None, OnOk, OnErr, IsOk, vec_capacity};
 ghost use Rattle.std.specs.Bool.{OnFalse};
 ghost use Rattle.std.specs.FinMap as fin;
-ghost use Rattle.kb_waits.specs.Queue.{AreParked, IsAny, IsDue, IsUnder, IsUnderAny};
+ghost use Rattle.kb_waits.specs.Queue.{AreParked, IsAny, IsDue, IsFirstDeadline, IsUnder, IsUnderAny};
 
 use crate::entries::Entries;
 use crate::entry::Entry;
@@ -106,6 +106,17 @@ impl Waits {
         if let Some(entry) = self.entries.remove(connection) {
             self.deadlines.remove(&(entry.deadline, connection));
             self.waiters.remove_all(&entry.keys, connection);
+        }
+    }
+
+    /// The least deadline of a parked connection, in milliseconds; `None` exactly where none is
+    /// parked. It goes over no other connection.
+    pub fn first_deadline(&self) -> Option<u64>
+        ensures { IsFirstDeadline self.now result }
+    {
+        match self.deadlines.first() {
+            Some(pair) => Some(pair.0),
+            None => None,
         }
     }
 

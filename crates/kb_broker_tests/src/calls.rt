@@ -3,7 +3,7 @@
 use crate::running::{LAST_MOMENT, new_broker, opens};
 use crate::words::bytes_of;
 use Call::{
-    Asks, Calm, Closes, Opens, Passes, Room, Sends, Shut, Speak, Stays, Takes, Unknown, Zeros,
+    Asks, Calm, Closes, Due, Opens, Passes, Room, Sends, Shut, Speak, Stays, Takes, Unknown, Zeros,
 };
 use kb_broker::Broker;
 use kb_store::MemoryStore;
@@ -28,6 +28,8 @@ enum Call<'a> {
     Zeros(u64, usize),
     /// A moment passes.
     Passes(u64),
+    /// There is something to do at that moment, and nothing before it.
+    Due(u64),
     /// A connection closes, with no output left.
     Closes(u64),
     /// The broker shut a connection.
@@ -160,6 +162,47 @@ const SPEAKERS: [Call<'static>; 35] = [
     Calm,
 ];
 
+/// Nothing is to be done at any moment that may come.
+const NEVER: u64 = LAST_MOMENT + 1;
+
+/// When there is something to do: where a topic keeps records for a second only, at the end of a fetch's wait, and of a session.
+const DEADLINES: [Call<'static>; 30] = [
+    Due(NEVER),
+    Opens(1),
+    Asks(
+        1,
+        "handshake ann create-for-a-second",
+        "offered welcome created",
+    ),
+    Due(NEVER),
+    Asks(1, "append-hi", "appended-0"),
+    Due(1_006),
+    Passes(1_000),
+    Due(1_006),
+    Opens(2),
+    Asks(2, "handshake ann wait", "offered welcome"),
+    Due(1_006),
+    Passes(1_006),
+    Due(2_000),
+    Takes(2, ""),
+    Passes(1_500),
+    Asks(1, "join", "joined"),
+    Due(2_000),
+    Passes(2_000),
+    Takes(2, "nothing-came"),
+    Due(11_500),
+    Passes(10_000),
+    Asks(1, "sync beat", "shared-aa beaten"),
+    Due(11_500),
+    Passes(11_500),
+    Due(20_000),
+    Passes(19_999),
+    Due(20_000),
+    Passes(20_000),
+    Due(NEVER),
+    Calm,
+];
+
 /// A request before the login, sizes below 0, below a request's and above the greatest, and a header that is cut off.
 const SHUTTING: [&str; 5] = [
     "0000000e0003000100000001ffffffffffff",
@@ -198,6 +241,9 @@ fn make(
         Call::Speak(numbers) => assert!(rt; broker.speakers() == numbers),
         Call::Zeros(number, count) => broker.input(alloc, number, &vec![in alloc; 0; count]?),
         Call::Passes(now) => passes(rt, alloc, broker, now),
+        Call::Due(moment) => {
+            assert!(rt; broker.next_deadline().min(NEVER) == moment, "{moment}");
+        }
         Call::Closes(number) => closes(rt, alloc, broker, number),
         Call::Shut(number) => assert!(rt; broker.shut(number)),
         Call::Stays(number) => assert!(rt; broker.is_open(number) && !broker.shut(number)),
@@ -257,6 +303,7 @@ fn calls_are_answered(rt: HostRuntime) -> Result<(), Fail> {
     makes(&rt, rt.alloc(), &OVER_THE_ROOM)?;
     makes(&rt, rt.alloc(), &MEMBER_OVER_THE_ROOM)?;
     makes(&rt, rt.alloc(), &SPEAKERS)?;
+    makes(&rt, rt.alloc(), &DEADLINES)?;
     Ok(())
 }
 

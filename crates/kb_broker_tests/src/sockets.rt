@@ -24,6 +24,8 @@ const ONE_ACCEPTED: Turn = Turn {
     closed: 0,
     turned_away: 0,
     denied: 0,
+    strangers: 0,
+    unread: 0,
 };
 
 /// A turn that accepts one client, and closes it at once.
@@ -34,6 +36,8 @@ const ONE_CLOSED: Turn = Turn {
     closed: 1,
     turned_away: 0,
     denied: 0,
+    strangers: 0,
+    unread: 0,
 };
 
 /// The same, since as many are open as may be.
@@ -44,6 +48,32 @@ const ONE_TURNED_AWAY: Turn = Turn {
     closed: 1,
     turned_away: 1,
     denied: 0,
+    strangers: 0,
+    unread: 0,
+};
+
+/// A turn that accepts one client, and closes another that has not logged in.
+const ONE_MADE_ROOM: Turn = Turn {
+    accepted: 1,
+    read: 0,
+    written: 0,
+    closed: 1,
+    turned_away: 0,
+    denied: 0,
+    strangers: 1,
+    unread: 0,
+};
+
+/// A turn that closes one client that has not logged in.
+const ONE_STRANGER_CLOSED: Turn = Turn {
+    accepted: 0,
+    read: 0,
+    written: 0,
+    closed: 1,
+    turned_away: 0,
+    denied: 0,
+    strangers: 1,
+    unread: 0,
 };
 
 const VERSIONS_ARE_ANSWERED: [Move<'static>; 4] = [
@@ -162,7 +192,26 @@ const A_WAIT_ENDS_BY_ITS_DEADLINE: [Move<'static>; 12] = [
     Told(0, "nothing-came"),
 ];
 
-const SCENES: [Scene; 12] = [
+/// A client has ten seconds for its login, whatever it sends before. One that has logged in may be silent.
+const A_CLIENT_LOGS_IN_IN_TIME: [Move<'static>; 15] = [
+    Join,
+    Join,
+    Ask(0, "handshake", "offered"),
+    Ask(0, "ann", "welcome"),
+    Ask(1, "versions", "served"),
+    At(9999),
+    Ask(1, "handshake", "offered"),
+    Send(1, "0000", 2),
+    Idle,
+    At(10_000),
+    Turns(ONE_STRANGER_CLOSED),
+    Closed(1),
+    At(90_000),
+    Idle,
+    Ask(0, "create", "created"),
+];
+
+const SCENES: [Scene; 13] = [
     ("versions are answered", &VERSIONS_ARE_ANSWERED),
     ("users log in", &USERS_LOG_IN),
     (
@@ -190,6 +239,7 @@ const SCENES: [Scene; 12] = [
     ("a client may reset", &A_CLIENT_MAY_RESET),
     ("a wait ends by another", &A_WAIT_ENDS_BY_ANOTHER),
     ("a wait ends by its deadline", &A_WAIT_ENDS_BY_ITS_DEADLINE),
+    ("a client logs in in time", &A_CLIENT_LOGS_IN_IN_TIME),
 ];
 
 /// A scene is played on an edge for a broker.
@@ -388,6 +438,56 @@ fn no_more_is_asked_for_than_is_kept(rt: HostRuntime) -> Result<(), Fail> {
     Ok(all_wait_for_the_first(&rt, &rt, rt.alloc(), &mut edge)?)
 }
 
+/// Two clients log in.
+const TWO_LOG_IN: [Move<'static>; 6] = [
+    Join,
+    Join,
+    Ask(0, "handshake", "offered"),
+    Ask(0, "ann", "welcome"),
+    Ask(1, "handshake", "offered"),
+    Ask(1, "ann", "welcome"),
+];
+
+/// Two clients that are logged in, of which the first does not read, where the edge keeps next to no output. The first is closed once it
+/// has taken nothing for ten seconds, and the second is served. How many are closed by 9,999 ms, and how many at the moments behind.
+fn first_is_closed<E: Server>(
+    net: &HostRuntime,
+    rt: &impl Abort,
+    alloc: Global,
+    edge: &mut E,
+) -> io::Result<(u64, u64)> {
+    let name = "a client does not read, and is closed";
+    let mut clients = Vec::new(alloc);
+    play(net, rt, alloc, edge, &mut clients, name, &TWO_LOG_IN)?;
+    let requests = many_requests(rt, alloc)?;
+    send_unread(edge, client_at(rt, &mut clients, 0), alloc, &requests);
+    let request = bytes_of(rt, alloc, "versions")?;
+    let second = client_at(rt, &mut clients, 1);
+    assert!(rt; second.send_some(&request) == 14);
+    let mut early = 0u64;
+    for now in [0, 0, 0, 0, 0, 0, 0, 0, 9999] {
+        early = early.saturating_add(edge.turn(alloc, now).unread);
+    }
+    assert!(rt; second.pass_over()? == 0);
+    let mut late = 0u64;
+    for now in [20_000, 40_000, 60_000] {
+        late = late.saturating_add(edge.turn(alloc, now).unread);
+    }
+    assert!(rt; read_all(edge, second, alloc, 122)? == 122);
+    Ok((early, late))
+}
+
+#[test]
+fn a_client_that_reads_nothing_is_closed_where_all_wait(rt: HostRuntime) -> Result<(), Fail> {
+    let limits = Limits {
+        output_bytes: 1,
+        ..Limits::default()
+    };
+    let mut edge = edge_within(&rt, rt.alloc(), new_broker(rt.alloc())?, limits)?;
+    assert!(rt; first_is_closed(&rt, &rt, rt.alloc(), &mut edge)? == (0, 1));
+    Ok(())
+}
+
 /// Why an edge for a broker is not bound to an address, and the last connection of the broker that comes back. With none it is
 /// bound.
 fn refused(
@@ -425,7 +525,7 @@ fn first_turns(alloc: Global, broker: Broker<MemoryStore>) -> Result<[Turn; 3], 
 }
 
 #[test]
-fn one_too_many_is_closed(rt: HostRuntime) -> Result<(), Fail> {
+fn one_too_many_is_let_in_for_the_first(rt: HostRuntime) -> Result<(), Fail> {
     let [full, next, last] = first_turns(rt.alloc(), new_broker(rt.alloc())?)?;
     assert!(rt;
         full == Turn {
@@ -434,10 +534,45 @@ fn one_too_many_is_closed(rt: HostRuntime) -> Result<(), Fail> {
             written: 1024 * 122,
             closed: 0,
             turned_away: 0,
-            denied: 0
+            denied: 0,
+            strangers: 0,
+            unread: 0
         }
     );
-    assert!(rt; next == ONE_TURNED_AWAY);
+    assert!(rt; next == ONE_MADE_ROOM);
     assert!(rt; last.is_idle());
     Ok(())
+}
+
+/// Where one client may be there, it makes room for another until it has logged in.
+const ONE_AT_A_TIME: [Move<'static>; 9] = [
+    Join,
+    Turns(ONE_ACCEPTED),
+    Join,
+    Turns(ONE_MADE_ROOM),
+    Closed(0),
+    Ask(1, "handshake", "offered"),
+    Ask(1, "ann", "welcome"),
+    Join,
+    Turns(ONE_TURNED_AWAY),
+];
+
+#[test]
+fn a_client_that_logged_in_makes_no_room(rt: HostRuntime) -> Result<(), Fail> {
+    let limits = Limits {
+        sockets: 1,
+        ..Limits::default()
+    };
+    let (name, alloc) = ("one at a time", rt.alloc());
+    let mut edge = edge_within(&rt, alloc, new_broker(alloc)?, limits)?;
+    let mut clients = Vec::new(alloc);
+    Ok(play(
+        &rt,
+        &rt,
+        alloc,
+        &mut edge,
+        &mut clients,
+        name,
+        &ONE_AT_A_TIME,
+    )?)
 }

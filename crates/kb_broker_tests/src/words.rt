@@ -6,11 +6,12 @@ use std::process::Abort;
 
 /// Requests and replies, one a line, each with a space and its digits: SaslHandshake of `PLAIN`, the logins of `ann` of tenant
 /// `a` and of `bob` of tenant `b`, a mechanism that is not known, a second login, one with a wrong password, ApiVersions,
-/// CreateTopics of `t` twice, Metadata of all topics, Produce to `t` of a batch of one record with value `hi` or `yo`, Fetch of
-/// `t` from 0 on by version 4 and by 5, and one that waits for a second for what comes at 1. Behind them stand their replies.
-/// Then come a Fetch that waits for 100 bytes at 1, replies to what is out of range, and DeleteRecords of `t` to 1 and to 2, with
-/// theirs; OffsetCommit of 5 to `t`, and OffsetFetch, with theirs; and joins, heartbeats, syncs, a commit and a leave of the
-/// first and the second member of group `g`, with theirs. Generations are 1 and, once the second member is in, 2.
+/// CreateTopics of `t`, also with a `retention.ms` of 1000, twice, Metadata of all topics, Produce to `t` of a batch of one
+/// record with value `hi` or `yo`, Fetch of `t` from 0 on by version 4 and by 5, and one that waits for a second for what comes
+/// at 1. Behind them stand their replies. Then come a Fetch that waits for 100 bytes at 1, replies to what is out of range, and
+/// DeleteRecords of `t` to 1 and to 2, with theirs; OffsetCommit of 5 to `t`, and OffsetFetch, with theirs; and joins,
+/// heartbeats, syncs, a commit and a leave of the first and the second member of group `g`, with theirs. Generations are 1 and,
+/// once the second member is in, 2.
 const MESSAGES: &str = "\
     handshake 000000110011000100000002ffff0005504c41494e\n\
     offered 00000011000000020000000000010005504c41494e\n\
@@ -28,6 +29,8 @@ const MESSAGES: &str = "\
     000000b00010001000c00000000000d00000000000e0000000000110001000100120000000000130000000000140000000000150000000000160\
     0000000002400000000\n\
     create 00000023001300000000000affff00000001000174000000010001000000000000000000001388\n\
+    create-for-a-second 00000037001300000000000affff000000010001740000000100010000000000000001000c726574656e74696f6e2e6d730004313030300000\
+    1388\n\
     created 0000000d0000000a000000010001740000\n\
     create-again 00000023001300000000000bffff00000001000174000000010001000000000000000000001388\n\
     exists 0000000d0000000b000000010001740024\n\

@@ -1,7 +1,9 @@
 //! A broker on a network. A turn waits for no peer.
 
-ghost use Rattle.std.specs.Prelude.{◌≡◌, ◌≤◌, ◌<◌, ◌^◌, IfErr, vec_len};
+ghost use Rattle.std.specs.Prelude.{◌≡◌, ◌≤◌, ◌<◌, ◌-◌, ◌^◌, min, true, false, IfErr, IfSome, vec_len};
+ghost use Rattle.std.specs.Bool.{OnTrue};
 
+use crate::deadlines::{Strangers, TRY_MILLIS, Unread, has_moved, patience};
 use crate::doors::{BindCause, DOOR, DoorFault, Doors};
 use crate::limits::Limits;
 use crate::login::Denied;
@@ -13,7 +15,7 @@ use kb_log::{ListLog, PartitionLog};
 use kb_store::Store;
 use mio::event::Event;
 use std::alloc::{AllocError, Global};
-use std::io::ErrorKind;
+use std::io::{ErrorKind, Read, Write};
 use std::net::{Net, OpenStream, SocketAddr};
 use std::os::fd::AsRawFd;
 use std::time::Duration;
@@ -28,10 +30,13 @@ const DENIED: usize = 16;
 /// How often a turn serves a socket at most: the sockets that can go on are served in turn, a request each.
 const ROUNDS: usize = 16;
 
-/// How long is waited where a waiting request may be due, and where nothing is, in milliseconds.
+/// How long is waited at most, in milliseconds: until an accept is tried again that was refused, or sockets that can go on while too much
+/// output is kept; until what a moment was refused is tried again; and where nothing is due, as clocks may jump.
 const SHORT_WAIT: u64 = 5;
 
-const LONG_WAIT: u64 = 100;
+const REFUSED_WAIT: u64 = 100;
+
+const LONG_WAIT: u64 = 1_000;
 
 /// The most bytes that are read from a socket at once.
 const PIECE: usize = 65_536;
@@ -74,6 +79,12 @@ pub struct Edge<R: Net, S: Store, L: PartitionLog = ListLog> {
     /// By rising number of their connections.
     sockets: Vec<Socket<R::Stream>>,
     buffer: Vec<u8>,
+    /// The connections of those that have not logged in.
+    strangers: Strangers,
+    /// Those of sockets with unwritten output.
+    unread: Unread,
+    /// Those of them that were not tried again since they last took something.
+    untried: Unread,
     /// Which sockets are ready. With none all are looked at in each turn.
     watch: Option<Watch>,
     /// Whether an accept may find a socket.
@@ -86,6 +97,10 @@ pub struct Edge<R: Net, S: Store, L: PartitionLog = ListLog> {
     output: usize,
     /// The logins of this turn that failed, the first ones.
     denied: Vec<Denied>,
+    /// The clock of the last turn, in milliseconds.
+    clock: u64,
+    /// Whether its moment left something due, as it does with what was refused.
+    is_left_due: bool,
     ghost within: { vec_len sockets ≤ limit },
 }
 
@@ -153,12 +168,17 @@ impl<R: Net, S: Store, L: PartitionLog + Drop> Edge<R, S, L> {
             broker,
             sockets: Vec::new(alloc),
             buffer,
+            strangers: Strangers::new(alloc),
+            unread: Unread::new(alloc),
+            untried: Unread::new(alloc),
             watch,
             can_accept: true,
             ready,
             spare,
             output: 0,
             denied,
+            clock: 0,
+            is_left_due: false,
         })
     }
 
@@ -184,8 +204,9 @@ impl<R: Net, S: Store, L: PartitionLog + Drop> Edge<R, S, L> {
         &self.denied
     }
 
-    /// Waits until a socket becomes ready or a new one is there: 5 ms at most while a request waits, which may be due then, and
-    /// else 100 ms; and no time where a socket can go on as it is. An edge that was bound without a watch does not wait.
+    /// Waits until a socket becomes ready, a new one is there, or the broker may have something to do by the clock of the last turn, and
+    /// a second at most; and no time where a socket can go on as it is. What was refused is tried again within 100 ms: within 5 ms where
+    /// it is an accept. An edge that was bound without a watch does not wait.
     pub fn wait(&mut self) {
         let longest = self.longest_wait();
         let Some(mut watch) = self.watch.take() else {
@@ -202,12 +223,21 @@ impl<R: Net, S: Store, L: PartitionLog + Drop> Edge<R, S, L> {
     fn longest_wait(&self) -> Duration {
         let millis = if !self.ready.is_empty() && self.may_ask() {
             0
-        } else if self.ready.is_empty() && !self.broker.any_waits() && !self.can_accept {
-            LONG_WAIT
+        } else if self.ready.is_empty() && !self.can_accept {
+            quiet_time(self.next_deadline(), self.clock, self.is_left_due)
         } else {
             SHORT_WAIT
         };
         Duration::from_millis(millis)
+    }
+
+    /// The next moment at which there may be something to do: for the broker, or where a socket is closed that kept silent.
+    fn next_deadline(&self) -> u64 {
+        self.broker
+            .next_deadline()
+            .min(self.strangers.first_deadline())
+            .min(self.unread.first_end(patience(self.may_ask())))
+            .min(self.untried.first_end(TRY_MILLIS))
     }
 
     /// Whether so little output is kept that more may be asked for.
@@ -236,11 +266,14 @@ impl<R: Net, S: Store, L: PartitionLog + Drop> Edge<R, S, L> {
     {
         let mut turn = Turn::default();
         self.denied.clear();
+        self.clock = now;
         self.broker.moment(alloc, now);
+        self.is_left_due = self.broker.next_deadline() <= now;
         self.hear_speakers();
         if self.watch.is_none() {
             self.hear_all();
         }
+        self.close_silent(alloc, &mut turn);
         self.accept(alloc, &mut turn);
         for _ in 0..ROUNDS {
             if self.ready.is_empty() {
@@ -250,9 +283,156 @@ impl<R: Net, S: Store, L: PartitionLog + Drop> Edge<R, S, L> {
             self.hear_speakers();
         }
         if turn.closed > 0 {
-            self.sockets.retain(|socket| !socket.is_ended());
+            self.drop_ended();
         }
         turn
+    }
+
+    /// Closes the sockets that have not logged in in time, and those that do not read.
+    fn close_silent(&mut self, alloc: Global, turn: &mut Turn) {
+        for _ in 0..self.limit {
+            let Some(number) = self.strangers.due(self.clock) else {
+                break;
+            };
+            self.close(alloc, number, turn);
+            turn.count_stranger();
+        }
+        self.try_again(alloc, turn);
+        self.close_unread(alloc, turn);
+        if turn.closed > 0 {
+            self.drop_ended();
+        }
+    }
+
+    /// Tries the sockets once more that took something of their replies some time ago.
+    fn try_again(&mut self, alloc: Global, turn: &mut Turn) {
+        for _ in 0..self.limit {
+            let Some(number) = self.untried.take_silent(self.clock, TRY_MILLIS) else {
+                break;
+            };
+            self.write_again(alloc, number, turn);
+        }
+    }
+
+    /// Closes the sockets that take nothing of their replies. The system tells late of a little room, so each is tried once more before.
+    fn close_unread(&mut self, alloc: Global, turn: &mut Turn) {
+        for _ in 0..self.limit {
+            let may_ask = self.may_ask();
+            let Some(number) = self.unread.silent(self.clock, patience(may_ask)) else {
+                break;
+            };
+            if !self.write_again(alloc, number, turn) {
+                if !may_ask {
+                    self.put_behind(alloc, number);
+                }
+                self.close(alloc, number, turn);
+                turn.count_unread();
+            }
+        }
+    }
+
+    /// Writes what a socket takes now of its reply. It answers whether it took some: then its silence begins anew, or, where that cannot be
+    /// noted, it is closed.
+    fn write_again(&mut self, alloc: Global, number: u64, turn: &mut Turn) -> bool {
+        let Some(place) = self.place_of(number) else {
+            return false;
+        };
+        let Some(socket) = self.sockets.get_mut(place) else {
+            return false;
+        };
+        let before = socket.unwritten();
+        socket.write_on(turn);
+        let after = socket.unwritten();
+        self.output = self.output.saturating_sub(before).saturating_add(after);
+        if after == before {
+            return false;
+        }
+        let noted = note_reply(
+            &mut self.unread,
+            &mut self.untried,
+            socket,
+            before,
+            true,
+            self.clock,
+        );
+        if noted.is_err() {
+            self.close(alloc, number, turn);
+        } else {
+            self.queue(place);
+        }
+        true
+    }
+
+    /// Where a socket is closed that made all wait, the others of its user that wait for their turn go behind all: else each of them
+    /// could make all wait once more.
+    fn put_behind(&mut self, alloc: Global, number: u64) {
+        let Some(name) = self.name_of(alloc, number) else {
+            return;
+        };
+        let spare = mem::replace(&mut self.spare, Vec::new(alloc));
+        let mut round = mem::replace(&mut self.ready, spare);
+        self.queue_those(&round, &name, false);
+        self.queue_those(&round, &name, true);
+        round.clear();
+        self.spare = round;
+    }
+
+    /// The name of the user of a connection, which is forgotten.
+    fn name_of(&mut self, alloc: Global, number: u64) -> Option<String> {
+        let place = self.place_of(number)?;
+        let socket = self.sockets.get_mut(place)?;
+        Some(socket.take_login(alloc))
+    }
+
+    /// Those of the connections whose user has the name are next, or those whose user has not.
+    fn queue_those(&mut self, numbers: &[u64], name: &str, has_name: bool) {
+        for number in numbers {
+            if let Some(place) = self.place_of(*number)
+                && let Some(socket) = self.sockets.get(place)
+                && socket.is_of(name) == has_name
+            {
+                // there is room for each socket once
+                let _ = self.ready.push(*number);
+            }
+        }
+    }
+
+    /// Closes the socket of a connection.
+    fn close(&mut self, alloc: Global, number: u64, turn: &mut Turn) {
+        self.strangers.forget(number);
+        if let Some(place) = self.place_of(number)
+            && let Some(socket) = self.sockets.get_mut(place)
+            && !socket.is_ended()
+        {
+            self.output = self.output.saturating_sub(socket.unwritten());
+            self.unread.end(number, socket.moved);
+            self.untried.end(number, socket.moved);
+            socket.close(alloc, &mut self.broker, turn);
+        }
+    }
+
+    /// The sockets whose connections are closed are kept no longer.
+    fn drop_ended(&mut self) {
+        self.sockets.retain(|socket| !socket.is_ended());
+    }
+
+    /// Makes room for one more socket where as many are open as may be: the oldest one is closed that has not logged in. Where there is
+    /// none, there is no room.
+    fn make_room(&mut self, alloc: Global, turn: &mut Turn) -> bool
+        ensures { OnTrue result (vec_len self.new.sockets < self.new.limit) }
+    {
+        if self.sockets.len() < self.limit {
+            return true;
+        }
+        let Some(number) = self.strangers.oldest() else {
+            return false;
+        };
+        self.close(alloc, number, turn);
+        turn.count_stranger();
+        if let Some(place) = self.place_of(number) {
+            self.sockets.remove(place);
+        }
+        self.sockets.len() < self.limit
     }
 
     /// Every socket may be ready.
@@ -275,7 +455,7 @@ impl<R: Net, S: Store, L: PartitionLog + Drop> Edge<R, S, L> {
             match self.doors.accept() {
                 Ok((stream, peer)) => {
                     turn.count_accepted();
-                    if self.sockets.len() >= self.limit {
+                    if !self.make_room(alloc, turn) {
                         turn.count_turned_away();
                         turn.count_closed();
                     } else if self.take_in(alloc, stream, peer).is_err() {
@@ -304,7 +484,11 @@ impl<R: Net, S: Store, L: PartitionLog + Drop> Edge<R, S, L> {
             watch.add(stream.as_raw_fd(), connection)?;
         }
         self.sockets.reserve(1)?;
-        self.broker.connect(alloc, connection)?;
+        self.strangers.admit(connection, self.clock)?;
+        if let Err(refused) = self.broker.connect(alloc, connection) {
+            self.strangers.forget(connection);
+            return Err(io::Error::from(refused));
+        }
         let place = self.sockets.len();
         self.sockets
             .push(Socket::new(alloc, connection, peer, stream))?;
@@ -313,7 +497,9 @@ impl<R: Net, S: Store, L: PartitionLog + Drop> Edge<R, S, L> {
     }
 
     /// The place of a connection's socket.
-    fn place_of(&self, number: u64) -> Option<usize> {
+    fn place_of(&self, number: u64) -> Option<usize>
+        ensures { IfSome result (λ place. place < vec_len self.now.sockets) }
+    {
         self.sockets
             .binary_search_by_key(&number, |socket| socket.connection())
             .ok()
@@ -354,8 +540,9 @@ impl<R: Net, S: Store, L: PartitionLog + Drop> Edge<R, S, L> {
             return;
         }
         socket.is_queued = false;
+        let was_stranger = socket.is_stranger();
         let before = socket.unwritten();
-        let denied = turn.denied;
+        let (denied, written) = (turn.denied, turn.written);
         let next = socket.serve(alloc, &mut self.broker, &mut self.buffer, may_ask, turn);
         let after = socket.unwritten();
         if turn.denied > denied && self.denied.len() < DENIED {
@@ -365,8 +552,23 @@ impl<R: Net, S: Store, L: PartitionLog + Drop> Edge<R, S, L> {
                 name: socket.take_login(alloc),
             });
         }
+        let is_stranger = socket.is_stranger();
         self.output = self.output.saturating_sub(before).saturating_add(after);
-        if next == Next::Turn {
+        let has_taken = turn.written > written;
+        let noted = note_reply(
+            &mut self.unread,
+            &mut self.untried,
+            socket,
+            before,
+            has_taken,
+            self.clock,
+        );
+        if was_stranger && !is_stranger {
+            self.strangers.forget(number);
+        }
+        if noted.is_err() {
+            self.close(alloc, number, turn);
+        } else if next == Next::Turn {
             self.queue(place);
         }
     }
@@ -383,6 +585,50 @@ impl<R: Net, S: Store, L: PartitionLog + Drop> Edge<R, S, L> {
                 self.queue(place);
             }
         }
+    }
+}
+
+/// Notes since when a socket took nothing of its reply, which had so much to take before and may have taken some since. An `Err` is want of
+/// memory: it cannot be known when it has been silent for too long, and it is closed.
+fn note_reply<T: Read + Write + Drop>(
+    unread: &mut Unread,
+    untried: &mut Unread,
+    socket: &mut Socket<T>,
+    before: usize,
+    has_taken: bool,
+    now: u64,
+) -> Result<(), AllocError> {
+    let after = socket.unwritten();
+    if !has_moved(before, after, has_taken) {
+        return Ok(());
+    }
+    let connection = socket.connection();
+    if before > 0 {
+        unread.end(connection, socket.moved);
+        untried.end(connection, socket.moved);
+    }
+    socket.moved = now;
+    if after > 0 {
+        unread.begin(connection, now)?;
+        untried.begin(connection, now)?;
+    }
+    Ok(())
+}
+
+/// How long may be waited by that clock where nothing is to be done before a moment, in milliseconds: a second at most. Where the moment
+/// has come, it is 100 where what was due at the clock was left due, and else 1.
+fn quiet_time(next_deadline: u64, clock: u64, is_left_due: bool) -> u64
+    ensures ahead { clock < next_deadline → result ≡ min (next_deadline - clock) 1000 }
+    ensures left_due { next_deadline ≤ clock → is_left_due ≡ true → result ≡ 100 }
+    ensures soon { next_deadline ≤ clock → is_left_due ≡ false → result ≡ 1 }
+{
+    let left = next_deadline.saturating_sub(clock);
+    if left > 0 {
+        left.min(LONG_WAIT)
+    } else if is_left_due {
+        REFUSED_WAIT
+    } else {
+        1
     }
 }
 
@@ -409,8 +655,9 @@ type Buffers = (Vec<u8>, Vec<u64>, Vec<u64>, Vec<Denied>);
 /// What is read into, two empty lists with room for all connections, and one for failed logins.
 fn buffers(alloc: Global, limit: usize) -> Result<Buffers, AllocError> {
     let buffer = vec![in alloc; 0u8; PIECE]?;
-    let ready = Vec::with_capacity(alloc, limit)?;
-    let spare = Vec::with_capacity(alloc, limit)?;
+    // a turn may have closed sockets whose turn was to come, and accepted others
+    let ready = Vec::with_capacity(alloc, limit.saturating_add(ACCEPTS))?;
+    let spare = Vec::with_capacity(alloc, limit.saturating_add(ACCEPTS))?;
     let denied = Vec::with_capacity(alloc, DENIED)?;
     Ok((buffer, ready, spare, denied))
 }

@@ -6,6 +6,7 @@
 //! on a network and is turned by hand.
 #![tactic(auto)]
 
+mod deadlines;
 mod doors;
 mod edge;
 mod fault;

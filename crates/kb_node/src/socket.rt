@@ -1,9 +1,9 @@
 //! A socket and the connection that it carries.
 
-ghost use Rattle.std.specs.Prelude.{◌≡◌, ◌≢◌, ◌≤◌, ◌<◌, ◌+◌, ◌-◌, true, false, length, vec_len, IfOk};
-ghost use Rattle.kb_isolation_spec.specs.Calls.{is_open, room_of};
+ghost use Rattle.std.specs.Prelude.{◌≡◌, ◌≢◌, ◌≤◌, ◌<◌, ◌+◌, ◌-◌, ◌||◌, ◌&&◌, not, true, false, length, vec_len, IfOk};
+ghost use Rattle.kb_isolation_spec.specs.Calls.{is_open, output_of, room_of};
 ghost use Rattle.kb_broker.specs.Places.{numbers};
-ghost use Rattle.kb_node.specs.Sockets.{can_ask, is_done};
+ghost use Rattle.kb_node.specs.Sockets.{can_ask, is_done, is_welcome};
 ghost use Rattle.kb_node.specs.declared.socket.Next.TheVariants.{End};
 
 use crate::input::Input;
@@ -51,8 +51,12 @@ pub struct Socket<T> {
     is_over: bool,
     /// Whether its connection is closed.
     is_ended: bool,
+    /// Whether its connection was told that it has logged in.
+    is_known: bool,
     /// Whether its turn is to come.
     pub(crate) is_queued: bool,
+    /// The moment at which it last took some of its output, or got it.
+    pub(crate) moved: u64,
     ghost within: { written ≤ vec_len output },
 }
 
@@ -61,6 +65,7 @@ impl<T: Read + Write + Drop> Socket<T> {
     pub fn new(alloc: Global, connection: u64, peer: SocketAddr, stream: T) -> Self
         ensures connection { result.connection ≡ connection }
         ensures open { result.is_ended ≡ false }
+        ensures stranger { result.is_known ≡ false }
     {
         Socket {
             connection,
@@ -74,7 +79,9 @@ impl<T: Read + Write + Drop> Socket<T> {
             is_half_closed: false,
             is_over: false,
             is_ended: false,
+            is_known: false,
             is_queued: false,
+            moved: 0,
         }
     }
 
@@ -98,11 +105,23 @@ impl<T: Read + Write + Drop> Socket<T> {
         mem::replace(&mut self.login, String::new(alloc))
     }
 
+    /// Whether that is the name in the login that was handed on last.
+    pub fn is_of(&self, name: &str) -> bool {
+        self.login.as_str() == name
+    }
+
     /// Whether its connection is closed.
     pub fn is_ended(&self) -> bool
         ensures { result ≡ self.now.is_ended }
     {
         self.is_ended
+    }
+
+    /// Whether its connection is open and was not told yet that it has logged in.
+    pub fn is_stranger(&self) -> bool
+        ensures { result ≡ (not self.now.is_known && not self.now.is_ended) }
+    {
+        !self.is_known && !self.is_ended
     }
 
     /// How many bytes are still to be written.
@@ -190,6 +209,21 @@ impl<T: Read + Write + Drop> Socket<T> {
             || self.is_half_closed && broker.waits(self.connection)
     }
 
+    /// Closes its connection as if the peer were gone.
+    pub fn close<S: Store, L: PartitionLog + Drop>(
+        &mut self,
+        alloc: Global,
+        broker: &mut Broker<S, L>,
+        turn: &mut Turn,
+    )
+        ensures connection { self.new.connection ≡ self.old.connection }
+        ensures ended { self.new.is_ended ≡ true }
+        ensures closed { is_open self.old.connection broker.new.state ≡ false }
+    {
+        self.is_over = true;
+        self.end(alloc, broker, turn);
+    }
+
     /// Closes its connection, and forgets what is not written.
     #[tactic(auto, using(crate::proofs::Closing::is_closed))]
     fn end<S: Store, L: PartitionLog + Drop>(
@@ -257,14 +291,16 @@ impl<T: Read + Write + Drop> Socket<T> {
         ensures connection { self.new.connection ≡ self.old.connection }
         ensures ended { self.new.is_ended ≡ self.old.is_ended }
         ensures unwritten { self.new.written ≡ 0 }
+        ensures known { self.new.is_known ≡ (self.old.is_known || is_welcome (output_of self.old.connection broker.old.state)) }
         ensures numbers { numbers broker.new.state ≡ numbers broker.old.state }
     {
         self.written = 0;
         self.output = broker.take_output(alloc, self.connection);
+        self.is_known = self.is_known || is_welcome(&self.output);
     }
 
     /// Writes what the socket takes now of what was said.
-    fn write_on(&mut self, turn: &mut Turn)
+    pub fn write_on(&mut self, turn: &mut Turn)
         ensures connection { self.new.connection ≡ self.old.connection }
         ensures ended { self.new.is_ended ≡ self.old.is_ended }
         ensures read { turn.new.read ≡ turn.old.read }
@@ -302,7 +338,7 @@ impl<T: Read + Write + Drop> Socket<T> {
         let is_bare = broker.takes_login(self.connection);
         if !self.input.is_short() {
             let piece = self.input.next(room);
-            note_login(alloc, &mut self.login, piece, is_bare);
+            note_login(alloc, &mut self.login, piece, is_bare, self.is_known);
             broker.input(alloc, self.connection, piece);
             self.input.tidy(alloc);
             return;
@@ -313,7 +349,13 @@ impl<T: Read + Write + Drop> Socket<T> {
         let mut rest = &piece[..read];
         if self.input.is_empty() {
             let count = self.input.pass(rest, room);
-            note_login(alloc, &mut self.login, &rest[..count], is_bare);
+            note_login(
+                alloc,
+                &mut self.login,
+                &rest[..count],
+                is_bare,
+                self.is_known,
+            );
             broker.input(alloc, self.connection, &rest[..count]);
             rest = &rest[count..];
         }
@@ -345,11 +387,29 @@ impl<T: Read + Write + Drop> Socket<T> {
     }
 }
 
-/// Keeps the name in a login that is handed on, where there is memory for it.
-fn note_login(alloc: Global, login: &mut String, piece: &[u8], is_bare: bool) {
-    if let Some(name) = name_in(piece, is_bare) {
-        *login = text_of(alloc, name).unwrap_or(String::new(alloc));
+/// Whether what a connection is told before it has logged in is that it has now: to a request of SaslAuthenticate no error and no text of
+/// one, or to PLAIN's message by itself a frame of no bytes. No other reply before a login looks so.
+fn is_welcome(output: &[u8]) -> bool
+    ensures { result ≡ is_welcome output.now }
+{
+    match output {
+        [0, 0, 0, 0] => true,
+        [_, _, _, _, _, _, _, _, 0, 0, 255, 255, ..] => true,
+        _ => false,
     }
+}
+
+/// Keeps the name in a login that is handed on, where there is memory for it, until one was right. What is handed on before and has no name
+/// in it is no login, or has its name in pieces: then none is kept.
+fn note_login(alloc: Global, login: &mut String, piece: &[u8], is_bare: bool, is_known: bool) {
+    if is_known {
+        return;
+    }
+    let none = String::new(alloc);
+    *login = match name_in(piece, is_bare) {
+        Some(name) => text_of(alloc, name).unwrap_or(none),
+        None => none,
+    };
 }
 
 /// One read that is not interrupted.

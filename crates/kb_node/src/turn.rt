@@ -17,12 +17,25 @@ pub struct Turn {
     pub turned_away: u64,
     /// The logins that failed.
     pub denied: u64,
+    /// Those of the closed ones that had not logged in: not in time, or not before others came and as many were open as may be.
+    pub strangers: u64,
+    /// Those of the closed ones that took nothing of their replies.
+    pub unread: u64,
 }
 
 impl Turn {
     /// Whether nothing happened.
     pub fn is_idle(&self) -> bool
-        ensures { IsTrue result ↔ (self.now ≡ record { accepted = 0; read = 0; written = 0; closed = 0; turned_away = 0; denied = 0 }) }
+        ensures { IsTrue result ↔ (self.now ≡ record {
+          accepted = 0;
+          read = 0;
+          written = 0;
+          closed = 0;
+          turned_away = 0;
+          denied = 0;
+          strangers = 0;
+          unread = 0;
+        }) }
     {
         *self == Turn::default()
     }
@@ -63,5 +76,19 @@ impl Turn {
         ensures { self.new.read ≡ self.old.read }
     {
         self.denied = self.denied.saturating_add(1);
+    }
+
+    /// One more socket was closed that had not logged in.
+    pub(crate) fn count_stranger(&mut self)
+        ensures { self.new ≡ record self.old { strangers = min (self.old.strangers + 1) (2 ^ 64 - 1) } }
+    {
+        self.strangers = self.strangers.saturating_add(1);
+    }
+
+    /// One more socket was closed that took nothing of its reply.
+    pub(crate) fn count_unread(&mut self)
+        ensures { self.new ≡ record self.old { unread = min (self.old.unread + 1) (2 ^ 64 - 1) } }
+    {
+        self.unread = self.unread.saturating_add(1);
     }
 }

@@ -1,0 +1,68 @@
+-- Until when a socket may keep silent, and which one is closed.
+use Rattle.std.specs.Prelude.{ℕ, ◌+◌, ◌-◌, ◌^◌, ◌==◌, ◌||◌, min, List, [], ◌∷◌, Bool, nat_le, if◌then◌else◌, Option, Some, None}
+use Rattle.std.specs.declared.cmp.Ordering.{Ordering}
+use Rattle.std.specs.Ordering.{nat_cmp, ordering_then}
+
+-- 1. Logins
+
+-- the sockets that have not logged in, by rising number of their connections, each with the moment until which it may
+abbrev pub Strangers : Type 0
+Strangers = List (ℕ × ℕ)
+
+-- the moment that is so many milliseconds later: no clock gets past the greatest number
+abbrev pub later : ℕ → ℕ → ℕ
+later now millis = min (now + millis) (2 ^ 64 - 1)
+
+-- the first of them
+abbrev pub first : Strangers → Option (ℕ × ℕ)
+first [] = None
+first (stranger ∷ others) = Some stranger
+
+-- the connection that has been a stranger for longest: the one of the least number
+abbrev pub oldest : Strangers → Option ℕ
+oldest [] = None
+oldest (stranger ∷ others) = Some stranger.0
+
+-- the first moment until which one may log in, and the greatest number where there is no stranger
+abbrev pub first_deadline : Strangers → ℕ
+first_deadline [] = 2 ^ 64 - 1
+first_deadline (stranger ∷ others) = stranger.1
+
+-- the oldest one, where its moment has come
+abbrev pub due : ℕ → Strangers → Option ℕ
+due now [] = None
+due now (stranger ∷ others) = if nat_le stranger.1 now then Some stranger.0 else None
+
+-- 2. Replies
+
+-- The sockets with a reply that is not all written, each as the moment since which it took no byte of it and the number of its connection:
+-- by rising moment.
+abbrev pub Unread : Type 0
+Unread = List (ℕ × ℕ)
+
+-- first by the moment, then by the connection
+abbrev pub by_moment : ℕ × ℕ → ℕ × ℕ → Ordering
+by_moment a b = ordering_then (nat_cmp a.0 b.0) (nat_cmp a.1 b.1)
+
+-- how long a socket may take no byte of its reply, in milliseconds: less while so much is unread that nobody is asked
+abbrev pub patience : Bool → ℕ
+patience may_ask = if may_ask then 60000 else 10000
+
+-- the first moment at which one has taken nothing for so long, and the greatest number where none has anything to take
+abbrev pub first_end : ℕ → Unread → ℕ
+first_end millis [] = 2 ^ 64 - 1
+first_end millis (reply ∷ others) = later reply.0 millis
+
+-- the connection that has taken nothing for longest, where that is so long
+abbrev pub silent : ℕ → ℕ → Unread → Option ℕ
+silent now millis [] = None
+silent now millis (reply ∷ others) = if nat_le (later reply.0 millis) now then Some reply.1 else None
+
+-- the others, where that one is taken out
+abbrev pub without_silent : ℕ → ℕ → Unread → Unread
+without_silent now millis [] = []
+without_silent now millis (reply ∷ others) = if nat_le (later reply.0 millis) now then others else (reply ∷ others)
+
+-- Silence ends, or begins anew: there was nothing to take before, or there is nothing after, or some of it was taken.
+abbrev pub has_moved : ℕ → ℕ → Bool → Bool
+has_moved before after has_taken = (before == 0) || (after == 0) || has_taken

@@ -1,0 +1,191 @@
+//! Until when a socket may keep silent. Nobody who says nothing holds others up.
+
+ghost use Rattle.std.specs.Prelude.{◌≡◌, [], OnOk, OnErr};
+ghost use Rattle.std.specs.BTreeMap.{insert_entry, is_at};
+ghost use Rattle.std.specs.Map.{remove_entry};
+ghost use Rattle.std.specs.BTreeSet.{insert_key};
+ghost use Rattle.std.specs.Set.{remove_key};
+ghost use Rattle.std.specs.Ordering.{nat_cmp};
+ghost use Rattle.kb_node.specs.Deadlines.{later, first, oldest, first_deadline, due};
+ghost use Rattle.kb_node.specs.Deadlines.{by_moment, patience, first_end, silent, without_silent, has_moved};
+
+use std::alloc::{AllocError, Global};
+use std::collections::{BTreeMap, BTreeSet};
+
+/// How long a socket may take to log in, in milliseconds. A login is two requests, so ten seconds do over a slow line; PostgreSQL gives 60 s
+/// (`authentication_timeout`), and sshd 120 s (`LoginGraceTime`).
+pub const LOGIN_MILLIS: u64 = 10_000;
+
+/// How long a socket may take no byte of its reply, in milliseconds. A slow line takes some each second; NATS gives 10 s (`write_deadline`).
+const REPLY_MILLIS: u64 = 60_000;
+
+/// The same while so much is unread that nobody is served: so long does one stand in the way of the others.
+const STALL_MILLIS: u64 = 10_000;
+
+/// When a socket is tried again that took something of its reply, in milliseconds. The system tells late of a little room, and there is some
+/// right behind each write that was cut short: without this it would look as if the peer had read by the next try.
+pub const TRY_MILLIS: u64 = 500;
+
+/// The moment that is so many milliseconds after now.
+pub fn later(now: u64, millis: u64) -> u64
+    ensures { result ≡ later now millis }
+{
+    now.saturating_add(millis)
+}
+
+/// The connections whose sockets have not logged in, by rising number, and until when each may. Numbers rise with time, so the first is
+/// the oldest, and its moment comes first.
+#[derive(Drop)]
+pub struct Strangers {
+    deadlines: BTreeMap<u64, u64>,
+}
+
+impl Strangers {
+    /// None.
+    pub fn new(alloc: Global) -> Self
+        ensures { result.deadlines.entries ≡ [] }
+    {
+        Strangers {
+            deadlines: BTreeMap::new(alloc),
+        }
+    }
+
+    /// One more, which came now.
+    pub fn admit(&mut self, connection: u64, now: u64) -> Result<(), AllocError>
+        ensures admitted { OnOk result (self.new.deadlines.entries
+            ≡ insert_entry nat_cmp self.old.deadlines.entries connection (later now 10000)) }
+        ensures refused { OnErr result (self.new.deadlines.entries ≡ self.old.deadlines.entries) }
+    {
+        match self.deadlines.insert(connection, later(now, LOGIN_MILLIS)) {
+            Ok(_) => Ok(()),
+            Err(_) => Err(AllocError),
+        }
+    }
+
+    /// It has logged in, or is closed. Takes no memory.
+    pub fn forget(&mut self, connection: u64)
+        ensures { self.new.deadlines.entries ≡ remove_entry (is_at (nat_cmp connection)) self.old.deadlines.entries }
+    {
+        self.deadlines.remove(&connection);
+    }
+
+    /// The one that came first, and its moment.
+    fn first(&self) -> Option<(u64, u64)>
+        ensures { result ≡ first self.now.deadlines.entries }
+    {
+        match self.deadlines.first_key_value() {
+            Some((connection, deadline)) => Some((*connection, *deadline)),
+            None => None,
+        }
+    }
+
+    /// The one that came first.
+    pub fn oldest(&self) -> Option<u64>
+        ensures { result ≡ oldest self.now.deadlines.entries }
+    {
+        match self.first() {
+            Some((connection, _)) => Some(connection),
+            None => None,
+        }
+    }
+
+    /// The first moment at which one is to be closed: the greatest number where there is none.
+    pub fn first_deadline(&self) -> u64
+        ensures { result ≡ first_deadline self.now.deadlines.entries }
+    {
+        match self.first() {
+            Some((_, deadline)) => deadline,
+            None => u64::MAX,
+        }
+    }
+
+    /// The one that came first, where its moment has come.
+    pub fn due(&self, now: u64) -> Option<u64>
+        ensures { result ≡ due now self.now.deadlines.entries }
+    {
+        match self.first() {
+            Some((connection, deadline)) if deadline <= now => Some(connection),
+            _ => None,
+        }
+    }
+}
+
+/// How long a socket may take no byte of its reply, in milliseconds: less where so much is unread that nobody is asked.
+pub fn patience(may_ask: bool) -> u64
+    ensures { result ≡ patience may_ask }
+{
+    if may_ask { REPLY_MILLIS } else { STALL_MILLIS }
+}
+
+/// Whether a socket's silence ends or begins anew, which had so many bytes to take before and has so many after: it had none, it has none, or
+/// it took some.
+pub fn has_moved(before: usize, after: usize, has_taken: bool) -> bool
+    ensures { result ≡ has_moved before after has_taken }
+{
+    before == 0 || after == 0 || has_taken
+}
+
+/// The connections whose sockets have a reply that is not all written, and since when each took no byte of it. The one that took none for
+/// longest stands first.
+#[derive(Drop)]
+pub struct Unread {
+    moments: BTreeSet<(u64, u64)>,
+}
+
+impl Unread {
+    /// None.
+    pub fn new(alloc: Global) -> Self
+        ensures { result.moments.keys ≡ [] }
+    {
+        Unread {
+            moments: BTreeSet::new(alloc),
+        }
+    }
+
+    /// It has something to take from now on, or took some of it now.
+    pub fn begin(&mut self, connection: u64, now: u64) -> Result<(), AllocError>
+        ensures begun { OnOk result (self.new.moments.keys ≡ insert_key by_moment self.old.moments.keys (now, connection)) }
+        ensures refused { OnErr result (self.new.moments.keys ≡ self.old.moments.keys) }
+    {
+        match self.moments.insert((now, connection)) {
+            Ok(_) => Ok(()),
+            Err(_) => Err(AllocError),
+        }
+    }
+
+    /// It took nothing since then, and that ends. Takes no memory.
+    pub fn end(&mut self, connection: u64, since: u64)
+        ensures { self.new.moments.keys ≡ remove_key (is_at (by_moment (since, connection))) self.old.moments.keys }
+    {
+        self.moments.remove(&(since, connection));
+    }
+
+    /// The first moment at which one has taken nothing for so long: the greatest number where none has anything to take.
+    pub fn first_end(&self, millis: u64) -> u64
+        ensures { result ≡ first_end millis self.now.moments.keys }
+    {
+        match self.moments.first() {
+            Some(pair) => later(pair.0, millis),
+            None => u64::MAX,
+        }
+    }
+
+    /// The one that has taken nothing for longest, where that is so long.
+    pub fn silent(&self, now: u64, millis: u64) -> Option<u64>
+        ensures { result ≡ silent now millis self.now.moments.keys }
+    {
+        match self.moments.first() {
+            Some(pair) if later(pair.0, millis) <= now => Some(pair.1),
+            _ => None,
+        }
+    }
+    /// The same, which is taken out.
+    pub fn take_silent(&mut self, now: u64, millis: u64) -> Option<u64>
+        ensures silent { result ≡ silent now millis self.old.moments.keys }
+        ensures others { self.new.moments.keys ≡ without_silent now millis self.old.moments.keys }
+    {
+        let silent = self.silent(now, millis)?;
+        self.moments.pop_first();
+        Some(silent)
+    }
+}

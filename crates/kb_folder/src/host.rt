@@ -33,7 +33,8 @@ const ENFILE: i32 = 23;
 /// A folder of the system. No contract says what it holds.
 ///
 /// The files that were used last stay open, at most 256 of them, and fewer where the system has no descriptor for a further one. No
-/// call asks the system to write its own buffers out. Files that it makes are for the process's own user.
+/// call asks the system to write its own buffers out. Files that it makes are for the process's own user. A folder in it that has a
+/// file's name is as a file without bytes, and is noted as a refusal.
 #[derive(Drop)]
 pub struct HostFolder<R: Files<File = File> + AllocGlobal + Clone + Drop> {
     rt: R,
@@ -338,8 +339,14 @@ impl<R: Files<File = File> + AllocGlobal + Clone + Drop> Folder for HostFolder<R
     }
 
     fn len(&mut self, file: u64) -> Result<u64, FolderFault> {
-        let len = length(self.file(file));
-        self.answer(FolderCall::Length, Some(file), len)
+        match length(self.file(file)) {
+            Err(error) if error.kind() == ErrorKind::IsADirectory => {
+                // What is no file has no bytes. It is noted, and nothing of it is read.
+                let _ = self.fault(FolderCall::Length, Some(file), error);
+                Ok(0)
+            }
+            len => self.answer(FolderCall::Length, Some(file), len),
+        }
     }
 
     fn create(&mut self, file: u64) -> Result<(), FolderFault> {
@@ -355,6 +362,9 @@ impl<R: Files<File = File> + AllocGlobal + Clone + Drop> Folder for HostFolder<R
     }
 
     fn read_at(&mut self, file: u64, at: u64, buffer: &mut [u8]) -> Result<usize, FolderFault> {
+        if buffer.is_empty() {
+            return Ok(0);
+        }
         let read = match self.file(file) {
             Ok(opened) => read_whole(opened, at, buffer),
             Err(error) => Err(error),
@@ -380,7 +390,11 @@ impl<R: Files<File = File> + AllocGlobal + Clone + Drop> Folder for HostFolder<R
     }
 }
 
-/// The length of a file that was opened.
+/// The length of a file that was opened. A folder is none.
 fn length(opened: io::Result<&File>) -> io::Result<u64> {
-    Ok(opened?.metadata()?.len())
+    let found = opened?.metadata()?;
+    if found.is_dir() {
+        return Err(ErrorKind::IsADirectory.into());
+    }
+    Ok(found.len())
 }

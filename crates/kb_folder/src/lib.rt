@@ -21,4 +21,5 @@ pub use host::{HostFolder, make_folder};
 pub use memory::MemoryFolder;
 pub use name::{file_name, file_number};
 pub use refusal::{FolderCall, Refusal, Refusals};
+pub use reserve::is_full;
 pub use store::FolderStore;

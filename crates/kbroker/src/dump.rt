@@ -1,33 +1,12 @@
 //! `kbroker dump`: what the files of a data folder hold.
 
 use crate::Fault;
-use crate::folder::store_to_read;
 use clap::{Arg, ArgAction, ArgMatches, Command};
 use kb_dump::DumpFault;
-use kb_folder::FolderFault;
-use kb_node::{NodeFault, StartFault};
+use kb_operator::{FolderJournal, OperatorFault, is_folder, store_to_read};
 use std::alloc::{AllocError, Global};
+use std::io;
 use std::io::{BufWriter, Write};
-use std::{fs, io};
-
-impl From<FolderFault> for Fault {
-    fn from(e: FolderFault) -> Fault {
-        match e {
-            FolderFault::Refused => Fault::Start(StartFault::Store),
-            FolderFault::Memory => Fault::Node(NodeFault::Memory),
-        }
-    }
-}
-
-impl From<DumpFault> for Fault {
-    fn from(e: DumpFault) -> Fault {
-        match e {
-            DumpFault::Store => Fault::Start(StartFault::Store),
-            DumpFault::Memory => Fault::Node(NodeFault::Memory),
-            DumpFault::Write => Fault::Node(NodeFault::Write),
-        }
-    }
-}
 
 /// What `clap` reads the words behind `dump` by.
 pub fn dump_command<'a>(alloc: Global) -> Result<Command<'a>, AllocError> {
@@ -48,22 +27,27 @@ pub fn dump(rt: &HostRuntime, found: &ArgMatches<'_>) -> Result<(), Fault> {
     if !is_folder(rt, path) {
         return Err(Fault::NoFolder(String::from_str(alloc, path)?));
     }
-    let mut store = store_to_read(rt, path)?;
+    let folder = FolderJournal::new(alloc, path, true)?;
+    let mut store = store_to_read(rt, &folder)?;
     let Ok(mut writer) = BufWriter::new(alloc, io::writer(rt)) else {
-        return Err(Fault::Node(NodeFault::Memory));
+        return Err(Fault::Operator(OperatorFault::Memory));
     };
     let dumped = kb_dump::dump(alloc, &mut store, &mut writer);
     // What was written before a fault is handed on too.
     if writer.flush().is_err() {
-        return Err(Fault::Node(NodeFault::Write));
+        return Err(Fault::Operator(OperatorFault::Write));
     }
-    Ok(dumped?)
+    match dumped {
+        Ok(()) => Ok(()),
+        Err(fault) => Err(Fault::Operator(dump_fault(alloc, &folder, fault))),
+    }
 }
 
-/// Whether there is a folder at a path.
-fn is_folder(rt: &HostRuntime, path: &str) -> bool {
-    match fs::metadata(rt, path) {
-        Ok(found) => found.is_dir(),
-        Err(_) => false,
+/// What a fault of a dump is to the program.
+fn dump_fault(alloc: Global, folder: &FolderJournal, fault: DumpFault) -> OperatorFault {
+    match fault {
+        DumpFault::Store => folder.store_fault(alloc),
+        DumpFault::Memory => OperatorFault::Memory,
+        DumpFault::Write => OperatorFault::Write,
     }
 }

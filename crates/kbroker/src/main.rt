@@ -7,25 +7,19 @@
 //! a broker that runs. Status 0 is done, 1 a fault with one line on standard error, 2 a fault of the command line with its usage.
 #![tactic(auto)]
 
-mod changed;
 mod check;
 mod dump;
-mod folder;
-mod journal;
-mod judge;
-mod lines;
 mod listening;
-mod process;
-mod reasons;
+mod open;
 mod script;
 mod serve;
-mod settings;
-mod survey;
+mod telling;
 mod words;
 
 use clap::error::ErrorKind;
 use clap::{Arg, ArgAction, ArgMatches, Command};
-use kb_node::{NodeFault, StartFault};
+use kb_node::NodeFault;
+use kb_operator::{Lines, OperatorFault};
 use kb_process::hold_streams;
 use kb_topic_command::{TopicFault, topic, topic_command};
 use kb_version::VERSION;
@@ -41,10 +35,7 @@ enum Fault {
     #[error("{0}")]
     Words(clap::Error),
     #[error("{0}")]
-    Start(StartFault),
-    /// A fault of a start, and what stands behind it.
-    #[error("{0}{1}")]
-    Because(StartFault, String),
+    Operator(OperatorFault),
     #[error("{0}")]
     Node(NodeFault),
     #[error("kbroker: {0}")]
@@ -52,38 +43,26 @@ enum Fault {
     /// There is no folder at this path.
     #[error("kbroker: no folder {0}")]
     NoFolder(String),
-    /// Another process serves the folder at this path.
-    #[error("kbroker: another process serves {0}")]
-    Held(String),
-    /// What the system refuses at the start.
-    #[error("kbroker: {0}")]
-    System(String),
     /// A standard stream is closed, and nothing can be opened in its place.
     #[error("kbroker: cannot open /dev/null: {0}")]
     Streams(io::Error),
-    /// A start would lose whole batches.
-    #[error("kbroker: {0}. Nothing was changed. Copy the folder first; then start with --drop-damaged to go on without them.")]
-    Damaged(String),
-    /// Files are there that the settings do not fit.
-    #[error("kbroker: {0}. Nothing was changed. Restore all files of a backup together into an empty folder, or start with --accept-strays to go on beside them: what is written then may be dropped later.")]
-    Strays(String),
 }
 
 impl From<AllocError> for Fault {
     fn from(_e: AllocError) -> Fault {
-        Fault::Node(NodeFault::Memory)
+        Fault::Operator(OperatorFault::Memory)
     }
 }
 
 impl<T: Drop> From<AllocFailed<T>> for Fault {
     fn from(_e: AllocFailed<T>) -> Fault {
-        Fault::Node(NodeFault::Memory)
+        Fault::Operator(OperatorFault::Memory)
     }
 }
 
-impl From<StartFault> for Fault {
-    fn from(e: StartFault) -> Fault {
-        Fault::Start(e)
+impl From<OperatorFault> for Fault {
+    fn from(e: OperatorFault) -> Fault {
+        Fault::Operator(e)
     }
 }
 
@@ -96,7 +75,7 @@ impl From<NodeFault> for Fault {
 impl From<clap::Error> for Fault {
     fn from(e: clap::Error) -> Fault {
         if e.kind() == ErrorKind::OutOfMemory {
-            Fault::Node(NodeFault::Memory)
+            Fault::Operator(OperatorFault::Memory)
         } else {
             Fault::Words(e)
         }
@@ -105,20 +84,6 @@ impl From<clap::Error> for Fault {
 
 /// The command line.
 fn command<'a>(alloc: Global) -> Result<Command<'a>, AllocError> {
-    let stock_clients = Arg::new(alloc, "stock-clients")
-        .long("stock-clients")
-        .help("Lists and serves the versions too that only stock clients ask for")
-        .action(ArgAction::SetTrue);
-    let quiet = Arg::new(alloc, "quiet")
-        .long("quiet")
-        .help("Tells nothing on standard error while it serves")
-        .action(ArgAction::SetTrue);
-    let serve = Command::new(alloc, "serve")
-        .about("Serves sockets on the addresses of the settings' host")
-        .arg(config(alloc).required(true))?
-        .arg(stock_clients)?
-        .arg(quiet)?;
-    let serve = judge::with_consent(alloc, serve)?;
     let check = Command::new(alloc, "check")
         .about("Says what settings come to, or which key is wrong")
         .arg(config(alloc).required(true))?;
@@ -126,8 +91,8 @@ fn command<'a>(alloc: Global) -> Result<Command<'a>, AllocError> {
         .about("A message broker for many tenants that speaks the Kafka protocol")
         .version(VERSION)
         .subcommand_required(true)
-        .subcommand(judge::with_consent(alloc, script::script_command(alloc)?)?)?
-        .subcommand(serve)?
+        .subcommand(script::script_command(alloc)?)?
+        .subcommand(serve::serve_command(alloc)?)?
         .subcommand(check)?
         .subcommand(dump::dump_command(alloc)?)?
         .subcommand(topic_command(alloc)?)
@@ -167,7 +132,7 @@ fn topic_fault(alloc: Global, fault: TopicFault) -> Result<(), Fault> {
             let fault = command(alloc)?.error(ErrorKind::ValueValidation, text)?;
             Err(Fault::Words(fault))
         }
-        TopicFault::Memory => Err(Fault::Node(NodeFault::Memory)),
+        TopicFault::Memory => Err(Fault::Operator(OperatorFault::Memory)),
         fault => Err(Fault::Topic(fault)),
     }
 }
@@ -190,8 +155,30 @@ fn main(rt: HostRuntime) -> ExitCode {
             }
         }
         Err(fault) => {
-            let _ = eprintln!(rt; "{fault}");
+            tell_fault(&rt, &fault);
             ExitCode::FAILURE
         }
     }
+}
+
+/// Tells a fault, on standard error. It is waited for only where the system does not tell whether it is taken at once.
+fn tell_fault(rt: &HostRuntime, fault: &Fault) {
+    if !tell_at_once(rt, fault) {
+        let _ = eprintln!(rt; "{fault}");
+    }
+}
+
+/// Tells a fault where the system tells whether it is taken at once, and answers whether it did.
+fn tell_at_once(rt: &HostRuntime, fault: &Fault) -> bool {
+    let Ok(mut lines) = Lines::new(rt) else {
+        return false;
+    };
+    let Ok(text) = format!(in rt.alloc(); "{fault}") else {
+        return false;
+    };
+    let can_tell = lines.can_tell();
+    if can_tell {
+        lines.tell_alone(Ok(text));
+    }
+    can_tell
 }

@@ -1,18 +1,16 @@
 //! `kbroker script`: plays a script of events.
 
-use crate::folder::{hold, store_in};
-use crate::journal::{Journal, Word};
-use crate::judge::{Consent, judge};
-use crate::settings::settings_of;
+use crate::open::{cached, consent_of, lengths, let_go_on, not_opened, with_consent};
+use crate::telling::CountsOf;
 use crate::{Fault, config};
 use clap::{Arg, ArgAction, ArgMatches, Command};
 use kb_broker::ScriptFault;
 use kb_log::ListLog;
-use kb_node::{
-    Listing, NodeFault, Settings, StartFault, Store, play_script, play_script_on, play_script_with,
-};
-use kb_restart::{Restarted, file_lengths, open_broker};
+use kb_node::{Listing, NodeFault, Settings, Store, play_script, play_script_on, play_script_with};
+use kb_operator::{FolderJournal, Journal, OperatorFault, Word, hold, settings_of, store_in};
+use kb_restart::{Restarted, open_broker};
 use kb_server_log::now;
+use kb_start::Consent;
 use kb_survey::Postponed;
 use std::alloc::{AllocError, Global};
 use std::io;
@@ -25,10 +23,11 @@ pub fn script_command<'a>(alloc: Global) -> Result<Command<'a>, AllocError> {
         .value_name("FOLDER")
         .help("A data folder, on which it is played, and which keeps what it made")
         .action(ArgAction::Set);
-    Command::new(alloc, "script")
+    let script = Command::new(alloc, "script")
         .about("Runs a script of events from standard input")
         .arg(config(alloc))?
-        .arg(data)
+        .arg(data)?;
+    with_consent(alloc, script)
 }
 
 /// Runs a script from standard input to standard output: on a broker that keeps nothing, or on that of a data folder.
@@ -39,12 +38,12 @@ pub fn script(rt: &HostRuntime, found: &ArgMatches<'_>) -> Result<(), Fault> {
         None => None,
     };
     let Ok(mut reader) = BufReader::new(alloc, rt.reader()) else {
-        return Err(Fault::Node(NodeFault::Memory));
+        return Err(Fault::Operator(OperatorFault::Memory));
     };
     let Ok(mut writer) = BufWriter::new(alloc, io::writer(rt)) else {
-        return Err(Fault::Node(NodeFault::Memory));
+        return Err(Fault::Operator(OperatorFault::Memory));
     };
-    let consent = Consent::of(found);
+    let consent = consent_of(found);
     match (found.get_str("data"), settings) {
         (Some(path), Some(settings)) => {
             script_on(rt, &settings, path, consent, &mut reader, &mut writer)
@@ -75,29 +74,32 @@ fn script_on<R: BufRead, W: Write>(
     let alloc = rt.alloc();
     let mut journal = Journal::new(rt, settings, false)?;
     let _held = hold(rt, path)?;
-    let mut store = store_in(rt, path)?;
-    let before = file_lengths(alloc, &mut store)?;
-    let opened = open_broker(
-        alloc,
+    let mut folder = FolderJournal::new(alloc, path, false)?;
+    let mut store = cached(alloc, settings, store_in(rt, &folder)?);
+    let before = lengths(alloc, &mut store, &folder)?;
+    let store = Postponed::new(alloc, store);
+    let opened = match open_broker(alloc, settings, Listing::Served, store) {
+        Ok(opened) => opened,
+        Err(refused) => return Err(not_opened(alloc, &folder, refused.fault)),
+    };
+    let held = let_go_on(
+        rt,
         settings,
-        Listing::Served,
-        Postponed::new(alloc, store),
-    )
-    .map_err(|refused| StartFault::from(refused.fault))?;
-    let files = judge(rt, settings, path, consent, &before, &opened, &mut journal)?;
-    let Restarted {
-        mut broker,
-        strays: _,
-        counts,
-        next_instances: _,
-    } = opened;
-    journal.tell_found(rt, now(rt), Word::Found, counts, &files);
+        consent,
+        &before,
+        &opened,
+        &folder,
+        &mut journal,
+    )?;
+    let Restarted { mut broker, .. } = opened;
+    journal.tell_found(alloc, now(rt), Word::Found, held);
+    folder.tell(rt, journal.lines(), now(rt));
     let played = play_script_on(alloc, &mut broker, reader, writer);
-    journal.tell_refusals(rt, &broker, now(rt));
+    journal.tell_refusals(alloc, now(rt), &CountsOf(&broker));
     match played {
         // What was refused, the store may have refused.
         Err(NodeFault::Script(ScriptFault::Memory)) if broker.into_store().failures() > 0 => {
-            Err(Fault::Start(StartFault::Store))
+            Err(Fault::Operator(folder.store_fault(alloc)))
         }
         played => Ok(played?),
     }

@@ -2,21 +2,22 @@
 
 ghost use Rattle.std.specs.Prelude.{◌≡◌, ◌≤◌, ◌<◌, ◌*◌, ◌-◌, ◌^◌, max, min};
 
-use crate::Fault;
-use crate::changed::last_change;
-use crate::folder::{hold, store_noting};
-use crate::journal::{Journal, Word};
-use crate::judge::{Consent, Kept, judge};
 use crate::listening::{listen, tell_listening};
-use crate::process::{FolderJournal, look_at_start};
-use crate::settings::{not_opened, settings_of, without_folder};
-use clap::ArgMatches;
-use kb_folder::Refusals;
+use crate::open::{Kept, cached, consent_of, lengths, let_go_on, not_opened, with_consent};
+use crate::telling::tell_turn;
+use crate::{Fault, config};
+use clap::{Arg, ArgAction, ArgMatches, Command};
 use kb_log::PartitionLog;
-use kb_node::{Edge, Listing, Settings, Store, data_folder};
-use kb_restart::{FileLength, Restarted, file_lengths, open_broker};
+use kb_node::{Edge, Listing, Settings, Store};
+use kb_operator::{
+    FolderJournal, Held, Journal, Word, data_folder, hold, last_change, look_at_start, settings_of,
+    store_with_reserve,
+};
+use kb_restart::{Restarted, open_broker};
 use kb_server_log::{GuardedClock, Reading, now};
+use kb_start::Consent;
 use kb_survey::Postponed;
+use std::alloc::{AllocError, Global};
 use std::net::Net;
 
 /// How often the edge is turned at most.
@@ -38,30 +39,43 @@ fn first_member(moment: u64) -> u64
     moment.saturating_mul(MEMBERS).min(LAST_MEMBER).max(1)
 }
 
+/// What `clap` reads the words behind `serve` by.
+pub fn serve_command<'a>(alloc: Global) -> Result<Command<'a>, AllocError> {
+    let stock_clients = Arg::new(alloc, "stock-clients")
+        .long("stock-clients")
+        .help("Lists and serves the versions too that only stock clients ask for")
+        .action(ArgAction::SetTrue);
+    let quiet = Arg::new(alloc, "quiet")
+        .long("quiet")
+        .help("Tells nothing on standard error while it serves")
+        .action(ArgAction::SetTrue);
+    let serve = Command::new(alloc, "serve")
+        .about("Serves sockets on the addresses of the settings' host")
+        .arg(config(alloc).required(true))?
+        .arg(stock_clients)?
+        .arg(quiet)?;
+    with_consent(alloc, serve)
+}
+
 /// Serves sockets until the process is stopped, or the turns are used up.
 pub fn serve(rt: &HostRuntime, found: &ArgMatches<'_>) -> Result<(), Fault> {
     let alloc = rt.alloc();
     let config = found.get_str("config").unwrap_or("");
     let is_quiet = found.get_flag("quiet");
     let settings = settings_of(rt, config)?;
-    look_at_start(rt, config, settings.connections, is_quiet)?;
-    let path = match data_folder(alloc, &settings) {
-        Ok(path) => path,
-        Err(fault) => return Err(without_folder(alloc, fault)),
-    };
+    let mut journal = Journal::new(rt, &settings, is_quiet)?;
+    look_at_start(rt, config, settings.connections, is_quiet, journal.lines())?;
+    let path = data_folder(alloc, &settings)?;
     let changed = last_change(rt, path);
     let _held = hold(rt, path)?;
-    let mut journal = Journal::new(rt, &settings, is_quiet)?;
-    let mut folder_journal = FolderJournal::new(alloc, path, is_quiet)?;
-    let asked = Asked::of(found);
-    let refusals = folder_journal.refusals();
-    let (opened, files) = open(rt, &settings, path, asked, refusals, &mut journal)?;
+    let mut folder = FolderJournal::new(alloc, path, is_quiet)?;
+    let (opened, held) = open(rt, &settings, Asked::of(found), &folder, &mut journal)?;
     let mut edge = listen(rt, opened.broker, &settings)?;
     tell_listening(rt, &edge, path)?;
-    journal.tell_found(rt, now(rt), Word::Start, opened.counts, &files);
-    journal.tell_change(rt, now(rt), changed);
-    turn_on(rt, &mut edge, &mut journal, &mut folder_journal);
-    journal.tell_stop(rt, now(rt));
+    journal.tell_found(alloc, now(rt), Word::Start, held);
+    journal.tell_change(alloc, now(rt), changed);
+    turn_on(rt, &mut edge, &mut journal, &mut folder);
+    journal.tell_stop(alloc, now(rt));
     Ok(())
 }
 
@@ -80,31 +94,38 @@ impl Asked {
             } else {
                 Listing::Served
             },
-            consent: Consent::of(found),
+            consent: consent_of(found),
         }
     }
 }
 
-/// Opens the broker of a data folder, and gives the folder's files beside it. Members of a broker before are none of this one.
+/// Opens the broker of a data folder, and says what it has. Members of a broker before are none of this one.
 fn open(
     rt: &HostRuntime,
     settings: &Settings,
-    path: &str,
     asked: Asked,
-    refusals: &Refusals,
+    folder: &FolderJournal,
     journal: &mut Journal,
-) -> Result<(Restarted<Kept>, Vec<FileLength>), Fault> {
+) -> Result<(Restarted<Kept>, Held), Fault> {
     let alloc = rt.alloc();
-    let mut store = store_noting(rt, path, refusals)?;
-    let before = file_lengths(alloc, &mut store)?;
+    let mut store = cached(alloc, settings, store_with_reserve(rt, folder)?);
+    let before = lengths(alloc, &mut store, folder)?;
     let store = Postponed::new(alloc, store);
     let mut opened = match open_broker(alloc, settings, asked.listing, store) {
         Ok(opened) => opened,
-        Err(refused) => return Err(not_opened(alloc, path, refused.fault)),
+        Err(refused) => return Err(not_opened(alloc, folder, refused.fault)),
     };
-    let files = judge(rt, settings, path, asked.consent, &before, &opened, journal)?;
+    let held = let_go_on(
+        rt,
+        settings,
+        asked.consent,
+        &before,
+        &opened,
+        folder,
+        journal,
+    )?;
     opened.broker.number_members_from(first_member(now(rt)));
-    Ok((opened, files))
+    Ok((opened, held))
 }
 
 /// Turns an edge until the turns are used up, by a clock that follows the wall clock but not its jumps.
@@ -112,14 +133,14 @@ fn turn_on<R: Net, S: Store, L: PartitionLog + Drop>(
     rt: &HostRuntime,
     edge: &mut Edge<R, S, L>,
     journal: &mut Journal,
-    folder_journal: &mut FolderJournal,
+    folder: &mut FolderJournal,
 ) {
     let mut clock = GuardedClock::starting(Reading::of(rt));
     for _ in 0..TURNS {
         edge.wait();
         let tick = clock.next(Reading::of(rt));
         let turn = edge.turn(rt.alloc(), tick.moment);
-        journal.tell(rt, edge, &turn, tick);
-        folder_journal.tell(rt, journal.lines(), tick.moment);
+        tell_turn(rt, journal, edge, &turn, tick);
+        folder.tell(rt, journal.lines(), tick.moment);
     }
 }

@@ -2,7 +2,7 @@
 
 use crate::{Fault, command};
 use clap::error::ErrorKind;
-use kb_node::NodeFault;
+use kb_operator::OperatorFault;
 use std::alloc::Global;
 use std::{env, io};
 
@@ -11,7 +11,7 @@ pub fn words(rt: &HostRuntime) -> Result<Vec<String>, Fault> {
     match env::args(rt) {
         Ok(args) => Ok(args.collect(rt.alloc())?),
         Err(e) if e.kind() == io::ErrorKind::InvalidData => Err(not_utf_8(rt.alloc())?),
-        Err(_) => Err(Fault::Node(NodeFault::Memory)),
+        Err(_) => Err(Fault::Operator(OperatorFault::Memory)),
     }
 }
 

@@ -1,71 +1,15 @@
-//! What is looked at when the process is started, and what the system refuses to its folder while it serves.
+//! What the system refuses to a data folder.
 
-use crate::Fault;
+use crate::fault::{OperatorFault, behind_it};
 use crate::lines::Lines;
-use kb_folder::{FolderCall, Refusal, Refusals, file_name};
-use kb_process::{OpenFiles, judge, soft_limit};
-use kb_server_log::{now, time_text};
+use kb_folder::{FolderCall, FolderFault, Refusal, Refusals, file_name, is_full};
+use kb_server_log::now;
+use kb_store::StoreFault;
 use std::alloc::{AllocError, Global};
-use std::io::ErrorKind;
-use std::os::unix::fs::MetadataExt;
-use std::{fs, io};
-
-/// The system's text on the limits of the process.
-const LIMITS: &str = "/proc/self/limits";
+use std::io;
 
 /// How far lines on refusals are apart at least, in milliseconds.
 const MINUTE: u64 = 60_000;
-
-/// Looks at how many files the process may have open, and at who may read the settings. Too few files are a fault. Anything else is told,
-/// unless it is to be quiet.
-pub fn look_at_start(
-    rt: &HostRuntime,
-    settings: &str,
-    connections: u32,
-    is_quiet: bool,
-) -> Result<(), Fault> {
-    if let Some(limit) = open_files(rt) {
-        match judge(limit, connections) {
-            OpenFiles::Enough => {}
-            OpenFiles::Few(_) if is_quiet => {}
-            OpenFiles::Few(missing) => tell_few(rt, limit, connections, missing),
-            OpenFiles::TooFew(least) => return Err(too_few(rt.alloc(), limit, connections, least)),
-        }
-    }
-    if !is_quiet
-        && let Ok(found) = fs::metadata(rt, settings)
-        && found.mode() & 0o077 != 0
-    {
-        let (time, mode) = (time_now(rt), found.mode() & 0o777);
-        let _ = eprintln!(rt;
-            "{time} settings {settings}: others may read the passwords, mode {mode:o}"
-        );
-    }
-    Ok(())
-}
-
-/// How many files the process may have open, where the system tells.
-fn open_files(rt: &HostRuntime) -> Option<u64> {
-    let text = fs::read_to_string(rt, LIMITS).ok()?;
-    soft_limit(text.as_str())
-}
-
-fn tell_few(rt: &HostRuntime, limit: u64, connections: u32, missing: u64) {
-    let time = time_now(rt);
-    let _ = eprintln!(rt;
-        "{time} open files: at most {limit}, {missing} fewer than {connections} connections and the files of the folder may take"
-    );
-}
-
-fn too_few(alloc: Global, limit: u64, connections: u32, least: u64) -> Fault {
-    let text = format!(in alloc;
-        "open files: at most {limit}, and {connections} connections take at least {least} (ulimit -n)"
-    );
-    match text {
-        Ok(text) => Fault::System(text),
-        Err(refused) => refused.into(),
-    }
-}
 
 /// What is told of the refusals of a folder: a line at most once a minute.
 #[derive(Drop)]
@@ -86,6 +30,11 @@ impl FolderJournal {
             refusals: Refusals::new(alloc)?,
             told: None,
         })
+    }
+
+    /// The path of the folder.
+    pub fn folder(&self) -> &str {
+        self.folder.as_str()
     }
 
     /// Where the folder notes what the system refuses to it.
@@ -110,6 +59,39 @@ impl FolderJournal {
         let (what, call, error) = (kind_of(&refusal.error), verb(refusal.call), refusal.error);
         format!(in alloc; "{what}: cannot {call} {path}: {error}")
     }
+
+    /// The fault of a start to which the folder was refused, with the file and the cause of the last refusal.
+    pub fn store_fault(&self, alloc: Global) -> OperatorFault {
+        match self.refusals.take() {
+            Some(refusal) => OperatorFault::Store(behind_it(
+                alloc,
+                self.cause_text(alloc, &refusal),
+            )),
+            None => OperatorFault::Store(String::new(alloc)),
+        }
+    }
+
+    /// The file and the cause of a refusal.
+    fn cause_text(&self, alloc: Global, refusal: &Refusal) -> Result<String, AllocError> {
+        let path = path_of(alloc, self.folder.as_str(), refusal.file)?;
+        format!(in alloc; ": {path}: {}", refusal.error)
+    }
+
+    /// What a fault of the folder is to a start.
+    pub fn of_folder(&self, alloc: Global, fault: FolderFault) -> OperatorFault {
+        match fault {
+            FolderFault::Refused => self.store_fault(alloc),
+            FolderFault::Memory => OperatorFault::Memory,
+        }
+    }
+
+    /// What a fault of the folder's store is to a start.
+    pub fn of_store(&self, alloc: Global, fault: StoreFault) -> OperatorFault {
+        match fault {
+            StoreFault::Device => self.store_fault(alloc),
+            StoreFault::Memory => OperatorFault::Memory,
+        }
+    }
 }
 
 /// The path of a folder's file of a number, or of the folder itself.
@@ -125,9 +107,10 @@ fn path_of(alloc: Global, folder: &str, file: Option<u64>) -> Result<String, All
 
 /// What stands in front of a refusal.
 fn kind_of(error: &io::Error) -> &'static str {
-    match error.kind() {
-        ErrorKind::StorageFull | ErrorKind::QuotaExceeded => "disk full",
-        _ => "data folder",
+    if is_full(error) {
+        "disk full"
+    } else {
+        "data folder"
     }
 }
 
@@ -142,9 +125,4 @@ fn verb(call: FolderCall) -> &'static str {
         FolderCall::Cut => "cut",
         FolderCall::Remove => "remove",
     }
-}
-
-/// The time, which is empty where there is no memory for it.
-fn time_now(rt: &HostRuntime) -> String {
-    time_text(rt.alloc(), now(rt)).unwrap_or(String::new(rt.alloc()))
 }

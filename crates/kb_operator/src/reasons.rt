@@ -40,6 +40,7 @@ fn wanted(key: &str) -> Option<&str> {
         }
         "segment_bytes" => Some("a number from 4096 to 1073741824"),
         "cache_batches" => Some("a number from 1 to 65536"),
+        "cache_bytes" => Some("a number from 0 to 1099511627776"),
         "connections" => Some("a number from 1 to 1000000"),
         "output_bytes" => Some("a number from 1048576 to 4294967295"),
         "data" => Some("a path"),

@@ -2,15 +2,13 @@
 
 ghost use Rattle.std.specs.Prelude.{◌≤◌, ◌^◌};
 
+use crate::counts::RefusalCounts;
 use crate::lines::Lines;
-use crate::survey::StrayCounts;
-use kb_broker::Broker;
-use kb_log::PartitionLog;
-use kb_node::{Denied, Edge, Settings, Store, Turn, tenant_names};
-use kb_restart::{Counts, Dropped, FileLength, FileTotal};
-use kb_server_log::{Change, Notice, Pace, Tally, Tick, now, time_text};
+use kb_server_log::{Change, Notice, Pace, Tally, time_text};
+use kb_settings::{Settings, tenant_names};
+use kb_start::{Left, StrayCounts, Total};
 use std::alloc::{AllocError, Global};
-use std::net::Net;
+use std::net::SocketAddr;
 
 /// A tenant, and how many of its refusals were told.
 #[derive(Drop)]
@@ -26,6 +24,20 @@ pub enum Word {
     Start,
     /// A script runs on it.
     Found,
+}
+
+/// How much a broker has that opened with a folder.
+#[derive(Clone, Copy, Debug, PartialEq, Eq)]
+pub struct Held {
+    pub tenants: u64,
+    /// The topics of all tenants.
+    pub topics: u64,
+    /// The partitions of all topics.
+    pub partitions: u64,
+    /// The files that are of no log.
+    pub strays: u64,
+    /// All files of the folder, and their bytes.
+    pub files: Total,
 }
 
 /// How many tenants stand in a line at most: it stays below 4,096 bytes, with names of 64.
@@ -44,6 +56,9 @@ pub struct Journal {
     disk: Tally,
     /// The sockets that were closed at once and are not told of.
     turned_away: u64,
+    /// The sockets that were closed before a login, or that did not read, and are not told of.
+    strangers: u64,
+    unread: u64,
     pace: Pace,
 }
 
@@ -62,6 +77,8 @@ impl Journal {
             unbound: Tally::default(),
             disk: Tally::default(),
             turned_away: 0,
+            strangers: 0,
+            unread: 0,
             pace: Pace::default(),
         })
     }
@@ -72,21 +89,22 @@ impl Journal {
     }
 
     /// What an opening dropped of the files that a folder had: a line for each.
-    pub fn tell_dropped(&mut self, rt: &HostRuntime, now: u64, drops: &[Dropped]) {
+    pub fn tell_dropped(&mut self, alloc: Global, now: u64, files: &[Left]) {
         if self.is_quiet {
             return;
         }
-        for drop in drops {
-            self.lines.tell(now, drop_text(rt.alloc(), drop));
+        for file in files {
+            if file.is_dropped() {
+                self.lines.tell(now, drop_text(alloc, file));
+            }
         }
     }
 
     /// The files that an opening left aside: of tenants that no user names, a line each, and of a first write that was cut short.
-    pub fn tell_strays(&mut self, rt: &HostRuntime, now: u64, strays: &StrayCounts) {
+    pub fn tell_strays(&mut self, alloc: Global, now: u64, strays: &StrayCounts) {
         if self.is_quiet {
             return;
         }
-        let alloc = rt.alloc();
         for (tenant, files) in &strays.of_nobody {
             let text = format!(in alloc;
                 "stray files of tenant {tenant}, which no user names: {files}"
@@ -100,20 +118,12 @@ impl Journal {
         }
     }
 
-    /// What was found in the folder, behind a word: so many tenants, topics, partitions and stray files, and so many files and bytes.
-    pub fn tell_found(
-        &mut self,
-        rt: &HostRuntime,
-        now: u64,
-        word: Word,
-        counts: Counts,
-        files: &[FileLength],
-    ) {
+    /// What was found in the folder, behind a word.
+    pub fn tell_found(&mut self, alloc: Global, now: u64, word: Word, held: Held) {
         if self.is_quiet {
             return;
         }
-        let alloc = rt.alloc();
-        let holds = found_text(alloc, counts, FileTotal::of(files));
+        let holds = held_text(alloc, held);
         let connections = self.connections;
         let text = match word {
             Word::Start => format!(in alloc; "start: {holds}, connections at most {connections}"),
@@ -123,104 +133,106 @@ impl Journal {
     }
 
     /// Where the clock is, seen from the last change of a file: a line, unless that was within a day before.
-    pub fn tell_change(&mut self, rt: &HostRuntime, now: u64, changed: Option<u64>) {
+    pub fn tell_change(&mut self, alloc: Global, now: u64, changed: Option<u64>) {
         if let (false, Some(changed)) = (self.is_quiet, changed)
-            && let Some(text) = change_text(rt.alloc(), now, changed).transpose()
+            && let Some(text) = change_text(alloc, now, changed).transpose()
         {
             self.lines.tell(now, text);
         }
     }
 
-    /// The broker serves no longer.
-    pub fn tell_stop(&mut self, rt: &HostRuntime, now: u64) {
+    /// What the wall clock did.
+    pub fn tell_clock(&mut self, alloc: Global, now: u64, notice: Notice) {
         if !self.is_quiet {
-            self.lines.tell(now, String::from_str(rt.alloc(), "stop"));
+            self.lines
+                .tell(now, String::from_str(alloc, notice_text(notice)));
         }
     }
 
-    /// What happened in a turn at a tick: logins that failed and the clock at once, and counts at most once a second.
-    pub fn tell<R: Net, S: Store, L: PartitionLog + Drop>(
-        &mut self,
-        rt: &HostRuntime,
-        edge: &Edge<R, S, L>,
-        turn: &Turn,
-        tick: Tick,
-    )
-        requires { tick.moment ≤ 2 ^ 62 }
-    {
-        if self.is_quiet {
-            return;
-        }
-        if turn.denied > 0 {
-            self.tell_denied(rt, edge, turn.denied);
-        }
-        if let Some(notice) = tick.told {
-            let text = String::from_str(rt.alloc(), notice_text(notice));
-            self.lines.tell(now(rt), text);
-        }
-        self.turned_away = self.turned_away.saturating_add(turn.turned_away);
-        if self.pace.is_due(tick.moment) {
-            self.tell_counts(rt, edge.broker(), now(rt));
+    /// The broker serves no longer.
+    pub fn tell_stop(&mut self, alloc: Global, now: u64) {
+        if !self.is_quiet {
+            self.lines.tell(now, String::from_str(alloc, "stop"));
         }
     }
 
-    /// The counts that grew, and how many lines were missed.
-    fn tell_counts<S: Store, L: PartitionLog + Drop>(
-        &mut self,
-        rt: &HostRuntime,
-        broker: &Broker<S, L>,
-        now: u64,
-    ) {
-        self.lines.catch_up(now);
-        self.tell_turned_away(rt, now);
-        self.tell_refusals(rt, broker, now);
+    /// A login that failed, from an address and with a name, where it had one.
+    pub fn tell_login(&mut self, alloc: Global, now: u64, address: SocketAddr, name: &str) {
+        if !self.is_quiet {
+            self.lines.tell(now, login_text(alloc, address, name));
+        }
     }
 
-    /// The logins of a turn that failed.
-    fn tell_denied<R: Net, S: Store, L: PartitionLog + Drop>(
-        &mut self,
-        rt: &HostRuntime,
-        edge: &Edge<R, S, L>,
-        denied: u64,
-    ) {
-        let (alloc, now) = (rt.alloc(), now(rt));
-        for login in edge.denied() {
-            self.lines.tell(now, login_text(alloc, login));
-        }
-        let more = denied.saturating_sub(edge.denied().len() as u64);
-        if more > 0 {
+    /// So many logins failed beside those that were told, if any did.
+    pub fn tell_more_logins(&mut self, alloc: Global, now: u64, more: u64) {
+        if !self.is_quiet && more > 0 {
             self.lines
                 .tell(now, format!(in alloc; "login failed from others: {more}"));
         }
     }
 
+    /// So many more sockets were closed that had not logged in, and so many that did not read. They are told with the other counts.
+    pub fn count_closed(&mut self, strangers: u64, unread: u64) {
+        self.strangers = self.strangers.saturating_add(strangers);
+        self.unread = self.unread.saturating_add(unread);
+    }
+
+    /// What is counted, at most once a second, at a moment of at most 2^62: so many sockets were closed at once since it was told last.
+    pub fn tell_counts<B: RefusalCounts>(
+        &mut self,
+        alloc: Global,
+        now: u64,
+        moment: u64,
+        turned_away: u64,
+        broker: &B,
+    )
+        requires { moment ≤ 2 ^ 62 }
+    {
+        self.turned_away = self.turned_away.saturating_add(turned_away);
+        if !self.is_quiet && self.pace.is_due(moment) {
+            self.lines.catch_up(now);
+            self.tell_turned_away(alloc, now);
+            self.tell_closed(alloc, now);
+            self.tell_refusals(alloc, now, broker);
+        }
+    }
+
     /// How many connections were closed at once since the last line.
-    fn tell_turned_away(&mut self, rt: &HostRuntime, now: u64) {
+    fn tell_turned_away(&mut self, alloc: Global, now: u64) {
         if self.turned_away == 0 {
             return;
         }
         let (count, connections) = (self.turned_away, self.connections);
-        let text = format!(in rt.alloc();
+        let text = format!(in alloc;
             "connections closed at once: {count}, since {connections} are open"
         );
         self.lines.tell(now, text);
         self.turned_away = 0;
     }
 
+    /// How many connections were closed since the last line that kept silent.
+    fn tell_closed(&mut self, alloc: Global, now: u64) {
+        let (strangers, unread) = (self.strangers, self.unread);
+        if strangers == 0 && unread == 0 {
+            return;
+        }
+        let text = format!(in alloc;
+            "connections closed: {strangers} before a login, {unread} that did not read"
+        );
+        self.lines.tell(now, text);
+        self.strangers = 0;
+        self.unread = 0;
+    }
+
     /// How many requests were refused since the last line, by tenant, and how many calls of the store among that.
-    pub fn tell_refusals<S: Store, L: PartitionLog + Drop>(
-        &mut self,
-        rt: &HostRuntime,
-        broker: &Broker<S, L>,
-        now: u64,
-    ) {
+    pub fn tell_refusals<B: RefusalCounts>(&mut self, alloc: Global, now: u64, broker: &B) {
         if self.is_quiet || broker.is_calm() {
             return;
         }
-        let mut unbound = self.unbound.grown(broker.refusals_unbound());
-        let mut disk = self.disk.grown(broker.store().failures());
+        let mut unbound = self.unbound.grown(broker.before_login());
+        let mut disk = self.disk.grown(broker.of_disk());
         for tenants in self.tenants.chunks_mut(TENANTS) {
-            let text = refusals_text(rt.alloc(), tenants, broker, unbound, disk);
+            let text = refusals_text(alloc, tenants, broker, unbound, disk);
             if let Some(text) = text.transpose() {
                 self.lines.tell(now, text);
                 unbound = 0;
@@ -232,16 +244,16 @@ impl Journal {
 
 /// How many requests of some tenants were refused since the last line, and how many before a login: none where no request was. Behind
 /// them stands how many calls the disk refused; what is more than those was refused for want of memory.
-fn refusals_text<S: Store, L: PartitionLog + Drop>(
+fn refusals_text<B: RefusalCounts>(
     alloc: Global,
     tenants: &mut [Tenant],
-    broker: &Broker<S, L>,
+    broker: &B,
     unbound: u64,
     disk: u64,
 ) -> Result<Option<String>, AllocError> {
     let mut counts = String::new(alloc);
     for tenant in tenants {
-        let grown = tenant.refusals.grown(broker.refusals(&tenant.name));
+        let grown = tenant.refusals.grown(broker.of_tenant(&tenant.name));
         if grown > 0 {
             let name = tenant.name.as_str();
             counts.push_str(&format!(in alloc; ", tenant {name} {grown}")?)?;
@@ -269,14 +281,14 @@ fn tenants_of(alloc: Global, settings: &Settings) -> Result<Vec<Tenant>, AllocEr
 }
 
 /// What was found, which is empty where there is no memory for it.
-fn found_text(alloc: Global, counts: Counts, total: FileTotal) -> String {
-    let Counts {
+fn held_text(alloc: Global, held: Held) -> String {
+    let Held {
         tenants,
         topics,
         partitions,
         strays,
-    } = counts;
-    let FileTotal { files, bytes } = total;
+        files: Total { files, bytes },
+    } = held;
     let text = format!(in alloc;
         "tenants {tenants}, topics {topics}, partitions {partitions}, files {files}, bytes {bytes}, stray files {strays}"
     );
@@ -284,9 +296,9 @@ fn found_text(alloc: Global, counts: Counts, total: FileTotal) -> String {
 }
 
 /// What an opening dropped of a file.
-fn drop_text(alloc: Global, drop: &Dropped) -> Result<String, AllocError> {
-    let (file, before) = (drop.file, drop.before);
-    match drop.after {
+fn drop_text(alloc: Global, left: &Left) -> Result<String, AllocError> {
+    let (file, before) = (left.file, left.before);
+    match left.after {
         Some(after) => {
             let bytes = before.saturating_sub(after);
             format!(in alloc; "dropped file {file}: {bytes} bytes behind the end of its log")
@@ -318,8 +330,7 @@ fn notice_text(notice: Notice) -> &'static str {
 }
 
 /// A login that failed.
-fn login_text(alloc: Global, login: &Denied) -> Result<String, AllocError> {
-    let (address, name) = (login.address, &login.name);
+fn login_text(alloc: Global, address: SocketAddr, name: &str) -> Result<String, AllocError> {
     if name.is_empty() {
         format!(in alloc; "login failed from {address}")
     } else {

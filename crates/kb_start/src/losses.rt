@@ -1,25 +1,16 @@
 //! What a start on a data folder would lose or leave aside, by what its files say.
 
-ghost use Rattle.std.specs.Prelude.{◌≡◌, ◌+◌, min, if◌then◌else◌};
+ghost use Rattle.std.specs.Prelude.{◌≡◌, ◌+◌, ◌++◌, IfOk, map, if◌then◌else◌};
 ghost use Rattle.std.specs.FinMap.{keys};
+ghost use Rattle.kb_store.specs.Disk.{Keeps};
+ghost use Rattle.kb_start.specs.Survey.{loss_at, losses_of, stray_at, stray_loss, stray_losses, unfit_after, with_stray};
 
-use crate::Fault;
-use kb_node::{NodeFault, StartFault, Store};
-use kb_restart::Dropped;
+use crate::left::Left;
 use kb_segment::SegmentHeader;
-use kb_store::StoreFault;
+use kb_store::{Store, StoreFault};
 use kb_survey::{Stray, Whole, header_among, stray_among, whole_among};
 use std::alloc::{AllocError, Global};
 use std::collections::BTreeMap;
-
-impl From<StoreFault> for Fault {
-    fn from(e: StoreFault) -> Fault {
-        match e {
-            StoreFault::Device => Fault::Start(StartFault::Store),
-            StoreFault::Memory => Fault::Node(NodeFault::Memory),
-        }
-    }
-}
 
 /// A file of which whole batches would be gone.
 #[derive(Drop)]
@@ -52,13 +43,13 @@ pub struct Surveyed {
 
 /// What is known of an opening.
 #[derive(Drop)]
-pub struct Opening<'a> {
+pub struct Opened<'a> {
     /// The tenants, in byte order.
     pub names: &'a [&'a str],
     /// The instance that the next topic of each gets.
     pub next_instances: &'a [u64],
-    /// What it drops.
-    pub drops: &'a [Dropped],
+    /// What it leaves of each file that was there.
+    pub files: &'a [Left],
     /// The files that are of no log.
     pub strays: &'a [u64],
 }
@@ -67,8 +58,17 @@ pub struct Opening<'a> {
 pub fn survey<S: Store>(
     alloc: Global,
     store: &mut S,
-    opening: &Opening<'_>,
-) -> Result<Surveyed, Fault> {
+    opened: &Opened<'_>,
+) -> Result<Surveyed, StoreFault>
+    ensures losses { IfOk result (λ found. (S.disk store.new).honest
+        → found.losses.items ≡ losses_of (S.disk store.old) opened.now.files.now
+        ++ stray_losses (S.disk store.old) (map (λ name. name.now) opened.now.names.now)
+        opened.now.next_instances.now opened.now.strays.now) }
+    ensures unfit { IfOk result (λ found. (S.disk store.new).honest
+        → found.strays.unfit ≡ unfit_after (S.disk store.old) (map (λ name. name.now) opened.now.names.now)
+        opened.now.next_instances.now 0 opened.now.strays.now) }
+    ensures unchanged { Keeps (S.disk store.old) (S.disk store.new) }
+{
     let listed = store.list(alloc)?;
     let mut survey = Surveyed {
         losses: Vec::new(alloc),
@@ -79,25 +79,29 @@ pub fn survey<S: Store>(
             short: 0,
         },
     };
-    add_drops(alloc, store, &listed, opening.drops, &mut survey.losses)?;
-    add_strays(alloc, store, &listed, opening, &mut survey)?;
+    add_dropped(alloc, store, &listed, opened.files, &mut survey.losses)?;
+    add_strays(alloc, store, &listed, opened, &mut survey)?;
     Ok(survey)
 }
 
 /// Adds the files of which an opening drops whole batches.
-fn add_drops<S: Store>(
+fn add_dropped<S: Store>(
     alloc: Global,
     store: &mut S,
     listed: &[u64],
-    drops: &[Dropped],
+    files: &[Left],
     losses: &mut Vec<Loss>,
-) -> Result<(), Fault>
+) -> Result<(), StoreFault>
     requires { listed.now ≡ keys (S.disk store.old).table }
-    ensures { listed.now ≡ keys (S.disk store.new).table }
+    ensures losses { IfOk result (λ _. (S.disk store.new).honest
+        → losses.new.items ≡ losses.old.items ++ losses_of (S.disk store.old) files.now) }
+    ensures unchanged { Keeps (S.disk store.old) (S.disk store.new) }
 {
-    for drop in drops {
-        let place = drop.after.unwrap_or(0);
-        add_loss(alloc, store, listed, drop.file, place, losses)?;
+    for file in files {
+        if file.is_dropped() {
+            let place = file.after.unwrap_or(0);
+            add_loss(alloc, store, listed, file.file, place, losses)?;
+        }
     }
     Ok(())
 }
@@ -110,9 +114,11 @@ fn add_loss<S: Store>(
     file: u64,
     place: u64,
     losses: &mut Vec<Loss>,
-) -> Result<(), Fault>
+) -> Result<(), StoreFault>
     requires { listed.now ≡ keys (S.disk store.old).table }
-    ensures { listed.now ≡ keys (S.disk store.new).table }
+    ensures losses { IfOk result (λ _. (S.disk store.new).honest
+        → losses.new.items ≡ losses.old.items ++ loss_at (S.disk store.old) file place) }
+    ensures unchanged { Keeps (S.disk store.old) (S.disk store.new) }
 {
     let whole = whole_among(alloc, store, listed, file, place, 0)?;
     if whole.batches > 0 {
@@ -131,14 +137,21 @@ fn add_strays<S: Store>(
     alloc: Global,
     store: &mut S,
     listed: &[u64],
-    opening: &Opening<'_>,
+    opened: &Opened<'_>,
     survey: &mut Surveyed,
-) -> Result<(), Fault>
+) -> Result<(), StoreFault>
     requires { listed.now ≡ keys (S.disk store.old).table }
-    ensures { listed.now ≡ keys (S.disk store.new).table }
+    ensures losses { IfOk result (λ _. (S.disk store.new).honest
+        → survey.new.losses.items ≡ survey.old.losses.items
+        ++ stray_losses (S.disk store.old) (map (λ name. name.now) opened.now.names.now)
+        opened.now.next_instances.now opened.now.strays.now) }
+    ensures unfit { IfOk result (λ _. (S.disk store.new).honest
+        → survey.new.strays.unfit ≡ unfit_after (S.disk store.old) (map (λ name. name.now) opened.now.names.now)
+        opened.now.next_instances.now survey.old.strays.unfit opened.now.strays.now) }
+    ensures unchanged { Keeps (S.disk store.old) (S.disk store.new) }
 {
-    for file in opening.strays {
-        add_stray(alloc, store, listed, opening, *file, survey)?;
+    for file in opened.strays {
+        add_stray(alloc, store, listed, opened, *file, survey)?;
     }
     Ok(())
 }
@@ -148,20 +161,27 @@ fn add_stray<S: Store>(
     alloc: Global,
     store: &mut S,
     listed: &[u64],
-    opening: &Opening<'_>,
+    opened: &Opened<'_>,
     file: u64,
     survey: &mut Surveyed,
-) -> Result<(), Fault>
+) -> Result<(), StoreFault>
     requires { listed.now ≡ keys (S.disk store.old).table }
-    ensures { listed.now ≡ keys (S.disk store.new).table }
+    ensures losses { IfOk result (λ _. (S.disk store.new).honest
+        → survey.new.losses.items ≡ survey.old.losses.items
+        ++ stray_loss (S.disk store.old) file
+        (stray_at (S.disk store.old) (map (λ name. name.now) opened.now.names.now) opened.now.next_instances.now file)) }
+    ensures unfit { IfOk result (λ _. (S.disk store.new).honest
+        → survey.new.strays.unfit ≡ with_stray survey.old.strays.unfit
+        (stray_at (S.disk store.old) (map (λ name. name.now) opened.now.names.now) opened.now.next_instances.now file)) }
+    ensures unchanged { Keeps (S.disk store.old) (S.disk store.new) }
 {
     let found = stray_among(
         alloc,
         store,
         listed,
         file,
-        opening.names,
-        opening.next_instances,
+        opened.names,
+        opened.next_instances,
     )?;
     let Some(stray) = found else {
         return Ok(());
@@ -175,6 +195,7 @@ fn add_stray<S: Store>(
 
 impl StrayCounts {
     ghost use Rattle.kb_survey.specs.Stray.{is_unfit};
+    ghost use Rattle.kb_start.specs.Left.{told};
 
     /// Counts a file that is of no log.
     fn add(
@@ -183,7 +204,7 @@ impl StrayCounts {
         stray: Stray,
         header: Option<SegmentHeader>,
     ) -> Result<(), AllocError>
-        ensures unfit { self.new.unfit ≡ (if is_unfit stray then min (self.old.unfit + 1) 18446744073709551615 else self.old.unfit) }
+        ensures { self.new.unfit ≡ (if is_unfit stray then told (self.old.unfit + 1) else self.old.unfit) }
     {
         if stray.is_unfit() {
             self.unfit = self.unfit.saturating_add(1);

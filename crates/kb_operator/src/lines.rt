@@ -29,8 +29,8 @@ struct Output {
     is_watched: bool,
     /// A line was written without its end.
     is_open: bool,
-    /// The moment that stands in front of a line.
-    now: u64,
+    /// The moment that stands in front of a line, where one does.
+    now: Option<u64>,
 }
 
 impl Lines {
@@ -44,14 +44,30 @@ impl Lines {
                 events: Events::with_capacity(rt.alloc(), 1)?,
                 is_watched: false,
                 is_open: false,
-                now: 0,
+                now: None,
             },
         })
     }
 
+    /// Whether the system tells when standard error takes a line. Where it does not, no line is told.
+    pub fn can_tell(&self) -> bool {
+        self.output.poll.is_some()
+    }
+
     /// Tells a line with a moment of the wall clock in front. A text for which there was no memory is a line that was missed.
     pub fn tell(&mut self, now: u64, text: Result<String, AllocError>) {
-        self.output.now = now;
+        self.output.now = Some(now);
+        self.offer(text);
+    }
+
+    /// Tells a line as it is, without a moment.
+    pub fn tell_alone(&mut self, text: Result<String, AllocError>) {
+        self.output.now = None;
+        self.offer(text);
+    }
+
+    /// Tells a line.
+    fn offer(&mut self, text: Result<String, AllocError>) {
         match text {
             Ok(text) => self.missed.tell(&mut self.output, &text),
             Err(_) => self.missed.miss(),
@@ -60,7 +76,7 @@ impl Lines {
 
     /// Tells how many lines were missed, if any were.
     pub fn catch_up(&mut self, now: u64) {
-        self.output.now = now;
+        self.output.now = Some(now);
         self.missed.catch_up(&mut self.output);
     }
 }
@@ -90,8 +106,10 @@ impl Output {
     fn text_of(&self, line: &str) -> Result<String, AllocError> {
         let alloc = self.rt.alloc();
         let start = if self.is_open { "\n" } else { "" };
-        let time = time_text(alloc, self.now)?;
-        format!(in alloc; "{start}{time} {line}\n")
+        match self.now {
+            Some(now) => format!(in alloc; "{start}{} {line}\n", time_text(alloc, now)?),
+            None => format!(in alloc; "{start}{line}\n"),
+        }
     }
 
     /// Writes a line, at most its first 4,096 bytes, and says whether they were taken.

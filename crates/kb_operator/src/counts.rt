@@ -1,0 +1,16 @@
+//! What a broker counts of what it refuses.
+
+/// What a broker counts of what it refuses.
+pub trait RefusalCounts {
+    /// Whether it refused nothing yet.
+    fn is_calm(&self) -> bool;
+
+    /// How many requests of a tenant it refused.
+    fn of_tenant(&self, name: &str) -> u64;
+
+    /// How many requests it refused before a login.
+    fn before_login(&self) -> u64;
+
+    /// How many calls its store refused.
+    fn of_disk(&self) -> u64;
+}

@@ -1,0 +1,116 @@
+//! The data folder.
+
+use crate::fault::OperatorFault;
+use crate::refused::FolderJournal;
+use kb_folder::{FolderFault, FolderStore, HostFolder, is_full, make_folder};
+use std::fs::{File, OpenOptions, TryLockError};
+use std::io::Write;
+use std::os::unix::fs::OpenOptionsExt;
+use std::{fs, io};
+
+/// The name of a file that is made, written and removed at a start. It is no log's.
+const TRIAL: &str = "trial";
+
+/// The store of the files of a folder of the system.
+pub type DataStore = FolderStore<HostFolder<HostRuntime>>;
+
+/// Takes the folder at a path for this process alone, and makes it where it is missing. Another process that holds it is a fault, and
+/// so is a folder in which no file can be made, written and removed. One on a full disk is taken.
+///
+/// It is held by a lock of the system until the handle is closed, and so no longer than the process lives, however it ends.
+pub fn hold(rt: &HostRuntime, path: &str) -> Result<File, OperatorFault> {
+    if let Err(error) = make_folder(rt, path) {
+        return Err(refused(rt, "make", path, error));
+    }
+    let folder = match File::open(rt, path) {
+        Ok(folder) => folder,
+        Err(error) => return Err(refused(rt, "open", path, error)),
+    };
+    match folder.try_lock() {
+        Ok(()) => {}
+        Err(TryLockError::WouldBlock) => {
+            return Err(OperatorFault::Held(String::from_str(rt.alloc(), path)?));
+        }
+        Err(TryLockError::Error(error)) => return Err(refused(rt, "lock", path, error)),
+    }
+    try_write(rt, path)?;
+    Ok(folder)
+}
+
+/// Makes, writes and removes a file in a folder.
+fn try_write(rt: &HostRuntime, folder: &str) -> Result<(), OperatorFault> {
+    let path = format!(in rt.alloc(); "{folder}/{TRIAL}")?;
+    let written = write_file(rt, path.as_str());
+    let removed = fs::remove_file(rt, path.as_str());
+    match written.and(removed) {
+        Err(error) if !is_full(&error) => Err(refused(rt, "write", path.as_str(), error)),
+        _ => Ok(()),
+    }
+}
+
+/// Makes a file with one byte, or writes one into a file that is there.
+fn write_file(rt: &HostRuntime, path: &str) -> io::Result<()> {
+    let mut file = OpenOptions::new()
+        .write(true)
+        .create(true)
+        .mode(0o600)
+        .open(rt, path)?;
+    file.write_all(b"\n")
+}
+
+/// The fault of a folder or a file that the system refuses.
+fn refused(rt: &HostRuntime, call: &str, path: &str, error: io::Error) -> OperatorFault {
+    match format!(in rt.alloc(); "cannot {call} {path}: {error}") {
+        Ok(text) => OperatorFault::System(text),
+        Err(_) => OperatorFault::Memory,
+    }
+}
+
+/// Whether there is a folder at a path.
+pub fn is_folder(rt: &HostRuntime, path: &str) -> bool {
+    match fs::metadata(rt, path) {
+        Ok(found) => found.is_dir(),
+        Err(_) => false,
+    }
+}
+
+/// The store of the files in a journal's folder that is there, to be read alone.
+pub fn store_to_read(
+    rt: &HostRuntime,
+    journal: &FolderJournal,
+) -> Result<DataStore, OperatorFault> {
+    store_of(rt, journal, HostFolder::to_read(*rt, journal.folder()))
+}
+
+/// The store of the files in a journal's folder.
+pub fn store_in(rt: &HostRuntime, journal: &FolderJournal) -> Result<DataStore, OperatorFault> {
+    store_of(rt, journal, HostFolder::new(*rt, journal.folder()))
+}
+
+/// The store of the files in a journal's folder, which keeps a reserve for a full disk.
+pub fn store_with_reserve(
+    rt: &HostRuntime,
+    journal: &FolderJournal,
+) -> Result<DataStore, OperatorFault> {
+    match HostFolder::new(*rt, journal.folder()) {
+        Ok(folder) => store_of(rt, journal, Ok(folder.with_reserve())),
+        Err(fault) => Err(journal.of_folder(rt.alloc(), fault)),
+    }
+}
+
+/// The store of the files in a folder. What the system refuses to it is noted in the journal.
+fn store_of(
+    rt: &HostRuntime,
+    journal: &FolderJournal,
+    folder: Result<HostFolder<HostRuntime>, FolderFault>,
+) -> Result<DataStore, OperatorFault> {
+    let alloc = rt.alloc();
+    let folder = match folder {
+        Ok(folder) => folder.noting(journal.refusals().share()?),
+        Err(fault) => return Err(journal.of_folder(alloc, fault)),
+    };
+    match FolderStore::new(alloc, folder) {
+        Ok(store) => Ok(store),
+        Err(fault) => Err(journal.of_folder(alloc, fault)),
+    }
+}

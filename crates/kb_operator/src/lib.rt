@@ -1,0 +1,33 @@
+//! What a broker's program asks of its operator and tells him: the settings, the data folder, and lines on standard error.
+//!
+//! [`settings_of`] reads the settings of a file, or says what is wrong with it, and [`look_at_start`] looks at what the process may have
+//! open. [`hold`] takes the data folder, and [`store_in`] is the store of its files. A [`Journal`] tells what happens while it is
+//! open, and a [`FolderJournal`] what the system refuses to it, on [`Lines`] that wait for no reader.
+#![tactic(auto)]
+
+mod address;
+mod changed;
+mod counts;
+mod fault;
+mod folder;
+mod journal;
+mod lines;
+mod look;
+mod reasons;
+mod refused;
+mod settings;
+mod shown;
+mod start;
+
+pub use address::{address_text, addresses_text, listen_fault};
+pub use changed::last_change;
+pub use counts::RefusalCounts;
+pub use fault::OperatorFault;
+pub use folder::{DataStore, hold, is_folder, store_in, store_to_read, store_with_reserve};
+pub use journal::{Held, Journal, Word};
+pub use lines::Lines;
+pub use look::look_at_start;
+pub use refused::FolderJournal;
+pub use settings::{data_folder, settings_in, settings_of};
+pub use shown::write_settings;
+pub use start::examine;

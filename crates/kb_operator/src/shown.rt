@@ -1,0 +1,66 @@
+//! What settings come to, as text.
+
+use crate::address::address_text;
+use crate::fault::OperatorFault;
+use kb_settings::{Settings, tenant_names};
+use std::alloc::Global;
+use std::io;
+use std::io::Write;
+
+/// Writes a line for each key and for each user, in the order of the file and without passwords, and then the counts. The folder is
+/// the one that they name.
+pub fn write_settings<W: Write>(
+    alloc: Global,
+    settings: &Settings,
+    folder: &str,
+    writer: &mut W,
+) -> Result<(), OperatorFault> {
+    let advertised = match &settings.advertise {
+        Some(told) => Some(address_text(alloc, &told.host, told.port)?),
+        None => None,
+    };
+    let tenants = tenant_names(alloc, &settings.users)?.len();
+    let written = match write_addresses(settings, advertised.as_deref(), writer) {
+        Ok(()) => write_rest(settings, folder, tenants, writer),
+        Err(error) => Err(error),
+    };
+    match written {
+        Ok(()) => Ok(()),
+        Err(_) => Err(OperatorFault::Write),
+    }
+}
+
+/// Where it listens, and what clients are told.
+fn write_addresses<W: Write>(
+    settings: &Settings,
+    advertised: Option<&str>,
+    writer: &mut W,
+) -> io::Result<()> {
+    writeln!(writer, "host = {:?}", settings.host)?;
+    writeln!(writer, "port = {}", settings.port)?;
+    if let Some(advertised) = advertised {
+        writeln!(writer, "advertise = {advertised:?}")?;
+    }
+    Ok(())
+}
+
+/// The sizes, the folder, the users and the counts.
+fn write_rest<W: Write>(
+    settings: &Settings,
+    folder: &str,
+    tenants: usize,
+    writer: &mut W,
+) -> io::Result<()> {
+    writeln!(writer, "segment_bytes = {}", settings.segment_bytes)?;
+    writeln!(writer, "cache_batches = {}", settings.cache_batches)?;
+    writeln!(writer, "cache_bytes = {}", settings.cache_bytes)?;
+    writeln!(writer, "connections = {}", settings.connections)?;
+    writeln!(writer, "output_bytes = {}", settings.output_bytes)?;
+    writeln!(writer, "data = {folder:?}")?;
+    for user in &settings.users {
+        writeln!(writer, "user {:?} of tenant {:?}", user.name, user.tenant)?;
+    }
+    let users = settings.users.len();
+    writeln!(writer, "users: {users}, tenants: {tenants}")?;
+    writer.flush()
+}

@@ -1,0 +1,16 @@
+use Rattle.std.proofs.Common.{◌≡◌, ◌++◌, drop}
+use Rattle.std.specs.FinMap.{keys}
+use Rattle.kb_store.specs.Disk.{Keeps}
+use Rattle.kb_start.specs.Survey.{losses_of}
+use Rattle.kb_start.proofs.losses.add_dropped.Given as goal
+
+-- the losses so far, and those of the files that are left
+abbrev pub invariant-loop-file : goal.invariant-loop-file
+invariant-loop-file g l =
+    let old = g.S.Store.disk l.fn.store in
+    let now = g.S.Store.disk l.store in
+    record {
+      listed : l.listed ≡ keys now.table;
+      unchanged : Keeps old now;
+      told : now.honest → l.losses.items ++ losses_of old (drop l.file-index l.files) ≡ l.initial.losses.items ++ losses_of old l.files;
+    }

@@ -1,0 +1,16 @@
+//! What a start on a data folder would lose or leave aside, and whether it goes on.
+//!
+//! [`Left`] is a file before and after an opening. [`survey`] says of which files whole batches would be gone, and which files are of
+//! no log. [`why_refused`] judges that by what the operator agrees to ([`Consent`]). [`loss_text`], [`damage_text`] and [`stray_text`]
+//! tell it.
+#![tactic(auto)]
+
+mod left;
+mod losses;
+mod text;
+mod verdict;
+
+pub use left::{Left, Total};
+pub use losses::{Loss, Opened, StrayCounts, Surveyed, survey};
+pub use text::{damage_text, loss_text, stray_text};
+pub use verdict::{Cause, Consent, why_refused};

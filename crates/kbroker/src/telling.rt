@@ -1,0 +1,69 @@
+//! What a journal is told of a broker.
+
+ghost use Rattle.std.specs.Prelude.{◌≤◌, ◌^◌};
+
+use kb_broker::Broker;
+use kb_log::PartitionLog;
+use kb_node::{Edge, Store, Turn};
+use kb_operator::{Journal, RefusalCounts};
+use kb_server_log::{Tick, now};
+use std::net::Net;
+
+/// What a broker counts of what it refuses.
+#[derive(Drop)]
+pub struct CountsOf<'a, S: Store, L: PartitionLog + Drop>(pub &'a Broker<S, L>);
+
+impl<'a, S: Store, L: PartitionLog + Drop> RefusalCounts for CountsOf<'a, S, L> {
+    fn is_calm(&self) -> bool {
+        self.0.is_calm()
+    }
+
+    fn of_tenant(&self, name: &str) -> u64 {
+        self.0.refusals(name)
+    }
+
+    fn before_login(&self) -> u64 {
+        self.0.refusals_unbound()
+    }
+
+    fn of_disk(&self) -> u64 {
+        self.0.store().failures()
+    }
+}
+
+/// Tells what happened in a turn at a tick: logins that failed and the clock at once, and counts at most once a second.
+pub fn tell_turn<R: Net, S: Store, L: PartitionLog + Drop>(
+    rt: &HostRuntime,
+    journal: &mut Journal,
+    edge: &Edge<R, S, L>,
+    turn: &Turn,
+    tick: Tick,
+)
+    requires { tick.moment ≤ 2 ^ 62 }
+{
+    let (alloc, now) = (rt.alloc(), now(rt));
+    if turn.denied > 0 {
+        tell_denied(rt, journal, edge, turn.denied);
+    }
+    if let Some(notice) = tick.told {
+        journal.tell_clock(alloc, now, notice);
+    }
+    let counts = CountsOf(edge.broker());
+    journal.count_closed(turn.strangers, turn.unread);
+    journal.tell_counts(alloc, now, tick.moment, turn.turned_away, &counts);
+}
+
+/// Tells the logins of a turn that failed.
+fn tell_denied<R: Net, S: Store, L: PartitionLog + Drop>(
+    rt: &HostRuntime,
+    journal: &mut Journal,
+    edge: &Edge<R, S, L>,
+    denied: u64,
+) {
+    let (alloc, now) = (rt.alloc(), now(rt));
+    for login in edge.denied() {
+        journal.tell_login(alloc, now, login.address, &login.name);
+    }
+    let more = denied.saturating_sub(edge.denied().len() as u64);
+    journal.tell_more_logins(alloc, now, more);
+}

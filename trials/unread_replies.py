@@ -1,0 +1,119 @@
+#!/usr/bin/env python3
+"""Clients that ask for much and read nothing hold nobody up for longer than ten seconds.
+
+    trials/unread_replies.py KBROKER
+
+A broker may keep 1,048,576 bytes of unread replies. Three connections of one user ask for 8 MB each and never read, so that nobody is served.
+Another tenant's Produce that comes behind theirs has to be answered within 11 seconds, and one right behind it within 11 more. The log has
+to tell it. A client that asks for 8 MB and reads 2,048 bytes every half a second is not closed within 30 seconds, though it makes all wait.
+"""
+
+import socket
+import struct
+import sys
+import tempfile
+import time
+
+from wire import Broker, Client, batch, text
+
+MANY = 8 << 20
+UNREAD = 3
+STALL = 11
+SLOW = 30
+
+
+def closings(broker):
+    """What the log tells of closed connections."""
+    return [it for it in broker.log().splitlines() if "connections closed:" in it]
+
+
+def ask_for(client, topic):
+    """Sends a fetch of 8 MB."""
+    body = struct.pack(">iiiibi", -1, 0, 1, MANY, 0, 1) + text(topic) + struct.pack(">iiqi", 1, 0, 0, MANY)
+    request = struct.pack(">hhih", 1, 4, 7, -1) + body
+    client.socket.sendall(struct.pack(">i", len(request)) + request)
+
+
+def unread(broker):
+    """In how many seconds a Produce is answered beside those that do not read, and the next. None where it is not."""
+    others = [Client(broker.port) for _ in range(UNREAD)]
+    client = Client(broker.port, b"bob", b"pw2")
+    client.socket.settimeout(60)
+    client.create(b"t")
+    for other in others:
+        ask_for(other, b"big")
+        time.sleep(0.05)
+    times = []
+    for _ in range(2):
+        began = time.monotonic()
+        try:
+            code = client.produce(b"t", batch(b"hi"))[0]
+        except OSError:
+            break
+        if code != 0:
+            break
+        times.append(time.monotonic() - began)
+    for it in others + [client]:
+        it.socket.close()
+    return times
+
+
+def slow(broker):
+    """For how many seconds a client that reads slowly is served, and how many bytes it gets."""
+    client = Client.__new__(Client)
+    client.socket = socket.socket()
+    client.socket.setsockopt(socket.SOL_SOCKET, socket.SO_RCVBUF, 4096)
+    client.socket.settimeout(20)
+    client.socket.connect(("127.0.0.1", broker.port))
+    client.ask(17, 1, text(b"PLAIN"))
+    client.ask(36, 0, struct.pack(">i", 8) + b"\0ann\0pw1")
+    before = closings(broker)
+    ask_for(client, b"big")
+    began, got = time.monotonic(), 0
+    while time.monotonic() < began + SLOW:
+        time.sleep(0.5)
+        try:
+            piece = client.socket.recv(2048)
+        except OSError:
+            break
+        if not piece:
+            break
+        got += len(piece)
+    lasted = time.monotonic() - began
+    is_open = closings(broker) == before
+    client.socket.close()
+    return lasted, got, is_open
+
+
+def looked_at(broker):
+    """Whether those that do not read are closed, and one that reads is not."""
+    client = Client(broker.port)
+    client.create(b"big")
+    for _ in range(10):
+        client.produce(b"big", batch(b"x" * 1_000_000))
+    times = unread(broker)
+    time.sleep(2)
+    told = closings(broker)
+    print(f"beside {UNREAD} that do not read, Produces are answered after {' and '.join(f'{it:.1f}' for it in times) or 'never'} s; {told}")
+    lasted, got, is_open = slow(broker)
+    print(f"one that reads slowly is served for {lasted:.0f} s, and gets {got} bytes; it is {'not ' if is_open else ''}closed")
+    return len(times) == 2 and max(times) < STALL and bool(told) and lasted >= SLOW and is_open
+
+
+def main(program):
+    """Whether unread replies hold nobody up."""
+    with tempfile.TemporaryDirectory() as room:
+        broker = Broker(program, room, more="output_bytes = 1048576")
+        try:
+            if not broker.listens():
+                print("the broker does not listen")
+                return 1
+            return 0 if looked_at(broker) else 1
+        finally:
+            broker.stop()
+
+
+if __name__ == "__main__":
+    if len(sys.argv) != 2:
+        sys.exit(__doc__)
+    sys.exit(main(sys.argv[1]))

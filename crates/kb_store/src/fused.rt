@@ -80,9 +80,16 @@ impl<S: Store> FusedStore<S> {
 impl<S: Store> Store for FusedStore<S> {
     ghost use Rattle.kb_store.specs.Disk.{IsThere, len_of, bytes_of, Keeps, Creates, Appends, Cuts, Removes, MayCreate, AppendsSome};
     ghost use Rattle.kb_store.specs.Disk.{HasCause};
+    ghost use Rattle.kb_store.specs.Loss.{Goes, Only, Same, Makes, Tears, Drops, Clears};
     ghost use Rattle.kb_store.specs.Fused.{disk_through, fused_lawful, Counts, refuses_call, one_more};
 
     ghost disk = { disk_through S.disk };
+
+    ghost loss = { λ s. S.loss s.store };
+
+    ghost settled = { λ s. S.settled s.store };
+
+    ghost timely = { λ s. S.timely s.store };
 
     ghost lawful = { λ s. fused_lawful (S.disk s.store) s.refused (S.lawful s.store) };
 
@@ -94,6 +101,7 @@ impl<S: Store> Store for FusedStore<S> {
         ensures numbers { IfOk result (λ numbers. numbers.items ≡ map.keys (S.disk self.old.store).table) }
         ensures unchanged { Keeps (disk_through S.disk self.old) (disk_through S.disk self.new) }
         ensures cause { HasCause (disk_through S.disk self.old) result (disk_through S.disk self.new) }
+        ensures loss { Goes Same (S.loss self.old.store) (S.loss self.new.store) }
         ensures counts { Counts self.old result self.new }
     {
         if self.refuses() {
@@ -107,6 +115,7 @@ impl<S: Store> Store for FusedStore<S> {
         ensures len { IfOk result (λ n. n ≡ len_of (disk_through S.disk self.old) file) }
         ensures unchanged { Keeps (disk_through S.disk self.old) (disk_through S.disk self.new) }
         ensures cause { HasCause (disk_through S.disk self.old) result (disk_through S.disk self.new) }
+        ensures loss { Goes Same (S.loss self.old.store) (S.loss self.new.store) }
         ensures counts { Counts self.old result self.new }
     {
         if self.refuses() {
@@ -120,6 +129,7 @@ impl<S: Store> Store for FusedStore<S> {
         ensures created { OnOk result (Creates (disk_through S.disk self.old) file (disk_through S.disk self.new)) }
         ensures refused { OnErr result (MayCreate (disk_through S.disk self.old) file (disk_through S.disk self.new)) }
         ensures cause { HasCause (disk_through S.disk self.old) result (disk_through S.disk self.new) }
+        ensures loss { Goes (Makes file) (S.loss self.old.store) (S.loss self.new.store) }
         ensures counts { Counts self.old result self.new }
         // With nothing to keep a call that the fuse refuses makes no file.
         ensures absent { refuses_call self.old.fuse (one_more self.old.calls) ≡ true → self.old.keep ≡ 0 → self.new.store ≡ self.old.store }
@@ -138,6 +148,7 @@ impl<S: Store> Store for FusedStore<S> {
         ensures appended { OnOk result (Appends (disk_through S.disk self.old) file bytes.now (disk_through S.disk self.new)) }
         ensures refused { OnErr result (AppendsSome (disk_through S.disk self.old) file bytes.now (disk_through S.disk self.new)) }
         ensures cause { HasCause (disk_through S.disk self.old) result (disk_through S.disk self.new) }
+        ensures loss { Goes (Tears file (len_of (disk_through S.disk self.old) file)) (S.loss self.old.store) (S.loss self.new.store) }
         ensures counts { Counts self.old result self.new }
         // A call that the fuse refuses leaves no more than the bytes that are to be kept.
         ensures cut_short { refuses_call self.old.fuse (one_more self.old.calls) ≡ true
@@ -158,6 +169,7 @@ impl<S: Store> Store for FusedStore<S> {
             → buffer.new ≡ take (length buffer.old) (drop at (bytes_of (disk_through S.disk self.old) file))) }
         ensures unchanged { Keeps (disk_through S.disk self.old) (disk_through S.disk self.new) }
         ensures cause { HasCause (disk_through S.disk self.old) result (disk_through S.disk self.new) }
+        ensures loss { Goes Same (S.loss self.old.store) (S.loss self.new.store) }
         ensures counts { Counts self.old result self.new }
     {
         if self.refuses() {
@@ -172,6 +184,7 @@ impl<S: Store> Store for FusedStore<S> {
         ensures cut { OnOk result (Cuts (disk_through S.disk self.old) file len (disk_through S.disk self.new)) }
         ensures refused { OnErr result (Keeps (disk_through S.disk self.old) (disk_through S.disk self.new)) }
         ensures cause { HasCause (disk_through S.disk self.old) result (disk_through S.disk self.new) }
+        ensures loss { Goes (Tears file len) (S.loss self.old.store) (S.loss self.new.store) }
         ensures counts { Counts self.old result self.new }
     {
         if self.refuses() {
@@ -185,11 +198,34 @@ impl<S: Store> Store for FusedStore<S> {
         ensures removed { OnOk result (Removes (disk_through S.disk self.old) file (disk_through S.disk self.new)) }
         ensures refused { OnErr result (Keeps (disk_through S.disk self.old) (disk_through S.disk self.new)) }
         ensures cause { HasCause (disk_through S.disk self.old) result (disk_through S.disk self.new) }
+        ensures loss { Goes (Drops file) (S.loss self.old.store) (S.loss self.new.store) }
         ensures counts { Counts self.old result self.new }
     {
         if self.refuses() {
             return Err(StoreFault::Device);
         }
         self.store.remove(file)
+    }
+
+    fn sync(&mut self) -> Result<(), StoreFault>
+        ensures synced { OnOk result (S.settled self.new.store → (disk_through S.disk self.new).honest
+            → Only (disk_through S.disk self.new).files (S.loss self.new.store)) }
+        ensures unchanged { Keeps (disk_through S.disk self.old) (disk_through S.disk self.new) }
+        ensures cause { HasCause (disk_through S.disk self.old) result (disk_through S.disk self.new) }
+        ensures loss { Goes (Clears (disk_through S.disk self.old).table) (S.loss self.old.store) (S.loss self.new.store) }
+        ensures prompt { S.settled self.old.store → Goes Same (S.loss self.old.store) (S.loss self.new.store) }
+        ensures counts { Counts self.old result self.new }
+    {
+        if self.refuses() {
+            return Err(StoreFault::Device);
+        }
+        self.store.sync()
+    }
+
+    fn is_synced(&self) -> bool
+        ensures settled { result ≡ true → S.settled self.now.store }
+        ensures synced { result ≡ true → (S.disk self.now.store).honest → Only (S.disk self.now.store).files (S.loss self.now.store) }
+    {
+        self.store.is_synced()
     }
 }

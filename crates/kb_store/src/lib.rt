@@ -9,12 +9,14 @@
 //! other store, as a failing disk would. [`read_file`] reads a whole file.
 #![tactic(auto)]
 
+mod direct;
 mod fault;
 mod fused;
 mod memory;
 mod read;
 mod store;
 
+pub use direct::Direct;
 pub use fault::StoreFault;
 pub use fused::{Fuse, FusedStore};
 pub use memory::MemoryStore;

@@ -2,6 +2,8 @@
 ghost use Rattle.std.specs.Prelude.{◌≡◌, ◌+◌, ◌≤◌, length, take, drop};
 ghost use Rattle.std.specs.FinMap as map;
 ghost use Rattle.kb_store.specs.Memory.{memory_disk, memory_lawful};
+ghost use Rattle.kb_store.specs.Loss.{nothing_left};
+ghost use Rattle.kb_store.specs.LossLaws.{nothing_timely};
 
 use crate::{Store, StoreFault};
 use std::alloc::Global;
@@ -29,7 +31,13 @@ impl MemoryStore {
 impl Store for MemoryStore {
     ghost disk = { λ s. memory_disk s.files.entries };
 
+    ghost loss = { λ _. nothing_left };
+
+    ghost settled = { λ _. Unit {0} };
+
     ghost lawful = { λ s. memory_lawful s.files.entries };
+
+    ghost timely = { λ _. nothing_timely };
 
     fn failures(&self) -> u64 {
         0
@@ -85,6 +93,14 @@ impl Store for MemoryStore {
     fn remove(&mut self, file: u64) -> Result<(), StoreFault> {
         self.files.remove(&file);
         Ok(())
+    }
+
+    fn sync(&mut self) -> Result<(), StoreFault> {
+        Ok(())
+    }
+
+    fn is_synced(&self) -> bool {
+        true
     }
 }
 

@@ -1,4 +1,5 @@
 pub mod Adding
+pub mod Goes
 pub mod Lens
 pub mod Listing
 pub mod Names

@@ -29,6 +29,12 @@ pub record Turns (old : Contents) (with : Files) (new : Contents) : Type 0 where
 abbrev pub Stays : Contents → Contents → Type 0
 Stays old new = Turns old old.files new
 
+-- Nothing changes, and it is honest if it was.
+pub record IsAsBefore (old new : Contents) : Type 0 where
+  pub files : new.files ≡ old.files
+  pub honest : new.honest → old.honest
+  pub still : old.honest → new.honest
+
 -- The file ends with those bytes, behind what it had.
 abbrev pub Adds : Contents → ℕ → List ℕ → Contents → Type 0
 Adds old file bytes new = Turns old (insert old.files file (bytes_in old file ++ bytes)) new

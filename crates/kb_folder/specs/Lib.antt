@@ -1,3 +1,4 @@
+pub mod Changed
 pub mod Folder
 pub mod Memory
 pub mod Names

@@ -4,6 +4,7 @@ ghost use Rattle.std.specs.Prelude.{◌≡◌, true};
 ghost use Rattle.std.specs.Io.{ReadsAtMost, WritesAtMost};
 ghost use Rattle.kb_folder.specs.Reserve.{is_catalogs};
 
+use crate::changed::Changed;
 use crate::name::{file_name, file_number};
 use crate::refusal::{FolderCall, Refusal, Refusals};
 use crate::reserve::{FRONT, front_of, is_full, may_take_reserve};
@@ -33,15 +34,17 @@ const ENFILE: i32 = 23;
 /// A folder of the system. No contract says what it holds.
 ///
 /// The files that were used last stay open, at most 256 of them, and fewer where the system has no descriptor for a further one. No
-/// call asks the system to write its own buffers out. Files that it makes are for the process's own user. A folder in it that has a
-/// file's name is as a file without bytes, and is noted as a refusal.
+/// call asks the system to write its own buffers out, unless the folder is [`HostFolder::syncing`]. Files that it makes are for the
+/// process's own user. A folder in it that has a file's name is as a file without bytes, and is noted as a refusal.
 #[derive(Drop)]
 pub struct HostFolder<R: Files<File = File> + AllocGlobal + Clone + Drop> {
-    rt: R,
-    path: String,
+    pub(crate) rt: R,
+    pub(crate) path: String,
     /// Whether files are opened for writing, too.
     writes: bool,
-    open: LruCache<u64, File>,
+    pub(crate) open: LruCache<u64, File>,
+    /// What has changed since it was made to last; none where it is not kept in mind.
+    pub(crate) changed: Option<Changed>,
     /// How many bytes its reserve has; none where it keeps none.
     reserve: Option<u64>,
     /// Where refusals are noted.
@@ -80,6 +83,7 @@ impl<R: Files<File = File> + AllocGlobal + Clone + Drop> HostFolder<R> {
             path: String::from_str(alloc, path)?,
             writes,
             open: LruCache::new(alloc, most)?,
+            changed: None,
             reserve: None,
             refusals: None,
         })
@@ -118,23 +122,23 @@ impl<R: Files<File = File> + AllocGlobal + Clone + Drop> HostFolder<R> {
     }
 
     /// A file, opened.
-    fn file(&mut self, file: u64) -> io::Result<&File> {
+    pub(crate) fn file(&mut self, file: u64) -> io::Result<&File> {
         if !self.open.contains(&file) {
             let path = self.path(file)?;
             let mut options = OpenOptions::new();
             options.read(true).write(self.writes);
             let opened = self.open_with(&options, path.as_str())?;
-            self.open.put(file, opened)?;
+            self.keep_open(file, opened)?;
         }
         self.open.get(&file).ok_or(ErrorKind::NotFound.into())
     }
 
     /// Opens a file. While the system has no descriptor for it the file that was used least lately is closed, and it is tried again.
-    fn open_with(&mut self, options: &OpenOptions, path: &str) -> io::Result<File> {
+    pub(crate) fn open_with(&mut self, options: &OpenOptions, path: &str) -> io::Result<File> {
         for _ in 0..MOST_OPEN {
             match options.open(&self.rt, path) {
                 Err(error) if wants_descriptor(&error) => {
-                    if self.open.pop_lru().is_none() {
+                    if !self.close_one() {
                         return Err(error);
                     }
                 }
@@ -145,7 +149,7 @@ impl<R: Files<File = File> + AllocGlobal + Clone + Drop> HostFolder<R> {
     }
 
     /// What a call came to. What the system refused is noted.
-    fn answer<T>(
+    pub(crate) fn answer<T>(
         &self,
         call: FolderCall,
         file: Option<u64>,
@@ -158,7 +162,12 @@ impl<R: Files<File = File> + AllocGlobal + Clone + Drop> HostFolder<R> {
     }
 
     /// The fault of an error. What the system refused is noted.
-    fn fault(&self, call: FolderCall, file: Option<u64>, error: io::Error) -> FolderFault {
+    pub(crate) fn fault(
+        &self,
+        call: FolderCall,
+        file: Option<u64>,
+        error: io::Error,
+    ) -> FolderFault {
         let fault = FolderFault::from(error);
         if let (FolderFault::Refused, Some(refusals)) = (fault, &self.refusals) {
             refusals.note(Refusal { call, file, error });
@@ -175,7 +184,7 @@ impl<R: Files<File = File> + AllocGlobal + Clone + Drop> HostFolder<R> {
         }
     }
 
-    fn list(&self, alloc: Global) -> io::Result<Vec<String>> {
+    pub(crate) fn list(&self, alloc: Global) -> io::Result<Vec<String>> {
         let mut names = Vec::new(alloc);
         for entry in fs::read_dir(&self.rt, self.path.as_str())? {
             match entry {
@@ -193,17 +202,28 @@ impl<R: Files<File = File> + AllocGlobal + Clone + Drop> HostFolder<R> {
         let path = self.path(file)?;
         let mut options = OpenOptions::new();
         options.read(true).write(true).create_new(true).mode(0o600);
-        let made = self.open_with(&options, path.as_str())?;
-        // Where there is no room for the handle the file is opened again when it is used.
-        let _ = self.open.put(file, made);
-        Ok(())
+        let first = self.note(file)?;
+        self.note_names();
+        match self.open_with(&options, path.as_str()) {
+            // Where there is no room for the handle the file is opened again when it is used.
+            Ok(made) => {
+                let _ = self.keep_open(file, made);
+                Ok(())
+            }
+            Err(error) => {
+                if first {
+                    self.forget(file);
+                }
+                Err(error)
+            }
+        }
     }
 
     /// Writes at a place. On a full disk a catalog may take room from the reserve.
     fn write(&mut self, file: u64, at: u64, bytes: &[u8]) -> io::Result<usize>
         ensures { WritesAtMost result bytes.now }
     {
-        match write_at(self.file(file)?, at, bytes) {
+        match write_at(self.to_change(file)?, at, bytes) {
             Err(error) if is_full(&error) && self.reserve.unwrap_or(0) > 0 => {
                 let front = self.front(file, at, bytes)?;
                 if !may_take_reserve(&front) {
@@ -228,7 +248,7 @@ impl<R: Files<File = File> + AllocGlobal + Clone + Drop> HostFolder<R> {
     {
         for power in LEAST_POWER..MOST_POWER {
             self.give_up(1 << power, front)?;
-            match write_at(self.file(file)?, at, bytes) {
+            match write_at(self.to_change(file)?, at, bytes) {
                 Err(error) if is_full(&error) => {}
                 written => return written,
             }
@@ -277,9 +297,12 @@ impl<R: Files<File = File> + AllocGlobal + Clone + Drop> HostFolder<R> {
 
     fn take_away(&mut self, file: u64) -> io::Result<()> {
         self.to_write()?;
-        self.open.pop(&file);
         let path = self.path(file)?;
-        fs::remove_file(&self.rt, path.as_str())
+        self.note_names();
+        fs::remove_file(&self.rt, path.as_str())?;
+        self.open.pop(&file);
+        self.forget(file);
+        Ok(())
     }
 }
 
@@ -330,8 +353,14 @@ fn read_whole(file: &File, at: u64, buffer: &mut [u8]) -> io::Result<usize>
 
 impl<R: Files<File = File> + AllocGlobal + Clone + Drop> Folder for HostFolder<R> {
     ghost use Rattle.std.specs.FinMap as map;
+    ghost use Rattle.kb_store.specs.Loss.{nothing_left};
+    ghost use Rattle.kb_store.specs.LossLaws.{nothing_timely};
 
     ghost contents = { λ _. record { files = map.empty; honest = ⊥ } };
+
+    ghost loss = { λ _. nothing_left };
+
+    ghost timely = { λ _. nothing_timely };
 
     fn names(&mut self, alloc: Global) -> Result<Vec<String>, FolderFault> {
         let listed = self.list(alloc);
@@ -373,7 +402,7 @@ impl<R: Files<File = File> + AllocGlobal + Clone + Drop> Folder for HostFolder<R
     }
 
     fn cut(&mut self, file: u64, len: u64) -> Result<(), FolderFault> {
-        let cut = match self.file(file) {
+        let cut = match self.to_change(file) {
             Ok(opened) => opened.set_len(len),
             Err(error) => Err(error),
         };
@@ -387,6 +416,10 @@ impl<R: Files<File = File> + AllocGlobal + Clone + Drop> Folder for HostFolder<R
         self.answer(FolderCall::Remove, Some(file), removed)?;
         self.restore_reserve();
         Ok(())
+    }
+
+    fn sync(&mut self) -> Result<(), FolderFault> {
+        self.sync_changed()
     }
 }
 

@@ -8,8 +8,10 @@
 //! store is what `Store` says. Of the system's own folder nothing is claimed. Files with other names are left alone.
 #![tactic(auto)]
 
+mod changed;
 mod folder;
 mod host;
+mod lasting;
 mod memory;
 mod name;
 mod refusal;

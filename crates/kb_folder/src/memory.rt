@@ -25,9 +25,15 @@ impl MemoryFolder {
 }
 
 impl Folder for MemoryFolder {
+    ghost use Rattle.kb_store.specs.Loss.{nothing_left};
+    ghost use Rattle.kb_store.specs.LossLaws.{nothing_timely};
     ghost use Rattle.kb_folder.specs.Memory.{memory_contents};
 
     ghost contents = { λ f. memory_contents f.files.entries };
+
+    ghost loss = { λ _. nothing_left };
+
+    ghost timely = { λ _. nothing_timely };
 
     fn names(&mut self, alloc: Global) -> Result<Vec<String>, FolderFault> {
         let mut names = Vec::new(alloc);
@@ -78,6 +84,10 @@ impl Folder for MemoryFolder {
 
     fn remove(&mut self, file: u64) -> Result<(), FolderFault> {
         self.files.remove(&file);
+        Ok(())
+    }
+
+    fn sync(&mut self) -> Result<(), FolderFault> {
         Ok(())
     }
 }

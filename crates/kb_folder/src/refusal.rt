@@ -22,6 +22,8 @@ pub enum FolderCall {
     Cut,
     /// The removal of a file.
     Remove,
+    /// A sync of a file, or of the folder's names.
+    Sync,
 }
 
 /// A call that the system refused.

@@ -1,12 +1,14 @@
 //! A store over a folder.
 
-ghost use Rattle.std.specs.Prelude.{◌≡◌, ◌+◌, ◌≤◌, ◌<◌, ◌^◌, ℕ, length, take, drop, cond, min, None, Some, Err, IfOk, OnOk, OnErr, IsSome};
+ghost use Rattle.std.specs.Prelude.{◌≡◌, ◌+◌, ◌≤◌, ◌<◌, ◌^◌, ℕ, false, length, take, drop, cond, min, None, Some};
+ghost use Rattle.std.specs.Prelude.{Err, IfOk, OnOk, OnErr, IsSome};
 ghost use Rattle.std.specs.FinMap as map;
 ghost use Rattle.std.specs.Ordering.{nat_cmp};
 ghost use Rattle.std.specs.BTreeMap.{is_at};
 ghost use Rattle.std.specs.Map.{lookup};
 ghost use Rattle.std.specs.List.{filter_map};
 ghost use Rattle.kb_store.specs.declared.fault.StoreFault.TheVariants.{Device, Memory};
+ghost use Rattle.kb_store.specs.Loss.{Goes, Same, Tears};
 ghost use Rattle.kb_folder.specs.declared.folder.FolderFault.TheVariants as faults;
 ghost use Rattle.kb_folder.specs.Folder.{AreNumbersOf, Stays, HasLength, Adds};
 ghost use Rattle.kb_folder.specs.Names.{numbers_named};
@@ -14,7 +16,7 @@ ghost use Rattle.kb_folder.specs.Store.{Foldered, counted, disk_over, table_of, 
 
 use crate::name::file_number;
 use crate::{Folder, FolderFault};
-use kb_store::{Store, StoreFault};
+use kb_store::{Direct, Store, StoreFault};
 use std::alloc::{AllocError, Global};
 use std::collections::BTreeMap;
 use std::marker::Model;
@@ -115,6 +117,7 @@ fn lens_in<F: Folder>(
     requires { (F.contents folder.old).honest → AreNumbersOf numbers.now (F.contents folder.old).files }
     ensures lens { IfOk result (λ lens. (F.contents folder.new).honest → AreLengths (table_of lens.entries) (F.contents folder.old).files) }
     ensures unchanged { Stays (F.contents folder.old) (F.contents folder.new) }
+    ensures loss { Goes Same (F.loss folder.old) (F.loss folder.new) }
 {
     let mut lens = BTreeMap::new(alloc);
     for number in numbers {
@@ -130,6 +133,7 @@ impl<F: Folder> FolderStore<F> {
     where
         F: Drop,
         ensures folder { IfOk result (λ store. Stays (F.contents folder) (F.contents store.folder)) }
+        ensures loss { IfOk result (λ store. Goes Same (F.loss folder) (F.loss store.folder)) }
         ensures lens { IfOk result (λ store. (F.contents store.folder).honest
             → AreLengths (table_of store.lens) (F.contents folder).files) }
         ensures failures { IfOk result (λ store. store.failures ≡ 0) }
@@ -165,6 +169,7 @@ fn add_on<F: Folder>(
     ensures count { result.0 ≤ length bytes.now }
     ensures whole { result.1 ≡ None → result.0 ≡ length bytes.now }
     ensures added { Adds (F.contents folder.old) file (take result.0 bytes.now) (F.contents folder.new) }
+    ensures loss { Goes (Tears file end) (F.loss folder.old) (F.loss folder.new) }
 {
     let mut added = 0;
     while added < bytes.len() {
@@ -190,11 +195,13 @@ fn add_whole<F: Folder>(
     ensures count { result.0 ≤ length bytes.now }
     ensures whole { result.1 ≡ None → result.0 ≡ length bytes.now }
     ensures added { Adds (F.contents folder.old) file (take result.0 bytes.now) (F.contents folder.new) }
+    ensures loss { Goes (Tears file end) (F.loss folder.old) (F.loss folder.new) }
 {
     let (added, fault) = add_on(folder, file, end, bytes);
-    if fault.is_none() || added == 0 {
+    if fault.is_none() {
         return (added, fault);
     }
+    // A write that the system refused may have put bytes down all the same.
     match folder.cut(file, end) {
         Ok(()) => (0, fault),
         Err(_) => (added, fault),
@@ -204,11 +211,18 @@ fn add_whole<F: Folder>(
 impl<F: Folder> Store for FolderStore<F> {
     ghost use Rattle.kb_store.specs.Disk.{IsThere, len_of, bytes_of, Keeps, Creates, Appends, Cuts, Removes, MayCreate, AppendsSome};
     ghost use Rattle.kb_store.specs.Disk.{HasCause};
+    ghost use Rattle.kb_store.specs.Loss.{Clears, Drops, Makes, Only};
     ghost use Rattle.kb_folder.specs.Store.{disk_over, folder_lawful, counted};
 
     ghost disk = { disk_over F.contents };
 
+    ghost loss = { λ s. F.loss s.folder };
+
+    ghost settled = { λ _. Unit {0} };
+
     ghost lawful = { λ s. folder_lawful (F.contents s.folder) s.lens s.failures };
+
+    ghost timely = { λ s. F.timely s.folder };
 
     fn failures(&self) -> u64 {
         self.failures
@@ -218,6 +232,7 @@ impl<F: Folder> Store for FolderStore<F> {
         ensures numbers { IfOk result (λ numbers. numbers.items ≡ map.keys (disk_over F.contents self.old).table) }
         ensures unchanged { Keeps (disk_over F.contents self.old) (disk_over F.contents self.new) }
         ensures cause { HasCause (disk_over F.contents self.old) result (disk_over F.contents self.new) }
+        ensures loss { Goes Same (F.loss self.old.folder) (F.loss self.new.folder) }
         ensures counts { self.new.failures ≡ counted self.old.failures result }
     {
         Ok(numbers_in(alloc, &self.lens)?)
@@ -228,6 +243,7 @@ impl<F: Folder> Store for FolderStore<F> {
         ensures len { IfOk result (λ n. n ≡ len_of (disk_over F.contents self.old) file) }
         ensures unchanged { Keeps (disk_over F.contents self.old) (disk_over F.contents self.new) }
         ensures cause { HasCause (disk_over F.contents self.old) result (disk_over F.contents self.new) }
+        ensures loss { Goes Same (F.loss self.old.folder) (F.loss self.new.folder) }
         ensures counts { self.new.failures ≡ counted self.old.failures result }
     {
         Ok(kept_len(&self.lens, file))
@@ -238,6 +254,7 @@ impl<F: Folder> Store for FolderStore<F> {
         ensures created { OnOk result (Creates (disk_over F.contents self.old) file (disk_over F.contents self.new)) }
         ensures refused { OnErr result (MayCreate (disk_over F.contents self.old) file (disk_over F.contents self.new)) }
         ensures cause { HasCause (disk_over F.contents self.old) result (disk_over F.contents self.new) }
+        ensures loss { Goes (Makes file) (F.loss self.old.folder) (F.loss self.new.folder) }
         ensures counts { self.new.failures ≡ counted self.old.failures result }
         ensures absent { OnErr result (Keeps (disk_over F.contents self.old) (disk_over F.contents self.new)) }
     {
@@ -256,6 +273,7 @@ impl<F: Folder> Store for FolderStore<F> {
         ensures appended { OnOk result (Appends (disk_over F.contents self.old) file bytes.now (disk_over F.contents self.new)) }
         ensures refused { OnErr result (AppendsSome (disk_over F.contents self.old) file bytes.now (disk_over F.contents self.new)) }
         ensures cause { HasCause (disk_over F.contents self.old) result (disk_over F.contents self.new) }
+        ensures loss { Goes (Tears file (len_of (disk_over F.contents self.old) file)) (F.loss self.old.folder) (F.loss self.new.folder) }
         ensures counts { self.new.failures ≡ counted self.old.failures result }
     {
         let end = kept_len(&self.lens, file);
@@ -277,6 +295,7 @@ impl<F: Folder> Store for FolderStore<F> {
             → buffer.new ≡ take (length buffer.old) (drop at (bytes_of (disk_over F.contents self.old) file))) }
         ensures unchanged { Keeps (disk_over F.contents self.old) (disk_over F.contents self.new) }
         ensures cause { HasCause (disk_over F.contents self.old) result (disk_over F.contents self.new) }
+        ensures loss { Goes Same (F.loss self.old.folder) (F.loss self.new.folder) }
         ensures counts { self.new.failures ≡ counted self.old.failures result }
     {
         match self.folder.read_at(file, at, buffer) {
@@ -292,6 +311,7 @@ impl<F: Folder> Store for FolderStore<F> {
         ensures cut { OnOk result (Cuts (disk_over F.contents self.old) file len (disk_over F.contents self.new)) }
         ensures refused { OnErr result (Keeps (disk_over F.contents self.old) (disk_over F.contents self.new)) }
         ensures cause { HasCause (disk_over F.contents self.old) result (disk_over F.contents self.new) }
+        ensures loss { Goes (Tears file len) (F.loss self.old.folder) (F.loss self.new.folder) }
         ensures counts { self.new.failures ≡ counted self.old.failures result }
     {
         match self.folder.cut(file, len) {
@@ -308,6 +328,7 @@ impl<F: Folder> Store for FolderStore<F> {
         ensures removed { OnOk result (Removes (disk_over F.contents self.old) file (disk_over F.contents self.new)) }
         ensures refused { OnErr result (Keeps (disk_over F.contents self.old) (disk_over F.contents self.new)) }
         ensures cause { HasCause (disk_over F.contents self.old) result (disk_over F.contents self.new) }
+        ensures loss { Goes (Drops file) (F.loss self.old.folder) (F.loss self.new.folder) }
         ensures counts { self.new.failures ≡ counted self.old.failures result }
     {
         match self.folder.remove(file) {
@@ -318,4 +339,30 @@ impl<F: Folder> Store for FolderStore<F> {
             Err(fault) => Err(fault_of(&mut self.failures, fault)),
         }
     }
+
+    fn sync(&mut self) -> Result<(), StoreFault>
+        ensures synced { OnOk result (Unit {0} → (disk_over F.contents self.new).honest
+            → Only (disk_over F.contents self.new).files (F.loss self.new.folder)) }
+        ensures unchanged { Keeps (disk_over F.contents self.old) (disk_over F.contents self.new) }
+        ensures cause { HasCause (disk_over F.contents self.old) result (disk_over F.contents self.new) }
+        ensures loss { Goes (Clears (disk_over F.contents self.old).table) (F.loss self.old.folder) (F.loss self.new.folder) }
+        ensures prompt { Goes Same (F.loss self.old.folder) (F.loss self.new.folder) }
+        ensures counts { self.new.failures ≡ counted self.old.failures result }
+    {
+        match self.folder.sync() {
+            Ok(()) => Ok(()),
+            Err(fault) => Err(fault_of(&mut self.failures, fault)),
+        }
+    }
+
+    /// It does not keep in mind whether something was changed.
+    fn is_synced(&self) -> bool
+        ensures { result ≡ false }
+    {
+        false
+    }
+}
+
+impl<F: Folder> Direct for FolderStore<F> {
+    ghost prompt = { λ _. tt };
 }

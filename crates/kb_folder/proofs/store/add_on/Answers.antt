@@ -2,12 +2,17 @@ use Rattle.std.proofs.Common.{◌≡◌, ◌+◌, take, subst, refl, arith, rule
 use Rattle.std.proofs.lemmas.List.{length-take-le}
 use Rattle.kb_folder.specs.Folder.{Adds}
 use Rattle.kb_folder.proofs.Adding.{adds_none, has_added, adds_next}
+use Rattle.kb_folder.proofs.Goes.{goes_torn, torn_none}
 use Rattle.kb_folder.proofs.store.add_on.Goals as goal
 
 pub loop-added-init : goal.loop-added-init
 loop-added-init g c =
     let had = g.F.Folder.contents c.args.folder.now in
-    record { count = omega arith; adds = adds_none had had c.args.file c.args.end c.requires.there (record { honest = λ h. h; files = λ h. refl }) }
+    record {
+      count = omega arith;
+      adds = adds_none had had c.args.file c.args.end c.requires.there (record { honest = λ h. h; files = λ h. refl });
+      torn = torn_none c.args.file c.args.end (g.F.Folder.loss c.args.folder.now);
+    }
 
 pub write_end-requires : goal.write_end-requires
 write_end-requires g c = λ h.
@@ -30,4 +35,19 @@ loop-added-preserved g c =
     record {
       count = search rules;
       adds = adds_next (g.F.Folder.contents c.args.folder.now) (g.F.Folder.contents c.loop-added.folder) c.args.file (g.F.Folder.contents c.write_end.new.self) c.args.bytes.now c.loop-added.added c.in-Ok.taken i.adds c.in-Ok.ensures.written;
+      torn = goes_torn c.args.file c.args.end (c.args.end + c.loop-added.added) (g.F.Folder.loss c.args.folder.now) (g.F.Folder.loss c.loop-added.folder)
+          (g.F.Folder.loss c.write_end.new.self) (omega arith) i.torn c.write_end.ensures.loss;
     }
+
+pub returns-in-Ok-eq0-clause-loss : goal.returns-in-Ok-eq0-clause-loss
+returns-in-Ok-eq0-clause-loss g c =
+    goes_torn c.args.file c.args.end (c.args.end + c.loop-added.added) (g.F.Folder.loss c.args.folder.now) (g.F.Folder.loss c.loop-added.folder) (g.F.Folder.loss c.write_end.new.self)
+    (omega arith) c.loop-added.invariant.torn c.write_end.ensures.loss
+
+pub returns-in-Err-clause-loss : goal.returns-in-Err-clause-loss
+returns-in-Err-clause-loss g c =
+    goes_torn c.args.file c.args.end (c.args.end + c.loop-added.added) (g.F.Folder.loss c.args.folder.now) (g.F.Folder.loss c.loop-added.folder) (g.F.Folder.loss c.write_end.new.self)
+    (omega arith) c.loop-added.invariant.torn c.write_end.ensures.loss
+
+pub returns-clause-loss : goal.returns-clause-loss
+returns-clause-loss g c = c.loop-added.invariant.torn

@@ -1,4 +1,5 @@
 use Rattle.std.proofs.Common.{◌≡◌}
+use Rattle.kb_store.specs.Loss.{Goes, Same}
 use Rattle.kb_folder.specs.Store.{table_of}
 use Rattle.kb_folder.proofs.Listing.{Lists}
 use Rattle.kb_folder.proofs.store.lens_in.Given as goal
@@ -12,4 +13,5 @@ invariant-loop-number g l =
       honest : has.honest → had.honest;
       files : has.honest → has.files ≡ had.files;
       lists : has.honest → Lists l.numbers l.number-index had.files (table_of l.lens.entries);
+      same : Goes Same (g.F.Folder.loss l.initial.folder) (g.F.Folder.loss l.folder);
     }

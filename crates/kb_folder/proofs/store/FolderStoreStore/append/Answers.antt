@@ -1,8 +1,10 @@
-use Rattle.std.proofs.Common.{◌≡◌, ◌<◌, ◌+◌, List, ℕ, None, sym, subst, refl, take, arith, rules}
+use Rattle.std.proofs.Common.{ap, ◌≡◌, ◌<◌, ◌+◌, List, ℕ, None, sym, subst, refl, take, arith, rules}
 use Rattle.std.proofs.lemmas.List.{take_all}
-use Rattle.kb_store.specs.Disk.{IsThere, Appends, AppendsSome}
+use Rattle.kb_store.specs.Disk.{IsThere, Appends, AppendsSome, len_of}
 use Rattle.kb_folder.specs.Store.{disk_over, folder_disk}
-use Rattle.kb_folder.proofs.Lens.{is_kept, held, grown, grown_lengths, grows_none}
+use Rattle.kb_folder.proofs.Lens.{is_kept, len_kept, held, grown, grown_lengths, grows_none}
+use Rattle.kb_store.specs.Loss.{Goes, Tears}
+use Rattle.kb_store.specs.LossLaws.{same_torn}
 use Rattle.kb_folder.proofs.store.FolderStoreStore.append.Goals as goal
 
 pub kept_len-end-requires : goal.kept_len-end-requires
@@ -52,3 +54,23 @@ returns-in-Some-clause-refused g c =
     let small : c.kept_len-end.result + added.result.0 < 18446744073709551616 = search rules in
     subst (λ v. AppendsSome (disk_over g.F.Folder.contents v) c.args.file c.args.bytes.now (folder_disk has c.set_len.new.lens.entries c.fault_of.new.failures)) c.self.view_is
     (added.result.0, added.ensures.count, grown had has c.self.inside.lens.entries c.set_len.new.lens.entries c.args.file c.kept_len-end.result added.result.0 c.args.bytes.now c.self.inside.failures c.fault_of.new.failures c.self.invariant c.kept_len-end.ensures small added.ensures.count c.set_len.ensures added.ensures.added)
+
+pub returns-then-bytes-end-clause-loss : goal.returns-then-bytes-end-clause-loss
+returns-then-bytes-end-clause-loss g c =
+    same_torn g.F.Folder.loss c.args.file (len_of (disk_over g.F.Folder.contents c.args.self.now) c.args.file) c.args.self.now.folder c.self.inside.folder (ap (λ s. s.folder) c.self.view_is)
+
+pub returns-in-None-clause-loss : goal.returns-in-None-clause-loss
+returns-in-None-clause-loss g c =
+    let had = g.F.Folder.contents c.self.inside.folder in
+    let small : c.kept_len-end.result < 18446744073709551616 = search rules in
+    let end = len_kept had c.self.inside.lens.entries c.self.inside.failures c.args.file c.kept_len-end.result c.kept_len-end.ensures small in
+    subst (λ v. Goes (Tears c.args.file (len_of (disk_over g.F.Folder.contents v) c.args.file)) (g.F.Folder.loss v.folder) (g.F.Folder.loss c.add_whole-added.new.folder)) c.self.view_is
+    (subst (λ n. Goes (Tears c.args.file n) (g.F.Folder.loss c.self.inside.folder) (g.F.Folder.loss c.add_whole-added.new.folder)) (sym end) c.add_whole-added.ensures.loss)
+
+pub returns-in-Some-clause-loss : goal.returns-in-Some-clause-loss
+returns-in-Some-clause-loss g c =
+    let had = g.F.Folder.contents c.self.inside.folder in
+    let small : c.kept_len-end.result < 18446744073709551616 = search rules in
+    let end = len_kept had c.self.inside.lens.entries c.self.inside.failures c.args.file c.kept_len-end.result c.kept_len-end.ensures small in
+    subst (λ v. Goes (Tears c.args.file (len_of (disk_over g.F.Folder.contents v) c.args.file)) (g.F.Folder.loss v.folder) (g.F.Folder.loss c.add_whole-added.new.folder)) c.self.view_is
+    (subst (λ n. Goes (Tears c.args.file n) (g.F.Folder.loss c.self.inside.folder) (g.F.Folder.loss c.add_whole-added.new.folder)) (sym end) c.add_whole-added.ensures.loss)

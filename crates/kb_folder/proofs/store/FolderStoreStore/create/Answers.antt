@@ -1,8 +1,9 @@
-use Rattle.std.proofs.Common.{subst, sym, refl, [], inl, ◌≡◌, None, lit<}
+use Rattle.std.proofs.Common.{ap, subst, sym, refl, [], inl, ◌≡◌, None, lit<}
 use Rattle.std.specs.FinMap.{insert, get}
 use Rattle.kb_store.specs.Disk.{Creates, Keeps}
 use Rattle.kb_folder.specs.Store.{disk_over, folder_disk, table_of}
 use Rattle.kb_folder.proofs.Lens.{lengths_after, lengths_put, table_put, table_back, becomes}
+use Rattle.kb_store.specs.LossLaws.{same_made}
 use Rattle.kb_folder.proofs.store.FolderStoreStore.create.Goals as goal
 
 pub invariant_of-self-in-Ok : goal.invariant_of-self-in-Ok
@@ -59,3 +60,6 @@ returns-in-Err-clause-refused g c =
     let none = subst (λ v. get (disk_over g.F.Folder.contents v).table k ≡ None) (sym c.self.view_is) c.requires in
     inl (subst (λ v. Keeps (disk_over g.F.Folder.contents v) (folder_disk has es'' c.fault_of.new.failures)) c.self.view_is
     (becomes had has es es'' k c.self.inside.failures c.fault_of.new.failures had.files (table_of es) c.self.invariant (table_back es es' es'' k none c.in_ok-insert.ensures.updates.0 c.remove.ensures.updates.0) c.in-Err.ensures.unchanged))
+
+pub returns-in_err-insert-clause-loss : goal.returns-in_err-insert-clause-loss
+returns-in_err-insert-clause-loss g c = same_made g.F.Folder.loss c.args.file c.args.self.now.folder c.self.inside.folder (ap (λ s. s.folder) c.self.view_is)

@@ -1,0 +1,237 @@
+//! How a folder of the system's makes what it has changed last through a loss of power.
+
+ghost use Rattle.std.specs.Prelude.{IsErr, IsSome, OnOk};
+ghost use Rattle.kb_folder.specs.Changed.{AllLasts, refused_in};
+
+use crate::changed::Changed;
+use crate::name::file_number;
+use crate::refusal::{FolderCall, Refusal};
+use crate::{FolderFault, HostFolder};
+use std::fs::{File, OpenOptions};
+use std::io;
+use std::io::ErrorKind;
+use std::os::fd::AsRawFd;
+use std::rt::Files;
+
+impl<R: Files<File = File> + AllocGlobal + Clone + Drop> HostFolder<R> {
+    /// The same folder, which keeps in mind what it has changed, so that `sync` can make it last. Without this a sync does nothing.
+    ///
+    /// A file that has changed is synced before it is closed. Once a sync was refused every later one is: the system may take for
+    /// written what it could not write.
+    pub fn syncing(mut self) -> Self {
+        self.changed = Some(Changed::new(self.rt.alloc()));
+        self
+    }
+
+    /// Syncs every file that has a number, and the names, and asks the system to forget what it has in memory of each file: what a
+    /// process that was killed left unsynced is to be believed only where it lasts. It is for an opening, before anything is read.
+    pub fn sync_found(&mut self) -> Result<(), FolderFault> {
+        let listed = self.list(self.rt.alloc());
+        let names = self.answer(FolderCall::List, None, listed)?;
+        for name in &names {
+            if let Some(file) = file_number(name.as_str()) {
+                let synced = self.sync_one_found(file);
+                self.came_to(Some(file), synced)?;
+            }
+        }
+        let synced = self.sync_folder();
+        self.came_to(None, synced)
+    }
+
+    /// Notes that a file is to change, and answers whether it is noted now and was not before.
+    pub(crate) fn note(&mut self, file: u64) -> io::Result<bool> {
+        match &mut self.changed {
+            Some(changed) => Ok(changed.note(file)?),
+            None => Ok(false),
+        }
+    }
+
+    /// A file, opened to be changed.
+    pub(crate) fn to_change(&mut self, file: u64) -> io::Result<&File> {
+        self.file(file)?;
+        self.note(file)?;
+        self.file(file)
+    }
+
+    /// Notes that a name is to change.
+    pub(crate) fn note_names(&mut self) {
+        if let Some(changed) = &mut self.changed {
+            changed.set_names(true);
+        }
+    }
+
+    /// Forgets a file, which lasts or is not there.
+    pub(crate) fn forget(&mut self, file: u64) {
+        if let Some(changed) = &mut self.changed {
+            changed.forget(file);
+        }
+    }
+
+    /// Keeps a file open. Where there are too many, the one that was used least lately is closed.
+    pub(crate) fn keep_open(&mut self, file: u64, opened: File) -> io::Result<()> {
+        if self.open.len() >= self.open.cap().get() {
+            self.close_one();
+        }
+        self.open.put(file, opened)?;
+        Ok(())
+    }
+
+    /// Closes the file that was used least lately, and answers whether there was one. Where it has changed it is synced first.
+    pub(crate) fn close_one(&mut self) -> bool {
+        let Some((file, opened)) = self.open.pop_lru() else {
+            return false;
+        };
+        if self.has_changed(file) {
+            let _ = self.came_to(Some(file), opened.sync_data());
+        }
+        true
+    }
+
+    /// Whether a file is noted as changed.
+    fn has_changed(&self, file: u64) -> bool {
+        match &self.changed {
+            Some(changed) => changed.has(file),
+            None => false,
+        }
+    }
+
+    /// Makes what has changed last.
+    pub(crate) fn sync_changed(&mut self) -> Result<(), FolderFault>
+        ensures lasting { OnOk result (AllLasts self.new.changed) }
+        ensures refused { IsSome (refused_in self.old.changed) → IsErr result }
+    {
+        self.not_refused()?;
+        for _ in 0..self.files_changed() {
+            self.sync_next()?;
+        }
+        self.sync_names()?;
+        self.all_lasts()
+    }
+
+    /// How many files have changed.
+    fn files_changed(&self) -> usize {
+        match &self.changed {
+            Some(changed) => changed.len(),
+            None => 0,
+        }
+    }
+
+    /// Makes the next file that has changed last.
+    fn sync_next(&mut self) -> Result<(), FolderFault> {
+        let next = match &self.changed {
+            Some(changed) => changed.first(),
+            None => None,
+        };
+        let Some(file) = next else {
+            return Ok(());
+        };
+        let synced = match self.file(file) {
+            Ok(opened) => opened.sync_data(),
+            Err(error) => Err(error),
+        };
+        self.came_to(Some(file), synced)
+    }
+
+    /// Makes the names last where one has changed.
+    fn sync_names(&mut self) -> Result<(), FolderFault> {
+        let has_changed = match &self.changed {
+            Some(changed) => changed.names(),
+            None => false,
+        };
+        if !has_changed {
+            return Ok(());
+        }
+        let synced = self.sync_folder();
+        self.came_to(None, synced)
+    }
+
+    /// Refused where a sync was refused before, which is noted again.
+    fn not_refused(&self) -> Result<(), FolderFault>
+        ensures { IsSome (refused_in self.now.changed) → IsErr result }
+    {
+        let refused = match &self.changed {
+            Some(changed) => changed.refused(),
+            None => None,
+        };
+        match refused {
+            Some(refusal) => {
+                let _ = self.fault(refusal.call, refusal.file, refusal.error);
+                Err(FolderFault::Refused)
+            }
+            None => Ok(()),
+        }
+    }
+
+    /// Refused where something does not last still.
+    fn all_lasts(&self) -> Result<(), FolderFault>
+        ensures { OnOk result (AllLasts self.now.changed) }
+    {
+        self.not_refused()?;
+        let Some(changed) = &self.changed else {
+            return Ok(());
+        };
+        if changed.all_lasts() {
+            Ok(())
+        } else {
+            Err(FolderFault::Refused)
+        }
+    }
+
+    /// What a sync of a file, or of the names, came to: what was synced has not changed any longer, and what the system refused is noted.
+    fn came_to(&mut self, file: Option<u64>, synced: io::Result<()>) -> Result<(), FolderFault> {
+        match synced {
+            Ok(()) => self.now_lasts(file),
+            Err(error) => return Err(self.not_synced(file, error)),
+        }
+        Ok(())
+    }
+
+    /// Forgets a file, or the names, which last now.
+    fn now_lasts(&mut self, file: Option<u64>) {
+        if let Some(changed) = &mut self.changed {
+            match file {
+                Some(number) => changed.forget(number),
+                None => changed.set_names(false),
+            }
+        }
+    }
+
+    /// The fault of a sync. After one that the system refused no later one is believed.
+    fn not_synced(&mut self, file: Option<u64>, error: io::Error) -> FolderFault {
+        let call = FolderCall::Sync;
+        let fault = self.fault(call, file, error);
+        if fault == FolderFault::Refused
+            && let Some(changed) = &mut self.changed
+        {
+            changed.refuse(Refusal { call, file, error });
+        }
+        fault
+    }
+
+    /// Makes the folder's names last.
+    fn sync_folder(&mut self) -> io::Result<()> {
+        let path = self.path.clone()?;
+        let mut options = OpenOptions::new();
+        options.read(true);
+        self.open_with(&options, path.as_str())?.sync_all()
+    }
+
+    /// Syncs a file that was found, and drops what the system has in memory of it. What is no file is left.
+    fn sync_one_found(&mut self, file: u64) -> io::Result<()> {
+        match self.file(file) {
+            Ok(opened) => settle(opened),
+            Err(error) if error.kind() == ErrorKind::IsADirectory => Ok(()),
+            Err(error) => Err(error),
+        }
+    }
+}
+
+/// Syncs a file, and drops what the system has in memory of it.
+fn settle(file: &File) -> io::Result<()> {
+    file.sync_all()?;
+    let advised = libc::posix_fadvise(file.as_raw_fd(), 0, 0, libc::POSIX_FADV_DONTNEED);
+    if advised != 0 {
+        return Err(io::Error::from_raw_os_error(advised));
+    }
+    Ok(())
+}

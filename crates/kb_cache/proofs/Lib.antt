@@ -1,4 +1,5 @@
 pub mod Filling
+pub mod Goes
 pub mod Right
 pub mod Seen
 pub mod Sums

@@ -1,5 +1,5 @@
 -- The disk that a store with a cache is, and what its cache says of it.
-use Rattle.std.specs.Prelude.{◌≡◌, ◌≤◌, ◌<◌, ◌+◌, ℕ, List, [], length, take, drop, Option, Some, None, Bool, false, cond, ◌⊎◌, Result, Ok, Err}
+use Rattle.std.specs.Prelude.{◌≡◌, ◌≤◌, ◌<◌, ◌+◌, ℕ, List, [], length, take, drop, Option, Some, None, Bool, false, cond, ◌⊎◌, ◌||◌, nat_lt, Result, Ok, Err}
 use Rattle.kb_store.specs.declared.fault.StoreFault.{StoreFault}
 use Rattle.std.specs.List.{AllByRecursion}
 use Rattle.std.specs.declared.vec.Vec.{Vec}
@@ -52,12 +52,16 @@ pub record Drops {S : Type 0} (old : Caching S) (file len : ℕ) (new : Caching 
   pub most_entries : new.most_entries ≡ old.most_entries
   pub most_bytes : new.most_bytes ≡ old.most_bytes
 
--- What is kept after a read: what was kept, with what was used in front; and where the read was not answered from it, what was read
--- is kept beside it or not, as the answer tells.
+-- more than a read may have that is kept
+abbrev pub is_long : ℕ → Bool
+is_long n = nat_lt 16384 n
+
+-- What is kept after a read: what was kept, with what was used in front; and where the read was not answered from it and is not long,
+-- what was read is kept beside it or not, as the answer tells.
 abbrev pub after_read : {S : Type 0} → Caching S → ℕ → ℕ → ℕ → Result Bool StoreFault → List ℕ → List Entry
 after_read old file at n (Ok kept) bytes =
     let used = (reads n old.entries file at n).1 in
-    cond (is_kept old.entries file at n) used (after_keep old.most_entries old.most_bytes used file at bytes kept)
+    cond (is_kept old.entries file at n || is_long n) used (after_keep old.most_entries old.most_bytes used file at bytes kept)
 after_read old file at n (Err e) bytes = (reads n old.entries file at n).1
 
 pub record ReadsThrough {S : Type 0} (old : Caching S) (file at n : ℕ) (result : Result Bool StoreFault) (bytes : List ℕ) (new : Caching S) : Type 0 where

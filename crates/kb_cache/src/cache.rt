@@ -6,26 +6,33 @@ ghost use Rattle.kb_cache.specs.Kept.{after_keep, behind_cut, found, is_fit, is_
 use crate::entries::{Entries, drop_behind, fill, keep};
 use lru::LruCache;
 use std::alloc::Global;
+use std::hash::RandomState;
 use std::num::NonZeroUsize;
 
 /// The most bytes of an entry: what is longer is not kept.
 pub const LARGEST_ENTRY: usize = 1_048_576;
 
-/// How many entries are kept at most, and how many bytes in all.
+/// The most bytes of a read that are kept. To copy more than 16 KiB to fresh memory costs more than to read them from the system's.
+pub const LARGEST_READ: usize = 16_384;
+
+/// How many entries are kept at most, and how many bytes in all. And how places are hashed: clients choose them.
 #[derive(Clone, Copy)]
 pub(crate) struct Limits {
     pub(crate) most_entries: u32,
     pub(crate) most_bytes: u64,
+    pub(crate) hasher: RandomState,
 }
 
 /// A cache with room for so many entries, where memory lets it be made and it is to have some.
-fn made(alloc: Global, most_entries: u32) -> Option<Entries>
+fn made(alloc: Global, most_entries: u32, hasher: RandomState) -> Option<Entries>
     ensures entries { entries_in result ≡ [] }
     ensures cap { HasCap most_entries result }
     ensures some { IsSome result → 0 < most_entries }
 {
     let most = NonZeroUsize::new(most_entries as usize)?;
-    LruCache::sparse(alloc, most).ok()
+    let mut entries = LruCache::unbounded_with_hasher(alloc, hasher).ok()?;
+    entries.resize(most);
+    Some(entries)
 }
 
 /// Whether bytes may be kept: there are some, and not more than an entry may have.
@@ -62,7 +69,7 @@ pub(crate) fn keep_in(
         return false;
     }
     if cache.is_none() {
-        *cache = made(alloc, limits.most_entries);
+        *cache = made(alloc, limits.most_entries, limits.hasher);
     }
     let Some(entries) = cache else {
         return false;

@@ -6,9 +6,10 @@ ghost use Rattle.kb_cache.specs.Kept.{without};
 
 use lru::LruCache;
 use std::alloc::Global;
+use std::hash::RandomState;
 
 /// Bytes under a file and a place, those used last at the front.
-pub(crate) type Entries = LruCache<(u64, u64), Vec<u8>>;
+pub(crate) type Entries = LruCache<(u64, u64), Vec<u8>, RandomState>;
 
 /// Copies the bytes under a place to the front of a buffer, as many as it takes. Answers how many.
 fn copy_front(entries: &mut Entries, file: u64, at: u64, buffer: &mut [u8]) -> usize

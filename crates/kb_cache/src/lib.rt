@@ -1,12 +1,12 @@
 //! What was read and written last, kept in memory.
 //!
-//! [`CachedStore`] is a store over another. It keeps what is appended and what is read, and answers a read from memory where that has
-//! all of its bytes. To its callers it is the store inside.
+//! [`CachedStore`] is a store over another. It keeps what is appended and what is read in small pieces, and answers a read from memory
+//! where that has all of its bytes. To its callers it is the store inside.
 #![tactic(auto)]
 
 mod cache;
 mod cached;
 mod entries;
 
-pub use cache::LARGEST_ENTRY;
+pub use cache::{LARGEST_ENTRY, LARGEST_READ};
 pub use cached::CachedStore;

@@ -1,5 +1,6 @@
 use Rattle.std.proofs.Common.{◌∙◌, ◌+◌, ◌≤◌, take, drop, length, ap, sym, subst, refl}
 use Rattle.kb_store.specs.Disk.{IsThere, len_of, bytes_of}
+use Rattle.kb_store.specs.LossLaws.{same_read}
 use Rattle.kb_cache.specs.Kept.{is_kept, total}
 use Rattle.kb_cache.specs.Cached.{entries_in}
 use Rattle.kb_cache.proofs.Right.{kept_told, kept_read, one_read, read_right, tidy_kept, tidy_read}
@@ -28,6 +29,9 @@ returns-then-fill_from-clause-kept g c = λ _.
     ap (λ x. is_kept x c.args.file c.args.at n) c.fill_from.ensures.entries
     ∙ kept_read (entries_in c.self.inside.entries) c.args.file c.args.at n (sym c.fill_from.ensures.whole ∙ c.if-fill_from.true)
 
+pub returns-then-fill_from-clause-loss : goal.returns-then-fill_from-clause-loss
+returns-then-fill_from-clause-loss g c = same_read g.S.Store.loss c.args.self.now.store c.self.inside.store (ap (λ v. v.store) c.self.view_is)
+
 pub invariant_of-self-in_err-read_at : goal.invariant_of-self-in_err-read_at
 invariant_of-self-in_err-read_at g c =
     let d = g.S.Store.disk c.self.inside.store in
@@ -35,6 +39,14 @@ invariant_of-self-in_err-read_at g c =
     let n = length c.args.buffer.now in
     tidy_read d c.self.inside.entries c.self.inside.bytes limits.most_entries limits.most_bytes c.self.invariant (g.S.Store.disk c.read_at.new.self) c.fill_from.new.cache n c.args.file c.args.at n
     c.in_err-read_at.ensures.unchanged c.fill_from.ensures.entries (c.fill_from.ensures.cap limits.most_entries c.self.invariant.cap)
+
+pub invariant_of-self-then-buffer-gt-LARGEST_READ : goal.invariant_of-self-then-buffer-gt-LARGEST_READ
+invariant_of-self-then-buffer-gt-LARGEST_READ g c =
+    let d = g.S.Store.disk c.self.inside.store in
+    let limits = c.self.inside.limits in
+    let n = length c.args.buffer.now in
+    tidy_read d c.self.inside.entries c.self.inside.bytes limits.most_entries limits.most_bytes c.self.invariant (g.S.Store.disk c.read_at.new.self) c.fill_from.new.cache n c.args.file c.args.at n
+    c.in_ok-read_at.ensures.unchanged c.fill_from.ensures.entries (c.fill_from.ensures.cap limits.most_entries c.self.invariant.cap)
 
 pub keep_in-requires-clause-counted : goal.keep_in-requires-clause-counted
 keep_in-requires-clause-counted g c =

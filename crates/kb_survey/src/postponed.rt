@@ -12,11 +12,14 @@ use std::marker::Model;
 /// A store that cuts and removes nothing before the first write.
 ///
 /// To its callers it is as any other store is: a file that was cut is shorter, and one that was removed is gone. The store inside has
-/// all of it still. The first `create` or `append` makes what was put off, in the order in which it was asked for, and from then on
+/// all of it still. The first `create`, `append` or `sync` makes what was put off, in the order in which it was asked for, and from then on
 /// each call is made at once. Where one of those changes is refused, so is the call, and the next one tries again.
 ///
 /// So a process that ends before its first write has changed nothing. Each change that is put off takes 24 bytes, and makes a call for
 /// a file's length, or for the list, longer by one comparison.
+///
+/// A sync makes what was put off, as a write does, and syncs the store inside. What a loss of power may leave is said of that one alone:
+/// of this one nothing is said, since a change that is put off is lost with the process.
 #[derive(Drop)]
 pub struct Postponed<S: Store> {
     store: S,
@@ -70,11 +73,19 @@ impl<S: Store> Postponed<S> {
 impl<S: Store> Store for Postponed<S> {
     ghost use Rattle.kb_store.specs.Disk.{IsThere, len_of, bytes_of, Keeps, Creates, Appends, Cuts, Removes, MayCreate, AppendsSome};
     ghost use Rattle.kb_store.specs.Disk.{HasCause};
+    ghost use Rattle.kb_store.specs.Loss.{Clears, Drops, Goes, Makes, Only, Same, Tears, nothing_left};
+    ghost use Rattle.kb_store.specs.LossLaws.{nothing_timely};
     ghost use Rattle.kb_survey.specs.Postponed.{disk_with, postponed_lawful, IsUntouched, HasMade};
 
     ghost disk = { disk_with S.disk };
 
+    ghost loss = { λ _. nothing_left };
+
+    ghost settled = { λ s. (s.put_off ≡ []) × S.settled s.store };
+
     ghost lawful = { λ s. postponed_lawful s.put_off (S.disk s.store) (S.lawful s.store) };
+
+    ghost timely = { λ _. nothing_timely };
 
     fn failures(&self) -> u64 {
         self.store.failures()
@@ -84,6 +95,7 @@ impl<S: Store> Store for Postponed<S> {
         ensures numbers { IfOk result (λ numbers. numbers.items ≡ map.keys (disk_with S.disk self.old).table) }
         ensures unchanged { Keeps (disk_with S.disk self.old) (disk_with S.disk self.new) }
         ensures cause { HasCause (disk_with S.disk self.old) result (disk_with S.disk self.new) }
+        ensures loss { Goes Same nothing_left nothing_left }
         ensures untouched { IsUntouched S.disk self.old self.new }
     {
         let numbers = self.store.list(alloc)?;
@@ -95,6 +107,7 @@ impl<S: Store> Store for Postponed<S> {
         ensures len { IfOk result (λ n. n ≡ len_of (disk_with S.disk self.old) file) }
         ensures unchanged { Keeps (disk_with S.disk self.old) (disk_with S.disk self.new) }
         ensures cause { HasCause (disk_with S.disk self.old) result (disk_with S.disk self.new) }
+        ensures loss { Goes Same nothing_left nothing_left }
         ensures untouched { IsUntouched S.disk self.old self.new }
     {
         let len = self.store.len(file)?;
@@ -106,6 +119,7 @@ impl<S: Store> Store for Postponed<S> {
         ensures created { OnOk result (Creates (disk_with S.disk self.old) file (disk_with S.disk self.new)) }
         ensures refused { OnErr result (MayCreate (disk_with S.disk self.old) file (disk_with S.disk self.new)) }
         ensures cause { HasCause (disk_with S.disk self.old) result (disk_with S.disk self.new) }
+        ensures loss { Goes (Makes file) nothing_left nothing_left }
         ensures made { OnOk result (HasMade self.new) }
     {
         self.waits = false;
@@ -118,6 +132,7 @@ impl<S: Store> Store for Postponed<S> {
         ensures appended { OnOk result (Appends (disk_with S.disk self.old) file bytes.now (disk_with S.disk self.new)) }
         ensures refused { OnErr result (AppendsSome (disk_with S.disk self.old) file bytes.now (disk_with S.disk self.new)) }
         ensures cause { HasCause (disk_with S.disk self.old) result (disk_with S.disk self.new) }
+        ensures loss { Goes (Tears file (len_of (disk_with S.disk self.old) file)) nothing_left nothing_left }
         ensures made { OnOk result (HasMade self.new) }
     {
         self.waits = false;
@@ -132,6 +147,7 @@ impl<S: Store> Store for Postponed<S> {
             → buffer.new ≡ take (length buffer.old) (drop at (bytes_of (disk_with S.disk self.old) file))) }
         ensures unchanged { Keeps (disk_with S.disk self.old) (disk_with S.disk self.new) }
         ensures cause { HasCause (disk_with S.disk self.old) result (disk_with S.disk self.new) }
+        ensures loss { Goes Same nothing_left nothing_left }
         ensures untouched { IsUntouched S.disk self.old self.new }
     {
         self.store.read_at(file, at, buffer)
@@ -143,6 +159,7 @@ impl<S: Store> Store for Postponed<S> {
         ensures cut { OnOk result (Cuts (disk_with S.disk self.old) file len (disk_with S.disk self.new)) }
         ensures refused { OnErr result (Keeps (disk_with S.disk self.old) (disk_with S.disk self.new)) }
         ensures cause { HasCause (disk_with S.disk self.old) result (disk_with S.disk self.new) }
+        ensures loss { Goes (Tears file len) nothing_left nothing_left }
         ensures untouched { IsUntouched S.disk self.old self.new }
     {
         if self.waits {
@@ -158,6 +175,7 @@ impl<S: Store> Store for Postponed<S> {
         ensures removed { OnOk result (Removes (disk_with S.disk self.old) file (disk_with S.disk self.new)) }
         ensures refused { OnErr result (Keeps (disk_with S.disk self.old) (disk_with S.disk self.new)) }
         ensures cause { HasCause (disk_with S.disk self.old) result (disk_with S.disk self.new) }
+        ensures loss { Goes (Drops file) nothing_left nothing_left }
         ensures untouched { IsUntouched S.disk self.old self.new }
     {
         if self.waits {
@@ -166,5 +184,28 @@ impl<S: Store> Store for Postponed<S> {
         }
         make_all(&mut self.store, &mut self.put_off)?;
         self.store.remove(file)
+    }
+
+    fn sync(&mut self) -> Result<(), StoreFault>
+        ensures synced { OnOk result ((self.new.put_off ≡ []) × S.settled self.new.store → (disk_with S.disk self.new).honest
+            → Only (disk_with S.disk self.new).files nothing_left) }
+        ensures unchanged { Keeps (disk_with S.disk self.old) (disk_with S.disk self.new) }
+        ensures cause { HasCause (disk_with S.disk self.old) result (disk_with S.disk self.new) }
+        ensures loss { Goes (Clears (disk_with S.disk self.old).table) nothing_left nothing_left }
+        ensures made { OnOk result (HasMade self.new) }
+        // The store inside was synced, and a loss leaves of it what its own sync says.
+        ensures inside { OnOk result (S.settled self.new.store → (S.disk self.new.store).honest
+            → Only (S.disk self.new.store).files (S.loss self.new.store)) }
+    {
+        self.waits = false;
+        make_all(&mut self.store, &mut self.put_off)?;
+        self.store.sync()
+    }
+
+    fn is_synced(&self) -> bool
+        ensures settled { result ≡ true → (self.now.put_off ≡ []) × S.settled self.now.store }
+        ensures inside { result ≡ true → (S.disk self.now.store).honest → Only (S.disk self.now.store).files (S.loss self.now.store) }
+    {
+        self.put_off.is_empty() && self.store.is_synced()
     }
 }

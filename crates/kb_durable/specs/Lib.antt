@@ -1,0 +1,5 @@
+pub mod Durable
+pub mod Lawful
+pub mod Standing
+pub mod StandingLaws
+pub mod Waiting

@@ -35,3 +35,4 @@ pub mod Members
 pub mod ScriptEvents
 pub mod ScriptPlay
 pub mod ScriptOpening
+pub mod Synced

@@ -11,4 +11,5 @@ pub mod Others
 pub mod Passed
 pub mod Small
 pub mod SmallLog
+pub mod Synced
 pub mod Tied

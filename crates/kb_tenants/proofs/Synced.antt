@@ -1,0 +1,41 @@
+-- A sync leaves what the tenants have.
+use Rattle.std.proofs.Common.{◌≡◌, ◌∙◌, ℕ, List, Contains, IsSome, ap, subst, sym}
+use Rattle.std.specs.Prelude.{length, map}
+use Rattle.std.proofs.lemmas.List.{length-map}
+use Rattle.kb_store.specs.Disk.{Disk, Files, Table, Keeps}
+use Rattle.kb_log.specs.OnShelf.{Log}
+use Rattle.kb_log.specs.Shelf.{Shelved}
+use Rattle.kb_tenant_state.specs.Parts.{entries, meta}
+use Rattle.std.specs.FinMap.{get}
+use Rattle.kb_tenant_state.specs.Partitions.{AreExact}
+use Rattle.kb_tenant_state.specs.declared.parts.Parts.{Parts}
+use Rattle.kb_tenants.specs.declared.tenants.Tenants.{Tenants}
+use Rattle.kb_tenants.specs.Tenants.{AreKept, AreSettled, AreSound, Agree, HaveNothingRefused, IsIdleUntil, IsLeftAlone, hosted, parts_of, state_of, strays_of}
+
+settled_synced : {L : Type 0} (log : L → Log) (ps : List (Parts L)) (strays : List ℕ) (old new : Disk) → new.table ≡ old.table
+    → AreSettled log ps strays old → AreSettled log ps strays new
+settled_synced log ps strays old new same s = record {
+  accounts = λ file there. s.accounts file (subst (λ (t : Table). IsSome (get t file)) same there);
+  meta_exact = λ t p at. subst (meta log p).exact (sym same) (s.meta_exact t p at);
+  exact = λ t p at. subst (AreExact log (entries p)) (sym same) (s.exact t p at);
+}
+
+module _ {L S : Type 0} (log : L → Log) (disk : S → Disk) (old : Tenants L S) (shelf : Shelved S) (next : shelf.next ≡ old.shelf.next)
+    (keeps : Keeps (disk old.shelf.store) (disk shelf.store)) where
+  pub hosted_synced : (disk shelf.store).honest → hosted log disk (record old { shelf = shelf }) ≡ hosted log disk old
+  hosted_synced honest = ap (λ (files : Files). map (state_of log files) old.tenants.items) (keeps.files honest)
+
+  pub count_synced : length (hosted log disk (record old { shelf = shelf })) ≡ length (hosted log disk old)
+  count_synced = length-map old.tenants.items (state_of log (disk shelf.store).files) ∙ sym (length-map old.tenants.items (state_of log (disk old.shelf.store).files))
+
+  pub kept_synced : AreKept log disk old → AreKept log disk (record old { shelf = shelf })
+  kept_synced kept = record {
+    sound = subst (λ (t : Table). AreSound log (parts_of old.tenants.items) t shelf.next) (sym keeps.table)
+        (subst (AreSound log (parts_of old.tenants.items) (disk old.shelf.store).table) (sym next) kept.sound);
+    named = kept.named;
+    apart = λ file stray. subst (λ n. IsLeftAlone log (parts_of old.tenants.items) n file) (sym next) (kept.apart file stray);
+    settled = λ some none. settled_synced log (parts_of old.tenants.items) (strays_of old.strays) (disk old.shelf.store) (disk shelf.store) keeps.table
+        (kept.settled some none);
+    agree = λ honest. subst (Agree log (parts_of old.tenants.items)) (sym (keeps.files honest)) (kept.agree (keeps.honest honest));
+    until = λ honest. subst (IsIdleUntil old.next_retention_time) (sym (hosted_synced honest)) (kept.until (keeps.honest honest));
+  }

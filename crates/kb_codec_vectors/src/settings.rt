@@ -2,7 +2,7 @@
 
 use crate::said::Field::{Count, Number, Text};
 use crate::said::Said;
-use kb_settings::{Settings, SettingsFault, User};
+use kb_settings::{Settings, SettingsFault, TenantLimits, User};
 use std::alloc::{AllocError, Global};
 
 /// Two users, who are those of the standard settings.
@@ -20,6 +20,8 @@ pub fn read(alloc: Global, kind: &str, rest: &str, said: &mut Said) -> Result<bo
         "tells" => tells(alloc, rest, said)?,
         "standard" => standard(alloc, said)?,
         "many" => many(alloc, rest, said)?,
+        "limits" => limits(alloc, rest, said)?,
+        "limited" => limited(alloc, rest, said)?,
         _ => return Ok(false),
     }
     Ok(true)
@@ -132,10 +134,30 @@ fn say(settings: &Settings, said: &mut Said) -> Result<(), AllocError> {
         ("cache_bytes", Number(settings.cache_bytes as i64)),
         ("connections", Number(settings.connections as i64)),
         ("output_bytes", Number(settings.output_bytes as i64)),
+        ("sync", Text(settings.sync.name())),
+        ("sync_ms", Number(settings.sync_ms as i64)),
+        ("login_seconds", Number(settings.login_seconds as i64)),
+        ("reply_seconds", Number(settings.reply_seconds as i64)),
+        ("strangers", Number(settings.strangers as i64)),
         ("data", Text(settings.folder.as_deref().unwrap_or("none"))),
         ("users", Count(settings.users.len())),
     ])?;
-    say_users(settings.users.as_slice(), said)
+    say_users(settings.users.as_slice(), said)?;
+    say_limits(settings.tenants.as_slice(), said)
+}
+
+fn say_limits(tenants: &[TenantLimits], said: &mut Said) -> Result<(), AllocError> {
+    for limits in tenants {
+        said.fields(&[
+            ("limits of", Text(limits.name.as_str())),
+            ("connections", Number(limits.connections as i64)),
+            (
+                "reserved_connections",
+                Number(limits.reserved_connections as i64),
+            ),
+        ])?;
+    }
+    Ok(())
 }
 
 fn say_users(users: &[User], said: &mut Said) -> Result<(), AllocError> {
@@ -172,4 +194,47 @@ fn add_user(alloc: Global, text: &mut String, user: u32, tenant: u32) -> Result<
         "[[user]]\nname = \"u{user}\"\npassword = \"p\"\ntenant = \"t{tenant}\"\n"
     )?;
     text.push_str(&entry)
+}
+
+/// The limits of tenants, whose names stand in front with commas, by a text before two users.
+fn limits(alloc: Global, rest: &str, said: &mut Said) -> Result<(), AllocError> {
+    let (names, text) = rest.split_once(' ').unwrap_or((rest, ""));
+    let mut lines = String::new(alloc);
+    add_lines(&mut lines, text)?;
+    lines.push_str(USERS)?;
+    match Settings::read(alloc, &lines) {
+        Ok(settings) => say_limits_of(&settings, names, said),
+        Err(fault) => wrong(alloc, &fault, said),
+    }
+}
+
+fn say_limits_of(settings: &Settings, names: &str, said: &mut Said) -> Result<(), AllocError> {
+    for name in names.split(',') {
+        let limits = settings.limits_of(name);
+        said.fields(&[
+            ("limits of", Text(name)),
+            ("most", Number(limits.most as i64)),
+            ("reserved", Number(limits.reserved as i64)),
+        ])?;
+    }
+    Ok(())
+}
+
+/// So many users, each of a tenant of its own, and limits of as many of the tenants as the second number says.
+fn limited(alloc: Global, counts: &str, said: &mut Said) -> Result<(), AllocError> {
+    let (users, limits) = counts.split_once(' ').unwrap_or((counts, "0"));
+    let users = users.parse::<u32>().unwrap_or(0);
+    let limits = limits.parse::<u32>().unwrap_or(0);
+    let mut text = String::new(alloc);
+    add_users(alloc, &mut text, users, users)?;
+    add_limits(alloc, &mut text, limits)?;
+    fault(alloc, &text, said)
+}
+
+fn add_limits(alloc: Global, text: &mut String, limits: u32) -> Result<(), AllocError> {
+    for number in 0..limits {
+        let entry = format!(in alloc; "[[tenant]]\nname = \"t{number}\"\n")?;
+        text.push_str(&entry)?;
+    }
+    Ok(())
 }

@@ -13,7 +13,7 @@ use Rattle.kb_settings.proofs.NamesInOrder.{different-counted}
 
 -- 1. The entries read so far, and the others
 
-abbrev pub joined : List Account → Option (List Account) → Option (List Account)
+abbrev pub joined : {A : Type 0} → List A → Option (List A) → Option (List A)
 joined front rest = option_map (λ back. front ++ back) rest
 
 -- 2. Users together
@@ -37,11 +37,11 @@ up-to high n = grind (arith, nat_tests)
 within-parts : (low high n : ℕ) → is_within low high n ≡ true → (low ≤ n) × (n ≤ high)
 within-parts low high n h = grind (arith, nat_tests)
 
-same-count : (d : Bool) (n m : ℕ) → MatchBool d (n ≡ m) (n < m) → n ≡ m → d ≡ true
+pub same-count : (d : Bool) (n m : ℕ) → MatchBool d (n ≡ m) (n < m) → n ≡ m → d ≡ true
 same-count true n m h e = refl
 same-count false n m h e = absurd (omega (arith, h, e))
 
-other-count : (d : Bool) (n m : ℕ) → MatchBool d (n ≡ m) (n < m) → (n ≡ m → ⊥) → d ≡ false
+pub other-count : (d : Bool) (n m : ℕ) → MatchBool d (n ≡ m) (n < m) → (n ≡ m → ⊥) → d ≡ false
 other-count true n m h e = absurd (e h)
 other-count false n m h e = refl
 

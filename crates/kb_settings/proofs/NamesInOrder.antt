@@ -164,7 +164,7 @@ any-dedup : {X : Type 0} (E : X → X → Bool) (p : X → Bool) → ((x y : X) 
 any-dedup E p same [] = refl
 any-dedup E p same (x ∷ xs) = any-dedup_from E p same x xs
 
-any-map : {X Y : Type 0} (f : X → Y) (p : Y → Bool) (xs : List X) → list_any p (map f xs) ≡ list_any (λ x. p (f x)) xs
+pub any-map : {X Y : Type 0} (f : X → Y) (p : Y → Bool) (xs : List X) → list_any p (map f xs) ≡ list_any (λ x. p (f x)) xs
 any-map f p [] = refl
 any-map f p (x ∷ xs) = ap (λ b. p (f x) || b) (any-map f p xs)
 

@@ -8,7 +8,10 @@ use Rattle.toml.specs.Data.{Items, no_items, item, Members, no_members, member}
 use Rattle.kb_settings.specs.Names.{in_order}
 use Rattle.kb_settings.specs.Settings.{is_within, is_credential, is_tenant, are_different}
 use Rattle.kb_settings.specs.Address.{is_listened, bare, endpoint_in}
+use Rattle.kb_settings.specs.Limits.{Limits, are_limits}
 use Rattle.kb_settings.specs.Values.{Account, Values}
+use Rattle.kb_settings.specs.declared.sync.Sync.{Sync}
+use Rattle.kb_settings.specs.declared.sync.Sync.TheVariants.{Always, Interval, Never}
 
 -- 1. What a value says: nothing where it is wrong
 
@@ -35,6 +38,17 @@ host_in told value = option_and_then (λ text. fitting (is_listened told) (bare 
 -- `HOST:PORT`
 abbrev pub advertise_in : Data → Option (Option (List ℕ × ℕ))
 advertise_in value = option_map Some (option_and_then endpoint_in (as_str value))
+
+-- when what was done is made to last
+abbrev pub sync_named : List ℕ → Option Sync
+sync_named text =
+    if bytes_eq text (codes "always") then Some Always
+    else if bytes_eq text (codes "interval") then Some Interval
+    else if bytes_eq text (codes "never") then Some Never
+    else None
+
+abbrev pub sync_in : Data → Option Sync
+sync_in value = option_and_then sync_named (as_str value)
 
 -- whether clients are told of another address than is listened on
 abbrev pub is_told : Members → Bool
@@ -99,17 +113,64 @@ abbrev pub users_in : Data → Option (List Account)
 users_in (array entries) = option_and_then checked_users (accounts_in entries)
 users_in _ = None
 
--- 3. The document
-
-abbrev pub settings_keys : List (List ℕ)
-settings_keys =
-    codes "host" ∷ codes "port" ∷ codes "advertise" ∷ codes "segment_bytes" ∷ codes "cache_batches" ∷ codes "cache_bytes"
-    ∷ codes "connections" ∷ codes "output_bytes" ∷ codes "data" ∷ codes "user" ∷ []
+-- 3. The tenants' connections
 
 -- what is said at a key that may be missing
 abbrev pub said_or : {A : Type 0} → A → (Data → Option A) → Option Data → Option A
 said_or standard says None = Some standard
 said_or standard says (Some value) = says value
+
+abbrev pub tenant_keys : List (List ℕ)
+tenant_keys = codes "name" ∷ codes "connections" ∷ codes "reserved_connections" ∷ []
+
+-- limits of this name and these numbers, where all are right, and there is no other key
+abbrev pub limits_with : Option (List ℕ) → Option ℕ → Option ℕ → Option (List ℕ) → Option Limits
+limits_with (Some name) (Some connections) (Some reserved) None =
+    Some (record { name = name; connections = connections; reserved_connections = reserved })
+limits_with name connections reserved other = None
+
+-- how many are reserved: none where it is not said, and no more than there may be at most
+abbrev pub reserved_of : Members → Option ℕ → Option ℕ
+reserved_of entry None = None
+reserved_of entry (Some connections) =
+    said_or 0 (number_in 0 connections) (get_member (codes "reserved_connections") entry)
+
+-- how many connections an entry of `tenant` allows: where it is not said, all
+abbrev pub connections_of : ℕ → Members → Option ℕ
+connections_of standard entry = said_or standard (number_in 1 1000000) (get_member (codes "connections") entry)
+
+-- an entry of `tenant`
+abbrev pub entry_limits : ℕ → Data → Option Limits
+entry_limits standard (table entry) =
+    limits_with (text_of is_tenant (codes "name") entry) (connections_of standard entry)
+    (reserved_of entry (connections_of standard entry)) (other_key tenant_keys entry)
+entry_limits standard _ = None
+
+abbrev pub limits_before : Option Limits → Option (List Limits) → Option (List Limits)
+limits_before (Some limits) (Some others) = Some (limits ∷ others)
+limits_before limits others = None
+
+-- all entries
+abbrev pub all_limits : ℕ → Items → Option (List Limits)
+all_limits standard no_items = Some []
+all_limits standard (item entry entries) = limits_before (entry_limits standard entry) (all_limits standard entries)
+
+abbrev pub checked_limits : ℕ → List (List ℕ) → List Limits → Option (List Limits)
+checked_limits connections names tenants = if are_limits connections names tenants then Some tenants else None
+
+-- the limits of tenants that these users name
+abbrev pub tenants_in : ℕ → List Account → Data → Option (List Limits)
+tenants_in connections users (array entries) =
+    option_and_then (checked_limits connections (map (λ u. u.tenant) users)) (all_limits connections entries)
+tenants_in connections users _ = None
+
+-- 4. The document
+
+abbrev pub settings_keys : List (List ℕ)
+settings_keys =
+    codes "host" ∷ codes "port" ∷ codes "advertise" ∷ codes "segment_bytes" ∷ codes "cache_batches" ∷ codes "cache_bytes"
+    ∷ codes "connections" ∷ codes "output_bytes" ∷ codes "sync" ∷ codes "sync_ms" ∷ codes "login_seconds" ∷ codes "reply_seconds"
+    ∷ codes "strangers" ∷ codes "data" ∷ codes "user" ∷ codes "tenant" ∷ []
 
 -- goes on with what is said at a key, or names the key where it is wrong
 abbrev pub go_on : {A B : Type 0} → List ℕ → Option A → (A → Result B (List ℕ)) → Result B (List ℕ)
@@ -136,8 +197,14 @@ settings_in document =
     read_key document (codes "cache_bytes") 67108864 (number_in 0 1099511627776) λ cache_bytes.
     read_key document (codes "connections") 1024 (number_in 1 1000000) λ connections.
     read_key document (codes "output_bytes") 268435456 (number_in 1048576 4294967295) λ output_bytes.
+    read_key document (codes "sync") Interval sync_in λ sync.
+    read_key document (codes "sync_ms") 1000 (number_in 1 60000) λ sync_ms.
+    read_key document (codes "login_seconds") 10 (number_in 1 3600) λ login_seconds.
+    read_key document (codes "reply_seconds") 60 (number_in 1 3600) λ reply_seconds.
+    read_key document (codes "strangers") connections (number_in 1 connections) λ strangers.
     read_key document (codes "data") None folder_in λ folder.
     go_on (codes "user") (option_and_then users_in (get_member (codes "user") document)) λ users.
+    read_key document (codes "tenant") [] (tenants_in connections users) λ tenants.
     no_other (other_key settings_keys document) (record {
       host = host;
       port = port;
@@ -147,6 +214,12 @@ settings_in document =
       cache_bytes = cache_bytes;
       connections = connections;
       output_bytes = output_bytes;
+      sync = sync;
+      sync_ms = sync_ms;
+      login_seconds = login_seconds;
+      reply_seconds = reply_seconds;
+      strangers = strangers;
       folder = folder;
       users = users;
+      tenants = tenants;
     })

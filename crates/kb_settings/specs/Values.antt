@@ -1,8 +1,14 @@
 -- The settings as bytes and numbers, and the standard ones.
-use Rattle.std.specs.Prelude.{ℕ, List, [], ◌∷◌, ◌++◌, map, Option, None, option_map, unwrap_or, string_bytes, codes}
+use Rattle.std.specs.Prelude.{ℕ, List, [], ◌∷◌, ◌++◌, map, Option, None, Some, option_map, unwrap_or, string_bytes, codes}
+use Rattle.std.specs.List.{find}
+use Rattle.std.specs.Str.{bytes_eq}
+use Rattle.kb_settings.specs.Limits.{Limits, limits_in}
 use Rattle.kb_settings.specs.declared.settings.User.{User}
 use Rattle.kb_settings.specs.declared.settings.Endpoint.{Endpoint}
 use Rattle.kb_settings.specs.declared.settings.Settings.{Settings}
+use Rattle.kb_settings.specs.declared.sync.Sync.{Sync}
+use Rattle.kb_settings.specs.declared.sync.Sync.TheVariants.{Interval}
+use Rattle.kb_settings.specs.declared.tenant_limits.ConnectionLimits.{ConnectionLimits}
 
 pub record Account : Type 0 where
   pub name : List ℕ
@@ -18,8 +24,14 @@ pub record Values : Type 0 where
   pub cache_bytes : ℕ
   pub connections : ℕ
   pub output_bytes : ℕ
+  pub sync : Sync
+  pub sync_ms : ℕ
+  pub login_seconds : ℕ
+  pub reply_seconds : ℕ
+  pub strangers : ℕ
   pub folder : Option (List ℕ)
   pub users : List Account
+  pub tenants : List Limits
 
 abbrev pub account_of : User → Account
 account_of u = record { name = string_bytes u.name; password = string_bytes u.password; tenant = string_bytes u.tenant }
@@ -37,13 +49,27 @@ values_of s = record {
   cache_bytes = s.cache_bytes;
   connections = s.connections;
   output_bytes = s.output_bytes;
+  sync = s.sync;
+  sync_ms = s.sync_ms;
+  login_seconds = s.login_seconds;
+  reply_seconds = s.reply_seconds;
+  strangers = s.strangers;
   folder = option_map string_bytes s.folder;
   users = map account_of s.users.items;
+  tenants = map limits_in s.tenants.items;
 }
 
 -- the host and the port that clients are told
 abbrev pub told : Values → List ℕ × ℕ
 told v = unwrap_or v.advertise (v.host, v.port)
+
+abbrev pub limits_or : ℕ → Option Limits → ConnectionLimits
+limits_or connections None = record { most = connections; reserved = 0 }
+limits_or connections (Some t) = record { most = t.connections; reserved = t.reserved_connections }
+
+-- how many connections a tenant may have: all of them, and none reserved, where no limits name it
+abbrev pub limits_of : List ℕ → Values → ConnectionLimits
+limits_of name v = limits_or v.connections (find (λ t. bytes_eq t.name name) v.tenants)
 
 abbrev pub ann : Account
 ann = record { name = codes "ann"; password = codes "pw1"; tenant = codes "a" }
@@ -62,8 +88,14 @@ standard = record {
   cache_bytes = 67108864;
   connections = 1024;
   output_bytes = 268435456;
+  sync = Interval;
+  sync_ms = 1000;
+  login_seconds = 10;
+  reply_seconds = 60;
+  strangers = 1024;
   folder = None;
   users = ann ∷ bob ∷ [];
+  tenants = [];
 }
 
 -- a text that names their two users

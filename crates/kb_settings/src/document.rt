@@ -7,10 +7,12 @@ ghost use Rattle.toml.specs.Data.{as_str, get_member};
 ghost use Rattle.toml.specs.View.{view, table_view};
 ghost use Rattle.kb_settings.specs.Settings.{is_credential, is_tenant};
 ghost use Rattle.kb_settings.specs.Address.{is_listened, endpoint_in};
-ghost use Rattle.kb_settings.specs.Document.{text_in, number_in, host_in, is_told, advertise_in, folder_in, said_or, text_of, other_key};
+ghost use Rattle.kb_settings.specs.Document.{text_in, number_in, host_in, is_told, advertise_in, folder_in, sync_in, said_or, text_of, other_key};
+ghost use Rattle.kb_settings.specs.declared.sync.Sync.TheVariants.{Interval};
 
 use crate::address::{bare, endpoint, is_listened};
 use crate::limits;
+use crate::sync::Sync;
 use toml::{Table, Value};
 
 /// The value at a key.
@@ -95,15 +97,14 @@ fn number_in(value: &Value, low: u32, high: u32) -> Option<u32>
     }
 }
 
-/// How many bytes are said at a key, the limit included.
-pub fn size(document: &Table, key: &str, standard: u64, high: u64) -> Option<u64>
-    requires high { standard ≤ high }
-    ensures says { result ≡ said_or standard (number_in 0 high) (get_member key.now (table_view document.now)) }
-    ensures high { IfSome result (λ n. n ≤ high) }
+/// How many bytes read batches take in memory at most.
+pub fn cache_bytes(document: &Table) -> Option<u64>
+    ensures says { result ≡ said_or 67108864 (number_in 0 1099511627776) (get_member (codes "cache_bytes") (table_view document.now)) }
+    ensures high { IfSome result (λ n. n ≤ 1099511627776) }
 {
-    match at(document, key) {
-        None => Some(standard),
-        Some(value) => size_in(value, high),
+    match at(document, "cache_bytes") {
+        None => Some(67_108_864),
+        Some(value) => size_in(value, 1_099_511_627_776),
     }
 }
 
@@ -118,6 +119,22 @@ fn size_in(value: &Value, high: u64) -> Option<u64>
         Ok(n) if n <= high => Some(n),
         _ => None,
     }
+}
+
+/// When what was done is made to last.
+pub fn sync(document: &Table) -> Option<Sync>
+    ensures { result ≡ said_or Interval sync_in (get_member (codes "sync") (table_view document.now)) }
+{
+    match at(document, "sync") {
+        None => Some(Sync::Interval),
+        Some(value) => sync_in(value),
+    }
+}
+
+fn sync_in(value: &Value) -> Option<Sync>
+    ensures { result ≡ sync_in (view value.now) }
+{
+    Sync::named(value.as_str()?)
 }
 
 /// The data folder, where there is one.
@@ -158,12 +175,12 @@ fn credential_in(value: &Value) -> Option<&str>
     }
 }
 
-/// The name of a user's tenant.
-pub fn tenant(entry: &Table) -> Option<&str>
-    ensures says { option_map (λ text. text.now) result ≡ text_of is_tenant (codes "tenant") (table_view entry.now) }
+/// The name of a tenant.
+pub fn tenant<'a>(entry: &'a Table, key: &str) -> Option<&'a str>
+    ensures says { option_map (λ text. text.now) result ≡ text_of is_tenant key.now (table_view entry.now) }
     ensures fits { IfSome result (λ text. IsTrue (is_tenant text.now)) }
 {
-    tenant_in(at(entry, "tenant")?)
+    tenant_in(at(entry, key)?)
 }
 
 fn tenant_in(value: &Value) -> Option<&str>

@@ -12,8 +12,13 @@ mod limits;
 mod names;
 mod read;
 mod settings;
+mod sync;
+mod tenant_limits;
+mod tenants;
 mod users;
 
 pub use fault::SettingsFault;
 pub use names::tenant_names;
 pub use settings::{Endpoint, Settings, User};
+pub use sync::Sync;
+pub use tenant_limits::{ConnectionLimits, TenantLimits};

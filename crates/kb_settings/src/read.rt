@@ -1,21 +1,26 @@
 //! Settings read from a text.
 
-ghost use Rattle.std.specs.Prelude.{◌≡◌, Some, Ok, Err, IfOk, IfErr, IfSome, IsTrue, ◌≤◌, false, is_some, option_map, string_bytes};
+ghost use Rattle.std.specs.Prelude.{◌≡◌, Some, None, Ok, Err, IfOk, IfErr, IfSome, IsTrue, ◌≤◌, false, is_some, option_map, string_bytes};
+ghost use Rattle.toml.specs.Data.{get_member};
 ghost use Rattle.toml.specs.View.{table_view};
 ghost use Rattle.kb_settings.specs.Values.{values_of, host_and_port};
 ghost use Rattle.kb_settings.specs.Address.{is_listened};
-ghost use Rattle.kb_settings.specs.Document.{settings_in};
+ghost use Rattle.kb_settings.specs.Document.{said_or, number_in, settings_in};
 ghost use Rattle.kb_settings.specs.Reading.{settings_of, IsFaultOf, IsFaultIn};
 
-use crate::document::{advertise, folder, host, number, other_key, size};
+use crate::document::{advertise, cache_bytes, folder, host, number, other_key, sync};
 use crate::fault::SettingsFault;
 use crate::settings::{Endpoint, Settings};
+use crate::tenants::tenants;
 use crate::users::users;
 use std::alloc::{AllocError, Global};
 use toml::Table;
 
+/// A mebibyte.
+const MIB: u32 = 1_048_576;
+
 /// The keys that there are.
-const KEYS: [&str; 10] = [
+const KEYS: [&str; 16] = [
     "host",
     "port",
     "advertise",
@@ -24,18 +29,27 @@ const KEYS: [&str; 10] = [
     "cache_bytes",
     "connections",
     "output_bytes",
+    "sync",
+    "sync_ms",
+    "login_seconds",
+    "reply_seconds",
+    "strangers",
     "data",
     "user",
+    "tenant",
 ];
 
 impl Settings {
     /// The settings of a TOML text: `host`, `port`, `advertise`, `segment_bytes`, `cache_batches`, `cache_bytes`, `connections`,
-    /// `output_bytes` and `data`, each as in [`Settings::standard`] where it is missing, and an array of tables `user` with `name`,
-    /// `password` and `tenant`. `advertise` is `HOST:PORT`, where an IPv6 address stands in brackets; around `host` they may be left out.
+    /// `output_bytes`, `sync`, `sync_ms`, `login_seconds`, `reply_seconds`, `strangers` and `data`, each as in
+    /// [`Settings::standard`] where it is missing, but `strangers` as `connections`. Then an array of tables `user` with `name`,
+    /// `password` and `tenant`, and one of tables `tenant` with `name`, `connections` and `reserved_connections`, which may be
+    /// missing, all but the name. `advertise` is `HOST:PORT`, where an IPv6 address stands in brackets; around `host` they may be
+    /// left out.
     ///
     /// `Text` comes only where the text is no TOML document. `Field` names the first key that is wrong, in this order; keys
     /// that there are not come last, in byte order. Anything wrong with a user, or with the users together, is wrong with
-    /// `user`.
+    /// `user`, and the same of `tenant`.
     pub fn read(alloc: Global, text: &str) -> Result<Settings, SettingsFault>
         ensures ok { IfOk result (λ settings. settings_of text.now ≡ Some (Ok (values_of settings))) }
         ensures err { IfErr result (IsFaultOf text.now) }
@@ -53,38 +67,23 @@ fn in_document(alloc: Global, document: &Table) -> Result<Settings, SettingsFaul
     ensures ok { IfOk result (λ settings. settings_in (table_view document.now) ≡ Ok (values_of settings)) }
     ensures err { IfErr result (IsFaultIn (settings_in (table_view document.now))) }
 {
-    let Some(host) = host(document) else {
-        return Err(wrong(alloc, "host"));
-    };
-    let Some(port) = number(document, "port", 9092, 1, 65_535) else {
-        return Err(wrong(alloc, "port"));
-    };
-    let Some(advertise) = advertise(document) else {
-        return Err(wrong(alloc, "advertise"));
-    };
-    let Some(segment_bytes) = number(document, "segment_bytes", 16_777_216, 4096, 1_073_741_824)
-    else {
-        return Err(wrong(alloc, "segment_bytes"));
-    };
-    let Some(cache_batches) = number(document, "cache_batches", 1024, 1, 65_536) else {
-        return Err(wrong(alloc, "cache_batches"));
-    };
-    let Some(cache_bytes) = size(document, "cache_bytes", 67_108_864, 1_099_511_627_776) else {
-        return Err(wrong(alloc, "cache_bytes"));
-    };
-    let Some(connections) = number(document, "connections", 1024, 1, 1_000_000) else {
-        return Err(wrong(alloc, "connections"));
-    };
-    let Some(output_bytes) = number(document, "output_bytes", 268_435_456, 1_048_576, u32::MAX)
-    else {
-        return Err(wrong(alloc, "output_bytes"));
-    };
-    let Some(folder) = folder(document) else {
-        return Err(wrong(alloc, "data"));
-    };
-    let Some(users) = users(alloc, document)? else {
-        return Err(wrong(alloc, "user"));
-    };
+    let host = said(alloc, "host", host(document))?;
+    let port = limited(alloc, document, "port", 9092, 1, 65_535)?;
+    let advertise = said(alloc, "advertise", advertise(document))?;
+    let segment_bytes = limited(alloc, document, "segment_bytes", 16 * MIB, 4096, 1024 * MIB)?;
+    let cache_batches = limited(alloc, document, "cache_batches", 1024, 1, 65_536)?;
+    let cache_bytes = said(alloc, "cache_bytes", cache_bytes(document))?;
+    let connections = limited(alloc, document, "connections", 1024, 1, 1_000_000)?;
+    let output_bytes = limited(alloc, document, "output_bytes", 256 * MIB, MIB, u32::MAX)?;
+    let sync = said(alloc, "sync", sync(document))?;
+    let sync_ms = limited(alloc, document, "sync_ms", 1000, 1, 60_000)?;
+    let login_seconds = limited(alloc, document, "login_seconds", 10, 1, 3600)?;
+    let reply_seconds = limited(alloc, document, "reply_seconds", 60, 1, 3600)?;
+    let strangers = limited(alloc, document, "strangers", connections, 1, connections)?;
+    let folder = said(alloc, "data", folder(document))?;
+    let users = said(alloc, "user", users(alloc, document)?)?;
+    let tenants = tenants(alloc, document, connections, &users)?;
+    let tenants = said(alloc, "tenant", tenants)?;
     if let Some(key) = other_key(document, &KEYS) {
         return Err(wrong(alloc, key));
     }
@@ -97,9 +96,49 @@ fn in_document(alloc: Global, document: &Table) -> Result<Settings, SettingsFaul
         cache_bytes,
         connections,
         output_bytes,
+        sync,
+        sync_ms,
+        login_seconds,
+        reply_seconds,
+        strangers,
         folder: copied(alloc, folder)?,
         users,
+        tenants,
     })
+}
+
+/// What is said at a key, or the fault of it where that is wrong.
+fn said<T>(alloc: Global, key: &str, said: Option<T>) -> Result<T, SettingsFault>
+    ensures ok { IfOk result (λ value. said ≡ Some value) }
+    ensures err { IfErr result (λ fault. (said ≡ None) × IsFaultIn (Err key.now) fault) }
+{
+    match said {
+        Some(value) => Ok(value),
+        None => Err(wrong(alloc, key)),
+    }
+}
+
+/// The number at a key, both limits included, or the fault of the key.
+fn limited(
+    alloc: Global,
+    document: &Table,
+    key: &str,
+    standard: u32,
+    low: u32,
+    high: u32,
+) -> Result<u32, SettingsFault>
+    requires low { low ≤ standard }
+    requires high { standard ≤ high }
+    ensures ok { IfOk result (λ n. said_or standard (number_in low high) (get_member key.now (table_view document.now)) ≡ Some n) }
+    ensures err { IfErr result (λ fault. (said_or standard (number_in low high) (get_member key.now (table_view document.now)) ≡ None)
+        × IsFaultIn (Err key.now) fault) }
+    ensures low { IfOk result (λ n. low ≤ n) }
+    ensures high { IfOk result (λ n. n ≤ high) }
+{
+    match number(document, key, standard, low, high) {
+        Some(number) => Ok(number),
+        None => Err(wrong(alloc, key)),
+    }
 }
 
 /// A copy of a host and a port, where there are some.

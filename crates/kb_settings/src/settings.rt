@@ -4,7 +4,11 @@ ghost use Rattle.std.specs.Prelude.{◌≡◌, ◌≤◌, IsTrue, IfOk, false, i
 ghost use Rattle.kb_settings.specs.Address.{is_listened};
 ghost use Rattle.kb_settings.specs.Settings.{is_host, is_credential, is_tenant, are_different};
 ghost use Rattle.kb_settings.specs.Names.{in_order};
+ghost use Rattle.kb_settings.specs.Limits.{limits_in, are_limits};
 
+use crate::sync::Sync;
+use crate::tenant_limits::{ConnectionLimits, TenantLimits};
+use crate::tenants::limits_of;
 use std::alloc::{AllocError, Global};
 
 /// A user: what it logs in with, and its tenant. It has no `Debug`, which would print the password.
@@ -70,10 +74,23 @@ pub struct Settings {
     pub connections: u32,
     /// How many bytes of output are kept at most before no more requests are taken: 1,048,576 to 4,294,967,295.
     pub output_bytes: u32,
+    /// When what was done is made to last through a loss of power.
+    pub sync: Sync,
+    /// With [`Sync::Interval`], after how many milliseconds: 1 to 60,000.
+    pub sync_ms: u32,
+    /// By how many seconds a socket has logged in: 1 to 3,600.
+    pub login_seconds: u32,
+    /// By how many seconds a socket takes the next byte of a reply: 1 to 3,600.
+    pub reply_seconds: u32,
+    /// How many sockets there are at most at a time before their login: 1 to `connections`.
+    pub strangers: u32,
     /// The data folder, where there is one.
     pub folder: Option<String>,
     /// 1 to 1,000 users, no two of one name, of at most 256 different tenants.
     pub users: Vec<User>,
+    /// The limits of up to 256 tenants, each once, that users name. None is of more than `connections`, and fewer are reserved
+    /// together.
+    pub tenants: Vec<TenantLimits>,
     pub ghost host_fits: { IsTrue (is_listened (is_some advertise) (string_bytes host)) },
     pub ghost port_fits: { 1 ≤ port },
     pub ghost segment_bytes_fit: { (4096 ≤ segment_bytes) × (segment_bytes ≤ 1073741824) },
@@ -81,20 +98,26 @@ pub struct Settings {
     pub ghost cache_bytes_fit: { cache_bytes ≤ 1099511627776 },
     pub ghost connections_fit: { (1 ≤ connections) × (connections ≤ 1000000) },
     pub ghost output_bytes_fit: { 1048576 ≤ output_bytes },
+    pub ghost sync_ms_fit: { (1 ≤ sync_ms) × (sync_ms ≤ 60000) },
+    pub ghost login_seconds_fit: { (1 ≤ login_seconds) × (login_seconds ≤ 3600) },
+    pub ghost reply_seconds_fit: { (1 ≤ reply_seconds) × (reply_seconds ≤ 3600) },
+    pub ghost strangers_fit: { (1 ≤ strangers) × (strangers ≤ connections) },
     pub ghost users_fit: { (1 ≤ length users.items) × (length users.items ≤ 1000) },
     pub ghost names_differ: { IsTrue (are_different (map (λ u. string_bytes u.name) users.items)) },
     pub ghost tenants_fit: { length (in_order (map (λ u. string_bytes u.tenant) users.items)) ≤ 256 },
+    pub ghost limits_fit: { IsTrue (are_limits connections (map (λ u. string_bytes u.tenant) users.items) (map limits_in tenants.items)) },
 }
 
 impl Settings {
     ghost use Rattle.std.specs.Prelude.{Some, Ok};
-    ghost use Rattle.kb_settings.specs.Values.{values_of, told, standard, standard_text};
+    ghost use Rattle.kb_settings.specs.Values.{values_of, told, limits_of, standard, standard_text};
     ghost use Rattle.kb_settings.specs.Reading.{settings_of};
 
     /// The settings of a text that names two users alone: `ann` with password `pw1` of tenant `a`, and `bob` with password
     /// `pw2` of tenant `b`. The host is `localhost`, the port 9092, a file has 16,777,216 bytes, 1,024 read batches are kept
-    /// of 67,108,864 bytes at most, 1,024 clients are connected at most, 268,435,456 bytes of output are kept, and there is no
-    /// folder.
+    /// of 67,108,864 bytes at most, 1,024 clients are connected at most, 268,435,456 bytes of output are kept, what was done is
+    /// made to last each 1,000 ms, a socket has 10 seconds for its login and 60 for the next byte of a reply, all of them may be
+    /// before their login, and there is no folder and are no limits of tenants.
     pub fn standard(alloc: Global) -> Result<Settings, AllocError>
         ensures value { IfOk result (λ settings. values_of settings ≡ standard) }
         ensures text { IfOk result (λ settings. settings_of standard_text ≡ Some (Ok (values_of settings))) }
@@ -111,8 +134,14 @@ impl Settings {
             cache_bytes: 67_108_864,
             connections: 1024,
             output_bytes: 268_435_456,
+            sync: Sync::Interval,
+            sync_ms: 1000,
+            login_seconds: 10,
+            reply_seconds: 60,
+            strangers: 1024,
             folder: None,
             users,
+            tenants: Vec::new(alloc),
         })
     }
 
@@ -125,6 +154,26 @@ impl Settings {
         match &self.advertise {
             Some(endpoint) => (endpoint.host.as_str(), endpoint.port),
             None => (self.host.as_str(), self.port),
+        }
+    }
+
+    /// How many connections the tenant of this name may have: all of them, with none reserved, where no limits name it.
+    #[tactic(auto, using(crate::proofs::AllowedConnections::found_allowed))]
+    pub fn limits_of(&self, tenant: &str) -> ConnectionLimits
+        ensures says { result ≡ limits_of tenant.now (values_of self.now) }
+        ensures some { 1 ≤ result.most }
+        ensures most { result.most ≤ self.now.connections }
+        ensures reserved { result.reserved ≤ result.most }
+    {
+        match limits_of(&self.tenants, tenant) {
+            Some(limits) => ConnectionLimits {
+                most: limits.connections,
+                reserved: limits.reserved_connections,
+            },
+            None => ConnectionLimits {
+                most: self.connections,
+                reserved: 0,
+            },
         }
     }
 }

@@ -65,7 +65,7 @@ fn user_in(alloc: Global, entry: &Value) -> Result<Option<User>, AllocError>
     let Some(password) = credential(entry, "password") else {
         return Ok(None);
     };
-    let Some(tenant) = tenant(entry) else {
+    let Some(tenant) = tenant(entry, "tenant") else {
         return Ok(None);
     };
     if other_key(entry, &KEYS).is_some() {

@@ -1,0 +1,5 @@
+pub mod Limits
+pub mod Parts
+pub mod Pieces
+pub mod Same
+pub mod Sums

@@ -26,6 +26,7 @@ const ONE_ACCEPTED: Turn = Turn {
     denied: 0,
     strangers: 0,
     unread: 0,
+    over_limit: 0,
 };
 
 /// A turn that accepts one client, and closes it at once.
@@ -38,6 +39,7 @@ const ONE_CLOSED: Turn = Turn {
     denied: 0,
     strangers: 0,
     unread: 0,
+    over_limit: 0,
 };
 
 /// The same, since as many are open as may be.
@@ -50,6 +52,7 @@ const ONE_TURNED_AWAY: Turn = Turn {
     denied: 0,
     strangers: 0,
     unread: 0,
+    over_limit: 0,
 };
 
 /// A turn that accepts one client, and closes another that has not logged in.
@@ -62,6 +65,7 @@ const ONE_MADE_ROOM: Turn = Turn {
     denied: 0,
     strangers: 1,
     unread: 0,
+    over_limit: 0,
 };
 
 /// A turn that closes one client that has not logged in.
@@ -74,6 +78,7 @@ const ONE_STRANGER_CLOSED: Turn = Turn {
     denied: 0,
     strangers: 1,
     unread: 0,
+    over_limit: 0,
 };
 
 const VERSIONS_ARE_ANSWERED: [Move<'static>; 4] = [
@@ -516,9 +521,9 @@ fn first_turns(alloc: Global, broker: Broker<MemoryStore>) -> Result<[Turn; 3], 
     let crowd = Crowd { waiting: 1025 };
     match Edge::bind(&crowd, alloc, broker, "127.0.0.1:9092", Limits::default()) {
         Ok(mut edge) => Ok([
-            edge.turn(alloc, 0),
-            edge.turn(alloc, 0),
-            edge.turn(alloc, 0),
+            edge.turn(alloc, 0).unwrap_or_default(),
+            edge.turn(alloc, 0).unwrap_or_default(),
+            edge.turn(alloc, 0).unwrap_or_default(),
         ]),
         Err(refused) => Err(refused.fault),
     }
@@ -536,7 +541,8 @@ fn one_too_many_is_let_in_for_the_first(rt: HostRuntime) -> Result<(), Fail> {
             turned_away: 0,
             denied: 0,
             strangers: 0,
-            unread: 0
+            unread: 0,
+            over_limit: 0
         }
     );
     assert!(rt; next == ONE_MADE_ROOM);

@@ -1,3 +1,4 @@
 pub mod Standard
 pub mod Handed
 pub mod Closing
+pub mod Counts

@@ -44,9 +44,10 @@ Unread = List (ℕ × ℕ)
 abbrev pub by_moment : ℕ × ℕ → ℕ × ℕ → Ordering
 by_moment a b = ordering_then (nat_cmp a.0 b.0) (nat_cmp a.1 b.1)
 
--- how long a socket may take no byte of its reply, in milliseconds: less while so much is unread that nobody is asked
-abbrev pub patience : Bool → ℕ
-patience may_ask = if may_ask then 60000 else 10000
+-- how long a socket may take no byte of its reply, in milliseconds: as long as it may, or ten seconds if that is less while so much is
+-- unread that nobody is asked
+abbrev pub patience : Bool → ℕ → ℕ
+patience may_ask millis = if may_ask then millis else min millis 10000
 
 -- the first moment at which one has taken nothing for so long, and the greatest number where none has anything to take
 abbrev pub first_end : ℕ → Unread → ℕ

@@ -12,14 +12,8 @@ ghost use Rattle.kb_node.specs.Deadlines.{by_moment, patience, first_end, silent
 use std::alloc::{AllocError, Global};
 use std::collections::{BTreeMap, BTreeSet};
 
-/// How long a socket may take to log in, in milliseconds. A login is two requests, so ten seconds do over a slow line; PostgreSQL gives 60 s
-/// (`authentication_timeout`), and sshd 120 s (`LoginGraceTime`).
-pub const LOGIN_MILLIS: u64 = 10_000;
-
-/// How long a socket may take no byte of its reply, in milliseconds. A slow line takes some each second; NATS gives 10 s (`write_deadline`).
-const REPLY_MILLIS: u64 = 60_000;
-
-/// The same while so much is unread that nobody is served: so long does one stand in the way of the others.
+/// How long a socket may take no byte of its reply at most, in milliseconds, while so much is unread that nobody is served: so long does one
+/// stand in the way of the others.
 const STALL_MILLIS: u64 = 10_000;
 
 /// When a socket is tried again that took something of its reply, in milliseconds. The system tells late of a little room, and there is some
@@ -37,15 +31,19 @@ pub fn later(now: u64, millis: u64) -> u64
 /// the oldest, and its moment comes first.
 #[derive(Drop)]
 pub struct Strangers {
+    /// How long a socket may take to log in, in milliseconds.
+    millis: u64,
     deadlines: BTreeMap<u64, u64>,
 }
 
 impl Strangers {
-    /// None.
-    pub fn new(alloc: Global) -> Self
-        ensures { result.deadlines.entries ≡ [] }
+    /// None. Each that comes has so many milliseconds to log in.
+    pub fn new(alloc: Global, millis: u64) -> Self
+        ensures millis { result.millis ≡ millis }
+        ensures none { result.deadlines.entries ≡ [] }
     {
         Strangers {
+            millis,
             deadlines: BTreeMap::new(alloc),
         }
     }
@@ -53,10 +51,11 @@ impl Strangers {
     /// One more, which came now.
     pub fn admit(&mut self, connection: u64, now: u64) -> Result<(), AllocError>
         ensures admitted { OnOk result (self.new.deadlines.entries
-            ≡ insert_entry nat_cmp self.old.deadlines.entries connection (later now 10000)) }
+            ≡ insert_entry nat_cmp self.old.deadlines.entries connection (later now self.old.millis)) }
         ensures refused { OnErr result (self.new.deadlines.entries ≡ self.old.deadlines.entries) }
+        ensures millis { self.new.millis ≡ self.old.millis }
     {
-        match self.deadlines.insert(connection, later(now, LOGIN_MILLIS)) {
+        match self.deadlines.insert(connection, later(now, self.millis)) {
             Ok(_) => Ok(()),
             Err(_) => Err(AllocError),
         }
@@ -64,7 +63,8 @@ impl Strangers {
 
     /// It has logged in, or is closed. Takes no memory.
     pub fn forget(&mut self, connection: u64)
-        ensures { self.new.deadlines.entries ≡ remove_entry (is_at (nat_cmp connection)) self.old.deadlines.entries }
+        ensures others { self.new.deadlines.entries ≡ remove_entry (is_at (nat_cmp connection)) self.old.deadlines.entries }
+        ensures millis { self.new.millis ≡ self.old.millis }
     {
         self.deadlines.remove(&connection);
     }
@@ -110,11 +110,15 @@ impl Strangers {
     }
 }
 
-/// How long a socket may take no byte of its reply, in milliseconds: less where so much is unread that nobody is asked.
-pub fn patience(may_ask: bool) -> u64
-    ensures { result ≡ patience may_ask }
+/// How long a socket may take no byte of its reply, of so many milliseconds: less where so much is unread that nobody is asked.
+pub fn patience(may_ask: bool, millis: u64) -> u64
+    ensures { result ≡ patience may_ask millis }
 {
-    if may_ask { REPLY_MILLIS } else { STALL_MILLIS }
+    if may_ask {
+        millis
+    } else {
+        millis.min(STALL_MILLIS)
+    }
 }
 
 /// Whether a socket's silence ends or begins anew, which had so many bytes to take before and has so many after: it had none, it has none, or

@@ -1,42 +1,35 @@
 //! A broker on a network. A turn waits for no peer.
 
-ghost use Rattle.std.specs.Prelude.{◌≡◌, ◌≤◌, ◌<◌, ◌-◌, ◌^◌, min, true, false, IfErr, IfSome, vec_len};
-ghost use Rattle.std.specs.Bool.{OnTrue};
+ghost use Rattle.std.specs.Prelude.{◌≡◌, ◌≤◌, ◌<◌, ◌*◌, ◌^◌, Err, Some, IfOk, IfErr, IfSome, vec_len};
 
-use crate::deadlines::{Strangers, TRY_MILLIS, Unread, has_moved, patience};
-use crate::doors::{BindCause, DOOR, DoorFault, Doors};
+mod closing;
+mod serving;
+mod waiting;
+
+use crate::commits::Commits;
+use crate::committed::Committed;
+use crate::deadlines::{Strangers, Unread};
+use crate::doors::{BindCause, DoorFault, Doors};
 use crate::limits::Limits;
 use crate::login::Denied;
-use crate::socket::{Next, Socket};
+use crate::socket::Socket;
+use crate::socket_shares::SocketShares;
 use crate::turn::Turn;
 use crate::watch::Watch;
 use kb_broker::Broker;
 use kb_log::{ListLog, PartitionLog};
-use kb_store::Store;
-use mio::event::Event;
+use kb_store::{Store, StoreFault};
 use std::alloc::{AllocError, Global};
-use std::io::{ErrorKind, Read, Write};
+use std::io;
+use std::io::ErrorKind;
 use std::net::{Net, OpenStream, SocketAddr};
 use std::os::fd::AsRawFd;
-use std::time::Duration;
-use std::{io, mem};
 
 /// The most sockets that a turn accepts.
 const ACCEPTS: usize = 1024;
 
 /// How many failed logins a turn keeps.
 const DENIED: usize = 16;
-
-/// How often a turn serves a socket at most: the sockets that can go on are served in turn, a request each.
-const ROUNDS: usize = 16;
-
-/// How long is waited at most, in milliseconds: until an accept is tried again that was refused, or sockets that can go on while too much
-/// output is kept; until what a moment was refused is tried again; and where nothing is due, as clocks may jump.
-const SHORT_WAIT: u64 = 5;
-
-const REFUSED_WAIT: u64 = 100;
-
-const LONG_WAIT: u64 = 1_000;
 
 /// The most bytes that are read from a socket at once.
 const PIECE: usize = 65_536;
@@ -73,12 +66,18 @@ pub struct Edge<R: Net, S: Store, L: PartitionLog = ListLog> {
     doors: Doors<R>,
     /// The most sockets at a time: more are closed at once.
     limit: usize,
+    /// How many of them may be open at a time that have not logged in.
+    stranger_limit: u64,
+    /// How many milliseconds a socket may take no byte of its reply.
+    reply_millis: u64,
     /// How much output is kept at most before no more requests are taken.
     output_limit: usize,
-    broker: Broker<S, L>,
+    host: Committed<S, L>,
     /// By rising number of their connections.
     sockets: Vec<Socket<R::Stream>>,
     buffer: Vec<u8>,
+    /// For whom each of them is counted.
+    shares: SocketShares,
     /// The connections of those that have not logged in.
     strangers: Strangers,
     /// Those of sockets with unwritten output.
@@ -95,6 +94,8 @@ pub struct Edge<R: Net, S: Store, L: PartitionLog = ListLog> {
     spare: Vec<u64>,
     /// How many bytes are taken from the broker and not written.
     output: usize,
+    /// How many bytes are kept free for what is said to the requests of this turn, until that is taken.
+    promised: usize,
     /// The logins of this turn that failed, the first ones.
     denied: Vec<Denied>,
     /// The clock of the last turn, in milliseconds.
@@ -115,7 +116,8 @@ impl<R: Net, S: Store, L: PartitionLog + Drop> Edge<R, S, L> {
         address: &str,
         limits: Limits,
     ) -> Result<Self, BindRefused<S, L>>
-        ensures { IfErr result (λ refused. refused.broker ≡ broker) }
+        ensures err { IfErr result (λ refused. refused.broker ≡ broker) }
+        ensures empty { IfOk result (λ edge. vec_len edge.sockets ≡ 0) }
     {
         Edge::open(net, alloc, broker, address, limits, None)
     }
@@ -128,7 +130,8 @@ impl<R: Net, S: Store, L: PartitionLog + Drop> Edge<R, S, L> {
         address: &str,
         limits: Limits,
     ) -> Result<Self, BindRefused<S, L>>
-        ensures { IfErr result (λ refused. refused.broker ≡ broker) }
+        ensures err { IfErr result (λ refused. refused.broker ≡ broker) }
+        ensures empty { IfOk result (λ edge. vec_len edge.sockets ≡ 0) }
     {
         match Watch::new(net, alloc) {
             Ok(watch) => Edge::open(net, alloc, broker, address, limits, Some(watch)),
@@ -152,7 +155,11 @@ impl<R: Net, S: Store, L: PartitionLog + Drop> Edge<R, S, L> {
         limits: Limits,
         watch: Option<Watch>,
     ) -> Result<Self, BindRefused<S, L>>
-        ensures { IfErr result (λ refused. refused.broker ≡ broker) }
+        ensures err { IfErr result (λ refused. refused.broker ≡ broker) }
+        ensures empty { IfOk result (λ edge. vec_len edge.sockets ≡ 0) }
+        ensures login { IfOk result (λ edge. edge.strangers.millis ≡ limits.login_seconds * 1000) }
+        ensures reply { IfOk result (λ edge. edge.reply_millis ≡ limits.reply_seconds * 1000) }
+        ensures strangers { IfOk result (λ edge. edge.stranger_limit ≡ limits.strangers) }
     {
         let doors = match Doors::open(net, alloc, address, &watch) {
             Ok(doors) => doors,
@@ -161,14 +168,20 @@ impl<R: Net, S: Store, L: PartitionLog + Drop> Edge<R, S, L> {
         let Ok((buffer, ready, spare, denied)) = buffers(alloc, limits.sockets as usize) else {
             return Err(refused(DoorFault::Memory, broker));
         };
+        let Ok(shares) = SocketShares::new(alloc, u64::from(limits.sockets), &[]) else {
+            return Err(refused(DoorFault::Memory, broker));
+        };
         Ok(Edge {
             doors,
             limit: limits.sockets as usize,
+            stranger_limit: u64::from(limits.strangers),
+            reply_millis: u64::from(limits.reply_seconds) * 1000,
             output_limit: limits.output_bytes as usize,
-            broker,
+            host: Committed::new(broker, Commits::new(limits.sync, limits.sync_ms)),
             sockets: Vec::new(alloc),
             buffer,
-            strangers: Strangers::new(alloc),
+            shares,
+            strangers: Strangers::new(alloc, u64::from(limits.login_seconds) * 1000),
             unread: Unread::new(alloc),
             untried: Unread::new(alloc),
             watch,
@@ -176,10 +189,26 @@ impl<R: Net, S: Store, L: PartitionLog + Drop> Edge<R, S, L> {
             ready,
             spare,
             output: 0,
+            promised: 0,
             denied,
             clock: 0,
             is_left_due: false,
         })
+    }
+
+    /// Sets what tenants may have of the sockets. Until then each may have all.
+    pub fn share_sockets(&mut self, shares: SocketShares)
+        requires { vec_len self.old.sockets ≡ 0 }
+        ensures shares { self.new.shares ≡ shares }
+        ensures host { self.new.host ≡ self.old.host }
+        ensures sockets { self.new.sockets ≡ self.old.sockets }
+    {
+        self.shares = shares;
+    }
+
+    /// How many sockets were closed so far since their tenant may have no more, by the tenants' places.
+    pub fn refused_sockets(&self) -> &[u64] {
+        self.shares.refused()
     }
 
     /// The port that is listened on.
@@ -194,9 +223,9 @@ impl<R: Net, S: Store, L: PartitionLog + Drop> Edge<R, S, L> {
 
     /// The broker.
     pub fn broker(&self) -> &Broker<S, L>
-        ensures { result.now ≡ self.now.broker }
+        ensures { result.now ≡ self.now.host.broker }
     {
-        &self.broker
+        self.host.broker()
     }
 
     /// The logins of the last turn that failed, at most 16 of them.
@@ -204,235 +233,41 @@ impl<R: Net, S: Store, L: PartitionLog + Drop> Edge<R, S, L> {
         &self.denied
     }
 
-    /// Waits until a socket becomes ready, a new one is there, or the broker may have something to do by the clock of the last turn, and
-    /// a second at most; and no time where a socket can go on as it is. What was refused is tried again within 100 ms: within 5 ms where
-    /// it is an accept. An edge that was bound without a watch does not wait.
-    pub fn wait(&mut self) {
-        let longest = self.longest_wait();
-        let Some(mut watch) = self.watch.take() else {
-            return;
-        };
-        watch.wait(longest);
-        for event in watch.events() {
-            self.hear(event);
-        }
-        self.watch = Some(watch);
-    }
-
-    /// How long may be waited.
-    fn longest_wait(&self) -> Duration {
-        let millis = if !self.ready.is_empty() && self.may_ask() {
-            0
-        } else if self.ready.is_empty() && !self.can_accept {
-            quiet_time(self.next_deadline(), self.clock, self.is_left_due)
-        } else {
-            SHORT_WAIT
-        };
-        Duration::from_millis(millis)
-    }
-
-    /// The next moment at which there may be something to do: for the broker, or where a socket is closed that kept silent.
-    fn next_deadline(&self) -> u64 {
-        self.broker
-            .next_deadline()
-            .min(self.strangers.first_deadline())
-            .min(self.unread.first_end(patience(self.may_ask())))
-            .min(self.untried.first_end(TRY_MILLIS))
-    }
-
-    /// Whether so little output is kept that more may be asked for.
-    fn may_ask(&self) -> bool {
-        self.output < self.output_limit
-    }
-
-    /// What the system tells of a socket or of a listener.
-    fn hear(&mut self, event: &Event) {
-        let number = event.token().0 as u64;
-        if number == DOOR {
-            self.can_accept = true;
-            return;
-        }
-        if let Some(place) = self.place_of(number)
-            && let Some(socket) = self.sockets.get_mut(place)
-        {
-            socket.hear(event);
-            self.queue(place);
-        }
-    }
-
     /// One moment, in milliseconds and at most 2^62, and then whatever the sockets take and give now.
-    pub fn turn(&mut self, alloc: Global, now: u64) -> Turn
+    ///
+    /// With [`Sync::Always`](kb_settings::Sync::Always) a reply goes out only once all that was done before it was made to last: the
+    /// sockets of a turn share one commit. With `Interval` there is a commit each so many milliseconds, and with `Never` there is none.
+    ///
+    /// An `Err` is that of a commit, behind which nothing goes out: then each later turn does nothing but to answer the same.
+    pub fn turn(&mut self, alloc: Global, now: u64) -> Result<Turn, StoreFault>
         requires { now ≤ 2 ^ 62 }
+        ensures refused { IfErr result (λ fault. self.new.host.commits.fault ≡ Some fault) }
+        ensures dead { IfSome self.old.host.commits.fault (λ fault. (result ≡ Err fault) × (self.new ≡ self.old)) }
     {
+        if let Some(fault) = self.host.commits().fault() {
+            return Err(fault);
+        }
         let mut turn = Turn::default();
         self.denied.clear();
         self.clock = now;
-        self.broker.moment(alloc, now);
-        self.is_left_due = self.broker.next_deadline() <= now;
+        self.host.moment(alloc, now);
+        self.is_left_due = self.host.broker().next_deadline() <= now;
         self.hear_speakers();
         if self.watch.is_none() {
             self.hear_all();
         }
         self.close_silent(alloc, &mut turn);
         self.accept(alloc, &mut turn);
-        for _ in 0..ROUNDS {
-            if self.ready.is_empty() {
-                break;
-            }
-            self.serve(alloc, &mut turn);
-            self.hear_speakers();
-        }
-        if turn.closed > 0 {
-            self.drop_ended();
-        }
-        turn
-    }
-
-    /// Closes the sockets that have not logged in in time, and those that do not read.
-    fn close_silent(&mut self, alloc: Global, turn: &mut Turn) {
-        for _ in 0..self.limit {
-            let Some(number) = self.strangers.due(self.clock) else {
-                break;
-            };
-            self.close(alloc, number, turn);
-            turn.count_stranger();
-        }
-        self.try_again(alloc, turn);
-        self.close_unread(alloc, turn);
-        if turn.closed > 0 {
-            self.drop_ended();
-        }
-    }
-
-    /// Tries the sockets once more that took something of their replies some time ago.
-    fn try_again(&mut self, alloc: Global, turn: &mut Turn) {
-        for _ in 0..self.limit {
-            let Some(number) = self.untried.take_silent(self.clock, TRY_MILLIS) else {
-                break;
-            };
-            self.write_again(alloc, number, turn);
-        }
-    }
-
-    /// Closes the sockets that take nothing of their replies. The system tells late of a little room, so each is tried once more before.
-    fn close_unread(&mut self, alloc: Global, turn: &mut Turn) {
-        for _ in 0..self.limit {
-            let may_ask = self.may_ask();
-            let Some(number) = self.unread.silent(self.clock, patience(may_ask)) else {
-                break;
-            };
-            if !self.write_again(alloc, number, turn) {
-                if !may_ask {
-                    self.put_behind(alloc, number);
-                }
-                self.close(alloc, number, turn);
-                turn.count_unread();
-            }
-        }
-    }
-
-    /// Writes what a socket takes now of its reply. It answers whether it took some: then its silence begins anew, or, where that cannot be
-    /// noted, it is closed.
-    fn write_again(&mut self, alloc: Global, number: u64, turn: &mut Turn) -> bool {
-        let Some(place) = self.place_of(number) else {
-            return false;
-        };
-        let Some(socket) = self.sockets.get_mut(place) else {
-            return false;
-        };
-        let before = socket.unwritten();
-        socket.write_on(turn);
-        let after = socket.unwritten();
-        self.output = self.output.saturating_sub(before).saturating_add(after);
-        if after == before {
-            return false;
-        }
-        let noted = note_reply(
-            &mut self.unread,
-            &mut self.untried,
-            socket,
-            before,
-            true,
-            self.clock,
-        );
-        if noted.is_err() {
-            self.close(alloc, number, turn);
+        if self.host.commits().holds_back() {
+            self.serve_together(alloc, &mut turn)?;
         } else {
-            self.queue(place);
+            self.host.commit_in_time(now)?;
+            self.serve_at_once(alloc, &mut turn);
         }
-        true
-    }
-
-    /// Where a socket is closed that made all wait, the others of its user that wait for their turn go behind all: else each of them
-    /// could make all wait once more.
-    fn put_behind(&mut self, alloc: Global, number: u64) {
-        let Some(name) = self.name_of(alloc, number) else {
-            return;
-        };
-        let spare = mem::replace(&mut self.spare, Vec::new(alloc));
-        let mut round = mem::replace(&mut self.ready, spare);
-        self.queue_those(&round, &name, false);
-        self.queue_those(&round, &name, true);
-        round.clear();
-        self.spare = round;
-    }
-
-    /// The name of the user of a connection, which is forgotten.
-    fn name_of(&mut self, alloc: Global, number: u64) -> Option<String> {
-        let place = self.place_of(number)?;
-        let socket = self.sockets.get_mut(place)?;
-        Some(socket.take_login(alloc))
-    }
-
-    /// Those of the connections whose user has the name are next, or those whose user has not.
-    fn queue_those(&mut self, numbers: &[u64], name: &str, has_name: bool) {
-        for number in numbers {
-            if let Some(place) = self.place_of(*number)
-                && let Some(socket) = self.sockets.get(place)
-                && socket.is_of(name) == has_name
-            {
-                // there is room for each socket once
-                let _ = self.ready.push(*number);
-            }
+        if turn.closed > 0 {
+            self.drop_ended();
         }
-    }
-
-    /// Closes the socket of a connection.
-    fn close(&mut self, alloc: Global, number: u64, turn: &mut Turn) {
-        self.strangers.forget(number);
-        if let Some(place) = self.place_of(number)
-            && let Some(socket) = self.sockets.get_mut(place)
-            && !socket.is_ended()
-        {
-            self.output = self.output.saturating_sub(socket.unwritten());
-            self.unread.end(number, socket.moved);
-            self.untried.end(number, socket.moved);
-            socket.close(alloc, &mut self.broker, turn);
-        }
-    }
-
-    /// The sockets whose connections are closed are kept no longer.
-    fn drop_ended(&mut self) {
-        self.sockets.retain(|socket| !socket.is_ended());
-    }
-
-    /// Makes room for one more socket where as many are open as may be: the oldest one is closed that has not logged in. Where there is
-    /// none, there is no room.
-    fn make_room(&mut self, alloc: Global, turn: &mut Turn) -> bool
-        ensures { OnTrue result (vec_len self.new.sockets < self.new.limit) }
-    {
-        if self.sockets.len() < self.limit {
-            return true;
-        }
-        let Some(number) = self.strangers.oldest() else {
-            return false;
-        };
-        self.close(alloc, number, turn);
-        turn.count_stranger();
-        if let Some(place) = self.place_of(number) {
-            self.sockets.remove(place);
-        }
-        self.sockets.len() < self.limit
+        Ok(turn)
     }
 
     /// Every socket may be ready.
@@ -475,7 +310,7 @@ impl<R: Net, S: Store, L: PartitionLog + Drop> Edge<R, S, L> {
     fn take_in(&mut self, alloc: Global, stream: R::Stream, peer: SocketAddr) -> io::Result<()>
         requires { vec_len self.now.sockets < self.now.limit }
     {
-        let Some(connection) = self.broker.last_connection().checked_add(1) else {
+        let Some(connection) = self.host.broker().last_connection().checked_add(1) else {
             return Err(io::Error::from(ErrorKind::QuotaExceeded));
         };
         stream.set_nonblocking(true)?;
@@ -485,9 +320,10 @@ impl<R: Net, S: Store, L: PartitionLog + Drop> Edge<R, S, L> {
         }
         self.sockets.reserve(1)?;
         self.strangers.admit(connection, self.clock)?;
-        if let Err(refused) = self.broker.connect(alloc, connection) {
+        if self.shares.admit(connection).is_err() || self.host.connect(alloc, connection).is_err() {
             self.strangers.forget(connection);
-            return Err(io::Error::from(refused));
+            self.shares.release(connection);
+            return Err(io::Error::from(ErrorKind::OutOfMemory));
         }
         let place = self.sockets.len();
         self.sockets
@@ -506,7 +342,9 @@ impl<R: Net, S: Store, L: PartitionLog + Drop> Edge<R, S, L> {
     }
 
     /// The socket at a place can go on.
-    fn queue(&mut self, place: usize) {
+    fn queue(&mut self, place: usize)
+        ensures { self.new.host ≡ self.old.host }
+    {
         let Some(socket) = self.sockets.get_mut(place) else {
             return;
         };
@@ -516,68 +354,13 @@ impl<R: Net, S: Store, L: PartitionLog + Drop> Edge<R, S, L> {
         }
     }
 
-    /// Each socket that can go on is served once.
-    fn serve(&mut self, alloc: Global, turn: &mut Turn) {
-        let spare = mem::replace(&mut self.spare, Vec::new(alloc));
-        let mut round = mem::replace(&mut self.ready, spare);
-        for number in &round {
-            self.serve_one(alloc, *number, turn);
-        }
-        round.clear();
-        self.spare = round;
-    }
-
-    /// Serves the socket of a connection once.
-    fn serve_one(&mut self, alloc: Global, number: u64, turn: &mut Turn) {
-        let may_ask = self.may_ask();
-        let Some(place) = self.place_of(number) else {
-            return;
-        };
-        let Some(socket) = self.sockets.get_mut(place) else {
-            return;
-        };
-        if socket.is_ended() {
-            return;
-        }
-        socket.is_queued = false;
-        let was_stranger = socket.is_stranger();
-        let before = socket.unwritten();
-        let (denied, written) = (turn.denied, turn.written);
-        let next = socket.serve(alloc, &mut self.broker, &mut self.buffer, may_ask, turn);
-        let after = socket.unwritten();
-        if turn.denied > denied && self.denied.len() < DENIED {
-            // there is room for so many
-            let _ = self.denied.push(Denied {
-                address: socket.peer(),
-                name: socket.take_login(alloc),
-            });
-        }
-        let is_stranger = socket.is_stranger();
-        self.output = self.output.saturating_sub(before).saturating_add(after);
-        let has_taken = turn.written > written;
-        let noted = note_reply(
-            &mut self.unread,
-            &mut self.untried,
-            socket,
-            before,
-            has_taken,
-            self.clock,
-        );
-        if was_stranger && !is_stranger {
-            self.strangers.forget(number);
-        }
-        if noted.is_err() {
-            self.close(alloc, number, turn);
-        } else if next == Next::Turn {
-            self.queue(place);
-        }
-    }
-
     /// The connections that the broker told something can go on, whoever asked for it. One that has still to be written what it was
     /// told before waits for that.
-    fn hear_speakers(&mut self) {
-        for at in 0..self.broker.speakers().len() {
-            if let Some(number) = self.broker.speakers().get(at)
+    fn hear_speakers(&mut self)
+        ensures { self.new.host ≡ self.old.host }
+    {
+        for at in 0..self.host.broker().speakers().len() {
+            if let Some(number) = self.host.broker().speakers().get(at)
                 && let Some(place) = self.place_of(*number)
                 && let Some(socket) = self.sockets.get(place)
                 && socket.unwritten() == 0
@@ -585,50 +368,6 @@ impl<R: Net, S: Store, L: PartitionLog + Drop> Edge<R, S, L> {
                 self.queue(place);
             }
         }
-    }
-}
-
-/// Notes since when a socket took nothing of its reply, which had so much to take before and may have taken some since. An `Err` is want of
-/// memory: it cannot be known when it has been silent for too long, and it is closed.
-fn note_reply<T: Read + Write + Drop>(
-    unread: &mut Unread,
-    untried: &mut Unread,
-    socket: &mut Socket<T>,
-    before: usize,
-    has_taken: bool,
-    now: u64,
-) -> Result<(), AllocError> {
-    let after = socket.unwritten();
-    if !has_moved(before, after, has_taken) {
-        return Ok(());
-    }
-    let connection = socket.connection();
-    if before > 0 {
-        unread.end(connection, socket.moved);
-        untried.end(connection, socket.moved);
-    }
-    socket.moved = now;
-    if after > 0 {
-        unread.begin(connection, now)?;
-        untried.begin(connection, now)?;
-    }
-    Ok(())
-}
-
-/// How long may be waited by that clock where nothing is to be done before a moment, in milliseconds: a second at most. Where the moment
-/// has come, it is 100 where what was due at the clock was left due, and else 1.
-fn quiet_time(next_deadline: u64, clock: u64, is_left_due: bool) -> u64
-    ensures ahead { clock < next_deadline → result ≡ min (next_deadline - clock) 1000 }
-    ensures left_due { next_deadline ≤ clock → is_left_due ≡ true → result ≡ 100 }
-    ensures soon { next_deadline ≤ clock → is_left_due ≡ false → result ≡ 1 }
-{
-    let left = next_deadline.saturating_sub(clock);
-    if left > 0 {
-        left.min(LONG_WAIT)
-    } else if is_left_due {
-        REFUSED_WAIT
-    } else {
-        1
     }
 }
 

@@ -34,6 +34,11 @@ impl Progress {
         Progress { left: 0 }
     }
 
+    /// Whether some of a request was handed on, and not all of it.
+    pub fn is_begun(&self) -> bool {
+        self.left > 0
+    }
+
     /// Whether none of the bytes can be handed on before more are there.
     pub fn is_short(&self, bytes: &[u8]) -> bool {
         bytes.is_empty() || end_of_request(self.left, bytes) == 0
@@ -77,6 +82,11 @@ impl Input {
     /// Whether all was handed on.
     pub fn is_empty(&self) -> bool {
         self.handed == self.bytes.len()
+    }
+
+    /// Whether some of the request in front was handed on.
+    pub fn is_begun(&self) -> bool {
+        self.progress.is_begun()
     }
 
     /// Whether nothing can be handed on before more is read.

@@ -6,6 +6,8 @@
 //! on a network and is turned by hand.
 #![tactic(auto)]
 
+mod commits;
+mod committed;
 mod deadlines;
 mod doors;
 mod edge;
@@ -15,6 +17,7 @@ mod limits;
 mod login;
 mod script;
 mod socket;
+mod socket_shares;
 mod start;
 mod turn;
 mod watch;
@@ -23,10 +26,11 @@ pub use doors::BindCause;
 pub use edge::{BindFault, BindRefused, Edge};
 pub use fault::{NodeFault, StartFault};
 pub use kb_broker::{Listing, Settings};
-pub use kb_settings::tenant_names;
-pub use kb_store::Store;
+pub use kb_settings::{Sync, tenant_names};
+pub use kb_store::{Store, StoreFault};
 pub use limits::Limits;
 pub use login::Denied;
 pub use script::{play_script, play_script_on, play_script_with};
+pub use socket_shares::SocketShares;
 pub use start::{data_folder, read_settings};
 pub use turn::Turn;

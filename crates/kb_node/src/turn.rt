@@ -21,6 +21,8 @@ pub struct Turn {
     pub strangers: u64,
     /// Those of the closed ones that took nothing of their replies.
     pub unread: u64,
+    /// Those of the closed ones that logged in for a tenant that has no room for one more.
+    pub over_limit: u64,
 }
 
 impl Turn {
@@ -35,6 +37,7 @@ impl Turn {
           denied = 0;
           strangers = 0;
           unread = 0;
+          over_limit = 0;
         }) }
     {
         *self == Turn::default()
@@ -54,14 +57,14 @@ impl Turn {
 
     /// More bytes were written.
     pub(crate) fn count_written(&mut self, bytes: usize)
-        ensures { self.new.read ≡ self.old.read }
+        ensures { self.new ≡ record self.old { written = min (self.old.written + bytes) (2 ^ 64 - 1) } }
     {
         self.written = self.written.saturating_add(bytes as u64);
     }
 
     /// One more socket was closed.
     pub(crate) fn count_closed(&mut self)
-        ensures { self.new.read ≡ self.old.read }
+        ensures { self.new ≡ record self.old { closed = min (self.old.closed + 1) (2 ^ 64 - 1) } }
     {
         self.closed = self.closed.saturating_add(1);
     }
@@ -73,7 +76,7 @@ impl Turn {
 
     /// One more login failed.
     pub(crate) fn count_denied(&mut self)
-        ensures { self.new.read ≡ self.old.read }
+        ensures { self.new ≡ record self.old { denied = min (self.old.denied + 1) (2 ^ 64 - 1) } }
     {
         self.denied = self.denied.saturating_add(1);
     }
@@ -90,5 +93,12 @@ impl Turn {
         ensures { self.new ≡ record self.old { unread = min (self.old.unread + 1) (2 ^ 64 - 1) } }
     {
         self.unread = self.unread.saturating_add(1);
+    }
+
+    /// One more socket was closed whose tenant has no room for it.
+    pub(crate) fn count_over_limit(&mut self)
+        ensures { self.new ≡ record self.old { over_limit = min (self.old.over_limit + 1) (2 ^ 64 - 1) } }
+    {
+        self.over_limit = self.over_limit.saturating_add(1);
     }
 }

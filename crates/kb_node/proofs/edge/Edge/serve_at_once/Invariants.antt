@@ -1,0 +1,7 @@
+use Rattle.std.proofs.Common.{◌≡◌, true}
+use Rattle.kb_node.specs.Commits.{tells_at_once}
+use Rattle.kb_node.proofs.edge.Edge.serve_at_once.Given as goal
+
+-- replies may go out whatever is handed on
+abbrev pub invariant-loop : goal.invariant-loop
+invariant-loop g l = tells_at_once l.self.host.commits ≡ true

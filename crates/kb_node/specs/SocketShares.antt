@@ -1,0 +1,50 @@
+-- For whom the open sockets are counted.
+use Rattle.std.specs.Prelude.{◌≡◌, ℕ, List, Bool, not, ◌||◌, nat_eq, nat_lt, if◌then◌else◌, Option, Some, None}
+use Rattle.std.specs.List.{sum_by}
+use Rattle.std.specs.Map.{lookup, remove_entry, values_of}
+use Rattle.std.specs.BTreeMap.{is_at}
+use Rattle.std.specs.Ordering.{nat_cmp}
+use Rattle.kb_shares.specs.Shares.{Pool, used_by, given_back, has_room}
+
+-- the counted sockets, by rising number of their connections, each with the place of the holder that has it
+abbrev pub Counted : Type 0
+Counted = List (ℕ × ℕ)
+
+-- What the holders have of all sockets, and which. The tenants with a share come first, and behind them those that have not logged in.
+pub record Seats : Type 0 where
+  pub pool : Pool
+  pub sockets : Counted
+  pub tenants : ℕ
+
+-- how many sockets are counted for a holder
+abbrev pub count_of : ℕ → Counted → ℕ
+count_of holder sockets = sum_by (λ h. if nat_eq h holder then 1 else 0) (values_of sockets)
+
+-- each holder has as many as are counted for it
+pub record AreCounted (pool : Pool) (sockets : Counted) : Type 0 where
+  pub used : (holder : ℕ) → used_by holder pool ≡ count_of holder sockets
+
+-- for whom the socket of a connection is counted
+abbrev pub holder_of : ℕ → Counted → Option ℕ
+holder_of connection sockets = lookup (is_at (nat_cmp connection)) sockets
+
+-- without the socket of a connection
+abbrev pub without : ℕ → Counted → Counted
+without connection sockets = remove_entry (is_at (nat_cmp connection)) sockets
+
+-- A socket is given back by its holder, if it is counted for one.
+abbrev pub pool_without : Option ℕ → Pool → Pool
+pool_without None pool = pool
+pool_without (Some holder) pool = given_back holder 1 pool
+
+-- the socket of a connection is counted no longer
+abbrev pub released : ℕ → Seats → Seats
+released connection s = record s {
+  pool = pool_without (holder_of connection s.sockets) s.pool;
+  sockets = without connection s.sockets;
+}
+
+-- A tenant may have the socket that logs in for it: it has no share, or there is room for it once the socket is counted no longer as one
+-- that has not logged in.
+abbrev pub may_bind : ℕ → ℕ → Seats → Bool
+may_bind connection tenant s = not (nat_lt tenant s.tenants) || has_room tenant 1 (released connection s).pool

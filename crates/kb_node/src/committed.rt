@@ -1,0 +1,163 @@
+//! A broker whose replies may wait until what was done lasts.
+
+ghost use Rattle.std.specs.Prelude.{◌≡◌, ◌≤◌, ◌<◌, ◌^◌, true, false, max, None, Some, Err, IfSome, IfErr, OnErr, OnOk};
+ghost use Rattle.kb_isolation_spec.specs.Calls.{closed, taken, output_of, opened, IsRefused};
+ghost use Rattle.kb_broker.specs.Places.{numbers};
+ghost use Rattle.kb_broker.specs.Hosts.{is_honest};
+ghost use Rattle.kb_node.specs.Commits.{holds_back, is_due, may_tell, Lasts};
+
+use crate::commits::Commits;
+use kb_broker::Broker;
+use kb_log::{ListLog, PartitionLog};
+use kb_store::{Store, StoreFault};
+use std::alloc::{AllocError, Global};
+use std::marker::Model;
+
+/// A broker, and what is known of its commits. It is the one way to the broker: what a connection has to say is taken only while replies
+/// may go out.
+///
+/// Where all that was done is known to be committed, a loss of power leaves the files of the store as they are.
+#[derive(Drop)]
+pub struct Committed<S: Store, L: PartitionLog = ListLog> {
+    broker: Broker<S, L>,
+    commits: Commits,
+}
+
+impl<S: Store, L: PartitionLog> Model for Committed<S, L> {
+    ghost use Rattle.std.specs.Prelude.{◌≡◌, true};
+    ghost use Rattle.kb_node.specs.Commits.{Host, Lasts};
+
+    ghost Value = { Host S };
+
+    ghost view = { λ h. record { broker = h.broker; commits = h.commits } };
+
+    ghost invariant = { λ h. h.commits.is_committed ≡ true → Lasts S.settled S.disk S.loss h.broker.store };
+}
+
+impl<S: Store, L: PartitionLog + Drop> Committed<S, L> {
+    /// A broker of which nothing is known to be committed.
+    pub fn new(broker: Broker<S, L>, commits: Commits) -> Self
+        requires { commits.is_committed ≡ false }
+        ensures broker { result.broker ≡ broker }
+        ensures commits { result.commits ≡ commits }
+    {
+        Committed { broker, commits }
+    }
+
+    /// The broker, to look at.
+    pub fn broker(&self) -> &Broker<S, L>
+        ensures { result.now ≡ self.now.broker }
+    {
+        &self.broker
+    }
+
+    /// What is known of its commits.
+    pub fn commits(&self) -> &Commits
+        ensures { result.now ≡ self.now.commits }
+    {
+        &self.commits
+    }
+
+    /// A new connection, whose number is above that of each earlier one.
+    pub fn connect(&mut self, alloc: Global, number: u64) -> Result<(), AllocError>
+        requires { self.old.broker.state.last < number }
+        ensures commits { self.new.commits ≡ self.old.commits }
+        ensures ok { OnOk result (self.new.broker.state ≡ opened self.old.broker.state number) }
+        ensures err { OnErr result (IsRefused self.old.broker.state self.new.broker.state) }
+    {
+        self.broker.connect(alloc, number)
+    }
+
+    /// A piece came on a connection.
+    pub fn input(&mut self, alloc: Global, number: u64, piece: &[u8])
+        ensures commits { self.new.commits ≡ record self.old.commits { is_committed = self.new.commits.is_committed } }
+        ensures lasts { self.new.commits.is_committed ≡ true → Lasts S.settled S.disk S.loss self.new.broker.store }
+        ensures numbers { numbers self.new.broker.state ≡ numbers self.old.broker.state }
+    {
+        self.broker.input(alloc, number, piece);
+        self.commits.note(self.broker.is_synced());
+    }
+
+    /// A moment of time, in milliseconds, at most 2^62.
+    pub fn moment(&mut self, alloc: Global, now: u64)
+        requires { now ≤ 2 ^ 62 }
+        ensures commits { self.new.commits ≡ record self.old.commits { is_committed = self.new.commits.is_committed } }
+        ensures lasts { self.new.commits.is_committed ≡ true → Lasts S.settled S.disk S.loss self.new.broker.store }
+        ensures clock { self.new.broker.state.clock ≡ max self.old.broker.state.clock now }
+        ensures numbers { numbers self.new.broker.state ≡ numbers self.old.broker.state }
+    {
+        self.broker.moment(alloc, now);
+        self.commits.note(self.broker.is_synced());
+    }
+
+    /// Closes a connection. What it had to say is dropped, and the store stays as it is.
+    pub fn disconnect(&mut self, alloc: Global, number: u64)
+        ensures commits { self.new.commits ≡ self.old.commits }
+        ensures broker { self.new.broker ≡ record self.old.broker { state = closed self.old.broker.state number } }
+    {
+        self.broker.disconnect(alloc, number);
+    }
+
+    /// Takes the output of a connection, while replies may go out.
+    pub fn take_output(&mut self, alloc: Global, number: u64) -> Vec<u8>
+        requires { may_tell self.old.commits ≡ true }
+        ensures commits { self.new.commits ≡ self.old.commits }
+        ensures broker { self.new.broker ≡ record self.old.broker { state = taken self.old.broker.state number } }
+        ensures output { result.items ≡ output_of number self.old.broker.state }
+        // Where replies wait for it, all that was done lasts.
+        ensures lasts { holds_back self.old.commits.sync ≡ true → Lasts S.settled S.disk S.loss self.new.broker.store }
+    {
+        self.broker.take_output(alloc, number)
+    }
+
+    /// Whether a connection has something to say, or was shut.
+    pub fn speaks(&self, number: u64) -> bool {
+        self.broker.speakers().binary_search(&number).is_ok()
+    }
+
+    /// Makes all that was done before last through a loss of power, where that is not known. Once it was refused it is refused for ever.
+    pub fn commit(&mut self, now: u64) -> Result<(), StoreFault>
+        ensures ok { OnOk result ((self.new.commits.sync ≡ self.old.commits.sync) × (self.new.commits.is_committed ≡ true)) }
+        ensures lasts { OnOk result (Lasts S.settled S.disk S.loss self.new.broker.store) }
+        ensures well { OnOk result ((self.old.commits.fault ≡ None) × (self.new.commits.fault ≡ None)) }
+        ensures refused { IfErr result (λ fault. self.new.commits.fault ≡ Some fault) }
+        ensures dead { IfSome self.old.commits.fault (λ fault. (result ≡ Err fault) × (self.new ≡ self.old)) }
+        ensures known { self.old.commits.is_committed ≡ true → self.new ≡ self.old }
+        ensures state { is_honest S.disk self.new.broker → self.new.broker.state ≡ self.old.broker.state }
+    {
+        if let Some(fault) = self.commits.fault() {
+            return Err(fault);
+        }
+        if self.commits.is_committed() {
+            return Ok(());
+        }
+        match self.broker.commit() {
+            Ok(()) => {
+                self.commits.note_commit(now);
+                Ok(())
+            }
+            Err(fault) => {
+                self.commits.note_refusal(fault);
+                Err(fault)
+            }
+        }
+    }
+
+    /// The same where it is due.
+    pub fn commit_in_time(&mut self, now: u64) -> Result<(), StoreFault>
+        ensures sync { OnOk result (self.new.commits.sync ≡ self.old.commits.sync) }
+        ensures well { OnOk result (self.new.commits.fault ≡ None) }
+        ensures due { OnOk result (is_due now self.new.commits ≡ false) }
+        ensures refused { IfErr result (λ fault. self.new.commits.fault ≡ Some fault) }
+        ensures dead { IfSome self.old.commits.fault (λ fault. (result ≡ Err fault) × (self.new ≡ self.old)) }
+        ensures state { is_honest S.disk self.new.broker → self.new.broker.state ≡ self.old.broker.state }
+    {
+        if let Some(fault) = self.commits.fault() {
+            return Err(fault);
+        }
+        if self.commits.is_due(now) {
+            self.commit(now)?;
+        }
+        Ok(())
+    }
+}

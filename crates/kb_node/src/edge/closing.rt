@@ -1,0 +1,208 @@
+//! Which sockets an edge closes.
+
+ghost use Rattle.std.specs.Prelude.{◌≡◌, ◌<◌, None, vec_len};
+ghost use Rattle.std.specs.Bool.{OnTrue};
+ghost use Rattle.kb_node.specs.SocketShares.{count_of, holder_of};
+
+use crate::deadlines::{TRY_MILLIS, Unread, has_moved, patience};
+use crate::edge::Edge;
+use crate::socket::Socket;
+use crate::turn::Turn;
+use kb_log::PartitionLog;
+use kb_store::Store;
+use std::alloc::{AllocError, Global};
+use std::io::{Read, Write};
+use std::mem;
+use std::net::Net;
+
+impl<R: Net, S: Store, L: PartitionLog + Drop> Edge<R, S, L> {
+    /// Closes the sockets that have not logged in in time, and those that do not read.
+    pub(super) fn close_silent(&mut self, alloc: Global, turn: &mut Turn) {
+        for _ in 0..self.limit {
+            let Some(number) = self.strangers.due(self.clock) else {
+                break;
+            };
+            self.close(alloc, number, turn);
+            turn.count_stranger();
+        }
+        self.try_again(alloc, turn);
+        self.close_unread(alloc, turn);
+        if turn.closed > 0 {
+            self.drop_ended();
+        }
+    }
+
+    /// Tries the sockets once more that took something of their replies some time ago.
+    fn try_again(&mut self, alloc: Global, turn: &mut Turn) {
+        for _ in 0..self.limit {
+            let Some(number) = self.untried.take_silent(self.clock, TRY_MILLIS) else {
+                break;
+            };
+            self.write_again(alloc, number, turn);
+        }
+    }
+
+    /// Closes the sockets that take nothing of their replies. The system tells late of a little room, so each is tried once more before.
+    fn close_unread(&mut self, alloc: Global, turn: &mut Turn) {
+        for _ in 0..self.limit {
+            let may_ask = self.may_ask();
+            let Some(number) = self
+                .unread
+                .silent(self.clock, patience(may_ask, self.reply_millis))
+            else {
+                break;
+            };
+            if !self.write_again(alloc, number, turn) {
+                if !may_ask {
+                    self.put_behind(alloc, number);
+                }
+                self.close(alloc, number, turn);
+                turn.count_unread();
+            }
+        }
+    }
+
+    /// Writes what a socket takes now of its reply. It answers whether it took some: then its silence begins anew, or, where that cannot be
+    /// noted, it is closed.
+    fn write_again(&mut self, alloc: Global, number: u64, turn: &mut Turn) -> bool {
+        let Some(place) = self.place_of(number) else {
+            return false;
+        };
+        let Some(socket) = self.sockets.get_mut(place) else {
+            return false;
+        };
+        let before = socket.unwritten();
+        socket.write_on(turn);
+        let after = socket.unwritten();
+        self.output = self.output.saturating_sub(before).saturating_add(after);
+        if after == before {
+            return false;
+        }
+        let noted = note_reply(
+            &mut self.unread,
+            &mut self.untried,
+            socket,
+            before,
+            true,
+            self.clock,
+        );
+        if noted.is_err() {
+            self.close(alloc, number, turn);
+        } else {
+            self.queue(place);
+        }
+        true
+    }
+
+    /// Where a socket is closed that made all wait, the others of its user that wait for their turn go behind all: else each of them
+    /// could make all wait once more.
+    fn put_behind(&mut self, alloc: Global, number: u64) {
+        let Some(name) = self.name_of(alloc, number) else {
+            return;
+        };
+        let spare = mem::replace(&mut self.spare, Vec::new(alloc));
+        let mut round = mem::replace(&mut self.ready, spare);
+        self.queue_those(&round, &name, false);
+        self.queue_those(&round, &name, true);
+        round.clear();
+        self.spare = round;
+    }
+
+    /// The name of the user of a connection, which is forgotten.
+    fn name_of(&mut self, alloc: Global, number: u64) -> Option<String> {
+        let place = self.place_of(number)?;
+        let socket = self.sockets.get_mut(place)?;
+        Some(socket.take_login(alloc))
+    }
+
+    /// Those of the connections whose user has the name are next, or those whose user has not.
+    fn queue_those(&mut self, numbers: &[u64], name: &str, has_name: bool) {
+        for number in numbers {
+            if let Some(place) = self.place_of(*number)
+                && let Some(socket) = self.sockets.get(place)
+                && socket.is_of(name) == has_name
+            {
+                // there is room for each socket once
+                let _ = self.ready.push(*number);
+            }
+        }
+    }
+
+    /// Closes the socket of a connection.
+    pub(super) fn close(&mut self, alloc: Global, number: u64, turn: &mut Turn)
+        ensures commits { self.new.host.commits ≡ self.old.host.commits }
+        ensures released { holder_of number self.new.shares.sockets ≡ None }
+    {
+        self.strangers.forget(number);
+        self.shares.release(number);
+        if let Some(place) = self.place_of(number)
+            && let Some(socket) = self.sockets.get_mut(place)
+            && !socket.is_ended()
+        {
+            self.output = self.output.saturating_sub(socket.unwritten());
+            self.unread.end(number, socket.moved);
+            self.untried.end(number, socket.moved);
+            socket.close(alloc, &mut self.host, turn);
+        }
+    }
+
+    /// The sockets whose connections are closed are kept no longer.
+    pub(super) fn drop_ended(&mut self) {
+        self.sockets.retain(|socket| !socket.is_ended());
+    }
+
+    /// Makes room for one more socket where as many are open as may be, or as many that have not logged in: the oldest of those is closed.
+    /// Where there is none, there is no room.
+    pub(super) fn make_room(&mut self, alloc: Global, turn: &mut Turn) -> bool
+        ensures sockets { OnTrue result (vec_len self.new.sockets < self.new.limit) }
+        ensures strangers { OnTrue result (count_of self.new.shares.tenants self.new.shares.sockets < self.new.stranger_limit) }
+    {
+        if self.has_room() {
+            return true;
+        }
+        let Some(number) = self.strangers.oldest() else {
+            return false;
+        };
+        self.close(alloc, number, turn);
+        turn.count_stranger();
+        if let Some(place) = self.place_of(number) {
+            self.sockets.remove(place);
+        }
+        self.has_room()
+    }
+
+    /// Whether one more socket may be open that has not logged in.
+    fn has_room(&self) -> bool
+        ensures sockets { OnTrue result (vec_len self.now.sockets < self.now.limit) }
+        ensures strangers { OnTrue result (count_of self.now.shares.tenants self.now.shares.sockets < self.now.stranger_limit) }
+    {
+        self.sockets.len() < self.limit && self.shares.strangers() < self.stranger_limit
+    }
+}
+
+/// Notes since when a socket took nothing of its reply, which had so much to take before and may have taken some since. An `Err` is want of
+/// memory: it cannot be known when it has been silent for too long, and it is closed.
+pub(super) fn note_reply<T: Read + Write + Drop>(
+    unread: &mut Unread,
+    untried: &mut Unread,
+    socket: &mut Socket<T>,
+    before: usize,
+    has_taken: bool,
+    now: u64,
+) -> Result<(), AllocError> {
+    let after = socket.unwritten();
+    if !has_moved(before, after, has_taken) {
+        return Ok(());
+    }
+    let connection = socket.connection();
+    if before > 0 {
+        unread.end(connection, socket.moved);
+        untried.end(connection, socket.moved);
+    }
+    socket.moved = now;
+    if after > 0 {
+        unread.begin(connection, now)?;
+        untried.begin(connection, now)?;
+    }
+    Ok(())
+}

@@ -1,0 +1,100 @@
+//! How long an edge waits, and for what.
+
+ghost use Rattle.std.specs.Prelude.{◌≡◌, ◌≤◌, ◌<◌, ◌-◌, min, true, false};
+
+use crate::deadlines::{TRY_MILLIS, patience};
+use crate::doors::DOOR;
+use crate::edge::Edge;
+use kb_log::PartitionLog;
+use kb_store::Store;
+use mio::event::Event;
+use std::net::Net;
+use std::time::Duration;
+
+/// How long is waited at most, in milliseconds: until an accept is tried again that was refused, or sockets that can go on while too much
+/// output is kept; until what a moment was refused is tried again; and where nothing is due, as clocks may jump.
+const SHORT_WAIT: u64 = 5;
+
+const REFUSED_WAIT: u64 = 100;
+
+const LONG_WAIT: u64 = 1_000;
+
+impl<R: Net, S: Store, L: PartitionLog + Drop> Edge<R, S, L> {
+    /// Waits until a socket becomes ready, a new one is there, or the broker may have something to do by the clock of the last turn, and
+    /// a second at most; and no time where a socket can go on as it is. What was refused is tried again within 100 ms: within 5 ms where
+    /// it is an accept. An edge that was bound without a watch does not wait.
+    pub fn wait(&mut self) {
+        let longest = self.longest_wait();
+        let Some(mut watch) = self.watch.take() else {
+            return;
+        };
+        watch.wait(longest);
+        for event in watch.events() {
+            self.hear(event);
+        }
+        self.watch = Some(watch);
+    }
+
+    /// How long may be waited.
+    fn longest_wait(&self) -> Duration {
+        let millis = if !self.ready.is_empty() && self.may_ask() {
+            0
+        } else if self.ready.is_empty() && !self.can_accept {
+            quiet_time(self.next_deadline(), self.clock, self.is_left_due)
+        } else {
+            SHORT_WAIT
+        };
+        Duration::from_millis(millis)
+    }
+
+    /// The next moment at which there may be something to do: for the broker, for a commit, or where a socket is closed that kept silent.
+    fn next_deadline(&self) -> u64 {
+        self.host
+            .broker()
+            .next_deadline()
+            .min(self.host.commits().next_commit())
+            .min(self.strangers.first_deadline())
+            .min(
+                self.unread
+                    .first_end(patience(self.may_ask(), self.reply_millis)),
+            )
+            .min(self.untried.first_end(TRY_MILLIS))
+    }
+
+    /// Whether so little output is kept, or awaited, that more may be asked for.
+    pub(super) fn may_ask(&self) -> bool {
+        self.output.saturating_add(self.promised) < self.output_limit
+    }
+
+    /// What the system tells of a socket or of a listener.
+    fn hear(&mut self, event: &Event) {
+        let number = event.token().0 as u64;
+        if number == DOOR {
+            self.can_accept = true;
+            return;
+        }
+        if let Some(place) = self.place_of(number)
+            && let Some(socket) = self.sockets.get_mut(place)
+        {
+            socket.hear(event);
+            self.queue(place);
+        }
+    }
+}
+
+/// How long may be waited by that clock where nothing is to be done before a moment, in milliseconds: a second at most. Where the moment
+/// has come, it is 100 where what was due at the clock was left due, and else 1.
+fn quiet_time(next_deadline: u64, clock: u64, is_left_due: bool) -> u64
+    ensures ahead { clock < next_deadline → result ≡ min (next_deadline - clock) 1000 }
+    ensures left_due { next_deadline ≤ clock → is_left_due ≡ true → result ≡ 100 }
+    ensures soon { next_deadline ≤ clock → is_left_due ≡ false → result ≡ 1 }
+{
+    let left = next_deadline.saturating_sub(clock);
+    if left > 0 {
+        left.min(LONG_WAIT)
+    } else if is_left_due {
+        REFUSED_WAIT
+    } else {
+        1
+    }
+}

@@ -1,0 +1,161 @@
+//! For whom the open sockets are counted.
+
+ghost use Rattle.std.specs.Prelude.{◌≡◌, [], true, false, IfOk, OnErr, OnOk, None, nat_lt, length};
+ghost use Rattle.std.specs.BTreeMap.{insert_entry};
+ghost use Rattle.std.specs.Ordering.{nat_cmp};
+ghost use Rattle.kb_node.specs.SocketShares.{count_of, holder_of, may_bind, released, without};
+
+use kb_settings::{Settings, tenant_names};
+use kb_shares::{Budget, BudgetFault, Share};
+use std::alloc::{AllocError, Global};
+use std::collections::BTreeMap;
+use std::marker::Model;
+
+/// What tenants may have of the sockets that are open at a time, and for whom each is counted. Tenants are named by their places, in the
+/// order of their names. A tenant without a share may have as many as there are.
+#[derive(Drop)]
+pub struct SocketShares {
+    budget: Budget,
+    /// How many tenants have a share. Behind them the budget counts the sockets that have not logged in.
+    tenants: usize,
+    /// The place of the holder that has it, for each socket that is counted, by its connection.
+    holders: BTreeMap<u64, usize>,
+    /// How many sockets were closed for want of room, by tenant.
+    refused: Vec<u64>,
+}
+
+impl Model for SocketShares {
+    ghost use Rattle.kb_node.specs.SocketShares.{Seats, AreCounted};
+
+    ghost Value = { Seats };
+
+    ghost view = { λ s. record { pool = s.budget; sockets = s.holders.entries; tenants = s.tenants } };
+
+    ghost invariant = { λ s. AreCounted s.budget s.holders.entries };
+}
+
+impl SocketShares {
+    /// The shares of tenants by their places, of so many sockets. No socket is counted yet.
+    #[tactic(auto, using(crate::proofs::Counts::fresh_counted))]
+    pub fn new(alloc: Global, sockets: u64, shares: &[Share]) -> Result<SocketShares, BudgetFault>
+        ensures { IfOk result (λ it. (it.tenants ≡ length shares.now) × (it.sockets ≡ [])) }
+    {
+        let mut all = Vec::with_capacity(alloc, shares.len().saturating_add(1))?;
+        let mut refused = Vec::with_capacity(alloc, shares.len())?;
+        for share in shares {
+            all.push(*share)?;
+            refused.push(0)?;
+        }
+        // the sockets that have not logged in have no share, and are let in all the same
+        all.push(Share {
+            own: 0,
+            most: sockets,
+        })?;
+        Ok(SocketShares {
+            budget: Budget::new(alloc, sockets, &all)?,
+            tenants: shares.len(),
+            holders: BTreeMap::new(alloc),
+            refused,
+        })
+    }
+
+    /// What the settings say of each tenant.
+    pub fn of(alloc: Global, settings: &Settings) -> Result<SocketShares, BudgetFault> {
+        let names = tenant_names(alloc, &settings.users)?;
+        let mut shares = Vec::with_capacity(alloc, names.len())?;
+        for name in &names {
+            let limits = settings.limits_of(name);
+            shares.push(Share {
+                own: u64::from(limits.reserved),
+                most: u64::from(limits.most),
+            })?;
+        }
+        SocketShares::new(alloc, u64::from(settings.connections), &shares)
+    }
+
+    /// How many sockets are counted for a tenant.
+    pub fn used(&self, tenant: usize) -> u64
+        ensures { result ≡ count_of tenant self.now.sockets }
+    {
+        self.budget.used(tenant)
+    }
+
+    /// How many sockets are counted that have not logged in.
+    pub fn strangers(&self) -> u64
+        ensures { result ≡ count_of self.now.tenants self.now.sockets }
+    {
+        self.budget.used(self.tenants)
+    }
+
+    /// How many sockets were closed so far for want of room, by tenant.
+    pub fn refused(&self) -> &[u64] {
+        &self.refused
+    }
+
+    /// A new socket is counted, which has not logged in. An `Err` is want of memory: then it is not counted.
+    pub fn admit(&mut self, connection: u64) -> Result<(), AllocError>
+        ensures tenants { self.new.tenants ≡ self.old.tenants }
+        ensures admitted { OnOk result (self.new.sockets
+            ≡ insert_entry nat_cmp (without connection self.old.sockets) connection self.old.tenants) }
+        ensures refused { OnErr result (self.new.sockets ≡ without connection self.old.sockets) }
+    {
+        self.release(connection);
+        let place = self.tenants;
+        if !self.budget.put(place, 1) {
+            return Err(AllocError);
+        }
+        match self.holders.insert(connection, place) {
+            Ok(_) => Ok(()),
+            Err(_) => {
+                self.budget.give_back(place, 1);
+                Err(AllocError)
+            }
+        }
+    }
+
+    /// A socket has logged in for a tenant, and is counted for it from now on: true. Where there is no room for it, or no memory, it is
+    /// counted no longer, and is to be closed.
+    pub fn bind(&mut self, connection: u64, tenant: usize) -> Result<bool, AllocError>
+        ensures tenants { self.new.tenants ≡ self.old.tenants }
+        ensures answer { IfOk result (λ is_in. is_in ≡ may_bind connection tenant self.old) }
+        ensures bound { IfOk result (λ is_in. is_in ≡ true → nat_lt tenant self.old.tenants ≡ true
+            → self.new.sockets ≡ insert_entry nat_cmp (without connection self.old.sockets) connection tenant) }
+        ensures refused { IfOk result (λ is_in. is_in ≡ false → self.new ≡ released connection self.old) }
+        ensures no_memory { OnErr result (self.new.sockets ≡ without connection self.old.sockets) }
+    {
+        self.release(connection);
+        if tenant >= self.tenants {
+            return Ok(true);
+        }
+        if !self.budget.take(tenant, 1) {
+            self.count_refused(tenant);
+            return Ok(false);
+        }
+        match self.holders.insert(connection, tenant) {
+            Ok(_) => Ok(true),
+            Err(_) => {
+                self.budget.give_back(tenant, 1);
+                Err(AllocError)
+            }
+        }
+    }
+
+    /// A socket is closed, and counted no longer. One that is not counted stays so.
+    pub fn release(&mut self, connection: u64)
+        ensures released { self.new ≡ released connection self.old }
+        ensures gone { holder_of connection self.new.sockets ≡ None }
+    {
+        if let Some(holder) = self.holders.remove(&connection) {
+            self.budget.give_back(holder, 1);
+        }
+    }
+
+    /// One socket more was closed for want of room.
+    fn count_refused(&mut self, tenant: usize)
+        ensures { self.new ≡ self.old }
+    {
+        if let Some(count) = self.refused.get_mut(tenant) {
+            *count = count.saturating_add(1);
+        }
+    }
+}

@@ -87,13 +87,23 @@ pub fn store_in(rt: &HostRuntime, journal: &FolderJournal) -> Result<DataStore, 
     store_of(rt, journal, HostFolder::new(*rt, journal.folder()))
 }
 
-/// The store of the files in a journal's folder, which keeps a reserve for a full disk.
-pub fn store_with_reserve(
+/// The store of the files in a journal's folder, which keeps a reserve for a full disk. Where it is to sync, all that it finds is made to
+/// last first: what a killed process wrote last need not be on the disk, and what is answered from it must be.
+pub fn store_to_serve(
     rt: &HostRuntime,
     journal: &FolderJournal,
+    syncs: bool,
 ) -> Result<DataStore, OperatorFault> {
-    match HostFolder::new(*rt, journal.folder()) {
-        Ok(folder) => store_of(rt, journal, Ok(folder.with_reserve())),
+    let folder = match HostFolder::new(*rt, journal.folder()) {
+        Ok(folder) => folder.with_reserve(),
+        Err(fault) => return Err(journal.of_folder(rt.alloc(), fault)),
+    };
+    if !syncs {
+        return store_of(rt, journal, Ok(folder));
+    }
+    let mut folder = folder.noting(journal.refusals().share()?).syncing();
+    match folder.sync_found() {
+        Ok(()) => store_of(rt, journal, Ok(folder)),
         Err(fault) => Err(journal.of_folder(rt.alloc(), fault)),
     }
 }

@@ -5,16 +5,21 @@ ghost use Rattle.std.specs.Prelude.{◌≤◌, ◌^◌};
 use crate::counts::RefusalCounts;
 use crate::lines::Lines;
 use kb_server_log::{Change, Notice, Pace, Tally, time_text};
-use kb_settings::{Settings, tenant_names};
+use kb_settings::{Settings, Sync, tenant_names};
 use kb_start::{Left, StrayCounts, Total};
 use std::alloc::{AllocError, Global};
 use std::net::SocketAddr;
 
-/// A tenant, and how many of its refusals were told.
+/// A tenant, and how many of its refusals were told, and of its sockets that were closed.
 #[derive(Drop)]
 struct Tenant {
     name: String,
+    /// Where it stands in the order of the names.
+    place: usize,
+    /// How many sockets it may have at most.
+    connections: u32,
     refusals: Tally,
+    sockets: Tally,
 }
 
 /// What stands in front of what was found in a folder.
@@ -49,6 +54,7 @@ pub struct Journal {
     is_quiet: bool,
     lines: Lines,
     connections: u32,
+    sync: Sync,
     tenants: Vec<Tenant>,
     /// Refusals that were counted for no tenant.
     unbound: Tally,
@@ -73,6 +79,7 @@ impl Journal {
             is_quiet,
             lines: Lines::new(rt)?,
             connections: settings.connections,
+            sync: settings.sync,
             tenants: tenants_of(rt.alloc(), settings)?,
             unbound: Tally::default(),
             disk: Tally::default(),
@@ -125,8 +132,11 @@ impl Journal {
         }
         let holds = held_text(alloc, held);
         let connections = self.connections;
+        let sync = self.sync.name();
         let text = match word {
-            Word::Start => format!(in alloc; "start: {holds}, connections at most {connections}"),
+            Word::Start => format!(in alloc;
+                "start: {holds}, connections at most {connections}, sync {sync}"
+            ),
             Word::Found => format!(in alloc; "found: {holds}"),
         };
         self.lines.tell(now, text);
@@ -192,7 +202,7 @@ impl Journal {
         if !self.is_quiet && self.pace.is_due(moment) {
             self.lines.catch_up(now);
             self.tell_turned_away(alloc, now);
-            self.tell_closed(alloc, now);
+            self.tell_closed(alloc, now, broker);
             self.tell_refusals(alloc, now, broker);
         }
     }
@@ -210,18 +220,16 @@ impl Journal {
         self.turned_away = 0;
     }
 
-    /// How many connections were closed since the last line that kept silent.
-    fn tell_closed(&mut self, alloc: Global, now: u64) {
-        let (strangers, unread) = (self.strangers, self.unread);
-        if strangers == 0 && unread == 0 {
-            return;
+    /// How many connections were closed since the last line: of tenants that may have no more, and of those that kept silent.
+    fn tell_closed<B: RefusalCounts>(&mut self, alloc: Global, now: u64, broker: &B) {
+        for tenants in self.tenants.chunks_mut(TENANTS) {
+            let text = closed_text(alloc, tenants, broker, self.strangers, self.unread);
+            if let Some(text) = text.transpose() {
+                self.lines.tell(now, text);
+                self.strangers = 0;
+                self.unread = 0;
+            }
         }
-        let text = format!(in alloc;
-            "connections closed: {strangers} before a login, {unread} that did not read"
-        );
-        self.lines.tell(now, text);
-        self.strangers = 0;
-        self.unread = 0;
     }
 
     /// How many requests were refused since the last line, by tenant, and how many calls of the store among that.
@@ -240,6 +248,33 @@ impl Journal {
             }
         }
     }
+}
+
+/// How many sockets of some tenants were closed since the last line, how many before a login, and how many that did not read: none where no
+/// socket was.
+fn closed_text<B: RefusalCounts>(
+    alloc: Global,
+    tenants: &mut [Tenant],
+    broker: &B,
+    strangers: u64,
+    unread: u64,
+) -> Result<Option<String>, AllocError> {
+    let mut counts = String::new(alloc);
+    for tenant in tenants {
+        let closed = broker.sockets_of_tenant(tenant.place);
+        let grown = tenant.sockets.grown(closed);
+        if grown > 0 {
+            let (name, most) = (tenant.name.as_str(), tenant.connections);
+            counts.push_str(&format!(in alloc; "{grown} of tenant {name} over its {most}, ")?)?;
+        }
+    }
+    if strangers == 0 && unread == 0 && counts.is_empty() {
+        return Ok(None);
+    }
+    let text = format!(in alloc;
+        "connections closed: {counts}{strangers} before a login, {unread} that did not read"
+    )?;
+    Ok(Some(text))
 }
 
 /// How many requests of some tenants were refused since the last line, and how many before a login: none where no request was. Behind
@@ -274,7 +309,10 @@ fn tenants_of(alloc: Global, settings: &Settings) -> Result<Vec<Tenant>, AllocEr
     for name in tenant_names(alloc, &settings.users)? {
         tenants.push(Tenant {
             name: String::from_str(alloc, name)?,
+            place: tenants.len(),
+            connections: settings.limits_of(name).most,
             refusals: Tally::default(),
+            sockets: Tally::default(),
         })?;
     }
     Ok(tenants)

@@ -1,8 +1,10 @@
 //! What is wrong with a key of the settings, or with a user. No password is told.
 
+use crate::entries::{name_of, numbered, other_key, place_of, shown, text_reason};
+use crate::limits::tenants_reason;
 use std::alloc::{AllocError, Global};
+use toml::Value;
 use toml::value::Array;
-use toml::{Table, Value};
 
 /// The keys of a user.
 const USER_KEYS: [&str; 3] = ["name", "password", "tenant"];
@@ -17,6 +19,9 @@ pub fn field_reason(alloc: Global, text: &str, key: &str) -> Result<String, Allo
     };
     if key == "user" {
         return user_reason(alloc, document.get(key));
+    }
+    if key == "tenant" {
+        return tenants_reason(alloc, &document);
     }
     let Some(wanted) = wanted(key) else {
         return String::from_str(alloc, ": there is no such key");
@@ -43,6 +48,10 @@ fn wanted(key: &str) -> Option<&str> {
         "cache_bytes" => Some("a number from 0 to 1099511627776"),
         "connections" => Some("a number from 1 to 1000000"),
         "output_bytes" => Some("a number from 1048576 to 4294967295"),
+        "sync" => Some("\"always\", \"interval\" or \"never\""),
+        "sync_ms" => Some("a number from 1 to 60000"),
+        "login_seconds" | "reply_seconds" => Some("a number from 1 to 3600"),
+        "strangers" => Some("a number from 1 to `connections`"),
         "data" => Some("a path"),
         _ => None,
     }
@@ -51,16 +60,6 @@ fn wanted(key: &str) -> Option<&str> {
 /// Whether a host is wrong only since it would be told.
 fn is_host(host: &str) -> bool {
     matches!(host, "0.0.0.0" | "::" | "[::]")
-}
-
-/// A value in short.
-fn shown(alloc: Global, value: &Value) -> Result<String, AllocError> {
-    match value {
-        Value::Integer(number) => format!(in alloc; "{number}"),
-        Value::String(text) if text.len() <= 64 => format!(in alloc; "{text:?}"),
-        Value::String(text) => format!(in alloc; "a text of {} bytes", text.len()),
-        other => format!(in alloc; "a value of type {}", other.type_str()),
-    }
 }
 
 /// What is wrong with the users.
@@ -98,25 +97,6 @@ fn together_reason(alloc: Global, entries: &Array) -> Result<String, AllocError>
     String::from_str(alloc, ": they are of more than 256 tenants")
 }
 
-/// The place of the first user of a name.
-fn place_of(entries: &Array, name: Option<&str>) -> Option<usize> {
-    entries.iter().position(|entry| name_of(entry) == name)
-}
-
-/// The name of a user, where it is a text.
-fn name_of(entry: &Value) -> Option<&str> {
-    entry.get("name")?.as_str()
-}
-
-/// A user by number, from 1, and by name, and what is wrong with it.
-fn numbered(alloc: Global, place: usize, entry: &Value, wrong: &str) -> Result<String, AllocError> {
-    let number = place.saturating_add(1);
-    match name_of(entry) {
-        Some(name) if name.len() <= 255 => format!(in alloc; " {number} ({name:?}): {wrong}"),
-        _ => format!(in alloc; " {number}: {wrong}"),
-    }
-}
-
 /// What is wrong with an entry of `user`, if anything.
 fn entry_reason(alloc: Global, entry: &Value) -> Result<Option<String>, AllocError> {
     let Value::Table(entry) = entry else {
@@ -127,52 +107,8 @@ fn entry_reason(alloc: Global, entry: &Value) -> Result<Option<String>, AllocErr
             return Ok(Some(format!(in alloc; "{key} {wrong}")?));
         }
     }
-    match other_key(entry) {
+    match other_key(entry, &USER_KEYS) {
         Some(key) => Ok(Some(format!(in alloc; "there is no such key: {key}")?)),
         None => Ok(None),
     }
-}
-
-/// The first key of a user that there is not.
-fn other_key(entry: &Table) -> Option<&str> {
-    entry
-        .iter()
-        .map(|(key, _)| key.as_str())
-        .find(|key| !USER_KEYS.contains(key))
-}
-
-/// What is wrong with a text of a user, if anything.
-fn text_reason(key: &str, value: Option<&Value>) -> Option<&'static str> {
-    let Some(value) = value else {
-        return Some("is missing");
-    };
-    let Value::String(text) = value else {
-        return Some("is no text");
-    };
-    if text.is_empty() {
-        Some("is empty")
-    } else if key == "tenant" {
-        tenant_reason(text)
-    } else if text.len() > 255 {
-        Some("has more than 255 bytes")
-    } else if text.as_bytes().contains(&0) {
-        Some("has a NUL")
-    } else {
-        None
-    }
-}
-
-/// What is wrong with the name of a tenant that is not empty, if anything.
-fn tenant_reason(text: &str) -> Option<&'static str> {
-    if text.len() > 64 {
-        Some("has more than 64 bytes")
-    } else if text.bytes().all(is_name_byte) {
-        None
-    } else {
-        Some("has a character that is none of a-z A-Z 0-9 . _ -")
-    }
-}
-
-fn is_name_byte(byte: u8) -> bool {
-    byte.is_ascii_alphanumeric() || matches!(byte, b'.' | b'_' | b'-')
 }

@@ -124,5 +124,6 @@ fn verb(call: FolderCall) -> &'static str {
         FolderCall::Read => "read",
         FolderCall::Cut => "cut",
         FolderCall::Remove => "remove",
+        FolderCall::Sync => "sync",
     }
 }

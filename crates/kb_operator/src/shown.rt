@@ -2,13 +2,13 @@
 
 use crate::address::address_text;
 use crate::fault::OperatorFault;
-use kb_settings::{Settings, tenant_names};
+use kb_settings::{Settings, TenantLimits, tenant_names};
 use std::alloc::Global;
 use std::io;
 use std::io::Write;
 
-/// Writes a line for each key and for each user, in the order of the file and without passwords, and then the counts. The folder is
-/// the one that they name.
+/// Writes a line for each key, for each user and for each tenant with limits, in the order of the file and without passwords, and
+/// then the counts. The folder is the one that they name.
 pub fn write_settings<W: Write>(
     alloc: Global,
     settings: &Settings,
@@ -44,7 +44,7 @@ fn write_addresses<W: Write>(
     Ok(())
 }
 
-/// The sizes, the folder, the users and the counts.
+/// The sizes, the folder, the users, the limits of tenants and the counts.
 fn write_rest<W: Write>(
     settings: &Settings,
     folder: &str,
@@ -56,11 +56,35 @@ fn write_rest<W: Write>(
     writeln!(writer, "cache_bytes = {}", settings.cache_bytes)?;
     writeln!(writer, "connections = {}", settings.connections)?;
     writeln!(writer, "output_bytes = {}", settings.output_bytes)?;
+    write_edge(settings, writer)?;
     writeln!(writer, "data = {folder:?}")?;
     for user in &settings.users {
         writeln!(writer, "user {:?} of tenant {:?}", user.name, user.tenant)?;
     }
+    for limits in &settings.tenants {
+        write_limits(limits, writer)?;
+    }
     let users = settings.users.len();
     writeln!(writer, "users: {users}, tenants: {tenants}")?;
     writer.flush()
+}
+
+/// When what was done is made to last, and what a socket may do.
+fn write_edge<W: Write>(settings: &Settings, writer: &mut W) -> io::Result<()> {
+    writeln!(writer, "sync = {:?}", settings.sync.name())?;
+    writeln!(writer, "sync_ms = {}", settings.sync_ms)?;
+    writeln!(writer, "login_seconds = {}", settings.login_seconds)?;
+    writeln!(writer, "reply_seconds = {}", settings.reply_seconds)?;
+    writeln!(writer, "strangers = {}", settings.strangers)
+}
+
+/// The limits of a tenant.
+fn write_limits<W: Write>(limits: &TenantLimits, writer: &mut W) -> io::Result<()> {
+    let most = limits.connections;
+    let reserved = limits.reserved_connections;
+    writeln!(
+        writer,
+        "tenant {:?}: connections = {most}, reserved_connections = {reserved}",
+        limits.name
+    )
 }

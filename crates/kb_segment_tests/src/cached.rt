@@ -1,4 +1,5 @@
 //! Logs and files over a store with a cache: the answers are those of the store inside, and what is kept is answered without it.
+ghost use Rattle.std.specs.Prelude.{◌≡◌, [], IfOk};
 ghost use Rattle.kb_log.specs.Apart.{AreApart};
 ghost use Rattle.kb_log.specs.OnShelf.{on, IsSound};
 
@@ -7,22 +8,36 @@ use crate::folders::{cut, has, remove};
 use crate::logs::{id, random_calls};
 use crate::segments::{Random, random_batch};
 use kb_batch::BatchView;
-use kb_cache::CachedStore;
+use kb_cache::{CachedStore, LARGEST_READ};
 use kb_log::{LogId, PartitionLog, Shelf, append_to_first};
 use kb_segment_log::SegmentLog;
 use kb_store::{Fuse, FusedStore, MemoryStore, Store};
 use std::alloc::Global;
+use std::hash::RandomState;
 use std::test::Fail;
 
 /// How many entries are kept, and how many bytes.
 const LIMITS: [(u32, u64); 4] = [(0, 1 << 20), (1, 1 << 20), (3, 2000), (64, 1 << 20)];
+
+/// A store with a cache over another, with a hasher of its own.
+fn cached<S: Store + Drop>(
+    rt: &HostRuntime,
+    inside: S,
+    most_entries: u32,
+    most_bytes: u64,
+) -> Result<CachedStore<S>, Fail>
+    ensures { IfOk result (λ store. store ≡ record { store = inside; entries = []; most_entries = most_entries; most_bytes = most_bytes }) }
+{
+    let hasher = RandomState::new(rt)?;
+    Ok(CachedStore::new(rt.alloc(), hasher, inside, most_entries, most_bytes))
+}
 
 #[test]
 fn calls_over_a_cache_have_the_answers_of_a_list(rt: HostRuntime) -> Result<(), Fail> {
     for (most_entries, most_bytes) in LIMITS {
         for seed in 1..4u64 {
             let inside = MemoryStore::new(rt.alloc());
-            let store = CachedStore::new(rt.alloc(), inside, most_entries, most_bytes);
+            let store = cached(&rt, inside, most_entries, most_bytes)?;
             let (alike, _) = random_calls(rt.alloc(), store, seed, 200)?;
             assert!(rt; alike, "{most_entries} entries, seed {seed}");
         }
@@ -35,7 +50,7 @@ fn calls_over_a_cache_have_the_answers_of_a_list(rt: HostRuntime) -> Result<(), 
 fn refused_calls_below_a_cache_change_no_answer(rt: HostRuntime) -> Result<(), Fail> {
     for call in 2..100_000u64 {
         let inside = FusedStore::new(MemoryStore::new(rt.alloc()), Fuse::Once(call), 70);
-        let store = CachedStore::new(rt.alloc(), inside, 3, 2000);
+        let store = cached(&rt, inside, 3, 2000)?;
         let (alike, store) = random_calls(rt.alloc(), store, 3, 40)?;
         assert!(rt; alike, "call {call}");
         if store.failures() == 0 {
@@ -88,7 +103,7 @@ fn is_made_anew<S: Store>(alloc: Global, store: &mut S) -> Result<bool, Fail> {
 fn nothing_old_is_answered_after_a_cut_and_a_removal(rt: HostRuntime) -> Result<(), Fail> {
     for (most_entries, most_bytes) in LIMITS {
         let inside = MemoryStore::new(rt.alloc());
-        let mut store = CachedStore::new(rt.alloc(), inside, most_entries, most_bytes);
+        let mut store = cached(&rt, inside, most_entries, most_bytes)?;
         assert!(rt; is_cut(rt.alloc(), &mut store)?, "{most_entries} entries");
         assert!(rt;
             is_made_anew(rt.alloc(), &mut store)?,
@@ -130,7 +145,7 @@ fn add_fetched<S: Store, L: PartitionLog>(
     Ok(log.fetch(shelf, i64::from(offset), limit, true, out)?)
 }
 
-/// What a new log of twenty batches gives from its start on, some times.
+/// What a new log of twenty batches gives from its start on, some times: so many bytes at most as are kept of a read.
 fn fetched_times<S: Store, L: PartitionLog + Drop>(
     alloc: Global,
     shelf: &mut Shelf<S>,
@@ -146,20 +161,21 @@ fn fetched_times<S: Store, L: PartitionLog + Drop>(
     for again in 0..times {
         let _ = again;
         last.clear();
-        add_fetched(shelf, &log, 0, 1 << 20, &mut last)?;
+        add_fetched(shelf, &log, 0, LARGEST_READ as u64, &mut last)?;
     }
     Ok(last)
 }
 
 /// The same over a store that refuses all calls from one on: how many calls it had, how many it refused, and the bytes.
 fn fetched_until(
-    alloc: Global,
+    rt: &HostRuntime,
     most_entries: u32,
     from: u64,
     times: u8,
 ) -> Result<(u64, u64, Vec<u8>), Fail> {
+    let alloc = rt.alloc();
     let inside = FusedStore::new(MemoryStore::new(alloc), Fuse::From(from), 0);
-    let store = CachedStore::new(alloc, inside, most_entries, 1 << 20);
+    let store = cached(rt, inside, most_entries, 1 << 20)?;
     let Ok(mut shelf) = Shelf::new(alloc, store, 0) else {
         return Err("no shelf".into());
     };
@@ -171,9 +187,9 @@ fn fetched_until(
 #[test]
 fn a_fetch_is_answered_again_while_every_call_is_refused(rt: HostRuntime) -> Result<(), Fail> {
     for most_entries in [1u32, 64] {
-        let (calls, _, bytes) = fetched_until(rt.alloc(), most_entries, u64::MAX, 1)?;
+        let (calls, _, bytes) = fetched_until(&rt, most_entries, u64::MAX, 1)?;
         assert!(rt; !bytes.is_empty() && calls < 1 << 32);
-        let (again, refused, same) = fetched_until(rt.alloc(), most_entries, calls + 1, 3)?;
+        let (again, refused, same) = fetched_until(&rt, most_entries, calls + 1, 3)?;
         assert_eq!(rt; again, calls);
         assert_eq!(rt; refused, 0);
         assert!(rt; same.as_slice() == bytes.as_slice());
@@ -184,8 +200,8 @@ fn a_fetch_is_answered_again_while_every_call_is_refused(rt: HostRuntime) -> Res
 /// Without a cache the second fetch calls the store again.
 #[test]
 fn a_fetch_is_refused_where_nothing_is_kept(rt: HostRuntime) -> Result<(), Fail> {
-    let (once, _, bytes) = fetched_until(rt.alloc(), 0, u64::MAX, 1)?;
-    let (twice, _, same) = fetched_until(rt.alloc(), 0, u64::MAX, 2)?;
+    let (once, _, bytes) = fetched_until(&rt, 0, u64::MAX, 1)?;
+    let (twice, _, same) = fetched_until(&rt, 0, u64::MAX, 2)?;
     assert!(rt; once < twice);
     assert!(rt; same.as_slice() == bytes.as_slice());
     Ok(())
@@ -299,12 +315,7 @@ fn two_logs_get_their_own_bytes(rt: HostRuntime) -> Result<(), Fail> {
     let bytes = new_in_turns::<_, SegmentLog>(rt.alloc(), &mut plain)?;
     assert!(rt; !bytes.is_empty());
     for (most_entries, most_bytes) in LIMITS {
-        let store = CachedStore::new(
-            rt.alloc(),
-            MemoryStore::new(rt.alloc()),
-            most_entries,
-            most_bytes,
-        );
+        let store = cached(&rt, MemoryStore::new(rt.alloc()), most_entries, most_bytes)?;
         let Ok(mut shelf) = Shelf::new(rt.alloc(), store, 0) else {
             return Err("no shelf".into());
         };

@@ -111,6 +111,29 @@ fn a_refusal_is_noted(rt: HostRuntime) -> Result<(), Fail> {
     Ok(())
 }
 
+/// A folder that keeps in mind what it changes is synced. Where that is refused, so is each later sync, also after the cause is gone.
+#[test]
+fn a_refused_sync_is_the_last(rt: HostRuntime) -> Result<(), Fail> {
+    let (refusals, path) = (Refusals::new(rt.alloc())?, folder_of_its_own(&rt)?);
+    let folder = HostFolder::new(rt, path.as_str())?.syncing();
+    let mut folder = folder.noting(refusals.share()?);
+    folder.sync_found()?;
+    folder.create(3)?;
+    assert!(rt; folder.write_end(3, 0, b"some")? == 4);
+    folder.sync()?;
+    folder.remove(3)?;
+    fs::remove_dir(&rt, path.as_str())?;
+    assert!(rt; folder.create(4) == Err(FolderFault::Refused));
+    for _ in 0..2 {
+        assert!(rt; folder.sync() == Err(FolderFault::Refused));
+        let refusal = refusals.take().ok_or("nothing noted")?;
+        assert!(rt; refusal.call == FolderCall::Sync && refusal.file.is_none());
+        let _ = fs::create_dir(&rt, path.as_str());
+    }
+    fs::remove_dir(&rt, path.as_str())?;
+    Ok(())
+}
+
 /// A folder in it that has a file's name has no bytes, and is noted, whether it is opened for writing or to be read alone.
 #[test]
 fn a_folder_in_it_has_no_bytes(rt: HostRuntime) -> Result<(), Fail> {

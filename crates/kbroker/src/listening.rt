@@ -3,7 +3,7 @@
 use crate::Fault;
 use kb_broker::Broker;
 use kb_log::PartitionLog;
-use kb_node::{BindRefused, Edge, Limits, Settings, Store};
+use kb_node::{BindRefused, Edge, Limits, Settings, SocketShares, Store};
 use kb_operator::{OperatorFault, address_text, addresses_text, listen_fault};
 use kb_version::VERSION;
 use std::alloc::Global;
@@ -17,8 +17,14 @@ pub fn listen<S: Store + Drop, L: PartitionLog + Drop>(
 ) -> Result<Edge<HostRuntime, S, L>, Fault> {
     let alloc = rt.alloc();
     let address = address_text(alloc, &settings.host, settings.port)?;
+    let Ok(shares) = SocketShares::of(alloc, settings) else {
+        return Err(Fault::Operator(OperatorFault::Memory));
+    };
     match Edge::watching(rt, alloc, broker, &address, Limits::of(settings)) {
-        Ok(edge) => Ok(edge),
+        Ok(mut edge) => {
+            edge.share_sockets(shares);
+            Ok(edge)
+        }
         Err(refused) => Err(not_bound(alloc, &address, &refused)),
     }
 }

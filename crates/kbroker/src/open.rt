@@ -4,6 +4,7 @@ use crate::Fault;
 use clap::{Arg, ArgAction, ArgMatches, Command};
 use kb_broker::OpenFault;
 use kb_cache::CachedStore;
+use kb_durable::DurableStore;
 use kb_node::{Settings, tenant_names};
 use kb_operator::{DataStore, FolderJournal, Held, Journal, OperatorFault, examine};
 use kb_restart::{Counts, FileLength, Restarted, file_lengths};
@@ -11,16 +12,33 @@ use kb_start::{Consent, Left, Opened, Total};
 use kb_store::Store;
 use kb_survey::Postponed;
 use std::alloc::{AllocError, Global};
+use std::hash::RandomState;
 
-/// The store of a data folder's files, with what was read and written last in memory.
-pub type Cached = CachedStore<DataStore>;
+/// The store of a data folder's files, of which a loss of power leaves simple things alone, with what was read and written last in memory.
+pub type Cached = CachedStore<DurableStore<DataStore>>;
 
 /// The store that a data folder is served from. Nothing of it is cut or removed before the first write.
 pub type Kept = Postponed<Cached>;
 
-/// A store that keeps in memory what the settings say.
-pub fn cached(alloc: Global, settings: &Settings, store: DataStore) -> Cached {
-    CachedStore::new(alloc, store, settings.cache_batches, settings.cache_bytes)
+/// A store that keeps in memory what the settings say, and syncs or does not. How it hashes places is this process's own: clients choose
+/// them.
+pub fn cached(
+    rt: &HostRuntime,
+    settings: &Settings,
+    store: DataStore,
+    syncs: bool,
+) -> Result<Cached, Fault> {
+    let store = DurableStore::new(rt.alloc(), store, syncs);
+    match RandomState::new(rt) {
+        Ok(hasher) => Ok(CachedStore::new(
+            rt.alloc(),
+            hasher,
+            store,
+            settings.cache_batches,
+            settings.cache_bytes,
+        )),
+        Err(error) => Err(Fault::Random(error)),
+    }
 }
 
 /// What the command line says that a start goes on without.

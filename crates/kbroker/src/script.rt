@@ -75,7 +75,7 @@ fn script_on<R: BufRead, W: Write>(
     let mut journal = Journal::new(rt, settings, false)?;
     let _held = hold(rt, path)?;
     let mut folder = FolderJournal::new(alloc, path, false)?;
-    let mut store = cached(alloc, settings, store_in(rt, &folder)?);
+    let mut store = cached(rt, settings, store_in(rt, &folder)?, false)?;
     let before = lengths(alloc, &mut store, &folder)?;
     let store = Postponed::new(alloc, store);
     let opened = match open_broker(alloc, settings, Listing::Served, store) {
@@ -95,7 +95,7 @@ fn script_on<R: BufRead, W: Write>(
     journal.tell_found(alloc, now(rt), Word::Found, held);
     folder.tell(rt, journal.lines(), now(rt));
     let played = play_script_on(alloc, &mut broker, reader, writer);
-    journal.tell_refusals(alloc, now(rt), &CountsOf(&broker));
+    journal.tell_refusals(alloc, now(rt), &CountsOf(&broker, &[]));
     match played {
         // What was refused, the store may have refused.
         Err(NodeFault::Script(ScriptFault::Memory)) if broker.into_store().failures() > 0 => {

@@ -7,15 +7,18 @@ use crate::open::{Kept, cached, consent_of, lengths, let_go_on, not_opened, with
 use crate::telling::tell_turn;
 use crate::{Fault, config};
 use clap::{Arg, ArgAction, ArgMatches, Command};
+use kb_broker::Broker;
 use kb_log::PartitionLog;
 use kb_node::{Edge, Listing, Settings, Store};
 use kb_operator::{
     FolderJournal, Held, Journal, Word, data_folder, hold, last_change, look_at_start, settings_of,
-    store_with_reserve,
+    store_to_serve,
 };
 use kb_restart::{Restarted, open_broker};
 use kb_server_log::{GuardedClock, Reading, now};
+use kb_settings::Sync;
 use kb_start::Consent;
+use kb_store::StoreFault;
 use kb_survey::Postponed;
 use std::alloc::{AllocError, Global};
 use std::net::Net;
@@ -74,9 +77,12 @@ pub fn serve(rt: &HostRuntime, found: &ArgMatches<'_>) -> Result<(), Fault> {
     tell_listening(rt, &edge, path)?;
     journal.tell_found(alloc, now(rt), Word::Start, held);
     journal.tell_change(alloc, now(rt), changed);
-    turn_on(rt, &mut edge, &mut journal, &mut folder);
+    let served = turn_on(rt, &mut edge, &mut journal, &mut folder);
     journal.tell_stop(alloc, now(rt));
-    Ok(())
+    match served {
+        Ok(()) => Ok(()),
+        Err(fault) => Err(Fault::Operator(folder.of_store(alloc, fault))),
+    }
 }
 
 /// What the command line says of an opening.
@@ -108,7 +114,8 @@ fn open(
     journal: &mut Journal,
 ) -> Result<(Restarted<Kept>, Held), Fault> {
     let alloc = rt.alloc();
-    let mut store = cached(alloc, settings, store_with_reserve(rt, folder)?);
+    let syncs = settings.sync != Sync::Never;
+    let mut store = cached(rt, settings, store_to_serve(rt, folder, syncs)?, syncs)?;
     let before = lengths(alloc, &mut store, folder)?;
     let store = Postponed::new(alloc, store);
     let mut opened = match open_broker(alloc, settings, asked.listing, store) {
@@ -125,22 +132,38 @@ fn open(
         journal,
     )?;
     opened.broker.number_members_from(first_member(now(rt)));
+    if syncs && let Err(fault) = settle(&mut opened.broker) {
+        return Err(Fault::Operator(folder.of_store(alloc, fault)));
+    }
     Ok((opened, held))
 }
 
-/// Turns an edge until the turns are used up, by a clock that follows the wall clock but not its jumps.
+/// Makes what a start left last before anybody is served: else what is acknowledged next would stand behind what was dropped.
+fn settle<S: Store, L: PartitionLog + Drop>(broker: &mut Broker<S, L>) -> Result<(), StoreFault> {
+    for _ in 0..TURNS {
+        if broker.is_synced() {
+            break;
+        }
+        broker.commit()?;
+    }
+    Ok(())
+}
+
+/// Turns an edge until the turns are used up, by a clock that follows the wall clock but not its jumps. An `Err` is that of a commit:
+/// behind it nobody was told anything.
 fn turn_on<R: Net, S: Store, L: PartitionLog + Drop>(
     rt: &HostRuntime,
     edge: &mut Edge<R, S, L>,
     journal: &mut Journal,
     folder: &mut FolderJournal,
-) {
+) -> Result<(), StoreFault> {
     let mut clock = GuardedClock::starting(Reading::of(rt));
     for _ in 0..TURNS {
         edge.wait();
         let tick = clock.next(Reading::of(rt));
         let turn = edge.turn(rt.alloc(), tick.moment);
-        tell_turn(rt, journal, edge, &turn, tick);
         folder.tell(rt, journal.lines(), tick.moment);
+        tell_turn(rt, journal, edge, &turn?, tick);
     }
+    Ok(())
 }

@@ -9,9 +9,9 @@ use kb_operator::{Journal, RefusalCounts};
 use kb_server_log::{Tick, now};
 use std::net::Net;
 
-/// What a broker counts of what it refuses.
+/// What a broker counts of what it refuses, and an edge of the sockets that it closed, by tenant.
 #[derive(Drop)]
-pub struct CountsOf<'a, S: Store, L: PartitionLog + Drop>(pub &'a Broker<S, L>);
+pub struct CountsOf<'a, S: Store, L: PartitionLog + Drop>(pub &'a Broker<S, L>, pub &'a [u64]);
 
 impl<'a, S: Store, L: PartitionLog + Drop> RefusalCounts for CountsOf<'a, S, L> {
     fn is_calm(&self) -> bool {
@@ -20,6 +20,10 @@ impl<'a, S: Store, L: PartitionLog + Drop> RefusalCounts for CountsOf<'a, S, L> 
 
     fn of_tenant(&self, name: &str) -> u64 {
         self.0.refusals(name)
+    }
+
+    fn sockets_of_tenant(&self, place: usize) -> u64 {
+        self.1.get(place).copied().unwrap_or(0)
     }
 
     fn before_login(&self) -> u64 {
@@ -48,7 +52,7 @@ pub fn tell_turn<R: Net, S: Store, L: PartitionLog + Drop>(
     if let Some(notice) = tick.told {
         journal.tell_clock(alloc, now, notice);
     }
-    let counts = CountsOf(edge.broker());
+    let counts = CountsOf(edge.broker(), edge.refused_sockets());
     journal.count_closed(turn.strangers, turn.unread);
     journal.tell_counts(alloc, now, tick.moment, turn.turned_away, &counts);
 }

@@ -81,9 +81,13 @@ def way(program, name, free, again, **config):
                     return f"{name}: the broker does not start on a full disk: {broker.log()}"
                 client = Client(broker.port)
             wrong = free(client, taken)
-            # The log has room of its own where the disk has none.
+            # Files go with the next commit, which comes within a second. The log has room of its own where the disk has none.
+            until = time.monotonic() + 3
             for _ in range(3):
                 code, _ = client.produce(b"other", batch(BIG))
+                while code and time.monotonic() < until:
+                    time.sleep(0.1)
+                    code, _ = client.produce(b"other", batch(BIG))
                 if code:
                     wrong = wrong or f"a produce is answered {code} afterwards"
             return wrong and f"{name}: {wrong}"

@@ -1,10 +1,13 @@
 """A broker that is started and asked, for the scripts beside this file. It is no script by itself."""
 
+import itertools
 import os
+import secrets
 import signal
 import socket
 import struct
 import subprocess
+import threading
 import time
 
 TABLE = []
@@ -12,6 +15,8 @@ for number in range(256):
     for _ in range(8):
         number = number >> 1 ^ (0x82F63B78 if number & 1 else 0)
     TABLE.append(number)
+
+PORTS, LOCK = set(), threading.Lock()
 
 SETTINGS = """host = "127.0.0.1"
 port = {port}
@@ -63,14 +68,127 @@ def text(value):
 
 
 def free_port():
-    """A port of the loopback that nobody listens on."""
-    with socket.socket() as it:
-        it.bind(("127.0.0.1", 0))
-        return it.getsockname()[1]
+    """A port of the loopback that nobody listens on, which is not given out again. It is below those that clients get."""
+    while True:
+        port = 10_240 + secrets.randbelow(20_000)
+        with socket.socket() as it:
+            try:
+                it.bind(("127.0.0.1", port))
+            except OSError:
+                continue
+        with LOCK:
+            if port not in PORTS:
+                PORTS.add(port)
+                return port
+
+
+def place(topic):
+    """An array of one topic, of which one partition: the partition 0."""
+    return struct.pack(">i", 1) + text(topic) + struct.pack(">ii", 1, 0)
+
+
+# ---- Requests: a key, a version, a body, and what reads the reply. Topics have one partition.
+
+
+def create(topic, **config):
+    """Makes a topic; the reply's error code. A setting's name has _ for a dot."""
+    pairs = b"".join(text(k.replace("_", ".").encode()) + text(str(v).encode()) for k, v in config.items())
+    body = struct.pack(">i", 1) + text(topic) + struct.pack(">ihi", 1, 1, 0) + struct.pack(">i", len(config)) + pairs
+    return 19, 0, body + struct.pack(">i", 5000), lambda got: struct.unpack_from(">h", got, 6 + len(topic))[0]
+
+
+def delete(topic):
+    """Deletes a topic; the error code."""
+    body = struct.pack(">i", 1) + text(topic) + struct.pack(">i", 5000)
+    return 20, 0, body, lambda got: struct.unpack_from(">h", got, 6 + len(topic))[0]
+
+
+def produce(topic, sent):
+    """Sends a batch; the error code and the offset."""
+    body = struct.pack(">hhi", -1, 1, 5000) + place(topic) + struct.pack(">i", len(sent)) + sent
+    return 0, 3, body, lambda got: struct.unpack_from(">hq", got, 14 + len(topic))
+
+
+def delete_records(topic, offset):
+    """Deletes the records below an offset; the error code."""
+    body = place(topic) + struct.pack(">qi", offset, 5000)
+    return 21, 0, body, lambda got: struct.unpack_from(">h", got, 26 + len(topic))[0]
+
+
+def commit(group, topic, metadata=b"", offset=0):
+    """Commits an offset of a group; the error code."""
+    body = text(group) + struct.pack(">i", -1) + text(b"") + struct.pack(">q", -1) + place(topic)
+    return 8, 2, body + struct.pack(">q", offset) + text(metadata), lambda got: struct.unpack_from(">h", got, 14 + len(topic))[0]
+
+
+def committed(group, topic):
+    """Asks what a group committed; the offset, or -1."""
+    return 9, 1, text(group) + place(topic), lambda got: struct.unpack_from(">q", got, 14 + len(topic))[0]
+
+
+def fetch(topic, offset):
+    """Asks for at most 1 MiB from an offset on; the error code, the high watermark and the bytes."""
+    at = 18 + len(topic)
+
+    def read(got):
+        code, mark = struct.unpack_from(">hq", got, at)
+        return code, mark, got[at + 26:at + 26 + struct.unpack_from(">i", got, at + 22)[0]]
+
+    return 1, 4, struct.pack(">iiiib", -1, 0, 1, 1 << 20, 0) + place(topic) + struct.pack(">qi", offset, 1 << 20), read
+
+
+def offset_at(topic, moment):
+    """Asks for the start of a log (-2), its end (-1), or a record by time; the error code and the offset."""
+    at = 14 + len(topic)
+    return 2, 1, struct.pack(">i", -1) + place(topic) + struct.pack(">q", moment), lambda got: struct.unpack_from(">hxxxxxxxxq", got, at)
+
+
+def producer_id():
+    """Asks for a producer id; the error code and the id."""
+    return 22, 0, struct.pack(">hi", -1, 5000), lambda got: struct.unpack_from(">hq", got, 4)
+
+
+class Cursor:
+    """Reads the fields of a reply, one after another."""
+
+    def __init__(self, got):
+        self.got, self.at = got, 0
+
+    def take(self, form):
+        self.at += struct.calcsize(form)
+        return struct.unpack_from(form, self.got, self.at - struct.calcsize(form))[0]
+
+    def text(self):
+        """A STRING, or a NULLABLE_STRING."""
+        size = self.take(">h")
+        return self.take(f"{size}s") if size >= 0 else None
+
+    def array(self, form):
+        return [self.take(form) for _ in range(self.take(">i"))]
+
+
+def topics():
+    """Asks for all topics; their names."""
+    def read(got):
+        it, names = Cursor(got), []
+        for _ in range(it.take(">i")):
+            it.take(">i"), it.text(), it.take(">i"), it.text()
+        it.take(">i")
+        for _ in range(it.take(">i")):
+            it.take(">h")
+            names.append(it.text())
+            it.take(">?")
+            for _ in range(it.take(">i")):
+                it.take(">h"), it.take(">i"), it.take(">i"), it.array(">i"), it.array(">i")
+        return names
+
+    return 3, 1, struct.pack(">i", -1), read
 
 
 class Client:
-    """A connection that is logged in. Topics have one partition."""
+    """A connection that is logged in. No two requests of this process have the same correlation id."""
+
+    ids = itertools.count(1)
 
     def __init__(self, port, user=b"ann", password=b"pw1"):
         self.socket = socket.create_connection(("127.0.0.1", port), timeout=20)
@@ -89,70 +207,79 @@ class Client:
             out += piece
         return out
 
+    def send(self, requests):
+        """Sends requests in one piece, and answers their correlation ids."""
+        ids, sent = [], b""
+        for key, version, body, *_ in requests:
+            ids.append(next(Client.ids))
+            request = struct.pack(">hhih", key, version, ids[-1], -1) + body
+            sent += struct.pack(">i", len(request)) + request
+        self.socket.sendall(sent)
+        return ids
+
+    def hear(self):
+        """The next reply, without its header."""
+        return self.take(struct.unpack(">i", self.take(4))[0])[4:]
+
     def ask(self, key, version, body):
         """The reply to a request, without its header."""
-        request = struct.pack(">hhih", key, version, 7, -1) + body
-        self.socket.sendall(struct.pack(">i", len(request)) + request)
-        return self.take(struct.unpack(">i", self.take(4))[0])[4:]
+        self.send([(key, version, body)])
+        return self.hear()
+
+    def all(self, requests):
+        """What the replies to requests say, which are sent in one piece."""
+        self.send(requests)
+        return [read(self.hear()) for *_, read in requests]
 
     def create(self, topic, **config):
         """Makes a topic, and answers the error code. A setting's name has _ for a dot."""
-        pairs = b"".join(text(k.replace("_", ".").encode()) + text(str(v).encode()) for k, v in config.items())
-        body = struct.pack(">i", 1) + text(topic) + struct.pack(">ihi", 1, 1, 0) + struct.pack(">i", len(config)) + pairs
-        return struct.unpack_from(">h", self.ask(19, 0, body + struct.pack(">i", 5000)), 6 + len(topic))[0]
+        return self.all([create(topic, **config)])[0]
 
     def delete(self, topic):
         """Deletes a topic, and answers the error code."""
-        answer = self.ask(20, 0, struct.pack(">i", 1) + text(topic) + struct.pack(">i", 5000))
-        return struct.unpack_from(">h", answer, 6 + len(topic))[0]
+        return self.all([delete(topic)])[0]
 
     def produce(self, topic, sent):
         """Sends a batch. It answers the error code and the offset."""
-        body = struct.pack(">hhii", -1, 1, 5000, 1) + text(topic) + struct.pack(">iii", 1, 0, len(sent)) + sent
-        return struct.unpack_from(">hq", self.ask(0, 3, body), 4 + 2 + len(topic) + 4 + 4)
+        return self.all([produce(topic, sent)])[0]
 
     def delete_records(self, topic, offset):
         """Deletes the records below an offset, and answers the error code."""
-        body = struct.pack(">i", 1) + text(topic) + struct.pack(">iiqi", 1, 0, offset, 5000)
-        return struct.unpack_from(">h", self.ask(21, 0, body), 4 + 4 + 2 + len(topic) + 4 + 4 + 8)[0]
+        return self.all([delete_records(topic, offset)])[0]
 
     def commit(self, group, topic, metadata):
         """Commits the offset 0 of a group, and answers the error code."""
-        body = text(group) + struct.pack(">i", -1) + text(b"") + struct.pack(">qi", -1, 1) + text(topic)
-        body += struct.pack(">iiq", 1, 0, 0) + text(metadata)
-        return struct.unpack_from(">h", self.ask(8, 2, body), 4 + 2 + len(topic) + 4 + 4)[0]
+        return self.all([commit(group, topic, metadata)])[0]
 
     def fetch(self, topic, offset):
         """The error code, the high watermark and the bytes of a fetch."""
-        body = struct.pack(">iiiibi", -1, 0, 1, 1 << 20, 0, 1) + text(topic) + struct.pack(">iiqi", 1, 0, offset, 1 << 20)
-        answer = self.ask(1, 4, body)
-        code, mark = struct.unpack_from(">hq", answer, 4 + 4 + 2 + len(topic) + 4 + 4)
-        return code, mark, answer[-struct.unpack_from(">i", answer, 4 + 4 + 2 + len(topic) + 4 + 4 + 2 + 8 + 8 + 4)[0]:]
+        return self.all([fetch(topic, offset)])[0]
 
 
 class Broker:
-    """A broker that listens. `log` gives what it said on standard error."""
+    """A broker that listens, with words before and behind its own where some are given. `log` gives what it said on standard error."""
 
-    def __init__(self, program, room, more="", before=None, user=None, data=None):
+    def __init__(self, program, room, more="", before=None, user=None, data=None, under=(), flags=()):
         self.port = free_port()
         self.settings = f"{room}/settings.toml"
         with open(self.settings, "w", encoding="utf-8") as out:
             out.write(SETTINGS.format(port=self.port, data=data or f"{room}/data", more=more))
+        os.chmod(self.settings, 0o600)
         self.errors = f"{room}/errors"
         with open(self.errors, "ab") as errors, open(f"{room}/out", "wb") as out:
-            words = [os.path.abspath(program), "serve", "--config", self.settings, "--stock-clients"]
+            words = [*under, os.path.abspath(program), "serve", "--config", self.settings, "--stock-clients", *flags]
             self.process = subprocess.Popen(words, stdout=out, stderr=errors, preexec_fn=before, user=user, close_fds=False)
 
     def listens(self):
         """Whether clients can connect, within four seconds. It does not where the broker ends."""
-        for _ in range(80):
+        for _ in range(400):
             try:
                 socket.create_connection(("127.0.0.1", self.port), timeout=1).close()
                 return True
             except OSError:
                 if self.process.poll() is not None:
                     return False
-                time.sleep(0.05)
+                time.sleep(0.01)
         return False
 
     def log(self):

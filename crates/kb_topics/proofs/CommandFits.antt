@@ -5,8 +5,9 @@ use Rattle.kb_wire.specs.Fits.{string_fits}
 use Rattle.kb_topics.specs.declared.command.CreateTopic.{CreateTopic}
 use Rattle.kb_topics.specs.declared.command.CommitOffset.{CommitOffset}
 use Rattle.kb_topics.specs.declared.command.MoveStart.{MoveStart}
-use Rattle.kb_topics.specs.declared.command.Command.TheVariants.{Create, Delete, Issue, Commit, Start}
-use Rattle.kb_topics.specs.Layouts.{command_codec, create_topic, commit_offset, move_start}
+use Rattle.kb_topics.specs.declared.command.BeginSnapshot.{BeginSnapshot}
+use Rattle.kb_topics.specs.declared.command.Command.TheVariants.{Create, Delete, Issue, Commit, Start, Snapshot, Topic}
+use Rattle.kb_topics.specs.Layouts.{command_codec, create_topic, commit_offset, move_start, begin_snapshot}
 
 pub create_fits : (c : CreateTopic) → length c.name < 2 ^ 15 → command_codec.Fits (Create c)
 unfolding command_codec create_topic int
@@ -27,3 +28,11 @@ commit_fits c lt short = (tt, (string_fits c.group lt, (tt, (tt, (tt, string_fit
 pub start_fits : (s : MoveStart) → command_codec.Fits (Start s)
 unfolding command_codec move_start int
 start_fits s = (tt, (tt, (tt, tt)))
+
+pub snapshot_fits : (s : BeginSnapshot) → command_codec.Fits (Snapshot s)
+unfolding command_codec begin_snapshot int
+snapshot_fits s = (tt, (tt, (tt, tt)))
+
+pub topic_fits : (c : CreateTopic) → length c.name < 2 ^ 15 → command_codec.Fits (Topic c)
+unfolding command_codec create_topic int
+topic_fits c lt = (tt, (string_fits c.name lt, (tt, (tt, (tt, tt)))))

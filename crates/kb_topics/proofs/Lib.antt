@@ -5,9 +5,13 @@ pub mod InOrder
 pub mod Committing
 pub mod KindWritten
 pub mod Links
+pub mod Names
 pub mod Numerals
+pub mod OwnNames
 pub mod Replaying
 pub mod Said
 pub mod Sizes
+pub mod Sorted
 pub mod Steps
 pub mod Topics
+pub mod WellFormed

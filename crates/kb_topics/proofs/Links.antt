@@ -93,37 +93,48 @@ module _ {Y : Type 0} (names : BTreeMap (String Y) ℕ) (ts : List (ℕ × Topic
       each None e = refl
       each (Some t) e = absurd (let lt = l.below n t e in omega arith)
 
-  -- one more topic, under that number and a new name
-  pub linked_added : (names' : BTreeMap (String Y) ℕ) (ts' : List (ℕ × TopicState)) (t : TopicState) → IsStrictlySortedBy nat_cmp (keys_of ts') → ((i : ℕ) → topic_at i ts' ≡ cond (is_at (nat_cmp n) i) (Some t) (topic_at i ts)) → ((q : List ℕ) → get_by_text names' q ≡ cond (bytes_eq t.name q) (Some n) (get_by_text names q)) → get_by_text names t.name ≡ None → IsLinked names' ts' (n + 1)
-  linked_added names' ts' t s u v absent = record {
+  -- one number more that was given out
+  pub linked_more : IsLinked names ts (n + 1)
+  linked_more = record {
+    ordered = l.ordered;
+    below = λ i t h. let lt = l.below i t h in omega (arith, lt);
+    forth = l.forth;
+    back = l.back;
+  }
+
+  -- one more topic, under a number that was given out and is no topic's, and a new name
+  pub linked_added : (j : ℕ) → j < n → topic_at j ts ≡ None → (names' : BTreeMap (String Y) ℕ) (ts' : List (ℕ × TopicState)) (t : TopicState) → IsStrictlySortedBy nat_cmp (keys_of ts') → ((i : ℕ) → topic_at i ts' ≡ cond (is_at (nat_cmp j) i) (Some t) (topic_at i ts)) → ((q : List ℕ) → get_by_text names' q ≡ cond (bytes_eq t.name q) (Some j) (get_by_text names q)) → get_by_text names t.name ≡ None → IsLinked names' ts' n
+  linked_added j given free names' ts' t s u v absent = record {
     ordered = s;
-    below = λ i x h. elim (cases (is_at (nat_cmp n) i)) [
-      | inl a ↦ let same = same_number n i a in omega arith
-      | inr a ↦ let lt = l.below i x (sym (u i ∙ ap (λ b. cond b (Some t) (topic_at i ts)) a) ∙ h) in omega arith
+    below = λ i x h. elim (cases (is_at (nat_cmp j) i)) [
+      | inl a ↦ let same = same_number j i a in omega (arith, same, given)
+      | inr a ↦ l.below i x (sym (u i ∙ ap (λ b. cond b (Some t) (topic_at i ts)) a) ∙ h)
     ];
-    forth = λ i x h. elim (cases (is_at (nat_cmp n) i)) [
+    forth = λ i x h. elim (cases (is_at (nat_cmp j) i)) [
       | inl a ↦
-          let same = same_number n i a in
+          let same = same_number j i a in
           let one : Some t ≡ Some x = sym (u i ∙ ap (λ b. cond b (Some t) (topic_at i ts)) a) ∙ h in
           let is : t ≡ x = cc in
-          v x.name ∙ ap (λ b. cond b (Some n) (get_by_text names x.name)) (bytes_alike t.name x.name (ap (λ y. y.name) is)) ∙ ap Some same
+          v x.name ∙ ap (λ b. cond b (Some j) (get_by_text names x.name)) (bytes_alike t.name x.name (ap (λ y. y.name) is)) ∙ ap Some same
       | inr a ↦
           let old = l.forth i x (sym (u i ∙ ap (λ b. cond b (Some t) (topic_at i ts)) a) ∙ h) in
           elim (cases (bytes_eq t.name x.name)) [
             | inl b ↦ let gone : get_by_text names x.name ≡ None = subst (λ q. get_by_text names q ≡ None) (bytes_same t.name x.name b) absent in absurd cc
-            | inr b ↦ v x.name ∙ ap (λ c. cond c (Some n) (get_by_text names x.name)) b ∙ old
+            | inr b ↦ v x.name ∙ ap (λ c. cond c (Some j) (get_by_text names x.name)) b ∙ old
           ]
     ];
     back = λ q i h. elim (cases (bytes_eq t.name q)) [
       | inl b ↦
-          let one : Some n ≡ Some i = sym (v q ∙ ap (λ c. cond c (Some n) (get_by_text names q)) b) ∙ h in
-          let same : n ≡ i = cc in
+          let one : Some j ≡ Some i = sym (v q ∙ ap (λ c. cond c (Some j) (get_by_text names q)) b) ∙ h in
+          let same : j ≡ i = cc in
           (t, u i ∙ ap (λ c. cond c (Some t) (topic_at i ts)) (subst (λ k. is_at (nat_cmp k) i ≡ true) (sym same) (own_number i)), bytes_same t.name q b)
       | inr b ↦
-          let old = l.back q i (sym (v q ∙ ap (λ c. cond c (Some n) (get_by_text names q)) b) ∙ h) in
-          let lt = l.below i old.0 old.1 in
-          elim (cases (is_at (nat_cmp n) i)) [
-            | inl a ↦ let same = same_number n i a in absurd (omega arith)
+          let old = l.back q i (sym (v q ∙ ap (λ c. cond c (Some j) (get_by_text names q)) b) ∙ h) in
+          elim (cases (is_at (nat_cmp j) i)) [
+            | inl a ↦
+                let none : topic_at i ts ≡ None = subst (λ m. topic_at m ts ≡ None) (same_number j i a) free in
+                let no : None ≡ Some old.0 = sym none ∙ old.1 in
+                absurd cc
             | inr a ↦ (old.0, u i ∙ ap (λ c. cond c (Some t) (topic_at i ts)) a ∙ old.1, old.2)
           ]
     ];

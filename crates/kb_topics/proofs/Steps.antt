@@ -1,5 +1,5 @@
 -- What a command makes of a catalog where the call is not refused, and how a refusal is left.
-use Rattle.std.proofs.Common.{rules, ◌≡◌, ◌∙◌, ◌≤◌, ◌<◌, ◌+◌, ◌-◌, ◌^◌, ℕ, Bool, true, false, cond, List, [], ◌∷◌, ◌++◌, length, Option, Some, None, Result, Ok, Err, refl, sym, ap, subst, arith}
+use Rattle.std.proofs.Common.{rules, ◌≡◌, ◌∙◌, ◌<◌, ◌+◌, ◌-◌, ◌^◌, ℕ, Bool, true, false, cond, List, [], ◌∷◌, ◌++◌, length, Option, Some, None, Result, Ok, Err, refl, sym, ap, subst, arith}
 use Rattle.std.specs.Prelude.{ℤ, pos, negsuc, ◌≤ℤ◌, ◌<ℤ◌, ◌&&◌, nat_le, nat_lt, int_le, int_lt, not, is_none, is_some, is_err, unwrap_or, OnOk, IfSome, MatchOption}
 use Rattle.std.specs.Option.{option_map, option_and_then}
 use Rattle.std.specs.Ordering.{int_eq}
@@ -13,9 +13,10 @@ use Rattle.kb_topics.specs.declared.command.Command.TheVariants.{Create, Delete}
 use Rattle.kb_topics.specs.declared.fault.CatalogFault.{CatalogFault}
 use Rattle.kb_topics.specs.declared.fault.CatalogFault.TheVariants as faults
 use Rattle.kb_topics.specs.Name.{is_legal}
-use Rattle.kb_topics.specs.Known.{Known, TopicState, PartitionState, empty, topic_at, named, partition_at, new_topic, with_topic, without_topic, with_id, with_partition, with_start, is_limit, is_partition_count, step, folded}
+use Rattle.kb_topics.specs.Known.{Known, TopicState, PartitionState, topic_at, named, partition_at, new_topic, with_topic, without_topic, with_id, with_partition, with_start, is_limit, is_left, is_partition_count, step}
 use Rattle.kb_topics.specs.Refusals.{create_refusal, delete_refusal, issue_refusal, start_refusal}
-use Rattle.kb_topics.specs.MetaLog.{Says, SayEach, IsFold}
+use Rattle.kb_topics.specs.Reading.{Reading, in_use, read_all, read_step, starting_at}
+use Rattle.kb_topics.specs.MetaLog.{Says, SayEach, IsReadAs, IsFoldOf}
 use Rattle.kb_topics.specs.Calls.{Appended, Unchanged, IsLogCause, IsCause, StaysFold, Records}
 use Rattle.kb_topics.specs.Catalog.{place_in}
 use Rattle.kb_topics.specs.Commands.{create_command, issue_command, start_command}
@@ -33,20 +34,20 @@ lt_int_false x y h = grind (arith, ints, h)
 int_le_is : (x y : ℤ) → int_le x y ≡ true → x ≤ℤ y
 int_le_is x y h = grind (arith, ints, h)
 
--- ---- the fold
+-- ---- what is read
 
-abbrev then_fold : List Command → Option Known → Option Known
-then_fold cs o = option_and_then (λ k. folded k cs) o
+abbrev then_read : List Command → Option Reading → Option Reading
+then_read cs o = option_and_then (λ r. read_all r cs) o
 
-later_more : (cs : List Command) (c : Command) (m n : Known) → ((j : Known) → folded j cs ≡ Some m → folded j (cs ++ c ∷ []) ≡ Some n) → (o : Option Known) → then_fold cs o ≡ Some m → then_fold (cs ++ c ∷ []) o ≡ Some n
+later_more : (cs : List Command) (c : Command) (m n : Reading) → ((j : Reading) → read_all j cs ≡ Some m → read_all j (cs ++ c ∷ []) ≡ Some n) → (o : Option Reading) → then_read cs o ≡ Some m → then_read (cs ++ c ∷ []) o ≡ Some n
 later_more cs c m n more None g = absurd cc
 later_more cs c m n more (Some j) g = more j g
 
-folded_more : (k : Known) (cs : List Command) (c : Command) (m n : Known) → folded k cs ≡ Some m → step m c ≡ Some n → folded k (cs ++ c ∷ []) ≡ Some n
-folded_more k [] c m n e f =
-    let same : k ≡ m = cc in
-    ap (then_fold []) (ap (λ j. step j c) same ∙ f)
-folded_more k (d ∷ cs) c m n e f = later_more cs c m n (λ j g. folded_more j cs c m n g f) (step k d) e
+read_more : (r : Reading) (cs : List Command) (c : Command) (m n : Reading) → read_all r cs ≡ Some m → read_step m c ≡ Some n → read_all r (cs ++ c ∷ []) ≡ Some n
+read_more r [] c m n e f =
+    let same : r ≡ m = cc in
+    ap (then_read []) (ap (λ j. read_step j c) same ∙ f)
+read_more r (d ∷ cs) c m n e f = later_more cs c m n (λ j g. read_more j cs c m n g f) (read_step r d) e
 
 said_more : (ss : List (List ℕ)) (cs : List Command) (s : List ℕ) (c : Command) → SayEach ss cs → Says s c → SayEach (ss ++ s ∷ []) (cs ++ c ∷ [])
 said_more [] [] s c h g = (g, tt)
@@ -54,17 +55,21 @@ said_more [] (d ∷ cs) s c h g = absurd h
 said_more (t ∷ ss) [] s c h g = absurd h
 said_more (t ∷ ss) (d ∷ cs) s c h g = (h.0, said_more ss cs s c h.1 g)
 
-pub fold_more : (ss : List (List ℕ)) (k n : Known) (s : List ℕ) (c : Command) → IsFold ss k → Says s c → step k c ≡ Some n → IsFold (ss ++ s ∷ []) n
-fold_more ss k n s c h says f = record {
+-- one more batch of a generation
+pub read_as_more : (generation : ℕ) (ss : List (List ℕ)) (r n : Reading) (s : List ℕ) (c : Command) → IsReadAs generation ss r → Says s c → read_step r c ≡ Some n → IsReadAs generation (ss ++ s ∷ []) n
+read_as_more generation ss r n s c h says f = record {
   commands = h.commands ++ c ∷ [];
   said = said_more ss h.commands s c h.said says;
-  folded = folded_more empty h.commands c k n h.folded f;
+  read = read_more (starting_at generation) h.commands c r n h.read f;
 }
+
+pub fold_more : (generation : ℕ) (ss : List (List ℕ)) (k n : Known) (s : List ℕ) (c : Command) → IsFoldOf generation ss k → Says s c → step k c ≡ Some n → IsFoldOf generation (ss ++ s ∷ []) n
+fold_more generation ss k n s c h says f = read_as_more generation ss (in_use k) (in_use n) s c h says (ap (option_map in_use) f)
 
 -- ---- answers
 
 still : (a b : OnShelf) (old new : Known) → new ≡ old → Unchanged a b → StaysFold a old b new
-still a b old new same u = λ h g fold. subst (λ ss. IsFold ss new) (sym (u.kept h g)) (subst (IsFold (batches_of a)) (sym same) fold)
+still a b old new same u = λ h g n fold. subst (λ ss. IsFoldOf n ss new) (sym (u.kept h g)) (subst (IsFoldOf n (batches_of a)) (sym same) fold)
 
 -- an accepted call
 pub recorded : {T : Type 0} (a b : OnShelf) (old new : Known) (c : Command) (answer x : T) (refusal : Option CatalogFault) → refusal ≡ None → x ≡ answer → step old c ≡ Some new → Appended a b c → Records a old c answer refusal (Ok x) b new
@@ -73,9 +78,9 @@ recorded a b old new c answer x refusal none same made appended = (
   same,
   made,
   appended,
-  λ h g fold.
+  λ h g n fold.
       let s = appended.added h g in
-      subst (λ ss. IsFold ss new) (sym s.2) (fold_more (batches_of a) old new s.0 c fold s.1 made),
+      subst (λ ss. IsFoldOf n ss new) (sym s.2) (fold_more n (batches_of a) old new s.0 c fold s.1 made),
 )
 
 -- a call that the log refused
@@ -110,6 +115,9 @@ both_of false b e = absurd cc
 fewer : (n : ℕ) → nat_le 1000 n ≡ false → nat_lt n 1000 ≡ true
 fewer n e = grind (arith, e)
 
+one_left : (n : ℕ) → n < 2 ^ 63 - 1 → is_left n ≡ true
+one_left n h = grind (arith, h)
+
 own_int : (z : ℤ) → int_eq z z ≡ true
 own_int z = search rules
 
@@ -129,7 +137,7 @@ module _ (k : Known) (name : List ℕ) (p : ℤ) (config : TopicConfig) (e : cre
   pub step_create : step k (create_command k name p config) ≡ Some (with_topic k (new_topic name (natural p) config))
   step_create =
       let limits = both_of (is_limit config.retention_ms) (is_limit config.retention_bytes) passed.3 in
-      rw (passed.0, is_none_of (named name k.topics) passed.1, own_int (pos k.creates), passed.2, limits.0, limits.1, fewer (length k.topics) passed.4) refl
+      rw (passed.0, is_none_of (named name k.topics) passed.1, own_int (pos k.creates), passed.2, limits.0, limits.1, fewer (length k.topics) passed.4, one_left k.creates instances_left) refl
 
 pub legal_short : (name : List ℕ) → is_legal name ≡ true → length name < 2 ^ 15
 legal_short name e =
@@ -161,8 +169,8 @@ pub delete_known : (o : Option ℕ) → is_some o ≡ true → delete_refusal o 
 delete_known None e = absurd cc
 delete_known (Some i) e = refl
 
-pub step_issue : (k m : Known) → m ≡ with_id k → step k (issue_command k) ≡ Some m
-step_issue k m e = rw (own_int (pos k.issues)) (ap Some (sym e))
+pub step_issue : (k m : Known) → k.issues < 2 ^ 63 - 1 → m ≡ with_id k → step k (issue_command k) ≡ Some m
+step_issue k m h e = rw (own_int (pos k.issues), one_left k.issues h) (ap Some (sym e))
 
 pub ids_left : (k : Known) → k.issues < 2 ^ 63 - 1 → issue_refusal k ≡ None
 ids_left k h = grind (arith, h)

@@ -1,5 +1,5 @@
 -- What a catalog's topics are after a change.
-use Rattle.std.proofs.Common.{◌≡◌, ◌∙◌, ◌+◌, ℕ, zero, suc, cond, List, [], ◌∷◌, ◌++◌, Option, Some, None, Result, Ok, Err, OnOk, OnErr, IfOk, inl, inr, refl, sym, ap, subst, arith}
+use Rattle.std.proofs.Common.{◌≡◌, ◌∙◌, ◌<◌, ◌+◌, ℕ, zero, suc, cond, List, [], ◌∷◌, ◌++◌, Option, Some, None, Result, Ok, Err, OnOk, OnErr, IfOk, inl, inr, refl, sym, ap, subst, arith}
 use Rattle.std.specs.Prelude.{pos, replicate, slice_get, slice_index_or, IfSome, MatchOption}
 use Rattle.std.specs.Ordering.{nat_cmp}
 use Rattle.std.specs.Map.{keys_of, remove_entry, set_value}
@@ -108,8 +108,8 @@ names_back f g h key name n put same taken none q =
     ]
 
 -- one more topic, and its name
-pub linked_inserted : {Y : Type 0} (names names' : BTreeMap (String Y) ℕ) (ts ts' : List (ℕ × TopicState)) (n : ℕ) (t : TopicState) (key name : List ℕ) → IsLinked names ts n → IsStrictlySortedBy nat_cmp (keys_of ts') → ((i : ℕ) → topic_at i ts' ≡ cond (is_at (nat_cmp n) i) (Some t) (topic_at i ts)) → ((q : List ℕ) → get_by_text names' q ≡ cond (bytes_eq key q) (Some n) (get_by_text names q)) → key ≡ name → t.name ≡ name → named name ts ≡ None → IsLinked names' ts' (n + 1) × (named name ts' ≡ Some n)
-linked_inserted names names' ts ts' n t key name l s u v same own none =
+pub linked_inserted : {Y : Type 0} (names names' : BTreeMap (String Y) ℕ) (ts ts' : List (ℕ × TopicState)) (n j : ℕ) (t : TopicState) (key name : List ℕ) → IsLinked names ts n → j < n → topic_at j ts ≡ None → IsStrictlySortedBy nat_cmp (keys_of ts') → ((i : ℕ) → topic_at i ts' ≡ cond (is_at (nat_cmp j) i) (Some t) (topic_at i ts)) → ((q : List ℕ) → get_by_text names' q ≡ cond (bytes_eq key q) (Some j) (get_by_text names q)) → key ≡ name → t.name ≡ name → named name ts ≡ None → IsLinked names' ts' n × (named name ts' ≡ Some j)
+linked_inserted names names' ts ts' n j t key name l given free s u v same own none =
     let absent : get_by_text names t.name ≡ None = ap (get_by_text names) own ∙ named_is names ts n l name ∙ none in
-    let link : IsLinked names' ts' (n + 1) = linked_added names ts n l names' ts' t s u (λ q. v q ∙ ap (λ k. cond (bytes_eq k q) (Some n) (get_by_text names q)) (same ∙ sym own)) absent in
-    (link, sym (named_is names' ts' (n + 1) link name) ∙ v name ∙ ap (λ b. cond b (Some n) (get_by_text names name)) (bytes_alike key name same))
+    let link : IsLinked names' ts' n = linked_added names ts n l j given free names' ts' t s u (λ q. v q ∙ ap (λ k. cond (bytes_eq k q) (Some j) (get_by_text names q)) (same ∙ sym own)) absent in
+    (link, sym (named_is names' ts' n link name) ∙ v name ∙ ap (λ b. cond b (Some j) (get_by_text names name)) (bytes_alike key name same))

@@ -6,7 +6,7 @@ use Rattle.kb_topics.specs.declared.fault.CatalogFault.{CatalogFault}
 use Rattle.kb_topics.specs.declared.fault.CatalogFault.TheVariants as faults
 use Rattle.kb_topics.specs.declared.command.Command.{Command}
 use Rattle.kb_topics.specs.Known.{Known, step}
-use Rattle.kb_topics.specs.MetaLog.{Says, IsFold}
+use Rattle.kb_topics.specs.MetaLog.{Says, IsFoldOf}
 
 -- One batch that records the command was added at the end of the log, which had room for it.
 pub record Appended (a b : OnShelf) (c : Command) : Type 0 where
@@ -39,9 +39,9 @@ abbrev pub IsCause : OnShelf → Option CatalogFault → CatalogFault → OnShel
 IsCause a (Some g) f b = f ≡ g
 IsCause a None f b = IsLogCause a f b
 
--- Where the catalog was what its log's batches record, it still is.
+-- Where the catalog was what its log's batches record, those of whatever generation, it still is.
 abbrev pub StaysFold : OnShelf → Known → OnShelf → Known → Type 0
-StaysFold a old b new = WhereHonest a b (IsFold (batches_of a) old → IsFold (batches_of b) new)
+StaysFold a old b new = WhereHonest a b ((generation : ℕ) → IsFoldOf generation (batches_of a) old → IsFoldOf generation (batches_of b) new)
 
 -- A call that records a command. Where it is accepted the catalog is what the command makes of it; where it is refused the catalog
 -- and the log's batches are what they were.

@@ -17,6 +17,13 @@ place_in (pos i) (pos p) = Some (i, p)
 place_in (pos i) (negsuc p) = None
 place_in (negsuc i) p = None
 
--- whose the meta log of a tenant is, with files of so many bytes
-abbrev pub catalog_identity : List ℕ → ℕ → Identity
-catalog_identity tenant size = record { tenant = tenant; kind = pos 1; instance = pos 0; partition = pos 0; segment_bytes = size }
+-- whose the meta log of a tenant is in a generation, with files of so many bytes
+abbrev pub catalog_identity : List ℕ → ℤ → ℕ → Identity
+catalog_identity tenant generation size = record {
+  tenant = tenant;
+  kind = pos 1;
+  instance = pos 0;
+  partition = pos 0;
+  generation = generation;
+  segment_bytes = size;
+}

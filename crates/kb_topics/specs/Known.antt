@@ -1,5 +1,5 @@
 -- What the commands of a meta log come to, one after another.
-use Rattle.std.specs.Prelude.{ℕ, ◌+◌, ℤ, pos, negsuc, Bool, List, [], ◌∷◌, length, replicate, Option, Some, None, is_none, nat_le, nat_lt}
+use Rattle.std.specs.Prelude.{ℕ, ◌+◌, ◌-◌, ◌^◌, ℤ, pos, negsuc, Bool, List, [], ◌∷◌, length, replicate, Option, Some, None, is_none, nat_le, nat_lt}
 use Rattle.std.specs.Prelude.{int_le, ◌&&◌, if◌then◌else◌, slice_get, slice_set}
 use Rattle.std.specs.Option.{option_map, option_and_then}
 use Rattle.std.specs.Ordering.{nat_cmp, int_eq}
@@ -13,7 +13,7 @@ use Rattle.kb_topics.specs.declared.config.TopicConfig.{TopicConfig}
 use Rattle.kb_topics.specs.declared.command.CreateTopic.{CreateTopic}
 use Rattle.kb_topics.specs.declared.command.CommitOffset.{CommitOffset}
 use Rattle.kb_topics.specs.declared.command.Command.{Command}
-use Rattle.kb_topics.specs.declared.command.Command.TheVariants.{Create, Delete, Issue, Commit, Start}
+use Rattle.kb_topics.specs.declared.command.Command.TheVariants.{Create, Delete, Issue, Commit, Start, Snapshot, Topic}
 
 -- how far a group has processed a partition
 pub record CommittedOffset : Type 0 where
@@ -114,10 +114,14 @@ is_limit z = int_le (negsuc 0) z
 abbrev pub is_partition_count : ℤ → Bool
 is_partition_count z = int_le (pos 1) z && int_le z (pos 64)
 
+-- a count of numbers that were given out, of which one more is left
+abbrev pub is_left : ℕ → Bool
+is_left n = nat_lt n (2 ^ 63 - 1)
+
 abbrev pub may_create : Known → CreateTopic → Bool
 may_create k c =
     is_legal c.name && is_none (named c.name k.topics) && int_eq c.instance (pos k.creates) && is_partition_count c.partitions
-    && is_limit c.retention_ms && is_limit c.retention_bytes && nat_lt (length k.topics) 1000
+    && is_limit c.retention_ms && is_limit c.retention_bytes && nat_lt (length k.topics) 1000 && is_left k.creates
 
 abbrev pub config_in : CreateTopic → TopicConfig
 config_in c = record { retention_ms = c.retention_ms; retention_bytes = c.retention_bytes }
@@ -125,11 +129,11 @@ config_in c = record { retention_ms = c.retention_ms; retention_bytes = c.retent
 abbrev pub offset_in : CommitOffset → CommittedOffset
 offset_in c = record { offset = c.offset; metadata = c.metadata }
 
--- what a command makes of what was there; none where it is not applicable
+-- What a command makes of what was there; none where it is not applicable. The commands of a snapshot alone are not.
 abbrev pub step : Known → Command → Option Known
 step k (Create c) = if may_create k c then Some (with_topic k (new_topic c.name (natural c.partitions) (config_in c))) else None
 step k (Delete name) = option_map (without_topic k) (named name k.topics)
-step k (Issue id) = if int_eq id (pos k.issues) then Some (with_id k) else None
+step k (Issue id) = if int_eq id (pos k.issues) && is_left k.issues then Some (with_id k) else None
 step k (Commit c) =
     if nat_le (length c.metadata) 4096
     then option_map (λ p. with_partition k c.instance c.partition (with_commit p c.group (offset_in c)))
@@ -138,8 +142,5 @@ step k (Commit c) =
 step k (Start s) =
     option_and_then (λ p. if int_le p.start s.offset then Some (with_partition k s.instance s.partition (with_start p s.offset))
     else None) (partition_at k s.instance s.partition)
-
--- what applicable commands come to, one after another
-abbrev pub folded : Known → List Command → Option Known
-folded k [] = Some k
-folded k (c ∷ cs) = option_and_then (λ k'. folded k' cs) (step k c)
+step k (Snapshot s) = None
+step k (Topic c) = None

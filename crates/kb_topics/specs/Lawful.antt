@@ -6,9 +6,9 @@ use Rattle.kb_wire.specs.Codec.{Codec, int8}
 use Rattle.kb_wire.specs.Laws.{IsLawful, int8_lawful, int32_lawful, int64_lawful, string_lawful, pair_lawful, via_lawful, bind_ok, map_err}
 use Rattle.kb_wire.specs.Laws.{ok_is, bad_then, ends_then}
 use Rattle.kb_topics.specs.declared.command.Command.{Command}
-use Rattle.kb_topics.specs.declared.command.Command.TheVariants.{Create, Delete, Issue, Commit, Start}
-use Rattle.kb_topics.specs.Layouts.{create_topic, commit_offset, move_start, within, nowhere, kinded, created, deleted, issued, committed}
-use Rattle.kb_topics.specs.Layouts.{started, kind_of, of_kind, command_codec, written_back, FitsBack, InRangeBack}
+use Rattle.kb_topics.specs.declared.command.Command.TheVariants.{Create, Delete, Issue, Commit, Start, Snapshot, Topic}
+use Rattle.kb_topics.specs.Layouts.{create_topic, commit_offset, move_start, begin_snapshot, within, nowhere, kinded, created, deleted}
+use Rattle.kb_topics.specs.Layouts.{issued, committed, started, snapshotted, held, kind_of, of_kind, command_codec, written_back, FitsBack, InRangeBack}
 
 pub create_topic_lawful : IsLawful create_topic
 unfolding create_topic
@@ -23,6 +23,10 @@ commit_offset_lawful = via_lawful _ _ (pair_lawful string_lawful
 pub move_start_lawful : IsLawful move_start
 unfolding move_start
 move_start_lawful = via_lawful _ _ (pair_lawful int64_lawful (pair_lawful int32_lawful int64_lawful)) (λ _. refl) (λ _. refl)
+
+pub begin_snapshot_lawful : IsLawful begin_snapshot
+unfolding begin_snapshot
+begin_snapshot_lawful = via_lawful _ _ (pair_lawful int32_lawful (pair_lawful int64_lawful int64_lawful)) (λ _. refl) (λ _. refl)
 
 two_parts : (s a t b rest : List ℕ) → s ≡ a ++ t → t ≡ b ++ rest → s ≡ (a ++ b) ++ rest
 two_parts s a t b rest e f = e ∙ ap (λ u. a ++ u) f ∙ sym (append_assoc a b rest)
@@ -89,6 +93,8 @@ created_only (Delete name) a e = absurd cc
 created_only (Issue id) a e = absurd cc
 created_only (Commit commit) a e = absurd cc
 created_only (Start start) a e = absurd cc
+created_only (Snapshot snapshot) a e = absurd cc
+created_only (Topic topic) a e = absurd cc
 
 deleted_only : (v : Command) (a : _) → deleted v ≡ Some a → Delete a ≡ v
 deleted_only (Create topic) a e = absurd cc
@@ -96,6 +102,8 @@ deleted_only (Delete name) a e = cc
 deleted_only (Issue id) a e = absurd cc
 deleted_only (Commit commit) a e = absurd cc
 deleted_only (Start start) a e = absurd cc
+deleted_only (Snapshot snapshot) a e = absurd cc
+deleted_only (Topic topic) a e = absurd cc
 
 issued_only : (v : Command) (a : _) → issued v ≡ Some a → Issue a ≡ v
 issued_only (Create topic) a e = absurd cc
@@ -103,6 +111,8 @@ issued_only (Delete name) a e = absurd cc
 issued_only (Issue id) a e = cc
 issued_only (Commit commit) a e = absurd cc
 issued_only (Start start) a e = absurd cc
+issued_only (Snapshot snapshot) a e = absurd cc
+issued_only (Topic topic) a e = absurd cc
 
 committed_only : (v : Command) (a : _) → committed v ≡ Some a → Commit a ≡ v
 committed_only (Create topic) a e = absurd cc
@@ -110,6 +120,8 @@ committed_only (Delete name) a e = absurd cc
 committed_only (Issue id) a e = absurd cc
 committed_only (Commit commit) a e = cc
 committed_only (Start start) a e = absurd cc
+committed_only (Snapshot snapshot) a e = absurd cc
+committed_only (Topic topic) a e = absurd cc
 
 started_only : (v : Command) (a : _) → started v ≡ Some a → Start a ≡ v
 started_only (Create topic) a e = absurd cc
@@ -117,6 +129,26 @@ started_only (Delete name) a e = absurd cc
 started_only (Issue id) a e = absurd cc
 started_only (Commit commit) a e = absurd cc
 started_only (Start start) a e = cc
+started_only (Snapshot snapshot) a e = absurd cc
+started_only (Topic topic) a e = absurd cc
+
+snapshotted_only : (v : Command) (a : _) → snapshotted v ≡ Some a → Snapshot a ≡ v
+snapshotted_only (Create topic) a e = absurd cc
+snapshotted_only (Delete name) a e = absurd cc
+snapshotted_only (Issue id) a e = absurd cc
+snapshotted_only (Commit commit) a e = absurd cc
+snapshotted_only (Start start) a e = absurd cc
+snapshotted_only (Snapshot snapshot) a e = cc
+snapshotted_only (Topic topic) a e = absurd cc
+
+held_only : (v : Command) (a : _) → held v ≡ Some a → Topic a ≡ v
+held_only (Create topic) a e = absurd cc
+held_only (Delete name) a e = absurd cc
+held_only (Issue id) a e = absurd cc
+held_only (Commit commit) a e = absurd cc
+held_only (Start start) a e = absurd cc
+held_only (Snapshot snapshot) a e = absurd cc
+held_only (Topic topic) a e = cc
 
 of_kind_lawful : (k : ℤ) → IsLawful (of_kind k)
 of_kind_lawful (pos zero) = nowhere_lawful
@@ -125,7 +157,10 @@ of_kind_lawful (pos (suc (suc zero))) = within_lawful Delete deleted string_lawf
 of_kind_lawful (pos (suc (suc (suc zero)))) = within_lawful Issue issued int64_lawful (λ _. refl) issued_only
 of_kind_lawful (pos (suc (suc (suc (suc zero))))) = within_lawful Commit committed commit_offset_lawful (λ _. refl) committed_only
 of_kind_lawful (pos (suc (suc (suc (suc (suc zero)))))) = within_lawful Start started move_start_lawful (λ _. refl) started_only
-of_kind_lawful (pos (suc (suc (suc (suc (suc (suc n))))))) = nowhere_lawful
+of_kind_lawful (pos (suc (suc (suc (suc (suc (suc zero))))))) =
+    within_lawful Snapshot snapshotted begin_snapshot_lawful (λ _. refl) snapshotted_only
+of_kind_lawful (pos (suc (suc (suc (suc (suc (suc (suc zero)))))))) = within_lawful Topic held create_topic_lawful (λ _. refl) held_only
+of_kind_lawful (pos (suc (suc (suc (suc (suc (suc (suc (suc n))))))))) = nowhere_lawful
 of_kind_lawful (negsuc n) = nowhere_lawful
 
 own_kind : (k : ℤ) (x : List ℕ) (v : Command) → (of_kind k).Spells x v → kind_of v ≡ k
@@ -135,7 +170,9 @@ own_kind (pos (suc (suc zero))) x v h = ap kind_of (sym (deleted_only v h.0 h.1)
 own_kind (pos (suc (suc (suc zero)))) x v h = ap kind_of (sym (issued_only v h.0 h.1))
 own_kind (pos (suc (suc (suc (suc zero))))) x v h = ap kind_of (sym (committed_only v h.0 h.1))
 own_kind (pos (suc (suc (suc (suc (suc zero)))))) x v h = ap kind_of (sym (started_only v h.0 h.1))
-own_kind (pos (suc (suc (suc (suc (suc (suc n))))))) x v h = absurd h
+own_kind (pos (suc (suc (suc (suc (suc (suc zero))))))) x v h = ap kind_of (sym (snapshotted_only v h.0 h.1))
+own_kind (pos (suc (suc (suc (suc (suc (suc (suc zero)))))))) x v h = ap kind_of (sym (held_only v h.0 h.1))
+own_kind (pos (suc (suc (suc (suc (suc (suc (suc (suc n))))))))) x v h = absurd h
 own_kind (negsuc n) x v h = absurd h
 
 pub command_lawful : IsLawful command_codec

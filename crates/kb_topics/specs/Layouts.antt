@@ -5,8 +5,9 @@ use Rattle.kb_wire.specs.Codec.{Codec, ◌>>=◌, int8, int32, int64, string, �
 use Rattle.kb_topics.specs.declared.command.CreateTopic.{CreateTopic}
 use Rattle.kb_topics.specs.declared.command.CommitOffset.{CommitOffset}
 use Rattle.kb_topics.specs.declared.command.MoveStart.{MoveStart}
+use Rattle.kb_topics.specs.declared.command.BeginSnapshot.{BeginSnapshot}
 use Rattle.kb_topics.specs.declared.command.Command.{Command}
-use Rattle.kb_topics.specs.declared.command.Command.TheVariants.{Create, Delete, Issue, Commit, Start}
+use Rattle.kb_topics.specs.declared.command.Command.TheVariants.{Create, Delete, Issue, Commit, Start, Snapshot, Topic}
 
 unfoldable pub create_topic : Codec CreateTopic
 create_topic = via (λ p. record {
@@ -25,6 +26,10 @@ commit_offset = via (λ p. record { group = p.0; instance = p.1.0; partition = p
 unfoldable pub move_start : Codec MoveStart
 move_start = via (λ p. record { instance = p.0; partition = p.1.0; offset = p.1.1 }) (λ v.
     (v.instance, (v.partition, v.offset))) (int64 ⊗ int32 ⊗ int64)
+
+unfoldable pub begin_snapshot : Codec BeginSnapshot
+begin_snapshot = via (λ p. record { count = p.0; instances = p.1.0; issues = p.1.1 }) (λ v.
+    (v.count, (v.instances, v.issues))) (int32 ⊗ int64 ⊗ int64)
 
 -- ---- kinds
 
@@ -92,12 +97,22 @@ abbrev pub started : Command → Option MoveStart
 started (Start start) = Some start
 started _ = None
 
+abbrev pub snapshotted : Command → Option BeginSnapshot
+snapshotted (Snapshot snapshot) = Some snapshot
+snapshotted _ = None
+
+abbrev pub held : Command → Option CreateTopic
+held (Topic topic) = Some topic
+held _ = None
+
 abbrev pub kind_of : Command → ℤ
 kind_of (Create topic) = pos 1
 kind_of (Delete name) = pos 2
 kind_of (Issue id) = pos 3
 kind_of (Commit commit) = pos 4
 kind_of (Start start) = pos 5
+kind_of (Snapshot snapshot) = pos 6
+kind_of (Topic topic) = pos 7
 
 -- the fields of each kind
 abbrev pub of_kind : ℤ → Codec Command
@@ -106,6 +121,8 @@ of_kind (pos (suc (suc zero))) = within Delete deleted string
 of_kind (pos (suc (suc (suc zero)))) = within Issue issued int64
 of_kind (pos (suc (suc (suc (suc zero))))) = within Commit committed commit_offset
 of_kind (pos (suc (suc (suc (suc (suc zero)))))) = within Start started move_start
+of_kind (pos (suc (suc (suc (suc (suc (suc zero))))))) = within Snapshot snapshotted begin_snapshot
+of_kind (pos (suc (suc (suc (suc (suc (suc (suc zero)))))))) = within Topic held create_topic
 of_kind _ = nowhere
 
 unfoldable pub command_codec : Codec Command

@@ -11,5 +11,7 @@ pub mod Layouts
 pub mod Linked
 pub mod MetaLog
 pub mod Name
+pub mod Reading
 pub mod Refusals
 pub mod Replay
+pub mod WellFormed

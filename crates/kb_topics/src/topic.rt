@@ -2,12 +2,13 @@
 ghost use Rattle.std.specs.Prelude.{◌≡◌, ◌<◌, pos, length, slice_index_or, replicate, OnOk, OnErr, IfOk};
 ghost use Rattle.std.specs.Option.{option_copied};
 ghost use Rattle.std.specs.String.{string_bytes};
+ghost use Rattle.std.proofs.lemmas.Map.Lookups.{map_keys};
 ghost use Rattle.kb_topics.specs.Known.{CommittedOffset, PartitionState, TopicState, new_partition, new_topic, committed_at, with_part};
 ghost use Rattle.kb_topics.specs.Known.{with_start, with_commit, with_former};
 
 use crate::config::TopicConfig;
 use std::alloc::{AllocError, Global};
-use std::collections::BTreeMap;
+use std::collections::{BTreeMap, btree_map};
 use std::marker::Model;
 
 /// How far a group has processed a partition.
@@ -92,6 +93,13 @@ impl Partition {
         ensures { option_copied result ≡ committed_at group.now self.now }
     {
         self.commits.get(group)
+    }
+
+    /// What groups committed, in byte order of groups.
+    pub fn commits(&self) -> btree_map::Iter<'_, String, Committed>
+        ensures { map_keys string_bytes result ≡ self.now.commits }
+    {
+        self.commits.iter()
     }
 
     /// Records what a group commits, and answers what it had committed. A refusal leaves all as it was.

@@ -14,7 +14,8 @@ use Rattle.kb_tenant.specs.CreateTopics.{created_all, made_of}
 use Rattle.kb_tenant.specs.Fetch.{fetch_answer, places_in, places_of}
 use Rattle.kb_tenant.specs.OffsetCommit.{committed_all, refusal_of}
 use Rattle.kb_tenant.specs.Serve.{Outcome, of_produce, of_offset_commit, of_delete_records, of_delete_topics, of_init_producer_id, plainly_served}
-use Rattle.kb_tenant.specs.Waiting.{AreNamedApart, HasOwnNames}
+use Rattle.kb_topics.specs.WellFormed.{AreNamedApart}
+use Rattle.kb_tenant.specs.Waiting.{HasOwnNames}
 use Rattle.kb_tenant.specs.declared.node.Node.{Node}
 use Rattle.kb_tenant.proofs.Asked.{Finds, all_found}
 use Rattle.kb_tenant.proofs.ByRequest.{by_request, of_creations}

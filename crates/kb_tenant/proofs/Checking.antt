@@ -34,7 +34,7 @@ use Rattle.kb_tenant.specs.CreateTopics.{created_all, created_topic, made_unless
 use Rattle.kb_tenant.specs.Settings.{are_allowed, entry_named, limit_named, settings_in, settings_of}
 use Rattle.kb_tenant.specs.Turns.{in_turn}
 use Rattle.kb_tenant.proofs.Entries.{insert_other}
-use Rattle.kb_tenant.proofs.Names.{named_inserted}
+use Rattle.kb_topics.proofs.Names.{named_inserted}
 
 -- ---- the settings that a topic may be given are limits
 

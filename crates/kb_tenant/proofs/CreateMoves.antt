@@ -26,7 +26,7 @@ use Rattle.kb_tenant.specs.Settings.{settings_in}
 use Rattle.kb_tenant.proofs.Asked.{IsHeld}
 use Rattle.kb_tenant.proofs.Entries.{counted_inserted, insert_other}
 use Rattle.kb_tenant.proofs.Moves.{Moves, stays_same, turns_move}
-use Rattle.kb_tenant.proofs.Names.{named_inserted}
+use Rattle.kb_topics.proofs.Names.{named_inserted}
 use Rattle.kb_tenant.proofs.Tied.{not_next}
 
 -- the world with one more topic

@@ -19,7 +19,7 @@ use Rattle.kb_tenant.specs.DeleteTopics.{deleted_all, deleted_topic, place_at, p
 use Rattle.kb_tenant.proofs.Asked.{IsHeld}
 use Rattle.kb_tenant.proofs.Entries.{counted_removed, none_removed, remove_other}
 use Rattle.kb_tenant.proofs.Moves.{Moves, stays_told, turns_move}
-use Rattle.kb_tenant.proofs.Names.{named_removed}
+use Rattle.kb_topics.proofs.Names.{named_removed}
 use Rattle.kb_tenant.proofs.Tied.{owner}
 
 -- the world without a topic

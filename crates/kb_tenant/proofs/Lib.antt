@@ -28,10 +28,8 @@ pub mod Losing
 pub mod Mapped
 pub mod Missing
 pub mod Moves
-pub mod Names
 pub mod Offsets
 pub mod OffsetsKept
-pub mod OwnNames
 pub mod ProduceMoves
 pub mod Produced
 pub mod Ready

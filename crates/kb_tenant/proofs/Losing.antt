@@ -28,8 +28,9 @@ use Rattle.kb_tenant.specs.DeleteTopics.{deleted_all, deleted_topic}
 use Rattle.kb_tenant.specs.Produce.{Progress, appended_at, batch_in, decided, known_place, offered_unless, produced, progress, refusal_of, entry_served, served_topic, tried, verdict_on}
 use Rattle.kb_tenant.specs.Settings.{settings_in}
 use Rattle.kb_tenant.specs.Turns.{in_turn}
-use Rattle.kb_tenant.specs.Waiting.{AreNamedApart, HasOwnNames}
-use Rattle.kb_tenant.proofs.OwnNames.{apart_inserted, apart_removed, named_before}
+use Rattle.kb_topics.specs.WellFormed.{AreNamedApart}
+use Rattle.kb_tenant.specs.Waiting.{HasOwnNames}
+use Rattle.kb_topics.proofs.OwnNames.{apart_inserted, apart_removed, named_before}
 
 -- Names stay apart, and what has a name then had it before.
 pub record Loses (w v : World) : Type 0 where

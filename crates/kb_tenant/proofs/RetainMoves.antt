@@ -13,13 +13,13 @@ use Rattle.kb_tenant_state.specs.Calls.{due, moved_to, retain, retained_from}
 use Rattle.kb_tenant_state.specs.Tied.{counted, partition_count}
 use Rattle.kb_tenant_state.specs.World.{World, log_in}
 use Rattle.kb_tenant_state.specs.declared.topic_partition.TopicPartition.{TopicPartition}
-use Rattle.kb_tenant.specs.Waiting.{AreNamedApart}
+use Rattle.kb_topics.specs.WellFormed.{AreNamedApart}
 use Rattle.kb_tenant.proofs.Asked.{here_first}
 use Rattle.kb_tenant.proofs.Entries.{counted_set, none_set}
 use Rattle.kb_tenant.proofs.LogMoves.{log_elsewhere, same_counts}
 use Rattle.kb_tenant.proofs.Moves.{Moves, stays_told}
-use Rattle.kb_tenant.proofs.Names.{named_set}
-use Rattle.kb_tenant.proofs.OwnNames.{apart_put}
+use Rattle.kb_topics.proofs.Names.{named_set}
+use Rattle.kb_topics.proofs.OwnNames.{apart_put}
 
 -- what is known with another state of one partition
 pub record IsAlike (old new : Known) : Type 0 where

@@ -1,21 +1,24 @@
 -- A tenant without topics.
-use Rattle.std.proofs.Common.{◌≡◌, ◌∙◌, [], Some, None, sym, ap, subst}
+use Rattle.std.proofs.Common.{◌≡◌, ◌∙◌, ℕ, [], Some, None, sym, ap, subst}
 use Rattle.std.specs.FinMap as map
 use Rattle.kb_store.specs.Disk.{Files}
+use Rattle.kb_batch.specs.Batch.{natural}
 use Rattle.kb_log.specs.OnShelf.{Log, IsLawfulLog, IsNew}
 use Rattle.kb_topics.specs.Catalog.{known, meta_log}
-use Rattle.kb_topics.specs.Known.{empty}
-use Rattle.kb_topics.specs.MetaLog.{SayEach}
+use Rattle.kb_topics.specs.Known.{Known, empty}
+use Rattle.kb_topics.specs.MetaLog.{SayEach, IsFoldOf}
+use Rattle.kb_topics.specs.Reading.{in_use}
 use Rattle.kb_tenant_state.specs.Logs.{log_at}
 use Rattle.kb_tenant_state.specs.Partitions.{Agree, AreStarted, Entries, logs_of}
 use Rattle.kb_tenant_state.specs.Parts.{Agrees, entries, meta, recorded_start}
 use Rattle.kb_tenant_state.specs.declared.parts.Parts.{Parts}
 
 -- it agrees with all files
-pub new_agrees : {L : Type 0} (log : L → Log) (law : (l : L) → IsLawfulLog (log l)) (p : Parts L) (files : Files) → IsNew (meta log p) → known p.catalog ≡ empty → entries p ≡ [] → Agrees log p files
-new_agrees {L} log law p files new nothing none = record {
+pub new_agrees : {L : Type 0} (log : L → Log) (law : (l : L) → IsLawfulLog (log l)) (p : Parts L) (files : Files) → IsNew (meta log p) → natural (meta log p).identity.generation ≡ 0 → known p.catalog ≡ empty → entries p ≡ [] → Agrees log p files
+new_agrees {L} log law p files new first nothing none = record {
   catalog = new.agrees files;
-  fold = record { commands = []; said = subst (λ ss. SayEach ss []) (sym (new.empty files)) tt; folded = ap Some (sym nothing) };
+  fold = subst (λ (n : ℕ). IsFoldOf n ((meta log p).batches files) (known p.catalog)) (sym first)
+      (record { commands = []; said = subst (λ ss. SayEach ss []) (sym (new.empty files)) tt; read = ap (λ (k : Known). Some (in_use k)) (sym nothing) });
   logs = subst (λ (es : Entries L). Agree log es files) (sym none) (record {
     each = λ i q x at. absurd (let bad : None ≡ Some x = at in cc);
     producers = λ i q x at. absurd (let bad : None ≡ Some x = at in cc);

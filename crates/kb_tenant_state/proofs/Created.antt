@@ -1,5 +1,5 @@
 -- A topic is made: its partitions, and then its command.
-use Rattle.std.proofs.Common.{◌≡◌, ◌∙◌, ◌⊎◌, ⊎_elim, inl, inr, ◌≤◌, ◌<◌, ◌+◌, ◌-◌, ◌^◌, ℕ, Bool, true, false, cond, Some, None, length, sym, ap, refl, arith, eqb-true}
+use Rattle.std.proofs.Common.{◌≡◌, ◌∙◌, ◌⊎◌, ⊎_elim, inl, inr, ◌≤◌, ◌<◌, ◌+◌, ◌-◌, ◌^◌, ℕ, Bool, true, false, cond, Some, None, length, sym, ap, subst, refl, arith, eqb-true}
 use Rattle.std.specs.Prelude.{replicate, string_bytes}
 use Rattle.std.specs.FinMap.{get}
 use Rattle.std.specs.Ordering.{nat_cmp}
@@ -8,9 +8,11 @@ use Rattle.std.specs.Map.{lookup}
 use Rattle.std.specs.BTreeMap.{insert_entry, is_at}
 use Rattle.std.proofs.lemmas.List.{length-replicate}
 use Rattle.kb_store.specs.Disk.{Disk}
-use Rattle.kb_log.specs.OnShelf.{Log, Frames, IsLawfulLog}
+use Rattle.kb_batch.specs.Batch.{natural}
+use Rattle.kb_log.specs.OnShelf.{Identity, Log, Frames, IsLawfulLog}
 use Rattle.kb_log.specs.OnShelf as one
 use Rattle.kb_topics.specs.Catalog.{known, meta_log}
+use Rattle.kb_topics.specs.MetaLog.{IsFoldOf}
 use Rattle.kb_topics.specs.Calls.{StaysFold}
 use Rattle.kb_topics.specs.Known.{TopicState, new_partition, topic_at}
 use Rattle.kb_topics.specs.declared.catalog.Catalog.{Catalog}
@@ -28,7 +30,7 @@ use Rattle.kb_tenant_state.proofs.Moves.{IsMove, as_step}
 use Rattle.kb_tenant_state.proofs.Recorded.{Resume, on_shelf}
 use Rattle.kb_tenant_state.proofs.Spared as spared
 use Rattle.kb_tenant_state.proofs.Starts.{create_starts, new_starts, still_started}
-use Rattle.kb_tenant_state.proofs.Tied.{counted_inserted, tied_world}
+use Rattle.kb_tenant_state.proofs.Tied.{counted_inserted, named_still, tied_world}
 
 same_number : (k i : ℕ) → is_at (nat_cmp k) i ≡ true → k ≡ i
 same_number k i e = eqb-true k i (sym (unsigned_tied k i) ∙ e)
@@ -98,7 +100,7 @@ module _ {L : Type 0} (log : L → Log) (law : (l : L) → IsLawfulLog (log l)) 
         unmade = λ i le. unmade i (omega (arith, more, le));
         small = small few;
         tied = tied new topics (ap (λ ps. length ps) many ∙ length-replicate count new_partition);
-        catalog_named = frames.identity ∙ sound.catalog_named;
+        catalog_named = named_still _ _ _ _ frames.identity sound.catalog_named;
         logs_named = named sound.logs_named;
       };
       others = record {
@@ -111,7 +113,8 @@ module _ {L : Type 0} (log : L → Log) (law : (l : L) → IsLawfulLog (log l)) 
       failures = frames.failures;
       agrees = λ honest agree. record {
         catalog = frames.agrees honest agree.catalog;
-        fold = fold honest agree.catalog agree.fold;
+        fold = subst (λ (n : ℕ). IsFoldOf n ((log (meta_log changed)).batches d'.files) (known changed)) (sym (ap (λ (i : Identity). natural i.generation) frames.identity))
+            (fold honest agree.catalog (natural (meta log p).identity.generation) agree.fold);
         logs = spared.spared_agree log law ps.topics.entries d d' next next' (made.sound d.table next sound.logs) frames.others.later lengths contents honest (made.agrees d.files agree.logs);
         started = begun (recorded_start (known changed)) (new_starts (known p.catalog) (known changed) count new topics many)
             (still_started log (entries p) (recorded_start (known p.catalog)) (recorded_start (known changed)) (create_starts (known p.catalog) (known changed) count new none topics many) agree.started);

@@ -2,19 +2,20 @@
 use Rattle.std.proofs.Common.{rules, ◌≡◌, ◌∙◌, ◌<◌, ◌-◌, ◌^◌, ℕ, pos, nat_le, Bool, true, false, Some, None, sym, ap, refl, arith, to_z, of_z}
 use Rattle.std.proofs.lemmas.Bool.Decides.{nat_tests}
 use Rattle.std.proofs.lemmas.Int.{to_z-of_z}
-use Rattle.std.specs.Prelude.{if◌then◌else◌}
+use Rattle.std.specs.Prelude.{if◌then◌else◌, ◌&&◌}
 use Rattle.std.specs.Int.{w64}
 use Rattle.std.specs.Ordering.{int_eq}
 use Rattle.kb_topics.specs.Commands.{issue_command}
-use Rattle.kb_topics.specs.Known.{Known, with_id, step}
+use Rattle.kb_topics.specs.Known.{Known, with_id, is_left, step}
 use Rattle.kb_topics.specs.Refusals.{issue_refusal}
 use Rattle.kb_topics.specs.declared.fault.CatalogFault.TheVariants as faults
 
-same_id : (n : ℕ) → int_eq (pos n) (pos n) ≡ true
-same_id n = search rules
+made : (t : Bool) (old new : Known) → (if t then Some (with_id old) else None) ≡ Some new → new ≡ with_id old
+made true old new e = let is : Some (with_id old) ≡ Some new = e in cc
+made false old new e = absurd cc
 
 pub issued : (old new : Known) → step old (issue_command old) ≡ Some new → new ≡ with_id old
-issued old new e = let is : Some (with_id old) ≡ Some new = sym (ap (λ t. if t then Some (with_id old) else None) (same_id old.issues)) ∙ e in cc
+issued old new e = made (int_eq (pos old.issues) (pos old.issues) && is_left old.issues) old new e
 
 few : (n : ℕ) (t : Bool) → nat_le (2 ^ 63 - 1) n ≡ t → (if t then Some faults.UsedUp else None) ≡ None → n < 2 ^ 63
 few n true e none = absurd cc

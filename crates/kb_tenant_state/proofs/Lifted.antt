@@ -7,8 +7,9 @@ use Rattle.std.specs.Ordering.{nat_cmp}
 use Rattle.std.specs.Map.{lookup}
 use Rattle.std.specs.BTreeMap.{is_at}
 use Rattle.kb_store.specs.Disk.{Disk, Keeps}
+use Rattle.kb_batch.specs.Batch.{natural}
 use Rattle.kb_log.specs.OnShelf.{Log, IsLawfulLog}
-use Rattle.kb_topics.specs.MetaLog.{IsFold}
+use Rattle.kb_topics.specs.MetaLog.{IsFoldOf}
 use Rattle.kb_topics.specs.Catalog.{known, meta_log}
 use Rattle.kb_topics.specs.declared.catalog.Catalog.{Catalog}
 use Rattle.kb_topics.specs.CatalogFault.{IsWant}
@@ -78,8 +79,8 @@ parts_move {L} log law recorded p p' d d' next next' catalog of named unmade sma
             let stay : (file : ℕ) → m.owns file → get d'.files file ≡ get d.files file = λ file own. others.contents honest file (below file own) (sound.apart file own) in
             record {
               catalog = subst (λ (l : Log). l.agrees d'.files) (sym same) (lawful.agrees_stays d.files d'.files agree.catalog stay);
-              fold = subst (λ c. IsFold ((log (meta_log c)).batches d'.files) (known c)) (sym catalog)
-                  (subst (λ bs. IsFold bs (known p.catalog)) (sym (lawful.batches_stay d.files d'.files stay)) agree.fold);
+              fold = subst (λ c. IsFoldOf (natural (log (meta_log c)).identity.generation) ((log (meta_log c)).batches d'.files) (known c)) (sym catalog)
+                  (subst (λ bs. IsFoldOf (natural (meta log p).identity.generation) bs (known p.catalog)) (sym (lawful.batches_stay d.files d'.files stay)) agree.fold);
               logs = frame.agrees honest agree.logs;
               started = started honest agree;
               meta_started = subst (λ (l : Log). l.resumes 0) (sym same) agree.meta_started;
@@ -189,7 +190,7 @@ recast_move {L} log a p q d next c of e until le move =
         failures = move.frame.failures;
         agrees = λ honest agree. let g = move.frame.agrees honest agree in record {
           catalog = subst (λ (l : Log). l.agrees d.files) (sym m) g.catalog;
-          fold = subst (λ (k : Catalog L). IsFold ((log (meta_log k)).batches d.files) (known k)) (sym c) g.fold;
+          fold = subst (λ (k : Catalog L). IsFoldOf (natural (log (meta_log k)).identity.generation) ((log (meta_log k)).batches d.files) (known k)) (sym c) g.fold;
           logs = subst (λ (es : Entries L). Agree log es d.files) (sym e) g.logs;
           started = subst (λ (k : Catalog L). AreStarted log (recorded_start (known k)) (entries q)) (sym c) (subst (λ (es : Entries L). AreStarted log (recorded_start (known p.catalog)) es) (sym e) g.started);
           meta_started = subst (λ (l : Log). l.resumes 0) (sym m) g.meta_started;

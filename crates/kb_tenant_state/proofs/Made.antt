@@ -92,11 +92,11 @@ module _ {L : Type 0} (log : L → Log) where
       ∙ ap (λ ls. no_log ∷ ls) (all_empty files xs (All-tail (IsEmptyPartition log) x xs all))
 
 abbrev identity_by : ℕ → List ℕ → ℤ → ℤ → Identity
-identity_by size tenant instance partition = record { tenant = tenant; kind = pos 0; instance = instance; partition = partition; segment_bytes = size }
+identity_by size tenant instance partition = record { tenant = tenant; kind = pos 0; instance = instance; partition = partition; generation = pos 0; segment_bytes = size }
 
 -- the identity of a partition's id
 pub partition_id : (name : String Global) (instance' partition' : ℤ) (tenant : List ℕ) (instance number size : ℕ) → string_bytes name ≡ tenant → instance' ≡ pos instance → partition' ≡ pos number
-    → identity_of (record { tenant = name; kind = pos 0; instance = instance'; partition = partition' }) size ≡ partition_identity tenant instance number size
+    → identity_of (record { tenant = name; kind = pos 0; instance = instance'; partition = partition'; generation = pos 0 }) size ≡ partition_identity tenant instance number size
 partition_id name instance' partition' tenant instance number size t i p =
     ap (λ bs. identity_by size bs instance' partition') t ∙ ap (λ z. identity_by size tenant z partition') i ∙ ap (identity_by size tenant (pos instance)) p
 

@@ -1,11 +1,13 @@
 -- A call for the catalog, as a step of the parts.
-use Rattle.std.proofs.Common.{◌≡◌, ◌∙◌, ◌⊎◌, ⊎_elim, inl, inr, ◌≤◌, ◌<◌, ◌+◌, ◌^◌, ℕ, Option, Some, None, Err, sym, ap, refl, arith}
+use Rattle.std.proofs.Common.{◌≡◌, ◌∙◌, ◌⊎◌, ⊎_elim, inl, inr, ◌≤◌, ◌<◌, ◌+◌, ◌^◌, ℕ, Option, Some, None, Err, sym, ap, subst, refl, arith}
 use Rattle.std.specs.Prelude.{Result}
 use Rattle.std.specs.FinMap.{get}
 use Rattle.kb_store.specs.Disk.{Disk, Files}
-use Rattle.kb_log.specs.OnShelf.{Log, OnShelf, Frames, IsLawfulLog}
+use Rattle.kb_batch.specs.Batch.{natural}
+use Rattle.kb_log.specs.OnShelf.{Identity, Log, OnShelf, Frames, IsLawfulLog}
 use Rattle.kb_log.specs.OnShelf as one
 use Rattle.kb_topics.specs.Catalog.{known, meta_log}
+use Rattle.kb_topics.specs.MetaLog.{IsFoldOf}
 use Rattle.kb_topics.specs.Calls.{StaysFold, IsLogCause, IsCause}
 use Rattle.kb_topics.specs.CatalogFault.{IsWant}
 use Rattle.kb_topics.specs.Known.{Known}
@@ -26,7 +28,7 @@ use Rattle.kb_tenant_state.proofs.Lifted.{counted_step_catalog, loud, recast_mov
 use Rattle.kb_tenant_state.proofs.Moves.{IsMove, as_step}
 use Rattle.kb_tenant_state.proofs.Spared as spared
 use Rattle.kb_tenant_state.proofs.Starts.{SameStarts, same_topics}
-use Rattle.kb_tenant_state.proofs.Tied.{AreOf, tie, untied_on}
+use Rattle.kb_tenant_state.proofs.Tied.{AreOf, named_still, tie, untied_on}
 
 -- the meta log at a moment
 abbrev pub on_shelf : Log → Disk → ℕ → OnShelf
@@ -65,7 +67,7 @@ module _ {L : Type 0} (log : L → Log) (law : (l : L) → IsLawfulLog (log l)) 
         few = few;
         unmade = λ i le. sound.unmade i (omega (arith, more, le));
         small = sound.small;
-        catalog_named = frames.identity ∙ sound.catalog_named;
+        catalog_named = named_still _ _ _ _ frames.identity sound.catalog_named;
         logs_named = sound.logs_named;
       };
       others = record {
@@ -78,7 +80,8 @@ module _ {L : Type 0} (log : L → Log) (law : (l : L) → IsLawfulLog (log l)) 
       failures = frames.failures;
       agrees = λ honest agree. record {
         catalog = frames.agrees honest agree.catalog;
-        fold = fold honest agree.catalog agree.fold;
+        fold = subst (λ (n : ℕ). IsFoldOf n ((log (meta_log changed)).batches d'.files) (known changed)) (sym (ap (λ (i : Identity). natural i.generation) frames.identity))
+            (fold honest agree.catalog (natural (meta log p).identity.generation) agree.fold);
         logs = spared.spared_agree log law (entries p) d d' next next' sound.logs frames.others.later lengths contents honest agree.logs;
         started = agree.started;
         meta_started = resumes 0 agree.meta_started;

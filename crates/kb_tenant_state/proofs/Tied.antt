@@ -1,5 +1,5 @@
 -- How the partitions of a tenant stand to the topics of its catalog.
-use Rattle.std.proofs.Common.{◌≡◌, ◌∙◌, ◌≤◌, ◌<◌, ◌^◌, ℕ, ℤ, Bool, true, false, cond, List, [], ◌∷◌, length, Option, Some, None, refl, sym, ap, subst}
+use Rattle.std.proofs.Common.{◌≡◌, ◌∙◌, ◌≤◌, ◌<◌, ◌^◌, ℕ, ℤ, Bool, true, false, cond, List, [], ◌∷◌, length, Option, Some, None, refl, sym, ap, subst, pos}
 use Rattle.std.specs.Prelude.{int_le, option_map, string_bytes}
 use Rattle.std.specs.Option.{option_and_then}
 use Rattle.std.specs.Ordering.{nat_cmp, match_ordering}
@@ -16,7 +16,7 @@ use Rattle.kb_topics.specs.Catalog.{known, catalog_identity}
 use Rattle.kb_topics.specs.Commands.{start_command}
 use Rattle.kb_topics.specs.Known.{Known, PartitionState, TopicState, put_topic, step, topic_at, with_part, with_partition, with_start}
 use Rattle.kb_topics.specs.Known as topics
-use Rattle.kb_topics.specs.MetaLog.{IsFold}
+use Rattle.kb_topics.specs.MetaLog.{IsFoldOf}
 use Rattle.kb_tenant_state.specs.Partitions.{Entries, Owned, Agree, AreSound, AreNamed, AreStarted, IsUnmade, log_state, logs_of, places_of}
 use Rattle.kb_tenant_state.specs.Scene.{Scene}
 use Rattle.kb_tenant_state.specs.declared.partition.Partition.{Partition}
@@ -86,11 +86,16 @@ start_counts k new i p offset e = started_counts k new i p offset (topics.partit
 abbrev pub AreOf : {L : Type 0} → Parts L → Parts L → Type 0
 AreOf q p = (q.tenant ≡ p.tenant) × (q.segment_bytes ≡ p.segment_bytes)
 
+-- a catalog's log that is the same one's is named as before
+pub named_still : (tenant : List ℕ) (size : ℕ) (new old : Identity) → new ≡ old → old ≡ catalog_identity tenant old.generation size → new ≡ catalog_identity tenant new.generation size
+named_still tenant size new old same named = subst (λ who. who ≡ catalog_identity tenant who.generation size) (sym same) named
+
 -- the meta log is named as before, where it is the same tenant's
-pub meta_named : {L : Type 0} (p q : Parts L) (new old : Identity) → AreOf q p → new ≡ old → old ≡ catalog_identity (string_bytes p.tenant) p.segment_bytes
-    → new ≡ catalog_identity (string_bytes q.tenant) q.segment_bytes
+pub meta_named : {L : Type 0} (p q : Parts L) (new old : Identity) → AreOf q p → new ≡ old → old ≡ catalog_identity (string_bytes p.tenant) old.generation p.segment_bytes
+    → new ≡ catalog_identity (string_bytes q.tenant) new.generation q.segment_bytes
 meta_named p q new old of same named =
-    same ∙ named ∙ sym (ap (λ t. catalog_identity (string_bytes t) q.segment_bytes) of.0 ∙ ap (catalog_identity (string_bytes p.tenant)) of.1)
+    named_still (string_bytes q.tenant) q.segment_bytes new old same
+    (named ∙ sym (ap (λ t. catalog_identity (string_bytes t) old.generation q.segment_bytes) of.0 ∙ ap (catalog_identity (string_bytes p.tenant) old.generation) of.1))
 
 -- so are the partitions' logs
 pub named_as : {L : Type 0} (log : L → Log) (p q : Parts L) (es : Entries L) → AreOf q p
@@ -116,13 +121,13 @@ pub record IsUntied {L : Type 0} (log : L → Log) (p : Parts L) (table : Table)
   pub few : (known p.catalog).creates < 2 ^ 63
   pub unmade : (i : ℕ) → (known p.catalog).creates ≤ i → IsUnmade i (entries p)
   pub small : (i count : ℕ) → lookup (is_at (nat_cmp i)) (places_of (entries p)) ≡ Some count → count ≤ 64
-  pub catalog_named : (meta log p).identity ≡ catalog_identity (string_bytes p.tenant) p.segment_bytes
+  pub catalog_named : (meta log p).identity ≡ catalog_identity (string_bytes p.tenant) (meta log p).identity.generation p.segment_bytes
   pub logs_named : AreNamed log (string_bytes p.tenant) p.segment_bytes (entries p)
 
 -- in agreement, with those starts recorded of the partitions
 pub record AgreesBy {L : Type 0} (log : L → Log) (recorded : ℕ → ℕ → ℕ) (p : Parts L) (files : Files) : Type 0 where
   pub catalog : (meta log p).agrees files
-  pub fold : IsFold ((meta log p).batches files) (known p.catalog)
+  pub fold : IsFoldOf (natural (meta log p).identity.generation) ((meta log p).batches files) (known p.catalog)
   pub logs : Agree log (entries p) files
   pub started : AreStarted log recorded (entries p)
   pub meta_started : (meta log p).resumes 0

@@ -8,7 +8,7 @@ use Rattle.kb_log.specs.OnShelf.{Log}
 use Rattle.kb_log.specs.Shelf.{Shelved}
 use Rattle.kb_batch.specs.Batch.{natural}
 use Rattle.kb_topics.specs.Known.{Known, PartitionState, partition_at}
-use Rattle.kb_topics.specs.MetaLog.{IsFold}
+use Rattle.kb_topics.specs.MetaLog.{IsFoldOf}
 use Rattle.kb_topics.specs.Catalog.{known, meta_log, catalog_identity}
 use Rattle.kb_tenant_state.specs.Partitions.{Entries, Owned, AreSound, AreExact, AreStarted, AreNamed, Agree, logs_of, places_of, IsUnmade}
 use Rattle.kb_tenant_state.specs.Scene.{Scene}
@@ -33,8 +33,9 @@ entries p = p.partitions.topics.entries
 abbrev pub Owns : {L : Type 0} → (L → Log) → Parts L → ℕ → Type 0
 Owns log p file = (meta log p).owns file ⊎ Owned log (entries p) file
 
--- Each log is sound and the tenant's own, and no file is of two logs. No instance that is still to be given out has partitions, and
--- no topic has more than 64. Each topic has as many partitions as the catalog says, under its instance, and there are no others.
+-- Each log is sound and the tenant's own, the meta log in whatever generation, and no file is of two logs. No instance that is still
+-- to be given out has partitions, and no topic has more than 64. Each topic has as many partitions as the catalog says, under its
+-- instance, and there are no others.
 pub record IsSound {L : Type 0} (log : L → Log) (p : Parts L) (table : Table) (next : ℕ) : Type 0 where
   pub catalog : (meta log p).sound table next
   pub logs : AreSound log (entries p) table next
@@ -43,7 +44,7 @@ pub record IsSound {L : Type 0} (log : L → Log) (p : Parts L) (table : Table) 
   pub unmade : (i : ℕ) → (known p.catalog).creates ≤ i → IsUnmade i (entries p)
   pub small : (i count : ℕ) → lookup (is_at (nat_cmp i)) (places_of (entries p)) ≡ Some count → count ≤ 64
   pub tied : places_of (entries p) ≡ counted partition_count (known p.catalog).topics
-  pub catalog_named : (meta log p).identity ≡ catalog_identity (string_bytes p.tenant) p.segment_bytes
+  pub catalog_named : (meta log p).identity ≡ catalog_identity (string_bytes p.tenant) (meta log p).identity.generation p.segment_bytes
   pub logs_named : AreNamed log (string_bytes p.tenant) p.segment_bytes (entries p)
 
 -- what the tenant sees
@@ -59,10 +60,10 @@ abbrev pub recorded_start : Known → ℕ → ℕ → ℕ
 recorded_start k i p = start_said (partition_at k (pos i) (pos p))
 
 -- Each log agrees with its files, and would start where it does if it were opened from them again; the catalog is what its meta log
--- comes to; and up to a clock no partition has anything to drop.
+-- comes to, by the generation that the log is of; and up to a clock no partition has anything to drop.
 pub record Agrees {L : Type 0} (log : L → Log) (p : Parts L) (files : Files) : Type 0 where
   pub catalog : (meta log p).agrees files
-  pub fold : IsFold ((meta log p).batches files) (known p.catalog)
+  pub fold : IsFoldOf (natural (meta log p).identity.generation) ((meta log p).batches files) (known p.catalog)
   pub logs : Agree log (entries p) files
   pub started : AreStarted log (recorded_start (known p.catalog)) (entries p)
   pub meta_started : (meta log p).resumes 0

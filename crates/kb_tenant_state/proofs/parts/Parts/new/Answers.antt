@@ -1,7 +1,8 @@
 use Rattle.std.proofs.Common.{◌≡◌, ◌∙◌, sym, ap, subst}
 use Rattle.std.proofs.lemmas.Option.{none-some}
 use Rattle.kb_tenant_state.specs.Partitions.{AreExact}
-use Rattle.kb_log.specs.OnShelf.{IsNew}
+use Rattle.kb_batch.specs.Batch.{natural}
+use Rattle.kb_log.specs.OnShelf.{Identity, IsNew}
 use Rattle.kb_topics.specs.Catalog.{known, meta_log}
 use Rattle.kb_topics.specs.Known.{empty}
 use Rattle.kb_tenant_state.proofs.Begun.{new_agrees}
@@ -13,6 +14,7 @@ returns-clause-agrees g c = λ files.
     let catalog = sym (ap (λ p. p.catalog) made) in
     new_agrees g.L.PartitionLog.log g.met.L.PartitionLog.lawful _ files
     (subst (λ k. IsNew (g.L.PartitionLog.log (meta_log k))) catalog c.new-catalog.ensures.log)
+    (ap (λ k. natural (g.L.PartitionLog.log (meta_log k)).identity.generation) (sym catalog) ∙ ap (λ (i : Identity). natural i.generation) c.new-catalog.ensures.identity)
     (subst (λ k. known k ≡ empty) catalog c.new-catalog.ensures.known)
     (ap (λ p. p.partitions.topics.entries) made ∙ c.new-partitions.ensures)
 

@@ -4,9 +4,10 @@ use Rattle.std.specs.Prelude.{slice_get, slice_set, option_map}
 use Rattle.kb_tenant_state.specs.Partitions.{AreExact}
 use Rattle.std.specs.FinMap.{get}
 use Rattle.kb_store.specs.Disk.{Disk}
+use Rattle.kb_batch.specs.Batch.{natural}
 use Rattle.kb_log.specs.OnShelf.{Log, IsLawfulLog}
 use Rattle.kb_topics.specs.Catalog.{known, meta_log}
-use Rattle.kb_topics.specs.MetaLog.{IsFold}
+use Rattle.kb_topics.specs.MetaLog.{IsFoldOf}
 use Rattle.std.proofs.lemmas.List.{length-set}
 use Rattle.kb_tenant_state.proofs.Put.{get_put}
 use Rattle.kb_tenant_state.specs.RetentionTime.{AreAllKept}
@@ -57,7 +58,7 @@ module _ {L : Type 0} (log : L → Log) (law : (l : L) → IsLawfulLog (log l)) 
   pub still_agrees : e.honest → Agrees log q d.files → Agrees log q e.files
   still_agrees honest agree = record {
     catalog = lawful.agrees_stays d.files e.files agree.catalog (there honest);
-    fold = subst (λ bs. IsFold bs (known q.catalog)) (sym (lawful.batches_stay d.files e.files (there honest))) agree.fold;
+    fold = subst (λ bs. IsFoldOf (natural (meta log q).identity.generation) bs (known q.catalog)) (sym (lawful.batches_stay d.files e.files (there honest))) agree.fold;
     logs = spared.spared_agree log law (entries q) d e next last sound.logs later (λ file lt own. lengths file lt (inr own)) (λ h file lt own. contents h file lt (inr own)) honest agree.logs;
     started = agree.started;
     meta_started = agree.meta_started;

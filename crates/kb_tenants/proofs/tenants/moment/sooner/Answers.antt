@@ -5,7 +5,7 @@ use Rattle.kb_coordinator.specs.Groups.{earliest}
 use Rattle.kb_groups.specs.Moments.{never}
 use Rattle.kb_tenants.specs.Tenants.{clock_before}
 use Rattle.kb_tenants.proofs.Idle.{due_before}
-use Rattle.kb_tenants.proofs.tenants.sooner.Goals as goal
+use Rattle.kb_tenants.proofs.tenants.moment.sooner.Goals as goal
 
 pub returns : goal.returns
 returns g c =

@@ -1,5 +1,5 @@
 -- The topics of a tenant are opened one after another.
-use Rattle.std.proofs.Common.{◌≡◌, ◌∙◌, ◌⊎◌, ◌<◌, ◌+◌, inl, inr, ℕ, zero, suc, true, false, cond, List, [], ◌∷◌, Option, Some, None, refl, sym, ap, subst, arith, length}
+use Rattle.std.proofs.Common.{◌≡◌, ◌∙◌, ◌⊎◌, ◌≤◌, ◌<◌, ◌+◌, ◌-◌, inl, inr, ℕ, zero, suc, true, false, cond, List, [], ◌∷◌, Option, Some, None, refl, sym, ap, subst, arith, length}
 use Rattle.std.specs.Prelude.{pos, nat_lt, nat_eq, slice_get, option_map, is_some, IsSome}
 use Rattle.std.specs.Option.{option_and_then}
 use Rattle.std.specs.FinMap.{get}
@@ -151,3 +151,23 @@ no_topic t name size k n first from es mid left next now so_far none kept = reco
 
     known_was : (file : ℕ) → IsOfKnown from t k (n + 1) file → IsOfKnown from t k n file
     known_was file o = record { instance = o.instance; number = o.number; below = before o.instance o.number o.below o.known; known = o.known; has = o.has }
+
+-- ---- several instances more, which have no topic
+
+pub skips : (t : ℕ) (name : List ℕ) (size : ℕ) (k : Known) (n more : ℕ) (first : Disk) (from : Directory) (es : Entries SegmentLog) (mid : Disk) (left : Directory) (next : ℕ)
+    → ((i : ℕ) → n ≤ i → i < n + more → topic_at i k.topics ≡ None) → OpensBelow t name size k n first from es mid left next → OpensBelow t name size k (n + more) first from es mid left next
+skips t name size k n zero first from es mid left next none so_far =
+    subst (λ (m : ℕ). OpensBelow t name size k m first from es mid left next) (let is : n ≡ n + zero = omega arith in is) so_far
+skips t name size k n (suc more) first from es mid left next none so_far =
+    let before = skips t name size k n more first from es mid left next (λ i above below. none i above (omega (arith, below))) so_far in
+    let still : Clears no_file mid mid = record { honest = λ h. h; lengths = λ file not. refl; contents = λ h file not. refl } in
+    subst (λ (m : ℕ). OpensBelow t name size k m first from es mid left next) (let is : n + more + 1 ≡ n + suc more = omega arith in is)
+    (no_topic t name size k (n + more) first from es mid left next mid before (none (n + more) (omega arith) (omega arith)) still)
+
+-- up to an instance
+pub skipped : (t : ℕ) (name : List ℕ) (size : ℕ) (k : Known) (n m : ℕ) (first : Disk) (from : Directory) (es : Entries SegmentLog) (mid : Disk) (left : Directory) (next : ℕ)
+    → n ≤ m → ((i : ℕ) → n ≤ i → i < m → topic_at i k.topics ≡ None) → OpensBelow t name size k n first from es mid left next → OpensBelow t name size k m first from es mid left next
+skipped t name size k n m first from es mid left next le none so_far =
+    let is : n + (m - n) ≡ m = omega (arith, le) in
+    subst (λ (j : ℕ). OpensBelow t name size k j first from es mid left next) is
+    (skips t name size k n (m - n) first from es mid left next (λ i above below. none i above (omega (arith, is, below))) so_far)

@@ -1,5 +1,6 @@
 -- The commands of a catalog's log: those of the chain of its files, up to where the log is cut.
-use Rattle.std.proofs.Common.{◌≡◌, ◌∙◌, ◌<◌, ◌+◌, ◌++◌, ◌∷◌, [], ℕ, false, cond, List, max, sym, ap, subst, refl, ⊎_elim, arith, nat_le}
+use Rattle.std.proofs.Common.{◌≡◌, ◌∙◌, ◌<◌, ◌+◌, ◌++◌, ◌∷◌, [], ℕ, Ok, Err, false, cond, List, max, sym, ap, subst, refl, ⊎_elim, arith, nat_le}
+use Rattle.std.specs.Prelude.{IfOk, Result}
 use Rattle.std.proofs.lemmas.Bool.Decides.{nat_tests}
 use Rattle.std.proofs.lemmas.List.{append-nil}
 use Rattle.kb_store.specs.Disk.{Disk, Files, Keeps}
@@ -9,18 +10,21 @@ use Rattle.kb_log.specs.Log.{IsRun, next_of, first_base, starting}
 use Rattle.kb_log.specs.OnShelf.{Log, OnShelf, IsLawfulLog, Agrees, batches_of}
 use Rattle.kb_segment_log.specs.SegmentLog.{segment_log}
 use Rattle.kb_segment_log.specs.SegmentLaws.{run_join, run_ordered, base_is, next_is}
-use Rattle.kb_segment_log.specs.Chain.{Part, first_of, parts_at, StopsAt, EndsIn, GoesThrough, IsChain, Opens}
+use Rattle.kb_segment_log.proofs.Unique.{one_chain}
+use Rattle.kb_segment_log.specs.Chain.{Chain, Part, first_of, parts_at, StopsAt, EndsIn, GoesThrough, IsChain, Opens}
 use Rattle.kb_segment_log.specs.Cut.{EndsThere, IsBetween}
 use Rattle.kb_segment_log.specs.declared.log.SegmentLog.{SegmentLog}
 use Rattle.kb_segment_log.proofs.Steps.{moment}
 use Rattle.kb_topics.specs.declared.catalog.Catalog.{Catalog}
 use Rattle.kb_topics.specs.Catalog.{known, meta_log}
-use Rattle.kb_topics.specs.Known.{Known}
-use Rattle.kb_topics.specs.MetaLog.{IsFold}
+use Rattle.kb_topics.specs.MetaLog.{IsFoldOf, IsReadAs}
+use Rattle.kb_topics.specs.Reading.{Reading, in_use}
+use Rattle.kb_topics.specs.Replay.{IsReady}
+use Rattle.kb_topics.specs.declared.stage.Stage.{Stage}
 use Rattle.kb_replay.specs.Replay as replay
 use Rattle.kb_replay.specs.Replay.{IsReplay}
-use Rattle.kb_opening.specs.Opened.{EndsWith, IsLongestFold}
-use Rattle.kb_opening.specs.Catalog.{IsCatalogFrom, IsCatalogOf}
+use Rattle.kb_opening.specs.Opened.{EndsWith, IsLongest, IsLongestFold}
+use Rattle.kb_opening.specs.Catalog.{AreWhole, IsCatalogFrom, IsCatalogOf, IsWhole}
 
 -- ---- runs
 
@@ -87,13 +91,13 @@ opened_whole files numbers log now o =
 
 -- ---- a catalog
 
-pub ends_with : (bs : List (List ℕ)) (k : Known) → replay.StopsAt bs k → EndsWith bs k
-ends_with [] k e = tt
-ends_with (b ∷ bs) k e = e
+pub ends_with : (bs : List (List ℕ)) (r : Reading) → replay.StopsAt bs r → EndsWith bs r
+ends_with [] r e = tt
+ends_with (b ∷ bs) r e = e
 
 -- the commands that were read end where the log is cut, or at its end
-pub ends_there : (l : Log) (d e : Disk) (n at : ℕ) (k : Known) → e.files ≡ d.files → (r : IsReplay (l.batches d.files) l.end at k) → EndsThere (moment l e n) at r.before
-ends_there l d e n at k same r =
+pub ends_there : (generation : ℕ) (l : Log) (d e : Disk) (n at : ℕ) (k : Reading) → e.files ≡ d.files → (r : IsReplay generation (l.batches d.files) l.end at k) → EndsThere (moment l e n) at r.before
+ends_there generation l d e n at k same r =
     let is : l.batches e.files ≡ l.batches d.files = ap l.batches same in
     record {
       behind = r.behind;
@@ -101,42 +105,55 @@ ends_there l d e n at k same r =
       run = subst (λ (x : List (List ℕ)). IsRun (first_base l.end x) r.before at) (sym is) r.run;
     }
 
--- where the log agreed with its files, it still does, and a batch begins where the commands end
-pub read_there : (l : Log) (k : Known) (d e : Disk) (n to at : ℕ) → to ≡ at → Keeps d e → (e.honest → l.agrees d.files → first_base l.end (l.batches d.files) ≡ l.start → IsReplay (l.batches d.files) l.end to k)
-    → e.honest → l.agrees d.files → first_base l.end (l.batches d.files) ≡ l.start → l.agrees e.files × IsBetween (moment l e n) at
-read_there l k d e n to at is kept read h was whole =
-    let same = kept.files h in
-    let r = subst (λ (x : ℕ). IsReplay (l.batches d.files) l.end x k) is (read h was whole) in
-    (subst (λ (x : Files). l.agrees x) (sym same) was, record { before = r.before; there = ends_there l d e n at k same r })
+-- what was read of a log is the longest of its batches
+pub longest_read : (generation : ℕ) (bs : List (List ℕ)) (end at : ℕ) (r : Reading) → IsReplay generation bs end at r → IsLongest generation bs r
+longest_read generation bs end at r read = record { before = read.before; behind = read.behind; split = read.split; fold = read.read; ends = ends_with read.behind r read.stops }
 
-pub catalog_from : (l : Log) (log : SegmentLog) (c : Catalog SegmentLog) (k : Known) (d e f : Disk) (n to at : ℕ) → to ≡ at → Keeps d e → (e.honest → l.agrees d.files → first_base l.end (l.batches d.files) ≡ l.start → IsReplay (l.batches d.files) l.end to k)
+-- where the log agreed with its files, it still does, and a batch begins where the commands end
+pub read_there : (generation : ℕ) (l : Log) (k : Reading) (d e : Disk) (n to at : ℕ) → to ≡ at → Keeps d e → (e.honest → l.agrees d.files → first_base l.end (l.batches d.files) ≡ l.start → IsReplay generation (l.batches d.files) l.end to k)
+    → e.honest → l.agrees d.files → first_base l.end (l.batches d.files) ≡ l.start → l.agrees e.files × IsBetween (moment l e n) at
+read_there generation l k d e n to at is kept read h was whole =
+    let same = kept.files h in
+    let r = subst (λ (x : ℕ). IsReplay generation (l.batches d.files) l.end x k) is (read h was whole) in
+    (subst (λ (x : Files). l.agrees x) (sym same) was, record { before = r.before; there = ends_there generation l d e n at k same r })
+
+pub catalog_from : (generation : ℕ) (l : Log) (log : SegmentLog) (c : Catalog SegmentLog) (k : Reading) (d e f : Disk) (n to at : ℕ) → to ≡ at → Keeps d e → (e.honest → l.agrees d.files → first_base l.end (l.batches d.files) ≡ l.start → IsReplay generation (l.batches d.files) l.end to k)
     → (f.honest → e.honest) → (f.honest → l.agrees e.files → IsBetween (moment l e n) at → (segment_log log).agrees f.files)
     → (f.honest → l.agrees e.files → (before : List (List ℕ)) → EndsThere (moment l e n) at before → (segment_log log).batches f.files ≡ before)
-    → known c ≡ k → meta_log c ≡ log → f.honest → l.agrees d.files → first_base l.end (l.batches d.files) ≡ l.start → IsCatalogFrom (l.batches d.files) c f.files
-catalog_from l log c k d e f n to at is kept read later agrees cut knows has h was whole =
+    → k ≡ in_use (known c) → meta_log c ≡ log → f.honest → l.agrees d.files → first_base l.end (l.batches d.files) ≡ l.start → IsCatalogFrom generation (l.batches d.files) c f.files
+catalog_from generation l log c k d e f n to at is kept read later agrees cut knows has h was whole =
     let mid = later h in
     let same = kept.files mid in
-    let r = subst (λ (x : ℕ). IsReplay (l.batches d.files) l.end x k) is (read mid was whole) in
+    let r = subst (λ (x : ℕ). IsReplay generation (l.batches d.files) l.end x k) is (read mid was whole) in
     let now = subst (λ (x : Files). l.agrees x) (sym same) was in
-    let there = ends_there l d e n at k same r in
+    let there = ends_there generation l d e n at k same r in
     record {
       agrees = subst (λ (x : SegmentLog). (segment_log x).agrees f.files) (sym has) (agrees h now (record { before = r.before; there = there }));
-      fold = subst (λ (x : SegmentLog). IsFold ((segment_log x).batches f.files) (known c)) (sym has)
-          (subst (λ (x : List (List ℕ)). IsFold x (known c)) (sym (cut h now r.before there)) (subst (λ (x : Known). IsFold r.before x) (sym knows) r.fold));
-      known = record {
-        before = r.before;
-        behind = r.behind;
-        split = r.split;
-        fold = subst (λ (x : Known). IsFold r.before x) (sym knows) r.fold;
-        ends = subst (λ (x : Known). EndsWith r.behind x) (sym knows) (ends_with r.behind k r.stops);
-      };
+      fold = subst (λ (x : SegmentLog). IsFoldOf generation ((segment_log x).batches f.files) (known c)) (sym has)
+          (subst (λ (x : List (List ℕ)). IsFoldOf generation x (known c)) (sym (cut h now r.before there)) (subst (λ (x : Reading). IsReadAs generation r.before x) knows r.read));
+      known = subst (λ (x : Reading). IsLongest generation (l.batches d.files) x) knows (longest_read generation (l.batches d.files) l.end at k r);
     }
 
-pub catalog_of : (files : Files) (numbers : List ℕ) (log : Log) (now : Files) (c : Catalog SegmentLog) (left : Files) → Opens files numbers 0 log now → IsCatalogFrom (log.batches now) c left → IsCatalogOf files numbers c left
-catalog_of files numbers log now c left o from = record {
+pub catalog_of : (files : Files) (numbers : List ℕ) (generation : ℕ) (log : Log) (now : Files) (c : Catalog SegmentLog) (left : Files) → Opens files numbers 0 log now → IsCatalogFrom generation (log.batches now) c left → IsCatalogOf files numbers generation c left
+catalog_of files numbers generation log now c left o from = record {
   agrees = from.agrees;
   fold = from.fold;
   commands = o.bs;
   chain = o.chain;
-  known = subst (λ (x : List (List ℕ)). IsLongestFold x (known c)) (opened_all files numbers log now o) from.known;
+  known = subst (λ (x : List (List ℕ)). IsLongestFold generation x (known c)) (opened_all files numbers log now o) from.known;
 }
+
+-- a reading with no command of a snapshot left
+pub ready_is : (r : Reading) → IsReady r → r ≡ in_use r.known
+ready_is r ready = ap (λ (s : Stage). record { known = r.known; stage = s }) ready
+
+-- the batches of a whole chain are whole
+pub whole_list : (files : Files) (numbers : List ℕ) (generation : ℕ) (list bs : List (List ℕ)) → list ≡ bs → Chain files numbers 0 bs → IsWhole files numbers generation → AreWhole generation list
+whole_list files numbers generation list bs is chain whole =
+    (whole.0, subst (λ (x : List (List ℕ)). IsLongestFold generation x whole.0) (sym (is ∙ one_chain files numbers 0 whole.1.commands bs whole.1.chain chain)) whole.1.known)
+
+-- ---- answers
+
+pub if_ok : {T E : Type 0} {P Q : T → Type 0} (r : Result T E) → ((x : T) → P x → Q x) → IfOk r P → IfOk r Q
+if_ok (Ok x) f p = f x p
+if_ok (Err e) f p = tt

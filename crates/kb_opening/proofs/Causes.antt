@@ -87,3 +87,7 @@ misses_store_handed {T} {U} old new next As As' e (Err f) is weaker m =
       range = λ same. m.range (same_err U T e faults.Range same);
       full = λ same. m.full (same_err U T e faults.Full same);
     }
+
+-- what is said of three facts is said of a pair and the third
+pub misses_joined : {T : Type 0} {P Q : Type 0} {r : Result T LogFault} (old new : Disk) (next : ℕ) → MissesStore {T = T} old (P × Q × (next < 2 ^ 64)) r new → MissesStore {T = T} old ((P × Q) × (next < 2 ^ 64)) r new
+misses_joined old new next m = record { later = m.later; store = λ h such is. m.store h (such.0.0, such.0.1, such.1) is; range = m.range; full = m.full }

@@ -13,9 +13,13 @@ use Rattle.kb_opening.specs.contracts.owner.OwnerOrd.TheImpl.Laws.{matches_eq-la
 
 -- `==` decides whether owners are the same
 decides : (a b : Owner) → Decides ((owner_eq.ghosts).eq a b) (a ≡ b)
-decides (Catalog t) (Catalog u) = Decides-like {P = t ≡ u} _ (λ h. λ k. Catalog (h k)) (λ e. cc) (Decides-eqb t u)
-decides (Catalog t) (Partition u j q) = (λ e. absurd (false≢true e), λ e. cc)
-decides (Partition t i p) (Catalog u) = (λ e. absurd (false≢true e), λ e. cc)
+decides (Catalog t g) (Catalog u h) =
+    Decides-like {P = (t ≡ u) × (g ≡ h)} _
+    (λ e. λ k. Catalog (e.0 k) (e.1 k))
+    (λ e. (cc, cc))
+    (Decides-and _ _ (Decides-eqb t u) (Decides-eqb g h))
+decides (Catalog t g) (Partition u j q) = (λ e. absurd (false≢true e), λ e. cc)
+decides (Partition t i p) (Catalog u h) = (λ e. absurd (false≢true e), λ e. cc)
 decides (Partition t i p) (Partition u j q) =
     Decides-like {P = (t ≡ u) × ((i ≡ j) × (p ≡ q))} _
     (λ h. λ k. Partition (h.0 k) (h.1.0 k) (h.1.1 k))

@@ -1,9 +1,12 @@
 pub mod Accounted
+pub mod Apart
 pub mod Below
 pub mod Catalogs
 pub mod Causes
+pub mod Chosen
 pub mod Counted
 pub mod Entries
+pub mod Generations
 pub mod Identities
 pub mod Instance
 pub mod Kept

@@ -12,8 +12,8 @@ use Rattle.kb_segment_log.specs.SegmentLog.{Clears}
 use Rattle.kb_segment_log.specs.Chain.{Chain, ComesTo, place_at, first_of, parts_at, remaining, LosesNothing}
 use Rattle.kb_segment_log.proofs.Remaining.{all_there, permutation_filter}
 use Rattle.kb_topics.specs.Known.{Known}
-use Rattle.kb_opening.specs.Opened.{IsLongestFold}
-use Rattle.kb_opening.specs.Catalog.{ComesToKnown, LosesNoCommand}
+use Rattle.kb_opening.specs.Opened.{ComesToKnown, IsLongestFold}
+use Rattle.kb_opening.specs.Catalog.{LosesNoCommand}
 use Rattle.kb_opening.proofs.Catalogs.{chain_run, starting_all, max_zero}
 use Rattle.kb_opening.proofs.Moved.{Agree, chain_stays}
 
@@ -73,8 +73,8 @@ module _ (P : Files → List ℕ → Type 0) (stays : (f g : Files) (ns : List �
 pub comes_stays : (start first last : ℕ) (list : List (List ℕ)) (f g : Files) (ns : List ℕ) → Agree ns f g → ComesTo f ns start first last list → ComesTo g ns start first last list
 comes_stays start first last list f g ns same c = record { bs = c.bs; chain = chain_stays f g ns same start c.bs c.chain; starts = c.starts; ends = c.ends; batches = c.batches }
 
-known_stays : (k : Known) (f g : Files) (ns : List ℕ) → Agree ns f g → ComesToKnown f ns k → ComesToKnown g ns k
-known_stays k f g ns same c = record { commands = c.commands; chain = chain_stays f g ns same 0 c.commands c.chain; known = c.known }
+pub known_stays : (generation : ℕ) (k : Known) (f g : Files) (ns : List ℕ) → Agree ns f g → ComesToKnown f ns generation k → ComesToKnown g ns generation k
+known_stays generation k f g ns same c = record { commands = c.commands; chain = chain_stays f g ns same 0 c.commands c.chain; known = c.known }
 
 module _ (owns : ℕ → Type 0) (ns : List ℕ) (start : ℕ) where
   pub log_else : (d e : Disk) → All (λ n. IsThere d n) ns → Clears owns d e → ((n : ℕ) → Contains ns n → owns n → ⊥) → e.honest → LosesNothing ns start d e
@@ -90,11 +90,21 @@ module _ (owns : ℕ → Type 0) (ns : List ℕ) (start : ℕ) where
 pub log_still : (ns : List ℕ) (start : ℕ) (d : Disk) → All (λ n. IsThere d n) ns → LosesNothing ns start d d
 log_still ns start d there = λ first last list c. subst (λ (xs : List ℕ). ComesTo d.files xs start first last list) (sym (all_there d.table ns there)) c
 
-pub known_then : (owns : ℕ → Type 0) (ns : List ℕ) (d e f : Disk) → Clears owns e f → ((n : ℕ) → Contains ns n → owns n → ⊥) → f.honest → LosesNoCommand ns d e → LosesNoCommand ns d f
-known_then owns ns d e f c far h lost = λ k. then_of (λ f xs. ComesToKnown f xs k) (known_stays k) owns ns d e f c far h (lost k)
+pub known_then : (owns : ℕ → Type 0) (ns : List ℕ) (generation : ℕ) (d e f : Disk) → Clears owns e f → ((n : ℕ) → Contains ns n → owns n → ⊥) → f.honest → LosesNoCommand ns generation d e → LosesNoCommand ns generation d f
+known_then owns ns generation d e f c far h lost = λ k. then_of (λ f xs. ComesToKnown f xs generation k) (known_stays generation k) owns ns d e f c far h (lost k)
 
-pub known_still : (ns : List ℕ) (d : Disk) → All (λ n. IsThere d n) ns → LosesNoCommand ns d d
-known_still ns d there = λ k c. subst (λ (xs : List ℕ). ComesToKnown d.files xs k) (sym (all_there d.table ns there)) c
+pub known_from : (owns : ℕ → Type 0) (ns : List ℕ) (generation : ℕ) (d e f : Disk) → Clears owns d e → ((n : ℕ) → Contains ns n → owns n → ⊥) → e.honest → LosesNoCommand ns generation e f → LosesNoCommand ns generation d f
+known_from owns ns generation d e f c far h lost = λ k. from_of (λ f xs. ComesToKnown f xs generation k) (known_stays generation k) owns ns d e f c far h (lost k)
+
+pub known_still : (ns : List ℕ) (generation : ℕ) (d : Disk) → All (λ n. IsThere d n) ns → LosesNoCommand ns generation d d
+known_still ns generation d there = λ k c. subst (λ (xs : List ℕ). ComesToKnown d.files xs generation k) (sym (all_there d.table ns there)) c
+
+-- what files come to that did not change, they came to before
+pub known_back : (owns : ℕ → Type 0) (ns : List ℕ) (generation : ℕ) (k : Known) (d e : Disk) → All (λ n. IsThere d n) ns → Clears owns d e → ((n : ℕ) → Contains ns n → owns n → ⊥) → e.honest
+    → ComesToKnown e.files (remaining e.table ns) generation k → ComesToKnown d.files ns generation k
+known_back owns ns generation k d e there c far h comes =
+    let here : All (λ n. IsThere e n) ns = λ j x l. subst (λ o. IsSome o) (sym (c.lengths _ (far _ (All-contains_itself ns j x l)))) (there j x l) in
+    known_stays generation k e.files d.files ns (λ n has. sym (c.contents h n (far n has))) (subst (λ (xs : List ℕ). ComesToKnown e.files xs generation k) (all_there e.table ns here) comes)
 
 -- ---- in another order
 
@@ -107,8 +117,8 @@ chain_moved files ns ms start bs moved c = record {
   chain = c.chain;
 }
 
-pub known_moved : (files : Files) (ns ms : List ℕ) (k : Known) → IsPermutation ms ns → ComesToKnown files ns k → ComesToKnown files ms k
-known_moved files ns ms k moved c = record { commands = c.commands; chain = chain_moved files ns ms 0 c.commands moved c.chain; known = c.known }
+pub known_moved : (files : Files) (ns ms : List ℕ) (generation : ℕ) (k : Known) → IsPermutation ms ns → ComesToKnown files ns generation k → ComesToKnown files ms generation k
+known_moved files ns ms generation k moved c = record { commands = c.commands; chain = chain_moved files ns ms 0 c.commands moved c.chain; known = c.known }
 
 -- those that are left of a log's files, and those that are left of all
 pub left_moved : (d e : Table) (ns ms : List ℕ) → ((n : ℕ) → IsSome (get e n) → IsSome (get d n)) → IsPermutation (remaining d ns) ms → IsPermutation (remaining e ns) (remaining e ms)
@@ -122,8 +132,8 @@ whole_chain files ns first last list c =
     let at = first_of 0 c.chain.order in
     c.batches ∙ ap (λ n. starting n c.bs) (c.starts ∙ max_zero at) ∙ starting_all at c.bs c.chain.end (chain_run at (parts_at files c.chain.order) c.bs c.chain.end c.chain.count c.chain.chain)
 
-pub known_of : (files : Files) (ns : List ℕ) (first last : ℕ) (list : List (List ℕ)) (k : Known) → ComesTo files ns 0 first last list → IsLongestFold list k → ComesToKnown files ns k
-known_of files ns first last list k c fold = record { commands = c.bs; chain = c.chain; known = subst (λ (x : List (List ℕ)). IsLongestFold x k) (whole_chain files ns first last list c) fold }
+pub known_of : (files : Files) (ns : List ℕ) (first last : ℕ) (list : List (List ℕ)) (generation : ℕ) (k : Known) → ComesTo files ns 0 first last list → IsLongestFold generation list k → ComesToKnown files ns generation k
+known_of files ns first last list generation k c fold = record { commands = c.bs; chain = c.chain; known = subst (λ (x : List (List ℕ)). IsLongestFold generation x k) (whole_chain files ns first last list c) fold }
 
 comes_of : (files : Files) (ns : List ℕ) (commands : List (List ℕ)) (c : Chain files ns 0 commands) → ComesTo files ns 0 (first_of 0 c.order) c.end commands
 comes_of files ns commands c =
@@ -136,5 +146,5 @@ comes_of files ns commands c =
       batches = sym (starting_all at commands c.end (chain_run at (parts_at files c.order) commands c.end c.count c.chain));
     }
 
-pub no_command_lost : (ns : List ℕ) (d e : Disk) → LosesNothing ns 0 d e → LosesNoCommand ns d e
-no_command_lost ns d e lost = λ k c. known_of e.files (remaining e.table ns) _ _ c.commands k (lost _ _ c.commands (comes_of d.files ns c.commands c.chain)) c.known
+pub no_command_lost : (ns : List ℕ) (generation : ℕ) (d e : Disk) → LosesNothing ns 0 d e → LosesNoCommand ns generation d e
+no_command_lost ns generation d e lost = λ k c. known_of e.files (remaining e.table ns) _ _ c.commands generation k (lost _ _ c.commands (comes_of d.files ns c.commands c.chain)) c.known

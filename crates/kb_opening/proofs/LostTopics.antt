@@ -1,9 +1,9 @@
 -- Of the partitions of a tenant nothing is lost.
-use Rattle.std.proofs.Common.{◌≡◌, ◌≢◌, ◌∙◌, ◌⊎◌, ◌<◌, inl, inr, ⊎_elim, ℕ, List, Some, sym, ap, subst, arith, map, length}
+use Rattle.std.proofs.Common.{◌≡◌, ◌≢◌, ◌∙◌, ◌⊎◌, ◌≤◌, ◌<◌, inl, inr, ⊎_elim, ℕ, List, Some, None, sym, ap, subst, arith, map, length}
 use Rattle.std.specs.Prelude.{pos, slice_get, option_map}
 use Rattle.std.specs.List.{All, Contains}
 use Rattle.std.proofs.lemmas.Bool.{cases_eq, cases_lt}
-use Rattle.std.proofs.lemmas.Option.{slice_get_within, slice_get-map}
+use Rattle.std.proofs.lemmas.Option.{none-some, slice_get_within, slice_get-map}
 use Rattle.std.proofs.lemmas.List.Elements.{All-contains, All-contains_itself}
 use Rattle.kb_store.specs.Disk.{Disk, IsThere}
 use Rattle.kb_segment_log.specs.SegmentLog.{Clears}
@@ -13,7 +13,7 @@ use Rattle.kb_topics.specs.Known.{Known, PartitionState, TopicState, topic_at, p
 use Rattle.kb_tenant_state.specs.Partitions.{Entries}
 use Rattle.kb_opening.specs.Directory.{all_files, files_at}
 use Rattle.kb_opening.specs.Partition.{Lists, IsAmong, LoseNothing}
-use Rattle.kb_opening.specs.Tenant.{AreListed, IsOfTenant, PartitionsLoseNothing, recorded_start}
+use Rattle.kb_opening.specs.Tenant.{AreListed, IsOfPartition, PartitionsLoseNothing, recorded_start}
 use Rattle.kb_opening.specs.Topics.{TakesTopic, IsOfKnown, OpensBelow}
 use Rattle.kb_opening.specs.declared.directory.Directory.{Directory}
 use Rattle.kb_opening.specs.declared.owner.Owner.{Owner}
@@ -58,6 +58,13 @@ topic_lost t i n k old new lists starts disk next now topic takes listed at coun
 
 -- ---- topics are opened one after another
 
+-- a partition that is known below an instance is one below an earlier one, where no topic is between
+pub lost_below : {X : Type 0} (m n : ℕ) (k : Known) (i p : ℕ) (part : PartitionState) → i < m → ((j : ℕ) → n ≤ j → j < m → topic_at j k.topics ≡ None) → partition_at k (pos i) (pos p) ≡ Some part → (i < n → X) → X
+lost_below m n k i p part below none there lost = elim (cases_lt i n) [
+  | inl lower ↦ lost lower
+  | inr above ↦ absurd (none-some part (sym (of_topic k i p None (none i (omega (arith, above)) below)) ∙ there))
+]
+
 module _ (t : ℕ) (name : List ℕ) (size : ℕ) (k : Known) (n : ℕ) (first : Disk) (from : Directory) (es : Entries SegmentLog) (mid : Disk) (left : Directory) (next : ℕ) (so_far : OpensBelow t name size k n first from es mid left next)
     (listed : AreListed from first next) (lost : mid.honest → (i p : ℕ) (part : PartitionState) → i < n → partition_at k (pos i) (pos p) ≡ Some part → LosesNothing (files_at (owners.Partition t i p) from) (recorded_start part) first mid) where
   -- those of later instances are still in the directory
@@ -76,10 +83,10 @@ module _ (t : ℕ) (name : List ℕ) (size : ℕ) (k : Known) (n : ℕ) (first :
   ]
 
   -- and with a further step that loses nothing
-  pub lost_then : (now : Disk) → Clears (IsOfTenant left t) mid now → (now.honest → PartitionsLoseNothing t k left mid now) → now.honest → PartitionsLoseNothing t k from first now
+  pub lost_then : (now : Disk) → Clears (IsOfPartition left t) mid now → (now.honest → PartitionsLoseNothing t k left mid now) → now.honest → PartitionsLoseNothing t k from first now
   lost_then now others more h i p part there = elim (cases_lt i n) [
-    | inl below ↦ log_then (IsOfTenant left t) (files_at (owners.Partition t i p) from) (recorded_start part) first mid now others
-        (λ file has o. so_far.gone file (record { instance = i; number = p; below = below; known = some_at (partition_at k (pos i) (pos p)) part there; has = has }) (listed_at o.owner left file o.has))
+    | inl below ↦ log_then (IsOfPartition left t) (files_at (owners.Partition t i p) from) (recorded_start part) first mid now others
+        (λ file has o. so_far.gone file (record { instance = i; number = p; below = below; known = some_at (partition_at k (pos i) (pos p)) part there; has = has }) (listed_at (owners.Partition t o.instance o.number) left file o.has))
         h (lost (others.honest h) i p part below there)
     | inr above ↦
         let same = still_has i p (λ below. omega (arith, below, above)) in

@@ -1,6 +1,6 @@
 -- What the owners of the files say of each log's.
-use Rattle.std.proofs.Common.{◌≡◌, ◌∙◌, ℕ, ◌+◌, ◌<◌, ◌==◌, Bool, true, false, not, cond, List, [], ◌∷◌, ◌++◌, length, take, get_or, Option, Some, None, Ok, Err, ◌⊎◌, inl, inr, refl, sym, ap, subst}
-use Rattle.std.specs.Prelude.{ℤ, pos, negsuc, ◌&&◌, option_map, is_some, is_none, slice_get, if◌then◌else◌}
+use Rattle.std.proofs.Common.{◌≡◌, ◌∙◌, ℕ, ◌+◌, ◌<◌, ◌^◌, ◌==◌, Bool, true, false, not, cond, List, [], ◌∷◌, ◌++◌, length, take, get_or, Option, Some, None, Ok, Err, ◌⊎◌, inl, inr, refl, sym, ap, subst, arith, rules, w64, FitsSigned}
+use Rattle.std.specs.Prelude.{Result, ℤ, pos, negsuc, ◌&&◌, option_map, is_some, is_none, slice_get, if◌then◌else◌}
 use Rattle.std.specs.List.{filter, list_any}
 use Rattle.std.specs.Str.{bytes_eq}
 use Rattle.std.proofs.lemmas.Bool.{and_parts, or_cases, eqb-true, false_from_ne_true, false≢true}
@@ -9,6 +9,11 @@ use Rattle.std.proofs.lemmas.Option.{none-some, cond_some}
 use Rattle.std.proofs.lemmas.List.Elements.{filter_more, filter_agree}
 use Rattle.kb_store.specs.Disk.{Files}
 use Rattle.kb_batch.specs.Batch.{is_natural, natural}
+use Rattle.kb_wire.specs.Codec.{◌>>=◌, int, int64}
+use Rattle.kb_wire.specs.Laws.{int64_lawful}
+use Rattle.kb_wire.specs.declared.fault.WireFault.{WireFault}
+use Rattle.kb_wire.specs.declared.fault.WireFault.TheVariants.{Bad}
+use Rattle.kb_segment.specs.Header.{fields, generation_read}
 use Rattle.kb_segment.specs.Header.{Header, is_legal, is_partition, is_meta, is_tenant, is_not_negative, is_readable, is_sealed, said_size, header_with, header_in, header_of, said_read}
 use Rattle.kb_segment_log.specs.SegmentLog.{bytes_at}
 use Rattle.kb_opening.specs.Owners.{is_of_catalog, is_of_partition, is_of_one, passes, place_of, owner_by, same_owner, is_owner}
@@ -21,8 +26,11 @@ use Rattle.kb_opening.proofs.Named.{Rises, is_place, at_place, has_place}
 
 -- ---- owners that are the same
 
-two_catalogs : (i t : ℕ) → same_owner (Catalog i) (Catalog t) ≡ (i == t)
-two_catalogs i t = same_from_decides _ _ (same_owner-decides (Catalog i) (Catalog t)) (Decides-like {P = i ≡ t} (i == t) (λ e. ap Catalog e) (λ e. cc) (Decides-eqb i t))
+two_catalogs : (i g t h : ℕ) → same_owner (Catalog i g) (Catalog t h) ≡ (i == t && g == h)
+two_catalogs i g t h =
+    same_from_decides _ _ (same_owner-decides (Catalog i g) (Catalog t h))
+    (Decides-like {P = (i ≡ t) × (g ≡ h)} (i == t && g == h) (λ e. λ k. Catalog (e.0 k) (e.1 k)) (λ e. (cc, cc))
+    (Decides-and _ _ (Decides-eqb i t) (Decides-eqb g h)))
 
 two_partitions : (i a b t c d : ℕ) → same_owner (Partition i a b) (Partition t c d) ≡ (i == t && (a == c && b == d))
 two_partitions i a b t c d =
@@ -30,23 +38,23 @@ two_partitions i a b t c d =
     (Decides-like {P = (i ≡ t) × ((a ≡ c) × (b ≡ d))} (i == t && (a == c && b == d)) (λ h. λ k. Partition (h.0 k) (h.1.0 k) (h.1.1 k)) (λ e. (cc, (cc, cc)))
     (Decides-and _ _ (Decides-eqb i t) (Decides-and _ _ (Decides-eqb a c) (Decides-eqb b d))))
 
-no_catalog : (i a b t : ℕ) → same_owner (Partition i a b) (Catalog t) ≡ false
-no_catalog i a b t = false_from_ne_true _ (λ e. partition_apart i a b t ((same_owner-decides (Partition i a b) (Catalog t)).0 e))
+no_catalog : (i a b t g : ℕ) → same_owner (Partition i a b) (Catalog t g) ≡ false
+no_catalog i a b t g = false_from_ne_true _ (λ e. partition_apart i a b t g ((same_owner-decides (Partition i a b) (Catalog t g)).0 e))
   where
-    partition_apart : (i a b t : ℕ) → Partition i a b ≡ Catalog t → ⊥
-    partition_apart i a b t e = absurd (cc)
+    partition_apart : (i a b t g : ℕ) → Partition i a b ≡ Catalog t g → ⊥
+    partition_apart i a b t g e = absurd (cc)
 
-no_partition : (i t c d : ℕ) → same_owner (Catalog i) (Partition t c d) ≡ false
-no_partition i t c d = false_from_ne_true _ (λ e. catalog_apart i t c d ((same_owner-decides (Catalog i) (Partition t c d)).0 e))
+no_partition : (i g t c d : ℕ) → same_owner (Catalog i g) (Partition t c d) ≡ false
+no_partition i g t c d = false_from_ne_true _ (λ e. catalog_apart i g t c d ((same_owner-decides (Catalog i g) (Partition t c d)).0 e))
   where
-    catalog_apart : (i t c d : ℕ) → Catalog i ≡ Partition t c d → ⊥
-    catalog_apart i t c d e = absurd (cc)
+    catalog_apart : (i g t c d : ℕ) → Catalog i g ≡ Partition t c d → ⊥
+    catalog_apart i g t c d e = absurd (cc)
 
 -- ---- by plain tests
 
 -- an owner whose place, kind and numbers were told
-abbrev pub told : Bool → Bool → ℕ → ℕ → Option ℕ → Option Owner
-told g k x y p = if g then option_map (λ i. if k then Partition i x y else Catalog i) p else None
+abbrev pub told : Bool → ℕ → ℕ → ℕ → Option ℕ → Option Owner
+told k x y z p = option_map (λ i. if k then Partition i x y else Catalog i z) p
 
 no_test : (a : Bool) → false ≡ (a && false)
 no_test true = refl
@@ -62,28 +70,29 @@ four_tests true false v = refl
 four_tests true true false = refl
 four_tests true true true = refl
 
-catalog_test : (g k m b : Bool) (x y t : ℕ) (p : Option ℕ) → is_place t p ≡ b → (k ≡ true → m ≡ false) → (k ≡ false → m ≡ true) → is_owner (Catalog t) (told g k x y p) ≡ ((b && m) && g)
-catalog_test false k m b x y t p at other this = no_test (b && m)
-catalog_test true k m b x y t None at other this = ap (λ c. (c && m) && true) at
-catalog_test true true m b x y t (Some i) at other this = no_catalog i x y t ∙ no_test b ∙ ap (λ c. b && c) (sym (other refl)) ∙ and_true (b && m)
-catalog_test true false m b x y t (Some i) at other this = two_catalogs i t ∙ at ∙ and_true b ∙ ap (λ c. b && c) (sym (this refl)) ∙ and_true (b && m)
+catalog_test : (k m n b : Bool) (x y z t g : ℕ) (p : Option ℕ) → is_place t p ≡ b → (k ≡ true → m ≡ false) → (k ≡ false → m ≡ true) → (k ≡ false → (z == g) ≡ n)
+    → is_owner (Catalog t g) (told k x y z p) ≡ ((b && m) && n)
+catalog_test k m n b x y z t g None at other this generation = ap (λ c. (c && m) && n) at
+catalog_test true m n b x y z t g (Some i) at other this generation =
+    no_catalog i x y t g ∙ ap (λ c. c && n) (no_test b) ∙ ap (λ c. (b && c) && n) (sym (other refl))
+catalog_test false m n b x y z t g (Some i) at other this generation =
+    two_catalogs i z t g ∙ ap (λ q. q && z == g) at ∙ ap (λ q. b && q) (generation refl) ∙ ap (λ q. q && n) (and_true b) ∙ ap (λ c. (b && c) && n) (sym (this refl))
 
-partition_test : (g k u v b : Bool) (x y t c d : ℕ) (p : Option ℕ) → is_place t p ≡ b → (k ≡ true → (x == c) ≡ u) → (k ≡ true → (y == d) ≡ v)
-    → is_owner (Partition t c d) (told g k x y p) ≡ ((((b && k) && u) && v) && g)
-partition_test false k u v b x y t c d p at instance number = no_test (((b && k) && u) && v)
-partition_test true k u v b x y t c d None at instance number = ap (λ q. (((q && k) && u) && v) && true) at
-partition_test true false u v b x y t c d (Some i) at instance number = no_partition i t c d ∙ ap (λ q. ((q && u) && v) && true) (no_test b)
-partition_test true true u v b x y t c d (Some i) at instance number =
+partition_test : (k g u v b : Bool) (x y z t c d : ℕ) (p : Option ℕ) → is_place t p ≡ b → (k ≡ true → (x == c) ≡ u) → (k ≡ true → (y == d) ≡ v) → (k ≡ true → g ≡ true)
+    → is_owner (Partition t c d) (told k x y z p) ≡ ((((b && k) && u) && v) && g)
+partition_test k g u v b x y z t c d None at instance number none = ap (λ q. (((q && k) && u) && v) && g) at
+partition_test false g u v b x y z t c d (Some i) at instance number none = no_partition i z t c d ∙ ap (λ q. ((q && u) && v) && g) (no_test b)
+partition_test true g u v b x y z t c d (Some i) at instance number none =
     two_partitions i x y t c d
     ∙ ap (λ q. q && (x == c && y == d)) at
     ∙ ap (λ q. b && (q && y == d)) (instance refl)
     ∙ ap (λ q. b && (u && q)) (number refl)
     ∙ four_tests b u v
+    ∙ ap (λ q. (((b && true) && u) && v) && q) (sym (none refl))
 
-stray_test : (g k l : Bool) (x y : ℕ) (p : Option ℕ) → is_some p ≡ l → is_none (told g k x y p) ≡ not (l && g)
-stray_test false k l x y p at = ap not (no_test l)
-stray_test true k l x y None at = ap (λ q. not (q && true)) at
-stray_test true k l x y (Some i) at = ap (λ q. not (q && true)) at
+stray_test : (k l : Bool) (x y z : ℕ) (p : Option ℕ) → is_some p ≡ l → is_none (told k x y z p) ≡ not l
+stray_test k l x y z None at = ap not at
+stray_test k l x y z (Some i) at = ap not at
 
 -- ---- what a legal header says
 
@@ -116,6 +125,18 @@ numbers_told h legal zero_kind = elim (one_of_both h legal) [
   | inr e ↦ absurd (false≢true (sym (kinds_differ h.kind zero_kind) ∙ first_of_four (is_natural 1 h.kind) _ _ _ e))
 ]
 
+pub generation_told : (h : Header) → is_legal h ≡ true → is_natural 0 h.kind ≡ false → is_not_negative h.generation ≡ true
+generation_told h legal other = elim (one_of_both h legal) [
+  | inl e ↦ absurd (false≢true (sym other ∙ first_of_four (is_natural 0 h.kind) _ _ _ e))
+  | inr e ↦ (and_parts ((is_natural 1 h.kind && is_natural 0 h.instance) && is_natural 0 h.partition) _ e).1
+]
+
+no_generation : (h : Header) → is_legal h ≡ true → is_natural 0 h.kind ≡ true → is_natural 0 h.generation ≡ true
+no_generation h legal zero_kind = elim (one_of_both h legal) [
+  | inl e ↦ (and_parts ((is_natural 0 h.kind && is_not_negative h.instance) && is_not_negative h.partition) _ e).1
+  | inr e ↦ absurd (false≢true (sym (kinds_differ h.kind zero_kind) ∙ first_of_four (is_natural 1 h.kind) _ _ _ e))
+]
+
 -- ---- a readable header is legal
 
 abbrev pub AreLegal : Option Header → Type 0
@@ -133,28 +154,66 @@ legal_in s h =
       | Err fault ↦ λ e. absurd (none-some h e)
     ]
 
+-- ---- and its generation is a number of 64 bits
+
+first_of : Result (ℤ × List ℕ) WireFault → ℕ
+first_of (Ok p) = natural p.0
+first_of (Err fault) = 0
+
+fits_in : (z : ℤ) → int64.InRange z → FitsSigned w64 z
+unfolding int
+fits_in z fits = fits
+
+small_read : (version : ℤ) (s : List ℕ) (z : ℤ) (rest : List ℕ) → generation_read version s ≡ Ok (z, rest) → natural z < 2 ^ 63
+unfolding first_of
+small_read version s z rest = elim (is_natural 1 version) as (λ b. cond b (Ok (pos 0, s)) (cond (is_natural 2 version) (int64.read s) (Err Bad)) ≡ Ok (z, rest) → natural z < 2 ^ 63) [
+  | true ↦ λ e. let zero : natural z ≡ 0 = ap first_of (sym e) in omega (arith, zero)
+  | false ↦ elim (is_natural 2 version) as (λ b. cond b (int64.read s) (Err Bad) ≡ Ok (z, rest) → natural z < 2 ^ 63) [
+    | true ↦ λ e. let f = int64_lawful.found s z rest e in small_natural z (fits_in z (int64_lawful.in_range f.0 z f.2))
+    | false ↦ λ e. absurd cc
+  ]
+]
+  where
+    small_natural : (z : ℤ) → FitsSigned w64 z → natural z < 2 ^ 63
+    small_natural z fits = search (rules, arith)
+
+pub small_in : (s : List ℕ) (h : Header) → header_in s ≡ Some h → natural h.generation < 2 ^ 63
+unfolding header_in said_read
+small_in s h =
+    let front = take 106 s in
+    elim (fields.read front) as (λ r. header_of front (r >>= λ f. generation_read f.0.version f.1 >>= λ g. Ok ((f.0, g.0), g.1)) ≡ Some h → natural h.generation < 2 ^ 63) [
+      | Ok f ↦ elim (generation_read f.0.version f.1) as (λ r. generation_read f.0.version f.1 ≡ r → header_of front (r >>= λ g. Ok ((f.0, g.0), g.1)) ≡ Some h → natural h.generation < 2 ^ 63) [
+        | Ok g ↦ λ is e.
+            let said = cond_some (is_readable f.0 g.0 front) (header_with f.0 g.0) h e in
+            subst (λ (k : Header). natural k.generation < 2 ^ 63) said.1 (small_read f.0.version f.1 g.0 g.1 is)
+        | Err fault ↦ λ is e. absurd (none-some h e)
+      ] refl
+      | Err fault ↦ λ e. absurd (none-some h e)
+    ]
+
 -- ---- by a header that was read
 
-catalog_by : (names : List (List ℕ)) (t : ℕ) (name : List ℕ) → Rises names → slice_get names t ≡ Some name → (found : Option Header) → AreLegal found
-    → is_owner (Catalog t) (owner_by names found) ≡ passes (is_of_catalog name) found
-catalog_by names t name rises at None legal = refl
-catalog_by names t name rises at (Some h) legal =
-    catalog_test (is_natural 0 h.generation) (is_natural 0 h.kind) (is_natural 1 h.kind) (bytes_eq h.tenant name) (natural h.instance) (natural h.partition) t (place_of h.tenant names)
-    (at_place names t name h.tenant rises at) (kinds_differ h.kind) (other_kind h (legal h refl))
+catalog_by : (names : List (List ℕ)) (t g : ℕ) (name : List ℕ) → Rises names → slice_get names t ≡ Some name → (found : Option Header) → AreLegal found
+    → is_owner (Catalog t g) (owner_by names found) ≡ passes (is_of_catalog name g) found
+catalog_by names t g name rises at None legal = refl
+catalog_by names t g name rises at (Some h) legal =
+    catalog_test (is_natural 0 h.kind) (is_natural 1 h.kind) (is_natural g h.generation) (bytes_eq h.tenant name) (natural h.instance) (natural h.partition) (natural h.generation) t g (place_of h.tenant names)
+    (at_place names t name h.tenant rises at) (kinds_differ h.kind) (other_kind h (legal h refl)) (λ k. natural_test h.generation g (generation_told h (legal h refl) k))
 
 partition_by : (names : List (List ℕ)) (t i p : ℕ) (name : List ℕ) → Rises names → slice_get names t ≡ Some name → (found : Option Header) → AreLegal found
     → is_owner (Partition t i p) (owner_by names found) ≡ passes (is_of_partition name i p) found
 partition_by names t i p name rises at None legal = refl
 partition_by names t i p name rises at (Some h) legal =
-    partition_test (is_natural 0 h.generation) (is_natural 0 h.kind) (is_natural i h.instance) (is_natural p h.partition) (bytes_eq h.tenant name) (natural h.instance) (natural h.partition) t i p (place_of h.tenant names)
+    partition_test (is_natural 0 h.kind) (is_natural 0 h.generation) (is_natural i h.instance) (is_natural p h.partition) (bytes_eq h.tenant name) (natural h.instance) (natural h.partition) (natural h.generation) t i p (place_of h.tenant names)
     (at_place names t name h.tenant rises at)
     (λ k. natural_test h.instance i (numbers_told h (legal h refl) k).0)
     (λ k. natural_test h.partition p (numbers_told h (legal h refl) k).1)
+    (no_generation h (legal h refl))
 
 stray_by : (names : List (List ℕ)) (found : Option Header) → is_none (owner_by names found) ≡ not (passes (is_of_one names) found)
 stray_by names None = refl
 stray_by names (Some h) =
-    stray_test (is_natural 0 h.generation) (is_natural 0 h.kind) (list_any (bytes_eq h.tenant) names) (natural h.instance) (natural h.partition) (place_of h.tenant names) (has_place names h.tenant)
+    stray_test (is_natural 0 h.kind) (list_any (bytes_eq h.tenant) names) (natural h.instance) (natural h.partition) (natural h.generation) (place_of h.tenant names) (has_place names h.tenant)
 
 -- ---- the files
 
@@ -183,7 +242,7 @@ owned_more files names xs i x old new o lt is had same adds = record {
 
 pub directory_of : (files : Files) (names : List (List ℕ)) (numbers : List ℕ) (d : Directory) → Rises names → AreOwned files names numbers d → IsDirectory files names numbers d
 directory_of files names numbers d rises had = record {
-  catalogs = λ t name at. had.of_each (Catalog t) ∙ filter_agree _ _ (λ n. catalog_by names t name rises at (header_in (bytes_at files n)) (legal_in (bytes_at files n))) numbers;
+  catalogs = λ t g name at. had.of_each (Catalog t g) ∙ filter_agree _ _ (λ n. catalog_by names t g name rises at (header_in (bytes_at files n)) (legal_in (bytes_at files n))) numbers;
   partitions = λ t i p name at. had.of_each (Partition t i p) ∙ filter_agree _ _ (λ n. partition_by names t i p name rises at (header_in (bytes_at files n)) (legal_in (bytes_at files n))) numbers;
   strays = had.strays ∙ filter_agree _ _ (λ n. stray_by names (header_in (bytes_at files n))) numbers;
 }

@@ -1,12 +1,12 @@
 -- The files of a tenant come to one world.
-use Rattle.std.proofs.Common.{◌≡◌, ◌∙◌, ◌≤◌, ◌<◌, ◌+◌, ◌++◌, ℕ, zero, suc, true, false, List, [], ◌∷◌, Option, Some, None, refl, sym, ap, subst, arith, max, get_or}
+use Rattle.std.proofs.Common.{◌≡◌, ◌∙◌, ◌≤◌, ◌<◌, ◌+◌, ◌++◌, inl, inr, ℕ, zero, suc, true, false, List, [], ◌∷◌, Option, Some, None, refl, sym, ap, subst, arith, max, get_or}
 use Rattle.std.specs.Prelude.{pos, IsSome, IsSorted, IsPermutation}
 use Rattle.std.specs.Option.{option_and_then}
 use Rattle.std.specs.List.{All}
 use Rattle.std.specs.Ordering.{nat_cmp, is_lt, ordering_then, MatchOrdering}
 use Rattle.std.specs.declared.cmp.Ordering.{Ordering}
 use Rattle.std.specs.declared.cmp.Ordering.TheVariants.{Less, Equal, Greater}
-use Rattle.std.proofs.lemmas.Bool.{false≢true}
+use Rattle.std.proofs.lemmas.Bool.{cases_lt, false≢true}
 use Rattle.std.proofs.lemmas.Cmp.{ranked}
 use Rattle.std.proofs.lemmas.Option.{none-some, same_Some}
 use Rattle.std.proofs.lemmas.List.Elements.{All-cons, All-head, All-nil}
@@ -17,16 +17,17 @@ use Rattle.kb_log.specs.Log.{IsRun, starting}
 use Rattle.kb_segment_log.specs.Chain.{place_cmp, Chain, first_of, parts_at}
 use Rattle.kb_segment_log.proofs.Unique.{one_chain}
 use Rattle.kb_topics.specs.declared.command.Command.{Command}
-use Rattle.kb_topics.specs.Known.{Known, PartitionState, partition_at, empty, step, folded}
+use Rattle.kb_topics.specs.Known.{Known, PartitionState, partition_at}
 use Rattle.kb_topics.specs.MetaLog.{Says, SayEach}
+use Rattle.kb_topics.specs.Reading.{Reading, in_use, read_all, read_step, starting_at}
 use Rattle.kb_tenant_state.specs.Logs.{LogState, Logs}
 use Rattle.kb_replay.proofs.Reading.{one_command}
-use Rattle.kb_opening.specs.Opened.{IsLogOf, EndsWith, IsLongestFold, Owners, IsOpened, IsOnly}
+use Rattle.kb_opening.specs.Opened.{IsLogOf, EndsWith, IsLongest, IsLongestFold, ComesToKnown, Owners, IsInUse, IsOpened, IsOnly}
 use Rattle.kb_opening.proofs.Catalogs.{chain_run}
 
 -- ---- one first file
 
-no_shorter : {A : Type 0} (x : A) (xs : List A) → IsPermutation [] (x ∷ xs) → ⊥
+pub no_shorter : {A : Type 0} (x : A) (xs : List A) → IsPermutation [] (x ∷ xs) → ⊥
 no_shorter x xs p = omega (arith, length_permutation [] (x ∷ xs) p)
 
 -- what does not come before by its base, or else by its number, does not begin below
@@ -94,25 +95,25 @@ module _ (files : Files) (numbers : List ℕ) (start : ℕ) where
 -- ---- one catalog
 
 -- the first of some commands that are applicable is
-stepped : (j k : Known) (c : Command) (cs : List Command) → folded j (c ∷ cs) ≡ Some k → (n : Known) × (step j c ≡ Some n) × (folded n cs ≡ Some k)
-stepped j k c cs e = by (step j c) refl
+stepped : (j k : Reading) (c : Command) (cs : List Command) → read_all j (c ∷ cs) ≡ Some k → (n : Reading) × (read_step j c ≡ Some n) × (read_all n cs ≡ Some k)
+stepped j k c cs e = by (read_step j c) refl
   where
-    by : (o : Option Known) → step j c ≡ o → (n : Known) × (step j c ≡ Some n) × (folded n cs ≡ Some k)
-    by None is = absurd (none-some k (sym (ap (option_and_then (λ (m : Known). folded m cs)) is) ∙ e))
-    by (Some n) is = (n, is, sym (ap (option_and_then (λ (m : Known). folded m cs)) is) ∙ e)
+    by : (o : Option Reading) → read_step j c ≡ o → (n : Reading) × (read_step j c ≡ Some n) × (read_all n cs ≡ Some k)
+    by None is = absurd (none-some k (sym (ap (option_and_then (λ (m : Reading). read_all m cs)) is) ∙ e))
+    by (Some n) is = (n, is, sym (ap (option_and_then (λ (m : Reading). read_all m cs)) is) ∙ e)
 
 -- commands do not end in front of one that is applicable
-not_ended : (j k n : Known) (s : List ℕ) (ss xs : List (List ℕ)) (c : Command) (cs : List Command) → Says s c → folded k (c ∷ cs) ≡ Some n → xs ≡ s ∷ ss → EndsWith xs j → j ≡ k → ⊥
+not_ended : (j k n : Reading) (s : List ℕ) (ss xs : List (List ℕ)) (c : Command) (cs : List Command) → Says s c → read_all k (c ∷ cs) ≡ Some n → xs ≡ s ∷ ss → EndsWith xs j → j ≡ k → ⊥
 not_ended j k n s ss xs c cs says fold is ends same =
     let made = stepped k n c cs fold in
-    let none : step j c ≡ None = subst (λ (ys : List (List ℕ)). EndsWith ys j) is ends c says in
-    none-some made.0 (sym none ∙ ap (λ m. step m c) same ∙ made.1)
+    let none : read_step j c ≡ None = subst (λ (ys : List (List ℕ)). EndsWith ys j) is ends c says in
+    none-some made.0 (sym none ∙ ap (λ m. read_step m c) same ∙ made.1)
 
 head_is : (s t : List ℕ) (ss ts : List (List ℕ)) → s ∷ ss ≡ t ∷ ts → (s ≡ t) × (ss ≡ ts)
 head_is s t ss ts e = (cc, cc)
 
--- two folds of the same batches that go as far as they can
-same_fold : (j k n : Known) (us ws xs ys : List (List ℕ)) (cs ds : List Command) → SayEach us cs → SayEach ws ds → folded j cs ≡ Some k → folded j ds ≡ Some n → us ++ xs ≡ ws ++ ys → EndsWith xs k → EndsWith ys n → n ≡ k
+-- two readings of the same batches that go as far as they can
+same_fold : (j k n : Reading) (us ws xs ys : List (List ℕ)) (cs ds : List Command) → SayEach us cs → SayEach ws ds → read_all j cs ≡ Some k → read_all j ds ≡ Some n → us ++ xs ≡ ws ++ ys → EndsWith xs k → EndsWith ys n → n ≡ k
 same_fold j k n [] [] xs ys [] [] p q f g e r s = same_Some n k (sym g ∙ f)
 same_fold j k n [] [] xs ys [] (d ∷ ds) p q f g e r s = absurd q
 same_fold j k n [] [] xs ys (c ∷ cs) ds p q f g e r s = absurd p
@@ -128,11 +129,31 @@ same_fold j k n (u ∷ us) (w ∷ ws) xs ys (c ∷ cs) (d ∷ ds) p q f g e r s 
     let one : d ≡ c = one_command w d c q.0 (subst (λ (t : List ℕ). Says t c) heads.0 p.0) in
     let made = stepped j k c cs f in
     let also = stepped j n d ds g in
-    let same : also.0 ≡ made.0 = same_Some also.0 made.0 (sym also.1 ∙ ap (step j) one ∙ made.1) in
-    same_fold made.0 k n us ws xs ys cs ds p.1 q.1 made.2 (subst (λ (m : Known). folded m ds ≡ Some n) same also.2) heads.1 r s
+    let same : also.0 ≡ made.0 = same_Some also.0 made.0 (sym also.1 ∙ ap (read_step j) one ∙ made.1) in
+    same_fold made.0 k n us ws xs ys cs ds p.1 q.1 made.2 (subst (λ (m : Reading). read_all m ds ≡ Some n) same also.2) heads.1 r s
 
-pub one_known : (bs : List (List ℕ)) (k n : Known) → IsLongestFold bs k → IsLongestFold bs n → n ≡ k
-one_known bs k n l m = same_fold empty k n l.before m.before l.behind m.behind l.fold.commands m.fold.commands l.fold.said m.fold.said l.fold.folded m.fold.folded (sym l.split ∙ m.split) l.ends m.ends
+-- what batches are read as is one
+pub one_reading : (generation : ℕ) (bs : List (List ℕ)) (r s : Reading) → IsLongest generation bs r → IsLongest generation bs s → s ≡ r
+one_reading generation bs r s l m =
+    same_fold (starting_at generation) r s l.before m.before l.behind m.behind l.fold.commands m.fold.commands l.fold.said m.fold.said l.fold.read m.fold.read (sym l.split ∙ m.split) l.ends m.ends
+
+pub one_known : (generation : ℕ) (bs : List (List ℕ)) (k n : Known) → IsLongestFold generation bs k → IsLongestFold generation bs n → n ≡ k
+one_known generation bs k n l m = ap (λ (r : Reading). r.known) (one_reading generation bs (in_use k) (in_use n) l m)
+
+-- so is what files come to
+pub one_whole : (files : Files) (numbers : List ℕ) (generation : ℕ) (k n : Known) → ComesToKnown files numbers generation k → ComesToKnown files numbers generation n → n ≡ k
+one_whole files numbers generation k n c d =
+    one_known generation c.commands k n c.known (subst (λ (bs : List (List ℕ)). IsLongestFold generation bs n) (one_chain files numbers 0 c.commands d.commands c.chain d.chain) d.known)
+
+-- and one generation is in use
+pub one_generation : (files : Files) (owners : Owners) (g h : ℕ) (k n : Known) → IsInUse files owners g k → IsInUse files owners h n → h ≡ g
+one_generation files owners g h k n u v = elim (cases_lt g h) [
+  | inl below ↦ absurd (u.greatest h below v.small n v.whole)
+  | inr above ↦ elim (cases_lt h g) [
+    | inl more ↦ absurd (v.greatest g more u.small k u.whole)
+    | inr no_more ↦ omega (arith, above, no_more)
+  ]
+]
 
 -- ---- one world
 
@@ -145,10 +166,11 @@ only_opened files owners k logs o n others q = record {
   topics = known;
   each = λ i p some.
       let part = some_part (partition_at k (pos i) (pos p)) some in
-      let l = o.each i p part.0 part.1 in
-      let m = q.each i p part.0 (ap (λ (m : Known). partition_at m (pos i) (pos p)) known ∙ part.1) in
+      let l = o.has.each i p part.0 part.1 in
+      let m = q.has.each i p part.0 (ap (λ (m : Known). partition_at m (pos i) (pos p)) known ∙ part.1) in
       m.1 ∙ ap Some (one_log files (owners.partition i p) (natural part.0.start) l.0 m.0 l.2 m.2) ∙ sym l.1;
 }
   where
     known : n ≡ k
-    known = one_known o.commands k n o.known (subst (λ (bs : List (List ℕ)). IsLongestFold bs n) (one_chain files owners.catalog 0 o.commands q.commands o.chain q.chain) q.known)
+    known = one_whole files (owners.catalog o.generation) o.generation k n o.in_use.whole
+        (subst (λ (g : ℕ). ComesToKnown files (owners.catalog g) g n) (one_generation files owners o.generation q.generation k n o.in_use q.in_use) q.in_use.whole)

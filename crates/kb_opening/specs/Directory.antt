@@ -1,5 +1,5 @@
 -- What a directory says of the files of a store.
-use Rattle.std.specs.Prelude.{◌≡◌, ◌≢◌, ℕ, Bool, List, [], ◌∷◌, ◌++◌, map, Option, Some, None, is_none, IsPermutation, slice_get}
+use Rattle.std.specs.Prelude.{◌≡◌, ◌≢◌, ◌≤◌, ◌<◌, ℕ, Bool, List, [], ◌∷◌, ◌++◌, map, Option, Some, None, is_none, IsPermutation, slice_get}
 use Rattle.std.specs.Prelude.{if◌then◌else◌}
 use Rattle.std.specs.BTreeMap as tree
 use Rattle.std.specs.List.{concat}
@@ -36,11 +36,16 @@ pub record IsEmpty (d : Directory) : Type 0 where
 
 -- Each named tenant's files stand at its place, of each log as in the list of all numbers; the strays are those of no log.
 pub record IsDirectory (files : Files) (names : List (List ℕ)) (numbers : List ℕ) (d : Directory) : Type 0 where
-  pub catalogs : (tenant : ℕ) (name : List ℕ) → slice_get names tenant ≡ Some name
-      → files_at (Catalog tenant) d ≡ catalog_of files name numbers
+  pub catalogs : (tenant generation : ℕ) (name : List ℕ) → slice_get names tenant ≡ Some name
+      → files_at (Catalog tenant generation) d ≡ catalog_of files name generation numbers
   pub partitions : (tenant instance number : ℕ) (name : List ℕ) → slice_get names tenant ≡ Some name
       → files_at (Partition tenant instance number) d ≡ partition_of files name instance number numbers
   pub strays : d.strays.items ≡ strays_of files names numbers
+
+-- Of a tenant's catalog there is no file of a generation above one, up to another.
+abbrev pub NoneBetween : Directory → ℕ → ℕ → ℕ → Type 0
+NoneBetween d tenant generation most =
+    (above : ℕ) → generation < above → above ≤ most → files_at (Catalog tenant above) d ≡ []
 
 -- ---- changes
 

@@ -18,9 +18,9 @@ use Rattle.kb_opening.specs.contracts.owner.OwnerOrd.TheImpl as owner_ord
 
 -- ---- what a header says
 
--- the file is of that tenant's catalog
-abbrev pub is_of_catalog : List ℕ → Header → Bool
-is_of_catalog tenant h = bytes_eq h.tenant tenant && is_natural 1 h.kind && is_natural 0 h.generation
+-- the file is of that generation of the tenant's catalog
+abbrev pub is_of_catalog : List ℕ → ℕ → Header → Bool
+is_of_catalog tenant generation h = bytes_eq h.tenant tenant && is_natural 1 h.kind && is_natural generation h.generation
 
 -- it is of that tenant's partition of that number, of the topic of that instance
 abbrev pub is_of_partition : List ℕ → ℕ → ℕ → Header → Bool
@@ -28,9 +28,9 @@ is_of_partition tenant instance number h =
     bytes_eq h.tenant tenant && is_natural 0 h.kind && is_natural instance h.instance && is_natural number h.partition
     && is_natural 0 h.generation
 
--- it is of a log of one of these tenants
+-- it is of one of these tenants
 abbrev pub is_of_one : List (List ℕ) → Header → Bool
-is_of_one tenants h = list_any (bytes_eq h.tenant) tenants && is_natural 0 h.generation
+is_of_one tenants h = list_any (bytes_eq h.tenant) tenants
 
 -- ---- the files
 
@@ -42,15 +42,15 @@ passes test (Some h) = test h
 abbrev pub says : Files → (Header → Bool) → ℕ → Bool
 says files test n = passes test (header_in (bytes_at files n))
 
--- of the files of some numbers, those of a tenant's catalog
-abbrev pub catalog_of : Files → List ℕ → List ℕ → List ℕ
-catalog_of files tenant numbers = filter (says files (is_of_catalog tenant)) numbers
+-- of the files of some numbers, those of a generation of a tenant's catalog
+abbrev pub catalog_of : Files → List ℕ → ℕ → List ℕ → List ℕ
+catalog_of files tenant generation numbers = filter (says files (is_of_catalog tenant generation)) numbers
 
 -- those of a partition
 abbrev pub partition_of : Files → List ℕ → ℕ → ℕ → List ℕ → List ℕ
 partition_of files tenant instance number numbers = filter (says files (is_of_partition tenant instance number)) numbers
 
--- those that are of no log of these tenants
+-- those that are of none of these tenants
 abbrev pub strays_of : Files → List (List ℕ) → List ℕ → List ℕ
 strays_of files tenants numbers = filter (λ n. not (says files (is_of_one tenants) n)) numbers
 
@@ -63,10 +63,11 @@ place_of name (n ∷ names) = if bytes_eq name n then Some 0 else option_map (λ
 
 -- the log that a header of a tenant at that place names
 abbrev pub owner_at : Header → ℕ → Owner
-owner_at h tenant = if is_natural 0 h.kind then Partition tenant (natural h.instance) (natural h.partition) else Catalog tenant
+owner_at h tenant =
+    if is_natural 0 h.kind then Partition tenant (natural h.instance) (natural h.partition) else Catalog tenant (natural h.generation)
 
 abbrev pub owner_of : List (List ℕ) → Header → Option Owner
-owner_of names h = if is_natural 0 h.generation then option_map (owner_at h) (place_of h.tenant names) else None
+owner_of names h = option_map (owner_at h) (place_of h.tenant names)
 
 -- the same, where there may be no readable header
 abbrev pub owner_by : List (List ℕ) → Option Header → Option Owner

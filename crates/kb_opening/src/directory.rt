@@ -1,12 +1,12 @@
 //! The files of a store, by whose they are.
-ghost use Rattle.std.specs.Prelude.{◌≡◌, ◌⊎◌, ◌↔◌, ℕ, List, nat_eq, map, Some, IfOk, OnOk, IsPermutation, IsSorted};
+ghost use Rattle.std.specs.Prelude.{◌≡◌, ◌≤◌, ◌⊎◌, ◌↔◌, ℕ, List, [], nat_eq, map, Some, None, IfOk, IfSome, OnOk, IsPermutation, IsSorted};
 ghost use Rattle.std.specs.List.{All, Contains, IsDistinct};
 ghost use Rattle.std.specs.List.Sorted.{IsStrictlySortedBy};
 ghost use Rattle.std.specs.Ordering.{nat_cmp};
 ghost use Rattle.std.specs.Cmp.Lexicographic.{slice_cmp};
 ghost use Rattle.kb_store.specs.Disk.{IsThere, Keeps};
 ghost use Rattle.kb_opening.specs.Owners.{HasFault, owner_by};
-ghost use Rattle.kb_opening.specs.Directory.{all_files, IsDirectory, IsEmpty, Adds, Takes};
+ghost use Rattle.kb_opening.specs.Directory.{all_files, files_at, IsDirectory, IsEmpty, Adds, NoneBetween, Takes};
 ghost use Rattle.kb_opening.specs.declared.owner.Owner.{Owner};
 ghost use Rattle.kb_opening.specs.declared.owner.Owner.TheVariants as owners;
 ghost use Rattle.kb_opening.specs.declared.directory.Directory.{Directory};
@@ -18,7 +18,7 @@ use kb_store::Store;
 use std::alloc::{AllocError, Global};
 use std::collections::BTreeMap;
 
-/// Whose the files of a store are: of a tenant's catalog, of a partition, or nobody's. Each file stands once.
+/// Whose the files of a store are: of a generation of a tenant's catalog, of a partition, or nobody's. Each file stands once.
 ///
 /// Tenants go by their places among the names. The files of a log are had in logarithmic time.
 #[derive(Drop)]
@@ -26,7 +26,7 @@ pub struct Directory {
     pub(crate) alloc: Global,
     /// The files of each log that has any, in the order in which they were read.
     pub(crate) owned: BTreeMap<Owner, Vec<u64>>,
-    /// The files that are nobody's: a header is unreadable, names a tenant that is not named, or is of another generation.
+    /// The files that are nobody's: a header is unreadable, or names a tenant that is not named.
     pub(crate) strays: Vec<u64>,
 }
 
@@ -68,11 +68,42 @@ impl Directory {
         Ok(directory)
     }
 
-    /// Takes the files of a tenant's catalog out. No memory is taken.
-    pub fn take_catalog(&mut self, tenant: usize) -> Vec<u64>
-        ensures { Takes (owners.Catalog tenant) self.old result.items self.new }
+    /// The greatest generation of a tenant's catalog that has files, of those up to one.
+    pub(crate) fn latest_catalog(&self, tenant: usize, most: u64) -> Option<u64>
+        ensures none { result ≡ None → (g : ℕ) → g ≤ most → files_at (owners.Catalog tenant g) self.now ≡ [] }
+        ensures up_to { IfSome result (λ generation. generation ≤ most) }
+        ensures greatest { IfSome result (λ generation. NoneBetween self.now tenant generation most) }
     {
-        self.take(Owner::Catalog { tenant })
+        let first = Owner::Catalog {
+            tenant,
+            generation: 0,
+        };
+        let last = Owner::Catalog {
+            tenant,
+            generation: most,
+        };
+        let mut catalogs = self.owned.range(first..=last);
+        match catalogs.next_back() {
+            Some((Owner::Catalog { generation, .. }, _)) => Some(*generation),
+            _ => None,
+        }
+    }
+
+    /// The files of a generation of a tenant's catalog.
+    pub(crate) fn catalog(&self, tenant: usize, generation: u64) -> &[u64]
+        ensures { result.now ≡ files_at (owners.Catalog tenant generation) self.now }
+    {
+        match self.owned.get(&Owner::Catalog { tenant, generation }) {
+            Some(numbers) => numbers,
+            None => &[],
+        }
+    }
+
+    /// Takes the files of a generation of a tenant's catalog out. No memory is taken.
+    pub fn take_catalog(&mut self, tenant: usize, generation: u64) -> Vec<u64>
+        ensures { Takes (owners.Catalog tenant generation) self.old result.items self.new }
+    {
+        self.take(Owner::Catalog { tenant, generation })
     }
 
     /// Takes the files of a partition out: none where it has none. No memory is taken.

@@ -8,13 +8,16 @@ ghost use Rattle.kb_opening.specs.Owners.{owner_by, owner_of, owner_at, place_of
 
 use kb_segment::SegmentHeader;
 
-/// The log that a file is of: a tenant's catalog, or one of its partitions. Tenants go by their places among the names.
+/// The log that a file is of: a generation of a tenant's catalog, or one of its partitions. Tenants go by their places among the
+/// names.
 #[derive(Clone, Copy, PartialEq, Eq, PartialOrd, Ord)]
 pub(crate) enum Owner {
-    /// The tenant's catalog.
+    /// A generation of the tenant's catalog.
     Catalog {
         /// The tenant's place among the names.
         tenant: usize,
+        /// The generation.
+        generation: u64,
     },
     /// A partition of a topic.
     Partition {
@@ -35,14 +38,11 @@ pub(crate) fn owner_by(names: &[&str], header: Option<SegmentHeader>) -> Option<
     owner_of(names, &header?)
 }
 
-/// Whose a file with this header is: nobody's where its tenant is not named, or it is of a later generation.
+/// Whose a file with this header is: nobody's where its tenant is not named.
 fn owner_of(names: &[&str], header: &SegmentHeader) -> Option<Owner>
     requires { IsStrictlySortedBy (slice_cmp nat_cmp) (map (λ name. name.now) names.now) }
     ensures { result ≡ owner_of (map (λ name. name.now) names.now) header.now }
 {
-    if header.generation() != 0 {
-        return None;
-    }
     let tenant = place_of(names, header.tenant())?;
     Some(owner_at(header, tenant))
 }
@@ -52,7 +52,10 @@ fn owner_at(header: &SegmentHeader, tenant: usize) -> Owner
     ensures { result ≡ owner_at header.now tenant }
 {
     if header.kind() != 0 {
-        return Owner::Catalog { tenant };
+        return Owner::Catalog {
+            tenant,
+            generation: natural(header.generation()),
+        };
     }
     Owner::Partition {
         tenant,

@@ -20,7 +20,7 @@ use Rattle.kb_opening.specs.Tenant.{AreListed, IsOfTenant}
 use Rattle.kb_opening.specs.declared.directory.Directory.{Directory}
 use Rattle.kb_opening.proofs.Settled.{not_there}
 use Rattle.kb_restart.specs.Restart.{AreRestored}
-use Rattle.kb_restart.proofs.Owners.{listed_at}
+use Rattle.kb_opening.proofs.Apart.{listed_at}
 
 -- ---- one tenant more
 

@@ -1,5 +1,5 @@
 -- What tenants have whose files are accounted for is what their files come to.
-use Rattle.std.proofs.Common.{◌≡◌, ◌∙◌, ◌<◌, ◌⊎◌, inl, inr, ⊎_elim, ℕ, Bool, true, false, not, cond, List, [], ◌∷◌, Option, Some, None, refl, sym, ap, subst, eqb-true, arith}
+use Rattle.std.proofs.Common.{◌≡◌, ◌∙◌, ◌<◌, ◌^◌, ◌⊎◌, inl, inr, ⊎_elim, ℕ, zero, suc, Bool, true, false, not, cond, List, [], ◌∷◌, Option, Some, None, refl, sym, ap, subst, eqb-true, arith}
 use Rattle.std.specs.Prelude.{ℤ, pos, ◌&&◌, IfOk, Result, Ok, Err, slice_get, map, max, nat_eq, IsSome, option_map, length, string_bytes}
 use Rattle.std.specs.FinMap.{get, keys, contains_key-keys}
 use Rattle.std.specs.Bool.{Decides}
@@ -12,7 +12,7 @@ use Rattle.std.specs.declared.alloc.Global.{Global}
 use Rattle.std.specs.declared.vec.Vec.{Vec}
 use Rattle.std.specs.List.{AllByRecursion, Contains, IsDistinct, filter, list_any}
 use Rattle.std.specs.Str.{bytes_eq}
-use Rattle.std.proofs.lemmas.Bool.{and_parts, eq-eqb, false≢true}
+use Rattle.std.proofs.lemmas.Bool.{and_parts, cases_lt, eq-eqb, false≢true}
 use Rattle.std.proofs.lemmas.List.Elements.{All-contains}
 use Rattle.std.proofs.lemmas.Map.Keys.{IsDistinct-cons, IsDistinct-head, IsDistinct-tail}
 use Rattle.std.proofs.lemmas.List.{append-nil}
@@ -23,17 +23,14 @@ use Rattle.kb_store.specs.Disk.{Disk, Files, IsLawfulDisk, IsThere, Table}
 use Rattle.kb_batch.specs.Batch.{is_natural, natural}
 use Rattle.kb_segment.specs.Header.{Header, header_in}
 use Rattle.kb_segment.specs.declared.segment.Segment.{Segment}
-use Rattle.kb_log.specs.Log.{starting}
 use Rattle.kb_log.specs.OnShelf.{Identity}
 use Rattle.kb_segment_log.specs.SegmentLog.{bytes_at, segment_log, whose, IsFileOf, IsHeaded, IsKept, IsNamed}
-use Rattle.kb_segment_log.specs.Chain.{ComesTo, first_of}
-use Rattle.kb_segment_log.specs.Chain as chained
+use Rattle.kb_segment_log.specs.Chain.{ComesTo}
 use Rattle.kb_segment_log.specs.Reopened.{AreFilesOf}
 use Rattle.kb_segment_log.specs.declared.log.SegmentLog.{SegmentLog}
 use Rattle.kb_segment_log.proofs.Reopens.{reopens}
 use Rattle.kb_topics.specs.Catalog.{known, meta_log, catalog_identity}
 use Rattle.kb_topics.specs.Known.{Known, PartitionState, TopicState, partition_at, topic_at}
-use Rattle.kb_topics.specs.MetaLog.{IsFold}
 use Rattle.kb_tenant_state.specs.Partitions.{log_state, logs_of, partition_identity}
 use Rattle.kb_tenant_state.specs.Partitions as partitions
 use Rattle.kb_tenant_state.specs.declared.partition.Partition.{Partition}
@@ -43,16 +40,20 @@ use Rattle.kb_tenant_state.specs.Tied.{counted, partition_count}
 use Rattle.kb_tenant_state.specs.declared.parts.Parts.{Parts}
 use Rattle.kb_tenant_api.specs.Hosted.{TenantState, kept_of, names_of}
 use Rattle.kb_tenants.specs.Tenants.{AreKeptIn, IsOfSome}
-use Rattle.kb_opening.specs.Opened.{IsLogOf, IsOpened}
-use Rattle.kb_opening.proofs.Catalogs.{chain_run, starting_all}
+use Rattle.kb_opening.specs.Opened.{Owners, ComesToKnown, IsInUse, IsLogOf, IsLongestFold, IsOpened, NoneAbove}
+use Rattle.kb_opening.specs.Tenant.{generation_of}
+use Rattle.kb_opening.proofs.Generations.{nothing_whole}
+use Rattle.kb_opening.proofs.Lost.{known_of}
 use Rattle.kb_opening.proofs.Counted.{logs_counted}
 use Rattle.kb_opening.proofs.Named.{Rises, at_place, is_place}
+use Rattle.kb_opening.proofs.Owned.{generation_told, small_in}
 use Rattle.kb_opening.specs.Owners.{place_of, catalog_of, partition_of, strays_of, is_of_catalog, is_of_partition, is_of_one, passes, says}
 use Rattle.kb_restart.specs.Again.{AreApart, AreFound, AreStillStrays}
-use Rattle.kb_restart.specs.Restart.{IsUnknown, owners_of}
+use Rattle.kb_restart.specs.Restart.{IsOfLater, IsUnknown, owners_of}
 use Rattle.kb_restart.proofs.Headed.{not_both, number_is}
 use Rattle.kb_restart.proofs.Listed.{all_listed, listed_apart}
 use Rattle.kb_restart.proofs.Reopened.{item_within}
+use Rattle.kb_restart.proofs.Strays.{legal_in, own_number}
 use Rattle.kb_restart.proofs.Read.{both_true, catalog_one, in_filter, of_filter, partition_one, passes_weaker}
 
 -- ---- answers
@@ -86,9 +87,6 @@ distinct_filter p (x ∷ xs) d = by (p x) (distinct_filter p xs (IsDistinct-tail
     by : (b : Bool) → IsDistinct nat_eq (filter p xs) → IsDistinct nat_eq (cond b (x ∷ filter p xs) (filter p xs))
     by true r = IsDistinct-cons nat_eq x (filter p xs) (apart xs (IsDistinct-head nat_eq x xs d)) r
     by false r = r
-
-max_zero : (a : ℕ) → max a 0 ≡ a
-max_zero a = omega arith
 
 -- ---- a partition that is known is there
 
@@ -166,13 +164,13 @@ is_number n z e = ap (is_natural n) e ∙ eq-eqb n n refl
 one_number : (n m : ℕ) (z : ℤ) → z ≡ pos m → is_natural n z ≡ true → m ≡ n
 one_number n m z e is = ap natural (sym e ∙ number_is n z is)
 
-says_catalog : (files : Files) (name : List ℕ) (size file : ℕ) → IsNamed (catalog_identity name size) files file → says files (is_of_catalog name) file ≡ true
-says_catalog files name size file n =
+says_catalog : (files : Files) (name : List ℕ) (g size file : ℕ) → IsNamed (catalog_identity name (pos g) size) files file → says files (is_of_catalog name g) file ≡ true
+says_catalog files name g size file n =
     let h = n.header in
-    ap (passes (is_of_catalog name)) n.read
-    ∙ both_true (bytes_eq h.tenant name && is_natural 1 h.kind) (is_natural 0 h.generation)
+    ap (passes (is_of_catalog name g)) n.read
+    ∙ both_true (bytes_eq h.tenant name && is_natural 1 h.kind) (is_natural g h.generation)
     (both_true (bytes_eq h.tenant name) (is_natural 1 h.kind) (same_bytes h.tenant name n.names.tenant) (is_number 1 h.kind n.names.kind))
-    (is_number 0 h.generation n.names.generation)
+    (is_number g h.generation n.names.generation)
 
 says_partition : (files : Files) (name : List ℕ) (i p size file : ℕ) → IsNamed (partition_identity name i p size) files file → says files (is_of_partition name i p) file ≡ true
 says_partition files name i p size file n =
@@ -187,9 +185,10 @@ says_partition files name i p size file n =
     (is_number 0 h.generation n.names.generation)
 
 -- what a header of a catalog says, and of a partition
-record IsCatalogs (name : List ℕ) (h : Header) : Type 0 where
+record IsCatalogs (name : List ℕ) (g : ℕ) (h : Header) : Type 0 where
   tenant : h.tenant ≡ name
   kind : is_natural 1 h.kind ≡ true
+  generation : is_natural g h.generation ≡ true
 
 record IsPartitions (name : List ℕ) (i p : ℕ) (h : Header) : Type 0 where
   tenant : h.tenant ≡ name
@@ -197,11 +196,11 @@ record IsPartitions (name : List ℕ) (i p : ℕ) (h : Header) : Type 0 where
   instance : is_natural i h.instance ≡ true
   partition : is_natural p h.partition ≡ true
 
-catalogs : (name : List ℕ) (h : Header) → is_of_catalog name h ≡ true → IsCatalogs name h
-catalogs name h is =
-    let last = and_parts (bytes_eq h.tenant name && is_natural 1 h.kind) (is_natural 0 h.generation) is in
+catalogs : (name : List ℕ) (g : ℕ) (h : Header) → is_of_catalog name g h ≡ true → IsCatalogs name g h
+catalogs name g h is =
+    let last = and_parts (bytes_eq h.tenant name && is_natural 1 h.kind) (is_natural g h.generation) is in
     let first = and_parts (bytes_eq h.tenant name) (is_natural 1 h.kind) last.0 in
-    record { tenant = (bytes_eq-Decides h.tenant name).0 first.0; kind = first.1 }
+    record { tenant = (bytes_eq-Decides h.tenant name).0 first.0; kind = first.1; generation = last.1 }
 
 partitions_are : (name : List ℕ) (i p : ℕ) (h : Header) → is_of_partition name i p h ≡ true → IsPartitions name i p h
 partitions_are name i p h is =
@@ -248,6 +247,14 @@ owns_or_not l file none = ⊎_elim
     (λ (free : IsFileOf l.segments.items file → ⊥). inr (λ own. ⊎_elim (λ (is : IsFileOf l.segments.items file). free is) (λ (spare : l.spare ≡ Some file). none-some file (sym none ∙ spare)) own))
     (in_segments l.segments.items file)
 
+-- ---- the generation in use
+
+-- a generation below one is in use, and comes to that
+record UseBelow (files : Files) (of : Owners) (k : Known) (g : ℕ) : Type 0 where
+  generation : ℕ
+  in_use : IsInUse files of generation k
+  below : generation < g
+
 -- ---- the tenants
 
 module _ (d : Disk) (lawful : IsLawfulDisk d) (honest : d.honest) (strays : List ℕ) (ts : List TenantState) (k : AreKeptIn segment_log d strays ts)
@@ -283,8 +290,26 @@ module _ (d : Disk) (lawful : IsLawfulDisk d) (honest : d.honest) (strays : List
     agrees : Agrees segment_log p d.files
     agrees = k.agree t p at
 
-    meta_named : (file : ℕ) → (meta segment_log p).owns file → IsNamed (catalog_identity name p.segment_bytes) d.files file
-    meta_named file own = subst (λ who. IsNamed who d.files file) sound.catalog_named (owned_named (meta_log p.catalog) d k.next (k.settled.meta_exact t p at) file own agrees.catalog)
+    abbrev generation : ℕ
+    generation = generation_of p
+
+    meta_named : (file : ℕ) → (meta segment_log p).owns file → IsNamed (catalog_identity name (pos generation) p.segment_bytes) d.files file
+    meta_named file own =
+        let z = (meta segment_log p).identity.generation in
+        let n : IsNamed (catalog_identity name z p.segment_bytes) d.files file = subst (λ who. IsNamed who d.files file) sound.catalog_named (owned_named (meta_log p.catalog) d k.next (k.settled.meta_exact t p at) file own agrees.catalog) in
+        let h = n.header in
+        let told = generation_told h (legal_in (bytes_at d.files file) h n.read) (ap (is_natural 0) n.names.kind) in
+        record {
+          header = h;
+          read = n.read;
+          names = record {
+            tenant = n.names.tenant;
+            kind = n.names.kind;
+            instance = n.names.instance;
+            partition = n.names.partition;
+            generation = number_is (natural h.generation) h.generation (own_number h.generation told) ∙ ap (λ v. pos (natural v)) n.names.generation;
+          };
+        }
 
     log_named : (i n : ℕ) (x : Partition SegmentLog) → partitions.partition_at i n (entries p) ≡ Some x → (file : ℕ) → (segment_log x.log).owns file → IsNamed (partition_identity name i n p.segment_bytes) d.files file
     log_named i n x there file own = subst (λ who. IsNamed who d.files file) (sound.logs_named i n x there) (owned_named x.log d k.next (k.settled.exact t p at i n x there).0 file own (agrees.logs.each i n x there))
@@ -297,25 +322,46 @@ module _ (d : Disk) (lawful : IsLawfulDisk d) (honest : d.honest) (strays : List
       (owns_or_not l file none)
 
   module _ (t : ℕ) (p : Parts SegmentLog) (at : slice_get k.parts t ≡ Some p) where
+    -- a generation below one is in use and comes to what the tenant knows
+    abbrev Below : ℕ → Type 0
+    Below g = UseBelow d.files (owners_of d.files numbers (name t p at)) (known p.catalog) g
+
     -- ---- the catalog's
 
-    catalog_listed : (file : ℕ) → (meta segment_log p).owns file → Contains (catalog_of d.files (name t p at) numbers) file
+    catalog_listed : (file : ℕ) → (meta segment_log p).owns file → Contains (catalog_of d.files (name t p at) (generation t p at) numbers) file
     catalog_listed file own =
-        in_filter (says d.files (is_of_catalog (name t p at))) numbers file
+        in_filter (says d.files (is_of_catalog (name t p at) (generation t p at))) numbers file
         (in_keys d.table file (owned_there (meta_log p.catalog) d k.next (k.settled.meta_exact t p at) file own (sound t p at).catalog))
-        (says_catalog d.files (name t p at) p.segment_bytes file (meta_named t p at file own))
+        (says_catalog d.files (name t p at) (generation t p at) p.segment_bytes file (meta_named t p at file own))
 
-    module _ (file : ℕ) (has : Contains (catalog_of d.files (name t p at) numbers) file) where
-      catalog_said : says d.files (is_of_catalog (name t p at)) file ≡ true
-      catalog_said = (of_filter (says d.files (is_of_catalog (name t p at))) numbers file has).1
+    -- a file of a generation of the catalog
+    module _ (g : ℕ) (file : ℕ) (has : Contains (catalog_of d.files (name t p at) g numbers) file) where
+      catalog_said : says d.files (is_of_catalog (name t p at) g) file ≡ true
+      catalog_said = (of_filter (says d.files (is_of_catalog (name t p at) g)) numbers file has).1
 
-      says_of : (h : Header) → header_in (bytes_at d.files file) ≡ Some h → IsCatalogs (name t p at) h
-      says_of h read = catalogs (name t p at) h (said d.files (is_of_catalog (name t p at)) file h read catalog_said)
+      says_of : (h : Header) → header_in (bytes_at d.files file) ≡ Some h → IsCatalogs (name t p at) g h
+      says_of h read = catalogs (name t p at) g h (said d.files (is_of_catalog (name t p at) g) file h read catalog_said)
 
-      catalog_no_stray : Contains strays file → ⊥
-      catalog_no_stray stray = ⊎_elim
-          (λ (s : Contains (strays_of d.files names numbers) file). not_stray d.files names numbers (is_of_catalog (name t p at)) (catalog_one names t (name t p at) (name_at t p at)) file catalog_said s)
-          (λ (u : IsUnknown d.files numbers names ts file). no_partition u)
+      -- is of no other log than that of this generation
+      owned_by : IsOfSome segment_log k.parts file → (meta segment_log p).owns file × (generation t p at ≡ g)
+      owned_by some = ⊎_elim
+          (λ (own : (meta segment_log some.parts).owns file).
+          let n = meta_named some.tenant some.parts some.at file own in
+          let same : some.parts ≡ p = one_tenant t some.tenant p some.parts at some.at (sym n.names.tenant ∙ (says_of n.header n.read).tenant) in
+          (subst (λ q. (meta segment_log q).owns file) same own, ap (λ (q : Parts SegmentLog). generation_of q) (sym same) ∙ one_number g (generation_of some.parts) n.header.generation n.names.generation (says_of n.header n.read).generation))
+          (λ (own : partitions.Owned segment_log (entries some.parts) file).
+          let n = log_named some.tenant some.parts some.at own.instance own.number own.partition own.at file own.own in
+          absurd (not_both n.header.kind (is_number 0 n.header.kind n.names.kind) (says_of n.header n.read).kind))
+          some.owns
+
+      -- where it is left alone, the generation in use comes to what the tenant knows, and this one is above it
+      later_of : Contains strays file → Below g
+      later_of stray = ⊎_elim
+          (λ (s : Contains (strays_of d.files names numbers) file). absurd (not_stray d.files names numbers (is_of_catalog (name t p at) g) (catalog_one names t g (name t p at) (name_at t p at)) file catalog_said s))
+          (λ more. ⊎_elim
+          (λ (u : IsUnknown d.files numbers names ts file). absurd (no_partition u))
+          (λ (l : IsOfLater d.files numbers names ts file). by_later l)
+          more)
           (left file stray)
         where
           no_partition : IsUnknown d.files numbers names ts file → ⊥
@@ -325,31 +371,129 @@ module _ (d : Disk) (lawful : IsLawfulDisk d) (honest : d.honest) (strays : List
               other = (of_filter (says d.files (is_of_partition u.name u.instance u.partition)) numbers file u.has).1
 
               by : (found : Option Header) → header_in (bytes_at d.files file) ≡ found → ⊥
-              by None e = false≢true (sym (ap (passes (is_of_catalog (name t p at))) e) ∙ catalog_said)
+              by None e = false≢true (sym (ap (passes (is_of_catalog (name t p at) g)) e) ∙ catalog_said)
               by (Some h) e = not_both h.kind (partitions_are u.name u.instance u.partition h (said d.files (is_of_partition u.name u.instance u.partition) file h e other)).kind (says_of h e).kind
 
-      catalog_owned : (meta segment_log p).owns file
-      catalog_owned = of_log (meta_log p.catalog) file (k.settled.meta_exact t p at).none (of_filter (says d.files (is_of_catalog (name t p at))) numbers file has).0 catalog_no_stray by
+          by_later : IsOfLater d.files numbers names ts file → Below g
+          by_later l = by (header_in (bytes_at d.files file)) refl
+            where
+              other : says d.files (is_of_catalog l.name l.later) file ≡ true
+              other = (of_filter (says d.files (is_of_catalog l.name l.later)) numbers file l.has).1
+
+              by : (found : Option Header) → header_in (bytes_at d.files file) ≡ found → Below g
+              by None e = absurd (false≢true (sym (ap (passes (is_of_catalog (name t p at) g)) e) ∙ catalog_said))
+              by (Some h) e =
+                  let a = says_of h e in
+                  let b = catalogs l.name l.later h (said d.files (is_of_catalog l.name l.later) file h e other) in
+                  let one : l.name ≡ name t p at = sym b.tenant ∙ a.tenant in
+                  let place : t ≡ l.tenant = apart t l.tenant (name t p at) (name_at t p at) (l.named ∙ ap Some one) in
+                  let knows : (kept_of ts l.tenant).world.known ≡ known p.catalog = ap (λ v. (kept_of ts v).world.known) (sym place) ∙ k.known_is t p at in
+                  let is : l.later ≡ g = one_number g l.later h.generation (number_is l.later h.generation b.generation) a.generation in
+                  record {
+                    generation = l.generation;
+                    in_use = subst (λ w. IsInUse d.files (owners_of d.files numbers (name t p at)) l.generation w) knows
+                        (subst (λ n. IsInUse d.files (owners_of d.files numbers n) l.generation (kept_of ts l.tenant).world.known) one l.in_use);
+                    below = subst (λ n. l.generation < n) is l.above;
+                  }
+
+      -- it is the log's own, or left alone
+      own_or_left : ((meta segment_log p).owns file × (generation t p at ≡ g)) ⊎ Below g
+      own_or_left = ⊎_elim
+          (λ (own : (meta segment_log p).owns file). inl (own, (by_own own)))
+          (λ (not : (meta segment_log p).owns file → ⊥).
+          let listed = (of_filter (says d.files (is_of_catalog (name t p at) g)) numbers file has).0 in
+          inr (later_of (k.settled.accounts file (of_keys d file listed) (λ some. not (owned_by some).0))))
+          (owns_or_not (meta_log p.catalog) file (k.settled.meta_exact t p at).none)
         where
-          by : IsOfSome segment_log k.parts file → (meta segment_log p).owns file
-          by some = ⊎_elim
-              (λ (own : (meta segment_log some.parts).owns file).
-              let n = meta_named some.tenant some.parts some.at file own in
-              let same : some.parts ≡ p = one_tenant t some.tenant p some.parts at some.at (sym n.names.tenant ∙ (says_of n.header n.read).tenant) in
-              subst (λ q. (meta segment_log q).owns file) same own)
-              (λ (own : partitions.Owned segment_log (entries some.parts) file).
-              let n = log_named some.tenant some.parts some.at own.instance own.number own.partition own.at file own.own in
-              absurd (not_both n.header.kind (is_number 0 n.header.kind n.names.kind) (says_of n.header n.read).kind))
-              some.owns
+          by_own : (meta segment_log p).owns file → generation t p at ≡ g
+          by_own own =
+              let n = meta_named t p at file own in
+              one_number g (generation t p at) n.header.generation n.names.generation (says_of n.header n.read).generation
 
-    catalog_files : AreFilesOf (meta segment_log p) (catalog_of d.files (name t p at) numbers)
-    catalog_files = record {
-      apart = distinct_filter (says d.files (is_of_catalog (name t p at))) numbers (listed_apart d numbers refl);
-      these = λ file. (catalog_listed file, catalog_owned file);
-    }
+    -- no generation above that of the catalog is whole
+    greatest : NoneAbove d.files (owners_of d.files numbers (name t p at)) (generation t p at)
+    greatest g above small j whole = by (catalog_of d.files (name t p at) g numbers) refl
+      where
+        by : (xs : List ℕ) → catalog_of d.files (name t p at) g numbers ≡ xs → ⊥
+        by [] e = nothing_whole d.files g j (omega (arith, above)) (subst (λ ns. ComesToKnown d.files ns g j) e whole)
+        by (file ∷ xs) e =
+            let has : Contains (catalog_of d.files (name t p at) g numbers) file = subst (λ ns. Contains ns file) (sym e) (0, omega arith, refl) in
+            ⊎_elim
+            (λ (own : (meta segment_log p).owns file × (generation t p at ≡ g)). let is = own.1 in absurd (omega (arith, is, above)))
+            (λ (later : Below g). later.in_use.greatest g later.below small j whole)
+            (own_or_left g file has)
 
-    catalog_comes : ComesTo d.files (catalog_of d.files (name t p at) numbers) 0 (meta segment_log p).start (meta segment_log p).end ((meta segment_log p).batches d.files)
-    catalog_comes = reopens (meta_log p.catalog) d k.next 0 (catalog_of d.files (name t p at) numbers) lawful honest catalog_files (sound t p at).catalog (agrees t p at).catalog (k.settled.meta_exact t p at) (agrees t p at).meta_started
+    -- each file of the catalog's generation is its own, or another generation is in use
+    all_own : (xs : List ℕ) → ((file : ℕ) → Contains xs file → Contains (catalog_of d.files (name t p at) (generation t p at) numbers) file)
+        → ((file : ℕ) → Contains xs file → (meta segment_log p).owns file) ⊎ Below (generation t p at)
+    all_own [] among = inl (λ file has. let lt = has.1 in absurd (omega (arith, lt)))
+    all_own (x ∷ xs) among = ⊎_elim
+        (λ (own : (meta segment_log p).owns x × (generation t p at ≡ generation t p at)). ⊎_elim
+        (λ (rest : (file : ℕ) → Contains xs file → (meta segment_log p).owns file). inl (λ file has. each own.0 rest file has))
+        (λ (later : Below (generation t p at)). inr later)
+        (all_own xs (λ file has. among file (behind file has))))
+        (λ (later : Below (generation t p at)). inr later)
+        (own_or_left (generation t p at) x (among x (0, omega arith, refl)))
+      where
+        behind : (file : ℕ) → Contains xs file → Contains (x ∷ xs) file
+        behind file (k, l, e) = (suc k, omega (arith, l), e)
+
+        each : (meta segment_log p).owns x → ((file : ℕ) → Contains xs file → (meta segment_log p).owns file) → (file : ℕ) → Contains (x ∷ xs) file → (meta segment_log p).owns file
+        each own rest file (zero, l, e) = subst (λ n. (meta segment_log p).owns n) e own
+        each own rest file (suc k, l, e) = rest file (k, omega (arith, l), e)
+
+    module _ (catalog_owned : (file : ℕ) → Contains (catalog_of d.files (name t p at) (generation t p at) numbers) file → (meta segment_log p).owns file) where
+      catalog_files : AreFilesOf (meta segment_log p) (catalog_of d.files (name t p at) (generation t p at) numbers)
+      catalog_files = record {
+        apart = distinct_filter (says d.files (is_of_catalog (name t p at) (generation t p at))) numbers (listed_apart d numbers refl);
+        these = λ file. (catalog_listed file, catalog_owned file);
+      }
+
+      catalog_comes : ComesTo d.files (catalog_of d.files (name t p at) (generation t p at) numbers) 0 (meta segment_log p).start (meta segment_log p).end ((meta segment_log p).batches d.files)
+      catalog_comes = reopens (meta_log p.catalog) d k.next 0 (catalog_of d.files (name t p at) (generation t p at) numbers) lawful honest catalog_files (sound t p at).catalog (agrees t p at).catalog (k.settled.meta_exact t p at) (agrees t p at).meta_started
+
+      -- all batches of the catalog's chain are its commands
+      whole_list : IsLongestFold (generation t p at) ((meta segment_log p).batches d.files) (known p.catalog)
+      whole_list = record {
+        before = (meta segment_log p).batches d.files;
+        behind = [];
+        split = sym (append-nil ((meta segment_log p).batches d.files));
+        fold = (agrees t p at).fold;
+        ends = tt;
+      }
+
+      own_whole : ComesToKnown d.files (catalog_of d.files (name t p at) (generation t p at) numbers) (generation t p at) (known p.catalog)
+      own_whole = known_of d.files (catalog_of d.files (name t p at) (generation t p at) numbers) (meta segment_log p).start (meta segment_log p).end ((meta segment_log p).batches d.files) (generation t p at) (known p.catalog) catalog_comes whole_list
+
+      own_small : generation t p at < 2 ^ 63
+      own_small = by (catalog_of d.files (name t p at) (generation t p at) numbers) refl
+        where
+          by : (xs : List ℕ) → catalog_of d.files (name t p at) (generation t p at) numbers ≡ xs → generation t p at < 2 ^ 63
+          by [] e = elim (cases_lt 0 (generation t p at)) [
+            | inl above ↦ absurd (nothing_whole d.files (generation t p at) (known p.catalog) above (subst (λ ns. ComesToKnown d.files ns (generation t p at) (known p.catalog)) e own_whole))
+            | inr none ↦ omega (arith, none)
+          ]
+          by (file ∷ xs) e = header_small (header_in (bytes_at d.files file)) refl
+            where
+              has : Contains (catalog_of d.files (name t p at) (generation t p at) numbers) file
+              has = subst (λ ns. Contains ns file) (sym e) (0, omega arith, refl)
+
+              header_small : (found : Option Header) → header_in (bytes_at d.files file) ≡ found → generation t p at < 2 ^ 63
+              header_small None e = absurd (false≢true (sym (ap (passes (is_of_catalog (name t p at) (generation t p at))) e) ∙ catalog_said (generation t p at) file has))
+              header_small (Some h) e =
+                  let is : natural h.generation ≡ generation t p at = ap natural (number_is (generation t p at) h.generation (says_of (generation t p at) file has h e).generation) in
+                  let small = small_in (bytes_at d.files file) h e in
+                  omega (arith, is, small)
+
+      own_use : IsInUse d.files (owners_of d.files numbers (name t p at)) (generation t p at) (known p.catalog)
+      own_use = record { small = own_small; whole = own_whole; greatest = greatest }
+
+    -- a generation comes to what the tenant knows
+    use_found : (h : ℕ) × IsInUse d.files (owners_of d.files numbers (name t p at)) h (known p.catalog)
+    use_found = ⊎_elim
+        (λ own. (generation t p at, own_use own))
+        (λ (later : Below (generation t p at)). (later.generation, later.in_use))
+        (all_own (catalog_of d.files (name t p at) (generation t p at) numbers) (λ file has. has))
 
     -- ---- a partition's
 
@@ -376,9 +520,22 @@ module _ (d : Disk) (lawful : IsLawfulDisk d) (honest : d.honest) (strays : List
         log_no_stray : Contains strays file → ⊥
         log_no_stray stray = ⊎_elim
             (λ (s : Contains (strays_of d.files names numbers) file). not_stray d.files names numbers test (partition_one names t i n (name t p at) (name_at t p at)) file partition_said s)
+            (λ more. ⊎_elim
             (λ (u : IsUnknown d.files numbers names ts file). is_known u)
+            (λ (l : IsOfLater d.files numbers names ts file). no_catalog l)
+            more)
             (left file stray)
           where
+            no_catalog : IsOfLater d.files numbers names ts file → ⊥
+            no_catalog l = by (header_in (bytes_at d.files file)) refl
+              where
+                other : says d.files (is_of_catalog l.name l.later) file ≡ true
+                other = (of_filter (says d.files (is_of_catalog l.name l.later)) numbers file l.has).1
+
+                by : (found : Option Header) → header_in (bytes_at d.files file) ≡ found → ⊥
+                by None e = false≢true (sym (ap (passes test) e) ∙ partition_said)
+                by (Some h) e = not_both h.kind (tells h e).kind (catalogs l.name l.later h (said d.files (is_of_catalog l.name l.later) file h e other)).kind
+
             is_known : IsUnknown d.files numbers names ts file → ⊥
             is_known u = by (header_in (bytes_at d.files file)) refl
               where
@@ -432,30 +589,18 @@ module _ (d : Disk) (lawful : IsLawfulDisk d) (honest : d.honest) (strays : List
 
     -- ---- the tenant
 
-    -- all batches of the catalog's chain are its commands
-    all_commands : (meta segment_log p).batches d.files ≡ catalog_comes.bs
-    all_commands =
-        let c = catalog_comes in
-        let first = first_of 0 c.chain.order in
-        c.batches ∙ ap (λ n. starting n c.bs) (c.starts ∙ max_zero first) ∙ starting_all first c.bs c.chain.end (chain_run first (chained.parts_at d.files c.chain.order) c.bs c.chain.end c.chain.count c.chain.chain)
-
     is_found : IsOpened d.files (owners_of d.files numbers (name t p at)) (known p.catalog) (logs_of segment_log (entries p) d.files)
     is_found =
         let tied = (sound t p at).tied in
         record {
-          commands = catalog_comes.bs;
-          chain = catalog_comes.chain;
-          known = record {
-            before = catalog_comes.bs;
-            behind = [];
-            split = sym (append-nil catalog_comes.bs);
-            fold = subst (λ bs. IsFold bs (known p.catalog)) all_commands (agrees t p at).fold;
-            ends = tt;
+          generation = use_found.0;
+          in_use = use_found.1;
+          has = record {
+            tied = logs_counted segment_log (entries p) d.files ∙ tied;
+            each = λ i n part known_at.
+                let x = known_there (entries p) (known p.catalog) tied i n part known_at in
+                (log_state (segment_log x.0.log) d.files, log_at_is segment_log (entries p) i n d.files ∙ ap (option_map (λ (x : Partition SegmentLog). log_state (segment_log x.log) d.files)) x.1, log_comes i n x.0 x.1 part known_at);
           };
-          tied = logs_counted segment_log (entries p) d.files ∙ tied;
-          each = λ i n part known_at.
-              let x = known_there (entries p) (known p.catalog) tied i n part known_at in
-              (log_state (segment_log x.0.log) d.files, log_at_is segment_log (entries p) i n d.files ∙ ap (option_map (λ (x : Partition SegmentLog). log_state (segment_log x.log) d.files)) x.1, log_comes i n x.0 x.1 part known_at);
         }
 
   pub are_found : AreFound d.files numbers names ts

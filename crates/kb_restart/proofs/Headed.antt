@@ -42,9 +42,9 @@ of_no_topic h legal kind = ⊎_elim
     (number_is 0 h.instance (and_parts (is_natural 1 h.kind) (is_natural 0 h.instance) two.0).1, number_is 0 h.partition two.1))
     (one_of_both h legal)
 
-names_catalog : (name : List ℕ) (size : ℕ) (h : Header) → is_legal h ≡ true → is_of_catalog name h ≡ true → Names (catalog_identity name size) h
-names_catalog name size h legal is =
-    let two = and_parts (bytes_eq h.tenant name && is_natural 1 h.kind) (is_natural 0 h.generation) is in
+names_catalog : (name : List ℕ) (g size : ℕ) (h : Header) → is_legal h ≡ true → is_of_catalog name g h ≡ true → Names (catalog_identity name (pos g) size) h
+names_catalog name g size h legal is =
+    let two = and_parts (bytes_eq h.tenant name && is_natural 1 h.kind) (is_natural g h.generation) is in
     let one = and_parts (bytes_eq h.tenant name) (is_natural 1 h.kind) two.0 in
     let none = of_no_topic h legal one.1 in
     record {
@@ -52,7 +52,7 @@ names_catalog name size h legal is =
       kind = number_is 1 h.kind one.1;
       instance = none.0;
       partition = none.1;
-      generation = number_is 0 h.generation two.1;
+      generation = number_is g h.generation two.1;
     }
 
 names_partition : (name : List ℕ) (i p size : ℕ) (h : Header) → is_of_partition name i p h ≡ true → Names (partition_identity name i p size) h
@@ -71,12 +71,12 @@ names_partition name i p size h is =
 
 -- ---- one file
 
-headed_catalog : (files : Files) (name : List ℕ) (size n : ℕ) → says files (is_of_catalog name) n ≡ true → IsNamed (catalog_identity name size) files n
-headed_catalog files name size n is = by (header_in (bytes_at files n)) refl
+headed_catalog : (files : Files) (name : List ℕ) (g size n : ℕ) → says files (is_of_catalog name g) n ≡ true → IsNamed (catalog_identity name (pos g) size) files n
+headed_catalog files name g size n is = by (header_in (bytes_at files n)) refl
   where
-    by : (found : Option Header) → header_in (bytes_at files n) ≡ found → IsNamed (catalog_identity name size) files n
-    by None e = absurd (false≢true (sym (ap (passes (is_of_catalog name)) e) ∙ is))
-    by (Some h) e = record { header = h; read = e; names = names_catalog name size h (legal_in (bytes_at files n) h e) (sym (ap (passes (is_of_catalog name)) e) ∙ is) }
+    by : (found : Option Header) → header_in (bytes_at files n) ≡ found → IsNamed (catalog_identity name (pos g) size) files n
+    by None e = absurd (false≢true (sym (ap (passes (is_of_catalog name g)) e) ∙ is))
+    by (Some h) e = record { header = h; read = e; names = names_catalog name g size h (legal_in (bytes_at files n) h e) (sym (ap (passes (is_of_catalog name g)) e) ∙ is) }
 
 headed_partition : (files : Files) (name : List ℕ) (i p size n : ℕ) → says files (is_of_partition name i p) n ≡ true → IsNamed (partition_identity name i p size) files n
 headed_partition files name i p size n is = by (header_in (bytes_at files n)) refl
@@ -88,10 +88,10 @@ headed_partition files name i p size n is = by (header_in (bytes_at files n)) re
 -- ---- all of a directory
 
 pub all_headed : (files : Files) (names : List (List ℕ)) (numbers : List ℕ) (d : Directory) → IsDirectory files names numbers d → (size : ℕ) → AreOwnedNamed names size files d
-all_headed files names numbers d dir size t name at (Catalog u) mine =
-    all_from (IsNamed (catalog_identity name size) files) (files_at (Catalog u) d) (λ n has.
-    headed_catalog files name size n
-    (of_filter (says files (is_of_catalog name)) numbers n (subst (λ ns. Contains ns n) (dir.catalogs u name (ap (λ v. slice_get names v) mine ∙ at)) has)).1)
+all_headed files names numbers d dir size t name at (Catalog u g) mine =
+    all_from (IsNamed (catalog_identity name (pos g) size) files) (files_at (Catalog u g) d) (λ n has.
+    headed_catalog files name g size n
+    (of_filter (says files (is_of_catalog name g)) numbers n (subst (λ ns. Contains ns n) (dir.catalogs u g name (ap (λ v. slice_get names v) mine ∙ at)) has)).1)
 all_headed files names numbers d dir size t name at (Partition u i p) mine =
     all_from (IsNamed (partition_identity name i p size) files) (files_at (Partition u i p) d) (λ n has.
     headed_partition files name i p size n

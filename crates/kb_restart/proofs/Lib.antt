@@ -6,7 +6,6 @@ pub mod Found
 pub mod Headed
 pub mod Hosting
 pub mod Listed
-pub mod Owners
 pub mod Read
 pub mod Reopened
 pub mod Restored

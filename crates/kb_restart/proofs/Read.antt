@@ -16,16 +16,18 @@ use Rattle.kb_segment_log.specs.declared.log.SegmentLog.{SegmentLog}
 use Rattle.kb_segment_log.proofs.Opened.{clears_kept, distinct_moved}
 use Rattle.kb_tenant_state.specs.declared.parts.Parts.{Parts}
 use Rattle.kb_tenants.specs.Tenants.{AreSound}
-use Rattle.kb_opening.specs.Opened.{Owners}
+use Rattle.kb_topics.specs.Catalog.{known}
+use Rattle.kb_opening.specs.Opened.{Owners, IsInUse}
 use Rattle.kb_opening.specs.Owners.{is_of_catalog, is_of_partition, is_of_one, passes, says, strays_of}
 use Rattle.kb_opening.specs.Directory.{all_files, files_at, owned_in, IsDirectory}
-use Rattle.kb_opening.specs.Tenant.{owners_in, tenant_in, AreListed, AreOwnNamed, IsTenantOf}
+use Rattle.kb_opening.specs.Tenant.{owners_in, generation_of, tenant_in, AreListed, AreOwnNamed, IsTenantOf}
 use Rattle.kb_opening.specs.declared.directory.Directory.{Directory}
 use Rattle.kb_opening.specs.declared.owner.Owner.{Owner}
 use Rattle.kb_opening.specs.declared.owner.Owner.TheVariants.{Catalog, Partition}
 use Rattle.kb_opening.proofs.Openings.{clears_wider}
+use Rattle.kb_opening.proofs.Unique.{one_generation}
 use Rattle.kb_restart.specs.Restart.{owners_of, names_in, AreOpened, AreOwnedNamed, AreRestored, IsLeft, IsOfFirst, IsOfLog}
-use Rattle.kb_restart.proofs.Owners.{listed_at, tenants_apart}
+use Rattle.kb_opening.proofs.Apart.{listed_at, tenants_apart}
 
 -- ---- what a filter keeps
 
@@ -52,17 +54,17 @@ named_one : (names : List (List ℕ)) (t : ℕ) (name : List ℕ) (h : Header) �
 named_one names t name h at same =
     list_any_at (bytes_eq h.tenant) names t [] (slice_get_within names t name at) (ap (bytes_eq h.tenant) (get_or_from_slice_get names t name [] at) ∙ same)
 
-pub catalog_one : (names : List (List ℕ)) (t : ℕ) (name : List ℕ) → slice_get names t ≡ Some name → (h : Header) → is_of_catalog name h ≡ true → is_of_one names h ≡ true
-catalog_one names t name at h is =
-    let last = and_parts (bytes_eq h.tenant name && is_natural 1 h.kind) (is_natural 0 h.generation) is in
-    both_true (list_any (bytes_eq h.tenant) names) (is_natural 0 h.generation) (named_one names t name h at (and_parts (bytes_eq h.tenant name) (is_natural 1 h.kind) last.0).0) last.1
+pub catalog_one : (names : List (List ℕ)) (t g : ℕ) (name : List ℕ) → slice_get names t ≡ Some name → (h : Header) → is_of_catalog name g h ≡ true → is_of_one names h ≡ true
+catalog_one names t g name at h is =
+    let last = and_parts (bytes_eq h.tenant name && is_natural 1 h.kind) (is_natural g h.generation) is in
+    named_one names t name h at (and_parts (bytes_eq h.tenant name) (is_natural 1 h.kind) last.0).0
 
 pub partition_one : (names : List (List ℕ)) (t i p : ℕ) (name : List ℕ) → slice_get names t ≡ Some name → (h : Header) → is_of_partition name i p h ≡ true → is_of_one names h ≡ true
 partition_one names t i p name at h is =
     let four = and_parts (((bytes_eq h.tenant name && is_natural 0 h.kind) && is_natural i h.instance) && is_natural p h.partition) (is_natural 0 h.generation) is in
     let three = and_parts ((bytes_eq h.tenant name && is_natural 0 h.kind) && is_natural i h.instance) (is_natural p h.partition) four.0 in
     let two = and_parts (bytes_eq h.tenant name && is_natural 0 h.kind) (is_natural i h.instance) three.0 in
-    both_true (list_any (bytes_eq h.tenant) names) (is_natural 0 h.generation) (named_one names t name h at (and_parts (bytes_eq h.tenant name) (is_natural 0 h.kind) two.0).0) four.1
+    named_one names t name h at (and_parts (bytes_eq h.tenant name) (is_natural 0 h.kind) two.0).0
 
 pub passes_weaker : (test other : Header → Bool) → ((h : Header) → test h ≡ true → other h ≡ true) → (found : Option Header) → passes test found ≡ true → passes other found ≡ true
 passes_weaker test other weaker None is = is
@@ -93,11 +95,11 @@ module _ (old : Disk) (numbers : List ℕ) (next : ℕ) (there : All (λ n. IsTh
 
     -- a named tenant's file is of a log
     of_owner : (o : Owner) (file : ℕ) → tenant_in o < length names → Contains (files_at o d) file → IsOfLog old.files numbers names file
-    of_owner (Catalog t) file lt has =
+    of_owner (Catalog t g) file lt has =
         let name = get_or names t [] in
         let at = slice_get-get_or names t [] lt in
-        let own = of_filter (says old.files (is_of_catalog name)) numbers file (subst (λ ns. Contains ns file) (dir.catalogs t name at) has) in
-        record { listed = own.0; no_stray = not_stray (is_of_catalog name) (catalog_one names t name at) file own.1 }
+        let own = of_filter (says old.files (is_of_catalog name g)) numbers file (subst (λ ns. Contains ns file) (dir.catalogs t g name at) has) in
+        record { listed = own.0; no_stray = not_stray (is_of_catalog name g) (catalog_one names t g name at) file own.1 }
     of_owner (Partition t i p) file lt has =
         let name = get_or names t [] in
         let at = slice_get-get_or names t [] lt in
@@ -111,7 +113,7 @@ module _ (old : Disk) (numbers : List ℕ) (next : ℕ) (there : All (λ n. IsTh
     cleared mid now count kept many c = clears_kept (IsOfLog old.files numbers names) old mid now kept (clears_wider mid now of_first (subst (λ n. Clears (IsOfFirst d n) mid now) many c))
 
     pub same_owners : (t : ℕ) (name : List ℕ) → slice_get names t ≡ Some name → owners_in d t ≡ owners_of old.files numbers name
-    same_owners t name at = λ k. record { catalog = dir.catalogs t name at k; partition = λ i p. dir.partitions t i p name at k }
+    same_owners t name at = λ k. record { catalog = λ g. dir.catalogs t g name at k; partition = λ i p. dir.partitions t i p name at k }
 
   -- ---- the tenants that were opened from it
 
@@ -143,9 +145,25 @@ module _ (old : Disk) (numbers : List ℕ) (next : ℕ) (there : All (λ n. IsTh
           subst (λ (fs : Files). IsTenantOf fs (owners_of old.files numbers name) p now.files) (kept.files was)
           (subst (λ (of : Owners). IsTenantOf mid.files of p now.files) (same_owners names dir t name at) ((restored.each t p here).opened honest was_own))
 
+      pub are_in_use : names_in ps ≡ names → ((size : ℕ) → AreOwnedNamed names size old.files d) → (t : ℕ) (name : List ℕ) (p : Parts SegmentLog) → slice_get names t ≡ Some name → slice_get ps t ≡ Some p
+          → IsInUse old.files (owners_of old.files numbers name) (generation_of p) (known p.catalog)
+      are_in_use same headed t name p at here =
+          let its : AreOwnNamed name p.segment_bytes t old.files d = headed p.segment_bytes t name at in
+          let own : AreOwnNamed (string_bytes p.tenant) p.segment_bytes t old.files d = subst (λ (n : List ℕ). AreOwnNamed n p.segment_bytes t old.files d) (name_is same t name p at here) its in
+          let was_own : AreOwnNamed (string_bytes p.tenant) p.segment_bytes t mid.files d = subst (λ (fs : Files). AreOwnNamed (string_bytes p.tenant) p.segment_bytes t fs d) (sym (kept.files was)) own in
+          subst (λ (fs : Files). IsInUse fs (owners_of old.files numbers name) (generation_of p) (known p.catalog)) (kept.files was)
+          (subst (λ (of : Owners). IsInUse mid.files of (generation_of p) (known p.catalog)) (same_owners names dir t name at) ((restored.each t p here).in_use honest was_own))
+
       -- what is of no log is left
-      pub left_all : (file : ℕ) → IsLeft old.files numbers names ps file → Contains (all_files left) file
-      left_all file (inl stray) = Contains-append_right (owned_in left.owned.entries) left.strays.items file (subst (λ ns. Contains ns file) (sym (restored.strays ∙ dir.strays)) stray)
-      left_all file (inr none) =
+      pub left_all : names_in ps ≡ names → ((size : ℕ) → AreOwnedNamed names size old.files d) → (file : ℕ) → IsLeft old.files numbers names ps file → Contains (all_files left) file
+      left_all same headed file (inl stray) = Contains-append_right (owned_in left.owned.entries) left.strays.items file (subst (λ ns. Contains ns file) (sym (restored.strays ∙ dir.strays)) stray)
+      left_all same headed file (inr (inl none)) =
           listed_at (Partition none.tenant none.instance none.partition) left file
           (subst (λ ns. Contains ns file) (sym ((restored.each none.tenant none.parts none.at).unknown none.instance none.partition none.unknown ∙ dir.partitions none.tenant none.instance none.partition none.name none.named)) none.has)
+      left_all same headed file (inr (inr later)) =
+          let p = later.parts in
+          let used = are_in_use same headed later.tenant later.name p later.named later.at in
+          let is : later.generation ≡ generation_of p = one_generation old.files (owners_of old.files numbers later.name) (generation_of p) later.generation (known p.catalog) (known p.catalog) used later.in_use in
+          let above = later.above in
+          listed_at (Catalog later.tenant later.later) left file
+          (subst (λ ns. Contains ns file) (sym ((restored.each later.tenant p later.at).newer later.later (omega (arith, is, above)) ∙ dir.catalogs later.tenant later.later later.name later.named)) later.has)

@@ -12,11 +12,12 @@ use Rattle.kb_segment_log.specs.SegmentLog.{segment_log, Clears}
 use Rattle.kb_segment_log.specs.declared.log.SegmentLog.{SegmentLog}
 use Rattle.kb_segment_log.proofs.Opened.{clears_kept}
 use Rattle.kb_topics.specs.Catalog.{known}
-use Rattle.kb_topics.specs.Known.{partition_at}
+use Rattle.kb_topics.specs.Known.{Known, partition_at}
 use Rattle.kb_tenant_state.specs.Parts.{world_of}
 use Rattle.kb_tenant_state.specs.declared.parts.Parts.{Parts}
 use Rattle.kb_tenant_api.specs.Hosted.{Kept, TenantState, kept_in, kept_of, names_of, nothing}
 use Rattle.kb_tenants.specs.Tenants.{restored_tenant, Agree}
+use Rattle.kb_opening.specs.Opened.{IsInUse}
 use Rattle.kb_opening.proofs.Unique.{only_opened}
 use Rattle.kb_restart.specs.Restart.{owners_of, AreOnly, AreOpened, AreReopened, IsLeft, IsOfLog, IsReopened, IsStray, have_nothing_refused, tenants_restored}
 use Rattle.kb_restart.proofs.Hosting.{zip_at, zip_firsts}
@@ -61,7 +62,17 @@ module _ (now : Files) (names : List (List ℕ)) (ps : List (Parts SegmentLog)) 
 
     pub is_stray : (file : ℕ) → IsLeft files numbers names ps file → IsStray files numbers names (tenants_restored now names ps) file
     is_stray file (inl stray) = inl stray
-    is_stray file (inr none_has) = inr record {
+    is_stray file (inr (inr newer)) = inr (inr record {
+      tenant = newer.tenant;
+      name = newer.name;
+      generation = newer.generation;
+      later = newer.later;
+      named = newer.named;
+      in_use = subst (λ (k : Known). IsInUse files (owners_of files numbers newer.name) newer.generation k) (sym (ap (λ (k : Kept). k.world.known) (kept_at newer.tenant newer.name newer.parts newer.named newer.at))) newer.in_use;
+      above = newer.above;
+      has = newer.has;
+    })
+    is_stray file (inr (inl none_has)) = inr (inl record {
       tenant = none_has.tenant;
       name = none_has.name;
       instance = none_has.instance;
@@ -69,13 +80,27 @@ module _ (now : Files) (names : List (List ℕ)) (ps : List (Parts SegmentLog)) 
       named = none_has.named;
       has = none_has.has;
       unknown = ap (λ (k : Kept). partition_at k.world.known (pos none_has.instance) (pos none_has.partition)) (kept_at none_has.tenant none_has.name none_has.parts none_has.named none_has.at) ∙ none_has.unknown;
-    }
+    })
 
     pub is_left : (file : ℕ) → IsStray files numbers names (tenants_restored now names ps) file → IsLeft files numbers names ps file
     is_left file (inl stray) = inl stray
-    is_left file (inr none_has) =
+    is_left file (inr (inr later)) =
+        let p = parts_at later.tenant later.name later.named in
+        inr (inr record {
+          tenant = later.tenant;
+          name = later.name;
+          parts = p.0;
+          generation = later.generation;
+          later = later.later;
+          named = later.named;
+          at = p.1;
+          in_use = subst (λ (k : Known). IsInUse files (owners_of files numbers later.name) later.generation k) (ap (λ (k : Kept). k.world.known) (kept_at later.tenant later.name p.0 later.named p.1)) later.in_use;
+          above = later.above;
+          has = later.has;
+        })
+    is_left file (inr (inl none_has)) =
         let p = parts_at none_has.tenant none_has.name none_has.named in
-        inr record {
+        inr (inl record {
           tenant = none_has.tenant;
           name = none_has.name;
           parts = p.0;
@@ -85,7 +110,7 @@ module _ (now : Files) (names : List (List ℕ)) (ps : List (Parts SegmentLog)) 
           at = p.1;
           has = none_has.has;
           unknown = sym (ap (λ (k : Kept). partition_at k.world.known (pos none_has.instance) (pos none_has.partition)) (kept_at none_has.tenant none_has.name p.0 none_has.named p.1)) ∙ none_has.unknown;
-        }
+        })
 
 pub only_reopened : (files : Files) (numbers : List ℕ) (names : List (List ℕ)) (ts : List TenantState) → AreReopened files numbers names ts → AreOnly files numbers names ts
 only_reopened files numbers names ts reopened t name at =

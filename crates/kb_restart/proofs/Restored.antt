@@ -21,23 +21,24 @@ use Rattle.kb_tenant_state.specs.Partitions.{logs_of, AreExact}
 use Rattle.kb_tenant_state.specs.Parts.{IsSound, Owns, entries, meta}
 use Rattle.kb_tenant_state.specs.declared.parts.Parts.{Parts}
 use Rattle.kb_tenants.proofs.Others.{still_sound, still_seen, still_agrees}
-use Rattle.kb_opening.specs.Opened.{Owners, IsOpened}
+use Rattle.kb_opening.specs.Opened.{Owners, IsInUse, IsOpened}
 use Rattle.kb_opening.specs.Directory.{all_files, files_at}
-use Rattle.kb_opening.specs.Tenant.{owners_in, tenant_in, identity_in, AreListed, AreOwnNamed, IsOfTenant, IsTaken, IsTenantOf, TakesSome, TakesTenant}
+use Rattle.kb_opening.specs.Tenant.{owners_in, generation_of, tenant_in, identity_in, AreListed, AreOwnNamed, IsOfTenant, IsTaken, IsTenantOf, TakesSome, TakesTenant}
 use Rattle.kb_opening.specs.declared.directory.Directory.{Directory}
 use Rattle.kb_opening.specs.declared.owner.Owner.{Owner}
 use Rattle.kb_opening.specs.declared.owner.Owner.TheVariants.{Catalog, Partition}
 use Rattle.kb_opening.specs.Settled.{AreAccounted}
 use Rattle.kb_opening.proofs.Causes.{clears_none}
 use Rattle.kb_opening.proofs.Logged.{exact_stays}
-use Rattle.kb_opening.proofs.Moved.{chain_stays, log_of_stays, named_stays}
+use Rattle.kb_opening.proofs.Lost.{known_stays}
+use Rattle.kb_opening.proofs.Moved.{log_of_stays, named_stays}
 use Rattle.kb_opening.proofs.Openings.{clears_then, missed_since}
 use Rattle.kb_opening.specs.Partition.{MissesShelf}
 use Rattle.kb_log.specs.declared.fault.LogFault.{LogFault}
 use Rattle.kb_broker.proofs.OpeningParts.{mapped-more}
 use Rattle.kb_restart.specs.Restart.{names_in, AreOwnedNamed, IsOfFirst, IsRestored, AreRestored}
 use Rattle.kb_restart.proofs.Accounted.{next_accounted}
-use Rattle.kb_restart.proofs.Owners.{distinct_parts, tenants_apart}
+use Rattle.kb_opening.proofs.Apart.{distinct_parts, tenants_apart}
 
 -- ---- lists
 
@@ -71,14 +72,22 @@ passed_on first mid now next next' As As' s f m is same le gives = missed_since 
 
 -- ---- what files come to stays where they do
 
-module _ (f g : Files) (of : Owners) (catalog : (n : ℕ) → Contains of.catalog n → get g n ≡ get f n) (partition : (i p n : ℕ) → Contains (of.partition i p) n → get g n ≡ get f n) where
+module _ (f g : Files) (of : Owners) (catalog : (h n : ℕ) → Contains (of.catalog h) n → get g n ≡ get f n) (partition : (i p n : ℕ) → Contains (of.partition i p) n → get g n ≡ get f n) where
+  pub use_stays : (h : ℕ) (k : Known) → IsInUse f of h k → IsInUse g of h k
+  use_stays h k u = record {
+    small = u.small;
+    whole = known_stays h k f g (of.catalog h) (catalog h) u.whole;
+    greatest = λ above lt small j c. u.greatest above lt small j (known_stays above j g f (of.catalog above) (λ n has. sym (catalog above n has)) c);
+  }
+
   pub opened_stays : (k : Known) (logs : Logs) → IsOpened f of k logs → IsOpened g of k logs
   opened_stays k logs o = record {
-    commands = o.commands;
-    chain = chain_stays f g of.catalog catalog 0 o.commands o.chain;
-    known = o.known;
-    tied = o.tied;
-    each = λ i p part at. let l = o.each i p part at in (l.0, l.1, log_of_stays f g (of.partition i p) (partition i p) (natural part.start) l.0 l.2);
+    generation = o.generation;
+    in_use = use_stays o.generation k o.in_use;
+    has = record {
+      tied = o.has.tied;
+      each = λ i p part at. let l = o.has.each i p part at in (l.0, l.1, log_of_stays f g (of.partition i p) (partition i p) (natural part.start) l.0 l.2);
+    };
   }
 
 -- ---- none yet
@@ -96,9 +105,9 @@ none_restored d had next ps none listed = subst (λ (xs : List (Parts SegmentLog
 
 -- ---- one more
 
-taken_tenant : (t : ℕ) (k : Known) (o : Owner) → IsTaken t k o → tenant_in o ≡ t
-taken_tenant t k (Catalog u) is = is
-taken_tenant t k (Partition u i p) is = is.0
+taken_tenant : (t g : ℕ) (k : Known) (o : Owner) → IsTaken t g k o → tenant_in o ≡ t
+taken_tenant t g k (Catalog u h) is = is.0
+taken_tenant t g k (Partition u i p) is = is.0
 
 module _ (old : Disk) (had : Directory) (ps : List (Parts SegmentLog)) (mid : Disk) (next : ℕ) (has : Directory) (once : IsDistinct nat_eq (all_files had)) (before : AreRestored old had ps mid next has) where
   -- the files of the next tenant are those that it had first
@@ -141,11 +150,12 @@ module _ (old : Disk) (had : Directory) (ps : List (Parts SegmentLog)) (mid : Di
       (sound : IsSound segment_log p now.table next)
       (owned : (file : ℕ) → Owns segment_log p file → IsOfTenant has (length ps) file)
       (opened : now.honest → AreOwnNamed (string_bytes p.tenant) p.segment_bytes (length ps) mid.files has → IsTenantOf mid.files (owners_in has (length ps)) p now.files)
+      (used : now.honest → AreOwnNamed (string_bytes p.tenant) p.segment_bytes (length ps) mid.files has → IsInUse mid.files (owners_in has (length ps)) (generation_of p) (known p.catalog))
       (calm : p.refusals ≡ 0)
-      (taken : TakesTenant (length ps) (known p.catalog) has left)
+      (taken : TakesTenant (length ps) (generation_of p) (known p.catalog) has left)
       (some : TakesSome has left)
       (stay : All (IsAsBefore mid now) (all_files left))
-      (gone : (o : Owner) → IsTaken (length ps) (known p.catalog) o → (file : ℕ) → Contains (files_at o has) file → Contains (all_files left) file → ⊥)
+      (gone : (o : Owner) → IsTaken (length ps) (generation_of p) (known p.catalog) o → (file : ℕ) → Contains (files_at o has) file → Contains (all_files left) file → ⊥)
       (clears : Clears (IsOfTenant has (length ps)) mid now)
       (exact : (meta segment_log p).exact now.table × AreExact segment_log (entries p) now.table)
       (accounted : AreAccounted has (Owns segment_log p) now left)
@@ -172,8 +182,10 @@ module _ (old : Disk) (had : Directory) (ps : List (Parts SegmentLog)) (mid : Di
                 agrees = still_agrees segment_log segment_lawful q mid now next next r.sound (omega arith) lengths contents h o.agrees;
                 opened = subst (λ (ls : Logs). IsOpened old.files (owners_in had t) (known q.catalog) ls) (sym (ap (λ w. w.logs) seen)) o.opened;
               };
+          in_use = λ h own. r.in_use (clears.honest h) own;
           refusals = r.refusals;
           gone = λ o is file was now. r.gone o is file was (still file now);
+          newer = λ g above. taken.others (Catalog t g) (λ e. omega (arith, lt, e)) ∙ r.newer g above;
           unknown = λ i n none. taken.others (Partition t i n) (λ e. omega (arith, lt, e)) ∙ r.unknown i n none;
           meta_exact = (segment_lawful (meta_log q.catalog)).exact_stays mid.table now.table r.meta_exact (λ file own. clears.lengths file (apart file (inl own)));
           exact = exact_stays (entries q) mid.table now.table (λ file own. clears.lengths file (apart file (inr own))) r.exact;
@@ -181,7 +193,7 @@ module _ (old : Disk) (had : Directory) (ps : List (Parts SegmentLog)) (mid : Di
         }
 
     same_owners : owners_in has (length ps) ≡ owners_in had (length ps)
-    same_owners = λ k. record { catalog = before.others (Catalog (length ps)) (omega arith) k; partition = λ i n. before.others (Partition (length ps) i n) (omega arith) k }
+    same_owners = λ k. record { catalog = λ g. before.others (Catalog (length ps) g) (omega arith) k; partition = λ i n. before.others (Partition (length ps) i n) (omega arith) k }
 
     -- its files were as they were first
     unchanged : now.honest → (o : Owner) → tenant_in o ≡ length ps → (file : ℕ) → Contains (files_at o had) file → get old.files file ≡ get mid.files file
@@ -196,12 +208,16 @@ module _ (old : Disk) (had : Directory) (ps : List (Parts SegmentLog)) (mid : Di
           let logs = logs_of segment_log (entries p) now.files in
           record {
             agrees = o.agrees;
-            opened = opened_stays mid.files old.files (owners_in had (length ps)) (λ n is. unchanged h (Catalog (length ps)) refl n is) (λ i q n is. unchanged h (Partition (length ps) i q) refl n is) (known p.catalog) logs
+            opened = opened_stays mid.files old.files (owners_in had (length ps)) (λ g n is. unchanged h (Catalog (length ps) g) refl n is) (λ i q n is. unchanged h (Partition (length ps) i q) refl n is) (known p.catalog) logs
                 (subst (λ (of : Owners). IsOpened mid.files of (known p.catalog) logs) same_owners o.opened);
           };
+      in_use = λ h own.
+          use_stays mid.files old.files (owners_in had (length ps)) (λ g n is. unchanged h (Catalog (length ps) g) refl n is) (λ i q n is. unchanged h (Partition (length ps) i q) refl n is) (generation_of p) (known p.catalog)
+          (subst (λ (of : Owners). IsInUse mid.files of (generation_of p) (known p.catalog)) same_owners (used h (next_headed (string_bytes p.tenant) p.segment_bytes (clears.honest h) own)));
       refusals = calm;
+      newer = λ g above. taken.newer g above ∙ before.others (Catalog (length ps) g) (omega arith);
       gone = λ o is file was now.
-          let mine = taken_tenant (length ps) (known p.catalog) o is in
+          let mine = taken_tenant (length ps) (generation_of p) (known p.catalog) o is in
           gone o is file (subst (λ ns. Contains ns file) (sym (before.others o (omega (arith, mine)))) was) now;
       unknown = λ i n none. taken.unknown i n none ∙ before.others (Partition (length ps) i n) (omega arith);
       meta_exact = exact.0;

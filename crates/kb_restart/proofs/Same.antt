@@ -27,40 +27,40 @@ use Rattle.kb_opening.specs.Owners.{says, passes, is_of_catalog, is_of_partition
 use Rattle.kb_opening.specs.Tenant.{owners_in, AreListed, IsOfTenant}
 use Rattle.kb_opening.specs.declared.directory.Directory.{Directory}
 use Rattle.kb_opening.specs.declared.owner.Owner.TheVariants.{Catalog, Partition}
-use Rattle.kb_opening.proofs.Lost.{of_filter, remaining_same, chain_moved}
+use Rattle.kb_opening.proofs.Lost.{of_filter, remaining_same, chain_moved, known_moved}
 use Rattle.kb_opening.proofs.LostTopics.{owner_there}
 use Rattle.kb_restart.specs.Restart.{owners_of, AreReopened, AreRestored, ComeToTheSame, IsOfFirst, NamedLoseNothing, NoneLosesAny}
 use Rattle.kb_restart.proofs.Listed.{all_listed, listed_apart}
-use Rattle.kb_restart.proofs.Owners.{tenants_apart}
+use Rattle.kb_opening.proofs.Apart.{tenants_apart}
 use Rattle.kb_restart.proofs.Read.{of_filter as filtered}
 use Rattle.kb_restart.proofs.Restored.{opened_stays, first_had, no_other}
 
 -- ---- of some owners' files
 
 -- each list is the same
-owners_with : (of of' : Owners) → of'.catalog ≡ of.catalog → ((i p : ℕ) → of'.partition i p ≡ of.partition i p) → of' ≡ of
-owners_with of of' catalog partition = λ k. record { catalog = catalog k; partition = λ i p. partition i p k }
+owners_with : (of of' : Owners) → ((h : ℕ) → of'.catalog h ≡ of.catalog h) → ((i p : ℕ) → of'.partition i p ≡ of.partition i p) → of' ≡ of
+owners_with of of' catalog partition = λ k. record { catalog = λ h. catalog h k; partition = λ i p. partition i p k }
 
-module _ (owns : ℕ → Type 0) (of : Owners) (catalog : (n : ℕ) → Contains of.catalog n → owns n → ⊥) (partition : (i p n : ℕ) → Contains (of.partition i p) n → owns n → ⊥) where
+module _ (owns : ℕ → Type 0) (of : Owners) (catalog : (h n : ℕ) → Contains (of.catalog h) n → owns n → ⊥) (partition : (i p n : ℕ) → Contains (of.partition i p) n → owns n → ⊥) where
   far_else : (d e : Disk) → Clears owns d e → remaining_of e.table of ≡ remaining_of d.table of
   far_else d e c = owners_with (remaining_of d.table of) (remaining_of e.table of)
-      (remaining_same d.table e.table of.catalog (λ n has. c.lengths n (catalog n has)))
+      (λ h. remaining_same d.table e.table (of.catalog h) (λ n has. c.lengths n (catalog h n has)))
       (λ i p. remaining_same d.table e.table (of.partition i p) (λ n has. c.lengths n (partition i p n has)))
 
   pub tenant_then : (d e f : Disk) → Clears owns e f → f.honest → TenantLosesNothing of d e → TenantLosesNothing of d f
   tenant_then d e f c h lost k logs o =
       subst (λ (x : Owners). IsOpened f.files x k logs) (sym (far_else e f c))
       (opened_stays e.files f.files (remaining_of e.table of)
-      (λ n has. c.contents h n (catalog n (of_filter (λ m. is_some (get e.table m)) of.catalog n has)))
+      (λ j n has. c.contents h n (catalog j n (of_filter (λ m. is_some (get e.table m)) (of.catalog j) n has)))
       (λ i p n has. c.contents h n (partition i p n (of_filter (λ m. is_some (get e.table m)) (of.partition i p) n has))) k logs (lost k logs o))
 
   pub tenant_from : (d e f : Disk) → Clears owns d e → e.honest → TenantLosesNothing of e f → TenantLosesNothing of d f
-  tenant_from d e f c h lost k logs o = lost k logs (opened_stays d.files e.files of (λ n has. c.contents h n (catalog n has)) (λ i p n has. c.contents h n (partition i p n has)) k logs o)
+  tenant_from d e f c h lost k logs o = lost k logs (opened_stays d.files e.files of (λ j n has. c.contents h n (catalog j n has)) (λ i p n has. c.contents h n (partition i p n has)) k logs o)
 
 -- where nothing changes
-pub tenant_still : (of : Owners) (d : Disk) → All (λ n. IsThere d n) of.catalog → ((i p : ℕ) → All (λ n. IsThere d n) (of.partition i p)) → TenantLosesNothing of d d
+pub tenant_still : (of : Owners) (d : Disk) → ((h : ℕ) → All (λ n. IsThere d n) (of.catalog h)) → ((i p : ℕ) → All (λ n. IsThere d n) (of.partition i p)) → TenantLosesNothing of d d
 tenant_still of d catalog partition k logs o =
-    subst (λ (x : Owners). IsOpened d.files x k logs) (sym (owners_with of (remaining_of d.table of) (all_there d.table of.catalog catalog) (λ i p. all_there d.table (of.partition i p) (partition i p)))) o
+    subst (λ (x : Owners). IsOpened d.files x k logs) (sym (owners_with of (remaining_of d.table of) (λ h. all_there d.table (of.catalog h) (catalog h)) (λ i p. all_there d.table (of.partition i p) (partition i p)))) o
 
 pub tenant_kept : (of : Owners) (d e f : Disk) → Keeps d e → e.honest → TenantLosesNothing of e f → TenantLosesNothing of d f
 tenant_kept of d e f kept h lost k logs o = lost k logs (subst (λ (x : Files). IsOpened x of k logs) (sym (kept.files h)) o)
@@ -74,12 +74,12 @@ pub named_still : (numbers : List ℕ) (names : List (List ℕ)) (d e : Disk) �
 named_still numbers names d e there kept h t name at =
     let among : (p : ℕ → Bool) → All (λ n. IsThere d n) (filter p numbers) = λ p. All-filter p (λ n. IsThere d n) numbers there in
     let of = owners_of d.files numbers name in
-    tenant_after of d d e kept h (tenant_still of d (among (says d.files (is_of_catalog name))) (λ i p. among (says d.files (is_of_partition name i p))))
+    tenant_after of d d e kept h (tenant_still of d (λ g. among (says d.files (is_of_catalog name g))) (λ i p. among (says d.files (is_of_partition name i p))))
 
 -- ---- of the tenants of a directory
 
 pub none_changed : (had : Directory) (d : Disk) (next : ℕ) → AreListed had d next → NoneLosesAny had d d
-none_changed had d next listed t = tenant_still (owners_in had t) d (owner_there had d next listed (Catalog t)) (λ i p. owner_there had d next listed (Partition t i p))
+none_changed had d next listed t = tenant_still (owners_in had t) d (λ g. owner_there had d next listed (Catalog t g)) (λ i p. owner_there had d next listed (Partition t i p))
 
 module _ (old : Disk) (had : Directory) (ps : List (Parts SegmentLog)) (mid : Disk) (next : ℕ) (has : Directory) (listed : AreListed had old next) (before : AreRestored old had ps mid next has) where
   -- one more is opened, or refused
@@ -97,18 +97,18 @@ module _ (old : Disk) (had : Directory) (ps : List (Parts SegmentLog)) (mid : Di
 
       other : (t ≡ length ps → ⊥) → TenantLosesNothing (owners_in had t) old now
       other ne = tenant_then (IsOfTenant has (length ps)) (owners_in had t)
-          (λ n is. far ne n (record { owner = Catalog t; mine = refl; has = is })) (λ i p n is. far ne n (record { owner = Partition t i p; mine = refl; has = is }))
+          (λ g n is. far ne n (record { owner = Catalog t g; mine = refl; has = is })) (λ i p n is. far ne n (record { owner = Partition t i p; mine = refl; has = is }))
           old mid now clears h (lost t)
 
       same : owners_in has (length ps) ≡ owners_in had (length ps)
-      same = owners_with (owners_in had (length ps)) (owners_in has (length ps)) (before.others (Catalog (length ps)) (omega arith)) (λ i p. before.others (Partition (length ps) i p) (omega arith))
+      same = owners_with (owners_in had (length ps)) (owners_in has (length ps)) (λ g. before.others (Catalog (length ps) g) (omega arith)) (λ i p. before.others (Partition (length ps) i p) (omega arith))
 
       first : (file : ℕ) → IsOfTenant had (length ps) file → IsOfFirst had (length ps) file → ⊥
       first file own f = no_other old had ps mid next has listed.once before f.tenant f.first file f.has own
 
       here : TenantLosesNothing (owners_in had (length ps)) old now
       here = tenant_from (IsOfFirst had (length ps)) (owners_in had (length ps))
-          (λ n is. first n (record { owner = Catalog (length ps); mine = refl; has = is })) (λ i p n is. first n (record { owner = Partition (length ps) i p; mine = refl; has = is }))
+          (λ g n is. first n (record { owner = Catalog (length ps) g; mine = refl; has = is })) (λ i p n is. first n (record { owner = Partition (length ps) i p; mine = refl; has = is }))
           old mid now before.clears (clears.honest h) (subst (λ (x : Owners). TenantLosesNothing x mid now) same its)
 
 -- ---- lists of the same numbers
@@ -234,13 +234,18 @@ module _ (old new : Disk) (headers : KeepsHeaders old new) where
 comes_moved : (files : Files) (ns ms : List ℕ) (start first last : ℕ) (list : List (List ℕ)) → IsPermutation ms ns → ComesTo files ns start first last list → ComesTo files ms start first last list
 comes_moved files ns ms start first last list moved c = record { bs = c.bs; chain = chain_moved files ns ms start c.bs moved c.chain; starts = c.starts; ends = c.ends; batches = c.batches }
 
-opened_moved : (files : Files) (of of' : Owners) (k : Known) (logs : Logs) → IsPermutation of'.catalog of.catalog → ((i p : ℕ) → IsPermutation (of'.partition i p) (of.partition i p)) → IsOpened files of k logs → IsOpened files of' k logs
+opened_moved : (files : Files) (of of' : Owners) (k : Known) (logs : Logs) → ((h : ℕ) → IsPermutation (of'.catalog h) (of.catalog h)) → ((i p : ℕ) → IsPermutation (of'.partition i p) (of.partition i p)) → IsOpened files of k logs → IsOpened files of' k logs
 opened_moved files of of' k logs catalog partition o = record {
-  commands = o.commands;
-  chain = chain_moved files of.catalog of'.catalog 0 o.commands catalog o.chain;
-  known = o.known;
-  tied = o.tied;
-  each = λ i p part at. let l = o.each i p part at in (l.0, l.1, comes_moved files (of.partition i p) (of'.partition i p) (natural part.start) l.0.start l.0.end l.0.batches (partition i p) l.2);
+  generation = o.generation;
+  in_use = record {
+    small = o.in_use.small;
+    whole = known_moved files (of.catalog o.generation) (of'.catalog o.generation) o.generation k (catalog o.generation) o.in_use.whole;
+    greatest = λ h above small j c. o.in_use.greatest h above small j (known_moved files (of'.catalog h) (of.catalog h) h j (IsPermutation-sym (of'.catalog h) (of.catalog h) (catalog h)) c);
+  };
+  has = record {
+    tied = o.has.tied;
+    each = λ i p part at. let l = o.has.each i p part at in (l.0, l.1, comes_moved files (of.partition i p) (of'.partition i p) (natural part.start) l.0.start l.0.end l.0.batches (partition i p) l.2);
+  };
 }
 
 -- ---- opened again
@@ -253,7 +258,7 @@ come_to_same names old new headers lost h ts was = record {
       let k = kept_of ts t in
       record {
         opened = opened_moved new.files (remaining_of new.table (owners_of old.files (keys old.table) name)) (owners_of new.files (keys new.table) name) k.world.known k.world.logs
-            (says_left old new (headers h) (is_of_catalog name)) (λ i p. says_left old new (headers h) (is_of_partition name i p))
+            (λ g. says_left old new (headers h) (is_of_catalog name g)) (λ i p. says_left old new (headers h) (is_of_partition name i p))
             (lost h t name at k.world.known k.world.logs its.opened);
         groups = its.groups;
       };

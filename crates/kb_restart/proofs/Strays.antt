@@ -3,7 +3,7 @@ use Rattle.std.proofs.Common.{◌≡◌, ◌∙◌, ◌⊎◌, inl, inr, ⊎_eli
 use Rattle.std.specs.Prelude.{ℤ, pos, negsuc, ◌&&◌, ◌||◌, slice_get, IsSome}
 use Rattle.std.specs.List.{Contains, list_any}
 use Rattle.std.specs.Str.{bytes_eq}
-use Rattle.std.proofs.lemmas.Bool.{and_parts, or_cases, eq-eqb, false≢true}
+use Rattle.std.proofs.lemmas.Bool.{and_parts, cases_lt, or_cases, eq-eqb, false≢true}
 use Rattle.std.proofs.lemmas.Option.{none-some, cond_some, slice_get_within}
 use Rattle.kb_store.specs.Disk.{Disk, Files}
 use Rattle.kb_batch.specs.Batch.{is_natural, natural}
@@ -15,11 +15,12 @@ use Rattle.kb_topics.specs.Known.{partition_at}
 use Rattle.kb_tenant_state.specs.declared.parts.Parts.{Parts}
 use Rattle.kb_opening.specs.Owners.{is_of_catalog, is_of_partition, is_of_one, passes, says}
 use Rattle.kb_opening.specs.Directory.{all_files, files_at, IsDirectory}
-use Rattle.kb_opening.specs.Tenant.{tenant_in}
+use Rattle.kb_opening.specs.Opened.{IsInUse}
+use Rattle.kb_opening.specs.Tenant.{generation_of, tenant_in}
 use Rattle.kb_opening.specs.declared.directory.Directory.{Directory}
 use Rattle.kb_opening.specs.declared.owner.Owner.{Owner}
 use Rattle.kb_opening.specs.declared.owner.Owner.TheVariants.{Catalog, Partition}
-use Rattle.kb_restart.specs.Restart.{AreRestored, IsLeft}
+use Rattle.kb_restart.specs.Restart.{owners_of, AreRestored, IsLeft}
 use Rattle.kb_restart.proofs.Read.{in_filter, both_true}
 use Rattle.kb_restart.proofs.Reopened.{item_within}
 
@@ -40,7 +41,7 @@ legal_in s h =
 pub one_of_both : (h : Header) → is_legal h ≡ true → (is_partition h.kind h.instance h.partition h.generation ≡ true) ⊎ (is_meta h.kind h.instance h.partition h.generation ≡ true)
 one_of_both h legal = or_cases _ _ (and_parts (is_tenant h.tenant && is_not_negative h.base) _ legal).1
 
-own_number : (z : ℤ) → is_not_negative z ≡ true → is_natural (natural z) z ≡ true
+pub own_number : (z : ℤ) → is_not_negative z ≡ true → is_natural (natural z) z ≡ true
 own_number (pos m) e = eq-eqb m m refl
 own_number (negsuc m) e = absurd (false≢true e)
 
@@ -60,8 +61,7 @@ module _ (files : Files) (names : List (List ℕ)) (numbers : List ℕ) (d : Dir
 
   stands : (file : ℕ) (h : Header) → header_in (bytes_at files file) ≡ Some h → Contains numbers file → is_of_one names h ≡ true → Stands file
   stands file h read among one =
-      let both = and_parts (list_any (bytes_eq h.tenant) names) (is_natural 0 h.generation) one in
-      let n = named_at names h.tenant both.0 in
+      let n = named_at names h.tenant one in
       let lt = slice_get_within names n.0 n.1 n.2 in
       ⊎_elim
       (λ (is : is_partition h.kind h.instance h.partition h.generation ≡ true).
@@ -71,28 +71,45 @@ module _ (files : Files) (names : List (List ℕ)) (numbers : List ℕ) (d : Dir
       let i = natural h.instance in
       let p = natural h.partition in
       let says_so : is_of_partition n.1 i p h ≡ true =
-      both_true _ _ (both_true _ _ (both_true _ _ (both_true _ _ n.3 kind.0) (own_number h.instance kind.1)) (own_number h.partition two.1)) both.1 in
+      both_true _ _ (both_true _ _ (both_true _ _ (both_true _ _ n.3 kind.0) (own_number h.instance kind.1)) (own_number h.partition two.1)) three.1 in
       (Partition n.0 i p, lt, subst (λ ns. Contains ns file) (sym (dir.partitions n.0 i p n.1 n.2)) (in_filter (says files (is_of_partition n.1 i p)) numbers file among (ap (passes (is_of_partition n.1 i p)) read ∙ says_so))))
       (λ (is : is_meta h.kind h.instance h.partition h.generation ≡ true).
       let three = and_parts ((is_natural 1 h.kind && is_natural 0 h.instance) && is_natural 0 h.partition) (is_not_negative h.generation) is in
       let two = and_parts (is_natural 1 h.kind && is_natural 0 h.instance) (is_natural 0 h.partition) three.0 in
       let kind = and_parts (is_natural 1 h.kind) (is_natural 0 h.instance) two.0 in
-      let says_so : is_of_catalog n.1 h ≡ true = both_true _ _ (both_true _ _ n.3 kind.0) both.1 in
-      (Catalog n.0, lt, subst (λ ns. Contains ns file) (sym (dir.catalogs n.0 n.1 n.2)) (in_filter (says files (is_of_catalog n.1)) numbers file among (ap (passes (is_of_catalog n.1)) read ∙ says_so))))
+      let g = natural h.generation in
+      let says_so : is_of_catalog n.1 g h ≡ true = both_true _ _ (both_true _ _ n.3 kind.0) (own_number h.generation three.1) in
+      (Catalog n.0 g, lt, subst (λ ns. Contains ns file) (sym (dir.catalogs n.0 g n.1 n.2)) (in_filter (says files (is_of_catalog n.1 g)) numbers file among (ap (passes (is_of_catalog n.1 g)) read ∙ says_so))))
       (one_of_both h (legal_in (bytes_at files file) h read))
 
   module _ (mid now : Disk) (next : ℕ) (ps : List (Parts SegmentLog)) (left : Directory) (many : length ps ≡ length names) (restored : AreRestored mid d ps now next left)
-      (listed : (file : ℕ) → Contains (all_files d) file → Contains numbers file) where
-    -- it was not taken out, so its topics have no such partition
+      (listed : (file : ℕ) → Contains (all_files d) file → Contains numbers file)
+      (used : (t : ℕ) (name : List ℕ) (p : Parts SegmentLog) → slice_get names t ≡ Some name → slice_get ps t ≡ Some p → IsInUse files (owners_of files numbers name) (generation_of p) (known p.catalog)) where
+    -- it was not taken out, so its topics have no such partition, or its catalog is of an earlier generation
     left_of : (file : ℕ) → Contains (all_files left) file → (o : Owner) → tenant_in o < length names → Contains (files_at o d) file → IsLeft files numbers names ps file
-    left_of file is (Catalog t) lt has =
+    left_of file is (Catalog t g) lt has =
         let p = item_within ps t (omega (arith, lt, many)) in
-        absurd ((restored.each t p.0 p.1).gone (Catalog t) refl file has is)
+        let name = item_within names t lt in
+        elim (cases_lt (generation_of p.0) g) [
+          | inl above ↦ inr (inr record {
+            tenant = t;
+            name = name.0;
+            parts = p.0;
+            generation = generation_of p.0;
+            later = g;
+            named = name.1;
+            at = p.1;
+            in_use = used t name.0 p.0 name.1 p.1;
+            above = above;
+            has = subst (λ ns. Contains ns file) (dir.catalogs t g name.0 name.1) has;
+          })
+          | inr no_more ↦ absurd ((restored.each t p.0 p.1).gone (Catalog t g) (refl, omega (arith, no_more)) file has is)
+        ]
     left_of file is (Partition t i n) lt has =
         let p = item_within ps t (omega (arith, lt, many)) in
         let name = item_within names t lt in
         elim (partition_at (known p.0.catalog) (pos i) (pos n)) as (λ o. partition_at (known p.0.catalog) (pos i) (pos n) ≡ o → IsLeft files numbers names ps file) [
-          | None ↦ λ e. inr record {
+          | None ↦ λ e. inr (inl record {
             tenant = t;
             name = name.0;
             parts = p.0;
@@ -102,7 +119,7 @@ module _ (files : Files) (names : List (List ℕ)) (numbers : List ℕ) (d : Dir
             at = p.1;
             has = subst (λ ns. Contains ns file) (dir.partitions t i n name.0 name.1) has;
             unknown = e;
-          }
+          })
           | Some x ↦ λ e. absurd ((restored.each t p.0 p.1).gone (Partition t i n) (refl, subst (λ o. IsSome o) (sym e) refl) file has is)
         ] refl
 

@@ -18,11 +18,11 @@ use Rattle.kb_tenant_state.specs.Parts.{IsSound, Owns, entries, meta}
 use Rattle.kb_tenant_state.specs.declared.parts.Parts.{Parts}
 use Rattle.kb_tenant_api.specs.Hosted.{Kept, TenantState, kept_of, names_of}
 use Rattle.kb_tenants.specs.Tenants.{restored_tenant, IsOfSome}
-use Rattle.kb_opening.specs.Opened.{Owners, IsOpened, IsOnly, TenantLosesNothing}
+use Rattle.kb_opening.specs.Opened.{Owners, IsInUse, IsOpened, IsOnly, TenantLosesNothing}
 use Rattle.kb_opening.specs.Owners.{catalog_of, partition_of, strays_of}
 use Rattle.kb_opening.specs.Directory.{all_files, files_at}
 use Rattle.kb_opening.specs.Settled.{AreAccounted}
-use Rattle.kb_opening.specs.Tenant.{owners_in, tenant_in, AreListed, AreOwnNamed, IsOfTenant, IsTaken, IsTenantOf}
+use Rattle.kb_opening.specs.Tenant.{owners_in, generation_of, tenant_in, AreListed, AreOwnNamed, IsOfTenant, IsTaken, IsTenantOf}
 use Rattle.kb_opening.specs.declared.directory.Directory.{Directory}
 use Rattle.kb_opening.specs.declared.owner.Owner.{Owner}
 use Rattle.kb_opening.specs.declared.owner.Owner.TheVariants as owners
@@ -31,7 +31,10 @@ use Rattle.kb_broker.specs.declared.opening.OpenFault.TheVariants as faults
 
 -- of the files of some numbers, those of a tenant, by its logs
 abbrev pub owners_of : Files → List ℕ → List ℕ → Owners
-owners_of files numbers name = record { catalog = catalog_of files name numbers; partition = λ i p. partition_of files name i p numbers }
+owners_of files numbers name = record {
+  catalog = λ g. catalog_of files name g numbers;
+  partition = λ i p. partition_of files name i p numbers;
+}
 
 -- A tenant keeps what its files come to, and has no groups.
 pub record IsReopened (files : Files) (numbers name : List ℕ) (kept : Kept) : Type 0 where
@@ -61,10 +64,22 @@ pub record IsUnknown (files : Files) (numbers : List ℕ) (names : List (List �
   pub has : Contains (partition_of files name instance partition numbers) file
   pub unknown : partition_at (kept_of ts tenant).world.known (pos instance) (pos partition) ≡ None
 
--- The file is of no log: its header is unreadable, or of a tenant that is not named or of a later generation; or its tenant has no
--- such partition.
+-- the file is of a generation of a tenant's catalog above the one in use, which comes to what the tenant knows
+pub record IsOfLater (files : Files) (numbers : List ℕ) (names : List (List ℕ)) (ts : List TenantState) (file : ℕ) : Type 0 where
+  pub tenant : ℕ
+  pub name : List ℕ
+  pub generation : ℕ
+  pub later : ℕ
+  pub named : slice_get names tenant ≡ Some name
+  pub in_use : IsInUse files (owners_of files numbers name) generation (kept_of ts tenant).world.known
+  pub above : generation < later
+  pub has : Contains (catalog_of files name later numbers) file
+
+-- The file is of no log: its header is unreadable, or of a tenant that is not named; or its tenant has no such partition, or a catalog
+-- of an earlier generation.
 abbrev pub IsStray : Files → List ℕ → List (List ℕ) → List TenantState → ℕ → Type 0
-IsStray files numbers names ts file = Contains (strays_of files names numbers) file ⊎ IsUnknown files numbers names ts file
+IsStray files numbers names ts file =
+    Contains (strays_of files names numbers) file ⊎ IsUnknown files numbers names ts file ⊎ IsOfLater files numbers names ts file
 
 -- the file is one of a named tenant's
 pub record IsOfLog (files : Files) (numbers : List ℕ) (names : List (List ℕ)) (file : ℕ) : Type 0 where
@@ -99,18 +114,22 @@ pub record IsOfFirst (d : Directory) (count file : ℕ) : Type 0 where
   pub has : IsOfTenant d tenant file
 
 -- The parts of a tenant, opened from the files that a directory has of it, as they were; of them the directory has those alone now
--- that are of partitions which its topics have not; and nothing but its batches is in the files of a log.
+-- that are of partitions which its topics have not, or of a generation above the one in use; and nothing but its batches is in the
+-- files of a log.
 pub record IsRestored (old : Disk) (had : Directory) (tenant : ℕ) (parts : Parts SegmentLog) (new : Disk) (next : ℕ)
     (has : Directory) : Type 0 where
   pub sound : IsSound segment_log parts new.table next
   pub owned : (file : ℕ) → Owns segment_log parts file → IsOfTenant had tenant file
   pub opened : new.honest → AreOwnNamed (string_bytes parts.tenant) parts.segment_bytes tenant old.files had
       → IsTenantOf old.files (owners_in had tenant) parts new.files
+  pub in_use : new.honest → AreOwnNamed (string_bytes parts.tenant) parts.segment_bytes tenant old.files had
+      → IsInUse old.files (owners_in had tenant) (generation_of parts) (known parts.catalog)
   pub refusals : parts.refusals ≡ 0
-  pub gone : (o : Owner) → IsTaken tenant (known parts.catalog) o → (file : ℕ) → Contains (files_at o had) file
+  pub gone : (o : Owner) → IsTaken tenant (generation_of parts) (known parts.catalog) o → (file : ℕ) → Contains (files_at o had) file
       → Contains (all_files has) file → ⊥
   pub unknown : (i p : ℕ) → partition_at (known parts.catalog) (pos i) (pos p) ≡ None
       → files_at (owners.Partition tenant i p) has ≡ files_at (owners.Partition tenant i p) had
+  pub newer : (g : ℕ) → generation_of parts < g → files_at (owners.Catalog tenant g) has ≡ files_at (owners.Catalog tenant g) had
   pub meta_exact : (meta segment_log parts).exact new.table
   pub exact : AreExact segment_log (entries parts) new.table
   pub apart : (file : ℕ) → Owns segment_log parts file → Contains (all_files has) file → ⊥
@@ -162,9 +181,23 @@ pub record IsOfNone (files : Files) (numbers : List ℕ) (names : List (List ℕ
   pub has : Contains (partition_of files name instance partition numbers) file
   pub unknown : partition_at (known parts.catalog) (pos instance) (pos partition) ≡ None
 
+-- the file is of a generation of its tenant's catalog above the one in use
+pub record IsOfNewer (files : Files) (numbers : List ℕ) (names : List (List ℕ)) (tenants : List (Parts SegmentLog)) (file : ℕ) : Type 0 where
+  pub tenant : ℕ
+  pub name : List ℕ
+  pub parts : Parts SegmentLog
+  pub generation : ℕ
+  pub later : ℕ
+  pub named : slice_get names tenant ≡ Some name
+  pub at : slice_get tenants tenant ≡ Some parts
+  pub in_use : IsInUse files (owners_of files numbers name) generation (known parts.catalog)
+  pub above : generation < later
+  pub has : Contains (catalog_of files name later numbers) file
+
 -- it is of no log
 abbrev pub IsLeft : Files → List ℕ → List (List ℕ) → List (Parts SegmentLog) → ℕ → Type 0
-IsLeft files numbers names tenants file = Contains (strays_of files names numbers) file ⊎ IsOfNone files numbers names tenants file
+IsLeft files numbers names tenants file =
+    Contains (strays_of files names numbers) file ⊎ IsOfNone files numbers names tenants file ⊎ IsOfNewer files numbers names tenants file
 
 -- tenants of those names and parts, where the files are those
 abbrev pub tenants_restored : Files → List (List ℕ) → List (Parts SegmentLog) → List TenantState

@@ -4,7 +4,7 @@ use Rattle.std.proofs.lemmas.List.{length-map}
 use Rattle.std.proofs.lemmas.List.Sorted.{Contains-permutation, IsPermutation-sym}
 use Rattle.kb_store.specs.Disk.{Files}
 use Rattle.kb_opening.specs.Directory.{all_files}
-use Rattle.kb_restart.proofs.Read.{same_owners, listed, read_listed, cleared, are_sound, none_refused, are_opened, left_all}
+use Rattle.kb_restart.proofs.Read.{same_owners, listed, read_listed, cleared, are_sound, none_refused, are_in_use, are_opened, left_all}
 use Rattle.kb_opening.proofs.Openings.{missed_since}
 use Rattle.kb_restart.specs.Restart.{owners_of, AreOwnedNamed}
 use Rattle.kb_segment_log.proofs.Comes.{kept_headers, headers_then}
@@ -120,7 +120,8 @@ returns-clause-strays g c =
     let dir = e.what (c.in_ok-parts.ensures.others.honest h) in
     only_left first.files names files d dir mid now c.open_tenants.new.shelf.next c.in_ok-parts.parts.items c.open_tenants.new.directory
     (c.in_ok-parts.ensures.count ∙ sym (length-map c.args.names.now (λ name. name.now))) c.in_ok-parts.ensures.restored
-    (listed first files next q.there q.given_out q.once d e.all names dir) file
+    (listed first files next q.there q.given_out q.once d e.all names dir)
+    (are_in_use first files next q.there q.given_out q.once d e.all mid c.in_ok-parts.parts.items now c.open_tenants.new.shelf.next c.open_tenants.new.directory e.unchanged c.in_ok-parts.ensures.restored names h (e.what (c.in_ok-parts.ensures.others.honest h)) c.in_ok-parts.ensures.names (all_headed first.files names files d dir)) file
     (Contains-permutation c.in_ok-strays.strays.items (all_files c.open_tenants.new.directory) file (IsPermutation-sym (all_files c.open_tenants.new.directory) c.in_ok-strays.strays.items c.in_ok-strays.ensures.these) is)
 
 pub returns-clause-all_strays : goal.returns-clause-all_strays
@@ -135,7 +136,8 @@ returns-clause-all_strays g c =
     let e = c.in_ok-directory.ensures in
     let q = c.requires in
     λ h file none. Contains-permutation (all_files c.open_tenants.new.directory) c.in_ok-strays.strays.items file c.in_ok-strays.ensures.these
-    (left_all first files next q.there q.given_out q.once d e.all mid c.in_ok-parts.parts.items now c.open_tenants.new.shelf.next c.open_tenants.new.directory e.unchanged c.in_ok-parts.ensures.restored names h (e.what (c.in_ok-parts.ensures.others.honest h)) file none)
+    (left_all first files next q.there q.given_out q.once d e.all mid c.in_ok-parts.parts.items now c.open_tenants.new.shelf.next c.open_tenants.new.directory e.unchanged c.in_ok-parts.ensures.restored names h (e.what (c.in_ok-parts.ensures.others.honest h)) c.in_ok-parts.ensures.names
+    (all_headed first.files names files d (e.what (c.in_ok-parts.ensures.others.honest h))) file none)
 
 pub returns-clause-once : goal.returns-clause-once
 returns-clause-once g c = distinct_moved (all_files c.open_tenants.new.directory) c.in_ok-strays.strays.items c.in_ok-strays.ensures.these c.in_ok-parts.ensures.restored.listed.once

@@ -6,13 +6,13 @@ use Rattle.kb_topics.specs.Catalog.{known}
 use Rattle.kb_tenant_state.specs.Parts.{IsSound, Owns}
 use Rattle.kb_segment_log.specs.declared.log.SegmentLog.{SegmentLog}
 use Rattle.kb_tenant_state.specs.declared.parts.Parts.{Parts}
-use Rattle.kb_opening.specs.Tenant.{owners_in, AreOwnNamed, IsOfTenant, IsTaken, IsTenantOf, TakesTenant}
+use Rattle.kb_opening.specs.Tenant.{owners_in, generation_of, AreOwnNamed, IsOfTenant, IsTaken, IsTenantOf, TakesTenant}
 use Rattle.kb_opening.specs.Directory.{all_files, files_at}
 use Rattle.kb_opening.specs.declared.owner.Owner.{Owner}
 use Rattle.kb_restart.proofs.Restored.{none_restored, next_clears, next_own, next_restored, one_more, names_more, all_more, passed_on}
 use Rattle.kb_restart.specs.Restart.{names_in, AreOwnedNamed}
 use Rattle.kb_opening.proofs.Openings.{clears_wider}
-use Rattle.kb_opening.specs.Opened.{TenantLosesNothing}
+use Rattle.kb_opening.specs.Opened.{IsInUse, TenantLosesNothing}
 use Rattle.kb_segment_log.proofs.Comes.{headers_then}
 use Rattle.kb_restart.proofs.Same.{none_changed, tenants_lost}
 use Rattle.std.proofs.lemmas.List.Elements.{All-nil}
@@ -85,10 +85,14 @@ loop-tenant-preserved g c =
           (e.opened h (subst (λ ns. AreOwnNamed ns c.args.segment_bytes c.loop-tenant.tenant mid.files has) e.name
           (subst (λ n. AreOwnNamed (string_bytes p.tenant) n c.loop-tenant.tenant mid.files has) e.size
           (subst (λ n. AreOwnNamed (string_bytes p.tenant) p.segment_bytes n mid.files has) (sym count) own)))))
+          (λ h own. subst (λ n. IsInUse mid.files (owners_in has n) (generation_of p) (known p.catalog)) count
+          (e.in_use h (subst (λ ns. AreOwnNamed ns c.args.segment_bytes c.loop-tenant.tenant mid.files has) e.name
+          (subst (λ n. AreOwnNamed (string_bytes p.tenant) n c.loop-tenant.tenant mid.files has) e.size
+          (subst (λ n. AreOwnNamed (string_bytes p.tenant) p.segment_bytes n mid.files has) (sym count) own)))))
           e.refusals
-          (subst (λ n. TakesTenant n (known p.catalog) has left) count e.taken)
+          (subst (λ n. TakesTenant n (generation_of p) (known p.catalog) has left) count e.taken)
           e.directory e.stay
-          (subst (λ n. (o : Owner) → IsTaken n (known p.catalog) o → (file : ℕ) → Contains (files_at o has) file → Contains (all_files left) file → ⊥) count e.gone)
+          (subst (λ n. (o : Owner) → IsTaken n (generation_of p) (known p.catalog) o → (file : ℕ) → Contains (files_at o has) file → Contains (all_files left) file → ⊥) count e.gone)
           (subst (λ n. Clears (IsOfTenant has n) mid now) count e.others)
           e.exact e.accounted e.apart
           c.push.new.self.items grown;

@@ -2,7 +2,8 @@
 
 ghost use Rattle.std.specs.Prelude.{◌≡◌, [], false, true, not, None, slice_get, option_copied, IfOk, OnOk, OnErr};
 ghost use Rattle.std.specs.BTreeMap.{is_at};
-ghost use Rattle.std.specs.BTreeSet.{contains, insert_key};
+ghost use Rattle.std.specs.BTreeSet.{contains, insert_key, keys_between};
+ghost use Rattle.std.specs.declared.ops.Bound.TheVariants.{Included, Unbounded};
 ghost use Rattle.std.specs.Ordering.{nat_cmp};
 ghost use Rattle.std.specs.Set.{remove_key};
 ghost use Rattle.kb_folder.specs.Changed.{IsLasting, first_of};
@@ -68,11 +69,11 @@ impl Changed {
         self.files.len()
     }
 
-    /// The least number of a file that is noted.
-    pub(crate) fn first(&self) -> Option<u64>
-        ensures { result ≡ slice_get self.now.files.keys 0 }
+    /// The least number of a file that is noted, from a number on.
+    pub(crate) fn first_from(&self, least: u64) -> Option<u64>
+        ensures { result ≡ slice_get (keys_between nat_cmp (Included least) Unbounded self.now.files) 0 }
     {
-        self.files.first().copied()
+        self.files.range(least..).next().copied()
     }
 
     /// Notes that names have changed, or that they last.

@@ -264,6 +264,14 @@ impl<R: Files<File = File> + AllocGlobal + Clone + Drop> HostFolder<R> {
         Ok(front_of(self.rt.alloc(), &kept[..read], bytes)?)
     }
 
+    /// Whether a file is a catalog's, by the bytes that it begins with. One that cannot be read is none.
+    pub(crate) fn is_catalogs(&mut self, file: u64) -> bool {
+        match self.front(file, FRONT as u64, &[]) {
+            Ok(front) => may_take_reserve(&front),
+            Err(_) => false,
+        }
+    }
+
     /// Gives so many bytes of the reserve up for a file that begins with a front, or all that it has.
     fn give_up(&mut self, size: u64, _front: &[u8]) -> io::Result<()>
         requires { is_catalogs _front.now ≡ true }

@@ -24,7 +24,8 @@ impl<R: Files<File = File> + AllocGlobal + Clone + Drop> HostFolder<R> {
     }
 
     /// Syncs every file that has a number, and the names, and asks the system to forget what it has in memory of each file: what a
-    /// process that was killed left unsynced is to be believed only where it lasts. It is for an opening, before anything is read.
+    /// process that was killed left unsynced is to be believed only where it lasts. It syncs the names of the folders above, too, so that
+    /// the folder's own lasts. It is for an opening, before anything is read.
     pub fn sync_found(&mut self) -> Result<(), FolderFault> {
         let listed = self.list(self.rt.alloc());
         let names = self.answer(FolderCall::List, None, listed)?;
@@ -35,6 +36,8 @@ impl<R: Files<File = File> + AllocGlobal + Clone + Drop> HostFolder<R> {
             }
         }
         let synced = self.sync_folder();
+        self.came_to(None, synced)?;
+        let synced = self.sync_above();
         self.came_to(None, synced)
     }
 
@@ -95,14 +98,16 @@ impl<R: Files<File = File> + AllocGlobal + Clone + Drop> HostFolder<R> {
         }
     }
 
-    /// Makes what has changed last.
+    /// Makes what has changed last: catalogs behind all other files. What a catalog tells of a partition, as a start or an offset that a
+    /// group is at, is to last only where the partition's records do.
     pub(crate) fn sync_changed(&mut self) -> Result<(), FolderFault>
         ensures lasting { OnOk result (AllLasts self.new.changed) }
         ensures refused { IsSome (refused_in self.old.changed) → IsErr result }
     {
         self.not_refused()?;
+        self.sync_partitions()?;
         for _ in 0..self.files_changed() {
-            self.sync_next()?;
+            self.sync_first()?;
         }
         self.sync_names()?;
         self.all_lasts()
@@ -116,15 +121,39 @@ impl<R: Files<File = File> + AllocGlobal + Clone + Drop> HostFolder<R> {
         }
     }
 
-    /// Makes the next file that has changed last.
-    fn sync_next(&mut self) -> Result<(), FolderFault> {
-        let next = match &self.changed {
-            Some(changed) => changed.first(),
+    /// The least number of a file that has changed, from a number on.
+    fn first_changed(&self, least: u64) -> Option<u64> {
+        match &self.changed {
+            Some(changed) => changed.first_from(least),
             None => None,
-        };
-        let Some(file) = next else {
-            return Ok(());
-        };
+        }
+    }
+
+    /// Makes what has changed last but for catalogs.
+    fn sync_partitions(&mut self) -> Result<(), FolderFault> {
+        let mut least = 0;
+        for _ in 0..self.files_changed() {
+            let Some(file) = self.first_changed(least) else {
+                return Ok(());
+            };
+            if !self.is_catalogs(file) {
+                self.sync_file(file)?;
+            }
+            least = file.saturating_add(1);
+        }
+        Ok(())
+    }
+
+    /// Makes the first file that has changed last.
+    fn sync_first(&mut self) -> Result<(), FolderFault> {
+        match self.first_changed(0) {
+            Some(file) => self.sync_file(file),
+            None => Ok(()),
+        }
+    }
+
+    /// Makes a file last.
+    fn sync_file(&mut self, file: u64) -> Result<(), FolderFault> {
         let synced = match self.file(file) {
             Ok(opened) => opened.sync_data(),
             Err(error) => Err(error),
@@ -214,6 +243,21 @@ impl<R: Files<File = File> + AllocGlobal + Clone + Drop> HostFolder<R> {
         let mut options = OpenOptions::new();
         options.read(true);
         self.open_with(&options, path.as_str())?.sync_all()
+    }
+
+    /// Makes the names last of the folders above that the folder's path may have had made. One that cannot be opened is passed over.
+    fn sync_above(&mut self) -> io::Result<()> {
+        let mut path = self.path.clone()?;
+        let names = self.path.split('/').count();
+        for _ in 0..names {
+            path.push_str("/..")?;
+            let mut options = OpenOptions::new();
+            options.read(true);
+            if let Ok(above) = self.open_with(&options, path.as_str()) {
+                above.sync_all()?;
+            }
+        }
+        Ok(())
     }
 
     /// Syncs a file that was found, and drops what the system has in memory of it. What is no file is left.

@@ -10,8 +10,10 @@ use crate::lines::Lines;
 use crate::refused::FolderJournal;
 use kb_server_log::now;
 use kb_start::{
-    Cause, Consent, Loss, Opened, Surveyed, damage_text, loss_text, stray_text, survey, why_refused,
+    Cause, Consent, Loss, Opened, Surveyed, damage_text, loss_text, recorded_starts, stray_text,
+    survey, why_refused,
 };
+use kb_store::{Store, StoreFault};
 use std::alloc::{AllocError, Global};
 
 /// How many files are told of at most.
@@ -28,7 +30,7 @@ pub fn examine(
 ) -> Result<(), OperatorFault> {
     let alloc = rt.alloc();
     let mut store = store_to_read(rt, folder)?;
-    let surveyed = match survey(alloc, &mut store, opened) {
+    let surveyed = match look(alloc, &mut store, opened) {
         Ok(surveyed) => surveyed,
         Err(fault) => return Err(folder.of_store(alloc, fault)),
     };
@@ -36,6 +38,28 @@ pub fn examine(
     journal.tell_dropped(alloc, now(rt), opened.files);
     journal.tell_strays(alloc, now(rt), &surveyed.strays);
     Ok(())
+}
+
+/// Surveys the files of a store, which an opening would leave so. Where something would be lost the catalogs are read: what stands below
+/// a start that they record is no loss.
+fn look<S: Store>(
+    alloc: Global,
+    store: &mut S,
+    opened: &Opened<'_>,
+) -> Result<Surveyed, StoreFault> {
+    let surveyed = survey(alloc, store, opened)?;
+    if surveyed.losses.is_empty() {
+        return Ok(surveyed);
+    }
+    let starts = recorded_starts(alloc, store, opened.names)?;
+    let known = Opened {
+        names: opened.names,
+        next_instances: opened.next_instances,
+        files: opened.files,
+        strays: opened.strays,
+        starts: &starts,
+    };
+    survey(alloc, store, &known)
 }
 
 /// Refuses a start on the folder at a path exactly where there is a reason to, and tells of the files that are its reason.

@@ -1,3 +1,4 @@
 pub mod Left
+pub mod Starts
 pub mod Survey
 pub mod Verdict

@@ -7,10 +7,12 @@
 
 mod left;
 mod losses;
+mod starts;
 mod text;
 mod verdict;
 
 pub use left::{Left, Total};
 pub use losses::{Loss, Opened, StrayCounts, Surveyed, survey};
+pub use starts::recorded_starts;
 pub use text::{damage_text, loss_text, stray_text};
 pub use verdict::{Cause, Consent, why_refused};

@@ -1,14 +1,16 @@
 //! What a start on a data folder would lose or leave aside, by what its files say.
 
-ghost use Rattle.std.specs.Prelude.{◌≡◌, ◌+◌, ◌++◌, IfOk, map, if◌then◌else◌};
+ghost use Rattle.std.specs.Prelude.{◌≡◌, ◌+◌, ◌++◌, IfOk, if◌then◌else◌};
 ghost use Rattle.std.specs.FinMap.{keys};
 ghost use Rattle.kb_store.specs.Disk.{Keeps};
-ghost use Rattle.kb_start.specs.Survey.{loss_at, losses_of, stray_at, stray_loss, stray_losses, unfit_after, with_stray};
+ghost use Rattle.kb_start.specs.Survey.{known_of, loss_at, loss_of, losses_of, stray_at, stray_loss, stray_losses, unfit_after, with_stray};
 
 use crate::left::Left;
+use crate::starts::start_of;
 use kb_segment::SegmentHeader;
 use kb_store::{Store, StoreFault};
 use kb_survey::{Stray, Whole, header_among, stray_among, whole_among};
+use kb_topics::MoveStart;
 use std::alloc::{AllocError, Global};
 use std::collections::BTreeMap;
 
@@ -52,21 +54,23 @@ pub struct Opened<'a> {
     pub files: &'a [Left],
     /// The files that are of no log.
     pub strays: &'a [u64],
+    /// The starts of partitions that the catalogs of the tenants record, as far as they are known.
+    pub starts: &'a [Vec<MoveStart>],
 }
 
-/// Surveys the files of a store, which an opening would leave so. It is only read.
+/// Surveys the files of a store, which an opening would leave so. It is only read. Batches below a start that is known to be recorded
+/// are no loss: they were to go.
 pub fn survey<S: Store>(
     alloc: Global,
     store: &mut S,
     opened: &Opened<'_>,
 ) -> Result<Surveyed, StoreFault>
     ensures losses { IfOk result (λ found. (S.disk store.new).honest
-        → found.losses.items ≡ losses_of (S.disk store.old) opened.now.files.now
-        ++ stray_losses (S.disk store.old) (map (λ name. name.now) opened.now.names.now)
-        opened.now.next_instances.now opened.now.strays.now) }
+        → found.losses.items ≡ losses_of (known_of opened.now) (S.disk store.old) opened.now.files.now
+        ++ stray_losses (known_of opened.now) (S.disk store.old) opened.now.next_instances.now opened.now.strays.now) }
     ensures unfit { IfOk result (λ found. (S.disk store.new).honest
-        → found.strays.unfit ≡ unfit_after (S.disk store.old) (map (λ name. name.now) opened.now.names.now)
-        opened.now.next_instances.now 0 opened.now.strays.now) }
+        → found.strays.unfit ≡ unfit_after (S.disk store.old) (known_of opened.now).names opened.now.next_instances.now
+        0 opened.now.strays.now) }
     ensures unchanged { Keeps (S.disk store.old) (S.disk store.new) }
 {
     let listed = store.list(alloc)?;
@@ -79,7 +83,7 @@ pub fn survey<S: Store>(
             short: 0,
         },
     };
-    add_dropped(alloc, store, &listed, opened.files, &mut survey.losses)?;
+    add_dropped(alloc, store, &listed, opened, &mut survey.losses)?;
     add_strays(alloc, store, &listed, opened, &mut survey)?;
     Ok(survey)
 }
@@ -89,40 +93,60 @@ fn add_dropped<S: Store>(
     alloc: Global,
     store: &mut S,
     listed: &[u64],
-    files: &[Left],
+    opened: &Opened<'_>,
     losses: &mut Vec<Loss>,
 ) -> Result<(), StoreFault>
     requires { listed.now ≡ keys (S.disk store.old).table }
     ensures losses { IfOk result (λ _. (S.disk store.new).honest
-        → losses.new.items ≡ losses.old.items ++ losses_of (S.disk store.old) files.now) }
+        → losses.new.items ≡ losses.old.items ++ losses_of (known_of opened.now) (S.disk store.old) opened.now.files.now) }
     ensures unchanged { Keeps (S.disk store.old) (S.disk store.new) }
 {
-    for file in files {
-        if file.is_dropped() {
-            let place = file.after.unwrap_or(0);
-            add_loss(alloc, store, listed, file.file, place, losses)?;
-        }
+    for file in opened.files {
+        add_left(alloc, store, listed, opened, file, losses)?;
     }
     Ok(())
 }
 
-/// Adds a file, where whole batches stand in it from a place on.
+/// Adds a file, where an opening drops whole batches of it.
+fn add_left<S: Store>(
+    alloc: Global,
+    store: &mut S,
+    listed: &[u64],
+    opened: &Opened<'_>,
+    file: &Left,
+    losses: &mut Vec<Loss>,
+) -> Result<(), StoreFault>
+    requires { listed.now ≡ keys (S.disk store.old).table }
+    ensures losses { IfOk result (λ _. (S.disk store.new).honest
+        → losses.new.items ≡ losses.old.items ++ loss_of (known_of opened.now) (S.disk store.old) file.now) }
+    ensures unchanged { Keeps (S.disk store.old) (S.disk store.new) }
+{
+    if !file.is_dropped() {
+        return Ok(());
+    }
+    let place = file.after.unwrap_or(0);
+    add_loss(alloc, store, listed, opened, file.file, place, losses)
+}
+
+/// Adds a file, where whole batches stand in it from a place on and end above the start that is recorded.
 fn add_loss<S: Store>(
     alloc: Global,
     store: &mut S,
     listed: &[u64],
+    opened: &Opened<'_>,
     file: u64,
     place: u64,
     losses: &mut Vec<Loss>,
 ) -> Result<(), StoreFault>
     requires { listed.now ≡ keys (S.disk store.old).table }
     ensures losses { IfOk result (λ _. (S.disk store.new).honest
-        → losses.new.items ≡ losses.old.items ++ loss_at (S.disk store.old) file place) }
+        → losses.new.items ≡ losses.old.items ++ loss_at (known_of opened.now) (S.disk store.old) file place) }
     ensures unchanged { Keeps (S.disk store.old) (S.disk store.new) }
 {
-    let whole = whole_among(alloc, store, listed, file, place, 0)?;
+    let header = header_among(alloc, store, listed, file)?;
+    let start = start_of(opened.names, opened.starts, header.as_ref());
+    let whole = whole_among(alloc, store, listed, file, place, start)?;
     if whole.batches > 0 {
-        let header = header_among(alloc, store, listed, file)?;
         losses.push(Loss {
             file,
             header,
@@ -143,11 +167,10 @@ fn add_strays<S: Store>(
     requires { listed.now ≡ keys (S.disk store.old).table }
     ensures losses { IfOk result (λ _. (S.disk store.new).honest
         → survey.new.losses.items ≡ survey.old.losses.items
-        ++ stray_losses (S.disk store.old) (map (λ name. name.now) opened.now.names.now)
-        opened.now.next_instances.now opened.now.strays.now) }
+        ++ stray_losses (known_of opened.now) (S.disk store.old) opened.now.next_instances.now opened.now.strays.now) }
     ensures unfit { IfOk result (λ _. (S.disk store.new).honest
-        → survey.new.strays.unfit ≡ unfit_after (S.disk store.old) (map (λ name. name.now) opened.now.names.now)
-        opened.now.next_instances.now survey.old.strays.unfit opened.now.strays.now) }
+        → survey.new.strays.unfit ≡ unfit_after (S.disk store.old) (known_of opened.now).names opened.now.next_instances.now
+        survey.old.strays.unfit opened.now.strays.now) }
     ensures unchanged { Keeps (S.disk store.old) (S.disk store.new) }
 {
     for file in opened.strays {
@@ -168,11 +191,11 @@ fn add_stray<S: Store>(
     requires { listed.now ≡ keys (S.disk store.old).table }
     ensures losses { IfOk result (λ _. (S.disk store.new).honest
         → survey.new.losses.items ≡ survey.old.losses.items
-        ++ stray_loss (S.disk store.old) file
-        (stray_at (S.disk store.old) (map (λ name. name.now) opened.now.names.now) opened.now.next_instances.now file)) }
+        ++ stray_loss (known_of opened.now) (S.disk store.old) file
+        (stray_at (S.disk store.old) (known_of opened.now).names opened.now.next_instances.now file)) }
     ensures unfit { IfOk result (λ _. (S.disk store.new).honest
         → survey.new.strays.unfit ≡ with_stray survey.old.strays.unfit
-        (stray_at (S.disk store.old) (map (λ name. name.now) opened.now.names.now) opened.now.next_instances.now file)) }
+        (stray_at (S.disk store.old) (known_of opened.now).names opened.now.next_instances.now file)) }
     ensures unchanged { Keeps (S.disk store.old) (S.disk store.new) }
 {
     let found = stray_among(
@@ -188,7 +211,7 @@ fn add_stray<S: Store>(
     };
     let header = header_among(alloc, store, listed, file)?;
     if stray == Stray::Unreadable {
-        return add_loss(alloc, store, listed, file, 0, &mut survey.losses);
+        return add_loss(alloc, store, listed, opened, file, 0, &mut survey.losses);
     }
     Ok(survey.strays.add(alloc, stray, header)?)
 }

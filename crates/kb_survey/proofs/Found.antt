@@ -30,11 +30,11 @@ none_more w =
     λ i. record { batches = count i; bytes = size i }
 
 module _ (long : (s b : List ℕ) → front s ≡ Some b → 1 ≤ length b) where
-  found_none : (s : List ℕ) → 0 < length s → front s ≡ None → batches_in s ≡ batches_in (drop 1 s)
+  pub found_none : (s : List ℕ) → 0 < length s → front s ≡ None → batches_in s ≡ batches_in (drop 1 s)
   found_none [] l e = absurd (omega (arith, l))
   found_none (x ∷ s) l e = ap (λ o. going_on o (found_in (length s)) (x ∷ s)) e
 
-  found_some : (s b : List ℕ) → 0 < length s → front s ≡ Some b → batches_in s ≡ b ∷ batches_in (drop (length b) s)
+  pub found_some : (s b : List ℕ) → 0 < length s → front s ≡ Some b → batches_in s ≡ b ∷ batches_in (drop (length b) s)
   found_some [] b l e = absurd (omega (arith, l))
   found_some (x ∷ s) b l e =
       let some = long (x ∷ s) b e in

@@ -1,8 +1,8 @@
 //! What a start on the files of a store would lose, before anything is lost.
 //!
-//! [`Postponed`] is a store that puts off what is cut and removed until the first write: an opening makes no write, so that what it
-//! would drop can be looked at while all of it is still there. [`whole_batches`] tells how many whole batches stand in the bytes that
-//! would go, and [`read_stray`] why a file is of no log.
+//! [`Postponed`] is a store that puts off what is cut and removed until the first write ([`PutsOff`]): an opening makes no write, so
+//! that what it would drop can be looked at while all of it is still there. [`whole_batches`] tells how many whole batches stand in the
+//! bytes that would go, and [`read_stray`] why a file is of no log.
 #![tactic(auto)]
 
 mod change;
@@ -11,7 +11,7 @@ mod postponed;
 mod stray;
 mod whole;
 
-pub use look::{header_among, stray_among, whole_among};
-pub use postponed::Postponed;
+pub use look::{bytes_among, header_among, stray_among, whole_among};
+pub use postponed::{Postponed, PutsOff};
 pub use stray::{Stray, read_stray};
 pub use whole::{Whole, whole_batches};

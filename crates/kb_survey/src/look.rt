@@ -1,5 +1,5 @@
 //! What files say that are there to be read.
-ghost use Rattle.std.specs.Prelude.{◌≡◌, drop, map, None, Some, if◌then◌else◌, IfOk};
+ghost use Rattle.std.specs.Prelude.{◌≡◌, [], drop, map, None, Some, if◌then◌else◌, IfOk};
 ghost use Rattle.std.specs.FinMap.{keys};
 ghost use Rattle.kb_store.specs.Disk.{bytes_of, HasCause, Keeps};
 ghost use Rattle.kb_segment.specs.Header.{header_in};
@@ -55,6 +55,27 @@ pub fn stray_among<S: Store>(
     }
     let stray = read_stray(alloc, store, file, names, next_instances)?;
     Ok(Some(stray))
+}
+
+/// All bytes of a file, by the numbers of all that are there: none where the file is not there. Room is asked for by the file's length,
+/// which the store answers.
+#[tactic(auto, using(crate::proofs::Listed::is_there))]
+pub fn bytes_among<S: Store>(
+    alloc: Global,
+    store: &mut S,
+    listed: &[u64],
+    file: u64,
+) -> Result<Vec<u8>, StoreFault>
+    requires { listed.now ≡ keys (S.disk store.old).table }
+    ensures bytes { IfOk result (λ bytes. (S.disk store.new).honest
+        → bytes.items ≡ (if is_in listed.now file then bytes_of (S.disk store.old) file else [])) }
+    ensures unchanged { Keeps (S.disk store.old) (S.disk store.new) }
+    ensures cause { HasCause (S.disk store.old) result (S.disk store.new) }
+{
+    if !listed.contains(&file) {
+        return Ok(Vec::new(alloc));
+    }
+    read_file(alloc, store, file)
 }
 
 /// The whole batches that stand in a file from a place on and end above a start, by the numbers of all that are there: none where the

@@ -1,6 +1,7 @@
 //! A store that puts off what is cut and removed.
 ghost use Rattle.std.specs.Prelude.{◌≡◌, ◌+◌, ◌≤◌, ◌<◌, ◌^◌, true, false, [], IfOk, OnOk, OnErr, length, take, drop, None, Some};
 ghost use Rattle.std.specs.FinMap as map;
+ghost use Rattle.kb_store.specs.Disk.{Disk};
 ghost use Rattle.kb_survey.specs.Postponed.{Postponing, disk_with, IsUntouched};
 
 use crate::change::{Change, length_after, make_all, numbers_left, removes};
@@ -8,6 +9,16 @@ use kb_store::{Store, StoreFault};
 use std::alloc::Global;
 use std::collections::VecDeque;
 use std::marker::Model;
+
+/// A store that may have put changes of its files off.
+pub trait PutsOff: Store {
+    /// The files and their lengths without these changes.
+    ghost inside: { Self → Disk };
+
+    /// How many bytes a file has to callers that has so many without these changes; none where it was removed.
+    fn bytes_left(&self, file: u64, len: u64) -> Option<u64>
+        ensures { map.get (inside self.now).table file ≡ Some len → result ≡ map.get (Self.Store.disk self.now).table file };
+}
 
 /// A store that cuts and removes nothing before the first write.
 ///
@@ -207,5 +218,13 @@ impl<S: Store> Store for Postponed<S> {
         ensures inside { result ≡ true → (S.disk self.now.store).honest → Only (S.disk self.now.store).files (S.loss self.now.store) }
     {
         self.put_off.is_empty() && self.store.is_synced()
+    }
+}
+
+impl<S: Store> PutsOff for Postponed<S> {
+    ghost inside = { λ s. S.disk s.store };
+
+    fn bytes_left(&self, file: u64, len: u64) -> Option<u64> {
+        self.left(file, len)
     }
 }

@@ -46,9 +46,6 @@ enum Fault {
     /// A standard stream is closed, and nothing can be opened in its place.
     #[error("kbroker: cannot open /dev/null: {0}")]
     Streams(io::Error),
-    /// The system gives no random bytes.
-    #[error("kbroker: cannot get random bytes: {0}")]
-    Random(io::Error),
 }
 
 impl From<AllocError> for Fault {

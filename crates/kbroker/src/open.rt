@@ -1,45 +1,19 @@
 //! The opening of a data folder, and what refuses it.
 
+ghost use Rattle.std.specs.Prelude.{◌≡◌, IfOk};
+ghost use Rattle.kb_tenants.specs.Members.{HaveNoGroup};
+ghost use Rattle.kb_broker.specs.Opening.{opening_over};
+ghost use Rattle.kb_restart.specs.Restart.{have_nothing_refused};
+
 use crate::Fault;
 use clap::{Arg, ArgAction, ArgMatches, Command};
 use kb_broker::OpenFault;
-use kb_cache::CachedStore;
-use kb_durable::DurableStore;
-use kb_node::{Settings, tenant_names};
-use kb_operator::{DataStore, FolderJournal, Held, Journal, OperatorFault, examine};
-use kb_restart::{Counts, FileLength, Restarted, file_lengths};
+use kb_node::{Listing, Settings, tenant_names};
+use kb_operator::{FolderJournal, Held, Journal, OperatorFault, examine};
+use kb_restart::{Counts, FileLength, Restarted, file_lengths, open_broker};
 use kb_start::{Consent, Left, Opened, Total};
-use kb_store::Store;
-use kb_survey::Postponed;
+use kb_survey::PutsOff;
 use std::alloc::{AllocError, Global};
-use std::hash::RandomState;
-
-/// The store of a data folder's files, of which a loss of power leaves simple things alone, with what was read and written last in memory.
-pub type Cached = CachedStore<DurableStore<DataStore>>;
-
-/// The store that a data folder is served from. Nothing of it is cut or removed before the first write.
-pub type Kept = Postponed<Cached>;
-
-/// A store that keeps in memory what the settings say, and syncs or does not. How it hashes places is this process's own: clients choose
-/// them.
-pub fn cached(
-    rt: &HostRuntime,
-    settings: &Settings,
-    store: DataStore,
-    syncs: bool,
-) -> Result<Cached, Fault> {
-    let store = DurableStore::new(rt.alloc(), store, syncs);
-    match RandomState::new(rt) {
-        Ok(hasher) => Ok(CachedStore::new(
-            rt.alloc(),
-            hasher,
-            store,
-            settings.cache_batches,
-            settings.cache_bytes,
-        )),
-        Err(error) => Err(Fault::Random(error)),
-    }
-}
 
 /// What the command line says that a start goes on without.
 pub fn consent_of(found: &ArgMatches<'_>) -> Consent {
@@ -62,53 +36,63 @@ pub fn with_consent<'a>(alloc: Global, command: Command<'a>) -> Result<Command<'
     command.arg(drop_damaged)?.arg(accept_strays)
 }
 
-/// The files of a store with their lengths.
-pub fn lengths(
-    alloc: Global,
-    store: &mut Cached,
+/// What a start on a data folder goes by.
+#[derive(Clone, Copy)]
+pub struct Start<'a> {
+    pub settings: &'a Settings,
+    pub listing: Listing,
+    pub consent: Consent,
+}
+
+/// Opens the broker of a journal's folder, whose store that is, and says what it has. Where its files are a reason not to, the start is
+/// refused, and nothing was changed.
+pub fn open_on<S: PutsOff + Drop>(
+    rt: &HostRuntime,
+    start: Start<'_>,
+    mut store: S,
     folder: &FolderJournal,
-) -> Result<Vec<FileLength>, Fault> {
-    match file_lengths(alloc, store) {
-        Ok(lengths) => Ok(lengths),
-        Err(fault) => Err(Fault::Operator(folder.of_store(alloc, fault))),
-    }
+    journal: &mut Journal,
+) -> Result<(Restarted<S>, Held), Fault>
+    ensures fixed { IfOk result (λ opened. opened.0.broker.state
+        ≡ opening_over start.entry.listing start.entry.settings.now opened.0.broker.state.tenants) }
+    ensures calm { IfOk result (λ opened. have_nothing_refused opened.0.broker.state.tenants) }
+    ensures no_groups { IfOk result (λ opened. HaveNoGroup opened.0.broker.state.tenants) }
+{
+    let alloc = rt.alloc();
+    let before = match file_lengths(alloc, &mut store) {
+        Ok(before) => before,
+        Err(fault) => return Err(Fault::Operator(folder.of_store(alloc, fault))),
+    };
+    let opened = match open_broker(alloc, start.settings, start.listing, store) {
+        Ok(opened) => opened,
+        Err(refused) => return Err(not_opened(alloc, folder, refused.fault)),
+    };
+    let files = files_left(alloc, opened.broker.store(), &before)?;
+    let names = tenant_names(alloc, &start.settings.users)?;
+    let known = Opened {
+        names: &names,
+        next_instances: &opened.next_instances,
+        files: &files,
+        strays: &opened.strays,
+        starts: &[],
+    };
+    examine(rt, &known, start.consent, folder, journal)?;
+    let held = held(opened.counts, &files);
+    Ok((opened, held))
 }
 
 /// The fault of a broker that does not open on a folder.
-pub fn not_opened(alloc: Global, folder: &FolderJournal, fault: OpenFault) -> Fault {
+fn not_opened(alloc: Global, folder: &FolderJournal, fault: OpenFault) -> Fault {
     Fault::Operator(match fault {
         OpenFault::Store => folder.store_fault(alloc),
         OpenFault::Memory => OperatorFault::Memory,
     })
 }
 
-/// Lets a start go on, or refuses it: what an opening has of a folder whose files had those lengths before.
-pub fn let_go_on(
-    rt: &HostRuntime,
-    settings: &Settings,
-    consent: Consent,
-    before: &[FileLength],
-    opened: &Restarted<Kept>,
-    folder: &FolderJournal,
-    journal: &mut Journal,
-) -> Result<Held, Fault> {
-    let alloc = rt.alloc();
-    let files = files_left(alloc, opened.broker.store(), before)?;
-    let names = tenant_names(alloc, &settings.users)?;
-    let known = Opened {
-        names: &names,
-        next_instances: &opened.next_instances,
-        files: &files,
-        strays: &opened.strays,
-    };
-    examine(rt, &known, consent, folder, journal)?;
-    Ok(held(opened.counts, &files))
-}
-
 /// What is left of the files that a store had.
-fn files_left<S: Store>(
+fn files_left<S: PutsOff>(
     alloc: Global,
-    store: &Postponed<S>,
+    store: &S,
     before: &[FileLength],
 ) -> Result<Vec<Left>, AllocError> {
     let mut files = Vec::new(alloc);
@@ -116,7 +100,7 @@ fn files_left<S: Store>(
         files.push(Left {
             file: file.file,
             before: file.length,
-            after: store.left(file.file, file.length),
+            after: store.bytes_left(file.file, file.length),
         })?;
     }
     Ok(files)

@@ -1,17 +1,22 @@
 //! `kbroker script`: plays a script of events.
 
-use crate::open::{cached, consent_of, lengths, let_go_on, not_opened, with_consent};
+ghost use Rattle.std.specs.Prelude.{◌≡◌, true, IfOk};
+ghost use Rattle.kb_isolation_spec.specs.Calls.{is_calm};
+ghost use Rattle.kb_broker.specs.ScriptRun.{IsQuiet};
+
+use crate::open::{Start, consent_of, open_on, with_consent};
 use crate::telling::CountsOf;
 use crate::{Fault, config};
 use clap::{Arg, ArgAction, ArgMatches, Command};
-use kb_broker::ScriptFault;
-use kb_log::ListLog;
+use kb_broker::{Broker, ScriptFault};
+use kb_disk::disk_in;
+use kb_log::{ListLog, PartitionLog};
 use kb_node::{Listing, NodeFault, Settings, Store, play_script, play_script_on, play_script_with};
-use kb_operator::{FolderJournal, Journal, OperatorFault, Word, hold, settings_of, store_in};
-use kb_restart::{Restarted, open_broker};
+use kb_operator::{FolderJournal, Journal, OperatorFault, Word, hold, settings_of};
+use kb_restart::Restarted;
 use kb_server_log::now;
 use kb_start::Consent;
-use kb_survey::Postponed;
+use kb_survey::PutsOff;
 use std::alloc::{AllocError, Global};
 use std::io;
 use std::io::{BufRead, BufReader, BufWriter, Write};
@@ -71,29 +76,49 @@ fn script_on<R: BufRead, W: Write>(
     reader: &mut R,
     writer: &mut W,
 ) -> Result<(), Fault> {
-    let alloc = rt.alloc();
     let mut journal = Journal::new(rt, settings, false)?;
     let _held = hold(rt, path)?;
-    let mut folder = FolderJournal::new(alloc, path, false)?;
-    let mut store = cached(rt, settings, store_in(rt, &folder)?, false)?;
-    let before = lengths(alloc, &mut store, &folder)?;
-    let store = Postponed::new(alloc, store);
-    let opened = match open_broker(alloc, settings, Listing::Served, store) {
-        Ok(opened) => opened,
-        Err(refused) => return Err(not_opened(alloc, &folder, refused.fault)),
-    };
-    let held = let_go_on(
-        rt,
+    let mut folder = FolderJournal::new(rt.alloc(), path, false)?;
+    let start = Start {
         settings,
+        listing: Listing::Served,
         consent,
-        &before,
-        &opened,
-        &folder,
-        &mut journal,
-    )?;
-    let Restarted { mut broker, .. } = opened;
-    journal.tell_found(alloc, now(rt), Word::Found, held);
+    };
+    let disk = disk_in(rt, settings, &folder)?;
+    let opened = open_to_play(rt, start, disk, &mut folder, &mut journal)?;
+    play_on(rt, opened.broker, &folder, &mut journal, reader, writer)
+}
+
+/// Opens the broker of a journal's folder, whose store that is, and tells what was found.
+fn open_to_play<S: PutsOff + Drop>(
+    rt: &HostRuntime,
+    start: Start<'_>,
+    store: S,
+    folder: &mut FolderJournal,
+    journal: &mut Journal,
+) -> Result<Restarted<S>, Fault>
+    ensures calm { IfOk result (λ opened. is_calm opened.broker.state ≡ true) }
+    ensures quiet { IfOk result (λ opened. IsQuiet opened.broker.state) }
+{
+    let (opened, held) = open_on(rt, start, store, folder, journal)?;
+    journal.tell_found(rt.alloc(), now(rt), Word::Found, held);
     folder.tell(rt, journal.lines(), now(rt));
+    Ok(opened)
+}
+
+/// Plays a script on a broker, and tells what was refused.
+fn play_on<S: Store + Drop, L: PartitionLog + Drop, R: BufRead, W: Write>(
+    rt: &HostRuntime,
+    mut broker: Broker<S, L>,
+    folder: &FolderJournal,
+    journal: &mut Journal,
+    reader: &mut R,
+    writer: &mut W,
+) -> Result<(), Fault>
+    requires calm { is_calm broker.state ≡ true }
+    requires quiet { IsQuiet broker.state }
+{
+    let alloc = rt.alloc();
     let played = play_script_on(alloc, &mut broker, reader, writer);
     journal.tell_refusals(alloc, now(rt), &CountsOf(&broker, &[]));
     match played {

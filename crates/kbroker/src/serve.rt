@@ -3,23 +3,22 @@
 ghost use Rattle.std.specs.Prelude.{◌≡◌, ◌≤◌, ◌<◌, ◌*◌, ◌-◌, ◌^◌, max, min};
 
 use crate::listening::{listen, tell_listening};
-use crate::open::{Kept, cached, consent_of, lengths, let_go_on, not_opened, with_consent};
+use crate::open::{Start, consent_of, open_on, with_consent};
 use crate::telling::tell_turn;
 use crate::{Fault, config};
 use clap::{Arg, ArgAction, ArgMatches, Command};
 use kb_broker::Broker;
+use kb_disk::disk_to_serve;
 use kb_log::PartitionLog;
-use kb_node::{Edge, Listing, Settings, Store};
+use kb_node::{Edge, Listing, Store};
 use kb_operator::{
     FolderJournal, Held, Journal, Word, data_folder, hold, last_change, look_at_start, settings_of,
-    store_to_serve,
 };
-use kb_restart::{Restarted, open_broker};
+use kb_restart::Restarted;
 use kb_server_log::{GuardedClock, Reading, now};
 use kb_settings::Sync;
-use kb_start::Consent;
 use kb_store::StoreFault;
-use kb_survey::Postponed;
+use kb_survey::PutsOff;
 use std::alloc::{AllocError, Global};
 use std::net::Net;
 
@@ -72,12 +71,40 @@ pub fn serve(rt: &HostRuntime, found: &ArgMatches<'_>) -> Result<(), Fault> {
     let changed = last_change(rt, path);
     let _held = hold(rt, path)?;
     let mut folder = FolderJournal::new(alloc, path, is_quiet)?;
-    let (opened, held) = open(rt, &settings, Asked::of(found), &folder, &mut journal)?;
-    let mut edge = listen(rt, opened.broker, &settings)?;
-    tell_listening(rt, &edge, path)?;
+    let start = Start {
+        settings: &settings,
+        listing: listing_of(found),
+        consent: consent_of(found),
+    };
+    let disk = disk_to_serve(rt, &settings, &folder)?;
+    serve_on(rt, start, disk, changed, &mut folder, &mut journal)
+}
+
+/// The versions that the command line has listed.
+fn listing_of(found: &ArgMatches<'_>) -> Listing {
+    if found.get_flag("stock-clients") {
+        Listing::StockClients
+    } else {
+        Listing::Served
+    }
+}
+
+/// Serves sockets on the broker of a journal's folder, whose store that is. Its files were changed last at that moment.
+fn serve_on<S: PutsOff + Drop>(
+    rt: &HostRuntime,
+    start: Start<'_>,
+    store: S,
+    changed: Option<u64>,
+    folder: &mut FolderJournal,
+    journal: &mut Journal,
+) -> Result<(), Fault> {
+    let alloc = rt.alloc();
+    let (opened, held) = open(rt, start, store, folder, journal)?;
+    let mut edge = listen(rt, opened.broker, start.settings)?;
+    tell_listening(rt, &edge, folder.folder())?;
     journal.tell_found(alloc, now(rt), Word::Start, held);
     journal.tell_change(alloc, now(rt), changed);
-    let served = turn_on(rt, &mut edge, &mut journal, &mut folder);
+    let served = turn_on(rt, &mut edge, journal, folder);
     journal.tell_stop(alloc, now(rt));
     match served {
         Ok(()) => Ok(()),
@@ -85,55 +112,20 @@ pub fn serve(rt: &HostRuntime, found: &ArgMatches<'_>) -> Result<(), Fault> {
     }
 }
 
-/// What the command line says of an opening.
-#[derive(Clone, Copy)]
-struct Asked {
-    listing: Listing,
-    consent: Consent,
-}
-
-impl Asked {
-    fn of(found: &ArgMatches<'_>) -> Asked {
-        Asked {
-            listing: if found.get_flag("stock-clients") {
-                Listing::StockClients
-            } else {
-                Listing::Served
-            },
-            consent: consent_of(found),
-        }
-    }
-}
-
-/// Opens the broker of a data folder, and says what it has. Members of a broker before are none of this one.
-fn open(
+/// Opens the broker that is served. Members of a broker before are none of this one.
+fn open<S: PutsOff + Drop>(
     rt: &HostRuntime,
-    settings: &Settings,
-    asked: Asked,
+    start: Start<'_>,
+    store: S,
     folder: &FolderJournal,
     journal: &mut Journal,
-) -> Result<(Restarted<Kept>, Held), Fault> {
-    let alloc = rt.alloc();
-    let syncs = settings.sync != Sync::Never;
-    let mut store = cached(rt, settings, store_to_serve(rt, folder, syncs)?, syncs)?;
-    let before = lengths(alloc, &mut store, folder)?;
-    let store = Postponed::new(alloc, store);
-    let mut opened = match open_broker(alloc, settings, asked.listing, store) {
-        Ok(opened) => opened,
-        Err(refused) => return Err(not_opened(alloc, folder, refused.fault)),
-    };
-    let held = let_go_on(
-        rt,
-        settings,
-        asked.consent,
-        &before,
-        &opened,
-        folder,
-        journal,
-    )?;
+) -> Result<(Restarted<S>, Held), Fault> {
+    let (mut opened, held) = open_on(rt, start, store, folder, journal)?;
     opened.broker.number_members_from(first_member(now(rt)));
-    if syncs && let Err(fault) = settle(&mut opened.broker) {
-        return Err(Fault::Operator(folder.of_store(alloc, fault)));
+    if start.settings.sync != Sync::Never
+        && let Err(fault) = settle(&mut opened.broker)
+    {
+        return Err(Fault::Operator(folder.of_store(rt.alloc(), fault)));
     }
     Ok((opened, held))
 }

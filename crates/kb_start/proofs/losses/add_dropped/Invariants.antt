@@ -1,7 +1,7 @@
 use Rattle.std.proofs.Common.{◌≡◌, ◌++◌, drop}
 use Rattle.std.specs.FinMap.{keys}
 use Rattle.kb_store.specs.Disk.{Keeps}
-use Rattle.kb_start.specs.Survey.{losses_of}
+use Rattle.kb_start.specs.Survey.{known_of, losses_of}
 use Rattle.kb_start.proofs.losses.add_dropped.Given as goal
 
 -- the losses so far, and those of the files that are left
@@ -12,5 +12,6 @@ invariant-loop-file g l =
     record {
       listed : l.listed ≡ keys now.table;
       unchanged : Keeps old now;
-      told : now.honest → l.losses.items ++ losses_of old (drop l.file-index l.files) ≡ l.initial.losses.items ++ losses_of old l.files;
+      told : now.honest → l.losses.items ++ losses_of (known_of l.opened) old (drop l.file-index l.opened.files.now)
+          ≡ l.initial.losses.items ++ losses_of (known_of l.opened) old l.opened.files.now;
     }

@@ -1,0 +1,87 @@
+-- What is recorded, batch by batch, file by file and tenant by tenant.
+use Rattle.std.proofs.Common.{◌≡◌, ◌∙◌, ◌≤◌, ◌<◌, ◌+◌, ◌++◌, ℕ, List, [], ◌∷◌, length, drop, get_or, drop-cons, add-one, map, Option, Some, None, refl, sym, ap, subst, arith}
+use Rattle.std.proofs.Common.{if◌then◌else◌, unwrap_or}
+use Rattle.std.specs.FinMap.{get, keys}
+use Rattle.kb_store.specs.Disk.{Disk, Files, Table}
+use Rattle.kb_segment.specs.Header.{header_in}
+use Rattle.kb_survey.specs.Listed.{is_in}
+use Rattle.kb_batch.specs.Batch.{front}
+use Rattle.kb_batch.specs.BatchLaws.{batch_long, front_is}
+use Rattle.kb_survey.specs.Whole.{batches_in}
+use Rattle.kb_survey.proofs.Found.{found_none, found_some}
+use Rattle.kb_topics.specs.declared.command.Command.{Command}
+use Rattle.kb_topics.specs.declared.command.MoveStart.{MoveStart}
+use Rattle.kb_replay.specs.Command.{Tells}
+use Rattle.kb_start.specs.Starts.{batches_at, batches_of, is_catalogs, with_start, AreRecorded, RecordsEach}
+
+long : (s b : List ℕ) → front s ≡ Some b → 1 ≤ length b
+long s b e = omega (arith, batch_long b (front_is s b e).is)
+
+-- where no batch stands in front
+pub recorded_none : (s : List ℕ) (before after : List MoveStart) → 0 < length s → front s ≡ None → RecordsEach (batches_in (drop 1 s)) before after
+    → RecordsEach (batches_in s) before after
+recorded_none s before after l e h = subst (λ bs. RecordsEach bs before after) (sym (found_none long s l e)) h
+
+-- and where one does
+pub recorded_some : (s b : List ℕ) (command : Option Command) (before after : List MoveStart) → 0 < length s → front s ≡ Some b → Tells b command
+    → RecordsEach (batches_in (drop (length b) s)) (with_start before command) after → RecordsEach (batches_in s) before after
+recorded_some s b command before after l e tells h = subst (λ bs. RecordsEach bs before after) (sym (found_some long s b l e)) (command, tells, h)
+
+-- some batches and then others
+pub recorded_both : (bs cs : List (List ℕ)) (before mid after : List MoveStart) → RecordsEach bs before mid → RecordsEach cs mid after
+    → RecordsEach (bs ++ cs) before after
+recorded_both [] cs before mid after h k = subst (λ x. RecordsEach cs x after) h k
+recorded_both (b ∷ bs) cs before mid after h k = (h.0, h.1, recorded_both bs cs (with_start before h.0) mid after h.2 k)
+
+pushed : {A B : Type 0} (f : A → B) (xs : List A) (x : A) (more : List B) → map f (xs ++ x ∷ []) ++ more ≡ map f xs ++ f x ∷ more
+pushed f [] x more = refl
+pushed f (y ∷ ys) x more = ap (λ t. f y ∷ t) (pushed f ys x more)
+
+-- those of one more tenant
+pub recorded_next : {A : Type 0} (d : Disk) (f : A → List MoveStart) (tenants : List (List ℕ)) (known : List A) (of : A) (more : List (List MoveStart))
+    → AreRecorded d tenants (map f known ++ f of ∷ more) → AreRecorded d tenants (map f (known ++ of ∷ []) ++ more)
+recorded_next d f tenants known of more h = subst (λ starts. AreRecorded d tenants starts) (sym (pushed f known of more)) h
+
+-- ---- on a disk of the same files
+
+same_at : (d e : Disk) (tenant : List ℕ) (file : ℕ) → e.table ≡ d.table → e.files ≡ d.files → batches_at e tenant file ≡ batches_at d tenant file
+same_at d e tenant file t f = ap (λ table. of_both table e.files) t ∙ ap (of_both d.table) f
+  where
+    of_both : Table → Files → List (List ℕ)
+    of_both table files =
+        let bytes = unwrap_or (get files file) [] in
+        if is_catalogs tenant (if is_in (keys table) file then header_in bytes else None)
+        then batches_in (if is_in (keys table) file then bytes else []) else []
+
+same_of : (d e : Disk) (tenant : List ℕ) (files : List ℕ) → e.table ≡ d.table → e.files ≡ d.files → batches_of e tenant files ≡ batches_of d tenant files
+same_of d e tenant [] t f = refl
+same_of d e tenant (x ∷ xs) t f = ap (λ bs. bs ++ batches_of e tenant xs) (same_at d e tenant x t f) ∙ ap (λ bs. batches_at d tenant x ++ bs) (same_of d e tenant xs t f)
+
+-- of one more file
+pub recorded_file : (d e : Disk) (tenant files : List ℕ) (i none : ℕ) (before mid after : List MoveStart)
+    → i < length files → e.table ≡ d.table → e.files ≡ d.files → RecordsEach (batches_at e tenant (get_or files i none)) before mid
+    → RecordsEach (batches_of d tenant (drop (i + 1) files)) mid after → RecordsEach (batches_of d tenant (drop i files)) before after
+recorded_file d e tenant files i none before mid after in_range t same h k =
+    let file = get_or files i none in
+    let rest = drop (i + 1) files in
+    let is : drop i files ≡ file ∷ rest = rw (add-one, drop-cons files i none in_range) in
+    subst (λ xs. RecordsEach (batches_of d tenant xs) before after) (sym is)
+    (recorded_both (batches_at d tenant file) (batches_of d tenant rest) before mid after
+    (subst (λ bs. RecordsEach bs before mid) (same_at d e tenant file t same) h) k)
+
+-- and of one more tenant, on the disk as it is now
+pub recorded_tenant : {A B : Type 0} (d e : Disk) (name : A → List ℕ) (f : B → List MoveStart) (tenants : List A) (i : ℕ) (none : A)
+    (known next : List B) (of : B) → i < length tenants → e.table ≡ d.table → e.files ≡ d.files
+    → RecordsEach (batches_of e (name (get_or tenants i none)) (keys e.table)) [] (f of) → next ≡ known ++ of ∷ []
+    → ((more : List (List MoveStart)) → AreRecorded d (map name (drop i tenants)) more → AreRecorded d (map name tenants) (map f known ++ more))
+    → (more : List (List MoveStart)) → AreRecorded d (map name (drop (i + 1) tenants)) more → AreRecorded d (map name tenants) (map f next ++ more)
+recorded_tenant d e name f tenants i none known next of in_range t files h pushed-is told more k =
+    let tenant = get_or tenants i none in
+    let rest = drop (i + 1) tenants in
+    let is : drop i tenants ≡ tenant ∷ rest = rw (add-one, drop-cons tenants i none in_range) in
+    let here : RecordsEach (batches_of d (name tenant) (keys d.table)) [] (f of) =
+    subst (λ bs. RecordsEach bs [] (f of))
+    (ap (λ table. batches_of e (name tenant) (keys table)) t ∙ same_of d e (name tenant) (keys d.table) t files) h in
+    let both : AreRecorded d (map name (drop i tenants)) (f of ∷ more) = subst (λ xs. AreRecorded d (map name xs) (f of ∷ more)) (sym is) (here, k) in
+    subst (λ all. AreRecorded d (map name tenants) (map f all ++ more)) (sym pushed-is)
+    (recorded_next d f (map name tenants) known of more (told (f of ∷ more) both))

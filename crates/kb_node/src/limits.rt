@@ -46,8 +46,8 @@ impl Limits {
     }
 }
 
-/// As in the standard settings: 1,024 sockets, which have ten seconds for their logins and sixty for a reply, 256 MiB of output, and a commit
-/// each second.
+/// As in the standard settings: 1,024 sockets, which have ten seconds for their logins and sixty for a reply, 256 MiB of output, and a
+/// commit each second.
 impl Default for Limits {
     ghost use Rattle.kb_settings.specs.declared.sync.Sync.TheVariants.{Interval};
 

@@ -7,7 +7,8 @@ ghost use Rattle.toml.specs.Data.{as_str, get_member};
 ghost use Rattle.toml.specs.View.{view, table_view};
 ghost use Rattle.kb_settings.specs.Settings.{is_credential, is_tenant};
 ghost use Rattle.kb_settings.specs.Address.{is_listened, endpoint_in};
-ghost use Rattle.kb_settings.specs.Document.{text_in, number_in, host_in, is_told, advertise_in, folder_in, sync_in, said_or, text_of, other_key};
+ghost use Rattle.kb_settings.specs.Document.{text_in, number_in, host_in, is_told, advertise_in, folder_in, sync_in, said_or, text_of};
+ghost use Rattle.kb_settings.specs.Document.{other_key};
 ghost use Rattle.kb_settings.specs.declared.sync.Sync.TheVariants.{Interval};
 
 use crate::address::{bare, endpoint, is_listened};

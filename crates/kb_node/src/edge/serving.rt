@@ -1,6 +1,6 @@
 //! How an edge serves its sockets.
 
-ghost use Rattle.std.specs.Prelude.{◌≡◌, true, Some, IfErr};
+ghost use Rattle.std.specs.Prelude.{◌≡◌, ◌++◌, true, Some, IfErr, length, take, drop, nat_lt, if◌then◌else◌};
 ghost use Rattle.kb_node.specs.Commits.{may_tell, tells_at_once};
 
 use crate::edge::closing::note_reply;
@@ -111,14 +111,31 @@ impl<R: Net, S: Store, L: PartitionLog + Drop> Edge<R, S, L> {
         self.note(alloc, place, before, next, turn);
     }
 
-    /// Hands on a request of each socket that can go on. They stay among those that can.
+    /// Hands on a request of each socket that can go on, while so little is awaited that more may be asked for. They stay among those that
+    /// can, and the next turn begins with the first that was not asked.
     fn hand_on(&mut self, alloc: Global, turn: &mut Turn) {
+        let mut asked = 0usize;
         for at in 0..self.ready.len() {
             if let Some(number) = self.ready.get(at).copied() {
+                if self.may_ask() && asked == at {
+                    asked = asked.saturating_add(1);
+                }
                 self.hand_on_one(alloc, number, turn);
             }
         }
         self.promised = 0;
+        self.begin_behind(asked);
+    }
+
+    /// So many of the sockets that can go on were asked: those behind them come first from now on.
+    fn begin_behind(&mut self, asked: usize)
+        ensures order { self.new.ready.items ≡ (if nat_lt asked (length self.old.ready.items)
+            then drop asked self.old.ready.items ++ take asked self.old.ready.items else self.old.ready.items) }
+        ensures host { self.new.host ≡ self.old.host }
+    {
+        if asked < self.ready.len() {
+            self.ready.rotate_left(asked);
+        }
     }
 
     /// Hands on a request of the socket of a connection.

@@ -1,0 +1,61 @@
+#!/bin/sh
+# examples/backup.sh PID DATA TO: a backup of the folder of a broker that runs.
+#
+# PID is the broker's process, DATA its data folder, TO a folder that is made. The broker stands still (SIGSTOP) while its files are linked
+# into a folder beside DATA and their lengths are noted. Then it goes on, and the files are copied up to these lengths, since a file only
+# grows at its end. So the backup is what a broker leaves that was killed at that moment: every record that was acknowledged by then.
+#
+# It prints how many files and bytes were copied, and for how long the broker stood still. Restore by copying all files of the backup into
+# an empty folder. Status 1, and a line that says why, where no whole backup was made.
+set -eu
+
+fail() {
+    echo "backup: $1" >&2
+    exit 1
+}
+
+[ $# = 3 ] || fail "say PID DATA TO"
+pid=$1 data=$(realpath "$2") to=$3
+# On the file system of DATA, as links need. It is the mark of a backup under way, too.
+moment=$data.moment
+
+find "/proc/$pid/fd" -lname "$data*" 2> /dev/null | grep -q . || fail "process $pid does not serve $data"
+[ ! -e "$to" ] || fail "$to is there already"
+mkdir -m 700 "$moment" 2> /dev/null || fail "$moment is there: another backup runs, or one was cut off (then remove that folder)"
+
+stopped=
+clean() {
+    [ -z "$stopped" ] || kill -CONT "$pid" 2> /dev/null || true
+    rm -rf "$moment"
+}
+trap clean EXIT
+trap 'exit 1' HUP INT TERM
+
+nanoseconds() { date +%s%N; }
+
+# Waits until the process stands still: what it asked of the system before has ended then.
+stand_still() {
+    kill -STOP "$pid" || fail "process $pid cannot be stopped"
+    while ! grep -q '^State:[[:space:]]*T' "/proc/$pid/status"; do
+        kill -0 "$pid" 2> /dev/null || fail "process $pid has ended"
+    done
+}
+
+began=$(nanoseconds)
+stopped=1
+stand_still
+find "$data" -maxdepth 1 -name '*.seg' -exec ln -t "$moment" {} +
+find "$moment" -name '*.seg' -printf '%s %f\n' > "$moment/lengths"
+kill -CONT "$pid"
+stopped=
+still=$((($(nanoseconds) - began) / 1000000))
+
+mkdir -m 700 "$to"
+files=0 all=0
+while read -r bytes file; do
+    head -c "$bytes" "$moment/$file" > "$to/$file"
+    [ "$(stat -c %s "$to/$file")" = "$bytes" ] || fail "$file could not be copied whole"
+    files=$((files + 1)) all=$((all + bytes))
+done < "$moment/lengths"
+sync -f "$to"
+echo "files $files, bytes $all, the broker stood still for $still ms"

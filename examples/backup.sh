@@ -8,6 +8,7 @@
 # It prints how many files and bytes were copied, and for how long the broker stood still. Restore by copying all files of the backup into
 # an empty folder. Status 1, and a line that says why, where no whole backup was made.
 set -eu
+umask 077
 
 fail() {
     echo "backup: $1" >&2
@@ -19,9 +20,10 @@ pid=$1 data=$(realpath "$2") to=$3
 # On the file system of DATA, as links need. It is the mark of a backup under way, too.
 moment=$data.moment
 
-find "/proc/$pid/fd" -lname "$data*" 2> /dev/null | grep -q . || fail "process $pid does not serve $data"
+find "/proc/$pid/fd" \( -lname "$data" -o -lname "$data/*" \) 2> /dev/null | grep -q . || fail "process $pid does not serve $data"
+! find "$data" -maxdepth 1 -name '*.seg' -type l | grep . >&2 || fail "these files are links: copy the folder with the broker stopped"
 [ ! -e "$to" ] || fail "$to is there already"
-mkdir -m 700 "$moment" 2> /dev/null || fail "$moment is there: another backup runs, or one was cut off (then remove that folder)"
+mkdir "$moment" 2> /dev/null || fail "$moment is there: another backup runs, or one was cut off (then remove that folder)"
 
 stopped=
 clean() {
@@ -36,21 +38,21 @@ nanoseconds() { date +%s%N; }
 # Waits until the process stands still: what it asked of the system before has ended then.
 stand_still() {
     kill -STOP "$pid" || fail "process $pid cannot be stopped"
-    while ! grep -q '^State:[[:space:]]*T' "/proc/$pid/status"; do
-        kill -0 "$pid" 2> /dev/null || fail "process $pid has ended"
+    while ! grep -q '^State:[[:space:]]*[Tt]' "/proc/$pid/status"; do
+        grep -q '^State:[[:space:]]*[RSD]' "/proc/$pid/status" || fail "process $pid has ended"
     done
 }
 
 began=$(nanoseconds)
 stopped=1
 stand_still
-find "$data" -maxdepth 1 -name '*.seg' -exec ln -t "$moment" {} +
+find "$data" -maxdepth 1 -name '*.seg' -type f -exec ln -t "$moment" {} +
 find "$moment" -name '*.seg' -printf '%s %f\n' > "$moment/lengths"
 kill -CONT "$pid"
 stopped=
 still=$((($(nanoseconds) - began) / 1000000))
 
-mkdir -m 700 "$to"
+mkdir "$to"
 files=0 all=0
 while read -r bytes file; do
     head -c "$bytes" "$moment/$file" > "$to/$file"

@@ -26,11 +26,12 @@ SCRIPT = os.path.join(os.path.dirname(os.path.realpath(__file__)), "..", "exampl
 
 
 class Told:
-    """What a tenant was told: the end of `kept`, the last commit, and how often each was asked for."""
+    """What a tenant was told: the end of `kept`, the last commit, how far each was asked for, and what was answered otherwise."""
 
     def __init__(self):
         self.end = self.offset = 0
         self.sent = self.asked = 0
+        self.fault = ""
 
     def copy(self):
         it = Told()
@@ -53,7 +54,8 @@ def work(port, user, told, stop):
         told.sent = number + 1
         code, offset = client.produce(b"kept", batch(value_of(user[0], number)))
         if code != 0 or offset != number:
-            raise SystemExit(f"{user[0]} got {code}, {offset} at {number}")
+            told.fault = f"{user[0]} got {code}, {offset} at {number}"
+            return
         told.end = number = offset + 1
         told.asked = number
         client.all([commit(b"g", b"kept", b"", number)])
@@ -148,6 +150,10 @@ def main(program):
         for it in threads:
             it.join()
         broker.stop()
+    for it in told.values():
+        if it.fault:
+            print(it.fault)
+            faults += 1
     print(f"backups that were wrong: {faults} of {BACKUPS}; the last: {last}; longest standstill {max(stills, default=0)} ms")
     return 1 if faults else 0
 

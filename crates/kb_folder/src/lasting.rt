@@ -245,7 +245,8 @@ impl<R: Files<File = File> + AllocGlobal + Clone + Drop> HostFolder<R> {
         self.open_with(&options, path.as_str())?.sync_all()
     }
 
-    /// Makes the names last of the folders above that the folder's path may have had made. One that cannot be opened is passed over.
+    /// Makes the names last of the folders above that the folder's path may have had made. One that cannot be opened is passed over, and so
+    /// is one that cannot be synced: not every file system syncs folders, and those above are not the broker's.
     fn sync_above(&mut self) -> io::Result<()> {
         let mut path = self.path.clone()?;
         let names = self.path.split('/').count();
@@ -254,7 +255,7 @@ impl<R: Files<File = File> + AllocGlobal + Clone + Drop> HostFolder<R> {
             let mut options = OpenOptions::new();
             options.read(true);
             if let Ok(above) = self.open_with(&options, path.as_str()) {
-                above.sync_all()?;
+                let _ = above.sync_all();
             }
         }
         Ok(())

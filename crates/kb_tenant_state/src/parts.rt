@@ -3,7 +3,7 @@ ghost use Rattle.std.specs.Prelude.{◌≡◌, ◌⊎◌, ◌≤◌, ◌≤ℤ�
 ghost use Rattle.std.specs.Option.{option_copied};
 ghost use Rattle.kb_store.specs.Disk.{Table, Files};
 ghost use Rattle.kb_topics.specs.ByName.{by_name};
-ghost use Rattle.kb_topics.specs.Catalog.{known};
+ghost use Rattle.kb_topics.specs.Catalog.{known, meta_log};
 ghost use Rattle.kb_topics.specs.Known.{named, topic_at};
 ghost use Rattle.kb_tenant_state.specs.Calls.{start_of, end_of, judged, committed, retain_all};
 ghost use Rattle.kb_tenant_state.specs.Partitions.{AreExact};
@@ -122,6 +122,37 @@ impl<L: PartitionLog> Parts<L> {
         ensures { self.new ≡ raised self.old count }
     {
         self.refusals = self.refusals.max(count);
+    }
+
+    /// The tenant's name.
+    pub fn name(&self) -> &str
+        ensures { result.now ≡ string_bytes self.now.tenant }
+    {
+        &self.tenant
+    }
+
+    /// How many bytes the files of its logs are to hold, about.
+    pub fn segment_bytes(&self) -> u64
+        ensures { result ≡ self.now.segment_bytes }
+    {
+        self.segment_bytes
+    }
+
+    /// The catalog.
+    pub fn catalog(&self) -> &Catalog<L>
+        ensures { result.now ≡ self.now.catalog }
+    {
+        &self.catalog
+    }
+
+    /// Puts another meta log in place of the catalog's, which is the answer. What is known stays, and so does all else.
+    pub fn replace_meta_log(&mut self, log: L) -> L
+        ensures known { known self.new.catalog ≡ known self.old.catalog }
+        ensures log { meta_log self.new.catalog ≡ log }
+        ensures former { result ≡ meta_log self.old.catalog }
+        ensures rest { self.new ≡ record self.old { catalog = self.new.catalog } }
+    {
+        self.catalog.replace_log(log)
     }
 
     /// The instance of the topic of that name.

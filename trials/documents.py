@@ -1,0 +1,163 @@
+#!/usr/bin/env python3
+"""The commands of README.md, docs/OPERATING.md and docs/CLIENTS.md do what stands beside them, in a fresh clone.
+
+    trials/documents.py KBROKER KCONSOLE
+
+Each block of commands (```sh) is run as it stands, by bash, at the top of a clone of this repository, where both programs lie as the build
+leaves them. What has to be said is in SAID, by a piece of the command. A block that is not run is in LEFT, with the reason; one that is in
+neither is wrong. It needs kcat, python3-confluent-kafka and ports 9092 and 19092, and takes a minute.
+"""
+
+import os
+import re
+import shutil
+import signal
+import subprocess
+import sys
+import tempfile
+import time
+
+TOP = os.path.join(os.path.dirname(os.path.realpath(__file__)), "..")
+DOCUMENTS = ["README.md", "docs/OPERATING.md", "docs/CLIENTS.md"]
+BLOCK = re.compile(r"```sh\n(.*?)```", re.S)
+# Blocks that are not run here, by a piece of them, and why.
+LEFT = {
+    "apt-get install /tmp/kbroker": "installs: packaging/try does it",
+    "systemctl enable": "needs systemd",
+    "adduser --system": "makes a user: packaging/try does it",
+    "--broker HOST:PORT": "how a command line looks",
+    "| to -P": "needs a second broker: `to` is a kcat of it",
+}
+# Lines that are not run in blocks that are, by a piece of them: builds whose programs are here already, and what asks for a person.
+BUILDS = ("gate/unproved", "gate/build", "apt-get install", "examples/try_clients.sh", "-G grp")
+# What a command has to say, by a piece of it.
+SAID = {
+    "k produce --create 1": ["3 sent"],
+    "k consume ": ["one", "two", "three"],
+    "--from 1 --follow": ["two", "three"],
+    "topic list --broker localhost:9092": ["orders"],
+    "kc -L": ["broker 0", 'topic "orders"'],
+    "kc -C -t orders": ["one", "two", "three", "four"],
+    "kcat -F examples/kcat.conf -C": ["hello"],
+    "kbroker dump backup-1": ["ok"],
+    "k -C -t orders -o -2": ["k1 one", "k2 two"],
+    "k -Q -t orders:0:0": ["orders [0] offset"],
+    "-t nothere": ["Unknown topic or partition"],
+    "-z gzip": ["INVALID_REQUEST", "Broker: Invalid", "not supported", "Delivery failed"],
+}
+# Of these one is enough.
+ANY = ("-z gzip",)
+SERVES = re.compile(r"\bserve\b")
+
+
+def blocks():
+    """The blocks of each document, with its name."""
+    for name in DOCUMENTS:
+        with open(os.path.join(TOP, name), encoding="utf-8") as text:
+            for block in BLOCK.findall(text.read()):
+                yield name, block
+
+
+def commands(block):
+    """The commands of a block: its lines, where those that end with a backslash go on. In a transcript they stand behind `$ `."""
+    joined = block.replace("\\\n", " ")
+    lines = [it.strip() for it in joined.split("\n") if it.strip()]
+    if any(it.startswith("$ ") for it in lines):
+        return [it[2:] for it in lines if it.startswith("$ ")]
+    return lines
+
+
+def wanted_of(line):
+    """What a line has to say, and whether one of that is enough."""
+    for piece, wanted in SAID.items():
+        if piece in line:
+            return wanted, piece in ANY
+    return [], False
+
+
+class Session:
+    """A clone, and the names and brokers that its commands made so far."""
+
+    def __init__(self, place, kbroker, kconsole):
+        self.clone = os.path.join(place, "clone")
+        subprocess.run(["git", "clone", "-q", TOP, self.clone], check=True)
+        bin = os.path.join(place, "bin")
+        os.makedirs(bin)
+        for name, program in (("kbroker", kbroker), ("kconsole", kconsole)):
+            out = os.path.join(self.clone, "crates", name, "out")
+            os.makedirs(out)
+            for target in (f"{out}/{name}", f"{out}/{name}-unproved", f"{bin}/{name}"):
+                shutil.copy(program, target)
+        self.environment = {**os.environ, "PATH": f"{bin}:{os.environ['PATH']}"}
+        self.defined = []
+        self.broker = None
+
+    def stop(self):
+        """Ends the broker that runs, if there is one."""
+        if self.broker:
+            self.broker.send_signal(signal.SIGINT)
+            self.broker.wait()
+            self.broker = None
+
+    def run(self, line):
+        """Runs a command, and answers what was wrong with it, or nothing."""
+        bare = line.split("  #")[0].split(" & sleep")[0].rstrip()
+        if SERVES.search(bare):
+            self.stop()
+            self.broker = subprocess.Popen(bare.split(), cwd=self.clone, env=self.environment, stdout=subprocess.DEVNULL, stderr=subprocess.DEVNULL)
+            time.sleep(2)
+            return "it ended" if self.broker.poll() is not None else ""
+        if re.match(r"(alias \w+=|\w+\(\) \{)", bare):
+            self.defined.append(bare)
+            return ""
+        wanted, is_any = wanted_of(line)
+        script = "shopt -s expand_aliases\n" + "\n".join(self.defined) + "\n" + bare + "\n"
+        timeout = "5" if "--follow" in bare or "-G" in bare else "20"
+        ran = subprocess.run(
+            ["timeout", timeout, "bash", "-c", script], cwd=self.clone, env=self.environment, stdout=subprocess.PIPE, stderr=subprocess.STDOUT, text=True
+        )
+        found = [it in ran.stdout for it in wanted]
+        is_said = any(found) if is_any else all(found)
+        if not is_said:
+            return f"it said {ran.stdout[:300]!r}"
+        if ran.returncode != 0 and not wanted:
+            return f"status {ran.returncode}: {ran.stdout[:300]!r}"
+        return ""
+
+
+def play(session, name, block):
+    """Runs a block, and answers how many of its commands were run, and the lines that tell what was wrong."""
+    reason = next((why for piece, why in LEFT.items() if piece in block), None)
+    if reason:
+        print(f"{name}: not run ({reason}): {block.strip().splitlines()[0][:80]}")
+        return 0, []
+    wrong, count = [], 0
+    for line in commands(block):
+        if any(it in line for it in BUILDS) or line.startswith("#"):
+            continue
+        fault = session.run(line)
+        count += 1
+        if fault:
+            wrong.append(f"{name}: {line}: {fault}")
+    return count, wrong
+
+
+def main(kbroker, kconsole):
+    wrong, count = [], 0
+    with tempfile.TemporaryDirectory() as place:
+        session = Session(place, os.path.realpath(kbroker), os.path.realpath(kconsole))
+        for name, block in blocks():
+            done, faults = play(session, name, block)
+            count += done
+            wrong += faults
+        session.stop()
+    for line in wrong:
+        print("WRONG", line)
+    print(f"{len(wrong)} of {count} commands are wrong")
+    return 1 if wrong else 0
+
+
+if __name__ == "__main__":
+    if len(sys.argv) != 3:
+        sys.exit(__doc__)
+    sys.exit(main(*sys.argv[1:]))

@@ -11,6 +11,7 @@ use Rattle.kb_tenant.specs.Replies.{Replies, Waits, Silent, Shuts}
 use Rattle.kb_tenant_api.specs.Replies.{Reaction, Plain, Rebalances}
 use Rattle.kb_tenant.proofs.Batches.{looked-holds}
 use Rattle.kb_tenant_api.proofs.Laws.{served-holds}
+use Rattle.kb_isolation_spec.specs.declared.head.Head.{Head}
 use Rattle.kb_isolation_spec.specs.Requests.{Another, request}
 use Rattle.kb_isolation_spec.specs.Tenant.{Wait, Records, answer, ready}
 use Rattle.kb_isolation_spec.specs.Session.{BoundTo, Session, without_wait}
@@ -22,43 +23,43 @@ answer-holds : (setup : Setup) (kept : Kept) (clock n : ℕ) (version : ℤ) (bo
 unfolding answer
 answer-holds setup kept clock n version body reply r small read e = served-holds setup.node kept.world clock kept.groups n version body reply r small read e
 
-ready-holds : (kept : Kept) (clock n : ℕ) (id version : ℤ) (body : List ℕ) (deadline : ℕ) (reply : List ℕ) (r : FetchRequest) → HasSmallLogs kept.world → asked_fetch version body ≡ Ok r
-    → ready kept clock n (record { correlation_id = id; awaited = Records version body deadline }) ≡ Replies reply → HoldsBatches version kept.world r reply
+ready-holds : (kept : Kept) (clock n : ℕ) (head : Head) (version : ℤ) (body : List ℕ) (deadline : ℕ) (reply : List ℕ) (r : FetchRequest) → HasSmallLogs kept.world → asked_fetch version body ≡ Ok r
+    → ready kept clock n (record { head = head; awaited = Records version body deadline }) ≡ Replies reply → HoldsBatches version kept.world r reply
 unfolding ready
-ready-holds kept clock n id version body deadline reply r small read e = looked-holds kept.world clock deadline version body reply r small read e
+ready-holds kept clock n head version body deadline reply r small read e = looked-holds kept.world clock deadline version body reply r small read e
 
-answered_by : (setup : Setup) (kept : Kept) (clock n : ℕ) (id version : ℤ) (body : List ℕ) (s : Session) (r : FetchRequest) → HasSmallLogs kept.world → asked_fetch version body ≡ Ok r → (x : Reaction) → answer setup.node kept clock n FETCH version body ≡ x → GetsBatches kept.world version r id s (after_reaction x id version body s)
-answered_by setup kept clock n id version body s r small read (Plain (Replies reply)) e = inl (reply, answer-holds setup kept clock n version body reply r small read e, refl)
-answered_by setup kept clock n id version body s r small read (Plain (Waits deadline places)) e = inr refl
-answered_by setup kept clock n id version body s r small read (Plain Silent) e = inr refl
-answered_by setup kept clock n id version body s r small read (Plain Shuts) e = inr refl
-answered_by setup kept clock n id version body s r small read Rebalances e = inr refl
+answered_by : (setup : Setup) (kept : Kept) (clock n : ℕ) (head : Head) (version : ℤ) (body : List ℕ) (s : Session) (r : FetchRequest) → HasSmallLogs kept.world → asked_fetch version body ≡ Ok r → (x : Reaction) → answer setup.node kept clock n FETCH version body ≡ x → GetsBatches kept.world version r head s (after_reaction x head version body s)
+answered_by setup kept clock n head version body s r small read (Plain (Replies reply)) e = inl (reply, answer-holds setup kept clock n version body reply r small read e, refl)
+answered_by setup kept clock n head version body s r small read (Plain (Waits deadline places)) e = inr refl
+answered_by setup kept clock n head version body s r small read (Plain Silent) e = inr refl
+answered_by setup kept clock n head version body s r small read (Plain Shuts) e = inr refl
+answered_by setup kept clock n head version body s r small read Rebalances e = inr refl
 
 -- a fetch that takes its turn
 pub served-batches : (setup : Setup) (kept : Kept) (clock n : ℕ) (s : Session) (frame rest : List ℕ) (version : ℤ) (body : List ℕ) (r : FetchRequest) → HasSmallLogs kept.world → front s.unread ≡ Whole frame rest → (request setup.versions frame).asked ≡ Another FETCH version body → asked_fetch version body ≡ Ok r
-    → GetsBatches kept.world version r (request setup.versions frame).correlation_id (record s { unread = rest }) (after_turn setup kept clock n s)
+    → GetsBatches kept.world version r (request setup.versions frame).head (record s { unread = rest }) (after_turn setup kept clock n s)
 unfolding after_turn served_by
 served-batches setup kept clock n s frame rest version body r small at asks read =
-    let id = (request setup.versions frame).correlation_id in
+    let head = (request setup.versions frame).head in
     let from : Session = record s { unread = rest } in
-    let is : served_at setup kept clock n s (front s.unread) ≡ after_reaction (answer setup.node kept clock n FETCH version body) id version body from =
-    ap (served_at setup kept clock n s) at ∙ ap (λ a. served_by setup kept clock n id a from) asks in
-    subst (GetsBatches kept.world version r id from) (sym is) (answered_by setup kept clock n id version body from r small read (answer setup.node kept clock n FETCH version body) refl)
+    let is : served_at setup kept clock n s (front s.unread) ≡ after_reaction (answer setup.node kept clock n FETCH version body) head version body from =
+    ap (served_at setup kept clock n s) at ∙ ap (λ a. served_by setup kept clock n head a from) asks in
+    subst (GetsBatches kept.world version r head from) (sym is) (answered_by setup kept clock n head version body from r small read (answer setup.node kept clock n FETCH version body) refl)
 
-told_by : (kept : Kept) (clock n : ℕ) (id version : ℤ) (body : List ℕ) (deadline : ℕ) (s : Session) (r : FetchRequest) → HasSmallLogs kept.world → asked_fetch version body ≡ Ok r → (x : tenant.Reaction)
-    → ready kept clock n (record { correlation_id = id; awaited = Records version body deadline }) ≡ x → GetsBatches kept.world version r id (record s { stage = without_wait s.stage }) (told x id s)
-told_by kept clock n id version body deadline s r small read (Replies reply) e = inl (reply, ready-holds kept clock n id version body deadline reply r small read e, refl)
-told_by kept clock n id version body deadline s r small read (Waits until places) e = inr refl
-told_by kept clock n id version body deadline s r small read Silent e = inr refl
-told_by kept clock n id version body deadline s r small read Shuts e = inr refl
+told_by : (kept : Kept) (clock n : ℕ) (head : Head) (version : ℤ) (body : List ℕ) (deadline : ℕ) (s : Session) (r : FetchRequest) → HasSmallLogs kept.world → asked_fetch version body ≡ Ok r → (x : tenant.Reaction)
+    → ready kept clock n (record { head = head; awaited = Records version body deadline }) ≡ x → GetsBatches kept.world version r head (record s { stage = without_wait s.stage }) (told x head s)
+told_by kept clock n head version body deadline s r small read (Replies reply) e = inl (reply, ready-holds kept clock n head version body deadline reply r small read e, refl)
+told_by kept clock n head version body deadline s r small read (Waits until places) e = inr refl
+told_by kept clock n head version body deadline s r small read Silent e = inr refl
+told_by kept clock n head version body deadline s r small read Shuts e = inr refl
 
 -- a fetch that waited
-pub woken-batches : (kept : Kept) (clock n tenant : ℕ) (s : Session) (id version : ℤ) (body : List ℕ) (deadline : ℕ) (r : FetchRequest) → HasSmallLogs kept.world
-    → s.stage ≡ BoundTo tenant (Some (record { correlation_id = id; awaited = Records version body deadline })) → asked_fetch version body ≡ Ok r
-    → GetsBatches kept.world version r id (record s { stage = without_wait s.stage }) (woken kept clock n s)
+pub woken-batches : (kept : Kept) (clock n tenant : ℕ) (s : Session) (head : Head) (version : ℤ) (body : List ℕ) (deadline : ℕ) (r : FetchRequest) → HasSmallLogs kept.world
+    → s.stage ≡ BoundTo tenant (Some (record { head = head; awaited = Records version body deadline })) → asked_fetch version body ≡ Ok r
+    → GetsBatches kept.world version r head (record s { stage = without_wait s.stage }) (woken kept clock n s)
 unfolding woken_by
-woken-batches kept clock n tenant s id version body deadline r small waits read =
+woken-batches kept clock n tenant s head version body deadline r small waits read =
     let from : Session = record s { stage = without_wait s.stage } in
-    let wait : Wait = record { correlation_id = id; awaited = Records version body deadline } in
-    let is : woken kept clock n s ≡ told (ready kept clock n wait) id s = ap (woken_by kept clock n s) waits in
-    subst (GetsBatches kept.world version r id from) (sym is) (told_by kept clock n id version body deadline s r small read (ready kept clock n wait) refl)
+    let wait : Wait = record { head = head; awaited = Records version body deadline } in
+    let is : woken kept clock n s ≡ told (ready kept clock n wait) head s = ap (woken_by kept clock n s) waits in
+    subst (GetsBatches kept.world version r head from) (sym is) (told_by kept clock n head version body deadline s r small read (ready kept clock n wait) refl)

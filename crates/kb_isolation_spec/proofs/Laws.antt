@@ -5,6 +5,7 @@ use Rattle.std.proofs.lemmas.Bool.Decides.{nat_tests}
 use Rattle.std.specs.Int.{w32, cast_signed, from_be_bytes}
 use Rattle.kb_wire.specs.Codec.{int}
 use Rattle.kb_api_group.specs.Frames.{Front, Whole, Partial, TooSmall, TooLarge, front, front_by}
+use Rattle.kb_isolation_spec.specs.declared.head.Head.{Head}
 use Rattle.kb_isolation_spec.specs.Requests.{Asked, Versions, OtherVersions, Handshake, Authenticate, Another, Malformed, request}
 use Rattle.kb_tenant_api.specs.Hosted.{Kept}
 use Rattle.kb_tenant.specs.Replies as tenant
@@ -69,57 +70,57 @@ unfolding front int
 some-left [] h = cc
 some-left (b ∷ unread) h = omega arith
 
-pub replied-le : (id : ℤ) (body : List ℕ) (s : Session) → length (replied id body s).unread ≤ length s.unread
+pub replied-le : (head : Head) (body : List ℕ) (s : Session) → length (replied head body s).unread ≤ length s.unread
 unfolding replied
-replied-le id body s = grind (arith, nat_tests)
+replied-le head body s = grind (arith, nat_tests)
 
-pub greeted_by-le : (setup : Setup) (h : Bool) (id : ℤ) (a : Asked) (s : Session) → length (greeted_by setup h id a s).unread ≤ length s.unread
+pub greeted_by-le : (setup : Setup) (h : Bool) (head : Head) (a : Asked) (s : Session) → length (greeted_by setup h head a s).unread ≤ length s.unread
 unfolding greeted_by
-greeted_by-le setup h id Versions s = replied-le id _ s
-greeted_by-le setup h id OtherVersions s = replied-le id _ s
-greeted_by-le setup h id (Handshake v m) s = shaken-le _ id v s
+greeted_by-le setup h head Versions s = replied-le head _ s
+greeted_by-le setup h head OtherVersions s = replied-le head _ s
+greeted_by-le setup h head (Handshake v m) s = shaken-le _ head v s
   where
-    shaken-le : (b : Bool) (id v : ℤ) (s : Session) → length (shaken b id v s).unread ≤ length s.unread
-    shaken-le true id v s = replied-le id _ (record s { stage = Greets (greeting_after v) })
-    shaken-le false id v s = replied-le id _ s
-greeted_by-le setup h id (Authenticate m) s = authenticated-le setup h id m s
+    shaken-le : (b : Bool) (head : Head) (v : ℤ) (s : Session) → length (shaken b head v s).unread ≤ length s.unread
+    shaken-le true head v s = replied-le head _ (record s { stage = Greets (greeting_after v) })
+    shaken-le false head v s = replied-le head _ s
+greeted_by-le setup h head (Authenticate m) s = authenticated-le setup h head m s
   where
-    logged_in-le : (o : Option ℕ) (id : ℤ) (s : Session) → length (logged_in o id s).unread ≤ length s.unread
-    logged_in-le (Some t) id s = replied-le id _ (record s { stage = BoundTo t None })
-    logged_in-le None id s = omega arith
+    logged_in-le : (o : Option ℕ) (head : Head) (s : Session) → length (logged_in o head s).unread ≤ length s.unread
+    logged_in-le (Some t) head s = replied-le head _ (record s { stage = BoundTo t None })
+    logged_in-le None head s = omega arith
 
-    authenticated-le : (setup : Setup) (h : Bool) (id : ℤ) (m : List ℕ) (s : Session) → length (authenticated setup h id m s).unread ≤ length s.unread
-    authenticated-le setup true id m s = logged_in-le (login setup.users m) id s
-    authenticated-le setup false id m s = replied-le id _ s
-greeted_by-le setup h id (Another k v b) s = omega arith
-greeted_by-le setup h id Malformed s = omega arith
+    authenticated-le : (setup : Setup) (h : Bool) (head : Head) (m : List ℕ) (s : Session) → length (authenticated setup h head m s).unread ≤ length s.unread
+    authenticated-le setup true head m s = logged_in-le (login setup.users m) head s
+    authenticated-le setup false head m s = replied-le head _ s
+greeted_by-le setup h head (Another k v b) s = omega arith
+greeted_by-le setup h head Malformed s = omega arith
 
-plainly-le : (r : tenant.Reaction) (id version : ℤ) (body : List ℕ) (s : Session) → length (plainly r id version body s).unread ≤ length s.unread
-plainly-le (Replies reply) id version body s = replied-le id reply s
-plainly-le (Waits deadline places) id version body s = omega arith
-plainly-le Silent id version body s = omega arith
-plainly-le Shuts id version body s = omega arith
+plainly-le : (r : tenant.Reaction) (head : Head) (version : ℤ) (body : List ℕ) (s : Session) → length (plainly r head version body s).unread ≤ length s.unread
+plainly-le (Replies reply) head version body s = replied-le head reply s
+plainly-le (Waits deadline places) head version body s = omega arith
+plainly-le Silent head version body s = omega arith
+plainly-le Shuts head version body s = omega arith
 
-answered-le : (r : Reaction) (id version : ℤ) (body : List ℕ) (s : Session) → length (after_reaction r id version body s).unread ≤ length s.unread
-answered-le (Plain r) id version body s = plainly-le r id version body s
-answered-le Rebalances id version body s = omega arith
+answered-le : (r : Reaction) (head : Head) (version : ℤ) (body : List ℕ) (s : Session) → length (after_reaction r head version body s).unread ≤ length s.unread
+answered-le (Plain r) head version body s = plainly-le r head version body s
+answered-le Rebalances head version body s = omega arith
 
-pub served_by-le : (setup : Setup) (kept : Kept) (clock n : ℕ) (id : ℤ) (a : Asked) (s : Session) → length (served_by setup kept clock n id a s).unread ≤ length s.unread
+pub served_by-le : (setup : Setup) (kept : Kept) (clock n : ℕ) (head : Head) (a : Asked) (s : Session) → length (served_by setup kept clock n head a s).unread ≤ length s.unread
 unfolding served_by
-served_by-le setup kept clock n id Versions s = replied-le id _ s
-served_by-le setup kept clock n id OtherVersions s = replied-le id _ s
-served_by-le setup kept clock n id (Handshake v m) s = replied-le id _ s
-served_by-le setup kept clock n id (Authenticate m) s = replied-le id _ s
-served_by-le setup kept clock n id (Another k v b) s = answered-le (answer setup.node kept clock n k v b) id v b s
-served_by-le setup kept clock n id Malformed s = omega arith
+served_by-le setup kept clock n head Versions s = replied-le head _ s
+served_by-le setup kept clock n head OtherVersions s = replied-le head _ s
+served_by-le setup kept clock n head (Handshake v m) s = replied-le head _ s
+served_by-le setup kept clock n head (Authenticate m) s = replied-le head _ s
+served_by-le setup kept clock n head (Another k v b) s = answered-le (answer setup.node kept clock n k v b) head v b s
+served_by-le setup kept clock n head Malformed s = omega arith
 
 bare_login-le : (o : Option ℕ) (s : Session) → length (bare_login o s).unread ≤ length s.unread
 bare_login-le (Some t) s = omega arith
 bare_login-le None s = omega arith
 
 greeted_frame-le : (setup : Setup) (h : Greeting) (frame : List ℕ) (s : Session) → length (greeted_frame setup h frame s).unread ≤ length s.unread
-greeted_frame-le setup Unshaken frame s = let r = request setup.versions frame in greeted_by-le setup false r.correlation_id r.asked s
-greeted_frame-le setup Shaken frame s = let r = request setup.versions frame in greeted_by-le setup true r.correlation_id r.asked s
+greeted_frame-le setup Unshaken frame s = let r = request setup.versions frame in greeted_by-le setup false r.head r.asked s
+greeted_frame-le setup Shaken frame s = let r = request setup.versions frame in greeted_by-le setup true r.head r.asked s
 greeted_frame-le setup Bare frame s = bare_login-le (login setup.users frame) s
 
 greeted_at-less : (setup : Setup) (h : Greeting) (s : Session) (f : Front) → front s.unread ≡ f → is_turn f ≡ true → length (greeted_at setup h s f).unread < length s.unread
@@ -150,7 +151,7 @@ greeted-still setup h s t = greeted_at-still setup h s (front s.unread) t
 served_at-less : (setup : Setup) (kept : Kept) (clock n : ℕ) (s : Session) (f : Front) → front s.unread ≡ f → is_turn f ≡ true → length (served_at setup kept clock n s f).unread < length s.unread
 served_at-less setup kept clock n s (Whole frame rest) e t =
     let r = request setup.versions frame in
-    let le = served_by-le setup kept clock n r.correlation_id r.asked (record s { unread = rest }) in
+    let le = served_by-le setup kept clock n r.head r.asked (record s { unread = rest }) in
     let lt = front-rest s.unread frame rest e in
     omega arith
 served_at-less setup kept clock n s TooSmall e t = some-left s.unread (ap is_turn e)
@@ -213,17 +214,17 @@ work-on n f t (k ∷ ls) l h e =
     let les = work-on_le n f t ls in
     grind (arith, nat_tests, rest, here, le, les)
 
-told-le : (r : tenant.Reaction) (id : ℤ) (s : Session) → length (told r id s).unread ≤ length s.unread
-told-le (Replies reply) id s = replied-le id reply _
-told-le (Waits deadline places) id s = omega arith
-told-le Silent id s = omega arith
-told-le Shuts id s = omega arith
+told-le : (r : tenant.Reaction) (head : Head) (s : Session) → length (told r head s).unread ≤ length s.unread
+told-le (Replies reply) head s = replied-le head reply _
+told-le (Waits deadline places) head s = omega arith
+told-le Silent head s = omega arith
+told-le Shuts head s = omega arith
 
 woken_by-le : (kept : Kept) (clock n : ℕ) (s : Session) (st : Stage) → length (woken_by kept clock n s st).unread ≤ length s.unread
 unfolding woken_by
 woken_by-le kept clock n s (Greets h) = omega arith
 woken_by-le kept clock n s (BoundTo u None) = omega arith
-woken_by-le kept clock n s (BoundTo u (Some w)) = told-le (ready kept clock n w) w.correlation_id s
+woken_by-le kept clock n s (BoundTo u (Some w)) = told-le (ready kept clock n w) w.head s
 
 pub work-woken : (kept : Kept) (clock : ℕ) (ls : List Line) → work (each (λ k s. woken kept clock k s) ls) ≤ work ls
 work-woken kept clock [] = omega arith

@@ -21,3 +21,4 @@ pub mod Turns
 pub mod Wakes
 pub mod Pinned
 pub mod Moments
+pub mod Throttled

@@ -4,13 +4,14 @@ use Rattle.std.specs.Prelude.{◌⊎◌, cond, nat_lt}
 use Rattle.std.specs.List.{AllByRecursion}
 use Rattle.std.proofs.lemmas.Bool.Decides.{nat_tests}
 use Rattle.kb_api_group.specs.Frames.{Front, Whole, Partial, TooSmall, TooLarge, front}
+use Rattle.kb_isolation_spec.specs.declared.head.Head.{Head}
 use Rattle.kb_isolation_spec.specs.Requests.{Asked, Versions, OtherVersions, Handshake, Authenticate, Another, Malformed, request}
 use Rattle.kb_tenant_api.specs.Hosted.{Kept}
 use Rattle.kb_tenant.specs.Replies as tenant
 use Rattle.kb_tenant.specs.Replies.{Replies, Waits, Silent, Shuts, framed, reply_size}
 use Rattle.kb_tenant_api.specs.Replies.{Reaction, Plain, Rebalances}
 use Rattle.kb_isolation_spec.specs.Tenant.{Wait, Records, Group, answer}
-use Rattle.kb_isolation_spec.specs.Session.{Greeting, Stage, Greets, BoundTo, Session, fed, shut_down, without_wait, waiting, can, is_turn, room, replied}
+use Rattle.kb_isolation_spec.specs.Session.{Greeting, Stage, Greets, BoundTo, Session, fed, shut_down, without_wait, waiting, can, is_turn, room, replied, throttled}
 use Rattle.kb_isolation_spec.specs.Greeting.{Setup, greeted}
 use Rattle.kb_isolation_spec.specs.Machine.{Happening, Opens, Comes, Closes, Moment, Line, View, plainly, after_reaction, served_by, served_at, after_turn, put, each, on, those, first_able, all_woken, turn_at, turn, turns, again}
 use Rattle.kb_isolation_spec.specs.Owners.{greet_turn, greet_turn_at, heard, destiny, whose, Fits, Owns, Pairwise}
@@ -107,9 +108,9 @@ stage-fed piece s = by s.shut (nat_lt (room s) (length piece)) (s.unread ++ piec
 pub bound-fed : (u : ℕ) (piece : List ℕ) (s : Session) → IsBound u s → IsBound u (fed piece s)
 bound-fed u piece s h = bound-same u s (fed piece s) h (stage-fed piece s)
 
-stage-replied : (id : ℤ) (body : List ℕ) (s : Session) → without_wait (replied id body s).stage ≡ without_wait s.stage
+pub stage-replied : (head : Head) (body : List ℕ) (s : Session) → without_wait (replied head body s).stage ≡ without_wait s.stage
 unfolding replied
-stage-replied id body s = by (nat_lt 2147483647 (reply_size body)) (s.output ++ framed id body)
+stage-replied head body s = by (nat_lt 2147483647 (reply_size (throttled head body))) (s.output ++ framed head.correlation_id (throttled head body))
   where
     by : (a : Bool) (bytes : List ℕ) → without_wait (let x : Session = cond a (shut_down s) (record s { output = bytes }) in x).stage ≡ without_wait s.stage
     by true bytes = stage-shut s
@@ -119,24 +120,24 @@ stage-waiting : (wait : Wait) (st : Stage) → without_wait (waiting wait st) �
 stage-waiting wait (Greets h) = refl
 stage-waiting wait (BoundTo u w) = refl
 
-stage-plainly : (r : tenant.Reaction) (id version : ℤ) (body : List ℕ) (s : Session) → without_wait (plainly r id version body s).stage ≡ without_wait s.stage
-stage-plainly (Replies reply) id version body s = stage-replied id reply s
-stage-plainly (Waits deadline places) id version body s = stage-waiting (record { correlation_id = id; awaited = Records version body deadline }) s.stage
-stage-plainly Silent id version body s = refl
-stage-plainly Shuts id version body s = stage-shut s
+stage-plainly : (r : tenant.Reaction) (head : Head) (version : ℤ) (body : List ℕ) (s : Session) → without_wait (plainly r head version body s).stage ≡ without_wait s.stage
+stage-plainly (Replies reply) head version body s = stage-replied head reply s
+stage-plainly (Waits deadline places) head version body s = stage-waiting (record { head = head; awaited = Records version body deadline }) s.stage
+stage-plainly Silent head version body s = refl
+stage-plainly Shuts head version body s = stage-shut s
 
-pub stage-answered : (r : Reaction) (id version : ℤ) (body : List ℕ) (s : Session) → without_wait (after_reaction r id version body s).stage ≡ without_wait s.stage
-stage-answered (Plain r) id version body s = stage-plainly r id version body s
-stage-answered Rebalances id version body s = stage-waiting (record { correlation_id = id; awaited = Group }) s.stage
+pub stage-answered : (r : Reaction) (head : Head) (version : ℤ) (body : List ℕ) (s : Session) → without_wait (after_reaction r head version body s).stage ≡ without_wait s.stage
+stage-answered (Plain r) head version body s = stage-plainly r head version body s
+stage-answered Rebalances head version body s = stage-waiting (record { head = head; awaited = Group }) s.stage
 
-stage-served_by : (setup : Setup) (kept : Kept) (clock n : ℕ) (id : ℤ) (a : Asked) (s : Session) → without_wait (served_by setup kept clock n id a s).stage ≡ without_wait s.stage
+stage-served_by : (setup : Setup) (kept : Kept) (clock n : ℕ) (head : Head) (a : Asked) (s : Session) → without_wait (served_by setup kept clock n head a s).stage ≡ without_wait s.stage
 unfolding served_by
-stage-served_by setup kept clock n id Versions s = stage-replied id _ s
-stage-served_by setup kept clock n id OtherVersions s = stage-replied id _ s
-stage-served_by setup kept clock n id (Handshake v m) s = stage-replied id _ s
-stage-served_by setup kept clock n id (Authenticate m) s = stage-replied id _ s
-stage-served_by setup kept clock n id (Another k v b) s = stage-answered (answer setup.node kept clock n k v b) id v b s
-stage-served_by setup kept clock n id Malformed s = stage-shut s
+stage-served_by setup kept clock n head Versions s = stage-replied head _ s
+stage-served_by setup kept clock n head OtherVersions s = stage-replied head _ s
+stage-served_by setup kept clock n head (Handshake v m) s = stage-replied head _ s
+stage-served_by setup kept clock n head (Authenticate m) s = stage-replied head _ s
+stage-served_by setup kept clock n head (Another k v b) s = stage-answered (answer setup.node kept clock n k v b) head v b s
+stage-served_by setup kept clock n head Malformed s = stage-shut s
 
 -- a bound connection's turn leaves it bound
 pub stage-served : (setup : Setup) (kept : Kept) (clock n : ℕ) (s : Session) → without_wait (after_turn setup kept clock n s).stage ≡ without_wait s.stage
@@ -144,7 +145,7 @@ unfolding after_turn
 stage-served setup kept clock n s = by (front s.unread)
   where
     by : (f : Front) → without_wait (served_at setup kept clock n s f).stage ≡ without_wait s.stage
-    by (Whole frame rest) = stage-served_by setup kept clock n (request setup.versions frame).correlation_id (request setup.versions frame).asked (record s { unread = rest })
+    by (Whole frame rest) = stage-served_by setup kept clock n (request setup.versions frame).head (request setup.versions frame).asked (record s { unread = rest })
     by TooSmall = stage-shut s
     by TooLarge = stage-shut s
     by Partial = refl

@@ -3,6 +3,7 @@ use Rattle.std.proofs.Common.{◌≡◌, ◌∙◌, ◌≤◌, ℕ, ℤ, zero, s
 use Rattle.std.proofs.lemmas.Bool.Decides.{nat_tests}
 use Rattle.std.proofs.lemmas.List.{length-append}
 use Rattle.kb_api_group.specs.Frames.{Whole, front}
+use Rattle.kb_isolation_spec.specs.declared.head.Head.{Head}
 use Rattle.kb_isolation_spec.specs.Session.{Stage, Bare, Greets, BoundTo, Session, LIMIT, room, without_wait, shut_down, fed, has_member, overruns}
 use Rattle.kb_isolation_spec.specs.Requests.{Another, Authenticate}
 use Rattle.kb_coordinator.specs.Calls as groups
@@ -26,13 +27,13 @@ pub fed-shut : (piece : List ℕ) (s : Session) → s.shut ≡ true → fed piec
 unfolding fed
 fed-shut piece s e = ap (λ (b : Bool). cond b s (cond (nat_lt (room s) (length piece)) (shut_down s) (record s { unread = s.unread ++ piece }))) e
 
-pub another-shuts : (setup : Setup) (h : Bool) (id key version : ℤ) (body : List ℕ) (s : Session) → greeted_by setup h id (Another key version body) s ≡ shut_down s
+pub another-shuts : (setup : Setup) (h : Bool) (head : Head) (key version : ℤ) (body : List ℕ) (s : Session) → greeted_by setup h head (Another key version body) s ≡ shut_down s
 unfolding greeted_by
-another-shuts setup h id key version body s = refl
+another-shuts setup h head key version body s = refl
 
-pub denied-shuts : (setup : Setup) (id : ℤ) (message : List ℕ) (s : Session) → login setup.users message ≡ None → (greeted_by setup true id (Authenticate message) s).shut ≡ true
+pub denied-shuts : (setup : Setup) (head : Head) (message : List ℕ) (s : Session) → login setup.users message ≡ None → (greeted_by setup true head (Authenticate message) s).shut ≡ true
 unfolding greeted_by
-denied-shuts setup id message s e = ap (λ (o : Option ℕ). (logged_in o id s).shut) e
+denied-shuts setup head message s e = ap (λ (o : Option ℕ). (logged_in o head s).shut) e
 
 pub bare-shuts : (setup : Setup) (frame rest : List ℕ) (s : Session) → front s.unread ≡ Whole frame rest → login setup.users frame ≡ None → greeted setup Bare s ≡ shut_down s
 unfolding greeted

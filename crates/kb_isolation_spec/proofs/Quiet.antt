@@ -27,6 +27,7 @@ use Rattle.kb_tenant.specs.declared.node.Node.{Node}
 use Rattle.kb_tenant.proofs.Again.{retained_again}
 use Rattle.kb_tenant.proofs.Asked.{before_end, waits_until}
 use Rattle.kb_tenant_api.proofs.Laws.{served_again, served_waits}
+use Rattle.kb_isolation_spec.specs.declared.head.Head.{Head}
 use Rattle.kb_isolation_spec.specs.Tenant.{Wait, Awaited, Records, Group, ready, ready_for, asked, asked_in, asked_for, kept_after, answer}
 use Rattle.kb_isolation_spec.specs.Greeting.{Setup}
 use Rattle.kb_isolation_spec.specs.Requests.{Asked, Versions, OtherVersions, Handshake, Authenticate, Another, Malformed}
@@ -129,17 +130,17 @@ asked-passed clock k w = for w.awaited
     for Group = refl
 
 -- what waits for its group asks for no partition
-pub asked-group : (k : Kept) (id : ℤ) → asked k (record { correlation_id = id; awaited = Group }) ≡ []
+pub asked-group : (k : Kept) (head : Head) → asked k (record { head = head; awaited = Group }) ≡ []
 unfolding asked
-asked-group k id = refl
+asked-group k head = refl
 
 -- 3. The one that begins to wait
 
 -- the partitions that a fetch begins to wait for are those that it asks for
-pub asked-parks : (node : Node) (k : Kept) (clock n : ℕ) (key version : ℤ) (body : List ℕ) (deadline : ℕ) (places : List TopicPartition) (id : ℤ) → answer node k clock n key version body ≡ Plain (Waits deadline places) →
-    places ≡ asked (kept_after node k clock n key version body) (record { correlation_id = id; awaited = Records version body deadline })
+pub asked-parks : (node : Node) (k : Kept) (clock n : ℕ) (key version : ℤ) (body : List ℕ) (deadline : ℕ) (places : List TopicPartition) (head : Head) → answer node k clock n key version body ≡ Plain (Waits deadline places) →
+    places ≡ asked (kept_after node k clock n key version body) (record { head = head; awaited = Records version body deadline })
 unfolding answer kept_after asked
-asked-parks node k clock n key version body deadline places id e = (parks node k.world clock k.groups n key version body deadline places e).asks
+asked-parks node k clock n key version body deadline places head e = (parks node k.world clock k.groups n key version body deadline places e).asks
 
 -- what waits at that stage, on the connection of number n, is not ready
 abbrev pub IsIdle : ℕ → Kept → ℕ → Stage → Type 0
@@ -152,31 +153,31 @@ waiting-idle : (clock : ℕ) (kept : Kept) (n : ℕ) (x : Wait) (st : Stage) →
 waiting-idle clock kept n x (Greets h) silent = λ t w e. absurd (cc)
 waiting-idle clock kept n x (BoundTo u earlier) silent = λ t w e. let same : x ≡ w = cc in subst (λ y. ready kept clock n y ≡ Silent) same silent
 
-group-silent : (clock : ℕ) (kept : Kept) (n : ℕ) (id : ℤ) → has_released kept.groups ≡ false → ready kept clock n (record { correlation_id = id; awaited = Group }) ≡ Silent
+group-silent : (clock : ℕ) (kept : Kept) (n : ℕ) (head : Head) → has_released kept.groups ≡ false → ready kept clock n (record { head = head; awaited = Group }) ≡ Silent
 unfolding ready
-group-silent clock kept n id none = told-nothing n kept.groups none
+group-silent clock kept n head none = told-nothing n kept.groups none
 
-answered-idle : (clock : ℕ) (kept : Kept) (n : ℕ) (r : Reaction) (id version : ℤ) (body : List ℕ) (s : Session) → is_free s.stage ≡ true → has_released kept.groups ≡ false
-    → ((deadline : ℕ) (places : List TopicPartition) → r ≡ Plain (Waits deadline places) → ready kept clock n (record { correlation_id = id; awaited = Records version body deadline }) ≡ Silent) → IsIdle clock kept n (after_reaction r id version body s).stage
-answered-idle clock kept n (Plain (Replies reply)) id version body s free none silent = free-idle clock kept n _ (free-replied id reply s free)
-answered-idle clock kept n (Plain (Waits deadline places)) id version body s free none silent = waiting-idle clock kept n (record { correlation_id = id; awaited = Records version body deadline }) s.stage (silent deadline places refl)
-answered-idle clock kept n (Plain Silent) id version body s free none silent = free-idle clock kept n s.stage free
-answered-idle clock kept n (Plain Shuts) id version body s free none silent = free-idle clock kept n _ (free-without s.stage)
-answered-idle clock kept n Rebalances id version body s free none silent = waiting-idle clock kept n (record { correlation_id = id; awaited = Group }) s.stage (group-silent clock kept n id none)
+answered-idle : (clock : ℕ) (kept : Kept) (n : ℕ) (r : Reaction) (head : Head) (version : ℤ) (body : List ℕ) (s : Session) → is_free s.stage ≡ true → has_released kept.groups ≡ false
+    → ((deadline : ℕ) (places : List TopicPartition) → r ≡ Plain (Waits deadline places) → ready kept clock n (record { head = head; awaited = Records version body deadline }) ≡ Silent) → IsIdle clock kept n (after_reaction r head version body s).stage
+answered-idle clock kept n (Plain (Replies reply)) head version body s free none silent = free-idle clock kept n _ (free-replied head reply s free)
+answered-idle clock kept n (Plain (Waits deadline places)) head version body s free none silent = waiting-idle clock kept n (record { head = head; awaited = Records version body deadline }) s.stage (silent deadline places refl)
+answered-idle clock kept n (Plain Silent) head version body s free none silent = free-idle clock kept n s.stage free
+answered-idle clock kept n (Plain Shuts) head version body s free none silent = free-idle clock kept n _ (free-without s.stage)
+answered-idle clock kept n Rebalances head version body s free none silent = waiting-idle clock kept n (record { head = head; awaited = Group }) s.stage (group-silent clock kept n head none)
 
-by-idle : (setup : Setup) (kept : Kept) (clock n : ℕ) (id : ℤ) (a : Asked) (s : Session) → is_free s.stage ≡ true → has_released (kept_by setup kept clock n a).groups ≡ false → IsIdle clock (kept_by setup kept clock n a) n (served_by setup kept clock n id a s).stage
+by-idle : (setup : Setup) (kept : Kept) (clock n : ℕ) (head : Head) (a : Asked) (s : Session) → is_free s.stage ≡ true → has_released (kept_by setup kept clock n a).groups ≡ false → IsIdle clock (kept_by setup kept clock n a) n (served_by setup kept clock n head a s).stage
 unfolding served_by ready kept_after answer
-by-idle setup kept clock n id Versions s free none = free-idle clock kept n _ (free-replied id _ s free)
-by-idle setup kept clock n id OtherVersions s free none = free-idle clock kept n _ (free-replied id _ s free)
-by-idle setup kept clock n id (Handshake version mechanism) s free none = free-idle clock kept n _ (free-replied id _ s free)
-by-idle setup kept clock n id (Authenticate message) s free none = free-idle clock kept n _ (free-replied id _ s free)
-by-idle setup kept clock n id (Another key version body) s free none =
-    answered-idle clock (kept_after setup.node kept clock n key version body) n (answer setup.node kept clock n key version body) id version body s free none
+by-idle setup kept clock n head Versions s free none = free-idle clock kept n _ (free-replied head _ s free)
+by-idle setup kept clock n head OtherVersions s free none = free-idle clock kept n _ (free-replied head _ s free)
+by-idle setup kept clock n head (Handshake version mechanism) s free none = free-idle clock kept n _ (free-replied head _ s free)
+by-idle setup kept clock n head (Authenticate message) s free none = free-idle clock kept n _ (free-replied head _ s free)
+by-idle setup kept clock n head (Another key version body) s free none =
+    answered-idle clock (kept_after setup.node kept clock n key version body) n (answer setup.node kept clock n key version body) head version body s free none
     (λ deadline places e. (parks setup.node kept.world clock kept.groups n key version body deadline places e).silent)
-by-idle setup kept clock n id Malformed s free none = free-idle clock kept n _ (free-without s.stage)
+by-idle setup kept clock n head Malformed s free none = free-idle clock kept n _ (free-without s.stage)
 
 at-idle : (setup : Setup) (kept : Kept) (clock n : ℕ) (s : Session) (f : Front) → is_free s.stage ≡ true → has_released (kept_at setup kept clock n f).groups ≡ false → IsIdle clock (kept_at setup kept clock n f) n (served_at setup kept clock n s f).stage
-at-idle setup kept clock n s (Whole frame rest) free none = let r = requests.request setup.versions frame in by-idle setup kept clock n r.correlation_id r.asked (record s { unread = rest }) free none
+at-idle setup kept clock n s (Whole frame rest) free none = let r = requests.request setup.versions frame in by-idle setup kept clock n r.head r.asked (record s { unread = rest }) free none
 at-idle setup kept clock n s TooSmall free none = free-idle clock kept n _ (free-without s.stage)
 at-idle setup kept clock n s TooLarge free none = free-idle clock kept n _ (free-without s.stage)
 at-idle setup kept clock n s Partial free none = free-idle clock kept n s.stage free

@@ -7,8 +7,9 @@ use Rattle.kb_api_group.specs.Plain.{plain}
 use Rattle.kb_api_group.specs.declared.plain.PlainLogin.{PlainLogin}
 use Rattle.kb_api_group.specs.Frames.{Front, Whole, Partial, TooSmall, TooLarge, front}
 use Rattle.kb_tenant.specs.Replies.{framed, reply_size}
+use Rattle.kb_isolation_spec.specs.declared.head.Head.{Head}
 use Rattle.kb_isolation_spec.specs.Requests.{Asked, Versions, OtherVersions, Handshake, Authenticate, Another, Malformed, request}
-use Rattle.kb_isolation_spec.specs.Session.{Greeting, Unshaken, Shaken, Bare, Stage, Greets, BoundTo, Session, shut_down, replied, without_wait, fed}
+use Rattle.kb_isolation_spec.specs.Session.{Greeting, Unshaken, Shaken, Bare, Stage, Greets, BoundTo, Session, shut_down, replied, throttled, without_wait, fed}
 use Rattle.kb_isolation_spec.specs.Greeting.{Setup, User, greeted_by, greeted_frame, greeted_at, greeted, greeting_after, shaken, authenticated, logged_in, bare_login, login, tenant_of, tenant_at}
 use Rattle.kb_isolation_spec.specs.Owners.{greet_turn, greet_turn_at, heard}
 use Rattle.kb_isolation_spec.specs.Machine.{again}
@@ -32,9 +33,9 @@ range-same n (Greets g) (BoundTo v w) e r = absurd (cc)
 range-same n (BoundTo v w) (Greets h) e r = tt
 range-same n (BoundTo v w) (BoundTo x y) e r = let g : x ≡ v = cc in rw g r
 
-range-replied : (n : ℕ) (id : ℤ) (body : List ℕ) (s : Session) → InRange n s.stage → InRange n (replied id body s).stage
+range-replied : (n : ℕ) (head : Head) (body : List ℕ) (s : Session) → InRange n s.stage → InRange n (replied head body s).stage
 unfolding replied
-range-replied n id body s r = by (nat_lt 2147483647 (reply_size body)) (s.output ++ framed id body)
+range-replied n head body s r = by (nat_lt 2147483647 (reply_size (throttled head body))) (s.output ++ framed head.correlation_id (throttled head body))
   where
     by : (a : Bool) (bytes : List ℕ) → InRange n (let x : Session = cond a (shut_down s) (record s { output = bytes }) in x).stage
     by true bytes = range-without n s.stage r
@@ -56,34 +57,34 @@ below-login : (n : ℕ) (us : List User) (message : List ℕ) → AreUsers n us 
 unfolding login
 below-login n us message h = below-at n us (plain message) h
 
-range-by : (n : ℕ) (setup : Setup) (h : Bool) (id : ℤ) (a : Asked) (s : Session) → AreUsers n setup.users → InRange n s.stage → InRange n (greeted_by setup h id a s).stage
+range-by : (n : ℕ) (setup : Setup) (h : Bool) (head : Head) (a : Asked) (s : Session) → AreUsers n setup.users → InRange n s.stage → InRange n (greeted_by setup h head a s).stage
 unfolding greeted_by
-range-by n setup h id Versions s us r = range-replied n id _ s r
-range-by n setup h id OtherVersions s us r = range-replied n id _ s r
-range-by n setup h id (Handshake v m) s us r = by (bytes_eq m _)
+range-by n setup h head Versions s us r = range-replied n head _ s r
+range-by n setup h head OtherVersions s us r = range-replied n head _ s r
+range-by n setup h head (Handshake v m) s us r = by (bytes_eq m _)
   where
-    by : (b : Bool) → InRange n (shaken b id v s).stage
-    by true = range-replied n id _ (record s { stage = Greets (greeting_after v) }) tt
-    by false = range-replied n id _ s r
-range-by n setup h id (Authenticate m) s us r = by h
+    by : (b : Bool) → InRange n (shaken b head v s).stage
+    by true = range-replied n head _ (record s { stage = Greets (greeting_after v) }) tt
+    by false = range-replied n head _ s r
+range-by n setup h head (Authenticate m) s us r = by h
   where
-    logs : (o : Option ℕ) → IsBelow n o → InRange n (logged_in o id s).stage
-    logs (Some t) b = range-replied n id _ (record s { stage = BoundTo t None }) b
-    logs None b = range-without n (replied id _ s).stage (range-replied n id _ s r)
+    logs : (o : Option ℕ) → IsBelow n o → InRange n (logged_in o head s).stage
+    logs (Some t) b = range-replied n head _ (record s { stage = BoundTo t None }) b
+    logs None b = range-without n (replied head _ s).stage (range-replied n head _ s r)
 
-    by : (b : Bool) → InRange n (authenticated setup b id m s).stage
+    by : (b : Bool) → InRange n (authenticated setup b head m s).stage
     by true = logs (login setup.users m) (below-login n setup.users m us)
-    by false = range-replied n id _ s r
-range-by n setup h id (Another k v b) s us r = range-without n s.stage r
-range-by n setup h id Malformed s us r = range-without n s.stage r
+    by false = range-replied n head _ s r
+range-by n setup h head (Another k v b) s us r = range-without n s.stage r
+range-by n setup h head Malformed s us r = range-without n s.stage r
 
 range-bare : (n : ℕ) (o : Option ℕ) (s : Session) → IsBelow n o → InRange n s.stage → InRange n (bare_login o s).stage
 range-bare n (Some t) s b r = b
 range-bare n None s b r = range-without n s.stage r
 
 range-frame : (n : ℕ) (setup : Setup) (h : Greeting) (frame : List ℕ) (s : Session) → AreUsers n setup.users → InRange n s.stage → InRange n (greeted_frame setup h frame s).stage
-range-frame n setup Unshaken frame s us r = let q = request setup.versions frame in range-by n setup false q.correlation_id q.asked s us r
-range-frame n setup Shaken frame s us r = let q = request setup.versions frame in range-by n setup true q.correlation_id q.asked s us r
+range-frame n setup Unshaken frame s us r = let q = request setup.versions frame in range-by n setup false q.head q.asked s us r
+range-frame n setup Shaken frame s us r = let q = request setup.versions frame in range-by n setup true q.head q.asked s us r
 range-frame n setup Bare frame s us r = range-bare n (login setup.users frame) s (below-login n setup.users frame us) r
 
 -- the greeting binds to a tenant of the broker

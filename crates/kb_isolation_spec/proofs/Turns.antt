@@ -4,6 +4,7 @@ use Rattle.std.specs.Prelude.{cond, nat_lt, codes}
 use Rattle.std.specs.Str.{bytes_eq}
 use Rattle.kb_api_group.specs.Frames.{Front, Whole, Partial, TooSmall, TooLarge, front}
 use Rattle.kb_tenant.specs.Replies.{framed, reply_size}
+use Rattle.kb_isolation_spec.specs.declared.head.Head.{Head}
 use Rattle.kb_isolation_spec.specs.Requests.{Asked, Versions, OtherVersions, Handshake, Authenticate, Another, Malformed, request}
 use Rattle.std.proofs.lemmas.Bool.Decides.{nat_tests}
 use Rattle.kb_tenant_state.specs.Counts.{IsCalm}
@@ -12,7 +13,7 @@ use Rattle.kb_tenant_api.specs.Hosted.{TenantState}
 use Rattle.kb_tenant_api.specs.Turns.{IsTurn}
 use Rattle.kb_tenant.specs.Replies.{Silent}
 use Rattle.kb_isolation_spec.specs.Tenant.{Wait, ready}
-use Rattle.kb_isolation_spec.specs.Session.{Greeting, Unshaken, Shaken, Bare, Stage, Session, Greets, BoundTo, shut_down, replied, without_wait, is_free, can}
+use Rattle.kb_isolation_spec.specs.Session.{Greeting, Unshaken, Shaken, Bare, Stage, Session, Greets, BoundTo, shut_down, replied, throttled, without_wait, is_free, can}
 use Rattle.kb_isolation_spec.specs.Greeting.{Setup, login, logged_in, bare_login, greeting_after, shaken, greeted_by, greeted_frame, greeted_at, greeted}
 use Rattle.kb_isolation_spec.specs.Machine.{Happening, Line, after_turn, put, each, on, those, first_able, all_woken, turns, find_line}
 use Rattle.kb_isolation_spec.specs.Owners.{Owns, whose}
@@ -96,39 +97,39 @@ free-without (BoundTo t w) = refl
 pub shut-unready : (P : ℕ → Wait → Type 0) (b : BrokerState) (n : ℕ) (s : Session) → IsUnready P b n (shut_down s).stage
 shut-unready P b n s = free-unready P b n (without_wait s.stage) (free-without s.stage)
 
-pub free-replied : (id : ℤ) (body : List ℕ) (s : Session) → is_free s.stage ≡ true → is_free (replied id body s).stage ≡ true
+pub free-replied : (head : Head) (body : List ℕ) (s : Session) → is_free s.stage ≡ true → is_free (replied head body s).stage ≡ true
 unfolding replied
-free-replied id body s free = by (nat_lt 2147483647 (reply_size body))
+free-replied head body s free = by (nat_lt 2147483647 (reply_size (throttled head body)))
   where
-    by : (b : Bool) → is_free (let x : Session = cond b (shut_down s) (record s { output = s.output ++ framed id body }) in x).stage ≡ true
+    by : (b : Bool) → is_free (let x : Session = cond b (shut_down s) (record s { output = s.output ++ framed head.correlation_id (throttled head body) }) in x).stage ≡ true
     by true = free-without s.stage
     by false = free
 
-free-logged_in : (o : Option ℕ) (id : ℤ) (s : Session) → is_free s.stage ≡ true → is_free (logged_in o id s).stage ≡ true
-free-logged_in (Some t) id s free = free-replied id _ (record s { stage = BoundTo t None }) refl
-free-logged_in None id s free = free-without _
+free-logged_in : (o : Option ℕ) (head : Head) (s : Session) → is_free s.stage ≡ true → is_free (logged_in o head s).stage ≡ true
+free-logged_in (Some t) head s free = free-replied head _ (record s { stage = BoundTo t None }) refl
+free-logged_in None head s free = free-without _
 
-free-greeted_by : (setup : Setup) (h : Bool) (id : ℤ) (a : Asked) (s : Session) → is_free s.stage ≡ true → is_free (greeted_by setup h id a s).stage ≡ true
+free-greeted_by : (setup : Setup) (h : Bool) (head : Head) (a : Asked) (s : Session) → is_free s.stage ≡ true → is_free (greeted_by setup h head a s).stage ≡ true
 unfolding greeted_by
-free-greeted_by setup h id Versions s free = free-replied id _ s free
-free-greeted_by setup h id OtherVersions s free = free-replied id _ s free
-free-greeted_by setup h id (Handshake version mechanism) s free = by (bytes_eq mechanism (codes "PLAIN"))
+free-greeted_by setup h head Versions s free = free-replied head _ s free
+free-greeted_by setup h head OtherVersions s free = free-replied head _ s free
+free-greeted_by setup h head (Handshake version mechanism) s free = by (bytes_eq mechanism (codes "PLAIN"))
   where
-    by : (b : Bool) → is_free (shaken b id version s).stage ≡ true
-    by true = free-replied id _ (record s { stage = Greets (greeting_after version) }) refl
-    by false = free-replied id _ s free
-free-greeted_by setup true id (Authenticate message) s free = free-logged_in (login setup.users message) id s free
-free-greeted_by setup false id (Authenticate message) s free = free-replied id _ s free
-free-greeted_by setup h id (Another key version body) s free = free-without s.stage
-free-greeted_by setup h id Malformed s free = free-without s.stage
+    by : (b : Bool) → is_free (shaken b head version s).stage ≡ true
+    by true = free-replied head _ (record s { stage = Greets (greeting_after version) }) refl
+    by false = free-replied head _ s free
+free-greeted_by setup true head (Authenticate message) s free = free-logged_in (login setup.users message) head s free
+free-greeted_by setup false head (Authenticate message) s free = free-replied head _ s free
+free-greeted_by setup h head (Another key version body) s free = free-without s.stage
+free-greeted_by setup h head Malformed s free = free-without s.stage
 
 free-bare_login : (o : Option ℕ) (s : Session) → is_free s.stage ≡ true → is_free (bare_login o s).stage ≡ true
 free-bare_login (Some t) s free = refl
 free-bare_login None s free = free-without s.stage
 
 free-greeted_frame : (setup : Setup) (h : Greeting) (frame : List ℕ) (s : Session) → is_free s.stage ≡ true → is_free (greeted_frame setup h frame s).stage ≡ true
-free-greeted_frame setup Unshaken frame s free = let r = request setup.versions frame in free-greeted_by setup false r.correlation_id r.asked s free
-free-greeted_frame setup Shaken frame s free = let r = request setup.versions frame in free-greeted_by setup true r.correlation_id r.asked s free
+free-greeted_frame setup Unshaken frame s free = let r = request setup.versions frame in free-greeted_by setup false r.head r.asked s free
+free-greeted_frame setup Shaken frame s free = let r = request setup.versions frame in free-greeted_by setup true r.head r.asked s free
 free-greeted_frame setup Bare frame s free = free-bare_login (login setup.users frame) s free
 
 pub free-greeted : (setup : Setup) (h : Greeting) (s : Session) → is_free s.stage ≡ true → is_free (greeted setup h s).stage ≡ true

@@ -17,6 +17,7 @@ use Rattle.kb_tenant.specs.Replies.{Reaction, Replies, Waits, Silent, Shuts}
 use Rattle.kb_groups.specs.declared.reply.Reply.{Reply}
 use Rattle.kb_coordinator.specs.Calls.{reply_to}
 use Rattle.kb_tenant_api.specs.Replies as service
+use Rattle.kb_isolation_spec.specs.declared.head.Head.{Head}
 use Rattle.kb_isolation_spec.specs.Tenant.{Wait, Awaited, Records, Group, ready, ready_for}
 use Rattle.kb_isolation_spec.specs.Session.{Stage, Greets, BoundTo, Session, without_wait, is_free, shut_down}
 use Rattle.kb_isolation_spec.specs.Machine.{Happening, Line, told, woken_by, woken, each, on, those, all_woken, turns}
@@ -43,13 +44,13 @@ woken-free kept clock n s free = by s.stage refl
     by (BoundTo u None) e = refl
     by (BoundTo u (Some w)) e = let no : false ≡ true = sym (ap is_free e) ∙ free in absurd (cc)
 
-told-twice : (kept : Kept) (clock n : ℕ) (r : Reaction) (id : ℤ) (s : Session) → woken kept clock n s ≡ told r id s → woken kept clock n (told r id s) ≡ told r id s
-told-twice kept clock n (Replies reply) id s e = woken-free kept clock n (told (Replies reply) id s) (free-replied id reply (record s { stage = without_wait s.stage }) (free-without s.stage))
-told-twice kept clock n (Waits deadline places) id s e = e
-told-twice kept clock n Silent id s e = e
-told-twice kept clock n Shuts id s e = woken-free kept clock n (shut_down s) (free-without s.stage)
+told-twice : (kept : Kept) (clock n : ℕ) (r : Reaction) (head : Head) (s : Session) → woken kept clock n s ≡ told r head s → woken kept clock n (told r head s) ≡ told r head s
+told-twice kept clock n (Replies reply) head s e = woken-free kept clock n (told (Replies reply) head s) (free-replied head reply (record s { stage = without_wait s.stage }) (free-without s.stage))
+told-twice kept clock n (Waits deadline places) head s e = e
+told-twice kept clock n Silent head s e = e
+told-twice kept clock n Shuts head s e = woken-free kept clock n (shut_down s) (free-without s.stage)
 
-pub woken-at : (kept : Kept) (clock n : ℕ) (s : Session) (u : ℕ) (w : Wait) → s.stage ≡ BoundTo u (Some w) → woken kept clock n s ≡ told (ready kept clock n w) w.correlation_id s
+pub woken-at : (kept : Kept) (clock n : ℕ) (s : Session) (u : ℕ) (w : Wait) → s.stage ≡ BoundTo u (Some w) → woken kept clock n s ≡ told (ready kept clock n w) w.head s
 unfolding woken_by
 woken-at kept clock n s u w e = ap (woken_by kept clock n s) e
 
@@ -61,7 +62,7 @@ woken-twice kept clock n s = by kept clock s s.stage refl
     by kept clock s (BoundTo u None) e = let same = woken-free kept clock n s (ap is_free e) in ap (woken kept clock n) same
     by kept clock s (BoundTo u (Some w)) e =
         let is = woken-at kept clock n s u w e in
-        ap (woken kept clock n) is ∙ (told-twice kept clock n (ready kept clock n w) w.correlation_id s is ∙ sym is)
+        ap (woken kept clock n) is ∙ (told-twice kept clock n (ready kept clock n w) w.head s is ∙ sym is)
 
 -- 2. Looks, one after another
 
@@ -182,8 +183,8 @@ never-waits kept clock n w deadline places e = for w.awaited e
 pub unready-woken : (P : ℕ → Wait → Type 0) (b : BrokerState) (n : ℕ) (s : Session) (u : ℕ) (w : Wait) → s.stage ≡ BoundTo u (Some w) → IsUnready P b n (woken (kept_of b u) b.clock n s).stage
 unready-woken P b n s u w e = subst (λ (x : Session). IsUnready P b n x.stage) (sym (woken-at (kept_of b u) b.clock n s u w e)) (by (ready (kept_of b u) b.clock n w) refl)
   where
-    by : (r : Reaction) → ready (kept_of b u) b.clock n w ≡ r → IsUnready P b n (told r w.correlation_id s).stage
-    by (Replies reply) f = free-unready P b n (told (Replies reply) w.correlation_id s).stage (free-replied w.correlation_id reply (record s { stage = without_wait s.stage }) (free-without s.stage))
+    by : (r : Reaction) → ready (kept_of b u) b.clock n w ≡ r → IsUnready P b n (told r w.head s).stage
+    by (Replies reply) f = free-unready P b n (told (Replies reply) w.head s).stage (free-replied w.head reply (record s { stage = without_wait s.stage }) (free-without s.stage))
     by (Waits deadline places) f = absurd (never-waits (kept_of b u) b.clock n w deadline places f)
     by Silent f = subst (IsUnready P b n) (sym e) (λ p. f)
     by Shuts f = shut-unready P b n s
@@ -201,7 +202,7 @@ each-unready P b t mine es passes (l ∷ ls) m h = by (mine l.number) refl (each
         let is : mine l.number ≡ eqb u t = mine-bound b.setup t mine es l u (record { wait = Some w; is = e }) m.0 in
         let same : u ≡ t = eqb_same u t (sym is ∙ among) in
         let silent : ready (kept_of b t) b.clock l.number w ≡ Silent = subst (λ v. P v w → ready (kept_of b v) b.clock l.number w ≡ Silent) same (subst (IsUnready P b l.number) e h.0) (passes w) in
-        woken-at (kept_of b t) b.clock l.number l.session u w e ∙ ap (λ r. told r w.correlation_id l.session) silent
+        woken-at (kept_of b t) b.clock l.number l.session u w e ∙ ap (λ r. told r w.head l.session) silent
 
     by : (c : Bool) → mine l.number ≡ c → each (λ k s. woken (kept_of b t) b.clock k s) (those mine ls) ≡ those mine ls → each (λ k s. woken (kept_of b t) b.clock k s) (cond c (l ∷ those mine ls) (those mine ls)) ≡ cond c (l ∷ those mine ls) (those mine ls)
     by false e rest = rest

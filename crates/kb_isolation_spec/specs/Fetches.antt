@@ -8,6 +8,7 @@ use Rattle.kb_tenant_state.specs.World as tenants
 use Rattle.kb_tenant.specs.Batches.{HoldsBatches}
 use Rattle.kb_tenant.specs.Fetch.{asked_fetch}
 use Rattle.kb_tenant_api.specs.Hosted.{passed}
+use Rattle.kb_isolation_spec.specs.declared.head.Head.{Head}
 use Rattle.kb_isolation_spec.specs.Requests.{Another, request}
 use Rattle.kb_isolation_spec.specs.Tenant.{Records}
 use Rattle.kb_isolation_spec.specs.Session.{Stage, Greets, BoundTo, Session, fed, replied, without_wait}
@@ -15,9 +16,9 @@ use Rattle.kb_isolation_spec.specs.Machine.{Happening, Opens, Comes, Closes, Mom
 use Rattle.kb_isolation_spec.specs.Machine.{on, first_able, all_woken, turn, work, step}
 
 -- it got a reply that holds such batches, as that version tells them, or no reply
-abbrev pub GetsBatches : tenants.World → ℤ → FetchRequest → ℤ → Session → Session → Type 0
-GetsBatches world version fetch id old new =
-    ((reply : List ℕ) × HoldsBatches version world fetch reply × (new ≡ replied id reply old)) ⊎ (new.output ≡ old.output)
+abbrev pub GetsBatches : tenants.World → ℤ → FetchRequest → Head → Session → Session → Type 0
+GetsBatches world version fetch head old new =
+    ((reply : List ℕ) × HoldsBatches version world fetch reply × (new ≡ replied head reply old)) ⊎ (new.output ≡ old.output)
 
 -- 1. One answer
 
@@ -26,15 +27,15 @@ abbrev pub ServesBatches : View → ℕ → Session → Type 0
 ServesBatches w n s = (frame rest : List ℕ) (version : ℤ) (body : List ℕ) (fetch : FetchRequest)
     → front s.unread ≡ Whole frame rest → (request w.setup.versions frame).asked ≡ Another FETCH version body
     → asked_fetch version body ≡ Ok fetch
-    → GetsBatches w.kept.world version fetch (request w.setup.versions frame).correlation_id (record s { unread = rest })
+    → GetsBatches w.kept.world version fetch (request w.setup.versions frame).head (record s { unread = rest })
     (after_turn w.setup w.kept w.clock n s)
 
 -- where a fetch waits on a connection, of number n, that is looked at, the connection gets such batches
 abbrev pub WakesWithBatches : View → ℕ → Session → Type 0
-WakesWithBatches w n s = (tenant : ℕ) (id version : ℤ) (body : List ℕ) (deadline : ℕ) (fetch : FetchRequest)
-    → s.stage ≡ BoundTo tenant (Some (record { correlation_id = id; awaited = Records version body deadline }))
+WakesWithBatches w n s = (tenant : ℕ) (head : Head) (version : ℤ) (body : List ℕ) (deadline : ℕ) (fetch : FetchRequest)
+    → s.stage ≡ BoundTo tenant (Some (record { head = head; awaited = Records version body deadline }))
     → asked_fetch version body ≡ Ok fetch
-    → GetsBatches w.kept.world version fetch id (record s { stage = without_wait s.stage }) (woken w.kept w.clock n s)
+    → GetsBatches w.kept.world version fetch head (record s { stage = without_wait s.stage }) (woken w.kept w.clock n s)
 
 -- so does each that waits
 abbrev pub AllWakeWithBatches : View → Type 0

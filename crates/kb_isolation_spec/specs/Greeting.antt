@@ -11,6 +11,7 @@ use Rattle.kb_wire.specs.declared.error_code.ErrorCode.TheVariants as errors
 use Rattle.kb_api_group.specs.declared.plain.PlainLogin.{PlainLogin}
 use Rattle.kb_api_group.specs.declared.api_versions.ApiVersion.{ApiVersion}
 use Rattle.kb_tenant.specs.declared.node.Node.{Node}
+use Rattle.kb_isolation_spec.specs.declared.head.Head.{Head}
 use Rattle.kb_isolation_spec.specs.Requests.{Asked, Versions, OtherVersions, Handshake, Authenticate, Another, Malformed, request}
 use Rattle.kb_isolation_spec.specs.Session.{Greeting, Unshaken, Shaken, Bare, Greets, BoundTo, Session, shut_down, replied}
 
@@ -65,22 +66,22 @@ empty_frame = 0 ∷ 0 ∷ 0 ∷ 0 ∷ []
 -- 2. Before authentication
 
 -- a login that names a user with its password binds the connection, any other shuts it after the reply
-abbrev pub logged_in : Option ℕ → ℤ → Session → Session
-logged_in (Some tenant) id s = replied id (authenticate_reply errors.None None) (record s { stage = BoundTo tenant None })
-logged_in None id s = shut_down (replied id (authenticate_reply errors.SaslAuthenticationFailed (Some (codes "authentication failed"))) s)
+abbrev pub logged_in : Option ℕ → Head → Session → Session
+logged_in (Some tenant) head s = replied head (authenticate_reply errors.None None) (record s { stage = BoundTo tenant None })
+logged_in None head s = shut_down (replied head (authenticate_reply errors.SaslAuthenticationFailed (Some (codes "authentication failed"))) s)
 
 -- how far the greeting is after a handshake of that version which accepted PLAIN
 abbrev pub greeting_after : ℤ → Greeting
 greeting_after version = if int_eq version (pos 0) then Bare else Shaken
 
 -- the mechanism PLAIN is accepted, another changes nothing
-abbrev pub shaken : Bool → ℤ → ℤ → Session → Session
-shaken true id version s = replied id (handshake_reply errors.None) (record s { stage = Greets (greeting_after version) })
-shaken false id version s = replied id (handshake_reply errors.UnsupportedSaslMechanism) s
+abbrev pub shaken : Bool → Head → ℤ → Session → Session
+shaken true head version s = replied head (handshake_reply errors.None) (record s { stage = Greets (greeting_after version) })
+shaken false head version s = replied head (handshake_reply errors.UnsupportedSaslMechanism) s
 
-abbrev pub authenticated : Setup → Bool → ℤ → List ℕ → Session → Session
-authenticated setup true id message s = logged_in (login setup.users message) id s
-authenticated setup false id message s = replied id illegal_state s
+abbrev pub authenticated : Setup → Bool → Head → List ℕ → Session → Session
+authenticated setup true head message s = logged_in (login setup.users message) head s
+authenticated setup false head message s = replied head illegal_state s
 
 -- a bare message that names a user with its password binds the connection, any other shuts it without a reply
 abbrev pub bare_login : Option ℕ → Session → Session
@@ -88,18 +89,18 @@ bare_login (Some tenant) s = record s { stage = BoundTo tenant None; output = s.
 bare_login None s = shut_down s
 
 -- what a request of a greeting connection does to it, where a mechanism was accepted or not; s is the connection without the request
-unfoldable pub greeted_by : Setup → Bool → ℤ → Asked → Session → Session
-greeted_by setup handshaken id Versions s = replied id (versions_reply setup.versions errors.None) s
-greeted_by setup handshaken id OtherVersions s = replied id (versions_reply setup.versions errors.UnsupportedVersion) s
-greeted_by setup handshaken id (Handshake version mechanism) s = shaken (bytes_eq mechanism (codes "PLAIN")) id version s
-greeted_by setup handshaken id (Authenticate message) s = authenticated setup handshaken id message s
-greeted_by setup handshaken id (Another key version body) s = shut_down s
-greeted_by setup handshaken id Malformed s = shut_down s
+unfoldable pub greeted_by : Setup → Bool → Head → Asked → Session → Session
+greeted_by setup handshaken head Versions s = replied head (versions_reply setup.versions errors.None) s
+greeted_by setup handshaken head OtherVersions s = replied head (versions_reply setup.versions errors.UnsupportedVersion) s
+greeted_by setup handshaken head (Handshake version mechanism) s = shaken (bytes_eq mechanism (codes "PLAIN")) head version s
+greeted_by setup handshaken head (Authenticate message) s = authenticated setup handshaken head message s
+greeted_by setup handshaken head (Another key version body) s = shut_down s
+greeted_by setup handshaken head Malformed s = shut_down s
 
 -- what a whole frame does to it: it is a request, or PLAIN's message itself; s is the connection without the frame
 abbrev pub greeted_frame : Setup → Greeting → List ℕ → Session → Session
-greeted_frame setup Unshaken frame s = let r = request setup.versions frame in greeted_by setup false r.correlation_id r.asked s
-greeted_frame setup Shaken frame s = let r = request setup.versions frame in greeted_by setup true r.correlation_id r.asked s
+greeted_frame setup Unshaken frame s = let r = request setup.versions frame in greeted_by setup false r.head r.asked s
+greeted_frame setup Shaken frame s = let r = request setup.versions frame in greeted_by setup true r.head r.asked s
 greeted_frame setup Bare frame s = bare_login (login setup.users frame) s
 
 abbrev pub greeted_at : Setup → Greeting → Session → Front → Session

@@ -14,3 +14,4 @@ pub mod Stranded
 pub mod Tenant
 pub mod Told
 pub mod Turned
+pub mod Versions

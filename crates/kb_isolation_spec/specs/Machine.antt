@@ -7,6 +7,7 @@ use Rattle.kb_tenant.specs.Replies as tenant
 use Rattle.kb_tenant.specs.Replies.{Replies, Waits, Silent, Shuts}
 use Rattle.kb_tenant_api.specs.Hosted.{Kept, left, passed}
 use Rattle.kb_tenant_api.specs.Replies.{Reaction, Plain, Rebalances}
+use Rattle.kb_isolation_spec.specs.declared.head.Head.{Head}
 use Rattle.kb_isolation_spec.specs.Requests.{Asked, Versions, OtherVersions, Handshake, Authenticate, Another, Malformed, request}
 use Rattle.kb_isolation_spec.specs.Tenant.{Records, Group, kept_after, answer, ready}
 use Rattle.kb_isolation_spec.specs.Session.{Stage, Greets, BoundTo, Session, fresh, without_wait, waiting, shut_down, overruns, fed, replied}
@@ -35,31 +36,31 @@ pub data Happening : Type 0 where
 -- 1. Requests of a bound connection
 
 -- what a request of that version and body comes to that waits for no group
-abbrev pub plainly : tenant.Reaction → ℤ → ℤ → List ℕ → Session → Session
-plainly (Replies reply) id version body s = replied id reply s
-plainly (Waits deadline places) id version body s =
-    record s { stage = waiting (record { correlation_id = id; awaited = Records version body deadline }) s.stage }
-plainly Silent id version body s = s
-plainly Shuts id version body s = shut_down s
+abbrev pub plainly : tenant.Reaction → Head → ℤ → List ℕ → Session → Session
+plainly (Replies reply) head version body s = replied head reply s
+plainly (Waits deadline places) head version body s =
+    record s { stage = waiting (record { head = head; awaited = Records version body deadline }) s.stage }
+plainly Silent head version body s = s
+plainly Shuts head version body s = shut_down s
 
 -- what a request of that version and body comes to
-abbrev pub after_reaction : Reaction → ℤ → ℤ → List ℕ → Session → Session
-after_reaction (Plain reaction) id version body s = plainly reaction id version body s
-after_reaction Rebalances id version body s = record s { stage = waiting (record { correlation_id = id; awaited = Group }) s.stage }
+abbrev pub after_reaction : Reaction → Head → ℤ → List ℕ → Session → Session
+after_reaction (Plain reaction) head version body s = plainly reaction head version body s
+after_reaction Rebalances head version body s = record s { stage = waiting (record { head = head; awaited = Group }) s.stage }
 
 -- what a request of a bound connection, of number n, does to it; s is the connection without the request
-unfoldable pub served_by : Setup → Kept → ℕ → ℕ → ℤ → Asked → Session → Session
-served_by setup kept clock n id Versions s = replied id (versions_reply setup.versions errors.None) s
-served_by setup kept clock n id OtherVersions s = replied id (versions_reply setup.versions errors.UnsupportedVersion) s
-served_by setup kept clock n id (Handshake version mechanism) s = replied id (handshake_reply errors.IllegalSaslState) s
-served_by setup kept clock n id (Authenticate message) s = replied id illegal_state s
-served_by setup kept clock n id (Another key version body) s =
-    after_reaction (answer setup.node kept clock n key version body) id version body s
-served_by setup kept clock n id Malformed s = shut_down s
+unfoldable pub served_by : Setup → Kept → ℕ → ℕ → Head → Asked → Session → Session
+served_by setup kept clock n head Versions s = replied head (versions_reply setup.versions errors.None) s
+served_by setup kept clock n head OtherVersions s = replied head (versions_reply setup.versions errors.UnsupportedVersion) s
+served_by setup kept clock n head (Handshake version mechanism) s = replied head (handshake_reply errors.IllegalSaslState) s
+served_by setup kept clock n head (Authenticate message) s = replied head illegal_state s
+served_by setup kept clock n head (Another key version body) s =
+    after_reaction (answer setup.node kept clock n key version body) head version body s
+served_by setup kept clock n head Malformed s = shut_down s
 
 abbrev pub served_at : Setup → Kept → ℕ → ℕ → Session → Front → Session
 served_at setup kept clock n s (Whole frame rest) =
-    let r = request setup.versions frame in served_by setup kept clock n r.correlation_id r.asked (record s { unread = rest })
+    let r = request setup.versions frame in served_by setup kept clock n r.head r.asked (record s { unread = rest })
 served_at setup kept clock n s TooSmall = shut_down s
 served_at setup kept clock n s TooLarge = shut_down s
 served_at setup kept clock n s Partial = s
@@ -89,16 +90,16 @@ put setup kept clock n unread = kept_at setup kept clock n (front unread)
 -- 2. Waits
 
 -- what a waiting request comes to: a reply ends the wait
-abbrev pub told : tenant.Reaction → ℤ → Session → Session
-told (Replies reply) id s = replied id reply (record s { stage = without_wait s.stage })
-told (Waits deadline places) id s = s
-told Silent id s = s
-told Shuts id s = shut_down s
+abbrev pub told : tenant.Reaction → Head → Session → Session
+told (Replies reply) head s = replied head reply (record s { stage = without_wait s.stage })
+told (Waits deadline places) head s = s
+told Silent head s = s
+told Shuts head s = shut_down s
 
 unfoldable pub woken_by : Kept → ℕ → ℕ → Session → Stage → Session
 woken_by kept clock n s (Greets greeting) = s
 woken_by kept clock n s (BoundTo tenant None) = s
-woken_by kept clock n s (BoundTo tenant (Some wait)) = told (ready kept clock n wait) wait.correlation_id s
+woken_by kept clock n s (BoundTo tenant (Some wait)) = told (ready kept clock n wait) wait.head s
 
 -- a request that waits, on the connection of number n, is answered where it is ready
 abbrev pub woken : Kept → ℕ → ℕ → Session → Session

@@ -10,6 +10,8 @@ use Rattle.kb_api_group.specs.Layouts.{sasl_authenticate_request}
 use Rattle.kb_api_group.specs.declared.header.RequestStart.{RequestStart}
 use Rattle.kb_api_group.specs.declared.header.RequestHeader.{RequestHeader}
 use Rattle.kb_api_group.specs.declared.api_versions.ApiVersion.{ApiVersion}
+use Rattle.kb_isolation_spec.specs.declared.head.Head.{Head}
+use Rattle.kb_isolation_spec.specs.Versions.{base_of, head_of, no_head}
 
 -- whether an entry lists a key at a version: from its least version to its greatest
 abbrev pub is_listed_in : ℤ → ℤ → ApiVersion → Bool
@@ -32,13 +34,13 @@ abbrev pub if_read : {A : Type 0} → Result A WireFault → (A → Asked) → A
 if_read (Ok v) f = f v
 if_read (Err fault) f = Malformed
 
--- a body, by its key
+-- a body, by its key: the tenant is asked in the version that the request's is laid out as
 abbrev pub asked_by : ℤ → ℤ → List ℕ → Asked
 asked_by key version body =
     if int_eq key API_VERSIONS then if_read (whole api_versions_request body) (λ v. Versions)
     else if int_eq key SASL_HANDSHAKE then if_read (whole sasl_handshake_request body) (λ v. Handshake version v.mechanism)
     else if int_eq key SASL_AUTHENTICATE then if_read (whole sasl_authenticate_request body) (λ v. Authenticate v.auth_bytes)
-    else Another key version body
+    else Another key (base_of key version).version body
 
 -- a header, and the body behind it
 abbrev pub asked_behind : List ApiVersion → Result (RequestHeader × List ℕ) WireFault → Asked
@@ -46,16 +48,16 @@ asked_behind versions (Err fault) = Malformed
 asked_behind versions (Ok h) =
     if is_served versions h.0.api_key h.0.api_version then asked_by h.0.api_key h.0.api_version h.1 else Malformed
 
--- a request: its correlation id, and what it asks
+-- a request: what is kept of it for its reply, and what it asks
 pub record Request : Type 0 where
-  pub correlation_id : ℤ
+  pub head : Head
   pub asked : Asked
 
 -- ApiVersions of another version than 0 is known by its key and version alone
 abbrev pub request_at : List ApiVersion → List ℕ → Result (RequestStart × List ℕ) WireFault → Request
-request_at versions frame (Err fault) = record { correlation_id = pos 0; asked = Malformed }
+request_at versions frame (Err fault) = record { head = no_head; asked = Malformed }
 request_at versions frame (Ok s) = record {
-  correlation_id = s.0.correlation_id;
+  head = head_of s.0;
   asked = if int_eq s.0.api_key API_VERSIONS && not (int_eq s.0.api_version (pos 0)) then OtherVersions
       else asked_behind versions (request_header.read frame);
 }

@@ -1,8 +1,10 @@
 -- What a connection has, and what happens to it alone.
-use Rattle.std.specs.Prelude.{ℕ, ℤ, ◌-◌, List, [], ◌++◌, length, Bool, true, false, not, ◌&&◌, if◌then◌else◌, nat_lt, Option, Some, None}
+use Rattle.std.specs.Prelude.{ℕ, pos, ◌-◌, List, [], ◌++◌, length, Bool, true, false, not, ◌&&◌, if◌then◌else◌, nat_lt, Option, Some, None}
 use Rattle.kb_api_group.specs.Frames.{Front, Whole, Partial, TooSmall, TooLarge, front}
 use Rattle.kb_tenant.specs.Replies.{framed, reply_size}
+use Rattle.kb_wire.specs.Codec.{int32}
 use Rattle.kb_isolation_spec.specs.Tenant.{Wait, is_members}
+use Rattle.kb_isolation_spec.specs.declared.head.Head.{Head}
 
 -- how far a greeting is: no mechanism was accepted; PLAIN was, and its message comes in a request of SaslAuthenticate; or PLAIN was,
 -- and its message comes bare, as the next frame
@@ -55,10 +57,15 @@ overruns piece s = not s.shut && nat_lt (room s) (length piece)
 unfoldable pub fed : List ℕ → Session → Session
 fed piece s = if s.shut then s else if nat_lt (room s) (length piece) then shut_down s else record s { unread = s.unread ++ piece }
 
+-- the body of a reply: behind a throttle time of 0 milliseconds, where the request's version has one that the tenant's answer has not
+abbrev pub throttled : Head → List ℕ → List ℕ
+throttled head body = if head.is_throttled then int32.written (pos 0) ++ body else body
+
 -- a reply is sent, unless its size does not fit an INT32: then the connection is shut
-unfoldable pub replied : ℤ → List ℕ → Session → Session
-replied correlation_id body s =
-    if nat_lt 2147483647 (reply_size body) then shut_down s else record s { output = s.output ++ framed correlation_id body }
+unfoldable pub replied : Head → List ℕ → Session → Session
+replied head body s =
+    if nat_lt 2147483647 (reply_size (throttled head body)) then shut_down s
+    else record s { output = s.output ++ framed head.correlation_id (throttled head body) }
 
 -- whether a member of a group waits on it
 abbrev pub has_member : Stage → Bool

@@ -11,15 +11,16 @@ use Rattle.kb_tenant.specs.Serve.{looked}
 use Rattle.kb_tenant_api.specs.Replies.{Reaction, told_to}
 use Rattle.kb_tenant_api.specs.Serve.{Outcome, served}
 use Rattle.kb_tenant.specs.declared.node.Node.{Node}
+use Rattle.kb_isolation_spec.specs.declared.head.Head.{Head}
 
 -- what a request waits for: the records that a fetch of that version and body asks, until a moment at most, or its group's answer
 pub data Awaited : Type 0 where
   Records : (version : ℤ) (body : List ℕ) (deadline : ℕ) → Awaited
   Group : Awaited
 
--- a request that waits for its answer: its correlation id, and what it waits for
+-- a request that waits for its answer: what is kept of it for its reply, and what it waits for
 pub record Wait : Type 0 where
-  pub correlation_id : ℤ
+  pub head : Head
   pub awaited : Awaited
 
 -- what a request on the connection of number n makes of the tenant's world, and comes to

@@ -1,6 +1,8 @@
-//! What the broker's headline speaks of: definitions and their laws, and no code but the word [`Whom`].
+//! What the broker's headline speaks of: definitions and their laws, and no code but the words
+//! [`Head`], [`Base`] and [`Whom`].
 //!
-//! `specs/Requests.antt` says what a connection's bytes ask, `specs/Session.antt` what a connection has,
+//! `specs/Versions.antt` says which versions are laid out as an earlier one,
+//! `specs/Requests.antt` what a connection's bytes ask, `specs/Session.antt` what a connection has,
 //! `specs/Greeting.antt` what the requests mean that need no tenant (Kafka protocol guide, "SASL Authentication
 //! Sequence"; RFC 4616), `specs/Tenant.antt` what a tenant's requests mean (by `kb_tenant_api`) and what they wait for,
 //! `specs/Machine.antt` the machine of one tenant as a function of its events, `specs/Owners.antt` which connections
@@ -8,14 +10,18 @@
 //! tenant's machine.
 #![tactic(auto)]
 
+mod base;
+mod head;
 mod promises;
 mod whom;
 
+pub use base::Base;
+pub use head::Head;
 pub use promises::{
     alone_is_the_same, batches_are_of_each_turn, bound_for_good, fetches_end_at_their_deadline,
     fetches_get_batches_in_runs, fetches_get_whole_batches, first_event, members_wait_no_longer,
     nothing_before_login, one_tenants_in_order, others_change_nothing,
     own_events_are_of_own_connections, own_events_stay_own, owners_at_entry, room_is_kept,
-    runs_go_on, strangers_are_greeted, turns_end,
+    runs_go_on, strangers_are_greeted, throttle_times_stand_in_front, turns_end,
 };
 pub use whom::Whom;

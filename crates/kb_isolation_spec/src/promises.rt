@@ -1,7 +1,8 @@
 //! Laws about the definitions, each as the contract of a function with an empty body.
-ghost use Rattle.std.specs.Prelude.{◌≡◌, ◌↔◌, ◌≤◌, ◌++◌, ◌∷◌, ℕ, ℤ, List, [], Bool, true, false, length, max, Ok, Option, Some, None};
+ghost use Rattle.std.specs.Prelude.{◌≡◌, ◌↔◌, ◌≤◌, ◌<◌, ◌+◌, ◌^◌, pos, ◌++◌, ◌∷◌, ℕ, ℤ, List, [], Bool, true, false, length, max, Ok, Option, Some, None};
 ghost use Rattle.std.specs.List.{Contains};
-ghost use Rattle.kb_wire.specs.declared.api_key.TheConstants.{FETCH};
+ghost use Rattle.kb_wire.specs.declared.api_key.TheConstants.{DELETE_TOPICS, FETCH, JOIN_GROUP};
+ghost use Rattle.kb_isolation_spec.specs.declared.head.Head.{Head};
 ghost use Rattle.kb_isolation_spec.specs.Session.{Session, Stage, Bare, BoundTo, LIMIT, fed, has_member, overruns, replied, shut_down};
 ghost use Rattle.kb_isolation_spec.specs.Session.{without_wait};
 ghost use Rattle.kb_api_group.specs.Frames.{Whole, front};
@@ -12,7 +13,8 @@ ghost use Rattle.kb_isolation_spec.specs.Fetches.{AllTurnsGiveBatches, AllWakeWi
 ghost use Rattle.kb_isolation_spec.specs.Fetches.{NextGivesBatches, ServesBatches, after_request};
 ghost use Rattle.kb_tenant.specs.Batches.{HasSmallLogs};
 ghost use Rattle.kb_tenant.specs.Fetch.{asked_fetch, fetched, fetched_in};
-ghost use Rattle.kb_tenant.specs.Replies.{Replies};
+ghost use Rattle.kb_tenant.specs.Replies.{Replies, framed};
+ghost use Rattle.kb_isolation_spec.specs.Versions.{base_of};
 ghost use Rattle.kb_coordinator.specs.Calls.{left};
 ghost use Rattle.kb_tenant_api.specs.Hosted.{Kept, passed};
 ghost use Rattle.kb_isolation_spec.specs.Greeting.{Setup, greeted, greeted_by, login};
@@ -95,14 +97,14 @@ pub fn fetches_get_whole_batches()
         (fetch : FetchRequest)
         → HasSmallLogs kept.world → front s.unread ≡ Whole frame rest
         → (request setup.versions frame).asked ≡ Another FETCH version body → asked_fetch version body ≡ Ok fetch
-        → GetsBatches kept.world version fetch (request setup.versions frame).correlation_id (record s { unread = rest })
+        → GetsBatches kept.world version fetch (request setup.versions frame).head (record s { unread = rest })
         (after_turn setup kept clock n s) }
-    ensures after_a_wait { (kept : Kept) (clock n tenant : ℕ) (s : Session) (id version : ℤ) (body : List ℕ) (deadline : ℕ)
+    ensures after_a_wait { (kept : Kept) (clock n tenant : ℕ) (s : Session) (head : Head) (version : ℤ) (body : List ℕ) (deadline : ℕ)
         (fetch : FetchRequest)
         → HasSmallLogs kept.world → s.stage
-        ≡ BoundTo tenant (Some (record { correlation_id = id; awaited = Records version body deadline }))
+        ≡ BoundTo tenant (Some (record { head = head; awaited = Records version body deadline }))
         → asked_fetch version body ≡ Ok fetch
-        → GetsBatches kept.world version fetch id (record s { stage = without_wait s.stage }) (woken kept clock n s) }
+        → GetsBatches kept.world version fetch head (record s { stage = without_wait s.stage }) (woken kept clock n s) }
 {}
 
 /// In a whole run of a machine each reply to a fetch, at once or after a wait, holds whole batches of each partition that it answers
@@ -137,16 +139,16 @@ pub fn batches_are_of_each_turn()
 /// A fetch that waits is answered at its deadline, whatever is kept: with what there then is of the partitions that it asks for. The
 /// reply ends its wait.
 pub fn fetches_end_at_their_deadline()
-    ensures ready { (kept : Kept) (clock n : ℕ) (id version : ℤ) (body : List ℕ) (deadline : ℕ) (fetch : FetchRequest)
+    ensures ready { (kept : Kept) (clock n : ℕ) (head : Head) (version : ℤ) (body : List ℕ) (deadline : ℕ) (fetch : FetchRequest)
         → asked_fetch version body ≡ Ok fetch → deadline ≤ clock
-        → ready kept clock n (record { correlation_id = id; awaited = Records version body deadline })
+        → ready kept clock n (record { head = head; awaited = Records version body deadline })
         ≡ Replies (fetched_in version (fetched kept.world fetch).1) }
-    ensures answered { (kept : Kept) (clock n tenant : ℕ) (s : Session) (id version : ℤ) (body : List ℕ) (deadline : ℕ)
+    ensures answered { (kept : Kept) (clock n tenant : ℕ) (s : Session) (head : Head) (version : ℤ) (body : List ℕ) (deadline : ℕ)
         (fetch : FetchRequest)
-        → s.stage ≡ BoundTo tenant (Some (record { correlation_id = id; awaited = Records version body deadline }))
+        → s.stage ≡ BoundTo tenant (Some (record { head = head; awaited = Records version body deadline }))
         → asked_fetch version body ≡ Ok fetch → deadline ≤ clock
         → woken kept clock n s
-        ≡ replied id (fetched_in version (fetched kept.world fetch).1) (record s { stage = without_wait s.stage }) }
+        ≡ replied head (fetched_in version (fetched kept.world fetch).1) (record s { stage = without_wait s.stage }) }
 {}
 
 /// A connection never has more unread bytes than its limit, and one that was shut takes no piece.
@@ -170,12 +172,25 @@ pub fn members_wait_no_longer()
 /// Before authentication a request of a tenant shuts the connection; a login that names no user with its password shuts it. After a
 /// handshake of version 0 the next frame is the login whatever it says, a request too, and a wrong one shuts it without a reply.
 pub fn nothing_before_login()
-    ensures request { (setup : Setup) (handshaken : Bool) (id key version : ℤ) (body : List ℕ) (s : Session)
-        → greeted_by setup handshaken id (Another key version body) s ≡ shut_down s }
-    ensures denied { (setup : Setup) (id : ℤ) (message : List ℕ) (s : Session) → login setup.users message ≡ None
-        → (greeted_by setup true id (Authenticate message) s).shut ≡ true }
+    ensures request { (setup : Setup) (handshaken : Bool) (head : Head) (key version : ℤ) (body : List ℕ) (s : Session)
+        → greeted_by setup handshaken head (Another key version body) s ≡ shut_down s }
+    ensures denied { (setup : Setup) (head : Head) (message : List ℕ) (s : Session) → login setup.users message ≡ None
+        → (greeted_by setup true head (Authenticate message) s).shut ≡ true }
     ensures bare { (setup : Setup) (frame rest : List ℕ) (s : Session) → front s.unread ≡ Whole frame rest → login setup.users frame ≡ None
         → greeted setup Bare s ≡ shut_down s }
+{}
+
+/// A reply to a version whose throttle time the tenant's answer has not begins with one of 0 milliseconds behind its correlation id, and
+/// any other has none there. A join of version 2, as a first of each kind, is asked in version 1 and has one; a deletion of version 3 is
+/// asked in version 1 too, whose reply has one already.
+pub fn throttle_times_stand_in_front()
+    ensures throttled { (id : ℤ) (body : List ℕ) (s : Session) → 8 + length body < 2 ^ 31
+        → replied (record { correlation_id = id; is_throttled = true }) body s
+        ≡ record s { output = s.output ++ framed id (0 ∷ 0 ∷ 0 ∷ 0 ∷ body) } }
+    ensures plain { (id : ℤ) (body : List ℕ) (s : Session) → 4 + length body < 2 ^ 31
+        → replied (record { correlation_id = id; is_throttled = false }) body s ≡ record s { output = s.output ++ framed id body } }
+    ensures join { base_of JOIN_GROUP (pos 2) ≡ record { version = pos 1; is_throttled = true } }
+    ensures deletion { base_of DELETE_TOPICS (pos 3) ≡ record { version = pos 1; is_throttled = false } }
 {}
 
 /// A connection stays its tenant's for good, whatever it asks.

@@ -1,0 +1,10 @@
+//! What of a request is kept for its reply.
+
+/// What of a request is kept for its reply.
+#[derive(Clone, Copy, Debug, PartialEq, Eq)]
+pub struct Head {
+    /// The request's number, which the reply begins with (Kafka protocol guide, "Response Header").
+    pub correlation_id: i32,
+    /// Whether a throttle time stands in front of the reply's body, which the version has not that the tenant is asked in.
+    pub is_throttled: bool,
+}

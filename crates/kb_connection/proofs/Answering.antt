@@ -1,5 +1,5 @@
 -- What a tenant's answer makes of its connection.
-use Rattle.std.proofs.Common.{◌≡◌, ◌<◌, ◌≤◌, ℕ, ℤ, List, [], length, ◌++◌, append-nil, true, false, Option, Some, None, refl, sym, ap}
+use Rattle.std.proofs.Common.{◌≡◌, ◌<◌, ◌≤◌, ◌⊎◌, inl, inr, ℕ, ℤ, List, [], pos, length, ◌++◌, append-nil, length-append, Bool, true, false, if◌then◌else◌, Option, Some, None, refl, sym, ap}
 use Rattle.std.proofs.Common.{◌∙◌, subst, arith, nat_lt, Result, Ok, Err, OnOk, OnErr, Global}
 use Rattle.std.proofs.lemmas.Bool.Decides.{nat_tests}
 use Rattle.std.specs.declared.vec.Vec.{Vec}
@@ -7,198 +7,368 @@ use Rattle.kb_tenant_state.specs.declared.topic_partition.TopicPartition.{TopicP
 use Rattle.kb_api_group.specs.Frames.{front}
 use Rattle.kb_api_group.specs.FrameStream.{behind}
 use Rattle.kb_api_group.specs.declared.api_versions.ApiVersion.{ApiVersion}
-use Rattle.kb_tenant.specs.Replies.{Reaction, Replies, Waits, Silent, Shuts, IsAnswer, reply_size}
+use Rattle.kb_wire.specs.Codec.{int, int32}
+use Rattle.kb_tenant.specs.Replies.{Reaction, Replies, Waits, Silent, Shuts, IsAnswer, framed, reply_size}
 use Rattle.kb_tenant.specs.declared.answer.Answer.{Answer}
 use Rattle.kb_tenant.specs.declared.answer.Answer.TheVariants as answers
 use Rattle.kb_tenant_api.specs.Replies as service
 use Rattle.kb_tenant_api.specs.Replies.{Plain, Rebalances}
 use Rattle.kb_tenant_api.specs.declared.answer.Answer.{Answer as AnyAnswer}
 use Rattle.kb_tenant_api.specs.declared.answer.Answer.TheVariants as any
-use Rattle.kb_isolation_spec.specs.Session.{Session, shut_down, replied, without_wait, is_free}
+use Rattle.kb_isolation_spec.specs.declared.head.Head.{Head}
+use Rattle.kb_isolation_spec.specs.Greeting.{Setup}
+use Rattle.kb_isolation_spec.specs.Tenant.{Wait}
+use Rattle.kb_isolation_spec.specs.Session.{Stage, Greets, BoundTo, Session, shut_down, replied, throttled, without_wait, is_free}
+use Rattle.kb_isolation_spec.proofs.Laws.{replied-le}
 use Rattle.kb_isolation_spec.specs.Machine.{Line, after_reaction, plainly, told}
-use Rattle.kb_isolation_spec.proofs.Owners.{stage-shut}
-use Rattle.kb_isolation_spec.proofs.Turns.{free-without}
-use Rattle.kb_connection.specs.Fronts.{is_tenants_at}
-use Rattle.kb_connection.specs.TenantAnswers.{given, parked, spoken}
+use Rattle.kb_isolation_spec.proofs.Owners.{stage-replied, stage-shut}
+use Rattle.kb_isolation_spec.proofs.Turns.{free-replied, free-without}
+use Rattle.kb_connection.specs.Fronts.{IsAsked, head_at, is_tenants_at}
+use Rattle.kb_connection.specs.TenantAnswers.{body_of, given, given_reply, is_quiet, parked, reply_to, spoken, spoken_reply}
 use Rattle.kb_connection.specs.View.{with_session, without_front}
-use Rattle.kb_connection.proofs.Fronts.{fewer-behind}
+use Rattle.kb_connection.proofs.Fronts.{fewer-behind, head_asked}
 
 -- 1. A reply
 
+-- a whole reply is its size, its correlation id and its body
+body_framed : (id : ℤ) (body : List ℕ) → body_of (framed id body) ≡ body
+unfolding framed int
+body_framed id body = refl
+
 -- its size fits an INT32
-reply_is : (id : ℤ) (body : List ℕ) (reply : Vec ℕ Global) (s : Session) → IsAnswer id (Replies body) (answers.Reply reply) → record s { output = s.output ++ reply.items } ≡ replied id body s
+small_is : (id : ℤ) (body : List ℕ) (reply : Vec ℕ Global) → IsAnswer id (Replies body) (answers.Reply reply) → nat_lt 2147483647 (reply_size body) ≡ false
+small_is id body reply h = grind (arith, nat_tests, h.0)
+
+given_as : (t : Bool) (x y z : Session) → (t ≡ true → x ≡ z) → (t ≡ false → y ≡ z) → (if t then x else y) ≡ z
+given_as true x y z f g = f refl
+given_as false x y z f g = g refl
+
+plain_is : (head : Head) (body reply : List ℕ) (s : Session) → head.is_throttled ≡ false → nat_lt 2147483647 (reply_size body) ≡ false → reply ≡ framed head.correlation_id body → record s { output = s.output ++ reply } ≡ replied head body s
 unfolding replied
-reply_is id body reply s h =
-    let small : nat_lt 2147483647 (reply_size body) ≡ false = grind (arith, nat_tests, h.0) in
-    rw (small, h.1) refl
+plain_is head body reply s plain small is = rw (plain, small, is) refl
+
+reply_is : (head : Head) (body : List ℕ) (reply : Vec ℕ Global) (s : Session) → IsAnswer head.correlation_id (Replies body) (answers.Reply reply) → given_reply head reply.items s ≡ replied head body s
+reply_is head body reply s h =
+    given_as head.is_throttled (replied head (body_of reply.items) s) (record s { output = s.output ++ reply.items }) (replied head body s)
+    (λ e. ap (λ b. replied head b s) (ap body_of h.1 ∙ body_framed head.correlation_id body))
+    (λ e. plain_is head body reply.items s e (small_is head.correlation_id body reply h) h.1)
+
+-- a throttle time makes it no shorter
+no-shorter : (head : Head) (body : List ℕ) → length body ≤ length (throttled head body)
+no-shorter head body = by head.is_throttled
+  where
+    by : (t : Bool) → length body ≤ length (if t then int32.written (pos 0) ++ body else body)
+    by true = omega (arith, length-append (int32.written (pos 0)) body)
+    by false = omega arith
 
 -- its size does not fit
-long_is : (id : ℤ) (body : List ℕ) (s : Session) → IsAnswer id (Replies body) answers.Shut → shut_down s ≡ replied id body s
+long_is : (head : Head) (body : List ℕ) (s : Session) → IsAnswer head.correlation_id (Replies body) answers.Shut → shut_down s ≡ replied head body s
 unfolding replied
-long_is id body s h =
-    let long : nat_lt 2147483647 (reply_size body) ≡ true = grind (arith, nat_tests, h) in
+long_is head body s h =
+    let longer = no-shorter head body in
+    let long : nat_lt 2147483647 (reply_size (throttled head body)) ≡ true = grind (arith, nat_tests, h, longer) in
     rw long refl
+
+-- what a reply leaves of the connection
+output_replied : (head : Head) (body : List ℕ) (s : Session) → (replied head body s).output ≡ s.output ++ reply_to head body
+unfolding replied
+output_replied head body s = by (nat_lt 2147483647 (reply_size (throttled head body))) (framed head.correlation_id (throttled head body))
+  where
+    by : (t : Bool) (bytes : List ℕ) → (let x : Session = if t then shut_down s else record s { output = s.output ++ bytes } in x).output ≡ s.output ++ (if t then [] else bytes)
+    by true bytes = sym (append-nil s.output)
+    by false bytes = refl
+
+output_given : (head : Head) (reply : List ℕ) (s : Session) → (given_reply head reply s).output ≡ s.output ++ spoken_reply head reply
+output_given head reply s = by head.is_throttled
+  where
+    by : (t : Bool) → (let x : Session = if t then replied head (body_of reply) s else record s { output = s.output ++ reply } in x).output ≡ s.output ++ (if t then reply_to head (body_of reply) else reply)
+    by true = output_replied head (body_of reply) s
+    by false = refl
+
+unread_reply : (head : Head) (reply : List ℕ) (s : Session) → length (given_reply head reply s).unread ≤ length s.unread
+unread_reply head reply s = by head.is_throttled
+  where
+    by : (t : Bool) → length (let x : Session = if t then replied head (body_of reply) s else record s { output = s.output ++ reply } in x).unread ≤ length s.unread
+    by true = replied-le head (body_of reply) s
+    by false = omega arith
+
+free_reply : (head : Head) (reply : List ℕ) (s : Session) → is_free s.stage ≡ true → is_free (given_reply head reply s).stage ≡ true
+free_reply head reply s free = by head.is_throttled
+  where
+    by : (t : Bool) → is_free (let x : Session = if t then replied head (body_of reply) s else record s { output = s.output ++ reply } in x).stage ≡ true
+    by true = free-replied head (body_of reply) s free
+    by false = free
+
+stage_reply : (head : Head) (reply : List ℕ) (s : Session) → without_wait (given_reply head reply s).stage ≡ without_wait s.stage
+stage_reply head reply s = by head.is_throttled
+  where
+    by : (t : Bool) → without_wait (let x : Session = if t then replied head (body_of reply) s else record s { output = s.output ++ reply } in x).stage ≡ without_wait s.stage
+    by true = stage-replied head (body_of reply) s
+    by false = refl
 
 -- 2. To the request in front, but for a wait; s is the connection without it
 
 abbrev pub IsNoWait : Answer → Type 0
 IsNoWait answer = (deadline : ℕ) (keys : Vec TopicPartition Global) → answer ≡ answers.Wait deadline keys → ⊥
 
-answer_is : (id version : ℤ) (body : List ℕ) (reaction : Reaction) (answer : Answer) (s : Session) → IsNoWait answer → IsAnswer id reaction answer → given answer s ≡ plainly reaction id version body s
-answer_is id version body (Replies reply) (answers.Reply r) s no_wait h = reply_is id reply r s h
-answer_is id version body (Replies reply) (answers.Wait d k) s no_wait h = absurd h
-answer_is id version body (Replies reply) answers.NoReply s no_wait h = absurd h
-answer_is id version body (Replies reply) answers.Shut s no_wait h = long_is id reply s h
-answer_is id version body (Waits until places) (answers.Reply r) s no_wait h = absurd h
-answer_is id version body (Waits until places) (answers.Wait d k) s no_wait h = absurd (no_wait d k refl)
-answer_is id version body (Waits until places) answers.NoReply s no_wait h = absurd h
-answer_is id version body (Waits until places) answers.Shut s no_wait h = absurd h
-answer_is id version body Silent (answers.Reply r) s no_wait h = absurd h
-answer_is id version body Silent (answers.Wait d k) s no_wait h = absurd h
-answer_is id version body Silent answers.NoReply s no_wait h = refl
-answer_is id version body Silent answers.Shut s no_wait h = absurd h
-answer_is id version body Shuts (answers.Reply r) s no_wait h = absurd h
-answer_is id version body Shuts (answers.Wait d k) s no_wait h = absurd h
-answer_is id version body Shuts answers.NoReply s no_wait h = absurd h
-answer_is id version body Shuts answers.Shut s no_wait h = refl
+answer_is : (head : Head) (version : ℤ) (body : List ℕ) (reaction : Reaction) (answer : Answer) (s : Session) → IsNoWait answer → IsAnswer head.correlation_id reaction answer → given head answer s ≡ plainly reaction head version body s
+answer_is head version body (Replies reply) (answers.Reply r) s no_wait h = reply_is head reply r s h
+answer_is head version body (Replies reply) (answers.Wait d k) s no_wait h = absurd h
+answer_is head version body (Replies reply) answers.NoReply s no_wait h = absurd h
+answer_is head version body (Replies reply) answers.Shut s no_wait h = long_is head reply s h
+answer_is head version body (Waits until places) (answers.Reply r) s no_wait h = absurd h
+answer_is head version body (Waits until places) (answers.Wait d k) s no_wait h = absurd (no_wait d k refl)
+answer_is head version body (Waits until places) answers.NoReply s no_wait h = absurd h
+answer_is head version body (Waits until places) answers.Shut s no_wait h = absurd h
+answer_is head version body Silent (answers.Reply r) s no_wait h = absurd h
+answer_is head version body Silent (answers.Wait d k) s no_wait h = absurd h
+answer_is head version body Silent answers.NoReply s no_wait h = refl
+answer_is head version body Silent answers.Shut s no_wait h = absurd h
+answer_is head version body Shuts (answers.Reply r) s no_wait h = absurd h
+answer_is head version body Shuts (answers.Wait d k) s no_wait h = absurd h
+answer_is head version body Shuts answers.NoReply s no_wait h = absurd h
+answer_is head version body Shuts answers.Shut s no_wait h = refl
 
-served_is : (id version : ℤ) (body : List ℕ) (reaction : service.Reaction) (answer : Answer) (s : Session) → IsNoWait answer → service.IsAnswer id reaction (any.Plain answer) → given answer s ≡ after_reaction reaction id version body s
-served_is id version body (Plain reaction) answer s no_wait h = answer_is id version body reaction answer s no_wait h
-served_is id version body Rebalances answer s no_wait h = absurd h
+served_is : (head : Head) (version : ℤ) (body : List ℕ) (reaction : service.Reaction) (answer : Answer) (s : Session) → IsNoWait answer → service.IsAnswer head.correlation_id reaction (any.Plain answer) → given head answer s ≡ after_reaction reaction head version body s
+served_is head version body (Plain reaction) answer s no_wait h = answer_is head version body reaction answer s no_wait h
+served_is head version body Rebalances answer s no_wait h = absurd h
 
-pub gives : {E : Type 0} (result : Result (Unit {0}) E) (l m new : Line) (id version : ℤ) (body : List ℕ) (reaction : service.Reaction) (all : AnyAnswer) (answer : Answer) → all ≡ any.Plain answer → IsNoWait answer → m ≡ with_session l (without_front l.session)
-    → OnOk result (new ≡ with_session m (given answer m.session)) → service.IsAnswer id reaction all → OnOk result (new ≡ with_session l (after_reaction reaction id version body (without_front l.session)))
-gives (Ok u) l m new id version body reaction all answer is no_wait left done h =
-    done ∙ ap (λ (x : Line). with_session x (given answer x.session)) left ∙ ap (with_session l) (served_is id version body reaction answer (without_front l.session) no_wait (subst (service.IsAnswer id reaction) is h))
-gives (Err fault) l m new id version body reaction all answer is no_wait left done h = tt
+pub gives : {E : Type 0} (setup : Setup) (result : Result (Unit {0}) E) (l m new : Line) (key version : ℤ) (head in_front : Head) (body : List ℕ) (reaction : service.Reaction) (all : AnyAnswer) (answer : Answer) → all ≡ any.Plain answer → IsNoWait answer → m ≡ with_session l (without_front l.session)
+    → ((versions : List ApiVersion) → in_front ≡ head_at versions (front l.session.unread))
+    → OnOk result (new ≡ with_session m (given in_front answer m.session)) → IsAsked setup l.session key version head body → service.IsAnswer head.correlation_id reaction all
+    → OnOk result (new ≡ with_session l (after_reaction reaction head version body (without_front l.session)))
+gives setup (Ok u) l m new key version head in_front body reaction all answer is no_wait left stands done asks h =
+    done ∙ ap (λ (x : Line). with_session x (given in_front answer x.session)) left
+    ∙ ap (λ (x : Head). with_session l (given x answer (without_front l.session))) (stands setup.versions ∙ head_asked setup l.session key version head body asks)
+    ∙ ap (with_session l) (served_is head version body reaction answer (without_front l.session) no_wait (subst (service.IsAnswer head.correlation_id reaction) is h))
+gives setup (Err fault) l m new key version head in_front body reaction all answer is no_wait left stands done asks h = tt
 
 -- 3. The request's bytes are gone
 
 less : (versions : List ApiVersion) (l new : Line) → is_tenants_at versions (front l.session.unread) ≡ true → length new.session.unread ≤ length (behind (front l.session.unread) l.session.unread) → length new.session.unread < length l.session.unread
 less versions l new asks few = let fewer = fewer-behind versions l.session.unread asks in omega arith
 
-unread_parked : (deadline : Option ℕ) (asked : Option (ℤ × ℤ × ℤ × List ℕ)) (s : Session) → (parked deadline asked s).unread ≡ s.unread
+unread_parked : (deadline : Option ℕ) (asked : Option (Head × ℤ × ℤ × List ℕ)) (s : Session) → (parked deadline asked s).unread ≡ s.unread
 unread_parked deadline None s = refl
 unread_parked deadline (Some a) s = refl
 
-pub less_parked : {E : Type 0} (versions : List ApiVersion) (result : Result (Unit {0}) E) (l new : Line) (deadline : Option ℕ) (asked : Option (ℤ × ℤ × ℤ × List ℕ)) → OnOk result (new ≡ with_session l (parked deadline asked (without_front l.session)))
+pub less_parked : {E : Type 0} (versions : List ApiVersion) (result : Result (Unit {0}) E) (l new : Line) (deadline : Option ℕ) (asked : Option (Head × ℤ × ℤ × List ℕ)) → OnOk result (new ≡ with_session l (parked deadline asked (without_front l.session)))
     → OnErr result (new ≡ with_session l (shut_down l.session)) → is_tenants_at versions (front l.session.unread) ≡ true → length new.session.unread < length l.session.unread
 less_parked versions (Ok u) l new deadline asked ok err asks = less versions l new asks (omega (arith, ap (λ (x : Line). length x.session.unread) ok, ap length (unread_parked deadline asked (without_front l.session))))
 less_parked versions (Err fault) l new deadline asked ok err asks = less versions l new asks (omega (arith, ap (λ (x : Line). length x.session.unread) err))
 
-unread_given : (answer : Answer) (s : Session) → length (given answer s).unread ≤ length s.unread
-unread_given (answers.Reply reply) s = omega arith
-unread_given (answers.Wait deadline keys) s = omega arith
-unread_given answers.NoReply s = omega arith
-unread_given answers.Shut s = omega arith
+pub unread_given : (head : Head) (answer : Answer) (s : Session) → length (given head answer s).unread ≤ length s.unread
+unread_given head (answers.Reply reply) s = unread_reply head reply.items s
+unread_given head (answers.Wait deadline keys) s = omega arith
+unread_given head answers.NoReply s = omega arith
+unread_given head answers.Shut s = omega arith
 
-pub less_given : {E : Type 0} (versions : List ApiVersion) (result : Result (Unit {0}) E) (l m new : Line) (answer : Answer) → m ≡ with_session l (without_front l.session) → OnOk result (new ≡ with_session m (given answer m.session))
+pub stage_given : (head : Head) (answer : Answer) (s : Session) → without_wait (given head answer s).stage ≡ without_wait s.stage
+stage_given head (answers.Reply reply) s = stage_reply head reply.items s
+stage_given head (answers.Wait deadline keys) s = refl
+stage_given head answers.NoReply s = refl
+stage_given head answers.Shut s = stage-shut s
+
+pub less_given : {E : Type 0} (versions : List ApiVersion) (result : Result (Unit {0}) E) (l m new : Line) (head : Head) (answer : Answer) → m ≡ with_session l (without_front l.session) → OnOk result (new ≡ with_session m (given head answer m.session))
     → OnErr result (new ≡ with_session m (shut_down m.session)) → is_tenants_at versions (front l.session.unread) ≡ true → length new.session.unread < length l.session.unread
-less_given versions (Ok u) l m new answer left ok err asks =
-    less versions l new asks (omega (arith, ap (λ (x : Line). length x.session.unread) ok, unread_given answer m.session, ap (λ (x : Line). length x.session.unread) left))
-less_given versions (Err fault) l m new answer left ok err asks = less versions l new asks (omega (arith, ap (λ (x : Line). length x.session.unread) err))
+less_given versions (Ok u) l m new head answer left ok err asks =
+    less versions l new asks (omega (arith, ap (λ (x : Line). length x.session.unread) ok, unread_given head answer m.session, ap (λ (x : Line). length x.session.unread) left))
+less_given versions (Err fault) l m new head answer left ok err asks = less versions l new asks (omega (arith, ap (λ (x : Line). length x.session.unread) err))
 
 -- 4. What is no wait leaves it waiting for nothing
 
-free_after : (answer : Answer) (s : Session) → is_free s.stage ≡ true → is_free (given answer s).stage ≡ true
-free_after (answers.Reply reply) s free = free
-free_after (answers.Wait deadline keys) s free = free
-free_after answers.NoReply s free = free
-free_after answers.Shut s free = free-without s.stage
+free_after : (head : Head) (answer : Answer) (s : Session) → is_free s.stage ≡ true → is_free (given head answer s).stage ≡ true
+free_after head (answers.Reply reply) s free = free_reply head reply.items s free
+free_after head (answers.Wait deadline keys) s free = free
+free_after head answers.NoReply s free = free
+free_after head answers.Shut s free = free-without s.stage
 
-pub free_given : {E : Type 0} (result : Result (Unit {0}) E) (l m new : Line) (answer : Answer) → m ≡ with_session l (without_front l.session) → OnOk result (new ≡ with_session m (given answer m.session))
+pub free_given : {E : Type 0} (result : Result (Unit {0}) E) (l m new : Line) (head : Head) (answer : Answer) → m ≡ with_session l (without_front l.session) → OnOk result (new ≡ with_session m (given head answer m.session))
     → OnErr result (new ≡ with_session m (shut_down m.session)) → is_free l.session.stage ≡ true → is_free new.session.stage ≡ true
-free_given (Ok u) l m new answer left ok err free = ap (λ (x : Line). is_free x.session.stage) ok ∙ free_after answer m.session (ap (λ (x : Line). is_free x.session.stage) left ∙ free)
-free_given (Err fault) l m new answer left ok err free = ap (λ (x : Line). is_free x.session.stage) err ∙ free-without m.session.stage
+free_given (Ok u) l m new head answer left ok err free = ap (λ (x : Line). is_free x.session.stage) ok ∙ free_after head answer m.session (ap (λ (x : Line). is_free x.session.stage) left ∙ free)
+free_given (Err fault) l m new head answer left ok err free = ap (λ (x : Line). is_free x.session.stage) err ∙ free-without m.session.stage
 
 -- 5. To a request that waits
 
 -- a reply ends the wait
-ended_is : (id : ℤ) (reaction : Reaction) (reply : Vec ℕ Global) (s : Session) → IsAnswer id reaction (answers.Reply reply) → given (answers.Reply reply) (record s { stage = without_wait s.stage }) ≡ told reaction id s
-ended_is id (Replies body) reply s h = reply_is id body reply (record s { stage = without_wait s.stage }) h
-ended_is id (Waits until places) reply s h = absurd h
-ended_is id Silent reply s h = absurd h
-ended_is id Shuts reply s h = absurd h
+ended_is : (head : Head) (reaction : Reaction) (reply : Vec ℕ Global) (s : Session) → IsAnswer head.correlation_id reaction (answers.Reply reply) → given head (answers.Reply reply) (record s { stage = without_wait s.stage }) ≡ told reaction head s
+ended_is head (Replies body) reply s h = reply_is head body reply (record s { stage = without_wait s.stage }) h
+ended_is head (Waits until places) reply s h = absurd h
+ended_is head Silent reply s h = absurd h
+ended_is head Shuts reply s h = absurd h
 
-pub ends : {E : Type 0} (result : Result (Unit {0}) E) (l m new : Line) (id : ℤ) (reaction : Reaction) (answer : Answer) (reply : Vec ℕ Global) → answer ≡ answers.Reply reply → m ≡ with_session l (record l.session { stage = without_wait l.session.stage })
-    → OnOk result (new ≡ with_session m (given answer m.session)) → IsAnswer id reaction answer → OnOk result (new ≡ with_session l (told reaction id l.session))
-ends (Ok u) l m new id reaction answer reply is left done h =
-    done ∙ ap (λ (x : Line). with_session x (given answer x.session)) left ∙ ap (λ a. with_session l (given a (record l.session { stage = without_wait l.session.stage }))) is
-    ∙ ap (with_session l) (ended_is id reaction reply l.session (subst (IsAnswer id reaction) is h))
-ends (Err fault) l m new id reaction answer reply is left done h = tt
+pub ends : {E : Type 0} (result : Result (Unit {0}) E) (l m new : Line) (tenant : ℕ) (wait : Wait) (head : Head) (reaction : Reaction) (answer : Answer) (reply : Vec ℕ Global) → answer ≡ answers.Reply reply → m ≡ with_session l (record l.session { stage = without_wait l.session.stage })
+    → ((t : ℕ) (w : Wait) → l.session.stage ≡ BoundTo t (Some w) → head ≡ w.head)
+    → OnOk result (new ≡ with_session m (given head answer m.session)) → l.session.stage ≡ BoundTo tenant (Some wait) → IsAnswer wait.head.correlation_id reaction answer → OnOk result (new ≡ with_session l (told reaction wait.head l.session))
+ends (Ok u) l m new tenant wait head reaction answer reply is left awaits done waits h =
+    done ∙ ap (λ (x : Line). with_session x (given head answer x.session)) left ∙ ap (λ a. with_session l (given head a (record l.session { stage = without_wait l.session.stage }))) is
+    ∙ ap (λ (x : Head). with_session l (given x (answers.Reply reply) (record l.session { stage = without_wait l.session.stage }))) (awaits tenant wait waits)
+    ∙ ap (with_session l) (ended_is wait.head reaction reply l.session (subst (IsAnswer wait.head.correlation_id reaction) is h))
+ends (Err fault) l m new tenant wait head reaction answer reply is left awaits done waits h = tt
 
 -- and no other answer does
 abbrev pub IsNoReply : Answer → Type 0
 IsNoReply answer = (reply : Vec ℕ Global) → answer ≡ answers.Reply reply → ⊥
 
-told_is : (id : ℤ) (reaction : Reaction) (answer : Answer) (s : Session) → IsNoReply answer → IsAnswer id reaction answer → given answer s ≡ told reaction id s
-told_is id reaction (answers.Reply r) s no_reply h = absurd (no_reply r refl)
-told_is id (Replies reply) (answers.Wait d k) s no_reply h = absurd h
-told_is id (Replies reply) answers.NoReply s no_reply h = absurd h
-told_is id (Replies reply) answers.Shut s no_reply h = ap (λ st. record (shut_down s) { stage = st }) (sym (stage-shut s)) ∙ long_is id reply (record s { stage = without_wait s.stage }) h
-told_is id (Waits until places) (answers.Wait d k) s no_reply h = refl
-told_is id (Waits until places) answers.NoReply s no_reply h = absurd h
-told_is id (Waits until places) answers.Shut s no_reply h = absurd h
-told_is id Silent (answers.Wait d k) s no_reply h = absurd h
-told_is id Silent answers.NoReply s no_reply h = refl
-told_is id Silent answers.Shut s no_reply h = absurd h
-told_is id Shuts (answers.Wait d k) s no_reply h = absurd h
-told_is id Shuts answers.NoReply s no_reply h = absurd h
-told_is id Shuts answers.Shut s no_reply h = refl
+told_is : (head : Head) (reaction : Reaction) (answer : Answer) (s : Session) → IsNoReply answer → IsAnswer head.correlation_id reaction answer → given head answer s ≡ told reaction head s
+told_is head reaction (answers.Reply r) s no_reply h = absurd (no_reply r refl)
+told_is head (Replies reply) (answers.Wait d k) s no_reply h = absurd h
+told_is head (Replies reply) answers.NoReply s no_reply h = absurd h
+told_is head (Replies reply) answers.Shut s no_reply h = ap (λ st. record (shut_down s) { stage = st }) (sym (stage-shut s)) ∙ long_is head reply (record s { stage = without_wait s.stage }) h
+told_is head (Waits until places) (answers.Wait d k) s no_reply h = refl
+told_is head (Waits until places) answers.NoReply s no_reply h = absurd h
+told_is head (Waits until places) answers.Shut s no_reply h = absurd h
+told_is head Silent (answers.Wait d k) s no_reply h = absurd h
+told_is head Silent answers.NoReply s no_reply h = refl
+told_is head Silent answers.Shut s no_reply h = absurd h
+told_is head Shuts (answers.Wait d k) s no_reply h = absurd h
+told_is head Shuts answers.NoReply s no_reply h = absurd h
+told_is head Shuts answers.Shut s no_reply h = refl
 
-pub tells : {E : Type 0} (result : Result (Unit {0}) E) (l m new : Line) (id : ℤ) (reaction : Reaction) (answer : Answer) → IsNoReply answer → m ≡ l
-    → OnOk result (new ≡ with_session m (given answer m.session)) → IsAnswer id reaction answer → OnOk result (new ≡ with_session l (told reaction id l.session))
-tells (Ok u) l m new id reaction answer no_reply left done h = done ∙ ap (λ (x : Line). with_session x (given answer x.session)) left ∙ ap (with_session l) (told_is id reaction answer l.session no_reply h)
-tells (Err fault) l m new id reaction answer no_reply left done h = tt
+pub tells : {E : Type 0} (result : Result (Unit {0}) E) (l m new : Line) (tenant : ℕ) (wait : Wait) (head : Head) (reaction : Reaction) (answer : Answer) → IsNoReply answer → m ≡ l
+    → ((t : ℕ) (w : Wait) → l.session.stage ≡ BoundTo t (Some w) → head ≡ w.head)
+    → OnOk result (new ≡ with_session m (given head answer m.session)) → l.session.stage ≡ BoundTo tenant (Some wait) → IsAnswer wait.head.correlation_id reaction answer → OnOk result (new ≡ with_session l (told reaction wait.head l.session))
+tells (Ok u) l m new tenant wait head reaction answer no_reply left awaits done waits h =
+    done ∙ ap (λ (x : Line). with_session x (given head answer x.session)) left
+    ∙ ap (λ (x : Head). with_session l (given x answer l.session)) (awaits tenant wait waits)
+    ∙ ap (with_session l) (told_is wait.head reaction answer l.session no_reply h)
+tells (Err fault) l m new tenant wait head reaction answer no_reply left awaits done waits h = tt
 
 -- 6. What is put out
 
 -- nothing that an answer says is lost, and nothing else is put out
-spoken_is : (answer : Answer) (s : Session) → (given answer s).output ≡ s.output ++ spoken (any.Plain answer)
-spoken_is (answers.Reply reply) s = refl
-spoken_is (answers.Wait deadline keys) s = sym (append-nil s.output)
-spoken_is answers.NoReply s = sym (append-nil s.output)
-spoken_is answers.Shut s = sym (append-nil s.output)
+spoken_is : (head : Head) (answer : Answer) (s : Session) → (given head answer s).output ≡ s.output ++ spoken head (any.Plain answer)
+spoken_is head (answers.Reply reply) s = output_given head reply.items s
+spoken_is head (answers.Wait deadline keys) s = sym (append-nil s.output)
+spoken_is head answers.NoReply s = sym (append-nil s.output)
+spoken_is head answers.Shut s = sym (append-nil s.output)
 
 -- what the answer says stands behind the output that a connection had
-abbrev PutsOut : {E : Type 0} → Result (Unit {0}) E → Line → Line → AnyAnswer → Type 0
-PutsOut result l new answer = OnOk result (new.session.output ≡ l.session.output ++ spoken answer)
+abbrev PutsOut : {E : Type 0} → Head → Result (Unit {0}) E → Line → Line → AnyAnswer → Type 0
+PutsOut head result l new answer = OnOk result (new.session.output ≡ l.session.output ++ spoken head answer)
 
-puts : {E : Type 0} (result : Result (Unit {0}) E) (l m new : Line) (answer : Answer) → m.session.output ≡ l.session.output
-    → OnOk result (new ≡ with_session m (given answer m.session)) → PutsOut result l new (any.Plain answer)
-puts (Ok u) l m new answer same done =
-    ap (λ (x : Line). x.session.output) done ∙ spoken_is answer m.session ∙ ap (λ bytes. bytes ++ spoken (any.Plain answer)) same
-puts (Err fault) l m new answer same done = tt
+puts : {E : Type 0} (result : Result (Unit {0}) E) (l m new : Line) (head : Head) (answer : Answer) → m.session.output ≡ l.session.output
+    → OnOk result (new ≡ with_session m (given head answer m.session)) → PutsOut head result l new (any.Plain answer)
+puts (Ok u) l m new head answer same done =
+    ap (λ (x : Line). x.session.output) done ∙ spoken_is head answer m.session ∙ ap (λ bytes. bytes ++ spoken head (any.Plain answer)) same
+puts (Err fault) l m new head answer same done = tt
 
-pub puts_given : {E : Type 0} (result : Result (Unit {0}) E) (l m new : Line) (all : AnyAnswer) (answer : Answer)
+pub puts_given : {E : Type 0} (setup : Setup) (result : Result (Unit {0}) E) (l m new : Line) (key version : ℤ) (head in_front : Head) (body : List ℕ) (all : AnyAnswer) (answer : Answer)
     → all ≡ any.Plain answer → m ≡ with_session l (without_front l.session)
-    → OnOk result (new ≡ with_session m (given answer m.session))
-    → OnOk result (new.session.output ≡ l.session.output ++ spoken all)
-puts_given result l m new all answer is left done =
-    subst (PutsOut result l new) (sym is) (puts result l m new answer (ap (λ (x : Line). x.session.output) left) done)
+    → ((versions : List ApiVersion) → in_front ≡ head_at versions (front l.session.unread))
+    → OnOk result (new ≡ with_session m (given in_front answer m.session)) → IsAsked setup l.session key version head body
+    → OnOk result (new.session.output ≡ l.session.output ++ spoken head all)
+puts_given setup result l m new key version head in_front body all answer is left stands done asks =
+    subst (λ (x : Head). PutsOut x result l new all) (stands setup.versions ∙ head_asked setup l.session key version head body asks)
+    (subst (PutsOut in_front result l new) (sym is) (puts result l m new in_front answer (ap (λ (x : Line). x.session.output) left) done))
 
-output_parked : (deadline : Option ℕ) (asked : Option (ℤ × ℤ × ℤ × List ℕ)) (s : Session) → (parked deadline asked s).output ≡ s.output
+output_parked : (deadline : Option ℕ) (asked : Option (Head × ℤ × ℤ × List ℕ)) (s : Session) → (parked deadline asked s).output ≡ s.output
 output_parked deadline None s = refl
 output_parked deadline (Some a) s = refl
 
 pub puts_parked : {E : Type 0} (result : Result (Unit {0}) E) (l new : Line) (deadline : Option ℕ)
-    (asked : Option (ℤ × ℤ × ℤ × List ℕ)) (all : AnyAnswer) → spoken all ≡ []
+    (asked : Option (Head × ℤ × ℤ × List ℕ)) (head : Head) (all : AnyAnswer) → spoken head all ≡ []
     → OnOk result (new ≡ with_session l (parked deadline asked (without_front l.session)))
-    → OnOk result (new.session.output ≡ l.session.output ++ spoken all)
-puts_parked (Ok u) l new deadline asked all silent done =
+    → OnOk result (new.session.output ≡ l.session.output ++ spoken head all)
+puts_parked (Ok u) l new deadline asked head all silent done =
     ap (λ (x : Line). x.session.output) done ∙ output_parked deadline asked (without_front l.session)
     ∙ sym (append-nil l.session.output) ∙ ap (λ bytes. l.session.output ++ bytes) (sym silent)
-puts_parked (Err fault) l new deadline asked all silent done = tt
+puts_parked (Err fault) l new deadline asked head all silent done = tt
 
 -- to a request that waits: a reply, which ends the wait
-pub puts_ending : {E : Type 0} (result : Result (Unit {0}) E) (l m new : Line) (answer : Answer)
+pub puts_ending : {E : Type 0} (result : Result (Unit {0}) E) (l m new : Line) (tenant : ℕ) (wait : Wait) (head : Head) (answer : Answer)
     → m ≡ with_session l (record l.session { stage = without_wait l.session.stage })
-    → OnOk result (new ≡ with_session m (given answer m.session))
-    → OnOk result (new.session.output ≡ l.session.output ++ spoken (any.Plain answer))
-puts_ending result l m new answer left done = puts result l m new answer (ap (λ (x : Line). x.session.output) left) done
+    → ((t : ℕ) (w : Wait) → l.session.stage ≡ BoundTo t (Some w) → head ≡ w.head)
+    → OnOk result (new ≡ with_session m (given head answer m.session)) → l.session.stage ≡ BoundTo tenant (Some wait)
+    → OnOk result (new.session.output ≡ l.session.output ++ spoken wait.head (any.Plain answer))
+puts_ending result l m new tenant wait head answer left awaits done waits =
+    subst (λ (x : Head). PutsOut x result l new (any.Plain answer)) (awaits tenant wait waits) (puts result l m new head answer (ap (λ (x : Line). x.session.output) left) done)
 
 -- and any other answer
-pub puts_told : {E : Type 0} (result : Result (Unit {0}) E) (l m new : Line) (answer : Answer) → m ≡ l
-    → OnOk result (new ≡ with_session m (given answer m.session))
-    → OnOk result (new.session.output ≡ l.session.output ++ spoken (any.Plain answer))
-puts_told result l m new answer left done = puts result l m new answer (ap (λ (x : Line). x.session.output) left) done
+pub puts_told : {E : Type 0} (result : Result (Unit {0}) E) (l m new : Line) (tenant : ℕ) (wait : Wait) (head : Head) (answer : Answer) → m ≡ l
+    → ((t : ℕ) (w : Wait) → l.session.stage ≡ BoundTo t (Some w) → head ≡ w.head)
+    → OnOk result (new ≡ with_session m (given head answer m.session)) → l.session.stage ≡ BoundTo tenant (Some wait)
+    → OnOk result (new.session.output ≡ l.session.output ++ spoken wait.head (any.Plain answer))
+puts_told result l m new tenant wait head answer left awaits done waits =
+    subst (λ (x : Head). PutsOut x result l new (any.Plain answer)) (awaits tenant wait waits) (puts result l m new head answer (ap (λ (x : Line). x.session.output) left) done)
+
+-- 7. What is left of the stage
+
+-- the turn of a request leaves the connection its tenant's
+pub stage_kept : {E : Type 0} (result : Result (Unit {0}) E) (l m new : Line) (head : Head) (answer : Answer)
+    → m ≡ with_session l (without_front l.session) → OnOk result (new ≡ with_session m (given head answer m.session))
+    → OnErr result (new ≡ with_session m (shut_down m.session)) → without_wait new.session.stage ≡ without_wait l.session.stage
+stage_kept (Ok u) l m new head answer left ok err =
+    ap (λ (x : Line). without_wait x.session.stage) ok ∙ stage_given head answer m.session ∙ ap (λ (x : Line). without_wait x.session.stage) left
+stage_kept (Err fault) l m new head answer left ok err =
+    ap (λ (x : Line). without_wait x.session.stage) err ∙ stage-shut m.session ∙ ap (λ (x : Line). without_wait x.session.stage) left
+
+wait-less : (st : Stage) → without_wait (without_wait st) ≡ without_wait st
+wait-less (Greets greeting) = refl
+wait-less (BoundTo tenant wait) = refl
+
+replied_rests : (head : Head) (body : List ℕ) (s : Session) → without_wait s.stage ≡ s.stage → (replied head body s).stage ≡ s.stage
+unfolding replied
+replied_rests head body s rests = by (nat_lt 2147483647 (reply_size (throttled head body))) (framed head.correlation_id (throttled head body))
+  where
+    by : (t : Bool) (bytes : List ℕ) → (let x : Session = if t then shut_down s else record s { output = s.output ++ bytes } in x).stage ≡ s.stage
+    by true bytes = rests
+    by false bytes = refl
+
+given_rests : (head : Head) (reply : List ℕ) (s : Session) → without_wait s.stage ≡ s.stage → (given_reply head reply s).stage ≡ s.stage
+given_rests head reply s rests = by head.is_throttled
+  where
+    by : (t : Bool) → (let x : Session = if t then replied head (body_of reply) s else record s { output = s.output ++ reply } in x).stage ≡ s.stage
+    by true = replied_rests head (body_of reply) s rests
+    by false = refl
+
+-- a reply, also one that could not be kept, ends the wait
+pub stage_ended : {E : Type 0} (result : Result (Unit {0}) E) (l m new : Line) (head : Head) (answer : Answer) (reply : Vec ℕ Global)
+    → answer ≡ answers.Reply reply → m ≡ with_session l (record l.session { stage = without_wait l.session.stage })
+    → OnOk result (new ≡ with_session m (given head answer m.session)) → OnErr result (new ≡ with_session m (shut_down m.session))
+    → new.session.stage ≡ without_wait l.session.stage
+stage_ended (Ok u) l m new head answer reply is left ok err =
+    let rests : without_wait m.session.stage ≡ m.session.stage =
+    ap (λ (x : Line). without_wait x.session.stage) left ∙ (wait-less l.session.stage ∙ sym (ap (λ (x : Line). x.session.stage) left)) in
+    ap (λ (x : Line). x.session.stage) ok ∙ (ap (λ a. (given head a m.session).stage) is
+    ∙ (given_rests head reply.items m.session rests ∙ ap (λ (x : Line). x.session.stage) left))
+stage_ended (Err fault) l m new head answer reply is left ok err =
+    ap (λ (x : Line). x.session.stage) err ∙ (ap (λ (x : Line). without_wait x.session.stage) left ∙ wait-less l.session.stage)
+
+given_quiet : (head : Head) (answer : Answer) (s : Session) → IsNoReply answer → ((given head answer s).stage ≡ s.stage) ⊎ ((given head answer s).stage ≡ without_wait s.stage)
+given_quiet head (answers.Reply reply) s none = absurd (none reply refl)
+given_quiet head (answers.Wait deadline keys) s none = inl refl
+given_quiet head answers.NoReply s none = inl refl
+given_quiet head answers.Shut s none = inr refl
+
+given_loud : (head : Head) (answer : Answer) (s : Session) → IsNoReply answer → is_quiet answer ≡ false → (given head answer s).stage ≡ without_wait s.stage
+given_loud head (answers.Reply reply) s none loud = absurd (none reply refl)
+given_loud head (answers.Wait deadline keys) s none loud = cc
+given_loud head answers.NoReply s none loud = cc
+given_loud head answers.Shut s none loud = refl
+
+-- any other answer leaves the wait, or ends it too
+pub stage_told : {E : Type 0} (result : Result (Unit {0}) E) (l m new : Line) (head : Head) (answer : Answer) → IsNoReply answer → m ≡ l
+    → OnOk result (new ≡ with_session m (given head answer m.session)) → OnErr result (new ≡ with_session m (shut_down m.session))
+    → (new.session.stage ≡ l.session.stage) ⊎ (new.session.stage ≡ without_wait l.session.stage)
+stage_told (Ok u) l m new head answer none left ok err =
+    subst (λ (x : Line). (x.session.stage ≡ l.session.stage) ⊎ (x.session.stage ≡ without_wait l.session.stage))
+    (sym (ok ∙ ap (λ (x : Line). with_session x (given head answer x.session)) left)) (given_quiet head answer l.session none)
+stage_told (Err fault) l m new head answer none left ok err =
+    inr (ap (λ (x : Line). x.session.stage) err ∙ ap (λ (x : Line). without_wait x.session.stage) left)
+
+pub stage_loud : {E : Type 0} (result : Result (Unit {0}) E) (l m new : Line) (head : Head) (answer : Answer) → IsNoReply answer → m ≡ l
+    → OnOk result (new ≡ with_session m (given head answer m.session)) → OnErr result (new ≡ with_session m (shut_down m.session))
+    → is_quiet answer ≡ false → new.session.stage ≡ without_wait l.session.stage
+stage_loud (Ok u) l m new head answer none left ok err loud =
+    ap (λ (x : Line). x.session.stage) ok ∙ (given_loud head answer m.session none loud ∙ ap (λ (x : Line). without_wait x.session.stage) left)
+stage_loud (Err fault) l m new head answer none left ok err loud =
+    ap (λ (x : Line). x.session.stage) err ∙ ap (λ (x : Line). without_wait x.session.stage) left
+
+-- who was woken has no more unread bytes than before
+pub unread_woken : {E : Type 0} (result : Result (Unit {0}) E) (l m new : Line) (head : Head) (answer : Answer) → m.session.unread ≡ l.session.unread
+    → OnOk result (new ≡ with_session m (given head answer m.session)) → OnErr result (new ≡ with_session m (shut_down m.session))
+    → length new.session.unread ≤ length l.session.unread
+unread_woken (Ok u) l m new head answer left ok err =
+    omega (arith, ap (λ (x : Line). length x.session.unread) ok, unread_given head answer m.session, ap length left)
+unread_woken (Err fault) l m new head answer left ok err = omega (arith, ap (λ (x : Line). length x.session.unread) err)

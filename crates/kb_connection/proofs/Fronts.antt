@@ -1,11 +1,12 @@
 -- Whose the request is that stands in front of a connection's unread bytes.
-use Rattle.std.proofs.Common.{◌≡◌, ◌<◌, ℕ, ℤ, List, length, true, false, refl, sym, ap, ◌∙◌}
+use Rattle.std.proofs.Common.{◌≡◌, ◌<◌, ℕ, ℤ, List, length, Some, true, false, refl, sym, ap, ◌∙◌}
 use Rattle.kb_api_group.specs.Frames.{Front, Whole, Partial, TooSmall, TooLarge, front}
 use Rattle.kb_api_group.specs.FrameStream.{answer, behind}
 use Rattle.kb_api_group.specs.declared.frames.Next.{Next}
 use Rattle.kb_api_group.specs.declared.frames.Next.TheVariants as answers
 use Rattle.kb_api_group.specs.declared.api_versions.ApiVersion.{ApiVersion}
 use Rattle.kb_tenant_api.specs.Hosted.{Kept}
+use Rattle.kb_isolation_spec.specs.declared.head.Head.{Head}
 use Rattle.kb_isolation_spec.specs.Requests.{Asked, Versions, OtherVersions, Handshake, Authenticate, Another, Malformed, Request, request}
 use Rattle.kb_isolation_spec.specs.Session.{Session}
 use Rattle.kb_isolation_spec.specs.Greeting.{Setup}
@@ -15,7 +16,7 @@ use Rattle.kb_connection.specs.declared.request.Asked.{Asked as Read}
 use Rattle.kb_connection.specs.declared.request.Asked.TheVariants as asked
 use Rattle.kb_connection.specs.declared.request.Request.{Request as ReadRequest}
 use Rattle.kb_connection.specs.View.{asked_of, request_of, without_front}
-use Rattle.kb_connection.specs.Fronts.{IsOwn, IsAsked, is_tenants, is_tenants_at, asked_under, asked_at}
+use Rattle.kb_connection.specs.Fronts.{IsOwn, IsAsked, is_tenants, is_tenants_at, asked_under, asked_at, head_at}
 
 -- 1. A matter of the connection alone
 
@@ -74,8 +75,8 @@ own_frame setup s unread frame bytes same e read own = sym (at_frame setup.versi
 
 -- 2. A request of the tenant
 
-served_whole : (setup : Setup) (kept : Kept) (clock n : ℕ) (s : Session) (bytes : List ℕ) (f : Front) → answers.Frame bytes ≡ answer f → served_at setup kept clock n s f ≡ served_by setup kept clock n (request setup.versions bytes).correlation_id (request setup.versions bytes).asked (record s { unread = behind f s.unread })
-served_whole setup kept clock n s bytes (Whole frame rest) e = let same : frame ≡ bytes = cc in ap (λ x. served_by setup kept clock n (request setup.versions x).correlation_id (request setup.versions x).asked (record s { unread = rest })) same
+served_whole : (setup : Setup) (kept : Kept) (clock n : ℕ) (s : Session) (bytes : List ℕ) (f : Front) → answers.Frame bytes ≡ answer f → served_at setup kept clock n s f ≡ served_by setup kept clock n (request setup.versions bytes).head (request setup.versions bytes).asked (record s { unread = behind f s.unread })
+served_whole setup kept clock n s bytes (Whole frame rest) e = let same : frame ≡ bytes = cc in ap (λ x. served_by setup kept clock n (request setup.versions x).head (request setup.versions x).asked (record s { unread = rest })) same
 served_whole setup kept clock n s bytes Partial e = cc
 served_whole setup kept clock n s bytes TooSmall e = cc
 served_whole setup kept clock n s bytes TooLarge e = cc
@@ -86,28 +87,60 @@ kept_whole setup kept clock n bytes Partial e = cc
 kept_whole setup kept clock n bytes TooSmall e = cc
 kept_whole setup kept clock n bytes TooLarge e = cc
 
-asked_whole : (versions : List ApiVersion) (bytes : List ℕ) (f : Front) → answers.Frame bytes ≡ answer f → asked_at versions f ≡ asked_under (request versions bytes).correlation_id (request versions bytes).asked
-asked_whole versions bytes (Whole frame rest) e = let same : frame ≡ bytes = cc in ap (λ x. asked_under (request versions x).correlation_id (request versions x).asked) same
+asked_whole : (versions : List ApiVersion) (bytes : List ℕ) (f : Front) → answers.Frame bytes ≡ answer f → asked_at versions f ≡ asked_under (request versions bytes).head (request versions bytes).asked
+asked_whole versions bytes (Whole frame rest) e = let same : frame ≡ bytes = cc in ap (λ x. asked_under (request versions x).head (request versions x).asked) same
 asked_whole versions bytes Partial e = cc
 asked_whole versions bytes TooSmall e = cc
 asked_whole versions bytes TooLarge e = cc
 
-is_asked : (setup : Setup) (s : Session) (bytes : List ℕ) (key version id : ℤ) (body : List ℕ) → answers.Frame bytes ≡ answer (front s.unread) → request setup.versions bytes ≡ record { correlation_id = id; asked = Another key version body } → IsAsked setup s key version id body
+head_whole : (versions : List ApiVersion) (bytes : List ℕ) (f : Front) → answers.Frame bytes ≡ answer f → head_at versions f ≡ (request versions bytes).head
+head_whole versions bytes (Whole frame rest) e = let same : frame ≡ bytes = cc in ap (λ x. (request versions x).head) same
+head_whole versions bytes Partial e = cc
+head_whole versions bytes TooSmall e = cc
+head_whole versions bytes TooLarge e = cc
+
+is_asked : (setup : Setup) (s : Session) (bytes : List ℕ) (key version : ℤ) (head : Head) (body : List ℕ) → answers.Frame bytes ≡ answer (front s.unread) → request setup.versions bytes ≡ record { head = head; asked = Another key version body } → IsAsked setup s key version head body
 unfolding after_turn served_by put
-is_asked setup s bytes key version id body e is = record {
+is_asked setup s bytes key version head body e is = record {
   tenants = at_frame setup.versions bytes (Another key version body) (front s.unread) e (ap (λ (q : Request). q.asked) is);
-  asked = asked_whole setup.versions bytes (front s.unread) e ∙ ap (λ (q : Request). asked_under q.correlation_id q.asked) is;
-  served = λ kept clock n. served_whole setup kept clock n s bytes (front s.unread) e ∙ ap (λ (q : Request). served_by setup kept clock n q.correlation_id q.asked (without_front s)) is;
+  asked = asked_whole setup.versions bytes (front s.unread) e ∙ ap (λ (q : Request). asked_under q.head q.asked) is;
+  served = λ kept clock n. served_whole setup kept clock n s bytes (front s.unread) e ∙ ap (λ (q : Request). served_by setup kept clock n q.head q.asked (without_front s)) is;
   put = λ kept clock n. kept_whole setup kept clock n bytes (front s.unread) e ∙ ap (λ (q : Request). kept_by setup kept clock n q.asked) is;
 }
 
 -- the frame in front asks something of the tenant, and this is handed out
-pub is_handed : (setup : Setup) (s : Session) (unread frame bytes : List ℕ) (r : ReadRequest) (key version key_out version_out id_out : ℤ) (body body_out : List ℕ) → unread ≡ s.unread → answers.Frame frame ≡ answer (front unread) → bytes ≡ frame → request_of r ≡ request setup.versions bytes → r.asked ≡ asked.Another key version body → key_out ≡ key → version_out ≡ version → id_out ≡ r.correlation_id → body_out ≡ body → IsAsked setup s key_out version_out id_out body_out
-is_handed setup s unread frame bytes r key version key_out version_out id_out body body_out same e read is another k v i b =
+pub is_handed : (setup : Setup) (s : Session) (unread frame bytes : List ℕ) (r : ReadRequest) (key version key_out version_out : ℤ) (body body_out : List ℕ) → unread ≡ s.unread → answers.Frame frame ≡ answer (front unread) → bytes ≡ frame → request_of r ≡ request setup.versions bytes → r.asked ≡ asked.Another key version body → key_out ≡ key → version_out ≡ version → body_out ≡ body → IsAsked setup s key_out version_out (head_at setup.versions (front s.unread)) body_out
+is_handed setup s unread frame bytes r key version key_out version_out body body_out same e read is another k v b =
     let in_front : answers.Frame bytes ≡ answer (front s.unread) = ap answers.Frame read ∙ e ∙ ap (λ x. answer (front x)) same in
     let asks : asked_of r.asked ≡ Another key_out version_out body_out = ap asked_of another ∙ ap (λ x. Another x version body) (sym k) ∙ ap (λ x. Another key_out x body) (sym v) ∙ ap (λ x. Another key_out version_out x) (sym b) in
-    let first : request setup.versions bytes ≡ record { correlation_id = id_out; asked = asked_of r.asked } = sym is ∙ ap (λ x. record { correlation_id = x; asked = asked_of r.asked }) (sym i) in
-    is_asked setup s bytes key_out version_out id_out body_out in_front (first ∙ ap (λ x. record { correlation_id = id_out; asked = x }) asks)
+    let head : r.head ≡ head_at setup.versions (front s.unread) = ap (λ (q : Request). q.head) is ∙ sym (head_whole setup.versions bytes (front s.unread) in_front) in
+    let first : request setup.versions bytes ≡ record { head = head_at setup.versions (front s.unread); asked = asked_of r.asked } = sym is ∙ ap (λ x. record { head = x; asked = asked_of r.asked }) head in
+    is_asked setup s bytes key_out version_out (head_at setup.versions (front s.unread)) body_out in_front (first ∙ ap (λ x. record { head = head_at setup.versions (front s.unread); asked = x }) asks)
+
+-- and under this number
+pub is_numbered : (setup : Setup) (s : Session) (unread frame bytes : List ℕ) (r : ReadRequest) (id : ℤ) → unread ≡ s.unread → answers.Frame frame ≡ answer (front unread) → bytes ≡ frame → request_of r ≡ request setup.versions bytes → id ≡ r.head.correlation_id → id ≡ (head_at setup.versions (front s.unread)).correlation_id
+is_numbered setup s unread frame bytes r id same e read is number =
+    let in_front : answers.Frame bytes ≡ answer (front s.unread) = ap answers.Frame read ∙ e ∙ ap (λ x. answer (front x)) same in
+    number ∙ ap (λ (q : Request). q.head.correlation_id) is ∙ ap (λ (h : Head). h.correlation_id) (sym (head_whole setup.versions bytes (front s.unread) in_front))
+
+-- what is kept of a tenant's request for its reply
+under_head : (head kept : Head) (a : Asked) (key version : ℤ) (body : List ℕ) → asked_under head a ≡ Some (kept, key, version, body) → head ≡ kept
+under_head head kept Versions key version body e = cc
+under_head head kept OtherVersions key version body e = cc
+under_head head kept (Handshake v m) key version body e = cc
+under_head head kept (Authenticate m) key version body e = cc
+under_head head kept (Another k v b) key version body e =
+    let both : (head, k, v, b) ≡ (kept, key, version, body) = cc in ap (λ (q : Head × ℤ × ℤ × List ℕ). q.0) both
+under_head head kept Malformed key version body e = cc
+
+head_at_is : (versions : List ApiVersion) (f : Front) (key version : ℤ) (head : Head) (body : List ℕ) → asked_at versions f ≡ Some (head, key, version, body) → head_at versions f ≡ head
+head_at_is versions (Whole frame rest) key version head body e = under_head (request versions frame).head head (request versions frame).asked key version body e
+head_at_is versions Partial key version head body e = cc
+head_at_is versions TooSmall key version head body e = cc
+head_at_is versions TooLarge key version head body e = cc
+
+pub head_asked : (setup : Setup) (s : Session) (key version : ℤ) (head : Head) (body : List ℕ) → IsAsked setup s key version head body → head_at setup.versions (front s.unread) ≡ head
+head_asked setup s key version head body h = head_at_is setup.versions (front s.unread) key version head body h.asked
 
 -- 3. A request of the tenant takes bytes when it is left behind
 

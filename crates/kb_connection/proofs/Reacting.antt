@@ -2,7 +2,8 @@
 use Rattle.std.proofs.Common.{◌≡◌, ℕ, ℤ, List, ◌++◌, true, false, None, Some, refl, sym, ap, ◌∙◌, nat_lt, if◌then◌else◌, Result, Ok, Err, OnOk, codes}
 use Rattle.kb_wire.specs.declared.error_code.ErrorCode.TheVariants as errors
 use Rattle.kb_tenant.specs.Replies.{framed, reply_size}
-use Rattle.kb_isolation_spec.specs.Session.{Stage, Greets, BoundTo, Session, shut_down, replied, without_wait}
+use Rattle.kb_isolation_spec.specs.declared.head.Head.{Head}
+use Rattle.kb_isolation_spec.specs.Session.{Stage, Greets, BoundTo, Session, shut_down, replied, throttled, without_wait}
 use Rattle.kb_isolation_spec.specs.Greeting.{Setup, handshake_reply, authenticate_reply}
 use Rattle.kb_isolation_spec.specs.Machine.{Line}
 use Rattle.kb_connection.specs.declared.greeting.Greeting.{Greeting}
@@ -12,35 +13,35 @@ use Rattle.kb_connection.specs.View.{greeting_of, with_session}
 use Rattle.kb_connection.specs.Reactions.{reacted}
 
 -- a stage without a wait may be set before the reply or after it
-staged : (id : ℤ) (body : List ℕ) (s : Session) (stage : Stage) → without_wait stage ≡ stage → record (replied id body s) { stage = stage } ≡ replied id body (record s { stage = stage })
+staged : (head : Head) (body : List ℕ) (s : Session) (stage : Stage) → without_wait stage ≡ stage → record (replied head body s) { stage = stage } ≡ replied head body (record s { stage = stage })
 unfolding replied
-staged id body s stage free =
-    elim (nat_lt 2147483647 (reply_size body)) as (λ t. record (if t then shut_down s else record s { output = s.output ++ framed id body }) { stage = stage } ≡ (if t then shut_down (record s { stage = stage }) else record (record s { stage = stage }) { output = s.output ++ framed id body }))
+staged head body s stage free =
+    elim (nat_lt 2147483647 (reply_size (throttled head body))) as (λ t. record (if t then shut_down s else record s { output = s.output ++ framed head.correlation_id (throttled head body) }) { stage = stage } ≡ (if t then shut_down (record s { stage = stage }) else record (record s { stage = stage }) { output = s.output ++ framed head.correlation_id (throttled head body) }))
     [ true ↦ ap (λ x. record (shut_down s) { stage = x }) (sym free) | false ↦ refl ]
 
 -- a reply, and then the stage
-restaged : (l new : Line) (id back : ℤ) (sent body : List ℕ) (stage : Stage) → without_wait stage ≡ stage → back ≡ id → new ≡ with_session l (replied back sent l.session) → sent ≡ body → with_session new (record new.session { stage = stage }) ≡ with_session l (replied id body (record l.session { stage = stage }))
-restaged l new id back sent body stage free one is same =
+restaged : (l new : Line) (head back : Head) (sent body : List ℕ) (stage : Stage) → without_wait stage ≡ stage → back ≡ head → new ≡ with_session l (replied back sent l.session) → sent ≡ body → with_session new (record new.session { stage = stage }) ≡ with_session l (replied head body (record l.session { stage = stage }))
+restaged l new head back sent body stage free one is same =
     ap (λ (n : Line). with_session n (record n.session { stage = stage })) is
     ∙ ap (with_session l) (staged back sent l.session stage free)
     ∙ ap (λ i. with_session l (replied i sent (record l.session { stage = stage }))) one
-    ∙ ap (λ b. with_session l (replied id b (record l.session { stage = stage }))) same
+    ∙ ap (λ b. with_session l (replied head b (record l.session { stage = stage }))) same
 
-pub accepts : (setup : Setup) (reaction : Reaction) (greeting : Greeting) (l new : Line) (id back : ℤ) (sent : List ℕ) → back ≡ id → reaction ≡ reactions.Accepts greeting → new ≡ with_session l (replied back sent l.session) → sent ≡ handshake_reply errors.None → with_session new (record new.session { stage = Greets (greeting_of greeting) }) ≡ with_session l (reacted setup reaction id l.session)
-accepts setup reaction greeting l new id back sent one is done same =
-    restaged l new id back sent (handshake_reply errors.None) (Greets (greeting_of greeting)) refl one done same ∙ ap (λ r. with_session l (reacted setup r id l.session)) (sym is)
+pub accepts : (setup : Setup) (reaction : Reaction) (greeting : Greeting) (l new : Line) (head back : Head) (sent : List ℕ) → back ≡ head → reaction ≡ reactions.Accepts greeting → new ≡ with_session l (replied back sent l.session) → sent ≡ handshake_reply errors.None → with_session new (record new.session { stage = Greets (greeting_of greeting) }) ≡ with_session l (reacted setup reaction head l.session)
+accepts setup reaction greeting l new head back sent one is done same =
+    restaged l new head back sent (handshake_reply errors.None) (Greets (greeting_of greeting)) refl one done same ∙ ap (λ r. with_session l (reacted setup r head l.session)) (sym is)
 
-pub logs_in : (setup : Setup) (reaction : Reaction) (tenant : ℕ) (l new : Line) (id back : ℤ) (sent : List ℕ) → back ≡ id → reaction ≡ reactions.LogsIn tenant → new ≡ with_session l (replied back sent l.session) → sent ≡ authenticate_reply errors.None None → with_session new (record new.session { stage = BoundTo tenant None }) ≡ with_session l (reacted setup reaction id l.session)
-logs_in setup reaction tenant l new id back sent one is done same =
-    restaged l new id back sent (authenticate_reply errors.None None) (BoundTo tenant None) refl one done same ∙ ap (λ r. with_session l (reacted setup r id l.session)) (sym is)
+pub logs_in : (setup : Setup) (reaction : Reaction) (tenant : ℕ) (l new : Line) (head back : Head) (sent : List ℕ) → back ≡ head → reaction ≡ reactions.LogsIn tenant → new ≡ with_session l (replied back sent l.session) → sent ≡ authenticate_reply errors.None None → with_session new (record new.session { stage = BoundTo tenant None }) ≡ with_session l (reacted setup reaction head l.session)
+logs_in setup reaction tenant l new head back sent one is done same =
+    restaged l new head back sent (authenticate_reply errors.None None) (BoundTo tenant None) refl one done same ∙ ap (λ r. with_session l (reacted setup r head l.session)) (sym is)
 
-pub illegal : {E : Type 0} (setup : Setup) (reaction : Reaction) (result : Result (Unit {0}) E) (l new : Line) (id back : ℤ) (sent text : List ℕ) → back ≡ id → reaction ≡ reactions.IllegalState → text ≡ codes "illegal SASL state" → sent ≡ authenticate_reply errors.IllegalSaslState (Some text) → OnOk result (new ≡ with_session l (replied back sent l.session)) → OnOk result (new ≡ with_session l (reacted setup reaction id l.session))
-illegal setup reaction (Ok u) l new id back sent text one is words same done =
-    done ∙ ap (λ i. with_session l (replied i sent l.session)) one ∙ ap (λ b. with_session l (replied id b l.session)) (same ∙ ap (λ t. authenticate_reply errors.IllegalSaslState (Some t)) words) ∙ ap (λ r. with_session l (reacted setup r id l.session)) (sym is)
-illegal setup reaction (Err e) l new id back sent text one is words same done = tt
+pub illegal : {E : Type 0} (setup : Setup) (reaction : Reaction) (result : Result (Unit {0}) E) (l new : Line) (head back : Head) (sent text : List ℕ) → back ≡ head → reaction ≡ reactions.IllegalState → text ≡ codes "illegal SASL state" → sent ≡ authenticate_reply errors.IllegalSaslState (Some text) → OnOk result (new ≡ with_session l (replied back sent l.session)) → OnOk result (new ≡ with_session l (reacted setup reaction head l.session))
+illegal setup reaction (Ok u) l new head back sent text one is words same done =
+    done ∙ ap (λ i. with_session l (replied i sent l.session)) one ∙ ap (λ b. with_session l (replied head b l.session)) (same ∙ ap (λ t. authenticate_reply errors.IllegalSaslState (Some t)) words) ∙ ap (λ r. with_session l (reacted setup r head l.session)) (sym is)
+illegal setup reaction (Err e) l new head back sent text one is words same done = tt
 
-pub denies : (setup : Setup) (reaction : Reaction) (l mid new : Line) (id back : ℤ) (sent text : List ℕ) → back ≡ id → reaction ≡ reactions.Denies → text ≡ codes "authentication failed" → sent ≡ authenticate_reply errors.SaslAuthenticationFailed (Some text) → mid ≡ with_session l (replied back sent l.session) → new ≡ with_session mid (shut_down mid.session) → new ≡ with_session l (reacted setup reaction id l.session)
-denies setup reaction l mid new id back sent text one is words same done shut =
+pub denies : (setup : Setup) (reaction : Reaction) (l mid new : Line) (head back : Head) (sent text : List ℕ) → back ≡ head → reaction ≡ reactions.Denies → text ≡ codes "authentication failed" → sent ≡ authenticate_reply errors.SaslAuthenticationFailed (Some text) → mid ≡ with_session l (replied back sent l.session) → new ≡ with_session mid (shut_down mid.session) → new ≡ with_session l (reacted setup reaction head l.session)
+denies setup reaction l mid new head back sent text one is words same done shut =
     shut ∙ ap (λ (m : Line). with_session m (shut_down m.session)) done
     ∙ ap (λ i. with_session l (shut_down (replied i sent l.session))) one
-    ∙ ap (λ b. with_session l (shut_down (replied id b l.session))) (same ∙ ap (λ t. authenticate_reply errors.SaslAuthenticationFailed (Some t)) words) ∙ ap (λ r. with_session l (reacted setup r id l.session)) (sym is)
+    ∙ ap (λ b. with_session l (shut_down (replied head b l.session))) (same ∙ ap (λ t. authenticate_reply errors.SaslAuthenticationFailed (Some t)) words) ∙ ap (λ r. with_session l (reacted setup r head l.session)) (sym is)

@@ -5,6 +5,7 @@ use Rattle.kb_api_group.specs.Frames.{Front, Whole, Partial, TooSmall, TooLarge,
 use Rattle.kb_api_group.specs.FrameStream.{answer, behind}
 use Rattle.kb_api_group.specs.declared.frames.Next.{Next}
 use Rattle.kb_api_group.specs.declared.frames.Next.TheVariants as answers
+use Rattle.kb_isolation_spec.specs.declared.head.Head.{Head}
 use Rattle.kb_isolation_spec.specs.Requests.{request}
 use Rattle.kb_isolation_spec.specs.Session.{Greeting, Session, shut_down}
 use Rattle.kb_tenant_api.specs.Hosted.{Kept}
@@ -77,30 +78,30 @@ greeted_whole setup greeting s frame Partial e = cc
 greeted_whole setup greeting s frame TooSmall e = cc
 greeted_whole setup greeting s frame TooLarge e = cc
 
-served_whole : (setup : Setup) (kept : Kept) (clock n : ℕ) (s : Session) (frame : List ℕ) (f : Front) → answers.Frame frame ≡ answer f → served_by setup kept clock n (request setup.versions frame).correlation_id (request setup.versions frame).asked (record s { unread = behind f s.unread }) ≡ served_at setup kept clock n s f
-served_whole setup kept clock n s frame (Whole front rest) e = let same : frame ≡ front = cc in ap (λ x. served_by setup kept clock n (request setup.versions x).correlation_id (request setup.versions x).asked (record s { unread = rest })) same
+served_whole : (setup : Setup) (kept : Kept) (clock n : ℕ) (s : Session) (frame : List ℕ) (f : Front) → answers.Frame frame ≡ answer f → served_by setup kept clock n (request setup.versions frame).head (request setup.versions frame).asked (record s { unread = behind f s.unread }) ≡ served_at setup kept clock n s f
+served_whole setup kept clock n s frame (Whole front rest) e = let same : frame ≡ front = cc in ap (λ x. served_by setup kept clock n (request setup.versions x).head (request setup.versions x).asked (record s { unread = rest })) same
 served_whole setup kept clock n s frame Partial e = cc
 served_whole setup kept clock n s frame TooSmall e = cc
 served_whole setup kept clock n s frame TooLarge e = cc
 
 -- what a worked out reaction comes to
-reacts : {E : Type 0} (setup : Setup) (l new : Line) (result : Result (Unit {0}) E) (reaction : Result (ℤ × Reaction) AllocError) (g : Session → Session) (s : Session) → IfOk reaction (λ done. (s : Session) → reacted setup done.1 done.0 s ≡ g s) → g (without_front l.session) ≡ s → OnOk result (IfReacts reaction (λ id what. new ≡ with_session l (reacted setup what id (without_front l.session)))) → OnOk result (new ≡ with_session l s)
+reacts : {E : Type 0} (setup : Setup) (l new : Line) (result : Result (Unit {0}) E) (reaction : Result (Head × Reaction) AllocError) (g : Session → Session) (s : Session) → IfOk reaction (λ done. (s : Session) → reacted setup done.1 done.0 s ≡ g s) → g (without_front l.session) ≡ s → OnOk result (IfReacts reaction (λ head what. new ≡ with_session l (reacted setup what head (without_front l.session)))) → OnOk result (new ≡ with_session l s)
 reacts setup l new (Ok u) (Ok done) g s is e h = h ∙ ap (with_session l) (is (without_front l.session) ∙ e)
 reacts setup l new (Ok u) (Err fault) g s is e h = absurd h
 reacts setup l new (Err fault) reaction g s is e h = tt
 
-pub greet_frame : {E : Type 0} (setup : Setup) (greeting : Greeting) (l new : Line) (result : Result (Unit {0}) E) (reaction : Result (ℤ × Reaction) AllocError) (unread frame bytes : List ℕ) → unread ≡ l.session.unread → answers.Frame frame ≡ answer (front unread) → bytes ≡ frame → IfOk reaction (λ done. (s : Session) → reacted setup done.1 done.0 s ≡ greeted_frame setup greeting bytes s) → OnOk result (IfReacts reaction (λ id what. new ≡ with_session l (reacted setup what id (without_front l.session)))) → OnOk result (new ≡ with_session l (greeted setup greeting l.session))
+pub greet_frame : {E : Type 0} (setup : Setup) (greeting : Greeting) (l new : Line) (result : Result (Unit {0}) E) (reaction : Result (Head × Reaction) AllocError) (unread frame bytes : List ℕ) → unread ≡ l.session.unread → answers.Frame frame ≡ answer (front unread) → bytes ≡ frame → IfOk reaction (λ done. (s : Session) → reacted setup done.1 done.0 s ≡ greeted_frame setup greeting bytes s) → OnOk result (IfReacts reaction (λ head what. new ≡ with_session l (reacted setup what head (without_front l.session)))) → OnOk result (new ≡ with_session l (greeted setup greeting l.session))
 unfolding greeted
 greet_frame setup greeting l new result reaction unread frame bytes same e read is h =
     let in_front : answers.Frame bytes ≡ answer (front l.session.unread) = ap answers.Frame read ∙ e ∙ ap (λ b. answer (front b)) same in
     reacts setup l new result reaction (greeted_frame setup greeting bytes) (greeted_at setup greeting l.session (front l.session.unread)) is (greeted_whole setup greeting l.session bytes (front l.session.unread) in_front) h
 
-pub serve_frame : {E : Type 0} (setup : Setup) (kept : Kept) (clock n : ℕ) (l new : Line) (result : Result (Unit {0}) E) (reaction : Result (ℤ × Reaction) AllocError) (unread frame bytes : List ℕ) → unread ≡ l.session.unread → answers.Frame frame ≡ answer (front unread) → bytes ≡ frame → IfOk reaction (λ done. (kept : Kept) (clock n : ℕ) (s : Session) → reacted setup done.1 done.0 s ≡ served_by setup kept clock n (request setup.versions bytes).correlation_id (request setup.versions bytes).asked s) → OnOk result (IfReacts reaction (λ id what. new ≡ with_session l (reacted setup what id (without_front l.session)))) → OnOk result (new ≡ with_session l (after_turn setup kept clock n l.session))
+pub serve_frame : {E : Type 0} (setup : Setup) (kept : Kept) (clock n : ℕ) (l new : Line) (result : Result (Unit {0}) E) (reaction : Result (Head × Reaction) AllocError) (unread frame bytes : List ℕ) → unread ≡ l.session.unread → answers.Frame frame ≡ answer (front unread) → bytes ≡ frame → IfOk reaction (λ done. (kept : Kept) (clock n : ℕ) (s : Session) → reacted setup done.1 done.0 s ≡ served_by setup kept clock n (request setup.versions bytes).head (request setup.versions bytes).asked s) → OnOk result (IfReacts reaction (λ head what. new ≡ with_session l (reacted setup what head (without_front l.session)))) → OnOk result (new ≡ with_session l (after_turn setup kept clock n l.session))
 unfolding after_turn
 serve_frame setup kept clock n l new result reaction unread frame bytes same e read is h =
     let in_front : answers.Frame bytes ≡ answer (front l.session.unread) = ap answers.Frame read ∙ e ∙ ap (λ b. answer (front b)) same in
-    reacts setup l new result reaction (served_by setup kept clock n (request setup.versions bytes).correlation_id (request setup.versions bytes).asked) (served_at setup kept clock n l.session (front l.session.unread)) (for_this reaction is) (served_whole setup kept clock n l.session bytes (front l.session.unread) in_front) h
+    reacts setup l new result reaction (served_by setup kept clock n (request setup.versions bytes).head (request setup.versions bytes).asked) (served_at setup kept clock n l.session (front l.session.unread)) (for_this reaction is) (served_whole setup kept clock n l.session bytes (front l.session.unread) in_front) h
   where
-    for_this : (r : Result (ℤ × Reaction) AllocError) → IfOk r (λ done. (kept : Kept) (clock n : ℕ) (s : Session) → reacted setup done.1 done.0 s ≡ served_by setup kept clock n (request setup.versions bytes).correlation_id (request setup.versions bytes).asked s) → IfOk r (λ done. (s : Session) → reacted setup done.1 done.0 s ≡ served_by setup kept clock n (request setup.versions bytes).correlation_id (request setup.versions bytes).asked s)
+    for_this : (r : Result (Head × Reaction) AllocError) → IfOk r (λ done. (kept : Kept) (clock n : ℕ) (s : Session) → reacted setup done.1 done.0 s ≡ served_by setup kept clock n (request setup.versions bytes).head (request setup.versions bytes).asked s) → IfOk r (λ done. (s : Session) → reacted setup done.1 done.0 s ≡ served_by setup kept clock n (request setup.versions bytes).head (request setup.versions bytes).asked s)
     for_this (Ok done) each = each kept clock n
     for_this (Err fault) each = tt

@@ -3,8 +3,10 @@ use Rattle.std.specs.Prelude.{◌≡◌, ℕ, ℤ, List, Bool, true, false, Opti
 use Rattle.kb_api_group.specs.Frames.{Front, Whole, Partial, TooSmall, TooLarge, front}
 use Rattle.kb_tenant_api.specs.Hosted.{Kept}
 use Rattle.kb_api_group.specs.declared.api_versions.ApiVersion.{ApiVersion}
+use Rattle.kb_isolation_spec.specs.declared.head.Head.{Head}
 use Rattle.kb_isolation_spec.specs.Requests.{Asked, Versions, OtherVersions, Handshake, Authenticate, Another, Malformed, request}
 use Rattle.kb_isolation_spec.specs.Session.{Session}
+use Rattle.kb_isolation_spec.specs.Versions.{no_head}
 use Rattle.kb_isolation_spec.specs.Tenant.{answer, kept_after}
 use Rattle.kb_isolation_spec.specs.Greeting.{Setup}
 use Rattle.kb_isolation_spec.specs.Machine.{after_reaction, after_turn, put}
@@ -24,21 +26,28 @@ is_tenants_at versions Partial = false
 is_tenants_at versions TooSmall = false
 is_tenants_at versions TooLarge = false
 
--- a request of the tenant: its correlation id, its key, its version and its body
-abbrev pub asked_under : ℤ → Asked → Option (ℤ × ℤ × ℤ × List ℕ)
-asked_under id Versions = None
-asked_under id OtherVersions = None
-asked_under id (Handshake version mechanism) = None
-asked_under id (Authenticate message) = None
-asked_under id (Another key version body) = Some (id, key, version, body)
-asked_under id Malformed = None
+-- a request of the tenant: what is kept of it for its reply, its key, the version that the tenant is asked in, and its body
+abbrev pub asked_under : Head → Asked → Option (Head × ℤ × ℤ × List ℕ)
+asked_under head Versions = None
+asked_under head OtherVersions = None
+asked_under head (Handshake version mechanism) = None
+asked_under head (Authenticate message) = None
+asked_under head (Another key version body) = Some (head, key, version, body)
+asked_under head Malformed = None
 
 -- the request of the tenant that stands in front
-abbrev pub asked_at : List ApiVersion → Front → Option (ℤ × ℤ × ℤ × List ℕ)
-asked_at versions (Whole frame rest) = let r = request versions frame in asked_under r.correlation_id r.asked
+abbrev pub asked_at : List ApiVersion → Front → Option (Head × ℤ × ℤ × List ℕ)
+asked_at versions (Whole frame rest) = let r = request versions frame in asked_under r.head r.asked
 asked_at versions Partial = None
 asked_at versions TooSmall = None
 asked_at versions TooLarge = None
+
+-- what of the request in front is kept for its reply
+abbrev pub head_at : List ApiVersion → Front → Head
+head_at versions (Whole frame rest) = (request versions frame).head
+head_at versions Partial = no_head
+head_at versions TooSmall = no_head
+head_at versions TooLarge = no_head
 
 -- no request of the tenant stands in front: what the tenant keeps stays
 pub record IsOwn (setup : Setup) (s : Session) : Type 0 where
@@ -46,9 +55,9 @@ pub record IsOwn (setup : Setup) (s : Session) : Type 0 where
   pub put : (kept : Kept) (clock n : ℕ) → put setup kept clock n s.unread ≡ kept
 
 -- this request of the tenant stands in front
-pub record IsAsked (setup : Setup) (s : Session) (key version id : ℤ) (body : List ℕ) : Type 0 where
+pub record IsAsked (setup : Setup) (s : Session) (key version : ℤ) (head : Head) (body : List ℕ) : Type 0 where
   pub tenants : is_tenants_at setup.versions (front s.unread) ≡ true
-  pub asked : asked_at setup.versions (front s.unread) ≡ Some (id, key, version, body)
+  pub asked : asked_at setup.versions (front s.unread) ≡ Some (head, key, version, body)
   pub served : (kept : Kept) (clock n : ℕ)
-      → after_turn setup kept clock n s ≡ after_reaction (answer setup.node kept clock n key version body) id version body (without_front s)
+      → after_turn setup kept clock n s ≡ after_reaction (answer setup.node kept clock n key version body) head version body (without_front s)
   pub put : (kept : Kept) (clock n : ℕ) → put setup kept clock n s.unread ≡ kept_after setup.node kept clock n key version body

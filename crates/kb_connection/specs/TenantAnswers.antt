@@ -1,26 +1,45 @@
 -- What a tenant's answer does to a connection.
-use Rattle.std.specs.Prelude.{ℕ, ℤ, List, [], ◌++◌, Bool, true, false, Option, Some, None}
+use Rattle.std.specs.Prelude.{ℕ, ℤ, List, [], ◌++◌, drop, nat_lt, if◌then◌else◌, Bool, true, false, Option, Some, None}
 use Rattle.kb_tenant.specs.declared.answer.Answer.{Answer}
 use Rattle.kb_tenant.specs.declared.answer.Answer.TheVariants as answers
 use Rattle.kb_tenant_api.specs.declared.answer.Answer.{Answer as AnyAnswer}
 use Rattle.kb_tenant_api.specs.declared.answer.Answer.TheVariants as any
 use Rattle.kb_isolation_spec.specs.Tenant.{Awaited, Records, Group, Wait}
-use Rattle.kb_isolation_spec.specs.Session.{Session, shut_down, waiting}
+use Rattle.kb_isolation_spec.specs.declared.head.Head.{Head}
+use Rattle.kb_tenant.specs.Replies.{framed, reply_size}
+use Rattle.kb_isolation_spec.specs.Session.{Session, shut_down, replied, throttled, waiting}
 
--- an answer, but for a wait
-abbrev pub given : Answer → Session → Session
-given (answers.Reply reply) s = record s { output = s.output ++ reply.items }
-given (answers.Wait deadline keys) s = s
-given answers.NoReply s = s
-given answers.Shut s = shut_down s
+-- the body of a whole reply: what stands behind its size and its correlation id
+abbrev pub body_of : List ℕ → List ℕ
+body_of reply = drop 8 reply
 
--- the bytes that an answer puts out
-abbrev pub spoken : AnyAnswer → List ℕ
-spoken (any.Plain (answers.Reply reply)) = reply.items
-spoken (any.Plain (answers.Wait deadline keys)) = []
-spoken (any.Plain answers.NoReply) = []
-spoken (any.Plain answers.Shut) = []
-spoken any.Rebalance = []
+-- a tenant's whole reply: it is sent as it is, or its body is where a throttle time is to stand in front of it
+abbrev pub given_reply : Head → List ℕ → Session → Session
+given_reply head reply s = if head.is_throttled then replied head (body_of reply) s else record s { output = s.output ++ reply }
+
+-- an answer to the request of that head, but for a wait
+abbrev pub given : Head → Answer → Session → Session
+given head (answers.Reply reply) s = given_reply head reply.items s
+given head (answers.Wait deadline keys) s = s
+given head answers.NoReply s = s
+given head answers.Shut s = shut_down s
+
+-- the bytes of a reply with that body: none where its size does not fit an INT32
+abbrev pub reply_to : Head → List ℕ → List ℕ
+reply_to head body =
+    if nat_lt 2147483647 (reply_size (throttled head body)) then [] else framed head.correlation_id (throttled head body)
+
+-- the bytes that a tenant's whole reply puts out
+abbrev pub spoken_reply : Head → List ℕ → List ℕ
+spoken_reply head reply = if head.is_throttled then reply_to head (body_of reply) else reply
+
+-- the bytes that an answer to the request of that head puts out
+abbrev pub spoken : Head → AnyAnswer → List ℕ
+spoken head (any.Plain (answers.Reply reply)) = spoken_reply head reply.items
+spoken head (any.Plain (answers.Wait deadline keys)) = []
+spoken head (any.Plain answers.NoReply) = []
+spoken head (any.Plain answers.Shut) = []
+spoken head any.Rebalance = []
 
 -- it says nothing to a fetch that waits
 abbrev pub is_quiet : Answer → Bool
@@ -42,11 +61,11 @@ abbrev pub awaited_until : Option ℕ → ℤ → List ℕ → Awaited
 awaited_until None version body = Group
 awaited_until (Some deadline) version body = Records version body deadline
 
--- the wait for the answer to a request of that correlation id, key, version and body
-abbrev pub wait_for : Option ℕ → ℤ × ℤ × ℤ × List ℕ → Wait
-wait_for deadline asked = record { correlation_id = asked.0; awaited = awaited_until deadline asked.2 asked.3 }
+-- the wait for the answer to a request of that head, key, version and body
+abbrev pub wait_for : Option ℕ → Head × ℤ × ℤ × List ℕ → Wait
+wait_for deadline asked = record { head = asked.0; awaited = awaited_until deadline asked.2 asked.3 }
 
 -- the connection waits for the answer to a request of its tenant, if there is one
-abbrev pub parked : Option ℕ → Option (ℤ × ℤ × ℤ × List ℕ) → Session → Session
+abbrev pub parked : Option ℕ → Option (Head × ℤ × ℤ × List ℕ) → Session → Session
 parked deadline None s = s
 parked deadline (Some asked) s = record s { stage = waiting (wait_for deadline asked) s.stage }

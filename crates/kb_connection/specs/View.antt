@@ -37,7 +37,7 @@ Reads a (Err (faults.Wire fault)) = Malformed ≡ a
 Reads a (Err faults.Memory) = Unit {0}
 
 abbrev pub request_of : ReadRequest → Request
-request_of r = record { correlation_id = r.correlation_id; asked = asked_of r.asked }
+request_of r = record { head = r.head; asked = asked_of r.asked }
 
 -- what a request waits for
 abbrev pub awaited_of : Awaits → Awaited
@@ -46,7 +46,7 @@ awaited_of awaited.Group = Group
 
 -- a request that waits for its answer
 abbrev pub wait_of : Waiting → Wait
-wait_of w = record { correlation_id = w.correlation_id; awaited = awaited_of w.awaited }
+wait_of w = record { head = w.head; awaited = awaited_of w.awaited }
 
 -- how far a greeting is
 abbrev pub greeting_of : HowFar → Greeting

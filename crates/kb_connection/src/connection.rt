@@ -9,14 +9,17 @@ ghost use Rattle.kb_tenant.specs.Replies as tenant;
 ghost use Rattle.kb_tenant.specs.Replies.{framed, reply_size};
 ghost use Rattle.kb_isolation_spec.specs.Requests.{request};
 ghost use Rattle.kb_isolation_spec.specs.Session.{Session, Greets, BoundTo, fresh, room, overruns, fed, replied, shut_down, without_wait, waiting};
-ghost use Rattle.kb_isolation_spec.specs.Session.{has_member, is_free, can};
+ghost use Rattle.kb_isolation_spec.specs.declared.head.Head.{Head};
+ghost use Rattle.kb_isolation_spec.specs.Tenant.{Wait};
+ghost use Rattle.kb_api_group.specs.declared.api_versions.ApiVersion.{ApiVersion};
+ghost use Rattle.kb_isolation_spec.specs.Session.{throttled, has_member, is_free, can};
 ghost use Rattle.kb_isolation_spec.specs.Greeting.{Setup, greeted, greeted_frame};
 ghost use Rattle.kb_isolation_spec.specs.Machine.{after_reaction, after_turn, served_by, told};
 ghost use Rattle.kb_isolation_spec.specs.Calls.{without_output};
 ghost use Rattle.kb_isolation_spec.specs.Owners.{whose};
 ghost use Rattle.kb_tenant_api.specs.declared.answer.Answer.TheVariants as any;
-ghost use Rattle.kb_connection.specs.TenantAnswers.{given, is_quiet, is_wait, wait_for, parked, spoken};
-ghost use Rattle.kb_connection.specs.Fronts.{IsOwn, IsAsked, is_tenants, is_tenants_at, asked_at};
+ghost use Rattle.kb_connection.specs.TenantAnswers.{body_of, given, given_reply, is_quiet, is_wait, wait_for, parked, spoken};
+ghost use Rattle.kb_connection.specs.Fronts.{IsOwn, IsAsked, is_tenants, is_tenants_at, asked_at, head_at};
 ghost use Rattle.kb_connection.specs.View.{greeting_of, speaks, stage_of, wait_of, with_session, without_front, IsLimited};
 ghost use Rattle.kb_connection.specs.Reactions.{reacted, IfReacts};
 
@@ -25,7 +28,9 @@ use crate::reaction::Reaction;
 use crate::reply::{authenticate_body, handshake_body, versions_body};
 use crate::request::{Asked, Request};
 use crate::setup::Setup;
+use crate::version::{NO_HEAD, head_of_frame};
 use kb_api_group::{FrameFeed, Next};
+use kb_isolation_spec::Head;
 use kb_tenant_api::Answer;
 use kb_wire::{ErrorCode, Text};
 use std::alloc::{AllocError, Global};
@@ -81,8 +86,8 @@ pub enum Awaited {
 /// A request that waits for its answer.
 #[derive(Drop)]
 pub struct Waiting {
-    /// Its correlation id.
-    pub correlation_id: i32,
+    /// What is kept of it for its reply.
+    pub head: Head,
     /// What it waits for.
     pub awaited: Awaited,
 }
@@ -297,8 +302,8 @@ impl Connection {
         }
     }
 
-    /// The request of its tenant that stands in front of a bound connection. `None`: what stands there is a matter of the
-    /// connection alone.
+    /// The request of its tenant that stands in front of a bound connection, in the version that its own is laid out as. `None`: what
+    /// stands there is a matter of the connection alone.
     pub fn request(
         &self,
         alloc: Global,
@@ -306,7 +311,10 @@ impl Connection {
     ) -> Result<Option<kb_tenant::Request<'_>>, AllocError>
         ensures none { IfOk result (λ found. IfNone found (IsOwn setup.now self.now.session)) }
         ensures asked { IfOk result (λ found. IfSome found (λ asked.
-            IsAsked setup.now self.now.session asked.api_key asked.api_version asked.correlation_id asked.body.now)) }
+            IsAsked setup.now self.now.session asked.api_key asked.api_version
+            (head_at setup.now.versions (front self.now.session.unread)) asked.body.now)) }
+        ensures numbered { IfOk result (λ found. IfSome found (λ asked.
+            asked.correlation_id ≡ (head_at setup.now.versions (front self.now.session.unread)).correlation_id)) }
         ensures number { IfOk result (λ found. IfSome found (λ asked. asked.connection ≡ self.now.number)) }
         // none stands in front of one that was shut
         ensures unshut { IfOk result (λ found. IfSome found (λ asked. self.now.session.shut ≡ false)) }
@@ -314,16 +322,17 @@ impl Connection {
         let Next::Frame(frame) = self.unread.next() else {
             return Ok(None);
         };
-        let Request {
-            correlation_id,
-            asked,
-        } = Request::read(alloc, setup.versions().as_slice(), frame.as_slice())?;
+        let Request { head, asked } = Request::read(
+            alloc,
+            setup.versions().as_slice(),
+            frame.as_slice(),
+        )?;
         match asked {
             Asked::Another { key, version, body } => Ok(Some(kb_tenant::Request {
                 connection: self.number,
                 api_key: key,
                 api_version: version,
-                correlation_id,
+                correlation_id: head.correlation_id,
                 body: body.as_slice(),
             })),
             _ => Ok(None),
@@ -332,14 +341,15 @@ impl Connection {
 
     /// Leaves the tenant's request in front behind, and gives the tenant's answer to it. Where the answer is to wait, what it
     /// takes to answer the request is kept until `wake` ends the wait. Where memory is refused it is shut.
-    #[tactic(auto, using(crate::proofs::Answering::gives, crate::proofs::Answering::less_given, crate::proofs::Answering::less_parked, crate::proofs::Answering::free_given, crate::proofs::Answering::puts_given, crate::proofs::Answering::puts_parked))]
+    #[tactic(auto, using(crate::proofs::Answering::gives, crate::proofs::Answering::less_given, crate::proofs::Answering::less_parked, crate::proofs::Answering::free_given, crate::proofs::Answering::puts_given, crate::proofs::Answering::puts_parked, crate::proofs::Answering::stage_kept))]
     pub fn answer(&mut self, alloc: Global, setup: &Setup, answer: Answer) -> Result<(), AllocError>
-        ensures ok { (key version id : ℤ) (body : List ℕ) (reaction : Reacts) → IsAsked setup.now self.old.session key version id body
-            → IsAnswer id reaction answer → OnOk result
-            (self.new ≡ with_session self.old (after_reaction reaction id version body (without_front self.old.session))) }
+        ensures ok { (key version : ℤ) (head : Head) (body : List ℕ) (reaction : Reacts)
+            → IsAsked setup.now self.old.session key version head body → IsAnswer head.correlation_id reaction answer → OnOk result
+            (self.new ≡ with_session self.old (after_reaction reaction head version body (without_front self.old.session))) }
         ensures err { OnErr result (self.new ≡ with_session self.old (shut_down self.old.session)) }
         // whatever the answer is, also where a refusal spoiled it
-        ensures output { OnOk result (self.new.session.output ≡ self.old.session.output ++ spoken answer) }
+        ensures output { (key version : ℤ) (head : Head) (body : List ℕ) → IsAsked setup.now self.old.session key version head body
+            → OnOk result (self.new.session.output ≡ self.old.session.output ++ spoken head answer) }
         ensures number { self.new.number ≡ self.old.number }
         ensures stage { without_wait self.new.session.stage ≡ without_wait self.old.session.stage }
         ensures shrinks { is_tenants_at setup.now.versions (front self.old.session.unread) ≡ true
@@ -352,21 +362,24 @@ impl Connection {
                 self.park(alloc, setup, Some(deadline))
             }
             Answer::Plain(answer) => {
+                let head = self.head_in_front();
                 self.skip(); // it is not handed out again
-                self.give(answer)
+                self.give(head, answer)
             }
         }
     }
 
     /// Gives an answer to the request that waits on it: a reply ends the wait, and no reply leaves it waiting. Where memory is
     /// refused it is shut.
-    #[tactic(auto, using(crate::proofs::Answering::ends, crate::proofs::Answering::tells, crate::proofs::Answering::puts_ending, crate::proofs::Answering::puts_told))]
+    #[tactic(auto, using(crate::proofs::Answering::ends, crate::proofs::Answering::tells, crate::proofs::Answering::puts_ending, crate::proofs::Answering::puts_told, crate::proofs::Answering::stage_ended, crate::proofs::Answering::stage_told, crate::proofs::Answering::stage_loud, crate::proofs::Answering::unread_woken))]
     pub fn wake(&mut self, answer: kb_tenant::Answer) -> Result<(), AllocError>
-        ensures ok { (id : ℤ) (reaction : tenant.Reaction) → tenant.IsAnswer id reaction answer
-            → OnOk result (self.new ≡ with_session self.old (told reaction id self.old.session)) }
+        ensures ok { (t : ℕ) (wait : Wait) (reaction : tenant.Reaction) → self.old.session.stage ≡ BoundTo t (Some wait)
+            → tenant.IsAnswer wait.head.correlation_id reaction answer
+            → OnOk result (self.new ≡ with_session self.old (told reaction wait.head self.old.session)) }
         ensures err { OnErr result (self.new ≡ with_session self.old (shut_down self.old.session)) }
         // whatever the answer is, also where a refusal spoiled it
-        ensures output { OnOk result (self.new.session.output ≡ self.old.session.output ++ spoken (any.Plain answer)) }
+        ensures output { (t : ℕ) (wait : Wait) → self.old.session.stage ≡ BoundTo t (Some wait)
+            → OnOk result (self.new.session.output ≡ self.old.session.output ++ spoken wait.head (any.Plain answer)) }
         ensures number { self.new.number ≡ self.old.number }
         ensures stage { without_wait self.new.session.stage ≡ without_wait self.old.session.stage }
         ensures waits { (self.new.session.stage ≡ self.old.session.stage) ⊎ (self.new.session.stage ≡ without_wait self.old.session.stage) }
@@ -374,10 +387,31 @@ impl Connection {
         ensures ends { is_quiet answer ≡ false → self.new.session.stage ≡ without_wait self.old.session.stage }
         ensures unread { length self.new.session.unread ≤ length self.old.session.unread }
     {
+        let head = self.awaiting_head();
         if let kb_tenant::Answer::Reply(_) = &answer {
             self.stop_waiting(); // the reply ends the wait
         }
-        self.give(answer)
+        self.give(head, answer)
+    }
+
+    /// What is kept for its reply of the request whose answer it waits for.
+    fn awaiting_head(&self) -> Head
+        ensures { (t : ℕ) (wait : Wait) → self.now.session.stage ≡ BoundTo t (Some wait) → result ≡ wait.head }
+    {
+        match &self.stage {
+            Stage::Waits(_, request) => request.head,
+            Stage::Greets(_) | Stage::Bound(_) => NO_HEAD,
+        }
+    }
+
+    /// What of the request in front is kept for its reply.
+    fn head_in_front(&self) -> Head
+        ensures { (versions : List ApiVersion) → result ≡ head_at versions (front self.now.session.unread) }
+    {
+        match self.unread.next() {
+            Next::Frame(frame) => head_of_frame(frame.as_slice()),
+            Next::More | Next::TooSmall | Next::TooLarge => NO_HEAD,
+        }
     }
 
     /// Leaves the request in front behind, and waits for its answer: until the deadline at most, or, without one, until its group
@@ -408,7 +442,7 @@ impl Connection {
     }
 
     /// The request of its tenant that stands in front, to wait for its answer: of one that waits for its group, which has no
-    /// deadline, the correlation id is all that is kept.
+    /// deadline, its head is all that is kept.
     fn request_in_front(
         &self,
         alloc: Global,
@@ -431,7 +465,7 @@ impl Connection {
             None => Awaited::Group,
         };
         Ok(Some(Waiting {
-            correlation_id: request.correlation_id,
+            head: self.head_in_front(),
             awaited,
         }))
     }
@@ -446,15 +480,15 @@ impl Connection {
         }
     }
 
-    /// Does what an answer says, but for a wait. Where memory is refused it is shut.
-    fn give(&mut self, answer: kb_tenant::Answer) -> Result<(), AllocError>
-        ensures ok { OnOk result (self.new ≡ with_session self.old (given answer self.old.session)) }
+    /// Does what an answer to the request of that head says, but for a wait. Where memory is refused it is shut.
+    fn give(&mut self, head: Head, answer: kb_tenant::Answer) -> Result<(), AllocError>
+        ensures ok { OnOk result (self.new ≡ with_session self.old (given head answer self.old.session)) }
         ensures err { OnErr result (self.new ≡ with_session self.old (shut_down self.old.session)) }
         ensures same { is_quiet answer ≡ true → self.new ≡ self.old }
     {
         match answer {
             kb_tenant::Answer::Reply(reply) => {
-                let sent = self.send(reply);
+                let sent = self.send(head, reply);
                 if sent.is_err() {
                     self.shut_down();
                 }
@@ -468,12 +502,15 @@ impl Connection {
         }
     }
 
-    /// Adds a whole reply to the output: it is moved where nothing stands before it. An `Err` leaves everything as it was.
-    fn send(&mut self, reply: Vec<u8>) -> Result<(), AllocError>
-        ensures ok { OnOk result (self.new ≡ with_session self.old
-            (record self.old.session { output = self.old.session.output ++ reply.items })) }
+    /// Sends a tenant's whole reply to the request of that head: its body behind a throttle time where there is to be one, else as it is,
+    /// moved where nothing stands before it. An `Err` leaves everything as it was.
+    fn send(&mut self, head: Head, reply: Vec<u8>) -> Result<(), AllocError>
+        ensures ok { OnOk result (self.new ≡ with_session self.old (given_reply head reply.items self.old.session)) }
         ensures err { OnErr result (self.new ≡ self.old) }
     {
+        if head.is_throttled {
+            return self.reply(head, body_of(&reply));
+        }
         if self.output.is_empty() {
             self.output = reply;
             return Ok(());
@@ -507,15 +544,15 @@ impl Connection {
         &mut self,
         alloc: Global,
         setup: &Setup,
-        reaction: Result<(i32, Reaction), AllocError>,
+        reaction: Result<(Head, Reaction), AllocError>,
     ) -> Result<(), AllocError>
-        ensures ok { OnOk result (IfReacts reaction (λ id what.
-            self.new ≡ with_session self.old (reacted setup.now what id (without_front self.old.session)))) }
+        ensures ok { OnOk result (IfReacts reaction (λ head what.
+            self.new ≡ with_session self.old (reacted setup.now what head (without_front self.old.session)))) }
         ensures err { OnErr result (self.new ≡ with_session self.old (shut_down self.old.session)) }
     {
         self.skip(); // the reaction keeps nothing of it
         let done = match reaction {
-            Ok((correlation_id, reaction)) => self.react(alloc, setup, correlation_id, reaction),
+            Ok((head, reaction)) => self.react(alloc, setup, head, reaction),
             Err(e) => Err(e),
         };
         if done.is_err() {
@@ -529,35 +566,35 @@ impl Connection {
         &mut self,
         alloc: Global,
         setup: &Setup,
-        correlation_id: i32,
+        head: Head,
         reaction: Reaction,
     ) -> Result<(), AllocError>
-        ensures ok { OnOk result (self.new ≡ with_session self.old (reacted setup.now reaction correlation_id self.old.session)) }
+        ensures ok { OnOk result (self.new ≡ with_session self.old (reacted setup.now reaction head self.old.session)) }
         ensures err { OnErr result (self.new ≡ self.old) }
     {
         match reaction {
             Reaction::Versions(code) => {
                 let body = versions_body(alloc, setup.versions(), code)?;
-                self.reply(correlation_id, &body)
+                self.reply(head, &body)
             }
             Reaction::Accepts(greeting) => {
                 let body = handshake_body(alloc, ErrorCode::None)?;
-                self.reply(correlation_id, &body)?;
+                self.reply(head, &body)?;
                 self.stage = Stage::Greets(greeting);
                 Ok(())
             }
             Reaction::Handshake(code) => {
                 let body = handshake_body(alloc, code)?;
-                self.reply(correlation_id, &body)
+                self.reply(head, &body)
             }
             Reaction::IllegalState => {
                 let text = Text::new("illegal SASL state");
                 let body = authenticate_body(alloc, ErrorCode::IllegalSaslState, Some(text))?;
-                self.reply(correlation_id, &body)
+                self.reply(head, &body)
             }
             Reaction::LogsIn(tenant) => {
                 let body = authenticate_body(alloc, ErrorCode::None, None)?;
-                self.reply(correlation_id, &body)?;
+                self.reply(head, &body)?;
                 self.stage = Stage::Bound(tenant);
                 Ok(())
             }
@@ -573,7 +610,7 @@ impl Connection {
                     ErrorCode::SaslAuthenticationFailed,
                     Some(text),
                 )?;
-                self.reply(correlation_id, &body)?;
+                self.reply(head, &body)?;
                 self.shut_down();
                 Ok(())
             }
@@ -584,62 +621,87 @@ impl Connection {
         }
     }
 
-    /// Adds a reply to the output. One whose size fits no INT32 is not sent and shuts the connection. An `Err` leaves
-    /// everything as it was.
+    /// Adds the reply of that head and body to the output. One whose size fits no INT32 is not sent and shuts the connection. An `Err`
+    /// leaves everything as it was.
     #[tactic(auto, unfolding(kb_isolation_spec::specs::Session::replied, kb_tenant::specs::Replies::framed))]
-    fn reply(&mut self, correlation_id: i32, body: &[u8]) -> Result<(), AllocError>
-        ensures ok { OnOk result (self.new ≡ with_session self.old (replied correlation_id body.now self.old.session)) }
+    fn reply(&mut self, head: Head, body: &[u8]) -> Result<(), AllocError>
+        ensures ok { OnOk result (self.new ≡ with_session self.old (replied head body.now self.old.session)) }
         ensures err { OnErr result (self.new ≡ self.old) }
     {
-        if body.len() > REPLY_LIMIT - 4 {
+        if body.len() > REPLY_LIMIT - 4 - throttle_time(head).len() {
             self.shut_down();
             return Ok(());
         }
-        append_reply(&mut self.output, correlation_id, body)
+        append_reply(&mut self.output, head, body)
     }
 }
 
-/// What a greeting connection's frame comes to, under its correlation id: a bare message of PLAIN has none.
+/// What a greeting connection's frame comes to, under its head: a bare message of PLAIN has none.
 fn greeting_reaction(
     alloc: Global,
     setup: &Setup,
     greeting: Greeting,
     frame: &[u8],
-) -> Result<(i32, Reaction), AllocError>
+) -> Result<(Head, Reaction), AllocError>
     ensures { IfOk result (λ done. (s : Session)
         → reacted setup.now done.1 done.0 s ≡ greeted_frame setup.now (greeting_of greeting) frame.now s) }
 {
     if greeting == Greeting::Bare {
-        return Ok((0, Reaction::bare(setup, frame)));
+        return Ok((NO_HEAD, Reaction::bare(setup, frame)));
     }
     let request = Request::read(alloc, setup.versions().as_slice(), frame)?;
     let handshaken = greeting == Greeting::Shaken;
     Ok((
-        request.correlation_id,
+        request.head,
         Reaction::greeting(setup, handshaken, &request.asked),
     ))
 }
 
-/// What a bound connection's request comes to that is no request of its tenant, under its correlation id.
-fn bound_reaction(alloc: Global, setup: &Setup, frame: &[u8]) -> Result<(i32, Reaction), AllocError>
+/// What a bound connection's request comes to that is no request of its tenant, under its head.
+fn bound_reaction(
+    alloc: Global,
+    setup: &Setup,
+    frame: &[u8],
+) -> Result<(Head, Reaction), AllocError>
     ensures { let r = request setup.now.versions frame.now in
         is_tenants r.asked ≡ false → IfOk result (λ done.
         (kept : Kept) (clock n : ℕ) (s : Session)
-        → reacted setup.now done.1 done.0 s ≡ served_by setup.now kept clock n r.correlation_id r.asked s) }
+        → reacted setup.now done.1 done.0 s ≡ served_by setup.now kept clock n r.head r.asked s) }
 {
     let request = Request::read(alloc, setup.versions().as_slice(), frame)?;
-    Ok((request.correlation_id, Reaction::bound(&request.asked)))
+    Ok((request.head, Reaction::bound(&request.asked)))
 }
 
-/// Adds a size, a correlation id and a body, all or nothing.
-fn append_reply(output: &mut Vec<u8>, correlation_id: i32, body: &[u8]) -> Result<(), AllocError>
-    requires { reply_size body.now < 2 ^ 31 }
-    ensures ok { OnOk result (output.new.items ≡ output.old.items ++ framed correlation_id body.now) }
+/// The bytes of a throttle time of 0 milliseconds, an INT32, where the head has one: they stand in front of the reply's body.
+fn throttle_time(head: Head) -> &'static [u8]
+    ensures bytes { (body : List ℕ) → result.now ++ body ≡ throttled head body }
+    ensures short { length result.now ≤ 4 }
+{
+    if head.is_throttled {
+        &[0, 0, 0, 0]
+    } else {
+        &[]
+    }
+}
+
+/// The body of a whole reply: what stands behind its size and its correlation id.
+fn body_of(reply: &[u8]) -> &[u8]
+    ensures { result.now ≡ body_of reply.now }
+{
+    reply.get(8..).unwrap_or_default()
+}
+
+/// Adds a size, a correlation id, a throttle time where the head has one, and a body, all or nothing.
+fn append_reply(output: &mut Vec<u8>, head: Head, body: &[u8]) -> Result<(), AllocError>
+    requires { reply_size (throttled head body.now) < 2 ^ 31 }
+    ensures ok { OnOk result (output.new.items ≡ output.old.items ++ framed head.correlation_id (throttled head body.now)) }
     ensures err { OnErr result (output.new.items ≡ output.old.items) }
 {
-    let size = (4 + body.len()) as i32;
-    output.try_reserve(8 + body.len())?;
+    let throttle_time = throttle_time(head);
+    let size = (4 + throttle_time.len() + body.len()) as i32;
+    output.try_reserve(8 + throttle_time.len() + body.len())?;
     output.extend_from_slice(&size.to_be_bytes())?;
-    output.extend_from_slice(&correlation_id.to_be_bytes())?;
+    output.extend_from_slice(&head.correlation_id.to_be_bytes())?;
+    output.extend_from_slice(throttle_time)?;
     output.extend_from_slice(body)
 }

@@ -15,6 +15,7 @@ mod reaction;
 mod reply;
 mod request;
 mod setup;
+mod version;
 
 pub use connection::{Awaited, Connection, Phase, Waiting};
 pub use greeting::Greeting;

@@ -1,6 +1,7 @@
 //! What a request comes to for its connection.
 
-ghost use Rattle.std.specs.Prelude.{◌≡◌, ℤ, ℕ, false};
+ghost use Rattle.std.specs.Prelude.{◌≡◌, ℕ, false};
+ghost use Rattle.kb_isolation_spec.specs.declared.head.Head.{Head};
 ghost use Rattle.kb_isolation_spec.specs.Session.{Session};
 ghost use Rattle.kb_tenant_api.specs.Hosted.{Kept};
 ghost use Rattle.kb_isolation_spec.specs.Greeting.{Setup, bare_login, greeted_by, login};
@@ -39,7 +40,7 @@ impl Reaction {
     /// What a request of a greeting connection comes to (Kafka protocol guide, "SASL Authentication Sequence").
     #[tactic(auto, unfolding(kb_isolation_spec::specs::Greeting::greeted_by))]
     pub fn greeting(setup: &Setup, handshaken: bool, asked: &Asked<'_>) -> Reaction
-        ensures { (id : ℤ) (s : Session) → reacted setup.now result id s ≡ greeted_by setup.now handshaken id (asked_of asked.now) s }
+        ensures { (head : Head) (s : Session) → reacted setup.now result head s ≡ greeted_by setup.now handshaken head (asked_of asked.now) s }
     {
         match asked {
             Asked::Versions => Reaction::Versions(ErrorCode::None),
@@ -59,7 +60,7 @@ impl Reaction {
 
     /// What a bare message of PLAIN comes to.
     pub fn bare(setup: &Setup, message: &[u8]) -> Reaction
-        ensures { (id : ℤ) (s : Session) → reacted setup.now result id s ≡ bare_login (login setup.now.users message.now) s }
+        ensures { (head : Head) (s : Session) → reacted setup.now result head s ≡ bare_login (login setup.now.users message.now) s }
     {
         match setup.login(message) {
             Some(tenant) => Reaction::LogsInBare(tenant),
@@ -70,8 +71,8 @@ impl Reaction {
     /// What a request of a bound connection comes to that is no request of its tenant.
     #[tactic(auto, unfolding(kb_isolation_spec::specs::Machine::served_by))]
     pub fn bound(asked: &Asked<'_>) -> Reaction
-        ensures { is_tenants (asked_of asked.now) ≡ false → (setup : Setup) (kept : Kept) (clock n : ℕ) (id : ℤ) (s : Session)
-            → reacted setup result id s ≡ served_by setup kept clock n id (asked_of asked.now) s }
+        ensures { is_tenants (asked_of asked.now) ≡ false → (setup : Setup) (kept : Kept) (clock n : ℕ) (head : Head) (s : Session)
+            → reacted setup result head s ≡ served_by setup kept clock n head (asked_of asked.now) s }
     {
         match asked {
             Asked::Versions => Reaction::Versions(ErrorCode::None),

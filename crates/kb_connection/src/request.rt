@@ -5,10 +5,12 @@ ghost use Rattle.kb_api_group.specs.Layouts.{request_header};
 ghost use Rattle.kb_isolation_spec.specs.Requests.{request, asked_by, asked_behind, is_served};
 ghost use Rattle.kb_connection.specs.View.{asked_of, request_of, Reads};
 
+use crate::version::{NO_HEAD, base_of, head_of};
 use kb_api_group::{
     ApiVersion, ApiVersionsRequest, RequestHeader, RequestStart, SaslAuthenticateRequest,
     SaslHandshakeRequest,
 };
+use kb_isolation_spec::Head;
 use kb_wire::{Blob, Layout, ReadFault, Text, api_key};
 use std::alloc::{AllocError, Global};
 
@@ -27,7 +29,7 @@ pub enum Asked<'a> {
     },
     /// SaslAuthenticate: the mechanism's message.
     Authenticate(Blob<'a>),
-    /// Something of a tenant.
+    /// Something of a tenant, in the version that the request's is laid out as.
     Another {
         key: i16,
         version: i16,
@@ -37,10 +39,10 @@ pub enum Asked<'a> {
     Malformed,
 }
 
-/// A request: its correlation id, and what it asks.
+/// A request: what is kept of it for its reply, and what it asks.
 #[derive(Drop)]
 pub struct Request<'a> {
-    pub correlation_id: i32,
+    pub head: Head,
     pub asked: Asked<'a>,
 }
 
@@ -57,7 +59,7 @@ impl<'a> Request<'a> {
     {
         let Ok((start, _)) = RequestStart::read(frame) else {
             return Ok(Request {
-                correlation_id: 0,
+                head: NO_HEAD,
                 asked: Asked::Malformed,
             });
         };
@@ -67,7 +69,7 @@ impl<'a> Request<'a> {
             read_asked(alloc, versions, frame)?
         };
         Ok(Request {
-            correlation_id: start.correlation_id,
+            head: head_of(&start),
             asked,
         })
     }
@@ -94,7 +96,7 @@ fn read_asked<'a>(
     }
 }
 
-/// The body of a request, by its key.
+/// The body of a request, by its key. The tenant is asked in the version that the request's is laid out as.
 fn read_body(alloc: Global, key: i16, version: i16, body: &[u8]) -> Result<Asked<'_>, ReadFault>
     ensures { Reads (asked_by key version body.now) result }
 {
@@ -112,7 +114,7 @@ fn read_body(alloc: Global, key: i16, version: i16, body: &[u8]) -> Result<Asked
         }
         _ => Asked::Another {
             key,
-            version,
+            version: base_of(key, version).version,
             body: Blob::new(body),
         },
     };

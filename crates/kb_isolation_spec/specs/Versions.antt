@@ -1,9 +1,9 @@
 -- Versions that are laid out as an earlier one, but for a throttle time in front of the reply's body.
 --
--- Each is read off the schemas of its API in the Kafka protocol guide, "The Messages", under the heading that stands behind it: the
--- request has the fields of the earlier version's in the same order, and so has the reply, behind a `throttle_time_ms` where the earlier
--- version has none.
-use Rattle.std.specs.Prelude.{ℕ, ℤ, pos, Bool, true, false, ◌&&◌, int_le, if◌then◌else◌}
+-- Each is read off the schemas of its API in the Kafka protocol guide, "The Messages", under the API's name ("JoinGroup API" and so on):
+-- the request has the fields of the earlier version's in the same order, and so has the reply, behind a `throttle_time_ms` where the
+-- earlier version has none.
+use Rattle.std.specs.Prelude.{ℕ, ℤ, pos, List, [], ◌∷◌, Bool, true, false, ◌&&◌, int_le, if◌then◌else◌}
 use Rattle.std.specs.Ordering.{int_eq}
 use Rattle.kb_wire.specs.declared.api_key.TheConstants.{PRODUCE, FETCH, OFFSET_COMMIT, JOIN_GROUP, HEARTBEAT, LEAVE_GROUP, SYNC_GROUP}
 use Rattle.kb_wire.specs.declared.api_key.TheConstants.{CREATE_TOPICS, DELETE_TOPICS, DELETE_RECORDS, INIT_PRODUCER_ID}
@@ -11,33 +11,40 @@ use Rattle.kb_api_group.specs.declared.header.RequestStart.{RequestStart}
 use Rattle.kb_isolation_spec.specs.declared.base.Base.{Base}
 use Rattle.kb_isolation_spec.specs.declared.head.Head.{Head}
 
--- an API's versions from one to another
-abbrev pub is_among : ℤ → ℕ → ℕ → ℤ → ℤ → Bool
-is_among api least greatest key version = int_eq key api && (int_le (pos least) version && int_le version (pos greatest))
+-- an API's key, a least and a greatest version, the version that those between are laid out as, and whether their reply has a throttle
+-- time in front which that version's has not
+abbrev pub Newer : Type 0
+Newer = ℤ × ℤ × ℤ × ℤ × Bool
 
--- laid out as that version, request and reply
-abbrev pub same_as : ℕ → Base
-same_as version = record { version = pos version; is_throttled = false }
+-- versions from one to another that are laid out as that one, request and reply
+abbrev pub same_as : ℤ → ℕ → ℕ → ℕ → Newer
+same_as key least greatest version = (key, pos least, pos greatest, pos version, false)
 
--- laid out as that version, but for a throttle time in front of the reply's body
-abbrev pub throttled_as : ℕ → Base
-throttled_as version = record { version = pos version; is_throttled = true }
+-- the same, but for a throttle time in front of the reply's body
+abbrev pub throttled_as : ℤ → ℕ → ℕ → ℕ → Newer
+throttled_as key least greatest version = (key, pos least, pos greatest, pos version, true)
+
+-- all that there are
+abbrev pub newer_versions : List Newer
+newer_versions =
+    same_as PRODUCE 4 4 3 ∷ same_as FETCH 6 6 5 ∷ throttled_as OFFSET_COMMIT 3 4 2 ∷ throttled_as JOIN_GROUP 2 3 1 ∷
+    throttled_as HEARTBEAT 1 2 0 ∷ throttled_as LEAVE_GROUP 1 2 0 ∷ throttled_as SYNC_GROUP 1 2 0 ∷
+    throttled_as CREATE_TOPICS 2 3 1 ∷ same_as DELETE_TOPICS 2 3 1 ∷ same_as DELETE_RECORDS 1 1 0 ∷
+    same_as INIT_PRODUCER_ID 1 1 0 ∷ []
+
+-- whether a version of an API is one of those
+abbrev pub is_among : ℤ → ℤ → Newer → Bool
+is_among key version newer = int_eq newer.0 key && (int_le newer.1 version && int_le version newer.2)
+
+-- what a version is laid out as: as the first says that has it, or as itself
+abbrev pub base_among : List Newer → ℤ → ℤ → Base
+base_among [] key version = record { version = version; is_throttled = false }
+base_among (newer ∷ others) key version =
+    if is_among key version newer then record { version = newer.3; is_throttled = newer.4 } else base_among others key version
 
 -- the version that a version of an API is laid out as
 unfoldable pub base_of : ℤ → ℤ → Base
-base_of key version =
-    if is_among PRODUCE 4 4 key version then same_as 3  -- "Produce API"
-    else if is_among FETCH 6 6 key version then same_as 5  -- "Fetch API"
-    else if is_among OFFSET_COMMIT 3 4 key version then throttled_as 2  -- "OffsetCommit API"
-    else if is_among JOIN_GROUP 2 3 key version then throttled_as 1  -- "JoinGroup API"
-    else if is_among HEARTBEAT 1 2 key version then throttled_as 0  -- "Heartbeat API"
-    else if is_among LEAVE_GROUP 1 2 key version then throttled_as 0  -- "LeaveGroup API"
-    else if is_among SYNC_GROUP 1 2 key version then throttled_as 0  -- "SyncGroup API"
-    else if is_among CREATE_TOPICS 2 3 key version then throttled_as 1  -- "CreateTopics API"
-    else if is_among DELETE_TOPICS 2 3 key version then same_as 1  -- "DeleteTopics API"
-    else if is_among DELETE_RECORDS 1 1 key version then same_as 0  -- "DeleteRecords API"
-    else if is_among INIT_PRODUCER_ID 1 1 key version then same_as 0  -- "InitProducerId API"
-    else record { version = version; is_throttled = false }
+base_of key version = base_among newer_versions key version
 
 -- what of a request is kept for its reply
 abbrev pub head_of : RequestStart → Head

@@ -16,10 +16,10 @@ type Visit = (&'static [&'static str], &'static str, bool);
 
 /// What stock clients are listed, and behind it what a user is told who is let in.
 const STOCK_LET_IN: &str =
-    "00000076 00000001 0000 00000012 0000 0003 0003 0001 0004 0005 0002 0001 0001 0003 0000 0004 \
-    0008 0002 0002 0009 0001 0001 000a 0000 0000 000b 0001 0001 000c 0000 0000 000d 0000 0000 \
-    000e 0000 0000 0011 0000 0001 0012 0000 0000 0013 0000 0001 0014 0000 0001 0015 0000 0000 \
-    0016 0000 0000 0024 0000 0000 offered welcome";
+    "00000076 00000001 0000 00000012 0000 0003 0004 0001 0004 0006 0002 0001 0001 0003 0000 0004 \
+    0008 0002 0004 0009 0001 0001 000a 0000 0000 000b 0001 0003 000c 0000 0002 000d 0000 0002 \
+    000e 0000 0002 0011 0000 0001 0012 0000 0000 0013 0000 0003 0014 0000 0003 0015 0000 0001 \
+    0016 0000 0001 0024 0000 0000 offered welcome";
 
 /// SaslHandshake of `PLAIN` at version 0, behind which the message of PLAIN comes as a frame of its own.
 const OLD_HANDSHAKE: &str = "00000011 0011 0000 00000002 ffff 0005 504c41494e";
@@ -144,7 +144,7 @@ const SESSION: [Visit; 5] = [
         &[
             "handshake",
             "ann",
-            "00000024 0013 0002 0000000a ffff 00000001 0001 74 00000001 0001 00000000 00000000 00001388 00",
+            "00000024 0013 0004 0000000a ffff 00000001 0001 74 00000001 0001 00000000 00000000 00001388 00",
         ],
         "offered welcome",
         true,
@@ -153,16 +153,183 @@ const SESSION: [Visit; 5] = [
         &[
             "handshake",
             "ann",
-            "00000015 0014 0002 0000000d ffff 00000001 0001 74 00001388",
+            "00000015 0014 0004 0000000d ffff 00000001 0001 74 00001388",
         ],
         "offered welcome",
         true,
     ),
 ];
 
+/// JoinGroup of version 2, and of version 4, which is above the greatest that is listed.
+const NEWER_JOIN: &str = "00000031 000b 0002 00000028 ffff 0001 67 00002710 00004e20 0000 0008 \
+    636f6e73756d6572 00000001 0005 72616e6765 00000001 01";
+
+const NEWEST_JOIN: &str = "00000031 000b 0004 00000028 ffff 0001 67 00002710 00004e20 0000 0008 \
+    636f6e73756d6572 00000001 0005 72616e6765 00000001 01";
+
+/// What the two connections ask, and what each gets then.
+type Step = ([&'static str; 2], [&'static str; 2]);
+
+/// Versions that are laid out as an earlier one, but for a throttle time in front of the reply: CreateTopics 2 and 3, Produce 4, Fetch 6,
+/// InitProducerId 1, JoinGroup 2 and 3, Heartbeat, SyncGroup and LeaveGroup 1 and 2, OffsetCommit 3 and 4, DeleteRecords 1, and DeleteTopics
+/// 2 and 3. The second member's join waits until the first has joined again, and its sync until the leader's has come: their replies begin
+/// with a throttle time too.
+const NEWER: [Step; 17] = [
+    (
+        [
+            "00000024 0013 0002 0000000a ffff 00000001 0001 74 00000001 0001 00000000 00000000 \
+    00001388 00",
+            "",
+        ],
+        ["00000013 0000000a 00000000 00000001 0001 74 0000 ffff", ""],
+    ),
+    (
+        [
+            "0000006b 0000 0004 00000014 ffff ffff 0001 000003e8 00000001 0001 74 00000001 \
+    00000000 00000046 \
+    00000000000000000000003affffffff0271a3af2c00000000000000000000000000050000000000\
+    000005ffffffffffffffffffffffffffff00000001100000000104686900",
+            "",
+        ],
+        ["appended-0", ""],
+    ),
+    (
+        [
+            "0000003e 0001 0006 00000047 ffff ffffffff 00000000 00000001 00100000 00 00000001 \
+    0001 74 00000001 00000000 0000000000000000 ffffffffffffffff 00100000",
+            "",
+        ],
+        ["fetched-5-hi", ""],
+    ),
+    (
+        ["00000010 0016 0001 00000046 ffff ffff 00001388", ""],
+        ["00000014 00000046 00000000 0000 0000000000000000 0000", ""],
+    ),
+    (
+        [
+            "00000031 000b 0002 00000028 ffff 0001 67 00002710 00004e20 0000 0008 \
+    636f6e73756d6572 00000001 0005 72616e6765 00000001 01",
+            "",
+        ],
+        [
+            "0000002d 00000028 00000000 0000 00000001 0005 72616e6765 0003 6d2d31 0003 6d2d31 \
+    00000001 0003 6d2d31 00000001 01",
+            "",
+        ],
+    ),
+    (
+        [
+            "",
+            "00000031 000b 0003 00000028 ffff 0001 67 00002710 00004e20 0000 0008 \
+    636f6e73756d6572 00000001 0005 72616e6765 00000001 02",
+        ],
+        ["", ""],
+    ),
+    (
+        [
+            "00000016 000c 0001 0000002a ffff 0001 67 00000001 0003 6d2d31",
+            "",
+        ],
+        ["0000000a 0000002a 00000000 001b", ""],
+    ),
+    (
+        [
+            "00000034 000b 0002 00000028 ffff 0001 67 00002710 00004e20 0003 6d2d31 0008 \
+    636f6e73756d6572 00000001 0005 72616e6765 00000001 01",
+            "",
+        ],
+        [
+            "00000037 00000028 00000000 0000 00000002 0005 72616e6765 0003 6d2d31 0003 6d2d31 \
+    00000002 0003 6d2d31 00000001 01 0003 6d2d32 00000001 02",
+            "00000023 00000028 00000000 0000 00000002 0005 72616e6765 0003 6d2d31 0003 6d2d32 \
+    00000000",
+        ],
+    ),
+    (
+        [
+            "",
+            "0000001a 000e 0002 00000029 ffff 0001 67 00000002 0003 6d2d32 00000000",
+        ],
+        ["", ""],
+    ),
+    (
+        [
+            "0000002e 000e 0001 00000029 ffff 0001 67 00000002 0003 6d2d31 00000002 0003 6d2d31 \
+    00000001 aa 0003 6d2d32 00000001 bb",
+            "",
+        ],
+        [
+            "0000000f 00000029 00000000 0000 00000001 aa",
+            "0000000f 00000029 00000000 0000 00000001 bb",
+        ],
+    ),
+    (
+        [
+            "",
+            "00000016 000c 0002 0000002a ffff 0001 67 00000002 0003 6d2d32",
+        ],
+        ["", "0000000a 0000002a 00000000 0000"],
+    ),
+    (
+        [
+            "00000037 0008 0003 0000003c ffff 0001 67 00000002 0003 6d2d31 ffffffffffffffff \
+    00000001 0001 74 00000001 00000000 0000000000000001 ffff",
+            "00000037 0008 0004 0000003c ffff 0001 67 00000002 0003 6d2d32 ffffffffffffffff \
+    00000001 0001 74 00000001 00000000 0000000000000001 ffff",
+        ],
+        [
+            "00000019 0000003c 00000000 00000001 0001 74 00000001 00000000 0000",
+            "00000019 0000003c 00000000 00000001 0001 74 00000001 00000000 0000",
+        ],
+    ),
+    (
+        [
+            "00000012 000d 0001 0000002b ffff 0001 67 0003 6d2d31",
+            "00000012 000d 0002 0000002b ffff 0001 67 0003 6d2d32",
+        ],
+        [
+            "0000000a 0000002b 00000000 0000",
+            "0000000a 0000002b 00000000 0000",
+        ],
+    ),
+    (
+        [
+            "00000025 0015 0001 00000046 ffff 00000001 0001 74 00000001 00000000 0000000000000001 \
+    000003e8",
+            "",
+        ],
+        [
+            "00000021 00000046 00000000 00000001 0001 74 00000001 00000000 0000000000000001 0000",
+            "",
+        ],
+    ),
+    (
+        [
+            "00000015 0014 0002 0000000d ffff 00000001 0001 74 00001388",
+            "",
+        ],
+        ["00000011 0000000d 00000000 00000001 0001 74 0000", ""],
+    ),
+    (
+        [
+            "00000024 0013 0003 0000000a ffff 00000001 0001 74 00000001 0001 00000000 00000000 \
+    00001388 00",
+            "",
+        ],
+        ["00000013 0000000a 00000000 00000001 0001 74 0000 ffff", ""],
+    ),
+    (
+        [
+            "00000015 0014 0003 0000000d ffff 00000001 0001 74 00001388",
+            "",
+        ],
+        ["00000011 0000000d 00000000 00000001 0001 74 0000", ""],
+    ),
+];
+
 /// Connections to a broker of one version each: a handshake of version 0 shuts, and one of version 2. So do the versions that only
 /// stock clients are listed.
-const PLAIN_VISITS: [Visit; 6] = [
+const PLAIN_VISITS: [Visit; 7] = [
     (&[OLD_HANDSHAKE], "", true),
     (
         &["00000011 0011 0002 00000002 ffff 0005 504c41494e"],
@@ -173,6 +340,7 @@ const PLAIN_VISITS: [Visit; 6] = [
     (&["handshake", "ann", METADATA_4], "offered welcome", true),
     (&["handshake", "ann", MAKE_T], "offered welcome", true),
     (&["handshake", "ann", DELETE_T], "offered welcome", true),
+    (&["handshake", "ann", NEWER_JOIN], "offered welcome", true),
 ];
 
 /// Each connection comes in turn, and gets what it is to get. Its pieces come cut to at most so many bytes.
@@ -217,6 +385,18 @@ fn come(
     assert!(rt; last < u64::MAX);
     opens(rt, alloc, broker, last + 1)?;
     Ok(last + 1)
+}
+
+/// A new connection of ann's.
+fn let_in(
+    rt: &impl Abort,
+    alloc: Global,
+    broker: &mut Broker<MemoryStore>,
+) -> Result<u64, AllocError> {
+    let number = come(rt, alloc, broker)?;
+    sends(rt, alloc, broker, number, &["handshake", "ann"], usize::MAX)?;
+    gets(rt, alloc, broker, number, "offered welcome")?;
+    Ok(number)
 }
 
 /// Pieces come on a connection, each cut to at most so many bytes.
@@ -282,6 +462,30 @@ fn stock_clients(rt: HostRuntime) -> Result<(), Fail> {
     let mut broker = opened(rt.alloc(), &settings, Listing::StockClients)?;
     are_visited_by_pieces(&rt, rt.alloc(), &mut broker, &STOCK)?;
     Ok(are_visited_by_pieces(&rt, rt.alloc(), &mut broker, &SESSION)?)
+}
+
+#[test]
+fn versions_with_a_throttle_time(rt: HostRuntime) -> Result<(), Fail> {
+    let settings = Settings::standard(rt.alloc())?;
+    let mut broker = opened(rt.alloc(), &settings, Listing::StockClients)?;
+    let one = let_in(&rt, rt.alloc(), &mut broker)?;
+    let two = let_in(&rt, rt.alloc(), &mut broker)?;
+    for ([asks_one, asks_two], [gets_one, gets_two]) in &NEWER {
+        sends(&rt, rt.alloc(), &mut broker, one, &[asks_one], usize::MAX)?;
+        sends(&rt, rt.alloc(), &mut broker, two, &[asks_two], usize::MAX)?;
+        gets(&rt, rt.alloc(), &mut broker, one, gets_one)?;
+        gets(&rt, rt.alloc(), &mut broker, two, gets_two)?;
+    }
+    sends(
+        &rt,
+        rt.alloc(),
+        &mut broker,
+        one,
+        &[NEWEST_JOIN],
+        usize::MAX,
+    )?;
+    assert!(rt; broker.shut(one));
+    Ok(())
 }
 
 #[test]

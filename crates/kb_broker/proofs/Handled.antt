@@ -19,6 +19,7 @@ use Rattle.kb_tenant_api.specs.Hosted as hosted
 use Rattle.kb_tenant.specs.Replies.{Silent}
 use Rattle.kb_isolation_spec.specs.Tenant.{Awaited, Records, Group, Wait, ready, ready_for}
 use Rattle.kb_isolation_spec.specs.Greeting.{User}
+use Rattle.kb_isolation_spec.specs.Versions.{no_head}
 use Rattle.kb_isolation_spec.specs.Machine.{Happening, Comes, Moment, Line, find_line, first_able, stepped, turns, work}
 use Rattle.kb_isolation_spec.specs.Owners.{whose}
 use Rattle.kb_isolation_spec.specs.Calls.{left_by}
@@ -386,7 +387,7 @@ work-refused H b c i l m us st h r = work-put b i l m c.lines h.at (lines-counte
 
 -- a connection of a tenant on which a member waits
 abbrev pub member_at : ℕ → Stage
-member_at t = BoundTo t (Some (record { correlation_id = pos 0; awaited = Group }))
+member_at t = BoundTo t (Some (record { head = no_head; awaited = Group }))
 
 -- a member waits no longer on a connection of a tenant, as a call for the tenant
 left-turn : (clock n t : ℕ) (ts : List TenantState) → IsTurn t (Unit {0}) ts (left_by clock n (member_at t) ts)

@@ -5,6 +5,7 @@ use Rattle.kb_tenant.specs.declared.answer.Answer.{Answer as Plain}
 use Rattle.kb_tenant_api.specs.Hosted.{Kept, TenantState, kept_of}
 use Rattle.kb_tenant_api.specs.declared.answer.Answer.{Answer}
 use Rattle.kb_tenant_api.specs.declared.answer.Answer.TheVariants as any
+use Rattle.kb_isolation_spec.specs.declared.head.Head.{Head}
 use Rattle.kb_isolation_spec.specs.Greeting.{Setup, greeted}
 use Rattle.kb_isolation_spec.specs.Machine.{Line, after_turn}
 use Rattle.kb_isolation_spec.specs.Session.{Greeting, Stage, Greets, BoundTo, Session, shut_down}
@@ -16,8 +17,8 @@ use Rattle.kb_broker.specs.Places.{IsLookAnswer, IsPutOut, IsToldAgain, IsToldAt
 -- 1. What is put out
 
 -- a connection that was shut has no answer, whichever was meant for it
-pub put-shut : (answer : Answer) (l m : Line) → m ≡ with_session l (shut_down l.session) → IsPutOut answer l.session m.session
-put-shut answer l m is = inr (ap (λ (x : Line). x.session) is)
+pub put-shut : (head : Head) (answer : Answer) (l m : Line) → m ≡ with_session l (shut_down l.session) → IsPutOut head answer l.session m.session
+put-shut head answer l m is = inr (ap (λ (x : Line). x.session) is)
 
 -- 2. A request's answer
 
@@ -26,7 +27,7 @@ module _ (failed : Type 0) (full : ℕ → Type 0) (setup : Setup) (clock n t : 
   pub told-shut : (l m : Line) → m ≡ with_session l (shut_down l.session)
       → IsToldAt failed full setup clock n (BoundTo t None) ts ts l.session m.session
   told-shut l m is = record {
-    asked = λ key version id body asks. inr (refl, ap (λ (x : Line). x.session) is);
+    asked = λ key version head body asks. inr (refl, ap (λ (x : Line). x.session) is);
     own = λ own. inr (ap (λ (x : Line). x.session) is);
     stays = λ own. refl;
   }
@@ -35,21 +36,21 @@ module _ (failed : Type 0) (full : ℕ → Type 0) (setup : Setup) (clock n t : 
   pub told-own : (l m : Line) → IsOwn setup l.session → m ≡ with_session l (after_turn setup (kept_of ts t) clock n l.session)
       → IsToldAt failed full setup clock n (BoundTo t None) ts ts l.session m.session
   told-own l m own is = record {
-    asked = λ key version id body asks. let no : true ≡ false = sym asks.tenants ∙ own.own in absurd (cc);
+    asked = λ key version head body asks. let no : true ≡ false = sym asks.tenants ∙ own.own in absurd (cc);
     own = λ owns. inl (ap (λ (x : Line). x.session) is);
     stays = λ owns. refl;
   }
 
   -- only one request stands in front
-  pub told-asked : (us : List TenantState) (s r : Session) (key version id : ℤ) (body : List ℕ) (touched : List TopicPartition)
-      (answer : Answer) → IsAsked setup s key version id body
-      → IsTrueAnswer failed (full t) setup.node clock n key version id body (kept_of ts t) (kept_of us t) touched answer
-      → IsPutOut answer s r → IsToldAt failed full setup clock n (BoundTo t None) ts us s r
-  told-asked us s r key version id body touched answer asked is_true put_out = record {
-    asked = λ key' version' id' body' asks.
-        let both : Some (id, key, version, body) ≡ Some (id', key', version', body') = sym asked.asked ∙ asks.asked in
-        let same : (id, key, version, body) ≡ (id', key', version', body') = cc in
-        let Told : ℤ × ℤ × ℤ × List ℕ → Type 0 =
+  pub told-asked : (us : List TenantState) (s r : Session) (key version : ℤ) (head : Head) (body : List ℕ) (touched : List TopicPartition)
+      (answer : Answer) → IsAsked setup s key version head body
+      → IsTrueAnswer failed (full t) setup.node clock n key version head.correlation_id body (kept_of ts t) (kept_of us t) touched answer
+      → IsPutOut head answer s r → IsToldAt failed full setup clock n (BoundTo t None) ts us s r
+  told-asked us s r key version head body touched answer asked is_true put_out = record {
+    asked = λ key' version' head' body' asks.
+        let both : Some (head, key, version, body) ≡ Some (head', key', version', body') = sym asked.asked ∙ asks.asked in
+        let same : (head, key, version, body) ≡ (head', key', version', body') = cc in
+        let Told : Head × ℤ × ℤ × List ℕ → Type 0 =
         λ q. IsToldTruth failed (full t) setup.node clock n q.1 q.2 q.0 q.3 (kept_of ts t) (kept_of us t) s r in
         inl (subst Told same (record { answer = answer; touched = touched; is_true = is_true; put_out = put_out }));
     own = λ own. let no : true ≡ false = sym asked.tenants ∙ own.own in absurd (cc);
@@ -74,12 +75,12 @@ pub told-counted : (failed : Type 0) (before after : ℕ → ℕ) (setup : Setup
     → IsToldAt failed (λ u. 2 ^ 63 ≤ before u + 1) setup clock n (BoundTo t None) ts us s r
     → IsToldAt failed (λ u. 2 ^ 63 ≤ after u + 1) setup clock n (BoundTo t None) ts vs s r
 told-counted failed before after setup clock n t ts us vs s r commands stays told = record {
-  asked = λ key version id body asks.
+  asked = λ key version head body asks.
       let Told : ℕ → Kept → Type 0 =
-      λ commands l. IsToldTruth failed (2 ^ 63 ≤ commands + 1) setup.node clock n key version id body (kept_of ts t) l s r
+      λ commands l. IsToldTruth failed (2 ^ 63 ≤ commands + 1) setup.node clock n key version head body (kept_of ts t) l s r
       ⊎ IsUnasked (kept_of ts t) l s r in
       subst (λ count. Told count (kept_of vs t)) (sym (commands t))
-      (subst (λ l. Told (before t) l) (sym (stays t)) (told.asked key version id body asks));
+      (subst (λ l. Told (before t) l) (sym (stays t)) (told.asked key version head body asks));
   own = told.own;
   stays = λ own. stays t ∙ told.stays own;
 }
@@ -96,7 +97,7 @@ member-answered clock n t ts us w answer (inr (inr refused)) = λ members.
 
 -- what waited was told
 pub again-told : (failed : Type 0) (clock n t : ℕ) (ts : List TenantState) (st : Stage) (w : Wait) (s r : Session) (answer : Plain)
-    → st ≡ BoundTo t (Some w) → TellsAwaited failed w.correlation_id clock (kept_of ts t) w.awaited answer
-    → TellsMember clock n (kept_of ts t) w answer → IsPutOut (any.Plain answer) s r → IsToldAgain failed clock n st ts s r
+    → st ≡ BoundTo t (Some w) → TellsAwaited failed w.head.correlation_id clock (kept_of ts t) w.awaited answer
+    → TellsMember clock n (kept_of ts t) w answer → IsPutOut w.head (any.Plain answer) s r → IsToldAgain failed clock n st ts s r
 again-told failed clock n t ts st w s r answer waits told member put_out =
     subst (λ x. IsToldAgain failed clock n x ts s r) (sym waits) (inr (answer, (told, (member, put_out))))

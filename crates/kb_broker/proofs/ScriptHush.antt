@@ -5,8 +5,9 @@ use Rattle.std.specs.Prelude.{codes}
 use Rattle.kb_api_group.specs.Frames.{Front, Whole, Partial, TooSmall, TooLarge, front}
 use Rattle.kb_wire.specs.declared.error_code.ErrorCode.TheVariants as errors
 use Rattle.kb_tenant.specs.Replies.{reply_size}
+use Rattle.kb_isolation_spec.specs.declared.head.Head.{Head}
 use Rattle.kb_isolation_spec.specs.Requests.{Asked, Versions, OtherVersions, Handshake, Authenticate, Another, Malformed, request}
-use Rattle.kb_isolation_spec.specs.Session.{Greeting, Unshaken, Shaken, Bare, Stage, Greets, BoundTo, Session, shut_down, replied, fed, room}
+use Rattle.kb_isolation_spec.specs.Session.{Greeting, Unshaken, Shaken, Bare, Stage, Greets, BoundTo, Session, shut_down, replied, throttled, fed, room}
 use Rattle.kb_isolation_spec.specs.Greeting.{Setup, authenticate_reply, login, logged_in, bare_login, greeting_after, shaken, authenticated, greeted_by, greeted_frame, greeted_at, greeted}
 use Rattle.kb_isolation_spec.specs.Machine.{Happening, Opens, Comes, Closes, Moment, Line, again}
 use Rattle.kb_isolation_spec.specs.Owners.{greet_turn_at, greet_turn, heard, whose, destiny, Pairwise}
@@ -27,44 +28,44 @@ replied_by : (b : Bool) (x y s t : Session) → Same s t → Same x y → Same (
 replied_by true x y s t e f = same-shut s t e
 replied_by false x y s t e f = f
 
-same-replied : (id : ℤ) (body : List ℕ) (s t : Session) → Same s t → Same (replied id body s) (replied id body t)
+same-replied : (head : Head) (body : List ℕ) (s t : Session) → Same s t → Same (replied head body s) (replied head body t)
 unfolding replied
-same-replied id body s t e = replied_by (nat_lt 2147483647 (reply_size body)) _ _ s t e e
+same-replied head body s t e = replied_by (nat_lt 2147483647 (reply_size (throttled head body))) _ _ s t e e
 
 same-stage : (st : Stage) (s t : Session) → Same s t → Same (record s { stage = st }) (record t { stage = st })
 same-stage st s t e = ap (λ (x : Session). record x { stage = st }) e
 
-same-shaken : (b : Bool) (id version : ℤ) (s t : Session) → Same s t → Same (shaken b id version s) (shaken b id version t)
-same-shaken true id version s t e = same-replied id _ _ _ (same-stage (Greets (greeting_after version)) s t e)
-same-shaken false id version s t e = same-replied id _ s t e
+same-shaken : (b : Bool) (head : Head) (version : ℤ) (s t : Session) → Same s t → Same (shaken b head version s) (shaken b head version t)
+same-shaken true head version s t e = same-replied head _ _ _ (same-stage (Greets (greeting_after version)) s t e)
+same-shaken false head version s t e = same-replied head _ s t e
 
-same-denied : (id : ℤ) (body : List ℕ) (s t : Session) → Same s t → Same (shut_down (replied id body s)) (shut_down (replied id body t))
-same-denied id body s t e = same-shut (replied id body s) (replied id body t) (same-replied id body s t e)
+same-denied : (head : Head) (body : List ℕ) (s t : Session) → Same s t → Same (shut_down (replied head body s)) (shut_down (replied head body t))
+same-denied head body s t e = same-shut (replied head body s) (replied head body t) (same-replied head body s t e)
 
-same-logged_in : (o : Option ℕ) (id : ℤ) (s t : Session) → Same s t → Same (logged_in o id s) (logged_in o id t)
-same-logged_in (Some u) id s t e = same-replied id _ _ _ (same-stage (BoundTo u None) s t e)
-same-logged_in None id s t e = same-denied id (authenticate_reply errors.SaslAuthenticationFailed (Some (codes "authentication failed"))) s t e
+same-logged_in : (o : Option ℕ) (head : Head) (s t : Session) → Same s t → Same (logged_in o head s) (logged_in o head t)
+same-logged_in (Some u) head s t e = same-replied head _ _ _ (same-stage (BoundTo u None) s t e)
+same-logged_in None head s t e = same-denied head (authenticate_reply errors.SaslAuthenticationFailed (Some (codes "authentication failed"))) s t e
 
-same-authenticated : (setup : Setup) (h : Bool) (id : ℤ) (message : List ℕ) (s t : Session) → Same s t → Same (authenticated setup h id message s) (authenticated setup h id message t)
-same-authenticated setup true id message s t e = same-logged_in (login setup.users message) id s t e
-same-authenticated setup false id message s t e = same-replied id _ s t e
+same-authenticated : (setup : Setup) (h : Bool) (head : Head) (message : List ℕ) (s t : Session) → Same s t → Same (authenticated setup h head message s) (authenticated setup h head message t)
+same-authenticated setup true head message s t e = same-logged_in (login setup.users message) head s t e
+same-authenticated setup false head message s t e = same-replied head _ s t e
 
-same-greeted_by : (setup : Setup) (h : Bool) (id : ℤ) (a : Asked) (s t : Session) → Same s t → Same (greeted_by setup h id a s) (greeted_by setup h id a t)
+same-greeted_by : (setup : Setup) (h : Bool) (head : Head) (a : Asked) (s t : Session) → Same s t → Same (greeted_by setup h head a s) (greeted_by setup h head a t)
 unfolding greeted_by
-same-greeted_by setup h id Versions s t e = same-replied id _ s t e
-same-greeted_by setup h id OtherVersions s t e = same-replied id _ s t e
-same-greeted_by setup h id (Handshake version mechanism) s t e = same-shaken (bytes_eq mechanism (codes "PLAIN")) id version s t e
-same-greeted_by setup h id (Authenticate message) s t e = same-authenticated setup h id message s t e
-same-greeted_by setup h id (Another key version body) s t e = same-shut s t e
-same-greeted_by setup h id Malformed s t e = same-shut s t e
+same-greeted_by setup h head Versions s t e = same-replied head _ s t e
+same-greeted_by setup h head OtherVersions s t e = same-replied head _ s t e
+same-greeted_by setup h head (Handshake version mechanism) s t e = same-shaken (bytes_eq mechanism (codes "PLAIN")) head version s t e
+same-greeted_by setup h head (Authenticate message) s t e = same-authenticated setup h head message s t e
+same-greeted_by setup h head (Another key version body) s t e = same-shut s t e
+same-greeted_by setup h head Malformed s t e = same-shut s t e
 
 same-bare_login : (o : Option ℕ) (s t : Session) → Same s t → Same (bare_login o s) (bare_login o t)
 same-bare_login (Some u) s t e = same-stage (BoundTo u None) s t e
 same-bare_login None s t e = same-shut s t e
 
 same-greeted_frame : (setup : Setup) (h : Greeting) (frame : List ℕ) (s t : Session) → Same s t → Same (greeted_frame setup h frame s) (greeted_frame setup h frame t)
-same-greeted_frame setup Unshaken frame s t e = let r = request setup.versions frame in same-greeted_by setup false r.correlation_id r.asked s t e
-same-greeted_frame setup Shaken frame s t e = let r = request setup.versions frame in same-greeted_by setup true r.correlation_id r.asked s t e
+same-greeted_frame setup Unshaken frame s t e = let r = request setup.versions frame in same-greeted_by setup false r.head r.asked s t e
+same-greeted_frame setup Shaken frame s t e = let r = request setup.versions frame in same-greeted_by setup true r.head r.asked s t e
 same-greeted_frame setup Bare frame s t e = same-bare_login (login setup.users frame) s t e
 
 same-greeted_at : (setup : Setup) (h : Greeting) (f : Front) (s t : Session) → Same s t → Same (greeted_at setup h s f) (greeted_at setup h t f)

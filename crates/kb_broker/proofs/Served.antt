@@ -22,6 +22,7 @@ use Rattle.kb_tenant_api.specs.Replies.{Reaction, Plain, Rebalances, IsAnswer}
 use Rattle.kb_tenant_api.specs.declared.answer.Answer.{Answer}
 use Rattle.kb_tenant_api.specs.declared.answer.Answer.TheVariants as answers
 use Rattle.kb_tenant.specs.declared.node.Node.{Node}
+use Rattle.kb_isolation_spec.specs.declared.head.Head.{Head}
 use Rattle.kb_isolation_spec.specs.Tenant.{Awaited, Wait, Records, Group, answer, asked, kept_after}
 use Rattle.kb_isolation_spec.specs.Requests as requests
 use Rattle.kb_api_group.specs.declared.api_versions.ApiVersion.{ApiVersion}
@@ -65,17 +66,17 @@ owned-shut l new o is = owned-none new.session.stage o (ap (λ (x : Line). is_fr
 pub dated-none : (o : Option queue.Wait) (st : Stage) → o ≡ None → is_free st ≡ true → until_of o ≡ deadline_at st
 dated-none o st none free = ap until_of none ∙ sym (deadline-free st free)
 
-own_by : (setup : Setup) (kept : Kept) (clock n : ℕ) (id : ℤ) (a : Asked) (s : Session) → is_tenants a ≡ false → is_free s.stage ≡ true → is_free (served_by setup kept clock n id a s).stage ≡ true
+own_by : (setup : Setup) (kept : Kept) (clock n : ℕ) (head : Head) (a : Asked) (s : Session) → is_tenants a ≡ false → is_free s.stage ≡ true → is_free (served_by setup kept clock n head a s).stage ≡ true
 unfolding served_by
-own_by setup kept clock n id Versions s own free = free-replied id _ s free
-own_by setup kept clock n id OtherVersions s own free = free-replied id _ s free
-own_by setup kept clock n id (Handshake version mechanism) s own free = free-replied id _ s free
-own_by setup kept clock n id (Authenticate message) s own free = free-replied id _ s free
-own_by setup kept clock n id (Another key version body) s own free = let no : true ≡ false = own in absurd (cc)
-own_by setup kept clock n id Malformed s own free = free-without s.stage
+own_by setup kept clock n head Versions s own free = free-replied head _ s free
+own_by setup kept clock n head OtherVersions s own free = free-replied head _ s free
+own_by setup kept clock n head (Handshake version mechanism) s own free = free-replied head _ s free
+own_by setup kept clock n head (Authenticate message) s own free = free-replied head _ s free
+own_by setup kept clock n head (Another key version body) s own free = let no : true ≡ false = own in absurd (cc)
+own_by setup kept clock n head Malformed s own free = free-without s.stage
 
 own_at : (setup : Setup) (kept : Kept) (clock n : ℕ) (s : Session) (f : Front) → is_tenants_at setup.versions f ≡ false → is_free s.stage ≡ true → is_free (served_at setup kept clock n s f).stage ≡ true
-own_at setup kept clock n s (Whole frame rest) own free = let r = requests.request setup.versions frame in own_by setup kept clock n r.correlation_id r.asked (record s { unread = rest }) own free
+own_at setup kept clock n s (Whole frame rest) own free = let r = requests.request setup.versions frame in own_by setup kept clock n r.head r.asked (record s { unread = rest }) own free
 own_at setup kept clock n s TooSmall own free = free-without s.stage
 own_at setup kept clock n s TooLarge own free = free-without s.stage
 own_at setup kept clock n s Partial own free = free
@@ -139,26 +140,26 @@ pub parked-gone : (q p x : Queue) (t m n : ℕ) (r : Answer) → IsParkedBy q p 
 parked-gone q p x t m n r parked number gone k ne = gone k (λ e. ne (e ∙ number)) ∙ parked.others k ne
 
 -- where the connection stands in the queue, it waits until then
-dated-waiting : (t : ℕ) (st : Stage) (id : ℤ) (awaited : Awaited) → st ≡ BoundTo t None → deadline_at (waiting (record { correlation_id = id; awaited = awaited }) st) ≡ Some (until awaited)
-dated-waiting t st id awaited e = ap (λ x. deadline_at (waiting (record { correlation_id = id; awaited = awaited }) x)) e
+dated-waiting : (t : ℕ) (st : Stage) (head : Head) (awaited : Awaited) → st ≡ BoundTo t None → deadline_at (waiting (record { head = head; awaited = awaited }) st) ≡ Some (until awaited)
+dated-waiting t st head awaited e = ap (λ x. deadline_at (waiting (record { head = head; awaited = awaited }) x)) e
 
-pub dated-answered : {A E : Type 0} (setup : Setup) (result : Result A E) (q p : Queue) (t n : ℕ) (l new : Line) (r : Answer) (key version id : ℤ) (body : List ℕ) → IsParkedBy q p t n r → l.session.stage ≡ BoundTo t None → IsAsked setup l.session key version id body
-    → ((key version id : ℤ) (body : List ℕ) (reaction : Reaction) → IsAsked setup l.session key version id body → IsAnswer id reaction r → OnOk result (new ≡ with_session l (after_reaction reaction id version body (without_front l.session))))
+pub dated-answered : {A E : Type 0} (setup : Setup) (result : Result A E) (q p : Queue) (t n : ℕ) (l new : Line) (r : Answer) (key version : ℤ) (head : Head) (body : List ℕ) → IsParkedBy q p t n r → l.session.stage ≡ BoundTo t None → IsAsked setup l.session key version head body
+    → ((key version : ℤ) (head : Head) (body : List ℕ) (reaction : Reaction) → IsAsked setup l.session key version head body → IsAnswer head.correlation_id reaction r → OnOk result (new ≡ with_session l (after_reaction reaction head version body (without_front l.session))))
     → (is_wait r ≡ false → is_free l.session.stage ≡ true → is_free new.session.stage ≡ true) → is_err result ≡ false → until_of (fin.get p n) ≡ deadline_at new.session.stage
-dated-answered setup result q p t n l new r key version id body parked bound asks ok free good = ap until_of parked.own ∙ by r ok free
+dated-answered setup result q p t n l new r key version head body parked bound asks ok free good = ap until_of parked.own ∙ by r ok free
   where
-    by : (r : Answer) → ((key version id : ℤ) (body : List ℕ) (reaction : Reaction) → IsAsked setup l.session key version id body → IsAnswer id reaction r → OnOk result (new ≡ with_session l (after_reaction reaction id version body (without_front l.session))))
+    by : (r : Answer) → ((key version : ℤ) (head : Head) (body : List ℕ) (reaction : Reaction) → IsAsked setup l.session key version head body → IsAnswer head.correlation_id reaction r → OnOk result (new ≡ with_session l (after_reaction reaction head version body (without_front l.session))))
         → (is_wait r ≡ false → is_free l.session.stage ≡ true → is_free new.session.stage ≡ true) → until_of (parked_for t r) ≡ deadline_at new.session.stage
     by (answers.Plain (plain.Reply reply)) ok free = sym (deadline-free new.session.stage (free refl (ap is_free bound)))
     by (answers.Plain (plain.Wait deadline places)) ok free =
         let reaction : Reaction = Plain (Waits deadline places.items) in
-        let is = from_ok result false (new ≡ with_session l (after_reaction reaction id version body (without_front l.session))) (sym good) refl (ok key version id body reaction asks (refl, refl)) in
-        sym (ap (λ (x : Line). deadline_at x.session.stage) is ∙ dated-waiting t l.session.stage id (Records version body deadline) bound)
+        let is = from_ok result false (new ≡ with_session l (after_reaction reaction head version body (without_front l.session))) (sym good) refl (ok key version head body reaction asks (refl, refl)) in
+        sym (ap (λ (x : Line). deadline_at x.session.stage) is ∙ dated-waiting t l.session.stage head (Records version body deadline) bound)
     by (answers.Plain plain.NoReply) ok free = sym (deadline-free new.session.stage (free refl (ap is_free bound)))
     by (answers.Plain plain.Shut) ok free = sym (deadline-free new.session.stage (free refl (ap is_free bound)))
     by answers.Rebalance ok free =
-        let is = from_ok result false (new ≡ with_session l (after_reaction Rebalances id version body (without_front l.session))) (sym good) refl (ok key version id body Rebalances asks tt) in
-        sym (ap (λ (x : Line). deadline_at x.session.stage) is ∙ dated-waiting t l.session.stage id Group bound)
+        let is = from_ok result false (new ≡ with_session l (after_reaction Rebalances head version body (without_front l.session))) (sym good) refl (ok key version head body Rebalances asks tt) in
+        sym (ap (λ (x : Line). deadline_at x.session.stage) is ∙ dated-waiting t l.session.stage head Group bound)
 
 -- and it stands there under its tenant
 owned-by : (t deadline : ℕ) (places : List TopicPartition) (st : Stage) (o : Option queue.Wait) → o ≡ Some (record { deadline = deadline; keys = keys_for t places }) → without_wait st ≡ BoundTo t None → IsOwnedAt st o
@@ -191,37 +192,37 @@ keyed-calm us t n (BoundTo u (Some w)) o e k = λ calm silent. let is : u ≡ t 
 keyed-waiting : (us : List TenantState) (t n : ℕ) (st : Stage) (w : Wait) (o : Option queue.Wait) → st ≡ BoundTo t None → places_of o ≡ Some (keys_for t (asked (kept_of us t) w)) → IsKeyedAt us n (waiting w st) o
 keyed-waiting us t n st w o bound is = subst (λ x. IsKeyedAt us n (waiting w x) o) (sym bound) (λ calm silent. is)
 
-keyed-by : (node : Node) (us : List TenantState) (t clock n : ℕ) (k : Kept) (key version id : ℤ) (body : List ℕ) (s : Session) (is : Reaction) (r : Answer) → answer node k clock n key version body ≡ is → kept_of us t ≡ kept_after node k clock n key version body → s.stage ≡ BoundTo t None
-    → IsAnswer id is r → IsKeyedAt us n (after_reaction is id version body s).stage (parked_for t r)
-keyed-by node us t clock n k key version id body s (Plain (Replies reply)) r e kept bound told = keyed-none us n _ (parked_for t r) (free-replied id reply s (ap is_free bound))
-keyed-by node us t clock n k key version id body s (Plain (Waits deadline places)) (answers.Plain (plain.Reply reply)) e kept bound told = absurd told
-keyed-by node us t clock n k key version id body s (Plain (Waits deadline places)) (answers.Plain (plain.Wait late parts)) e kept bound told =
-    let w : Wait = record { correlation_id = id; awaited = Records version body deadline } in
+keyed-by : (node : Node) (us : List TenantState) (t clock n : ℕ) (k : Kept) (key version : ℤ) (head : Head) (body : List ℕ) (s : Session) (is : Reaction) (r : Answer) → answer node k clock n key version body ≡ is → kept_of us t ≡ kept_after node k clock n key version body → s.stage ≡ BoundTo t None
+    → IsAnswer head.correlation_id is r → IsKeyedAt us n (after_reaction is head version body s).stage (parked_for t r)
+keyed-by node us t clock n k key version head body s (Plain (Replies reply)) r e kept bound told = keyed-none us n _ (parked_for t r) (free-replied head reply s (ap is_free bound))
+keyed-by node us t clock n k key version head body s (Plain (Waits deadline places)) (answers.Plain (plain.Reply reply)) e kept bound told = absurd told
+keyed-by node us t clock n k key version head body s (Plain (Waits deadline places)) (answers.Plain (plain.Wait late parts)) e kept bound told =
+    let w : Wait = record { head = head; awaited = Records version body deadline } in
     keyed-waiting us t n s.stage w (parked_for t (answers.Plain (plain.Wait late parts))) bound
-    (ap (λ ps. Some (keys_for t ps)) (told.1 ∙ (asked-parks node k clock n key version body deadline places id e ∙ ap (λ x. asked x w) (sym kept))))
-keyed-by node us t clock n k key version id body s (Plain (Waits deadline places)) (answers.Plain plain.NoReply) e kept bound told = absurd told
-keyed-by node us t clock n k key version id body s (Plain (Waits deadline places)) (answers.Plain plain.Shut) e kept bound told = absurd told
-keyed-by node us t clock n k key version id body s (Plain (Waits deadline places)) answers.Rebalance e kept bound told = absurd told
-keyed-by node us t clock n k key version id body s (Plain Silent) r e kept bound told = keyed-none us n _ (parked_for t r) (ap is_free bound)
-keyed-by node us t clock n k key version id body s (Plain Shuts) r e kept bound told = keyed-none us n _ (parked_for t r) (free-without s.stage)
-keyed-by node us t clock n k key version id body s Rebalances (answers.Plain a) e kept bound told = absurd told
-keyed-by node us t clock n k key version id body s Rebalances answers.Rebalance e kept bound told =
-    keyed-waiting us t n s.stage (record { correlation_id = id; awaited = Group }) (parked_for t answers.Rebalance) bound (ap (λ ps. Some (keys_for t ps)) (sym (asked-group (kept_of us t) id)))
+    (ap (λ ps. Some (keys_for t ps)) (told.1 ∙ (asked-parks node k clock n key version body deadline places head e ∙ ap (λ x. asked x w) (sym kept))))
+keyed-by node us t clock n k key version head body s (Plain (Waits deadline places)) (answers.Plain plain.NoReply) e kept bound told = absurd told
+keyed-by node us t clock n k key version head body s (Plain (Waits deadline places)) (answers.Plain plain.Shut) e kept bound told = absurd told
+keyed-by node us t clock n k key version head body s (Plain (Waits deadline places)) answers.Rebalance e kept bound told = absurd told
+keyed-by node us t clock n k key version head body s (Plain Silent) r e kept bound told = keyed-none us n _ (parked_for t r) (ap is_free bound)
+keyed-by node us t clock n k key version head body s (Plain Shuts) r e kept bound told = keyed-none us n _ (parked_for t r) (free-without s.stage)
+keyed-by node us t clock n k key version head body s Rebalances (answers.Plain a) e kept bound told = absurd told
+keyed-by node us t clock n k key version head body s Rebalances answers.Rebalance e kept bound told =
+    keyed-waiting us t n s.stage (record { head = head; awaited = Group }) (parked_for t answers.Rebalance) bound (ap (λ ps. Some (keys_for t ps)) (sym (asked-group (kept_of us t) head)))
 
 -- the connection that was answered stands in the queue under what it asks
-pub keyed-answered : (H : Type 0) → H → (setup : Setup) (t clock n : ℕ) (ts us : List TenantState) (l new : Line) (key version id : ℤ) (body : List ℕ) (r : Answer) (o : Option queue.Wait) → l.session.stage ≡ BoundTo t None → IsSpent l.session new.session → IsAsked setup l.session key version id body → IsTurn t H ts us
-    → IsMet t H ts us (λ k m. (m ≡ kept_after setup.node k clock n key version body) × IsAnswer id (answer setup.node k clock n key version body) r)
-    → ((key version id : ℤ) (body : List ℕ) (reaction : Reaction) → IsAsked setup l.session key version id body → IsAnswer id reaction r → new ≡ with_session l (after_reaction reaction id version body (without_front l.session)))
+pub keyed-answered : (H : Type 0) → H → (setup : Setup) (t clock n : ℕ) (ts us : List TenantState) (l new : Line) (key version : ℤ) (head : Head) (body : List ℕ) (r : Answer) (o : Option queue.Wait) → l.session.stage ≡ BoundTo t None → IsSpent l.session new.session → IsAsked setup l.session key version head body → IsTurn t H ts us
+    → IsMet t H ts us (λ k m. (m ≡ kept_after setup.node k clock n key version body) × IsAnswer head.correlation_id (answer setup.node k clock n key version body) r)
+    → ((key version : ℤ) (head : Head) (body : List ℕ) (reaction : Reaction) → IsAsked setup l.session key version head body → IsAnswer head.correlation_id reaction r → new ≡ with_session l (after_reaction reaction head version body (without_front l.session)))
     → o ≡ parked_for t r → IsKeyedAt us n new.session.stage o
-keyed-answered H honest setup t clock n ts us l new key version id body r o bound spent asks turn meets ok parked =
+keyed-answered H honest setup t clock n ts us l new key version head body r o bound spent asks turn meets ok parked =
     keyed-calm us t n new.session.stage o (spent.stage t None bound ∙ ap without_wait bound)
     (λ none.
     let up = turn.grows t in
     let before : refusals_of ts t ≡ 0 = omega (arith, none, up) in
     let done = meets honest (record { same = none ∙ sym before; below = grind (arith, nat_tests, before) }) in
-    let is = ok key version id body (answer setup.node (kept_of ts t) clock n key version body) asks done.1 in
+    let is = ok key version head body (answer setup.node (kept_of ts t) clock n key version body) asks done.1 in
     subst (IsKeyedAt us n new.session.stage) (sym parked)
-    (subst (λ (x : Line). IsKeyedAt us n x.session.stage (parked_for t r)) (sym is) (keyed-by setup.node us t clock n (kept_of ts t) key version id body (without_front l.session) (answer setup.node (kept_of ts t) clock n key version body) r refl done.0 bound done.1)))
+    (subst (λ (x : Line). IsKeyedAt us n x.session.stage (parked_for t r)) (sym is) (keyed-by setup.node us t clock n (kept_of ts t) key version head body (without_front l.session) (answer setup.node (kept_of ts t) clock n key version body) r refl done.0 bound done.1)))
 
 -- 4. Whom a turn concerns
 

@@ -13,6 +13,7 @@ use Rattle.kb_tenant.specs.Replies.{Replies, Waits, Silent, Shuts}
 use Rattle.kb_tenant.specs.declared.answer.Answer.{Answer as Plain}
 use Rattle.kb_tenant_api.specs.Replies.{Reaction, Rebalances, IsAnswer, told_to}
 use Rattle.kb_tenant_api.specs.declared.answer.Answer.TheVariants as group
+use Rattle.kb_isolation_spec.specs.declared.head.Head.{Head}
 use Rattle.kb_isolation_spec.specs.Stranded.{IsMembersAt}
 use Rattle.kb_tenant_api.specs.Serve.{Outcome, IsOutcome, has_released, served}
 use Rattle.kb_tenant_api.specs.declared.answer.Answer.{Answer}
@@ -61,11 +62,11 @@ answered-now node k l clock n id key version body touched r h =
     (ap (λ w. kept_in w l.groups) h.0 ∙ ap (kept_in o.world) h.1, h.3)
 
 -- what stands in front was asked, and answered so: the connection is the machine's
-pub asked-now : (setup : Setup) (clock n : ℕ) (k m : Kept) (l new : Line) (key version id : ℤ) (body : List ℕ) (r : Answer) → IsAsked setup l.session key version id body → m ≡ kept_after setup.node k clock n key version body → IsAnswer id (answer setup.node k clock n key version body) r
-    → ((key' version' id' : ℤ) (body' : List ℕ) (reaction : Reaction) → IsAsked setup l.session key' version' id' body' → IsAnswer id' reaction r → new ≡ with_session l (after_reaction reaction id' version' body' (without_front l.session)))
+pub asked-now : (setup : Setup) (clock n : ℕ) (k m : Kept) (l new : Line) (key version : ℤ) (head : Head) (body : List ℕ) (r : Answer) → IsAsked setup l.session key version head body → m ≡ kept_after setup.node k clock n key version body → IsAnswer head.correlation_id (answer setup.node k clock n key version body) r
+    → ((key' version' : ℤ) (head' : Head) (body' : List ℕ) (reaction : Reaction) → IsAsked setup l.session key' version' head' body' → IsAnswer head'.correlation_id reaction r → new ≡ with_session l (after_reaction reaction head' version' body' (without_front l.session)))
     → (new.session ≡ served_by_turn setup k clock n l.session) × (m ≡ put setup k clock n l.session.unread)
-asked-now setup clock n k m l new key version id body r asked kept told ok =
-    let is = ok key version id body (answer setup.node k clock n key version body) asked told in
+asked-now setup clock n k m l new key version head body r asked kept told ok =
+    let is = ok key version head body (answer setup.node k clock n key version body) asked told in
     (ap (λ (x : Line). x.session) is ∙ sym (asked.served k clock n), kept ∙ sym (asked.put k clock n))
 
 -- where nothing was refused, and nobody's group answered it, only a fetch that asks a touched partition may have become ready
@@ -157,23 +158,23 @@ spent-greeted (Ok x) setup h l new greets able ok err =
 spent-greeted (Err x) setup h l new greets able ok err = spent-shut l new able err
 
 -- a member more waits on the connection only where the connection waits for its group then
-pub member-told : (t : ℕ) (l new : Line) (r : Answer) (id version : ℤ) (body : List ℕ) (P : Type 0) → l.session.stage ≡ BoundTo t None → (r ≡ group.Rebalance → new ≡ with_session l (after_reaction Rebalances id version body (without_front l.session))) → (r ≡ group.Rebalance) ⊎ P → IsMembersAt t new.session.stage ⊎ P
-member-told t l new r id version body P bound is (inl e) = inl (subst (λ (x : Line). IsMembersAt t x.session.stage) (sym (is e)) (subst (λ st. IsMembersAt t (waiting (record { correlation_id = id; awaited = Group }) st)) (sym bound) (refl, refl)))
-member-told t l new r id version body P bound is (inr p) = inr p
+pub member-told : (t : ℕ) (l new : Line) (r : Answer) (head : Head) (version : ℤ) (body : List ℕ) (P : Type 0) → l.session.stage ≡ BoundTo t None → (r ≡ group.Rebalance → new ≡ with_session l (after_reaction Rebalances head version body (without_front l.session))) → (r ≡ group.Rebalance) ⊎ P → IsMembersAt t new.session.stage ⊎ P
+member-told t l new r head version body P bound is (inl e) = inl (subst (λ (x : Line). IsMembersAt t x.session.stage) (sym (is e)) (subst (λ st. IsMembersAt t (waiting (record { head = head; awaited = Group }) st)) (sym bound) (refl, refl)))
+member-told t l new r head version body P bound is (inr p) = inr p
 
 -- 3. A look at a waiting request
 
 -- what the tenant answers to it is what the machine tells
 met-looked : {A E : Type 0} (H : Type 0) → H → (result : Result A E) (clock t : ℕ) (ts us : List TenantState) (l new : Line) (w : Wait) (r : Plain) → l.session.stage ≡ BoundTo t (Some w)
-    → IsMet t H ts us (λ k m. (m ≡ k) × plain.IsAnswer w.correlation_id (ready k clock l.number w) r)
-    → ((id : ℤ) (reaction : plain.Reaction) → plain.IsAnswer id reaction r → OnOk result (new ≡ with_session l (told reaction id l.session)))
+    → IsMet t H ts us (λ k m. (m ≡ k) × plain.IsAnswer w.head.correlation_id (ready k clock l.number w) r)
+    → ((tenant : ℕ) (x : Wait) (reaction : plain.Reaction) → l.session.stage ≡ BoundTo tenant (Some x) → plain.IsAnswer x.head.correlation_id reaction r → OnOk result (new ≡ with_session l (told reaction x.head l.session)))
     → IsCalm (refusals_of ts t) (refusals_of us t) → OnOk result (new.session ≡ woken (kept_of ts t) clock l.number l.session)
 unfolding woken_by
 met-looked H honest (Err x) clock t ts us l new w r stage meets ok calm = tt
 met-looked H honest (Ok x) clock t ts us l new w r stage meets ok calm =
     let k = kept_of ts t in
     let done = meets honest calm in
-    let is = ok w.correlation_id (ready k clock l.number w) done.1 in
+    let is = ok t w (ready k clock l.number w) stage done.1 in
     ap (λ (x : Line). x.session) is ∙ sym (ap (woken_by k clock l.number l.session) stage)
 
 calm-by : (x y : ℕ) {P : Type 0} (b : Bool) → (eqb y x && nat_lt x END) ≡ b → (IsCalm x y → P) → ((IsCalm x y → ⊥) → P) → P
@@ -196,8 +197,8 @@ refused-answer t clock n ts us w answers.Shut fetch loud ends =
 
 -- a look leaves the connection as its answer says
 pub looked-ok : {A E : Type 0} (H : Type 0) (result : Result A E) (whom : Whom) (clock t : ℕ) (ts us : List TenantState) (l new : Line) (w : Wait) (r : Plain) → l.session.stage ≡ BoundTo t (Some w) → IsLookedFor whom clock t w → IsTurn t H ts us
-    → (H → (u : ℕ) → kept_of us u ≡ kept_of ts u) → IsMet t H ts us (λ k m. (m ≡ k) × plain.IsAnswer w.correlation_id (ready k clock l.number w) r) → (H → IsLookAnswer t clock l.number ts us w r)
-    → ((id : ℤ) (reaction : plain.Reaction) → plain.IsAnswer id reaction r → OnOk result (new ≡ with_session l (told reaction id l.session)))
+    → (H → (u : ℕ) → kept_of us u ≡ kept_of ts u) → IsMet t H ts us (λ k m. (m ≡ k) × plain.IsAnswer w.head.correlation_id (ready k clock l.number w) r) → (H → IsLookAnswer t clock l.number ts us w r)
+    → ((tenant : ℕ) (x : Wait) (reaction : plain.Reaction) → l.session.stage ≡ BoundTo tenant (Some x) → plain.IsAnswer x.head.correlation_id reaction r → OnOk result (new ≡ with_session l (told reaction x.head l.session)))
     → new.number ≡ l.number → without_wait new.session.stage ≡ without_wait l.session.stage → length new.session.unread ≤ length l.session.unread
     → (is_quiet r ≡ false → new.session.stage ≡ without_wait l.session.stage)
     → is_err result ≡ false → IsLookedAt H whom clock l.session.stage ts us l new
@@ -221,11 +222,11 @@ looked-ok H result whom clock t ts us l new w r stage yours turn stays meets say
     unready-met : (b : BrokerState) (t : ℕ) (w : Wait) (l new : Line) → l.session.stage ≡ BoundTo t (Some w) → new.session ≡ woken (kept_of b.tenants t) b.clock l.number l.session → IsUnready AnyWait b l.number new.session.stage
     unready-met b t w l new stage is = subst (λ (s : Session). IsUnready AnyWait b l.number s.stage) (sym is) (unready-woken AnyWait b l.number l.session t w stage)
 
-    is-of : (reaction : plain.Reaction) → plain.IsAnswer w.correlation_id reaction r → new ≡ with_session l (told reaction w.correlation_id l.session)
-    is-of reaction answers = from_ok result false (new ≡ with_session l (told reaction w.correlation_id l.session)) (sym good) refl (ok w.correlation_id reaction answers)
+    is-of : (reaction : plain.Reaction) → plain.IsAnswer w.head.correlation_id reaction r → new ≡ with_session l (told reaction w.head l.session)
+    is-of reaction answers = from_ok result false (new ≡ with_session l (told reaction w.head l.session)) (sym good) refl (ok t w reaction stage answers)
 
     is-shut : r ≡ answers.Shut → new ≡ with_session l (shut_down l.session)
-    is-shut e = is-of Shuts (subst (plain.IsAnswer w.correlation_id Shuts) (sym e) tt)
+    is-shut e = is-of Shuts (subst (plain.IsAnswer w.head.correlation_id Shuts) (sym e) tt)
 
     is-told : H → IsLookAnswer t clock l.number ts us w r
     is-told honest = says honest
@@ -245,7 +246,7 @@ looked-ok H result whom clock t ts us l new w r stage yours turn stays meets say
         alike : w ≡ x
         alike = let both : BoundTo t (Some w) ≡ BoundTo t (Some x) = sym stage ∙ at in cc
 
-        told-stage : (reaction : plain.Reaction) → ready (kept_of ts t) clock l.number w ≡ reaction → plain.IsAnswer w.correlation_id reaction r → (new.session.stage ≡ l.session.stage) ⊎ (ready (kept_of ts t) clock l.number w ≡ Silent → ⊥)
+        told-stage : (reaction : plain.Reaction) → ready (kept_of ts t) clock l.number w ≡ reaction → plain.IsAnswer w.head.correlation_id reaction r → (new.session.stage ≡ l.session.stage) ⊎ (ready (kept_of ts t) clock l.number w ≡ Silent → ⊥)
         told-stage (Replies reply) e answers = inr (λ none. let no : Replies reply ≡ Silent = sym e ∙ none in absurd (cc))
         told-stage (Waits deadline places) e answers = inl (ap (λ (x : Line). x.session.stage) (is-of (Waits deadline places) answers))
         told-stage Silent e answers = inl (ap (λ (x : Line). x.session.stage) (is-of Silent answers))
@@ -284,13 +285,13 @@ looked-err H whom clock t ts us vs l new w stage yours first then stays again co
         alike : w ≡ x
         alike = let both : BoundTo t (Some w) ≡ BoundTo t (Some x) = sym stage ∙ at in cc
 
-        silent : (a : Plain) → plain.IsAnswer w.correlation_id Silent a → is_quiet a ≡ true
+        silent : (a : Plain) → plain.IsAnswer w.head.correlation_id Silent a → is_quiet a ≡ true
         silent (answers.Reply reply) h = absurd h
         silent (answers.Wait deadline places) h = absurd h
         silent answers.NoReply h = refl
         silent answers.Shut h = absurd h
 
-        told-stage : (reaction : plain.Reaction) → ready (kept_of ts t) clock l.number w ≡ reaction → plain.IsAnswer w.correlation_id reaction r → (new.session.stage ≡ l.session.stage) ⊎ (ready (kept_of ts t) clock l.number w ≡ Silent → ⊥)
+        told-stage : (reaction : plain.Reaction) → ready (kept_of ts t) clock l.number w ≡ reaction → plain.IsAnswer w.head.correlation_id reaction r → (new.session.stage ≡ l.session.stage) ⊎ (ready (kept_of ts t) clock l.number w ≡ Silent → ⊥)
         told-stage (Replies reply) e h = inr (λ none. let no : Replies reply ≡ Silent = sym e ∙ none in absurd (cc))
         told-stage (Waits deadline places) e h = inr (λ none. let no : Waits deadline places ≡ Silent = sym e ∙ none in absurd (cc))
         told-stage Silent e h = inl (ap (λ (y : Line). y.session.stage) (quiet (silent r h)))

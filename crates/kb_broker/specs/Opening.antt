@@ -49,15 +49,16 @@ served_versions =
     at_version CREATE_TOPICS 0 ∷ at_version DELETE_TOPICS 0 ∷ at_version DELETE_RECORDS 0 ∷
     at_version INIT_PRODUCER_ID 0 ∷ at_version SASL_AUTHENTICATE 0 ∷ []
 
--- the same, but Metadata from 0 to 4, and SaslHandshake, CreateTopics and DeleteTopics from 0 to 1
+-- the same, but Metadata from 0 to 4, SaslHandshake from 0 to 1, CreateTopics and DeleteTopics from 0, and each API up to the last version
+-- that is laid out as one of these, but for a throttle time
 abbrev pub stock_versions : List ApiVersion
 stock_versions =
-    at_version PRODUCE 3 ∷ between FETCH 4 5 ∷ at_version LIST_OFFSETS 1 ∷ between METADATA 0 4 ∷
-    at_version OFFSET_COMMIT 2 ∷ at_version OFFSET_FETCH 1 ∷ at_version FIND_COORDINATOR 0 ∷
-    at_version JOIN_GROUP 1 ∷ at_version HEARTBEAT 0 ∷ at_version LEAVE_GROUP 0 ∷ at_version SYNC_GROUP 0 ∷
+    between PRODUCE 3 4 ∷ between FETCH 4 6 ∷ at_version LIST_OFFSETS 1 ∷ between METADATA 0 4 ∷
+    between OFFSET_COMMIT 2 4 ∷ at_version OFFSET_FETCH 1 ∷ at_version FIND_COORDINATOR 0 ∷
+    between JOIN_GROUP 1 3 ∷ between HEARTBEAT 0 2 ∷ between LEAVE_GROUP 0 2 ∷ between SYNC_GROUP 0 2 ∷
     between SASL_HANDSHAKE 0 1 ∷ at_version API_VERSIONS 0 ∷
-    between CREATE_TOPICS 0 1 ∷ between DELETE_TOPICS 0 1 ∷ at_version DELETE_RECORDS 0 ∷
-    at_version INIT_PRODUCER_ID 0 ∷ at_version SASL_AUTHENTICATE 0 ∷ []
+    between CREATE_TOPICS 0 3 ∷ between DELETE_TOPICS 0 3 ∷ between DELETE_RECORDS 0 1 ∷
+    between INIT_PRODUCER_ID 0 1 ∷ at_version SASL_AUTHENTICATE 0 ∷ []
 
 -- the versions that are listed
 abbrev pub listed : Listing → List ApiVersion

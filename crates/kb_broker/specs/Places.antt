@@ -21,6 +21,7 @@ use Rattle.kb_tenant_api.specs.declared.answer.Answer.{Answer as AnyAnswer}
 use Rattle.kb_tenant_api.specs.declared.answer.Answer.TheVariants as any
 use Rattle.kb_tenant_api.specs.Serve.{served, AreGroupsAfter}
 use Rattle.kb_tenant_api.specs.Waiters.{AreServed}
+use Rattle.kb_isolation_spec.specs.declared.head.Head.{Head}
 use Rattle.kb_isolation_spec.specs.Stranded.{IsMembersAt, members_of}
 use Rattle.kb_isolation_spec.specs.Tenant.{Awaited, Group, Records, Wait, is_members, ready}
 use Rattle.kb_isolation_spec.specs.Session.{Stage, Greets, BoundTo, Session, shut_down, without_wait, is_free, can}
@@ -143,7 +144,7 @@ TellsAwaited failed id clock kept Group a = ⊤
 abbrev pub IsLookAnswer : ℕ → ℕ → ℕ → List TenantState → List TenantState → Wait → Answer → Type 0
 IsLookAnswer t clock n old new w a =
     let told = ready (hosted.kept_of old t) clock n w in
-    IsAnswer w.correlation_id told a
+    IsAnswer w.head.correlation_id told a
     ⊎ (((a ≡ answers.Shut) × (is_members w.awaited ≡ true → told ≡ Silent → ⊥)) ⊎ IsRefusedReply t old new w a)
 
 -- a member that waits on the connection l waits on, or was answered by its group
@@ -192,9 +193,9 @@ pub record IsOneMore (i : ℕ) (old new : BrokerState) : Type 0 where
 abbrev pub IsDoneOrShut : Session → Session → Session → Type 0
 IsDoneOrShut defined s r = (r ≡ defined) ⊎ (r ≡ shut_down s)
 
--- what an answer says stands behind the output of a connection; or the connection was shut
-abbrev pub IsPutOut : AnyAnswer → Session → Session → Type 0
-IsPutOut answer s r = (r.output ≡ s.output ++ spoken answer) ⊎ (r ≡ shut_down s)
+-- what an answer to the request of that head says stands behind the output of a connection; or the connection was shut
+abbrev pub IsPutOut : Head → AnyAnswer → Session → Session → Type 0
+IsPutOut head answer s r = (r.output ≡ s.output ++ spoken head answer) ⊎ (r ≡ shut_down s)
 
 -- The answer to a request of a tenant, which had kept k and keeps l, is the truth of its topics; and its groups are those that the request
 -- makes, or those of before without the last replies, and then the connection is shut.
@@ -204,12 +205,12 @@ pub record IsTrueAnswer (failed full : Type 0) (node : Node) (clock n : ℕ) (ke
   pub groups : AreGroupsAfter k.groups (served node k.world clock k.groups n key version body).groups answer l.groups
 
 -- The request of a tenant, which had kept k and keeps l, was answered the truth: that was put out behind what s had, which left r.
-pub record IsToldTruth (failed full : Type 0) (node : Node) (clock n : ℕ) (key version id : ℤ) (body : List ℕ) (k l : Kept)
+pub record IsToldTruth (failed full : Type 0) (node : Node) (clock n : ℕ) (key version : ℤ) (head : Head) (body : List ℕ) (k l : Kept)
     (s r : Session) : Type 0 where
   pub answer : AnyAnswer
   pub touched : List TopicPartition
-  pub is_true : IsTrueAnswer failed full node clock n key version id body k l touched answer
-  pub put_out : IsPutOut answer s r
+  pub is_true : IsTrueAnswer failed full node clock n key version head.correlation_id body k l touched answer
+  pub put_out : IsPutOut head answer s r
 
 -- nothing was asked, as memory to read the request was refused: the tenant keeps what it kept, and the connection was shut
 abbrev pub IsUnasked : Kept → Kept → Session → Session → Type 0
@@ -218,8 +219,8 @@ IsUnasked k l s r = (l ≡ k) × (r ≡ shut_down s)
 -- The turn of a bound connection, whatever was refused in it: the tenant's request in front of it is told the truth; any other is the
 -- connection's own matter, and comes to what is defined, or shuts it, and what the tenant keeps stays.
 pub record IsToldBound (failed full : Type 0) (setup : Setup) (clock n : ℕ) (k l : Kept) (s r : Session) : Type 0 where
-  pub asked : (key version id : ℤ) (body : List ℕ) → IsAsked setup s key version id body
-      → IsToldTruth failed full setup.node clock n key version id body k l s r ⊎ IsUnasked k l s r
+  pub asked : (key version : ℤ) (head : Head) (body : List ℕ) → IsAsked setup s key version head body
+      → IsToldTruth failed full setup.node clock n key version head body k l s r ⊎ IsUnasked k l s r
   pub own : IsOwn setup s → IsDoneOrShut (after_turn setup k clock n s) s r
   pub stays : IsOwn setup s → l ≡ k
 
@@ -231,7 +232,7 @@ IsToldAt failed full setup clock n (BoundTo tenant wait) old new s r =
 
 -- The answer to a member that waits for its group on the connection of number n is what the group told it, or the connection is shut.
 abbrev pub TellsMember : ℕ → ℕ → Kept → Wait → Answer → Type 0
-TellsMember clock n kept w a = is_members w.awaited ≡ true → IsAnswer w.correlation_id (ready kept clock n w) a ⊎ (a ≡ answers.Shut)
+TellsMember clock n kept w a = is_members w.awaited ≡ true → IsAnswer w.head.correlation_id (ready kept clock n w) a ⊎ (a ≡ answers.Shut)
 
 -- A look at what waits on the connection of number n, whatever was refused in it: it waits on; or what was put out has of each partition
 -- what is defined, or the code of what refused it, and a member is told what its group told it.
@@ -239,5 +240,5 @@ abbrev pub IsToldAgain : Type 0 → ℕ → ℕ → Stage → List TenantState �
 IsToldAgain failed clock n (Greets handshaken) old s r = r ≡ s
 IsToldAgain failed clock n (BoundTo tenant None) old s r = r ≡ s
 IsToldAgain failed clock n (BoundTo tenant (Some w)) old s r = (r ≡ s) ⊎ ((answer : Answer)
-    × (TellsAwaited failed w.correlation_id clock (hosted.kept_of old tenant) w.awaited answer
-    × (TellsMember clock n (hosted.kept_of old tenant) w answer × IsPutOut (any.Plain answer) s r)))
+    × (TellsAwaited failed w.head.correlation_id clock (hosted.kept_of old tenant) w.awaited answer
+    × (TellsMember clock n (hosted.kept_of old tenant) w answer × IsPutOut w.head (any.Plain answer) s r)))

@@ -10,6 +10,7 @@ ghost use Rattle.kb_tenant_api.specs.Replies.{Reaction, IsAnswer};
 ghost use Rattle.kb_tenant_api.specs.declared.answer.Answer.TheVariants as any;
 ghost use Rattle.kb_tenant.specs.Replies as plain;
 ghost use Rattle.kb_tenant.specs.Told.{FailedBy};
+ghost use Rattle.kb_isolation_spec.specs.declared.head.Head.{Head};
 ghost use Rattle.kb_isolation_spec.specs.Session.{BoundTo, shut_down, can};
 ghost use Rattle.kb_isolation_spec.specs.Machine.{after_reaction, after_turn, put};
 ghost use Rattle.kb_isolation_spec.specs.Broker.{InRange};
@@ -291,11 +292,12 @@ fn hand_over(
     ensures number { connection.new.number ≡ connection.old.number }
     ensures spent { IsSpent connection.old.session connection.new.session }
     ensures parked { (k : ℕ) → k ≢ connection.old.number → fin.get parking.new k ≡ fin.get parking.old k }
-    ensures ok { (key version id : ℤ) (body : List ℕ) (reaction : Reaction) → IsAsked setup.now connection.old.session key version id body
-        → IsAnswer id reaction answer → OnOk result
-        (connection.new ≡ with_session connection.old (after_reaction reaction id version body (without_front connection.old.session))) }
-    ensures output { IsPutOut answer connection.old.session connection.new.session }
-    ensures dated { (key version id : ℤ) (body : List ℕ) → IsAsked setup.now connection.old.session key version id body
+    ensures ok { (key version : ℤ) (head : Head) (body : List ℕ) (reaction : Reaction)
+        → IsAsked setup.now connection.old.session key version head body → IsAnswer head.correlation_id reaction answer → OnOk result
+        (connection.new ≡ with_session connection.old (after_reaction reaction head version body (without_front connection.old.session))) }
+    ensures output { (key version : ℤ) (head : Head) (body : List ℕ) → IsAsked setup.now connection.old.session key version head body
+        → IsPutOut head answer connection.old.session connection.new.session }
+    ensures dated { (key version : ℤ) (head : Head) (body : List ℕ) → IsAsked setup.now connection.old.session key version head body
         → until_of (fin.get parking.new connection.old.number) ≡ deadline_at connection.new.session.stage }
     ensures owned { IsOwnedAt connection.new.session.stage (fin.get parking.new connection.old.number) }
     ensures keyed { OnOk result (fin.get parking.new connection.old.number ≡ parked_for tenant answer) }
@@ -459,7 +461,7 @@ fn ask_again<L: PartitionLog + Drop, S: Store>(
         (tenants_in L.log S.disk tenants.new) }
     ensures meets { IsMet tenant (shelf_is_honest S.disk tenants.new) (tenants_in L.log S.disk tenants.old)
         (tenants_in L.log S.disk tenants.new)
-        (λ k l. (l ≡ k) × plain.IsAnswer waiting.now.correlation_id (ready k clock number (wait_of waiting.now)) result) }
+        (λ k l. (l ≡ k) × plain.IsAnswer waiting.now.head.correlation_id (ready k clock number (wait_of waiting.now)) result) }
     ensures stays { shelf_is_honest S.disk tenants.new → (t : ℕ)
         → kept_of (tenants_in L.log S.disk tenants.new) t ≡ kept_of (tenants_in L.log S.disk tenants.old) t }
     ensures answers { shelf_is_honest S.disk tenants.new → let ts = tenants_in L.log S.disk tenants.old in
@@ -467,7 +469,7 @@ fn ask_again<L: PartitionLog + Drop, S: Store>(
     // Whatever was refused, a fetch's reply tells it.
     ensures told { shelf_is_honest S.disk tenants.new
         → TellsAwaited (FailedBy (S.disk tenants.old.shelf.store).failures (S.disk tenants.new.shelf.store).failures tenants.new.shelf.next)
-        waiting.now.correlation_id clock (kept_of (tenants_in L.log S.disk tenants.old) tenant) (awaited_of waiting.now.awaited) result }
+        waiting.now.head.correlation_id clock (kept_of (tenants_in L.log S.disk tenants.old) tenant) (awaited_of waiting.now.awaited) result }
 {
     match &waiting.awaited {
         Awaited::Records {
@@ -476,14 +478,14 @@ fn ask_again<L: PartitionLog + Drop, S: Store>(
             deadline,
         } => {
             let wait = Wait {
-                correlation_id: waiting.correlation_id,
+                correlation_id: waiting.head.correlation_id,
                 api_version: *api_version,
                 body,
                 deadline: *deadline,
             };
             tenants.look(alloc, tenant, clock, &wait)
         }
-        Awaited::Group => tenants.tell(alloc, tenant, number, waiting.correlation_id),
+        Awaited::Group => tenants.tell(alloc, tenant, number, waiting.head.correlation_id),
     }
 }
 

@@ -19,12 +19,12 @@ returns-in-Records-clause-meets g c = λ honest calm.
     let w = a.waiting.now in
     let f = c.in-Records in
     let k = kept_of (tenants_in g.L.PartitionLog.log g.S.Store.disk a.tenants.now) a.tenant in
-    let fits : FitsSigned w32 w.correlation_id = search rules in
+    let fits : FitsSigned w32 w.head.correlation_id = search rules in
     let version : FitsSigned w16 f.api_version = search rules in
     let met = c.look.ensures.meets honest calm in
-    let bodied = subst (λ body. IsAnswer (to_z w32 (of_z w32 w.correlation_id)) (looked k.world a.clock f.deadline (to_z w16 (of_z w16 f.api_version)) body) c.look.result) c.deref.ensures.value met.1 in
-    let versioned = subst (λ v. IsAnswer (to_z w32 (of_z w32 w.correlation_id)) (looked k.world a.clock f.deadline v f.body.items) c.look.result) (to_z-of_z w16 f.api_version version) bodied in
-    (met.0, subst (λ x. IsAnswer w.correlation_id (ready_for k a.clock a.number (awaited_of x)) c.look.result) (sym f.is) (subst (λ z. IsAnswer z (looked k.world a.clock f.deadline f.api_version f.body.items) c.look.result) (to_z-of_z w32 w.correlation_id fits) versioned))
+    let bodied = subst (λ body. IsAnswer (to_z w32 (of_z w32 w.head.correlation_id)) (looked k.world a.clock f.deadline (to_z w16 (of_z w16 f.api_version)) body) c.look.result) c.deref.ensures.value met.1 in
+    let versioned = subst (λ v. IsAnswer (to_z w32 (of_z w32 w.head.correlation_id)) (looked k.world a.clock f.deadline v f.body.items) c.look.result) (to_z-of_z w16 f.api_version version) bodied in
+    (met.0, subst (λ x. IsAnswer w.head.correlation_id (ready_for k a.clock a.number (awaited_of x)) c.look.result) (sym f.is) (subst (λ z. IsAnswer z (looked k.world a.clock f.deadline f.api_version f.body.items) c.look.result) (to_z-of_z w32 w.head.correlation_id fits) versioned))
 
 pub returns-in-Group-clause-meets : goal.returns-in-Group-clause-meets
 unfolding ready
@@ -32,9 +32,9 @@ returns-in-Group-clause-meets g c = λ honest calm.
     let a = c.args in
     let w = a.waiting.now in
     let k = kept_of (tenants_in g.L.PartitionLog.log g.S.Store.disk a.tenants.now) a.tenant in
-    let fits : FitsSigned w32 w.correlation_id = search rules in
+    let fits : FitsSigned w32 w.head.correlation_id = search rules in
     let met = c.tell.ensures.meets honest calm in
-    (met.0, subst (λ x. IsAnswer w.correlation_id (ready_for k a.clock a.number (awaited_of x)) c.tell.result) (sym c.in-Group.is) (subst (λ z. IsAnswer z (told_to a.number k.groups) c.tell.result) (to_z-of_z w32 w.correlation_id fits) met.1))
+    (met.0, subst (λ x. IsAnswer w.head.correlation_id (ready_for k a.clock a.number (awaited_of x)) c.tell.result) (sym c.in-Group.is) (subst (λ z. IsAnswer z (told_to a.number k.groups) c.tell.result) (to_z-of_z w32 w.head.correlation_id fits) met.1))
 
 pub returns-in-Records-clause-answers : goal.returns-in-Records-clause-answers
 returns-in-Records-clause-answers g c = λ honest.
@@ -52,9 +52,9 @@ returns-in-Group-clause-answers g c = λ honest.
     let a = c.args in
     let w = a.waiting.now in
     let k = kept_of (tenants_in g.L.PartitionLog.log g.S.Store.disk a.tenants.now) a.tenant in
-    let fits : FitsSigned w32 w.correlation_id = search rules in
+    let fits : FitsSigned w32 w.head.correlation_id = search rules in
     ⊎_elim
-    (λ says. inl (subst (λ x. IsAnswer w.correlation_id (ready_for k a.clock a.number (awaited_of x)) c.tell.result) (sym c.in-Group.is) (subst (λ z. IsAnswer z (told_to a.number k.groups) c.tell.result) (to_z-of_z w32 w.correlation_id fits) says)))
+    (λ says. inl (subst (λ x. IsAnswer w.head.correlation_id (ready_for k a.clock a.number (awaited_of x)) c.tell.result) (sym c.in-Group.is) (subst (λ z. IsAnswer z (told_to a.number k.groups) c.tell.result) (to_z-of_z w32 w.head.correlation_id fits) says)))
     (λ gone. inr (inl (gone.0, λ own none. gone.1 (subst (λ x. ready_for k a.clock a.number (awaited_of x) ≡ Silent) c.in-Group.is none))))
     c.tell.ensures.answers
 
@@ -68,14 +68,14 @@ returns-in-Records-clause-told g c = λ honest.
     let k = kept_of (tenants_in g.L.PartitionLog.log disk a.tenants.now) a.tenant in
     let r = c.look.result in
     let failed = FailedBy (disk a.tenants.now.shelf.store).failures (disk shelf.store).failures shelf.next in
-    let id = to_z w32 (of_z w32 w.correlation_id) in
+    let id = to_z w32 (of_z w32 w.head.correlation_id) in
     let version = to_z w16 (of_z w16 f.api_version) in
-    let fits : FitsSigned w32 w.correlation_id = search rules in
+    let fits : FitsSigned w32 w.head.correlation_id = search rules in
     let small : FitsSigned w16 f.api_version = search rules in
     let bodied = subst (λ body. AnswersLook failed id version k.world a.clock f.deadline body r) c.deref.ensures.value (c.look.ensures.told honest) in
     let versioned = subst (λ n. AnswersLook failed id n k.world a.clock f.deadline f.body.items r) (to_z-of_z w16 f.api_version small) bodied in
-    let told = subst (λ z. AnswersLook failed z f.api_version k.world a.clock f.deadline f.body.items r) (to_z-of_z w32 w.correlation_id fits) versioned in
-    subst (λ x. TellsAwaited failed w.correlation_id a.clock k (awaited_of x) r) (sym f.is) told
+    let told = subst (λ z. AnswersLook failed z f.api_version k.world a.clock f.deadline f.body.items r) (to_z-of_z w32 w.head.correlation_id fits) versioned in
+    subst (λ x. TellsAwaited failed w.head.correlation_id a.clock k (awaited_of x) r) (sym f.is) told
 
 pub returns-in-Group-clause-told : goal.returns-in-Group-clause-told
 returns-in-Group-clause-told g c = λ honest.
@@ -84,4 +84,4 @@ returns-in-Group-clause-told g c = λ honest.
     let shelf = c.tell.new.self.shelf in
     let k = kept_of (tenants_in g.L.PartitionLog.log disk a.tenants.now) a.tenant in
     let failed = FailedBy (disk a.tenants.now.shelf.store).failures (disk shelf.store).failures shelf.next in
-    subst (λ x. TellsAwaited failed a.waiting.now.correlation_id a.clock k (awaited_of x) c.tell.result) (sym c.in-Group.is) tt
+    subst (λ x. TellsAwaited failed a.waiting.now.head.correlation_id a.clock k (awaited_of x) c.tell.result) (sym c.in-Group.is) tt

@@ -34,9 +34,9 @@ pub returns-else-is_err-2-clause-parked : goal.returns-else-is_err-2-clause-park
 returns-else-is_err-2-clause-parked c = (parked c).others
 
 pub returns-else-is_err-2-clause-dated : goal.returns-else-is_err-2-clause-dated
-returns-else-is_err-2-clause-dated c = λ key version id body asks.
+returns-else-is_err-2-clause-dated c = λ key version head body asks.
     let a = c.args in
-    dated-answered a.setup.now c.answer-given.result a.parking.now c.park.new.parking a.tenant a.connection.now.number a.connection.now c.answer-given.new.self a.answer key version id body (parked c) c.requires.bound asks c.answer-given.ensures.ok c.answer-given.ensures.free (sym c.is_err-2.ensures.value ∙ c.if-is_err-2.false)
+    dated-answered a.setup.now c.answer-given.result a.parking.now c.park.new.parking a.tenant a.connection.now.number a.connection.now c.answer-given.new.self a.answer key version head body (parked c) c.requires.bound asks c.answer-given.ensures.ok c.answer-given.ensures.free (sym c.is_err-2.ensures.value ∙ c.if-is_err-2.false)
 
 pub returns-else-is_err-2-clause-owned : goal.returns-else-is_err-2-clause-owned
 returns-else-is_err-2-clause-owned c =
@@ -48,10 +48,10 @@ pub returns-else-is_err-2-clause-keyed : goal.returns-else-is_err-2-clause-keyed
 returns-else-is_err-2-clause-keyed c = on-ok c.answer-given.result (fin.get c.park.new.parking c.args.connection.now.number ≡ parked_for c.args.tenant c.args.answer) (parked c).own
 
 pub returns-then-is_err-clause-output : goal.returns-then-is_err-clause-output
-returns-then-is_err-clause-output c = put-shut c.args.answer c.args.connection.now c.shut_down.new.self c.shut_down.ensures
+returns-then-is_err-clause-output c = λ key version head body asks. put-shut head c.args.answer c.args.connection.now c.shut_down.new.self c.shut_down.ensures
 
 pub returns-then-is_err-2-clause-output : goal.returns-then-is_err-2-clause-output
-returns-then-is_err-2-clause-output c = put-shut c.args.answer c.args.connection.now c.answer-given.new.self (from_err c.answer-given.result c.is_err-2.result _ c.is_err-2.ensures.value c.if-is_err-2.true c.answer-given.ensures.err)
+returns-then-is_err-2-clause-output c = λ key version head body asks. put-shut head c.args.answer c.args.connection.now c.answer-given.new.self (from_err c.answer-given.result c.is_err-2.result _ c.is_err-2.ensures.value c.if-is_err-2.true c.answer-given.ensures.err)
 
 pub returns-else-is_err-2-clause-output : goal.returns-else-is_err-2-clause-output
-returns-else-is_err-2-clause-output c = inl (from_ok c.answer-given.result c.is_err-2.result _ c.is_err-2.ensures.value c.if-is_err-2.false c.answer-given.ensures.output)
+returns-else-is_err-2-clause-output c = λ key version head body asks. inl (from_ok c.answer-given.result c.is_err-2.result _ c.is_err-2.ensures.value c.if-is_err-2.false (c.answer-given.ensures.output key version head body asks))

@@ -24,7 +24,7 @@ returns-else-is_err-clause-looked g c =
     let l = c.ask_again-answer.ensures in
     looked-ok (shelf_is_honest g.S.Store.disk c.ask_again-answer.new.tenants) c.wake.result a.whom a.clock t (tenants_in g.L.PartitionLog.log g.S.Store.disk a.tenants.now) (tenants_in g.L.PartitionLog.log g.S.Store.disk c.ask_again-answer.new.tenants) a.connection.now c.wake.new.self (wait_of w) c.ask_again-answer.result c.in-Some.ensures.some (sym c.is_looked_for.ensures ∙ passes) l.turn l.stays
     (subst (λ n. IsMet t (shelf_is_honest g.S.Store.disk c.ask_again-answer.new.tenants) (tenants_in g.L.PartitionLog.log g.S.Store.disk a.tenants.now) (tenants_in g.L.PartitionLog.log g.S.Store.disk c.ask_again-answer.new.tenants)
-    (λ k m. (m ≡ k) × plain.IsAnswer w.correlation_id (ready k a.clock n (wait_of w)) c.ask_again-answer.result)) c.number-number.ensures l.meets)
+    (λ k m. (m ≡ k) × plain.IsAnswer w.head.correlation_id (ready k a.clock n (wait_of w)) c.ask_again-answer.result)) c.number-number.ensures l.meets)
     (λ honest. subst (λ n. IsLookAnswer t a.clock n (tenants_in g.L.PartitionLog.log g.S.Store.disk a.tenants.now)
     (tenants_in g.L.PartitionLog.log g.S.Store.disk c.ask_again-answer.new.tenants) (wait_of w) c.ask_again-answer.result) c.number-number.ensures (l.answers honest)) c.wake.ensures.ok c.wake.ensures.number c.wake.ensures.stage c.wake.ensures.unread c.wake.ensures.ends (sym c.is_err.ensures.value ∙ c.if-is_err.false)
 
@@ -70,7 +70,7 @@ returns-else-is_err-clause-told g c = λ honest.
     let answers = subst (λ k. IsLookAnswer t a.clock k ts us w answer) c.number-number.ensures (asked.answers honest) in
     again-told failed a.clock n t ts a.connection.now.session.stage w a.connection.now.session c.wake.new.self.session answer
     c.in-Some.ensures.some (asked.told honest) (member-answered a.clock n t ts us w answer answers)
-    (inl (from_ok c.wake.result c.is_err.result _ c.is_err.ensures.value c.if-is_err.false c.wake.ensures.output))
+    (inl (from_ok c.wake.result c.is_err.result _ c.is_err.ensures.value c.if-is_err.false (c.wake.ensures.output t w c.in-Some.ensures.some)))
 
 pub returns-then-is_err-clause-told : goal.returns-then-is_err-clause-told
 returns-then-is_err-clause-told g c = λ honest.
@@ -90,9 +90,9 @@ returns-then-is_err-clause-told g c = λ honest.
     let shut = from_err c.wake.result c.is_err.result _ c.is_err.ensures.value c.if-is_err.true c.wake.ensures.err in
     let honest_before = subst (λ shelf. (disk shelf.store).honest) c.refuse.ensures.shelf honest in
     let answers = subst (λ k. IsLookAnswer t a.clock k ts us w answer) c.number-number.ensures (asked.answers honest_before) in
-    let Tells : Type 0 → Type 0 = λ failing. TellsAwaited failing w.correlation_id a.clock (kept_of ts t) w.awaited answer in
+    let Tells : Type 0 → Type 0 = λ failing. TellsAwaited failing w.head.correlation_id a.clock (kept_of ts t) w.awaited answer in
     again-told failed a.clock n t ts a.connection.now.session.stage w a.connection.now.session c.wake.new.self.session answer
     c.in-Some.ensures.some
     (subst (λ shelf. Tells (FailedBy before (disk shelf.store).failures shelf.next)) (sym c.refuse.ensures.shelf)
     (asked.told honest_before))
-    (member-answered a.clock n t ts us w answer answers) (put-shut (any.Plain answer) a.connection.now c.wake.new.self shut)
+    (member-answered a.clock n t ts us w answer answers) (put-shut w.head (any.Plain answer) a.connection.now c.wake.new.self shut)

@@ -8,7 +8,8 @@ use Rattle.kb_tenant_api.specs.Waiters.{AreServed, IsWaitTold}
 use Rattle.kb_tenant.specs.declared.request.Request.{Request}
 use Rattle.kb_isolation_spec.specs.Machine.{Line}
 use Rattle.kb_isolation_spec.specs.Tenant.{answer, kept_after}
-use Rattle.kb_connection.specs.Fronts.{IsAsked, IsOwn}
+use Rattle.kb_api_group.specs.Frames.{front}
+use Rattle.kb_connection.specs.Fronts.{IsAsked, IsOwn, head_at}
 use Rattle.kb_tenant.specs.Told.{FailedBy}
 use Rattle.kb_tenants.specs.Tenants.{shelf_is_honest, IsCatalogFull}
 use Rattle.kb_broker.specs.Hosts.{tenants_in}
@@ -65,23 +66,31 @@ returns-clause-ok g c = λ honest calm.
     let a = c.args in
     let q = c.in-Ok-Some.request in
     let s = a.connection.now.session in
-    let asked = subst (λ found. IfSome found (λ (r : Request). IsAsked a.setup.now s r.api_key r.api_version r.correlation_id r.body.now)) c.in-Ok-Some.field-0-is c.in-Ok-Some.ensures.asked in
+    let h = head_at a.setup.now.versions (front s.unread) in
+    let asked = subst (λ found. IfSome found (λ (r : Request). IsAsked a.setup.now s r.api_key r.api_version h r.body.now)) c.in-Ok-Some.field-0-is c.in-Ok-Some.ensures.asked in
+    let numbered : q.correlation_id ≡ h.correlation_id = subst (λ found. IfSome found (λ (r : Request). r.correlation_id ≡ h.correlation_id)) c.in-Ok-Some.field-0-is c.in-Ok-Some.ensures.numbered in
     let same : q.connection ≡ a.connection.now.number = subst (λ found. IfSome found (λ (r : Request). r.connection ≡ a.connection.now.number)) c.in-Ok-Some.field-0-is c.in-Ok-Some.ensures.number in
     let meets = subst (λ n. IsMet a.tenant (shelf_is_honest g.S.Store.disk c.ask.new.tenants) (tenants_in g.L.PartitionLog.log g.S.Store.disk a.tenants.now) (tenants_in g.L.PartitionLog.log g.S.Store.disk c.ask.new.tenants)
-    (λ k l. (l ≡ kept_after a.setup.now.node k a.clock n q.api_key q.api_version q.body.now) × IsAnswer q.correlation_id (answer a.setup.now.node k a.clock n q.api_key q.api_version q.body.now) c.ask.result.0)) same c.ask.ensures.meets in
+    (λ k l. (l ≡ kept_after a.setup.now.node k a.clock n q.api_key q.api_version q.body.now) × IsAnswer h.correlation_id (answer a.setup.now.node k a.clock n q.api_key q.api_version q.body.now) c.ask.result.0)) same
+    (subst (λ id. IsMet a.tenant (shelf_is_honest g.S.Store.disk c.ask.new.tenants) (tenants_in g.L.PartitionLog.log g.S.Store.disk a.tenants.now) (tenants_in g.L.PartitionLog.log g.S.Store.disk c.ask.new.tenants)
+    (λ k l. (l ≡ kept_after a.setup.now.node k a.clock q.connection q.api_key q.api_version q.body.now) × IsAnswer id (answer a.setup.now.node k a.clock q.connection q.api_key q.api_version q.body.now) c.ask.result.0)) numbered c.ask.ensures.meets) in
     let done = meets honest calm in
-    asked-now a.setup.now a.clock a.connection.now.number (kept_of (tenants_in g.L.PartitionLog.log g.S.Store.disk a.tenants.now) a.tenant) (kept_of (tenants_in g.L.PartitionLog.log g.S.Store.disk c.ask.new.tenants) a.tenant) a.connection.now c.hand_over.new.connection q.api_key q.api_version q.correlation_id q.body.now c.ask.result.0 asked done.0 done.1 c.in_ok-hand_over.ensures.ok
+    asked-now a.setup.now a.clock a.connection.now.number (kept_of (tenants_in g.L.PartitionLog.log g.S.Store.disk a.tenants.now) a.tenant) (kept_of (tenants_in g.L.PartitionLog.log g.S.Store.disk c.ask.new.tenants) a.tenant) a.connection.now c.hand_over.new.connection q.api_key q.api_version h q.body.now c.ask.result.0 asked done.0 done.1 c.in_ok-hand_over.ensures.ok
 
 pub returns-clause-keyed : goal.returns-clause-keyed
 returns-clause-keyed g c = λ honest.
     let a = c.args in
     let q = c.in-Ok-Some.request in
     let s = a.connection.now.session in
-    let asked = subst (λ found. IfSome found (λ (r : Request). IsAsked a.setup.now s r.api_key r.api_version r.correlation_id r.body.now)) c.in-Ok-Some.field-0-is c.in-Ok-Some.ensures.asked in
+    let h = head_at a.setup.now.versions (front s.unread) in
+    let asked = subst (λ found. IfSome found (λ (r : Request). IsAsked a.setup.now s r.api_key r.api_version h r.body.now)) c.in-Ok-Some.field-0-is c.in-Ok-Some.ensures.asked in
+    let numbered : q.correlation_id ≡ h.correlation_id = subst (λ found. IfSome found (λ (r : Request). r.correlation_id ≡ h.correlation_id)) c.in-Ok-Some.field-0-is c.in-Ok-Some.ensures.numbered in
     let same : q.connection ≡ a.connection.now.number = subst (λ found. IfSome found (λ (r : Request). r.connection ≡ a.connection.now.number)) c.in-Ok-Some.field-0-is c.in-Ok-Some.ensures.number in
     let meets = subst (λ n. IsMet a.tenant (shelf_is_honest g.S.Store.disk c.ask.new.tenants) (tenants_in g.L.PartitionLog.log g.S.Store.disk a.tenants.now) (tenants_in g.L.PartitionLog.log g.S.Store.disk c.ask.new.tenants)
-    (λ k l. (l ≡ kept_after a.setup.now.node k a.clock n q.api_key q.api_version q.body.now) × IsAnswer q.correlation_id (answer a.setup.now.node k a.clock n q.api_key q.api_version q.body.now) c.ask.result.0)) same c.ask.ensures.meets in
-    keyed-answered (shelf_is_honest g.S.Store.disk c.ask.new.tenants) honest a.setup.now a.tenant a.clock a.connection.now.number (tenants_in g.L.PartitionLog.log g.S.Store.disk a.tenants.now) (tenants_in g.L.PartitionLog.log g.S.Store.disk c.ask.new.tenants) a.connection.now c.hand_over.new.connection q.api_key q.api_version q.correlation_id q.body.now c.ask.result.0 (fin.get c.hand_over.new.parking a.connection.now.number) c.requires.bound c.hand_over.ensures.spent asked c.ask.ensures.turn meets c.in_ok-hand_over.ensures.ok c.in_ok-hand_over.ensures.keyed
+    (λ k l. (l ≡ kept_after a.setup.now.node k a.clock n q.api_key q.api_version q.body.now) × IsAnswer h.correlation_id (answer a.setup.now.node k a.clock n q.api_key q.api_version q.body.now) c.ask.result.0)) same
+    (subst (λ id. IsMet a.tenant (shelf_is_honest g.S.Store.disk c.ask.new.tenants) (tenants_in g.L.PartitionLog.log g.S.Store.disk a.tenants.now) (tenants_in g.L.PartitionLog.log g.S.Store.disk c.ask.new.tenants)
+    (λ k l. (l ≡ kept_after a.setup.now.node k a.clock q.connection q.api_key q.api_version q.body.now) × IsAnswer id (answer a.setup.now.node k a.clock q.connection q.api_key q.api_version q.body.now) c.ask.result.0)) numbered c.ask.ensures.meets) in
+    keyed-answered (shelf_is_honest g.S.Store.disk c.ask.new.tenants) honest a.setup.now a.tenant a.clock a.connection.now.number (tenants_in g.L.PartitionLog.log g.S.Store.disk a.tenants.now) (tenants_in g.L.PartitionLog.log g.S.Store.disk c.ask.new.tenants) a.connection.now c.hand_over.new.connection q.api_key q.api_version h q.body.now c.ask.result.0 (fin.get c.hand_over.new.parking a.connection.now.number) c.requires.bound c.hand_over.ensures.spent asked c.ask.ensures.turn meets c.in_ok-hand_over.ensures.ok c.in_ok-hand_over.ensures.keyed
 
 pub returns-clause-touched : goal.returns-clause-touched
 returns-clause-touched g c =
@@ -122,11 +131,13 @@ returns-clause-member g c =
     let t = a.tenant in
     let q = c.in-Ok-Some.request in
     let s = a.connection.now.session in
-    let asked = subst (λ found. IfSome found (λ (r : Request). IsAsked a.setup.now s r.api_key r.api_version r.correlation_id r.body.now)) c.in-Ok-Some.field-0-is c.in-Ok-Some.ensures.asked in
+    let h = head_at a.setup.now.versions (front s.unread) in
+    let asked = subst (λ found. IfSome found (λ (r : Request). IsAsked a.setup.now s r.api_key r.api_version h r.body.now)) c.in-Ok-Some.field-0-is c.in-Ok-Some.ensures.asked in
+    let numbered : q.correlation_id ≡ h.correlation_id = subst (λ found. IfSome found (λ (r : Request). r.correlation_id ≡ h.correlation_id)) c.in-Ok-Some.field-0-is c.in-Ok-Some.ensures.numbered in
     let same = subst (λ found. IfSome found (λ (r : Request). r.connection ≡ a.connection.now.number)) c.in-Ok-Some.field-0-is c.in-Ok-Some.ensures.number in
     let told = subst (λ n. IsWaitTold n (kept_of (tenants_in g.L.PartitionLog.log g.S.Store.disk a.tenants.now) t).groups c.ask.result.0 (kept_of (tenants_in g.L.PartitionLog.log g.S.Store.disk c.ask.new.tenants) t).groups) same c.ask.ensures.told in
-    member-told a.tenant a.connection.now c.hand_over.new.connection c.ask.result.0 q.correlation_id q.api_version q.body.now _ c.requires.bound
-    (λ rebalance. c.in_ok-hand_over.ensures.ok q.api_key q.api_version q.correlation_id q.body.now Rebalances asked (subst (IsAnswer q.correlation_id Rebalances) (sym rebalance) tt)) told
+    member-told a.tenant a.connection.now c.hand_over.new.connection c.ask.result.0 h q.api_version q.body.now _ c.requires.bound
+    (λ rebalance. c.in_ok-hand_over.ensures.ok q.api_key q.api_version h q.body.now Rebalances asked (subst (IsAnswer h.correlation_id Rebalances) (sym rebalance) tt)) told
 
 -- 3. What is told
 
@@ -172,11 +183,14 @@ returns-clause-told g c = λ honest.
     let disk = g.S.Store.disk in
     let ts = tenants_in log disk a.tenants.now in
     let failed = FailedBy (disk a.tenants.now.shelf.store).failures (disk us.shelf.store).failures us.shelf.next in
-    let asked = subst (λ found. IfSome found (λ (r : Request). IsAsked a.setup.now s r.api_key r.api_version r.correlation_id r.body.now)) c.in-Ok-Some.field-0-is c.in-Ok-Some.ensures.asked in
+    let h = head_at a.setup.now.versions (front s.unread) in
+    let asked = subst (λ found. IfSome found (λ (r : Request). IsAsked a.setup.now s r.api_key r.api_version h r.body.now)) c.in-Ok-Some.field-0-is c.in-Ok-Some.ensures.asked in
+    let numbered : q.correlation_id ≡ h.correlation_id = subst (λ found. IfSome found (λ (r : Request). r.correlation_id ≡ h.correlation_id)) c.in-Ok-Some.field-0-is c.in-Ok-Some.ensures.numbered in
     let same : q.connection ≡ a.connection.now.number = subst (λ found. IfSome found (λ (r : Request). r.connection ≡ a.connection.now.number)) c.in-Ok-Some.field-0-is c.in-Ok-Some.ensures.number in
     let truth = c.ask.ensures.truthful honest in
-    let truthful = subst (λ n. IsTrueAnswer failed (IsCatalogFull log us t) a.setup.now.node a.clock n q.api_key q.api_version q.correlation_id q.body.now (kept_of ts t) (kept_of (tenants_in log disk us) t) truth.0 c.ask.result.0) same truth.1 in
-    told-asked failed (IsCatalogFull log us) a.setup.now a.clock a.connection.now.number t ts (tenants_in log disk us) s c.hand_over.new.connection.session q.api_key q.api_version q.correlation_id q.body.now truth.0 c.ask.result.0 asked truthful c.hand_over.ensures.output
+    let truthful = subst (λ n. IsTrueAnswer failed (IsCatalogFull log us t) a.setup.now.node a.clock n q.api_key q.api_version h.correlation_id q.body.now (kept_of ts t) (kept_of (tenants_in log disk us) t) truth.0 c.ask.result.0) same
+    (subst (λ id. IsTrueAnswer failed (IsCatalogFull log us t) a.setup.now.node a.clock q.connection q.api_key q.api_version id q.body.now (kept_of ts t) (kept_of (tenants_in log disk us) t) truth.0 c.ask.result.0) numbered truth.1) in
+    told-asked failed (IsCatalogFull log us) a.setup.now a.clock a.connection.now.number t ts (tenants_in log disk us) s c.hand_over.new.connection.session q.api_key q.api_version h q.body.now truth.0 c.ask.result.0 asked truthful (c.hand_over.ensures.output q.api_key q.api_version h q.body.now asked)
 
 pub returns-in_err-hand_over-clause-told : goal.returns-in_err-hand_over-clause-told
 returns-in_err-hand_over-clause-told g c = λ honest.
@@ -189,8 +203,11 @@ returns-in_err-hand_over-clause-told g c = λ honest.
     let disk = g.S.Store.disk in
     let ts = tenants_in log disk a.tenants.now in
     let failed = FailedBy (disk a.tenants.now.shelf.store).failures (disk us.shelf.store).failures us.shelf.next in
-    let asked = subst (λ found. IfSome found (λ (r : Request). IsAsked a.setup.now s r.api_key r.api_version r.correlation_id r.body.now)) c.in-Ok-Some.field-0-is c.in-Ok-Some.ensures.asked in
+    let h = head_at a.setup.now.versions (front s.unread) in
+    let asked = subst (λ found. IfSome found (λ (r : Request). IsAsked a.setup.now s r.api_key r.api_version h r.body.now)) c.in-Ok-Some.field-0-is c.in-Ok-Some.ensures.asked in
+    let numbered : q.correlation_id ≡ h.correlation_id = subst (λ found. IfSome found (λ (r : Request). r.correlation_id ≡ h.correlation_id)) c.in-Ok-Some.field-0-is c.in-Ok-Some.ensures.numbered in
     let same : q.connection ≡ a.connection.now.number = subst (λ found. IfSome found (λ (r : Request). r.connection ≡ a.connection.now.number)) c.in-Ok-Some.field-0-is c.in-Ok-Some.ensures.number in
     let truth = c.ask.ensures.truthful honest in
-    let truthful = subst (λ n. IsTrueAnswer failed (IsCatalogFull log us t) a.setup.now.node a.clock n q.api_key q.api_version q.correlation_id q.body.now (kept_of ts t) (kept_of (tenants_in log disk us) t) truth.0 c.ask.result.0) same truth.1 in
-    told-asked failed (IsCatalogFull log us) a.setup.now a.clock a.connection.now.number t ts (tenants_in log disk us) s c.hand_over.new.connection.session q.api_key q.api_version q.correlation_id q.body.now truth.0 c.ask.result.0 asked truthful c.hand_over.ensures.output
+    let truthful = subst (λ n. IsTrueAnswer failed (IsCatalogFull log us t) a.setup.now.node a.clock n q.api_key q.api_version h.correlation_id q.body.now (kept_of ts t) (kept_of (tenants_in log disk us) t) truth.0 c.ask.result.0) same
+    (subst (λ id. IsTrueAnswer failed (IsCatalogFull log us t) a.setup.now.node a.clock q.connection q.api_key q.api_version id q.body.now (kept_of ts t) (kept_of (tenants_in log disk us) t) truth.0 c.ask.result.0) numbered truth.1) in
+    told-asked failed (IsCatalogFull log us) a.setup.now a.clock a.connection.now.number t ts (tenants_in log disk us) s c.hand_over.new.connection.session q.api_key q.api_version h q.body.now truth.0 c.ask.result.0 asked truthful (c.hand_over.ensures.output q.api_key q.api_version h q.body.now asked)

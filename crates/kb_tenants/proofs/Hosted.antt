@@ -17,10 +17,10 @@ use Rattle.kb_log.specs.Shelf.{Shelved}
 use Rattle.kb_tenant_state.specs.Scene.{WhereHonest}
 use Rattle.kb_tenant_state.specs.Parts.{Agrees, IsSound, meta, scene, world_of, raised, refused}
 use Rattle.kb_tenant_state.specs.Counts.{END, IsCalm, counted_once}
-use Rattle.kb_tenant_state.specs.Steps.{IsStep, Meets, step_same}
+use Rattle.kb_tenant_state.specs.Steps.{Meets, step_same}
 use Rattle.kb_tenant_state.specs.World.{World}
 use Rattle.kb_tenant_state.specs.declared.parts.Parts.{Parts}
-use Rattle.kb_tenant_state.proofs.Lifted.{loud, raised_meets, raised_step, refused_step}
+use Rattle.kb_tenant_state.proofs.Lifted.{loud, refused_step}
 use Rattle.kb_tenant_api.specs.Hosted.{TenantState, Kept, nothing, kept_in, kept_of, left, passed, refusals_of, names_of}
 use Rattle.kb_tenant_api.specs.Turns.{IsAccounted, IsTurn, IsMet, with_kept, all_calm}
 use Rattle.kb_tenant_state.proofs.Put.{get_put}
@@ -31,6 +31,7 @@ use Rattle.kb_tenants.specs.Turns.{IsShelfTurn, seen_at}
 use Rattle.kb_tenants.specs.declared.tenants.Tenant.{Tenant}
 use Rattle.kb_tenants.specs.declared.tenants.Tenants.{Tenants}
 use Rattle.kb_tenants.proofs.Accounted.{accounted_rises, accounted_turn}
+use Rattle.kb_tenants.proofs.Change.{IsChange, called, raised_change, raised_met}
 use Rattle.kb_tenants.proofs.Idle.{IsQuiet, idle_stays, idle_turn}
 use Rattle.kb_tenants.proofs.Others.{alone_stays, bytes_stay, found, put_here, settled_stays, turn}
 use Rattle.kb_tenants.proofs.Passed.{length_named}
@@ -114,10 +115,10 @@ module _ {L : Type 0} (log : L → Log) (files : Files) where
   put_groups (y ∷ ts) (suc t) x gs at = ap (λ ss. state_of log files y ∷ ss) (put_groups ts t x gs at)
 
 -- how many commands the log of a catalog has recorded
-abbrev recorded : {L : Type 0} → (L → Log) → Tenant L → ℕ
+abbrev pub recorded : {L : Type 0} → (L → Log) → Tenant L → ℕ
 recorded log x = (meta log x.parts).end
 
-commands_here : {L : Type 0} (log : L → Log) (ts : List (Tenant L)) (t : ℕ) (x : Tenant L) → slice_get ts t ≡ Some x
+pub commands_here : {L : Type 0} (log : L → Log) (ts : List (Tenant L)) (t : ℕ) (x : Tenant L) → slice_get ts t ≡ Some x
     → get_or (map (recorded log) ts) t 0 ≡ recorded log x
 commands_here log [] t x at = absurd cc
 commands_here log (y ∷ ts) zero x at = let same : y ≡ x = cc in ap (recorded log) same
@@ -127,7 +128,7 @@ commands_here log (y ∷ ts) (suc t) x at = commands_here log ts t x at
 
 -- the tenants after a call that left the tenant at a place these parts and groups, and this shelf
 abbrev pub after : {L S : Type 0} → Tenants L S → ℕ → Tenant L → Parts L → Groups → Shelved S → Tenants L S
-after ts t x p gs shelf = record { tenants = with_item ts.tenants t (record x { parts = p; groups = gs }); shelf = shelf; next_retention_time = ts.next_retention_time; strays = ts.strays }
+after ts t x p gs shelf = record ts { tenants = with_item ts.tenants t (record x { parts = p; groups = gs }); shelf = shelf }
 
 -- what is due for a tenant is what it is seen to be
 pub idle_here : {L : Type 0} (log : L → Log) (files : Files) (ts : List (Tenant L)) (t : ℕ) (x : Tenant L) (until : ℤ) → slice_get ts t ≡ Some x → Agrees log x.parts files → IsQuiet log x until
@@ -137,7 +138,7 @@ idle_here log files ts t x until at agree quiet clock le =
 
 -- where the tenant of a call stands
 module _ {L S : Type 0} (log : L → Log) (disk : S → Disk) (old : Tenants L S) (t : ℕ) (x : Tenant L) (lt : t < length (hosted log disk old)) (read : x ≡ get_or old.tenants.items t x) where
-  stands : slice_get old.tenants.items t ≡ Some x
+  pub stands : slice_get old.tenants.items t ≡ Some x
   stands = found old.tenants.items t x (within (state_of log (disk old.shelf.store).files) old.tenants.items t lt) read
 
   parts_stand : slice_get (parts_of old.tenants.items) t ≡ Some x.parts
@@ -148,7 +149,7 @@ module _ {L S : Type 0} (log : L → Log) (disk : S → Disk) (old : Tenants L S
 
 module _ {L S : Type 0} (log : L → Log) (disk : S → Disk) (law : (l : L) → IsLawfulLog (log l)) (old : Tenants L S) (t : ℕ) (x : Tenant L) (p : Parts L) (gs : Groups) (shelf : Shelved S)
     (lt : t < length (hosted log disk old)) (read : x ≡ get_or old.tenants.items t x)
-    (kept : AreKept log disk old) (step : IsStep (scene log disk x.parts old.shelf) (scene log disk p shelf)) where
+    (kept : AreKept log disk old) (step : IsChange (scene log disk x.parts old.shelf) (scene log disk p shelf)) where
   there : slice_get old.tenants.items t ≡ Some x
   there = stands log disk old t x lt read
 
@@ -286,11 +287,11 @@ module _ {L S : Type 0} (log : L → Log) (disk : S → Disk) (law : (l : L) →
 
 module _ {L S : Type 0} (log : L → Log) (disk : S → Disk) (law : (l : L) → IsLawfulLog (log l)) (old : Tenants L S) (t : ℕ) (x : Tenant L) (p : Parts L)
     (lt : t < length (hosted log disk old)) (read : x ≡ get_or old.tenants.items t x) (kept : AreKept log disk old) (counted : p ≡ refused x.parts) where
-  refused_at : IsStep (scene log disk x.parts old.shelf) (scene log disk p old.shelf)
+  refused_at : IsChange (scene log disk x.parts old.shelf) (scene log disk p old.shelf)
   refused_at =
       let a = scene log disk x.parts old.shelf in
-      subst (λ (v : Parts L). IsStep a (scene log disk v old.shelf)) (sym counted)
-      (refused_step log a x.parts (disk old.shelf.store) old.shelf.next (step_same a (sound_here log disk old t x lt read kept)))
+      subst (λ (v : Parts L). IsChange a (scene log disk v old.shelf)) (sym counted)
+      (called (refused_step log a x.parts (disk old.shelf.store) old.shelf.next (step_same a (sound_here log disk old t x lt read kept))))
 
   kepts_stay : kepts_in log (disk old.shelf.store).files (after old t x p x.groups old.shelf).tenants.items ≡ kepts_in log (disk old.shelf.store).files old.tenants.items
   unfolding kepts_in
@@ -342,8 +343,8 @@ module _ {L S : Type 0} (log : L → Log) (disk : S → Disk) (law : (l : L) →
 
 module _ {L S : Type 0} (log : L → Log) (disk : S → Disk) (law : (l : L) → IsLawfulLog (log l)) (old : Tenants L S) (t : ℕ) (x : Tenant L) (gs : Groups)
     (lt : t < length (hosted log disk old)) (read : x ≡ get_or old.tenants.items t x) (kept : AreKept log disk old) where
-  step_own : IsStep (scene log disk x.parts old.shelf) (scene log disk x.parts old.shelf)
-  step_own = step_same (scene log disk x.parts old.shelf) (sound_here log disk old t x lt read kept)
+  step_own : IsChange (scene log disk x.parts old.shelf) (scene log disk x.parts old.shelf)
+  step_own = called (step_same (scene log disk x.parts old.shelf) (sound_here log disk old t x lt read kept))
 
   pub kept_left : (until : ℤ) → until ≤ℤ old.next_retention_time → IsQuiet log (record x { groups = gs }) until → AreKept log disk (record (after old t x x.parts gs old.shelf) { next_retention_time = until })
   kept_left = kept_after log disk law old t x x.parts gs old.shelf lt read kept step_own
@@ -359,9 +360,9 @@ module _ {L S : Type 0} (log : L → Log) (disk : S → Disk) (law : (l : L) →
       ∙ ap (λ k. with_kept t k (hosted log disk old)) (ap (kept_in (world_of log x.parts files)) is ∙ ap (left clock n) (sym seen))
 
   module _ (p : Parts L) (n : ℕ) (counted : p ≡ raised x.parts n) where
-    counted_own : IsStep (scene log disk x.parts old.shelf) (scene log disk p old.shelf)
-    counted_own = subst (λ (v : Parts L). IsStep (scene log disk x.parts old.shelf) (scene log disk v old.shelf)) (sym counted)
-        (raised_step log (scene log disk x.parts old.shelf) x.parts n (disk old.shelf.store) old.shelf.next step_own)
+    counted_own : IsChange (scene log disk x.parts old.shelf) (scene log disk p old.shelf)
+    counted_own = subst (λ (v : Parts L). IsChange (scene log disk x.parts old.shelf) (scene log disk v old.shelf)) (sym counted)
+        (raised_change log (scene log disk x.parts old.shelf) x.parts n (disk old.shelf.store) old.shelf.next step_own)
 
     pub kept_counted : (until : ℤ) → until ≤ℤ old.next_retention_time → IsQuiet log (record x { parts = p; groups = gs }) until → AreKept log disk (record (after old t x p gs old.shelf) { next_retention_time = until })
     kept_counted = kept_after log disk law old t x p gs old.shelf lt read kept counted_own
@@ -445,9 +446,9 @@ module _ {L : Type 0} (log : L → Log) (files : Files) where
 
 module _ {L S : Type 0} (log : L → Log) (disk : S → Disk) (law : (l : L) → IsLawfulLog (log l)) (old : Tenants L S) (t : ℕ) (x : Tenant L)
     (lt : t < length (hosted log disk old)) (read : x ≡ get_or old.tenants.items t x) (kept : AreKept log disk old)
-    (mid p : Parts L) (n : ℕ) (gs : Groups) (shelf : Shelved S) (counted : p ≡ raised mid n) (step : IsStep (scene log disk x.parts old.shelf) (scene log disk mid shelf)) where
-  step_called : IsStep (scene log disk x.parts old.shelf) (scene log disk p shelf)
-  step_called = subst (λ (v : Parts L). IsStep (scene log disk x.parts old.shelf) (scene log disk v shelf)) (sym counted) (raised_step log (scene log disk x.parts old.shelf) mid n (disk shelf.store) shelf.next step)
+    (mid p : Parts L) (n : ℕ) (gs : Groups) (shelf : Shelved S) (counted : p ≡ raised mid n) (step : IsChange (scene log disk x.parts old.shelf) (scene log disk mid shelf)) where
+  step_called : IsChange (scene log disk x.parts old.shelf) (scene log disk p shelf)
+  step_called = subst (λ (v : Parts L). IsChange (scene log disk x.parts old.shelf) (scene log disk v shelf)) (sym counted) (raised_change log (scene log disk x.parts old.shelf) mid n (disk shelf.store) shelf.next step)
 
   -- where the tenant is looked at
   pub kept_called : (until : ℤ) → until ≤ℤ old.next_retention_time → IsQuiet log (record x { parts = p; groups = gs }) until → AreKept log disk (record (after old t x p gs shelf) { next_retention_time = until })
@@ -471,6 +472,16 @@ module _ {L S : Type 0} (log : L → Log) (disk : S → Disk) (law : (l : L) →
   pub now_called : kept_of (hosted log disk (after old t x p gs shelf)) t ≡ kept_in (world_of log p (disk shelf.store).files) gs
   now_called = kept_now log disk law old t x p gs shelf lt read kept step_called
 
+  -- what the tenant kept
+  pub was_called : kept_of (hosted log disk old) t ≡ kept_in (world_of log x.parts (disk old.shelf.store).files) x.groups
+  was_called = kept_here log (disk old.shelf.store).files old.tenants.items t x (stands log disk old t x lt read)
+
+  -- how many commands the log of its catalog has recorded
+  pub commands_called : commands_of log (after old t x p gs shelf) t ≡ (meta log mid).end
+  commands_called =
+      let there = there_after log disk law old t x p gs shelf lt read kept step_called in
+      commands_here log (after old t x p gs shelf).tenants.items t (record x { parts = p; groups = gs }) there ∙ ap (λ (v : Parts L). (meta log v).end) counted
+
   -- what is told, where the store is honest, of what the tenant has recorded, kept before and keeps now, is told of what is seen
   pub truthful_called : (P : ℕ → Kept → Kept → Type 0)
       → WhereHonest (scene log disk x.parts old.shelf) (scene log disk mid shelf) (P (meta log mid).end
@@ -482,13 +493,10 @@ module _ {L S : Type 0} (log : L → Log) (disk : S → Disk) (law : (l : L) →
       let n = commands_of log new t in
       let was = kept_in (world_of log x.parts (disk old.shelf.store).files) x.groups in
       let is : Parts L → Kept = λ v. kept_in (world_of log v (disk shelf.store).files) gs in
-      let there = there_after log disk law old t x p gs shelf lt read kept step_called in
-      let counts : n ≡ (meta log mid).end =
-      commands_here log new.tenants.items t (record x { parts = p; groups = gs }) there ∙ ap (λ (v : Parts L). (meta log v).end) counted in
       subst (λ k. P n k (kept_of (hosted log disk new) t))
-      (sym (kept_here log (disk old.shelf.store).files old.tenants.items t x (stands log disk old t x lt read)))
+      (sym was_called)
       (subst (P n was) (sym (now_called ∙ ap is counted))
-      (subst (λ m. P m was (is mid)) (sym counts)
+      (subst (λ m. P m was (is mid)) (sym commands_called)
       (told honest (kept.agree (step.frame.others.honest honest) t x.parts (parts_stand log disk old t x lt read)))))
 
   -- what holds of the groups before and now is seen
@@ -507,7 +515,7 @@ module _ {L S : Type 0} (log : L → Log) (disk : S → Disk) (law : (l : L) →
       let now : Parts L → Kept = λ v. kept_in (world_of log v (disk shelf.store).files) gs in
       met_after log disk law old t x p gs shelf lt read kept step_called P
       (subst (λ (v : Parts L). Meets a (scene log disk v shelf) (P was (now v))) (sym counted)
-      (raised_meets log a mid n (disk shelf.store) shelf.next (P was (now mid)) step meets))
+      (raised_met log a mid n (disk shelf.store) shelf.next step (P was (now mid)) meets))
 
   -- where the world and the groups stay, all keep what they kept
   pub stays_called : gs ≡ x.groups → ((disk shelf.store).honest → Agrees log x.parts (disk old.shelf.store).files → world_of log mid (disk shelf.store).files ≡ world_of log x.parts (disk old.shelf.store).files)

@@ -2,6 +2,7 @@ pub mod Accounted
 pub mod Added
 pub mod Alone
 pub mod Answered
+pub mod Change
 pub mod Ended
 pub mod Hosted
 pub mod Idle
@@ -9,6 +10,7 @@ pub mod KeptIn
 pub mod Members
 pub mod Others
 pub mod Passed
+pub mod Renewal
 pub mod Small
 pub mod SmallLog
 pub mod Synced

@@ -1,3 +1,4 @@
 pub mod Members
+pub mod Renewal
 pub mod Tenants
 pub mod Turns

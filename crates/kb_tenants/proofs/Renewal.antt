@@ -1,7 +1,7 @@
 -- What a renewal of a catalog, and a look at it, leave of all tenants.
-use Rattle.std.proofs.Common.{◌≡◌, ◌∙◌, ◌⊎◌, ⊎_elim, inl, inr, ◌≤◌, ◌<◌, ◌+◌, ◌*◌, ◌^◌, ◌&&◌, ℕ, zero, suc, Bool, true, false, cond, nat_le, nat_lt, List, [], ◌∷◌, Some, length, get_or, sym, ap, refl, subst, arith}
+use Rattle.std.proofs.Common.{◌≡◌, ◌∙◌, ◌⊎◌, ⊎_elim, inl, inr, ◌≤◌, ◌<◌, ◌+◌, ◌^◌, ◌&&◌, ℕ, zero, suc, Bool, true, false, cond, nat_le, nat_lt, List, [], ◌∷◌, Some, length, get_or, sym, ap, refl, subst, arith}
 use Rattle.std.proofs.lemmas.Bool.Decides.{nat_tests}
-use Rattle.std.specs.Prelude.{map, max, min, slice_get, slice_set, string_bytes}
+use Rattle.std.specs.Prelude.{map, max, min, slice_get, string_bytes}
 use Rattle.std.specs.Vec.{with_item}
 use Rattle.std.proofs.Math.Seq.{map-set_same}
 use Rattle.kb_store.specs.Disk.{Disk}
@@ -11,15 +11,15 @@ use Rattle.kb_topics.specs.declared.fault.CatalogFault.{CatalogFault}
 use Rattle.std.specs.Prelude.{Result, Ok, Err}
 use Rattle.kb_snapshot.specs.Renewal.{IsRenewal, Renews}
 use Rattle.kb_snapshot.specs.Snapshot as snapshots
-use Rattle.kb_tenant_state.specs.Counts.{END, IsCalm, counted_once}
+use Rattle.kb_tenant_state.specs.Counts.{END, IsCalm}
 use Rattle.kb_tenant_state.specs.Parts.{Seen, meta, raised, scene}
 use Rattle.kb_tenant_state.specs.Scene.{Scene}
 use Rattle.kb_tenant_state.specs.Steps.{calm_then}
 use Rattle.kb_tenant_state.specs.declared.parts.Parts.{Parts}
 use Rattle.kb_tenant_state.proofs.Put.{get_put}
-use Rattle.kb_tenant_api.specs.Hosted.{Kept, kept_in, kept_of, refusals_of}
+use Rattle.kb_tenant_api.specs.Hosted.{kept_of, refusals_of}
 use Rattle.kb_tenant_api.specs.Turns.{IsAccounted, IsTurn}
-use Rattle.kb_tenants.specs.Renewal.{IsLookedAt, IsRenewalDue, IsRenewedIfDue, MAX_SNAPSHOT, MIN_COMMANDS, is_due, limit, next_look, renew_at_of, snapshot_of}
+use Rattle.kb_tenants.specs.Renewal.{IsLookedAt, IsRenewedIfDue, MAX_SNAPSHOT, MIN_COMMANDS, is_due, limit, next_look, renew_at_of, snapshot_of}
 use Rattle.kb_tenants.specs.Tenants.{AreKept, AreSettled, AreSound, Agree, HaveNothingRefused, IsIdleUntil, IsLeftAlone, commands_of, hosted, parts_of, shelf_is_honest, state_of, strays_of}
 use Rattle.kb_tenants.specs.declared.tenants.Tenant.{Tenant}
 use Rattle.kb_tenants.specs.declared.tenants.Tenants.{Tenants}

@@ -1,12 +1,13 @@
 -- Why a file is of no log, by what its first bytes say.
-use Rattle.std.specs.Prelude.{◌==◌, ◌&&◌, ℕ, Bool, true, false, nat_le, nat_lt, List, [], ◌∷◌, length, take, Option, Some, None, if◌then◌else◌}
+use Rattle.std.specs.Prelude.{◌==◌, ◌&&◌, ◌||◌, ℕ, Bool, true, false, nat_le, nat_lt, List, [], ◌∷◌, length, take, Option, Some, None, if◌then◌else◌}
 use Rattle.std.specs.Int.{w16, w32}
 use Rattle.std.specs.Str.{bytes_eq}
 use Rattle.kb_batch.specs.Batch.{is_natural, natural}
 use Rattle.kb_batch.specs.Header.{number_at}
 use Rattle.kb_segment.specs.Header.{Header, header_in}
 use Rattle.kb_survey.specs.declared.stray.Stray.{Stray}
-use Rattle.kb_survey.specs.declared.stray.Stray.TheVariants.{Short, Unreadable, LaterVersion, LaterGeneration, OfNobody, NeverGivenOut, OfNoTopic}
+use Rattle.kb_survey.specs.declared.stray.Stray.TheVariants.{Short, Unreadable, LaterVersion, LaterGeneration}
+use Rattle.kb_survey.specs.declared.stray.Stray.TheVariants.{OfNobody, NeverGivenOut, Unfinished, OfNoTopic}
 
 -- of some tenants' next instances that of the tenant of a name
 abbrev pub next_of : List ℕ → List (List ℕ) → List ℕ → Option ℕ
@@ -14,13 +15,24 @@ next_of name [] nexts = None
 next_of name (n ∷ names) [] = None
 next_of name (n ∷ names) (next ∷ nexts) = if bytes_eq name n then Some next else next_of name names nexts
 
+-- it is of a catalog's generation above the first one, which begins with a snapshot
+abbrev pub is_of_snapshot : Header → Bool
+is_of_snapshot h = is_natural 1 h.kind && nat_lt 0 (natural h.generation)
+
 -- A file of a topic is of none that was ever made where its instance was not given out yet.
+abbrev pub is_never_given_out : Header → ℕ → Bool
+is_never_given_out h next = is_natural 0 h.kind && nat_le next (natural h.instance)
+
+-- Of a tenant that gives out an instance next: the snapshot was not finished, or this one took its place.
 abbrev pub stray_by : Header → Option ℕ → Stray
 stray_by h None = OfNobody
-stray_by h (Some next) = if is_natural 0 h.kind && nat_le next (natural h.instance) then NeverGivenOut else OfNoTopic
+stray_by h (Some next) =
+    if is_of_snapshot h then Unfinished else (if is_never_given_out h next then NeverGivenOut else OfNoTopic)
 
+-- This version knows generations of catalogs alone.
 abbrev pub stray_with : Header → List (List ℕ) → List ℕ → Stray
-stray_with h names nexts = if is_natural 0 h.generation then stray_by h (next_of h.tenant names nexts) else LaterGeneration
+stray_with h names nexts =
+    if is_natural 1 h.kind || is_natural 0 h.generation then stray_by h (next_of h.tenant names nexts) else LaterGeneration
 
 -- six bytes begin a header of a version above 2
 abbrev pub is_later : List ℕ → Bool
@@ -46,4 +58,5 @@ is_unfit LaterGeneration = true
 is_unfit Short = false
 is_unfit Unreadable = false
 is_unfit OfNobody = false
+is_unfit Unfinished = false
 is_unfit OfNoTopic = false

@@ -11,7 +11,7 @@ mod postponed;
 mod stray;
 mod whole;
 
-pub use look::{bytes_among, header_among, stray_among, whole_among};
+pub use look::{bytes_among, front_end_among, header_among, stray_among, whole_among};
 pub use postponed::{Postponed, PutsOff};
 pub use stray::{Stray, read_stray};
-pub use whole::{Whole, whole_batches};
+pub use whole::{Whole, front_len, whole_batches};

@@ -1,19 +1,24 @@
 -- What is lost, file by file, on a disk of the same files.
 use Rattle.std.proofs.Common.{◌≡◌, ◌∙◌, ◌<◌, ◌+◌, ◌++◌, ℕ, List, [], ◌∷◌, length, drop, get_or, drop-cons, add-one, append_assoc, sym, ap}
-use Rattle.std.proofs.Common.{None, if◌then◌else◌, nat_lt, unwrap_or}
+use Rattle.std.proofs.Common.{Option, Some, None, ◌&&◌, ◌||◌, Bool, true, false, not, is_some, if◌then◌else◌, nat_lt, unwrap_or, refl}
 use Rattle.std.specs.FinMap.{get, keys}
 use Rattle.kb_store.specs.Disk.{Disk, Files, Table}
-use Rattle.kb_segment.specs.Header.{header_in}
+use Rattle.kb_segment.specs.Header.{Header, header_in}
 use Rattle.kb_survey.specs.Listed.{is_in}
-use Rattle.kb_survey.specs.Whole.{none, whole_in}
+use Rattle.kb_survey.specs.Whole.{front_end, none, whole_in}
 use Rattle.kb_start.specs.declared.left.Left.{Left}
 use Rattle.kb_start.specs.declared.losses.Loss.{Loss}
-use Rattle.kb_start.specs.Left.{is_dropped}
-use Rattle.kb_start.specs.Starts.{start_of}
-use Rattle.kb_start.specs.Survey.{loss_of, losses_of, Known}
+use Rattle.kb_start.specs.Left.{any_dropped, is_dropped}
+use Rattle.kb_start.specs.Starts.{header_at, start_of}
+use Rattle.kb_start.specs.Survey.{front_end_at, is_superseded, loss_at, loss_of, losses_of, snapshot_at, snapshot_by, snapshots_in_use, Known}
+use Rattle.kb_start.specs.Survey.{stray_at, stray_loss, stray_losses, unfit_after, with_stray}
+use Rattle.kb_survey.specs.Stray.{stray_of}
+use Rattle.kb_survey.specs.declared.stray.Stray.{Stray}
+use Rattle.kb_survey.specs.declared.stray.Stray.TheVariants.{Short, Unreadable, LaterVersion, LaterGeneration}
+use Rattle.kb_survey.specs.declared.stray.Stray.TheVariants.{OfNobody, NeverGivenOut, Unfinished, OfNoTopic}
 
-same_loss : (k : Known) (d e : Disk) (l : Left) → e.table ≡ d.table → e.files ≡ d.files → loss_of k e l ≡ loss_of k d l
-same_loss k d e l t f = ap (λ table. of_both table e.files) t ∙ ap (of_both d.table) f
+same_loss : (k : Known) (u : List Header) (d e : Disk) (l : Left) → e.table ≡ d.table → e.files ≡ d.files → loss_of k u e l ≡ loss_of k u d l
+same_loss k u d e l t f = ap (λ table. of_both table e.files) t ∙ ap (of_both d.table) f
   where
     of_both : Table → Files → List Loss
     of_both table files =
@@ -21,16 +26,122 @@ same_loss k d e l t f = ap (λ table. of_both table e.files) t ∙ ap (of_both d
         let header = if is_in (keys table) l.file then header_in bytes else None in
         let start = start_of k.names k.starts header in
         let whole = if is_in (keys table) l.file then whole_in start (drop (unwrap_or l.after 0) bytes) else none in
-        if is_dropped l then (if nat_lt 0 whole.batches then record { file = l.file; header = header; whole = whole } ∷ [] else []) else []
+        if is_dropped l && not (is_superseded u header) then (if nat_lt 0 whole.batches then record { file = l.file; header = header; whole = whole } ∷ [] else []) else []
 
 -- with one more file
-pub lost_next : (k : Known) (d e : Disk) (files : List Left) (i : ℕ) (other : Left) (before now first : List Loss)
-    → i < length files → e.table ≡ d.table → e.files ≡ d.files → now ≡ before ++ loss_of k e (get_or files i other)
-    → before ++ losses_of k d (drop i files) ≡ first → now ++ losses_of k d (drop (i + 1) files) ≡ first
-lost_next k d e files i other before now first in_range t f is told =
+pub lost_next : (k : Known) (u : List Header) (d e : Disk) (files : List Left) (i : ℕ) (other : Left) (before now first : List Loss)
+    → i < length files → e.table ≡ d.table → e.files ≡ d.files → now ≡ before ++ loss_of k u e (get_or files i other)
+    → before ++ losses_of k u d (drop i files) ≡ first → now ++ losses_of k u d (drop (i + 1) files) ≡ first
+lost_next k u d e files i other before now first in_range t f is told =
     let l = get_or files i other in
-    let rest = losses_of k d (drop (i + 1) files) in
+    let rest = losses_of k u d (drop (i + 1) files) in
     let next : drop i files ≡ get_or files i other ∷ drop (i + 1) files = rw (add-one, drop-cons files i other in_range) in
-    ap (λ ls. ls ++ rest) is ∙ append_assoc before (loss_of k e l) rest
-    ∙ ap (λ ls. before ++ (ls ++ rest)) (same_loss k d e l t f)
-    ∙ ap (λ fs. before ++ losses_of k d fs) (sym next) ∙ told
+    ap (λ ls. ls ++ rest) is ∙ append_assoc before (loss_of k u e l) rest
+    ∙ ap (λ ls. before ++ (ls ++ rest)) (same_loss k u d e l t f)
+    ∙ ap (λ fs. before ++ losses_of k u d fs) (sym next) ∙ told
+
+either : (a b : Bool) → (a || b) ≡ false → (a ≡ false) × (b ≡ false)
+either true b e = absurd cc
+either false b e = (refl, e)
+
+-- where no file is dropped
+pub none_lost : (k : Known) (u : List Header) (d : Disk) (ls : List Left) → any_dropped ls ≡ false → losses_of k u d ls ≡ []
+none_lost k u d [] e = refl
+none_lost k u d (l ∷ ls) e =
+    let both = either (is_dropped l) (any_dropped ls) e in
+    let lost = loss_at k d l.file (unwrap_or l.after 0) in
+    ap (λ b. (if b && not (is_superseded u (header_at d l.file)) then lost else []) ++ losses_of k u d ls) both.0 ∙ none_lost k u d ls both.1
+
+-- ---- what is in use, file by file
+
+same_snapshot : (strays : List ℕ) (d e : Disk) (l : Left) → e.table ≡ d.table → e.files ≡ d.files → snapshot_at e strays l ≡ snapshot_at d strays l
+same_snapshot strays d e l t f = ap (λ table. of_both table e.files) t ∙ ap (of_both d.table) f
+  where
+    of_both : Table → Files → List Header
+    of_both table files =
+        let header = if is_in (keys table) l.file then header_in (unwrap_or (get files l.file) []) else None in
+        if is_some l.after && not (is_in strays l.file) then snapshot_by header else []
+
+-- with one more file
+pub snapshots_next : (strays : List ℕ) (d e : Disk) (files : List Left) (i : ℕ) (other : Left) (before now all : List Header)
+    → i < length files → e.table ≡ d.table → e.files ≡ d.files → now ≡ before ++ snapshot_at e strays (get_or files i other)
+    → before ++ snapshots_in_use d strays (drop i files) ≡ all → now ++ snapshots_in_use d strays (drop (i + 1) files) ≡ all
+snapshots_next strays d e files i other before now all in_range t f is told =
+    let l = get_or files i other in
+    let rest = snapshots_in_use d strays (drop (i + 1) files) in
+    let next : drop i files ≡ get_or files i other ∷ drop (i + 1) files = rw (add-one, drop-cons files i other in_range) in
+    ap (λ hs. hs ++ rest) is ∙ append_assoc before (snapshot_at e strays l) rest
+    ∙ ap (λ hs. before ++ (hs ++ rest)) (same_snapshot strays d e l t f)
+    ∙ ap (λ fs. before ++ snapshots_in_use d strays fs) (sym next) ∙ told
+
+-- ---- files that are of no log, one after another
+
+same_header : (d e : Disk) (file : ℕ) → e.table ≡ d.table → e.files ≡ d.files → header_at e file ≡ header_at d file
+same_header d e file t f = ap (λ table. of_both table e.files) t ∙ ap (of_both d.table) f
+  where
+    of_both : Table → Files → Option Header
+    of_both table files = if is_in (keys table) file then header_in (unwrap_or (get files file) []) else None
+
+same_stray : (d e : Disk) (names : List (List ℕ)) (nexts : List ℕ) (file : ℕ) → e.table ≡ d.table → e.files ≡ d.files
+    → stray_at e names nexts file ≡ stray_at d names nexts file
+same_stray d e names nexts file t f = ap (λ table. of_both table e.files) t ∙ ap (of_both d.table) f
+  where
+    of_both : Table → Files → Option Stray
+    of_both table files = if is_in (keys table) file then Some (stray_of (unwrap_or (get files file) []) names nexts) else None
+
+same_loss_at : (k : Known) (d e : Disk) (file place : ℕ) → e.table ≡ d.table → e.files ≡ d.files → loss_at k e file place ≡ loss_at k d file place
+same_loss_at k d e file place t f = ap (λ table. of_both table e.files) t ∙ ap (of_both d.table) f
+  where
+    of_both : Table → Files → List Loss
+    of_both table files =
+        let bytes = unwrap_or (get files file) [] in
+        let header = if is_in (keys table) file then header_in bytes else None in
+        let start = start_of k.names k.starts header in
+        let whole = if is_in (keys table) file then whole_in start (drop place bytes) else none in
+        if nat_lt 0 whole.batches then record { file = file; header = header; whole = whole } ∷ [] else []
+
+same_place : (d e : Disk) (file : ℕ) (o : Option Header) → e.table ≡ d.table → e.files ≡ d.files → front_end_at e file o ≡ front_end_at d file o
+same_place d e file None t f = refl
+same_place d e file (Some h) t f = ap (λ table. of_both table e.files) t ∙ ap (of_both d.table) f
+  where
+    of_both : Table → Files → ℕ
+    of_both table files = if is_in (keys table) file then front_end h.size (unwrap_or (get files file) []) else h.size
+
+same_stray_loss : (k : Known) (d e : Disk) (file : ℕ) (o : Option Stray) → e.table ≡ d.table → e.files ≡ d.files
+    → stray_loss k e file o ≡ stray_loss k d file o
+same_stray_loss k d e file None t f = refl
+same_stray_loss k d e file (Some Unreadable) t f = same_loss_at k d e file 0 t f
+same_stray_loss k d e file (Some Unfinished) t f =
+    same_loss_at k d e file (front_end_at e file (header_at e file)) t f
+    ∙ ap (loss_at k d file) (same_place d e file (header_at e file) t f ∙ ap (front_end_at d file) (same_header d e file t f))
+same_stray_loss k d e file (Some Short) t f = refl
+same_stray_loss k d e file (Some LaterVersion) t f = refl
+same_stray_loss k d e file (Some LaterGeneration) t f = refl
+same_stray_loss k d e file (Some OfNobody) t f = refl
+same_stray_loss k d e file (Some NeverGivenOut) t f = refl
+same_stray_loss k d e file (Some OfNoTopic) t f = refl
+
+-- the losses with one more file
+pub stray_next : (k : Known) (nexts : List ℕ) (d e : Disk) (files : List ℕ) (i other : ℕ) (before now first : List Loss)
+    → i < length files → e.table ≡ d.table → e.files ≡ d.files
+    → now ≡ before ++ stray_loss k e (get_or files i other) (stray_at e k.names nexts (get_or files i other))
+    → before ++ stray_losses k d nexts (drop i files) ≡ first → now ++ stray_losses k d nexts (drop (i + 1) files) ≡ first
+stray_next k nexts d e files i other before now first in_range t f is told =
+    let file = get_or files i other in
+    let rest = stray_losses k d nexts (drop (i + 1) files) in
+    let next : drop i files ≡ file ∷ drop (i + 1) files = rw (add-one, drop-cons files i other in_range) in
+    let same : stray_loss k e file (stray_at e k.names nexts file) ≡ stray_loss k d file (stray_at d k.names nexts file) =
+    same_stray_loss k d e file (stray_at e k.names nexts file) t f ∙ ap (stray_loss k d file) (same_stray d e k.names nexts file t f) in
+    ap (λ ls. ls ++ rest) is ∙ append_assoc before (stray_loss k e file (stray_at e k.names nexts file)) rest
+    ∙ ap (λ ls. before ++ (ls ++ rest)) same ∙ ap (λ fs. before ++ stray_losses k d nexts fs) (sym next) ∙ told
+
+-- and how many are in the way
+pub unfit_next : (names : List (List ℕ)) (nexts : List ℕ) (d e : Disk) (files : List ℕ) (i other before now first : ℕ)
+    → i < length files → e.table ≡ d.table → e.files ≡ d.files → now ≡ with_stray before (stray_at e names nexts (get_or files i other))
+    → unfit_after d names nexts before (drop i files) ≡ first → unfit_after d names nexts now (drop (i + 1) files) ≡ first
+unfit_next names nexts d e files i other before now first in_range t f is told =
+    let file = get_or files i other in
+    let rest = drop (i + 1) files in
+    let next : drop i files ≡ file ∷ rest = rw (add-one, drop-cons files i other in_range) in
+    ap (λ n. unfit_after d names nexts n rest) (is ∙ ap (with_stray before) (same_stray d e names nexts file t f))
+    ∙ ap (unfit_after d names nexts before) (sym next) ∙ told

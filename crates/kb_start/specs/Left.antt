@@ -1,5 +1,5 @@
 -- What an opening leaves of files.
-use Rattle.std.specs.Prelude.{◌+◌, ◌==◌, ℕ, Bool, true, not, min, List, [], ◌∷◌, Option, Some, None}
+use Rattle.std.specs.Prelude.{◌+◌, ◌==◌, ◌||◌, ℕ, Bool, true, false, not, min, List, [], ◌∷◌, Option, Some, None}
 use Rattle.kb_start.specs.declared.left.Left.{Left}
 use Rattle.kb_start.specs.declared.left.Total.{Total}
 
@@ -10,6 +10,11 @@ is_other before (Some after) = not (after == before)
 -- it is gone, or has another length
 abbrev pub is_dropped : Left → Bool
 is_dropped l = is_other l.before l.after
+
+-- one of some files is
+abbrev pub any_dropped : List Left → Bool
+any_dropped [] = false
+any_dropped (l ∷ ls) = is_dropped l || any_dropped ls
 
 -- a number, and u64's end for a greater one
 abbrev pub told : ℕ → ℕ

@@ -1,7 +1,7 @@
 //! What an opening leaves of files.
 
 ghost use Rattle.std.specs.Prelude.{◌≡◌};
-ghost use Rattle.kb_start.specs.Left.{is_dropped, total_of, with_file};
+ghost use Rattle.kb_start.specs.Left.{any_dropped, is_dropped, total_of, with_file};
 
 /// A file before and after an opening.
 #[derive(Clone, Copy, Debug, PartialEq, Eq)]
@@ -23,6 +23,18 @@ impl Left {
             None => true,
         }
     }
+}
+
+/// Whether one of some files is gone, or has another length.
+pub(crate) fn any_dropped(files: &[Left]) -> bool
+    ensures { result ≡ any_dropped files.now }
+{
+    for file in files {
+        if file.is_dropped() {
+            return true;
+        }
+    }
+    false
 }
 
 /// How many files are there, and how many bytes they have together. More than each `u64` are told as the greatest.

@@ -8,6 +8,7 @@
 mod left;
 mod losses;
 mod starts;
+mod superseded;
 mod text;
 mod verdict;
 

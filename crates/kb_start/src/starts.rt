@@ -2,7 +2,7 @@
 
 ghost use Rattle.std.specs.Prelude.{◌≡◌, ◌≤◌, ◌<◌, [], List, length, drop, map, option_copied, IfOk};
 ghost use Rattle.std.specs.FinMap.{keys};
-ghost use Rattle.kb_store.specs.Disk.{Keeps};
+ghost use Rattle.kb_store.specs.Disk.{HasCause, Keeps};
 ghost use Rattle.kb_survey.specs.Whole.{batches_in};
 ghost use Rattle.kb_topics.specs.declared.command.MoveStart.{MoveStart};
 ghost use Rattle.kb_start.specs.Starts.{batches_at, batches_of, greatest_start, is_catalogs, start_among, start_of, starts_named};
@@ -25,6 +25,7 @@ pub fn recorded_starts<S: Store>(
     ensures starts { IfOk result (λ starts. (S.disk store.new).honest
         → AreRecorded (S.disk store.old) (map (λ name. name.now) tenants.now) (map (λ of. of.items) starts.items)) }
     ensures unchanged { Keeps (S.disk store.old) (S.disk store.new) }
+    ensures cause { HasCause (S.disk store.old) result (S.disk store.new) }
 {
     let mut starts = Vec::new(alloc);
     for tenant in tenants {
@@ -42,6 +43,7 @@ fn starts_of<S: Store>(
     ensures starts { IfOk result (λ starts. (S.disk store.new).honest
         → RecordsEach (batches_of (S.disk store.old) tenant.now (keys (S.disk store.old).table)) [] starts.items) }
     ensures unchanged { Keeps (S.disk store.old) (S.disk store.new) }
+    ensures cause { HasCause (S.disk store.old) result (S.disk store.new) }
 {
     let listed = store.list(alloc)?;
     let mut starts = Vec::new(alloc);
@@ -61,6 +63,7 @@ fn add_starts_among<S: Store>(
     ensures starts { IfOk result (λ _. (S.disk store.new).honest
         → RecordsEach (batches_of (S.disk store.old) tenant.now listed.now) starts.old.items starts.new.items) }
     ensures unchanged { Keeps (S.disk store.old) (S.disk store.new) }
+    ensures cause { HasCause (S.disk store.old) result (S.disk store.new) }
 {
     for file in listed {
         add_starts_at(alloc, store, listed, tenant, *file, starts)?;
@@ -81,6 +84,7 @@ fn add_starts_at<S: Store>(
     ensures starts { IfOk result (λ _. (S.disk store.new).honest
         → RecordsEach (batches_at (S.disk store.old) tenant.now file) starts.old.items starts.new.items) }
     ensures unchanged { Keeps (S.disk store.old) (S.disk store.new) }
+    ensures cause { HasCause (S.disk store.old) result (S.disk store.new) }
 {
     let header = header_among(alloc, store, listed, file)?;
     if !is_catalogs(tenant, header.as_ref()) {

@@ -1,4 +1,4 @@
-use Rattle.std.proofs.Common.{◌≡◌, ◌++◌, drop}
+use Rattle.std.proofs.Common.{◌≡◌, ◌≤◌, ◌++◌, drop}
 use Rattle.std.specs.FinMap.{keys}
 use Rattle.kb_store.specs.Disk.{Keeps}
 use Rattle.kb_start.specs.Survey.{known_of, stray_losses, unfit_after}
@@ -14,6 +14,7 @@ invariant-loop-file g l =
     record {
       listed : l.listed ≡ keys now.table;
       unchanged : Keeps old now;
+      later : old.failures ≤ now.failures;
       told : now.honest → l.survey.losses.items ++ stray_losses known old nexts (drop l.file-index l.opened.strays.now)
           ≡ l.initial.survey.losses.items ++ stray_losses known old nexts l.opened.strays.now;
       counted : now.honest → unfit_after old known.names nexts l.survey.strays.unfit (drop l.file-index l.opened.strays.now)

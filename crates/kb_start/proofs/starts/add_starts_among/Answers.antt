@@ -13,6 +13,7 @@ loop-file-preserved g c =
     record {
       listed = i.listed ∙ ap keys (sym same.table);
       unchanged = kept_twice (disk c.args.store.now) (disk c.loop-file.store) (disk c.add_starts_at.new.store) i.unchanged same;
+      later = omega (arith, i.later, c.add_starts_at.ensures.cause.later);
       told = λ honest after rest.
           let before = same.honest honest in
           i.told before after (recorded_file (disk c.args.store.now) (disk c.loop-file.store) c.args.tenant.now c.args.listed.now

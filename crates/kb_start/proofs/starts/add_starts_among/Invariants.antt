@@ -1,4 +1,4 @@
-use Rattle.std.proofs.Common.{◌≡◌, List, drop}
+use Rattle.std.proofs.Common.{◌≡◌, ◌≤◌, List, drop}
 use Rattle.std.specs.FinMap.{keys}
 use Rattle.kb_store.specs.Disk.{Keeps}
 use Rattle.kb_topics.specs.declared.command.MoveStart.{MoveStart}
@@ -13,6 +13,7 @@ invariant-loop-file g l =
     record {
       listed : l.listed ≡ keys now.table;
       unchanged : Keeps old now;
+      later : old.failures ≤ now.failures;
       told : now.honest → (after : List MoveStart) → RecordsEach (batches_of old l.tenant (drop l.file-index l.listed)) l.starts.items after
           → RecordsEach (batches_of old l.tenant l.listed) l.initial.starts.items after;
     }

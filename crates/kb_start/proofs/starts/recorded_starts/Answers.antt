@@ -12,6 +12,7 @@ loop-tenant-preserved g c =
     let same = c.starts_of.ensures.unchanged in
     record {
       unchanged = kept_twice (disk c.args.store.now) (disk c.loop-tenant.store) (disk c.starts_of.new.store) i.unchanged same;
+      later = omega (arith, i.later, c.starts_of.ensures.cause.later);
       told = λ honest.
           let before = same.honest honest in
           recorded_tenant (disk c.args.store.now) (disk c.loop-tenant.store) (λ name. name.now) (λ of. of.items) c.args.tenants.now

@@ -1,4 +1,4 @@
-use Rattle.std.proofs.Common.{◌++◌, List, drop, map}
+use Rattle.std.proofs.Common.{◌≤◌, ◌++◌, List, drop, map}
 use Rattle.kb_store.specs.Disk.{Keeps}
 use Rattle.kb_topics.specs.declared.command.MoveStart.{MoveStart}
 use Rattle.kb_start.specs.Starts.{AreRecorded}
@@ -11,6 +11,7 @@ invariant-loop-tenant g l =
     let now = g.S.Store.disk l.store in
     record {
       unchanged : Keeps old now;
+      later : old.failures ≤ now.failures;
       told : now.honest → (more : List (List MoveStart)) → AreRecorded old (map (λ name. name.now) (drop l.tenant-index l.tenants)) more
           → AreRecorded old (map (λ name. name.now) l.tenants) (map (λ of. of.items) l.starts.items ++ more);
     }

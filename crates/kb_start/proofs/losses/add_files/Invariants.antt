@@ -1,8 +1,8 @@
-use Rattle.std.proofs.Common.{◌≡◌, ◌++◌, drop}
+use Rattle.std.proofs.Common.{◌≡◌, ◌≤◌, ◌++◌, drop}
 use Rattle.std.specs.FinMap.{keys}
 use Rattle.kb_store.specs.Disk.{Keeps}
 use Rattle.kb_start.specs.Survey.{known_of, losses_of}
-use Rattle.kb_start.proofs.losses.add_dropped.Given as goal
+use Rattle.kb_start.proofs.losses.add_files.Given as goal
 
 -- the losses so far, and those of the files that are left
 abbrev pub invariant-loop-file : goal.invariant-loop-file
@@ -12,6 +12,7 @@ invariant-loop-file g l =
     record {
       listed : l.listed ≡ keys now.table;
       unchanged : Keeps old now;
-      told : now.honest → l.losses.items ++ losses_of (known_of l.opened) old (drop l.file-index l.opened.files.now)
-          ≡ l.initial.losses.items ++ losses_of (known_of l.opened) old l.opened.files.now;
+      later : old.failures ≤ now.failures;
+      told : now.honest → l.losses.items ++ losses_of (known_of l.opened) l.snapshots old (drop l.file-index l.opened.files.now)
+          ≡ l.initial.losses.items ++ losses_of (known_of l.opened) l.snapshots old l.opened.files.now;
     }

@@ -1,3 +1,4 @@
+pub mod Booked
 pub mod Limits
 pub mod Parts
 pub mod Pieces

@@ -53,7 +53,8 @@ limit-after_all size i (call ∷ calls) p pieces h =
     let more = limit-after_all size i calls (after call p) pieces.1 (omega (arith, step, same)) in
     omega (arith, more, same)
 
-idle_at : (total : ℕ) (shares : List Share) (i : ℕ) → used_by i (fresh total shares) ≡ 0
+-- nothing is used of new shares
+pub idle_at : (total : ℕ) (shares : List Share) (i : ℕ) → used_by i (fresh total shares) ≡ 0
 idle_at total [] i = refl
 idle_at total (s ∷ shares) zero = refl
 idle_at total (s ∷ shares) (suc i) = idle_at total shares i

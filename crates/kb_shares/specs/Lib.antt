@@ -1,3 +1,4 @@
 pub mod Calls
 pub mod Holder
+pub mod Ledger
 pub mod Shares

@@ -6,14 +6,18 @@
 //! `take` answers true exactly where the holder stays within its limit, and what it then has above its own part is free for it of the
 //! common rest. So a holder within its own part always gets more of it, whatever others hold. A [`Budget`] keeps how much all have above
 //! their parts, so no call but `new` goes over the holders.
+//!
+//! A [`Ledger`] is a budget, and of which member each part of it is that a holder has: so each gives back just what was counted of it.
 #![tactic(auto)]
 
 mod budget;
 mod fault;
+mod ledger;
 mod promises;
 mod share;
 
 pub use budget::Budget;
 pub use fault::BudgetFault;
+pub use ledger::{Booking, Ledger};
 pub use promises::{nobody_takes_too_much, own_part_is_free, room_is_exact};
 pub use share::Share;

@@ -1,5 +1,5 @@
 -- How much is counted for a holder, after one more member and one less.
-use Rattle.std.proofs.Common.{◌≡◌, ◌≢◌, ◌≤◌, ◌+◌, ℕ, arith, Option, None, Some, if◌then◌else◌, nat_eq, unwrap_or, option_map, List, [], subst, sym, ap, ⊎_elim}
+use Rattle.std.proofs.Common.{◌≡◌, ◌≢◌, ◌≤◌, ◌+◌, ℕ, arith, Option, None, Some, unwrap_or, option_map, List, [], subst, sym, ap, ⊎_elim}
 use Rattle.std.specs.Ordering.{nat_cmp}
 use Rattle.std.specs.Map.{keys_of}
 use Rattle.std.specs.BTreeMap.{insert_entry, is_at}

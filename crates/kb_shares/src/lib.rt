@@ -8,6 +8,8 @@
 //! their parts, so no call but `new` goes over the holders.
 //!
 //! A [`Ledger`] is a budget, and of which member each part of it is that a holder has: so each gives back just what was counted of it.
+//!
+//! [`Turns`] is a queue of members, in which holders take turns and so do the members of each.
 #![tactic(auto)]
 
 mod budget;
@@ -15,9 +17,11 @@ mod fault;
 mod ledger;
 mod promises;
 mod share;
+mod turns;
 
 pub use budget::Budget;
 pub use fault::BudgetFault;
 pub use ledger::{Booking, Ledger};
-pub use promises::{nobody_takes_too_much, own_part_is_free, room_is_exact};
+pub use promises::{nobody_takes_too_much, own_part_is_free, room_is_exact, turns_go_round};
 pub use share::Share;
+pub use turns::Turns;

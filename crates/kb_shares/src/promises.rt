@@ -1,9 +1,10 @@
 //! Laws about whole lists of calls, each as the contract of a function with an empty body.
 
-ghost use Rattle.std.specs.Prelude.{◌≡◌, ◌≤◌, ◌<◌, ◌+◌, ◌-◌, ◌*◌, ◌&&◌, ℕ, List, true, length, nat_le};
+ghost use Rattle.std.specs.Prelude.{◌≡◌, ◌≤◌, ◌<◌, ◌+◌, ◌-◌, ◌*◌, ◌&&◌, ◌++◌, ◌∷◌, [], ℕ, List, Some, true, length, nat_le, nat_lt, slice_get};
 ghost use Rattle.kb_shares.specs.declared.share.Share.{Share};
 ghost use Rattle.kb_shares.specs.Shares.{Pool, are_shares, fresh, shares_of, holder_at, used_by, own_of, most_of, all_above};
 ghost use Rattle.kb_shares.specs.Shares.{with_used, has_room};
+ghost use Rattle.kb_shares.specs.Turns.{Lines, Step, whose, after_next, after_steps, turns_in};
 ghost use Rattle.kb_shares.specs.Calls.{Call, after_all, is_of, is_put, none_is, PutsPieces, held, total_of};
 
 /// A holder within its own part gets what it asks for, whatever others hold: after any calls of anybody on a new budget, and after any
@@ -41,4 +42,14 @@ pub fn nobody_takes_too_much()
 pub fn room_is_exact()
     ensures { (p : Pool) (i n : ℕ) → i < length p.holders → all_above p ≤ p.common
         → has_room i n p ≡ (nat_le (used_by i p + n) (most_of i p) && nat_le (all_above (with_used i (used_by i p + n) p)) p.common) }
+{}
+
+/// Nobody is passed over: a holder that waits behind some others is next after as many turns, whoever comes or goes in between. So between
+/// two turns of a holder each other one that waits has one, however many members of the first wait.
+pub fn turns_go_round()
+    ensures passed { (steps : List Step) (lines : Lines) (k h : ℕ) → slice_get (whose lines) (turns_in steps + k) ≡ Some h
+        → slice_get (whose (after_steps steps lines)) k ≡ Some h }
+    // One that had a turn comes behind all others.
+    ensures behind { (l : ℕ × List ℕ) (lines : Lines) → nat_lt 1 (length l.1) ≡ true
+        → whose (after_next (l ∷ lines)) ≡ whose lines ++ l.0 ∷ [] }
 {}

@@ -1,4 +1,4 @@
-use Rattle.std.proofs.Common.{◌≡◌, sym, subst, ◌∙◌}
+use Rattle.std.proofs.Common.{sym, subst, ◌∙◌}
 use Rattle.kb_shares.specs.Ledger.{AreBooked}
 use Rattle.kb_shares.proofs.Booked.{fewer, has_all}
 use Rattle.kb_shares.proofs.ledger.Ledger.release.Goals as goal

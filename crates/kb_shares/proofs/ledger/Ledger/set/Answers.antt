@@ -1,4 +1,4 @@
-use Rattle.std.proofs.Common.{◌≡◌, ◌+◌, None, arith, sym, subst, ap, ◌∙◌}
+use Rattle.std.proofs.Common.{◌≡◌, ◌+◌, None, arith, sym, subst}
 use Rattle.kb_shares.specs.Shares.{used_by}
 use Rattle.kb_shares.specs.Ledger.{AreBooked, booking_of}
 use Rattle.kb_shares.proofs.Booked.{more}

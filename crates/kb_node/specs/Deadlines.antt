@@ -1,5 +1,7 @@
 -- Until when a socket may keep silent, and which one is closed.
-use Rattle.std.specs.Prelude.{ℕ, ◌+◌, ◌-◌, ◌^◌, ◌==◌, ◌||◌, min, List, [], ◌∷◌, Bool, nat_le, if◌then◌else◌, Option, Some, None}
+use Rattle.std.specs.Prelude.{ℕ, ◌+◌, ◌-◌, ◌^◌, ◌==◌, ◌&&◌, ◌||◌, min, List, [], ◌∷◌, Bool, nat_le, slice_get, if◌then◌else◌, Option, Some, None}
+use Rattle.std.specs.BTreeSet.{BTreeSet, keys_between}
+use Rattle.std.specs.declared.ops.Bound.TheVariants.{Included, Unbounded}
 use Rattle.std.specs.declared.cmp.Ordering.{Ordering}
 use Rattle.std.specs.Ordering.{nat_cmp, ordering_then}
 
@@ -67,3 +69,25 @@ without_silent now millis (reply ∷ others) = if nat_le (later reply.0 millis) 
 -- Silence ends, or begins anew: there was nothing to take before, or there is nothing after, or some of it was taken.
 abbrev pub has_moved : ℕ → ℕ → Bool → Bool
 has_moved before after has_taken = (before == 0) || (after == 0) || has_taken
+
+-- 3. Replies of each holder
+
+-- The same sockets, each as the place of the holder that has it, and then as above.
+abbrev pub Stalls : Type 0
+Stalls = BTreeSet (ℕ × ℕ × ℕ)
+
+-- first by the holder, then by the moment
+abbrev pub by_holder : ℕ × ℕ × ℕ → ℕ × ℕ × ℕ → Ordering
+by_holder a b = ordering_then (nat_cmp a.0 b.0) (ordering_then (nat_cmp a.1 b.1) (nat_cmp a.2 b.2))
+
+-- the first of them from a holder on
+abbrev pub first_of : ℕ → Stalls → Option (ℕ × ℕ × ℕ)
+first_of holder stalls = slice_get (keys_between by_holder (Included (holder, 0, 0)) Unbounded stalls) 0
+
+-- the connection of that holder that has taken nothing for longest, where that is so long
+abbrev pub stalled_if : ℕ → ℕ → ℕ → Option (ℕ × ℕ × ℕ) → Option ℕ
+stalled_if holder now millis None = None
+stalled_if holder now millis (Some stall) = if (stall.0 == holder) && nat_le (later stall.1 millis) now then Some stall.2 else None
+
+abbrev pub stalled : ℕ → ℕ → ℕ → Stalls → Option ℕ
+stalled holder now millis stalls = stalled_if holder now millis (first_of holder stalls)

@@ -8,16 +8,19 @@ mod waiting;
 
 use crate::commits::Commits;
 use crate::committed::Committed;
-use crate::deadlines::{Strangers, Unread};
+use crate::deadlines::Strangers;
 use crate::doors::{BindCause, DoorFault, Doors};
 use crate::limits::Limits;
 use crate::login::Denied;
+use crate::replies::shares_of;
+use crate::silences::Silences;
 use crate::socket::Socket;
 use crate::socket_shares::SocketShares;
 use crate::turn::Turn;
 use crate::watch::Watch;
 use kb_broker::Broker;
 use kb_log::{ListLog, PartitionLog};
+use kb_shares::Ledger;
 use kb_store::{Store, StoreFault};
 use std::alloc::{AllocError, Global};
 use std::io;
@@ -70,8 +73,6 @@ pub struct Edge<R: Net, S: Store, L: PartitionLog = ListLog> {
     stranger_limit: u64,
     /// How many milliseconds a socket may take no byte of its reply.
     reply_millis: u64,
-    /// How much output is kept at most before no more requests are taken.
-    output_limit: usize,
     host: Committed<S, L>,
     /// By rising number of their connections.
     sockets: Vec<Socket<R::Stream>>,
@@ -80,22 +81,20 @@ pub struct Edge<R: Net, S: Store, L: PartitionLog = ListLog> {
     shares: SocketShares,
     /// The connections of those that have not logged in.
     strangers: Strangers,
-    /// Those of sockets with unwritten output.
-    unread: Unread,
-    /// Those of them that were not tried again since they last took something.
-    untried: Unread,
+    /// What they have still to be written, or is kept free for what is said to the requests of this turn.
+    replies: Ledger,
+    /// Since when each of those with unwritten output took nothing of it.
+    silences: Silences,
     /// Which sockets are ready. With none all are looked at in each turn.
     watch: Option<Watch>,
     /// Whether an accept may find a socket.
     can_accept: bool,
     /// The connections whose sockets can go on, each once.
     ready: Vec<u64>,
+    /// Those of them that were asked in this turn, and are told.
+    asked: Vec<u64>,
     /// An empty list, to be filled while another is gone through.
     spare: Vec<u64>,
-    /// How many bytes are taken from the broker and not written.
-    output: usize,
-    /// How many bytes are kept free for what is said to the requests of this turn, until that is taken.
-    promised: usize,
     /// The logins of this turn that failed, the first ones.
     denied: Vec<Denied>,
     /// The clock of the last turn, in milliseconds.
@@ -165,10 +164,13 @@ impl<R: Net, S: Store, L: PartitionLog + Drop> Edge<R, S, L> {
             Ok(doors) => doors,
             Err(fault) => return Err(refused(fault, broker)),
         };
-        let Ok((buffer, ready, spare, denied)) = buffers(alloc, limits.sockets as usize) else {
+        let Ok(buffers) = Buffers::new(alloc, limits.sockets as usize) else {
             return Err(refused(DoorFault::Memory, broker));
         };
         let Ok(shares) = SocketShares::new(alloc, u64::from(limits.sockets), &[]) else {
+            return Err(refused(DoorFault::Memory, broker));
+        };
+        let Ok(replies) = shares_of(alloc, u64::from(limits.output_bytes), 0) else {
             return Err(refused(DoorFault::Memory, broker));
         };
         Ok(Edge {
@@ -176,21 +178,19 @@ impl<R: Net, S: Store, L: PartitionLog + Drop> Edge<R, S, L> {
             limit: limits.sockets as usize,
             stranger_limit: u64::from(limits.strangers),
             reply_millis: u64::from(limits.reply_seconds) * 1000,
-            output_limit: limits.output_bytes as usize,
             host: Committed::new(broker, Commits::new(limits.sync, limits.sync_ms)),
             sockets: Vec::new(alloc),
-            buffer,
+            buffer: buffers.buffer,
             shares,
             strangers: Strangers::new(alloc, u64::from(limits.login_seconds) * 1000),
-            unread: Unread::new(alloc),
-            untried: Unread::new(alloc),
+            replies,
+            silences: Silences::new(alloc),
             watch,
             can_accept: true,
-            ready,
-            spare,
-            output: 0,
-            promised: 0,
-            denied,
+            ready: buffers.ready,
+            asked: buffers.asked,
+            spare: buffers.spare,
+            denied: buffers.denied,
             clock: 0,
             is_left_due: false,
         })
@@ -204,6 +204,16 @@ impl<R: Net, S: Store, L: PartitionLog + Drop> Edge<R, S, L> {
         ensures sockets { self.new.sockets ≡ self.old.sockets }
     {
         self.shares = shares;
+    }
+
+    /// Sets what tenants may have of the bytes of replies, for as many tenants as may have sockets. Until then all share them as one.
+    pub fn share_replies(&mut self, replies: Ledger)
+        requires { vec_len self.old.sockets ≡ 0 }
+        ensures replies { self.new.replies ≡ replies }
+        ensures host { self.new.host ≡ self.old.host }
+        ensures sockets { self.new.sockets ≡ self.old.sockets }
+    {
+        self.replies = replies;
     }
 
     /// How many sockets were closed so far since their tenant may have no more, by the tenants' places.
@@ -389,14 +399,26 @@ fn refused<S: Store, L: PartitionLog>(fault: DoorFault, broker: Broker<S, L>) ->
     }
 }
 
-type Buffers = (Vec<u8>, Vec<u64>, Vec<u64>, Vec<Denied>);
+/// What is read into, three empty lists with room for all connections, and one for failed logins.
+#[derive(Drop)]
+struct Buffers {
+    buffer: Vec<u8>,
+    ready: Vec<u64>,
+    asked: Vec<u64>,
+    spare: Vec<u64>,
+    denied: Vec<Denied>,
+}
 
-/// What is read into, two empty lists with room for all connections, and one for failed logins.
-fn buffers(alloc: Global, limit: usize) -> Result<Buffers, AllocError> {
-    let buffer = vec![in alloc; 0u8; PIECE]?;
-    // a turn may have closed sockets whose turn was to come, and accepted others
-    let ready = Vec::with_capacity(alloc, limit.saturating_add(ACCEPTS))?;
-    let spare = Vec::with_capacity(alloc, limit.saturating_add(ACCEPTS))?;
-    let denied = Vec::with_capacity(alloc, DENIED)?;
-    Ok((buffer, ready, spare, denied))
+impl Buffers {
+    fn new(alloc: Global, limit: usize) -> Result<Buffers, AllocError> {
+        // a turn may have closed sockets whose turn was to come, and accepted others
+        let room = limit.saturating_add(ACCEPTS);
+        Ok(Buffers {
+            buffer: vec![in alloc; 0u8; PIECE]?,
+            ready: Vec::with_capacity(alloc, room)?,
+            asked: Vec::with_capacity(alloc, room)?,
+            spare: Vec::with_capacity(alloc, room)?,
+            denied: Vec::with_capacity(alloc, DENIED)?,
+        })
+    }
 }

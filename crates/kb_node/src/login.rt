@@ -1,5 +1,8 @@
 //! Whose login a request is, and from where one came that failed.
 
+ghost use Rattle.std.specs.Prelude.{◌≡◌};
+ghost use Rattle.kb_node.specs.Sockets.{is_welcome};
+
 use std::alloc::{AllocError, Global};
 use std::net::SocketAddr;
 
@@ -18,7 +21,7 @@ pub struct Denied {
 
 /// The name in a login: a whole request of SaslAuthenticate, its size in front (Kafka protocol guide, "The Messages:
 /// SaslAuthenticate"), or PLAIN's message as a frame by itself. Of anything else there is none.
-pub fn name_in(frame: &[u8], is_bare: bool) -> Option<&[u8]> {
+fn name_in(frame: &[u8], is_bare: bool) -> Option<&[u8]> {
     let message = if is_bare {
         frame.get(4..)?
     } else {
@@ -48,7 +51,7 @@ fn name_of(message: &[u8]) -> Option<&[u8]> {
 }
 
 /// A name as it is told.
-pub fn text_of(alloc: Global, name: &[u8]) -> Result<String, AllocError> {
+fn text_of(alloc: Global, name: &[u8]) -> Result<String, AllocError> {
     let mut text = String::new(alloc);
     for byte in name {
         text.push(if byte.is_ascii_graphic() {
@@ -58,4 +61,29 @@ pub fn text_of(alloc: Global, name: &[u8]) -> Result<String, AllocError> {
         })?;
     }
     Ok(text)
+}
+
+/// Whether what a connection is told before it has logged in is that it has now: to a request of SaslAuthenticate no error and no text of
+/// one, or to PLAIN's message by itself a frame of no bytes. No other reply before a login looks so.
+pub fn is_welcome(output: &[u8]) -> bool
+    ensures { result ≡ is_welcome output.now }
+{
+    match output {
+        [0, 0, 0, 0] => true,
+        [_, _, _, _, _, _, _, _, 0, 0, 255, 255, ..] => true,
+        _ => false,
+    }
+}
+
+/// Keeps the name in a login that is handed on, where there is memory for it, until one was right. What is handed on before and has no name
+/// in it is no login, or has its name in pieces: then none is kept.
+pub fn note_login(alloc: Global, login: &mut String, piece: &[u8], is_bare: bool, is_known: bool) {
+    if is_known {
+        return;
+    }
+    let none = String::new(alloc);
+    *login = match name_in(piece, is_bare) {
+        Some(name) => text_of(alloc, name).unwrap_or(none),
+        None => none,
+    };
 }

@@ -11,8 +11,9 @@ ghost use Rattle.kb_node.specs.declared.socket.Next.TheVariants.{End};
 
 use crate::committed::Committed;
 use crate::input::Input;
-use crate::login::{name_in, text_of};
+use crate::login::{is_welcome, note_login};
 use crate::socket_shares::SocketShares;
+use crate::transfer::{read_from, write_to};
 use crate::turn::Turn;
 use kb_broker::Broker;
 use kb_log::PartitionLog;
@@ -20,8 +21,8 @@ use kb_store::Store;
 use mio::event::Event;
 use std::alloc::Global;
 use std::io::{ErrorKind, Read, Write};
+use std::mem;
 use std::net::SocketAddr;
-use std::{io, mem};
 
 /// The most bytes of batches that a Fetch is answered.
 const FETCH_REPLY: usize = 8_388_608;
@@ -81,6 +82,8 @@ pub struct Socket<T> {
     pub(crate) is_queued: bool,
     /// The moment at which it last took some of its output, or got it.
     pub(crate) moved: u64,
+    /// The holder that had it then.
+    pub(crate) holder: usize,
     ghost within: { written ≤ vec_len output },
 }
 
@@ -108,6 +111,7 @@ impl<T: Read + Write + Drop> Socket<T> {
             is_bound: false,
             is_queued: false,
             moved: 0,
+            holder: 0,
         }
     }
 
@@ -578,55 +582,4 @@ fn reply_reserve(piece: &[u8], is_begun: bool) -> usize {
         [_, _, _, _, 0, key, ..] if *key != 1 && !is_begun => OTHER_REPLY,
         _ => FETCH_REPLY,
     }
-}
-
-/// Whether what a connection is told before it has logged in is that it has now: to a request of SaslAuthenticate no error and no text of
-/// one, or to PLAIN's message by itself a frame of no bytes. No other reply before a login looks so.
-fn is_welcome(output: &[u8]) -> bool
-    ensures { result ≡ is_welcome output.now }
-{
-    match output {
-        [0, 0, 0, 0] => true,
-        [_, _, _, _, _, _, _, _, 0, 0, 255, 255, ..] => true,
-        _ => false,
-    }
-}
-
-/// Keeps the name in a login that is handed on, where there is memory for it, until one was right. What is handed on before and has no name
-/// in it is no login, or has its name in pieces: then none is kept.
-fn note_login(alloc: Global, login: &mut String, piece: &[u8], is_bare: bool, is_known: bool) {
-    if is_known {
-        return;
-    }
-    let none = String::new(alloc);
-    *login = match name_in(piece, is_bare) {
-        Some(name) => text_of(alloc, name).unwrap_or(none),
-        None => none,
-    };
-}
-
-/// One read that is not interrupted.
-fn read_from<T: Read>(stream: &mut T, piece: &mut [u8]) -> io::Result<usize>
-    ensures { IfOk result (λ n. n ≤ length piece.old) }
-{
-    for _ in 0..u64::MAX {
-        match stream.read(piece) {
-            Err(e) if e.kind() == ErrorKind::Interrupted => {}
-            read => return read,
-        }
-    }
-    Err(io::Error::from(ErrorKind::WouldBlock))
-}
-
-/// One write that is not interrupted.
-fn write_to<T: Write>(stream: &mut T, bytes: &[u8]) -> io::Result<usize>
-    ensures { IfOk result (λ n. n ≤ length bytes.now) }
-{
-    for _ in 0..u64::MAX {
-        match stream.write(bytes) {
-            Err(e) if e.kind() == ErrorKind::Interrupted => {}
-            written => return written,
-        }
-    }
-    Err(io::Error::from(ErrorKind::WouldBlock))
 }

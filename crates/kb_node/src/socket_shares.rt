@@ -3,6 +3,7 @@
 ghost use Rattle.std.specs.Prelude.{◌≡◌, [], true, false, IfOk, OnErr, OnOk, None, nat_lt, length};
 ghost use Rattle.std.specs.BTreeMap.{insert_entry};
 ghost use Rattle.std.specs.Ordering.{nat_cmp};
+ghost use Rattle.kb_node.specs.Replies.{place_of};
 ghost use Rattle.kb_node.specs.SocketShares.{count_of, holder_of, may_bind, released, without};
 
 use kb_settings::{Settings, tenant_names};
@@ -85,6 +86,16 @@ impl SocketShares {
         ensures { result ≡ count_of self.now.tenants self.now.sockets }
     {
         self.budget.used(self.tenants)
+    }
+
+    /// The holder that has a socket: its tenant's place, or the place of those that have not logged in.
+    pub fn holder(&self, connection: u64) -> usize
+        ensures { result ≡ place_of connection self.now }
+    {
+        match self.holders.get(&connection) {
+            Some(holder) => *holder,
+            None => self.tenants,
+        }
     }
 
     /// How many sockets were closed so far for want of room, by tenant.

@@ -2,10 +2,12 @@
 
 ghost use Rattle.std.specs.Prelude.{◌≡◌, ◌<◌, None, vec_len};
 ghost use Rattle.std.specs.Bool.{OnTrue};
+ghost use Rattle.kb_shares.specs.Ledger.{let_go};
 ghost use Rattle.kb_node.specs.SocketShares.{count_of, holder_of};
 
-use crate::deadlines::{TRY_MILLIS, Unread, has_moved, patience};
+use crate::deadlines::{has_moved, patience};
 use crate::edge::Edge;
+use crate::silences::Silences;
 use crate::socket::Socket;
 use crate::turn::Turn;
 use kb_log::PartitionLog;
@@ -27,6 +29,7 @@ impl<R: Net, S: Store, L: PartitionLog + Drop> Edge<R, S, L> {
         }
         self.try_again(alloc, turn);
         self.close_unread(alloc, turn);
+        self.close_stalled(alloc, turn);
         if turn.closed > 0 {
             self.drop_ended();
         }
@@ -35,7 +38,7 @@ impl<R: Net, S: Store, L: PartitionLog + Drop> Edge<R, S, L> {
     /// Tries the sockets once more that took something of their replies some time ago.
     fn try_again(&mut self, alloc: Global, turn: &mut Turn) {
         for _ in 0..self.limit {
-            let Some(number) = self.untried.take_silent(self.clock, TRY_MILLIS) else {
+            let Some(number) = self.silences.take_untried(self.clock) else {
                 break;
             };
             self.write_again(alloc, number, turn);
@@ -45,17 +48,38 @@ impl<R: Net, S: Store, L: PartitionLog + Drop> Edge<R, S, L> {
     /// Closes the sockets that take nothing of their replies. The system tells late of a little room, so each is tried once more before.
     fn close_unread(&mut self, alloc: Global, turn: &mut Turn) {
         for _ in 0..self.limit {
-            let may_ask = self.may_ask();
-            let Some(number) = self
-                .unread
-                .silent(self.clock, patience(may_ask, self.reply_millis))
-            else {
+            let Some(number) = self.silences.silent(self.clock, self.reply_millis) else {
                 break;
             };
             if !self.write_again(alloc, number, turn) {
-                if !may_ask {
-                    self.put_behind(alloc, number);
-                }
+                self.close(alloc, number, turn);
+                turn.count_unread();
+            }
+        }
+    }
+
+    /// Where a socket can go on and is not asked, since its holder has too much unread, sockets of that holder are closed that stand in the
+    /// way. Those of other holders stay.
+    fn close_stalled(&mut self, alloc: Global, turn: &mut Turn) {
+        for at in 0..self.ready.len() {
+            if let Some(number) = self.ready.get(at).copied()
+                && !self.may_ask(number)
+            {
+                let holder = self.shares.holder(number);
+                self.make_way(alloc, holder, turn);
+            }
+        }
+    }
+
+    /// Closes those sockets of a holder that take nothing of their replies for longest, until it may ask for more.
+    fn make_way(&mut self, alloc: Global, holder: usize, turn: &mut Turn) {
+        for _ in 0..self.limit {
+            let millis = patience(self.replies.is_open(holder), self.reply_millis);
+            let Some(number) = self.silences.stalled(holder, self.clock, millis) else {
+                break;
+            };
+            if !self.write_again(alloc, number, turn) {
+                self.put_behind(alloc, number);
                 self.close(alloc, number, turn);
                 turn.count_unread();
             }
@@ -74,19 +98,13 @@ impl<R: Net, S: Store, L: PartitionLog + Drop> Edge<R, S, L> {
         let before = socket.unwritten();
         socket.write_on(turn);
         let after = socket.unwritten();
-        self.output = self.output.saturating_sub(before).saturating_add(after);
         if after == before {
             return false;
         }
-        let noted = note_reply(
-            &mut self.unread,
-            &mut self.untried,
-            socket,
-            before,
-            true,
-            self.clock,
-        );
-        if noted.is_err() {
+        let holder = self.shares.holder(number);
+        let booked = self.replies.set(number, holder, after as u64);
+        let noted = note_reply(&mut self.silences, socket, holder, before, true, self.clock);
+        if booked.is_err() || noted.is_err() {
             self.close(alloc, number, turn);
         } else {
             self.queue(place);
@@ -132,16 +150,16 @@ impl<R: Net, S: Store, L: PartitionLog + Drop> Edge<R, S, L> {
     pub(super) fn close(&mut self, alloc: Global, number: u64, turn: &mut Turn)
         ensures commits { self.new.host.commits ≡ self.old.host.commits }
         ensures released { holder_of number self.new.shares.sockets ≡ None }
+        ensures replies { self.new.replies ≡ let_go number self.old.replies }
     {
         self.strangers.forget(number);
         self.shares.release(number);
+        self.replies.release(number);
         if let Some(place) = self.place_of(number)
             && let Some(socket) = self.sockets.get_mut(place)
             && !socket.is_ended()
         {
-            self.output = self.output.saturating_sub(socket.unwritten());
-            self.unread.end(number, socket.moved);
-            self.untried.end(number, socket.moved);
+            self.silences.end(socket.holder, number, socket.moved);
             socket.close(alloc, &mut self.host, turn);
         }
     }
@@ -180,12 +198,12 @@ impl<R: Net, S: Store, L: PartitionLog + Drop> Edge<R, S, L> {
     }
 }
 
-/// Notes since when a socket took nothing of its reply, which had so much to take before and may have taken some since. An `Err` is want of
-/// memory: it cannot be known when it has been silent for too long, and it is closed.
+/// Notes since when a socket of a holder took nothing of its reply, which had so much to take before and may have taken some since. An `Err`
+/// is want of memory: it cannot be known when it has been silent for too long, and it is closed.
 pub(super) fn note_reply<T: Read + Write + Drop>(
-    unread: &mut Unread,
-    untried: &mut Unread,
+    silences: &mut Silences,
     socket: &mut Socket<T>,
+    holder: usize,
     before: usize,
     has_taken: bool,
     now: u64,
@@ -196,13 +214,12 @@ pub(super) fn note_reply<T: Read + Write + Drop>(
     }
     let connection = socket.connection();
     if before > 0 {
-        unread.end(connection, socket.moved);
-        untried.end(connection, socket.moved);
+        silences.end(socket.holder, connection, socket.moved);
     }
     socket.moved = now;
+    socket.holder = holder;
     if after > 0 {
-        unread.begin(connection, now)?;
-        untried.begin(connection, now)?;
+        silences.begin(holder, connection, now)?;
     }
     Ok(())
 }

@@ -1,7 +1,9 @@
 //! How an edge serves its sockets.
 
-ghost use Rattle.std.specs.Prelude.{◌≡◌, ◌++◌, true, Some, IfErr, length, take, drop, nat_lt, if◌then◌else◌};
+ghost use Rattle.std.specs.Prelude.{◌≡◌, ◌-◌, true, false, Some, IfErr, IfSome, slice_get, vec_len};
 ghost use Rattle.kb_node.specs.Commits.{may_tell, tells_at_once};
+ghost use Rattle.kb_shares.specs.Ledger.{set_to};
+ghost use Rattle.kb_node.specs.Replies.{kept_for, place_of};
 
 use crate::edge::closing::note_reply;
 use crate::edge::{DENIED, Edge};
@@ -22,6 +24,8 @@ const ROUNDS: usize = 16;
 #[derive(Clone, Copy)]
 struct Before {
     unwritten: usize,
+    /// How many bytes are kept free for what it is told of what was asked since.
+    promised: usize,
     is_stranger: bool,
     /// What the turn had written, and the logins that had failed in it.
     written: u64,
@@ -32,6 +36,7 @@ impl Before {
     fn of<T: Read + Write + Drop>(socket: &Socket<T>, turn: &Turn) -> Before {
         Before {
             unwritten: socket.unwritten(),
+            promised: 0,
             is_stranger: socket.is_stranger(),
             written: turn.written,
             denied: turn.denied,
@@ -67,6 +72,7 @@ impl<R: Net, S: Store, L: PartitionLog + Drop> Edge<R, S, L> {
         self.hear_speakers();
         self.host.commit(self.clock)?;
         self.tell(alloc, turn);
+        self.tell_asked(alloc, turn);
         Ok(())
     }
 
@@ -89,7 +95,7 @@ impl<R: Net, S: Store, L: PartitionLog + Drop> Edge<R, S, L> {
         requires { tells_at_once self.old.host.commits ≡ true }
         ensures { tells_at_once self.new.host.commits ≡ true }
     {
-        let may_ask = self.may_ask();
+        let may_ask = self.may_ask(number);
         let Some(place) = self.place_of(number) else {
             return;
         };
@@ -111,36 +117,36 @@ impl<R: Net, S: Store, L: PartitionLog + Drop> Edge<R, S, L> {
         self.note(alloc, place, before, next, turn);
     }
 
-    /// Hands on a request of each socket that can go on, while so little is awaited that more may be asked for. They stay among those that
-    /// can, and the next turn begins with the first that was not asked.
+    /// Hands on a request of each socket that can go on, while so little of its holder is awaited that it may ask for more. All are told,
+    /// and the next turn begins with those that were not asked.
     fn hand_on(&mut self, alloc: Global, turn: &mut Turn) {
-        let mut asked = 0usize;
-        for at in 0..self.ready.len() {
-            if let Some(number) = self.ready.get(at).copied() {
-                if self.may_ask() && asked == at {
-                    asked = asked.saturating_add(1);
-                }
-                self.hand_on_one(alloc, number, turn);
-            }
+        let spare = mem::replace(&mut self.spare, Vec::new(alloc));
+        let mut round = mem::replace(&mut self.ready, spare);
+        for number in &round {
+            let may_ask = self.may_ask(*number);
+            self.hand_on_one(alloc, *number, may_ask, turn);
+            self.put_in_line(*number, may_ask);
         }
-        self.promised = 0;
-        self.begin_behind(asked);
+        round.clear();
+        self.spare = round;
     }
 
-    /// So many of the sockets that can go on were asked: those behind them come first from now on.
-    fn begin_behind(&mut self, asked: usize)
-        ensures order { self.new.ready.items ≡ (if nat_lt asked (length self.old.ready.items)
-            then drop asked self.old.ready.items ++ take asked self.old.ready.items else self.old.ready.items) }
+    /// A socket that was asked comes behind all that were not.
+    fn put_in_line(&mut self, number: u64, was_asked: bool)
+        ensures asked { was_asked ≡ true → self.new.ready ≡ self.old.ready }
+        ensures unasked { was_asked ≡ false → self.new.asked ≡ self.old.asked }
         ensures host { self.new.host ≡ self.old.host }
     {
-        if asked < self.ready.len() {
-            self.ready.rotate_left(asked);
-        }
+        // there is room for each socket once
+        let _ = if was_asked {
+            self.asked.push(number)
+        } else {
+            self.ready.push(number)
+        };
     }
 
-    /// Hands on a request of the socket of a connection.
-    fn hand_on_one(&mut self, alloc: Global, number: u64, turn: &mut Turn) {
-        let may_ask = self.may_ask();
+    /// Hands on a request of the socket of a connection, where it may ask.
+    fn hand_on_one(&mut self, alloc: Global, number: u64, may_ask: bool, turn: &mut Turn) {
         let Some(place) = self.place_of(number) else {
             return;
         };
@@ -150,8 +156,8 @@ impl<R: Net, S: Store, L: PartitionLog + Drop> Edge<R, S, L> {
         if socket.is_ended() {
             return;
         }
-        let before = Before::of(socket, turn);
-        let reserve = socket.hand_on(
+        let mut before = Before::of(socket, turn);
+        before.promised = socket.hand_on(
             alloc,
             &mut self.host,
             &mut self.shares,
@@ -159,13 +165,13 @@ impl<R: Net, S: Store, L: PartitionLog + Drop> Edge<R, S, L> {
             may_ask,
             turn,
         );
-        self.promised = self.promised.saturating_add(reserve);
         self.note_written(alloc, place, before, turn);
     }
 
-    /// Each socket that can go on is told what there is to say to it.
+    /// Each socket that can go on and was not asked is told what there is to say to it.
     fn tell(&mut self, alloc: Global, turn: &mut Turn)
         requires { may_tell self.old.host.commits ≡ true }
+        ensures { self.new.host.commits ≡ self.old.host.commits }
     {
         let spare = mem::replace(&mut self.spare, Vec::new(alloc));
         let mut round = mem::replace(&mut self.ready, spare);
@@ -174,6 +180,18 @@ impl<R: Net, S: Store, L: PartitionLog + Drop> Edge<R, S, L> {
         }
         round.clear();
         self.spare = round;
+    }
+
+    /// Each socket that was asked is told what there is to say to it.
+    fn tell_asked(&mut self, alloc: Global, turn: &mut Turn)
+        requires { may_tell self.old.host.commits ≡ true }
+    {
+        let mut round = mem::replace(&mut self.asked, Vec::new(alloc));
+        for number in &round {
+            self.tell_one(alloc, *number, turn);
+        }
+        round.clear();
+        self.asked = round;
     }
 
     /// Tells the socket of a connection what there is to say to it.
@@ -215,35 +233,39 @@ impl<R: Net, S: Store, L: PartitionLog + Drop> Edge<R, S, L> {
         }
         if socket.is_ended() {
             self.shares.release(socket.connection());
+            self.replies.release(socket.connection());
         }
         if self.note_written(alloc, place, before, turn) && next == Next::Turn {
             self.queue(place);
         }
     }
 
-    /// Notes what the socket at a place has still to be written. It answers false where that cannot be noted, and it is closed.
+    /// Notes what the socket at a place has still to be written, for its own holder. It answers false where that cannot be noted, and it is
+    /// closed.
     fn note_written(&mut self, alloc: Global, place: usize, before: Before, turn: &mut Turn) -> bool
-        ensures { self.new.host.commits ≡ self.old.host.commits }
+        ensures commits { self.new.host.commits ≡ self.old.host.commits }
+        ensures booked { result ≡ true → IfSome (slice_get self.old.sockets.items place) (λ s. self.new.replies
+            ≡ set_to s.connection (place_of s.connection self.old.shares) (kept_for (vec_len s.output - s.written) before.promised) self.old.replies) }
     {
         let Some(socket) = self.sockets.get_mut(place) else {
             return false;
         };
-        let (number, after) = (socket.connection(), socket.unwritten());
-        self.output = self
-            .output
-            .saturating_sub(before.unwritten)
-            .saturating_add(after);
+        let number = socket.connection();
+        let holder = self.shares.holder(number);
+        let kept = (socket.unwritten() as u64).saturating_add(before.promised as u64);
+        let booked = self.replies.set(number, holder, kept);
         let noted = note_reply(
-            &mut self.unread,
-            &mut self.untried,
+            &mut self.silences,
             socket,
+            holder,
             before.unwritten,
             turn.written > before.written,
             self.clock,
         );
-        if noted.is_err() {
+        if booked.is_err() || noted.is_err() {
             self.close(alloc, number, turn);
+            return false;
         }
-        noted.is_ok()
+        true
     }
 }

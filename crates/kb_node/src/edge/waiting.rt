@@ -1,8 +1,9 @@
 //! How long an edge waits, and for what.
 
 ghost use Rattle.std.specs.Prelude.{◌≡◌, ◌≤◌, ◌<◌, ◌-◌, min, true, false};
+ghost use Rattle.kb_shares.specs.Shares.{has_room, own_of, used_by};
+ghost use Rattle.kb_node.specs.Replies.{place_of};
 
-use crate::deadlines::{TRY_MILLIS, patience};
 use crate::doors::DOOR;
 use crate::edge::Edge;
 use kb_log::PartitionLog;
@@ -37,7 +38,7 @@ impl<R: Net, S: Store, L: PartitionLog + Drop> Edge<R, S, L> {
 
     /// How long may be waited.
     fn longest_wait(&self) -> Duration {
-        let millis = if !self.ready.is_empty() && self.may_ask() {
+        let millis = if self.can_ask_one() {
             0
         } else if self.ready.is_empty() && !self.can_accept {
             quiet_time(self.next_deadline(), self.clock, self.is_left_due)
@@ -54,16 +55,22 @@ impl<R: Net, S: Store, L: PartitionLog + Drop> Edge<R, S, L> {
             .next_deadline()
             .min(self.host.commits().next_commit())
             .min(self.strangers.first_deadline())
-            .min(
-                self.unread
-                    .first_end(patience(self.may_ask(), self.reply_millis)),
-            )
-            .min(self.untried.first_end(TRY_MILLIS))
+            .min(self.silences.first_end(self.reply_millis))
     }
 
-    /// Whether so little output is kept, or awaited, that more may be asked for.
-    pub(super) fn may_ask(&self) -> bool {
-        self.output.saturating_add(self.promised) < self.output_limit
+    /// Whether a socket that can go on may be asked for more.
+    fn can_ask_one(&self) -> bool {
+        self.ready.iter().any(|number| self.may_ask(*number))
+    }
+
+    /// Whether more may be asked for by the socket of a connection: its holder has not too much that is unwritten, or awaited. A holder
+    /// below its part may always ask for more, whatever others hold.
+    pub(super) fn may_ask(&self, number: u64) -> bool
+        ensures open { result ≡ has_room (place_of number self.now.shares) 1 self.now.replies.pool }
+        ensures reserved { used_by (place_of number self.now.shares) self.now.replies.pool
+            < own_of (place_of number self.now.shares) self.now.replies.pool → result ≡ true }
+    {
+        self.replies.is_open(self.shares.holder(number))
     }
 
     /// What the system tells of a socket or of a listener.

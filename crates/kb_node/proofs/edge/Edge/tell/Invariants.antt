@@ -2,6 +2,6 @@ use Rattle.std.proofs.Common.{◌≡◌, true}
 use Rattle.kb_node.specs.Commits.{may_tell}
 use Rattle.kb_node.proofs.edge.Edge.tell.Given as goal
 
--- replies may go out
+-- replies may go out, as before
 abbrev pub invariant-loop-number : goal.invariant-loop-number
-invariant-loop-number g l = may_tell l.self.host.commits ≡ true
+invariant-loop-number g l = (may_tell l.self.host.commits ≡ true) × (l.self.host.commits ≡ l.fn.self.host.commits)

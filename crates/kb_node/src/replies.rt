@@ -1,0 +1,46 @@
+//! What the holders of sockets may have of replies that are not written.
+
+ghost use Rattle.std.specs.Prelude.{◌≡◌, ◌+◌, [], IfOk, replicate};
+ghost use Rattle.kb_shares.specs.Shares.{fresh};
+ghost use Rattle.kb_node.specs.Replies.{share_of};
+
+use kb_settings::{Settings, tenant_names};
+use kb_shares::{BudgetFault, Ledger, Share};
+use std::alloc::Global;
+
+/// What a holder has of so many bytes, for so many tenants.
+///
+/// Tenants are holders by their places, and those that have not logged in are one holder behind them. A half of all bytes belongs to the
+/// holders in equal parts, and the other half to whoever comes first. No holder has more than a quarter of the whole above its part.
+fn share_of(total: u64, tenants: u32) -> Share
+    ensures { result ≡ share_of total tenants }
+{
+    if tenants == 0 {
+        return Share {
+            own: total,
+            most: total,
+        };
+    }
+    let own = total / 2 / (u64::from(tenants) + 1);
+    Share {
+        own,
+        most: own + total / 4,
+    }
+}
+
+/// So many bytes in the shares of so many tenants, and of those that have not logged in. Nothing is counted yet.
+pub fn shares_of(alloc: Global, total: u64, tenants: u32) -> Result<Ledger, BudgetFault>
+    ensures pool { IfOk result (λ it. it.pool ≡ fresh total (replicate (tenants + 1) (share_of total tenants))) }
+    ensures none { IfOk result (λ it. it.bookings ≡ []) }
+{
+    let share = share_of(total, tenants);
+    let shares = vec![in alloc; share; tenants as usize + 1]?;
+    Ledger::new(alloc, total, &shares)
+}
+
+/// The shares of replies that are not written, for the tenants of the settings.
+pub fn reply_shares(alloc: Global, settings: &Settings) -> Result<Ledger, BudgetFault> {
+    let names = tenant_names(alloc, &settings.users)?;
+    let tenants = u32::try_from(names.len()).unwrap_or(u32::MAX);
+    shares_of(alloc, u64::from(settings.output_bytes), tenants)
+}

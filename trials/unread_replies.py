@@ -1,11 +1,12 @@
 #!/usr/bin/env python3
-"""Clients that ask for much and read nothing hold nobody up for longer than ten seconds.
+"""Clients that ask for much and read nothing hold their tenant up for ten seconds at most, and no other tenant.
 
     trials/unread_replies.py KBROKER
 
-A broker may keep 1,048,576 bytes of unread replies. Three connections of one user ask for 8 MB each and never read, so that nobody is served.
-Another tenant's Produce that comes behind theirs has to be answered within 11 seconds, and one right behind it within 11 more. The log has
-to tell it. A client that asks for 8 MB and reads 2,048 bytes every half a second is not closed within 30 seconds, though it makes all wait.
+A broker may keep 1,048,576 bytes of unread replies. Three connections of one user ask for 8 MB each and never read, so that its tenant is
+asked for nothing. A Produce of another user of it that comes behind theirs has to be answered within 11 seconds, and one right behind it within 11
+more. The log has to tell it. Another tenant's Produce is answered within a second. A client that asks for 8 MB and reads 2,048 bytes every
+half a second is not closed within 30 seconds, though its tenant waits.
 """
 
 import socket
@@ -19,6 +20,13 @@ from wire import Broker, Client, batch, text
 MANY = 8 << 20
 UNREAD = 3
 STALL = 11
+SETTINGS = """output_bytes = 1048576
+
+[[user]]
+name = "amy"
+password = "pw3"
+tenant = "a"
+"""
 SLOW = 30
 
 
@@ -35,15 +43,19 @@ def ask_for(client, topic):
 
 
 def unread(broker):
-    """In how many seconds a Produce is answered beside those that do not read, and the next. None where it is not."""
+    """In how many seconds a Produce of another tenant is answered beside those that do not read, and then one of their own, and the next.
+    None where it is not."""
     others = [Client(broker.port) for _ in range(UNREAD)]
-    client = Client(broker.port, b"bob", b"pw2")
-    client.socket.settimeout(60)
-    client.create(b"t")
+    apart, client = Client(broker.port, b"bob", b"pw2"), Client(broker.port, b"amy", b"pw3")
+    for it in (apart, client):
+        it.socket.settimeout(60)
+        it.create(b"t")
     for other in others:
         ask_for(other, b"big")
         time.sleep(0.05)
-    times = []
+    began = time.monotonic()
+    apart.produce(b"t", batch(b"hi"))
+    times = [time.monotonic() - began]
     for _ in range(2):
         began = time.monotonic()
         try:
@@ -53,7 +65,7 @@ def unread(broker):
         if code != 0:
             break
         times.append(time.monotonic() - began)
-    for it in others + [client]:
+    for it in others + [apart, client]:
         it.socket.close()
     return times
 
@@ -94,16 +106,17 @@ def looked_at(broker):
     times = unread(broker)
     time.sleep(2)
     told = closings(broker)
-    print(f"beside {UNREAD} that do not read, Produces are answered after {' and '.join(f'{it:.1f}' for it in times) or 'never'} s; {told}")
+    print(f"beside {UNREAD} that do not read, another tenant's Produce is answered after {times[0]:.1f} s, and their own after")
+    print(f"{' and '.join(f'{it:.1f}' for it in times[1:]) or 'never'} s; {told}")
     lasted, got, is_open = slow(broker)
     print(f"one that reads slowly is served for {lasted:.0f} s, and gets {got} bytes; it is {'not ' if is_open else ''}closed")
-    return len(times) == 2 and max(times) < STALL and bool(told) and lasted >= SLOW and is_open
+    return len(times) == 3 and times[0] < 1 and max(times) < STALL and bool(told) and lasted >= SLOW and is_open
 
 
 def main(program):
     """Whether unread replies hold nobody up."""
     with tempfile.TemporaryDirectory() as room:
-        broker = Broker(program, room, more="output_bytes = 1048576")
+        broker = Broker(program, room, more=SETTINGS)
         try:
             if not broker.listens():
                 print("the broker does not listen")

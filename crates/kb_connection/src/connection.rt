@@ -6,26 +6,26 @@ ghost use Rattle.kb_api_group.specs.Frames.{front};
 ghost use Rattle.kb_tenant_api.specs.Hosted.{Kept};
 ghost use Rattle.kb_tenant_api.specs.Replies.{Reaction as Reacts, IsAnswer};
 ghost use Rattle.kb_tenant.specs.Replies as tenant;
-ghost use Rattle.kb_tenant.specs.Replies.{framed, reply_size};
-ghost use Rattle.kb_isolation_spec.specs.Requests.{request};
 ghost use Rattle.kb_isolation_spec.specs.Session.{Session, Greets, BoundTo, fresh, room, overruns, fed, replied, shut_down, without_wait, waiting};
 ghost use Rattle.kb_isolation_spec.specs.declared.head.Head.{Head};
 ghost use Rattle.kb_isolation_spec.specs.Tenant.{Wait};
 ghost use Rattle.kb_api_group.specs.declared.api_versions.ApiVersion.{ApiVersion};
-ghost use Rattle.kb_isolation_spec.specs.Session.{throttled, has_member, is_free, can};
-ghost use Rattle.kb_isolation_spec.specs.Greeting.{Setup, greeted, greeted_frame};
-ghost use Rattle.kb_isolation_spec.specs.Machine.{after_reaction, after_turn, served_by, told};
+ghost use Rattle.kb_isolation_spec.specs.Session.{has_member, is_free, can};
+ghost use Rattle.kb_isolation_spec.specs.Greeting.{Setup, greeted};
+ghost use Rattle.kb_isolation_spec.specs.Machine.{after_reaction, after_turn, told};
 ghost use Rattle.kb_isolation_spec.specs.Calls.{without_output};
 ghost use Rattle.kb_isolation_spec.specs.Owners.{whose};
 ghost use Rattle.kb_tenant_api.specs.declared.answer.Answer.TheVariants as any;
-ghost use Rattle.kb_connection.specs.TenantAnswers.{body_of, given, given_reply, is_quiet, is_wait, wait_for, parked, spoken};
-ghost use Rattle.kb_connection.specs.Fronts.{IsOwn, IsAsked, is_tenants, is_tenants_at, asked_at, head_at};
+ghost use Rattle.kb_connection.specs.TenantAnswers.{given, given_reply, is_quiet, is_wait, wait_for, parked, spoken};
+ghost use Rattle.kb_connection.specs.Fronts.{IsOwn, IsAsked, is_tenants_at, asked_at, head_at};
 ghost use Rattle.kb_connection.specs.View.{greeting_of, speaks, stage_of, wait_of, with_session, without_front, IsLimited};
 ghost use Rattle.kb_connection.specs.Reactions.{reacted, IfReacts};
 
 use crate::greeting::Greeting;
-use crate::reaction::Reaction;
-use crate::reply::{authenticate_body, handshake_body, versions_body};
+use crate::reaction::{Reaction, bound_reaction, greeting_reaction};
+use crate::reply::{
+    append_reply, authenticate_body, body_of, handshake_body, throttle_time, versions_body,
+};
 use crate::request::{Asked, Request};
 use crate::setup::Setup;
 use crate::version::{NO_HEAD, head_of_frame};
@@ -634,74 +634,4 @@ impl Connection {
         }
         append_reply(&mut self.output, head, body)
     }
-}
-
-/// What a greeting connection's frame comes to, under its head: a bare message of PLAIN has none.
-fn greeting_reaction(
-    alloc: Global,
-    setup: &Setup,
-    greeting: Greeting,
-    frame: &[u8],
-) -> Result<(Head, Reaction), AllocError>
-    ensures { IfOk result (λ done. (s : Session)
-        → reacted setup.now done.1 done.0 s ≡ greeted_frame setup.now (greeting_of greeting) frame.now s) }
-{
-    if greeting == Greeting::Bare {
-        return Ok((NO_HEAD, Reaction::bare(setup, frame)));
-    }
-    let request = Request::read(alloc, setup.versions().as_slice(), frame)?;
-    let handshaken = greeting == Greeting::Shaken;
-    Ok((
-        request.head,
-        Reaction::greeting(setup, handshaken, &request.asked),
-    ))
-}
-
-/// What a bound connection's request comes to that is no request of its tenant, under its head.
-fn bound_reaction(
-    alloc: Global,
-    setup: &Setup,
-    frame: &[u8],
-) -> Result<(Head, Reaction), AllocError>
-    ensures { let r = request setup.now.versions frame.now in
-        is_tenants r.asked ≡ false → IfOk result (λ done.
-        (kept : Kept) (clock n : ℕ) (s : Session)
-        → reacted setup.now done.1 done.0 s ≡ served_by setup.now kept clock n r.head r.asked s) }
-{
-    let request = Request::read(alloc, setup.versions().as_slice(), frame)?;
-    Ok((request.head, Reaction::bound(&request.asked)))
-}
-
-/// The bytes of a throttle time of 0 milliseconds, an INT32, where the head has one: they stand in front of the reply's body.
-fn throttle_time(head: Head) -> &'static [u8]
-    ensures bytes { (body : List ℕ) → result.now ++ body ≡ throttled head body }
-    ensures short { length result.now ≤ 4 }
-{
-    if head.is_throttled {
-        &[0, 0, 0, 0]
-    } else {
-        &[]
-    }
-}
-
-/// The body of a whole reply: what stands behind its size and its correlation id.
-fn body_of(reply: &[u8]) -> &[u8]
-    ensures { result.now ≡ body_of reply.now }
-{
-    reply.get(8..).unwrap_or_default()
-}
-
-/// Adds a size, a correlation id, a throttle time where the head has one, and a body, all or nothing.
-fn append_reply(output: &mut Vec<u8>, head: Head, body: &[u8]) -> Result<(), AllocError>
-    requires { reply_size (throttled head body.now) < 2 ^ 31 }
-    ensures ok { OnOk result (output.new.items ≡ output.old.items ++ framed head.correlation_id (throttled head body.now)) }
-    ensures err { OnErr result (output.new.items ≡ output.old.items) }
-{
-    let throttle_time = throttle_time(head);
-    let size = (4 + throttle_time.len() + body.len()) as i32;
-    output.try_reserve(8 + throttle_time.len() + body.len())?;
-    output.extend_from_slice(&size.to_be_bytes())?;
-    output.extend_from_slice(&head.correlation_id.to_be_bytes())?;
-    output.extend_from_slice(throttle_time)?;
-    output.extend_from_slice(body)
 }

@@ -1,19 +1,23 @@
 //! What a request comes to for its connection.
 
-ghost use Rattle.std.specs.Prelude.{◌≡◌, ℕ, false};
+ghost use Rattle.std.specs.Prelude.{◌≡◌, ℕ, IfOk, false};
 ghost use Rattle.kb_isolation_spec.specs.declared.head.Head.{Head};
 ghost use Rattle.kb_isolation_spec.specs.Session.{Session};
 ghost use Rattle.kb_tenant_api.specs.Hosted.{Kept};
-ghost use Rattle.kb_isolation_spec.specs.Greeting.{Setup, bare_login, greeted_by, login};
+ghost use Rattle.kb_isolation_spec.specs.Greeting.{Setup, bare_login, greeted_by, greeted_frame, login};
+ghost use Rattle.kb_isolation_spec.specs.Requests.{request};
 ghost use Rattle.kb_isolation_spec.specs.Machine.{served_by};
 ghost use Rattle.kb_connection.specs.Fronts.{is_tenants};
-ghost use Rattle.kb_connection.specs.View.{asked_of};
+ghost use Rattle.kb_connection.specs.View.{asked_of, greeting_of};
 ghost use Rattle.kb_connection.specs.Reactions.{reacted};
 
 use crate::greeting::Greeting;
-use crate::request::Asked;
+use crate::request::{Asked, Request};
 use crate::setup::Setup;
+use crate::version::NO_HEAD;
+use kb_isolation_spec::Head;
 use kb_wire::ErrorCode;
+use std::alloc::{AllocError, Global};
 
 /// What a request comes to for its connection.
 #[derive(Clone, Copy, Debug, PartialEq, Eq)]
@@ -40,7 +44,8 @@ impl Reaction {
     /// What a request of a greeting connection comes to (Kafka protocol guide, "SASL Authentication Sequence").
     #[tactic(auto, unfolding(kb_isolation_spec::specs::Greeting::greeted_by))]
     pub fn greeting(setup: &Setup, handshaken: bool, asked: &Asked<'_>) -> Reaction
-        ensures { (head : Head) (s : Session) → reacted setup.now result head s ≡ greeted_by setup.now handshaken head (asked_of asked.now) s }
+        ensures { (head : Head) (s : Session)
+            → reacted setup.now result head s ≡ greeted_by setup.now handshaken head (asked_of asked.now) s }
     {
         match asked {
             Asked::Versions => Reaction::Versions(ErrorCode::None),
@@ -82,4 +87,40 @@ impl Reaction {
             Asked::Another { .. } | Asked::Malformed => Reaction::Shuts,
         }
     }
+}
+
+/// What a greeting connection's frame comes to, under its head: a bare message of PLAIN has none.
+pub fn greeting_reaction(
+    alloc: Global,
+    setup: &Setup,
+    greeting: Greeting,
+    frame: &[u8],
+) -> Result<(Head, Reaction), AllocError>
+    ensures { IfOk result (λ done. (s : Session)
+        → reacted setup.now done.1 done.0 s ≡ greeted_frame setup.now (greeting_of greeting) frame.now s) }
+{
+    if greeting == Greeting::Bare {
+        return Ok((NO_HEAD, Reaction::bare(setup, frame)));
+    }
+    let request = Request::read(alloc, setup.versions().as_slice(), frame)?;
+    let handshaken = greeting == Greeting::Shaken;
+    Ok((
+        request.head,
+        Reaction::greeting(setup, handshaken, &request.asked),
+    ))
+}
+
+/// What a bound connection's request comes to that is no request of its tenant, under its head.
+pub fn bound_reaction(
+    alloc: Global,
+    setup: &Setup,
+    frame: &[u8],
+) -> Result<(Head, Reaction), AllocError>
+    ensures { let r = request setup.now.versions frame.now in
+        is_tenants r.asked ≡ false → IfOk result (λ done.
+        (kept : Kept) (clock n : ℕ) (s : Session)
+        → reacted setup.now done.1 done.0 s ≡ served_by setup.now kept clock n r.head r.asked s) }
+{
+    let request = Request::read(alloc, setup.versions().as_slice(), frame)?;
+    Ok((request.head, Reaction::bound(&request.asked)))
 }

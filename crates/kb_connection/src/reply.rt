@@ -1,11 +1,15 @@
-//! The bodies of the replies that need no tenant.
+//! How a reply is laid out, and the bodies of those that need no tenant.
 
-ghost use Rattle.std.specs.Prelude.{◌≡◌, ◌<◌, ◌^◌, IfOk, IfSome, length};
+ghost use Rattle.std.specs.Prelude.{◌≡◌, ◌<◌, ◌≤◌, ◌^◌, ◌++◌, ℕ, List, IfOk, IfSome, OnOk, OnErr, length};
 ghost use Rattle.kb_wire.specs.Codec.{array};
 ghost use Rattle.kb_api_group.specs.Layouts.{api_version};
+ghost use Rattle.kb_tenant.specs.Replies.{framed, reply_size};
+ghost use Rattle.kb_isolation_spec.specs.Session.{throttled};
+ghost use Rattle.kb_connection.specs.TenantAnswers.{body_of};
 ghost use Rattle.kb_isolation_spec.specs.Greeting.{versions_reply, handshake_reply, authenticate_reply};
 
 use kb_api_group::{ApiVersion, SaslAuthenticateReply, SaslHandshakeReply};
+use kb_isolation_spec::Head;
 use kb_wire::{Array, Blob, ErrorCode, Layout, Sink, Text};
 use std::alloc::{AllocError, Global};
 
@@ -57,4 +61,38 @@ pub fn authenticate_body(
     let mut sink = Sink::new(alloc);
     reply.write(&mut sink)?;
     Ok(sink.into_vec())
+}
+
+/// The bytes of a throttle time of 0 milliseconds, an INT32, where the head has one: they stand in front of the reply's body.
+pub fn throttle_time(head: Head) -> &'static [u8]
+    ensures bytes { (body : List ℕ) → result.now ++ body ≡ throttled head body }
+    ensures short { length result.now ≤ 4 }
+{
+    if head.is_throttled {
+        &[0, 0, 0, 0]
+    } else {
+        &[]
+    }
+}
+
+/// The body of a whole reply: what stands behind its size and its correlation id.
+pub fn body_of(reply: &[u8]) -> &[u8]
+    ensures { result.now ≡ body_of reply.now }
+{
+    reply.get(8..).unwrap_or_default()
+}
+
+/// Adds a size, a correlation id, a throttle time where the head has one, and a body, all or nothing.
+pub fn append_reply(output: &mut Vec<u8>, head: Head, body: &[u8]) -> Result<(), AllocError>
+    requires { reply_size (throttled head body.now) < 2 ^ 31 }
+    ensures ok { OnOk result (output.new.items ≡ output.old.items ++ framed head.correlation_id (throttled head body.now)) }
+    ensures err { OnErr result (output.new.items ≡ output.old.items) }
+{
+    let throttle_time = throttle_time(head);
+    let size = (4 + throttle_time.len() + body.len()) as i32;
+    output.try_reserve(8 + throttle_time.len() + body.len())?;
+    output.extend_from_slice(&size.to_be_bytes())?;
+    output.extend_from_slice(&head.correlation_id.to_be_bytes())?;
+    output.extend_from_slice(throttle_time)?;
+    output.extend_from_slice(body)
 }

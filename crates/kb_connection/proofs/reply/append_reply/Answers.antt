@@ -1,6 +1,6 @@
-use Rattle.std.proofs.Common.{FitsSigned, ap, rules, sym, w32, ◌∙◌}
+use Rattle.std.proofs.Common.{FitsSigned, rules, w32}
 use Rattle.kb_connection.proofs.Appended.{replied_behind, if_added, size_of}
-use Rattle.kb_connection.proofs.connection.append_reply.Goals as goal
+use Rattle.kb_connection.proofs.reply.append_reply.Goals as goal
 
 pub returns-clause-ok : goal.returns-clause-ok
 returns-clause-ok c =

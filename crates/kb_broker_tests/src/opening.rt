@@ -170,10 +170,11 @@ const NEWEST_JOIN: &str = "00000031 000b 0004 00000028 ffff 0001 67 00002710 000
 /// What the two connections ask, and what each gets then.
 type Step = ([&'static str; 2], [&'static str; 2]);
 
-/// Versions that are laid out as an earlier one, but for a throttle time in front of the reply: CreateTopics 2 and 3, Produce 4, Fetch 6,
-/// InitProducerId 1, JoinGroup 2 and 3, Heartbeat, SyncGroup and LeaveGroup 1 and 2, OffsetCommit 3 and 4, DeleteRecords 1, and DeleteTopics
-/// 2 and 3. The second member's join waits until the first has joined again, and its sync until the leader's has come: their replies begin
-/// with a throttle time too.
+/// Versions that are laid out as an earlier one, but for a throttle time in front of the reply. The second member's join waits until the
+/// first has joined again, and its sync until the leader's has come: their replies begin with a throttle time too.
+///
+/// They are CreateTopics 2 and 3, Produce 4, Fetch 6, InitProducerId 1, JoinGroup 2 and 3, Heartbeat, SyncGroup and LeaveGroup 1 and 2,
+/// OffsetCommit 3 and 4, DeleteRecords 1, and DeleteTopics 2 and 3.
 const NEWER: [Step; 17] = [
     (
         [

@@ -1,5 +1,6 @@
 //! Laws about the definitions, each as the contract of a function with an empty body.
-ghost use Rattle.std.specs.Prelude.{◌≡◌, ◌↔◌, ◌≤◌, ◌<◌, ◌+◌, ◌^◌, pos, ◌++◌, ◌∷◌, ℕ, ℤ, List, [], Bool, true, false, length, max, Ok, Option, Some, None};
+ghost use Rattle.std.specs.Prelude.{◌≡◌, ◌↔◌, ◌≤◌, ◌<◌, ◌+◌, ◌^◌, ◌++◌, ◌∷◌, ℕ, ℤ, pos, List, [], Bool, true, false, length, max};
+ghost use Rattle.std.specs.Prelude.{Ok, Option, Some, None};
 ghost use Rattle.std.specs.List.{Contains};
 ghost use Rattle.kb_wire.specs.declared.api_key.TheConstants.{DELETE_TOPICS, FETCH, JOIN_GROUP};
 ghost use Rattle.kb_isolation_spec.specs.declared.head.Head.{Head};
@@ -9,8 +10,8 @@ ghost use Rattle.kb_api_group.specs.Frames.{Whole, front};
 ghost use Rattle.kb_api_data.specs.declared.fetch.FetchRequest.{FetchRequest};
 ghost use Rattle.kb_isolation_spec.specs.Requests.{Another, Authenticate, request};
 ghost use Rattle.kb_isolation_spec.specs.Tenant.{Records, Wait, ready};
-ghost use Rattle.kb_isolation_spec.specs.Fetches.{AllTurnsGiveBatches, AllWakeWithBatches, EventGivesBatches, FetchesGetBatches, GetsBatches};
-ghost use Rattle.kb_isolation_spec.specs.Fetches.{NextGivesBatches, ServesBatches, after_request};
+ghost use Rattle.kb_isolation_spec.specs.Fetches.{AllTurnsGiveBatches, AllWakeWithBatches, EventGivesBatches, FetchesGetBatches};
+ghost use Rattle.kb_isolation_spec.specs.Fetches.{GetsBatches, NextGivesBatches, ServesBatches, after_request};
 ghost use Rattle.kb_tenant.specs.Batches.{HasSmallLogs};
 ghost use Rattle.kb_tenant.specs.Fetch.{asked_fetch, fetched, fetched_in};
 ghost use Rattle.kb_tenant.specs.Replies.{Replies, framed};

@@ -469,7 +469,8 @@ fn ask_again<L: PartitionLog + Drop, S: Store>(
     // Whatever was refused, a fetch's reply tells it.
     ensures told { shelf_is_honest S.disk tenants.new
         → TellsAwaited (FailedBy (S.disk tenants.old.shelf.store).failures (S.disk tenants.new.shelf.store).failures tenants.new.shelf.next)
-        waiting.now.head.correlation_id clock (kept_of (tenants_in L.log S.disk tenants.old) tenant) (awaited_of waiting.now.awaited) result }
+        waiting.now.head.correlation_id clock (kept_of (tenants_in L.log S.disk tenants.old) tenant)
+        (awaited_of waiting.now.awaited) result }
 {
     match &waiting.awaited {
         Awaited::Records {

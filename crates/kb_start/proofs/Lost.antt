@@ -8,9 +8,10 @@ use Rattle.kb_survey.specs.Listed.{is_in}
 use Rattle.kb_survey.specs.Whole.{front_end, none, whole_in}
 use Rattle.kb_start.specs.declared.left.Left.{Left}
 use Rattle.kb_start.specs.declared.losses.Loss.{Loss}
+use Rattle.kb_start.specs.declared.losses.Opened.{Opened}
 use Rattle.kb_start.specs.Left.{any_dropped, is_dropped}
 use Rattle.kb_start.specs.Starts.{header_at, start_of}
-use Rattle.kb_start.specs.Survey.{front_end_at, is_superseded, loss_at, loss_of, losses_of, snapshot_at, snapshot_by, snapshots_in_use, Known}
+use Rattle.kb_start.specs.Survey.{dropped_losses, front_end_at, is_superseded, known_of, loss_at, loss_of, losses_of, snapshot_at, snapshot_by, snapshots_in_use, Known}
 use Rattle.kb_start.specs.Survey.{stray_at, stray_loss, stray_losses, unfit_after, with_stray}
 use Rattle.kb_survey.specs.Stray.{stray_of}
 use Rattle.kb_survey.specs.declared.stray.Stray.{Stray}
@@ -40,6 +41,12 @@ lost_next k u d e files i other before now first in_range t f is told =
     ∙ ap (λ ls. before ++ (ls ++ rest)) (same_loss k u d e l t f)
     ∙ ap (λ fs. before ++ losses_of k u d fs) (sym next) ∙ told
 
+-- those of all files
+same_losses : (k : Known) (u : List Header) (d e : Disk) (ls : List Left) → e.table ≡ d.table → e.files ≡ d.files → losses_of k u e ls ≡ losses_of k u d ls
+same_losses k u d e [] t f = refl
+same_losses k u d e (l ∷ ls) t f =
+    ap (λ x. x ++ losses_of k u e ls) (same_loss k u d e l t f) ∙ ap (λ x. loss_of k u d l ++ x) (same_losses k u d e ls t f)
+
 either : (a b : Bool) → (a || b) ≡ false → (a ≡ false) × (b ≡ false)
 either true b e = absurd cc
 either false b e = (refl, e)
@@ -61,6 +68,20 @@ same_snapshot strays d e l t f = ap (λ table. of_both table e.files) t ∙ ap (
     of_both table files =
         let header = if is_in (keys table) l.file then header_in (unwrap_or (get files l.file) []) else None in
         if is_some l.after && not (is_in strays l.file) then snapshot_by header else []
+
+same_snapshots : (strays : List ℕ) (d e : Disk) (ls : List Left) → e.table ≡ d.table → e.files ≡ d.files
+    → snapshots_in_use e strays ls ≡ snapshots_in_use d strays ls
+same_snapshots strays d e [] t f = refl
+same_snapshots strays d e (l ∷ ls) t f =
+    ap (λ x. x ++ snapshots_in_use e strays ls) (same_snapshot strays d e l t f)
+    ∙ ap (λ x. snapshot_at d strays l ++ x) (same_snapshots strays d e ls t f)
+
+-- the losses of an opening on a disk of the same files
+pub same_dropped : (o : Opened) (d e : Disk) → e.table ≡ d.table → e.files ≡ d.files → dropped_losses o e ≡ dropped_losses o d
+same_dropped o d e t f =
+    let used = snapshots_in_use e o.strays.now o.files.now in
+    same_losses (known_of o) used d e o.files.now t f
+    ∙ ap (λ u. losses_of (known_of o) u d o.files.now) (same_snapshots o.strays.now d e o.files.now t f)
 
 -- with one more file
 pub snapshots_next : (strays : List ℕ) (d e : Disk) (files : List Left) (i : ℕ) (other : Left) (before now all : List Header)
@@ -120,6 +141,14 @@ same_stray_loss k d e file (Some LaterGeneration) t f = refl
 same_stray_loss k d e file (Some OfNobody) t f = refl
 same_stray_loss k d e file (Some NeverGivenOut) t f = refl
 same_stray_loss k d e file (Some OfNoTopic) t f = refl
+
+pub same_stray_losses : (k : Known) (nexts : List ℕ) (d e : Disk) (files : List ℕ) → e.table ≡ d.table → e.files ≡ d.files
+    → stray_losses k e nexts files ≡ stray_losses k d nexts files
+same_stray_losses k nexts d e [] t f = refl
+same_stray_losses k nexts d e (x ∷ xs) t f =
+    ap (λ ls. ls ++ stray_losses k e nexts xs)
+    (same_stray_loss k d e x (stray_at e k.names nexts x) t f ∙ ap (stray_loss k d x) (same_stray d e k.names nexts x t f))
+    ∙ ap (λ ls. stray_loss k d x (stray_at d k.names nexts x) ++ ls) (same_stray_losses k nexts d e xs t f)
 
 -- the losses with one more file
 pub stray_next : (k : Known) (nexts : List ℕ) (d e : Disk) (files : List ℕ) (i other : ℕ) (before now first : List Loss)

@@ -95,7 +95,6 @@ pub fn survey<S: Store>(
 }
 
 /// Adds the files of which an opening drops whole batches.
-#[tactic(auto, using(crate::proofs::Lost::none_lost))]
 fn add_dropped<S: Store>(
     alloc: Global,
     store: &mut S,
@@ -109,11 +108,11 @@ fn add_dropped<S: Store>(
     ensures unchanged { Keeps (S.disk store.old) (S.disk store.new) }
     ensures cause { HasCause (S.disk store.old) result (S.disk store.new) }
 {
-    if !any_dropped(opened.files) {
-        return Ok(());
+    if any_dropped(opened.files) {
+        let snapshots = snapshots_in_use(alloc, store, listed, opened.strays, opened.files)?;
+        return add_files(alloc, store, listed, opened, &snapshots, losses);
     }
-    let snapshots = snapshots_in_use(alloc, store, listed, opened.strays, opened.files)?;
-    add_files(alloc, store, listed, opened, &snapshots, losses)
+    Ok(())
 }
 
 /// Adds the files of which an opening drops whole batches that no snapshot took the place of, by the headers of those that are in use.

@@ -107,7 +107,8 @@ impl Journal {
         }
     }
 
-    /// The files that an opening left aside: of tenants that no user names, a line each, and of a first write that was cut short.
+    /// The files that an opening left aside: of tenants that no user names, a line each, of a first write that was cut short, and of
+    /// catalogs' snapshots that were not finished.
     pub fn tell_strays(&mut self, alloc: Global, now: u64, strays: &StrayCounts) {
         if self.is_quiet {
             return;
@@ -121,6 +122,13 @@ impl Journal {
         if strays.short > 0 {
             let short = strays.short;
             let text = format!(in alloc; "stray files that are shorter than a header: {short}");
+            self.lines.tell(now, text);
+        }
+        if strays.unfinished > 0 {
+            let unfinished = strays.unfinished;
+            let text = format!(in alloc;
+                "stray files of catalogs' snapshots that were not finished: {unfinished}"
+            );
             self.lines.tell(now, text);
         }
     }

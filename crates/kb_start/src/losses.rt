@@ -254,7 +254,15 @@ fn add_stray<S: Store>(
     }
     if stray == Stray::Unfinished {
         let place = front_end(alloc, store, listed, file, header.as_ref())?;
-        add_loss(alloc, store, listed, opened, file, place, &mut survey.losses)?;
+        add_loss(
+            alloc,
+            store,
+            listed,
+            opened,
+            file,
+            place,
+            &mut survey.losses,
+        )?;
     }
     Ok(survey.strays.add(alloc, stray, header)?)
 }

@@ -1,6 +1,7 @@
 //! Laws about whole lists of calls, each as the contract of a function with an empty body.
 
-ghost use Rattle.std.specs.Prelude.{◌≡◌, ◌≤◌, ◌<◌, ◌+◌, ◌-◌, ◌*◌, ◌&&◌, ◌++◌, ◌∷◌, [], ℕ, List, Some, true, length, nat_le, nat_lt, slice_get};
+ghost use Rattle.std.specs.Prelude.{◌≡◌, ◌≤◌, ◌<◌, ◌+◌, ◌-◌, ◌*◌, ◌&&◌, ◌++◌, ◌∷◌};
+ghost use Rattle.std.specs.Prelude.{[], ℕ, List, Some, true, length, nat_le, nat_lt, slice_get};
 ghost use Rattle.kb_shares.specs.declared.share.Share.{Share};
 ghost use Rattle.kb_shares.specs.Shares.{Pool, are_shares, fresh, shares_of, holder_at, used_by, own_of, most_of, all_above};
 ghost use Rattle.kb_shares.specs.Shares.{with_used, has_room};

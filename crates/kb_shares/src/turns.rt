@@ -7,8 +7,8 @@ use std::alloc::{AllocError, Global};
 use std::collections::VecDeque;
 use std::marker::Model;
 
-/// The members that wait for a turn, each of a holder. Turns go to holders in turn, and those of a holder to its members in turn: so however
-/// many members of a holder wait, others wait for one of them between two of theirs.
+/// The members that wait for a turn, each of a holder. Turns go to holders in turn, and those of a holder to its members in turn. So
+/// however many members of a holder wait, others wait for one of them between two of theirs.
 ///
 /// A step costs the same whatever waits, and nothing is kept of holders for whom nobody waits but their places.
 #[derive(Drop)]
@@ -61,7 +61,8 @@ impl Turns {
         line.reserve(members.saturating_sub(line.len())).is_ok()
     }
 
-    /// A member waits for its turn, which did not wait. It answers false where there is no memory, or no such holder: then it does not wait.
+    /// A member waits for its turn, which did not wait. It answers false where there is no memory, or no such holder: then it does not
+    /// wait.
     pub fn push(&mut self, holder: usize, member: u64) -> bool
         ensures joined { result ≡ true → self.new ≡ joined holder member self.old }
         ensures refused { result ≡ false → self.new ≡ self.old }

@@ -3,8 +3,8 @@
 
     trials/greedy_tenant.py KBROKER
 
-First 52 connections of one tenant ask for 8 MB each and never read. Then 300 connections of it, with 1,000 topics, ask for metadata again and
-again. Another tenant logs in meanwhile and produces a message every 100 ms. Its answers are printed, and none may take half a second.
+First 52 connections of one tenant ask for 8 MB each and never read. Then 300 connections of it, with 1,000 topics, ask for metadata again
+and again. Another tenant logs in meanwhile and produces a message every 100 ms. Its answers are printed, and none may take half a second.
 """
 
 import select

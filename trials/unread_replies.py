@@ -4,9 +4,9 @@
     trials/unread_replies.py KBROKER
 
 A broker may keep 1,048,576 bytes of unread replies. Three connections of one user ask for 8 MB each and never read, so that its tenant is
-asked for nothing. A Produce of another user of it that comes behind theirs has to be answered within 11 seconds, and one right behind it within 11
-more. The log has to tell it. Another tenant's Produce is answered within a second. A client that asks for 8 MB and reads 2,048 bytes every
-half a second is not closed within 30 seconds, though its tenant waits.
+asked for nothing. A Produce of another user of it that comes behind theirs has to be answered within 11 seconds, and one right behind it
+within 11 more. The log has to tell it. Another tenant's Produce is answered within a second. A client that asks for 8 MB and reads 2,048
+bytes every half a second is not closed within 30 seconds, though its tenant waits.
 """
 
 import socket

@@ -55,8 +55,8 @@ impl Stalls {
     }
 }
 
-/// The connections whose sockets have a reply that is not all written, and since when each took no byte of it: of all, of those that were not
-/// tried again since, and of each holder.
+/// The connections whose sockets have a reply that is not all written, and since when each took no byte of it: of all, of those that were
+/// not tried again since, and of each holder.
 #[derive(Drop)]
 pub struct Silences {
     unread: Unread,
@@ -76,11 +76,12 @@ impl Silences {
         }
     }
 
-    /// A holder's socket has something to take from now on, or took some of it now. After an `Err`, which is want of memory, it may stand in
-    /// some of the lists until [`Silences::end`].
+    /// A holder's socket has something to take from now on, or took some of it now. After an `Err`, which is want of memory, it may stand
+    /// in some of the lists until [`Silences::end`].
     pub fn begin(&mut self, holder: usize, connection: u64, now: u64) -> Result<(), AllocError>
         ensures unread { OnOk result (self.new.unread.moments.keys ≡ insert_key by_moment self.old.unread.moments.keys (now, connection)) }
-        ensures untried { OnOk result (self.new.untried.moments.keys ≡ insert_key by_moment self.old.untried.moments.keys (now, connection)) }
+        ensures untried { OnOk result (self.new.untried.moments.keys
+            ≡ insert_key by_moment self.old.untried.moments.keys (now, connection)) }
         ensures stalls { OnOk result (self.new.stalls.moments.keys
             ≡ insert_key by_holder self.old.stalls.moments.keys (holder, now, connection)) }
     {

@@ -198,8 +198,8 @@ impl<R: Net, S: Store, L: PartitionLog + Drop> Edge<R, S, L> {
     }
 }
 
-/// Notes since when a socket of a holder took nothing of its reply, which had so much to take before and may have taken some since. An `Err`
-/// is want of memory: it cannot be known when it has been silent for too long, and it is closed.
+/// Notes since when a socket of a holder took nothing of its reply, which had so much to take before and may have taken some since. An
+/// `Err` is want of memory: it cannot be known when it has been silent for too long, and it is closed.
 pub(super) fn note_reply<T: Read + Write + Drop>(
     silences: &mut Silences,
     socket: &mut Socket<T>,

@@ -245,7 +245,8 @@ impl<R: Net, S: Store, L: PartitionLog + Drop> Edge<R, S, L> {
     fn note_written(&mut self, alloc: Global, place: usize, before: Before, turn: &mut Turn) -> bool
         ensures commits { self.new.host.commits ≡ self.old.host.commits }
         ensures booked { result ≡ true → IfSome (slice_get self.old.sockets.items place) (λ s. self.new.replies
-            ≡ set_to s.connection (place_of s.connection self.old.shares) (kept_for (vec_len s.output - s.written) before.promised) self.old.replies) }
+            ≡ set_to s.connection (place_of s.connection self.old.shares)
+            (kept_for (vec_len s.output - s.written) before.promised) self.old.replies) }
     {
         let Some(socket) = self.sockets.get_mut(place) else {
             return false;

@@ -17,6 +17,7 @@ pub mod Counted
 pub mod Served
 pub mod Happened
 pub mod OpeningParts
+pub mod Renewed
 pub mod RunDrain
 pub mod RunEvents
 pub mod RunHistory

@@ -278,7 +278,8 @@ impl<L: PartitionLog + Drop, S: Store> Engine<L, S> {
     }
 
     /// The tenants' own parts of a moment: their groups', and retention. Answers the connections of requests that groups answered; `None`:
-    /// others may be ready too that are not due.
+    /// others may be ready too that are not due. Behind them one tenant's catalog is looked at, and written anew where that is due, which
+    /// no tenant sees.
     pub(super) fn pass(&mut self, alloc: Global) -> Option<Vec<u64>>
         requires in_time { self.old.state.clock ≤ 2 ^ 62 }
         requires waiting { is_honest S.disk self.old → AreWaitingOn self.old.state }
@@ -287,7 +288,9 @@ impl<L: PartitionLog + Drop, S: Store> Engine<L, S> {
         ensures later { IsLater S.disk self.old self.new }
         ensures leaves { is_honest S.disk self.new → Leaves result self.old.state.tenants self.new.state.tenants }
     {
-        self.tenants.pass(alloc, self.clock)
+        let answered = self.tenants.pass(alloc, self.clock);
+        self.tenants.renew_next(alloc);
+        answered
     }
 
     /// After the tenants' own parts of a moment, looks at waiting requests again, at those that are due and that were answered, or at all,

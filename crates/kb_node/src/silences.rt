@@ -4,7 +4,7 @@ ghost use Rattle.std.specs.Prelude.{◌≡◌, [], min, OnOk, OnErr};
 ghost use Rattle.std.specs.BTreeMap.{is_at};
 ghost use Rattle.std.specs.BTreeSet.{insert_key};
 ghost use Rattle.std.specs.Set.{remove_key};
-ghost use Rattle.kb_node.specs.Deadlines.{by_moment, by_holder, first_end, silent, stalled, without_silent};
+ghost use Rattle.kb_node.specs.Deadlines.{by_moment, by_holder, first_end, first_of, silent, stalled, without_silent};
 
 use crate::deadlines::{TRY_MILLIS, Unread, later};
 use std::alloc::{AllocError, Global};
@@ -44,12 +44,21 @@ impl Stalls {
         self.moments.remove(&(holder, since, connection));
     }
 
+    /// The first one of a holder, or of one behind it: the holder, since when, and the connection.
+    fn first_of(&self, holder: usize) -> Option<(usize, u64, u64)>
+        ensures { result ≡ first_of holder self.now.moments }
+    {
+        self.moments.range((holder, 0, 0)..).next().copied()
+    }
+
     /// The one of a holder that has taken nothing for longest, where that is so long.
     fn stalled(&self, holder: usize, now: u64, millis: u64) -> Option<u64>
         ensures { result ≡ stalled holder now millis self.now.moments }
     {
-        match self.moments.range((holder, 0, 0)..).next() {
-            Some(stall) if stall.0 == holder && later(stall.1, millis) <= now => Some(stall.2),
+        match self.first_of(holder) {
+            Some((it, since, connection)) if it == holder && later(since, millis) <= now => Some(
+                connection,
+            ),
             _ => None,
         }
     }

@@ -20,7 +20,7 @@ use crate::turn::Turn;
 use crate::watch::Watch;
 use kb_broker::Broker;
 use kb_log::{ListLog, PartitionLog};
-use kb_shares::Ledger;
+use kb_shares::{Ledger, Turns};
 use kb_store::{Store, StoreFault};
 use std::alloc::{AllocError, Global};
 use std::io;
@@ -30,6 +30,9 @@ use std::os::fd::AsRawFd;
 
 /// The most sockets that a turn accepts.
 const ACCEPTS: usize = 1024;
+
+/// How many holders have turns of their own: the tenants, of which settings have at most 256, and those that have not logged in.
+const HOLDERS: usize = 257;
 
 /// How many failed logins a turn keeps.
 const DENIED: usize = 16;
@@ -62,8 +65,8 @@ pub struct BindRefused<S: Store, L: PartitionLog = ListLog> {
 ///
 /// Each socket that is accepted is a new connection, of a number above all earlier ones. Its bytes are the connection's, in
 /// order, and the connection's output is what is written to it. They are handed on a request at a time, in turn among the
-/// connections, and only while the connection has no output to be written and waits for nothing: so a connection that asks and
-/// never reads has one reply kept.
+/// tenants and the connections of each, and only while the connection has no output to be written and waits for nothing: so a
+/// connection that asks and never reads has one reply kept.
 #[derive(Drop)]
 pub struct Edge<R: Net, S: Store, L: PartitionLog = ListLog> {
     doors: Doors<R>,
@@ -89,8 +92,10 @@ pub struct Edge<R: Net, S: Store, L: PartitionLog = ListLog> {
     watch: Option<Watch>,
     /// Whether an accept may find a socket.
     can_accept: bool,
-    /// The connections whose sockets can go on, each once.
+    /// The connections whose sockets can go on, each once, but for those in line.
     ready: Vec<u64>,
+    /// Those of them that are in line for their turn, by holder.
+    line: Turns,
     /// Those of them that were asked in this turn, and are told.
     asked: Vec<u64>,
     /// An empty list, to be filled while another is gone through.
@@ -170,6 +175,9 @@ impl<R: Net, S: Store, L: PartitionLog + Drop> Edge<R, S, L> {
         let Ok(shares) = SocketShares::new(alloc, u64::from(limits.sockets), &[]) else {
             return Err(refused(DoorFault::Memory, broker));
         };
+        let Ok(line) = Turns::new(alloc, HOLDERS) else {
+            return Err(refused(DoorFault::Memory, broker));
+        };
         let Ok(replies) = shares_of(alloc, u64::from(limits.output_bytes), 0) else {
             return Err(refused(DoorFault::Memory, broker));
         };
@@ -188,6 +196,7 @@ impl<R: Net, S: Store, L: PartitionLog + Drop> Edge<R, S, L> {
             watch,
             can_accept: true,
             ready: buffers.ready,
+            line,
             asked: buffers.asked,
             spare: buffers.spare,
             denied: buffers.denied,

@@ -1,12 +1,13 @@
 //! How an edge serves its sockets.
 
-ghost use Rattle.std.specs.Prelude.{◌≡◌, ◌-◌, true, false, Some, IfErr, IfSome, slice_get, vec_len};
+ghost use Rattle.std.specs.Prelude.{◌≡◌, ◌≢◌, ◌-◌, min, true, false, Some, IfErr, IfSome, slice_get, vec_len};
 ghost use Rattle.kb_node.specs.Commits.{may_tell, tells_at_once};
 ghost use Rattle.kb_shares.specs.Ledger.{set_to};
+ghost use Rattle.kb_shares.specs.Turns.{joined};
 ghost use Rattle.kb_node.specs.Replies.{kept_for, place_of};
 
 use crate::edge::closing::note_reply;
-use crate::edge::{DENIED, Edge};
+use crate::edge::{DENIED, Edge, HOLDERS};
 use crate::login::Denied;
 use crate::socket::{Next, Socket};
 use crate::turn::Turn;
@@ -16,9 +17,16 @@ use std::alloc::Global;
 use std::io::{Read, Write};
 use std::mem;
 use std::net::Net;
+use std::time::Duration;
 
-/// How often a turn serves a socket at most where replies go out at once: the sockets that can go on are served in turn, a request each.
-const ROUNDS: usize = 16;
+/// How many rounds a turn has at most where replies go out at once.
+const ROUNDS: usize = 64;
+
+/// How many sockets are served in a round at most, a request each. Behind it the system is asked who else can go on.
+const ROUND: usize = 16;
+
+/// How many sockets are asked at most in a turn whose replies wait for a commit.
+const TOGETHER: usize = 256;
 
 /// What was seen of a socket, and of a turn, before the socket was served.
 #[derive(Clone, Copy)]
@@ -45,20 +53,51 @@ impl Before {
 }
 
 impl<R: Net, S: Store, L: PartitionLog + Drop> Edge<R, S, L> {
-    /// Each socket that can go on is served, a request at a time. What is said to it goes out at once.
+    /// The sockets that can go on are served, a request at a time, tenants in turn. What is said to them goes out at once.
     pub(super) fn serve_at_once(&mut self, alloc: Global, turn: &mut Turn)
         requires { tells_at_once self.old.host.commits ≡ true }
     {
+        self.line_up(alloc, true);
         for _ in 0..ROUNDS {
-            if self.ready.is_empty() {
+            if self.line.is_empty() {
                 break;
             }
             self.serve(alloc, turn);
             self.hear_speakers();
+            self.listen(Duration::ZERO);
+            self.line_up(alloc, false);
         }
     }
 
-    /// A request of each socket that can go on is handed on, one commit makes all of them last, and then what is said goes out.
+    /// The sockets that can go on stand in line for their turns, all of them or those alone that may be asked. Where there is no memory for
+    /// that, they go on later.
+    fn line_up(&mut self, alloc: Global, is_for_all: bool)
+        ensures { self.new.host ≡ self.old.host }
+    {
+        let spare = mem::replace(&mut self.spare, Vec::new(alloc));
+        let mut round = mem::replace(&mut self.ready, spare);
+        for number in &round {
+            self.line_up_one(*number, is_for_all);
+        }
+        round.clear();
+        self.spare = round;
+    }
+
+    /// The socket of a connection stands in line behind the others of its holder, or stays among those that can go on.
+    fn line_up_one(&mut self, number: u64, is_for_all: bool)
+        ensures host { self.new.host ≡ self.old.host }
+        ensures waits { self.new.line ≢ self.old.line
+            → self.new.line ≡ joined (min (place_of number self.old.shares) 256) number self.old.line }
+    {
+        let holder = self.shares.holder(number).min(HOLDERS - 1);
+        let is_in_line = (is_for_all || self.may_ask(number)) && self.line.push(holder, number);
+        if !is_in_line {
+            // there is room for each socket once
+            let _ = self.ready.push(number);
+        }
+    }
+
+    /// A request of each socket whose turn it is is handed on, one commit makes all of them last, and then what is said goes out.
     ///
     /// An `Err` is the commit's: then nothing goes out.
     pub(super) fn serve_together(
@@ -76,18 +115,17 @@ impl<R: Net, S: Store, L: PartitionLog + Drop> Edge<R, S, L> {
         Ok(())
     }
 
-    /// Each socket that can go on is served once.
+    /// The next sockets in line are served once, a round of them.
     fn serve(&mut self, alloc: Global, turn: &mut Turn)
         requires { tells_at_once self.old.host.commits ≡ true }
         ensures { tells_at_once self.new.host.commits ≡ true }
     {
-        let spare = mem::replace(&mut self.spare, Vec::new(alloc));
-        let mut round = mem::replace(&mut self.ready, spare);
-        for number in &round {
-            self.serve_one(alloc, *number, turn);
+        for _ in 0..ROUND {
+            let Some(number) = self.line.next() else {
+                break;
+            };
+            self.serve_one(alloc, number, turn);
         }
-        round.clear();
-        self.spare = round;
     }
 
     /// Serves the socket of a connection once.
@@ -117,18 +155,18 @@ impl<R: Net, S: Store, L: PartitionLog + Drop> Edge<R, S, L> {
         self.note(alloc, place, before, next, turn);
     }
 
-    /// Hands on a request of each socket that can go on, while so little of its holder is awaited that it may ask for more. All are told,
-    /// and the next turn begins with those that were not asked.
+    /// Hands on a request of the next sockets in line, while so little of its holder is awaited that it may ask for more. All are told,
+    /// and those that were not asked come first in the next turn.
     fn hand_on(&mut self, alloc: Global, turn: &mut Turn) {
-        let spare = mem::replace(&mut self.spare, Vec::new(alloc));
-        let mut round = mem::replace(&mut self.ready, spare);
-        for number in &round {
-            let may_ask = self.may_ask(*number);
-            self.hand_on_one(alloc, *number, may_ask, turn);
-            self.put_in_line(*number, may_ask);
+        self.line_up(alloc, true);
+        for _ in 0..TOGETHER {
+            let Some(number) = self.line.next() else {
+                break;
+            };
+            let may_ask = self.may_ask(number);
+            self.hand_on_one(alloc, number, may_ask, turn);
+            self.put_in_line(number, may_ask);
         }
-        round.clear();
-        self.spare = round;
     }
 
     /// A socket that was asked comes behind all that were not.

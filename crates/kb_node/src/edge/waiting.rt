@@ -26,6 +26,13 @@ impl<R: Net, S: Store, L: PartitionLog + Drop> Edge<R, S, L> {
     /// it is an accept. An edge that was bound without a watch does not wait.
     pub fn wait(&mut self) {
         let longest = self.longest_wait();
+        self.listen(longest);
+    }
+
+    /// What the system tells within so long, of sockets and of listeners.
+    pub(super) fn listen(&mut self, longest: Duration)
+        ensures { self.new.host ≡ self.old.host }
+    {
         let Some(mut watch) = self.watch.take() else {
             return;
         };
@@ -60,7 +67,7 @@ impl<R: Net, S: Store, L: PartitionLog + Drop> Edge<R, S, L> {
 
     /// Whether a socket that can go on may be asked for more.
     fn can_ask_one(&self) -> bool {
-        self.ready.iter().any(|number| self.may_ask(*number))
+        !self.line.is_empty() || self.ready.iter().any(|number| self.may_ask(*number))
     }
 
     /// Whether more may be asked for by the socket of a connection: its holder has not too much that is unwritten, or awaited. A holder
@@ -74,7 +81,9 @@ impl<R: Net, S: Store, L: PartitionLog + Drop> Edge<R, S, L> {
     }
 
     /// What the system tells of a socket or of a listener.
-    fn hear(&mut self, event: &Event) {
+    fn hear(&mut self, event: &Event)
+        ensures { self.new.host ≡ self.old.host }
+    {
         let number = event.token().0 as u64;
         if number == DOOR {
             self.can_accept = true;

@@ -1,6 +1,7 @@
 -- The starts of partitions that the catalogs of tenants record.
 use Rattle.std.specs.Prelude.{◌≡◌, ◌&&◌, ◌++◌, ℕ, ℤ, Bool, false, max, List, [], ◌∷◌, Option, Some, None, if◌then◌else◌}
 use Rattle.std.specs.FinMap.{keys}
+use Rattle.std.specs.List.{filter}
 use Rattle.std.specs.Ordering.{int_eq}
 use Rattle.std.specs.Str.{bytes_eq}
 use Rattle.kb_store.specs.Disk.{Disk, bytes_of}
@@ -41,6 +42,15 @@ batches_at d tenant file =
 abbrev pub batches_of : Disk → List ℕ → List ℕ → List (List ℕ)
 batches_of d tenant [] = []
 batches_of d tenant (file ∷ files) = batches_at d tenant file ++ batches_of d tenant files
+
+-- a header is that of a catalog
+abbrev pub is_any_catalogs : Option Header → Bool
+is_any_catalogs None = false
+is_any_catalogs (Some h) = is_natural 1 h.kind
+
+-- of some files those of catalogs
+abbrev pub catalogs_of : Disk → List ℕ → List ℕ
+catalogs_of d files = filter (λ file. is_any_catalogs (header_at d file)) files
 
 -- Of each of some tenants those that all of its catalogs' whole batches record.
 abbrev pub AreRecorded : Disk → List (List ℕ) → List (List MoveStart) → Type 0

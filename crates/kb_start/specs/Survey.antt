@@ -1,5 +1,5 @@
 -- What a start would lose of the files of a store, and how many files are in its way.
-use Rattle.std.specs.Prelude.{◌+◌, ◌++◌, ◌&&◌, ◌||◌, ℕ, Bool, true, false, not, List, [], ◌∷◌, drop, map, nat_lt, Option, Some, None}
+use Rattle.std.specs.Prelude.{◌+◌, ◌++◌, ◌&&◌, ◌||◌, ℕ, Bool, false, not, List, [], ◌∷◌, drop, map, nat_lt, Option, Some, None}
 use Rattle.std.specs.Prelude.{is_some, unwrap_or, if◌then◌else◌}
 use Rattle.std.specs.FinMap.{keys}
 use Rattle.std.specs.Str.{bytes_eq}

@@ -1,11 +1,12 @@
 //! The starts of partitions that catalogs record.
 
-ghost use Rattle.std.specs.Prelude.{◌≡◌, ◌≤◌, ◌<◌, [], List, length, drop, map, option_copied, IfOk};
+ghost use Rattle.std.specs.Prelude.{◌≡◌, ◌≤◌, ◌<◌, ◌++◌, [], ◌∷◌, List, length, drop, map, option_copied, if◌then◌else◌, IfOk};
 ghost use Rattle.std.specs.FinMap.{keys};
 ghost use Rattle.kb_store.specs.Disk.{HasCause, Keeps};
 ghost use Rattle.kb_survey.specs.Whole.{batches_in};
 ghost use Rattle.kb_topics.specs.declared.command.MoveStart.{MoveStart};
-ghost use Rattle.kb_start.specs.Starts.{batches_at, batches_of, greatest_start, is_catalogs, start_among, start_of, starts_named};
+ghost use Rattle.kb_start.specs.Starts.{batches_at, batches_of, catalogs_of, greatest_start, header_at, is_any_catalogs, is_catalogs};
+ghost use Rattle.kb_start.specs.Starts.{start_among, start_of, starts_named};
 ghost use Rattle.kb_start.specs.Starts.{with_start, AreRecorded, RecordsEach};
 
 use kb_batch::BatchView;
@@ -27,48 +28,92 @@ pub fn recorded_starts<S: Store>(
     ensures unchanged { Keeps (S.disk store.old) (S.disk store.new) }
     ensures cause { HasCause (S.disk store.old) result (S.disk store.new) }
 {
-    let mut starts = Vec::new(alloc);
-    for tenant in tenants {
-        starts.push(starts_of(alloc, store, *tenant)?)?;
-    }
-    Ok(starts)
-}
-
-/// The starts that the whole batches of a tenant's catalogs record.
-fn starts_of<S: Store>(
-    alloc: Global,
-    store: &mut S,
-    tenant: &str,
-) -> Result<Vec<MoveStart>, StoreFault>
-    ensures starts { IfOk result (λ starts. (S.disk store.new).honest
-        → RecordsEach (batches_of (S.disk store.old) tenant.now (keys (S.disk store.old).table)) [] starts.items) }
-    ensures unchanged { Keeps (S.disk store.old) (S.disk store.new) }
-    ensures cause { HasCause (S.disk store.old) result (S.disk store.new) }
-{
     let listed = store.list(alloc)?;
-    let mut starts = Vec::new(alloc);
-    add_starts_among(alloc, store, &listed, tenant, &mut starts)?;
+    let catalogs = catalogs_among(alloc, store, &listed)?;
+    let starts = starts_among(alloc, store, &listed, &catalogs, tenants)?;
     Ok(starts)
 }
 
-/// Adds the starts that the whole batches of a tenant's catalogs record, by the numbers of all files that are there.
-fn add_starts_among<S: Store>(
+/// Those of catalogs, of the numbers of all files that are there.
+fn catalogs_among<S: Store>(
     alloc: Global,
     store: &mut S,
     listed: &[u64],
-    tenant: &str,
-    starts: &mut Vec<MoveStart>,
-) -> Result<(), StoreFault>
+) -> Result<Vec<u64>, StoreFault>
     requires { listed.now ≡ keys (S.disk store.old).table }
-    ensures starts { IfOk result (λ _. (S.disk store.new).honest
-        → RecordsEach (batches_of (S.disk store.old) tenant.now listed.now) starts.old.items starts.new.items) }
+    ensures catalogs { IfOk result (λ found. (S.disk store.new).honest → found.items ≡ catalogs_of (S.disk store.old) listed.now) }
     ensures unchanged { Keeps (S.disk store.old) (S.disk store.new) }
     ensures cause { HasCause (S.disk store.old) result (S.disk store.new) }
 {
+    let mut catalogs = Vec::new(alloc);
     for file in listed {
-        add_starts_at(alloc, store, listed, tenant, *file, starts)?;
+        add_catalog(alloc, store, listed, *file, &mut catalogs)?;
+    }
+    Ok(catalogs)
+}
+
+/// Adds a file, where it is of a catalog.
+fn add_catalog<S: Store>(
+    alloc: Global,
+    store: &mut S,
+    listed: &[u64],
+    file: u64,
+    catalogs: &mut Vec<u64>,
+) -> Result<(), StoreFault>
+    requires { listed.now ≡ keys (S.disk store.old).table }
+    ensures catalogs { IfOk result (λ _. (S.disk store.new).honest → catalogs.new.items
+        ≡ (if is_any_catalogs (header_at (S.disk store.old) file) then catalogs.old.items ++ file ∷ [] else catalogs.old.items)) }
+    ensures unchanged { Keeps (S.disk store.old) (S.disk store.new) }
+    ensures cause { HasCause (S.disk store.old) result (S.disk store.new) }
+{
+    if let Some(header) = header_among(alloc, store, listed, file)?
+        && header.kind() == 1
+    {
+        catalogs.push(file)?;
     }
     Ok(())
+}
+
+/// The starts that the whole batches of each tenant's catalogs record, by the files of all catalogs.
+fn starts_among<S: Store>(
+    alloc: Global,
+    store: &mut S,
+    listed: &[u64],
+    catalogs: &[u64],
+    tenants: &[&str],
+) -> Result<Vec<Vec<MoveStart>>, StoreFault>
+    requires { listed.now ≡ keys (S.disk store.old).table }
+    ensures starts { IfOk result (λ starts. (S.disk store.new).honest → catalogs.now ≡ catalogs_of (S.disk store.old) listed.now
+        → AreRecorded (S.disk store.old) (map (λ name. name.now) tenants.now) (map (λ of. of.items) starts.items)) }
+    ensures unchanged { Keeps (S.disk store.old) (S.disk store.new) }
+    ensures cause { HasCause (S.disk store.old) result (S.disk store.new) }
+{
+    let mut starts = Vec::new(alloc);
+    for tenant in tenants {
+        starts.push(starts_of(alloc, store, listed, catalogs, *tenant)?)?;
+    }
+    Ok(starts)
+}
+
+/// The starts that the whole batches of some files record, as far as they are of a tenant's catalog.
+fn starts_of<S: Store>(
+    alloc: Global,
+    store: &mut S,
+    listed: &[u64],
+    files: &[u64],
+    tenant: &str,
+) -> Result<Vec<MoveStart>, StoreFault>
+    requires { listed.now ≡ keys (S.disk store.old).table }
+    ensures starts { IfOk result (λ starts. (S.disk store.new).honest
+        → RecordsEach (batches_of (S.disk store.old) tenant.now files.now) [] starts.items) }
+    ensures unchanged { Keeps (S.disk store.old) (S.disk store.new) }
+    ensures cause { HasCause (S.disk store.old) result (S.disk store.new) }
+{
+    let mut starts = Vec::new(alloc);
+    for file in files {
+        add_starts_at(alloc, store, listed, tenant, *file, &mut starts)?;
+    }
+    Ok(starts)
 }
 
 /// Adds the starts that a file's whole batches record, if it is of a tenant's catalog.

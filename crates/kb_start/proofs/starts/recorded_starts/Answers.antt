@@ -1,29 +1,23 @@
-use Rattle.std.proofs.Common.{[], append-nil, map, subst, arith}
-use Rattle.std.proofs.lemmas.List.{drop_all}
-use Rattle.kb_start.specs.Starts.{AreRecorded}
+use Rattle.std.proofs.Common.{◌∙◌, ap, map, sym}
+use Rattle.kb_start.specs.Starts.{catalogs_of}
 use Rattle.kb_survey.proofs.Changes.{kept_twice}
-use Rattle.kb_start.proofs.Recorded.{recorded_tenant}
+use Rattle.kb_start.proofs.Recorded.{found_again, same_recorded}
 use Rattle.kb_start.proofs.starts.recorded_starts.Goals as goal
-
-pub loop-tenant-preserved : goal.loop-tenant-preserved
-loop-tenant-preserved g c =
-    let disk = g.S.Store.disk in
-    let i = c.loop-tenant.invariant in
-    let same = c.starts_of.ensures.unchanged in
-    record {
-      unchanged = kept_twice (disk c.args.store.now) (disk c.loop-tenant.store) (disk c.starts_of.new.store) i.unchanged same;
-      later = omega (arith, i.later, c.starts_of.ensures.cause.later);
-      told = λ honest.
-          let before = same.honest honest in
-          recorded_tenant (disk c.args.store.now) (disk c.loop-tenant.store) (λ name. name.now) (λ of. of.items) c.args.tenants.now
-          c.loop-tenant.tenant-index _ c.loop-tenant.starts.items c.push.new.self.items c.in_ok-starts_of.field-0 c.loop-tenant-test.true
-          i.unchanged.table (i.unchanged.files before) (c.in_ok-starts_of.ensures.starts honest) c.in_ok-push.ensures.items (i.told before);
-    }
 
 pub returns-clause-starts : goal.returns-clause-starts
 returns-clause-starts g c = λ honest.
-    let d = g.S.Store.disk c.args.store.now in
+    let disk = g.S.Store.disk in
+    let old = disk c.args.store.now in
+    let seen = disk c.list.new.self in
+    let now = disk c.catalogs_among.new.store in
+    let listing = c.list.ensures.unchanged in
+    let reading = c.catalogs_among.ensures.unchanged in
+    let later = c.starts_among.ensures.unchanged.honest honest in
+    let both = kept_twice old seen now listing reading in
     let names = map (λ name. name.now) c.args.tenants.now in
-    let starts = map (λ of. of.items) c.loop-tenant.starts.items in
-    subst (AreRecorded d names) (append-nil starts)
-    (c.loop-tenant.invariant.told honest [] (rw (drop_all c.loop-tenant.tenant-index c.args.tenants.now (omega (arith, c.loop-tenant-test.false))) (tt {0})))
+    let starts = map (λ of. of.items) c.in_ok-starts.starts.items in
+    let found =
+    c.deref-3.ensures.value
+    ∙ found_again seen now c.deref.result.now c.in_ok-catalogs.catalogs.items reading.table (reading.files later) (c.in_ok-catalogs.ensures.catalogs later)
+    ∙ ap (catalogs_of now) (c.deref.ensures.value ∙ sym c.deref-2.ensures.value) in
+    same_recorded old now names starts both.table (both.files later) (c.in_ok-starts.ensures.starts honest found)

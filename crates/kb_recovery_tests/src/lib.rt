@@ -8,6 +8,8 @@ mod damaged;
 #[cfg(test)]
 mod refused;
 #[cfg(test)]
+mod renewed;
+#[cfg(test)]
 mod restarted;
 #[cfg(test)]
 mod running;

@@ -27,7 +27,7 @@ pub(crate) const ABC: &str = "\
     010261000e000302010262000e00080401026300";
 
 /// OffsetCommit 2 of the group `g`: 2, with the metadata `m1`.
-const COMMIT: &str =
+pub(crate) const COMMIT: &str =
     "00000036000800020000001effff000167ffffffff0000ffffffffffffffff00000001000174000000010000000000000000000000020002\
     6d31";
 
@@ -121,6 +121,13 @@ impl<S: Store + Drop> Client<S> {
             answers.extend_from_slice(&answer)?;
         }
         Ok(answers)
+    }
+
+    /// Some moments, in which the catalog of each tenant has its turn.
+    pub(crate) fn pass(&mut self) {
+        for clock in 0..8 {
+            self.broker.moment(self.alloc, clock);
+        }
     }
 
     /// The store, as the broker leaves it when it stops.

@@ -38,8 +38,13 @@ nanoseconds() { date +%s%N; }
 # Waits until the process stands still: what it asked of the system before has ended then.
 stand_still() {
     kill -STOP "$pid" || fail "process $pid cannot be stopped"
-    while ! grep -q '^State:[[:space:]]*[Tt]' "/proc/$pid/status"; do
-        grep -q '^State:[[:space:]]*[RSD]' "/proc/$pid/status" || fail "process $pid has ended"
+    while :; do
+        # read once a turn, since it may become still at any moment
+        case $(sed -n 's/^State:[[:space:]]*//p' "/proc/$pid/status") in
+        [Tt]*) return ;;
+        [RSD]*) ;;
+        *) fail "process $pid has ended" ;;
+        esac
     done
 }
 

@@ -65,7 +65,8 @@ def recorded(program, mode, inject, chance):
 def wrong_of(program, mode, name, number, chance):
     """What is wrong in a run whose calls of that name are refused from a number on."""
     calls, workers, status, log = recorded(program, mode, ["-e", REFUSED.format(name, number)], chance)
-    refused = [at for at, call in enumerate(calls) if call.what == "refused"]
+    # (a folder above the data folder may refuse its sync: a file system that syncs no folders does)
+    refused = [at for at, call in enumerate(calls) if call.what == "refused" and call.name is not None]
     if not refused:
         return ["no sync was asked for"]
     wrong = []

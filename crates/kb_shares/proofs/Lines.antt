@@ -102,11 +102,11 @@ joined_line W order h m inside there some =
 pub joined_first : (W : List (List ℕ)) (order : List ℕ) (h m : ℕ) → IsInOrder W order → h < length W → slice_index_or W h [] ≡ []
     → lines_of (set W h (slice_index_or W h [] ++ m ∷ [])) (order ++ h ∷ []) ≡ joined h m (lines_of W order)
 joined_first W order h m inside there none =
-    let W2 = set W h (slice_index_or W h [] ++ m ∷ []) in
+    let after = set W h (slice_index_or W h [] ++ m ∷ []) in
     let apart : times h order ≡ 0 = grind (arith, inside.once h, none) in
     let stands : has_line h (lines_of W order) ≡ false = grind (arith, has_line-times W order h, apart) in
-    map-append (λ (k : ℕ). (k, slice_index_or W2 k [])) order (h ∷ [])
-    ∙ ap (λ (ls : Lines). ls ++ (h, slice_index_or W2 h []) ∷ []) (set_elsewhere W order h _ apart)
+    map-append (λ (k : ℕ). (k, slice_index_or after k [])) order (h ∷ [])
+    ∙ ap (λ (ls : Lines). ls ++ (h, slice_index_or after h []) ∷ []) (set_elsewhere W order h _ apart)
     ∙ ap (λ (l : List ℕ). lines_of W order ++ (h, l) ∷ []) (get_or-set_same W h _ _ there ∙ ap (λ (l : List ℕ). l ++ m ∷ []) none)
     ∙ sym (ap (λ (b : Bool). if b then map (longer h m) (lines_of W order) else lines_of W order ++ (h, m ∷ []) ∷ []) stands)
 

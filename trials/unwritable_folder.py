@@ -46,7 +46,7 @@ def of_another(program, room):
 def modes(program, room):
     """The modes of the folder and of its files, and what the log says of settings that others may read."""
     os.umask(0o022)
-    broker = Broker(program, room, data=f"{room}/under/data")
+    broker = Broker(program, room, data=f"{room}/under/data", mode=0o644)
     broker.listens()
     client = Client(broker.port)
     client.create(b"t")

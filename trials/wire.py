@@ -259,12 +259,14 @@ class Client:
 class Broker:
     """A broker that listens, with words before and behind its own where some are given. `log` gives what it said on standard error."""
 
-    def __init__(self, program, room, more="", before=None, user=None, data=None, under=(), flags=()):
+    def __init__(self, program, room, more="", before=None, user=None, data=None, under=(), flags=(), mode=0o600):
         self.port = free_port()
         self.settings = f"{room}/settings.toml"
         with open(self.settings, "w", encoding="utf-8") as out:
             out.write(SETTINGS.format(port=self.port, data=data or f"{room}/data", more=more))
-        os.chmod(self.settings, 0o600)
+        os.chmod(self.settings, mode)
+        if user is not None:
+            os.chown(self.settings, user, -1)
         self.errors = f"{room}/errors"
         with open(self.errors, "ab") as errors, open(f"{room}/out", "wb") as out:
             words = [*under, os.path.abspath(program), "serve", "--config", self.settings, "--stock-clients", *flags]

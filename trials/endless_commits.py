@@ -60,8 +60,8 @@ def work(port, user, told, count, stop):
         pass
 
 
-def wrong_of(port, told):
-    """What groups have committed that is behind what was acknowledged, in words."""
+def wrong_of(port, told, start):
+    """What groups have committed that is behind what was acknowledged, and what a new topic of that start has, in words."""
     out = []
     for user in USERS:
         client = Client(port, *user)
@@ -70,9 +70,9 @@ def wrong_of(port, told):
             found = client.all([committed(group, b"read")])[0] if wanted is not None else None
             if wanted is not None and not wanted <= found < told[user]["next"]:
                 out.append(f"{user[0]} {group} has {found}, and {wanted} was acknowledged")
-        topic = b"new %d" % told[user]["next"]
-        client.create(topic.replace(b" ", b"-"))
-        code, offset = client.produce(topic.replace(b" ", b"-"), batch(b"first"))
+        topic = b"new-%d" % start
+        client.create(topic)
+        code, offset = client.produce(topic, batch(b"first"))
         if (code, offset) != (0, 0):
             out.append(f"{user[0]} gets {code}, {offset} on a new topic")
         client.socket.close()
@@ -93,7 +93,7 @@ def main(program, count):
                 broker.stop()
                 break
             begun = time.monotonic() - begun
-            faults += wrong_of(broker.port, told)
+            faults += wrong_of(broker.port, told, kills)
             if is_last:
                 broker.stop()
                 break

@@ -1,6 +1,7 @@
 //! A catalog that is written anew while the broker runs.
 
 use crate::running::{COMMIT, Client, QUESTIONS, SETUP, bytes_of, client_on, open};
+use kb_restart::file_lengths;
 use kb_store::{Fuse, FusedStore, MemoryStore, Store};
 use std::alloc::{AllocError, Global};
 use std::process::Abort;
@@ -25,11 +26,10 @@ fn committed(rt: &impl Abort, alloc: Global) -> Result<MemoryStore, AllocError> 
 
 /// How many bytes the files of a store have.
 fn total_len<S: Store>(alloc: Global, store: &mut S) -> Result<u64, Fail> {
-    let files = store.list(alloc).map_err(|_| Fail::from("no list"))?;
+    let files = file_lengths(alloc, store).map_err(|_| Fail::from("no lengths"))?;
     let mut total: u64 = 0;
     for file in &files {
-        let len = store.len(*file).map_err(|_| Fail::from("no length"))?;
-        total = total.saturating_add(len);
+        total = total.saturating_add(file.length);
     }
     Ok(total)
 }

@@ -1,6 +1,6 @@
 -- The bodies of the protocol's requests and replies, each at its one version (Kafka protocol guide). The last part of each
 -- definition is the guide's row: the fields' types, in wire order. The two functions before it name the fields.
-use Rattle.kb_wire.specs.Codec.{Codec, int16, int32, int64, string, nullable_string, blob, array, nothing, ◌⊗◌, via}
+use Rattle.kb_wire.specs.Codec.{Codec, int16, int32, int64, string, nullable_string, blob, array, nullable_array, nothing, ◌⊗◌, via}
 use Rattle.kb_api_group.specs.declared.header.RequestHeader.{RequestHeader}
 use Rattle.kb_api_group.specs.declared.header.RequestStart.{RequestStart}
 use Rattle.kb_api_group.specs.declared.offset_commit.CommitPartition.{CommitPartition}
@@ -14,6 +14,8 @@ use Rattle.kb_api_group.specs.declared.offset_fetch.OffsetFetchRequest.{OffsetFe
 use Rattle.kb_api_group.specs.declared.offset_fetch.OffsetFetchPartitionReply.{OffsetFetchPartitionReply}
 use Rattle.kb_api_group.specs.declared.offset_fetch.OffsetFetchTopicReply.{OffsetFetchTopicReply}
 use Rattle.kb_api_group.specs.declared.offset_fetch.OffsetFetchReply.{OffsetFetchReply}
+use Rattle.kb_api_group.specs.declared.offset_fetch_v2.OffsetFetchRequestV2.{OffsetFetchRequestV2}
+use Rattle.kb_api_group.specs.declared.offset_fetch_v2.OffsetFetchReplyV2.{OffsetFetchReplyV2}
 use Rattle.kb_api_group.specs.declared.find_coordinator.FindCoordinatorRequest.{FindCoordinatorRequest}
 use Rattle.kb_api_group.specs.declared.find_coordinator.FindCoordinatorReply.{FindCoordinatorReply}
 use Rattle.kb_api_group.specs.declared.join_group.JoinProtocol.{JoinProtocol}
@@ -27,6 +29,13 @@ use Rattle.kb_api_group.specs.declared.leave_group.LeaveGroupReply.{LeaveGroupRe
 use Rattle.kb_api_group.specs.declared.sync_group.SyncAssignment.{SyncAssignment}
 use Rattle.kb_api_group.specs.declared.sync_group.SyncGroupRequest.{SyncGroupRequest}
 use Rattle.kb_api_group.specs.declared.sync_group.SyncGroupReply.{SyncGroupReply}
+use Rattle.kb_api_group.specs.declared.describe_groups.DescribeGroupsRequest.{DescribeGroupsRequest}
+use Rattle.kb_api_group.specs.declared.describe_groups.DescribedMember.{DescribedMember}
+use Rattle.kb_api_group.specs.declared.describe_groups.DescribedGroup.{DescribedGroup}
+use Rattle.kb_api_group.specs.declared.describe_groups.DescribeGroupsReply.{DescribeGroupsReply}
+use Rattle.kb_api_group.specs.declared.list_groups.ListGroupsRequest.{ListGroupsRequest}
+use Rattle.kb_api_group.specs.declared.list_groups.ListedGroup.{ListedGroup}
+use Rattle.kb_api_group.specs.declared.list_groups.ListGroupsReply.{ListGroupsReply}
 use Rattle.kb_api_group.specs.declared.sasl_handshake.SaslHandshakeRequest.{SaslHandshakeRequest}
 use Rattle.kb_api_group.specs.declared.sasl_handshake.SaslHandshakeReply.{SaslHandshakeReply}
 use Rattle.kb_api_group.specs.declared.api_versions.ApiVersionsRequest.{ApiVersionsRequest}
@@ -103,6 +112,18 @@ offset_fetch_topic_reply =
 -- The reply of OffsetFetch.
 unfoldable pub offset_fetch_reply : Codec OffsetFetchReply
 offset_fetch_reply = via (λ p. record { topics = p }) (λ v. v.topics) (array offset_fetch_topic_reply)
+
+-- ---- key 9, OffsetFetch, version 2
+
+-- A request of OffsetFetch. Null asks for all that the group committed.
+unfoldable pub offset_fetch_request_v2 : Codec OffsetFetchRequestV2
+offset_fetch_request_v2 =
+    via (λ p. record { group_id = p.0; topics = p.1 }) (λ v. (v.group_id, v.topics)) (string ⊗ nullable_array offset_fetch_topic)
+
+-- The reply of OffsetFetch.
+unfoldable pub offset_fetch_reply_v2 : Codec OffsetFetchReplyV2
+offset_fetch_reply_v2 =
+    via (λ p. record { topics = p.0; error_code = p.1 }) (λ v. (v.topics, v.error_code)) (array offset_fetch_topic_reply ⊗ int16)
 
 -- ---- key 10, FindCoordinator, version 0
 
@@ -186,6 +207,54 @@ sync_group_request = via (λ p. record { group_id = p.0; generation_id = p.1.0; 
 -- The reply of SyncGroup.
 unfoldable pub sync_group_reply : Codec SyncGroupReply
 sync_group_reply = via (λ p. record { error_code = p.0; assignment = p.1 }) (λ v. (v.error_code, v.assignment)) (int16 ⊗ blob)
+
+-- ---- key 15, DescribeGroups, version 0
+
+-- A request of DescribeGroups.
+unfoldable pub describe_groups_request : Codec DescribeGroupsRequest
+describe_groups_request = via (λ p. record { group_ids = p }) (λ v. v.group_ids) (array string)
+
+-- A member, in the reply of DescribeGroups.
+unfoldable pub described_member : Codec DescribedMember
+described_member = via (λ p. record {
+  member_id = p.0;
+  client_id = p.1.0;
+  client_host = p.1.1.0;
+  member_metadata = p.1.1.1.0;
+  member_assignment = p.1.1.1.1;
+}) (λ v. (v.member_id, (v.client_id, (v.client_host, (v.member_metadata, v.member_assignment)))))
+    (string ⊗ string ⊗ string ⊗ blob ⊗ blob)
+
+-- A group, in the reply of DescribeGroups.
+unfoldable pub described_group : Codec DescribedGroup
+described_group = via (λ p. record {
+  error_code = p.0;
+  group_id = p.1.0;
+  group_state = p.1.1.0;
+  protocol_type = p.1.1.1.0;
+  protocol_data = p.1.1.1.1.0;
+  members = p.1.1.1.1.1;
+}) (λ v.
+    (v.error_code, (v.group_id, (v.group_state, (v.protocol_type, (v.protocol_data, v.members))))))
+    (int16 ⊗ string ⊗ string ⊗ string ⊗ string ⊗ array described_member)
+
+-- The reply of DescribeGroups.
+unfoldable pub describe_groups_reply : Codec DescribeGroupsReply
+describe_groups_reply = via (λ p. record { groups = p }) (λ v. v.groups) (array described_group)
+
+-- ---- key 16, ListGroups, version 0
+
+-- A request of ListGroups.
+unfoldable pub list_groups_request : Codec ListGroupsRequest
+list_groups_request = via (λ _. record {}) (λ _. tt) nothing
+
+-- A group, in the reply of ListGroups.
+unfoldable pub listed_group : Codec ListedGroup
+listed_group = via (λ p. record { group_id = p.0; protocol_type = p.1 }) (λ v. (v.group_id, v.protocol_type)) (string ⊗ string)
+
+-- The reply of ListGroups.
+unfoldable pub list_groups_reply : Codec ListGroupsReply
+list_groups_reply = via (λ p. record { error_code = p.0; groups = p.1 }) (λ v. (v.error_code, v.groups)) (int16 ⊗ array listed_group)
 
 -- ---- key 17, SaslHandshake, version 1
 

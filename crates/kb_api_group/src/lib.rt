@@ -2,7 +2,7 @@
 //! and those of consumer groups.
 //!
 //! [`FrameFeed`] takes a stream in pieces and lends it out by frames; [`RequestHeader`] (and [`RequestStart`], enough for an
-//! ApiVersions of any version) stands at the front of each frame; each request and reply of keys 8 to 14, 17, 18 and 36 is a
+//! ApiVersions of any version) stands at the front of each frame; each request and reply of keys 8 to 18 and 36 is a
 //! type with `read` and `write` (`kb_wire::Layout`); [`read_plain`] reads the message of SASL PLAIN. The contract in one
 //! sentence: bytes are read as what they spell and refused where they spell nothing, what is written is read again, and in
 //! whatever pieces a stream came its frames are those of its bytes joined.
@@ -11,26 +11,34 @@
 #![tactic(auto)]
 
 mod api_versions;
+mod describe_groups;
 mod find_coordinator;
 mod frames;
+pub mod group_key;
 mod header;
 mod heartbeat;
 mod join_group;
 mod leave_group;
+mod list_groups;
 mod offset_commit;
 mod offset_fetch;
+mod offset_fetch_v2;
 mod plain;
 mod sasl_authenticate;
 mod sasl_handshake;
 mod sync_group;
 
 pub use api_versions::{ApiVersion, ApiVersionsReply, ApiVersionsRequest};
+pub use describe_groups::{
+    DescribeGroupsReply, DescribeGroupsRequest, DescribedGroup, DescribedMember,
+};
 pub use find_coordinator::{FindCoordinatorReply, FindCoordinatorRequest};
 pub use frames::{FrameFeed, Next, any_pieces, more_bytes, one_front, one_reading, whole_frame};
 pub use header::{RequestHeader, RequestStart};
 pub use heartbeat::{HeartbeatReply, HeartbeatRequest};
 pub use join_group::{JoinGroupReply, JoinGroupRequest, JoinMember, JoinProtocol};
 pub use leave_group::{LeaveGroupReply, LeaveGroupRequest};
+pub use list_groups::{ListGroupsReply, ListGroupsRequest, ListedGroup};
 pub use offset_commit::{
     CommitPartition, CommitPartitionReply, CommitTopic, CommitTopicReply, OffsetCommitReply,
     OffsetCommitRequest,
@@ -39,6 +47,7 @@ pub use offset_fetch::{
     OffsetFetchPartitionReply, OffsetFetchReply, OffsetFetchRequest, OffsetFetchTopic,
     OffsetFetchTopicReply,
 };
+pub use offset_fetch_v2::{OffsetFetchReplyV2, OffsetFetchRequestV2};
 pub use plain::{PlainLogin, read_plain};
 pub use sasl_authenticate::{SaslAuthenticateReply, SaslAuthenticateRequest};
 pub use sasl_handshake::{SaslHandshakeReply, SaslHandshakeRequest};

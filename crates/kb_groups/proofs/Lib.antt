@@ -5,5 +5,6 @@ pub mod Longest
 pub mod Place
 pub mod Steps
 pub mod Settled
+pub mod Sizes
 pub mod Quiet
 pub mod Waiting

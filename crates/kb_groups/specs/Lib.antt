@@ -1,9 +1,12 @@
 pub mod Answers
+pub mod Bytes
 pub mod Calls
 pub mod Codes
+pub mod Described
 pub mod Index
 pub mod MemberId
 pub mod Members
 pub mod Moments
 pub mod Protocols
 pub mod Rebalance
+pub mod Sizes

@@ -1,6 +1,8 @@
 //! One consumer group.
 
-ghost use Rattle.std.specs.Prelude.{◌≡◌, ◌≤◌, ◌^◌, IfOk, OnErr, OnOk};
+ghost use Rattle.std.specs.Prelude.{◌≡◌, ◌<◌, ◌≤◌, ◌^◌, IfOk, OnErr, OnOk};
+ghost use Rattle.kb_groups.specs.Bytes.{group_bytes, is_past, joined_bytes, sync_within};
+ghost use Rattle.kb_groups.specs.Sizes.{counted};
 ghost use Rattle.kb_groups.specs.Calls.{after_heartbeat, after_may_commit, dropped, fresh, fresh_at, heartbeat, join, join_code, leave};
 ghost use Rattle.kb_groups.specs.Calls.{leave_code, may_commit, sync};
 ghost use Rattle.kb_groups.specs.Moments.{next_due, tick};
@@ -22,19 +24,24 @@ pub struct Group {
     quiet_until: u64,
     /// Whether a request of some member waits.
     has_waiting: bool,
+    /// What the group keeps; `u64::MAX` for all above.
+    bytes: u64,
 }
 
 impl Model for Group {
     ghost use Rattle.std.specs.Prelude.{◌≡◌, ◌≤◌};
     ghost use Rattle.kb_groups.specs.declared.state.State.{State};
     ghost use Rattle.kb_groups.specs.Answers.{any_waits};
+    ghost use Rattle.kb_groups.specs.Bytes.{group_bytes};
+    ghost use Rattle.kb_groups.specs.Sizes.{counted};
     ghost use Rattle.kb_groups.specs.Moments.{next_due};
 
     ghost Value = { State };
 
     ghost view = { λ g. g.state };
 
-    ghost invariant = { λ g. (g.quiet_until ≤ next_due g.state) × (g.has_waiting ≡ any_waits g.state.members) };
+    ghost invariant = { λ g. (g.quiet_until ≤ next_due g.state) × (g.has_waiting ≡ any_waits g.state.members)
+        × (g.bytes ≡ counted (group_bytes g.state)) };
 }
 
 impl Group {
@@ -53,6 +60,7 @@ impl Group {
             state: State::new(alloc, generation),
             quiet_until: 0,
             has_waiting: false,
+            bytes: 0,
         }
     }
 
@@ -75,6 +83,33 @@ impl Group {
         ensures { result ≡ next_due self.now }
     {
         self.state.next_due()
+    }
+
+    /// What the group keeps: its protocol type, and its members' ids, protocols and assignments; `u64::MAX` for all above. It costs
+    /// constant time.
+    pub fn bytes(&self) -> u64
+        ensures { result ≡ counted (group_bytes self.now) }
+    {
+        self.bytes
+    }
+
+    /// What the group keeps once the join is in; `u64::MAX` for all above.
+    fn joined_bytes(&self, request: &Join<'_>) -> u64
+        requires { group_bytes self.now < 2 ^ 63 }
+        ensures { result ≡ counted (joined_bytes request.now self.now) }
+    {
+        let others = self.bytes - self.state.replaced_bytes(request);
+        others.saturating_add(request.bytes())
+    }
+
+    /// Whether the group, which may keep that many bytes, would go past them by a join that brings more than it keeps for the member.
+    pub fn is_past_with(&self, request: &Join<'_>, most: u64) -> bool
+        requires most { most < 2 ^ 63 }
+        requires there { group_bytes self.now < 2 ^ 63 }
+        ensures { result ≡ is_past most (group_bytes self.now) (joined_bytes request.now self.now) }
+    {
+        let after = self.joined_bytes(request);
+        after > most && after > self.bytes
     }
 
     /// The code of a join, as far as the group decides it: session timeout, protocols and type, member, agreement with the others,
@@ -101,6 +136,7 @@ impl Group {
         let result = self.state.join(alloc, request, clock);
         self.quiet_until = self.state.next_due();
         self.has_waiting = self.state.members.any_waits();
+        self.bytes = self.state.bytes();
         result
     }
 
@@ -124,7 +160,51 @@ impl Group {
             .sync(alloc, connection, number, generation, assignments, clock);
         self.quiet_until = self.state.next_due();
         self.has_waiting = self.state.members.any_waits();
+        self.bytes = self.state.bytes();
         result
+    }
+
+    /// As `sync`, where the group may keep that many bytes: a sync whose assignments would go past them, and past what is there, is
+    /// refused with 81, and changes nothing.
+    pub fn sync_within(
+        &mut self,
+        alloc: Global,
+        connection: u64,
+        number: u64,
+        generation: i32,
+        assignments: &[SyncAssignment<'_>],
+        clock: u64,
+        most: u64,
+    ) -> Result<(SyncAnswer, Vec<Release>), AllocError>
+        requires most { most < 2 ^ 63 }
+        requires there { group_bytes self.old < 2 ^ 63 }
+        ensures answer { IfOk result (λ r. r.0 ≡ (sync_within most clock connection number generation assignments.now self.old).0) }
+        ensures released { IfOk result (λ r. r.1.items
+            ≡ (sync_within most clock connection number generation assignments.now self.old).1.released) }
+        ensures group { OnOk result (self.new ≡ (sync_within most clock connection number generation assignments.now self.old).1.group) }
+        ensures refused { OnErr result (self.new ≡ self.old) }
+    {
+        let mut next = self.state.copy()?;
+        let (answer, released) = next.sync(
+            alloc,
+            connection,
+            number,
+            generation,
+            assignments,
+            clock,
+        )?;
+        let bytes = next.bytes();
+        if bytes > most && bytes > self.bytes {
+            return Ok((
+                SyncAnswer::Refused(Code::GroupMaxSizeReached),
+                Vec::new(alloc),
+            ));
+        }
+        self.quiet_until = next.next_due();
+        self.has_waiting = next.members.any_waits();
+        self.bytes = bytes;
+        self.state = next;
+        Ok((answer, released))
     }
 
     /// Kafka's Heartbeat: 25, 22, 27 in Joining, else 0. It takes no memory.
@@ -161,6 +241,7 @@ impl Group {
         let result = self.state.leave(alloc, number, clock);
         self.quiet_until = self.state.next_due();
         self.has_waiting = self.state.members.any_waits();
+        self.bytes = self.state.bytes();
         result
     }
 
@@ -175,6 +256,7 @@ impl Group {
         self.state.dropped(connection, clock);
         self.quiet_until = self.state.next_due();
         self.has_waiting = self.state.members.any_waits();
+        self.bytes = self.state.bytes();
     }
 
     /// A moment: sessions end, and then a deadline comes; with the requests that wait no longer, by connection.
@@ -191,6 +273,7 @@ impl Group {
         let result = self.state.tick(alloc, clock);
         self.quiet_until = self.state.next_due();
         self.has_waiting = self.state.members.any_waits();
+        self.bytes = self.state.bytes();
         result
     }
 }

@@ -30,7 +30,7 @@ fn at_least_zero(timeout: i32) -> u32
 
 impl<'a> Join<'a> {
     /// The number of the member that joins.
-    fn number(&self) -> u64
+    pub(crate) fn number(&self) -> u64
         ensures { result ≡ number_of self.now }
     {
         self.member.unwrap_or(self.new_member)

@@ -21,6 +21,7 @@ mod calls;
 mod change;
 mod choice;
 mod code;
+mod described;
 mod group;
 mod ids;
 mod join;
@@ -31,6 +32,7 @@ mod members;
 mod moment;
 mod protocol;
 mod reply;
+mod size;
 mod state;
 
 pub use borrowed::{Join, JoinProtocol, SyncAssignment};

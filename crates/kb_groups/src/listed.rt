@@ -3,10 +3,12 @@
 ghost use Rattle.std.specs.Prelude.{◌≡◌, ℕ, List, IfOk, OnOk, map, option_copied, bytes_eq, if◌then◌else◌};
 ghost use Rattle.kb_groups.specs.Calls.{kept};
 ghost use Rattle.kb_groups.specs.Index.{found, place_of, noted};
+ghost use Rattle.kb_groups.specs.Sizes.{counted, protocol_bytes};
 
 use crate::borrowed::JoinProtocol;
 use crate::bytes::Bytes;
 use crate::protocol::Protocol;
+use crate::size::protocol_bytes;
 use std::alloc::{AllocError, Global};
 use std::collections::BTreeMap;
 use std::marker::Model;
@@ -19,18 +21,22 @@ type Places = BTreeMap<Vec<u8>, usize>;
 pub(crate) struct ListedProtocols {
     items: Vec<Protocol>,
     places: Places,
+    /// The bytes of their names and metadata; `u64::MAX` for all above.
+    bytes: u64,
 }
 
 impl Model for ListedProtocols {
     ghost use Rattle.std.specs.Prelude.{List};
     ghost use Rattle.kb_groups.specs.declared.protocol.Protocol.{Protocol};
+    ghost use Rattle.std.specs.Prelude.{◌≡◌};
     ghost use Rattle.kb_groups.specs.Index.{IsIndex};
+    ghost use Rattle.kb_groups.specs.Sizes.{counted, protocol_bytes};
 
     ghost Value = { List Protocol };
 
     ghost view = { λ l. l.items.items };
 
-    ghost invariant = { λ l. IsIndex l.places l.items.items };
+    ghost invariant = { λ l. IsIndex l.places l.items.items × (l.bytes ≡ counted (protocol_bytes l.items.items)) };
 }
 
 /// Notes the place of a name, unless the name has one.
@@ -67,7 +73,18 @@ impl ListedProtocols {
                 metadata: Bytes::copy_of(alloc, offer.metadata.as_slice())?,
             })?;
         }
-        Ok(ListedProtocols { items, places })
+        let bytes = protocol_bytes(offers);
+        Ok(ListedProtocols {
+            items,
+            places,
+            bytes,
+        })
+    }
+
+    pub(crate) fn bytes(&self) -> u64
+        ensures { result ≡ counted (protocol_bytes self.now) }
+    {
+        self.bytes
     }
 
     pub(crate) fn as_slice(&self) -> &[Protocol]

@@ -3,6 +3,7 @@
 ghost use Rattle.std.specs.Prelude.{◌≡◌, IfOk, map, List, ℕ};
 ghost use Rattle.kb_groups.specs.Calls.{kept};
 ghost use Rattle.kb_groups.specs.Protocols.{lists, metadata};
+ghost use Rattle.kb_groups.specs.Sizes.{counted, protocol_bytes};
 
 use crate::borrowed::JoinProtocol;
 use crate::bytes::Bytes;
@@ -98,11 +99,28 @@ impl Protocols {
         })
     }
 
+    /// The bytes of their names and metadata; `u64::MAX` for all above. It costs constant time.
+    pub(crate) fn bytes(&self) -> u64
+        ensures { result ≡ counted (protocol_bytes self.now) }
+    {
+        self.shared.as_ref().bytes()
+    }
+
     /// Whether the protocol of that name is among these.
     pub(crate) fn lists(&self, name: &[u8]) -> bool
         ensures { result ≡ lists self.now name.now }
     {
         self.shared.as_ref().find(name).is_some()
+    }
+
+    /// The first metadata under that name; empty if there is none.
+    pub(crate) fn metadata_slice(&self, name: &[u8]) -> &[u8]
+        ensures { result.now ≡ metadata self.now name.now }
+    {
+        match self.shared.as_ref().find(name) {
+            Some(protocol) => protocol.metadata.as_slice(),
+            None => &[],
+        }
     }
 
     /// A copy of the first metadata under that name; empty if there is none.

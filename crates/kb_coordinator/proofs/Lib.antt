@@ -1,5 +1,6 @@
 mod Commits
 mod Joins
+mod Kept
 mod Lists
 mod Named
 mod Order
@@ -7,4 +8,5 @@ mod Places
 mod Search
 mod Steps
 mod Ticking
+mod Told
 mod Written

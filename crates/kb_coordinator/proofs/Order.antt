@@ -17,6 +17,7 @@ use Rattle.kb_groups.specs.Answers.{waiter_answered, answers, place, placed, ref
 use Rattle.kb_groups.specs.Members.{Roster, has_none, member}
 use Rattle.kb_groups.specs.Rebalance.{Step, all_join, ended, ended_by, is_joining, looked_at, next_leader, opened, opened_unless}
 use Rattle.kb_groups.specs.Calls.{assigned_reply, entered, gone, is_fine, is_that, join, join_code, joined, leave, left, number_of, sync, sync_known, sync_step, synced, unmoved}
+use Rattle.kb_groups.specs.Bytes.{group_bytes, is_past, sync_if, sync_within}
 use Rattle.kb_groups.specs.Moments.{closed, expired, expired_one, expires, is_due, only_joining, tick}
 use Rattle.kb_coordinator.specs.Groups.{AreInOrder}
 
@@ -145,6 +146,13 @@ sync_known_rises code clock connection n as_ g = by (is_fine code)
 
 pub sync_in_order : (clock connection n : ℕ) (generation : ℤ) (as_ : List SyncAssignment) (g : State) → AreInOrder (sync clock connection n generation as_ g).1.released
 sync_in_order clock connection n generation as_ g = in_order (sync clock connection n generation as_ g).1.released (sync_known_rises _ clock connection n as_ g)
+
+pub within_in_order : (most clock connection n : ℕ) (generation : ℤ) (as_ : List SyncAssignment) (g : State) → AreInOrder (sync_within most clock connection n generation as_ g).1.released
+within_in_order most clock connection n generation as_ g = by (is_past most (group_bytes g) (group_bytes (sync clock connection n generation as_ g).1.group))
+  where
+    by : (b : Bool) → AreInOrder (sync_if b (sync clock connection n generation as_ g) g).1.released
+    by true = in_order [] tt
+    by false = sync_in_order clock connection n generation as_ g
 
 expired_rises : (clock : ℕ) (ns : List ℕ) (s : Step) → Rises s.released → Rises (expired clock ns s).released
 unfolding expired

@@ -11,6 +11,7 @@ use Rattle.kb_groups.specs.declared.state.State.{State}
 use Rattle.kb_groups.specs.Moments.{next_due}
 use Rattle.kb_groups.specs.Rebalance.{Step}
 use Rattle.kb_coordinator.specs.declared.groups.Entry.{Entry}
+use Rattle.kb_coordinator.specs.declared.limits.Limits.{Limits}
 use Rattle.kb_coordinator.specs.Groups.{Groups, changed, earliest, found, place_of, silent}
 use Rattle.kb_coordinator.specs.Calls.{by_group, stepped, with_changed}
 use Rattle.kb_coordinator.proofs.Lists.{changed_at, changed_none, found_at, found_none}
@@ -21,8 +22,8 @@ pub err_holds : {A E P : Type 0} (r : Result A E) → P → OnErr r P
 err_holds (Ok x) p = tt
 err_holds (Err e) p = p
 
-abbrev pub groups_of : List Entry → ℕ → List Release → Groups
-groups_of es members released = record { groups = es; members = members; released = released }
+abbrev pub groups_of : List Entry → ℕ → Limits → List Release → Groups
+groups_of es members limits released = record { groups = es; members = members; released = released; limits = limits }
 
 abbrev pub with_group : Entry → State → Entry
 with_group e g = record { id = e.id; group = g }
@@ -48,44 +49,44 @@ last_reply {X = X} f items old x r last e h =
     by [] = append-nil (f r)
     by (y ∷ ys) = ap (λ l. f y ++ l) (by ys) ∙ sym (append_assoc (f y) (flat_map f ys) (f r))
 
-pub changed_here : (id : List ℕ) (f : State → State) (es : List Entry) (members : ℕ) (old rs : List Release) (now : Groups) (place : ℕ) (e : Entry) (g : State) → groups_of es members old ≡ now → place_of id es ≡ Some place → slice_get es place ≡ Some e → g ≡ f e.group → rs ≡ [] → groups_of (slice_set es place (with_group e g)) members rs ≡ with_changed id f now
-changed_here id f es members old rs now place e g view p at is none =
-    (λ k. groups_of (slice_set es place (with_group e (is k))) members (none k)) ∙ ap (λ xs. groups_of xs members []) (sym (changed_at id f es place e p at)) ∙ ap (with_changed id f) view
+pub changed_here : (id : List ℕ) (f : State → State) (es : List Entry) (members : ℕ) (limits : Limits) (old rs : List Release) (now : Groups) (place : ℕ) (e : Entry) (g : State) → groups_of es members limits old ≡ now → place_of id es ≡ Some place → slice_get es place ≡ Some e → g ≡ f e.group → rs ≡ [] → groups_of (slice_set es place (with_group e g)) members limits rs ≡ with_changed id f now
+changed_here id f es members limits old rs now place e g view p at is none =
+    (λ k. groups_of (slice_set es place (with_group e (is k))) members limits (none k)) ∙ ap (λ xs. groups_of xs members limits []) (sym (changed_at id f es place e p at)) ∙ ap (with_changed id f) view
 
-pub changed_nowhere : (id : List ℕ) (f : State → State) (es : List Entry) (members : ℕ) (old rs : List Release) (now : Groups) → groups_of es members old ≡ now → place_of id es ≡ None → rs ≡ [] → groups_of es members rs ≡ with_changed id f now
-changed_nowhere id f es members old rs now view p none =
-    ap (groups_of es members) none ∙ ap (λ xs. groups_of xs members []) (sym (changed_none id f es p)) ∙ ap (with_changed id f) view
+pub changed_nowhere : (id : List ℕ) (f : State → State) (es : List Entry) (members : ℕ) (limits : Limits) (old rs : List Release) (now : Groups) → groups_of es members limits old ≡ now → place_of id es ≡ None → rs ≡ [] → groups_of es members limits rs ≡ with_changed id f now
+changed_nowhere id f es members limits old rs now view p none =
+    ap (groups_of es members limits) none ∙ ap (λ xs. groups_of xs members limits []) (sym (changed_none id f es p)) ∙ ap (with_changed id f) view
 
-pub stepped_here : (id : List ℕ) (step : State → Step) (es : List Entry) (members : ℕ) (old rs : List Release) (now : Groups) (place : ℕ) (e : Entry) (g : State) → groups_of es members old ≡ now → place_of id es ≡ Some place → slice_get es place ≡ Some e → g ≡ (step e.group).group → rs ≡ (step e.group).released → groups_of (slice_set es place (with_group e g)) members rs ≡ stepped id step now
-stepped_here id step es members old rs now place e g view p at is answers =
-    (λ k. groups_of (slice_set es place (with_group e (is k))) members (answers k))
-    ∙ ap (λ xs. groups_of xs members (step e.group).released) (sym (changed_at id (λ x. (step x).group) es place e p at))
-    ∙ ap (λ o. groups_of (changed id (λ x. (step x).group) es) members (by_group [] (λ x. (step x).released) o)) (sym (found_at id es place e p at))
+pub stepped_here : (id : List ℕ) (step : State → Step) (es : List Entry) (members : ℕ) (limits : Limits) (old rs : List Release) (now : Groups) (place : ℕ) (e : Entry) (g : State) → groups_of es members limits old ≡ now → place_of id es ≡ Some place → slice_get es place ≡ Some e → g ≡ (step e.group).group → rs ≡ (step e.group).released → groups_of (slice_set es place (with_group e g)) members limits rs ≡ stepped id step now
+stepped_here id step es members limits old rs now place e g view p at is answers =
+    (λ k. groups_of (slice_set es place (with_group e (is k))) members limits (answers k))
+    ∙ ap (λ xs. groups_of xs members limits (step e.group).released) (sym (changed_at id (λ x. (step x).group) es place e p at))
+    ∙ ap (λ o. groups_of (changed id (λ x. (step x).group) es) members limits (by_group [] (λ x. (step x).released) o)) (sym (found_at id es place e p at))
     ∙ ap (stepped id step) view
 
-pub stepped_nowhere : (id : List ℕ) (step : State → Step) (es : List Entry) (members : ℕ) (old rs : List Release) (now : Groups) → groups_of es members old ≡ now → place_of id es ≡ None → rs ≡ [] → groups_of es members rs ≡ stepped id step now
-stepped_nowhere id step es members old rs now view p none =
-    ap (groups_of es members) none
-    ∙ ap (λ xs. groups_of xs members []) (sym (changed_none id (λ x. (step x).group) es p))
-    ∙ ap (λ o. groups_of (changed id (λ x. (step x).group) es) members (by_group [] (λ x. (step x).released) o)) (sym (found_none id es p))
+pub stepped_nowhere : (id : List ℕ) (step : State → Step) (es : List Entry) (members : ℕ) (limits : Limits) (old rs : List Release) (now : Groups) → groups_of es members limits old ≡ now → place_of id es ≡ None → rs ≡ [] → groups_of es members limits rs ≡ stepped id step now
+stepped_nowhere id step es members limits old rs now view p none =
+    ap (groups_of es members limits) none
+    ∙ ap (λ xs. groups_of xs members limits []) (sym (changed_none id (λ x. (step x).group) es p))
+    ∙ ap (λ o. groups_of (changed id (λ x. (step x).group) es) members limits (by_group [] (λ x. (step x).released) o)) (sym (found_none id es p))
     ∙ ap (stepped id step) view
 
 -- What the group at that place answers.
-pub said_here : {A : Type 0} (otherwise : A) (says : State → A) (id : List ℕ) (es : List Entry) (members : ℕ) (old : List Release) (now : Groups) (place : ℕ) (e : Entry) (said : A) → groups_of es members old ≡ now → place_of id es ≡ Some place → slice_get es place ≡ Some e → said ≡ says e.group → said ≡ by_group otherwise says (found id now.groups)
-said_here otherwise says id es members old now place e said view p at is =
+pub said_here : {A : Type 0} (otherwise : A) (says : State → A) (id : List ℕ) (es : List Entry) (members : ℕ) (limits : Limits) (old : List Release) (now : Groups) (place : ℕ) (e : Entry) (said : A) → groups_of es members limits old ≡ now → place_of id es ≡ Some place → slice_get es place ≡ Some e → said ≡ says e.group → said ≡ by_group otherwise says (found id now.groups)
+said_here otherwise says id es members limits old now place e said view p at is =
     is ∙ ap (by_group otherwise says) (sym (found_at id es place e p at)) ∙ ap (λ (gs : Groups). by_group otherwise says (found id gs.groups)) view
 
-pub said_nowhere : {A : Type 0} (otherwise : A) (says : State → A) (id : List ℕ) (es : List Entry) (members : ℕ) (old : List Release) (now : Groups) → groups_of es members old ≡ now → place_of id es ≡ None → otherwise ≡ by_group otherwise says (found id now.groups)
-said_nowhere otherwise says id es members old now view p =
+pub said_nowhere : {A : Type 0} (otherwise : A) (says : State → A) (id : List ℕ) (es : List Entry) (members : ℕ) (limits : Limits) (old : List Release) (now : Groups) → groups_of es members limits old ≡ now → place_of id es ≡ None → otherwise ≡ by_group otherwise says (found id now.groups)
+said_nowhere otherwise says id es members limits old now view p =
     ap (by_group otherwise says) (sym (found_none id es p)) ∙ ap (λ (gs : Groups). by_group otherwise says (found id gs.groups)) view
 
 -- The groups are as they were, and nobody is answered.
-pub refused_here : (es : List Entry) (members : ℕ) (old rs : List Release) (now : Groups) (place : ℕ) (e : Entry) (g : State) → groups_of es members old ≡ now → slice_get es place ≡ Some e → g ≡ e.group → rs ≡ [] → groups_of (slice_set es place (with_group e g)) members rs ≡ silent now
-refused_here es members old rs now place e g view at is none =
-    (λ k. groups_of (slice_set es place (with_group e (is k))) members (none k)) ∙ ap (λ xs. groups_of xs members []) (put_back es place e at) ∙ ap silent view
+pub refused_here : (es : List Entry) (members : ℕ) (limits : Limits) (old rs : List Release) (now : Groups) (place : ℕ) (e : Entry) (g : State) → groups_of es members limits old ≡ now → slice_get es place ≡ Some e → g ≡ e.group → rs ≡ [] → groups_of (slice_set es place (with_group e g)) members limits rs ≡ silent now
+refused_here es members limits old rs now place e g view at is none =
+    (λ k. groups_of (slice_set es place (with_group e (is k))) members limits (none k)) ∙ ap (λ xs. groups_of xs members limits []) (put_back es place e at) ∙ ap silent view
 
-pub silent_now : (es : List Entry) (members : ℕ) (old rs : List Release) (now : Groups) → groups_of es members old ≡ now → rs ≡ [] → groups_of es members rs ≡ silent now
-silent_now es members old rs now view none = ap (groups_of es members) none ∙ ap silent view
+pub silent_now : (es : List Entry) (members : ℕ) (limits : Limits) (old rs : List Release) (now : Groups) → groups_of es members limits old ≡ now → rs ≡ [] → groups_of es members limits rs ≡ silent now
+silent_now es members limits old rs now view none = ap (groups_of es members limits) none ∙ ap silent view
 
 -- The bound of what is due, after a call to the group at a place.
 pub quiet_here : (es : List Entry) (place : ℕ) (e : Entry) (g : State) (q p r : ℕ) → q ≤ earliest es → p ≤ next_due g → r ≡ min q p → r ≤ earliest (slice_set es place (with_group e g))

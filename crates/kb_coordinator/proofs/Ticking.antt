@@ -8,6 +8,7 @@ use Rattle.kb_groups.specs.declared.reply.Release.{Release}
 use Rattle.kb_groups.specs.Moments.{next_due, tick}
 use Rattle.kb_groups.proofs.Quiet.{tick_early}
 use Rattle.kb_coordinator.specs.declared.groups.Entry.{Entry}
+use Rattle.kb_coordinator.specs.declared.limits.Limits.{Limits}
 use Rattle.kb_coordinator.specs.Groups.{AreSorted, Groups, earliest}
 use Rattle.kb_coordinator.specs.Calls.{Ticks, at_moment, hung_up, some_released, some_ticked, ticked, unmarked}
 use Rattle.kb_coordinator.proofs.Lists.{drop_end}
@@ -175,12 +176,12 @@ quiet_ticks clock es h =
 
 -- ## A moment of all groups
 
-pub quiet_moment : (clock : ℕ) (es : List Entry) (members : ℕ) (old rs : List Release) (now : Groups) → groups_of es members old ≡ now → rs ≡ [] → clock < earliest es → groups_of es members rs ≡ at_moment clock now
-quiet_moment clock es members old rs now view none h =
-    ap (groups_of es members) none ∙ (λ k. groups_of (sym (quiet_groups clock es h) k) members (sym (quiet_released clock es h) k)) ∙ ap (at_moment clock) view
+pub quiet_moment : (clock : ℕ) (es : List Entry) (members : ℕ) (limits : Limits) (old rs : List Release) (now : Groups) → groups_of es members limits old ≡ now → rs ≡ [] → clock < earliest es → groups_of es members limits rs ≡ at_moment clock now
+quiet_moment clock es members limits old rs now view none h =
+    ap (groups_of es members limits) none ∙ (λ k. groups_of (sym (quiet_groups clock es h) k) members limits (sym (quiet_released clock es h) k)) ∙ ap (at_moment clock) view
 
-pub quiet_each : (clock : ℕ) (es : List Entry) (members : ℕ) (old rs : List Release) (now : Groups) → groups_of es members old ≡ now → rs ≡ [] → clock < earliest es → Ticks clock now.groups es rs 0
-quiet_each clock es members old rs now view none h =
+pub quiet_each : (clock : ℕ) (es : List Entry) (members : ℕ) (limits : Limits) (old rs : List Release) (now : Groups) → groups_of es members limits old ≡ now → rs ≡ [] → clock < earliest es → Ticks clock now.groups es rs 0
+quiet_each clock es members limits old rs now view none h =
     subst (λ (gs : Groups). Ticks clock gs.groups es rs 0) view (subst (λ (l : List Release). Ticks clock es es l 0) (sym none) (quiet_ticks clock es h))
 
 ticked_length : (clock : ℕ) (marks : List Bool) (es : List Entry) → length marks ≡ length es → length (some_ticked clock marks es) ≡ length es
@@ -190,22 +191,22 @@ ticked_length clock [] (e ∷ es) h = absurd (omega (arith, h))
 ticked_length clock (m ∷ ms) [] h = absurd (omega (arith, h))
 ticked_length clock (m ∷ ms) (e ∷ es) h = ap suc (ticked_length clock ms es (omega (arith, h)))
 
-ticks_length : (clock : ℕ) (es new : List Entry) (rs : List Release) (k : ℕ) → Ticks clock es new rs k → length new ≡ length es
+pub ticks_length : (clock : ℕ) (es new : List Entry) (rs : List Release) (k : ℕ) → Ticks clock es new rs k → length new ≡ length es
 ticks_length clock es new rs k (marks, same, is, released, refused) = ap length is ∙ ticked_length clock marks es same
 
 -- What a slice was made stands in its vector.
-written_back : {A : Type 0} (n : ℕ) (new old : List A) → length new ≡ length old → n ≡ length old → take n (new ++ drop (length new) old) ≡ new
+pub written_back : {A : Type 0} (n : ℕ) (new old : List A) → length new ≡ length old → n ≡ length old → take n (new ++ drop (length new) old) ≡ new
 written_back n new old h k =
     ap (λ l. take n (new ++ l)) (drop_end (length new) old (omega (arith, h))) ∙ ap (take n) (append-nil new) ∙ all_taken n new (omega (arith, h, k))
 
-pub all_moment : (clock n : ℕ) (es new : List Entry) (members : ℕ) (old rs : List Release) (now : Groups) (k : ℕ) → groups_of es members old ≡ now → Ticks clock es new rs k → n ≡ length es → k ≡ 0 → groups_of (take n (new ++ drop (length new) es)) members rs ≡ at_moment clock now
-all_moment clock n es new members old rs now k view ticks len none =
+pub all_moment : (clock n : ℕ) (es new : List Entry) (members : ℕ) (limits : Limits) (old rs : List Release) (now : Groups) (k : ℕ) → groups_of es members limits old ≡ now → Ticks clock es new rs k → n ≡ length es → k ≡ 0 → groups_of (take n (new ++ drop (length new) es)) members limits rs ≡ at_moment clock now
+all_moment clock n es new members limits old rs now k view ticks len none =
     let all = ticks_all clock es new rs k ticks none in
-    ap (λ l. groups_of l members rs) (written_back n new es (ticks_length clock es new rs k ticks) len)
-    ∙ (λ j. groups_of (all.0 j) members (all.1 j)) ∙ ap (at_moment clock) view
+    ap (λ l. groups_of l members limits rs) (written_back n new es (ticks_length clock es new rs k ticks) len)
+    ∙ (λ j. groups_of (all.0 j) members limits (all.1 j)) ∙ ap (at_moment clock) view
 
-pub each_moment : (clock n : ℕ) (es new : List Entry) (members : ℕ) (old rs : List Release) (now : Groups) (k : ℕ) → groups_of es members old ≡ now → Ticks clock es new rs k → n ≡ length es → Ticks clock now.groups (take n (new ++ drop (length new) es)) rs k
-each_moment clock n es new members old rs now k view ticks len =
+pub each_moment : (clock n : ℕ) (es new : List Entry) (members : ℕ) (limits : Limits) (old rs : List Release) (now : Groups) (k : ℕ) → groups_of es members limits old ≡ now → Ticks clock es new rs k → n ≡ length es → Ticks clock now.groups (take n (new ++ drop (length new) es)) rs k
+each_moment clock n es new members limits old rs now k view ticks len =
     subst (λ (gs : Groups). Ticks clock gs.groups (take n (new ++ drop (length new) es)) rs k) view
     (subst (λ (l : List Entry). Ticks clock es l rs k) (sym (written_back n new es (ticks_length clock es new rs k ticks) len)) ticks)
 

@@ -1,5 +1,5 @@
 -- What each request and moment does to the groups of a tenant, and is answered.
-use Rattle.std.specs.Prelude.{◌≡◌, ◌+◌, ℕ, Bool, ◌&&◌, ◌||◌, List, [], ◌∷◌, ◌++◌, map, length, slice_set, ℤ, pos, nat_eq, nat_le, nat_lt}
+use Rattle.std.specs.Prelude.{◌≡◌, ◌+◌, ◌-◌, ℕ, Bool, ◌&&◌, ◌||◌, List, [], ◌∷◌, ◌++◌, map, length, slice_set, ℤ, pos, nat_eq, nat_le, nat_lt}
 use Rattle.std.specs.Prelude.{if◌then◌else◌, is_none, Option, Some, None}
 use Rattle.kb_groups.specs.declared.code.Code.{Code}
 use Rattle.kb_groups.specs.declared.code.Code.TheVariants as of
@@ -12,6 +12,7 @@ use Rattle.std.specs.List.{flat_map}
 use Rattle.std.specs.Ordering.{int_eq}
 use Rattle.kb_groups.specs.declared.borrowed.Join.{Join}
 use Rattle.kb_groups.specs.Calls as one
+use Rattle.kb_groups.specs.Bytes.{brought_bytes, group_bytes, is_past, joined_bytes, sync_within}
 use Rattle.kb_wire.specs.ErrorCode.{code_of}
 use Rattle.kb_groups.specs.Moments.{never, tick}
 use Rattle.kb_groups.specs.Rebalance.{Step}
@@ -22,7 +23,7 @@ use Rattle.kb_api_group.specs.declared.sync_group.SyncGroupRequest.{SyncGroupReq
 use Rattle.kb_api_group.specs.declared.heartbeat.HeartbeatRequest.{HeartbeatRequest}
 use Rattle.kb_api_group.specs.declared.leave_group.LeaveGroupRequest.{LeaveGroupRequest}
 use Rattle.kb_coordinator.specs.declared.groups.Entry.{Entry}
-use Rattle.kb_coordinator.specs.Groups.{Groups, found, changed, earliest, silent, with_new}
+use Rattle.kb_coordinator.specs.Groups.{Groups, found, changed, earliest, kept_bytes, silent, with_new}
 use Rattle.kb_coordinator.specs.Requests.{assigned_to, commit_of_none, error_of, join_of, named}
 
 -- What the group says, if it is there.
@@ -68,15 +69,20 @@ after_leave clock r gs = stepped r.group_id (one.leave clock (named r.member_id)
 
 -- ## SyncGroup
 
-abbrev pub sync_in : ℕ → ℕ → SyncGroupRequest → State → SyncAnswer × Step
-sync_in clock connection r g = one.sync clock connection (named r.member_id) r.generation_id (map assigned_to r.assignments) g
+-- What the limit leaves to that group, beside all ids and what the other groups keep.
+abbrev pub room : Groups → State → ℕ
+room gs g = gs.limits.bytes - (kept_bytes gs.groups - group_bytes g)
+
+abbrev pub sync_in : ℕ → ℕ → SyncGroupRequest → Groups → State → SyncAnswer × Step
+sync_in clock connection r gs g =
+    sync_within (room gs g) clock connection (named r.member_id) r.generation_id (map assigned_to r.assignments) g
 
 abbrev pub sync_answer : ℕ → ℕ → SyncGroupRequest → Groups → SyncAnswer
 sync_answer clock connection r gs =
-    by_group (Refused of.UnknownMemberId) (λ g. (sync_in clock connection r g).0) (found r.group_id gs.groups)
+    by_group (Refused of.UnknownMemberId) (λ g. (sync_in clock connection r gs g).0) (found r.group_id gs.groups)
 
 abbrev pub after_sync : ℕ → ℕ → SyncGroupRequest → Groups → Groups
-after_sync clock connection r gs = stepped r.group_id (λ g. (sync_in clock connection r g).1) gs
+after_sync clock connection r gs = stepped r.group_id (λ g. (sync_in clock connection r gs g).1) gs
 
 -- ## JoinGroup
 
@@ -94,25 +100,38 @@ unless_refused of.GroupMaxSizeReached next = codes.GroupMaxSizeReached
 abbrev pub lacks_number : Join → Groups → Bool
 lacks_number j gs = is_none j.member && nat_le 9223372036854775807 gs.members
 
-abbrev pub full : Bool → ErrorCode
-full b = if b then codes.CoordinatorNotAvailable else codes.None
+-- What is left for a join that no group refuses: a group and a number, then bytes.
+abbrev pub left_for : Bool → Bool → ErrorCode
+left_for full past = if full then codes.CoordinatorNotAvailable else if past then codes.GroupMaxSizeReached else codes.None
 
--- A join to a group that is there: the group's refusal, then no number.
+-- Whether the group would go past the limit by a join that brings more than the group kept for its member.
+abbrev pub known_past : Join → State → Groups → Bool
+known_past j g gs = is_past (room gs g) (group_bytes g) (joined_bytes j g)
+
+-- A join to a group that is there: the group's refusal, then no number, then the limit of bytes.
 abbrev pub known_code : Join → State → Groups → ErrorCode
-known_code j g gs = unless_refused (one.join_code j g) (full (lacks_number j gs))
+known_code j g gs = unless_refused (one.join_code j g) (left_for (lacks_number j gs) (known_past j g gs))
 
--- A join to a group that is not there: the refusal of a group that nobody joined yet, then 1,000 groups or no number.
-abbrev pub new_code : Join → Groups → ErrorCode
-new_code j gs = unless_refused (one.join_code j one.fresh) (full (nat_le 1000 (length gs.groups) || lacks_number j gs))
+-- A new group keeps its id, and what the join brings.
+abbrev pub new_past : Join → List ℕ → Groups → Bool
+new_past j id gs = nat_lt (gs.limits.bytes - kept_bytes gs.groups) (length id + brought_bytes j)
 
-abbrev pub code_by : Join → Groups → Option State → ErrorCode
-code_by j gs None = new_code j gs
-code_by j gs (Some g) = known_code j g gs
+abbrev pub new_full : Join → Groups → Bool
+new_full j gs = nat_le gs.limits.groups (length gs.groups) || lacks_number j gs
+
+-- A join to a group that is not there: the refusal of a group that nobody joined yet, then the limit of groups or no number, then that of
+-- bytes.
+abbrev pub new_code : Join → List ℕ → Groups → ErrorCode
+new_code j id gs = unless_refused (one.join_code j one.fresh) (left_for (new_full j gs) (new_past j id gs))
+
+abbrev pub code_by : Join → List ℕ → Groups → Option State → ErrorCode
+code_by j id gs None = new_code j id gs
+code_by j id gs (Some g) = known_code j g gs
 
 -- A join's code.
 abbrev pub join_code : ℕ → JoinGroupRequest → Groups → ErrorCode
 join_code connection r gs =
-    if one.is_empty r.group_id then codes.InvalidGroupId else code_by (join_of gs.members connection r) gs (found r.group_id gs.groups)
+    if one.is_empty r.group_id then codes.InvalidGroupId else code_by (join_of gs.members connection r) r.group_id gs (found r.group_id gs.groups)
 
 abbrev pub is_accepted : ErrorCode → Bool
 is_accepted code = int_eq (code_of code) (pos 0)
@@ -132,7 +151,7 @@ new_joined clock j id gs = numbered j (record gs {
 })
 
 abbrev pub after_new : ℕ → Join → List ℕ → Groups → Groups
-after_new clock j id gs = if is_accepted (new_code j gs) then new_joined clock j id gs else silent gs
+after_new clock j id gs = if is_accepted (new_code j id gs) then new_joined clock j id gs else silent gs
 
 abbrev pub entry_joined : ℕ → Join → Entry → Entry
 entry_joined clock j e = record { id = e.id; group = (one.join clock j e.group).group }

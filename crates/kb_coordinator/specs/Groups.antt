@@ -1,5 +1,5 @@
 -- The groups of a tenant.
-use Rattle.std.specs.Prelude.{◌-◌, ℕ, suc, min, List, [], ◌∷◌, map, Option, Some, None, bytes_eq, if◌then◌else◌}
+use Rattle.std.specs.Prelude.{◌≡◌, ◌≤◌, ◌+◌, ◌-◌, ℕ, length, suc, min, List, [], ◌∷◌, map, Option, Some, None, bytes_eq, if◌then◌else◌}
 use Rattle.std.specs.Option.{option_map}
 use Rattle.std.specs.Ordering.{is_lt, nat_cmp}
 use Rattle.std.specs.Cmp.Lexicographic.{slice_cmp}
@@ -8,17 +8,28 @@ use Rattle.std.specs.List.Sorted.{IsNonDecreasingBy, IsStrictlySortedBy}
 use Rattle.kb_groups.specs.declared.state.State.{State}
 use Rattle.kb_groups.specs.declared.reply.Release.{Release}
 use Rattle.kb_groups.specs.Moments.{never, next_due}
+use Rattle.kb_groups.specs.Bytes.{group_bytes}
 use Rattle.kb_coordinator.specs.declared.groups.Entry.{Entry}
+use Rattle.kb_coordinator.specs.declared.limits.Limits.{Limits}
 
--- The groups by id in byte order, the number below that of the next new member, and the replies that the last request or moment gave to
--- requests that waited, by group and then by connection number.
+-- The groups by id in byte order, the number below that of the next new member, the replies that the last request or moment gave to
+-- requests that waited, by group and then by connection number, and how far the groups may grow.
 pub record Groups : Type 0 where
   pub groups : List Entry
   pub members : ℕ
   pub released : List Release
+  pub limits : Limits
+
+-- 1,000 groups, and 64 MiB.
+abbrev pub standard : Limits
+standard = record { groups = 1000; bytes = 67108864 }
 
 abbrev pub none : Groups
-none = record { groups = []; members = 0; released = [] }
+none = record { groups = []; members = 0; released = []; limits = standard }
+
+-- These are the limits from now on.
+abbrev pub limited : Limits → Groups → Groups
+limited limits gs = record gs { limits = limits }
 
 -- The first member from now on gets that number.
 abbrev pub numbered_from : ℕ → Groups → Groups
@@ -64,3 +75,14 @@ with_new id g es = insert es (first_above id es) (record { id = id; group = g })
 unfoldable pub earliest : List Entry → ℕ
 earliest [] = never
 earliest (e ∷ es) = min (next_due e.group) (earliest es)
+
+-- ## What the groups keep
+
+-- The ids of the groups, and what each keeps.
+unfoldable pub kept_bytes : List Entry → ℕ
+kept_bytes [] = 0
+kept_bytes (e ∷ es) = length e.id + group_bytes e.group + kept_bytes es
+
+-- That many bytes are what the groups keep, and within the limit.
+abbrev pub AreWithin : Limits → ℕ → List Entry → Type 0
+AreWithin limits bytes es = (bytes ≡ kept_bytes es) × (bytes ≤ limits.bytes) × (limits.bytes ≤ 9223372036854775807)

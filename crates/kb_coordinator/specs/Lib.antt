@@ -2,3 +2,4 @@ pub mod Calls
 pub mod Groups
 pub mod Replies
 pub mod Requests
+pub mod Tools

@@ -1,11 +1,13 @@
 //! The groups of a tenant, and what requests do to them.
-ghost use Rattle.std.specs.Prelude.{◌≡◌, ◌≤◌, ◌<◌, ◌^◌, [], IfOk, OnErr, OnOk};
-ghost use Rattle.kb_coordinator.specs.Groups.{none, numbered_from, place_of, silent};
+ghost use Rattle.std.specs.Prelude.{◌≡◌, ◌≤◌, ◌<◌, ◌^◌, [], length, slice_get, Some, IfOk, OnErr, OnOk};
+ghost use Rattle.kb_coordinator.specs.Groups.{kept_bytes, limited, none, numbered_from, place_of, silent};
 ghost use Rattle.kb_coordinator.specs.Calls.{after_heartbeat, after_leave, after_may_commit, after_sync, heartbeat_code, leave_code};
-ghost use Rattle.kb_coordinator.specs.Calls.{may_commit, sync_answer};
+ghost use Rattle.kb_coordinator.specs.Calls.{may_commit, room, sync_answer};
+ghost use Rattle.kb_coordinator.specs.declared.groups.Entry.{Entry};
 
 use crate::convert::{assignments, commit_of_none, error_of, number_of};
 use crate::groups::{Entry, place_of};
+use crate::limits::Limits;
 use kb_api_group::{HeartbeatRequest, LeaveGroupRequest, SyncGroupRequest};
 use kb_groups::{Code, Release, SyncAnswer};
 use kb_wire::ErrorCode;
@@ -24,24 +26,32 @@ pub struct Coordinator {
     pub(crate) released: Vec<Vec<Release>>,
     /// Before this moment no session ends and no deadline comes.
     pub(crate) quiet_until: u64,
+    pub(crate) limits: Limits,
+    /// What the groups keep, with their ids.
+    pub(crate) bytes: u64,
 }
 
 impl Model for Coordinator {
     ghost use Rattle.std.specs.Prelude.{◌≤◌};
     ghost use Rattle.std.specs.List.{All, flat_map};
     ghost use Rattle.kb_coordinator.specs.Groups.{AreInOrder};
-    ghost use Rattle.kb_coordinator.specs.Groups.{AreSorted, Groups, earliest};
+    ghost use Rattle.kb_coordinator.specs.Groups.{AreSorted, AreWithin, Groups, earliest};
 
     ghost Value = { Groups };
 
-    ghost view = { λ c. record { groups = c.groups.items; members = c.members; released = flat_map (λ v. v.items) c.released.items } };
+    ghost view = { λ c. record {
+      groups = c.groups.items;
+      members = c.members;
+      released = flat_map (λ v. v.items) c.released.items;
+      limits = c.limits;
+    } };
 
     ghost invariant = { λ c. (c.members ≤ 9223372036854775807) × (c.quiet_until ≤ earliest c.groups.items) × AreSorted c.groups.items
-        × All (λ v. AreInOrder v.items) c.released.items };
+        × AreWithin c.limits c.bytes c.groups.items × All (λ v. AreInOrder v.items) c.released.items };
 }
 
 impl Coordinator {
-    /// No groups. It takes no memory.
+    /// No groups, and the standard limits. It takes no memory.
     pub fn new(alloc: Global) -> Coordinator
         ensures { result ≡ none }
     {
@@ -51,7 +61,27 @@ impl Coordinator {
             members: 0,
             released: Vec::new(alloc),
             quiet_until: u64::MAX,
+            limits: Limits::standard(),
+            bytes: 0,
         }
+    }
+
+    /// These are the limits from now on. It takes no memory.
+    pub fn limit(&mut self, limits: Limits)
+        requires within { limits.bytes < 2 ^ 63 }
+        requires early { self.old.groups ≡ [] }
+        ensures { self.new ≡ limited limits self.old }
+    {
+        self.limits = limits;
+    }
+
+    /// What the groups keep: each one's id and protocol type, and for each member its id, protocols and assignment. It costs constant
+    /// time.
+    pub fn bytes(&self) -> u64
+        ensures value { result ≡ kept_bytes self.now.groups }
+        ensures within { result ≤ self.now.limits.bytes }
+    {
+        self.bytes
     }
 
     /// The first new member is to get this number, and each later one the next. It takes no memory.
@@ -78,6 +108,16 @@ impl Coordinator {
         ensures { result ≡ place_of id.now self.now.groups }
     {
         place_of(&self.groups, id.as_bytes())
+    }
+
+    /// What the limit leaves to the group at a place, beside all ids and what the other groups keep.
+    pub(crate) fn room(&self, place: usize) -> u64
+        requires { place < length self.now.groups }
+        ensures value { (e : Entry) → slice_get self.now.groups place ≡ Some e → result ≡ room self.now e.group }
+        ensures most { result < 2 ^ 63 }
+    {
+        let others = self.bytes - self.groups[place].group.bytes();
+        self.limits.bytes - others
     }
 
     /// Kafka's Heartbeat. It takes no memory.
@@ -130,8 +170,10 @@ impl Coordinator {
         let number = number_of(request.member_id.as_str());
         self.released.push(Vec::new(self.alloc))?;
         let entry = &mut self.groups[place];
+        let before = entry.group.bytes();
         let (code, replies) = entry.group.leave(self.alloc, number, clock)?;
         self.quiet_until = self.quiet_until.min(entry.group.quiet_until());
+        self.bytes = self.bytes - before + entry.group.bytes();
         self.released[0] = replies;
         Ok(code)
     }
@@ -154,12 +196,15 @@ impl Coordinator {
         let number = number_of(request.member_id.as_str());
         let generation = request.generation_id;
         let given = assignments(self.alloc, request.assignments.as_slice())?;
+        let most = self.room(place);
         self.released.push(Vec::new(self.alloc))?;
         let entry = &mut self.groups[place];
-        let (answer, replies) = entry
-            .group
-            .sync(self.alloc, connection, number, generation, &given, clock)?;
+        let before = entry.group.bytes();
+        let (answer, replies) = entry.group.sync_within(
+            self.alloc, connection, number, generation, &given, clock, most,
+        )?;
         self.quiet_until = self.quiet_until.min(entry.group.quiet_until());
+        self.bytes = self.bytes - before + entry.group.bytes();
         self.released[0] = replies;
         Ok(answer)
     }

@@ -2,8 +2,8 @@
 ghost use Rattle.std.specs.Prelude.{◌≡◌, ◌<◌, ◌≤◌, IfOk, OnErr, OnOk, length, slice_get, None, Some};
 ghost use Rattle.kb_coordinator.specs.declared.groups.Entry.{Entry};
 ghost use Rattle.kb_coordinator.specs.Groups.{place_of, silent};
-ghost use Rattle.kb_coordinator.specs.Calls.{after_join, after_known, after_new, full, given_with, is_accepted, join_code, known_code};
-ghost use Rattle.kb_coordinator.specs.Calls.{lacks_number, new_code, unless_refused};
+ghost use Rattle.kb_coordinator.specs.Calls.{after_join, after_known, after_new, given_with, is_accepted, join_code, known_code};
+ghost use Rattle.kb_coordinator.specs.Calls.{lacks_number, left_for, new_code, new_full, new_past, unless_refused};
 
 use crate::convert::{asked_member, error_of, offers};
 use crate::coordinator::Coordinator;
@@ -13,19 +13,19 @@ use kb_groups::{Bytes, Code, Group, Join};
 use kb_wire::{ErrorCode, Text};
 use std::alloc::{AllocError, Global};
 
-/// How many groups a tenant has at most.
-const MAX_GROUPS: usize = 1_000;
 /// The greatest member number of a tenant.
 const MAX_MEMBERS: u64 = 9_223_372_036_854_775_807;
 
-/// The error of a join: the group's refusal, if it refuses; else whether nothing is left for it.
-fn error_unless(code: Code, is_full: bool) -> ErrorCode
-    ensures { result ≡ unless_refused code (full is_full) }
+/// The error of a join: the group's refusal, if it refuses; else whether no group, number or bytes are left for it.
+fn error_unless(code: Code, is_full: bool, is_past: bool) -> ErrorCode
+    ensures { result ≡ unless_refused code (left_for is_full is_past) }
 {
     match code {
         Code::Fine => {
             if is_full {
                 ErrorCode::CoordinatorNotAvailable
+            } else if is_past {
+                ErrorCode::GroupMaxSizeReached
             } else {
                 ErrorCode::None
             }
@@ -70,20 +70,34 @@ impl Coordinator {
         requires { place < length self.now.groups }
         ensures { (e : Entry) → slice_get self.now.groups place ≡ Some e → result ≡ known_code request.now e.group self.now }
     {
-        let code = self.groups[place].group.join_code(request);
-        error_unless(code, self.lacks_number(request))
+        let group = &self.groups[place].group;
+        let code = group.join_code(request);
+        let is_past = group.is_past_with(request, self.room(place));
+        error_unless(code, self.lacks_number(request), is_past)
+    }
+
+    /// Whether a new group would go past the limit of bytes.
+    fn new_past(&self, id: &str, request: &Join<'_>) -> bool
+        ensures { result ≡ new_past request.now id.now self.now }
+    {
+        let bytes = (id.len() as u64).saturating_add(request.bytes());
+        bytes > self.limits.bytes - self.bytes
+    }
+
+    /// Whether no new group or no number is left.
+    fn new_full(&self, request: &Join<'_>) -> bool
+        ensures { result ≡ new_full request.now self.now }
+    {
+        self.groups.len() as u64 >= self.limits.groups || self.lacks_number(request)
     }
 
     /// The error of a join to a group that is not there.
-    fn new_error(&self, request: &Join<'_>) -> ErrorCode
-        ensures { result ≡ new_code request.now self.now }
+    fn new_error(&self, id: &str, request: &Join<'_>) -> ErrorCode
+        ensures { result ≡ new_code request.now id.now self.now }
     {
         let group = Group::new(self.alloc);
         let code = group.join_code(request);
-        error_unless(
-            code,
-            self.groups.len() >= MAX_GROUPS || self.lacks_number(request),
-        )
+        error_unless(code, self.new_full(request), self.new_past(id, request))
     }
 
     /// A join to the group at a place.
@@ -109,8 +123,10 @@ impl Coordinator {
         let members = self.given_with(request);
         self.released.push(Vec::new(self.alloc))?;
         let entry = &mut self.groups[place];
+        let before = entry.group.bytes();
         let (_, replies) = entry.group.join(self.alloc, request, clock)?;
         self.quiet_until = self.quiet_until.min(entry.group.quiet_until());
+        self.bytes = self.bytes - before + entry.group.bytes();
         self.released[0] = replies;
         self.members = members;
         Ok(error)
@@ -125,12 +141,12 @@ impl Coordinator {
     ) -> Result<ErrorCode, AllocError>
         requires absent { place_of id.now self.old.groups ≡ None }
         requires clock { clock ≤ 4611686018427387904 }
-        ensures code { IfOk result (λ code. code ≡ new_code request.now self.old) }
+        ensures code { IfOk result (λ code. code ≡ new_code request.now id.now self.old) }
         ensures after { OnOk result (self.new ≡ after_new clock request.now id.now self.old) }
         ensures refused { OnErr result (self.new ≡ silent self.old) }
     {
         self.released.clear();
-        let error = self.new_error(request);
+        let error = self.new_error(id, request);
         if !is_accepted(error) {
             return Ok(error);
         }
@@ -140,9 +156,11 @@ impl Coordinator {
         let mut group = Group::new(self.alloc);
         let (_, replies) = group.join(self.alloc, request, clock)?;
         let quiet_until = group.quiet_until();
+        let bytes = id.len() as u64 + group.bytes();
         let place = first_above(&self.groups, id.as_bytes());
         self.groups.insert(place, Entry { id: key, group })?;
         self.quiet_until = self.quiet_until.min(quiet_until);
+        self.bytes += bytes;
         self.released[0] = replies;
         self.members = members;
         Ok(error)

@@ -4,7 +4,8 @@ ghost use Rattle.std.specs.List.{All, flat_map};
 ghost use Rattle.kb_coordinator.specs.Groups.{AreInOrder};
 ghost use Rattle.kb_groups.specs.Moments as due;
 ghost use Rattle.kb_groups.specs.Moments.{tick};
-ghost use Rattle.kb_coordinator.specs.Groups.{earliest};
+ghost use Rattle.kb_groups.specs.Sizes.{counted};
+ghost use Rattle.kb_coordinator.specs.Groups.{earliest, kept_bytes};
 ghost use Rattle.kb_coordinator.specs.Calls.{Ticks, at_moment, hung_up, is_due, left, next_due, passed, reply_among, reply_to, ticked};
 
 use crate::coordinator::Coordinator;
@@ -43,6 +44,18 @@ fn earliest(groups: &[Entry]) -> u64
         earliest = earlier(&groups[i].group, earliest);
     }
     earliest
+}
+
+/// What these groups keep, with their ids; `u64::MAX` for all above. It looks at no member.
+fn kept_bytes(groups: &[Entry]) -> u64
+    ensures { result ≡ counted (kept_bytes groups.now) }
+{
+    let mut bytes: u64 = 0;
+    for entry in groups {
+        let id = entry.id.as_slice().len() as u64;
+        bytes = bytes.saturating_add(entry.group.bytes()).saturating_add(id);
+    }
+    bytes
 }
 
 /// What waits on that connection waits no longer.
@@ -159,6 +172,7 @@ impl Coordinator {
         }
         let refused = tick_each(self.alloc, &mut self.groups, clock, &mut self.released);
         self.quiet_until = quiet_until(&self.groups);
+        self.bytes = kept_bytes(&self.groups);
         refused
     }
 

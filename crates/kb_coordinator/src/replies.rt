@@ -11,7 +11,7 @@ use kb_wire::Sink;
 use std::alloc::{AllocError, Global};
 
 /// Writes a text of bytes. One that is longer than an INT16 can count is refused as want of memory.
-fn put_text(text: &[u8], sink: &mut Sink) -> Result<(), AllocError>
+pub(crate) fn put_text(text: &[u8], sink: &mut Sink) -> Result<(), AllocError>
     ensures { OnOk result (sink.new.bytes ≡ sink.old.bytes ++ string.written text.now) }
 {
     if text.len() > i16::MAX as usize {
@@ -22,7 +22,7 @@ fn put_text(text: &[u8], sink: &mut Sink) -> Result<(), AllocError>
 }
 
 /// Writes bytes. More than an INT32 can count are refused as want of memory.
-fn put_blob(bytes: &[u8], sink: &mut Sink) -> Result<(), AllocError>
+pub(crate) fn put_blob(bytes: &[u8], sink: &mut Sink) -> Result<(), AllocError>
     ensures { OnOk result (sink.new.bytes ≡ sink.old.bytes ++ blob.written bytes.now) }
 {
     if bytes.len() > i32::MAX as usize {

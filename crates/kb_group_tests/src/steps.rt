@@ -4,7 +4,7 @@ use kb_api_group::{
     HeartbeatRequest, JoinGroupRequest, JoinProtocol, LeaveGroupRequest, SyncAssignment,
     SyncGroupRequest,
 };
-use kb_coordinator::Coordinator;
+use kb_coordinator::{Coordinator, Limits};
 use kb_groups::{Reply, SyncAnswer};
 use kb_wire::{Array, Blob, Text};
 use std::alloc::{AllocError, Global};
@@ -87,6 +87,20 @@ impl Tenant {
         Tenant {
             alloc,
             coordinator: Coordinator::new(alloc),
+            clock: 0,
+        }
+    }
+
+    /// A tenant that may have so many groups, which keep so many bytes.
+    pub(crate) fn limited(alloc: Global, groups: u64, bytes: u32) -> Tenant {
+        let mut coordinator = Coordinator::new(alloc);
+        coordinator.limit(Limits {
+            groups,
+            bytes: u64::from(bytes),
+        });
+        Tenant {
+            alloc,
+            coordinator,
             clock: 0,
         }
     }
@@ -233,6 +247,10 @@ impl Tenant {
                 self.clock = call.number;
                 self.moment(rt);
                 String::new(alloc)
+            }
+            "bytes" => {
+                self.coordinator.silence();
+                format!(in alloc; "{}", self.coordinator.bytes())?
             }
             _ => due_said(alloc, self.coordinator.next_due())?,
         };

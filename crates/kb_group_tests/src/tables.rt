@@ -125,3 +125,87 @@ fn many_groups(rt: HostRuntime) -> Result<(), Fail> {
         ],
     )
 }
+
+/// A member of these groups takes 14 bytes, a group one for its id and eight for its type, and an assignment one or two.
+const BYTES: [(&str, &str); 21] = [
+    ("bytes", "0"),
+    ("join g 1 ", "0; 1 joined 1 m-1 m-1 lists 1"),
+    ("bytes", "23"),
+    ("sync g 1 m-1 1", "got 1"),
+    ("bytes", "24"),
+    ("join g 2 ", "0"),
+    ("bytes", "38"),
+    ("join g 3 ", "81"),
+    ("join h 3 ", "81"),
+    ("bytes", "38"),
+    // Who joins again brings no more than before, and counts once.
+    (
+        "join g 1 m-1",
+        "0; 1 joined 2 m-1 m-1 lists 2; 2 joined 2 m-2 m-1 lists 0",
+    ),
+    ("bytes", "37"),
+    ("sync g 2 m-2 2", "waits"),
+    // Three bytes of assignments are two too many: nobody is answered.
+    ("sync g 1 m-1 2", "81"),
+    ("bytes", "37"),
+    ("heartbeat g 2 m-2 2", "0"),
+    ("leave g 0 m-1", "0; 2 sync 27"),
+    ("bytes", "23"),
+    ("join g 3 ", "0"),
+    ("bytes", "37"),
+    (
+        "join g 2 m-2",
+        "0; 2 joined 3 m-2 m-2 lists 2; 3 joined 3 m-3 m-2 lists 0",
+    ),
+];
+
+#[test]
+fn bytes_of_groups(rt: HostRuntime) -> Result<(), Fail> {
+    let mut tenant = Tenant::limited(rt.alloc(), 1_000, 38);
+    says(&rt, &mut tenant, &BYTES)
+}
+
+/// What a member kept whose session ended is free again; its group keeps its id and type.
+const EXPIRES: [(&str, &str); 8] = [
+    ("join g 1 ", "0; 1 joined 1 m-1 m-1 lists 1"),
+    ("join h 2 ", "81"),
+    ("at - 9999", ""),
+    ("bytes", "23"),
+    ("at - 10000", ""),
+    ("bytes", "9"),
+    ("join h 2 ", "0; 2 joined 1 m-2 m-2 lists 1"),
+    ("bytes", "32"),
+];
+
+#[test]
+fn expired_bytes(rt: HostRuntime) -> Result<(), Fail> {
+    let mut tenant = Tenant::limited(rt.alloc(), 1_000, 32);
+    says(&rt, &mut tenant, &EXPIRES)
+}
+
+/// One byte fewer, and there is no room.
+#[test]
+fn too_few_bytes(rt: HostRuntime) -> Result<(), Fail> {
+    let mut tenant = Tenant::limited(rt.alloc(), 1_000, 31);
+    says(&rt, &mut tenant, &EXPIRES[..6])?;
+    says(&rt, &mut tenant, &[("join h 2 ", "81"), ("bytes", "9")])
+}
+
+/// Two groups are taken, and a third is not, though there is room in bytes. Where there is none either, the number counts first.
+#[test]
+fn few_groups(rt: HostRuntime) -> Result<(), Fail> {
+    let mut tenant = Tenant::limited(rt.alloc(), 2, 46);
+    says(
+        &rt,
+        &mut tenant,
+        &[
+            ("join a 1 ", "0; 1 joined 1 m-1 m-1 lists 1"),
+            ("join b 2 ", "0; 2 joined 1 m-2 m-2 lists 1"),
+            ("join c 3 ", "15"),
+            ("join b 3 ", "81"),
+            ("join a 1 m-1", "0; 1 joined 2 m-1 m-1 lists 1"),
+        ],
+    )?;
+    let mut tenant = Tenant::limited(rt.alloc(), 0, 46);
+    says(&rt, &mut tenant, &[("join a 1 ", "15")])
+}

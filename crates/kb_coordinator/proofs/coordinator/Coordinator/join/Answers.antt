@@ -5,7 +5,7 @@ use Rattle.kb_groups.specs.declared.borrowed.Join.{Join}
 use Rattle.kb_groups.specs.Calls.{is_empty}
 use Rattle.kb_coordinator.specs.Groups.{Groups, place_of}
 use Rattle.kb_coordinator.specs.Requests.{asked_member, join_of, offered}
-use Rattle.kb_coordinator.specs.Calls.{after_join, after_new, join_code}
+use Rattle.kb_coordinator.specs.Calls.{after_join, after_new, join_code, new_code}
 use Rattle.kb_coordinator.proofs.Commits.{is_named}
 use Rattle.kb_coordinator.proofs.Joins.{known_answers, known_leaves, new_answers, new_leaves, placeless, there_is}
 use Rattle.kb_coordinator.proofs.Lists.{place_below}
@@ -23,7 +23,7 @@ returns-in-Some-clause-code c =
     let r = c.args.request.now in
     let es = c.self.inside.groups.items in
     let members = c.self.inside.members in
-    let gs : Groups = groups_of es members (flat_map (λ v. v.items) c.self.inside.released.items) in
+    let gs : Groups = groups_of es members c.self.inside.limits (flat_map (λ v. v.items) c.self.inside.released.items) in
     let named : is_empty r.group_id ≡ false = is_named r.group_id (c.if-is_empty.ensures ∙ ap (λ x. nat_eq (length x) 0) c.as_str-id.ensures) in
     let session : FitsSigned w32 r.session_timeout_ms = search rules in
     let rebalance : FitsSigned w32 r.rebalance_timeout_ms = search rules in
@@ -47,7 +47,7 @@ returns-in-Some-clause-after c =
     let r = c.args.request.now in
     let es = c.self.inside.groups.items in
     let members = c.self.inside.members in
-    let gs : Groups = groups_of es members (flat_map (λ v. v.items) c.self.inside.released.items) in
+    let gs : Groups = groups_of es members c.self.inside.limits (flat_map (λ v. v.items) c.self.inside.released.items) in
     let named : is_empty r.group_id ≡ false = is_named r.group_id (c.if-is_empty.ensures ∙ ap (λ x. nat_eq (length x) 0) c.as_str-id.ensures) in
     let session : FitsSigned w32 r.session_timeout_ms = search rules in
     let rebalance : FitsSigned w32 r.rebalance_timeout_ms = search rules in
@@ -71,7 +71,7 @@ returns-clause-code c =
     let r = c.args.request.now in
     let es = c.self.inside.groups.items in
     let members = c.self.inside.members in
-    let gs : Groups = groups_of es members (flat_map (λ v. v.items) c.self.inside.released.items) in
+    let gs : Groups = groups_of es members c.self.inside.limits (flat_map (λ v. v.items) c.self.inside.released.items) in
     let named : is_empty r.group_id ≡ false = is_named r.group_id (c.if-is_empty.ensures ∙ ap (λ x. nat_eq (length x) 0) c.as_str-id.ensures) in
     let session : FitsSigned w32 r.session_timeout_ms = search rules in
     let rebalance : FitsSigned w32 r.rebalance_timeout_ms = search rules in
@@ -86,14 +86,14 @@ returns-clause-code c =
       protocols = record { ref_ptr = (0, 0); now = (c.deref.ensures.value ∙ c.in_ok-protocols.ensures ∙ ap (map offered) c.as_slice.ensures) k };
     } in
     let q : place_of r.group_id es ≡ None = sym (c.in-None.ensures ∙ ap (λ x. place_of x es) c.as_str-id.ensures) in
-    subst (λ x. IfOk c.join_new.result (λ code. code ≡ x)) (new_answers c.args.clock c.args.connection r j gs named same q ∙ ap (join_code c.args.connection r) c.self.view_is) c.join_new.ensures.code
+    subst (λ x. IfOk c.join_new.result (λ code. code ≡ x)) (ap (λ x. new_code j x gs) c.as_str-id.ensures ∙ new_answers c.args.clock c.args.connection r j gs named same q ∙ ap (join_code c.args.connection r) c.self.view_is) c.join_new.ensures.code
 
 pub returns-clause-after : goal.returns-clause-after
 returns-clause-after c =
     let r = c.args.request.now in
     let es = c.self.inside.groups.items in
     let members = c.self.inside.members in
-    let gs : Groups = groups_of es members (flat_map (λ v. v.items) c.self.inside.released.items) in
+    let gs : Groups = groups_of es members c.self.inside.limits (flat_map (λ v. v.items) c.self.inside.released.items) in
     let named : is_empty r.group_id ≡ false = is_named r.group_id (c.if-is_empty.ensures ∙ ap (λ x. nat_eq (length x) 0) c.as_str-id.ensures) in
     let session : FitsSigned w32 r.session_timeout_ms = search rules in
     let rebalance : FitsSigned w32 r.rebalance_timeout_ms = search rules in

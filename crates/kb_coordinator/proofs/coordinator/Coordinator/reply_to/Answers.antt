@@ -25,5 +25,5 @@ returns c =
 
 pub reply_among-requires : goal.reply_among-requires
 reply_among-requires c =
-    let order = c.self.invariant.3 c.loop-i.i c.index.result.now (omega (arith, c.loop-i-test.true, c.self.inside.released.ok)) in
+    let order = c.self.invariant.4 c.loop-i.i c.index.result.now (omega (arith, c.loop-i-test.true, c.self.inside.released.ok)) in
     subst AreInOrder (sym c.deref.ensures.value) (subst (λ v. AreInOrder v.items) (sym c.index.ensures) order)

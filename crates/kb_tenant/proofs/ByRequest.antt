@@ -15,14 +15,15 @@ use Rattle.kb_api_data.specs.declared.init_producer_id.InitProducerIdRequest.{In
 use Rattle.kb_api_data.specs.declared.list_offsets.ListOffsetsRequest.{ListOffsetsRequest}
 use Rattle.kb_api_data.specs.declared.metadata.MetadataRequest.{MetadataRequest}
 use Rattle.kb_api_data.specs.declared.produce.ProduceRequest.{ProduceRequest}
-use Rattle.kb_api_group.specs.Layouts.{find_coordinator_request, offset_commit_request, offset_fetch_request}
+use Rattle.kb_api_group.specs.Layouts.{find_coordinator_request, offset_commit_request}
 use Rattle.kb_api_group.specs.declared.find_coordinator.FindCoordinatorRequest.{FindCoordinatorRequest}
 use Rattle.kb_api_group.specs.declared.offset_commit.OffsetCommitRequest.{OffsetCommitRequest}
-use Rattle.kb_api_group.specs.declared.offset_fetch.OffsetFetchRequest.{OffsetFetchRequest}
+use Rattle.kb_api_group.specs.declared.offset_fetch_v2.OffsetFetchRequestV2.{OffsetFetchRequestV2}
 use Rattle.kb_tenant_state.specs.World.{World}
 use Rattle.kb_tenant.specs.CreateTopics.{asked_creations, checked_all, created_all, creations_in, made_of}
 use Rattle.kb_tenant.specs.Fetch.{asked_fetch}
 use Rattle.kb_tenant.specs.Metadata.{asked_metadata}
+use Rattle.kb_tenant.specs.OffsetFetch.{asked_offsets}
 use Rattle.kb_tenant.specs.Replies.{Reaction, Replies, Shuts}
 use Rattle.kb_tenant.specs.Serve.{Outcome, if_read, of_produce, of_fetch, of_list_offsets, of_metadata, of_offset_commit, of_offset_fetch, of_find_coordinator, of_create_topics, of_delete_records, of_delete_topics, of_init_producer_id, plainly_served, stays}
 use Rattle.kb_tenant.specs.declared.node.Node.{Node}
@@ -34,7 +35,7 @@ pub record Cases (P : Outcome → Type 0) (node : Node) (w : World) (clock : ℕ
   pub list_offsets : (r : ListOffsetsRequest) → whole list_offsets_request body ≡ Ok r → P (of_list_offsets w r)
   pub metadata : (r : MetadataRequest) → asked_metadata version body ≡ Ok r → P (of_metadata node version w r)
   pub offset_commit : (r : OffsetCommitRequest) → whole offset_commit_request body ≡ Ok r → P (of_offset_commit w r)
-  pub offset_fetch : (r : OffsetFetchRequest) → whole offset_fetch_request body ≡ Ok r → P (of_offset_fetch w r)
+  pub offset_fetch : (r : OffsetFetchRequestV2) → asked_offsets version body ≡ Ok r → P (of_offset_fetch version w r)
   pub find_coordinator : (r : FindCoordinatorRequest) → whole find_coordinator_request body ≡ Ok r → P (of_find_coordinator node w r)
   pub create_topics : (r : CreateTopicsRequestV1) → asked_creations version body ≡ Ok r → P (of_create_topics version w r)
   pub delete_topics : (r : DeleteTopicsRequest) → whole delete_topics_request body ≡ Ok r → P (of_delete_topics version w r)
@@ -66,7 +67,7 @@ by_request P node w clock n key version body c =
     let deletes : Outcome = if_read w (whole delete_topics_request body) (of_delete_topics version w) in
     let creates : Outcome = if_read w (asked_creations version body) (of_create_topics version w) in
     let finds : Outcome = if_read w (whole find_coordinator_request body) (of_find_coordinator node w) in
-    let asks : Outcome = if_read w (whole offset_fetch_request body) (of_offset_fetch w) in
+    let asks : Outcome = if_read w (asked_offsets version body) (of_offset_fetch version w) in
     let commits : Outcome = if_read w (whole offset_commit_request body) (of_offset_commit w) in
     let tells : Outcome = if_read w (asked_metadata version body) (of_metadata node version w) in
     let lists : Outcome = if_read w (whole list_offsets_request body) (of_list_offsets w) in
@@ -87,7 +88,7 @@ by_request P node w clock n key version body c =
     (either P (int_eq key LIST_OFFSETS) lists from_tells (read_by P w (whole list_offsets_request body) (of_list_offsets w) c.list_offsets c.shut)
     (either P (int_eq key METADATA) tells from_commits (read_by P w (asked_metadata version body) (of_metadata node version w) c.metadata c.shut)
     (either P (int_eq key OFFSET_COMMIT) commits from_asks (read_by P w (whole offset_commit_request body) (of_offset_commit w) c.offset_commit c.shut)
-    (either P (int_eq key OFFSET_FETCH) asks from_finds (read_by P w (whole offset_fetch_request body) (of_offset_fetch w) c.offset_fetch c.shut)
+    (either P (int_eq key OFFSET_FETCH) asks from_finds (read_by P w (asked_offsets version body) (of_offset_fetch version w) c.offset_fetch c.shut)
     (either P (int_eq key FIND_COORDINATOR) finds from_creates (read_by P w (whole find_coordinator_request body) (of_find_coordinator node w) c.find_coordinator c.shut)
     (either P (int_eq key CREATE_TOPICS) creates from_deletes (read_by P w (asked_creations version body) (of_create_topics version w) c.create_topics c.shut)
     (either P (int_eq key DELETE_TOPICS) deletes from_trims (read_by P w (whole delete_topics_request body) (of_delete_topics version w) c.delete_topics c.shut)

@@ -5,7 +5,7 @@ use Rattle.std.specs.declared.alloc.Global.{Global}
 use Rattle.std.specs.declared.vec.Vec.{Vec}
 use Rattle.kb_wire.specs.Codec.{whole}
 use Rattle.kb_wire.specs.declared.api_key.TheConstants.{METADATA, OFFSET_FETCH, FIND_COORDINATOR}
-use Rattle.kb_api_group.specs.Layouts.{find_coordinator_request, offset_fetch_request}
+use Rattle.kb_api_group.specs.Layouts.{find_coordinator_request}
 use Rattle.kb_api_data.specs.declared.create_topics_v1.CreateTopicsRequestV1.{CreateTopicsRequestV1}
 use Rattle.kb_tenant_state.specs.World.{World}
 use Rattle.kb_tenant.specs.CreateTopics.{checked_all, created_all, creations_in, made_of}
@@ -14,6 +14,7 @@ use Rattle.kb_api_data.specs.declared.fetch.FetchRequest.{FetchRequest}
 use Rattle.kb_tenant_state.specs.declared.topic_partition.TopicPartition.{TopicPartition}
 use Rattle.kb_tenant.specs.Fetch.{has_starts, look_written, reply_written, fetched_in, IsServed}
 use Rattle.kb_tenant.specs.Metadata.{asked_metadata}
+use Rattle.kb_tenant.specs.OffsetFetch.{asked_offsets}
 use Rattle.kb_tenant.specs.Replies.{begun, IsAnswer, Replies, Silent}
 use Rattle.kb_tenant.specs.Serve.{IsOutcome, Outcome, of_create_topics, stays}
 use Rattle.kb_tenant.specs.Serve.{fetch_reaction, if_read, of_find_coordinator, of_metadata, of_offset_fetch, plainly_served}
@@ -26,7 +27,7 @@ pub served_metadata : (node : Node) (w : World) (clock n : ℕ) (key version : �
 unfolding plainly_served
 served_metadata node w clock n key version body is = ap (λ k. plainly_served node w clock n k version body) is
 
-pub served_offset_fetch : (node : Node) (w : World) (clock n : ℕ) (key version : ℤ) (body : List ℕ) → key ≡ OFFSET_FETCH → plainly_served node w clock n key version body ≡ if_read w (whole offset_fetch_request body) (of_offset_fetch w)
+pub served_offset_fetch : (node : Node) (w : World) (clock n : ℕ) (key version : ℤ) (body : List ℕ) → key ≡ OFFSET_FETCH → plainly_served node w clock n key version body ≡ if_read w (asked_offsets version body) (of_offset_fetch version w)
 unfolding plainly_served
 served_offset_fetch node w clock n key version body is = ap (λ k. plainly_served node w clock n k version body) is
 

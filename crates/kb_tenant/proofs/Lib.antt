@@ -1,5 +1,6 @@
 pub mod Acknowledging
 pub mod Again
+pub mod AllOffsets
 pub mod Answered
 pub mod Asked
 pub mod Batches

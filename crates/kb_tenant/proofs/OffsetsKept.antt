@@ -2,16 +2,19 @@
 use Rattle.std.proofs.Common.{◌≡◌, ◌∙◌, sym, ap, ℕ, ℤ, List, ◌++◌, length, map, Option, Some, w32}
 use Rattle.std.specs.List.{flat_map}
 use Rattle.std.specs.Option.{option_and_then}
-use Rattle.std.proofs.lemmas.List.{length-map}
-use Rattle.kb_wire.specs.Codec.{array, count, string}
-use Rattle.kb_api_group.specs.Layouts.{offset_fetch_partition_reply, offset_fetch_topic_reply, offset_fetch_reply}
+use Rattle.std.specs.Prelude.{Bool, true, false}
+use Rattle.std.proofs.lemmas.List.{append-nil, length-map}
+use Rattle.kb_wire.specs.Codec.{array, count, counted, items, nullable, nullable_counted, sized, string}
+use Rattle.kb_api_group.specs.Layouts.{offset_fetch_partition_reply, offset_fetch_topic_reply, offset_fetch_reply, offset_fetch_reply_v2}
+use Rattle.kb_api_group.specs.Layouts.{offset_fetch_request, offset_fetch_request_v2}
 use Rattle.kb_api_group.specs.declared.offset_fetch.OffsetFetchTopic.{OffsetFetchTopic}
 use Rattle.kb_api_group.specs.declared.offset_fetch.OffsetFetchRequest.{OffsetFetchRequest}
+use Rattle.kb_api_group.specs.declared.offset_fetch.OffsetFetchReply.{OffsetFetchReply}
 use Rattle.kb_topics.specs.Known.{named}
 use Rattle.kb_tenant_state.specs.Calls.{committed}
 use Rattle.kb_tenant_state.specs.World.{World, place_in}
 use Rattle.kb_tenant_state.specs.declared.topic_partition.TopicPartition.{TopicPartition}
-use Rattle.kb_tenant.specs.OffsetFetch.{fetched, fetched_all, fetched_topic, kept}
+use Rattle.kb_tenant.specs.OffsetFetch.{code_in, fetched, fetched_topic, kept, offsets_as, with_topics}
 use Rattle.kb_tenant.proofs.Fitting.{array_written, written_both}
 
 -- what is kept of a partition at its place
@@ -34,13 +37,23 @@ topic_written w group t name n instance partitions old s1 s2 s3 name_is n_is ins
     let array_is = array_written offset_fetch_partition_reply replies n (n_is ∙ sym (length-map t.partitions f)) in
     written_both old s1 s3 (string.written t.name) ((array offset_fetch_partition_reply).written replies) (p ∙ ap (λ m. old ++ string.written m) name_is) (tail ∙ ap (λ x. s1 ++ x) array_is)
 
--- the reply is its count and its topics' answers
-pub all_written : (w : World) (q : OffsetFetchRequest) (group : List ℕ) (n : ℕ) (old s1 s2 : List ℕ) → group ≡ q.group_id → n ≡ length q.topics → s1 ≡ old ++ (count w32).written n
-    → s2 ≡ s1 ++ flat_map offset_fetch_topic_reply.written (map (fetched_topic w group) q.topics) → s2 ≡ old ++ offset_fetch_reply.written (fetched_all w q)
-unfolding offset_fetch_reply
-all_written w q group n old s1 s2 group_is n_is p r =
-    let f = fetched_topic w q.group_id in
-    let replies = map f q.topics in
-    let last : s2 ≡ s1 ++ flat_map offset_fetch_topic_reply.written replies = r ∙ ap (λ g. s1 ++ flat_map offset_fetch_topic_reply.written (map (fetched_topic w g) q.topics)) group_is in
-    written_both old s1 s2 ((count w32).written n) (flat_map offset_fetch_topic_reply.written replies) p last
-    ∙ ap (λ x. old ++ x) (array_written offset_fetch_topic_reply replies n (n_is ∙ sym (length-map q.topics f)))
+-- the answers of topics are their count and each of them
+pub asked_written : (w : World) (group : List ℕ) (topics : List OffsetFetchTopic) (n : ℕ) (old s1 s2 : List ℕ) → n ≡ length topics → s1 ≡ old ++ (count w32).written n
+    → s2 ≡ s1 ++ flat_map offset_fetch_topic_reply.written (map (fetched_topic w group) topics)
+    → s2 ≡ old ++ (array offset_fetch_topic_reply).written (map (fetched_topic w group) topics)
+asked_written w group topics n old s1 s2 n_is p r =
+    let f = fetched_topic w group in
+    let replies = map f topics in
+    written_both old s1 s2 ((count w32).written n) (flat_map offset_fetch_topic_reply.written replies) p r
+    ∙ ap (λ x. old ++ x) (array_written offset_fetch_topic_reply replies n (n_is ∙ sym (length-map topics f)))
+
+-- a request of version 1 fits by the layout of version 2
+pub topics_fit : (q : OffsetFetchRequest) → offset_fetch_request.Fits q → offset_fetch_request_v2.Fits (with_topics q)
+unfolding offset_fetch_request offset_fetch_request_v2 nullable nullable_counted sized counted items
+topics_fit q fits = fits
+
+-- the reply is its topics, and its code where it has one
+pub reply_written : (has : Bool) (r : OffsetFetchReply) (old s1 s2 : List ℕ) → s1 ≡ old ++ (array offset_fetch_topic_reply).written r.topics → s2 ≡ s1 ++ code_in has → s2 ≡ old ++ offsets_as has r
+unfolding offset_fetch_reply offset_fetch_reply_v2
+reply_written true r old s1 s2 p q = written_both old s1 s2 ((array offset_fetch_topic_reply).written r.topics) (code_in true) p q
+reply_written false r old s1 s2 p q = q ∙ append-nil s1 ∙ p

@@ -20,10 +20,9 @@ use Rattle.kb_api_data.specs.declared.delete_records.DeleteRecordsRequest.{Delet
 use Rattle.kb_api_data.specs.declared.delete_topics.DeleteTopicsRequest.{DeleteTopicsRequest}
 use Rattle.kb_api_data.specs.declared.init_producer_id.InitProducerIdRequest.{InitProducerIdRequest}
 use Rattle.kb_api_group.specs.Layouts.{find_coordinator_reply, find_coordinator_request, offset_commit_reply, offset_commit_request}
-use Rattle.kb_api_group.specs.Layouts.{offset_fetch_reply, offset_fetch_request}
 use Rattle.kb_api_group.specs.declared.find_coordinator.FindCoordinatorRequest.{FindCoordinatorRequest}
 use Rattle.kb_api_group.specs.declared.offset_commit.OffsetCommitRequest.{OffsetCommitRequest}
-use Rattle.kb_api_group.specs.declared.offset_fetch.OffsetFetchRequest.{OffsetFetchRequest}
+use Rattle.kb_api_group.specs.declared.offset_fetch_v2.OffsetFetchRequestV2.{OffsetFetchRequestV2}
 use Rattle.kb_tenant_state.specs.World.{World}
 use Rattle.kb_tenant_state.specs.declared.topic_partition.TopicPartition.{TopicPartition}
 use Rattle.kb_tenant.specs.CreateTopics.{asked_creations, checked_all, created_all, creations_in, made_of}
@@ -35,7 +34,7 @@ use Rattle.kb_tenant.specs.InitProducerId.{init_producer_id}
 use Rattle.kb_tenant.specs.ListOffsets.{list_offsets}
 use Rattle.kb_tenant.specs.Metadata.{asked_metadata, metadata_in, metadata_of}
 use Rattle.kb_tenant.specs.OffsetCommit.{committed_all, refusal_of}
-use Rattle.kb_tenant.specs.OffsetFetch.{fetched_all}
+use Rattle.kb_tenant.specs.OffsetFetch.{asked_offsets, fetched_all, offsets_in}
 use Rattle.kb_tenant.specs.Produce.{produced, is_due}
 use Rattle.kb_tenant.specs.Replies.{Reaction, Replies, Waits, Silent, Shuts, IsAnswer}
 use Rattle.kb_tenant.specs.declared.answer.Answer.{Answer}
@@ -77,8 +76,8 @@ abbrev pub of_offset_commit : World → OffsetCommitRequest → Outcome
 of_offset_commit w r = let c = committed_all w (refusal_of r.group_id r.generation_id) r in
     record { world = c.0; touched = []; reaction = Replies (offset_commit_reply.written c.1) }
 
-abbrev pub of_offset_fetch : World → OffsetFetchRequest → Outcome
-of_offset_fetch w r = stays w (Replies (offset_fetch_reply.written (fetched_all w r)))
+abbrev pub of_offset_fetch : ℤ → World → OffsetFetchRequestV2 → Outcome
+of_offset_fetch version w r = stays w (Replies (offsets_in version (fetched_all w r)))
 
 abbrev pub of_find_coordinator : Node → World → FindCoordinatorRequest → Outcome
 of_find_coordinator node w r = stays w (Replies (find_coordinator_reply.written (coordinator node)))
@@ -116,7 +115,7 @@ plainly_served node w clock n key version body =
     else if int_eq key LIST_OFFSETS then if_read w (whole list_offsets_request body) (of_list_offsets w)
     else if int_eq key METADATA then if_read w (asked_metadata version body) (of_metadata node version w)
     else if int_eq key OFFSET_COMMIT then if_read w (whole offset_commit_request body) (of_offset_commit w)
-    else if int_eq key OFFSET_FETCH then if_read w (whole offset_fetch_request body) (of_offset_fetch w)
+    else if int_eq key OFFSET_FETCH then if_read w (asked_offsets version body) (of_offset_fetch version w)
     else if int_eq key FIND_COORDINATOR then if_read w (whole find_coordinator_request body) (of_find_coordinator node w)
     else if int_eq key CREATE_TOPICS then if_read w (asked_creations version body) (of_create_topics version w)
     else if int_eq key DELETE_TOPICS then if_read w (whole delete_topics_request body) (of_delete_topics version w)

@@ -1,8 +1,9 @@
 //! Requests about the offsets of groups, from their bodies to their replies.
 ghost use Rattle.std.specs.Prelude.{◌≡◌, [], IfOk};
-ghost use Rattle.kb_api_group.specs.Layouts.{find_coordinator_request, offset_commit_request, offset_fetch_request};
+ghost use Rattle.kb_api_group.specs.Layouts.{find_coordinator_request, offset_commit_request};
 ghost use Rattle.kb_store.specs.Disk.{Files};
 ghost use Rattle.kb_tenant_state.specs.Scene.{WhereHonest};
+ghost use Rattle.kb_tenant.specs.OffsetFetch.{asked_offsets};
 ghost use Rattle.kb_tenant.specs.Told.{AcknowledgesCommits, CatalogFailed};
 ghost use Rattle.kb_tenant.specs.Serve.{if_read, of_find_coordinator, of_offset_commit, of_offset_fetch, IsServed};
 ghost use Rattle.kb_wire.specs.Codec.{string, whole};
@@ -14,9 +15,9 @@ use crate::answer::{Answer, begin, finish};
 use crate::find_coordinator::find_coordinator;
 use crate::group_commit::{offset_commit, refusal_of};
 use crate::node::Node;
-use crate::offset_fetch::offset_fetch;
+use crate::offset_fetch::{has_code, offset_fetch, read_offset_fetch};
 use crate::request::Request;
-use kb_api_group::{FindCoordinatorRequest, OffsetCommitRequest, OffsetFetchRequest};
+use kb_api_group::{FindCoordinatorRequest, OffsetCommitRequest};
 use kb_log::{PartitionLog, Shelf};
 use kb_store::Store;
 use kb_tenant_state::Parts;
@@ -54,11 +55,13 @@ pub(crate) fn serve_offset_fetch<L: PartitionLog + Drop>(
     request: &Request<'_>,
 ) -> Result<Answer, ReadFault>
     ensures { (files : Files) → let w = world_of L.log parts.now files in
-        IsServed request.now.correlation_id (if_read w (whole offset_fetch_request request.now.body.now) (of_offset_fetch w)) w [] result }
+        IsServed request.now.correlation_id (if_read w (asked_offsets request.now.api_version request.now.body.now)
+        (of_offset_fetch request.now.api_version w)) w [] result }
 {
-    let asked = OffsetFetchRequest::read(alloc, request.body)?;
+    let has_code = has_code(request.api_version);
+    let asked = read_offset_fetch(alloc, has_code, request.body)?;
     let mut sink = begin(alloc, request.correlation_id)?;
-    offset_fetch(parts, &asked, &mut sink)?;
+    offset_fetch(parts, has_code, &asked, &mut sink)?;
     Ok(finish(sink))
 }
 

@@ -2,6 +2,7 @@
 //! groups' members are not among them: `kb_tenant_api` has these too.
 #![tactic(auto)]
 
+mod all_offsets;
 mod answer;
 mod create_topics;
 mod delete_records;

@@ -1,19 +1,53 @@
-//! OffsetFetch, version 1 (Kafka protocol guide): the offsets that a group committed.
-ghost use Rattle.std.specs.Prelude.{◌≡◌, ◌++◌, OnOk, map};
+//! OffsetFetch: the offsets that a group committed. From version 2 on a request may ask for all of them, and the reply ends with a code
+//! (Kafka protocol guide, "The Messages: OffsetFetch").
+ghost use Rattle.std.specs.Prelude.{◌≡◌, ◌++◌, OnOk, IfOk, map};
 ghost use Rattle.std.specs.List.{flat_map};
 ghost use Rattle.std.specs.Option.{option_copied};
 ghost use Rattle.kb_store.specs.Disk.{Files};
-ghost use Rattle.kb_api_group.specs.Layouts.{offset_fetch_topic, offset_fetch_request, offset_fetch_partition_reply};
-ghost use Rattle.kb_api_group.specs.Layouts.{offset_fetch_topic_reply, offset_fetch_reply};
+ghost use Rattle.kb_wire.specs.Codec.{array, nullable_array};
+ghost use Rattle.kb_wire.specs.Reads.{ReadsWhole};
+ghost use Rattle.kb_api_group.specs.Layouts.{offset_fetch_topic, offset_fetch_request_v2, offset_fetch_partition_reply};
+ghost use Rattle.kb_api_group.specs.Layouts.{offset_fetch_topic_reply};
 ghost use Rattle.kb_tenant.specs.OffsetFetch.{committed_answered, told, kept, fetched, fetched_topic, fetched_all};
+ghost use Rattle.kb_tenant.specs.OffsetFetch.{asked_as, code_in, has_code, offsets_as, topics_fetched};
 ghost use Rattle.kb_tenant_state.specs.Parts.{world_of};
 
-use kb_api_group::{OffsetFetchPartitionReply, OffsetFetchRequest, OffsetFetchTopic};
+use crate::all_offsets::put_all;
+use kb_api_group::{
+    OffsetFetchPartitionReply, OffsetFetchRequest, OffsetFetchRequestV2, OffsetFetchTopic,
+};
 use kb_log::PartitionLog;
 use kb_tenant_state::{Parts, TopicPartition};
 use kb_topics::Committed;
-use kb_wire::{ErrorCode, Layout, Sink, Text};
-use std::alloc::AllocError;
+use kb_wire::{Array, ErrorCode, Layout, ReadFault, Sink, Text};
+use std::alloc::{AllocError, Global};
+
+/// Whether no topics mean all in a version, and its reply ends with a code.
+pub(crate) fn has_code(version: i16) -> bool
+    ensures { result ≡ has_code version }
+{
+    version >= 2
+}
+
+/// The request that a whole body spells.
+#[tactic(auto, using(crate::proofs::OffsetsKept::topics_fit))]
+pub(crate) fn read_offset_fetch<'a>(
+    alloc: Global,
+    has_code: bool,
+    body: &'a [u8],
+) -> Result<OffsetFetchRequestV2<'a>, ReadFault>
+    ensures exact { ReadsWhole (asked_as has_code body.now) result }
+    ensures fits { IfOk result (λ q. offset_fetch_request_v2.Fits q) }
+{
+    if has_code {
+        return OffsetFetchRequestV2::read(alloc, body);
+    }
+    let OffsetFetchRequest { group_id, topics } = OffsetFetchRequest::read(alloc, body)?;
+    Ok(OffsetFetchRequestV2 {
+        group_id,
+        topics: Some(topics),
+    })
+}
 
 /// What a group committed to a partition of the topic of an instance.
 fn kept<'a, L: PartitionLog + Drop>(
@@ -51,7 +85,7 @@ fn put_answer(
 }
 
 /// Writes the answer for a partition, by what was committed to it.
-fn put_told(
+pub(crate) fn put_told(
     partition: i32,
     committed: Option<&Committed>,
     sink: &mut Sink,
@@ -99,22 +133,64 @@ fn fetch_topic<L: PartitionLog + Drop>(
     fetch_partitions(parts, group, instance, topic.partitions.as_slice(), sink)
 }
 
-/// Serves OffsetFetch: writes the reply behind what the sink has.
+/// Answers topics in order. An `Err` leaves a part of the answer written.
+fn put_asked<L: PartitionLog + Drop>(
+    parts: &Parts<L>,
+    group: &str,
+    topics: &[OffsetFetchTopic<'_>],
+    sink: &mut Sink,
+) -> Result<(), AllocError>
+    requires { (array offset_fetch_topic).Fits topics.now }
+    ensures { (files : Files) → OnOk result (sink.new.bytes ≡ sink.old.bytes
+        ++ (array offset_fetch_topic_reply).written (map (fetched_topic (world_of L.log parts.now files) group.now) topics.now)) }
+{
+    sink.put_count(topics.len())?;
+    for topic in topics {
+        fetch_topic(parts, group, topic, sink)?;
+    }
+    Ok(())
+}
+
+/// Answers the topics that are asked, or all that the group committed to.
+fn put_topics<L: PartitionLog + Drop>(
+    parts: &Parts<L>,
+    group: &str,
+    topics: &Option<Array<OffsetFetchTopic<'_>>>,
+    sink: &mut Sink,
+) -> Result<(), AllocError>
+    requires { (nullable_array offset_fetch_topic).Fits topics.now }
+    ensures { (files : Files) → OnOk result (sink.new.bytes ≡ sink.old.bytes
+        ++ (array offset_fetch_topic_reply).written (topics_fetched (world_of L.log parts.now files) group.now topics.now)) }
+{
+    match topics {
+        None => put_all(parts, group, sink),
+        Some(topics) => put_asked(parts, group, topics.as_slice(), sink),
+    }
+}
+
+/// Writes the code of the whole request, in a version that has one.
+fn put_code(has_code: bool, sink: &mut Sink) -> Result<(), AllocError>
+    ensures { OnOk result (sink.new.bytes ≡ sink.old.bytes ++ code_in has_code) }
+{
+    if has_code {
+        return sink.put_i16(ErrorCode::None.code());
+    }
+    Ok(())
+}
+
+/// Serves OffsetFetch: writes the reply of a version that has a code or not behind what the sink has.
 ///
 /// An `Err`, which is want of memory for the reply, leaves a part of it written.
 pub(crate) fn offset_fetch<L: PartitionLog + Drop>(
     parts: &Parts<L>,
-    request: &OffsetFetchRequest<'_>,
+    has_code: bool,
+    request: &OffsetFetchRequestV2<'_>,
     sink: &mut Sink,
 ) -> Result<(), AllocError>
-    requires { offset_fetch_request.Fits request.now }
+    requires { offset_fetch_request_v2.Fits request.now }
     ensures { (files : Files) → OnOk result (sink.new.bytes ≡ sink.old.bytes
-        ++ offset_fetch_reply.written (fetched_all (world_of L.log parts.now files) request.now)) }
+        ++ offsets_as has_code (fetched_all (world_of L.log parts.now files) request.now)) }
 {
-    let group = request.group_id.as_str();
-    sink.put_count(request.topics.len())?;
-    for topic in request.topics.as_slice() {
-        fetch_topic(parts, group, topic, sink)?;
-    }
-    Ok(())
+    put_topics(parts, request.group_id.as_str(), &request.topics, sink)?;
+    put_code(has_code, sink)
 }

@@ -3,6 +3,7 @@ use Rattle.std.proofs.Common.{◌≡◌, ◌⊎◌, ℕ, ℤ, List, true, false,
 use Rattle.std.specs.Ordering.{int_eq}
 use Rattle.kb_wire.specs.declared.api_key.TheConstants.{OFFSET_COMMIT, JOIN_GROUP, HEARTBEAT, LEAVE_GROUP, SYNC_GROUP}
 use Rattle.kb_wire.specs.declared.fault.ReadFault.{ReadFault}
+use Rattle.kb_api_group.specs.declared.group_key.TheConstants.{DESCRIBE_GROUPS, LIST_GROUPS}
 use Rattle.kb_coordinator.specs.Groups.{Groups}
 use Rattle.kb_tenant_state.specs.World.{World}
 use Rattle.kb_tenant_state.specs.declared.topic_partition.TopicPartition.{TopicPartition}
@@ -20,16 +21,18 @@ use Rattle.kb_tenant_api.specs.declared.answer.Answer.TheVariants as answers
 pub differs : (key other : ℤ) → int_eq key other ≡ false → int_eq other other ≡ true → key ≡ other → ⊥
 differs key other apart same is = let yes : int_eq key other ≡ int_eq other other = ap (λ k. int_eq k other) is in absurd (cc)
 
-pub is_of_none : (key : ℤ) → int_eq key JOIN_GROUP ≡ false → int_eq key HEARTBEAT ≡ false → int_eq key LEAVE_GROUP ≡ false → int_eq key SYNC_GROUP ≡ false → IsOfMembers key → ⊥
-is_of_none key a b c d (inl join) = differs key JOIN_GROUP a refl join
-is_of_none key a b c d (inr (inl heartbeat)) = differs key HEARTBEAT b refl heartbeat
-is_of_none key a b c d (inr (inr (inl leave))) = differs key LEAVE_GROUP c refl leave
-is_of_none key a b c d (inr (inr (inr sync))) = differs key SYNC_GROUP d refl sync
+pub is_of_none : (key : ℤ) → int_eq key JOIN_GROUP ≡ false → int_eq key HEARTBEAT ≡ false → int_eq key LEAVE_GROUP ≡ false → int_eq key SYNC_GROUP ≡ false → int_eq key DESCRIBE_GROUPS ≡ false → int_eq key LIST_GROUPS ≡ false → IsOfMembers key → ⊥
+is_of_none key a b c d e f (inl join) = differs key JOIN_GROUP a refl join
+is_of_none key a b c d e f (inr (inl heartbeat)) = differs key HEARTBEAT b refl heartbeat
+is_of_none key a b c d e f (inr (inr (inl leave))) = differs key LEAVE_GROUP c refl leave
+is_of_none key a b c d e f (inr (inr (inr (inl sync)))) = differs key SYNC_GROUP d refl sync
+is_of_none key a b c d e f (inr (inr (inr (inr (inl describe))))) = differs key DESCRIBE_GROUPS e refl describe
+is_of_none key a b c d e f (inr (inr (inr (inr (inr list))))) = differs key LIST_GROUPS f refl list
 
 -- A commit is no request of a member.
 pub commits_for_no_member : (key : ℤ) → key ≡ OFFSET_COMMIT → IsOfMembers key → ⊥
 commits_for_no_member key is =
-    is_of_none key (ap (λ k. int_eq k JOIN_GROUP) is) (ap (λ k. int_eq k HEARTBEAT) is) (ap (λ k. int_eq k LEAVE_GROUP) is) (ap (λ k. int_eq k SYNC_GROUP) is)
+    is_of_none key (ap (λ k. int_eq k JOIN_GROUP) is) (ap (λ k. int_eq k HEARTBEAT) is) (ap (λ k. int_eq k LEAVE_GROUP) is) (ap (λ k. int_eq k SYNC_GROUP) is) (ap (λ k. int_eq k DESCRIBE_GROUPS) is) (ap (λ k. int_eq k LIST_GROUPS) is)
 
 -- a request of a member that is answered what is defined
 pub member_told : (failed full honest agree : Type 0) (node : Node) (clock n : ℕ) (key version id : ℤ) (body : List ℕ) (w : World) (gs new : Groups) (some touched : List TopicPartition) (o : Outcome) (result : Result Answer ReadFault) → IsOfMembers key

@@ -5,6 +5,8 @@ use Rattle.std.specs.Ordering.{int_eq}
 use Rattle.kb_wire.specs.Codec.{whole}
 use Rattle.kb_wire.specs.declared.api_key.TheConstants.{OFFSET_COMMIT, JOIN_GROUP, HEARTBEAT, LEAVE_GROUP, SYNC_GROUP}
 use Rattle.kb_wire.specs.declared.fault.WireFault.{WireFault}
+use Rattle.kb_api_group.specs.declared.group_key.TheConstants.{DESCRIBE_GROUPS, LIST_GROUPS}
+use Rattle.kb_api_group.specs.Layouts.{describe_groups_request, list_groups_request}
 use Rattle.kb_api_group.specs.Layouts.{heartbeat_request, join_group_request, leave_group_request, offset_commit_request, sync_group_request}
 use Rattle.kb_api_group.specs.declared.offset_commit.OffsetCommitRequest.{OffsetCommitRequest}
 use Rattle.kb_coordinator.specs.Groups.{Groups, silent}
@@ -13,7 +15,7 @@ use Rattle.kb_tenant.specs.Replies.{Shuts}
 use Rattle.kb_tenant.specs.Serve as tenant
 use Rattle.kb_tenant.specs.declared.node.Node.{Node}
 use Rattle.kb_tenant_api.specs.Replies.{Reaction, Plain}
-use Rattle.kb_tenant_api.specs.Serve.{Outcome, if_read, of_groups, of_heartbeat, of_join, of_leave, of_offset_commit, of_sync, of_topics, served}
+use Rattle.kb_tenant_api.specs.Serve.{Outcome, if_read, of_describe, of_groups, of_heartbeat, of_join, of_leave, of_list, of_offset_commit, of_sync, of_topics, served}
 
 -- It holds where the topics stay, whatever becomes of the groups; after each commit; and after a request that is for no group.
 pub record Cases (P : Outcome → Type 0) (node : Node) (w : World) (clock : ℕ) (gs : Groups) (n : ℕ) (key version : ℤ) (body : List ℕ) : Type 0 where
@@ -34,12 +36,16 @@ unfolding served
 by_request P node w clock gs n key version body c =
     let shut = c.stays (silent gs) (Plain Shuts) in
     let others : Outcome = of_topics gs (tenant.plainly_served node w clock n key version body) in
+    let lists : Outcome = if_read w gs (whole list_groups_request body) (of_list w gs) in
+    let describes : Outcome = if_read w gs (whole describe_groups_request body) (of_describe w gs) in
     let syncs : Outcome = if_read w gs (whole sync_group_request body) (of_sync w clock n gs) in
     let leaves : Outcome = if_read w gs (whole leave_group_request body) (of_leave w clock gs) in
     let beats : Outcome = if_read w gs (whole heartbeat_request body) (of_heartbeat w clock gs) in
     let joins : Outcome = if_read w gs (whole join_group_request body) (of_join w clock n gs) in
     let commits : Outcome = if_read w gs (whole offset_commit_request body) (of_offset_commit w clock gs) in
-    let from_sync : Outcome = if int_eq key SYNC_GROUP then syncs else others in
+    let from_list : Outcome = if int_eq key LIST_GROUPS then lists else others in
+    let from_describe : Outcome = if int_eq key DESCRIBE_GROUPS then describes else from_list in
+    let from_sync : Outcome = if int_eq key SYNC_GROUP then syncs else from_describe in
     let from_leave : Outcome = if int_eq key LEAVE_GROUP then leaves else from_sync in
     let from_heartbeat : Outcome = if int_eq key HEARTBEAT then beats else from_leave in
     let from_join : Outcome = if int_eq key JOIN_GROUP then joins else from_heartbeat in
@@ -47,4 +53,6 @@ by_request P node w clock gs n key version body c =
     (either P (int_eq key JOIN_GROUP) joins from_heartbeat (read_by P w gs (whole join_group_request body) (of_join w clock n gs) (λ r. c.stays (of_join w clock n gs r).groups (of_join w clock n gs r).reaction) shut)
     (either P (int_eq key HEARTBEAT) beats from_leave (read_by P w gs (whole heartbeat_request body) (of_heartbeat w clock gs) (λ r. c.stays (of_heartbeat w clock gs r).groups (of_heartbeat w clock gs r).reaction) shut)
     (either P (int_eq key LEAVE_GROUP) leaves from_sync (read_by P w gs (whole leave_group_request body) (of_leave w clock gs) (λ r. c.stays (of_leave w clock gs r).groups (of_leave w clock gs r).reaction) shut)
-    (either P (int_eq key SYNC_GROUP) syncs others (read_by P w gs (whole sync_group_request body) (of_sync w clock n gs) (λ r. c.stays (of_sync w clock n gs r).groups (of_sync w clock n gs r).reaction) shut) c.topics))))
+    (either P (int_eq key SYNC_GROUP) syncs from_describe (read_by P w gs (whole sync_group_request body) (of_sync w clock n gs) (λ r. c.stays (of_sync w clock n gs r).groups (of_sync w clock n gs r).reaction) shut)
+    (either P (int_eq key DESCRIBE_GROUPS) describes from_list (read_by P w gs (whole describe_groups_request body) (of_describe w gs) (λ r. c.stays (of_describe w gs r).groups (of_describe w gs r).reaction) shut)
+    (either P (int_eq key LIST_GROUPS) lists others (read_by P w gs (whole list_groups_request body) (of_list w gs) (λ r. c.stays (of_list w gs r).groups (of_list w gs r).reaction) shut) c.topics))))))

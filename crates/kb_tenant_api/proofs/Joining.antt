@@ -1,6 +1,6 @@
 -- What the requests of a group's members come to.
-use Rattle.std.proofs.Common.{◌≡◌, ◌∙◌, ℕ, ℤ, Bool, [], refl, sym, ap, subst}
-use Rattle.std.specs.Prelude.{Result, Ok, if◌then◌else◌}
+use Rattle.std.proofs.Common.{◌≡◌, ◌∙◌, ℕ, ℤ, Bool, [], refl, sym, ap, subst, inl}
+use Rattle.std.specs.Prelude.{Result, Ok, Err, if◌then◌else◌}
 use Rattle.kb_wire.specs.declared.fault.WireFault.{WireFault}
 use Rattle.kb_wire.specs.ErrorCode.{code_of}
 use Rattle.kb_wire.specs.declared.error_code.ErrorCode.{ErrorCode}
@@ -10,8 +10,10 @@ use Rattle.kb_coordinator.specs.Groups.{Groups, silent}
 use Rattle.kb_coordinator.specs.Replies.{join_refusal}
 use Rattle.kb_tenant_state.specs.World.{World}
 use Rattle.kb_tenant_api.specs.Replies.{IsAnswer, Rebalances, replies}
-use Rattle.kb_tenant_api.specs.Serve.{Outcome, if_read, of_join, IsOutcome, IsServed}
+use Rattle.kb_tenant_api.specs.Serve.{Outcome, if_read, of_join, AreGroupsBy, IsOutcome, IsServed}
 use Rattle.kb_tenant_api.specs.declared.answer.Answer.{Answer}
+use Rattle.kb_wire.specs.declared.fault.ReadFault.{ReadFault}
+use Rattle.kb_wire.specs.declared.fault.ReadFault.TheVariants as faults
 
 -- a request whose body was read, and its topics after it
 pub was_read : {A : Type 0} (id : ℤ) (w after : World) (gs new : Groups) (r : Result A WireFault) (v : A) (f : A → Outcome) (answer : Answer) → r ≡ Ok v → IsOutcome id (f v) after new [] answer → IsServed id (if_read w gs r f) after new [] (Ok answer)
@@ -28,3 +30,9 @@ joined id w clock n gs quiet new r code b answer is coded after tested h =
       subst (λ c. IsAnswer id (if is_accepted c then Rebalances else replies (join_refusal (code_of c) r.member_id)) answer) (sym told)
           (subst (λ x. IsAnswer id (if x then Rebalances else replies (join_refusal (code_of code) r.member_id)) answer) (sym tested) h),
     )
+
+-- groups that are as the request makes them, whatever is answered
+pub groups_made : (old made new : Groups) (r : Result Answer ReadFault) → new ≡ made → AreGroupsBy old made r new
+groups_made old made new (Ok answer) h = h
+groups_made old made new (Err (faults.Wire fault)) h = h
+groups_made old made new (Err faults.Memory) h = inl h

@@ -4,5 +4,6 @@ pub mod Committing
 pub mod Joining
 pub mod Keys
 pub mod Laws
+pub mod Looking
 pub mod Waiters
 pub mod WaitersServed

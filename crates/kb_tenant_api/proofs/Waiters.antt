@@ -19,6 +19,7 @@ use Rattle.kb_groups.specs.Answers.{waiter_answered, refusal, answers, is_sync, 
 use Rattle.kb_groups.specs.Members.{Roster, changed, each, has_none, keeping, member, put, without}
 use Rattle.kb_groups.specs.Rebalance.{Step, all_join, joined_reply, next_generation, completed, ended, ended_by, freed, is_joining, looked_at, next_leader, opened, opened_unless, sync_freed}
 use Rattle.kb_groups.specs.Protocols.{chosen}
+use Rattle.kb_groups.specs.Bytes.{group_bytes, is_past, sync_if, sync_within}
 use Rattle.kb_groups.specs.Calls as one
 use Rattle.kb_groups.specs.Moments as moments
 use Rattle.kb_groups.specs.declared.reply.SyncAnswer.TheVariants.{Refused, Got, Waits}
@@ -188,6 +189,14 @@ sync_known_waits k clock connection n generation as_ g = by (one.known generatio
 
     by : (c : Code) → all k (one.sync_known c clock connection n as_ g).1 ≤ waiting k g.members + once (nat_eq connection k && rebalances (sync_reaction (one.sync_known c clock connection n as_ g).0))
     by c = code c (one.is_fine c)
+
+-- a sync where the group may keep that many bytes
+pub within_waits : (most k clock connection n : ℕ) (generation : ℤ) (as_ : List SyncAssignment) (g : State) → all k (sync_within most clock connection n generation as_ g).1 ≤ waiting k g.members + once (nat_eq connection k && rebalances (sync_reaction (sync_within most clock connection n generation as_ g).0))
+within_waits most k clock connection n generation as_ g = by (is_past most (group_bytes g) (group_bytes (one.sync clock connection n generation as_ g).1.group))
+  where
+    by : (b : Bool) → all k (sync_if b (one.sync clock connection n generation as_ g) g).1 ≤ waiting k g.members + once (nat_eq connection k && rebalances (sync_reaction (sync_if b (one.sync clock connection n generation as_ g) g).0))
+    by true = omega arith
+    by false = sync_known_waits k clock connection n generation as_ g
 
 -- a member that leaves
 gone_waits : (k clock n : ℕ) (s : Step) → all k (one.gone clock n s) ≤ all k s

@@ -7,6 +7,8 @@ use Rattle.kb_wire.specs.Codec.{whole}
 use Rattle.kb_wire.specs.declared.fault.WireFault.{WireFault}
 use Rattle.kb_wire.specs.ErrorCode.{code_of}
 use Rattle.kb_wire.specs.declared.api_key.TheConstants.{OFFSET_COMMIT, JOIN_GROUP, HEARTBEAT, LEAVE_GROUP, SYNC_GROUP}
+use Rattle.kb_api_group.specs.declared.group_key.TheConstants.{DESCRIBE_GROUPS, LIST_GROUPS}
+use Rattle.kb_api_group.specs.Layouts.{describe_groups_request, list_groups_request}
 use Rattle.kb_api_group.specs.Layouts.{heartbeat_request, join_group_request, leave_group_request, offset_commit_request, sync_group_request}
 use Rattle.kb_api_group.specs.declared.heartbeat.HeartbeatRequest.{HeartbeatRequest}
 use Rattle.kb_api_group.specs.declared.join_group.JoinGroupRequest.{JoinGroupRequest}
@@ -25,7 +27,7 @@ use Rattle.kb_groups.specs.Calls as one
 use Rattle.kb_groups.specs.Moments.{tick}
 use Rattle.kb_groups.specs.Rebalance.{Step}
 use Rattle.kb_coordinator.specs.declared.groups.Entry.{Entry}
-use Rattle.kb_coordinator.specs.Calls.{after_heartbeat, after_join, after_may_commit, after_sync, by_group, hung_up, is_accepted, join_code, joined_by, left, some_released, some_ticked, sync_answer, sync_in, ticked, Ticks}
+use Rattle.kb_coordinator.specs.Calls.{after_heartbeat, after_join, after_may_commit, after_sync, by_group, hung_up, is_accepted, join_code, joined_by, left, room, some_released, some_ticked, sync_answer, sync_in, ticked, Ticks}
 use Rattle.kb_coordinator.specs.Groups as co
 use Rattle.kb_coordinator.specs.Groups.{Groups, first_above, found, silent}
 use Rattle.kb_coordinator.specs.Replies.{join_refusal}
@@ -37,9 +39,9 @@ use Rattle.kb_tenant.specs.declared.node.Node.{Node}
 use Rattle.kb_tenant_api.specs.Replies.{Reaction, Plain, Rebalances, replies}
 use Rattle.kb_tenant_api.specs.declared.answer.Answer.{Answer}
 use Rattle.kb_tenant_api.specs.declared.answer.Answer.TheVariants as answers
-use Rattle.kb_tenant_api.specs.Serve.{AreGroupsAfter, AreGroupsBy, Outcome, if_read, of_groups, of_heartbeat, of_join, of_leave, of_offset_commit, of_sync, of_topics, served, sync_reaction}
+use Rattle.kb_tenant_api.specs.Serve.{AreGroupsAfter, AreGroupsBy, Outcome, if_read, of_describe, of_groups, of_heartbeat, of_join, of_leave, of_list, of_offset_commit, of_sync, of_topics, served, sync_reaction}
 use Rattle.kb_tenant_api.specs.Waiters.{AreServed, AreTicked, IsWaitTold, IsWaitToldBy, given, members_on, once, rebalances, replies_on, waiting, waiting_in}
-use Rattle.kb_tenant_api.proofs.Waiters.{all, dropped_none, dropped_waits, join_waits, leave_waits, sync_known_waits, tick_waits, touched_waits}
+use Rattle.kb_tenant_api.proofs.Waiters.{all, dropped_none, dropped_waits, join_waits, leave_waits, tick_waits, touched_waits, within_waits}
 
 -- 1. One group among the others
 
@@ -99,12 +101,12 @@ join_told w clock n gs r = by (is_accepted (join_code n r gs))
     by false = silent_served n false gs
 
 sync_told : (w : World) (clock n : ℕ) (gs : Groups) (r : SyncGroupRequest) → IsTold n gs (of_sync w clock n gs r)
-sync_told w clock n gs r k = by (found r.group_id gs.groups) (swapped k r.group_id (λ g. (sync_in clock n r g).1.group) gs.groups)
+sync_told w clock n gs r k = by (found r.group_id gs.groups) (swapped k r.group_id (λ g. (sync_in clock n r gs g).1.group) gs.groups)
   where
-    by : (o : Option State) → in_it (λ g. waiting k g.members) o + waiting_in k (co.changed r.group_id (λ g. (sync_in clock n r g).1.group) gs.groups) ≡ waiting_in k gs.groups + in_it (λ g. waiting k (sync_in clock n r g).1.group.members) o
-        → waiting_in k (co.changed r.group_id (λ g. (sync_in clock n r g).1.group) gs.groups) + given k (by_group [] (λ g. (sync_in clock n r g).1.released) o) ≤ waiting_in k gs.groups + once (nat_eq n k && rebalances (sync_reaction (by_group (Refused of.UnknownMemberId) (λ g. (sync_in clock n r g).0) o)))
+    by : (o : Option State) → in_it (λ g. waiting k g.members) o + waiting_in k (co.changed r.group_id (λ g. (sync_in clock n r gs g).1.group) gs.groups) ≡ waiting_in k gs.groups + in_it (λ g. waiting k (sync_in clock n r gs g).1.group.members) o
+        → waiting_in k (co.changed r.group_id (λ g. (sync_in clock n r gs g).1.group) gs.groups) + given k (by_group [] (λ g. (sync_in clock n r gs g).1.released) o) ≤ waiting_in k gs.groups + once (nat_eq n k && rebalances (sync_reaction (by_group (Refused of.UnknownMemberId) (λ g. (sync_in clock n r gs g).0) o)))
     by None s = omega (arith, s)
-    by (Some g) s = omega (arith, s, sync_known_waits k clock n (named r.member_id) r.generation_id (map assigned_to r.assignments) g)
+    by (Some g) s = omega (arith, s, within_waits (room gs g) k clock n (named r.member_id) r.generation_id (map assigned_to r.assignments) g)
 
 leave_told : (w : World) (clock n : ℕ) (gs : Groups) (r : LeaveGroupRequest) → IsTold n gs (of_leave w clock gs r)
 leave_told w clock n gs r k = by (found r.group_id gs.groups) (swapped k r.group_id (λ g. (one.leave clock (named r.member_id) g).group) gs.groups)
@@ -141,12 +143,16 @@ pub served_told : (node : Node) (w : World) (clock : ℕ) (gs : Groups) (n : ℕ
 unfolding served
 served_told node w clock gs n key version body =
     let others : Outcome = of_topics gs (tenant.plainly_served node w clock n key version body) in
+    let lists : Outcome = if_read w gs (whole list_groups_request body) (of_list w gs) in
+    let describes : Outcome = if_read w gs (whole describe_groups_request body) (of_describe w gs) in
     let syncs : Outcome = if_read w gs (whole sync_group_request body) (of_sync w clock n gs) in
     let leaves : Outcome = if_read w gs (whole leave_group_request body) (of_leave w clock gs) in
     let beats : Outcome = if_read w gs (whole heartbeat_request body) (of_heartbeat w clock gs) in
     let joins : Outcome = if_read w gs (whole join_group_request body) (of_join w clock n gs) in
     let commits : Outcome = if_read w gs (whole offset_commit_request body) (of_offset_commit w clock gs) in
-    let from_sync : Outcome = if int_eq key SYNC_GROUP then syncs else others in
+    let from_list : Outcome = if int_eq key LIST_GROUPS then lists else others in
+    let from_describe : Outcome = if int_eq key DESCRIBE_GROUPS then describes else from_list in
+    let from_sync : Outcome = if int_eq key SYNC_GROUP then syncs else from_describe in
     let from_leave : Outcome = if int_eq key LEAVE_GROUP then leaves else from_sync in
     let from_heartbeat : Outcome = if int_eq key HEARTBEAT then beats else from_leave in
     let from_join : Outcome = if int_eq key JOIN_GROUP then joins else from_heartbeat in
@@ -154,7 +160,9 @@ served_told node w clock gs n key version body =
     (either n gs (int_eq key JOIN_GROUP) joins from_heartbeat (read_told w n gs (whole join_group_request body) (of_join w clock n gs) (join_told w clock n gs))
     (either n gs (int_eq key HEARTBEAT) beats from_leave (read_told w n gs (whole heartbeat_request body) (of_heartbeat w clock gs) (heartbeat_told w clock n gs))
     (either n gs (int_eq key LEAVE_GROUP) leaves from_sync (read_told w n gs (whole leave_group_request body) (of_leave w clock gs) (leave_told w clock n gs))
-    (either n gs (int_eq key SYNC_GROUP) syncs others (read_told w n gs (whole sync_group_request body) (of_sync w clock n gs) (sync_told w clock n gs)) (silent_served n false gs)))))
+    (either n gs (int_eq key SYNC_GROUP) syncs from_describe (read_told w n gs (whole sync_group_request body) (of_sync w clock n gs) (sync_told w clock n gs))
+    (either n gs (int_eq key DESCRIBE_GROUPS) describes from_list (read_told w n gs (whole describe_groups_request body) (of_describe w gs) (λ r. silent_served n false gs))
+    (either n gs (int_eq key LIST_GROUPS) lists others (read_told w n gs (whole list_groups_request body) (of_list w gs) (λ r. silent_served n false gs)) (silent_served n false gs)))))))
 
 -- 3. A moment, and a connection that is gone
 

@@ -2,6 +2,7 @@
 use Rattle.std.specs.Prelude.{◌≡◌, ◌⊎◌, ℕ, ℤ, List, Ok}
 use Rattle.kb_wire.specs.Codec.{whole}
 use Rattle.kb_wire.specs.declared.api_key.TheConstants.{OFFSET_COMMIT, JOIN_GROUP, HEARTBEAT, LEAVE_GROUP, SYNC_GROUP}
+use Rattle.kb_api_group.specs.declared.group_key.TheConstants.{DESCRIBE_GROUPS, LIST_GROUPS}
 use Rattle.kb_api_group.specs.Layouts.{offset_commit_reply, offset_commit_request}
 use Rattle.kb_api_group.specs.declared.offset_commit.OffsetCommitReply.{OffsetCommitReply}
 use Rattle.kb_api_group.specs.declared.offset_commit.OffsetCommitRequest.{OffsetCommitRequest}
@@ -36,9 +37,10 @@ abbrev pub AcknowledgesCommits : Type 0 → ℤ → Groups → World → List �
 AcknowledgesCommits failed id gs w body v a =
     (q : OffsetCommitRequest) → whole offset_commit_request body ≡ Ok q → IsPlainly (IsReplied id (TellsCommits failed gs w q v)) a
 
--- the APIs of a group's members
+-- the APIs of a group's members, and of those who look at groups
 abbrev pub IsOfMembers : ℤ → Type 0
-IsOfMembers key = (key ≡ JOIN_GROUP) ⊎ ((key ≡ HEARTBEAT) ⊎ ((key ≡ LEAVE_GROUP) ⊎ (key ≡ SYNC_GROUP)))
+IsOfMembers key = (key ≡ JOIN_GROUP) ⊎ ((key ≡ HEARTBEAT) ⊎ ((key ≡ LEAVE_GROUP) ⊎ ((key ≡ SYNC_GROUP)
+    ⊎ ((key ≡ DESCRIBE_GROUPS) ⊎ (key ≡ LIST_GROUPS)))))
 
 -- The answer is that reaction's, or the connection is shut.
 abbrev pub IsAnswerOrShut : ℤ → Reaction → Answer → Type 0

@@ -7,18 +7,23 @@ use Rattle.kb_wire.specs.declared.fault.ReadFault.{ReadFault}
 use Rattle.kb_wire.specs.declared.fault.ReadFault.TheVariants as faults
 use Rattle.kb_wire.specs.ErrorCode.{code_of}
 use Rattle.kb_wire.specs.declared.api_key.TheConstants.{OFFSET_COMMIT, JOIN_GROUP, HEARTBEAT, LEAVE_GROUP, SYNC_GROUP}
+use Rattle.kb_api_group.specs.declared.group_key.TheConstants.{DESCRIBE_GROUPS, LIST_GROUPS}
+use Rattle.kb_api_group.specs.Layouts.{describe_groups_reply, describe_groups_request, list_groups_reply, list_groups_request}
 use Rattle.kb_api_group.specs.Layouts.{heartbeat_reply, heartbeat_request, join_group_request, leave_group_reply, leave_group_request}
 use Rattle.kb_api_group.specs.Layouts.{offset_commit_reply, offset_commit_request, sync_group_request}
 use Rattle.kb_wire.specs.declared.error_code.ErrorCode.{ErrorCode}
+use Rattle.kb_api_group.specs.declared.describe_groups.DescribeGroupsRequest.{DescribeGroupsRequest}
 use Rattle.kb_api_group.specs.declared.heartbeat.HeartbeatRequest.{HeartbeatRequest}
 use Rattle.kb_api_group.specs.declared.join_group.JoinGroupRequest.{JoinGroupRequest}
 use Rattle.kb_api_group.specs.declared.leave_group.LeaveGroupRequest.{LeaveGroupRequest}
+use Rattle.kb_api_group.specs.declared.list_groups.ListGroupsRequest.{ListGroupsRequest}
 use Rattle.kb_api_group.specs.declared.offset_commit.OffsetCommitRequest.{OffsetCommitRequest}
 use Rattle.kb_api_group.specs.declared.sync_group.SyncGroupRequest.{SyncGroupRequest}
 use Rattle.kb_coordinator.specs.Calls.{after_heartbeat, after_join, after_leave, after_may_commit, after_sync, heartbeat_code, is_accepted}
 use Rattle.kb_coordinator.specs.Calls.{join_code, leave_code, may_commit, sync_answer}
 use Rattle.kb_coordinator.specs.Groups.{Groups, silent}
 use Rattle.kb_coordinator.specs.Replies.{join_refusal, sync_spelled}
+use Rattle.kb_coordinator.specs.Tools.{descriptions, group_list}
 use Rattle.kb_groups.specs.Codes.{number}
 use Rattle.kb_groups.specs.declared.reply.SyncAnswer.{SyncAnswer}
 use Rattle.kb_groups.specs.declared.reply.SyncAnswer.TheVariants as sync
@@ -67,6 +72,15 @@ abbrev pub of_leave : World → ℕ → Groups → LeaveGroupRequest → Outcome
 of_leave w clock gs r =
     of_groups w (after_leave clock r gs) (replies (leave_group_reply.written (record { error_code = number (leave_code r gs) })))
 
+-- ---- DescribeGroups, ListGroups
+
+-- Tools look at the groups, and change none.
+abbrev pub of_describe : World → Groups → DescribeGroupsRequest → Outcome
+of_describe w gs r = of_groups w (silent gs) (replies (describe_groups_reply.written (descriptions gs r)))
+
+abbrev pub of_list : World → Groups → ListGroupsRequest → Outcome
+of_list w gs r = of_groups w (silent gs) (replies (list_groups_reply.written (group_list gs)))
+
 -- ---- OffsetCommit
 
 -- what each entry of a commit is refused for, if its group refuses the member
@@ -105,6 +119,8 @@ served node w clock gs n key version body =
     else if int_eq key HEARTBEAT then if_read w gs (whole heartbeat_request body) (of_heartbeat w clock gs)
     else if int_eq key LEAVE_GROUP then if_read w gs (whole leave_group_request body) (of_leave w clock gs)
     else if int_eq key SYNC_GROUP then if_read w gs (whole sync_group_request body) (of_sync w clock n gs)
+    else if int_eq key DESCRIBE_GROUPS then if_read w gs (whole describe_groups_request body) (of_describe w gs)
+    else if int_eq key LIST_GROUPS then if_read w gs (whole list_groups_request body) (of_list w gs)
     else of_topics gs (tenant.plainly_served node w clock n key version body)
 
 -- whether the last request or moment answered requests that waited

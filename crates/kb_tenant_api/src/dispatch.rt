@@ -15,6 +15,8 @@ use crate::answer::{Answer, Served};
 use crate::commits::commit_offsets;
 use crate::members::{heartbeat, join_group, leave_group, sync_group};
 use crate::replies::is_anyone_released;
+use crate::tools::{describe_groups, list_groups};
+use kb_api_group::group_key;
 use kb_coordinator::Coordinator;
 use kb_log::{PartitionLog, Shelf};
 use kb_store::Store;
@@ -64,6 +66,8 @@ fn serve_by_key<L: PartitionLog + Drop, S: Store>(
         api_key::HEARTBEAT => heartbeat(alloc, groups, clock, request),
         api_key::LEAVE_GROUP => leave_group(alloc, groups, clock, request),
         api_key::SYNC_GROUP => sync_group(alloc, groups, clock, request),
+        group_key::DESCRIBE_GROUPS => describe_groups(alloc, groups, request),
+        group_key::LIST_GROUPS => list_groups(alloc, groups, request),
         _ => {
             groups.silence();
             let served = kb_tenant::serve(alloc, parts, shelf, node, clock, request);

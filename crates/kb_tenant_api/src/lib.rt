@@ -11,6 +11,7 @@ mod dispatch;
 mod members;
 mod promises;
 mod replies;
+mod tools;
 
 pub use answer::{Answer, Served};
 pub use dispatch::serve;

@@ -1,8 +1,6 @@
-use Rattle.std.proofs.Common.{rules, ◌≡◌, ◌∙◌, ◌++◌, [], Ok, sym, ap, refl, subst, to_z, of_z}
-use Rattle.std.specs.Int.{w32}
-use Rattle.kb_api_group.specs.Layouts.{offset_fetch_reply}
+use Rattle.std.proofs.Common.{rules, ◌≡◌, ◌∙◌, ◌++◌, [], Bool, Ok, sym, ap, refl, subst}
 use Rattle.kb_tenant_state.specs.Parts.{world_of}
-use Rattle.kb_tenant.specs.OffsetFetch.{fetched_all}
+use Rattle.kb_tenant.specs.OffsetFetch.{asked_as, asked_offsets, fetched_all, has_code, offsets_as, offsets_in}
 use Rattle.kb_tenant.specs.Replies.{begun}
 use Rattle.kb_tenant.specs.Serve.{if_read, of_offset_fetch, IsServed}
 use Rattle.kb_tenant.proofs.group_offsets.serve_offset_fetch.Goals as goal
@@ -10,7 +8,13 @@ use Rattle.kb_tenant.proofs.group_offsets.serve_offset_fetch.Goals as goal
 pub returns : goal.returns
 returns g c = λ files.
     let w = world_of g.L.PartitionLog.log c.args.parts.now files in
-    let body = offset_fetch_reply.written (fetched_all w c.in_ok-asked.asked) in
-    let id : to_z w32 (of_z w32 c.args.request.now.correlation_id) ≡ c.args.request.now.correlation_id = search rules in
-    subst (λ r. IsServed c.args.request.now.correlation_id (if_read w r (of_offset_fetch w)) w [] (Ok c.finish.result)) (sym c.in_ok-asked.ensures.exact)
-    (refl, refl, c.finish.ensures c.args.request.now.correlation_id body (c.in_ok-offset_fetch.ensures files ∙ ap (λ s. s ++ body) (c.in_ok-sink.ensures ∙ ap begun id)))
+    let id = c.args.request.now.correlation_id in
+    let version = c.args.request.now.api_version in
+    let asked = c.in_ok-asked.asked in
+    let reply = fetched_all w asked in
+    let has : Bool = c.has_code-has_code.result in
+    let same : has ≡ has_code version = search rules in
+    let from : c.in_ok-sink.sink.bytes ≡ begun id = search rules in
+    let read : asked_offsets version c.args.request.now.body.now ≡ Ok asked = ap (λ b. asked_as b c.args.request.now.body.now) (sym same) ∙ c.in_ok-asked.ensures.exact in
+    subst (λ r. IsServed id (if_read w r (of_offset_fetch version w)) w [] (Ok c.finish.result)) (sym read)
+    (refl, refl, c.finish.ensures id (offsets_in version reply) (c.in_ok-offset_fetch.ensures files ∙ ap (λ s. s ++ offsets_as has reply) from ∙ ap (λ b. begun id ++ offsets_as b reply) same))

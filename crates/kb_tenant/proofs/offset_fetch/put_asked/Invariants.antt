@@ -4,11 +4,11 @@ use Rattle.kb_api_group.specs.Layouts.{offset_fetch_topic_reply}
 use Rattle.kb_store.specs.Disk.{Files}
 use Rattle.kb_tenant_state.specs.Parts.{world_of}
 use Rattle.kb_tenant.specs.OffsetFetch.{fetched_topic}
-use Rattle.kb_tenant.proofs.offset_fetch.offset_fetch.Given as goal
+use Rattle.kb_tenant.proofs.offset_fetch.put_asked.Given as goal
 
 -- what was written, and what the rest is still to be answered, is the whole answer
 abbrev pub invariant-loop-topic : goal.invariant-loop-topic
 invariant-loop-topic g l =
     let write = offset_fetch_topic_reply.written in
     (files : Files) → let f = fetched_topic (world_of g.L.PartitionLog.log l.parts files) l.group in
-    l.sink.bytes ++ flat_map write (map f (drop l.topic-index l.request.topics)) ≡ l.initial.sink.bytes ++ flat_map write (map f l.request.topics)
+    l.sink.bytes ++ flat_map write (map f (drop l.topic-index l.topics)) ≡ l.initial.sink.bytes ++ flat_map write (map f l.topics)

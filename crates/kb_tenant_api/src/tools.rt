@@ -1,0 +1,52 @@
+//! The requests of tools that look at a tenant's groups, from their bodies to their replies: DescribeGroups, ListGroups.
+//!
+//! Each forgets the last replies first, and changes no group.
+ghost use Rattle.std.specs.Prelude.{◌≡◌, []};
+ghost use Rattle.kb_api_group.specs.Layouts.{describe_groups_request, list_groups_request};
+ghost use Rattle.kb_coordinator.specs.Groups.{silent};
+ghost use Rattle.kb_wire.specs.Codec.{whole};
+ghost use Rattle.kb_tenant_state.specs.World.{World};
+ghost use Rattle.kb_tenant_api.specs.Serve.{if_read, of_describe, of_list, IsServed};
+
+use crate::answer::Answer;
+use kb_api_group::{DescribeGroupsRequest, ListGroupsRequest};
+use kb_coordinator::Coordinator;
+use kb_tenant::{Request, begin, finish};
+use kb_wire::{Layout, ReadFault};
+use std::alloc::Global;
+
+/// DescribeGroups.
+pub(crate) fn describe_groups(
+    alloc: Global,
+    groups: &mut Coordinator,
+    request: &Request<'_>,
+) -> Result<Answer, ReadFault>
+    ensures served { (w : World)
+        → IsServed request.now.correlation_id (if_read w groups.old (whole describe_groups_request request.now.body.now)
+        (of_describe w groups.old)) w groups.new [] result }
+    ensures groups { groups.new ≡ silent groups.old }
+{
+    groups.silence();
+    let asked = DescribeGroupsRequest::read(alloc, request.body)?;
+    let mut sink = begin(alloc, request.correlation_id)?;
+    groups.put_descriptions(&asked, &mut sink)?;
+    Ok(Answer::Plain(finish(sink)))
+}
+
+/// ListGroups.
+pub(crate) fn list_groups(
+    alloc: Global,
+    groups: &mut Coordinator,
+    request: &Request<'_>,
+) -> Result<Answer, ReadFault>
+    ensures served { (w : World)
+        → IsServed request.now.correlation_id (if_read w groups.old (whole list_groups_request request.now.body.now)
+        (of_list w groups.old)) w groups.new [] result }
+    ensures groups { groups.new ≡ silent groups.old }
+{
+    groups.silence();
+    let _asked = ListGroupsRequest::read(alloc, request.body)?;
+    let mut sink = begin(alloc, request.correlation_id)?;
+    groups.put_list(&mut sink)?;
+    Ok(Answer::Plain(finish(sink)))
+}

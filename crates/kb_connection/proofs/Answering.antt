@@ -15,10 +15,11 @@ use Rattle.kb_tenant_api.specs.Replies as service
 use Rattle.kb_tenant_api.specs.Replies.{Plain, Rebalances}
 use Rattle.kb_tenant_api.specs.declared.answer.Answer.{Answer as AnyAnswer}
 use Rattle.kb_tenant_api.specs.declared.answer.Answer.TheVariants as any
+use Rattle.kb_isolation_spec.specs.declared.shut.Shut.TheVariants as causes
 use Rattle.kb_isolation_spec.specs.declared.head.Head.{Head}
 use Rattle.kb_isolation_spec.specs.Greeting.{Setup}
 use Rattle.kb_isolation_spec.specs.Tenant.{Wait}
-use Rattle.kb_isolation_spec.specs.Session.{Stage, Greets, BoundTo, Session, shut_down, replied, throttled, without_wait, is_free}
+use Rattle.kb_isolation_spec.specs.Session.{Stage, Greets, BoundTo, Session, shut_down, replied, throttled, unanswerable, without_wait, is_free}
 use Rattle.kb_isolation_spec.proofs.Laws.{replied-le}
 use Rattle.kb_isolation_spec.specs.Machine.{Line, after_reaction, plainly, told}
 use Rattle.kb_isolation_spec.proofs.Owners.{stage-replied, stage-shut}
@@ -62,7 +63,7 @@ no-shorter head body = by head.is_throttled
     by false = omega arith
 
 -- its size does not fit
-long_is : (head : Head) (body : List ℕ) (s : Session) → IsAnswer head.correlation_id (Replies body) answers.Shut → shut_down s ≡ replied head body s
+long_is : (head : Head) (body : List ℕ) (s : Session) → IsAnswer head.correlation_id (Replies body) answers.Shut → shut_down (unanswerable head) s ≡ replied head body s
 unfolding replied
 long_is head body s h =
     let longer = no-shorter head body in
@@ -74,7 +75,7 @@ output_replied : (head : Head) (body : List ℕ) (s : Session) → (replied head
 unfolding replied
 output_replied head body s = by (nat_lt 2147483647 (reply_size (throttled head body))) (framed head.correlation_id (throttled head body))
   where
-    by : (t : Bool) (bytes : List ℕ) → (let x : Session = if t then shut_down s else record s { output = s.output ++ bytes } in x).output ≡ s.output ++ (if t then [] else bytes)
+    by : (t : Bool) (bytes : List ℕ) → (let x : Session = if t then shut_down (unanswerable head) s else record s { output = s.output ++ bytes } in x).output ≡ s.output ++ (if t then [] else bytes)
     by true bytes = sym (append-nil s.output)
     by false bytes = refl
 
@@ -153,7 +154,7 @@ unread_parked deadline None s = refl
 unread_parked deadline (Some a) s = refl
 
 pub less_parked : {E : Type 0} (versions : List ApiVersion) (result : Result (Unit {0}) E) (l new : Line) (deadline : Option ℕ) (asked : Option (Head × ℤ × ℤ × List ℕ)) → OnOk result (new ≡ with_session l (parked deadline asked (without_front l.session)))
-    → OnErr result (new ≡ with_session l (shut_down l.session)) → is_tenants_at versions (front l.session.unread) ≡ true → length new.session.unread < length l.session.unread
+    → OnErr result (new ≡ with_session l (shut_down causes.Memory l.session)) → is_tenants_at versions (front l.session.unread) ≡ true → length new.session.unread < length l.session.unread
 less_parked versions (Ok u) l new deadline asked ok err asks = less versions l new asks (omega (arith, ap (λ (x : Line). length x.session.unread) ok, ap length (unread_parked deadline asked (without_front l.session))))
 less_parked versions (Err fault) l new deadline asked ok err asks = less versions l new asks (omega (arith, ap (λ (x : Line). length x.session.unread) err))
 
@@ -170,7 +171,7 @@ stage_given head answers.NoReply s = refl
 stage_given head answers.Shut s = stage-shut s
 
 pub less_given : {E : Type 0} (versions : List ApiVersion) (result : Result (Unit {0}) E) (l m new : Line) (head : Head) (answer : Answer) → m ≡ with_session l (without_front l.session) → OnOk result (new ≡ with_session m (given head answer m.session))
-    → OnErr result (new ≡ with_session m (shut_down m.session)) → is_tenants_at versions (front l.session.unread) ≡ true → length new.session.unread < length l.session.unread
+    → OnErr result (new ≡ with_session m (shut_down causes.Memory m.session)) → is_tenants_at versions (front l.session.unread) ≡ true → length new.session.unread < length l.session.unread
 less_given versions (Ok u) l m new head answer left ok err asks =
     less versions l new asks (omega (arith, ap (λ (x : Line). length x.session.unread) ok, unread_given head answer m.session, ap (λ (x : Line). length x.session.unread) left))
 less_given versions (Err fault) l m new head answer left ok err asks = less versions l new asks (omega (arith, ap (λ (x : Line). length x.session.unread) err))
@@ -184,7 +185,7 @@ free_after head answers.NoReply s free = free
 free_after head answers.Shut s free = free-without s.stage
 
 pub free_given : {E : Type 0} (result : Result (Unit {0}) E) (l m new : Line) (head : Head) (answer : Answer) → m ≡ with_session l (without_front l.session) → OnOk result (new ≡ with_session m (given head answer m.session))
-    → OnErr result (new ≡ with_session m (shut_down m.session)) → is_free l.session.stage ≡ true → is_free new.session.stage ≡ true
+    → OnErr result (new ≡ with_session m (shut_down causes.Memory m.session)) → is_free l.session.stage ≡ true → is_free new.session.stage ≡ true
 free_given (Ok u) l m new head answer left ok err free = ap (λ (x : Line). is_free x.session.stage) ok ∙ free_after head answer m.session (ap (λ (x : Line). is_free x.session.stage) left ∙ free)
 free_given (Err fault) l m new head answer left ok err free = ap (λ (x : Line). is_free x.session.stage) err ∙ free-without m.session.stage
 
@@ -214,7 +215,7 @@ told_is : (head : Head) (reaction : Reaction) (answer : Answer) (s : Session) �
 told_is head reaction (answers.Reply r) s no_reply h = absurd (no_reply r refl)
 told_is head (Replies reply) (answers.Wait d k) s no_reply h = absurd h
 told_is head (Replies reply) answers.NoReply s no_reply h = absurd h
-told_is head (Replies reply) answers.Shut s no_reply h = ap (λ st. record (shut_down s) { stage = st }) (sym (stage-shut s)) ∙ long_is head reply (record s { stage = without_wait s.stage }) h
+told_is head (Replies reply) answers.Shut s no_reply h = ap (λ st. record (shut_down (unanswerable head) s) { stage = st }) (sym (stage-shut s)) ∙ long_is head reply (record s { stage = without_wait s.stage }) h
 told_is head (Waits until places) (answers.Wait d k) s no_reply h = refl
 told_is head (Waits until places) answers.NoReply s no_reply h = absurd h
 told_is head (Waits until places) answers.Shut s no_reply h = absurd h
@@ -297,7 +298,7 @@ puts_told result l m new tenant wait head answer left awaits done waits =
 -- the turn of a request leaves the connection its tenant's
 pub stage_kept : {E : Type 0} (result : Result (Unit {0}) E) (l m new : Line) (head : Head) (answer : Answer)
     → m ≡ with_session l (without_front l.session) → OnOk result (new ≡ with_session m (given head answer m.session))
-    → OnErr result (new ≡ with_session m (shut_down m.session)) → without_wait new.session.stage ≡ without_wait l.session.stage
+    → OnErr result (new ≡ with_session m (shut_down causes.Memory m.session)) → without_wait new.session.stage ≡ without_wait l.session.stage
 stage_kept (Ok u) l m new head answer left ok err =
     ap (λ (x : Line). without_wait x.session.stage) ok ∙ stage_given head answer m.session ∙ ap (λ (x : Line). without_wait x.session.stage) left
 stage_kept (Err fault) l m new head answer left ok err =
@@ -311,7 +312,7 @@ replied_rests : (head : Head) (body : List ℕ) (s : Session) → without_wait s
 unfolding replied
 replied_rests head body s rests = by (nat_lt 2147483647 (reply_size (throttled head body))) (framed head.correlation_id (throttled head body))
   where
-    by : (t : Bool) (bytes : List ℕ) → (let x : Session = if t then shut_down s else record s { output = s.output ++ bytes } in x).stage ≡ s.stage
+    by : (t : Bool) (bytes : List ℕ) → (let x : Session = if t then shut_down (unanswerable head) s else record s { output = s.output ++ bytes } in x).stage ≡ s.stage
     by true bytes = rests
     by false bytes = refl
 
@@ -325,7 +326,7 @@ given_rests head reply s rests = by head.is_throttled
 -- a reply, also one that could not be kept, ends the wait
 pub stage_ended : {E : Type 0} (result : Result (Unit {0}) E) (l m new : Line) (head : Head) (answer : Answer) (reply : Vec ℕ Global)
     → answer ≡ answers.Reply reply → m ≡ with_session l (record l.session { stage = without_wait l.session.stage })
-    → OnOk result (new ≡ with_session m (given head answer m.session)) → OnErr result (new ≡ with_session m (shut_down m.session))
+    → OnOk result (new ≡ with_session m (given head answer m.session)) → OnErr result (new ≡ with_session m (shut_down causes.Memory m.session))
     → new.session.stage ≡ without_wait l.session.stage
 stage_ended (Ok u) l m new head answer reply is left ok err =
     let rests : without_wait m.session.stage ≡ m.session.stage =
@@ -349,7 +350,7 @@ given_loud head answers.Shut s none loud = refl
 
 -- any other answer leaves the wait, or ends it too
 pub stage_told : {E : Type 0} (result : Result (Unit {0}) E) (l m new : Line) (head : Head) (answer : Answer) → IsNoReply answer → m ≡ l
-    → OnOk result (new ≡ with_session m (given head answer m.session)) → OnErr result (new ≡ with_session m (shut_down m.session))
+    → OnOk result (new ≡ with_session m (given head answer m.session)) → OnErr result (new ≡ with_session m (shut_down causes.Memory m.session))
     → (new.session.stage ≡ l.session.stage) ⊎ (new.session.stage ≡ without_wait l.session.stage)
 stage_told (Ok u) l m new head answer none left ok err =
     subst (λ (x : Line). (x.session.stage ≡ l.session.stage) ⊎ (x.session.stage ≡ without_wait l.session.stage))
@@ -358,7 +359,7 @@ stage_told (Err fault) l m new head answer none left ok err =
     inr (ap (λ (x : Line). x.session.stage) err ∙ ap (λ (x : Line). without_wait x.session.stage) left)
 
 pub stage_loud : {E : Type 0} (result : Result (Unit {0}) E) (l m new : Line) (head : Head) (answer : Answer) → IsNoReply answer → m ≡ l
-    → OnOk result (new ≡ with_session m (given head answer m.session)) → OnErr result (new ≡ with_session m (shut_down m.session))
+    → OnOk result (new ≡ with_session m (given head answer m.session)) → OnErr result (new ≡ with_session m (shut_down causes.Memory m.session))
     → is_quiet answer ≡ false → new.session.stage ≡ without_wait l.session.stage
 stage_loud (Ok u) l m new head answer none left ok err loud =
     ap (λ (x : Line). x.session.stage) ok ∙ (given_loud head answer m.session none loud ∙ ap (λ (x : Line). without_wait x.session.stage) left)
@@ -367,7 +368,7 @@ stage_loud (Err fault) l m new head answer none left ok err loud =
 
 -- who was woken has no more unread bytes than before
 pub unread_woken : {E : Type 0} (result : Result (Unit {0}) E) (l m new : Line) (head : Head) (answer : Answer) → m.session.unread ≡ l.session.unread
-    → OnOk result (new ≡ with_session m (given head answer m.session)) → OnErr result (new ≡ with_session m (shut_down m.session))
+    → OnOk result (new ≡ with_session m (given head answer m.session)) → OnErr result (new ≡ with_session m (shut_down causes.Memory m.session))
     → length new.session.unread ≤ length l.session.unread
 unread_woken (Ok u) l m new head answer left ok err =
     omega (arith, ap (λ (x : Line). length x.session.unread) ok, unread_given head answer m.session, ap length left)

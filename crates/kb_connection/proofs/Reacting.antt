@@ -2,8 +2,9 @@
 use Rattle.std.proofs.Common.{◌≡◌, ℕ, List, ◌++◌, true, false, None, Some, refl, sym, ap, ◌∙◌, nat_lt, if◌then◌else◌, Result, Ok, Err, OnOk, codes}
 use Rattle.kb_wire.specs.declared.error_code.ErrorCode.TheVariants as errors
 use Rattle.kb_tenant.specs.Replies.{framed, reply_size}
+use Rattle.kb_isolation_spec.specs.declared.shut.Shut.TheVariants as causes
 use Rattle.kb_isolation_spec.specs.declared.head.Head.{Head}
-use Rattle.kb_isolation_spec.specs.Session.{Stage, Greets, BoundTo, Session, shut_down, replied, throttled, without_wait}
+use Rattle.kb_isolation_spec.specs.Session.{Stage, Greets, BoundTo, Session, shut_down, replied, throttled, without_wait, unanswerable}
 use Rattle.kb_isolation_spec.specs.Greeting.{Setup, handshake_reply, authenticate_reply}
 use Rattle.kb_isolation_spec.specs.Machine.{Line}
 use Rattle.kb_connection.specs.declared.greeting.Greeting.{Greeting}
@@ -16,8 +17,8 @@ use Rattle.kb_connection.specs.Reactions.{reacted}
 staged : (head : Head) (body : List ℕ) (s : Session) (stage : Stage) → without_wait stage ≡ stage → record (replied head body s) { stage = stage } ≡ replied head body (record s { stage = stage })
 unfolding replied
 staged head body s stage free =
-    elim (nat_lt 2147483647 (reply_size (throttled head body))) as (λ t. record (if t then shut_down s else record s { output = s.output ++ framed head.correlation_id (throttled head body) }) { stage = stage } ≡ (if t then shut_down (record s { stage = stage }) else record (record s { stage = stage }) { output = s.output ++ framed head.correlation_id (throttled head body) }))
-    [ true ↦ ap (λ x. record (shut_down s) { stage = x }) (sym free) | false ↦ refl ]
+    elim (nat_lt 2147483647 (reply_size (throttled head body))) as (λ t. record (if t then shut_down (unanswerable head) s else record s { output = s.output ++ framed head.correlation_id (throttled head body) }) { stage = stage } ≡ (if t then shut_down (unanswerable head) (record s { stage = stage }) else record (record s { stage = stage }) { output = s.output ++ framed head.correlation_id (throttled head body) }))
+    [ true ↦ ap (λ x. record (shut_down (unanswerable head) s) { stage = x }) (sym free) | false ↦ refl ]
 
 -- a reply, and then the stage
 restaged : (l new : Line) (head back : Head) (sent body : List ℕ) (stage : Stage) → without_wait stage ≡ stage → back ≡ head → new ≡ with_session l (replied back sent l.session) → sent ≡ body → with_session new (record new.session { stage = stage }) ≡ with_session l (replied head body (record l.session { stage = stage }))
@@ -40,8 +41,8 @@ illegal setup reaction (Ok u) l new head back sent text one is words same done =
     done ∙ ap (λ i. with_session l (replied i sent l.session)) one ∙ ap (λ b. with_session l (replied head b l.session)) (same ∙ ap (λ t. authenticate_reply errors.IllegalSaslState (Some t)) words) ∙ ap (λ r. with_session l (reacted setup r head l.session)) (sym is)
 illegal setup reaction (Err e) l new head back sent text one is words same done = tt
 
-pub denies : (setup : Setup) (reaction : Reaction) (l mid new : Line) (head back : Head) (sent text : List ℕ) → back ≡ head → reaction ≡ reactions.Denies → text ≡ codes "authentication failed" → sent ≡ authenticate_reply errors.SaslAuthenticationFailed (Some text) → mid ≡ with_session l (replied back sent l.session) → new ≡ with_session mid (shut_down mid.session) → new ≡ with_session l (reacted setup reaction head l.session)
+pub denies : (setup : Setup) (reaction : Reaction) (l mid new : Line) (head back : Head) (sent text : List ℕ) → back ≡ head → reaction ≡ reactions.Denies → text ≡ codes "authentication failed" → sent ≡ authenticate_reply errors.SaslAuthenticationFailed (Some text) → mid ≡ with_session l (replied back sent l.session) → new ≡ with_session mid (shut_down causes.Denied mid.session) → new ≡ with_session l (reacted setup reaction head l.session)
 denies setup reaction l mid new head back sent text one is words same done shut =
-    shut ∙ ap (λ (m : Line). with_session m (shut_down m.session)) done
-    ∙ ap (λ i. with_session l (shut_down (replied i sent l.session))) one
-    ∙ ap (λ b. with_session l (shut_down (replied head b l.session))) (same ∙ ap (λ t. authenticate_reply errors.SaslAuthenticationFailed (Some t)) words) ∙ ap (λ r. with_session l (reacted setup r head l.session)) (sym is)
+    shut ∙ ap (λ (m : Line). with_session m (shut_down causes.Denied m.session)) done
+    ∙ ap (λ i. with_session l (shut_down causes.Denied (replied i sent l.session))) one
+    ∙ ap (λ b. with_session l (shut_down causes.Denied (replied head b l.session))) (same ∙ ap (λ t. authenticate_reply errors.SaslAuthenticationFailed (Some t)) words) ∙ ap (λ r. with_session l (reacted setup r head l.session)) (sym is)

@@ -1,10 +1,10 @@
 -- The turn of a connection, by what stands in front of its unread bytes.
-use Rattle.std.proofs.Common.{◌≡◌, ℕ, List, refl, sym, ap, ◌∙◌, Result, Ok, Err, OnOk, IfOk, ◌⊎◌, inl, inr}
+use Rattle.std.proofs.Common.{◌≡◌, ℕ, List, refl, sym, ap, ◌∙◌, Result, Ok, Err, OnOk, IfOk}
 use Rattle.std.specs.declared.alloc.AllocError.{AllocError}
 use Rattle.kb_api_group.specs.Frames.{Front, Whole, Partial, TooSmall, TooLarge, front}
 use Rattle.kb_api_group.specs.FrameStream.{answer, behind}
-use Rattle.kb_api_group.specs.declared.frames.Next.{Next}
 use Rattle.kb_api_group.specs.declared.frames.Next.TheVariants as answers
+use Rattle.kb_isolation_spec.specs.declared.shut.Shut.TheVariants as causes
 use Rattle.kb_isolation_spec.specs.declared.head.Head.{Head}
 use Rattle.kb_isolation_spec.specs.Requests.{request}
 use Rattle.kb_isolation_spec.specs.Session.{Greeting, Session, shut_down}
@@ -39,36 +39,45 @@ serve_more setup kept clock n l unread same e = ap (with_session l) (served_more
 
 -- 2. A bad size: the connection is shut
 
-abbrev pub IsBad : Next → Type 0
-IsBad next = (next ≡ answers.TooSmall) ⊎ (next ≡ answers.TooLarge)
+greeted_short : (setup : Setup) (greeting : Greeting) (s : Session) (f : Front) → answers.TooSmall ≡ answer f → shut_down causes.TooShort s ≡ greeted_at setup greeting s f
+greeted_short setup greeting s (Whole frame rest) e = cc
+greeted_short setup greeting s Partial e = cc
+greeted_short setup greeting s TooSmall e = refl
+greeted_short setup greeting s TooLarge e = cc
 
-greeted_bad : (setup : Setup) (greeting : Greeting) (s : Session) (f : Front) → IsBad (answer f) → shut_down s ≡ greeted_at setup greeting s f
-greeted_bad setup greeting s (Whole frame rest) (inl e) = cc
-greeted_bad setup greeting s (Whole frame rest) (inr e) = cc
-greeted_bad setup greeting s Partial (inl e) = cc
-greeted_bad setup greeting s Partial (inr e) = cc
-greeted_bad setup greeting s TooSmall e = refl
-greeted_bad setup greeting s TooLarge e = refl
+served_short : (setup : Setup) (kept : Kept) (clock n : ℕ) (s : Session) (f : Front) → answers.TooSmall ≡ answer f → shut_down causes.TooShort s ≡ served_at setup kept clock n s f
+served_short setup kept clock n s (Whole frame rest) e = cc
+served_short setup kept clock n s Partial e = cc
+served_short setup kept clock n s TooSmall e = refl
+served_short setup kept clock n s TooLarge e = cc
 
-served_bad : (setup : Setup) (kept : Kept) (clock n : ℕ) (s : Session) (f : Front) → IsBad (answer f) → shut_down s ≡ served_at setup kept clock n s f
-served_bad setup kept clock n s (Whole frame rest) (inl e) = cc
-served_bad setup kept clock n s (Whole frame rest) (inr e) = cc
-served_bad setup kept clock n s Partial (inl e) = cc
-served_bad setup kept clock n s Partial (inr e) = cc
-served_bad setup kept clock n s TooSmall e = refl
-served_bad setup kept clock n s TooLarge e = refl
-
-bad_front : (next : Next) (unread bytes : List ℕ) → unread ≡ bytes → next ≡ answer (front unread) → IsBad next → IsBad (answer (front bytes))
-bad_front next unread bytes same e (inl is) = inl (sym (e ∙ ap (λ b. answer (front b)) same) ∙ is)
-bad_front next unread bytes same e (inr is) = inr (sym (e ∙ ap (λ b. answer (front b)) same) ∙ is)
-
-pub greet_bad : (setup : Setup) (greeting : Greeting) (l new : Line) (next : Next) (unread : List ℕ) → unread ≡ l.session.unread → next ≡ answer (front unread) → IsBad next → new ≡ with_session l (shut_down l.session) → new ≡ with_session l (greeted setup greeting l.session)
+pub greet_short : (setup : Setup) (greeting : Greeting) (l new : Line) (unread : List ℕ) → unread ≡ l.session.unread → answers.TooSmall ≡ answer (front unread) → new ≡ with_session l (shut_down causes.TooShort l.session) → new ≡ with_session l (greeted setup greeting l.session)
 unfolding greeted
-greet_bad setup greeting l new next unread same e bad is = is ∙ ap (with_session l) (greeted_bad setup greeting l.session (front l.session.unread) (bad_front next unread l.session.unread same e bad))
+greet_short setup greeting l new unread same e is = is ∙ ap (with_session l) (greeted_short setup greeting l.session (front l.session.unread) (e ∙ ap (λ bytes. answer (front bytes)) same))
 
-pub serve_bad : (setup : Setup) (kept : Kept) (clock n : ℕ) (l new : Line) (next : Next) (unread : List ℕ) → unread ≡ l.session.unread → next ≡ answer (front unread) → IsBad next → new ≡ with_session l (shut_down l.session) → new ≡ with_session l (after_turn setup kept clock n l.session)
+pub serve_short : (setup : Setup) (kept : Kept) (clock n : ℕ) (l new : Line) (unread : List ℕ) → unread ≡ l.session.unread → answers.TooSmall ≡ answer (front unread) → new ≡ with_session l (shut_down causes.TooShort l.session) → new ≡ with_session l (after_turn setup kept clock n l.session)
 unfolding after_turn
-serve_bad setup kept clock n l new next unread same e bad is = is ∙ ap (with_session l) (served_bad setup kept clock n l.session (front l.session.unread) (bad_front next unread l.session.unread same e bad))
+serve_short setup kept clock n l new unread same e is = is ∙ ap (with_session l) (served_short setup kept clock n l.session (front l.session.unread) (e ∙ ap (λ bytes. answer (front bytes)) same))
+
+greeted_long : (setup : Setup) (greeting : Greeting) (s : Session) (f : Front) → answers.TooLarge ≡ answer f → shut_down causes.TooLong s ≡ greeted_at setup greeting s f
+greeted_long setup greeting s (Whole frame rest) e = cc
+greeted_long setup greeting s Partial e = cc
+greeted_long setup greeting s TooSmall e = cc
+greeted_long setup greeting s TooLarge e = refl
+
+served_long : (setup : Setup) (kept : Kept) (clock n : ℕ) (s : Session) (f : Front) → answers.TooLarge ≡ answer f → shut_down causes.TooLong s ≡ served_at setup kept clock n s f
+served_long setup kept clock n s (Whole frame rest) e = cc
+served_long setup kept clock n s Partial e = cc
+served_long setup kept clock n s TooSmall e = cc
+served_long setup kept clock n s TooLarge e = refl
+
+pub greet_long : (setup : Setup) (greeting : Greeting) (l new : Line) (unread : List ℕ) → unread ≡ l.session.unread → answers.TooLarge ≡ answer (front unread) → new ≡ with_session l (shut_down causes.TooLong l.session) → new ≡ with_session l (greeted setup greeting l.session)
+unfolding greeted
+greet_long setup greeting l new unread same e is = is ∙ ap (with_session l) (greeted_long setup greeting l.session (front l.session.unread) (e ∙ ap (λ bytes. answer (front bytes)) same))
+
+pub serve_long : (setup : Setup) (kept : Kept) (clock n : ℕ) (l new : Line) (unread : List ℕ) → unread ≡ l.session.unread → answers.TooLarge ≡ answer (front unread) → new ≡ with_session l (shut_down causes.TooLong l.session) → new ≡ with_session l (after_turn setup kept clock n l.session)
+unfolding after_turn
+serve_long setup kept clock n l new unread same e is = is ∙ ap (with_session l) (served_long setup kept clock n l.session (front l.session.unread) (e ∙ ap (λ bytes. answer (front bytes)) same))
 
 -- 3. A whole frame is taken: its request is served, or it is PLAIN's message
 

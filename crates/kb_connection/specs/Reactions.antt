@@ -3,6 +3,7 @@ use Rattle.std.specs.Prelude.{None, Some, Result, Ok, Err, codes}
 use Rattle.std.specs.declared.alloc.AllocError.{AllocError}
 use Rattle.kb_wire.specs.declared.error_code.ErrorCode.TheVariants as errors
 use Rattle.kb_isolation_spec.specs.declared.head.Head.{Head}
+use Rattle.kb_isolation_spec.specs.declared.shut.Shut.TheVariants as causes
 use Rattle.kb_isolation_spec.specs.Session.{Greets, BoundTo, Session, shut_down, replied}
 use Rattle.kb_isolation_spec.specs.Greeting.{Setup, versions_reply, handshake_reply, authenticate_reply, illegal_state, bare_login}
 use Rattle.kb_connection.specs.declared.reaction.Reaction.{Reaction}
@@ -19,8 +20,8 @@ reacted setup reactions.IllegalState head s = replied head illegal_state s
 reacted setup (reactions.LogsIn tenant) head s = replied head (authenticate_reply errors.None None) (record s { stage = BoundTo tenant None })
 reacted setup (reactions.LogsInBare tenant) head s = bare_login (Some tenant) s
 reacted setup reactions.Denies head s =
-    shut_down (replied head (authenticate_reply errors.SaslAuthenticationFailed (Some (codes "authentication failed"))) s)
-reacted setup reactions.Shuts head s = shut_down s
+    shut_down causes.Denied (replied head (authenticate_reply errors.SaslAuthenticationFailed (Some (codes "authentication failed"))) s)
+reacted setup (reactions.Shuts cause) head s = shut_down cause s
 
 -- a reaction was worked out, and the fact holds of its head and of it
 abbrev pub IfReacts : Result (Head × Reaction) AllocError → (Head → Reaction → Type 0) → Type 0

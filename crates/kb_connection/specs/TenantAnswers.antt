@@ -7,7 +7,7 @@ use Rattle.kb_tenant_api.specs.declared.answer.Answer.TheVariants as any
 use Rattle.kb_isolation_spec.specs.Tenant.{Awaited, Records, Group, Wait}
 use Rattle.kb_isolation_spec.specs.declared.head.Head.{Head}
 use Rattle.kb_tenant.specs.Replies.{framed, reply_size}
-use Rattle.kb_isolation_spec.specs.Session.{Session, shut_down, replied, throttled, waiting}
+use Rattle.kb_isolation_spec.specs.Session.{Session, shut_down, replied, throttled, unanswerable, waiting}
 
 -- the body of a whole reply: what stands behind its size and its correlation id
 abbrev pub body_of : List ℕ → List ℕ
@@ -22,7 +22,7 @@ abbrev pub given : Head → Answer → Session → Session
 given head (answers.Reply reply) s = given_reply head reply.items s
 given head (answers.Wait deadline keys) s = s
 given head answers.NoReply s = s
-given head answers.Shut s = shut_down s
+given head answers.Shut s = shut_down (unanswerable head) s
 
 -- the bytes of a reply with that body: none where its size does not fit an INT32
 abbrev pub reply_to : Head → List ℕ → List ℕ

@@ -13,13 +13,13 @@ use Rattle.kb_connection.specs.declared.request.Asked.{Asked as Read}
 use Rattle.kb_connection.specs.declared.request.Request.{Request as ReadRequest}
 use Rattle.kb_connection.specs.declared.greeting.Greeting.{Greeting as HowFar}
 use Rattle.kb_connection.specs.declared.greeting.Greeting.TheVariants as greetings
-use Rattle.kb_connection.specs.declared.connection.Phase.{Phase}
-use Rattle.kb_connection.specs.declared.connection.Phase.TheVariants as phases
-use Rattle.kb_connection.specs.declared.connection.Awaited.{Awaited as Awaits}
-use Rattle.kb_connection.specs.declared.connection.Awaited.TheVariants as awaited
-use Rattle.kb_connection.specs.declared.connection.Waiting.{Waiting}
-use Rattle.kb_connection.specs.declared.connection.Stage.{Stage as Held}
-use Rattle.kb_connection.specs.declared.connection.Stage.TheVariants as stages
+use Rattle.kb_connection.specs.declared.stage.Phase.{Phase}
+use Rattle.kb_connection.specs.declared.stage.Phase.TheVariants as phases
+use Rattle.kb_connection.specs.declared.stage.Awaited.{Awaited as Awaits}
+use Rattle.kb_connection.specs.declared.stage.Awaited.TheVariants as awaited
+use Rattle.kb_connection.specs.declared.stage.Waiting.{Waiting}
+use Rattle.kb_connection.specs.declared.stage.Stage.{Stage as Held}
+use Rattle.kb_connection.specs.declared.stage.Stage.TheVariants as stages
 
 -- what a request asks
 abbrev pub asked_of : Read → Asked

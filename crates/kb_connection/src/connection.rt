@@ -2,19 +2,20 @@
 
 ghost use Rattle.std.specs.Prelude.{◌≡◌, ◌<◌, ◌≤◌, ◌^◌, ◌++◌, ℕ, ℤ, List, length, true, false, option_map, IfOk, IfSome, IfNone, OnOk};
 ghost use Rattle.std.specs.Prelude.{OnErr, ◌⊎◌};
+ghost use Rattle.std.specs.Option.{is_some};
 ghost use Rattle.kb_api_group.specs.Frames.{front};
 ghost use Rattle.kb_tenant_api.specs.Hosted.{Kept};
 ghost use Rattle.kb_tenant_api.specs.Replies.{Reaction as Reacts, IsAnswer};
 ghost use Rattle.kb_tenant.specs.Replies as tenant;
 ghost use Rattle.kb_isolation_spec.specs.Session.{Session, Greets, BoundTo, fresh, room, overruns, fed, replied, shut_down, without_wait, waiting};
 ghost use Rattle.kb_isolation_spec.specs.declared.head.Head.{Head};
+ghost use Rattle.kb_isolation_spec.specs.declared.shut.Shut.TheVariants as causes;
 ghost use Rattle.kb_isolation_spec.specs.Tenant.{Wait};
 ghost use Rattle.kb_api_group.specs.declared.api_versions.ApiVersion.{ApiVersion};
 ghost use Rattle.kb_isolation_spec.specs.Session.{has_member, is_free, can};
 ghost use Rattle.kb_isolation_spec.specs.Greeting.{Setup, greeted};
 ghost use Rattle.kb_isolation_spec.specs.Machine.{after_reaction, after_turn, told};
 ghost use Rattle.kb_isolation_spec.specs.Calls.{without_output};
-ghost use Rattle.kb_isolation_spec.specs.Owners.{whose};
 ghost use Rattle.kb_tenant_api.specs.declared.answer.Answer.TheVariants as any;
 ghost use Rattle.kb_connection.specs.TenantAnswers.{given, given_reply, is_quiet, is_wait, wait_for, parked, spoken};
 ghost use Rattle.kb_connection.specs.Fronts.{IsOwn, IsAsked, is_tenants_at, asked_at, head_at};
@@ -26,11 +27,12 @@ use crate::reaction::{Reaction, bound_reaction, greeting_reaction};
 use crate::reply::{
     append_reply, authenticate_body, body_of, handshake_body, throttle_time, versions_body,
 };
-use crate::request::{Asked, Request};
+use crate::request::{Asked, Request, unanswerable};
 use crate::setup::Setup;
+use crate::stage::{Awaited, Phase, Stage, Waiting};
 use crate::version::{NO_HEAD, head_of_frame};
 use kb_api_group::{FrameFeed, Next};
-use kb_isolation_spec::Head;
+use kb_isolation_spec::{Head, Shut};
 use kb_tenant_api::Answer;
 use kb_wire::{ErrorCode, Text};
 use std::alloc::{AllocError, Global};
@@ -46,63 +48,6 @@ const REPLY_LIMIT: usize = 2_147_483_647;
 /// A frame of no bytes, which is a size of 0.
 const EMPTY_FRAME: [u8; 4] = [0, 0, 0, 0];
 
-/// How far a connection is.
-#[derive(Clone, Copy, Debug, PartialEq, Eq)]
-pub enum Phase {
-    /// It greets, and is so far with that.
-    Greets(Greeting),
-    /// It is bound to a tenant, whose place this is.
-    Bound(usize),
-}
-
-impl Phase {
-    /// The tenant that it is bound to.
-    pub fn tenant(self) -> Option<usize>
-        ensures { result ≡ whose (stage_of self) }
-    {
-        match self {
-            Phase::Greets(_) => None,
-            Phase::Bound(tenant) => Some(tenant),
-        }
-    }
-}
-
-/// What a request waits for.
-#[derive(Drop)]
-pub enum Awaited {
-    /// The records that it asks for: a fetch.
-    Records {
-        /// The version of the fetch.
-        api_version: i16,
-        /// The body of the fetch, behind its header.
-        body: Vec<u8>,
-        /// The moment after which it waits no longer, in milliseconds.
-        deadline: u64,
-    },
-    /// The answer of its group, without a deadline: a join or a sync.
-    Group,
-}
-
-/// A request that waits for its answer.
-#[derive(Drop)]
-pub struct Waiting {
-    /// What is kept of it for its reply.
-    pub head: Head,
-    /// What it waits for.
-    pub awaited: Awaited,
-}
-
-/// How far a connection is, and what it waits for.
-#[derive(Drop)]
-enum Stage {
-    /// It greets, and is so far with that.
-    Greets(Greeting),
-    /// It is bound to a tenant, whose place this is.
-    Bound(usize),
-    /// It is bound to a tenant, and waits for the answer to a request.
-    Waits(usize, Waiting),
-}
-
 /// A connection. A clause sees its number and its session.
 #[derive(Drop)]
 pub struct Connection {
@@ -110,10 +55,11 @@ pub struct Connection {
     stage: Stage,
     unread: FrameFeed,
     output: Vec<u8>,
-    shut: bool,
+    shut: Option<Shut>,
 }
 
 impl Model for Connection {
+    ghost use Rattle.std.specs.Option.{is_some};
     ghost use Rattle.kb_isolation_spec.specs.Machine.{Line};
     ghost use Rattle.kb_connection.specs.View.{stage_with_wait, IsLimited};
 
@@ -121,10 +67,10 @@ impl Model for Connection {
 
     ghost view = { λ c. record {
       number = c.number;
-      session = record { stage = stage_with_wait c.stage; unread = c.unread; output = c.output.items; shut = c.shut };
+      session = record { stage = stage_with_wait c.stage; unread = c.unread; output = c.output.items; shut = is_some c.shut; why = c.shut };
     } };
 
-    ghost invariant = { λ c. IsLimited c.unread (stage_with_wait c.stage) c.shut };
+    ghost invariant = { λ c. IsLimited c.unread (stage_with_wait c.stage) (is_some c.shut) };
 }
 
 impl Connection {
@@ -137,7 +83,7 @@ impl Connection {
             stage: Stage::Greets(Greeting::Unshaken),
             unread: FrameFeed::new(alloc),
             output: Vec::new(alloc),
-            shut: false,
+            shut: None,
         }
     }
 
@@ -183,6 +129,14 @@ impl Connection {
     pub fn is_shut(&self) -> bool
         ensures { result ≡ self.now.session.shut }
     {
+        self.shut.is_some()
+    }
+
+    /// Why the broker shut it, if it did.
+    pub fn why(&self) -> Option<Shut>
+        ensures is { result ≡ self.now.session.why }
+        ensures tied { self.now.session.shut ≡ is_some self.now.session.why }
+    {
         self.shut
     }
 
@@ -190,7 +144,7 @@ impl Connection {
     pub fn speaks(&self) -> bool
         ensures { result ≡ speaks self.now.session }
     {
-        !self.output.is_empty() || self.shut
+        !self.output.is_empty() || self.is_shut()
     }
 
     /// How many more bytes it takes.
@@ -205,7 +159,7 @@ impl Connection {
     pub fn overruns(&self, piece: &[u8]) -> bool
         ensures { result ≡ overruns piece.now self.now.session }
     {
-        !self.shut && self.room() < piece.len()
+        !self.is_shut() && self.room() < piece.len()
     }
 
     /// Whether it can take a turn: it waits for nothing, and a whole request or a bad size stands in front.
@@ -232,13 +186,13 @@ impl Connection {
         output
     }
 
-    /// Shuts it: unread bytes are dropped, and what it waits for; untaken output stays.
-    pub fn shut_down(&mut self)
-        ensures { self.new ≡ with_session self.old (shut_down self.old.session) }
+    /// Shuts it, for that cause: unread bytes are dropped, and what it waits for; untaken output stays.
+    pub fn shut_down(&mut self, cause: Shut)
+        ensures { self.new ≡ with_session self.old (shut_down cause self.old.session) }
     {
         self.stop_waiting(); // its request gets no answer
         self.unread.clear();
-        self.shut = true;
+        self.shut = Some(cause);
     }
 
     /// Waits for nothing.
@@ -261,18 +215,18 @@ impl Connection {
     #[tactic(auto, unfolding(kb_isolation_spec::specs::Session::fed))]
     pub fn feed(&mut self, piece: &[u8]) -> Result<(), AllocError>
         ensures ok { OnOk result (self.new ≡ with_session self.old (fed piece.now self.old.session)) }
-        ensures err { OnErr result (self.new ≡ with_session self.old (shut_down self.old.session)) }
+        ensures err { OnErr result (self.new ≡ with_session self.old (shut_down causes.Memory self.old.session)) }
     {
-        if self.shut {
+        if self.is_shut() {
             return Ok(());
         }
         if self.overruns(piece) {
-            self.shut_down();
+            self.shut_down(Shut::Overrun);
             return Ok(());
         }
         let kept = self.unread.push(piece);
         if kept.is_err() {
-            self.shut_down();
+            self.shut_down(Shut::Memory);
         }
         kept
     }
@@ -287,12 +241,16 @@ impl Connection {
     ) -> Result<(), AllocError>
         requires { self.old.session.stage ≡ Greets (greeting_of greeting) }
         ensures ok { OnOk result (self.new ≡ with_session self.old (greeted setup.now (greeting_of greeting) self.old.session)) }
-        ensures err { OnErr result (self.new ≡ with_session self.old (shut_down self.old.session)) }
+        ensures err { OnErr result (self.new ≡ with_session self.old (shut_down causes.Memory self.old.session)) }
     {
         match self.unread.next() {
             Next::More => Ok(()),
-            Next::TooSmall | Next::TooLarge => {
-                self.shut_down();
+            Next::TooSmall => {
+                self.shut_down(Shut::TooShort);
+                Ok(())
+            }
+            Next::TooLarge => {
+                self.shut_down(Shut::TooLong);
                 Ok(())
             }
             Next::Frame(frame) => {
@@ -346,7 +304,7 @@ impl Connection {
         ensures ok { (key version : ℤ) (head : Head) (body : List ℕ) (reaction : Reacts)
             → IsAsked setup.now self.old.session key version head body → IsAnswer head.correlation_id reaction answer → OnOk result
             (self.new ≡ with_session self.old (after_reaction reaction head version body (without_front self.old.session))) }
-        ensures err { OnErr result (self.new ≡ with_session self.old (shut_down self.old.session)) }
+        ensures err { OnErr result (self.new ≡ with_session self.old (shut_down causes.Memory self.old.session)) }
         // whatever the answer is, also where a refusal spoiled it
         ensures output { (key version : ℤ) (head : Head) (body : List ℕ) → IsAsked setup.now self.old.session key version head body
             → OnOk result (self.new.session.output ≡ self.old.session.output ++ spoken head answer) }
@@ -376,7 +334,7 @@ impl Connection {
         ensures ok { (t : ℕ) (wait : Wait) (reaction : tenant.Reaction) → self.old.session.stage ≡ BoundTo t (Some wait)
             → tenant.IsAnswer wait.head.correlation_id reaction answer
             → OnOk result (self.new ≡ with_session self.old (told reaction wait.head self.old.session)) }
-        ensures err { OnErr result (self.new ≡ with_session self.old (shut_down self.old.session)) }
+        ensures err { OnErr result (self.new ≡ with_session self.old (shut_down causes.Memory self.old.session)) }
         // whatever the answer is, also where a refusal spoiled it
         ensures output { (t : ℕ) (wait : Wait) → self.old.session.stage ≡ BoundTo t (Some wait)
             → OnOk result (self.new.session.output ≡ self.old.session.output ++ spoken wait.head (any.Plain answer)) }
@@ -424,7 +382,7 @@ impl Connection {
     ) -> Result<(), AllocError>
         ensures ok { OnOk result (self.new ≡ with_session self.old
             (parked deadline (asked_at setup.now.versions (front self.old.session.unread)) (without_front self.old.session))) }
-        ensures err { OnErr result (self.new ≡ with_session self.old (shut_down self.old.session)) }
+        ensures err { OnErr result (self.new ≡ with_session self.old (shut_down causes.Memory self.old.session)) }
     {
         let request = self.request_in_front(alloc, setup, deadline);
         self.skip();
@@ -435,7 +393,7 @@ impl Connection {
             }
             Ok(None) => Ok(()),
             Err(e) => {
-                self.shut_down();
+                self.shut_down(Shut::Memory);
                 Err(e)
             }
         }
@@ -483,19 +441,19 @@ impl Connection {
     /// Does what an answer to the request of that head says, but for a wait. Where memory is refused it is shut.
     fn give(&mut self, head: Head, answer: kb_tenant::Answer) -> Result<(), AllocError>
         ensures ok { OnOk result (self.new ≡ with_session self.old (given head answer self.old.session)) }
-        ensures err { OnErr result (self.new ≡ with_session self.old (shut_down self.old.session)) }
+        ensures err { OnErr result (self.new ≡ with_session self.old (shut_down causes.Memory self.old.session)) }
         ensures same { is_quiet answer ≡ true → self.new ≡ self.old }
     {
         match answer {
             kb_tenant::Answer::Reply(reply) => {
                 let sent = self.send(head, reply);
                 if sent.is_err() {
-                    self.shut_down();
+                    self.shut_down(Shut::Memory);
                 }
                 sent
             }
             kb_tenant::Answer::Shut => {
-                self.shut_down();
+                self.shut_down(unanswerable(head));
                 Ok(())
             }
             kb_tenant::Answer::NoReply | kb_tenant::Answer::Wait { .. } => Ok(()),
@@ -524,12 +482,16 @@ impl Connection {
         requires { IsOwn setup.now self.old.session }
         ensures ok { (kept : Kept) (clock n : ℕ)
             → OnOk result (self.new ≡ with_session self.old (after_turn setup.now kept clock n self.old.session)) }
-        ensures err { OnErr result (self.new ≡ with_session self.old (shut_down self.old.session)) }
+        ensures err { OnErr result (self.new ≡ with_session self.old (shut_down causes.Memory self.old.session)) }
     {
         match self.unread.next() {
             Next::More => Ok(()),
-            Next::TooSmall | Next::TooLarge => {
-                self.shut_down();
+            Next::TooSmall => {
+                self.shut_down(Shut::TooShort);
+                Ok(())
+            }
+            Next::TooLarge => {
+                self.shut_down(Shut::TooLong);
                 Ok(())
             }
             Next::Frame(frame) => {
@@ -548,7 +510,7 @@ impl Connection {
     ) -> Result<(), AllocError>
         ensures ok { OnOk result (IfReacts reaction (λ head what.
             self.new ≡ with_session self.old (reacted setup.now what head (without_front self.old.session)))) }
-        ensures err { OnErr result (self.new ≡ with_session self.old (shut_down self.old.session)) }
+        ensures err { OnErr result (self.new ≡ with_session self.old (shut_down causes.Memory self.old.session)) }
     {
         self.skip(); // the reaction keeps nothing of it
         let done = match reaction {
@@ -556,7 +518,7 @@ impl Connection {
             Err(e) => Err(e),
         };
         if done.is_err() {
-            self.shut_down();
+            self.shut_down(Shut::Memory);
         }
         done
     }
@@ -611,11 +573,11 @@ impl Connection {
                     Some(text),
                 )?;
                 self.reply(head, &body)?;
-                self.shut_down();
+                self.shut_down(Shut::Denied);
                 Ok(())
             }
-            Reaction::Shuts => {
-                self.shut_down();
+            Reaction::Shuts(cause) => {
+                self.shut_down(cause);
                 Ok(())
             }
         }
@@ -629,7 +591,7 @@ impl Connection {
         ensures err { OnErr result (self.new ≡ self.old) }
     {
         if body.len() > REPLY_LIMIT - 4 - throttle_time(head).len() {
-            self.shut_down();
+            self.shut_down(unanswerable(head));
             return Ok(());
         }
         append_reply(&mut self.output, head, body)

@@ -15,8 +15,10 @@ mod reaction;
 mod reply;
 mod request;
 mod setup;
+mod stage;
 mod version;
 
-pub use connection::{Awaited, Connection, Phase, Waiting};
+pub use connection::Connection;
 pub use greeting::Greeting;
 pub use setup::{Login, Setup};
+pub use stage::{Awaited, Phase, Waiting};

@@ -4,7 +4,7 @@ ghost use Rattle.std.specs.Prelude.{◌≡◌, ℕ, IfOk, false};
 ghost use Rattle.kb_isolation_spec.specs.declared.head.Head.{Head};
 ghost use Rattle.kb_isolation_spec.specs.Session.{Session};
 ghost use Rattle.kb_tenant_api.specs.Hosted.{Kept};
-ghost use Rattle.kb_isolation_spec.specs.Greeting.{Setup, bare_login, greeted_by, greeted_frame, login};
+ghost use Rattle.kb_isolation_spec.specs.Greeting.{bare_login, greeted_by, greeted_frame, login};
 ghost use Rattle.kb_isolation_spec.specs.Requests.{request};
 ghost use Rattle.kb_isolation_spec.specs.Machine.{served_by};
 ghost use Rattle.kb_connection.specs.Fronts.{is_tenants};
@@ -12,10 +12,10 @@ ghost use Rattle.kb_connection.specs.View.{asked_of, greeting_of};
 ghost use Rattle.kb_connection.specs.Reactions.{reacted};
 
 use crate::greeting::Greeting;
-use crate::request::{Asked, Request};
+use crate::request::{Asked, Request, unserved};
 use crate::setup::Setup;
 use crate::version::NO_HEAD;
-use kb_isolation_spec::Head;
+use kb_isolation_spec::{Head, Shut};
 use kb_wire::ErrorCode;
 use std::alloc::{AllocError, Global};
 
@@ -36,16 +36,15 @@ pub enum Reaction {
     LogsInBare(usize),
     /// The login is answered with a refusal, and the connection is shut.
     Denies,
-    /// The connection is shut without a reply.
-    Shuts,
+    /// The connection is shut without a reply, for that cause.
+    Shuts(Shut),
 }
 
 impl Reaction {
     /// What a request of a greeting connection comes to (Kafka protocol guide, "SASL Authentication Sequence").
     #[tactic(auto, unfolding(kb_isolation_spec::specs::Greeting::greeted_by))]
-    pub fn greeting(setup: &Setup, handshaken: bool, asked: &Asked<'_>) -> Reaction
-        ensures { (head : Head) (s : Session)
-            → reacted setup.now result head s ≡ greeted_by setup.now handshaken head (asked_of asked.now) s }
+    pub fn greeting(setup: &Setup, handshaken: bool, head: Head, asked: &Asked<'_>) -> Reaction
+        ensures { (s : Session) → reacted setup.now result head s ≡ greeted_by setup.now handshaken head (asked_of asked.now) s }
     {
         match asked {
             Asked::Versions => Reaction::Versions(ErrorCode::None),
@@ -59,7 +58,11 @@ impl Reaction {
                 Some(tenant) => Reaction::LogsIn(tenant),
                 None => Reaction::Denies,
             },
-            Asked::Another { .. } | Asked::Malformed => Reaction::Shuts,
+            Asked::Another { .. } => Reaction::Shuts(Shut::NotLoggedIn {
+                api_key: head.api_key,
+                api_version: head.api_version,
+            }),
+            Asked::Malformed => Reaction::Shuts(unserved(setup.versions().as_slice(), head)),
         }
     }
 
@@ -69,22 +72,24 @@ impl Reaction {
     {
         match setup.login(message) {
             Some(tenant) => Reaction::LogsInBare(tenant),
-            None => Reaction::Shuts,
+            None => Reaction::Shuts(Shut::Denied),
         }
     }
 
     /// What a request of a bound connection comes to that is no request of its tenant.
     #[tactic(auto, unfolding(kb_isolation_spec::specs::Machine::served_by))]
-    pub fn bound(asked: &Asked<'_>) -> Reaction
-        ensures { is_tenants (asked_of asked.now) ≡ false → (setup : Setup) (kept : Kept) (clock n : ℕ) (head : Head) (s : Session)
-            → reacted setup result head s ≡ served_by setup kept clock n head (asked_of asked.now) s }
+    pub fn bound(setup: &Setup, head: Head, asked: &Asked<'_>) -> Reaction
+        ensures { is_tenants (asked_of asked.now) ≡ false → (kept : Kept) (clock n : ℕ) (s : Session)
+            → reacted setup.now result head s ≡ served_by setup.now kept clock n head (asked_of asked.now) s }
     {
         match asked {
             Asked::Versions => Reaction::Versions(ErrorCode::None),
             Asked::OtherVersions => Reaction::Versions(ErrorCode::UnsupportedVersion),
             Asked::Handshake { .. } => Reaction::Handshake(ErrorCode::IllegalSaslState),
             Asked::Authenticate(_) => Reaction::IllegalState,
-            Asked::Another { .. } | Asked::Malformed => Reaction::Shuts,
+            Asked::Another { .. } | Asked::Malformed => {
+                Reaction::Shuts(unserved(setup.versions().as_slice(), head))
+            }
         }
     }
 }
@@ -106,7 +111,7 @@ pub fn greeting_reaction(
     let handshaken = greeting == Greeting::Shaken;
     Ok((
         request.head,
-        Reaction::greeting(setup, handshaken, &request.asked),
+        Reaction::greeting(setup, handshaken, request.head, &request.asked),
     ))
 }
 
@@ -122,5 +127,8 @@ pub fn bound_reaction(
         → reacted setup.now done.1 done.0 s ≡ served_by setup.now kept clock n r.head r.asked s) }
 {
     let request = Request::read(alloc, setup.versions().as_slice(), frame)?;
-    Ok((request.head, Reaction::bound(&request.asked)))
+    Ok((
+        request.head,
+        Reaction::bound(setup, request.head, &request.asked),
+    ))
 }

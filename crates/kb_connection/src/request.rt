@@ -2,7 +2,8 @@
 
 ghost use Rattle.std.specs.Prelude.{◌≡◌, IfOk};
 ghost use Rattle.kb_api_group.specs.Layouts.{request_header};
-ghost use Rattle.kb_isolation_spec.specs.Requests.{request, asked_by, asked_behind, is_served};
+ghost use Rattle.kb_isolation_spec.specs.Requests.{request, asked_by, asked_behind, is_served, unserved};
+ghost use Rattle.kb_isolation_spec.specs.Session.{unanswerable};
 ghost use Rattle.kb_connection.specs.View.{asked_of, request_of, Reads};
 
 use crate::version::{NO_HEAD, base_of, head_of};
@@ -10,7 +11,7 @@ use kb_api_group::{
     ApiVersion, ApiVersionsRequest, RequestHeader, RequestStart, SaslAuthenticateRequest,
     SaslHandshakeRequest,
 };
-use kb_isolation_spec::Head;
+use kb_isolation_spec::{Head, Shut};
 use kb_wire::{Blob, Layout, ReadFault, Text, api_key};
 use std::alloc::{AllocError, Global};
 
@@ -129,4 +130,27 @@ fn is_served(versions: &[ApiVersion], key: i16, version: i16) -> bool
     versions.iter().any(|entry| entry.api_key == key
         && entry.min_version <= version
         && version <= entry.max_version)
+}
+
+/// Why the connection of a request of that head is shut whose bytes match nothing that is served.
+pub fn unserved(versions: &[ApiVersion], head: Head) -> Shut
+    ensures { result ≡ unserved versions.now head }
+{
+    if is_served(versions, head.api_key, head.api_version) {
+        return unanswerable(head);
+    }
+    Shut::NotServed {
+        api_key: head.api_key,
+        api_version: head.api_version,
+    }
+}
+
+/// Why the connection of a request of that head is shut which gets no reply.
+pub fn unanswerable(head: Head) -> Shut
+    ensures { result ≡ unanswerable head }
+{
+    Shut::Unanswerable {
+        api_key: head.api_key,
+        api_version: head.api_version,
+    }
 }

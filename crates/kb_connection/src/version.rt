@@ -5,14 +5,16 @@ ghost use Rattle.kb_api_group.specs.declared.api_versions.ApiVersion.{ApiVersion
 ghost use Rattle.kb_isolation_spec.specs.Requests.{request};
 ghost use Rattle.kb_isolation_spec.specs.Versions.{base_among, base_of, head_of, is_among};
 
-use kb_api_group::RequestStart;
+use kb_api_group::{RequestStart, group_key};
 use kb_isolation_spec::{Base, Head};
 use kb_wire::api_key;
 
-/// Where no number of a request was read.
+/// Where nothing of a request was read.
 pub const NO_HEAD: Head = Head {
     correlation_id: 0,
     is_throttled: false,
+    api_key: 0,
+    api_version: 0,
 };
 
 /// Versions of an API: its key, the least and the greatest of them, the version that they are laid out as, and whether their reply has a
@@ -20,14 +22,17 @@ pub const NO_HEAD: Head = Head {
 type Newer = (i16, i16, i16, i16, bool);
 
 /// The versions that are laid out as an earlier one that is served (Kafka protocol guide, "The Messages").
-const NEWER: [Newer; 11] = [
+const NEWER: [Newer; 14] = [
     (api_key::PRODUCE, 4, 4, 3, false),
     (api_key::FETCH, 6, 6, 5, false),
     (api_key::OFFSET_COMMIT, 3, 4, 2, true),
     (api_key::JOIN_GROUP, 2, 3, 1, true),
+    (api_key::OFFSET_FETCH, 3, 4, 2, true),
     (api_key::HEARTBEAT, 1, 2, 0, true),
     (api_key::LEAVE_GROUP, 1, 2, 0, true),
     (api_key::SYNC_GROUP, 1, 2, 0, true),
+    (group_key::DESCRIBE_GROUPS, 1, 2, 0, true),
+    (group_key::LIST_GROUPS, 1, 2, 0, true),
     (api_key::CREATE_TOPICS, 2, 3, 1, true),
     (api_key::DELETE_TOPICS, 2, 3, 1, false),
     (api_key::DELETE_RECORDS, 1, 1, 0, false),
@@ -84,6 +89,8 @@ pub fn head_of(start: &RequestStart) -> Head
     Head {
         correlation_id: start.correlation_id,
         is_throttled: base_of(start.api_key, start.api_version).is_throttled,
+        api_key: start.api_key,
+        api_version: start.api_version,
     }
 }
 

@@ -9,6 +9,7 @@ use Rattle.kb_tenant_api.specs.Hosted as hosted
 use Rattle.kb_tenant_api.specs.Hosted.{TenantState}
 use Rattle.kb_tenant_api.specs.Turns.{IsTurn}
 use Rattle.kb_tenant.specs.Replies.{Silent}
+use Rattle.kb_isolation_spec.specs.declared.shut.Shut.TheVariants as causes
 use Rattle.kb_isolation_spec.specs.Tenant.{Wait, ready}
 use Rattle.kb_isolation_spec.specs.Session.{Greeting, has_member, Stage, Greets, BoundTo, Session, fed, room, overruns, shut_down, without_wait, can}
 use Rattle.kb_isolation_spec.specs.Greeting.{Setup}
@@ -100,7 +101,7 @@ unready-fed : (P : ℕ → Wait → Type 0) (b : BrokerState) (n : ℕ) (piece :
 unfolding fed
 unready-fed P b n piece s u = by s.shut (nat_lt (room s) (length piece))
   where
-    by : (x y : Bool) → IsUnready P b n (let r : Session = cond x s (cond y (shut_down s) (record s { unread = s.unread ++ piece })) in r).stage
+    by : (x y : Bool) → IsUnready P b n (let r : Session = cond x s (cond y (shut_down causes.Overrun s) (record s { unread = s.unread ++ piece })) in r).stage
     by true y = u
     by false true = shut-unready P b n s
     by false false = u
@@ -144,7 +145,7 @@ fed-kept b i l m piece ts s settled at n e is = subst (λ xs. IsFed l.number pie
         }
 
 -- a greeting connection's piece could not be kept
-pub fed-refused : (b : BrokerState) (i : ℕ) (l m : Line) (piece : List ℕ) (h : Greeting) (x : ℕ) → IsSound b → first_able b.lines ≡ None → IsAt b.lines i l → l.session.stage ≡ Greets h → m.number ≡ l.number → m.session ≡ shut_down l.session → b.unbound_refusals ≤ x → (IsCalm b.unbound_refusals x → ⊥) →
+pub fed-refused : (b : BrokerState) (i : ℕ) (l m : Line) (piece : List ℕ) (h : Greeting) (x : ℕ) → IsSound b → first_able b.lines ≡ None → IsAt b.lines i l → l.session.stage ≡ Greets h → m.number ≡ l.number → m.session ≡ shut_down causes.Memory l.session → b.unbound_refusals ≤ x → (IsCalm b.unbound_refusals x → ⊥) →
     IsFed l.number piece b (changed b i m b.tenants x)
 fed-refused b i l m piece h x s settled at g n e up rises =
     let same : without_wait m.session.stage ≡ without_wait l.session.stage = ap (λ (x : Session). without_wait x.stage) e ∙ stage-shut l.session in
@@ -167,7 +168,7 @@ view-hidden w mine n f piece ls m e none =
     ap (λ x. turns (with_lines w x)) (those-on_other mine n f ls m ∙ sym e) ∙ (turns-none w (ap first_able e ∙ none-those mine ls none) ∙ sym (ap (λ y. stepped y (Comes n piece) w) m))
 
 -- a bound connection's piece could not be kept: a refusal is counted for its tenant, whatever it keeps then, as long as nothing becomes ready
-pub fed-loud : (b : BrokerState) (i u : ℕ) (l m : Line) (piece : List ℕ) (w : Option Wait) (H : Type 0) (ts : List TenantState) → IsSound b → first_able b.lines ≡ None → IsAt b.lines i l → l.session.stage ≡ BoundTo u w → m.number ≡ l.number → m.session ≡ shut_down l.session →
+pub fed-loud : (b : BrokerState) (i u : ℕ) (l m : Line) (piece : List ℕ) (w : Option Wait) (H : Type 0) (ts : List TenantState) → IsSound b → first_able b.lines ≡ None → IsAt b.lines i l → l.session.stage ≡ BoundTo u w → m.number ≡ l.number → m.session ≡ shut_down causes.Memory l.session →
     IsTurn u H b.tenants ts → H → ((t k : ℕ) (w : Wait) → ready (kept_of b t) b.clock k w ≡ Silent → ready (hosted.kept_of ts t) b.clock k w ≡ Silent) → (IsCalm (count b.tenants u) (count ts u) → ⊥) → (NoneStranded b → NoneStranded (changed b i m ts b.unbound_refusals)) → IsFed l.number piece b (changed b i m ts b.unbound_refusals)
 fed-loud b i u l m piece w H ts s settled at g n e turn honest quiet loud held =
     let p : IsBound u l.session = record { wait = w; is = g } in
@@ -196,7 +197,7 @@ fed-loud b i u l m piece w H ts s settled at g n e turn honest quiet loud held =
     }
 
 -- or its tenant keeps what it kept
-pub fed-bound : (b : BrokerState) (i u : ℕ) (l m : Line) (piece : List ℕ) (w : Option Wait) (H : Type 0) (ts : List TenantState) → IsSound b → first_able b.lines ≡ None → IsAt b.lines i l → l.session.stage ≡ BoundTo u w → m.number ≡ l.number → m.session ≡ shut_down l.session →
+pub fed-bound : (b : BrokerState) (i u : ℕ) (l m : Line) (piece : List ℕ) (w : Option Wait) (H : Type 0) (ts : List TenantState) → IsSound b → first_able b.lines ≡ None → IsAt b.lines i l → l.session.stage ≡ BoundTo u w → m.number ≡ l.number → m.session ≡ shut_down causes.Memory l.session →
     IsTurn u H b.tenants ts → H → ((t : ℕ) → hosted.kept_of ts t ≡ kept_of b t) → (IsCalm (count b.tenants u) (count ts u) → ⊥) → (NoneStranded b → NoneStranded (changed b i m ts b.unbound_refusals)) → IsFed l.number piece b (changed b i m ts b.unbound_refusals)
 fed-bound b i u l m piece w H ts s settled at g n e turn honest stays loud held =
     fed-loud b i u l m piece w H ts s settled at g n e turn honest (λ t k x silent. ap (λ kept. ready kept b.clock k x) (stays t) ∙ silent) loud held
@@ -246,7 +247,7 @@ fed-nothing : (s : Session) → fed [] s ≡ s
 unfolding fed
 fed-nothing s = by s s.shut refl
   where
-    by : (s : Session) (b : Bool) → s.shut ≡ b → cond s.shut s (cond (nat_lt (room s) 0) (shut_down s) (record s { unread = s.unread ++ [] })) ≡ s
+    by : (s : Session) (b : Bool) → s.shut ≡ b → cond s.shut s (cond (nat_lt (room s) 0) (shut_down causes.Overrun s) (record s { unread = s.unread ++ [] })) ≡ s
     by s true e = grind (arith, nat_tests, e)
     by s false e = let f = append-nil s.unread in let no : nat_lt (room s) 0 ≡ false = grind (arith, nat_tests) in rw (e, no) (ap (λ u. record s { unread = u; shut = false }) f)
 

@@ -173,7 +173,7 @@ run-lone n last (Closes m ∷ es) w s le r c d = by (eqb m n) refl (run-lone n l
         let same : eqb n m ≡ true = grind (arith, nat_tests) in
         let kept = kept_closed w.clock m (find_line m (record { number = n; session = s } ∷ [])) w.kept in
         ap (λ x. map sent (cond x (record { number = n; session = s } ∷ []) []) ++ run (purge (only n) es) (record w { kept = kept; lines = cond (not x) (record { number = n; session = s } ∷ []) [] })) same
-        ∙ ap (λ ss. (let x : Sent = record { number = n; bytes = s.output; shut = s.shut } in x) ∷ ss) (run-gone n last es (record w { kept = kept }) le r)
+        ∙ ap (λ ss. (let x : Sent = record { number = n; bytes = s.output; shut = s.shut; why = s.why } in x) ∷ ss) (run-gone n last es (record w { kept = kept }) le r)
     by false e rest = rest ((cond-none (eqb m n) (whose s.stage) (destiny w.setup n s es) d).1 e)
 run-lone n last (Moment now ∷ es) w s le r c d =
     ap (run (purge (only n) es)) (moment-lone w n s now (now-unbound w.setup n s es s.stage refl d) c)

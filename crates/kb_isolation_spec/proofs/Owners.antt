@@ -4,6 +4,7 @@ use Rattle.std.specs.Prelude.{◌⊎◌, cond, nat_lt}
 use Rattle.std.specs.List.{AllByRecursion}
 use Rattle.std.proofs.lemmas.Bool.Decides.{nat_tests}
 use Rattle.kb_api_group.specs.Frames.{Front, Whole, Partial, TooSmall, TooLarge, front}
+use Rattle.kb_isolation_spec.specs.declared.shut.Shut.TheVariants as causes
 use Rattle.kb_isolation_spec.specs.declared.head.Head.{Head}
 use Rattle.kb_isolation_spec.specs.Requests.{Asked, Versions, OtherVersions, Handshake, Authenticate, Another, Malformed, request}
 use Rattle.kb_tenant_api.specs.Hosted.{Kept}
@@ -11,7 +12,7 @@ use Rattle.kb_tenant.specs.Replies as tenant
 use Rattle.kb_tenant.specs.Replies.{Replies, Waits, Silent, Shuts, framed, reply_size}
 use Rattle.kb_tenant_api.specs.Replies.{Reaction, Plain, Rebalances}
 use Rattle.kb_isolation_spec.specs.Tenant.{Wait, Records, Group, answer}
-use Rattle.kb_isolation_spec.specs.Session.{Greeting, Stage, Greets, BoundTo, Session, fed, shut_down, without_wait, waiting, can, is_turn, room, replied, throttled}
+use Rattle.kb_isolation_spec.specs.Session.{Greeting, Stage, Greets, BoundTo, Session, fed, shut_down, without_wait, waiting, can, is_turn, room, replied, throttled, unanswerable}
 use Rattle.kb_isolation_spec.specs.Greeting.{Setup, greeted}
 use Rattle.kb_isolation_spec.specs.Machine.{Happening, Opens, Comes, Closes, Moment, Line, View, plainly, after_reaction, served_by, served_at, after_turn, put, each, on, those, first_able, all_woken, turn_at, turn, turns, again}
 use Rattle.kb_isolation_spec.specs.Owners.{greet_turn, greet_turn_at, heard, destiny, whose, Fits, Owns, Pairwise}
@@ -93,14 +94,14 @@ without-twice : (st : Stage) → without_wait (without_wait st) ≡ without_wait
 without-twice (Greets h) = refl
 without-twice (BoundTo u w) = refl
 
-pub stage-shut : (s : Session) → without_wait (shut_down s).stage ≡ without_wait s.stage
+pub stage-shut : (s : Session) → without_wait (without_wait s.stage) ≡ without_wait s.stage
 stage-shut s = without-twice s.stage
 
 pub stage-fed : (piece : List ℕ) (s : Session) → without_wait (fed piece s).stage ≡ without_wait s.stage
 unfolding fed
 stage-fed piece s = by s.shut (nat_lt (room s) (length piece)) (s.unread ++ piece)
   where
-    by : (a b : Bool) (bytes : List ℕ) → without_wait (let x : Session = cond a s (cond b (shut_down s) (record s { unread = bytes })) in x).stage ≡ without_wait s.stage
+    by : (a b : Bool) (bytes : List ℕ) → without_wait (let x : Session = cond a s (cond b (shut_down causes.Overrun s) (record s { unread = bytes })) in x).stage ≡ without_wait s.stage
     by true b bytes = refl
     by false true bytes = stage-shut s
     by false false bytes = refl
@@ -112,7 +113,7 @@ pub stage-replied : (head : Head) (body : List ℕ) (s : Session) → without_wa
 unfolding replied
 stage-replied head body s = by (nat_lt 2147483647 (reply_size (throttled head body))) (s.output ++ framed head.correlation_id (throttled head body))
   where
-    by : (a : Bool) (bytes : List ℕ) → without_wait (let x : Session = cond a (shut_down s) (record s { output = bytes }) in x).stage ≡ without_wait s.stage
+    by : (a : Bool) (bytes : List ℕ) → without_wait (let x : Session = cond a (shut_down (unanswerable head) s) (record s { output = bytes }) in x).stage ≡ without_wait s.stage
     by true bytes = stage-shut s
     by false bytes = refl
 

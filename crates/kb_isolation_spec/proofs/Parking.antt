@@ -8,6 +8,8 @@ use Rattle.kb_wire.specs.declared.fault.WireFault.{WireFault}
 use Rattle.kb_api_data.specs.Layouts.{produce_reply}
 use Rattle.kb_api_data.specs.declared.fetch.FetchRequest.{FetchRequest}
 use Rattle.kb_api_data.specs.declared.fetch_v5.FetchReplyV5.{FetchReplyV5}
+use Rattle.kb_api_group.specs.declared.group_key.TheConstants.{DESCRIBE_GROUPS, LIST_GROUPS}
+use Rattle.kb_api_group.specs.Layouts.{describe_groups_request, list_groups_request}
 use Rattle.kb_api_group.specs.Layouts.{heartbeat_request, join_group_request, leave_group_request, offset_commit_request, sync_group_request}
 use Rattle.kb_coordinator.specs.Calls.{is_accepted, join_code, sync_answer}
 use Rattle.kb_coordinator.specs.Groups.{Groups}
@@ -24,7 +26,7 @@ use Rattle.kb_tenant.specs.Serve.{stays, fetch_reaction, of_fetch, looked, looke
 use Rattle.kb_tenant.specs.declared.node.Node.{Node}
 use Rattle.kb_tenant.proofs.ByRequest.{by_request}
 use Rattle.kb_tenant_api.specs.Replies.{Plain, Rebalances, replies}
-use Rattle.kb_tenant_api.specs.Serve.{Outcome, if_read, of_groups, of_heartbeat, of_join, of_leave, of_offset_commit, of_sync, of_topics, sync_reaction, served}
+use Rattle.kb_tenant_api.specs.Serve.{Outcome, if_read, of_describe, of_groups, of_heartbeat, of_join, of_leave, of_list, of_offset_commit, of_sync, of_topics, sync_reaction, served}
 use Rattle.kb_isolation_spec.specs.Tenant.{asked_in}
 
 -- 1. A request that is for no group
@@ -113,12 +115,16 @@ pub parks : (node : Node) (w : World) (clock : ℕ) (gs : Groups) (n : ℕ) (key
 unfolding served
 parks node w clock gs n key version body =
     let others : Outcome = of_topics gs (tenant.plainly_served node w clock n key version body) in
+    let lists : Outcome = if_read w gs (whole list_groups_request body) (of_list w gs) in
+    let describes : Outcome = if_read w gs (whole describe_groups_request body) (of_describe w gs) in
     let syncs : Outcome = if_read w gs (whole sync_group_request body) (of_sync w clock n gs) in
     let leaves : Outcome = if_read w gs (whole leave_group_request body) (of_leave w clock gs) in
     let beats : Outcome = if_read w gs (whole heartbeat_request body) (of_heartbeat w clock gs) in
     let joins : Outcome = if_read w gs (whole join_group_request body) (of_join w clock n gs) in
     let commits : Outcome = if_read w gs (whole offset_commit_request body) (of_offset_commit w clock gs) in
-    let from_sync : Outcome = if int_eq key SYNC_GROUP then syncs else others in
+    let from_list : Outcome = if int_eq key LIST_GROUPS then lists else others in
+    let from_describe : Outcome = if int_eq key DESCRIBE_GROUPS then describes else from_list in
+    let from_sync : Outcome = if int_eq key SYNC_GROUP then syncs else from_describe in
     let from_leave : Outcome = if int_eq key LEAVE_GROUP then leaves else from_sync in
     let from_heartbeat : Outcome = if int_eq key HEARTBEAT then beats else from_leave in
     let from_join : Outcome = if int_eq key JOIN_GROUP then joins else from_heartbeat in
@@ -126,5 +132,7 @@ parks node w clock gs n key version body =
     (either version body clock (int_eq key JOIN_GROUP) joins from_heartbeat (read-parks version body clock w gs (whole join_group_request body) (of_join w clock n gs) (λ r. join-parks version body clock w (of_join w clock n gs r).groups (is_accepted (join_code n r gs)) _))
     (either version body clock (int_eq key HEARTBEAT) beats from_leave (read-parks version body clock w gs (whole heartbeat_request body) (of_heartbeat w clock gs) (λ r deadline places e. absurd (cc)))
     (either version body clock (int_eq key LEAVE_GROUP) leaves from_sync (read-parks version body clock w gs (whole leave_group_request body) (of_leave w clock gs) (λ r deadline places e. absurd (cc)))
-    (either version body clock (int_eq key SYNC_GROUP) syncs others (read-parks version body clock w gs (whole sync_group_request body) (of_sync w clock n gs) (λ r. sync-parks version body clock w (of_sync w clock n gs r).groups (sync_answer clock n r gs)))
-    (topics-parks node w clock gs n key version body)))))
+    (either version body clock (int_eq key SYNC_GROUP) syncs from_describe (read-parks version body clock w gs (whole sync_group_request body) (of_sync w clock n gs) (λ r. sync-parks version body clock w (of_sync w clock n gs r).groups (sync_answer clock n r gs)))
+    (either version body clock (int_eq key DESCRIBE_GROUPS) describes from_list (read-parks version body clock w gs (whole describe_groups_request body) (of_describe w gs) (λ r deadline places e. absurd (cc)))
+    (either version body clock (int_eq key LIST_GROUPS) lists others (read-parks version body clock w gs (whole list_groups_request body) (of_list w gs) (λ r deadline places e. absurd (cc)))
+    (topics-parks node w clock gs n key version body)))))))

@@ -3,6 +3,7 @@ use Rattle.std.proofs.Common.{◌≡◌, ◌∙◌, ◌≤◌, ℕ, ℤ, zero, s
 use Rattle.std.proofs.lemmas.Bool.Decides.{nat_tests}
 use Rattle.std.proofs.lemmas.List.{length-append}
 use Rattle.kb_api_group.specs.Frames.{Whole, front}
+use Rattle.kb_isolation_spec.specs.declared.shut.Shut.TheVariants as causes
 use Rattle.kb_isolation_spec.specs.declared.head.Head.{Head}
 use Rattle.kb_isolation_spec.specs.Session.{Stage, Bare, Greets, BoundTo, Session, LIMIT, room, without_wait, shut_down, fed, has_member, overruns}
 use Rattle.kb_isolation_spec.specs.Requests.{Another, Authenticate}
@@ -14,7 +15,7 @@ use Rattle.kb_isolation_spec.specs.Owners.{whose}
 use Rattle.kb_isolation_spec.proofs.Laws.{work-turn, again-none}
 use Rattle.kb_isolation_spec.proofs.Owners.{stage-served}
 
-fed_by : (shut over : Bool) (piece : List ℕ) (s : Session) → s.shut ≡ shut → nat_lt (room s) (length piece) ≡ over → length s.unread ≤ LIMIT → length (cond shut s (cond over (shut_down s) (record s { unread = s.unread ++ piece }))).unread ≤ LIMIT
+fed_by : (shut over : Bool) (piece : List ℕ) (s : Session) → s.shut ≡ shut → nat_lt (room s) (length piece) ≡ over → length s.unread ≤ LIMIT → length (cond shut s (cond over (shut_down causes.Overrun s) (record s { unread = s.unread ++ piece }))).unread ≤ LIMIT
 fed_by true over piece s e o h = h
 fed_by false true piece s e o h = omega arith
 fed_by false false piece s e o h = let fits : length piece ≤ room s = grind (arith, nat_tests, o) in let long = length-append s.unread piece in omega (arith, h, fits, long)
@@ -25,9 +26,9 @@ fed-limit piece s h = fed_by s.shut (nat_lt (room s) (length piece)) piece s ref
 
 pub fed-shut : (piece : List ℕ) (s : Session) → s.shut ≡ true → fed piece s ≡ s
 unfolding fed
-fed-shut piece s e = ap (λ (b : Bool). cond b s (cond (nat_lt (room s) (length piece)) (shut_down s) (record s { unread = s.unread ++ piece }))) e
+fed-shut piece s e = ap (λ (b : Bool). cond b s (cond (nat_lt (room s) (length piece)) (shut_down causes.Overrun s) (record s { unread = s.unread ++ piece }))) e
 
-pub another-shuts : (setup : Setup) (h : Bool) (head : Head) (key version : ℤ) (body : List ℕ) (s : Session) → greeted_by setup h head (Another key version body) s ≡ shut_down s
+pub another-shuts : (setup : Setup) (h : Bool) (head : Head) (key version : ℤ) (body : List ℕ) (s : Session) → greeted_by setup h head (Another key version body) s ≡ shut_down (causes.NotLoggedIn head.api_key head.api_version) s
 unfolding greeted_by
 another-shuts setup h head key version body s = refl
 
@@ -35,7 +36,7 @@ pub denied-shuts : (setup : Setup) (head : Head) (message : List ℕ) (s : Sessi
 unfolding greeted_by
 denied-shuts setup head message s e = ap (λ (o : Option ℕ). (logged_in o head s).shut) e
 
-pub bare-shuts : (setup : Setup) (frame rest : List ℕ) (s : Session) → front s.unread ≡ Whole frame rest → login setup.users frame ≡ None → greeted setup Bare s ≡ shut_down s
+pub bare-shuts : (setup : Setup) (frame rest : List ℕ) (s : Session) → front s.unread ≡ Whole frame rest → login setup.users frame ≡ None → greeted setup Bare s ≡ shut_down causes.Denied s
 unfolding greeted
 bare-shuts setup frame rest s at e = ap (greeted_at setup Bare s) at ∙ ap (λ (o : Option ℕ). bare_login o (record s { unread = rest })) e
 
@@ -71,13 +72,13 @@ pub closed-others : (n : ℕ) (s : Session) (w : View) → find_line n w.lines �
 closed-others n s w found none = ap (λ o. kept_closed w.clock n o w.kept) found ∙ ap (λ (b : Bool). cond b (left w.clock n w.kept) w.kept) none
 
 pub overrun-groups : (n : ℕ) (piece : List ℕ) (s : Session) (w : View) → find_line n w.lines ≡ Some s → has_member s.stage ≡ true → overruns piece s ≡ true
-    → (fed piece s ≡ shut_down s) × ((kept_fed piece w.clock n (find_line n w.lines) w.kept).groups ≡ groups.left w.clock n w.kept.groups)
+    → (fed piece s ≡ shut_down causes.Overrun s) × ((kept_fed piece w.clock n (find_line n w.lines) w.kept).groups ≡ groups.left w.clock n w.kept.groups)
 unfolding fed
 overrun-groups n piece s w found waits over =
     let open_still : s.shut ≡ false = grind (arith, over) in
     let long : nat_lt (room s) (length piece) ≡ true = grind (arith, over) in (
-      ap (λ (b : Bool). cond b s (cond (nat_lt (room s) (length piece)) (shut_down s) (record s { unread = s.unread ++ piece }))) open_still
-          ∙ ap (λ (b : Bool). cond b (shut_down s) (record s { unread = s.unread ++ piece })) long,
+      ap (λ (b : Bool). cond b s (cond (nat_lt (room s) (length piece)) (shut_down causes.Overrun s) (record s { unread = s.unread ++ piece }))) open_still
+          ∙ ap (λ (b : Bool). cond b (shut_down causes.Overrun s) (record s { unread = s.unread ++ piece })) long,
       ap (λ o. (kept_fed piece w.clock n o w.kept).groups) found
           ∙ (ap (λ (b : Bool). let k : Kept = cond b (kept_without w.clock n s.stage w.kept) w.kept in k.groups) over
           ∙ gone-groups w.clock n s.stage w.kept waits),

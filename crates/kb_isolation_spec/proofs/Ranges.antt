@@ -9,7 +9,7 @@ use Rattle.kb_api_group.specs.Frames.{Front, Whole, Partial, TooSmall, TooLarge,
 use Rattle.kb_tenant.specs.Replies.{framed, reply_size}
 use Rattle.kb_isolation_spec.specs.declared.head.Head.{Head}
 use Rattle.kb_isolation_spec.specs.Requests.{Asked, Versions, OtherVersions, Handshake, Authenticate, Another, Malformed, request}
-use Rattle.kb_isolation_spec.specs.Session.{Greeting, Unshaken, Shaken, Bare, Stage, Greets, BoundTo, Session, shut_down, replied, throttled, without_wait, fed}
+use Rattle.kb_isolation_spec.specs.Session.{Greeting, Unshaken, Shaken, Bare, Stage, Greets, BoundTo, Session, shut_down, replied, throttled, without_wait, fed, unanswerable}
 use Rattle.kb_isolation_spec.specs.Greeting.{Setup, User, greeted_by, greeted_frame, greeted_at, greeted, greeting_after, shaken, authenticated, logged_in, bare_login, login, tenant_of, tenant_at}
 use Rattle.kb_isolation_spec.specs.Owners.{greet_turn, greet_turn_at, heard}
 use Rattle.kb_isolation_spec.specs.Machine.{again}
@@ -37,7 +37,7 @@ range-replied : (n : ℕ) (head : Head) (body : List ℕ) (s : Session) → InRa
 unfolding replied
 range-replied n head body s r = by (nat_lt 2147483647 (reply_size (throttled head body))) (s.output ++ framed head.correlation_id (throttled head body))
   where
-    by : (a : Bool) (bytes : List ℕ) → InRange n (let x : Session = cond a (shut_down s) (record s { output = bytes }) in x).stage
+    by : (a : Bool) (bytes : List ℕ) → InRange n (let x : Session = cond a (shut_down (unanswerable head) s) (record s { output = bytes }) in x).stage
     by true bytes = range-without n s.stage r
     by false bytes = r
 

@@ -12,6 +12,7 @@ use Rattle.kb_tenant_api.specs.Replies.{told, told_to}
 use Rattle.kb_tenant_api.specs.Waiters.{AreServed, given, members_on, once, replies_on}
 use Rattle.kb_tenant_api.proofs.WaitersServed.{left_none, left_on}
 use Rattle.kb_tenant.specs.Replies.{Silent}
+use Rattle.kb_isolation_spec.specs.declared.shut.Shut.TheVariants as causes
 use Rattle.kb_isolation_spec.specs.Tenant.{Awaited, Records, Group, Wait, is_members, ready, ready_for}
 use Rattle.kb_isolation_spec.specs.Session.{Stage, Greets, BoundTo, Session, fed, fresh, has_member, is_free, overruns, room, shut_down}
 use Rattle.kb_isolation_spec.specs.Machine.{Line, each, on, those, find_line}
@@ -197,7 +198,7 @@ stranded-fed b i l m piece x s at n e h = by (overruns piece l.session) refl
     fits : overruns piece l.session ≡ false → (fed piece l.session).stage ≡ l.session.stage
     fits under = two l.session.shut (nat_lt (room l.session) (length piece)) under
       where
-        two : (c d : Bool) → (not c && d) ≡ false → (let r : Session = cond c l.session (cond d (shut_down l.session) (record l.session { unread = l.session.unread ++ piece })) in r).stage ≡ l.session.stage
+        two : (c d : Bool) → (not c && d) ≡ false → (let r : Session = cond c l.session (cond d (shut_down causes.Overrun l.session) (record l.session { unread = l.session.unread ++ piece })) in r).stage ≡ l.session.stage
         two true d k = refl
         two false true k = let no : true ≡ false = k in absurd (cc)
         two false false k = refl

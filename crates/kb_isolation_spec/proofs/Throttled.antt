@@ -7,15 +7,15 @@ use Rattle.kb_tenant.specs.Replies.{framed, reply_size}
 use Rattle.kb_isolation_spec.specs.Session.{Session, replied}
 use Rattle.kb_isolation_spec.specs.Versions.{base_of}
 
-pub replied-throttled : (id : ℤ) (body : List ℕ) (s : Session) → 8 + length body < 2 ^ 31 → replied (record { correlation_id = id; is_throttled = true }) body s ≡ record s { output = s.output ++ framed id (0 ∷ 0 ∷ 0 ∷ 0 ∷ body) }
+pub replied-throttled : (id key version : ℤ) (body : List ℕ) (s : Session) → 8 + length body < 2 ^ 31 → replied (record { correlation_id = id; is_throttled = true; api_key = key; api_version = version }) body s ≡ record s { output = s.output ++ framed id (0 ∷ 0 ∷ 0 ∷ 0 ∷ body) }
 unfolding replied int
-replied-throttled id body s fits =
+replied-throttled id key version body s fits =
     let small : nat_lt 2147483647 (reply_size (0 ∷ 0 ∷ 0 ∷ 0 ∷ body)) ≡ false = grind (arith, nat_tests, fits) in
     rw small refl
 
-pub replied-plain : (id : ℤ) (body : List ℕ) (s : Session) → 4 + length body < 2 ^ 31 → replied (record { correlation_id = id; is_throttled = false }) body s ≡ record s { output = s.output ++ framed id body }
+pub replied-plain : (id key version : ℤ) (body : List ℕ) (s : Session) → 4 + length body < 2 ^ 31 → replied (record { correlation_id = id; is_throttled = false; api_key = key; api_version = version }) body s ≡ record s { output = s.output ++ framed id body }
 unfolding replied
-replied-plain id body s fits =
+replied-plain id key version body s fits =
     let small : nat_lt 2147483647 (reply_size body) ≡ false = grind (arith, nat_tests, fits) in
     rw small refl
 

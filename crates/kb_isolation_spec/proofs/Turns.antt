@@ -4,6 +4,7 @@ use Rattle.std.specs.Prelude.{cond, nat_lt, codes}
 use Rattle.std.specs.Str.{bytes_eq}
 use Rattle.kb_api_group.specs.Frames.{Front, Whole, Partial, TooSmall, TooLarge, front}
 use Rattle.kb_tenant.specs.Replies.{framed, reply_size}
+use Rattle.kb_isolation_spec.specs.declared.shut.Shut.TheVariants as causes
 use Rattle.kb_isolation_spec.specs.declared.head.Head.{Head}
 use Rattle.kb_isolation_spec.specs.Requests.{Asked, Versions, OtherVersions, Handshake, Authenticate, Another, Malformed, request}
 use Rattle.std.proofs.lemmas.Bool.Decides.{nat_tests}
@@ -13,7 +14,7 @@ use Rattle.kb_tenant_api.specs.Hosted.{TenantState}
 use Rattle.kb_tenant_api.specs.Turns.{IsTurn}
 use Rattle.kb_tenant.specs.Replies.{Silent}
 use Rattle.kb_isolation_spec.specs.Tenant.{Wait, ready}
-use Rattle.kb_isolation_spec.specs.Session.{Greeting, Unshaken, Shaken, Bare, Stage, Session, Greets, BoundTo, shut_down, replied, throttled, without_wait, is_free, can}
+use Rattle.kb_isolation_spec.specs.Session.{Greeting, Unshaken, Shaken, Bare, Stage, Session, Greets, BoundTo, shut_down, replied, throttled, without_wait, is_free, can, unanswerable}
 use Rattle.kb_isolation_spec.specs.Greeting.{Setup, login, logged_in, bare_login, greeting_after, shaken, greeted_by, greeted_frame, greeted_at, greeted}
 use Rattle.kb_isolation_spec.specs.Machine.{Happening, Line, after_turn, put, each, on, those, first_able, all_woken, turns, find_line}
 use Rattle.kb_isolation_spec.specs.Owners.{Owns, whose}
@@ -94,14 +95,14 @@ pub free-without : (st : Stage) → is_free (without_wait st) ≡ true
 free-without (Greets h) = refl
 free-without (BoundTo t w) = refl
 
-pub shut-unready : (P : ℕ → Wait → Type 0) (b : BrokerState) (n : ℕ) (s : Session) → IsUnready P b n (shut_down s).stage
+pub shut-unready : (P : ℕ → Wait → Type 0) (b : BrokerState) (n : ℕ) (s : Session) → IsUnready P b n (without_wait s.stage)
 shut-unready P b n s = free-unready P b n (without_wait s.stage) (free-without s.stage)
 
 pub free-replied : (head : Head) (body : List ℕ) (s : Session) → is_free s.stage ≡ true → is_free (replied head body s).stage ≡ true
 unfolding replied
 free-replied head body s free = by (nat_lt 2147483647 (reply_size (throttled head body)))
   where
-    by : (b : Bool) → is_free (let x : Session = cond b (shut_down s) (record s { output = s.output ++ framed head.correlation_id (throttled head body) }) in x).stage ≡ true
+    by : (b : Bool) → is_free (let x : Session = cond b (shut_down (unanswerable head) s) (record s { output = s.output ++ framed head.correlation_id (throttled head body) }) in x).stage ≡ true
     by true = free-without s.stage
     by false = free
 
@@ -282,7 +283,7 @@ greeting-going b i l m h s at g n e =
     changed-going b i l m b.tenants b.unbound_refusals s at n refl in_range (record { setup = refl; names = refl; own = λ t. omega arith; unbound = omega arith }) (greeting-stays l m h g)
 
 -- and is shut, with a count, where its turn was refused
-pub refused-going : (b : BrokerState) (i : ℕ) (l m : Line) (h : Greeting) (x : ℕ) → IsSound b → IsAt b.lines i l → l.session.stage ≡ Greets h → m.number ≡ l.number → m.session ≡ shut_down l.session → b.unbound_refusals ≤ x → IsGoing b (changed b i m b.tenants x)
+pub refused-going : (b : BrokerState) (i : ℕ) (l m : Line) (h : Greeting) (x : ℕ) → IsSound b → IsAt b.lines i l → l.session.stage ≡ Greets h → m.number ≡ l.number → m.session ≡ shut_down causes.Memory l.session → b.unbound_refusals ≤ x → IsGoing b (changed b i m b.tenants x)
 refused-going b i l m h x s at g n e up =
     let in_range = subst (λ y. InRange (length b.tenants) y.stage) (sym e) (range-without (length b.tenants) l.session.stage (all-at _ b.lines i l at s.in_range)) in
     changed-going b i l m b.tenants x s at n refl in_range (record { setup = refl; names = refl; own = λ t. omega arith; unbound = up }) (greeting-stays l m h g)
@@ -310,7 +311,7 @@ turned-greeting scope b i l m h s still at able c g n e =
 
 -- a greeting connection whose reply or request could not be kept is shut, with a count
 pub refused-greeting : (scope : Scope) (b : BrokerState) (i : ℕ) (l m : Line) (h : Greeting) (x : ℕ) → IsSound b → AreStill scope b → IsAt b.lines i l → can l.session ≡ true →
-    l.session.stage ≡ Greets h → m.number ≡ l.number → m.session ≡ shut_down l.session → b.unbound_refusals ≤ x → (IsCalm b.unbound_refusals x → ⊥) → Turned scope b (changed b i m b.tenants x)
+    l.session.stage ≡ Greets h → m.number ≡ l.number → m.session ≡ shut_down causes.Memory l.session → b.unbound_refusals ≤ x → (IsCalm b.unbound_refusals x → ⊥) → Turned scope b (changed b i m b.tenants x)
 refused-greeting scope b i l m h x s still at c g n e up rises =
     let none : whose l.session.stage ≡ None = ap whose g in
     let stays = greeting-stays l m h g in

@@ -19,7 +19,7 @@ use Rattle.kb_coordinator.specs.Calls.{reply_to}
 use Rattle.kb_tenant_api.specs.Replies as service
 use Rattle.kb_isolation_spec.specs.declared.head.Head.{Head}
 use Rattle.kb_isolation_spec.specs.Tenant.{Wait, Awaited, Records, Group, ready, ready_for}
-use Rattle.kb_isolation_spec.specs.Session.{Stage, Greets, BoundTo, Session, without_wait, is_free, shut_down}
+use Rattle.kb_isolation_spec.specs.Session.{Stage, Greets, BoundTo, Session, without_wait, is_free, shut_down, unanswerable}
 use Rattle.kb_isolation_spec.specs.Machine.{Happening, Line, told, woken_by, woken, each, on, those, all_woken, turns}
 use Rattle.kb_isolation_spec.specs.Owners.{whose}
 use Rattle.kb_isolation_spec.specs.Broker.{BrokerState, IsSound, IsUnready, AreUnready, AnyWait, Mine, view_of, kept_of, refusals_of}
@@ -48,7 +48,7 @@ told-twice : (kept : Kept) (clock n : ℕ) (r : Reaction) (head : Head) (s : Ses
 told-twice kept clock n (Replies reply) head s e = woken-free kept clock n (told (Replies reply) head s) (free-replied head reply (record s { stage = without_wait s.stage }) (free-without s.stage))
 told-twice kept clock n (Waits deadline places) head s e = e
 told-twice kept clock n Silent head s e = e
-told-twice kept clock n Shuts head s e = woken-free kept clock n (shut_down s) (free-without s.stage)
+told-twice kept clock n Shuts head s e = woken-free kept clock n (shut_down (unanswerable head) s) (free-without s.stage)
 
 pub woken-at : (kept : Kept) (clock n : ℕ) (s : Session) (u : ℕ) (w : Wait) → s.stage ≡ BoundTo u (Some w) → woken kept clock n s ≡ told (ready kept clock n w) w.head s
 unfolding woken_by

@@ -5,6 +5,7 @@ use Rattle.kb_isolation_spec.specs.Machine.{each, on, those, find_line}
 use Rattle.kb_tenant_state.specs.Counts.{counted_once}
 use Rattle.kb_tenant_api.specs.Hosted.{TenantState, kept_of, left}
 use Rattle.kb_tenant_api.specs.Turns.{with_kept, count_named, all_calm}
+use Rattle.kb_isolation_spec.specs.declared.shut.Shut.{Shut}
 use Rattle.kb_isolation_spec.specs.Broker.{BrokerState}
 
 -- 1. The state that a call leaves
@@ -58,6 +59,14 @@ output_of n b = output_in (find_line n b.lines)
 abbrev pub shut_in : Option Session → Bool
 shut_in None = false
 shut_in (Some s) = s.shut
+
+-- why the broker shut it, if it did
+abbrev pub why_in : Option Session → Option Shut
+why_in None = None
+why_in (Some s) = s.why
+
+abbrev pub why_of : ℕ → BrokerState → Option Shut
+why_of n b = why_in (find_line n b.lines)
 
 -- whether the broker shut it
 abbrev pub is_shut : ℕ → BrokerState → Bool

@@ -12,7 +12,8 @@ use Rattle.kb_api_group.specs.declared.plain.PlainLogin.{PlainLogin}
 use Rattle.kb_api_group.specs.declared.api_versions.ApiVersion.{ApiVersion}
 use Rattle.kb_tenant.specs.declared.node.Node.{Node}
 use Rattle.kb_isolation_spec.specs.declared.head.Head.{Head}
-use Rattle.kb_isolation_spec.specs.Requests.{Asked, Versions, OtherVersions, Handshake, Authenticate, Another, Malformed, request}
+use Rattle.kb_isolation_spec.specs.declared.shut.Shut.TheVariants as causes
+use Rattle.kb_isolation_spec.specs.Requests.{Asked, Versions, OtherVersions, Handshake, Authenticate, Another, Malformed, request, unserved}
 use Rattle.kb_isolation_spec.specs.Session.{Greeting, Unshaken, Shaken, Bare, Greets, BoundTo, Session, shut_down, replied}
 
 -- a user: the name and password of its login, and its tenant
@@ -68,7 +69,8 @@ empty_frame = 0 ∷ 0 ∷ 0 ∷ 0 ∷ []
 -- a login that names a user with its password binds the connection, any other shuts it after the reply
 abbrev pub logged_in : Option ℕ → Head → Session → Session
 logged_in (Some tenant) head s = replied head (authenticate_reply errors.None None) (record s { stage = BoundTo tenant None })
-logged_in None head s = shut_down (replied head (authenticate_reply errors.SaslAuthenticationFailed (Some (codes "authentication failed"))) s)
+logged_in None head s =
+    shut_down causes.Denied (replied head (authenticate_reply errors.SaslAuthenticationFailed (Some (codes "authentication failed"))) s)
 
 -- how far the greeting is after a handshake of that version which accepted PLAIN
 abbrev pub greeting_after : ℤ → Greeting
@@ -86,7 +88,7 @@ authenticated setup false head message s = replied head illegal_state s
 -- a bare message that names a user with its password binds the connection, any other shuts it without a reply
 abbrev pub bare_login : Option ℕ → Session → Session
 bare_login (Some tenant) s = record s { stage = BoundTo tenant None; output = s.output ++ empty_frame }
-bare_login None s = shut_down s
+bare_login None s = shut_down causes.Denied s
 
 -- what a request of a greeting connection does to it, where a mechanism was accepted or not; s is the connection without the request
 unfoldable pub greeted_by : Setup → Bool → Head → Asked → Session → Session
@@ -94,8 +96,8 @@ greeted_by setup handshaken head Versions s = replied head (versions_reply setup
 greeted_by setup handshaken head OtherVersions s = replied head (versions_reply setup.versions errors.UnsupportedVersion) s
 greeted_by setup handshaken head (Handshake version mechanism) s = shaken (bytes_eq mechanism (codes "PLAIN")) head version s
 greeted_by setup handshaken head (Authenticate message) s = authenticated setup handshaken head message s
-greeted_by setup handshaken head (Another key version body) s = shut_down s
-greeted_by setup handshaken head Malformed s = shut_down s
+greeted_by setup handshaken head (Another key version body) s = shut_down (causes.NotLoggedIn head.api_key head.api_version) s
+greeted_by setup handshaken head Malformed s = shut_down (unserved setup.versions head) s
 
 -- what a whole frame does to it: it is a request, or PLAIN's message itself; s is the connection without the frame
 abbrev pub greeted_frame : Setup → Greeting → List ℕ → Session → Session
@@ -105,8 +107,8 @@ greeted_frame setup Bare frame s = bare_login (login setup.users frame) s
 
 abbrev pub greeted_at : Setup → Greeting → Session → Front → Session
 greeted_at setup greeting s (Whole frame rest) = greeted_frame setup greeting frame (record s { unread = rest })
-greeted_at setup greeting s TooSmall = shut_down s
-greeted_at setup greeting s TooLarge = shut_down s
+greeted_at setup greeting s TooSmall = shut_down causes.TooShort s
+greeted_at setup greeting s TooLarge = shut_down causes.TooLong s
 greeted_at setup greeting s Partial = s
 
 -- the turn of a greeting connection

@@ -34,7 +34,7 @@ greeted_from setup n (Some s) es = Some (greeting setup s (pieces_of n es))
 
 abbrev pub sent_by : ℕ → Option Session → List Sent
 sent_by n None = []
-sent_by n (Some s) = record { number = n; bytes = s.output; shut = s.shut } ∷ []
+sent_by n (Some s) = record { number = n; bytes = s.output; shut = s.shut; why = s.why } ∷ []
 
 -- what it got, and whether it was shut
 abbrev pub greeted_alone : ℕ → List Happening → BrokerState → List Sent

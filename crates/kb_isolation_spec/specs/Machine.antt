@@ -8,10 +8,12 @@ use Rattle.kb_tenant.specs.Replies.{Replies, Waits, Silent, Shuts}
 use Rattle.kb_tenant_api.specs.Hosted.{Kept, left, passed}
 use Rattle.kb_tenant_api.specs.Replies.{Reaction, Plain, Rebalances}
 use Rattle.kb_isolation_spec.specs.declared.head.Head.{Head}
-use Rattle.kb_isolation_spec.specs.Requests.{Asked, Versions, OtherVersions, Handshake, Authenticate, Another, Malformed, request}
+use Rattle.kb_isolation_spec.specs.declared.shut.Shut.{Shut}
+use Rattle.kb_isolation_spec.specs.declared.shut.Shut.TheVariants as causes
+use Rattle.kb_isolation_spec.specs.Requests.{Asked, Versions, OtherVersions, Handshake, Authenticate, Another, Malformed, request, unserved}
 use Rattle.kb_isolation_spec.specs.Tenant.{Records, Group, kept_after, answer, ready}
 use Rattle.kb_isolation_spec.specs.Session.{Stage, Greets, BoundTo, Session, fresh, without_wait, waiting, shut_down, overruns, fed, replied}
-use Rattle.kb_isolation_spec.specs.Session.{has_member, can}
+use Rattle.kb_isolation_spec.specs.Session.{has_member, can, unanswerable}
 use Rattle.kb_isolation_spec.specs.Greeting.{Setup, greeted, versions_reply, handshake_reply, illegal_state}
 
 -- a connection: its number and what it has
@@ -41,7 +43,7 @@ plainly (Replies reply) head version body s = replied head reply s
 plainly (Waits deadline places) head version body s =
     record s { stage = waiting (record { head = head; awaited = Records version body deadline }) s.stage }
 plainly Silent head version body s = s
-plainly Shuts head version body s = shut_down s
+plainly Shuts head version body s = shut_down (unanswerable head) s
 
 -- what a request of that version and body comes to
 abbrev pub after_reaction : Reaction → Head → ℤ → List ℕ → Session → Session
@@ -56,13 +58,13 @@ served_by setup kept clock n head (Handshake version mechanism) s = replied head
 served_by setup kept clock n head (Authenticate message) s = replied head illegal_state s
 served_by setup kept clock n head (Another key version body) s =
     after_reaction (answer setup.node kept clock n key version body) head version body s
-served_by setup kept clock n head Malformed s = shut_down s
+served_by setup kept clock n head Malformed s = shut_down (unserved setup.versions head) s
 
 abbrev pub served_at : Setup → Kept → ℕ → ℕ → Session → Front → Session
 served_at setup kept clock n s (Whole frame rest) =
     let r = request setup.versions frame in served_by setup kept clock n r.head r.asked (record s { unread = rest })
-served_at setup kept clock n s TooSmall = shut_down s
-served_at setup kept clock n s TooLarge = shut_down s
+served_at setup kept clock n s TooSmall = shut_down causes.TooShort s
+served_at setup kept clock n s TooLarge = shut_down causes.TooLong s
 served_at setup kept clock n s Partial = s
 
 -- the turn of a bound connection
@@ -94,7 +96,7 @@ abbrev pub told : tenant.Reaction → Head → Session → Session
 told (Replies reply) head s = replied head reply (record s { stage = without_wait s.stage })
 told (Waits deadline places) head s = s
 told Silent head s = s
-told Shuts head s = shut_down s
+told Shuts head s = shut_down (unanswerable head) s
 
 unfoldable pub woken_by : Kept → ℕ → ℕ → Session → Stage → Session
 woken_by kept clock n s (Greets greeting) = s
@@ -192,14 +194,15 @@ stepped false e w = w
 
 -- 6. Whole runs
 
--- what was written to a connection, and whether the broker shut it
+-- what was written to a connection, whether the broker shut it, and then why
 pub record Sent : Type 0 where
   pub number : ℕ
   pub bytes : List ℕ
   pub shut : Bool
+  pub why : Option Shut
 
 abbrev pub sent : Line → Sent
-sent l = record { number = l.number; bytes = l.session.output; shut = l.session.shut }
+sent l = record { number = l.number; bytes = l.session.output; shut = l.session.shut; why = l.session.why }
 
 -- what a closing connection got
 abbrev pub leaving : Happening → List Line → List Sent

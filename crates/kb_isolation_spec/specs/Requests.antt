@@ -11,6 +11,8 @@ use Rattle.kb_api_group.specs.declared.header.RequestStart.{RequestStart}
 use Rattle.kb_api_group.specs.declared.header.RequestHeader.{RequestHeader}
 use Rattle.kb_api_group.specs.declared.api_versions.ApiVersion.{ApiVersion}
 use Rattle.kb_isolation_spec.specs.declared.head.Head.{Head}
+use Rattle.kb_isolation_spec.specs.declared.shut.Shut.{Shut}
+use Rattle.kb_isolation_spec.specs.declared.shut.Shut.TheVariants as causes
 use Rattle.kb_isolation_spec.specs.Versions.{base_of, head_of, no_head}
 
 -- whether an entry lists a key at a version: from its least version to its greatest
@@ -65,3 +67,9 @@ request_at versions frame (Ok s) = record {
 -- the request of a frame, where those versions are listed
 unfoldable pub request : List ApiVersion → List ℕ → Request
 request versions frame = request_at versions frame (request_start.read frame)
+
+-- why the connection of a request of that head is shut whose bytes match nothing that is served
+abbrev pub unserved : List ApiVersion → Head → Shut
+unserved versions head =
+    if is_served versions head.api_key head.api_version then causes.Unanswerable head.api_key head.api_version
+    else causes.NotServed head.api_key head.api_version

@@ -5,6 +5,8 @@ use Rattle.kb_tenant.specs.Replies.{framed, reply_size}
 use Rattle.kb_wire.specs.Codec.{int32}
 use Rattle.kb_isolation_spec.specs.Tenant.{Wait, is_members}
 use Rattle.kb_isolation_spec.specs.declared.head.Head.{Head}
+use Rattle.kb_isolation_spec.specs.declared.shut.Shut.{Shut}
+use Rattle.kb_isolation_spec.specs.declared.shut.Shut.TheVariants as causes
 
 -- how far a greeting is: no mechanism was accepted; PLAIN was, and its message comes in a request of SaslAuthenticate; or PLAIN was,
 -- and its message comes bare, as the next frame
@@ -18,15 +20,16 @@ pub data Stage : Type 0 where
   Greets : (greeting : Greeting) → Stage
   BoundTo : (tenant : ℕ) (wait : Option Wait) → Stage
 
--- what a connection has, but for its number: unread bytes, untaken output, and whether the broker shut it
+-- what a connection has, but for its number: unread bytes, untaken output, whether the broker shut it, and then why
 pub record Session : Type 0 where
   pub stage : Stage
   pub unread : List ℕ
   pub output : List ℕ
   pub shut : Bool
+  pub why : Option Shut
 
 abbrev pub fresh : Session
-fresh = record { stage = Greets Unshaken; unread = []; output = []; shut = false }
+fresh = record { stage = Greets Unshaken; unread = []; output = []; shut = false; why = None }
 
 abbrev pub without_wait : Stage → Stage
 without_wait (Greets greeting) = Greets greeting
@@ -37,9 +40,9 @@ abbrev pub waiting : Wait → Stage → Stage
 waiting wait (Greets greeting) = Greets greeting
 waiting wait (BoundTo tenant earlier) = BoundTo tenant (Some wait)
 
--- the broker shuts it: unread bytes and wait are dropped, untaken output stays
-abbrev pub shut_down : Session → Session
-shut_down s = record { stage = without_wait s.stage; unread = []; output = s.output; shut = true }
+-- the broker shuts it, for that cause: unread bytes and wait are dropped, untaken output stays
+abbrev pub shut_down : Shut → Session → Session
+shut_down cause s = record { stage = without_wait s.stage; unread = []; output = s.output; shut = true; why = Some cause }
 
 -- how many unread bytes a connection may have: a size and the largest request, twice
 abbrev pub LIMIT : ℕ
@@ -55,16 +58,21 @@ overruns piece s = not s.shut && nat_lt (room s) (length piece)
 
 -- a piece came: one longer than the room is not taken and shuts the connection; a shut one ignores it
 unfoldable pub fed : List ℕ → Session → Session
-fed piece s = if s.shut then s else if nat_lt (room s) (length piece) then shut_down s else record s { unread = s.unread ++ piece }
+fed piece s =
+    if s.shut then s else if nat_lt (room s) (length piece) then shut_down causes.Overrun s else record s { unread = s.unread ++ piece }
 
 -- the body of a reply: behind a throttle time of 0 milliseconds, where the request's version has one that the tenant's answer has not
 abbrev pub throttled : Head → List ℕ → List ℕ
 throttled head body = if head.is_throttled then int32.written (pos 0) ++ body else body
 
+-- a request of that head gets no reply: its body does not match its version, or the reply's size fits no INT32
+abbrev pub unanswerable : Head → Shut
+unanswerable head = causes.Unanswerable head.api_key head.api_version
+
 -- a reply is sent, unless its size does not fit an INT32: then the connection is shut
 unfoldable pub replied : Head → List ℕ → Session → Session
 replied head body s =
-    if nat_lt 2147483647 (reply_size (throttled head body)) then shut_down s
+    if nat_lt 2147483647 (reply_size (throttled head body)) then shut_down (unanswerable head) s
     else record s { output = s.output ++ framed head.correlation_id (throttled head body) }
 
 -- whether a member of a group waits on it

@@ -13,13 +13,14 @@ quieted_lines lines = each (λ k s. without_output s) lines
 abbrev pub quieted : View → View
 quieted w = record w { lines = quieted_lines w.lines }
 
--- what each connection got in one step, and whether it was shut in this step
+-- what each connection got in one step, whether it was shut in this step, and why it was shut, if it was
 abbrev pub said : List Line → List Line → List Sent
 said old new = map (λ (l : Line). record {
   number = l.number;
   bytes = l.session.output;
   shut = l.session.shut
       && not (shut_in (find_line l.number old));
+  why = l.session.why;
 }) new
 
 -- what the machine says to its connections at each event, and at an event of another's, where it does nothing

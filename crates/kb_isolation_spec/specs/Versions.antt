@@ -5,8 +5,10 @@
 -- earlier version has none.
 use Rattle.std.specs.Prelude.{ℕ, ℤ, pos, List, [], ◌∷◌, Bool, true, false, ◌&&◌, int_le, if◌then◌else◌}
 use Rattle.std.specs.Ordering.{int_eq}
-use Rattle.kb_wire.specs.declared.api_key.TheConstants.{PRODUCE, FETCH, OFFSET_COMMIT, JOIN_GROUP, HEARTBEAT, LEAVE_GROUP, SYNC_GROUP}
+use Rattle.kb_wire.specs.declared.api_key.TheConstants.{PRODUCE, FETCH, OFFSET_COMMIT, OFFSET_FETCH}
+use Rattle.kb_wire.specs.declared.api_key.TheConstants.{JOIN_GROUP, HEARTBEAT, LEAVE_GROUP, SYNC_GROUP}
 use Rattle.kb_wire.specs.declared.api_key.TheConstants.{CREATE_TOPICS, DELETE_TOPICS, DELETE_RECORDS, INIT_PRODUCER_ID}
+use Rattle.kb_api_group.specs.declared.group_key.TheConstants.{DESCRIBE_GROUPS, LIST_GROUPS}
 use Rattle.kb_api_group.specs.declared.header.RequestStart.{RequestStart}
 use Rattle.kb_isolation_spec.specs.declared.base.Base.{Base}
 use Rattle.kb_isolation_spec.specs.declared.head.Head.{Head}
@@ -28,7 +30,8 @@ throttled_as key least greatest version = (key, pos least, pos greatest, pos ver
 abbrev pub newer_versions : List Newer
 newer_versions =
     same_as PRODUCE 4 4 3 ∷ same_as FETCH 6 6 5 ∷ throttled_as OFFSET_COMMIT 3 4 2 ∷ throttled_as JOIN_GROUP 2 3 1 ∷
-    throttled_as HEARTBEAT 1 2 0 ∷ throttled_as LEAVE_GROUP 1 2 0 ∷ throttled_as SYNC_GROUP 1 2 0 ∷
+    throttled_as OFFSET_FETCH 3 4 2 ∷ throttled_as HEARTBEAT 1 2 0 ∷ throttled_as LEAVE_GROUP 1 2 0 ∷
+    throttled_as SYNC_GROUP 1 2 0 ∷ throttled_as DESCRIBE_GROUPS 1 2 0 ∷ throttled_as LIST_GROUPS 1 2 0 ∷
     throttled_as CREATE_TOPICS 2 3 1 ∷ same_as DELETE_TOPICS 2 3 1 ∷ same_as DELETE_RECORDS 1 1 0 ∷
     same_as INIT_PRODUCER_ID 1 1 0 ∷ []
 
@@ -51,8 +54,10 @@ abbrev pub head_of : RequestStart → Head
 head_of start = record {
   correlation_id = start.correlation_id;
   is_throttled = (base_of start.api_key start.api_version).is_throttled;
+  api_key = start.api_key;
+  api_version = start.api_version;
 }
 
--- where no number was read
+-- where nothing was read
 abbrev pub no_head : Head
-no_head = record { correlation_id = pos 0; is_throttled = false }
+no_head = record { correlation_id = pos 0; is_throttled = false; api_key = pos 0; api_version = pos 0 }

@@ -7,4 +7,8 @@ pub struct Head {
     pub correlation_id: i32,
     /// Whether a throttle time stands in front of the reply's body, which the version has not that the tenant is asked in.
     pub is_throttled: bool,
+    /// The API's key, as it came.
+    pub api_key: i16,
+    /// The version, as it came.
+    pub api_version: i16,
 }

@@ -1,5 +1,5 @@
 //! What the broker's headline speaks of: definitions and their laws, and no code but the words
-//! [`Head`], [`Base`] and [`Whom`].
+//! [`Head`], [`Base`], [`Shut`] and [`Whom`].
 //!
 //! `specs/Versions.antt` says which versions are laid out as an earlier one,
 //! `specs/Requests.antt` what a connection's bytes ask, `specs/Session.antt` what a connection has,
@@ -13,6 +13,7 @@
 mod base;
 mod head;
 mod promises;
+mod shut;
 mod whom;
 
 pub use base::Base;
@@ -24,4 +25,5 @@ pub use promises::{
     own_events_are_of_own_connections, own_events_stay_own, owners_at_entry, room_is_kept,
     runs_go_on, strangers_are_greeted, throttle_times_stand_in_front, turns_end,
 };
+pub use shut::Shut;
 pub use whom::Whom;

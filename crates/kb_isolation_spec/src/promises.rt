@@ -4,6 +4,7 @@ ghost use Rattle.std.specs.Prelude.{Ok, Option, Some, None};
 ghost use Rattle.std.specs.List.{Contains};
 ghost use Rattle.kb_wire.specs.declared.api_key.TheConstants.{DELETE_TOPICS, FETCH, JOIN_GROUP};
 ghost use Rattle.kb_isolation_spec.specs.declared.head.Head.{Head};
+ghost use Rattle.kb_isolation_spec.specs.declared.shut.Shut.TheVariants as causes;
 ghost use Rattle.kb_isolation_spec.specs.Session.{Session, Stage, Bare, BoundTo, LIMIT, fed, has_member, overruns, replied, shut_down};
 ghost use Rattle.kb_isolation_spec.specs.Session.{without_wait};
 ghost use Rattle.kb_api_group.specs.Frames.{Whole, front};
@@ -165,7 +166,8 @@ pub fn members_wait_no_longer()
         → (step (Closes n) w).kept.groups ≡ left w.clock n w.kept.groups }
     ensures overrun { (n : ℕ) (piece : List ℕ) (s : Session) (w : View) → find_line n w.lines ≡ Some s → has_member s.stage ≡ true
         → overruns piece s ≡ true
-        → (fed piece s ≡ shut_down s) × ((kept_fed piece w.clock n (find_line n w.lines) w.kept).groups ≡ left w.clock n w.kept.groups) }
+        → (fed piece s ≡ shut_down causes.Overrun s)
+        × ((kept_fed piece w.clock n (find_line n w.lines) w.kept).groups ≡ left w.clock n w.kept.groups) }
     ensures others { (n : ℕ) (s : Session) (w : View) → find_line n w.lines ≡ Some s → has_member s.stage ≡ false
         → (step (Closes n) w).kept ≡ w.kept }
 {}
@@ -174,22 +176,23 @@ pub fn members_wait_no_longer()
 /// handshake of version 0 the next frame is the login whatever it says, a request too, and a wrong one shuts it without a reply.
 pub fn nothing_before_login()
     ensures request { (setup : Setup) (handshaken : Bool) (head : Head) (key version : ℤ) (body : List ℕ) (s : Session)
-        → greeted_by setup handshaken head (Another key version body) s ≡ shut_down s }
+        → greeted_by setup handshaken head (Another key version body) s ≡ shut_down (causes.NotLoggedIn head.api_key head.api_version) s }
     ensures denied { (setup : Setup) (head : Head) (message : List ℕ) (s : Session) → login setup.users message ≡ None
         → (greeted_by setup true head (Authenticate message) s).shut ≡ true }
     ensures bare { (setup : Setup) (frame rest : List ℕ) (s : Session) → front s.unread ≡ Whole frame rest → login setup.users frame ≡ None
-        → greeted setup Bare s ≡ shut_down s }
+        → greeted setup Bare s ≡ shut_down causes.Denied s }
 {}
 
 /// A reply to a version whose throttle time the tenant's answer has not begins with one of 0 milliseconds behind its correlation id, and
 /// any other has none there. A join of version 2, as a first of each kind, is asked in version 1 and has one; a deletion of version 3 is
 /// asked in version 1 too, whose reply has one already.
 pub fn throttle_times_stand_in_front()
-    ensures throttled { (id : ℤ) (body : List ℕ) (s : Session) → 8 + length body < 2 ^ 31
-        → replied (record { correlation_id = id; is_throttled = true }) body s
+    ensures throttled { (id key version : ℤ) (body : List ℕ) (s : Session) → 8 + length body < 2 ^ 31
+        → replied (record { correlation_id = id; is_throttled = true; api_key = key; api_version = version }) body s
         ≡ record s { output = s.output ++ framed id (0 ∷ 0 ∷ 0 ∷ 0 ∷ body) } }
-    ensures plain { (id : ℤ) (body : List ℕ) (s : Session) → 4 + length body < 2 ^ 31
-        → replied (record { correlation_id = id; is_throttled = false }) body s ≡ record s { output = s.output ++ framed id body } }
+    ensures plain { (id key version : ℤ) (body : List ℕ) (s : Session) → 4 + length body < 2 ^ 31
+        → replied (record { correlation_id = id; is_throttled = false; api_key = key; api_version = version }) body s
+        ≡ record s { output = s.output ++ framed id body } }
     ensures join { base_of JOIN_GROUP (pos 2) ≡ record { version = pos 1; is_throttled = true } }
     ensures deletion { base_of DELETE_TOPICS (pos 3) ≡ record { version = pos 1; is_throttled = false } }
 {}

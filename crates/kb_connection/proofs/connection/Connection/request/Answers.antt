@@ -1,5 +1,6 @@
 use Rattle.std.proofs.Common.{sym, ◌∙◌, ap, w16, w32, rules, FitsSigned}
 use Rattle.std.proofs.lemmas.Int.{to_z-of_z}
+use Rattle.std.specs.Option.{is_some}
 use Rattle.kb_isolation_spec.specs.Machine.{Line}
 use Rattle.kb_isolation_spec.specs.Requests.{request}
 use Rattle.kb_connection.proofs.Fronts.{own_unless_frame, own_unless_another, is_handed, is_numbered}
@@ -39,4 +40,4 @@ returns-in_default-asked c = record {
 pub returns-in-Another-clause-unshut : goal.returns-in-Another-clause-unshut
 returns-in-Another-clause-unshut c =
     ap (λ (l : Line). l.session.shut) (sym c.self.view_is)
-    ∙ framed-open c.self.inside.unread c.in-Frame.frame (stage_with_wait c.self.inside.stage) c.self.inside.shut c.self.invariant c.in-Frame.ensures
+    ∙ framed-open c.self.inside.unread c.in-Frame.frame (stage_with_wait c.self.inside.stage) (is_some c.self.inside.shut) c.self.invariant c.in-Frame.ensures

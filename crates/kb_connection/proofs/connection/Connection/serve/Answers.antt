@@ -1,14 +1,17 @@
 use Rattle.std.proofs.Common.{ap}
 use Rattle.kb_isolation_spec.specs.Machine.{Line}
 use Rattle.kb_connection.proofs.Fronts.{own_frame}
-use Rattle.kb_connection.proofs.Turning.{serve_more, serve_bad, serve_frame}
+use Rattle.kb_connection.proofs.Turning.{serve_more, serve_short, serve_long, serve_frame}
 use Rattle.kb_connection.proofs.connection.Connection.serve.Goals as goal
 
 pub returns-in-More-clause-ok : goal.returns-in-More-clause-ok
 returns-in-More-clause-ok c kept clock n = serve_more c.args.setup.now kept clock n _ _ (ap (λ (l : Line). l.session.unread) c.self.view_is) c.in-More.ensures
 
 pub returns-in-TooSmall-clause-ok : goal.returns-in-TooSmall-clause-ok
-returns-in-TooSmall-clause-ok c kept clock n = serve_bad c.args.setup.now kept clock n _ _ _ _ (ap (λ (l : Line). l.session.unread) c.self.view_is) c.next.ensures c.in-TooSmall.is c.shut_down.ensures
+returns-in-TooSmall-clause-ok c kept clock n = serve_short c.args.setup.now kept clock n _ _ _ (ap (λ (l : Line). l.session.unread) c.self.view_is) c.in-TooSmall.ensures c.shut_down.ensures
+
+pub returns-in-TooLarge-clause-ok : goal.returns-in-TooLarge-clause-ok
+returns-in-TooLarge-clause-ok c kept clock n = serve_long c.args.setup.now kept clock n _ _ _ (ap (λ (l : Line). l.session.unread) c.self.view_is) c.in-TooLarge.ensures c.shut_down-in-TooLarge.ensures
 
 pub returns-in-Frame-clause-ok : goal.returns-in-Frame-clause-ok
 returns-in-Frame-clause-ok c kept clock n =

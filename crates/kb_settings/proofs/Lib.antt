@@ -4,3 +4,4 @@ pub mod Addresses
 pub mod Entries
 pub mod AllowedConnections
 pub mod StandardText
+pub mod Parts

@@ -1,15 +1,15 @@
 -- What a settings document says, key by key.
-use Rattle.std.specs.Prelude.{ℕ, pos, List, [], ◌∷◌, map, length, codes, Bool, ◌&&◌, if◌then◌else◌}
+use Rattle.std.specs.Prelude.{ℕ, pos, List, [], ◌∷◌, map, length, codes, Bool, false, ◌&&◌, if◌then◌else◌}
 use Rattle.std.specs.Prelude.{Option, None, Some, is_some, option_map, option_and_then, Result, Ok, Err}
 use Rattle.std.specs.List.{list_any}
 use Rattle.std.specs.Str.{bytes_eq}
-use Rattle.toml.specs.Data.{Data, as_str, integer, array, table, get_member}
+use Rattle.toml.specs.Data.{Data, as_str, as_bool, integer, array, table, get_member}
 use Rattle.toml.specs.Data.{Items, no_items, item, Members, no_members, member}
 use Rattle.kb_settings.specs.Names.{in_order}
 use Rattle.kb_settings.specs.Settings.{is_within, is_credential, is_tenant, are_different}
 use Rattle.kb_settings.specs.Address.{is_listened, bare, endpoint_in}
 use Rattle.kb_settings.specs.Limits.{Limits, are_limits}
-use Rattle.kb_settings.specs.Values.{Account, Values}
+use Rattle.kb_settings.specs.Values.{Account, Requests, Values}
 use Rattle.kb_settings.specs.declared.sync.Sync.{Sync}
 use Rattle.kb_settings.specs.declared.sync.Sync.TheVariants.{Always, Interval, Never}
 
@@ -113,7 +113,7 @@ abbrev pub users_in : Data → Option (List Account)
 users_in (array entries) = option_and_then checked_users (accounts_in entries)
 users_in _ = None
 
--- 3. The tenants' connections
+-- 3. The tenants' limits
 
 -- what is said at a key that may be missing
 abbrev pub said_or : {A : Type 0} → A → (Data → Option A) → Option Data → Option A
@@ -170,7 +170,8 @@ abbrev pub settings_keys : List (List ℕ)
 settings_keys =
     codes "host" ∷ codes "port" ∷ codes "advertise" ∷ codes "segment_bytes" ∷ codes "cache_batches" ∷ codes "cache_bytes"
     ∷ codes "connections" ∷ codes "output_bytes" ∷ codes "sync" ∷ codes "sync_ms" ∷ codes "login_seconds" ∷ codes "reply_seconds"
-    ∷ codes "strangers" ∷ codes "data" ∷ codes "user" ∷ codes "tenant" ∷ []
+    ∷ codes "strangers" ∷ codes "request_seconds" ∷ codes "idle_seconds" ∷ codes "input_bytes" ∷ codes "stock_clients"
+    ∷ codes "data" ∷ codes "user" ∷ codes "tenant" ∷ []
 
 -- goes on with what is said at a key, or names the key where it is wrong
 abbrev pub go_on : {A B : Type 0} → List ℕ → Option A → (A → Result B (List ℕ)) → Result B (List ℕ)
@@ -180,6 +181,47 @@ go_on key (Some says) next = next says
 -- the same of a key of the document, which may be missing
 abbrev pub read_key : {A B : Type 0} → Members → List ℕ → A → (Data → Option A) → (A → Result B (List ℕ)) → Result B (List ℕ)
 read_key document key standard says next = go_on key (said_or standard says (get_member key document)) next
+
+-- the same of some keys together, of which the first wrong one is named
+abbrev pub with_part : {A B : Type 0} → Result A (List ℕ) → (A → Result B (List ℕ)) → Result B (List ℕ)
+with_part (Err key) next = Err key
+with_part (Ok part) next = next part
+
+-- how much of files is kept in memory, or the first wrong key
+abbrev pub cache_in : Members → Result (ℕ × ℕ) (List ℕ)
+cache_in document =
+    read_key document (codes "cache_batches") 1024 (number_in 1 65536) λ batches.
+    read_key document (codes "cache_bytes") 67108864 (number_in 0 1099511627776) λ bytes.
+    Ok (batches, bytes)
+
+-- how many clients may be connected, and how many bytes are kept for them
+abbrev pub room_in : Members → Result (ℕ × ℕ) (List ℕ)
+room_in document =
+    read_key document (codes "connections") 1024 (number_in 1 1000000) λ connections.
+    read_key document (codes "output_bytes") 268435456 (number_in 1048576 4294967295) λ output_bytes.
+    Ok (connections, output_bytes)
+
+-- when what was done is made to last
+abbrev pub syncs_in : Members → Result (Sync × ℕ) (List ℕ)
+syncs_in document =
+    read_key document (codes "sync") Interval sync_in λ sync.
+    read_key document (codes "sync_ms") 1000 (number_in 1 60000) λ ms.
+    Ok (sync, ms)
+
+-- how many seconds a client has for its login, and for the next byte of a reply
+abbrev pub seconds_in : Members → Result (ℕ × ℕ) (List ℕ)
+seconds_in document =
+    read_key document (codes "login_seconds") 10 (number_in 1 3600) λ login.
+    read_key document (codes "reply_seconds") 60 (number_in 1 3600) λ reply.
+    Ok (login, reply)
+
+-- the limits of requests, or their first wrong key
+abbrev pub requests_in : Members → Result Requests (List ℕ)
+requests_in document =
+    read_key document (codes "request_seconds") 30 (number_in 1 3600) λ request_seconds.
+    read_key document (codes "idle_seconds") 600 (number_in 0 4294967) λ idle_seconds.
+    read_key document (codes "input_bytes") 268435456 (number_in 8388608 4294967295) λ input_bytes.
+    Ok (record { request_seconds = request_seconds; idle_seconds = idle_seconds; input_bytes = input_bytes })
 
 -- the settings, unless there is another key
 abbrev pub no_other : {A : Type 0} → Option (List ℕ) → A → Result A (List ℕ)
@@ -193,32 +235,32 @@ settings_in document =
     read_key document (codes "port") 9092 (number_in 1 65535) λ port.
     read_key document (codes "advertise") None advertise_in λ advertise.
     read_key document (codes "segment_bytes") 16777216 (number_in 4096 1073741824) λ segment_bytes.
-    read_key document (codes "cache_batches") 1024 (number_in 1 65536) λ cache_batches.
-    read_key document (codes "cache_bytes") 67108864 (number_in 0 1099511627776) λ cache_bytes.
-    read_key document (codes "connections") 1024 (number_in 1 1000000) λ connections.
-    read_key document (codes "output_bytes") 268435456 (number_in 1048576 4294967295) λ output_bytes.
-    read_key document (codes "sync") Interval sync_in λ sync.
-    read_key document (codes "sync_ms") 1000 (number_in 1 60000) λ sync_ms.
-    read_key document (codes "login_seconds") 10 (number_in 1 3600) λ login_seconds.
-    read_key document (codes "reply_seconds") 60 (number_in 1 3600) λ reply_seconds.
-    read_key document (codes "strangers") connections (number_in 1 connections) λ strangers.
+    with_part (cache_in document) λ cache.
+    with_part (room_in document) λ room.
+    with_part (syncs_in document) λ syncs.
+    with_part (seconds_in document) λ seconds.
+    read_key document (codes "strangers") room.0 (number_in 1 room.0) λ strangers.
+    with_part (requests_in document) λ requests.
+    read_key document (codes "stock_clients") false as_bool λ stock_clients.
     read_key document (codes "data") None folder_in λ folder.
     go_on (codes "user") (option_and_then users_in (get_member (codes "user") document)) λ users.
-    read_key document (codes "tenant") [] (tenants_in connections users) λ tenants.
+    read_key document (codes "tenant") [] (tenants_in room.0 users) λ tenants.
     no_other (other_key settings_keys document) (record {
       host = host;
       port = port;
       advertise = advertise;
       segment_bytes = segment_bytes;
-      cache_batches = cache_batches;
-      cache_bytes = cache_bytes;
-      connections = connections;
-      output_bytes = output_bytes;
-      sync = sync;
-      sync_ms = sync_ms;
-      login_seconds = login_seconds;
-      reply_seconds = reply_seconds;
+      cache_batches = cache.0;
+      cache_bytes = cache.1;
+      connections = room.0;
+      output_bytes = room.1;
+      sync = syncs.0;
+      sync_ms = syncs.1;
+      login_seconds = seconds.0;
+      reply_seconds = seconds.1;
       strangers = strangers;
+      requests = requests;
+      stock_clients = stock_clients;
       folder = folder;
       users = users;
       tenants = tenants;

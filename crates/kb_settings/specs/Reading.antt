@@ -1,5 +1,5 @@
 -- What a settings text says, and what is wrong with one.
-use Rattle.std.specs.Prelude.{◌≡◌, ℕ, List, Option, None, Some, option_map, Result, Err, string_bytes}
+use Rattle.std.specs.Prelude.{◌≡◌, ℕ, List, Option, None, Some, option_map, Result, Ok, Err, string_bytes}
 use Rattle.toml.specs.Parse.{parse_document}
 use Rattle.kb_settings.specs.Values.{Values}
 use Rattle.kb_settings.specs.Document.{settings_in}
@@ -16,8 +16,16 @@ IsFaultOf text faults.Text = settings_of text ≡ None
 IsFaultOf text (faults.Field key) = settings_of text ≡ Some (Err (string_bytes key))
 IsFaultOf text faults.Memory = Unit {0}
 
+-- the first wrong key, where there is one
+abbrev pub wrong_key : {A : Type 0} → Result A (List ℕ) → Option (List ℕ)
+wrong_key (Ok says) = None
+wrong_key (Err key) = Some key
+
 -- a fault of what a document says: that is its first wrong key, or memory was refused
-abbrev pub IsFaultIn : Result Values (List ℕ) → SettingsFault → Type 0
-IsFaultIn says faults.Text = ⊥
-IsFaultIn says (faults.Field key) = says ≡ Err (string_bytes key)
-IsFaultIn says faults.Memory = Unit {0}
+abbrev pub IsFaultAt : Option (List ℕ) → SettingsFault → Type 0
+IsFaultAt wrong faults.Text = ⊥
+IsFaultAt wrong (faults.Field key) = wrong ≡ Some (string_bytes key)
+IsFaultAt wrong faults.Memory = Unit {0}
+
+abbrev pub IsFaultIn : {A : Type 0} → Result A (List ℕ) → SettingsFault → Type 0
+IsFaultIn says fault = IsFaultAt (wrong_key says) fault

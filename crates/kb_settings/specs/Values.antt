@@ -1,11 +1,12 @@
 -- The settings as bytes and numbers, and the standard ones.
-use Rattle.std.specs.Prelude.{ℕ, List, [], ◌∷◌, ◌++◌, map, Option, None, Some, option_map, unwrap_or, string_bytes, codes}
+use Rattle.std.specs.Prelude.{ℕ, List, [], ◌∷◌, ◌++◌, map, Bool, false, Option, None, Some, option_map, unwrap_or, string_bytes, codes}
 use Rattle.std.specs.List.{find}
 use Rattle.std.specs.Str.{bytes_eq}
 use Rattle.kb_settings.specs.Limits.{Limits, limits_in}
 use Rattle.kb_settings.specs.declared.settings.User.{User}
-use Rattle.kb_settings.specs.declared.settings.Endpoint.{Endpoint}
+use Rattle.kb_settings.specs.declared.endpoint.Endpoint.{Endpoint}
 use Rattle.kb_settings.specs.declared.settings.Settings.{Settings}
+use Rattle.kb_settings.specs.declared.requests.RequestLimits.{RequestLimits}
 use Rattle.kb_settings.specs.declared.sync.Sync.{Sync}
 use Rattle.kb_settings.specs.declared.sync.Sync.TheVariants.{Interval}
 use Rattle.kb_settings.specs.declared.tenant_limits.ConnectionLimits.{ConnectionLimits}
@@ -14,6 +15,12 @@ pub record Account : Type 0 where
   pub name : List ℕ
   pub password : List ℕ
   pub tenant : List ℕ
+
+-- by when a request is whole and a socket is used, and the bytes of all begun requests
+pub record Requests : Type 0 where
+  pub request_seconds : ℕ
+  pub idle_seconds : ℕ
+  pub input_bytes : ℕ
 
 pub record Values : Type 0 where
   pub host : List ℕ
@@ -29,6 +36,8 @@ pub record Values : Type 0 where
   pub login_seconds : ℕ
   pub reply_seconds : ℕ
   pub strangers : ℕ
+  pub requests : Requests
+  pub stock_clients : Bool
   pub folder : Option (List ℕ)
   pub users : List Account
   pub tenants : List Limits
@@ -38,6 +47,9 @@ account_of u = record { name = string_bytes u.name; password = string_bytes u.pa
 
 abbrev pub host_and_port : Endpoint → List ℕ × ℕ
 host_and_port e = (string_bytes e.host, e.port)
+
+abbrev pub requests_of : RequestLimits → Requests
+requests_of r = record { request_seconds = r.request_seconds; idle_seconds = r.idle_seconds; input_bytes = r.input_bytes }
 
 abbrev pub values_of : Settings → Values
 values_of s = record {
@@ -54,6 +66,8 @@ values_of s = record {
   login_seconds = s.login_seconds;
   reply_seconds = s.reply_seconds;
   strangers = s.strangers;
+  requests = requests_of s.requests;
+  stock_clients = s.stock_clients;
   folder = option_map string_bytes s.folder;
   users = map account_of s.users.items;
   tenants = map limits_in s.tenants.items;
@@ -77,6 +91,9 @@ ann = record { name = codes "ann"; password = codes "pw1"; tenant = codes "a" }
 abbrev pub bob : Account
 bob = record { name = codes "bob"; password = codes "pw2"; tenant = codes "b" }
 
+abbrev pub standard_requests : Requests
+standard_requests = record { request_seconds = 30; idle_seconds = 600; input_bytes = 268435456 }
+
 -- the standard settings
 abbrev pub standard : Values
 standard = record {
@@ -93,6 +110,8 @@ standard = record {
   login_seconds = 10;
   reply_seconds = 60;
   strangers = 1024;
+  requests = standard_requests;
+  stock_clients = false;
   folder = None;
   users = ann ∷ bob ∷ [];
   tenants = [];

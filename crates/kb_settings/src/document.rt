@@ -3,7 +3,7 @@
 ghost use Rattle.std.specs.Prelude.{◌≡◌, ◌≤◌, None, codes, false, is_some, map, option_map, option_and_then, IfSome, IsTrue};
 ghost use Rattle.std.specs.List.{list_any};
 ghost use Rattle.std.specs.Str.{bytes_eq};
-ghost use Rattle.toml.specs.Data.{as_str, get_member};
+ghost use Rattle.toml.specs.Data.{as_bool, as_str, get_member};
 ghost use Rattle.toml.specs.View.{view, table_view};
 ghost use Rattle.kb_settings.specs.Settings.{is_credential, is_tenant};
 ghost use Rattle.kb_settings.specs.Address.{is_listened, endpoint_in};
@@ -98,27 +98,41 @@ fn number_in(value: &Value, low: u32, high: u32) -> Option<u32>
     }
 }
 
-/// How many bytes read batches take in memory at most.
-pub fn cache_bytes(document: &Table) -> Option<u64>
-    ensures says { result ≡ said_or 67108864 (number_in 0 1099511627776) (get_member (codes "cache_bytes") (table_view document.now)) }
-    ensures high { IfSome result (λ n. n ≤ 1099511627776) }
+/// A size at a key, both limits included.
+pub fn size(document: &Table, key: &str, standard: u64, low: u64, high: u64) -> Option<u64>
+    requires low { low ≤ standard }
+    requires high { standard ≤ high }
+    ensures says { result ≡ said_or standard (number_in low high) (get_member key.now (table_view document.now)) }
+    ensures low { IfSome result (λ n. low ≤ n) }
+    ensures high { IfSome result (λ n. n ≤ high) }
 {
-    match at(document, "cache_bytes") {
-        None => Some(67_108_864),
-        Some(value) => size_in(value, 1_099_511_627_776),
+    match at(document, key) {
+        None => Some(standard),
+        Some(value) => size_in(value, low, high),
     }
 }
 
-fn size_in(value: &Value, high: u64) -> Option<u64>
-    ensures says { result ≡ number_in 0 high (view value.now) }
+fn size_in(value: &Value, low: u64, high: u64) -> Option<u64>
+    ensures says { result ≡ number_in low high (view value.now) }
+    ensures low { IfSome result (λ n. low ≤ n) }
     ensures high { IfSome result (λ n. n ≤ high) }
 {
     let Value::Integer(integer) = value else {
         return None;
     };
     match u64::try_from(*integer) {
-        Ok(n) if n <= high => Some(n),
+        Ok(bytes) if low <= bytes && bytes <= high => Some(bytes),
         _ => None,
+    }
+}
+
+/// Whether it is so.
+pub fn flag(document: &Table, key: &str) -> Option<bool>
+    ensures { result ≡ said_or false as_bool (get_member key.now (table_view document.now)) }
+{
+    match at(document, key) {
+        None => Some(false),
+        Some(value) => value.as_bool(),
     }
 }
 

@@ -7,18 +7,22 @@
 
 mod address;
 mod document;
+mod endpoint;
 mod fault;
 mod limits;
 mod names;
 mod read;
+mod requests;
 mod settings;
 mod sync;
 mod tenant_limits;
 mod tenants;
 mod users;
 
+pub use endpoint::Endpoint;
 pub use fault::SettingsFault;
 pub use names::tenant_names;
-pub use settings::{Endpoint, Settings, User};
+pub use requests::RequestLimits;
+pub use settings::{Settings, User};
 pub use sync::Sync;
 pub use tenant_limits::{ConnectionLimits, TenantLimits};

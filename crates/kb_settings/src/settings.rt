@@ -6,6 +6,8 @@ ghost use Rattle.kb_settings.specs.Settings.{is_host, is_credential, is_tenant, 
 ghost use Rattle.kb_settings.specs.Names.{in_order};
 ghost use Rattle.kb_settings.specs.Limits.{limits_in, are_limits};
 
+use crate::endpoint::Endpoint;
+use crate::requests::RequestLimits;
 use crate::sync::Sync;
 use crate::tenant_limits::{ConnectionLimits, TenantLimits};
 use crate::tenants::limits_of;
@@ -43,17 +45,6 @@ impl User {
     }
 }
 
-/// A host and a port that clients are told.
-#[derive(Drop)]
-pub struct Endpoint {
-    /// 1 to 255 bytes, neither `0.0.0.0` nor `::`. An IPv6 address stands without brackets.
-    pub host: String,
-    /// The port, from 1.
-    pub port: u16,
-    pub ghost host_fits: { IsTrue (is_listened false (string_bytes host)) },
-    pub ghost port_fits: { 1 ≤ port },
-}
-
 /// The settings of a broker.
 #[derive(Drop)]
 pub struct Settings {
@@ -84,6 +75,10 @@ pub struct Settings {
     pub reply_seconds: u32,
     /// How many sockets there are at most at a time before their login: 1 to `connections`.
     pub strangers: u32,
+    /// By when a request is whole and a socket is used, and how many bytes begun requests take.
+    pub requests: RequestLimits,
+    /// Whether a client that speaks another version of the protocol may be served, as with the flag `--stock-clients`.
+    pub stock_clients: bool,
     /// The data folder, where there is one.
     pub folder: Option<String>,
     /// 1 to 1,000 users, no two of one name, of at most 256 different tenants.
@@ -117,7 +112,8 @@ impl Settings {
     /// `pw2` of tenant `b`. The host is `localhost`, the port 9092, a file has 16,777,216 bytes, 1,024 read batches are kept
     /// of 67,108,864 bytes at most, 1,024 clients are connected at most, 268,435,456 bytes of output are kept, what was done is
     /// made to last each 1,000 ms, a socket has 10 seconds for its login and 60 for the next byte of a reply, all of them may be
-    /// before their login, and there is no folder and are no limits of tenants.
+    /// before their login, a request is whole by 30 seconds, a socket is used by 600, begun requests take 268,435,456 bytes at
+    /// most, and there is no folder and are no limits of tenants.
     pub fn standard(alloc: Global) -> Result<Settings, AllocError>
         ensures value { IfOk result (λ settings. values_of settings ≡ standard) }
         ensures text { IfOk result (λ settings. settings_of standard_text ≡ Some (Ok (values_of settings))) }
@@ -139,6 +135,12 @@ impl Settings {
             login_seconds: 10,
             reply_seconds: 60,
             strangers: 1024,
+            requests: RequestLimits {
+                request_seconds: 30,
+                idle_seconds: 600,
+                input_bytes: 268_435_456,
+            },
+            stock_clients: false,
             folder: None,
             users,
             tenants: Vec::new(alloc),

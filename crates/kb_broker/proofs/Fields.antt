@@ -11,6 +11,7 @@ use Rattle.std.proofs.lemmas.Bool.Decides.{nat_tests}
 use Rattle.kb_waits.specs.Queue as queue
 use Rattle.kb_waits.specs.Queue.{Queue}
 use Rattle.kb_tenant_api.specs.Hosted.{TenantState}
+use Rattle.kb_isolation_spec.specs.declared.shut.Shut.TheVariants as causes
 use Rattle.kb_isolation_spec.specs.Tenant.{Wait}
 use Rattle.kb_isolation_spec.specs.Session.{Stage, Greets, BoundTo, Session, fresh, is_free, fed, without_wait, shut_down}
 use Rattle.kb_isolation_spec.specs.Machine.{Line, those}
@@ -172,7 +173,7 @@ stage-kept old new (inl same) waits = same
 stage-kept old new (inr none) waits = absurd (waits none)
 
 -- a piece leaves a wait as it is, or ends it, also where it could not be kept
-pub stage-fed : {A E : Type 0} (result : Result A E) (piece : List ℕ) (l m : Line) → OnOk result (m ≡ with_session l (fed piece l.session)) → OnErr result (m ≡ with_session l (shut_down l.session))
+pub stage-fed : {A E : Type 0} (result : Result A E) (piece : List ℕ) (l m : Line) → OnOk result (m ≡ with_session l (fed piece l.session)) → OnErr result (m ≡ with_session l (shut_down causes.Memory l.session))
     → (m.session.stage ≡ l.session.stage) ⊎ (deadline_at m.session.stage ≡ None)
 stage-fed (Ok x) piece l m ok err = subst (λ (k : Line). (k.session.stage ≡ l.session.stage) ⊎ (deadline_at k.session.stage ≡ None)) (sym ok) (fed-stage piece l.session)
 stage-fed (Err x) piece l m ok err = inr (ap (λ (k : Line). deadline_at k.session.stage) err ∙ at l.session.stage)
@@ -181,7 +182,7 @@ stage-fed (Err x) piece l m ok err = inr (ap (λ (k : Line). deadline_at k.sessi
     at (Greets h) = refl
     at (BoundTo t w) = refl
 
-pub number-fed : {A E : Type 0} (result : Result A E) (piece : List ℕ) (l m : Line) → OnOk result (m ≡ with_session l (fed piece l.session)) → OnErr result (m ≡ with_session l (shut_down l.session)) → m.number ≡ l.number
+pub number-fed : {A E : Type 0} (result : Result A E) (piece : List ℕ) (l m : Line) → OnOk result (m ≡ with_session l (fed piece l.session)) → OnErr result (m ≡ with_session l (shut_down causes.Memory l.session)) → m.number ≡ l.number
 number-fed (Ok x) piece l m ok err = ap (λ (k : Line). k.number) ok
 number-fed (Err x) piece l m ok err = ap (λ (k : Line). k.number) err
 

@@ -14,6 +14,7 @@ use Rattle.std.proofs.lemmas.List.{get_or_default, length-map}
 use Rattle.kb_tenant_state.specs.Counts.{IsCalm, counted_once}
 use Rattle.kb_tenant_api.specs.Hosted.{Kept, TenantState, names_of, refusals_of}
 use Rattle.kb_tenant_api.specs.Turns.{IsTurn, HavePassed}
+use Rattle.kb_isolation_spec.specs.declared.shut.Shut.TheVariants as causes
 use Rattle.kb_isolation_spec.specs.Session.{Stage, Greets, BoundTo, Session, fresh, shut_down, without_wait, is_free, fed, overruns, room, can}
 use Rattle.kb_tenant_api.specs.Hosted as hosted
 use Rattle.kb_tenant.specs.Replies.{Silent}
@@ -192,7 +193,7 @@ work-taken H b i l m us h = work-put b i l m (set b.lines i m) h.at refl h.spent
 
 pub record IsShut (b c : BrokerState) (i : ℕ) (l m : Line) : Type 0 where
   pub at : IsAt b.lines i l
-  pub is : m ≡ with_session l (shut_down l.session)
+  pub is : m ≡ with_session l (shut_down causes.Memory l.session)
   pub counted : IsCountedAt l.number l.session.stage (put_at b i m) c
 
 -- waiting or not, it is counted for the same
@@ -200,7 +201,7 @@ counted-stage : (n : ℕ) (st : Stage) (b c : BrokerState) → IsCountedAt n (wi
 counted-stage n (Greets h) b c r = r
 counted-stage n (BoundTo t w) b c r = r
 
-pub shut-at : (a b c : BrokerState) (i n : ℕ) (k l m : Line) (st : Stage) → a ≡ b → i < length b.lines → k ≡ get_or a.lines i k → l ≡ get_or a.lines i l → n ≡ l.number → st ≡ without_wait k.session.stage → m ≡ with_session l (shut_down l.session) → IsCountedAt n st (put_at a i m) c → IsShut b c i l m
+pub shut-at : (a b c : BrokerState) (i n : ℕ) (k l m : Line) (st : Stage) → a ≡ b → i < length b.lines → k ≡ get_or a.lines i k → l ≡ get_or a.lines i l → n ≡ l.number → st ≡ without_wait k.session.stage → m ≡ with_session l (shut_down causes.Memory l.session) → IsCountedAt n st (put_at a i m) c → IsShut b c i l m
 shut-at a b c i n k l m st e lt read at number s is counted =
     let here = at-read a b i l e lt at in
     let there = at-read a b i k e lt read in
@@ -230,7 +231,7 @@ ready-counted t n b c r u at k w = each-tenant (λ v. ready (hosted.kept_of b.te
     (λ silent. ap (λ x. ready x at k w) r.left ∙ (ready-left b.clock n (hosted.kept_of b.tenants t) at k w ∙ silent))
     (λ ne silent. ap (λ x. ready x at k w) (r.turn.others tt u ne) ∙ silent)
 
-fed-counted : (b c : BrokerState) (i : ℕ) (l m : Line) (piece : List ℕ) (st : Stage) → IsSound b → first_able b.lines ≡ None → IsAt b.lines i l → l.session.stage ≡ st → m.number ≡ l.number → m.session ≡ shut_down l.session → IsCountedAt l.number st (put_at b i m) c → IsFed l.number piece b c
+fed-counted : (b c : BrokerState) (i : ℕ) (l m : Line) (piece : List ℕ) (st : Stage) → IsSound b → first_able b.lines ≡ None → IsAt b.lines i l → l.session.stage ≡ st → m.number ≡ l.number → m.session ≡ shut_down causes.Memory l.session → IsCountedAt l.number st (put_at b i m) c → IsFed l.number piece b c
 fed-counted b c i l m piece (Greets h) sound settled at s n e r =
     subst (λ x. IsFed l.number piece b x) (sym r.is) (fed-refused b i l m piece h c.unbound_refusals sound settled at s n e
     (once-grows b.unbound_refusals c.unbound_refusals r.once) (once-loud b.unbound_refusals c.unbound_refusals r.once))
@@ -339,7 +340,7 @@ fed-stage piece s = by s.shut (nat_lt (room s) (length piece))
     ended (Greets h) = refl
     ended (BoundTo t w) = refl
 
-    by : (a b : Bool) → let x : Session = cond a s (cond b (shut_down s) (record s { unread = s.unread ++ piece })) in (x.stage ≡ s.stage) ⊎ (deadline_at x.stage ≡ None)
+    by : (a b : Bool) → let x : Session = cond a s (cond b (shut_down causes.Overrun s) (record s { unread = s.unread ++ piece })) in (x.stage ≡ s.stage) ⊎ (deadline_at x.stage ≡ None)
     by true b = inl refl
     by false true = inr (ended s.stage)
     by false false = inl refl
@@ -356,7 +357,7 @@ turn-sure H t ts us turn = record { names = turn.names; grows = turn.grows; coun
 turn-refused : (H : Type 0) (t n : ℕ) (b c : BrokerState) (i : ℕ) (m : Line) (us : List TenantState) → IsTurn t H b.tenants us → IsCountedFor t n (put_with b i m us) c → IsTurn t H b.tenants c.tenants
 turn-refused H t n b c i m us turn r = turn-then t H H b.tenants us c.tenants (λ u. u) turn (turn-sure H t us c.tenants r.turn)
 
-pub refused-taken : (H : Type 0) (b c : BrokerState) (i : ℕ) (l m : Line) (us : List TenantState) (st : Stage) → IsTaken H b i l m us → l.session.stage ≡ st → m.session ≡ shut_down l.session → IsTurnAt H st b.tenants us → IsCountedAt l.number st (put_with b i m us) c → IsGoing b c
+pub refused-taken : (H : Type 0) (b c : BrokerState) (i : ℕ) (l m : Line) (us : List TenantState) (st : Stage) → IsTaken H b i l m us → l.session.stage ≡ st → m.session ≡ shut_down causes.Memory l.session → IsTurnAt H st b.tenants us → IsCountedAt l.number st (put_with b i m us) c → IsGoing b c
 refused-taken H b c i l m us (Greets h) k s e turn r =
     let g = subst (λ ts. IsGoing b (record (put_with b i m ts) { unbound_refusals = c.unbound_refusals })) (sym turn)
     (refused-going b i l m h c.unbound_refusals k.next.sound k.at s k.number e
@@ -365,7 +366,7 @@ refused-taken H b c i l m us (Greets h) k s e turn r =
 refused-taken H b c i l m us (BoundTo t w) k s e turn r =
     subst (λ x. IsGoing b x) (sym r.is) (called-going b i t l m H c.tenants k.next.sound k.at (record { wait = w; is = s }) k.number (k.spent.stage t w s) (turn-refused H t l.number b c i m us turn r))
 
-pub served-refused : (H : Type 0) → H → (scope : Scope) (b c : BrokerState) (i : ℕ) (l m : Line) (us : List TenantState) (st : Stage) → AreStill scope b → IsTaken H b i l m us → l.session.stage ≡ st → m.session ≡ shut_down l.session → IsTurnAt H st b.tenants us → IsCountedAt l.number st (put_with b i m us) c → IsServedAt st scope b c
+pub served-refused : (H : Type 0) → H → (scope : Scope) (b c : BrokerState) (i : ℕ) (l m : Line) (us : List TenantState) (st : Stage) → AreStill scope b → IsTaken H b i l m us → l.session.stage ≡ st → m.session ≡ shut_down causes.Memory l.session → IsTurnAt H st b.tenants us → IsCountedAt l.number st (put_with b i m us) c → IsServedAt st scope b c
 served-refused H honest scope b c i l m us (Greets h) still k s e turn r =
     let f = refused-greeting scope b i l m h c.unbound_refusals k.next.sound still k.at k.able s k.number e
     (once-grows b.unbound_refusals c.unbound_refusals r.once) (once-loud b.unbound_refusals c.unbound_refusals r.once) in

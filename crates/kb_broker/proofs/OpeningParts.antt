@@ -1,7 +1,7 @@
 -- The parts of the broker at its start.
-use Rattle.std.proofs.Common.{◌≡◌, ◌<◌, ◌+◌, ◌++◌, ◌^◌, ◌&&◌, ◌||◌, Bool, false, not, take, ℕ, ℤ, pos, List, [], ◌∷◌, map, length, get_or, refl, sym, ap, subst, ◌∙◌, lit≤, string_bytes, arith}
+use Rattle.std.proofs.Common.{◌≡◌, ◌<◌, ◌+◌, ◌++◌, ◌^◌, ◌&&◌, ◌||◌, Bool, false, not, take, ℕ, ℤ, pos, negsuc, List, [], ◌∷◌, map, length, get_or, refl, sym, ap, subst, ◌∙◌, lit<, lit≤, string_bytes, arith}
 use Rattle.std.proofs.Math.ListN.{get_or-map, length-map}
-use Rattle.std.specs.List.{AllByRecursion, Contains}
+use Rattle.std.specs.List.{AllByRecursion, Contains, filter_map}
 use Rattle.std.proofs.lemmas.List.{get_or_default, map-append, take_more}
 use Rattle.std.proofs.lemmas.List.Elements.{recursion_from_All}
 use Rattle.std.specs.Prelude.{IsTrue}
@@ -34,16 +34,25 @@ versions-fit vs lt = array_fits api_version vs lt (λ k d below. (tt, (tt, tt)))
 abbrev listed_from : ℕ → ℕ → ℕ → ℕ → ℕ → ℤ × ℤ × ℤ × ℤ × ℤ
 listed_from key least greatest stock_least stock_greatest = (pos key, pos least, pos greatest, pos stock_least, pos stock_greatest)
 
+-- the same, listed with stock clients alone
+abbrev listed_from_none : ℕ → ℕ → ℕ → ℤ × ℤ × ℤ × ℤ × ℤ
+listed_from_none key stock_least stock_greatest = (pos key, pos 0, negsuc 0, pos stock_least, pos stock_greatest)
+
 abbrev rows : List (ℤ × ℤ × ℤ × ℤ × ℤ)
 rows =
-    listed_from 0 3 3 3 4 ∷ listed_from 1 4 5 4 6 ∷ listed_from 2 1 1 1 1 ∷ listed_from 3 1 1 0 4 ∷ listed_from 8 2 2 2 4 ∷ listed_from 9 1 1 1 1 ∷
-    listed_from 10 0 0 0 0 ∷ listed_from 11 1 1 1 3 ∷ listed_from 12 0 0 0 2 ∷ listed_from 13 0 0 0 2 ∷ listed_from 14 0 0 0 2 ∷ listed_from 17 1 1 0 1 ∷
-    listed_from 18 0 0 0 0 ∷ listed_from 19 0 0 0 3 ∷ listed_from 20 0 0 0 3 ∷ listed_from 21 0 0 0 1 ∷ listed_from 22 0 0 0 1 ∷ listed_from 36 0 0 0 0 ∷ []
+    listed_from 0 3 3 3 4 ∷ listed_from 1 4 5 4 6 ∷ listed_from 2 1 1 1 1 ∷ listed_from 3 1 1 0 4 ∷ listed_from 8 2 2 2 4 ∷ listed_from 9 1 1 1 4 ∷
+    listed_from 10 0 0 0 0 ∷ listed_from 11 1 1 1 3 ∷ listed_from 12 0 0 0 2 ∷ listed_from 13 0 0 0 2 ∷ listed_from 14 0 0 0 2 ∷
+    listed_from_none 15 0 2 ∷ listed_from_none 16 0 2 ∷ listed_from 17 1 1 0 1 ∷ listed_from 18 0 0 0 0 ∷ listed_from 19 0 0 0 3 ∷
+    listed_from 20 0 0 0 3 ∷ listed_from 21 0 0 0 1 ∷ listed_from 22 0 0 0 1 ∷ listed_from 36 0 0 0 0 ∷ []
 
 -- from it each listing lists what it is to list
-pub all-listed : (listing : Listing) → map (listed_as listing) rows ≡ listed listing
+pub all-listed : (listing : Listing) → filter_map (listed_as listing) rows ≡ listed listing
 all-listed listings.Served = refl
 all-listed listings.StockClients = refl
+
+pub few-listed : (listing : Listing) → length (listed listing) < 2 ^ 31
+few-listed listings.Served = lit< tt
+few-listed listings.StockClients = lit< tt
 
 -- a host of at most 255 bytes fits a reply
 pub host-fits : (host text : List ℕ) → host ≡ text → IsTrue (is_listened false text) → string.Fits host

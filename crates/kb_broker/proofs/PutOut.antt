@@ -5,6 +5,7 @@ use Rattle.kb_tenant.specs.declared.answer.Answer.{Answer as Plain}
 use Rattle.kb_tenant_api.specs.Hosted.{Kept, TenantState, kept_of}
 use Rattle.kb_tenant_api.specs.declared.answer.Answer.{Answer}
 use Rattle.kb_tenant_api.specs.declared.answer.Answer.TheVariants as any
+use Rattle.kb_isolation_spec.specs.declared.shut.Shut.TheVariants as causes
 use Rattle.kb_isolation_spec.specs.declared.head.Head.{Head}
 use Rattle.kb_isolation_spec.specs.Greeting.{Setup, greeted}
 use Rattle.kb_isolation_spec.specs.Machine.{Line, after_turn}
@@ -17,14 +18,14 @@ use Rattle.kb_broker.specs.Places.{IsLookAnswer, IsPutOut, IsToldAgain, IsToldAt
 -- 1. What is put out
 
 -- a connection that was shut has no answer, whichever was meant for it
-pub put-shut : (head : Head) (answer : Answer) (l m : Line) → m ≡ with_session l (shut_down l.session) → IsPutOut head answer l.session m.session
+pub put-shut : (head : Head) (answer : Answer) (l m : Line) → m ≡ with_session l (shut_down causes.Memory l.session) → IsPutOut head answer l.session m.session
 put-shut head answer l m is = inr (ap (λ (x : Line). x.session) is)
 
 -- 2. A request's answer
 
 module _ (failed : Type 0) (full : ℕ → Type 0) (setup : Setup) (clock n t : ℕ) (ts : List TenantState) where
   -- of a connection that was shut before anything was asked
-  pub told-shut : (l m : Line) → m ≡ with_session l (shut_down l.session)
+  pub told-shut : (l m : Line) → m ≡ with_session l (shut_down causes.Memory l.session)
       → IsToldAt failed full setup clock n (BoundTo t None) ts ts l.session m.session
   told-shut l m is = record {
     asked = λ key version head body asks. inr (refl, ap (λ (x : Line). x.session) is);
@@ -62,7 +63,7 @@ module _ (failed : Type 0) (full : ℕ → Type 0) (setup : Setup) (clock n t : 
 -- one that greets comes to what is defined, or is shut
 pub told-greeted : (failed : Type 0) (full : ℕ → Type 0) (setup : Setup) (clock n : ℕ) (ts : List TenantState) (l m : Line)
     (greeting : Greeting) → l.session.stage ≡ Greets greeting
-    → (m ≡ with_session l (greeted setup greeting l.session)) ⊎ (m ≡ with_session l (shut_down l.session))
+    → (m ≡ with_session l (greeted setup greeting l.session)) ⊎ (m ≡ with_session l (shut_down causes.Memory l.session))
     → IsToldAt failed full setup clock n l.session.stage ts ts l.session m.session
 told-greeted failed full setup clock n ts l m greeting greets (inl is) =
     subst (λ st. IsToldAt failed full setup clock n st ts ts l.session m.session) (sym greets) (inl (ap (λ (x : Line). x.session) is))

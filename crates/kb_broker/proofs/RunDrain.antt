@@ -59,9 +59,9 @@ drained-more b old i n l r a e f = ap (λ x. taken x n) f ∙ (ap (taken (draine
 pub drained-at : (b old : BrokerState) (i : ℕ) (l : Line) (ls : List Line) → i < length old.lines → b ≡ drained_to i old → ls ≡ b.lines → l ≡ get_or ls i l → IsAt old.lines i l
 drained-at b old i l ls lt f e h = record { within = lt; here = h ∙ (ap (λ x. get_or x i l) (e ∙ ap (λ (x : BrokerState). x.lines) f) ∙ quieted-at i old.lines l) }
 
-pub drained-sent : (b old : BrokerState) (i : ℕ) (l : Line) (w : Sent) → Rising 0 old.last old.lines → IsAt old.lines i l → b ≡ drained_to i old → w.number ≡ l.number → w.bytes ≡ output_of w.number b → w.shut ≡ l.session.shut → w ≡ sent l
-drained-sent b old i l w r a f n o s =
-    same_sent w (sent l) n (o ∙ (ap (λ x. output_of w.number x) f ∙ (ap (λ k. output_of k (drained_to i old)) n ∙ ap output_in (quieted-find 0 old.last i old.lines l r a)))) s
+pub drained-sent : (b old : BrokerState) (i : ℕ) (l : Line) (w : Sent) → Rising 0 old.last old.lines → IsAt old.lines i l → b ≡ drained_to i old → w.number ≡ l.number → w.bytes ≡ output_of w.number b → w.shut ≡ l.session.shut → w.why ≡ l.session.why → w ≡ sent l
+drained-sent b old i l w r a f n o s y =
+    same_sent w (sent l) n (o ∙ (ap (λ x. output_of w.number x) f ∙ (ap (λ k. output_of k (drained_to i old)) n ∙ ap output_in (quieted-find 0 old.last i old.lines l r a)))) s y
 
 -- one that has no output is as it was
 pub drained-silent : (b old : BrokerState) (i n : ℕ) (l : Line) → Rising 0 old.last old.lines → IsAt old.lines i l → n ≡ l.number → b ≡ drained_to i old → l.session.output ≡ [] → output_of n b ≡ []

@@ -7,14 +7,14 @@ use Rattle.kb_isolation_spec.specs.Session.{Session}
 use Rattle.kb_isolation_spec.specs.Machine.{Line, Sent, Closes, sent, those, leaving}
 use Rattle.kb_isolation_spec.specs.Machine.{find_line}
 use Rattle.kb_isolation_spec.specs.Broker.{BrokerState, IsSound, Rising}
-use Rattle.kb_isolation_spec.specs.Calls.{is_open, is_shut, output_of, open_in, shut_in, output_in}
+use Rattle.kb_isolation_spec.specs.Calls.{is_open, is_shut, output_of, open_in, shut_in, output_in, why_in, why_of}
 use Rattle.kb_broker.specs.Hosts.{OnStore}
 
 -- 1. What a closing connection got
 
 abbrev got_in : ℕ → Option Session → List Sent
 got_in n None = []
-got_in n (Some s) = record { number = n; bytes = s.output; shut = s.shut } ∷ []
+got_in n (Some s) = record { number = n; bytes = s.output; shut = s.shut; why = s.why } ∷ []
 
 above-none : (low last n : ℕ) (ls : List Line) → Rising low last ls → n ≤ low → those (λ k. eqb k n) ls ≡ []
 above-none low last n [] r h = refl
@@ -31,20 +31,22 @@ closes-found low last n (l ∷ ls) r = by (eqb l.number n) refl (closes-found l.
         rw (e, none, ← same) refl
     by false e rest = rw e rest
 
-pub same_sent : (v w : Sent) → v.number ≡ w.number → v.bytes ≡ w.bytes → v.shut ≡ w.shut → v ≡ w
-same_sent v w e f g =
-    let a : Sent = record { number = w.number; bytes = v.bytes; shut = v.shut } in
-    let b : Sent = record { number = w.number; bytes = w.bytes; shut = v.shut } in
-    let p : v ≡ a = ap (λ n. let x : Sent = record { number = n; bytes = v.bytes; shut = v.shut } in x) e in
-    let q : a ≡ b = ap (λ n. let x : Sent = record { number = w.number; bytes = n; shut = v.shut } in x) f in
-    p ∙ (q ∙ ap (λ n. let x : Sent = record { number = w.number; bytes = w.bytes; shut = n } in x) g)
+pub same_sent : (v w : Sent) → v.number ≡ w.number → v.bytes ≡ w.bytes → v.shut ≡ w.shut → v.why ≡ w.why → v ≡ w
+same_sent v w e f g h =
+    let a : Sent = record { number = w.number; bytes = v.bytes; shut = v.shut; why = v.why } in
+    let b : Sent = record { number = w.number; bytes = w.bytes; shut = v.shut; why = v.why } in
+    let p : v ≡ a = ap (λ n. let x : Sent = record { number = n; bytes = v.bytes; shut = v.shut; why = v.why } in x) e in
+    let q : a ≡ b = ap (λ n. let x : Sent = record { number = w.number; bytes = n; shut = v.shut; why = v.why } in x) f in
+    let c : Sent = record { number = w.number; bytes = w.bytes; shut = w.shut; why = v.why } in
+    let r : b ≡ c = ap (λ n. let x : Sent = record { number = w.number; bytes = w.bytes; shut = n; why = v.why } in x) g in
+    p ∙ (q ∙ (r ∙ ap (λ n. let x : Sent = record { number = w.number; bytes = w.bytes; shut = w.shut; why = n } in x) h))
 
-pub closes-open : (n : ℕ) (b : BrokerState) (w : Sent) → IsSound b → is_open n b ≡ true → w.number ≡ n → w.bytes ≡ output_of n b → w.shut ≡ is_shut n b → w ∷ [] ≡ leaving (Closes n) b.lines
-closes-open n b w r o e f g = by (find_line n b.lines) o f g ∙ sym (closes-found 0 b.last n b.lines r.rising)
+pub closes-open : (n : ℕ) (b : BrokerState) (w : Sent) → IsSound b → is_open n b ≡ true → w.number ≡ n → w.bytes ≡ output_of n b → w.shut ≡ is_shut n b → w.why ≡ why_of n b → w ∷ [] ≡ leaving (Closes n) b.lines
+closes-open n b w r o e f g h = by (find_line n b.lines) o f g h ∙ sym (closes-found 0 b.last n b.lines r.rising)
   where
-    by : (x : Option Session) → open_in x ≡ true → w.bytes ≡ output_in x → w.shut ≡ shut_in x → w ∷ [] ≡ got_in n x
-    by None o f g = absurd (cc)
-    by (Some s) o f g = ap (λ x. x ∷ []) (same_sent w (record { number = n; bytes = s.output; shut = s.shut }) e f g)
+    by : (x : Option Session) → open_in x ≡ true → w.bytes ≡ output_in x → w.shut ≡ shut_in x → w.why ≡ why_in x → w ∷ [] ≡ got_in n x
+    by None o f g h = absurd (cc)
+    by (Some s) o f g h = ap (λ x. x ∷ []) (same_sent w (record { number = n; bytes = s.output; shut = s.shut; why = s.why }) e f g h)
 
 pub closes-closed : (n : ℕ) (b : BrokerState) → IsSound b → is_open n b ≡ false → leaving (Closes n) b.lines ≡ []
 closes-closed n b r o = closes-found 0 b.last n b.lines r.rising ∙ by (find_line n b.lines) o

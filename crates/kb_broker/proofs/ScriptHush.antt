@@ -5,9 +5,11 @@ use Rattle.std.specs.Prelude.{codes}
 use Rattle.kb_api_group.specs.Frames.{Front, Whole, Partial, TooSmall, TooLarge, front}
 use Rattle.kb_wire.specs.declared.error_code.ErrorCode.TheVariants as errors
 use Rattle.kb_tenant.specs.Replies.{reply_size}
+use Rattle.kb_isolation_spec.specs.declared.shut.Shut.{Shut}
+use Rattle.kb_isolation_spec.specs.declared.shut.Shut.TheVariants as causes
 use Rattle.kb_isolation_spec.specs.declared.head.Head.{Head}
-use Rattle.kb_isolation_spec.specs.Requests.{Asked, Versions, OtherVersions, Handshake, Authenticate, Another, Malformed, request}
-use Rattle.kb_isolation_spec.specs.Session.{Greeting, Unshaken, Shaken, Bare, Stage, Greets, BoundTo, Session, shut_down, replied, throttled, fed, room}
+use Rattle.kb_isolation_spec.specs.Requests.{Asked, Versions, OtherVersions, Handshake, Authenticate, Another, Malformed, request, unserved}
+use Rattle.kb_isolation_spec.specs.Session.{Greeting, Unshaken, Shaken, Bare, Stage, Greets, BoundTo, Session, shut_down, replied, throttled, fed, room, unanswerable}
 use Rattle.kb_isolation_spec.specs.Greeting.{Setup, authenticate_reply, login, logged_in, bare_login, greeting_after, shaken, authenticated, greeted_by, greeted_frame, greeted_at, greeted}
 use Rattle.kb_isolation_spec.specs.Machine.{Happening, Opens, Comes, Closes, Moment, Line, again}
 use Rattle.kb_isolation_spec.specs.Owners.{greet_turn_at, greet_turn, heard, whose, destiny, Pairwise}
@@ -21,16 +23,16 @@ use Rattle.kb_broker.specs.ScriptRun.{hushed}
 abbrev Same : Session → Session → Type 0
 Same s t = without_output s ≡ without_output t
 
-same-shut : (s t : Session) → Same s t → Same (shut_down s) (shut_down t)
-same-shut s t e = ap shut_down e
+same-shut : (cause : Shut) (s t : Session) → Same s t → Same (shut_down cause s) (shut_down cause t)
+same-shut cause s t e = ap (shut_down cause) e
 
-replied_by : (b : Bool) (x y s t : Session) → Same s t → Same x y → Same (cond b (shut_down s) x) (cond b (shut_down t) y)
-replied_by true x y s t e f = same-shut s t e
-replied_by false x y s t e f = f
+replied_by : (cause : Shut) (b : Bool) (x y s t : Session) → Same s t → Same x y → Same (cond b (shut_down cause s) x) (cond b (shut_down cause t) y)
+replied_by cause true x y s t e f = same-shut cause s t e
+replied_by cause false x y s t e f = f
 
 same-replied : (head : Head) (body : List ℕ) (s t : Session) → Same s t → Same (replied head body s) (replied head body t)
 unfolding replied
-same-replied head body s t e = replied_by (nat_lt 2147483647 (reply_size (throttled head body))) _ _ s t e e
+same-replied head body s t e = replied_by (unanswerable head) (nat_lt 2147483647 (reply_size (throttled head body))) _ _ s t e e
 
 same-stage : (st : Stage) (s t : Session) → Same s t → Same (record s { stage = st }) (record t { stage = st })
 same-stage st s t e = ap (λ (x : Session). record x { stage = st }) e
@@ -39,8 +41,8 @@ same-shaken : (b : Bool) (head : Head) (version : ℤ) (s t : Session) → Same 
 same-shaken true head version s t e = same-replied head _ _ _ (same-stage (Greets (greeting_after version)) s t e)
 same-shaken false head version s t e = same-replied head _ s t e
 
-same-denied : (head : Head) (body : List ℕ) (s t : Session) → Same s t → Same (shut_down (replied head body s)) (shut_down (replied head body t))
-same-denied head body s t e = same-shut (replied head body s) (replied head body t) (same-replied head body s t e)
+same-denied : (head : Head) (body : List ℕ) (s t : Session) → Same s t → Same (shut_down causes.Denied (replied head body s)) (shut_down causes.Denied (replied head body t))
+same-denied head body s t e = same-shut causes.Denied (replied head body s) (replied head body t) (same-replied head body s t e)
 
 same-logged_in : (o : Option ℕ) (head : Head) (s t : Session) → Same s t → Same (logged_in o head s) (logged_in o head t)
 same-logged_in (Some u) head s t e = same-replied head _ _ _ (same-stage (BoundTo u None) s t e)
@@ -56,12 +58,12 @@ same-greeted_by setup h head Versions s t e = same-replied head _ s t e
 same-greeted_by setup h head OtherVersions s t e = same-replied head _ s t e
 same-greeted_by setup h head (Handshake version mechanism) s t e = same-shaken (bytes_eq mechanism (codes "PLAIN")) head version s t e
 same-greeted_by setup h head (Authenticate message) s t e = same-authenticated setup h head message s t e
-same-greeted_by setup h head (Another key version body) s t e = same-shut s t e
-same-greeted_by setup h head Malformed s t e = same-shut s t e
+same-greeted_by setup h head (Another key version body) s t e = same-shut (causes.NotLoggedIn head.api_key head.api_version) s t e
+same-greeted_by setup h head Malformed s t e = same-shut (unserved setup.versions head) s t e
 
 same-bare_login : (o : Option ℕ) (s t : Session) → Same s t → Same (bare_login o s) (bare_login o t)
 same-bare_login (Some u) s t e = same-stage (BoundTo u None) s t e
-same-bare_login None s t e = same-shut s t e
+same-bare_login None s t e = same-shut causes.Denied s t e
 
 same-greeted_frame : (setup : Setup) (h : Greeting) (frame : List ℕ) (s t : Session) → Same s t → Same (greeted_frame setup h frame s) (greeted_frame setup h frame t)
 same-greeted_frame setup Unshaken frame s t e = let r = request setup.versions frame in same-greeted_by setup false r.head r.asked s t e
@@ -70,8 +72,8 @@ same-greeted_frame setup Bare frame s t e = same-bare_login (login setup.users f
 
 same-greeted_at : (setup : Setup) (h : Greeting) (f : Front) (s t : Session) → Same s t → Same (greeted_at setup h s f) (greeted_at setup h t f)
 same-greeted_at setup h (Whole frame rest) s t e = same-greeted_frame setup h frame _ _ (ap (λ (x : Session). record x { unread = rest }) e)
-same-greeted_at setup h TooSmall s t e = same-shut s t e
-same-greeted_at setup h TooLarge s t e = same-shut s t e
+same-greeted_at setup h TooSmall s t e = same-shut causes.TooShort s t e
+same-greeted_at setup h TooLarge s t e = same-shut causes.TooLong s t e
 same-greeted_at setup h Partial s t e = e
 
 same-greeted : (setup : Setup) (h : Greeting) (s t : Session) → Same s t → Same (greeted setup h s) (greeted setup h t)
@@ -104,8 +106,8 @@ fed-hushed : (piece : List ℕ) (s : Session) → without_output (fed piece s) �
 unfolding fed
 fed-hushed piece s = by s.shut (nat_lt (room s) (length piece))
   where
-    by : (a b : Bool) → without_output (cond a s (cond b (shut_down s) (record s { unread = s.unread ++ piece })))
-        ≡ cond a (without_output s) (cond b (shut_down (without_output s)) (record (without_output s) { unread = s.unread ++ piece }))
+    by : (a b : Bool) → without_output (cond a s (cond b (shut_down causes.Overrun s) (record s { unread = s.unread ++ piece })))
+        ≡ cond a (without_output s) (cond b (shut_down causes.Overrun (without_output s)) (record (without_output s) { unread = s.unread ++ piece }))
     by true b = refl
     by false true = refl
     by false false = refl

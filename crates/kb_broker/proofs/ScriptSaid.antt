@@ -28,8 +28,8 @@ since-said all (l ∷ ls) (m ∷ ms) h e =
     let first : m.number ≡ l.number = cc in
     let behind : numbered ms ≡ numbered ls = cc in
     let was : l.session.shut ≡ shut_in (find_line m.number all) = sym (ap (λ k. shut_in (find_line k all)) first ∙ ap shut_in h.0) in
-    ap (λ b. (let x : Sent = record { number = m.number; bytes = m.session.output; shut = m.session.shut && not b } in x) ∷ said_since (shut_marks ls) ms) was
-    ∙ ap (λ ss. (let x : Sent = record { number = m.number; bytes = m.session.output; shut = m.session.shut && not (shut_in (find_line m.number all)) } in x) ∷ ss) (since-said all ls ms h.1 behind)
+    ap (λ b. (let x : Sent = record { number = m.number; bytes = m.session.output; shut = m.session.shut && not b; why = m.session.why } in x) ∷ said_since (shut_marks ls) ms) was
+    ∙ ap (λ ss. (let x : Sent = record { number = m.number; bytes = m.session.output; shut = m.session.shut && not (shut_in (find_line m.number all)); why = m.session.why } in x) ∷ ss) (since-said all ls ms h.1 behind)
 
 pub words-since : (old new : BrokerState) (marks : List Bool) → Rising 0 old.last old.lines → numbers new ≡ numbers old → marks ≡ shut_marks old.lines → step_text (said_since marks new.lines) ≡ words old new
 words-since old new marks rising same is =

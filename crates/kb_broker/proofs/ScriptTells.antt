@@ -81,9 +81,9 @@ those-said : (mine : ℕ → Bool) (old ls : List Line) → those_sent mine (sai
 those-said mine old [] = refl
 those-said mine old (l ∷ ls) = by (mine l.number) refl (those-said mine old ls)
   where
-    by : (a : Bool) → mine l.number ≡ a → those_sent mine (said old ls) ≡ said (those mine old) (those mine ls) → cond a (record { number = l.number; bytes = l.session.output; shut = l.session.shut && not (shut_in (find_line l.number old)) } ∷ those_sent mine (said old ls)) (those_sent mine (said old ls))
+    by : (a : Bool) → mine l.number ≡ a → those_sent mine (said old ls) ≡ said (those mine old) (those mine ls) → cond a (record { number = l.number; bytes = l.session.output; shut = l.session.shut && not (shut_in (find_line l.number old)); why = l.session.why } ∷ those_sent mine (said old ls)) (those_sent mine (said old ls))
         ≡ said (those mine old) (cond a (l ∷ those mine ls) (those mine ls))
-    by true e rest = rw (find-those mine l.number old e) (ap (λ x. record { number = l.number; bytes = l.session.output; shut = l.session.shut && not (shut_in (find_line l.number old)) } ∷ x) rest)
+    by true e rest = rw (find-those mine l.number old e) (ap (λ x. record { number = l.number; bytes = l.session.output; shut = l.session.shut && not (shut_in (find_line l.number old)); why = l.session.why } ∷ x) rest)
     by false e rest = rest
 
 view-hushed : (t : ℕ) (mine : ℕ → Bool) (b : BrokerState) → view_of t mine (hushed b) ≡ quieted (view_of t mine b)

@@ -22,6 +22,7 @@ use Rattle.kb_tenant_api.specs.Replies.{Reaction, Plain, Rebalances, IsAnswer}
 use Rattle.kb_tenant_api.specs.declared.answer.Answer.{Answer}
 use Rattle.kb_tenant_api.specs.declared.answer.Answer.TheVariants as answers
 use Rattle.kb_tenant.specs.declared.node.Node.{Node}
+use Rattle.kb_isolation_spec.specs.declared.shut.Shut.TheVariants as causes
 use Rattle.kb_isolation_spec.specs.declared.head.Head.{Head}
 use Rattle.kb_isolation_spec.specs.Tenant.{Awaited, Wait, Records, Group, answer, asked, kept_after}
 use Rattle.kb_isolation_spec.specs.Requests as requests
@@ -59,7 +60,7 @@ owned-none (Greets h) o e = tt
 owned-none (BoundTo t None) o e = tt
 owned-none (BoundTo t (Some w)) o e = let no : false ≡ true = e in absurd (cc)
 
-pub owned-shut : (l new : Line) (o : Option queue.Wait) → new ≡ with_session l (shut_down l.session) → IsOwnedAt new.session.stage o
+pub owned-shut : (l new : Line) (o : Option queue.Wait) → new ≡ with_session l (shut_down causes.Memory l.session) → IsOwnedAt new.session.stage o
 owned-shut l new o is = owned-none new.session.stage o (ap (λ (x : Line). is_free x.session.stage) is ∙ free-without l.session.stage)
 
 -- nobody stands in the queue under its number
@@ -106,7 +107,7 @@ greeted-free setup h l new greets is = ap (λ (x : Line). is_free x.session.stag
 -- 2. A tenant's answer
 
 -- the connection was shut before the answer was given
-pub spent-refused : (versions : List ApiVersion) (l new : Line) → is_tenants_at versions (front l.session.unread) ≡ true → new ≡ with_session l (shut_down l.session) → IsSpent l.session new.session
+pub spent-refused : (versions : List ApiVersion) (l new : Line) → is_tenants_at versions (front l.session.unread) ≡ true → new ≡ with_session l (shut_down causes.Memory l.session) → IsSpent l.session new.session
 spent-refused versions l new asks is =
     let some = fewer-behind versions l.session.unread asks in
     let left = ap (λ (x : Line). length x.session.unread) is in

@@ -13,6 +13,7 @@ use Rattle.kb_tenant.specs.Replies.{Replies, Waits, Silent, Shuts}
 use Rattle.kb_tenant.specs.declared.answer.Answer.{Answer as Plain}
 use Rattle.kb_tenant_api.specs.Replies.{Reaction, Rebalances, IsAnswer, told_to}
 use Rattle.kb_tenant_api.specs.declared.answer.Answer.TheVariants as group
+use Rattle.kb_isolation_spec.specs.declared.shut.Shut.TheVariants as causes
 use Rattle.kb_isolation_spec.specs.declared.head.Head.{Head}
 use Rattle.kb_isolation_spec.specs.Stranded.{IsMembersAt}
 use Rattle.kb_tenant_api.specs.Serve.{Outcome, IsOutcome, has_released, served}
@@ -20,7 +21,7 @@ use Rattle.kb_tenant_api.specs.declared.answer.Answer.{Answer}
 use Rattle.kb_tenant.specs.declared.answer.Answer.TheVariants as answers
 use Rattle.kb_tenant.specs.declared.node.Node.{Node}
 use Rattle.kb_isolation_spec.specs.Tenant.{Awaited, Records, Group, Wait, is_members, answer, asked, ready, ready_for, kept_after}
-use Rattle.kb_isolation_spec.specs.Session.{Greeting, Greets, BoundTo, Session, can, shut_down, waiting, without_wait}
+use Rattle.kb_isolation_spec.specs.Session.{Greeting, Greets, BoundTo, Session, can, shut_down, waiting, without_wait, unanswerable}
 use Rattle.kb_isolation_spec.specs.Greeting.{Setup, greeted}
 use Rattle.kb_isolation_spec.specs.Machine.{Line, after_reaction, told, woken, woken_by, after_turn as served_by_turn, put}
 use Rattle.kb_isolation_spec.proofs.Laws.{can-turn, some-left, greeted-less, served-less}
@@ -132,7 +133,7 @@ asked-on log disk H honest hosts before-honest node us clock t n id key version 
 -- 2. What a turn leaves of a connection in any case
 
 -- the connection was shut
-pub spent-shut : (l new : Line) → can l.session ≡ true → new ≡ with_session l (shut_down l.session) → IsSpent l.session new.session
+pub spent-shut : (l new : Line) → can l.session ≡ true → new ≡ with_session l (shut_down causes.Memory l.session) → IsSpent l.session new.session
 spent-shut l new able is =
     let some = some-left l.session.unread (can-turn l.session able) in
     let left = ap (λ (x : Line). length x.session.unread) is in
@@ -140,7 +141,7 @@ spent-shut l new able is =
 
 -- a matter of the connection alone
 pub spent-served : {A E : Type 0} (result : Result A E) (setup : Setup) (l new : Line) → can l.session ≡ true → ((kept : Kept) (clock n : ℕ) → OnOk result (new ≡ with_session l (served_by_turn setup kept clock n l.session)))
-    → OnErr result (new ≡ with_session l (shut_down l.session)) → IsSpent l.session new.session
+    → OnErr result (new ≡ with_session l (shut_down causes.Memory l.session)) → IsSpent l.session new.session
 spent-served (Ok x) setup l new able ok err =
     let is = ok nothing 0 0 in
     let less = served-less setup nothing 0 0 l.session (can-turn l.session able) in
@@ -150,7 +151,7 @@ spent-served (Err x) setup l new able ok err = spent-shut l new able err
 
 -- a greeting
 pub spent-greeted : {A E : Type 0} (result : Result A E) (setup : Setup) (h : Greeting) (l new : Line) → l.session.stage ≡ Greets h → can l.session ≡ true → OnOk result (new ≡ with_session l (greeted setup h l.session))
-    → OnErr result (new ≡ with_session l (shut_down l.session)) → IsSpent l.session new.session
+    → OnErr result (new ≡ with_session l (shut_down causes.Memory l.session)) → IsSpent l.session new.session
 spent-greeted (Ok x) setup h l new greets able ok err =
     let less = greeted-less setup h l.session (can-turn l.session able) in
     let left = ap (λ (x : Line). length x.session.unread) ok in
@@ -225,7 +226,7 @@ looked-ok H result whom clock t ts us l new w r stage yours turn stays meets say
     is-of : (reaction : plain.Reaction) → plain.IsAnswer w.head.correlation_id reaction r → new ≡ with_session l (told reaction w.head l.session)
     is-of reaction answers = from_ok result false (new ≡ with_session l (told reaction w.head l.session)) (sym good) refl (ok t w reaction stage answers)
 
-    is-shut : r ≡ answers.Shut → new ≡ with_session l (shut_down l.session)
+    is-shut : r ≡ answers.Shut → new ≡ with_session l (shut_down (unanswerable w.head) l.session)
     is-shut e = is-of Shuts (subst (plain.IsAnswer w.head.correlation_id Shuts) (sym e) tt)
 
     is-told : H → IsLookAnswer t clock l.number ts us w r
@@ -260,7 +261,7 @@ looked-ok H result whom clock t ts us l new w r stage yours turn stays meets say
 
 -- the reply could not be kept: the connection is shut, and a refusal was counted
 pub looked-err : (H : Type 0) (whom : Whom) (clock t : ℕ) (ts us vs : List TenantState) (l new : Line) (w : Wait) → l.session.stage ≡ BoundTo t (Some w) → IsLookedFor whom clock t w → IsTurn t H ts us → IsTurn t (Unit {0}) us vs
-    → (H → (u : ℕ) → kept_of us u ≡ kept_of ts u) → ((u : ℕ) → kept_of vs u ≡ kept_of us u) → (IsCalm (refusals_of us t) (refusals_of vs t) → ⊥) → new ≡ with_session l (shut_down l.session)
+    → (H → (u : ℕ) → kept_of us u ≡ kept_of ts u) → ((u : ℕ) → kept_of vs u ≡ kept_of us u) → (IsCalm (refusals_of us t) (refusals_of vs t) → ⊥) → new ≡ with_session l (shut_down causes.Memory l.session)
     → new.number ≡ l.number → without_wait new.session.stage ≡ without_wait l.session.stage → length new.session.unread ≤ length l.session.unread → (r : Plain) → (H → IsLookAnswer t clock l.number ts us w r) → (is_quiet r ≡ true → new ≡ l)
     → IsLookedAt H whom clock l.session.stage ts vs l new
 looked-err H whom clock t ts us vs l new w stage yours first then stays again counted is number same unread r says quiet =

@@ -6,6 +6,7 @@ use Rattle.kb_tenant_api.specs.Hosted as hosted
 use Rattle.kb_tenant_api.specs.Hosted.{Kept, TenantState, left}
 use Rattle.kb_tenant_api.specs.Turns.{HavePassed, with_kept}
 use Rattle.kb_tenant.specs.Told.{FailedBy}
+use Rattle.kb_isolation_spec.specs.declared.shut.Shut.TheVariants as causes
 use Rattle.kb_isolation_spec.specs.Session.{Stage, Greets, BoundTo, Session, fed, fresh, has_member, overruns, room, shut_down}
 use Rattle.kb_isolation_spec.specs.Machine.{Line, find_line}
 use Rattle.kb_isolation_spec.specs.Broker.{BrokerState, IsSound, kept_of}
@@ -167,14 +168,14 @@ output_fed : (piece : List ℕ) (s : Session) → (fed piece s).output ≡ s.out
 unfolding fed
 output_fed piece s = by s.shut (nat_lt (room s) (length piece))
   where
-    by : (a b : Bool) → (let x : Session = cond a s (cond b (shut_down s) (record s { unread = s.unread ++ piece })) in x.output) ≡ s.output
+    by : (a b : Bool) → (let x : Session = cond a s (cond b (shut_down causes.Overrun s) (record s { unread = s.unread ++ piece })) in x.output) ≡ s.output
     by true b = refl
     by false true = refl
     by false false = refl
 
 -- also where the piece could not be kept
 pub output_kept : {A E : Type 0} (r : Result A E) (piece : List ℕ) (l m : Line) → OnOk r (m ≡ with_session l (fed piece l.session))
-    → OnErr r (m ≡ with_session l (shut_down l.session))
+    → OnErr r (m ≡ with_session l (shut_down causes.Memory l.session))
     → m.session.output ≡ l.session.output
 output_kept (Ok x) piece l m ok err = ap (λ (k : Line). k.session.output) ok ∙ output_fed piece l.session
 output_kept (Err x) piece l m ok err = ap (λ (k : Line). k.session.output) err

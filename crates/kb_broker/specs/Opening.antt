@@ -1,9 +1,10 @@
 -- The broker that opens with settings.
-use Rattle.std.specs.Prelude.{◌≡◌, ℕ, ℤ, pos, List, [], ◌∷◌, map, string_bytes}
+use Rattle.std.specs.Prelude.{◌≡◌, ℕ, ℤ, pos, List, [], ◌∷◌, Option, Some, None, int_le, if◌then◌else◌, map, string_bytes}
 use Rattle.kb_wire.specs.declared.api_key.TheConstants.{PRODUCE, FETCH, LIST_OFFSETS, METADATA, OFFSET_COMMIT, OFFSET_FETCH}
 use Rattle.kb_wire.specs.declared.api_key.TheConstants.{FIND_COORDINATOR, JOIN_GROUP, HEARTBEAT, LEAVE_GROUP, SYNC_GROUP, SASL_HANDSHAKE}
 use Rattle.kb_wire.specs.declared.api_key.TheConstants.{API_VERSIONS, CREATE_TOPICS, DELETE_TOPICS, DELETE_RECORDS, INIT_PRODUCER_ID}
 use Rattle.kb_wire.specs.declared.api_key.TheConstants.{SASL_AUTHENTICATE}
+use Rattle.kb_api_group.specs.declared.group_key.TheConstants.{DESCRIBE_GROUPS, LIST_GROUPS}
 use Rattle.kb_api_group.specs.declared.api_versions.ApiVersion.{ApiVersion}
 use Rattle.kb_isolation_spec.specs.Greeting.{Setup, User as Login}
 use Rattle.kb_coordinator.specs.Groups.{none}
@@ -49,13 +50,14 @@ served_versions =
     at_version CREATE_TOPICS 0 ∷ at_version DELETE_TOPICS 0 ∷ at_version DELETE_RECORDS 0 ∷
     at_version INIT_PRODUCER_ID 0 ∷ at_version SASL_AUTHENTICATE 0 ∷ []
 
--- the same, but Metadata from 0 to 4, SaslHandshake from 0 to 1, CreateTopics and DeleteTopics from 0, and each API up to the last version
--- that is laid out as one of these, but for a throttle time
+-- the same, but Metadata from 0 to 4, SaslHandshake from 0 to 1, CreateTopics and DeleteTopics from 0, DescribeGroups and ListGroups, and
+-- each API up to the last version that is laid out as one of these, but for a throttle time
 abbrev pub stock_versions : List ApiVersion
 stock_versions =
     between PRODUCE 3 4 ∷ between FETCH 4 6 ∷ at_version LIST_OFFSETS 1 ∷ between METADATA 0 4 ∷
-    between OFFSET_COMMIT 2 4 ∷ at_version OFFSET_FETCH 1 ∷ at_version FIND_COORDINATOR 0 ∷
+    between OFFSET_COMMIT 2 4 ∷ between OFFSET_FETCH 1 4 ∷ at_version FIND_COORDINATOR 0 ∷
     between JOIN_GROUP 1 3 ∷ between HEARTBEAT 0 2 ∷ between LEAVE_GROUP 0 2 ∷ between SYNC_GROUP 0 2 ∷
+    between DESCRIBE_GROUPS 0 2 ∷ between LIST_GROUPS 0 2 ∷
     between SASL_HANDSHAKE 0 1 ∷ at_version API_VERSIONS 0 ∷
     between CREATE_TOPICS 0 3 ∷ between DELETE_TOPICS 0 3 ∷ between DELETE_RECORDS 0 1 ∷
     between INIT_PRODUCER_ID 0 1 ∷ at_version SASL_AUTHENTICATE 0 ∷ []
@@ -65,10 +67,15 @@ abbrev pub listed : Listing → List ApiVersion
 listed listings.Served = served_versions
 listed listings.StockClients = stock_versions
 
+-- an API from one version to another, if there is one
+abbrev pub entry_between : ℤ → ℤ → ℤ → Option ApiVersion
+entry_between key least greatest =
+    if int_le least greatest then Some (record { api_key = key; min_version = least; max_version = greatest }) else None
+
 -- what is listed of an API that has a key, a least and greatest version, and a least and greatest version with stock clients
-abbrev pub listed_as : Listing → ℤ × ℤ × ℤ × ℤ × ℤ → ApiVersion
-listed_as listings.Served api = record { api_key = api.0; min_version = api.1; max_version = api.2 }
-listed_as listings.StockClients api = record { api_key = api.0; min_version = api.3; max_version = api.4 }
+abbrev pub listed_as : Listing → ℤ × ℤ × ℤ × ℤ × ℤ → Option ApiVersion
+listed_as listings.Served api = entry_between api.0 api.1 api.2
+listed_as listings.StockClients api = entry_between api.0 api.3 api.4
 
 -- what is fixed
 abbrev pub opening_setup : Listing → Settings → Setup

@@ -21,6 +21,7 @@ use Rattle.kb_tenant_api.specs.declared.answer.Answer.{Answer as AnyAnswer}
 use Rattle.kb_tenant_api.specs.declared.answer.Answer.TheVariants as any
 use Rattle.kb_tenant_api.specs.Serve.{served, AreGroupsAfter}
 use Rattle.kb_tenant_api.specs.Waiters.{AreServed}
+use Rattle.kb_isolation_spec.specs.declared.shut.Shut.TheVariants as causes
 use Rattle.kb_isolation_spec.specs.declared.head.Head.{Head}
 use Rattle.kb_isolation_spec.specs.Stranded.{IsMembersAt, members_of}
 use Rattle.kb_isolation_spec.specs.Tenant.{Awaited, Group, Records, Wait, is_members, ready}
@@ -191,11 +192,11 @@ pub record IsOneMore (i : ℕ) (old new : BrokerState) : Type 0 where
 
 -- a connection that had s has what is defined, or was shut
 abbrev pub IsDoneOrShut : Session → Session → Session → Type 0
-IsDoneOrShut defined s r = (r ≡ defined) ⊎ (r ≡ shut_down s)
+IsDoneOrShut defined s r = (r ≡ defined) ⊎ (r ≡ shut_down causes.Memory s)
 
 -- what an answer to the request of that head says stands behind the output of a connection; or the connection was shut
 abbrev pub IsPutOut : Head → AnyAnswer → Session → Session → Type 0
-IsPutOut head answer s r = (r.output ≡ s.output ++ spoken head answer) ⊎ (r ≡ shut_down s)
+IsPutOut head answer s r = (r.output ≡ s.output ++ spoken head answer) ⊎ (r ≡ shut_down causes.Memory s)
 
 -- The answer to a request of a tenant, which had kept k and keeps l, is the truth of its topics; and its groups are those that the request
 -- makes, or those of before without the last replies, and then the connection is shut.
@@ -214,7 +215,7 @@ pub record IsToldTruth (failed full : Type 0) (node : Node) (clock n : ℕ) (key
 
 -- nothing was asked, as memory to read the request was refused: the tenant keeps what it kept, and the connection was shut
 abbrev pub IsUnasked : Kept → Kept → Session → Session → Type 0
-IsUnasked k l s r = (l ≡ k) × (r ≡ shut_down s)
+IsUnasked k l s r = (l ≡ k) × (r ≡ shut_down causes.Memory s)
 
 -- The turn of a bound connection, whatever was refused in it: the tenant's request in front of it is told the truth; any other is the
 -- connection's own matter, and comes to what is defined, or shuts it, and what the tenant keeps stays.

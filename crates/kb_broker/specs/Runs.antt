@@ -1,5 +1,6 @@
 -- Whole runs: what comes in, what goes out, and the states in between.
-use Rattle.std.specs.Prelude.{◌≡◌, ℕ, List, [], ◌∷◌, ◌++◌, map, Bool, true, false, ◌⊎◌}
+use Rattle.std.specs.Prelude.{◌≡◌, ℕ, List, [], ◌∷◌, ◌++◌, map, Bool, true, false, Some, ◌⊎◌}
+use Rattle.kb_isolation_spec.specs.declared.shut.Shut.TheVariants as causes
 use Rattle.kb_isolation_spec.specs.Machine.{Happening, Opens, Comes, Closes, Moment, Line, Sent, sent, leaving}
 use Rattle.kb_isolation_spec.specs.Broker.{BrokerState, IsStep}
 use Rattle.kb_isolation_spec.specs.Calls.{opened, closed, IsRefused}
@@ -20,7 +21,7 @@ abbrev pub happenings : List Event → List Happening
 happenings es = map happening_of es
 
 abbrev pub sent_of : Written → Sent
-sent_of w = record { number = w.conn; bytes = w.bytes.items; shut = w.shut }
+sent_of w = record { number = w.conn; bytes = w.bytes.items; shut = w.shut; why = w.why }
 
 -- 2. Numbers
 
@@ -47,9 +48,9 @@ connections_of es b = numbers_of_lines b.lines ++ opening es
 
 -- 3. The states in between
 
--- what stands for a connection that could not be kept: nothing was sent to it, and it is shut
+-- what stands for a connection that could not be kept: nothing was sent to it, and it is shut for want of memory
 abbrev pub unkept : ℕ → Sent
-unkept n = record { number = n; bytes = []; shut = true }
+unkept n = record { number = n; bytes = []; shut = true; why = Some causes.Memory }
 
 -- where an event leads, and which connections it ends: one that cannot be kept, and one that closes
 abbrev pub Leads : Happening → BrokerState → BrokerState → List Sent → Type 0

@@ -50,7 +50,8 @@ abbrev pub said_since : List Bool → List Line → List Sent
 said_since [] lines = []
 said_since (was_shut ∷ marks) [] = []
 said_since (was_shut ∷ marks) (l ∷ lines) =
-    record { number = l.number; bytes = l.session.output; shut = l.session.shut && not was_shut } ∷ said_since marks lines
+    record { number = l.number; bytes = l.session.output; shut = l.session.shut && not was_shut; why = l.session.why }
+    ∷ said_since marks lines
 
 -- it happened, and the broker said nothing
 pub record HappensSilently (e : Happening) (old new : BrokerState) : Type 0 where

@@ -1,7 +1,7 @@
 //! The broker at its start: what the settings fix, and nobody connected.
 
 ghost use Rattle.std.specs.Prelude.{◌≡◌, ◌<◌, ℕ, List, [], None, IfOk, IfErr, map, length, get_or};
-ghost use Rattle.std.specs.List.{Contains};
+ghost use Rattle.std.specs.List.{Contains, filter_map};
 ghost use Rattle.std.specs.List.Sorted.{IsStrictlySortedBy};
 ghost use Rattle.kb_wire.specs.Codec.{array};
 ghost use Rattle.kb_api_group.specs.Layouts.{api_version};
@@ -12,12 +12,12 @@ ghost use Rattle.kb_tenant_api.specs.Hosted.{names_of, new_tenant};
 ghost use Rattle.kb_tenants.specs.Members.{HaveNoGroup};
 ghost use Rattle.kb_tenants.specs.Tenants.{numbers_in};
 ghost use Rattle.kb_broker.specs.Hosts.{tenants_in, AreHosted};
-ghost use Rattle.kb_broker.specs.Opening.{listed, listed_as, opening, opening_listing, opening_over, opening_setup, tenants_of, login_of};
-ghost use Rattle.kb_broker.specs.Opening.{fault_for, BlamesStore, HaveNoGroups};
+ghost use Rattle.kb_broker.specs.Opening.{entry_between, listed, listed_as, opening, opening_listing, opening_over, opening_setup};
+ghost use Rattle.kb_broker.specs.Opening.{tenants_of, login_of, fault_for, BlamesStore, HaveNoGroups};
 
 use crate::broker::Broker;
 use crate::engine::Engine;
-use kb_api_group::ApiVersion;
+use kb_api_group::{ApiVersion, group_key};
 use kb_connection::{Login, Setup};
 use kb_log::{ListLog, PartitionLog, Shelf, ShelfRefused};
 use kb_settings::{Settings, User, tenant_names};
@@ -27,22 +27,25 @@ use kb_wire::{Array, api_key};
 use std::alloc::{AllocError, Global};
 use thiserror::Error;
 
-/// An API: its key, its least and greatest version, and its least and greatest version with stock clients.
+/// An API: its key, its least and greatest version, and its least and greatest version with stock clients. Where the greatest is below
+/// the least, the API is not listed.
 type Api = (i16, i16, i16, i16, i16);
 
 /// The APIs that are listed, by rising key (Kafka protocol guide, "Api Keys").
-const APIS: [Api; 18] = [
+const APIS: [Api; 20] = [
     (api_key::PRODUCE, 3, 3, 3, 4),
     (api_key::FETCH, 4, 5, 4, 6),
     (api_key::LIST_OFFSETS, 1, 1, 1, 1),
     (api_key::METADATA, 1, 1, 0, 4),
     (api_key::OFFSET_COMMIT, 2, 2, 2, 4),
-    (api_key::OFFSET_FETCH, 1, 1, 1, 1),
+    (api_key::OFFSET_FETCH, 1, 1, 1, 4),
     (api_key::FIND_COORDINATOR, 0, 0, 0, 0),
     (api_key::JOIN_GROUP, 1, 1, 1, 3),
     (api_key::HEARTBEAT, 0, 0, 0, 2),
     (api_key::LEAVE_GROUP, 0, 0, 0, 2),
     (api_key::SYNC_GROUP, 0, 0, 0, 2),
+    (group_key::DESCRIBE_GROUPS, 0, -1, 0, 2),
+    (group_key::LIST_GROUPS, 0, -1, 0, 2),
     (api_key::SASL_HANDSHAKE, 1, 1, 0, 1),
     (api_key::API_VERSIONS, 0, 0, 0, 0),
     (api_key::CREATE_TOPICS, 0, 0, 0, 3),
@@ -58,29 +61,36 @@ pub enum Listing {
     /// Each API at one version, but Fetch at 4 and 5.
     Served,
     /// The same, and what stock clients ask for beside: Metadata from 0 to 4, SaslHandshake from 0 on, CreateTopics and DeleteTopics
-    /// up to 3, and of nine other APIs the versions that are laid out as these, but for a throttle time. Older clients log in by
-    /// SaslHandshake 0, and librdkafka looks for it in the list before it logs in by version 1.
+    /// up to 3, DescribeGroups and ListGroups from 0 to 2, and of nine other APIs the versions that are laid out as these, but for a
+    /// throttle time. Older clients log in by SaslHandshake 0, and librdkafka looks for it in the list before it logs in by version 1.
     StockClients,
 }
 
 impl Listing {
-    /// What it lists of an API.
-    fn entry(self, api: Api) -> ApiVersion
+    /// What it lists of an API, if it has a version.
+    fn entry(self, api: Api) -> Option<ApiVersion>
         ensures { result ≡ listed_as self api }
     {
         let (api_key, least, greatest, stock_least, stock_greatest) = api;
         match self {
-            Listing::Served => ApiVersion {
-                api_key,
-                min_version: least,
-                max_version: greatest,
-            },
-            Listing::StockClients => ApiVersion {
-                api_key,
-                min_version: stock_least,
-                max_version: stock_greatest,
-            },
+            Listing::Served => entry_between(api_key, least, greatest),
+            Listing::StockClients => entry_between(api_key, stock_least, stock_greatest),
         }
+    }
+}
+
+/// An API from one version to another; `None` where there is none.
+fn entry_between(api_key: i16, min_version: i16, max_version: i16) -> Option<ApiVersion>
+    ensures { result ≡ entry_between api_key min_version max_version }
+{
+    if min_version <= max_version {
+        Some(ApiVersion {
+            api_key,
+            min_version,
+            max_version,
+        })
+    } else {
+        None
     }
 }
 
@@ -254,9 +264,11 @@ fn listed_versions(alloc: Global, listing: Listing) -> Result<Array<ApiVersion>,
 
 /// What it lists of each API.
 fn entries(alloc: Global, listing: Listing, apis: &[Api]) -> Result<Vec<ApiVersion>, AllocError>
-    ensures { IfOk result (λ versions. versions.items ≡ map (listed_as listing) apis.now) }
+    ensures { IfOk result (λ versions. versions.items ≡ filter_map (listed_as listing) apis.now) }
 {
-    apis.iter().map(|api| listing.entry(*api)).collect(alloc)
+    apis.iter()
+        .filter_map(|api| listing.entry(*api))
+        .collect(alloc)
 }
 
 /// The users' logins, where the names are those of their tenants.

@@ -16,6 +16,7 @@ ghost use Rattle.kb_broker.specs.Hosts.{is_honest, IsInFiles, IsLater, IsReadyOn
 ghost use Rattle.kb_broker.specs.Runs.{happening_of, happenings, sent_of, is_opening, connections_of, emptied, IsPassed, Passes};
 
 use crate::broker::Broker;
+use kb_isolation_spec::Shut;
 use kb_log::PartitionLog;
 use kb_store::Store;
 use std::alloc::{AllocError, Global};
@@ -33,12 +34,13 @@ pub enum Event {
     At(u64),
 }
 
-/// What a connection got, and whether the broker shut it, also where it was closed afterwards.
+/// What a connection got, whether the broker shut it, also where it was closed afterwards, and then why.
 #[derive(Drop)]
 pub struct Written {
     pub conn: u64,
     pub bytes: Vec<u8>,
     pub shut: bool,
+    pub why: Option<Shut>,
 }
 
 impl<S: Store, L: PartitionLog + Drop> Broker<S, L> {
@@ -119,6 +121,7 @@ impl<S: Store, L: PartitionLog + Drop> Broker<S, L> {
                         conn: *number,
                         bytes: Vec::new(alloc),
                         shut: true,
+                        why: Some(Shut::Memory),
                     });
                 }
             }
@@ -140,9 +143,15 @@ impl<S: Store, L: PartitionLog + Drop> Broker<S, L> {
     {
         let open = self.is_open(conn);
         let shut = self.shut(conn);
+        let why = self.why(conn);
         let bytes = self.disconnect(alloc, conn);
         if open {
-            written.push_reserved(Written { conn, bytes, shut });
+            written.push_reserved(Written {
+                conn,
+                bytes,
+                shut,
+                why,
+            });
         }
     }
 
@@ -158,8 +167,14 @@ impl<S: Store, L: PartitionLog + Drop> Broker<S, L> {
             let connection = &self.connections()[i];
             let conn = connection.number();
             let shut = connection.is_shut();
+            let why = connection.why();
             let bytes = self.take_output(alloc, conn);
-            written.push_reserved(Written { conn, bytes, shut });
+            written.push_reserved(Written {
+                conn,
+                bytes,
+                shut,
+                why,
+            });
         }
     }
 }

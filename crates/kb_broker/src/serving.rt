@@ -11,6 +11,7 @@ ghost use Rattle.kb_tenant_api.specs.declared.answer.Answer.TheVariants as any;
 ghost use Rattle.kb_tenant.specs.Replies as plain;
 ghost use Rattle.kb_tenant.specs.Told.{FailedBy};
 ghost use Rattle.kb_isolation_spec.specs.declared.head.Head.{Head};
+ghost use Rattle.kb_isolation_spec.specs.declared.shut.Shut.TheVariants as causes;
 ghost use Rattle.kb_isolation_spec.specs.Session.{BoundTo, shut_down, can};
 ghost use Rattle.kb_isolation_spec.specs.Machine.{after_reaction, after_turn, put};
 ghost use Rattle.kb_isolation_spec.specs.Broker.{InRange};
@@ -30,7 +31,7 @@ ghost use Rattle.kb_broker.specs.Parked.{IsWhose};
 
 use crate::parking::Parking;
 use kb_connection::{Awaited, Connection, Phase, Setup, Waiting};
-use kb_isolation_spec::Whom;
+use kb_isolation_spec::{Shut, Whom};
 use kb_log::PartitionLog;
 use kb_store::Store;
 use kb_tenant::{Request, Wait};
@@ -109,7 +110,7 @@ pub fn take_turn<L: PartitionLog + Drop, S: Store>(
         (tenants_in L.log S.disk tenants.new) }
     ensures member { OnOk result (IsMemberTurnAt connection.old.number connection.old.session.stage (tenants_in L.log S.disk tenants.old)
         (tenants_in L.log S.disk tenants.new) connection.new.session.stage) }
-    ensures err { OnErr result (connection.new ≡ with_session connection.old (shut_down connection.old.session)) }
+    ensures err { OnErr result (connection.new ≡ with_session connection.old (shut_down causes.Memory connection.old.session)) }
 {
     match connection.phase() {
         Phase::Greets(greeting) => {
@@ -260,7 +261,7 @@ fn serve_bound<L: PartitionLog + Drop, S: Store>(
         (tenants_in L.log S.disk tenants.new) }
     ensures member { OnOk result (IsMemberTurnAt connection.old.number (BoundTo tenant None) (tenants_in L.log S.disk tenants.old)
         (tenants_in L.log S.disk tenants.new) connection.new.session.stage) }
-    ensures err { OnErr result (connection.new ≡ with_session connection.old (shut_down connection.old.session)) }
+    ensures err { OnErr result (connection.new ≡ with_session connection.old (shut_down causes.Memory connection.old.session)) }
 {
     let (answer, touched) = match connection.request(alloc, setup) {
         Ok(Some(request)) => ask(alloc, setup, tenants, clock, tenant, &request),
@@ -269,7 +270,7 @@ fn serve_bound<L: PartitionLog + Drop, S: Store>(
             return Ok(Touched::Partitions(Vec::new(alloc)));
         }
         Err(e) => {
-            connection.shut_down();
+            connection.shut_down(Shut::Memory);
             return Err(e);
         }
     };
@@ -301,11 +302,11 @@ fn hand_over(
         → until_of (fin.get parking.new connection.old.number) ≡ deadline_at connection.new.session.stage }
     ensures owned { IsOwnedAt connection.new.session.stage (fin.get parking.new connection.old.number) }
     ensures keyed { OnOk result (fin.get parking.new connection.old.number ≡ parked_for tenant answer) }
-    ensures err { OnErr result (connection.new ≡ with_session connection.old (shut_down connection.old.session)) }
+    ensures err { OnErr result (connection.new ≡ with_session connection.old (shut_down causes.Memory connection.old.session)) }
 {
     let number = connection.number();
     if park(alloc, parking, tenant, number, &answer).is_err() {
-        connection.shut_down();
+        connection.shut_down(Shut::Memory);
         return Err(AllocError);
     }
     let given = connection.answer(alloc, setup, answer);

@@ -8,11 +8,11 @@ use Rattle.kb_broker.proofs.broker.Broker.close.Goals as goal
 
 pub returns-then-open-clause-written : goal.returns-then-open-clause-written
 returns-then-open-clause-written g c =
-    let w : Written = record { conn = c.args.conn; bytes = c.disconnect-bytes.result; shut = c.shut-shut.result } in
+    let w : Written = record { conn = c.args.conn; bytes = c.disconnect-bytes.result; shut = c.shut-shut.result; why = c.why-why.result } in
     let ws = c.args.written.now.items in
     ap (map sent_of) c.push_reserved.ensures.items
     ∙ (map_push sent_of ws w
-    ∙ ap (λ ss. map sent_of ws ++ ss) (closes-open c.args.conn c.args.self.now.state (sent_of w) c.requires.ready.sound (sym c.is_open-open.ensures ∙ c.if-open.true) refl c.disconnect-bytes.ensures.output c.shut-shut.ensures))
+    ∙ ap (λ ss. map sent_of ws ++ ss) (closes-open c.args.conn c.args.self.now.state (sent_of w) c.requires.ready.sound (sym c.is_open-open.ensures ∙ c.if-open.true) refl c.disconnect-bytes.ensures.output c.shut-shut.ensures c.why-why.ensures))
 
 pub returns-else-open-clause-written : goal.returns-else-open-clause-written
 returns-else-open-clause-written g c =

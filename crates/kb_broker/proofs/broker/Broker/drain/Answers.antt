@@ -21,10 +21,10 @@ loop-i-preserved g c =
     let state = state-is _ _ v.state in
     let rising = c.requires.ready.sound.rising in
     let l = c.index-connections-i.result in
-    let w : Written = record { conn = c.number-conn.result; bytes = c.take_output-bytes.result; shut = c.is_shut-shut.result } in
+    let w : Written = record { conn = c.number-conn.result; bytes = c.take_output-bytes.result; shut = c.is_shut-shut.result; why = c.why-why.result } in
     let lt : i < length old.lines = (let h = v.end in let t = c.loop-i-test.true in omega arith) in
     let a = drained-at b old i l c.connections.result.now lt state c.connections.ensures.lines c.index-connections-i.is in
-    let got = drained-sent b old i l (sent_of w) rising a state c.number-conn.ensures c.take_output-bytes.ensures.output c.is_shut-shut.ensures in
+    let got = drained-sent b old i l (sent_of w) rising a state c.number-conn.ensures c.take_output-bytes.ensures.output c.is_shut-shut.ensures c.why-why.ensures.is in
     let first = map sent_of c.args.written.now.items in
     let before = map sent (take i old.lines) in
     let more : before ++ sent l ∷ [] ≡ map sent (take (i + 1) old.lines) =

@@ -1,6 +1,7 @@
-use Rattle.std.proofs.Common.{◌≡◌, ◌++◌, ◌∷◌, [], refl, sym, ◌∙◌, ap, subst, inl, inr}
+use Rattle.std.proofs.Common.{◌≡◌, ◌++◌, ◌∷◌, [], refl, sym, ◌∙◌, ap, subst, inl, inr, Some}
 use Rattle.std.specs.Prelude.{map, true}
 use Rattle.std.proofs.lemmas.List.{map_push, append-nil}
+use Rattle.kb_isolation_spec.specs.declared.shut.Shut.TheVariants as causes
 use Rattle.kb_isolation_spec.specs.Machine.{Sent, Comes}
 use Rattle.kb_isolation_spec.specs.Broker.{IsStep}
 use Rattle.kb_isolation_spec.specs.Calls.{IsRefused, opened}
@@ -16,9 +17,9 @@ returns-then-is_err-clause-passed g c =
     let old = c.args.self.now.state in
     let new = c.connect.new.self.state in
     let n = c.in-Open.number in
-    let w : Written = record { conn = n; bytes = c.new.result; shut = true } in
+    let w : Written = record { conn = n; bytes = c.new.result; shut = true; why = Some causes.Memory } in
     let ws = c.args.written.now.items in
-    let added = ap (map sent_of) c.push_reserved.ensures.items ∙ (map_push sent_of ws w ∙ ap (λ b. map sent_of ws ++ (let s : Sent = record { number = n; bytes = b; shut = true } in s) ∷ []) c.new.ensures.items) in
+    let added = ap (map sent_of) c.push_reserved.ensures.items ∙ (map_push sent_of ws w ∙ ap (λ b. map sent_of ws ++ (let s : Sent = record { number = n; bytes = b; shut = true; why = Some causes.Memory } in s) ∷ []) c.new.ensures.items) in
     let refused = when_err c.connect.result (IsRefused old new) (sym c.is_err.ensures.value ∙ c.if-is_err.true) c.connect.ensures.err in
     rw c.in-Open.is (unkept n ∷ [], added, record { step = c.connect.ensures.step; leads = inr (refused, refl) })
 

@@ -19,10 +19,10 @@ loop-i-preserved g c =
     let marks = c.args.were_shut.now in
     let rising = c.requires.ready.sound.rising in
     let l = c.index-connections-i.result in
-    let w : Sent = record { number = c.number-number.result; bytes = c.take_output-output.result.items; shut = c.is_shut.result } in
+    let w : Sent = record { number = c.number-number.result; bytes = c.take_output-output.result.items; shut = c.is_shut.result; why = l.session.why } in
     let lt : i < length old.lines = (let h = v.end in let t = c.loop-i-test.true in omega arith) in
     let a = drained-at b old i l c.connections.result.now lt v.state c.connections.ensures.lines c.index-connections-i.is in
-    let got : w ≡ sent l = drained-sent b old i l w rising a v.state c.number-number.ensures c.take_output-output.ensures.output c.is_shut.ensures in
+    let got : w ≡ sent l = drained-sent b old i l w rising a v.state c.number-number.ensures c.take_output-output.ensures.output c.is_shut.ensures refl in
     let marked : c.if-is_shut.is_shut ≡ (c.is_shut.result && not (get_or marks i false)) = elim c.if-is_shut.branch [ then-is_shut w ↦ search rules | else-is_shut w ↦ search rules ] in
     let spelled : c.in_ok-answer.answer.items ≡ sent_text w.number w.bytes (c.is_shut.result && not (get_or marks i false)) = search rules in
     let before = step_text (said_since (take i marks) (take i old.lines)) in

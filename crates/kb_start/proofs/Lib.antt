@@ -1,2 +1,3 @@
 pub mod Lost
+pub mod Parts
 pub mod Recorded

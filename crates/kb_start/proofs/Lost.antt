@@ -3,19 +3,21 @@ use Rattle.std.proofs.Common.{◌≡◌, ◌∙◌, ◌<◌, ◌+◌, ◌++◌, 
 use Rattle.std.proofs.Common.{Option, Some, None, ◌&&◌, ◌||◌, Bool, true, false, not, is_some, if◌then◌else◌, nat_lt, unwrap_or, refl}
 use Rattle.std.specs.FinMap.{get, keys}
 use Rattle.kb_store.specs.Disk.{Disk, Files, Table}
+use Rattle.kb_batch.specs.Batch.{natural}
 use Rattle.kb_segment.specs.Header.{Header, header_in}
 use Rattle.kb_survey.specs.Listed.{is_in}
-use Rattle.kb_survey.specs.Whole.{front_end, none, whole_in}
+use Rattle.kb_survey.specs.Whole.{none, whole_in}
+use Rattle.kb_survey.specs.Snapshot.{snapshot_end}
 use Rattle.kb_start.specs.declared.left.Left.{Left}
 use Rattle.kb_start.specs.declared.losses.Loss.{Loss}
 use Rattle.kb_start.specs.declared.losses.Opened.{Opened}
 use Rattle.kb_start.specs.Left.{any_dropped, is_dropped}
 use Rattle.kb_start.specs.Starts.{header_at, start_of}
-use Rattle.kb_start.specs.Survey.{dropped_losses, front_end_at, is_superseded, known_of, loss_at, loss_of, losses_of, snapshot_at, snapshot_by, snapshots_in_use, Known}
+use Rattle.kb_start.specs.Survey.{begins, catalog_at, catalog_by, catalogs_in_use, copied_to, dropped_losses, end_at, end_behind, has_lower, is_superseded, known_of, loss_above, loss_at, loss_of, losses_of, used_by, Known}
 use Rattle.kb_start.specs.Survey.{stray_at, stray_loss, stray_losses, unfit_after, with_stray}
 use Rattle.kb_survey.specs.Stray.{stray_of}
 use Rattle.kb_survey.specs.declared.stray.Stray.{Stray}
-use Rattle.kb_survey.specs.declared.stray.Stray.TheVariants.{Short, Unreadable, LaterVersion, LaterGeneration}
+use Rattle.kb_survey.specs.declared.stray.Stray.TheVariants.{Short, Unreadable, LaterVersion}
 use Rattle.kb_survey.specs.declared.stray.Stray.TheVariants.{OfNobody, NeverGivenOut, Unfinished, OfNoTopic}
 
 same_loss : (k : Known) (u : List Header) (d e : Disk) (l : Left) → e.table ≡ d.table → e.files ≡ d.files → loss_of k u e l ≡ loss_of k u d l
@@ -61,39 +63,39 @@ none_lost k u d (l ∷ ls) e =
 
 -- ---- what is in use, file by file
 
-same_snapshot : (strays : List ℕ) (d e : Disk) (l : Left) → e.table ≡ d.table → e.files ≡ d.files → snapshot_at e strays l ≡ snapshot_at d strays l
-same_snapshot strays d e l t f = ap (λ table. of_both table e.files) t ∙ ap (of_both d.table) f
+same_catalog : (strays : List ℕ) (d e : Disk) (l : Left) → e.table ≡ d.table → e.files ≡ d.files → catalog_at e strays l ≡ catalog_at d strays l
+same_catalog strays d e l t f = ap (λ table. of_both table e.files) t ∙ ap (of_both d.table) f
   where
     of_both : Table → Files → List Header
     of_both table files =
         let header = if is_in (keys table) l.file then header_in (unwrap_or (get files l.file) []) else None in
-        if is_some l.after && not (is_in strays l.file) then snapshot_by header else []
+        if is_some l.after && not (is_in strays l.file) then catalog_by header else []
 
-same_snapshots : (strays : List ℕ) (d e : Disk) (ls : List Left) → e.table ≡ d.table → e.files ≡ d.files
-    → snapshots_in_use e strays ls ≡ snapshots_in_use d strays ls
-same_snapshots strays d e [] t f = refl
-same_snapshots strays d e (l ∷ ls) t f =
-    ap (λ x. x ++ snapshots_in_use e strays ls) (same_snapshot strays d e l t f)
-    ∙ ap (λ x. snapshot_at d strays l ++ x) (same_snapshots strays d e ls t f)
+same_used : (strays : List ℕ) (d e : Disk) (ls : List Left) → e.table ≡ d.table → e.files ≡ d.files
+    → catalogs_in_use e strays ls ≡ catalogs_in_use d strays ls
+same_used strays d e [] t f = refl
+same_used strays d e (l ∷ ls) t f =
+    ap (λ x. x ++ catalogs_in_use e strays ls) (same_catalog strays d e l t f)
+    ∙ ap (λ x. catalog_at d strays l ++ x) (same_used strays d e ls t f)
 
 -- the losses of an opening on a disk of the same files
 pub same_dropped : (o : Opened) (d e : Disk) → e.table ≡ d.table → e.files ≡ d.files → dropped_losses o e ≡ dropped_losses o d
 same_dropped o d e t f =
-    let used = snapshots_in_use e o.strays.now o.files.now in
+    let used = catalogs_in_use e o.strays.now o.files.now in
     same_losses (known_of o) used d e o.files.now t f
-    ∙ ap (λ u. losses_of (known_of o) u d o.files.now) (same_snapshots o.strays.now d e o.files.now t f)
+    ∙ ap (λ u. losses_of (known_of o) u d o.files.now) (same_used o.strays.now d e o.files.now t f)
 
 -- with one more file
-pub snapshots_next : (strays : List ℕ) (d e : Disk) (files : List Left) (i : ℕ) (other : Left) (before now all : List Header)
-    → i < length files → e.table ≡ d.table → e.files ≡ d.files → now ≡ before ++ snapshot_at e strays (get_or files i other)
-    → before ++ snapshots_in_use d strays (drop i files) ≡ all → now ++ snapshots_in_use d strays (drop (i + 1) files) ≡ all
-snapshots_next strays d e files i other before now all in_range t f is told =
+pub catalogs_used_next : (strays : List ℕ) (d e : Disk) (files : List Left) (i : ℕ) (other : Left) (before now all : List Header)
+    → i < length files → e.table ≡ d.table → e.files ≡ d.files → now ≡ before ++ catalog_at e strays (get_or files i other)
+    → before ++ catalogs_in_use d strays (drop i files) ≡ all → now ++ catalogs_in_use d strays (drop (i + 1) files) ≡ all
+catalogs_used_next strays d e files i other before now all in_range t f is told =
     let l = get_or files i other in
-    let rest = snapshots_in_use d strays (drop (i + 1) files) in
+    let rest = catalogs_in_use d strays (drop (i + 1) files) in
     let next : drop i files ≡ get_or files i other ∷ drop (i + 1) files = rw (add-one, drop-cons files i other in_range) in
-    ap (λ hs. hs ++ rest) is ∙ append_assoc before (snapshot_at e strays l) rest
-    ∙ ap (λ hs. before ++ (hs ++ rest)) (same_snapshot strays d e l t f)
-    ∙ ap (λ fs. before ++ snapshots_in_use d strays fs) (sym next) ∙ told
+    ap (λ hs. hs ++ rest) is ∙ append_assoc before (catalog_at e strays l) rest
+    ∙ ap (λ hs. before ++ (hs ++ rest)) (same_catalog strays d e l t f)
+    ∙ ap (λ fs. before ++ catalogs_in_use d strays fs) (sym next) ∙ told
 
 -- ---- files that are of no log, one after another
 
@@ -121,48 +123,74 @@ same_loss_at k d e file place t f = ap (λ table. of_both table e.files) t ∙ a
         let whole = if is_in (keys table) file then whole_in start (drop place bytes) else none in
         if nat_lt 0 whole.batches then record { file = file; header = header; whole = whole } ∷ [] else []
 
-same_place : (d e : Disk) (file : ℕ) (o : Option Header) → e.table ≡ d.table → e.files ≡ d.files → front_end_at e file o ≡ front_end_at d file o
-same_place d e file None t f = refl
-same_place d e file (Some h) t f = ap (λ table. of_both table e.files) t ∙ ap (of_both d.table) f
+same_above : (d e : Disk) (file place start : ℕ) → e.table ≡ d.table → e.files ≡ d.files → loss_above e file place start ≡ loss_above d file place start
+same_above d e file place start t f = ap (λ table. of_both table e.files) t ∙ ap (of_both d.table) f
+  where
+    of_both : Table → Files → List Loss
+    of_both table files =
+        let bytes = unwrap_or (get files file) [] in
+        let header = if is_in (keys table) file then header_in bytes else None in
+        let whole = if is_in (keys table) file then whole_in start (drop place bytes) else none in
+        if nat_lt 0 whole.batches then record { file = file; header = header; whole = whole } ∷ [] else []
+
+same_end : (d e : Disk) (file place : ℕ) → e.table ≡ d.table → e.files ≡ d.files → end_at e file place ≡ end_at d file place
+same_end d e file place t f = ap (λ table. of_both table e.files) t ∙ ap (of_both d.table) f
   where
     of_both : Table → Files → ℕ
-    of_both table files = if is_in (keys table) file then front_end h.size (unwrap_or (get files file) []) else h.size
+    of_both table files = if is_in (keys table) file then snapshot_end (drop place (unwrap_or (get files file) [])) else 0
 
-same_stray_loss : (k : Known) (d e : Disk) (file : ℕ) (o : Option Stray) → e.table ≡ d.table → e.files ≡ d.files
-    → stray_loss k e file o ≡ stray_loss k d file o
-same_stray_loss k d e file None t f = refl
-same_stray_loss k d e file (Some Unreadable) t f = same_loss_at k d e file 0 t f
-same_stray_loss k d e file (Some Unfinished) t f =
-    same_loss_at k d e file (front_end_at e file (header_at e file)) t f
-    ∙ ap (loss_at k d file) (same_place d e file (header_at e file) t f ∙ ap (front_end_at d file) (same_header d e file t f))
-same_stray_loss k d e file (Some Short) t f = refl
-same_stray_loss k d e file (Some LaterVersion) t f = refl
-same_stray_loss k d e file (Some LaterGeneration) t f = refl
-same_stray_loss k d e file (Some OfNobody) t f = refl
-same_stray_loss k d e file (Some NeverGivenOut) t f = refl
-same_stray_loss k d e file (Some OfNoTopic) t f = refl
+same_behind : (d e : Disk) (h : Header) (o : Option Header) → e.table ≡ d.table → e.files ≡ d.files → end_behind e h o ≡ end_behind d h o
+same_behind d e h None t f = refl
+same_behind d e h (Some first) t f = ap (λ end. if begins h first then end else 0) (same_end d e (natural h.generation) first.size t f)
 
-pub same_stray_losses : (k : Known) (nexts : List ℕ) (d e : Disk) (files : List ℕ) → e.table ≡ d.table → e.files ≡ d.files
-    → stray_losses k e nexts files ≡ stray_losses k d nexts files
-same_stray_losses k nexts d e [] t f = refl
-same_stray_losses k nexts d e (x ∷ xs) t f =
-    ap (λ ls. ls ++ stray_losses k e nexts xs)
-    (same_stray_loss k d e x (stray_at e k.names nexts x) t f ∙ ap (stray_loss k d x) (same_stray d e k.names nexts x t f))
-    ∙ ap (λ ls. stray_loss k d x (stray_at d k.names nexts x) ++ ls) (same_stray_losses k nexts d e xs t f)
+pub same_copied : (u : List Header) (d e : Disk) (o : Option Header) → e.table ≡ d.table → e.files ≡ d.files → copied_to u e o ≡ copied_to u d o
+same_copied u d e None t f = refl
+same_copied u d e (Some h) t f =
+    let file = natural h.generation in
+    ap (λ end. if has_lower u h then end else 0)
+    (same_behind d e h (header_at e file) t f ∙ ap (end_behind d h) (same_header d e file t f))
+
+same_stray_loss : (k : Known) (u : List Header) (d e : Disk) (file : ℕ) (o : Option Stray) → e.table ≡ d.table → e.files ≡ d.files
+    → stray_loss k u e file o ≡ stray_loss k u d file o
+same_stray_loss k u d e file None t f = refl
+same_stray_loss k u d e file (Some Unreadable) t f = same_loss_at k d e file 0 t f
+same_stray_loss k u d e file (Some Unfinished) t f =
+    same_above d e file 0 (copied_to u e (header_at e file)) t f
+    ∙ ap (loss_above d file 0) (same_copied u d e (header_at e file) t f ∙ ap (copied_to u d) (same_header d e file t f))
+same_stray_loss k u d e file (Some Short) t f = refl
+same_stray_loss k u d e file (Some LaterVersion) t f = refl
+same_stray_loss k u d e file (Some OfNobody) t f = refl
+same_stray_loss k u d e file (Some NeverGivenOut) t f = refl
+same_stray_loss k u d e file (Some OfNoTopic) t f = refl
+
+pub same_stray_losses : (k : Known) (u : List Header) (nexts : List ℕ) (d e : Disk) (files : List ℕ) → e.table ≡ d.table → e.files ≡ d.files
+    → stray_losses k u e nexts files ≡ stray_losses k u d nexts files
+same_stray_losses k u nexts d e [] t f = refl
+same_stray_losses k u nexts d e (x ∷ xs) t f =
+    ap (λ ls. ls ++ stray_losses k u e nexts xs)
+    (same_stray_loss k u d e x (stray_at e k.names nexts x) t f ∙ ap (stray_loss k u d x) (same_stray d e k.names nexts x t f))
+    ∙ ap (λ ls. stray_loss k u d x (stray_at d k.names nexts x) ++ ls) (same_stray_losses k u nexts d e xs t f)
+
+-- by what is in use on a disk of the same files
+pub same_aside : (o : Opened) (nexts : List ℕ) (d e : Disk) → e.table ≡ d.table → e.files ≡ d.files
+    → stray_losses (known_of o) (used_by o e) e nexts o.strays.now ≡ stray_losses (known_of o) (used_by o d) d nexts o.strays.now
+same_aside o nexts d e t f =
+    same_stray_losses (known_of o) (used_by o e) nexts d e o.strays.now t f
+    ∙ ap (λ u. stray_losses (known_of o) u d nexts o.strays.now) (same_used o.strays.now d e o.files.now t f)
 
 -- the losses with one more file
-pub stray_next : (k : Known) (nexts : List ℕ) (d e : Disk) (files : List ℕ) (i other : ℕ) (before now first : List Loss)
+pub stray_next : (k : Known) (u : List Header) (nexts : List ℕ) (d e : Disk) (files : List ℕ) (i other : ℕ) (before now first : List Loss)
     → i < length files → e.table ≡ d.table → e.files ≡ d.files
-    → now ≡ before ++ stray_loss k e (get_or files i other) (stray_at e k.names nexts (get_or files i other))
-    → before ++ stray_losses k d nexts (drop i files) ≡ first → now ++ stray_losses k d nexts (drop (i + 1) files) ≡ first
-stray_next k nexts d e files i other before now first in_range t f is told =
+    → now ≡ before ++ stray_loss k u e (get_or files i other) (stray_at e k.names nexts (get_or files i other))
+    → before ++ stray_losses k u d nexts (drop i files) ≡ first → now ++ stray_losses k u d nexts (drop (i + 1) files) ≡ first
+stray_next k u nexts d e files i other before now first in_range t f is told =
     let file = get_or files i other in
-    let rest = stray_losses k d nexts (drop (i + 1) files) in
+    let rest = stray_losses k u d nexts (drop (i + 1) files) in
     let next : drop i files ≡ file ∷ drop (i + 1) files = rw (add-one, drop-cons files i other in_range) in
-    let same : stray_loss k e file (stray_at e k.names nexts file) ≡ stray_loss k d file (stray_at d k.names nexts file) =
-    same_stray_loss k d e file (stray_at e k.names nexts file) t f ∙ ap (stray_loss k d file) (same_stray d e k.names nexts file t f) in
-    ap (λ ls. ls ++ rest) is ∙ append_assoc before (stray_loss k e file (stray_at e k.names nexts file)) rest
-    ∙ ap (λ ls. before ++ (ls ++ rest)) same ∙ ap (λ fs. before ++ stray_losses k d nexts fs) (sym next) ∙ told
+    let same : stray_loss k u e file (stray_at e k.names nexts file) ≡ stray_loss k u d file (stray_at d k.names nexts file) =
+    same_stray_loss k u d e file (stray_at e k.names nexts file) t f ∙ ap (stray_loss k u d file) (same_stray d e k.names nexts file t f) in
+    ap (λ ls. ls ++ rest) is ∙ append_assoc before (stray_loss k u e file (stray_at e k.names nexts file)) rest
+    ∙ ap (λ ls. before ++ (ls ++ rest)) same ∙ ap (λ fs. before ++ stray_losses k u d nexts fs) (sym next) ∙ told
 
 -- and how many are in the way
 pub unfit_next : (names : List (List ℕ)) (nexts : List ℕ) (d e : Disk) (files : List ℕ) (i other before now first : ℕ)

@@ -2,18 +2,20 @@
 //!
 //! [`Left`] is a file before and after an opening. [`survey`] says of which files whole batches would be gone, and which files are of
 //! no log. [`why_refused`] judges that by what the operator agrees to ([`Consent`]). [`loss_text`], [`damage_text`] and [`stray_text`]
-//! tell it.
+//! tell it. What is dropped of damaged files goes to a [`Keeper`] first ([`keep_dropped`]).
 #![tactic(auto)]
 
+mod generations;
+mod kept;
 mod left;
 mod losses;
 mod starts;
-mod superseded;
 mod text;
 mod verdict;
 
+pub use kept::{KeepFault, Keeper, KeeperRefused, keep_dropped};
 pub use left::{Left, Total};
-pub use losses::{Loss, Opened, StrayCounts, Surveyed, survey};
+pub use losses::{Loss, Opened, StrayCounts, Surveyed, is_replaced, survey};
 pub use starts::recorded_starts;
-pub use text::{damage_text, loss_text, stray_text};
+pub use text::{damage_text, drop_text, loss_text, stray_cause, stray_text};
 pub use verdict::{Cause, Consent, why_refused};

@@ -1,17 +1,18 @@
 //! What a start on a data folder would lose or leave aside, by what its files say.
 
-ghost use Rattle.std.specs.Prelude.{◌≡◌, ◌+◌, ◌++◌, option_copied, IfOk, if◌then◌else◌};
+ghost use Rattle.std.specs.Prelude.{◌≡◌, ◌+◌, ◌++◌, IfOk, if◌then◌else◌};
 ghost use Rattle.std.specs.FinMap.{keys};
 ghost use Rattle.kb_store.specs.Disk.{HasCause, Keeps};
-ghost use Rattle.kb_start.specs.Survey.{dropped_losses, front_end_at, known_of, loss_at, loss_of, losses_of, snapshots_in_use};
-ghost use Rattle.kb_start.specs.Survey.{stray_at, stray_loss, stray_losses, unfit_after, with_stray};
+ghost use Rattle.kb_start.specs.Survey.{dropped_losses, known_of, loss_above, loss_at, loss_of, losses_of};
+ghost use Rattle.kb_start.specs.Starts.{header_at};
+ghost use Rattle.kb_start.specs.Survey.{is_superseded, stray_at, stray_loss, stray_losses, unfit_after, used_by, with_stray};
 
+use crate::generations::{catalogs_in_use, copied_to, is_superseded};
 use crate::left::{Left, any_dropped};
 use crate::starts::start_of;
-use crate::superseded::{is_superseded, snapshots_in_use};
 use kb_segment::SegmentHeader;
 use kb_store::{Store, StoreFault};
-use kb_survey::{Stray, Whole, front_end_among, header_among, stray_among, whole_among};
+use kb_survey::{Stray, Whole, header_among, stray_among, whole_among};
 use kb_topics::MoveStart;
 use std::alloc::{AllocError, Global};
 use std::collections::BTreeMap;
@@ -36,7 +37,7 @@ pub struct StrayCounts {
     pub of_nobody: BTreeMap<String, u64>,
     /// Shorter than a header.
     pub short: u64,
-    /// Of snapshots of catalogs that were not finished.
+    /// Of generations of catalogs that are not in use: their snapshots were not finished.
     pub unfinished: u64,
 }
 
@@ -64,6 +65,7 @@ pub struct Opened<'a> {
 
 /// Surveys the files of a store, which an opening would leave so. It is only read. Batches below a start that is known to be recorded
 /// are no loss: they were to go. So were those of a catalog's generation where a greater one is in use, which begins with a snapshot.
+/// Nor is a snapshot a loss that was not finished, while a lower generation is in use.
 pub fn survey<S: Store>(
     alloc: Global,
     store: &mut S,
@@ -71,7 +73,8 @@ pub fn survey<S: Store>(
 ) -> Result<Surveyed, StoreFault>
     ensures losses { IfOk result (λ found. (S.disk store.new).honest
         → found.losses.items ≡ dropped_losses opened.now (S.disk store.old)
-        ++ stray_losses (known_of opened.now) (S.disk store.old) opened.now.next_instances.now opened.now.strays.now) }
+        ++ stray_losses (known_of opened.now) (used_by opened.now (S.disk store.old)) (S.disk store.old) opened.now.next_instances.now
+        opened.now.strays.now) }
     ensures unfit { IfOk result (λ found. (S.disk store.new).honest
         → found.strays.unfit ≡ unfit_after (S.disk store.old) (known_of opened.now).names opened.now.next_instances.now
         0 opened.now.strays.now) }
@@ -90,8 +93,26 @@ pub fn survey<S: Store>(
         },
     };
     add_dropped(alloc, store, &listed, opened, &mut survey.losses)?;
-    add_strays(alloc, store, &listed, opened, &mut survey)?;
+    add_aside(alloc, store, &listed, opened, &mut survey)?;
     Ok(survey)
+}
+
+/// Whether a file is of a generation of a catalog of which a greater one is in use behind an opening. The store is only read.
+pub fn is_replaced<S: Store>(
+    alloc: Global,
+    store: &mut S,
+    opened: &Opened<'_>,
+    file: u64,
+) -> Result<bool, StoreFault>
+    ensures replaced { IfOk result (λ replaced. (S.disk store.new).honest
+        → replaced ≡ is_superseded (used_by opened.now (S.disk store.old)) (header_at (S.disk store.old) file)) }
+    ensures unchanged { Keeps (S.disk store.old) (S.disk store.new) }
+    ensures cause { HasCause (S.disk store.old) result (S.disk store.new) }
+{
+    let listed = store.list(alloc)?;
+    let used = catalogs_in_use(alloc, store, &listed, opened.strays, opened.files)?;
+    let header = header_among(alloc, store, &listed, file)?;
+    Ok(is_superseded(&used, header.as_ref()))
 }
 
 /// Adds the files of which an opening drops whole batches.
@@ -109,29 +130,29 @@ fn add_dropped<S: Store>(
     ensures cause { HasCause (S.disk store.old) result (S.disk store.new) }
 {
     if any_dropped(opened.files) {
-        let snapshots = snapshots_in_use(alloc, store, listed, opened.strays, opened.files)?;
-        return add_files(alloc, store, listed, opened, &snapshots, losses);
+        let used = catalogs_in_use(alloc, store, listed, opened.strays, opened.files)?;
+        return add_files(alloc, store, listed, opened, &used, losses);
     }
     Ok(())
 }
 
-/// Adds the files of which an opening drops whole batches that no snapshot took the place of, by the headers of those that are in use.
+/// Adds the files of which an opening drops whole batches that no snapshot took the place of, by the headers of the catalogs in use.
 fn add_files<S: Store>(
     alloc: Global,
     store: &mut S,
     listed: &[u64],
     opened: &Opened<'_>,
-    snapshots: &[SegmentHeader],
+    used: &[SegmentHeader],
     losses: &mut Vec<Loss>,
 ) -> Result<(), StoreFault>
     requires { listed.now ≡ keys (S.disk store.old).table }
     ensures losses { IfOk result (λ _. (S.disk store.new).honest → losses.new.items
-        ≡ losses.old.items ++ losses_of (known_of opened.now) snapshots.now (S.disk store.old) opened.now.files.now) }
+        ≡ losses.old.items ++ losses_of (known_of opened.now) used.now (S.disk store.old) opened.now.files.now) }
     ensures unchanged { Keeps (S.disk store.old) (S.disk store.new) }
     ensures cause { HasCause (S.disk store.old) result (S.disk store.new) }
 {
     for file in opened.files {
-        add_left(alloc, store, listed, opened, snapshots, file, losses)?;
+        add_left(alloc, store, listed, opened, used, file, losses)?;
     }
     Ok(())
 }
@@ -142,13 +163,13 @@ fn add_left<S: Store>(
     store: &mut S,
     listed: &[u64],
     opened: &Opened<'_>,
-    snapshots: &[SegmentHeader],
+    used: &[SegmentHeader],
     file: &Left,
     losses: &mut Vec<Loss>,
 ) -> Result<(), StoreFault>
     requires { listed.now ≡ keys (S.disk store.old).table }
     ensures losses { IfOk result (λ _. (S.disk store.new).honest
-        → losses.new.items ≡ losses.old.items ++ loss_of (known_of opened.now) snapshots.now (S.disk store.old) file.now) }
+        → losses.new.items ≡ losses.old.items ++ loss_of (known_of opened.now) used.now (S.disk store.old) file.now) }
     ensures unchanged { Keeps (S.disk store.old) (S.disk store.new) }
     ensures cause { HasCause (S.disk store.old) result (S.disk store.new) }
 {
@@ -156,7 +177,7 @@ fn add_left<S: Store>(
         return Ok(());
     }
     let header = header_among(alloc, store, listed, file.file)?;
-    if is_superseded(snapshots, header.as_ref()) {
+    if is_superseded(used, header.as_ref()) {
         return Ok(());
     }
     let place = file.after.unwrap_or(0);
@@ -181,8 +202,28 @@ fn add_loss<S: Store>(
 {
     let header = header_among(alloc, store, listed, file)?;
     let start = start_of(opened.names, opened.starts, header.as_ref());
+    add_above(alloc, store, listed, file, place, start, losses)
+}
+
+/// Adds a file, where whole batches stand in it from a place on and end above a start.
+fn add_above<S: Store>(
+    alloc: Global,
+    store: &mut S,
+    listed: &[u64],
+    file: u64,
+    place: u64,
+    start: u64,
+    losses: &mut Vec<Loss>,
+) -> Result<(), StoreFault>
+    requires { listed.now ≡ keys (S.disk store.old).table }
+    ensures losses { IfOk result (λ _. (S.disk store.new).honest
+        → losses.new.items ≡ losses.old.items ++ loss_above (S.disk store.old) file place start) }
+    ensures unchanged { Keeps (S.disk store.old) (S.disk store.new) }
+    ensures cause { HasCause (S.disk store.old) result (S.disk store.new) }
+{
     let whole = whole_among(alloc, store, listed, file, place, start)?;
     if whole.batches > 0 {
+        let header = header_among(alloc, store, listed, file)?;
         losses.push(Loss {
             file,
             header,
@@ -193,7 +234,7 @@ fn add_loss<S: Store>(
 }
 
 /// Adds the files that are of no log.
-fn add_strays<S: Store>(
+fn add_aside<S: Store>(
     alloc: Global,
     store: &mut S,
     listed: &[u64],
@@ -203,7 +244,57 @@ fn add_strays<S: Store>(
     requires { listed.now ≡ keys (S.disk store.old).table }
     ensures losses { IfOk result (λ _. (S.disk store.new).honest
         → survey.new.losses.items ≡ survey.old.losses.items
-        ++ stray_losses (known_of opened.now) (S.disk store.old) opened.now.next_instances.now opened.now.strays.now) }
+        ++ stray_losses (known_of opened.now) (used_by opened.now (S.disk store.old)) (S.disk store.old) opened.now.next_instances.now
+        opened.now.strays.now) }
+    ensures unfit { IfOk result (λ _. (S.disk store.new).honest
+        → survey.new.strays.unfit ≡ unfit_after (S.disk store.old) (known_of opened.now).names opened.now.next_instances.now
+        survey.old.strays.unfit opened.now.strays.now) }
+    ensures unchanged { Keeps (S.disk store.old) (S.disk store.new) }
+    ensures cause { HasCause (S.disk store.old) result (S.disk store.new) }
+{
+    if !opened.strays.is_empty() {
+        return add_some(alloc, store, listed, opened, survey);
+    }
+    Ok(())
+}
+
+/// The same where there are such files. What is in use is read for them.
+fn add_some<S: Store>(
+    alloc: Global,
+    store: &mut S,
+    listed: &[u64],
+    opened: &Opened<'_>,
+    survey: &mut Surveyed,
+) -> Result<(), StoreFault>
+    requires { listed.now ≡ keys (S.disk store.old).table }
+    ensures losses { IfOk result (λ _. (S.disk store.new).honest
+        → survey.new.losses.items ≡ survey.old.losses.items
+        ++ stray_losses (known_of opened.now) (used_by opened.now (S.disk store.old)) (S.disk store.old) opened.now.next_instances.now
+        opened.now.strays.now) }
+    ensures unfit { IfOk result (λ _. (S.disk store.new).honest
+        → survey.new.strays.unfit ≡ unfit_after (S.disk store.old) (known_of opened.now).names opened.now.next_instances.now
+        survey.old.strays.unfit opened.now.strays.now) }
+    ensures unchanged { Keeps (S.disk store.old) (S.disk store.new) }
+    ensures cause { HasCause (S.disk store.old) result (S.disk store.new) }
+{
+    let used = catalogs_in_use(alloc, store, listed, opened.strays, opened.files)?;
+    add_strays(alloc, store, listed, opened, &used, survey)?;
+    Ok(())
+}
+
+/// Adds the files that are of no log, by the headers of the catalogs that are in use.
+fn add_strays<S: Store>(
+    alloc: Global,
+    store: &mut S,
+    listed: &[u64],
+    opened: &Opened<'_>,
+    used: &[SegmentHeader],
+    survey: &mut Surveyed,
+) -> Result<(), StoreFault>
+    requires { listed.now ≡ keys (S.disk store.old).table }
+    ensures losses { IfOk result (λ _. (S.disk store.new).honest
+        → survey.new.losses.items ≡ survey.old.losses.items
+        ++ stray_losses (known_of opened.now) used.now (S.disk store.old) opened.now.next_instances.now opened.now.strays.now) }
     ensures unfit { IfOk result (λ _. (S.disk store.new).honest
         → survey.new.strays.unfit ≡ unfit_after (S.disk store.old) (known_of opened.now).names opened.now.next_instances.now
         survey.old.strays.unfit opened.now.strays.now) }
@@ -211,25 +302,26 @@ fn add_strays<S: Store>(
     ensures cause { HasCause (S.disk store.old) result (S.disk store.new) }
 {
     for file in opened.strays {
-        add_stray(alloc, store, listed, opened, *file, survey)?;
+        add_stray(alloc, store, listed, opened, used, *file, survey)?;
     }
     Ok(())
 }
 
-/// Adds a file that is of no log. Where its header cannot be read, its whole batches are a loss. Of a snapshot that was not finished those
-/// are that stand behind damage, and not right behind another.
+/// Adds a file that is of no log. Where its header cannot be read, its whole batches are a loss. Of a generation of a catalog that is not
+/// in use those are that the catalog in use does not say.
 fn add_stray<S: Store>(
     alloc: Global,
     store: &mut S,
     listed: &[u64],
     opened: &Opened<'_>,
+    used: &[SegmentHeader],
     file: u64,
     survey: &mut Surveyed,
 ) -> Result<(), StoreFault>
     requires { listed.now ≡ keys (S.disk store.old).table }
     ensures losses { IfOk result (λ _. (S.disk store.new).honest
         → survey.new.losses.items ≡ survey.old.losses.items
-        ++ stray_loss (known_of opened.now) (S.disk store.old) file
+        ++ stray_loss (known_of opened.now) used.now (S.disk store.old) file
         (stray_at (S.disk store.old) (known_of opened.now).names opened.now.next_instances.now file)) }
     ensures unfit { IfOk result (λ _. (S.disk store.new).honest
         → survey.new.strays.unfit ≡ with_stray survey.old.strays.unfit
@@ -253,38 +345,10 @@ fn add_stray<S: Store>(
         return add_loss(alloc, store, listed, opened, file, 0, &mut survey.losses);
     }
     if stray == Stray::Unfinished {
-        let place = front_end(alloc, store, listed, file, header.as_ref())?;
-        add_loss(
-            alloc,
-            store,
-            listed,
-            opened,
-            file,
-            place,
-            &mut survey.losses,
-        )?;
+        let copied = copied_to(alloc, store, listed, used, file)?;
+        add_above(alloc, store, listed, file, 0, copied, &mut survey.losses)?;
     }
     Ok(survey.strays.add(alloc, stray, header)?)
-}
-
-/// Where the batches end that stand behind a file's header, each right behind the one before it.
-fn front_end<S: Store>(
-    alloc: Global,
-    store: &mut S,
-    listed: &[u64],
-    file: u64,
-    header: Option<&SegmentHeader>,
-) -> Result<u64, StoreFault>
-    requires { listed.now ≡ keys (S.disk store.old).table }
-    ensures end { IfOk result (λ end. (S.disk store.new).honest
-        → end ≡ front_end_at (S.disk store.old) file (option_copied header.entry)) }
-    ensures unchanged { Keeps (S.disk store.old) (S.disk store.new) }
-    ensures cause { HasCause (S.disk store.old) result (S.disk store.new) }
-{
-    match header {
-        Some(header) => front_end_among(alloc, store, listed, file, header.size()),
-        None => Ok(0),
-    }
 }
 
 impl StrayCounts {

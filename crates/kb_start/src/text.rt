@@ -1,9 +1,10 @@
-//! What is told of a start that is refused.
+//! What is told of a start, and of one that is refused.
 
+use crate::left::Left;
 use crate::losses::{Loss, StrayCounts};
 use kb_folder::file_name;
 use kb_segment::SegmentHeader;
-use kb_survey::Whole;
+use kb_survey::{Stray, Whole};
 use std::alloc::{AllocError, Global};
 
 /// What stands behind each reason.
@@ -71,4 +72,34 @@ pub fn stray_text(alloc: Global, path: &str, strays: &StrayCounts) -> Result<Str
         them: what is written then may be dropped later."
     )?)?;
     Ok(text)
+}
+
+/// What an opening drops of a file, of whose generation of a catalog a greater one may have taken the place.
+pub fn drop_text(alloc: Global, left: &Left, is_replaced: bool) -> Result<String, AllocError> {
+    let (file, before) = (left.file, left.before);
+    match left.after {
+        Some(after) => {
+            let bytes = before.saturating_sub(after);
+            format!(in alloc; "dropped file {file}: {bytes} bytes behind the end of its log")
+        }
+        None if is_replaced => format!(in alloc;
+            "dropped file {file} whole, {before} bytes: a snapshot took the place of this part of a catalog"
+        ),
+        None => format!(in alloc;
+            "dropped file {file} whole, {before} bytes: nothing in it is of its log"
+        ),
+    }
+}
+
+/// Why a file is of no log, in words.
+pub fn stray_cause(stray: Stray) -> &'static str {
+    match stray {
+        Stray::Short => "it is shorter than a header",
+        Stray::Unreadable => "its header cannot be read",
+        Stray::LaterVersion => "its header is of a later version",
+        Stray::OfNobody => "no user names its tenant",
+        Stray::NeverGivenOut => "the catalog of its tenant does not know its topic yet",
+        Stray::Unfinished => "it is of a snapshot of a catalog that was not finished",
+        Stray::OfNoTopic => "its topic or its partition is not there any more",
+    }
 }

@@ -5,8 +5,8 @@ ghost use Rattle.kb_start.specs.Verdict.{why_refused};
 
 use crate::losses::Surveyed;
 
-/// What a start goes on without.
-#[derive(Clone, Copy, Debug, PartialEq, Eq)]
+/// What a start goes on without. The default is nothing.
+#[derive(Clone, Copy, Debug, Default, PartialEq, Eq)]
 pub struct Consent {
     /// Batches that stand behind damage.
     pub drop_damaged: bool,

@@ -5,7 +5,7 @@ use Rattle.std.proofs.lemmas.List.{length-append}
 use Rattle.kb_batch.specs.Batch.{front}
 use Rattle.kb_batch.specs.BatchLaws.{batch_long, front_is}
 use Rattle.kb_survey.specs.declared.whole.Whole.{Whole}
-use Rattle.kb_survey.specs.Whole.{batches_in, ends_above, found_in, front_in, front_len, going_on, going_past, together, whole_in, whole_of}
+use Rattle.kb_survey.specs.Whole.{batches_in, ends_above, found_in, going_on, together, whole_in, whole_of}
 
 same_steps : ((s b : List ℕ) → front s ≡ Some b → 1 ≤ length b) → (n m : ℕ) (s : List ℕ) → length s ≤ n → length s ≤ m → found_in n s ≡ found_in m s
 same_steps long zero zero s l k = refl
@@ -24,49 +24,9 @@ same_steps long (suc n) (suc m) (x ∷ s) l k = each (front (x ∷ s)) refl (λ 
         let short = length-drop (length b) (x ∷ s) in
         ap (λ r. b ∷ r) (same (drop (length b) (x ∷ s)) (omega (arith, l, some, short)) (omega (arith, k, some, short)))
 
-same_front : ((s b : List ℕ) → front s ≡ Some b → 1 ≤ length b) → (n m : ℕ) (s : List ℕ) → length s ≤ n → length s ≤ m → front_in n s ≡ front_in m s
-same_front long zero zero s l k = refl
-same_front long zero (suc m) [] l k = refl
-same_front long zero (suc m) (x ∷ s) l k = absurd (omega (arith, l))
-same_front long (suc n) zero [] l k = refl
-same_front long (suc n) zero (x ∷ s) l k = absurd (omega (arith, k))
-same_front long (suc n) (suc m) [] l k = refl
-same_front long (suc n) (suc m) (x ∷ s) l k = each (front (x ∷ s)) refl (λ r a b. same_front long n m r a b)
-  where
-    each : (o : Option (List ℕ)) → front (x ∷ s) ≡ o → ((r : List ℕ) → length r ≤ n → length r ≤ m → front_in n r ≡ front_in m r)
-        → going_past o (front_in n) (x ∷ s) ≡ going_past o (front_in m) (x ∷ s)
-    each None e same = refl
-    each (Some b) e same =
-        let some = long (x ∷ s) b e in
-        let short = length-drop (length b) (x ∷ s) in
-        ap (λ r. length b + r) (same (drop (length b) (x ∷ s)) (omega (arith, l, some, short)) (omega (arith, k, some, short)))
-
--- where no batch stands in front
-pub front_none : (s : List ℕ) → front s ≡ None → front_len s ≡ 0
-front_none [] e = refl
-front_none (x ∷ s) e = ap (λ o. going_past o (front_in (length s)) (x ∷ s)) e
-
 -- a batch has bytes
 pub long : (s b : List ℕ) → front s ≡ Some b → 1 ≤ length b
 long s b e = omega (arith, batch_long b (front_is s b e).is)
-
--- and where one does
-pub front_some : (s b : List ℕ) → 0 < length s → front s ≡ Some b → front_len s ≡ length b + front_len (drop (length b) s)
-front_some [] b l e = absurd (omega (arith, l))
-front_some (x ∷ s) b l e =
-    let some = long (x ∷ s) b e in
-    let short = length-drop (length b) (x ∷ s) in
-    ap (λ o. going_past o (front_in (length s)) (x ∷ s)) e
-    ∙ ap (λ r. length b + r) (same_front long (length s) (length (drop (length b) (x ∷ s))) (drop (length b) (x ∷ s)) (omega (arith, some, short)) (omega arith))
-
--- with the next one
-pub front_next : (s rest b : List ℕ) → Some b ≡ front rest → length b ≤ length rest → front_len s + length rest ≡ length s + front_len rest
-    → front_len s + length (drop (length b) rest) ≡ length s + front_len (drop (length b) rest)
-front_next s rest b e fits told =
-    let here = sym e in
-    let some = long rest b here in
-    let is = front_some rest b (omega (arith, some, fits)) here in
-    omega (arith, some, fits, told, is, length-drop (length b) rest)
 
 none_more : (w : Whole) → w ≡ together (record { batches = 0; bytes = 0 }) w
 none_more w =

@@ -1,12 +1,12 @@
 -- Why a file is of no log, by what its first bytes say.
-use Rattle.std.specs.Prelude.{◌==◌, ◌&&◌, ◌||◌, ℕ, Bool, true, false, nat_le, nat_lt, List, [], ◌∷◌, length, take, Option, Some, None, if◌then◌else◌}
+use Rattle.std.specs.Prelude.{◌==◌, ◌&&◌, ℕ, Bool, true, false, nat_le, nat_lt, List, [], ◌∷◌, length, take, Option, Some, None, if◌then◌else◌}
 use Rattle.std.specs.Int.{w16, w32}
 use Rattle.std.specs.Str.{bytes_eq}
 use Rattle.kb_batch.specs.Batch.{is_natural, natural}
 use Rattle.kb_batch.specs.Header.{number_at}
 use Rattle.kb_segment.specs.Header.{Header, header_in}
 use Rattle.kb_survey.specs.declared.stray.Stray.{Stray}
-use Rattle.kb_survey.specs.declared.stray.Stray.TheVariants.{Short, Unreadable, LaterVersion, LaterGeneration}
+use Rattle.kb_survey.specs.declared.stray.Stray.TheVariants.{Short, Unreadable, LaterVersion}
 use Rattle.kb_survey.specs.declared.stray.Stray.TheVariants.{OfNobody, NeverGivenOut, Unfinished, OfNoTopic}
 
 -- of some tenants' next instances that of the tenant of a name
@@ -29,10 +29,8 @@ stray_by h None = OfNobody
 stray_by h (Some next) =
     if is_of_snapshot h then Unfinished else (if is_never_given_out h next then NeverGivenOut else OfNoTopic)
 
--- This version knows generations of catalogs alone.
 abbrev pub stray_with : Header → List (List ℕ) → List ℕ → Stray
-stray_with h names nexts =
-    if is_natural 1 h.kind || is_natural 0 h.generation then stray_by h (next_of h.tenant names nexts) else LaterGeneration
+stray_with h names nexts = stray_by h (next_of h.tenant names nexts)
 
 -- six bytes begin a header of a version above 2
 abbrev pub is_later : List ℕ → Bool
@@ -54,7 +52,6 @@ stray_of s names nexts = if nat_lt (length s) 35 then Short else stray_read s (h
 abbrev pub is_unfit : Stray → Bool
 is_unfit NeverGivenOut = true
 is_unfit LaterVersion = true
-is_unfit LaterGeneration = true
 is_unfit Short = false
 is_unfit Unreadable = false
 is_unfit OfNobody = false

@@ -36,24 +36,3 @@ together a b = record { batches = a.batches + b.batches; bytes = a.bytes + b.byt
 
 abbrev pub none : Whole
 none = record { batches = 0; bytes = 0 }
-
--- ---- the batches in front
-
--- the batch in front and those right behind it; nothing where none stands
-abbrev pub going_past : Option (List ℕ) → (List ℕ → ℕ) → List ℕ → ℕ
-going_past None len s = 0
-going_past (Some b) len s = length b + len (drop (length b) s)
-
--- in so many steps at most
-abbrev pub front_in : ℕ → List ℕ → ℕ
-front_in zero s = 0
-front_in (suc n) [] = 0
-front_in (suc n) (x ∷ s) = going_past (front (x ∷ s)) (front_in n) (x ∷ s)
-
--- How many bytes the batches have that the bytes begin with, each right behind the one before it.
-abbrev pub front_len : List ℕ → ℕ
-front_len s = front_in (length s) s
-
--- where those end that stand in the bytes from a place on
-abbrev pub front_end : ℕ → List ℕ → ℕ
-front_end place s = place + front_len (drop place s)

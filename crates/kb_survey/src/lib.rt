@@ -2,16 +2,18 @@
 //!
 //! [`Postponed`] is a store that puts off what is cut and removed until the first write ([`PutsOff`]): an opening makes no write, so
 //! that what it would drop can be looked at while all of it is still there. [`whole_batches`] tells how many whole batches stand in the
-//! bytes that would go, and [`read_stray`] why a file is of no log.
+//! bytes that would go, [`read_stray`] why a file is of no log, and [`snapshot_end`] how far a catalog's snapshot reaches.
 #![tactic(auto)]
 
 mod change;
 mod look;
 mod postponed;
+mod snapshot;
 mod stray;
 mod whole;
 
-pub use look::{bytes_among, front_end_among, header_among, stray_among, whole_among};
+pub use look::{bytes_among, header_among, snapshot_end_among, stray_among, whole_among};
 pub use postponed::{Postponed, PutsOff};
+pub use snapshot::snapshot_end;
 pub use stray::{Stray, read_stray};
-pub use whole::{Whole, front_len, whole_batches};
+pub use whole::{Whole, whole_batches};

@@ -5,10 +5,12 @@ ghost use Rattle.kb_store.specs.Disk.{bytes_of, HasCause, Keeps};
 ghost use Rattle.kb_segment.specs.Header.{header_in};
 ghost use Rattle.kb_survey.specs.Listed.{is_in};
 ghost use Rattle.kb_survey.specs.Stray.{stray_of};
-ghost use Rattle.kb_survey.specs.Whole.{front_end, none, whole_in};
+ghost use Rattle.kb_survey.specs.Snapshot.{snapshot_end};
+ghost use Rattle.kb_survey.specs.Whole.{none, whole_in};
 
+use crate::snapshot::snapshot_end;
 use crate::stray::{Stray, read_stray};
-use crate::whole::{Whole, front_len, whole_batches};
+use crate::whole::{Whole, whole_batches};
 use kb_segment::{SegmentHeader, read_header};
 use kb_store::{Store, StoreFault, read_file};
 use std::alloc::Global;
@@ -103,10 +105,10 @@ pub fn whole_among<S: Store>(
     Ok(whole_batches(&bytes[from..], start))
 }
 
-/// Where the batches end that stand in a file from a place on, each right behind the one before it, by the numbers of all that are there:
-/// that place where the file is not there, or no longer than that. Room is asked for by the file's length, which the store answers.
+/// How far the snapshot reaches whose first batch stands at a place of a file, by the numbers of all that are there, as [`snapshot_end`]
+/// tells it: 0 where the file is not there, or no longer than that. Room is asked for by the file's length, which the store answers.
 #[tactic(auto, using(crate::proofs::Listed::is_there))]
-pub fn front_end_among<S: Store>(
+pub fn snapshot_end_among<S: Store>(
     alloc: Global,
     store: &mut S,
     listed: &[u64],
@@ -115,14 +117,14 @@ pub fn front_end_among<S: Store>(
 ) -> Result<u64, StoreFault>
     requires { listed.now ≡ keys (S.disk store.old).table }
     ensures end { IfOk result (λ end. (S.disk store.new).honest
-        → end ≡ (if is_in listed.now file then front_end place (bytes_of (S.disk store.old) file) else place)) }
+        → end ≡ (if is_in listed.now file then snapshot_end (drop place (bytes_of (S.disk store.old) file)) else 0)) }
     ensures unchanged { Keeps (S.disk store.old) (S.disk store.new) }
     ensures cause { HasCause (S.disk store.old) result (S.disk store.new) }
 {
     if !listed.contains(&file) {
-        return Ok(place);
+        return Ok(0);
     }
     let bytes = read_file(alloc, store, file)?;
     let from = place.min(bytes.len() as u64) as usize;
-    Ok(place + front_len(&bytes[from..]) as u64)
+    Ok(snapshot_end(&bytes[from..]))
 }

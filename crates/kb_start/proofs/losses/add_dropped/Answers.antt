@@ -1,5 +1,5 @@
 use Rattle.std.proofs.Common.{◌∙◌, ◌++◌, ap, append-nil, sym}
-use Rattle.kb_start.specs.Survey.{known_of, snapshots_in_use}
+use Rattle.kb_start.specs.Survey.{known_of, used_by}
 use Rattle.kb_start.proofs.Lost.{none_lost}
 use Rattle.kb_start.proofs.losses.add_dropped.Goals as goal
 
@@ -8,6 +8,6 @@ returns-clause-losses g c = λ honest.
     let d = g.S.Store.disk c.args.store.now in
     let opened = c.args.opened.now in
     let had = c.args.losses.now.items in
-    let used = snapshots_in_use d opened.strays.now opened.files.now in
+    let used = used_by opened d in
     sym (append-nil had)
     ∙ ap (λ ls. had ++ ls) (sym (none_lost (known_of opened) used d opened.files.now (sym c.any_dropped.ensures ∙ c.if-any_dropped.false)))

@@ -16,7 +16,7 @@ loop-file-preserved g c =
       later = omega (arith, i.later, c.add_left.ensures.cause.later);
       told = λ honest.
           let before = same.honest honest in
-          lost_next (known_of c.args.opened.now) c.args.snapshots.now (disk c.args.store.now) (disk c.loop-file.store) c.args.opened.now.files.now
+          lost_next (known_of c.args.opened.now) c.args.used.now (disk c.args.store.now) (disk c.loop-file.store) c.args.opened.now.files.now
           c.loop-file.file-index _ c.loop-file.losses.items c.add_left.new.losses.items _ c.loop-file-test.true
           i.unchanged.table (i.unchanged.files before) (c.in_ok-add_left.ensures.losses honest) (i.told before);
     }

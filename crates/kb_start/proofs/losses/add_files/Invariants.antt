@@ -13,6 +13,6 @@ invariant-loop-file g l =
       listed : l.listed ≡ keys now.table;
       unchanged : Keeps old now;
       later : old.failures ≤ now.failures;
-      told : now.honest → l.losses.items ++ losses_of (known_of l.opened) l.snapshots old (drop l.file-index l.opened.files.now)
-          ≡ l.initial.losses.items ++ losses_of (known_of l.opened) l.snapshots old l.opened.files.now;
+      told : now.honest → l.losses.items ++ losses_of (known_of l.opened) l.used old (drop l.file-index l.opened.files.now)
+          ≡ l.initial.losses.items ++ losses_of (known_of l.opened) l.used old l.opened.files.now;
     }

@@ -17,7 +17,7 @@ loop-file-preserved g c =
       later = omega (arith, i.later, c.add_stray.ensures.cause.later);
       told = λ honest.
           let before = same.honest honest in
-          stray_next known c.args.opened.now.next_instances.now (disk c.args.store.now) (disk c.loop-file.store) c.args.opened.now.strays.now
+          stray_next known c.args.used.now c.args.opened.now.next_instances.now (disk c.args.store.now) (disk c.loop-file.store) c.args.opened.now.strays.now
           c.loop-file.file-index _ c.loop-file.survey.losses.items c.add_stray.new.survey.losses.items _ c.loop-file-test.true
           i.unchanged.table (i.unchanged.files before) (c.in_ok-add_stray.ensures.losses honest) (i.told before);
       counted = λ honest.

@@ -15,8 +15,8 @@ invariant-loop-file g l =
       listed : l.listed ≡ keys now.table;
       unchanged : Keeps old now;
       later : old.failures ≤ now.failures;
-      told : now.honest → l.survey.losses.items ++ stray_losses known old nexts (drop l.file-index l.opened.strays.now)
-          ≡ l.initial.survey.losses.items ++ stray_losses known old nexts l.opened.strays.now;
+      told : now.honest → l.survey.losses.items ++ stray_losses known l.used old nexts (drop l.file-index l.opened.strays.now)
+          ≡ l.initial.survey.losses.items ++ stray_losses known l.used old nexts l.opened.strays.now;
       counted : now.honest → unfit_after old known.names nexts l.survey.strays.unfit (drop l.file-index l.opened.strays.now)
           ≡ unfit_after old known.names nexts l.initial.survey.strays.unfit l.opened.strays.now;
     }

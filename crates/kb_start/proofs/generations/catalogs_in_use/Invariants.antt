@@ -1,8 +1,8 @@
 use Rattle.std.proofs.Common.{◌≡◌, ◌≤◌, ◌++◌, drop}
 use Rattle.std.specs.FinMap.{keys}
 use Rattle.kb_store.specs.Disk.{Keeps}
-use Rattle.kb_start.specs.Survey.{snapshots_in_use}
-use Rattle.kb_start.proofs.superseded.snapshots_in_use.Given as goal
+use Rattle.kb_start.specs.Survey.{catalogs_in_use}
+use Rattle.kb_start.proofs.generations.catalogs_in_use.Given as goal
 
 -- those so far, and those of the files that are left
 abbrev pub invariant-loop-file : goal.invariant-loop-file
@@ -13,5 +13,5 @@ invariant-loop-file g l =
       listed : l.listed ≡ keys now.table;
       unchanged : Keeps old now;
       later : old.failures ≤ now.failures;
-      told : now.honest → l.found.items ++ snapshots_in_use old l.strays (drop l.file-index l.files) ≡ snapshots_in_use old l.strays l.files;
+      told : now.honest → l.found.items ++ catalogs_in_use old l.strays (drop l.file-index l.files) ≡ catalogs_in_use old l.strays l.files;
     }

@@ -1,6 +1,0 @@
-use Rattle.std.proofs.Common.{◌≡◌, drop}
-use Rattle.kb_start.specs.Survey.{supersede}
-use Rattle.kb_start.proofs.superseded.supersede.Given as goal
-
-abbrev pub invariant-loop-other : goal.invariant-loop-other
-invariant-loop-other l = supersede (drop l.other-index l.snapshots) l.header ≡ supersede l.snapshots l.header

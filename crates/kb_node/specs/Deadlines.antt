@@ -1,6 +1,8 @@
 -- Until when a socket may keep silent, and which one is closed.
-use Rattle.std.specs.Prelude.{ℕ, ◌+◌, ◌-◌, ◌^◌, ◌==◌, ◌&&◌, ◌||◌, min, List, [], ◌∷◌, Bool, nat_le, slice_get, if◌then◌else◌, Option, Some, None}
-use Rattle.std.specs.BTreeSet.{BTreeSet, keys_between}
+use Rattle.std.specs.Prelude.{ℕ, ◌+◌, ◌-◌, ◌^◌, ◌==◌, ◌&&◌, ◌||◌, min, List, [], ◌∷◌, Bool, true, false, nat_le, slice_get, if◌then◌else◌, Option, Some, None}
+use Rattle.std.specs.BTreeMap.{is_at}
+use Rattle.std.specs.BTreeSet.{BTreeSet, keys_between, insert_key}
+use Rattle.std.specs.Set.{remove_key}
 use Rattle.std.specs.declared.ops.Bound.TheVariants.{Included, Unbounded}
 use Rattle.std.specs.declared.cmp.Ordering.{Ordering}
 use Rattle.std.specs.Ordering.{nat_cmp, ordering_then}
@@ -39,8 +41,8 @@ due now (stranger ∷ others) = if nat_le stranger.1 now then Some stranger.0 el
 
 -- The sockets with a reply that is not all written, each as the moment since which it took no byte of it and the number of its connection:
 -- by rising moment.
-abbrev pub Unread : Type 0
-Unread = List (ℕ × ℕ)
+abbrev pub Moments : Type 0
+Moments = List (ℕ × ℕ)
 
 -- first by the moment, then by the connection
 abbrev pub by_moment : ℕ × ℕ → ℕ × ℕ → Ordering
@@ -52,17 +54,17 @@ abbrev pub patience : Bool → ℕ → ℕ
 patience may_ask millis = if may_ask then millis else min millis 10000
 
 -- the first moment at which one has taken nothing for so long, and the greatest number where none has anything to take
-abbrev pub first_end : ℕ → Unread → ℕ
+abbrev pub first_end : ℕ → Moments → ℕ
 first_end millis [] = 2 ^ 64 - 1
 first_end millis (reply ∷ others) = later reply.0 millis
 
 -- the connection that has taken nothing for longest, where that is so long
-abbrev pub silent : ℕ → ℕ → Unread → Option ℕ
+abbrev pub silent : ℕ → ℕ → Moments → Option ℕ
 silent now millis [] = None
 silent now millis (reply ∷ others) = if nat_le (later reply.0 millis) now then Some reply.1 else None
 
 -- the others, where that one is taken out
-abbrev pub without_silent : ℕ → ℕ → Unread → Unread
+abbrev pub without_silent : ℕ → ℕ → Moments → Moments
 without_silent now millis [] = []
 without_silent now millis (reply ∷ others) = if nat_le (later reply.0 millis) now then others else (reply ∷ others)
 
@@ -70,7 +72,25 @@ without_silent now millis (reply ∷ others) = if nat_le (later reply.0 millis) 
 abbrev pub has_moved : ℕ → ℕ → Bool → Bool
 has_moved before after has_taken = (before == 0) || (after == 0) || has_taken
 
--- 3. Replies of each holder
+-- 3. Requests
+
+-- Since when a request is under way, where one is: from now on where none was before, or where that one became whole since.
+abbrev pub begun_since : Bool → Bool → ℕ → Option ℕ → Option ℕ
+begun_since is_anew false now since = None
+begun_since is_anew true now None = Some now
+begun_since true true now (Some since) = Some now
+begun_since false true now (Some since) = Some since
+
+-- with the connection, where it is so since some moment
+abbrev pub with_since : ℕ → Option ℕ → Moments → Moments
+with_since connection None moments = moments
+with_since connection (Some since) moments = insert_key by_moment moments (since, connection)
+
+abbrev pub without_since : ℕ → Option ℕ → Moments → Moments
+without_since connection None moments = moments
+without_since connection (Some since) moments = remove_key (is_at (by_moment (since, connection))) moments
+
+-- 4. Replies of each holder
 
 -- The same sockets, each as the place of the holder that has it, and then as above.
 abbrev pub Stalls : Type 0

@@ -1,4 +1,4 @@
--- What the holders of sockets may have of replies that are not written.
+-- What the holders of sockets may have of replies that are not written, and of requests that are begun.
 use Rattle.std.specs.Prelude.{ℕ, ◌+◌, ◌-◌, ◌/◌, ◌^◌, min, nat_eq, if◌then◌else◌, unwrap_or}
 use Rattle.kb_shares.specs.declared.share.Share.{Share}
 use Rattle.kb_node.specs.SocketShares.{Seats, holder_of}

@@ -1,5 +1,5 @@
 -- Where the requests in a connection's bytes end.
-use Rattle.std.specs.Prelude.{ℕ, List, ◌+◌, length, take, min, nat_lt, if◌then◌else◌}
+use Rattle.std.specs.Prelude.{ℕ, List, ◌+◌, length, take, min, Bool, not, ◌&&◌, nat_le, nat_lt, if◌then◌else◌}
 use Rattle.std.specs.Int.{w32, from_be_bytes}
 
 -- How many bytes the request in front still has, its size among them, where so many are left of one that was begun (0: none was).
@@ -10,3 +10,24 @@ request_end left s = if nat_lt 0 left then left else (if nat_lt (length s) 4 the
 -- how many bytes at the front are handed on: none past the end of the request, nor more than there is room for
 abbrev pub piece_len : ℕ → ℕ → List ℕ → ℕ
 piece_len left room s = min (min (request_end left s) (length s)) room
+
+-- how many bytes the request in front has that nothing was handed on of: 0 where one is begun, or its size is not there
+abbrev pub awaited : ℕ → List ℕ → ℕ
+awaited left s = if nat_lt 0 left then 0 else request_end 0 s
+
+-- How many bytes the request has that is begun once so many of those in front are handed on, where it had that size if it was begun
+-- before: 0 where it is whole then.
+abbrev pub begun_size : ℕ → ℕ → ℕ → List ℕ → ℕ
+begun_size left size count s = if nat_lt count (request_end left s) then (if nat_lt 0 left then size else request_end left s) else 0
+
+-- the most bytes of a request before the login, the four of its size not among them
+abbrev pub stranger_frame : ℕ
+stranger_frame = 65536
+
+-- A request of so many bytes, those of its size among them, is too long for a socket that has not logged in.
+abbrev pub is_too_long : Bool → ℕ → Bool
+is_too_long is_bound size = not is_bound && nat_lt (4 + stranger_frame) size
+
+-- a request of so many bytes may begin, where none begins of more than `most`
+abbrev pub may_begin : Bool → ℕ → ℕ → Bool
+may_begin is_bound most size = not (is_too_long is_bound size) && nat_le size most

@@ -129,24 +129,24 @@ pub fn has_moved(before: usize, after: usize, has_taken: bool) -> bool
     before == 0 || after == 0 || has_taken
 }
 
-/// The connections whose sockets have a reply that is not all written, and since when each took no byte of it. The one that took none for
-/// longest stands first.
+/// Connections, each with the moment since which something is so of its socket: as that it took no byte of its reply. The one of which it
+/// is so for longest stands first.
 #[derive(Drop)]
-pub struct Unread {
+pub struct Moments {
     moments: BTreeSet<(u64, u64)>,
 }
 
-impl Unread {
+impl Moments {
     /// None.
     pub fn new(alloc: Global) -> Self
         ensures { result.moments.keys ≡ [] }
     {
-        Unread {
+        Moments {
             moments: BTreeSet::new(alloc),
         }
     }
 
-    /// It has something to take from now on, or took some of it now.
+    /// It is so of one from now on.
     pub fn begin(&mut self, connection: u64, now: u64) -> Result<(), AllocError>
         ensures begun { OnOk result (self.new.moments.keys ≡ insert_key by_moment self.old.moments.keys (now, connection)) }
         ensures refused { OnErr result (self.new.moments.keys ≡ self.old.moments.keys) }
@@ -157,14 +157,14 @@ impl Unread {
         }
     }
 
-    /// It took nothing since then, and that ends. Takes no memory.
+    /// It was so since then, and that ends. Takes no memory.
     pub fn end(&mut self, connection: u64, since: u64)
         ensures { self.new.moments.keys ≡ remove_key (is_at (by_moment (since, connection))) self.old.moments.keys }
     {
         self.moments.remove(&(since, connection));
     }
 
-    /// The first moment at which one has taken nothing for so long: the greatest number where none has anything to take.
+    /// The first moment at which it is so of one for so long: the greatest number where it is so of none.
     pub fn first_end(&self, millis: u64) -> u64
         ensures { result ≡ first_end millis self.now.moments.keys }
     {
@@ -174,7 +174,7 @@ impl Unread {
         }
     }
 
-    /// The one that has taken nothing for longest, where that is so long.
+    /// The one of which it is so for longest, where that is so long.
     pub fn silent(&self, now: u64, millis: u64) -> Option<u64>
         ensures { result ≡ silent now millis self.now.moments.keys }
     {
@@ -183,6 +183,7 @@ impl Unread {
             _ => None,
         }
     }
+
     /// The same, which is taken out.
     pub fn take_silent(&mut self, now: u64, millis: u64) -> Option<u64>
         ensures silent { result ≡ silent now millis self.old.moments.keys }

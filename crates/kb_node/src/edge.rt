@@ -6,6 +6,7 @@ mod closing;
 mod serving;
 mod waiting;
 
+use crate::closed::{CLOSED, Closed};
 use crate::commits::Commits;
 use crate::committed::Committed;
 use crate::deadlines::Strangers;
@@ -16,6 +17,7 @@ use crate::replies::shares_of;
 use crate::silences::Silences;
 use crate::socket::Socket;
 use crate::socket_shares::SocketShares;
+use crate::times::Times;
 use crate::turn::Turn;
 use crate::watch::Watch;
 use kb_broker::Broker;
@@ -88,6 +90,10 @@ pub struct Edge<R: Net, S: Store, L: PartitionLog = ListLog> {
     replies: Ledger,
     /// Since when each of those with unwritten output took nothing of it.
     silences: Silences,
+    /// How many bytes their begun requests have.
+    inputs: Ledger,
+    /// By when their requests are to be whole, and since when they are idle.
+    times: Times,
     /// Which sockets are ready. With none all are looked at in each turn.
     watch: Option<Watch>,
     /// Whether an accept may find a socket.
@@ -102,6 +108,10 @@ pub struct Edge<R: Net, S: Store, L: PartitionLog = ListLog> {
     spare: Vec<u64>,
     /// The logins of this turn that failed, the first ones.
     denied: Vec<Denied>,
+    /// The connections of this turn that the broker shut, the first ones.
+    closed: Vec<Closed>,
+    /// How many more there were.
+    more_closed: u64,
     /// The clock of the last turn, in milliseconds.
     clock: u64,
     /// Whether its moment left something due, as it does with what was refused.
@@ -164,6 +174,8 @@ impl<R: Net, S: Store, L: PartitionLog + Drop> Edge<R, S, L> {
         ensures login { IfOk result (λ edge. edge.strangers.millis ≡ limits.login_seconds * 1000) }
         ensures reply { IfOk result (λ edge. edge.reply_millis ≡ limits.reply_seconds * 1000) }
         ensures strangers { IfOk result (λ edge. edge.stranger_limit ≡ limits.strangers) }
+        ensures request { IfOk result (λ edge. edge.times.request_millis ≡ limits.request_seconds * 1000) }
+        ensures idle { IfOk result (λ edge. edge.times.idle_millis ≡ limits.idle_seconds * 1000) }
     {
         let doors = match Doors::open(net, alloc, address, &watch) {
             Ok(doors) => doors,
@@ -181,6 +193,9 @@ impl<R: Net, S: Store, L: PartitionLog + Drop> Edge<R, S, L> {
         let Ok(replies) = shares_of(alloc, u64::from(limits.output_bytes), 0) else {
             return Err(refused(DoorFault::Memory, broker));
         };
+        let Ok(inputs) = shares_of(alloc, u64::from(limits.input_bytes), 0) else {
+            return Err(refused(DoorFault::Memory, broker));
+        };
         Ok(Edge {
             doors,
             limit: limits.sockets as usize,
@@ -193,6 +208,12 @@ impl<R: Net, S: Store, L: PartitionLog + Drop> Edge<R, S, L> {
             strangers: Strangers::new(alloc, u64::from(limits.login_seconds) * 1000),
             replies,
             silences: Silences::new(alloc),
+            inputs,
+            times: Times::new(
+                alloc,
+                u64::from(limits.request_seconds) * 1000,
+                u64::from(limits.idle_seconds) * 1000,
+            ),
             watch,
             can_accept: true,
             ready: buffers.ready,
@@ -200,29 +221,26 @@ impl<R: Net, S: Store, L: PartitionLog + Drop> Edge<R, S, L> {
             asked: buffers.asked,
             spare: buffers.spare,
             denied: buffers.denied,
+            closed: buffers.closed,
+            more_closed: 0,
             clock: 0,
             is_left_due: false,
         })
     }
 
-    /// Sets what tenants may have of the sockets. Until then each may have all.
-    pub fn share_sockets(&mut self, shares: SocketShares)
+    /// Sets what tenants may have of the sockets, and of the bytes of replies and of requests, all for the same tenants. Until then each
+    /// may have all sockets, and all share the bytes as one.
+    pub fn share(&mut self, shares: SocketShares, replies: Ledger, inputs: Ledger)
         requires { vec_len self.old.sockets ≡ 0 }
         ensures shares { self.new.shares ≡ shares }
+        ensures replies { self.new.replies ≡ replies }
+        ensures inputs { self.new.inputs ≡ inputs }
         ensures host { self.new.host ≡ self.old.host }
         ensures sockets { self.new.sockets ≡ self.old.sockets }
     {
         self.shares = shares;
-    }
-
-    /// Sets what tenants may have of the bytes of replies, for as many tenants as may have sockets. Until then all share them as one.
-    pub fn share_replies(&mut self, replies: Ledger)
-        requires { vec_len self.old.sockets ≡ 0 }
-        ensures replies { self.new.replies ≡ replies }
-        ensures host { self.new.host ≡ self.old.host }
-        ensures sockets { self.new.sockets ≡ self.old.sockets }
-    {
         self.replies = replies;
+        self.inputs = inputs;
     }
 
     /// How many sockets were closed so far since their tenant may have no more, by the tenants' places.
@@ -252,6 +270,16 @@ impl<R: Net, S: Store, L: PartitionLog + Drop> Edge<R, S, L> {
         &self.denied
     }
 
+    /// The connections of the last turn that the broker shut and that are closed, at most 16 of them, but for logins that failed.
+    pub fn closed(&self) -> &[Closed] {
+        &self.closed
+    }
+
+    /// How many more of these there were.
+    pub fn more_closed(&self) -> u64 {
+        self.more_closed
+    }
+
     /// One moment, in milliseconds and at most 2^62, and then whatever the sockets take and give now.
     ///
     /// With [`Sync::Always`](kb_settings::Sync::Always) a reply goes out only once all that was done before it was made to last: the
@@ -268,6 +296,8 @@ impl<R: Net, S: Store, L: PartitionLog + Drop> Edge<R, S, L> {
         }
         let mut turn = Turn::default();
         self.denied.clear();
+        self.closed.clear();
+        self.more_closed = 0;
         self.clock = now;
         self.host.moment(alloc, now);
         self.is_left_due = self.host.broker().next_deadline() <= now;
@@ -283,6 +313,7 @@ impl<R: Net, S: Store, L: PartitionLog + Drop> Edge<R, S, L> {
             self.host.commit_in_time(now)?;
             self.serve_at_once(alloc, &mut turn);
         }
+        self.close_late(alloc, &mut turn);
         if turn.closed > 0 {
             self.drop_ended();
         }
@@ -408,7 +439,7 @@ fn refused<S: Store, L: PartitionLog>(fault: DoorFault, broker: Broker<S, L>) ->
     }
 }
 
-/// What is read into, three empty lists with room for all connections, and one for failed logins.
+/// What is read into, three empty lists with room for all connections, one for failed logins, and one for what the broker shut.
 #[derive(Drop)]
 struct Buffers {
     buffer: Vec<u8>,
@@ -416,6 +447,7 @@ struct Buffers {
     asked: Vec<u64>,
     spare: Vec<u64>,
     denied: Vec<Denied>,
+    closed: Vec<Closed>,
 }
 
 impl Buffers {
@@ -428,6 +460,7 @@ impl Buffers {
             asked: Vec::with_capacity(alloc, room)?,
             spare: Vec::with_capacity(alloc, room)?,
             denied: Vec::with_capacity(alloc, DENIED)?,
+            closed: Vec::with_capacity(alloc, CLOSED)?,
         })
     }
 }

@@ -1,7 +1,7 @@
 //! What was read on a socket and is not the connection's yet.
 
-ghost use Rattle.std.specs.Prelude.{◌≡◌, ◌≤◌, ◌-◌, length, vec_len};
-ghost use Rattle.kb_node.specs.Requests.{request_end, piece_len};
+ghost use Rattle.std.specs.Prelude.{◌≡◌, ◌≤◌, ◌-◌, true, drop, length, nat_lt, vec_len};
+ghost use Rattle.kb_node.specs.Requests.{request_end, piece_len, awaited, begun_size};
 
 use std::alloc::{AllocError, Global};
 
@@ -24,23 +24,42 @@ fn end_of_request(left: usize, bytes: &[u8]) -> usize
 pub struct Progress {
     /// How many bytes of the request are still to be handed on, 0 between two requests.
     left: usize,
+    /// How many it has, its size among them.
+    size: usize,
 }
 
 impl Progress {
     /// Between two requests.
     pub fn new() -> Self
-        ensures { result.left ≡ 0 }
+        ensures { (result.left ≡ 0) × (result.size ≡ 0) }
     {
-        Progress { left: 0 }
+        Progress { left: 0, size: 0 }
     }
 
     /// Whether some of a request was handed on, and not all of it.
-    pub fn is_begun(&self) -> bool {
+    pub fn is_begun(&self) -> bool
+        ensures { result ≡ nat_lt 0 self.now.left }
+    {
         self.left > 0
     }
 
+    /// How many bytes the request in front has, its size among them, of which nothing was handed on: 0 where one is begun, or its size is
+    /// not there.
+    pub fn awaited(&self, bytes: &[u8]) -> usize
+        ensures { result ≡ awaited self.now.left bytes.now }
+    {
+        if self.left > 0 {
+            0
+        } else {
+            end_of_request(0, bytes)
+        }
+    }
+
     /// Whether none of the bytes can be handed on before more are there.
-    pub fn is_short(&self, bytes: &[u8]) -> bool {
+    #[tactic(auto, unfolding(crate::specs::Requests::request_end))]
+    pub fn is_short(&self, bytes: &[u8]) -> bool
+        ensures { result ≡ true → awaited self.now.left bytes.now ≡ 0 }
+    {
         bytes.is_empty() || end_of_request(self.left, bytes) == 0
     }
 
@@ -49,12 +68,15 @@ impl Progress {
     pub fn advance(&mut self, bytes: &[u8], room: usize) -> usize
         ensures cut { result ≡ piece_len self.old.left room bytes.now }
         ensures remaining { self.new.left ≡ request_end self.old.left bytes.now - result }
+        ensures size { self.new.size ≡ begun_size self.old.left self.old.size result bytes.now }
         ensures within { result ≤ length bytes.now }
         ensures fits { result ≤ room }
     {
         let end = end_of_request(self.left, bytes);
         let count = end.min(bytes.len()).min(room);
+        let size = if self.left > 0 { self.size } else { end };
         self.left = end - count;
+        self.size = if self.left > 0 { size } else { 0 };
         count
     }
 }
@@ -85,17 +107,54 @@ impl Input {
     }
 
     /// Whether some of the request in front was handed on.
-    pub fn is_begun(&self) -> bool {
+    pub fn is_begun(&self) -> bool
+        ensures { result ≡ nat_lt 0 self.now.progress.left }
+    {
         self.progress.is_begun()
     }
 
+    /// How many bytes the request has of which some was handed on: 0 where there is none.
+    pub fn begun(&self) -> usize
+        ensures { result ≡ self.now.progress.size }
+    {
+        self.progress.size
+    }
+
+    /// How many bytes the request in front has of which nothing was handed on: 0 where one is begun, or its size is not there.
+    pub fn awaited(&self) -> usize
+        ensures { result ≡ awaited self.now.progress.left (drop self.now.handed self.now.bytes.items) }
+    {
+        self.progress.awaited(&self.bytes[self.handed..])
+    }
+
+    /// The same of a piece where nothing is kept.
+    pub fn awaited_in(&self, piece: &[u8]) -> usize
+        ensures { result ≡ awaited self.now.progress.left piece.now }
+    {
+        self.progress.awaited(piece)
+    }
+
+    /// Whether some of a request came, and it is to be read on.
+    pub fn is_under_way(&self) -> bool {
+        self.is_begun() || !self.is_empty() && self.is_short()
+    }
+
+    /// Whether the size of the request in front is there, and not all of it, where nothing of it was handed on.
+    pub fn is_part(&self) -> bool {
+        self.bytes.len() - self.handed < self.awaited()
+    }
+
     /// Whether nothing can be handed on before more is read.
-    pub fn is_short(&self) -> bool {
+    pub fn is_short(&self) -> bool
+        ensures { result ≡ true → awaited self.now.progress.left (drop self.now.handed self.now.bytes.items) ≡ 0 }
+    {
         self.progress.is_short(&self.bytes[self.handed..])
     }
 
     /// Keeps bytes behind the others.
-    pub fn push(&mut self, bytes: &[u8]) -> Result<(), AllocError> {
+    pub fn push(&mut self, bytes: &[u8]) -> Result<(), AllocError>
+        ensures { self.new.progress ≡ self.old.progress }
+    {
         self.bytes.extend_from_slice(bytes)
     }
 
@@ -118,7 +177,9 @@ impl Input {
     }
 
     /// Forgets what was handed on, where that is all.
-    pub fn tidy(&mut self, alloc: Global) {
+    pub fn tidy(&mut self, alloc: Global)
+        ensures { self.new.progress ≡ self.old.progress }
+    {
         if self.is_empty() {
             self.bytes = Vec::new(alloc);
             self.handed = 0;

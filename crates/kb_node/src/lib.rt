@@ -6,6 +6,7 @@
 //! on a network and is turned by hand.
 #![tactic(auto)]
 
+mod closed;
 mod commits;
 mod committed;
 mod deadlines;
@@ -21,10 +22,12 @@ mod silences;
 mod socket;
 mod socket_shares;
 mod start;
+mod times;
 mod transfer;
 mod turn;
 mod watch;
 
+pub use closed::Closed;
 pub use doors::BindCause;
 pub use edge::{BindFault, BindRefused, Edge};
 pub use fault::{NodeFault, StartFault};
@@ -33,7 +36,7 @@ pub use kb_settings::{Sync, tenant_names};
 pub use kb_store::{Store, StoreFault};
 pub use limits::Limits;
 pub use login::Denied;
-pub use replies::reply_shares;
+pub use replies::{input_shares, reply_shares};
 pub use script::{play_script, play_script_on, play_script_with};
 pub use socket_shares::SocketShares;
 pub use start::{data_folder, read_settings};

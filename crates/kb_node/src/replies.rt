@@ -1,4 +1,4 @@
-//! What the holders of sockets may have of replies that are not written.
+//! What the holders of sockets may have of replies that are not written, and of requests that are begun.
 
 ghost use Rattle.std.specs.Prelude.{◌≡◌, ◌+◌, [], IfOk, replicate};
 ghost use Rattle.kb_shares.specs.Shares.{fresh};
@@ -6,7 +6,7 @@ ghost use Rattle.kb_node.specs.Replies.{share_of};
 
 use kb_settings::{Settings, tenant_names};
 use kb_shares::{BudgetFault, Ledger, Share};
-use std::alloc::Global;
+use std::alloc::{AllocError, Global};
 
 /// What a holder has of so many bytes, for so many tenants.
 ///
@@ -40,7 +40,18 @@ pub fn shares_of(alloc: Global, total: u64, tenants: u32) -> Result<Ledger, Budg
 
 /// The shares of replies that are not written, for the tenants of the settings.
 pub fn reply_shares(alloc: Global, settings: &Settings) -> Result<Ledger, BudgetFault> {
-    let names = tenant_names(alloc, &settings.users)?;
-    let tenants = u32::try_from(names.len()).unwrap_or(u32::MAX);
+    let tenants = tenants_of(alloc, settings)?;
     shares_of(alloc, u64::from(settings.output_bytes), tenants)
+}
+
+/// The shares of requests that are begun, for the tenants of the settings.
+pub fn input_shares(alloc: Global, settings: &Settings) -> Result<Ledger, BudgetFault> {
+    let tenants = tenants_of(alloc, settings)?;
+    shares_of(alloc, u64::from(settings.requests.input_bytes), tenants)
+}
+
+/// How many tenants the settings have.
+fn tenants_of(alloc: Global, settings: &Settings) -> Result<u32, AllocError> {
+    let names = tenant_names(alloc, &settings.users)?;
+    Ok(u32::try_from(names.len()).unwrap_or(u32::MAX))
 }

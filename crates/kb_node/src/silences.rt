@@ -6,7 +6,7 @@ ghost use Rattle.std.specs.BTreeSet.{insert_key};
 ghost use Rattle.std.specs.Set.{remove_key};
 ghost use Rattle.kb_node.specs.Deadlines.{by_moment, by_holder, first_end, first_of, silent, stalled, without_silent};
 
-use crate::deadlines::{TRY_MILLIS, Unread, later};
+use crate::deadlines::{Moments, TRY_MILLIS, later};
 use std::alloc::{AllocError, Global};
 use std::collections::BTreeSet;
 
@@ -68,8 +68,8 @@ impl Stalls {
 /// not tried again since, and of each holder.
 #[derive(Drop)]
 pub struct Silences {
-    unread: Unread,
-    untried: Unread,
+    unread: Moments,
+    untried: Moments,
     stalls: Stalls,
 }
 
@@ -79,8 +79,8 @@ impl Silences {
         ensures none { (result.unread.moments.keys ≡ []) × (result.untried.moments.keys ≡ []) × (result.stalls.moments.keys ≡ []) }
     {
         Silences {
-            unread: Unread::new(alloc),
-            untried: Unread::new(alloc),
+            unread: Moments::new(alloc),
+            untried: Moments::new(alloc),
             stalls: Stalls::new(alloc),
         }
     }

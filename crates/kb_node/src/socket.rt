@@ -1,6 +1,6 @@
 //! A socket and the connection that it carries.
 
-ghost use Rattle.std.specs.Prelude.{◌≡◌, ◌≢◌, ◌≤◌, ◌<◌, ◌+◌, ◌-◌, ◌||◌, ◌&&◌, not, true, false, None, length, vec_len, IfOk, IfSome};
+ghost use Rattle.std.specs.Prelude.{◌≡◌, ◌≢◌, ◌≤◌, ◌<◌, ◌+◌, ◌-◌, ◌||◌, ◌&&◌, not, true, false, None, drop, length, vec_len, IfOk, IfSome};
 ghost use Rattle.kb_isolation_spec.specs.Broker.{bound_to};
 ghost use Rattle.kb_isolation_spec.specs.Calls.{is_open, output_of, room_of};
 ghost use Rattle.kb_broker.specs.Places.{numbers};
@@ -9,13 +9,17 @@ ghost use Rattle.kb_node.specs.Sockets.{can_ask, is_done, is_welcome};
 ghost use Rattle.kb_node.specs.SocketShares.{may_bind};
 ghost use Rattle.kb_node.specs.declared.socket.Next.TheVariants.{End};
 
+mod asking;
+
+use crate::closed::Closed;
 use crate::committed::Committed;
 use crate::input::Input;
-use crate::login::{is_welcome, note_login};
+use crate::login::is_welcome;
 use crate::socket_shares::SocketShares;
-use crate::transfer::{read_from, write_to};
+use crate::transfer::write_to;
 use crate::turn::Turn;
 use kb_broker::Broker;
+use kb_isolation_spec::Shut;
 use kb_log::PartitionLog;
 use kb_store::Store;
 use mio::event::Event;
@@ -23,12 +27,6 @@ use std::alloc::Global;
 use std::io::{ErrorKind, Read, Write};
 use std::mem;
 use std::net::SocketAddr;
-
-/// The most bytes of batches that a Fetch is answered.
-const FETCH_REPLY: usize = 8_388_608;
-
-/// How many bytes are kept free for another reply.
-const OTHER_REPLY: usize = 65_536;
 
 /// What a socket waits for.
 #[derive(Clone, Copy, Debug, PartialEq, Eq)]
@@ -74,6 +72,8 @@ pub struct Socket<T> {
     is_over: bool,
     /// Whether its connection is closed.
     is_ended: bool,
+    /// That the broker shut its connection, once it is closed, until that is told.
+    closed: Option<Closed>,
     /// Whether its connection was told that it has logged in.
     is_known: bool,
     /// Whether it was looked at which tenant has it, once it has logged in.
@@ -84,6 +84,14 @@ pub struct Socket<T> {
     pub(crate) moved: u64,
     /// The holder that had it then.
     pub(crate) holder: usize,
+    /// Since when the request in front is under way, where one is.
+    pub(crate) begun: Option<u64>,
+    /// Whether a request became whole since that was noted.
+    is_anew: bool,
+    /// The moment at which something last came or went, or it was not idle.
+    pub(crate) active: u64,
+    /// The moment from which it is looked for whether it is idle, where it is looked for.
+    pub(crate) looked: Option<u64>,
     ghost within: { written ≤ vec_len output },
 }
 
@@ -107,11 +115,16 @@ impl<T: Read + Write + Drop> Socket<T> {
             is_half_closed: false,
             is_over: false,
             is_ended: false,
+            closed: None,
             is_known: false,
             is_bound: false,
             is_queued: false,
             moved: 0,
             holder: 0,
+            begun: None,
+            is_anew: false,
+            active: 0,
+            looked: None,
         }
     }
 
@@ -135,6 +148,14 @@ impl<T: Read + Write + Drop> Socket<T> {
         mem::replace(&mut self.login, String::new(alloc))
     }
 
+    /// That the broker shut its connection, where it did and it was not told.
+    pub fn take_closed(&mut self) -> Option<Closed>
+        ensures connection { self.new.connection ≡ self.old.connection }
+        ensures ended { self.new.is_ended ≡ self.old.is_ended }
+    {
+        mem::replace(&mut self.closed, None)
+    }
+
     /// Whether that is the name in the login that was handed on last.
     pub fn is_of(&self, name: &str) -> bool {
         self.login.as_str() == name
@@ -152,6 +173,60 @@ impl<T: Read + Write + Drop> Socket<T> {
         ensures { result ≡ (not self.now.is_known && not self.now.is_ended) }
     {
         !self.is_known && !self.is_ended
+    }
+
+    /// Whether its tenant is known, and it is counted for that.
+    pub fn is_bound(&self) -> bool
+        ensures { result ≡ self.now.is_bound }
+    {
+        self.is_bound
+    }
+
+    /// How many bytes the request has of which some was handed on: 0 where there is none.
+    pub fn begun(&self) -> usize
+        ensures { result ≡ self.now.input.progress.size }
+    {
+        self.input.begun()
+    }
+
+    /// How many bytes the request in front has of which nothing was handed on: 0 where one is begun, or its size is not there.
+    pub fn awaited(&self) -> usize {
+        self.input.awaited()
+    }
+
+    /// Whether a request became whole since that was asked last.
+    pub fn take_anew(&mut self) -> bool
+        ensures anew { result ≡ self.old.is_anew }
+        ensures rest { self.new ≡ record self.old { is_anew = false } }
+    {
+        mem::replace(&mut self.is_anew, false)
+    }
+
+    /// Whether some of a request came whose rest is waited for: nothing is to be written before, and nothing is waited for in the broker.
+    pub fn is_under_way<S: Store, L: PartitionLog + Drop>(&self, host: &Committed<S, L>) -> bool
+        ensures { result ≡ true → can_ask self.now.is_over (vec_len self.now.output - self.now.written) self.now.connection
+            host.now.broker.state ≡ true }
+    {
+        self.can_ask(host.broker()) && !host.speaks(self.connection) && self.is_asking()
+    }
+
+    /// Whether some of a request came, and not all. One whose bytes came before its size was there goes on to be so.
+    fn is_asking(&self) -> bool {
+        self.input.is_under_way() || self.begun.is_some() && self.input.is_part()
+    }
+
+    /// Whether nobody waits for anything: it has logged in, no request is under way, and there is nothing to be written or waited for.
+    pub fn is_idle<S: Store, L: PartitionLog + Drop>(&self, host: &Committed<S, L>) -> bool
+        ensures bound { result ≡ true → self.now.is_bound ≡ true }
+        ensures between { result ≡ true → self.now.input.progress.left ≡ 0 }
+        ensures quiet { result ≡ true → can_ask self.now.is_over (vec_len self.now.output - self.now.written) self.now.connection
+            host.now.broker.state ≡ true }
+    {
+        self.is_bound
+            && self.can_ask(host.broker())
+            && !host.speaks(self.connection)
+            && self.input.is_empty()
+            && !self.input.is_begun()
     }
 
     /// How many bytes are still to be written.
@@ -181,10 +256,10 @@ impl<T: Read + Write + Drop> Socket<T> {
     }
 
     /// Writes what the connection has to say, hands on a request where all is written and nothing is waited for, and writes what
-    /// is said to that. With `may_ask` false nothing is handed on. It is for replies that wait for no commit.
+    /// is said to that. With `may_ask` false nothing is handed on, and no request begins of more than `most` bytes. It is for replies
+    /// that wait for no commit.
     ///
-    /// Where the peer is gone, or the connection is shut and all is written, the connection is closed. One that was answered
-    /// and shut had a login that failed, and so had one that was shut at a login without a request around it.
+    /// Where the peer is gone, or the connection is shut and all is written, the connection is closed.
     pub fn serve<S: Store, L: PartitionLog + Drop>(
         &mut self,
         alloc: Global,
@@ -192,6 +267,7 @@ impl<T: Read + Write + Drop> Socket<T> {
         shares: &mut SocketShares,
         buffer: &mut [u8],
         may_ask: bool,
+        most: u64,
         turn: &mut Turn,
     ) -> Next
         requires not_ended { self.now.is_ended ≡ false }
@@ -208,7 +284,7 @@ impl<T: Read + Write + Drop> Socket<T> {
     {
         self.write_output(alloc, host, turn);
         if may_ask && self.can_ask(host.broker()) {
-            self.ask(alloc, host, buffer, turn);
+            self.ask(alloc, host, buffer, most, turn);
             if self.take_seat(host.broker(), shares, turn) {
                 self.write_output(alloc, host, turn);
             }
@@ -217,7 +293,8 @@ impl<T: Read + Write + Drop> Socket<T> {
     }
 
     /// Writes what is left of the output that was taken, and hands on a request where all is written that the connection had to say and
-    /// nothing is waited for. With `may_ask` false nothing is handed on. What is said since is left where it is.
+    /// nothing is waited for. With `may_ask` false nothing is handed on, and no request begins of more than `most` bytes. What is said
+    /// since is left where it is.
     ///
     /// It answers how much is to be kept free for what is said to that.
     pub fn hand_on<S: Store, L: PartitionLog + Drop>(
@@ -227,6 +304,7 @@ impl<T: Read + Write + Drop> Socket<T> {
         shares: &mut SocketShares,
         buffer: &mut [u8],
         may_ask: bool,
+        most: u64,
         turn: &mut Turn,
     ) -> usize
         requires { self.now.is_ended ≡ false }
@@ -238,7 +316,7 @@ impl<T: Read + Write + Drop> Socket<T> {
     {
         self.write_on(turn);
         if may_ask && self.can_ask(host.broker()) && !host.speaks(self.connection) {
-            let reserve = self.ask(alloc, host, buffer, turn);
+            let reserve = self.ask(alloc, host, buffer, most, turn);
             self.take_seat(host.broker(), shares, turn);
             reserve
         } else {
@@ -324,24 +402,18 @@ impl<T: Read + Write + Drop> Socket<T> {
         ensures stays { result ≢ End → is_done self.new.is_over self.new.is_half_closed
             (vec_len self.new.output - self.new.written) self.new.connection host.new.broker.state ≡ false }
     {
-        if self.has_failed() && host.broker().shut(self.connection) {
+        let cause = host.broker().why(self.connection);
+        if self.asked != Asked::Nothing && matches!(cause, Some(Shut::Denied)) {
             turn.count_denied();
         }
         self.asked = Asked::Nothing;
         if self.is_done(host.broker()) {
+            let tenant = host.broker().tenant_of(self.connection);
+            self.closed = Closed::of(self.peer, tenant, cause);
             self.end(alloc, host, turn);
             return Next::End;
         }
         self.next(host.broker())
-    }
-
-    /// Whether a login has failed where the connection was shut at what was asked.
-    fn has_failed(&self) -> bool {
-        match self.asked {
-            Asked::Nothing => false,
-            Asked::Request => !self.output.is_empty(),
-            Asked::Login => true,
-        }
     }
 
     /// Whether a request may be handed on.
@@ -480,106 +552,5 @@ impl<T: Read + Write + Drop> Socket<T> {
             Err(e) if e.kind() == ErrorKind::WouldBlock => {}
             Err(_) => self.is_over = true,
         }
-    }
-
-    /// Hands on what is there of the request in front, and reads before that where nothing is: no more than there is room for. It answers
-    /// how much is to be kept free for what is said to that.
-    fn ask<S: Store, L: PartitionLog + Drop>(
-        &mut self,
-        alloc: Global,
-        host: &mut Committed<S, L>,
-        buffer: &mut [u8],
-        turn: &mut Turn,
-    ) -> usize
-        requires { can_ask self.now.is_over (vec_len self.now.output - self.now.written) self.now.connection host.now.broker.state ≡ true }
-        ensures connection { self.new.connection ≡ self.old.connection }
-        ensures ended { self.new.is_ended ≡ self.old.is_ended }
-        ensures numbers { numbers host.new.broker.state ≡ numbers host.old.broker.state }
-        ensures at_once { tells_at_once host.old.commits ≡ true → tells_at_once host.new.commits ≡ true }
-        ensures fits { turn.new.read ≤ turn.old.read + room_of self.old.connection host.old.broker.state }
-    {
-        let room = host.broker().room(self.connection);
-        let is_bare = host.broker().takes_login(self.connection);
-        self.asked = if is_bare {
-            Asked::Login
-        } else {
-            Asked::Request
-        };
-        let is_begun = self.input.is_begun();
-        if !self.input.is_short() {
-            let piece = self.input.next(room);
-            note_login(alloc, &mut self.login, piece, is_bare, self.is_known);
-            host.input(alloc, self.connection, piece);
-            let reserve = reply_reserve(piece, is_begun);
-            self.input.tidy(alloc);
-            return reserve;
-        }
-        let size = room.min(buffer.len());
-        let piece = &mut buffer[..size];
-        let read = self.read_piece(piece, turn);
-        self.take_in(alloc, host, &piece[..read], room, is_bare)
-    }
-
-    /// Hands on what of a piece may be handed on where nothing is kept, and keeps the rest.
-    fn take_in<S: Store, L: PartitionLog + Drop>(
-        &mut self,
-        alloc: Global,
-        host: &mut Committed<S, L>,
-        piece: &[u8],
-        room: usize,
-        is_bare: bool,
-    ) -> usize
-        ensures connection { self.new.connection ≡ self.old.connection }
-        ensures ended { self.new.is_ended ≡ self.old.is_ended }
-        ensures numbers { numbers host.new.broker.state ≡ numbers host.old.broker.state }
-        ensures at_once { tells_at_once host.old.commits ≡ true → tells_at_once host.new.commits ≡ true }
-    {
-        let is_begun = self.input.is_begun();
-        let count = if self.input.is_empty() {
-            self.input.pass(piece, room)
-        } else {
-            0
-        };
-        let (handed, rest) = piece.split_at(count);
-        if self.input.push(rest).is_err() {
-            self.is_over = true;
-        }
-        if handed.is_empty() {
-            return 0;
-        }
-        note_login(alloc, &mut self.login, handed, is_bare, self.is_known);
-        host.input(alloc, self.connection, handed);
-        reply_reserve(handed, is_begun)
-    }
-
-    /// Reads once: how many bytes came.
-    fn read_piece(&mut self, piece: &mut [u8], turn: &mut Turn) -> usize
-        ensures within { result ≤ length piece.old }
-        ensures connection { self.new.connection ≡ self.old.connection }
-        ensures ended { self.new.is_ended ≡ self.old.is_ended }
-        ensures read { turn.new.read ≤ turn.old.read + length piece.old }
-    {
-        if !self.can_read || piece.is_empty() {
-            return 0;
-        }
-        match read_from(&mut self.stream, piece) {
-            Ok(0) => self.is_over = true,
-            Ok(n) => {
-                turn.count_read(n);
-                return n;
-            }
-            Err(e) if e.kind() == ErrorKind::WouldBlock => self.can_read = false,
-            Err(_) => self.is_over = true,
-        }
-        0
-    }
-}
-
-/// How many bytes are kept free for the reply to a piece of a request, until it is there: many where that may be a Fetch (api key 1, Kafka
-/// protocol guide, "Protocol Api Keys"), as where the request was begun before.
-fn reply_reserve(piece: &[u8], is_begun: bool) -> usize {
-    match piece {
-        [_, _, _, _, 0, key, ..] if *key != 1 && !is_begun => OTHER_REPLY,
-        _ => FETCH_REPLY,
     }
 }

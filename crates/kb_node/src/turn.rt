@@ -17,10 +17,15 @@ pub struct Turn {
     pub turned_away: u64,
     /// The logins that failed.
     pub denied: u64,
-    /// Those of the closed ones that had not logged in: not in time, or not before others came and as many were open as may be.
+    /// Those of the closed ones that had not logged in: not in time, not before others came and as many were open as may be, or with a
+    /// request that is too long for that.
     pub strangers: u64,
     /// Those of the closed ones that took nothing of their replies.
     pub unread: u64,
+    /// Those of the closed ones that were idle.
+    pub idle: u64,
+    /// Those of the closed ones whose request was not whole in time.
+    pub slow: u64,
     /// Those of the closed ones that logged in for a tenant that has no room for one more.
     pub over_limit: u64,
 }
@@ -37,6 +42,8 @@ impl Turn {
           denied = 0;
           strangers = 0;
           unread = 0;
+          idle = 0;
+          slow = 0;
           over_limit = 0;
         }) }
     {
@@ -93,6 +100,20 @@ impl Turn {
         ensures { self.new ≡ record self.old { unread = min (self.old.unread + 1) (2 ^ 64 - 1) } }
     {
         self.unread = self.unread.saturating_add(1);
+    }
+
+    /// One more socket was closed that was idle.
+    pub(crate) fn count_idle(&mut self)
+        ensures { self.new ≡ record self.old { idle = min (self.old.idle + 1) (2 ^ 64 - 1) } }
+    {
+        self.idle = self.idle.saturating_add(1);
+    }
+
+    /// One more socket was closed whose request was not whole in time.
+    pub(crate) fn count_slow(&mut self)
+        ensures { self.new ≡ record self.old { slow = min (self.old.slow + 1) (2 ^ 64 - 1) } }
+    {
+        self.slow = self.slow.saturating_add(1);
     }
 
     /// One more socket was closed whose tenant has no room for it.

@@ -16,6 +16,9 @@ pub record AddsUp (i u : ℕ) (p : Pool) : Type 0 where
 pub above_parts : (i u : ℕ) (p : Pool) → AddsUp i u p
 above_parts i u p = grind (arith, common_steps, sum_by-set above, get_or-le-sum_by above)
 
+pub above_among : (i : ℕ) (p : Pool) → above (holder_at i p) ≤ all_above p
+above_among i p = (above_parts i 0 p).among
+
 -- who has nothing has nothing above its part
 pub idle_above : (shares : List Share) → sum_by above (map idle shares) ≡ 0
 idle_above [] = refl

@@ -1,5 +1,5 @@
 -- A total of something, and what each holder has of it.
-use Rattle.std.specs.Prelude.{◌≡◌, ◌≤◌, ◌+◌, ◌-◌, ◌^◌, ◌&&◌, ℕ, Bool, List, length, map, slice_index_or, slice_set, nat_le, nat_lt, if◌then◌else◌}
+use Rattle.std.specs.Prelude.{◌≡◌, ◌≤◌, ◌+◌, ◌-◌, ◌^◌, ◌&&◌, ℕ, min, Bool, List, length, map, slice_index_or, slice_set, nat_le, nat_lt, if◌then◌else◌}
 use Rattle.std.specs.List.{sum_by, list_all, All}
 use Rattle.kb_shares.specs.declared.share.Share.{Share}
 use Rattle.kb_shares.specs.declared.share.Holder.{Holder}
@@ -61,6 +61,14 @@ with_used i used p = record p { holders = slice_set p.holders i (record (holder_
 -- With n more it is within its limit, and what it then has above its part is free for it.
 abbrev pub has_room : ℕ → ℕ → Pool → Bool
 has_room i n p = nat_le (used_by i p + n) (most_of i p) && nat_le (used_by i p + n - own_of i p) (free_for i p)
+
+-- how much more it could take at most: up to its limit, and to its part with what is free for it
+abbrev pub room_for : ℕ → Pool → ℕ
+room_for i p = min (most_of i p) (own_of i p + free_for i p) - used_by i p
+
+-- how large a piece may be that it begins: of any size while it has less than its part, and else as much as it could take
+abbrev pub piece_for : ℕ → Pool → ℕ
+piece_for i p = if nat_lt (used_by i p) (own_of i p) then 2 ^ 64 - 1 else room_for i p
 
 abbrev pub taken : ℕ → ℕ → Pool → Pool
 taken i n p = if has_room i n p then with_used i (used_by i p + n) p else p

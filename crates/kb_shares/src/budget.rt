@@ -1,9 +1,9 @@
 //! What holders have of a total.
-ghost use Rattle.std.specs.Prelude.{◌≡◌, ◌≢◌, ◌≤◌, ◌<◌, ◌+◌, ◌^◌, ◌↔◌, ℕ, true, false, map};
+ghost use Rattle.std.specs.Prelude.{◌≡◌, ◌≢◌, ◌≤◌, ◌<◌, ◌+◌, ◌-◌, ◌^◌, ◌↔◌, ℕ, nat_le, true, false, map};
 ghost use Rattle.std.specs.Prelude.{IfOk, IfSome, IsSome, IsErrOf, if◌then◌else◌, Option, Some, None};
 ghost use Rattle.kb_shares.specs.Holder.{idle};
 ghost use Rattle.kb_shares.specs.Shares.{are_shares, rest_of, fresh, shares_of, holder_at, used_by, own_of, all_above, with_used};
-ghost use Rattle.kb_shares.specs.Shares.{has_room, taken, given_back, can_count, put};
+ghost use Rattle.kb_shares.specs.Shares.{has_room, room_for, piece_for, taken, given_back, can_count, put};
 ghost use Rattle.kb_shares.specs.declared.fault.BudgetFault.TheVariants as faults;
 
 use crate::fault::BudgetFault;
@@ -97,6 +97,33 @@ impl Budget {
         ensures reserved { used_by holder self.now < own_of holder self.now → result ≡ true }
     {
         self.has_room(holder, 1)
+    }
+
+    /// How large a piece may be that the holder begins: of any size while it has less than its part, whatever others hold, and else no
+    /// larger than what it could take.
+    pub fn piece(&self, holder: usize) -> u64
+        ensures piece { result ≡ piece_for holder self.now }
+        ensures reserved { used_by holder self.now < own_of holder self.now → result ≡ 2 ^ 64 - 1 }
+        ensures room { own_of holder self.now ≤ used_by holder self.now → (n : ℕ) → 1 ≤ n → nat_le n result ≡ has_room holder n self.now }
+    {
+        let held = self.holder_at(holder);
+        if held.used < held.share.own {
+            u64::MAX
+        } else {
+            self.room(holder)
+        }
+    }
+
+    /// How much more the holder could take at most.
+    #[tactic(auto, using(crate::proofs::Sums::above_among))]
+    fn room(&self, holder: usize) -> u64
+        ensures { result ≡ room_for holder self.now }
+    {
+        let held = self.holder_at(holder);
+        let others = self.above - held.above();
+        let free = self.common.saturating_sub(others);
+        let most = held.share.most.min(held.share.own.saturating_add(free));
+        most.saturating_sub(held.used)
     }
 
     /// Takes so much for the holder, and answers true, exactly where it has room for it. Else nothing changes.

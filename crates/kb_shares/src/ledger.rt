@@ -1,7 +1,7 @@
 //! For whom the amounts of members are counted.
 
-ghost use Rattle.std.specs.Prelude.{◌≡◌, ◌<◌, [], true, IfOk, OnErr, OnOk, IsErrOf, ◌↔◌, None, false};
-ghost use Rattle.kb_shares.specs.Shares.{are_shares, fresh, has_room, own_of, used_by};
+ghost use Rattle.std.specs.Prelude.{◌≡◌, ◌≤◌, ◌<◌, ◌-◌, ◌^◌, ℕ, nat_le, [], true, IfOk, OnErr, OnOk, IsErrOf, ◌↔◌, None, false};
+ghost use Rattle.kb_shares.specs.Shares.{are_shares, fresh, has_room, own_of, piece_for, used_by};
 ghost use Rattle.kb_shares.specs.Ledger.{amount_of, booking_of, let_go, set_to};
 ghost use Rattle.kb_shares.specs.declared.fault.BudgetFault.TheVariants as faults;
 
@@ -67,6 +67,17 @@ impl Ledger {
         ensures reserved { used_by holder self.now.pool < own_of holder self.now.pool → result ≡ true }
     {
         self.budget.is_open(holder)
+    }
+
+    /// How large a piece may be that a holder begins: of any size while it has less than its part, whatever others hold, and else no larger
+    /// than what it could take.
+    pub fn piece(&self, holder: usize) -> u64
+        ensures piece { result ≡ piece_for holder self.now.pool }
+        ensures reserved { used_by holder self.now.pool < own_of holder self.now.pool → result ≡ 2 ^ 64 - 1 }
+        ensures room { own_of holder self.now.pool ≤ used_by holder self.now.pool
+            → (n : ℕ) → 1 ≤ n → nat_le n result ≡ has_room holder n self.now.pool }
+    {
+        self.budget.piece(holder)
     }
 
     /// So much of a member is counted for a holder from now on, be it past its limit, and nothing that was counted of the member before.

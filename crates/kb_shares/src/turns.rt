@@ -50,17 +50,6 @@ impl Turns {
         self.order.is_empty()
     }
 
-    /// Gets room for so many members of a holder, so that as many can wait. Where there is no memory for that, or no such holder, it
-    /// answers false.
-    pub fn reserve(&mut self, holder: usize, members: usize) -> bool
-        ensures { self.new ≡ self.old }
-    {
-        let Some(line) = self.members.get_mut(holder) else {
-            return false;
-        };
-        line.reserve(members.saturating_sub(line.len())).is_ok()
-    }
-
     /// A member waits for its turn, which did not wait. It answers false where there is no memory, or no such holder: then it does not
     /// wait.
     pub fn push(&mut self, holder: usize, member: u64) -> bool

@@ -86,6 +86,77 @@ impl<R: Net, S: Store, L: PartitionLog + Drop> Edge<R, S, L> {
         }
     }
 
+    /// Closes the sockets whose requests are not whole in time, and those that are idle for too long. What the system has of them is read
+    /// before.
+    pub(super) fn close_late(&mut self, alloc: Global, turn: &mut Turn) {
+        self.close_slow(alloc, turn);
+        self.close_idle(alloc, turn);
+    }
+
+    /// Closes the sockets whose requests are not whole in time. Where their holder has too much unread the edge reads none of them, and
+    /// their time begins anew.
+    fn close_slow(&mut self, alloc: Global, turn: &mut Turn) {
+        for _ in 0..self.limit {
+            let Some(number) = self.times.slow(self.clock) else {
+                break;
+            };
+            if self.may_ask(number) || !self.put_off(number) {
+                self.close(alloc, number, turn);
+                turn.count_slow();
+            }
+        }
+    }
+
+    /// A request has its whole time from now on.
+    fn put_off(&mut self, number: u64) -> bool {
+        let Some(place) = self.place_of(number) else {
+            return false;
+        };
+        let Some(socket) = self.sockets.get_mut(place) else {
+            return false;
+        };
+        self.times.put_off(socket, self.clock).is_ok()
+    }
+
+    /// Closes the sockets that are idle for too long.
+    fn close_idle(&mut self, alloc: Global, turn: &mut Turn) {
+        for _ in 0..self.limit {
+            let Some(number) = self.times.take_looked(self.clock) else {
+                break;
+            };
+            if !self.is_used(number) {
+                self.close(alloc, number, turn);
+                turn.count_idle();
+            }
+        }
+    }
+
+    /// Whether a socket was used of late, or something is waited for, which is looked at again once it may be idle for too long.
+    fn is_used(&mut self, number: u64) -> bool {
+        let Some(place) = self.place_of(number) else {
+            return true;
+        };
+        let Some(socket) = self.sockets.get_mut(place) else {
+            return true;
+        };
+        let since = if socket.is_idle(&self.host) {
+            socket.active
+        } else {
+            self.clock
+        };
+        socket.looked = None;
+        if self.times.is_idle_too_long(since, self.clock) {
+            return false;
+        }
+        match self.times.look_for(number, since) {
+            Ok(looked) => {
+                socket.looked = looked;
+                true
+            }
+            Err(_) => false,
+        }
+    }
+
     /// Writes what a socket takes now of its reply. It answers whether it took some: then its silence begins anew, or, where that cannot be
     /// noted, it is closed.
     fn write_again(&mut self, alloc: Global, number: u64, turn: &mut Turn) -> bool {
@@ -101,6 +172,7 @@ impl<R: Net, S: Store, L: PartitionLog + Drop> Edge<R, S, L> {
         if after == before {
             return false;
         }
+        socket.active = self.clock;
         let holder = self.shares.holder(number);
         let booked = self.replies.set(number, holder, after as u64);
         let noted = note_reply(&mut self.silences, socket, holder, before, true, self.clock);
@@ -151,15 +223,18 @@ impl<R: Net, S: Store, L: PartitionLog + Drop> Edge<R, S, L> {
         ensures commits { self.new.host.commits ≡ self.old.host.commits }
         ensures released { holder_of number self.new.shares.sockets ≡ None }
         ensures replies { self.new.replies ≡ let_go number self.old.replies }
+        ensures inputs { self.new.inputs ≡ let_go number self.old.inputs }
     {
         self.strangers.forget(number);
         self.shares.release(number);
         self.replies.release(number);
+        self.inputs.release(number);
         if let Some(place) = self.place_of(number)
             && let Some(socket) = self.sockets.get_mut(place)
             && !socket.is_ended()
         {
             self.silences.end(socket.holder, number, socket.moved);
+            self.times.forget(number, socket.begun, socket.looked);
             socket.close(alloc, &mut self.host, turn);
         }
     }

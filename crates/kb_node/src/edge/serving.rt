@@ -6,14 +6,17 @@ ghost use Rattle.kb_shares.specs.Ledger.{set_to};
 ghost use Rattle.kb_shares.specs.Turns.{joined};
 ghost use Rattle.kb_node.specs.Replies.{kept_for, place_of};
 
+use crate::closed::CLOSED;
+use crate::committed::Committed;
 use crate::edge::closing::note_reply;
 use crate::edge::{DENIED, Edge, HOLDERS};
 use crate::login::Denied;
 use crate::socket::{Next, Socket};
+use crate::times::Times;
 use crate::turn::Turn;
 use kb_log::PartitionLog;
 use kb_store::{Store, StoreFault};
-use std::alloc::Global;
+use std::alloc::{AllocError, Global};
 use std::io::{Read, Write};
 use std::mem;
 use std::net::Net;
@@ -35,7 +38,8 @@ struct Before {
     /// How many bytes are kept free for what it is told of what was asked since.
     promised: usize,
     is_stranger: bool,
-    /// What the turn had written, and the logins that had failed in it.
+    /// What the turn had read and written, and the logins that had failed in it.
+    read: u64,
     written: u64,
     denied: u64,
 }
@@ -46,6 +50,7 @@ impl Before {
             unwritten: socket.unwritten(),
             promised: 0,
             is_stranger: socket.is_stranger(),
+            read: turn.read,
             written: turn.written,
             denied: turn.denied,
         }
@@ -90,7 +95,7 @@ impl<R: Net, S: Store, L: PartitionLog + Drop> Edge<R, S, L> {
             → self.new.line ≡ joined (min (place_of number self.old.shares) 256) number self.old.line }
     {
         let holder = self.shares.holder(number).min(HOLDERS - 1);
-        let is_in_line = (is_for_all || self.may_ask(number)) && self.line.push(holder, number);
+        let is_in_line = (is_for_all || self.can_ask(number)) && self.line.push(holder, number);
         if !is_in_line {
             // there is room for each socket once
             let _ = self.ready.push(number);
@@ -134,6 +139,7 @@ impl<R: Net, S: Store, L: PartitionLog + Drop> Edge<R, S, L> {
         ensures { tells_at_once self.new.host.commits ≡ true }
     {
         let may_ask = self.may_ask(number);
+        let most = self.longest_request(number);
         let Some(place) = self.place_of(number) else {
             return;
         };
@@ -150,6 +156,7 @@ impl<R: Net, S: Store, L: PartitionLog + Drop> Edge<R, S, L> {
             &mut self.shares,
             &mut self.buffer,
             may_ask,
+            most,
             turn,
         );
         self.note(alloc, place, before, next, turn);
@@ -185,6 +192,7 @@ impl<R: Net, S: Store, L: PartitionLog + Drop> Edge<R, S, L> {
 
     /// Hands on a request of the socket of a connection, where it may ask.
     fn hand_on_one(&mut self, alloc: Global, number: u64, may_ask: bool, turn: &mut Turn) {
+        let most = self.longest_request(number);
         let Some(place) = self.place_of(number) else {
             return;
         };
@@ -201,9 +209,12 @@ impl<R: Net, S: Store, L: PartitionLog + Drop> Edge<R, S, L> {
             &mut self.shares,
             &mut self.buffer,
             may_ask,
+            most,
             turn,
         );
-        self.note_written(alloc, place, before, turn);
+        if self.note_written(alloc, place, before, turn) {
+            self.note_input(alloc, place, before, turn);
+        }
     }
 
     /// Each socket that can go on and was not asked is told what there is to say to it.
@@ -266,14 +277,29 @@ impl<R: Net, S: Store, L: PartitionLog + Drop> Edge<R, S, L> {
                 name: socket.take_login(alloc),
             });
         }
+        if let Some(closed) = socket.take_closed() {
+            if self.closed.len() < CLOSED {
+                // there is room for so many
+                let _ = self.closed.push(closed);
+            } else {
+                self.more_closed = self.more_closed.saturating_add(1);
+            }
+        }
         if before.is_stranger && !socket.is_stranger() {
             self.strangers.forget(socket.connection());
         }
         if socket.is_ended() {
             self.shares.release(socket.connection());
             self.replies.release(socket.connection());
+            self.times
+                .forget(socket.connection(), socket.begun, socket.looked);
+            socket.begun = None;
+            socket.looked = None;
         }
-        if self.note_written(alloc, place, before, turn) && next == Next::Turn {
+        if self.note_written(alloc, place, before, turn)
+            && self.note_input(alloc, place, before, turn)
+            && next == Next::Turn
+        {
             self.queue(place);
         }
     }
@@ -307,4 +333,46 @@ impl<R: Net, S: Store, L: PartitionLog + Drop> Edge<R, S, L> {
         }
         true
     }
+
+    /// Notes how many bytes the request has that the socket at a place has begun, for its own holder, and since when. It answers false
+    /// where that cannot be noted, and it is closed.
+    fn note_input(&mut self, alloc: Global, place: usize, before: Before, turn: &mut Turn) -> bool
+        ensures commits { self.new.host.commits ≡ self.old.host.commits }
+        ensures booked { result ≡ true → IfSome (slice_get self.old.sockets.items place) (λ s. self.new.inputs
+            ≡ set_to s.connection (place_of s.connection self.old.shares) s.input.progress.size self.old.inputs) }
+    {
+        let Some(socket) = self.sockets.get_mut(place) else {
+            return false;
+        };
+        let number = socket.connection();
+        let begun = socket.begun() as u64;
+        let booked = self.inputs.set(number, self.shares.holder(number), begun);
+        let has_moved = turn.read > before.read || turn.written > before.written;
+        let timed = note_times(&mut self.times, socket, &self.host, has_moved, self.clock);
+        if booked.is_err() || timed.is_err() {
+            self.close(alloc, number, turn);
+            return false;
+        }
+        true
+    }
+}
+
+/// Notes since when a socket's request is under way, and when it was last used, which it was where something came or went. An `Err` is want
+/// of memory: it cannot be known when it is to be closed, and it is closed.
+fn note_times<T: Read + Write + Drop, S: Store, L: PartitionLog + Drop>(
+    times: &mut Times,
+    socket: &mut Socket<T>,
+    host: &Committed<S, L>,
+    has_moved: bool,
+    now: u64,
+) -> Result<(), AllocError> {
+    let is_under_way = !socket.is_ended() && socket.is_under_way(host);
+    times.note_request(socket, is_under_way, now)?;
+    if has_moved || !socket.is_idle(host) {
+        socket.active = now;
+    }
+    if socket.is_bound() && !socket.is_ended() && socket.looked.is_none() {
+        socket.looked = times.look_for(socket.connection(), now)?;
+    }
+    Ok(())
 }

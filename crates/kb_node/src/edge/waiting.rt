@@ -1,7 +1,7 @@
 //! How long an edge waits, and for what.
 
-ghost use Rattle.std.specs.Prelude.{◌≡◌, ◌≤◌, ◌<◌, ◌-◌, min, true, false};
-ghost use Rattle.kb_shares.specs.Shares.{has_room, own_of, used_by};
+ghost use Rattle.std.specs.Prelude.{◌≡◌, ◌≤◌, ◌<◌, ◌-◌, ◌^◌, min, true, false};
+ghost use Rattle.kb_shares.specs.Shares.{has_room, own_of, piece_for, used_by};
 ghost use Rattle.kb_node.specs.Replies.{place_of};
 
 use crate::doors::DOOR;
@@ -63,11 +63,12 @@ impl<R: Net, S: Store, L: PartitionLog + Drop> Edge<R, S, L> {
             .min(self.host.commits().next_commit())
             .min(self.strangers.first_deadline())
             .min(self.silences.first_end(self.reply_millis))
+            .min(self.times.first_end())
     }
 
     /// Whether a socket that can go on may be asked for more.
     fn can_ask_one(&self) -> bool {
-        !self.line.is_empty() || self.ready.iter().any(|number| self.may_ask(*number))
+        !self.line.is_empty() || self.ready.iter().any(|number| self.can_ask(*number))
     }
 
     /// Whether more may be asked for by the socket of a connection: its holder has not too much that is unwritten, or awaited. A holder
@@ -78,6 +79,29 @@ impl<R: Net, S: Store, L: PartitionLog + Drop> Edge<R, S, L> {
             < own_of (place_of number self.now.shares) self.now.replies.pool → result ≡ true }
     {
         self.replies.is_open(self.shares.holder(number))
+    }
+
+    /// Whether the socket of a connection may be asked now: its holder has not too much of replies, and the request in front fits.
+    pub(super) fn can_ask(&self, number: u64) -> bool {
+        self.may_ask(number) && self.may_begin(number)
+    }
+
+    /// Whether the request in front of the socket of a connection may be handed on: it is begun, or its size is not known, or it fits.
+    fn may_begin(&self, number: u64) -> bool {
+        match self.place_of(number) {
+            Some(place) => self.sockets[place].awaited() as u64 <= self.longest_request(number),
+            None => true,
+        }
+    }
+
+    /// How many bytes a request may have that begins on the socket of a connection. One of a holder that has less than its part may be of
+    /// any size, whatever others hold, and else it is no longer than what the holder may have more.
+    pub(super) fn longest_request(&self, number: u64) -> u64
+        ensures longest { result ≡ piece_for (place_of number self.now.shares) self.now.inputs.pool }
+        ensures reserved { used_by (place_of number self.now.shares) self.now.inputs.pool
+            < own_of (place_of number self.now.shares) self.now.inputs.pool → result ≡ 2 ^ 64 - 1 }
+    {
+        self.inputs.piece(self.shares.holder(number))
     }
 
     /// What the system tells of a socket or of a listener.

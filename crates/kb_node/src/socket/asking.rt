@@ -1,0 +1,183 @@
+//! What a socket's connection is asked.
+
+ghost use Rattle.std.specs.Prelude.{◌≡◌, ◌≤◌, ◌+◌, ◌-◌, ◌||◌, true, false, drop, length, vec_len};
+ghost use Rattle.kb_isolation_spec.specs.Calls.{room_of};
+ghost use Rattle.kb_broker.specs.Places.{numbers};
+ghost use Rattle.kb_node.specs.Commits.{tells_at_once};
+ghost use Rattle.kb_node.specs.Requests.{awaited, is_too_long, may_begin};
+ghost use Rattle.kb_node.specs.Sockets.{can_ask};
+
+use crate::committed::Committed;
+use crate::login::note_login;
+use crate::socket::{Asked, Socket};
+use crate::transfer::read_from;
+use crate::turn::Turn;
+use kb_log::PartitionLog;
+use kb_store::Store;
+use std::alloc::Global;
+use std::io::{ErrorKind, Read, Write};
+
+/// The most bytes of batches that a Fetch is answered.
+const FETCH_REPLY: usize = 8_388_608;
+
+/// How many bytes are kept free for another reply.
+const OTHER_REPLY: usize = 65_536;
+
+/// The most bytes of a request before the login, and those of its size.
+const STRANGER_FRAME: usize = 65_536 + SIZE;
+
+/// The bytes of a request's size.
+const SIZE: usize = 4;
+
+impl<T: Read + Write + Drop> Socket<T> {
+    /// Hands on what is there of the request in front, and reads before that where nothing is: no more than there is room for. It answers
+    /// how much is to be kept free for what is said to that.
+    ///
+    /// No request begins of more than `most` bytes.
+    pub(super) fn ask<S: Store, L: PartitionLog + Drop>(
+        &mut self,
+        alloc: Global,
+        host: &mut Committed<S, L>,
+        buffer: &mut [u8],
+        most: u64,
+        turn: &mut Turn,
+    ) -> usize
+        requires { can_ask self.now.is_over (vec_len self.now.output - self.now.written) self.now.connection host.now.broker.state ≡ true }
+        ensures connection { self.new.connection ≡ self.old.connection }
+        ensures ended { self.new.is_ended ≡ self.old.is_ended }
+        ensures numbers { numbers host.new.broker.state ≡ numbers host.old.broker.state }
+        ensures at_once { tells_at_once host.old.commits ≡ true → tells_at_once host.new.commits ≡ true }
+        ensures fits { turn.new.read ≤ turn.old.read + room_of self.old.connection host.old.broker.state }
+        // What is kept of a request that may not begin is not handed on.
+        ensures held { may_begin self.old.is_bound most
+            (awaited self.old.input.progress.left (drop self.old.input.handed self.old.input.bytes.items)) ≡ false → host.new ≡ host.old }
+        // It is noted that a request became whole only where none is begun.
+        ensures anew { self.old.is_anew ≡ false → self.new.is_anew ≡ true → self.new.input.progress.left ≡ 0 }
+    {
+        let room = host.broker().room(self.connection);
+        let is_bare = host.broker().takes_login(self.connection);
+        self.asked = if is_bare {
+            Asked::Login
+        } else {
+            Asked::Request
+        };
+        let is_begun = self.input.is_begun();
+        if !self.input.is_short() {
+            let awaited = self.input.awaited();
+            if !self.may_begin(awaited, most, turn) {
+                return 0;
+            }
+            let piece = self.input.next(room);
+            note_login(alloc, &mut self.login, piece, is_bare, self.is_known);
+            host.input(alloc, self.connection, piece);
+            let reserve = reply_reserve(piece, is_begun);
+            self.is_anew = self.is_anew || !self.input.is_begun();
+            self.input.tidy(alloc);
+            return reserve;
+        }
+        let size = room.min(buffer.len());
+        let size = size.min(self.reach(most));
+        let piece = &mut buffer[..size];
+        let read = self.read_piece(piece, turn);
+        self.take_in(alloc, host, &piece[..read], room, is_bare, most, turn)
+    }
+
+    /// How far may be read where no request begins of more than so many bytes: where none is begun no further than that, but as far as a
+    /// request's size.
+    fn reach(&self, most: u64) -> usize {
+        if self.input.is_begun() {
+            usize::MAX
+        } else {
+            usize::try_from(most).unwrap_or(usize::MAX).max(SIZE)
+        }
+    }
+
+    /// Whether a request of so many bytes may begin, where none begins of more than `most`. One that is too long before the login closes
+    /// the connection.
+    fn may_begin(&mut self, size: usize, most: u64, turn: &mut Turn) -> bool
+        ensures begins { result ≡ may_begin self.old.is_bound most size }
+        ensures over { self.new.is_over ≡ (self.old.is_over || is_too_long self.old.is_bound size) }
+        ensures rest { self.new ≡ record self.old { is_over = self.new.is_over } }
+        ensures read { turn.new.read ≡ turn.old.read }
+    {
+        if !self.is_bound && size > STRANGER_FRAME {
+            self.is_over = true;
+            turn.count_stranger();
+            return false;
+        }
+        size as u64 <= most
+    }
+
+    /// Hands on what of a piece may be handed on where nothing is kept, and keeps the rest.
+    fn take_in<S: Store, L: PartitionLog + Drop>(
+        &mut self,
+        alloc: Global,
+        host: &mut Committed<S, L>,
+        piece: &[u8],
+        room: usize,
+        is_bare: bool,
+        most: u64,
+        turn: &mut Turn,
+    ) -> usize
+        ensures connection { self.new.connection ≡ self.old.connection }
+        ensures ended { self.new.is_ended ≡ self.old.is_ended }
+        ensures numbers { numbers host.new.broker.state ≡ numbers host.old.broker.state }
+        ensures at_once { tells_at_once host.old.commits ≡ true → tells_at_once host.new.commits ≡ true }
+        ensures read { turn.new.read ≡ turn.old.read }
+        // Nothing is handed on of a request that may not begin.
+        ensures held { may_begin self.old.is_bound most (awaited self.old.input.progress.left piece.now) ≡ false → host.new ≡ host.old }
+        ensures anew { self.old.is_anew ≡ false → self.new.is_anew ≡ true → self.new.input.progress.left ≡ 0 }
+    {
+        let is_begun = self.input.is_begun();
+        let is_first = self.input.is_empty();
+        let awaited = self.input.awaited_in(piece);
+        let count = if is_first && self.may_begin(awaited, most, turn) {
+            self.input.pass(piece, room)
+        } else {
+            0
+        };
+        let (handed, rest) = piece.split_at(count);
+        if self.input.push(rest).is_err() {
+            self.is_over = true;
+        }
+        if handed.is_empty() {
+            return 0;
+        }
+        note_login(alloc, &mut self.login, handed, is_bare, self.is_known);
+        host.input(alloc, self.connection, handed);
+        self.is_anew = self.is_anew || !self.input.is_begun();
+        reply_reserve(handed, is_begun)
+    }
+
+    /// Reads once: how many bytes came.
+    fn read_piece(&mut self, piece: &mut [u8], turn: &mut Turn) -> usize
+        ensures within { result ≤ length piece.old }
+        ensures connection { self.new.connection ≡ self.old.connection }
+        ensures ended { self.new.is_ended ≡ self.old.is_ended }
+        ensures read { turn.new.read ≤ turn.old.read + length piece.old }
+        ensures anew { self.new.is_anew ≡ self.old.is_anew }
+    {
+        if !self.can_read || piece.is_empty() {
+            return 0;
+        }
+        match read_from(&mut self.stream, piece) {
+            Ok(0) => self.is_over = true,
+            Ok(n) => {
+                turn.count_read(n);
+                return n;
+            }
+            Err(e) if e.kind() == ErrorKind::WouldBlock => self.can_read = false,
+            Err(_) => self.is_over = true,
+        }
+        0
+    }
+}
+
+/// How many bytes are kept free for the reply to a piece of a request, until it is there: many where that may be a Fetch (api key 1, Kafka
+/// protocol guide, "Protocol Api Keys"), as where the request was begun before.
+fn reply_reserve(piece: &[u8], is_begun: bool) -> usize {
+    match piece {
+        [_, _, _, _, 0, key, ..] if *key != 1 && !is_begun => OTHER_REPLY,
+        _ => FETCH_REPLY,
+    }
+}

@@ -1,12 +1,14 @@
 //! The store that a data folder is served from.
 //!
-//! [`disk_to_serve`] and [`disk_in`] lay the stores of a data folder over one another. [`Disk`] is what they make. What is over it takes
-//! any store ([`PutsOff`]), so that no proof of it looks into all of these.
+//! [`disk_to_serve`], [`disk_in`] and [`disk_to_read`] lay the stores of a data folder over one another. [`Disk`] is what they make. What
+//! is over it takes any store ([`PutsOff`]), so that no proof of it looks into all of these.
 #![tactic(auto)]
 
 use kb_cache::CachedStore;
 use kb_durable::DurableStore;
-use kb_operator::{DataStore, FolderJournal, OperatorFault, store_in, store_to_serve};
+use kb_operator::{
+    DataStore, FolderJournal, OperatorFault, store_in, store_to_read, store_to_serve,
+};
 use kb_settings::{Settings, Sync};
 use kb_survey::Postponed;
 use std::alloc::{AllocError, Global};
@@ -34,6 +36,15 @@ pub fn disk_in(
     journal: &FolderJournal,
 ) -> Result<Disk, OperatorFault> {
     disk_over(rt, settings, store_in(rt, journal)?, false)
+}
+
+/// The disk of a journal's folder that is there, to be read alone: it keeps no reserve and never syncs, and calls that write are refused.
+pub fn disk_to_read(
+    rt: &HostRuntime,
+    settings: &Settings,
+    journal: &FolderJournal,
+) -> Result<Disk, OperatorFault> {
+    disk_over(rt, settings, store_to_read(rt, journal)?, false)
 }
 
 /// A disk over a store, which keeps in memory what the settings say, and syncs or does not. How it hashes places is this process's own:

@@ -37,6 +37,22 @@ pub fn hold(rt: &HostRuntime, path: &str) -> Result<File, OperatorFault> {
     Ok(folder)
 }
 
+/// Looks into the folder at a path, which is there, beside others that look into it, and changes nothing. A process that serves it is a
+/// fault. While the handle is open none can begin to.
+pub fn look_into(rt: &HostRuntime, path: &str) -> Result<File, OperatorFault> {
+    let folder = match File::open(rt, path) {
+        Ok(folder) => folder,
+        Err(error) => return Err(refused(rt, "open", path, error)),
+    };
+    match folder.try_lock_shared() {
+        Ok(()) => Ok(folder),
+        Err(TryLockError::WouldBlock) => {
+            Err(OperatorFault::Held(String::from_str(rt.alloc(), path)?))
+        }
+        Err(TryLockError::Error(error)) => Err(refused(rt, "lock", path, error)),
+    }
+}
+
 /// Makes, writes and removes a file in a folder.
 fn try_write(rt: &HostRuntime, folder: &str) -> Result<(), OperatorFault> {
     let path = format!(in rt.alloc(); "{folder}/{TRIAL}")?;

@@ -2,11 +2,13 @@
 
 ghost use Rattle.std.specs.Prelude.{◌≤◌, ◌^◌};
 
+mod shut;
+
 use crate::counts::RefusalCounts;
 use crate::lines::Lines;
 use kb_server_log::{Change, Notice, Pace, Tally, time_text};
 use kb_settings::{Settings, Sync, tenant_names};
-use kb_start::{Left, StrayCounts, Total};
+use kb_start::{StrayCounts, Total};
 use std::alloc::{AllocError, Global};
 use std::net::SocketAddr;
 
@@ -45,6 +47,19 @@ pub struct Held {
     pub files: Total,
 }
 
+/// How many sockets were closed that kept silent.
+#[derive(Clone, Copy, Debug, Default, PartialEq, Eq)]
+pub struct Closed {
+    /// Before they logged in.
+    pub strangers: u64,
+    /// That took nothing of their replies.
+    pub unread: u64,
+    /// With no request under way, and nothing to wait for.
+    pub idle: u64,
+    /// Whose request was not whole in time.
+    pub slow: u64,
+}
+
 /// How many tenants stand in a line at most: it stays below 4,096 bytes, with names of 64.
 const TENANTS: usize = 40;
 
@@ -62,9 +77,8 @@ pub struct Journal {
     disk: Tally,
     /// The sockets that were closed at once and are not told of.
     turned_away: u64,
-    /// The sockets that were closed before a login, or that did not read, and are not told of.
-    strangers: u64,
-    unread: u64,
+    /// The sockets that kept silent, were closed for that, and are not told of.
+    closed: Closed,
     pace: Pace,
 }
 
@@ -84,8 +98,7 @@ impl Journal {
             unbound: Tally::default(),
             disk: Tally::default(),
             turned_away: 0,
-            strangers: 0,
-            unread: 0,
+            closed: Closed::default(),
             pace: Pace::default(),
         })
     }
@@ -96,14 +109,22 @@ impl Journal {
     }
 
     /// What an opening dropped of the files that a folder had: a line for each.
-    pub fn tell_dropped(&mut self, alloc: Global, now: u64, files: &[Left]) {
+    pub fn tell_dropped(&mut self, now: u64, texts: Vec<String>) {
         if self.is_quiet {
             return;
         }
-        for file in files {
-            if file.is_dropped() {
-                self.lines.tell(now, drop_text(alloc, file));
-            }
+        for text in texts {
+            self.lines.tell(now, Ok(text));
+        }
+    }
+
+    /// So many parts of files, which an opening drops, are kept in the folder at a path.
+    pub fn tell_kept(&mut self, alloc: Global, now: u64, parts: u64, path: &str) {
+        if !self.is_quiet {
+            let text = format!(in alloc;
+                "kept what is dropped of damaged files: {parts}, in {path}"
+            );
+            self.lines.tell(now, text);
         }
     }
 
@@ -189,10 +210,12 @@ impl Journal {
         }
     }
 
-    /// So many more sockets were closed that had not logged in, and so many that did not read. They are told with the other counts.
-    pub fn count_closed(&mut self, strangers: u64, unread: u64) {
-        self.strangers = self.strangers.saturating_add(strangers);
-        self.unread = self.unread.saturating_add(unread);
+    /// So many more sockets were closed that kept silent. They are told with the other counts.
+    pub fn count_closed(&mut self, closed: Closed) {
+        self.closed.strangers = self.closed.strangers.saturating_add(closed.strangers);
+        self.closed.unread = self.closed.unread.saturating_add(closed.unread);
+        self.closed.idle = self.closed.idle.saturating_add(closed.idle);
+        self.closed.slow = self.closed.slow.saturating_add(closed.slow);
     }
 
     /// What is counted, at most once a second, at a moment of at most 2^62: so many sockets were closed at once since it was told last.
@@ -231,11 +254,10 @@ impl Journal {
     /// How many connections were closed since the last line: of tenants that may have no more, and of those that kept silent.
     fn tell_closed<B: RefusalCounts>(&mut self, alloc: Global, now: u64, broker: &B) {
         for tenants in self.tenants.chunks_mut(TENANTS) {
-            let text = closed_text(alloc, tenants, broker, self.strangers, self.unread);
+            let text = closed_text(alloc, tenants, broker, self.closed);
             if let Some(text) = text.transpose() {
                 self.lines.tell(now, text);
-                self.strangers = 0;
-                self.unread = 0;
+                self.closed = Closed::default();
             }
         }
     }
@@ -258,14 +280,13 @@ impl Journal {
     }
 }
 
-/// How many sockets of some tenants were closed since the last line, how many before a login, and how many that did not read: none where no
-/// socket was.
+/// How many sockets of some tenants were closed since the last line, and how many that kept silent, by what they did: none where no socket
+/// was.
 fn closed_text<B: RefusalCounts>(
     alloc: Global,
     tenants: &mut [Tenant],
     broker: &B,
-    strangers: u64,
-    unread: u64,
+    closed: Closed,
 ) -> Result<Option<String>, AllocError> {
     let mut counts = String::new(alloc);
     for tenant in tenants {
@@ -276,11 +297,18 @@ fn closed_text<B: RefusalCounts>(
             counts.push_str(&format!(in alloc; "{grown} of tenant {name} over its {most}, ")?)?;
         }
     }
-    if strangers == 0 && unread == 0 && counts.is_empty() {
+    if closed == Closed::default() && counts.is_empty() {
         return Ok(None);
     }
+    let Closed {
+        strangers,
+        unread,
+        idle,
+        slow,
+    } = closed;
+    let silent = format!(in alloc; "{strangers} before a login, {unread} that did not read")?;
     let text = format!(in alloc;
-        "connections closed: {counts}{strangers} before a login, {unread} that did not read"
+        "connections closed: {counts}{silent}, {idle} that were idle, {slow} whose request took too long"
     )?;
     Ok(Some(text))
 }
@@ -327,7 +355,7 @@ fn tenants_of(alloc: Global, settings: &Settings) -> Result<Vec<Tenant>, AllocEr
 }
 
 /// What was found, which is empty where there is no memory for it.
-fn held_text(alloc: Global, held: Held) -> String {
+pub(crate) fn held_text(alloc: Global, held: Held) -> String {
     let Held {
         tenants,
         topics,
@@ -339,20 +367,6 @@ fn held_text(alloc: Global, held: Held) -> String {
         "tenants {tenants}, topics {topics}, partitions {partitions}, files {files}, bytes {bytes}, stray files {strays}"
     );
     text.unwrap_or(String::new(alloc))
-}
-
-/// What an opening dropped of a file.
-fn drop_text(alloc: Global, left: &Left) -> Result<String, AllocError> {
-    let (file, before) = (left.file, left.before);
-    match left.after {
-        Some(after) => {
-            let bytes = before.saturating_sub(after);
-            format!(in alloc; "dropped file {file}: {bytes} bytes behind the end of its log")
-        }
-        None => format!(in alloc;
-            "dropped file {file} whole, {before} bytes: nothing in it is of its log"
-        ),
-    }
 }
 
 /// Where a clock is that is before the last change of a file, or more than a day behind it.

@@ -2,12 +2,14 @@
 //!
 //! [`settings_of`] reads the settings of a file, or says what is wrong with it, and [`look_at_start`] looks at what the process may have
 //! open. [`hold`] takes the data folder, and [`store_in`] is the store of its files. A [`Journal`] tells what happens while it is
-//! open, and a [`FolderJournal`] what the system refuses to it, on [`Lines`] that wait for no reader.
+//! open, and a [`FolderJournal`] what the system refuses to it, on [`Lines`] that wait for no reader. [`write_report`] tells what a
+//! start would find, and changes nothing.
 #![tactic(auto)]
 
 mod address;
 mod changed;
 mod counts;
+mod dropped;
 mod entries;
 mod fault;
 mod folder;
@@ -15,8 +17,10 @@ mod journal;
 mod limits;
 mod lines;
 mod look;
+mod named;
 mod reasons;
 mod refused;
+mod report;
 mod settings;
 mod shown;
 mod start;
@@ -25,11 +29,13 @@ pub use address::{address_text, addresses_text, listen_fault};
 pub use changed::last_change;
 pub use counts::RefusalCounts;
 pub use fault::OperatorFault;
-pub use folder::{DataStore, hold, is_folder, store_in, store_to_read, store_to_serve};
-pub use journal::{Held, Journal, Word};
+pub use folder::{DataStore, hold, is_folder, look_into, store_in, store_to_read, store_to_serve};
+pub use journal::{Closed, Held, Journal, Word};
 pub use lines::Lines;
 pub use look::look_at_start;
+pub use named::settings_of_files;
 pub use refused::FolderJournal;
+pub use report::write_report;
 pub use settings::{data_folder, settings_in, settings_of};
 pub use shown::write_settings;
 pub use start::examine;

@@ -50,8 +50,11 @@ fn wanted(key: &str) -> Option<&str> {
         "output_bytes" => Some("a number from 1048576 to 4294967295"),
         "sync" => Some("\"always\", \"interval\" or \"never\""),
         "sync_ms" => Some("a number from 1 to 60000"),
-        "login_seconds" | "reply_seconds" => Some("a number from 1 to 3600"),
+        "login_seconds" | "reply_seconds" | "request_seconds" => Some("a number from 1 to 3600"),
         "strangers" => Some("a number from 1 to `connections`"),
+        "idle_seconds" => Some("a number from 0 to 4294967"),
+        "input_bytes" => Some("a number from 8388608 to 4294967295"),
+        "stock_clients" => Some("true or false"),
         "data" => Some("a path"),
         _ => None,
     }

@@ -75,7 +75,12 @@ fn write_edge<W: Write>(settings: &Settings, writer: &mut W) -> io::Result<()> {
     writeln!(writer, "sync_ms = {}", settings.sync_ms)?;
     writeln!(writer, "login_seconds = {}", settings.login_seconds)?;
     writeln!(writer, "reply_seconds = {}", settings.reply_seconds)?;
-    writeln!(writer, "strangers = {}", settings.strangers)
+    writeln!(writer, "strangers = {}", settings.strangers)?;
+    let requests = &settings.requests;
+    writeln!(writer, "request_seconds = {}", requests.request_seconds)?;
+    writeln!(writer, "idle_seconds = {}", requests.idle_seconds)?;
+    writeln!(writer, "input_bytes = {}", requests.input_bytes)?;
+    writeln!(writer, "stock_clients = {}", settings.stock_clients)
 }
 
 /// The limits of a tenant.

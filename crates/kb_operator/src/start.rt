@@ -3,15 +3,17 @@
 ghost use Rattle.std.specs.Prelude.{◌≡◌, None, IfOk, IfErr};
 ghost use Rattle.kb_start.specs.Verdict as start;
 
+use crate::dropped::DroppedParts;
 use crate::fault::OperatorFault;
 use crate::folder::store_to_read;
 use crate::journal::Journal;
 use crate::lines::Lines;
 use crate::refused::FolderJournal;
+use crate::report::dropped_texts;
 use kb_server_log::now;
 use kb_start::{
-    Cause, Consent, Loss, Opened, Surveyed, damage_text, loss_text, recorded_starts, stray_text,
-    survey, why_refused,
+    Cause, Consent, KeepFault, Loss, Opened, Surveyed, damage_text, keep_dropped, loss_text,
+    recorded_starts, stray_text, survey, why_refused,
 };
 use kb_store::{Store, StoreFault};
 use std::alloc::{AllocError, Global};
@@ -20,7 +22,8 @@ use std::alloc::{AllocError, Global};
 const MOST_TOLD: usize = 20;
 
 /// Examines an opening of a journal's folder: where whole batches would be lost, or files are there that the settings do not fit, the
-/// start is refused, unless there is consent. Nothing was changed by then. What is dropped and what is left aside is told.
+/// start is refused, unless there is consent. Nothing was changed by then. What is dropped of damaged files is kept before that. What is
+/// dropped and what is left aside is told.
 pub fn examine(
     rt: &HostRuntime,
     opened: &Opened<'_>,
@@ -30,19 +33,60 @@ pub fn examine(
 ) -> Result<(), OperatorFault> {
     let alloc = rt.alloc();
     let mut store = store_to_read(rt, folder)?;
-    let surveyed = match look(alloc, &mut store, opened) {
-        Ok(surveyed) => surveyed,
+    let (surveyed, dropped) = match look_at_all(alloc, &mut store, opened) {
+        Ok(found) => found,
         Err(fault) => return Err(folder.of_store(alloc, fault)),
     };
-    go_on(alloc, folder.folder(), consent, &surveyed, journal.lines())?;
-    journal.tell_dropped(alloc, now(rt), opened.files);
+    if why_refused(consent, &surveyed) == Some(Cause::Damage) {
+        tell_losses(alloc, folder.folder(), &surveyed.losses, journal.lines());
+    }
+    go_on(alloc, folder.folder(), consent, &surveyed)?;
+    let parts = keep(rt, &mut store, opened, &surveyed, folder)?;
+    journal.tell_dropped(now(rt), dropped);
+    if let Some((parts, path)) = parts {
+        journal.tell_kept(alloc, now(rt), parts, &path);
+    }
     journal.tell_strays(alloc, now(rt), &surveyed.strays);
     Ok(())
 }
 
+/// Keeps what an opening drops of the files of a store, in a journal's folder, that lose whole batches: how many parts that are, and where,
+/// if there are any. Where one cannot be kept the start is refused, and nothing was changed.
+fn keep<S: Store>(
+    rt: &HostRuntime,
+    store: &mut S,
+    opened: &Opened<'_>,
+    surveyed: &Surveyed,
+    folder: &FolderJournal,
+) -> Result<Option<(u64, String)>, OperatorFault> {
+    let alloc = rt.alloc();
+    let mut parts = DroppedParts::new(rt, folder.folder())?;
+    if let Err(fault) = keep_dropped(alloc, store, opened, &surveyed.losses, &mut parts) {
+        let refused = parts.give_up();
+        return Err(match fault {
+            KeepFault::Store(fault) => folder.of_store(alloc, fault),
+            KeepFault::Keeper => refused,
+        });
+    }
+    match parts.settle() {
+        Ok(kept) => Ok(kept),
+        Err(_) => Err(parts.give_up()),
+    }
+}
+
+/// Surveys the files of a store, and says what an opening drops of them.
+fn look_at_all<S: Store>(
+    alloc: Global,
+    store: &mut S,
+    opened: &Opened<'_>,
+) -> Result<(Surveyed, Vec<String>), StoreFault> {
+    let surveyed = look(alloc, store, opened)?;
+    Ok((surveyed, dropped_texts(alloc, store, opened)?))
+}
+
 /// Surveys the files of a store, which an opening would leave so. Where something would be lost the catalogs are read: what stands below
 /// a start that they record is no loss.
-fn look<S: Store>(
+pub(crate) fn look<S: Store>(
     alloc: Global,
     store: &mut S,
     opened: &Opened<'_>,
@@ -62,23 +106,19 @@ fn look<S: Store>(
     survey(alloc, store, &known)
 }
 
-/// Refuses a start on the folder at a path exactly where there is a reason to, and tells of the files that are its reason.
-fn go_on(
+/// Refuses a start on the folder at a path exactly where there is a reason to.
+pub(crate) fn go_on(
     alloc: Global,
     path: &str,
     consent: Consent,
     surveyed: &Surveyed,
-    lines: &mut Lines,
 ) -> Result<(), OperatorFault>
     ensures ok { IfOk result (λ _. start.why_refused consent surveyed.now ≡ None) }
     ensures err { IfErr result (λ _. start.why_refused consent surveyed.now ≡ None → ⊥) }
 {
     match why_refused(consent, surveyed) {
         None => Ok(()),
-        Some(Cause::Damage) => {
-            tell_losses(alloc, path, &surveyed.losses, lines);
-            Err(refused(damage_text(alloc, path, &surveyed.losses)))
-        }
+        Some(Cause::Damage) => Err(refused(damage_text(alloc, path, &surveyed.losses))),
         Some(Cause::Strays) => Err(refused(stray_text(alloc, path, &surveyed.strays))),
     }
 }

@@ -3,7 +3,9 @@
 use crate::Fault;
 use kb_broker::Broker;
 use kb_log::PartitionLog;
-use kb_node::{BindRefused, Edge, Limits, Settings, SocketShares, Store, reply_shares};
+use kb_node::{
+    BindRefused, Edge, Limits, Settings, SocketShares, Store, input_shares, reply_shares,
+};
 use kb_operator::{OperatorFault, address_text, addresses_text, listen_fault};
 use kb_version::VERSION;
 use std::alloc::Global;
@@ -23,10 +25,12 @@ pub fn listen<S: Store + Drop, L: PartitionLog + Drop>(
     let Ok(replies) = reply_shares(alloc, settings) else {
         return Err(Fault::Operator(OperatorFault::Memory));
     };
+    let Ok(inputs) = input_shares(alloc, settings) else {
+        return Err(Fault::Operator(OperatorFault::Memory));
+    };
     match Edge::watching(rt, alloc, broker, &address, Limits::of(settings)) {
         Ok(mut edge) => {
-            edge.share_sockets(shares);
-            edge.share_replies(replies);
+            edge.share(shares, replies, inputs);
             Ok(edge)
         }
         Err(refused) => Err(not_bound(alloc, &address, &refused)),

@@ -3,10 +3,12 @@
 //! `kbroker script` runs a script of events from standard input and writes what each connection gets to standard output, with logs
 //! in memory or in the files of a data folder.
 //! `kbroker serve` listens on the address of its settings and serves sockets until it is stopped. `kbroker check` says what
-//! settings come to. `kbroker dump` prints what the files of a data folder hold. `kbroker topic` makes, deletes and lists topics of
-//! a broker that runs. Status 0 is done, 1 a fault with one line on standard error, 2 a fault of the command line with its usage.
+//! settings come to, or what a start on a data folder would find. `kbroker dump` prints what the files of a data folder hold.
+//! `kbroker topic` makes, deletes and lists topics of a broker that runs. Status 0 is done, 1 a fault with one line on standard
+//! error, 2 a fault of the command line with its usage.
 #![tactic(auto)]
 
+mod causes;
 mod check;
 mod dump;
 mod listening;
@@ -84,16 +86,13 @@ impl From<clap::Error> for Fault {
 
 /// The command line.
 fn command<'a>(alloc: Global) -> Result<Command<'a>, AllocError> {
-    let check = Command::new(alloc, "check")
-        .about("Says what settings come to, or which key is wrong")
-        .arg(config(alloc).required(true))?;
     Command::new(alloc, "kbroker")
         .about("A message broker for many tenants that speaks the Kafka protocol")
         .version(VERSION)
         .subcommand_required(true)
         .subcommand(script::script_command(alloc)?)?
         .subcommand(serve::serve_command(alloc)?)?
-        .subcommand(check)?
+        .subcommand(check::check_command(alloc)?)?
         .subcommand(dump::dump_command(alloc)?)?
         .subcommand(topic_command(alloc)?)
 }

@@ -9,11 +9,12 @@ use crate::Fault;
 use clap::{Arg, ArgAction, ArgMatches, Command};
 use kb_broker::OpenFault;
 use kb_node::{Listing, Settings, tenant_names};
-use kb_operator::{FolderJournal, Held, Journal, OperatorFault, examine};
+use kb_operator::{FolderJournal, Held, Journal, OperatorFault, examine, write_report};
 use kb_restart::{Counts, FileLength, Restarted, file_lengths, open_broker};
 use kb_start::{Consent, Left, Opened, Total};
 use kb_survey::PutsOff;
 use std::alloc::{AllocError, Global};
+use std::io::Write;
 
 /// What the command line says that a start goes on without.
 pub fn consent_of(found: &ArgMatches<'_>) -> Consent {
@@ -49,7 +50,7 @@ pub struct Start<'a> {
 pub fn open_on<S: PutsOff + Drop>(
     rt: &HostRuntime,
     start: Start<'_>,
-    mut store: S,
+    store: S,
     folder: &FolderJournal,
     journal: &mut Journal,
 ) -> Result<(Restarted<S>, Held), Fault>
@@ -59,6 +60,42 @@ pub fn open_on<S: PutsOff + Drop>(
     ensures no_groups { IfOk result (λ opened. HaveNoGroup opened.0.broker.state.tenants) }
 {
     let alloc = rt.alloc();
+    let (opened, files) = open_over(alloc, start, store, folder)?;
+    let names = tenant_names(alloc, &start.settings.users)?;
+    let known = known(&names, &opened, &files);
+    examine(rt, &known, start.consent, folder, journal)?;
+    let held = held(opened.counts, &files);
+    Ok((opened, held))
+}
+
+/// Writes what a start on a journal's folder, whose store that is, would find. Where it would be refused the answer is its fault.
+pub fn report_on<S: PutsOff + Drop, W: Write>(
+    rt: &HostRuntime,
+    start: Start<'_>,
+    store: S,
+    folder: &FolderJournal,
+    writer: &mut W,
+) -> Result<(), Fault> {
+    let alloc = rt.alloc();
+    let (opened, files) = open_over(alloc, start, store, folder)?;
+    let names = tenant_names(alloc, &start.settings.users)?;
+    let known = known(&names, &opened, &files);
+    let held = held(opened.counts, &files);
+    Ok(write_report(rt, &known, held, folder, writer)?)
+}
+
+/// Opens the broker of a journal's folder, whose store that is, and says what is left of each file.
+fn open_over<S: PutsOff + Drop>(
+    alloc: Global,
+    start: Start<'_>,
+    mut store: S,
+    folder: &FolderJournal,
+) -> Result<(Restarted<S>, Vec<Left>), Fault>
+    ensures fixed { IfOk result (λ opened. opened.0.broker.state
+        ≡ opening_over start.entry.listing start.entry.settings.now opened.0.broker.state.tenants) }
+    ensures calm { IfOk result (λ opened. have_nothing_refused opened.0.broker.state.tenants) }
+    ensures no_groups { IfOk result (λ opened. HaveNoGroup opened.0.broker.state.tenants) }
+{
     let before = match file_lengths(alloc, &mut store) {
         Ok(before) => before,
         Err(fault) => return Err(Fault::Operator(folder.of_store(alloc, fault))),
@@ -68,17 +105,22 @@ pub fn open_on<S: PutsOff + Drop>(
         Err(refused) => return Err(not_opened(alloc, folder, refused.fault)),
     };
     let files = files_left(alloc, opened.broker.store(), &before)?;
-    let names = tenant_names(alloc, &start.settings.users)?;
-    let known = Opened {
-        names: &names,
+    Ok((opened, files))
+}
+
+/// What is known of an opening that left those files.
+fn known<'a, S: PutsOff + Drop>(
+    names: &'a [&'a str],
+    opened: &'a Restarted<S>,
+    files: &'a [Left],
+) -> Opened<'a> {
+    Opened {
+        names,
         next_instances: &opened.next_instances,
-        files: &files,
+        files,
         strays: &opened.strays,
         starts: &[],
-    };
-    examine(rt, &known, start.consent, folder, journal)?;
-    let held = held(opened.counts, &files);
-    Ok((opened, held))
+    }
 }
 
 /// The fault of a broker that does not open on a folder.

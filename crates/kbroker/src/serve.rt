@@ -73,16 +73,16 @@ pub fn serve(rt: &HostRuntime, found: &ArgMatches<'_>) -> Result<(), Fault> {
     let mut folder = FolderJournal::new(alloc, path, is_quiet)?;
     let start = Start {
         settings: &settings,
-        listing: listing_of(found),
+        listing: listing_of(settings.stock_clients || found.get_flag("stock-clients")),
         consent: consent_of(found),
     };
     let disk = disk_to_serve(rt, &settings, &folder)?;
     serve_on(rt, start, disk, changed, &mut folder, &mut journal)
 }
 
-/// The versions that the command line has listed.
-fn listing_of(found: &ArgMatches<'_>) -> Listing {
-    if found.get_flag("stock-clients") {
+/// The versions that are listed.
+fn listing_of(stock_clients: bool) -> Listing {
+    if stock_clients {
         Listing::StockClients
     } else {
         Listing::Served

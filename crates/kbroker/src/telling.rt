@@ -2,10 +2,11 @@
 
 ghost use Rattle.std.specs.Prelude.{◌≤◌, ◌^◌};
 
+use crate::causes::text_of;
 use kb_broker::Broker;
 use kb_log::PartitionLog;
 use kb_node::{Edge, Store, Turn};
-use kb_operator::{Journal, RefusalCounts};
+use kb_operator::{Closed, Journal, RefusalCounts};
 use kb_server_log::{Tick, now};
 use std::net::Net;
 
@@ -35,7 +36,8 @@ impl<'a, S: Store, L: PartitionLog + Drop> RefusalCounts for CountsOf<'a, S, L> 
     }
 }
 
-/// Tells what happened in a turn at a tick: logins that failed and the clock at once, and counts at most once a second.
+/// Tells what happened in a turn at a tick: logins that failed, connections that were shut and the clock at once, and counts at most once
+/// a second.
 pub fn tell_turn<R: Net, S: Store, L: PartitionLog + Drop>(
     rt: &HostRuntime,
     journal: &mut Journal,
@@ -49,11 +51,17 @@ pub fn tell_turn<R: Net, S: Store, L: PartitionLog + Drop>(
     if turn.denied > 0 {
         tell_denied(rt, journal, edge, turn.denied);
     }
+    tell_closed(rt, journal, edge);
     if let Some(notice) = tick.told {
         journal.tell_clock(alloc, now, notice);
     }
     let counts = CountsOf(edge.broker(), edge.refused_sockets());
-    journal.count_closed(turn.strangers, turn.unread);
+    journal.count_closed(Closed {
+        strangers: turn.strangers,
+        unread: turn.unread,
+        idle: turn.idle,
+        slow: turn.slow,
+    });
     journal.tell_counts(alloc, now, tick.moment, turn.turned_away, &counts);
 }
 
@@ -70,4 +78,18 @@ fn tell_denied<R: Net, S: Store, L: PartitionLog + Drop>(
     }
     let more = denied.saturating_sub(edge.denied().len() as u64);
     journal.tell_more_logins(alloc, now, more);
+}
+
+/// Tells the connections of a turn that the broker shut.
+fn tell_closed<R: Net, S: Store, L: PartitionLog + Drop>(
+    rt: &HostRuntime,
+    journal: &mut Journal,
+    edge: &Edge<R, S, L>,
+) {
+    let (alloc, now) = (rt.alloc(), now(rt));
+    for closed in edge.closed() {
+        let cause = text_of(alloc, closed.cause);
+        journal.tell_shut(alloc, now, closed.address, closed.tenant, cause);
+    }
+    journal.tell_more_shut(alloc, now, edge.more_closed());
 }

@@ -238,6 +238,7 @@ pub(crate) fn wanted_of(
                 conn: *number,
                 bytes: Vec::new(alloc),
                 shut: false,
+                why: None,
             })?,
             Step::In(number, _, reply) | Step::Gets(number, reply) => {
                 gets(rt, alloc, &mut wanted, *number, reply, false)?;

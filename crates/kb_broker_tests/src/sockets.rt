@@ -26,6 +26,8 @@ const ONE_ACCEPTED: Turn = Turn {
     denied: 0,
     strangers: 0,
     unread: 0,
+    idle: 0,
+    slow: 0,
     over_limit: 0,
 };
 
@@ -39,6 +41,8 @@ const ONE_CLOSED: Turn = Turn {
     denied: 0,
     strangers: 0,
     unread: 0,
+    idle: 0,
+    slow: 0,
     over_limit: 0,
 };
 
@@ -52,6 +56,8 @@ const ONE_TURNED_AWAY: Turn = Turn {
     denied: 0,
     strangers: 0,
     unread: 0,
+    idle: 0,
+    slow: 0,
     over_limit: 0,
 };
 
@@ -65,6 +71,8 @@ const ONE_MADE_ROOM: Turn = Turn {
     denied: 0,
     strangers: 1,
     unread: 0,
+    idle: 0,
+    slow: 0,
     over_limit: 0,
 };
 
@@ -78,6 +86,8 @@ const ONE_STRANGER_CLOSED: Turn = Turn {
     denied: 0,
     strangers: 1,
     unread: 0,
+    idle: 0,
+    slow: 0,
     over_limit: 0,
 };
 
@@ -542,6 +552,8 @@ fn one_too_many_is_let_in_for_the_first(rt: HostRuntime) -> Result<(), Fail> {
             denied: 0,
             strangers: 0,
             unread: 0,
+            idle: 0,
+            slow: 0,
             over_limit: 0
         }
     );

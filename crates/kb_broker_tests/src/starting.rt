@@ -1,5 +1,7 @@
 //! What a program of the broker needs before it starts, and why it does not start.
 
+ghost use Rattle.std.specs.Prelude.{◌<◌};
+
 use crate::running::{new_broker, opened};
 use crate::words::bytes_of;
 use kb_broker::{Broker, OpenFault, Settings};
@@ -16,8 +18,10 @@ use std::test::Fail;
 const TEXT: &str =
     "host = \"127.0.0.1\"\ndata = \"d\"\n[[user]]\nname = \"ann\"\npassword = \"pw1\"\ntenant = \"a\"\n";
 
-/// Where SaslHandshake stands in the reply to ApiVersions.
+/// Where SaslHandshake stands in the reply to ApiVersions, and where for stock clients, who are listed two APIs more.
 const HANDSHAKE: usize = 14 + 11 * 6;
+
+const STOCK_HANDSHAKE: usize = HANDSHAKE + 2 * 6;
 
 /// What a new broker answers to ApiVersions.
 fn versions_of(
@@ -32,18 +36,21 @@ fn versions_of(
     Ok(broker.take_output(alloc, 1))
 }
 
-/// This is what a new broker of the settings lists of SaslHandshake.
+/// This is what a new broker of the settings lists of SaslHandshake, which stands there.
 fn lists(
     rt: &impl Abort,
     alloc: Global,
     settings: &Settings,
     listing: Listing,
+    place: usize,
     listed: &str,
-) -> Result<(), StartFault> {
+) -> Result<(), StartFault>
+    requires { place < 1000 }
+{
     let mut broker = opened(alloc, settings, listing)?;
     let reply = versions_of(rt, alloc, &mut broker)?;
     let listed = bytes_of(rt, alloc, listed)?;
-    assert!(rt; reply.get(HANDSHAKE..HANDSHAKE + 6) == Some(listed.as_slice()));
+    assert!(rt; reply.get(place..place + 6) == Some(listed.as_slice()));
     Ok(())
 }
 
@@ -52,8 +59,22 @@ fn a_broker_serves_its_settings(rt: HostRuntime) -> Result<(), Fail> {
     let alloc = rt.alloc();
     let settings = read_settings(alloc, TEXT)?;
     assert!(rt; data_folder(alloc, &settings)? == "d");
-    lists(&rt, alloc, &settings, Listing::Served, "001100010001")?;
-    lists(&rt, alloc, &settings, Listing::StockClients, "001100000001")?;
+    lists(
+        &rt,
+        alloc,
+        &settings,
+        Listing::Served,
+        HANDSHAKE,
+        "001100010001",
+    )?;
+    lists(
+        &rt,
+        alloc,
+        &settings,
+        Listing::StockClients,
+        STOCK_HANDSHAKE,
+        "001100000001",
+    )?;
     Ok(())
 }
 

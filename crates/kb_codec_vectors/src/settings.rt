@@ -1,6 +1,6 @@
 //! Texts of settings.
 
-use crate::said::Field::{Count, Number, Text};
+use crate::said::Field::{Count, Id, Number, Text};
 use crate::said::Said;
 use kb_settings::{Settings, SettingsFault, TenantLimits, User};
 use std::alloc::{AllocError, Global};
@@ -139,11 +139,25 @@ fn say(settings: &Settings, said: &mut Said) -> Result<(), AllocError> {
         ("login_seconds", Number(settings.login_seconds as i64)),
         ("reply_seconds", Number(settings.reply_seconds as i64)),
         ("strangers", Number(settings.strangers as i64)),
+        (
+            "request_seconds",
+            Number(settings.requests.request_seconds as i64),
+        ),
+        (
+            "idle_seconds",
+            Number(settings.requests.idle_seconds as i64),
+        ),
+        ("input_bytes", Number(settings.requests.input_bytes as i64)),
+        ("stock_clients", Text(yes_or_no(settings.stock_clients))),
         ("data", Text(settings.folder.as_deref().unwrap_or("none"))),
         ("users", Count(settings.users.len())),
     ])?;
     say_users(settings.users.as_slice(), said)?;
     say_limits(settings.tenants.as_slice(), said)
+}
+
+fn yes_or_no(flag: bool) -> &'static str {
+    if flag { "yes" } else { "no" }
 }
 
 fn say_limits(tenants: &[TenantLimits], said: &mut Said) -> Result<(), AllocError> {

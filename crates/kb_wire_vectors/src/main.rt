@@ -9,6 +9,7 @@
 //! word NAME BYTES          from here on NAME stands for these bytes
 //! == NAME                  begins an exchange
 //! settings TEXT            a line of its settings, a TOML document; with none they are the standard ones
+//! for stock clients        its broker lists what stock clients ask for, with the standard settings
 //! open 1                   a line of its script, in the words of `kbroker script`
 //! in 1 BYTES
 //! > out 1 BYTES            a line that is to be said, at the place where it stands or later

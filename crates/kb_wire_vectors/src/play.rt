@@ -3,9 +3,11 @@
 ghost use Rattle.std.specs.Prelude.{◌<◌};
 
 use crate::line::Line;
+use kb_broker::Broker;
 use kb_log::{ListLog, PartitionLog};
-use kb_node::{Settings, play_script, play_script_with, read_settings};
+use kb_node::{Listing, Settings, play_script, play_script_on, play_script_with, read_settings};
 use kb_segment_log::SegmentLog;
+use kb_store::MemoryStore;
 use std::alloc::{AllocError, Global};
 use std::fmt::Display;
 
@@ -24,12 +26,13 @@ const WAYS: [(Logs, usize); 4] = [
     (Logs::Memory, 2),
 ];
 
-/// An exchange: the settings of its broker, its script, and what that is to say, with the fault that is to end it. With no settings
-/// they are the standard ones.
+/// An exchange: the settings of its broker and what it lists, its script, and what that is to say, with the fault that is to end it.
+/// With no settings they are the standard ones.
 #[derive(Drop)]
 pub struct Exchange<'a> {
     pub name: &'a str,
     pub settings: String,
+    pub listing: Listing,
     pub script: Vec<Line<'a>>,
     pub wanted: Vec<u8>,
     pub has_fault: bool,
@@ -41,6 +44,7 @@ impl<'a> Exchange<'a> {
         Exchange {
             name,
             settings: String::new(alloc),
+            listing: Listing::Served,
             script: Vec::new(alloc),
             wanted: Vec::new(alloc),
             has_fault: false,
@@ -76,7 +80,7 @@ impl<'a> Exchange<'a> {
         }
         let mut told = Vec::new(alloc);
         match logs {
-            Logs::Memory if self.settings.is_empty() => {
+            Logs::Memory if self.is_standard() => {
                 let played = play_script(alloc, &mut script.as_slice(), &mut told);
                 say_fault(alloc, &mut told, played)?;
             }
@@ -86,8 +90,26 @@ impl<'a> Exchange<'a> {
         Ok(told)
     }
 
-    /// Adds what a new broker of its settings says to a script, and the line of the fault behind it.
+    /// Whether its broker is the standard one.
+    fn is_standard(&self) -> bool {
+        self.settings.is_empty() && self.listing == Listing::Served
+    }
+
+    /// Adds what a new broker says to a script, and the line of the fault behind it.
     fn tell<L: PartitionLog + Drop>(
+        &self,
+        alloc: Global,
+        script: &[u8],
+        told: &mut Vec<u8>,
+    ) -> Result<(), AllocError> {
+        match self.listing {
+            Listing::Served => self.tell_by_settings::<L>(alloc, script, told),
+            Listing::StockClients => tell_for_stock_clients::<L>(alloc, script, told),
+        }
+    }
+
+    /// Adds what a new broker of its settings says to a script, and the line of the fault behind it.
+    fn tell_by_settings<L: PartitionLog + Drop>(
         &self,
         alloc: Global,
         script: &[u8],
@@ -107,6 +129,32 @@ impl<'a> Exchange<'a> {
             Err(fault) => say_fault(alloc, told, Err(fault)),
         }
     }
+}
+
+/// Adds what a new broker of the standard settings, which lists what stock clients ask for, says to a script, and the line of the fault
+/// behind it. To one that has just opened nothing was refused.
+fn tell_for_stock_clients<L: PartitionLog + Drop>(
+    alloc: Global,
+    script: &[u8],
+    told: &mut Vec<u8>,
+) -> Result<(), AllocError> {
+    let settings = Settings::standard(alloc)?;
+    let store = MemoryStore::new(alloc);
+    let opened = Broker::<MemoryStore, L>::open_listing(
+        alloc,
+        &settings,
+        Listing::StockClients,
+        store,
+    );
+    let Ok(mut opened) = opened else {
+        return Err(AllocError);
+    };
+    if !opened.broker.is_calm() {
+        return Err(AllocError);
+    }
+    let mut reader = script;
+    let played = play_script_on(alloc, &mut opened.broker, &mut reader, told);
+    say_fault(alloc, told, played)
 }
 
 /// Adds the line of a fault, where there is one.

@@ -3,6 +3,7 @@
 use crate::line::Line;
 use crate::play::Exchange;
 use crate::words::Words;
+use kb_node::Listing;
 use std::alloc::{AllocError, Global};
 
 /// Plays the exchanges of a text, and says what came of each.
@@ -54,6 +55,10 @@ impl<'a> Rows<'a> {
         if let Some(setting) = line.strip_prefix("settings") {
             self.exchange.settings.push_str(setting)?;
             return self.exchange.settings.push('\n');
+        }
+        if line == "for stock clients" {
+            self.exchange.listing = Listing::StockClients;
+            return Ok(());
         }
         if let Some(wanted) = line.strip_prefix("> ") {
             return self.want(alloc, wanted);

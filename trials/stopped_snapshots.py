@@ -234,15 +234,9 @@ def damaged_alone(snapshot):
 
 
 def damaged_beside(snapshot):
-    """A damaged snapshot beside the catalog: refused. With --drop-damaged all is there."""
+    """A damaged snapshot beside the catalog: that says all of it."""
     snapshot.put(snapshot.damaged())
-    wrong = refuses(snapshot.place)
-    if wrong:
-        return wrong
-    client = snapshot.place.start("--drop-damaged")
-    got = found(client)
-    snapshot.place.stop()
-    return "" if got == expected() else f"there is {got}"
+    return stays(snapshot)
 
 
 def damaged_old(snapshot):

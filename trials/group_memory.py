@@ -1,0 +1,120 @@
+#!/usr/bin/env python3
+"""A tenant whose clients join groups with much metadata, and go, takes its share of memory and no more, and no other tenant hears of it.
+
+    trials/group_memory.py KBROKER
+
+For up to thirty seconds one connection after the other joins a group of one tenant with 2,000,000 bytes of metadata, and closes: 10,000 at
+most. None waits for the end of its member's session, which is thirty minutes away. The process has to stay within 90,000,000 bytes more
+than it began with, and the first join that is refused has to be answered 81 (GROUP_MAX_SIZE_REACHED). A member of another tenant joins,
+is given its assignment, and is answered its heartbeats all the while. It prints `N of M wrong`.
+"""
+
+import struct
+import sys
+import tempfile
+import time
+
+from wire import Broker, Client, text
+
+JOINS = 10_000
+SECONDS = 30
+METADATA = 2_000_000
+MORE = 90_000_000
+SESSION = 1_800_000
+
+
+def blob(value):
+    """BYTES."""
+    return struct.pack(">i", len(value)) + value
+
+
+def join(group, metadata):
+    """Joins a group as a new member."""
+    body = text(group) + struct.pack(">ii", SESSION, 60_000) + text(b"") + text(b"consumer")
+    return 11, 1, body + struct.pack(">i", 1) + text(b"range") + blob(metadata)
+
+
+def joined(got):
+    """A join's error code, generation and member."""
+    code, generation = struct.unpack_from(">hi", got)
+    at = 6
+    for _ in range(2):
+        at += 2 + struct.unpack_from(">h", got, at)[0]
+    return code, generation, got[at + 2:at + 2 + struct.unpack_from(">h", got, at)[0]]
+
+
+def sync(group, generation, member):
+    """The leader's sync, which gives the member itself nine bytes."""
+    body = text(group) + struct.pack(">i", generation) + text(member)
+    return 14, 0, body + struct.pack(">i", 1) + text(member) + blob(b"partition")
+
+
+def heartbeat(group, generation, member):
+    """A heartbeat."""
+    return 12, 0, text(group) + struct.pack(">i", generation) + text(member)
+
+
+def resident(broker):
+    """The resident size of the process."""
+    with open(f"/proc/{broker.process.pid}/status") as it:
+        return next(int(line.split()[1]) * 1024 for line in it if line.startswith("VmRSS:"))
+
+
+def flood(broker, beat):
+    """The codes of the joins by how often each came, and the most memory; it beats at each hundredth."""
+    codes, most, began = {}, 0, time.monotonic()
+    for number in range(JOINS):
+        if time.monotonic() > began + SECONDS:
+            break
+        client = Client(broker.port)
+        code = joined(client.ask(*join(b"big%d" % number, bytes(METADATA))))[0]
+        client.socket.close()
+        codes[code] = codes.get(code, 0) + 1
+        most = max(most, resident(broker))
+        if number % 100 == 0:
+            beat()
+    return codes, most
+
+
+def looked_at(broker):
+    """What is wrong, of what was looked at."""
+    other, beats = Client(broker.port, b"bob", b"pw2"), []
+    code, generation, member = joined(other.ask(*join(b"quiet", b"topics")))
+    own = other.ask(*sync(b"quiet", generation, member))
+    began = resident(broker)
+    codes, most = flood(broker, lambda: beats.append(struct.unpack(">h", other.ask(*heartbeat(b"quiet", generation, member)))[0]))
+    looks = {
+        "another tenant's join": code == 0,
+        "another tenant's assignment": own.endswith(b"partition"),
+        "another tenant's heartbeats": beats and not any(beats),
+        "some joins are taken": codes.get(0, 0) > 20,
+        "most are refused with 81": codes.get(81, 0) > 100,
+        "none is answered otherwise": set(codes) <= {0, 81},
+        "memory": most < began + MORE,
+    }
+    print(f"joins by code {codes}; {began} bytes before, {most} at most; {len(beats)} heartbeats of another tenant")
+    for name, is_well in looks.items():
+        if not is_well:
+            print(f"wrong: {name}")
+    return sum(not it for it in looks.values()), len(looks)
+
+
+def main(program):
+    """Whether groups' memory has its limit."""
+    with tempfile.TemporaryDirectory() as room:
+        broker = Broker(program, room)
+        try:
+            if not broker.listens():
+                print("the broker does not listen")
+                return 1
+            wrong, all_of = looked_at(broker)
+            print(f"{wrong} of {all_of} wrong")
+            return 1 if wrong else 0
+        finally:
+            broker.stop()
+
+
+if __name__ == "__main__":
+    if len(sys.argv) != 2:
+        sys.exit(__doc__)
+    sys.exit(main(sys.argv[1]))

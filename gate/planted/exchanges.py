@@ -10,10 +10,11 @@ EVENT = re.compile(r"(?:open|close|at) \d+|in \d+ (?:[0-9A-Fa-f]{2})+")
 
 
 class Exchange(NamedTuple):
-    """Events, the users of their broker as name, password and tenant, and what is to be said."""
+    """Events, the users of their broker as name, password and tenant, whether it lists what stock clients ask for, and what is to be said."""
 
     name: str
     settings: str
+    is_stock: bool
     users: Dict[str, tuple]
     events: List[str]
     wanted: List[str]
@@ -52,7 +53,7 @@ def exchange_of(name: str, lines: List[str], words: Dict[str, str]):
     events = [line_of(words, it) for it in lines if not it.startswith(("> ", "settings"))]
     # (a number may begin with zeros)
     events = [re.sub(r"^(\w+) 0+(?=\d)", r"\1 ", it) for it in events if EVENT.fullmatch(it)]
-    return Exchange(name, settings, users, events, [line_of(words, it[2:]) for it in lines if it.startswith("> ")])
+    return Exchange(name, settings, "for stock clients" in lines, users, events, [line_of(words, it[2:]) for it in lines if it.startswith("> ")])
 
 
 def exchanges(folder: str) -> List[Exchange]:
@@ -95,7 +96,7 @@ def twinned(it: Exchange):
     for line in it.events:
         events += [line] if line.startswith("at ") else [moved(line, 1), renamed(moved(line, 2))]
     wanted = [moved(line, by) for by in (1, 2) for line in it.wanted]
-    return Exchange(it.name, settings_of(both), both, events, wanted)
+    return Exchange(it.name, settings_of(both), it.is_stock, both, events, wanted)
 
 
 def is_login(text: str, name: str, password: str) -> bool:

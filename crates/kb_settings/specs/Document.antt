@@ -8,9 +8,10 @@ use Rattle.toml.specs.Data.{Items, no_items, item, Members, no_members, member}
 use Rattle.kb_settings.specs.Names.{in_order}
 use Rattle.kb_settings.specs.Settings.{is_within, is_credential, is_tenant, are_different}
 use Rattle.kb_settings.specs.Address.{is_listened, bare, endpoint_in}
-use Rattle.kb_settings.specs.Limits.{Limits, are_limits}
+use Rattle.kb_settings.specs.Limits.{Limits, are_limits, standard_groups}
 use Rattle.kb_settings.specs.Values.{Account, Requests, Values}
 use Rattle.kb_settings.specs.declared.sync.Sync.{Sync}
+use Rattle.kb_settings.specs.declared.tenant_limits.GroupLimits.{GroupLimits}
 use Rattle.kb_settings.specs.declared.sync.Sync.TheVariants.{Always, Interval, Never}
 
 -- 1. What a value says: nothing where it is wrong
@@ -121,13 +122,14 @@ said_or standard says None = Some standard
 said_or standard says (Some value) = says value
 
 abbrev pub tenant_keys : List (List ℕ)
-tenant_keys = codes "name" ∷ codes "connections" ∷ codes "reserved_connections" ∷ []
+tenant_keys =
+    codes "name" ∷ codes "connections" ∷ codes "reserved_connections" ∷ codes "groups" ∷ codes "group_bytes" ∷ []
 
 -- limits of this name and these numbers, where all are right, and there is no other key
-abbrev pub limits_with : Option (List ℕ) → Option ℕ → Option ℕ → Option (List ℕ) → Option Limits
-limits_with (Some name) (Some connections) (Some reserved) None =
-    Some (record { name = name; connections = connections; reserved_connections = reserved })
-limits_with name connections reserved other = None
+abbrev pub limits_with : Option (List ℕ) → Option ℕ → Option ℕ → Option GroupLimits → Option (List ℕ) → Option Limits
+limits_with (Some name) (Some connections) (Some reserved) (Some groups) None =
+    Some (record { name = name; connections = connections; reserved_connections = reserved; groups = groups })
+limits_with name connections reserved groups other = None
 
 -- how many are reserved: none where it is not said, and no more than there may be at most
 abbrev pub reserved_of : Members → Option ℕ → Option ℕ
@@ -139,11 +141,21 @@ reserved_of entry (Some connections) =
 abbrev pub connections_of : ℕ → Members → Option ℕ
 connections_of standard entry = said_or standard (number_in 1 1000000) (get_member (codes "connections") entry)
 
+abbrev pub groups_with : Option ℕ → Option ℕ → Option GroupLimits
+groups_with (Some groups) (Some bytes) = Some (record { groups = groups; bytes = bytes })
+groups_with groups bytes = None
+
+-- what the groups of an entry's tenant may take
+abbrev pub groups_of : Members → Option GroupLimits
+groups_of entry =
+    groups_with (said_or standard_groups.groups (number_in 0 1000) (get_member (codes "groups") entry))
+    (said_or standard_groups.bytes (number_in 1048576 9223372036854775807) (get_member (codes "group_bytes") entry))
+
 -- an entry of `tenant`
 abbrev pub entry_limits : ℕ → Data → Option Limits
 entry_limits standard (table entry) =
     limits_with (text_of is_tenant (codes "name") entry) (connections_of standard entry)
-    (reserved_of entry (connections_of standard entry)) (other_key tenant_keys entry)
+    (reserved_of entry (connections_of standard entry)) (groups_of entry) (other_key tenant_keys entry)
 entry_limits standard _ = None
 
 abbrev pub limits_before : Option Limits → Option (List Limits) → Option (List Limits)

@@ -2,7 +2,7 @@
 use Rattle.std.specs.Prelude.{ℕ, List, [], ◌∷◌, ◌++◌, map, Bool, false, Option, None, Some, option_map, unwrap_or, string_bytes, codes}
 use Rattle.std.specs.List.{find}
 use Rattle.std.specs.Str.{bytes_eq}
-use Rattle.kb_settings.specs.Limits.{Limits, limits_in}
+use Rattle.kb_settings.specs.Limits.{Limits, limits_in, standard_groups}
 use Rattle.kb_settings.specs.declared.settings.User.{User}
 use Rattle.kb_settings.specs.declared.endpoint.Endpoint.{Endpoint}
 use Rattle.kb_settings.specs.declared.settings.Settings.{Settings}
@@ -10,6 +10,7 @@ use Rattle.kb_settings.specs.declared.requests.RequestLimits.{RequestLimits}
 use Rattle.kb_settings.specs.declared.sync.Sync.{Sync}
 use Rattle.kb_settings.specs.declared.sync.Sync.TheVariants.{Interval}
 use Rattle.kb_settings.specs.declared.tenant_limits.ConnectionLimits.{ConnectionLimits}
+use Rattle.kb_settings.specs.declared.tenant_limits.GroupLimits.{GroupLimits}
 
 pub record Account : Type 0 where
   pub name : List ℕ
@@ -84,6 +85,14 @@ limits_or connections (Some t) = record { most = t.connections; reserved = t.res
 -- how many connections a tenant may have: all of them, and none reserved, where no limits name it
 abbrev pub limits_of : List ℕ → Values → ConnectionLimits
 limits_of name v = limits_or v.connections (find (λ t. bytes_eq t.name name) v.tenants)
+
+abbrev pub groups_or : Option Limits → GroupLimits
+groups_or None = standard_groups
+groups_or (Some t) = t.groups
+
+-- what a tenant's groups may take: the standard, where no limits name it
+abbrev pub groups_of : List ℕ → Values → GroupLimits
+groups_of name v = groups_or (find (λ t. bytes_eq t.name name) v.tenants)
 
 abbrev pub ann : Account
 ann = record { name = codes "ann"; password = codes "pw1"; tenant = codes "a" }

@@ -25,4 +25,4 @@ pub use names::tenant_names;
 pub use requests::RequestLimits;
 pub use settings::{Settings, User};
 pub use sync::Sync;
-pub use tenant_limits::{ConnectionLimits, TenantLimits};
+pub use tenant_limits::{ConnectionLimits, GroupLimits, TenantLimits};

@@ -9,7 +9,7 @@ ghost use Rattle.kb_settings.specs.Limits.{limits_in, are_limits};
 use crate::endpoint::Endpoint;
 use crate::requests::RequestLimits;
 use crate::sync::Sync;
-use crate::tenant_limits::{ConnectionLimits, TenantLimits};
+use crate::tenant_limits::{ConnectionLimits, GroupLimits, TenantLimits};
 use crate::tenants::limits_of;
 use std::alloc::{AllocError, Global};
 
@@ -105,7 +105,7 @@ pub struct Settings {
 
 impl Settings {
     ghost use Rattle.std.specs.Prelude.{Some, Ok};
-    ghost use Rattle.kb_settings.specs.Values.{values_of, told, limits_of, standard, standard_text};
+    ghost use Rattle.kb_settings.specs.Values.{values_of, told, limits_of, groups_of, standard, standard_text};
     ghost use Rattle.kb_settings.specs.Reading.{settings_of};
 
     /// The settings of a text that names two users alone: `ann` with password `pw1` of tenant `a`, and `bob` with password
@@ -176,6 +176,17 @@ impl Settings {
                 most: self.connections,
                 reserved: 0,
             },
+        }
+    }
+
+    /// What the groups of the tenant of this name may take: [`GroupLimits::standard`], where no limits name it.
+    pub fn groups_of(&self, tenant: &str) -> GroupLimits
+        ensures says { result ≡ groups_of tenant.now (values_of self.now) }
+        ensures bytes { result.bytes ≤ 9223372036854775807 }
+    {
+        match limits_of(&self.tenants, tenant) {
+            Some(limits) => limits.groups,
+            None => GroupLimits::standard(),
         }
     }
 }

@@ -1,6 +1,7 @@
 pub mod Able
 pub mod Deadline
 pub mod Hosts
+pub mod Limited
 pub mod Members
 pub mod Opening
 pub mod Parked

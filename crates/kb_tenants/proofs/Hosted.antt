@@ -342,6 +342,25 @@ module _ {L S : Type 0} (log : L → Log) (disk : S → Disk) (law : (l : L) →
       accounted_rises (hosted log disk old) (hosted log disk (after old t x p x.groups old.shelf)) (disk old.shelf.store).failures
       (length_named (hosted log disk old) (hosted log disk (after old t x p x.groups old.shelf)) turn_refused.names) turn_refused.grows
 
+-- ---- groups are limited
+
+-- the tenants that are seen are as many as there are
+pub seen_many : {L S : Type 0} (log : L → Log) (disk : S → Disk) (ts : Tenants L S) (t : ℕ) → t < length ts.tenants.items → t < length (hosted log disk ts)
+seen_many log disk ts t lt = subst (λ n. t < n) (sym (length-map ts.tenants.items (state_of log (disk ts.shelf.store).files))) lt
+
+-- behind the last there is none
+with_none : (t : ℕ) (k : Kept) (ts : List TenantState) → length ts ≤ t → ts ≡ with_kept t k ts
+unfolding with_kept
+with_none t k [] le = refl
+with_none zero k (x ∷ ts) le = absurd (omega (arith, le))
+with_none (suc t) k (x ∷ ts) le = ap (λ xs. x ∷ xs) (with_none t k ts (omega (arith, le)))
+
+pub limited_none : {L S : Type 0} (log : L → Log) (disk : S → Disk) (ts : Tenants L S) (t : ℕ) (limits : Limits) → length ts.tenants.items ≤ t
+    → hosted log disk ts ≡ limited_at t limits (hosted log disk ts)
+limited_none log disk ts t limits le =
+    with_none t (kept_limited limits (kept_of (hosted log disk ts) t)) (hosted log disk ts)
+    (subst (λ n. n ≤ t) (sym (length-map ts.tenants.items (state_of log (disk ts.shelf.store).files))) le)
+
 -- ---- groups change, and what was refused to them is counted
 
 module _ {L S : Type 0} (log : L → Log) (disk : S → Disk) (law : (l : L) → IsLawfulLog (log l)) (old : Tenants L S) (t : ℕ) (x : Tenant L) (gs : Groups)

@@ -1,4 +1,4 @@
-use Rattle.std.proofs.Common.{◌≡◌, None, Some, ap, map, rules}
+use Rattle.std.proofs.Common.{◌≡◌, ◌∙◌, None, Some, ap, map, rules}
 use Rattle.std.specs.List.{find}
 use Rattle.std.specs.Str.{bytes_eq}
 use Rattle.kb_settings.specs.Limits.{limits_in}
@@ -13,4 +13,4 @@ returns-in-Some-clause-says c =
 pub returns-in-None-clause-says : goal.returns-in-None-clause-says
 returns-in-None-clause-says c =
     let none : None ≡ find (λ t. bytes_eq t.name c.args.tenant.now) (map limits_in c.args.self.now.tenants.items) = search rules in
-    ap groups_or none
+    c.standard.ensures ∙ ap groups_or none

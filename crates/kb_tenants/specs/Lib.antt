@@ -2,3 +2,4 @@ pub mod Members
 pub mod Renewal
 pub mod Tenants
 pub mod Turns
+pub mod View

@@ -21,7 +21,7 @@ use Rattle.kb_broker.specs.Limited.{each_limited, limited_at, limited_by}
 -- those of one more place
 pub each-next : (ls : List Limits) (ts : List TenantState) (t : ℕ) (d : Limits) → t < length ls
     → tenants.limited_at t (slice_index_or ls t d) (each_limited (take t ls) ts) ≡ each_limited (take (suc t) ls) ts
-unfolding with_kept, each_limited
+unfolding with_kept each_limited
 each-next [] ts t d lt = absurd (omega (arith, lt))
 each-next (l ∷ ls) [] zero d lt = refl
 each-next (l ∷ ls) [] (suc t) d lt = refl

@@ -1,4 +1,5 @@
 pub mod Able
+pub mod Counts
 pub mod Deadline
 pub mod Hosts
 pub mod Limited

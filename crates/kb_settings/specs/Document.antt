@@ -9,7 +9,8 @@ use Rattle.kb_settings.specs.Names.{in_order}
 use Rattle.kb_settings.specs.Settings.{is_within, is_credential, is_tenant, are_different}
 use Rattle.kb_settings.specs.Address.{is_listened, bare, endpoint_in}
 use Rattle.kb_settings.specs.Limits.{Limits, are_limits, standard_groups}
-use Rattle.kb_settings.specs.Values.{Account, Requests, Values}
+use Rattle.kb_settings.specs.Metrics.{is_token, is_guarded}
+use Rattle.kb_settings.specs.Values.{Account, Metrics, Requests, Values}
 use Rattle.kb_settings.specs.declared.sync.Sync.{Sync}
 use Rattle.kb_settings.specs.declared.tenant_limits.GroupLimits.{GroupLimits}
 use Rattle.kb_settings.specs.declared.sync.Sync.TheVariants.{Always, Interval, Never}
@@ -183,7 +184,7 @@ settings_keys =
     codes "host" ∷ codes "port" ∷ codes "advertise" ∷ codes "segment_bytes" ∷ codes "cache_batches" ∷ codes "cache_bytes"
     ∷ codes "connections" ∷ codes "output_bytes" ∷ codes "sync" ∷ codes "sync_ms" ∷ codes "login_seconds" ∷ codes "reply_seconds"
     ∷ codes "strangers" ∷ codes "request_seconds" ∷ codes "idle_seconds" ∷ codes "input_bytes" ∷ codes "stock_clients"
-    ∷ codes "data" ∷ codes "user" ∷ codes "tenant" ∷ []
+    ∷ codes "metrics" ∷ codes "metrics_token" ∷ codes "data" ∷ codes "user" ∷ codes "tenant" ∷ []
 
 -- goes on with what is said at a key, or names the key where it is wrong
 abbrev pub go_on : {A B : Type 0} → List ℕ → Option A → (A → Result B (List ℕ)) → Result B (List ℕ)
@@ -235,6 +236,24 @@ requests_in document =
     read_key document (codes "input_bytes") 268435456 (number_in 8388608 4294967295) λ input_bytes.
     Ok (record { request_seconds = request_seconds; idle_seconds = idle_seconds; input_bytes = input_bytes })
 
+-- a token, where one is said
+abbrev pub token_in : Data → Option (Option (List ℕ))
+token_in value = option_map Some (text_in is_token value)
+
+-- where metrics are served and to whom, unless that is to everybody
+abbrev pub guarded : Option (List ℕ × ℕ) → Option (List ℕ) → Option Metrics
+guarded None token = Some (record { address = None; token = token })
+guarded (Some address) token =
+    if is_guarded address.0 (is_some token) then Some (record { address = Some address; token = token }) else None
+
+-- the same of a document, or the first wrong key
+abbrev pub metrics_in : Members → Result Metrics (List ℕ)
+metrics_in document =
+    read_key document (codes "metrics") None advertise_in λ address.
+    read_key document (codes "metrics_token") None token_in λ token.
+    go_on (codes "metrics_token") (guarded address token) λ metrics.
+    Ok metrics
+
 -- the settings, unless there is another key
 abbrev pub no_other : {A : Type 0} → Option (List ℕ) → A → Result A (List ℕ)
 no_other None settings = Ok settings
@@ -254,6 +273,7 @@ settings_in document =
     read_key document (codes "strangers") room.0 (number_in 1 room.0) λ strangers.
     with_part (requests_in document) λ requests.
     read_key document (codes "stock_clients") false as_bool λ stock_clients.
+    with_part (metrics_in document) λ metrics.
     read_key document (codes "data") None folder_in λ folder.
     go_on (codes "user") (option_and_then users_in (get_member (codes "user") document)) λ users.
     read_key document (codes "tenant") [] (tenants_in room.0 users) λ tenants.
@@ -273,6 +293,7 @@ settings_in document =
       strangers = strangers;
       requests = requests;
       stock_clients = stock_clients;
+      metrics = metrics;
       folder = folder;
       users = users;
       tenants = tenants;

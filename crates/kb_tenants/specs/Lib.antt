@@ -3,3 +3,4 @@ pub mod Members
 pub mod Renewal
 pub mod Tenants
 pub mod Turns
+pub mod View

@@ -1,10 +1,15 @@
 -- How far the groups of a broker's tenants may grow.
 use Rattle.std.specs.Prelude.{ℕ, List, [], ◌∷◌}
 use Rattle.kb_coordinator.specs.declared.limits.Limits.{Limits}
+use Rattle.kb_settings.specs.Values.{Values, groups_of}
 use Rattle.kb_tenant_api.specs.Hosted.{TenantState}
 use Rattle.kb_tenants.specs.Limited as tenants
 use Rattle.kb_tenants.specs.Limited.{kept_limited}
 use Rattle.kb_isolation_spec.specs.Broker.{BrokerState}
+
+-- how far settings let the groups of the tenant of that name grow
+abbrev pub limits_named : Values → List ℕ → Limits
+limits_named v name = record { groups = (groups_of name v).groups; bytes = (groups_of name v).bytes }
 
 -- the same broker, where the groups of the tenant at a place have these limits
 abbrev pub limited_at : ℕ → Limits → BrokerState → BrokerState

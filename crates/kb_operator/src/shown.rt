@@ -87,9 +87,11 @@ fn write_edge<W: Write>(settings: &Settings, writer: &mut W) -> io::Result<()> {
 fn write_limits<W: Write>(limits: &TenantLimits, writer: &mut W) -> io::Result<()> {
     let most = limits.connections;
     let reserved = limits.reserved_connections;
+    let groups = limits.groups.groups;
+    let bytes = limits.groups.bytes;
     writeln!(
         writer,
-        "tenant {:?}: connections = {most}, reserved_connections = {reserved}",
+        "tenant {:?}: connections = {most}, reserved_connections = {reserved}, groups = {groups}, group_bytes = {bytes}",
         limits.name
     )
 }

@@ -7,7 +7,7 @@ use crate::open::{Start, consent_of, open_on, with_consent};
 use crate::telling::tell_turn;
 use crate::{Fault, config};
 use clap::{Arg, ArgAction, ArgMatches, Command};
-use kb_broker::Broker;
+use kb_broker::{Broker, group_limits};
 use kb_disk::disk_to_serve;
 use kb_log::PartitionLog;
 use kb_node::{Edge, Listing, Store};
@@ -121,6 +121,8 @@ fn open<S: PutsOff + Drop>(
     journal: &mut Journal,
 ) -> Result<(Restarted<S>, Held), Fault> {
     let (mut opened, held) = open_on(rt, start, store, folder, journal)?;
+    let limits = group_limits(rt.alloc(), start.settings)?;
+    opened.broker.limit_groups(&limits);
     opened.broker.number_members_from(first_member(now(rt)));
     if start.settings.sync != Sync::Never
         && let Err(fault) = settle(&mut opened.broker)

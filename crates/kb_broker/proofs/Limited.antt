@@ -63,6 +63,23 @@ limited-made {S} t limits a b ts s o e is u v =
     let here : record { state = record a.state { tenants = ts }; store = s; strays = o } ≡ record a { state = limited_at t limits a.state } = (λ i. record { state = record a.state { tenants = is i }; store = u i; strays = v i }) in
     here ∙ ap (λ (x : OnStore S). record x { state = limited_at t limits x.state }) e
 
+-- none yet, and one more
+none-yet : (ts : List TenantState) (ls : List Limits) → ts ≡ each_limited (take 0 ls) ts
+unfolding each_limited
+none-yet ts [] = refl
+none-yet ts (l ∷ ls) = refl
+
+pub limited-first : {S : Type 0} (ls : List Limits) (a : OnStore S) → a ≡ record a { state = limited_by (take 0 ls) a.state }
+limited-first {S} ls a = ap (λ ts. (let x : OnStore S = record a { state = record a.state { tenants = ts } } in x)) (none-yet a.state.tenants ls)
+
+pub limited-next : {S : Type 0} (ls : List Limits) (a b c : OnStore S) (t : ℕ) (d : Limits) → t < length ls
+    → b ≡ record a { state = limited_by (take t ls) a.state } → c ≡ record b { state = limited_at t (slice_index_or ls t d) b.state }
+    → c ≡ record a { state = limited_by (take (suc t) ls) a.state }
+limited-next {S} ls a b c t d lt was is =
+    is
+    ∙ ap (λ (x : OnStore S). record x { state = limited_at t (slice_index_or ls t d) x.state }) was
+    ∙ ap (λ ts. (let x : OnStore S = record a { state = record a.state { tenants = ts } } in x)) (each-next ls a.state.tenants t d lt)
+
 sound-limited : (ls : List Limits) (b : BrokerState) → b.lines ≡ [] → IsSound b → IsSound (limited_by ls b)
 sound-limited ls b none s = record {
   rising = s.rising;

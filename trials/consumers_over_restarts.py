@@ -21,12 +21,11 @@ import tempfile
 import threading
 import time
 
-try:
-    from confluent_kafka import Consumer, KafkaException, Producer
-except ImportError:
-    if os.path.realpath(sys.executable) == os.path.realpath("/usr/bin/python3") or not os.path.exists("/usr/bin/python3"):
-        sys.exit("python3 with confluent_kafka is needed")
-    os.execv("/usr/bin/python3", ["/usr/bin/python3", *sys.argv])
+from wire import in_debians_python
+
+in_debians_python("confluent_kafka")
+
+from confluent_kafka import Consumer, KafkaException, Producer
 
 PARTITIONS = 6
 MESSAGES = 60

@@ -1,5 +1,6 @@
 """A broker that is started and asked, for the scripts beside this file. It is no script by itself."""
 
+import importlib.util
 import itertools
 import os
 import secrets
@@ -7,6 +8,7 @@ import signal
 import socket
 import struct
 import subprocess
+import sys
 import threading
 import time
 
@@ -32,6 +34,14 @@ name = "bob"
 password = "pw2"
 tenant = "b"
 """
+
+
+def in_debians_python(*modules):
+    """Begins the script anew in Debian's Python where this one has not these modules, which are Debian's packages."""
+    python = "/usr/bin/python3"
+    is_other = os.path.exists(python) and os.path.realpath(sys.executable) != os.path.realpath(python)
+    if is_other and not all(importlib.util.find_spec(it) for it in modules):
+        os.execv(python, [python, *sys.argv])
 
 
 def castagnoli(data):

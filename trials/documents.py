@@ -4,12 +4,14 @@
     trials/documents.py KBROKER KCONSOLE
 
 Each block of commands (```sh) is run as it stands, by bash, at the top of a clone of this repository, where both programs lie as the build
-leaves them. What has to be said is in SAID, by a piece of the command. A block that is not run is in LEFT, with the reason; one that is in
-neither is wrong. It needs kcat, python3-confluent-kafka and ports 9092 and 19092, and takes two minutes.
+leaves them, with 1,024 open files, as a shell mostly has. What has to be said is in SAID, by a piece of the command. A block that is not run
+is in LEFT, with the reason; one that is in neither is wrong. It needs kcat, python3-confluent-kafka and ports 9092 and 19092, and takes two
+minutes.
 """
 
 import os
 import re
+import resource
 import shutil
 import signal
 import subprocess
@@ -39,7 +41,7 @@ SAID = {
     "kc -L": ["broker 0", 'topic "orders"'],
     "kc -C -t orders": ["one", "two", "three", "four"],
     "kcat -F examples/kcat.conf -C": ["hello"],
-    "kbroker dump backup-1": ["ok"],
+    "check --data backup-1": ["a start goes on", "ok"],
     "k -C -t orders -o -2": ["k1 one", "k2 two"],
     "k -Q -t orders:0:0": ["orders [0] offset"],
     "-t nothere": ["Unknown topic or partition"],
@@ -149,6 +151,7 @@ def play(session, name, block):
 
 def main(kbroker, kconsole):
     wrong, count = [], 0
+    resource.setrlimit(resource.RLIMIT_NOFILE, (1024, resource.getrlimit(resource.RLIMIT_NOFILE)[1]))
     with tempfile.TemporaryDirectory() as place:
         session = Session(place, os.path.realpath(kbroker), os.path.realpath(kconsole))
         document = None

@@ -3,6 +3,7 @@
 import importlib.util
 import itertools
 import os
+import resource
 import secrets
 import signal
 import socket
@@ -34,6 +35,18 @@ name = "bob"
 password = "pw2"
 tenant = "b"
 """
+
+
+def allow_files(count):
+    """Lets this process, and those that it starts, have so many open files, where it may. A shell mostly allows 1,024."""
+    soft, hard = resource.getrlimit(resource.RLIMIT_NOFILE)
+    most = count if hard == resource.RLIM_INFINITY else min(hard, count)
+    if soft != resource.RLIM_INFINITY and soft < most:
+        resource.setrlimit(resource.RLIMIT_NOFILE, (most, hard))
+
+
+# (a broker of the standard settings asks for 1,056)
+allow_files(4096)
 
 
 def in_debians_python(*modules):

@@ -6,7 +6,7 @@
 Each block of commands (```sh) is run as it stands, by bash, at the top of a clone of this repository, where both programs lie as the build
 leaves them, with 1,024 open files, as a shell mostly has. What has to be said is in SAID, by a piece of the command. A block that is not run
 is in LEFT, with the reason; one that is in neither is wrong. It needs kcat, python3-confluent-kafka and ports 9092 and 19092, and takes two
-minutes. As root it runs where no other process is seen, so that `pidof kbroker` finds the one that it started.
+minutes; where there is Go it needs Debian's sarama. As root it runs where no other process is seen, so that `pidof kbroker` finds the one that it started.
 """
 
 import os
@@ -46,6 +46,7 @@ SAID = {
     "k -Q -t orders:0:0": ["orders [0] offset"],
     "-t nothere": ["Unknown topic or partition"],
     "-z gzip": ["does not support compression type"],
+    "go run": ["0 one", "1 two", "2 three"],
 }
 SERVES = re.compile(r"\bserve\b")
 
@@ -141,6 +142,9 @@ def play(session, name, block):
     wrong, count = [], 0
     for line in commands(block):
         if any(it in line for it in BUILDS) or line.startswith("#"):
+            continue
+        if "go run" in line and not shutil.which("go"):
+            print(f"{name}: not run (there is no Go): {line[:80]}")
             continue
         fault = session.run(line)
         count += 1

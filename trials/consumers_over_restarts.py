@@ -1,11 +1,12 @@
 #!/usr/bin/env python3
-"""Three consumers of a group share its partitions again once the broker was killed and started anew.
+"""Three consumers of a group share its partitions again once the broker was killed and started anew, for each of two tenants.
 
     trials/consumers_over_restarts.py KBROKER
 
-Three stock clients of one group consume a topic of six partitions. Twice the broker is killed by SIGKILL and started again after half a
-second. Each time each partition has one owner within 15 seconds, which is so for three seconds then. Sixty messages are given after each
-start, each once; and none is given that stands before what its partition has committed. The longest time to share is printed.
+Three stock clients of one group consume a topic of six partitions. Three of another tenant do so at the same time, under the same names.
+Twice the broker is killed by SIGKILL and started again after half a second. Each time each partition of each tenant has one owner within 15
+seconds, which is so for three seconds then. Sixty messages are given to each tenant after each start, each once, and none of the other's. None
+is given that stands before what its partition has committed. The longest time to share is printed.
 
 It needs Python's confluent_kafka (Debian: python3-confluent-kafka).
 """
@@ -20,12 +21,11 @@ import tempfile
 import threading
 import time
 
-try:
-    from confluent_kafka import Consumer, KafkaException, Producer
-except ImportError:
-    if os.path.realpath(sys.executable) == os.path.realpath("/usr/bin/python3") or not os.path.exists("/usr/bin/python3"):
-        sys.exit("python3 with confluent_kafka is needed")
-    os.execv("/usr/bin/python3", ["/usr/bin/python3", *sys.argv])
+from wire import in_debians_python
+
+in_debians_python("confluent_kafka")
+
+from confluent_kafka import Consumer, KafkaException, Producer
 
 PARTITIONS = 6
 MESSAGES = 60
@@ -43,7 +43,14 @@ data = "{data}"
 name = "ann"
 password = "pw1"
 tenant = "a"
+
+[[user]]
+name = "bob"
+password = "pw2"
+tenant = "b"
 """
+# The users, each of a tenant of its own.
+USERS = [("ann", "pw1"), ("bob", "pw2")]
 
 
 def free_port():
@@ -53,15 +60,15 @@ def free_port():
         return probe.getsockname()[1]
 
 
-def login(port):
-    """What a client needs to log in."""
+def login(port, user):
+    """What a client of a user needs to log in."""
     return {
         "bootstrap.servers": f"127.0.0.1:{port}",
         "broker.address.family": "v4",
         "security.protocol": "SASL_PLAINTEXT",
         "sasl.mechanisms": "PLAIN",
-        "sasl.username": "ann",
-        "sasl.password": "pw1",
+        "sasl.username": user[0],
+        "sasl.password": user[1],
         "reconnect.backoff.max.ms": 500,
         "log_level": 0,
     }
@@ -90,8 +97,8 @@ class Broker:
             self.process.stdout.close()
             self.process = None
 
-    def create(self, topic, partitions):
-        words = [self.program, "topic", "create", "--broker", f"127.0.0.1:{self.port}", "--user", "ann", "--password", "pw1"]
+    def create(self, topic, partitions, user):
+        words = [self.program, "topic", "create", "--broker", f"127.0.0.1:{self.port}", "--user", user[0], "--password", user[1]]
         subprocess.run([*words, "--partitions", str(partitions), topic], check=True, stdout=subprocess.DEVNULL, timeout=20)
 
 
@@ -120,11 +127,11 @@ class Told:
 class Member(threading.Thread):
     """A consumer of the group, which commits each message by itself."""
 
-    def __init__(self, port, heartbeat, told):
+    def __init__(self, port, heartbeat, told, user):
         super().__init__()
         self.told, self.ends, self.assigned, self.owns = told, False, 0, ()
         self.consumer = Consumer({
-            **login(port),
+            **login(port, user),
             "group.id": "g",
             "session.timeout.ms": 10000,
             "heartbeat.interval.ms": heartbeat,
@@ -160,12 +167,46 @@ def shared(members, before):
     return sorted(p for member in members for p in member.owns) == list(range(PARTITIONS))
 
 
-def settle(members, before, since):
+class Group:
+    """The three members of a user, and what they were given."""
+
+    def __init__(self, port, user):
+        self.port, self.user, self.told, self.members = port, user, Told(), []
+
+    def start(self):
+        for heartbeat in HEARTBEATS:
+            self.members.append(Member(self.port, heartbeat, self.told, self.user))
+            self.members[-1].start()
+            time.sleep(0.3)
+
+    def stop(self):
+        for member in self.members:
+            member.ends = True
+        for member in self.members:
+            member.join(10)
+
+    def send(self, number):
+        """Sends some messages to each partition in turn."""
+        producer = Producer({**login(self.port, self.user), "message.timeout.ms": 10000})
+        sent = [b"%s-%d-%d" % (self.user[0].encode(), number, at) for at in range(MESSAGES)]
+        for at, value in enumerate(sent):
+            producer.produce("t", value, partition=at % PARTITIONS)
+        if producer.flush(15):
+            sys.exit("the messages were not taken")
+        return sent
+
+    def strange(self):
+        """What came that this user did not send."""
+        with self.told.lock:
+            return [value for value in self.told.values if not value.startswith(self.user[0].encode() + b"-")]
+
+
+def settle(groups, before, since):
     """How long it takes from a time until each partition has one owner for some seconds; None where that is too long."""
     good = None
     while time.time() < since + WITHIN + STEADY + 0.5:
         now = time.time()
-        if not shared(members, before):
+        if not all(shared(group.members, was) for group, was in zip(groups, before)):
             good = None
         elif good is None:
             good = now
@@ -173,17 +214,6 @@ def settle(members, before, since):
             return good - since if good - since <= WITHIN else None
         time.sleep(0.05)
     return None
-
-
-def send(port, number):
-    """Sends some messages to each partition in turn."""
-    producer = Producer({**login(port), "message.timeout.ms": 10000})
-    sent = [b"%d-%d" % (number, at) for at in range(MESSAGES)]
-    for at, value in enumerate(sent):
-        producer.produce("t", value, partition=at % PARTITIONS)
-    if producer.flush(15):
-        sys.exit("the messages were not taken")
-    return sent
 
 
 def given(told, sent):
@@ -196,49 +226,53 @@ def given(told, sent):
         return sorted(v for v in told.values if v in set(sent)) == sorted(sent)
 
 
-def faults(broker, members, told):
+def assignments(groups):
+    """How often each member was given its share so far."""
+    return [[member.assigned for member in group.members] for group in groups]
+
+
+def faults(broker, groups):
     """What went wrong, and the longest time to share."""
     found, longest = [], 0.0
-    before = [0] * len(members)
+    before = [[0] * len(group.members) for group in groups]
     began = time.time()
     for number in range(RESTARTS + 1):
-        took = settle(members, before, began)
+        took = settle(groups, before, began)
         if took is None:
-            owners = [member.owns for member in members]
+            owners = [[member.owns for member in group.members] for group in groups]
             found.append(f"start {number}: after {WITHIN:.0f} s the owners are {owners}")
         longest = max(longest, took or WITHIN)
-        if not given(told, send(broker.port, number)):
+        sent = [group.send(number) for group in groups]
+        if not all([given(group.told, of) for group, of in zip(groups, sent)]):
             found.append(f"start {number}: not each message came once")
         if number < RESTARTS:
             broker.kill()
-            before = [member.assigned for member in members]
+            before = assignments(groups)
             time.sleep(0.5)
             broker.start()
             began = time.time()
-    if told.behind:
-        found.append(f"{len(told.behind)} messages were given again behind what was committed: {told.behind[:5]} ..")
+    for group in groups:
+        if group.told.behind:
+            found.append(f"{len(group.told.behind)} messages were given again behind what was committed: {group.told.behind[:5]} ..")
+        if group.strange():
+            found.append(f"{group.user[0]} was given what another sent: {group.strange()[:5]} ..")
     return found, longest
 
 
 def main():
     program = shutil.which(sys.argv[1]) or os.path.abspath(sys.argv[1])
     with tempfile.TemporaryDirectory() as room:
-        broker = Broker(program, room)
-        members = []
+        broker, groups = Broker(program, room), []
         try:
             broker.start()
-            broker.create("t", PARTITIONS)
-            told = Told()
-            for heartbeat in HEARTBEATS:
-                members.append(Member(broker.port, heartbeat, told))
-                members[-1].start()
-                time.sleep(0.3)
-            found, longest = faults(broker, members, told)
+            for user in USERS:
+                broker.create("t", PARTITIONS, user)
+                groups.append(Group(broker.port, user))
+                groups[-1].start()
+            found, longest = faults(broker, groups)
         finally:
-            for member in members:
-                member.ends = True
-            for member in members:
-                member.join(10)
+            for group in groups:
+                group.stop()
             broker.kill()
     for fault in found:
         print(fault)

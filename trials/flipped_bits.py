@@ -17,6 +17,7 @@ import sys
 import tempfile
 
 SETTINGS = """host = "127.0.0.1"
+connections = 64
 port = {port}
 data = "{folder}"
 segment_bytes = 4096

@@ -11,7 +11,9 @@ import struct
 import sys
 import tempfile
 
-from wire import Broker, Client, Cursor, commit, text
+from wire import Broker, Client, Cursor, commit, in_debians_python, text
+
+in_debians_python("kafka")
 
 GROUP, OTHER = b"readers", b"writers"
 MANY, ONE = b"b-many", b"a-one"

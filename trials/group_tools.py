@@ -14,10 +14,12 @@ import sys
 import tempfile
 import time
 
+from wire import Broker, Client, Cursor, in_debians_python, text
+
+in_debians_python("confluent_kafka", "kafka")
+
 import confluent_kafka.admin
 import kafka
-
-from wire import Broker, Client, Cursor, text
 
 USERS = {"ann": "pw1", "bob": "pw2"}
 LIST, DESCRIBE = 16, 15

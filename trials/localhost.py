@@ -8,7 +8,7 @@ import fcntl, os, shutil, socket, struct, subprocess, sys, tempfile, time
 
 ADDRESSES = ("127.0.0.1", "::1")
 HOSTS = "127.0.0.1 localhost\n::1 localhost ip6-localhost\n"
-USER = '[[user]]\nname = "ann"\npassword = "pw1"\ntenant = "a"\n'
+USER = 'connections = 64\n[[user]]\nname = "ann"\npassword = "pw1"\ntenant = "a"\n'
 
 
 def text(value):

@@ -15,6 +15,7 @@ A broker asks for whole requests within 4 seconds, closes what is idle for 5, an
 The log has to tell of both kinds. It prints how many of the cases went otherwise.
 """
 
+import collections
 import os
 import socket
 import struct
@@ -60,7 +61,9 @@ def trickle(broker, seconds, count):
             client.socket.sendall(bytes([byte]))
         except OSError:
             return time.monotonic() - began
-        time.sleep(seconds / (count + 4))
+        # (a send finds a closed socket only once the one before it came back)
+        if closed_after(client.socket, seconds / (count + 4)) is not None:
+            return time.monotonic() - began
     client.socket.settimeout(3)
     try:
         return None if client.socket.recv(4) else time.monotonic() - began
@@ -185,17 +188,18 @@ def begin(broker):
     return [client, left]
 
 
-def push(begun):
-    """Sends on what was begun, as far as it is taken."""
-    for it in begun:
-        for _ in range(40):
-            try:
-                sent = it[0].socket.send(it[1][:65_536])
-            except OSError:
-                break
-            it[1] = it[1][sent:]
-            if not it[1]:
-                break
+def push(begun, seconds):
+    """Sends on what was begun, as far as it is taken, for so many seconds at most. The next call goes on where this one ended."""
+    until = time.monotonic() + seconds
+    for _ in range(40 * len(begun)):
+        it = begun[0]
+        begun.rotate(-1)
+        try:
+            it[1] = it[1][it[0].socket.send(it[1][:65_536]):]
+        except OSError:
+            pass
+        if time.monotonic() > until:
+            break
 
 
 def apart_from(broker):
@@ -208,12 +212,12 @@ def apart_from(broker):
 def of_begun(broker):
     """Whether begun requests of one tenant stay within their share, and hold up no other."""
     before, most, worst = memory(broker), 0, 0.0
-    begun = [begin(broker) for _ in range(SOCKETS)]
+    begun = collections.deque(begin(broker) for _ in range(SOCKETS))
     apart = apart_from(broker)
     apart.create(b"t")
     until = time.monotonic() + REQUEST - 1
     while time.monotonic() < until:
-        push(begun)
+        push(begun, 0.1)
         began = time.monotonic()
         if apart.produce(b"t", batch(b"hi"))[0] != 0:
             worst = 99.0

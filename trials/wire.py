@@ -1,12 +1,15 @@
 """A broker that is started and asked, for the scripts beside this file. It is no script by itself."""
 
+import importlib.util
 import itertools
 import os
+import resource
 import secrets
 import signal
 import socket
 import struct
 import subprocess
+import sys
 import threading
 import time
 
@@ -32,6 +35,26 @@ name = "bob"
 password = "pw2"
 tenant = "b"
 """
+
+
+def allow_files(count):
+    """Lets this process, and those that it starts, have so many open files, where it may. A shell mostly allows 1,024."""
+    soft, hard = resource.getrlimit(resource.RLIMIT_NOFILE)
+    most = count if hard == resource.RLIM_INFINITY else min(hard, count)
+    if soft != resource.RLIM_INFINITY and soft < most:
+        resource.setrlimit(resource.RLIMIT_NOFILE, (most, hard))
+
+
+# (a broker of the standard settings asks for 1,056)
+allow_files(4096)
+
+
+def in_debians_python(*modules):
+    """Begins the script anew in Debian's Python where this one has not these modules, which are Debian's packages."""
+    python = "/usr/bin/python3"
+    is_other = os.path.exists(python) and os.path.realpath(sys.executable) != os.path.realpath(python)
+    if is_other and not all(importlib.util.find_spec(it) for it in modules):
+        os.execv(python, [python, *sys.argv])
 
 
 def castagnoli(data):

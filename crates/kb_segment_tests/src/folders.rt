@@ -61,16 +61,41 @@ pub(crate) fn remove<S: Store>(alloc: Global, store: &mut S) -> Result<(), Fail>
     Ok(store.remove(0)?)
 }
 
+/// Writes a file of two pieces in a folder.
+fn leave_written(files: &HostRuntime, path: &str) -> Result<(), Fail> {
+    drop(written(files.alloc(), opened(files, path)?)?);
+    Ok(())
+}
+
+/// Cuts the only file of a folder to five bytes.
+fn leave_cut(files: &HostRuntime, path: &str) -> Result<(), Fail> {
+    cut(files.alloc(), &mut opened(files, path)?, 5)
+}
+
+/// Takes the only file of a folder away.
+fn leave_removed(files: &HostRuntime, path: &str) -> Result<(), Fail> {
+    remove(files.alloc(), &mut opened(files, path)?)
+}
+
+/// Whether the only file of a folder has those bytes.
+fn is_left(files: &HostRuntime, path: &str, bytes: &[u8]) -> Result<bool, Fail> {
+    Ok(has(files.alloc(), &mut opened(files, path)?, bytes)?)
+}
+
+/// Whether a folder has no file of a log.
+fn is_left_empty(files: &HostRuntime, path: &str) -> Result<bool, Fail> {
+    Ok(opened(files, path)?.list(files.alloc())?.is_empty())
+}
+
 /// Each store is over the folder as the one before left it.
 fn is_kept(files: &HostRuntime, rt: &impl Abort, path: &str, other: &str) -> Result<(), Fail> {
-    let alloc = files.alloc();
-    drop(written(alloc, opened(files, path)?)?);
+    leave_written(files, path)?;
     fs::write(files, other, "not a log's")?;
-    assert!(rt; has(alloc, &mut opened(files, path)?, b"first second")?);
-    cut(alloc, &mut opened(files, path)?, 5)?;
-    assert!(rt; has(alloc, &mut opened(files, path)?, b"first")?);
-    remove(alloc, &mut opened(files, path)?)?;
-    assert!(rt; opened(files, path)?.list(alloc)?.is_empty());
+    assert!(rt; is_left(files, path, b"first second")?);
+    leave_cut(files, path)?;
+    assert!(rt; is_left(files, path, b"first")?);
+    leave_removed(files, path)?;
+    assert!(rt; is_left_empty(files, path)?);
     assert!(rt; fs::read(files, other)?.as_slice() == b"not a log's".as_slice());
     Ok(())
 }
@@ -87,49 +112,94 @@ fn a_folder_is_what_it_was(rt: HostRuntime) -> Result<(), Fail> {
     Ok(())
 }
 
+/// Whether a folder has no file of a log beside a reserve.
+fn is_empty_but_for_a_reserve(files: &HostRuntime, path: &str) -> Result<bool, Fail> {
+    let folder = HostFolder::new(*files, path)?.with_reserve();
+    Ok(
+        FolderStore::new(files.alloc(), folder)?
+            .list(files.alloc())?
+            .is_empty(),
+    )
+}
+
 #[test]
 fn a_reserve_is_no_file_of_the_store(rt: HostRuntime) -> Result<(), Fail> {
-    let (alloc, path) = (rt.alloc(), folder_of_its_own(&rt)?);
-    let folder = HostFolder::new(rt, path.as_str())?.with_reserve();
-    let mut store = FolderStore::new(alloc, folder)?;
-    let reserve = format!(in alloc; "{path}/reserve")?;
-    assert!(rt; store.list(alloc)?.is_empty());
+    let path = folder_of_its_own(&rt)?;
+    assert!(rt; is_empty_but_for_a_reserve(&rt, path.as_str())?);
+    let reserve = format!(in rt.alloc(); "{path}/reserve")?;
     assert!(rt; fs::metadata(&rt, reserve.as_str())?.len() == 4_194_304);
     fs::remove_file(&rt, reserve.as_str())?;
     fs::remove_dir(&rt, path.as_str())?;
     Ok(())
 }
 
+/// One refusal is noted, of that call and that file.
+fn is_noted(
+    rt: &impl Abort,
+    refusals: &Refusals,
+    call: FolderCall,
+    file: Option<u64>,
+) -> Result<(), Fail> {
+    let refusal = refusals.take().ok_or("nothing noted")?;
+    assert!(rt; refusal.call == call && refusal.file == file);
+    assert!(rt; refusals.take().is_none());
+    Ok(())
+}
+
+/// The length of a file is refused in a folder that is not there.
+fn has_no_length(files: &HostRuntime, rt: &impl Abort, refusals: &Refusals) -> Result<(), Fail> {
+    let mut folder = HostFolder::to_read(*files, "/nowhere")?.noting(refusals.share()?);
+    assert!(rt; folder.len(5) == Err(FolderFault::Refused));
+    Ok(())
+}
+
 #[test]
 fn a_refusal_is_noted(rt: HostRuntime) -> Result<(), Fail> {
     let refusals = Refusals::new(rt.alloc())?;
-    let mut folder = HostFolder::to_read(rt, "/nowhere")?.noting(refusals.share()?);
-    assert!(rt; folder.len(5) == Err(FolderFault::Refused));
-    let refusal = refusals.take().ok_or("nothing noted")?;
-    assert!(rt; refusal.call == FolderCall::Length && refusal.file == Some(5));
-    assert!(rt; refusals.take().is_none());
-    Ok(())
+    has_no_length(&rt, &rt, &refusals)?;
+    is_noted(&rt, &refusals, FolderCall::Length, Some(5))
+}
+
+/// A folder that keeps in mind what it changes, and notes what is refused.
+fn syncing(
+    files: &HostRuntime,
+    path: &str,
+    refusals: &Refusals,
+) -> Result<HostFolder<HostRuntime>, Fail> {
+    let folder = HostFolder::new(*files, path)?.syncing();
+    Ok(folder.noting(refusals.share()?))
+}
+
+/// A file is made, written, synced and removed again.
+fn is_synced(rt: &impl Abort, folder: &mut HostFolder<HostRuntime>) -> Result<(), Fail> {
+    folder.sync_found()?;
+    folder.create(3)?;
+    assert!(rt; folder.write_end(3, 0, b"some")? == 4);
+    folder.sync()?;
+    Ok(folder.remove(3)?)
+}
+
+/// A sync is refused, and noted.
+fn is_not_synced(
+    rt: &impl Abort,
+    folder: &mut HostFolder<HostRuntime>,
+    refusals: &Refusals,
+) -> Result<(), Fail> {
+    assert!(rt; folder.sync() == Err(FolderFault::Refused));
+    is_noted(rt, refusals, FolderCall::Sync, None)
 }
 
 /// A folder that keeps in mind what it changes is synced. Where that is refused, so is each later sync, also after the cause is gone.
 #[test]
 fn a_refused_sync_is_the_last(rt: HostRuntime) -> Result<(), Fail> {
     let (refusals, path) = (Refusals::new(rt.alloc())?, folder_of_its_own(&rt)?);
-    let folder = HostFolder::new(rt, path.as_str())?.syncing();
-    let mut folder = folder.noting(refusals.share()?);
-    folder.sync_found()?;
-    folder.create(3)?;
-    assert!(rt; folder.write_end(3, 0, b"some")? == 4);
-    folder.sync()?;
-    folder.remove(3)?;
+    let mut folder = syncing(&rt, path.as_str(), &refusals)?;
+    is_synced(&rt, &mut folder)?;
     fs::remove_dir(&rt, path.as_str())?;
     assert!(rt; folder.create(4) == Err(FolderFault::Refused));
-    for _ in 0..2 {
-        assert!(rt; folder.sync() == Err(FolderFault::Refused));
-        let refusal = refusals.take().ok_or("nothing noted")?;
-        assert!(rt; refusal.call == FolderCall::Sync && refusal.file.is_none());
-        let _ = fs::create_dir(&rt, path.as_str());
-    }
+    is_not_synced(&rt, &mut folder, &refusals)?;
+    fs::create_dir(&rt, path.as_str())?;
+    is_not_synced(&rt, &mut folder, &refusals)?;
     fs::remove_dir(&rt, path.as_str())?;
     Ok(())
 }
@@ -156,8 +226,7 @@ fn has_a_folder(
     let refusals = Refusals::new(files.alloc())?;
     let mut folder = folder.noting(refusals.share()?);
     assert!(rt; folder.len(7) == Ok(0));
-    let refusal = refusals.take().ok_or("nothing noted")?;
-    assert!(rt; refusal.call == FolderCall::Length && refusal.file == Some(7));
+    is_noted(rt, &refusals, FolderCall::Length, Some(7))?;
     assert!(rt; folder.read_at(7, 0, &mut []) == Ok(0));
     assert!(rt; refusals.take().is_none());
     Ok(())

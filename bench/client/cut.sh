@@ -1,4 +1,4 @@
-#!/bin/sh
+#!/bin/bash
 # Sends LINES lines (20000) through a proxy that ends the connection CUTS times (30) at random, and reads them back with
 # kconsole and, if it is there, with kcat: each line has to come once and in order.
 #
@@ -16,6 +16,7 @@ trap 'kill $broker $cutter 2>/dev/null || true; rm -rf "$work"' EXIT
 cat > "$work/kbroker.toml" <<END
 host = "localhost"
 port = $port
+connections = 64
 segment_bytes = 1048588
 cache_batches = 16
 data = "$work/data"

@@ -61,41 +61,75 @@ pub(crate) fn remove<S: Store>(alloc: Global, store: &mut S) -> Result<(), Fail>
     Ok(store.remove(0)?)
 }
 
+/// A folder that stores are opened over, one after the other.
+trait Opens {
+    /// A store over it.
+    type Opened: Store + Drop;
+
+    /// The store over the folder as it is now.
+    fn opened(&self) -> Result<Self::Opened, FolderFault>;
+}
+
+/// A folder of the system's.
+#[derive(Clone, Copy)]
+struct OfSystem<'a> {
+    files: HostRuntime,
+    path: &'a str,
+}
+
+impl Opens for OfSystem<'_> {
+    type Opened = FolderStore<HostFolder<HostRuntime>>;
+
+    fn opened(&self) -> Result<FolderStore<HostFolder<HostRuntime>>, FolderFault> {
+        opened(&self.files, self.path)
+    }
+}
+
 /// Writes a file of two pieces in a folder.
-fn leave_written(files: &HostRuntime, path: &str) -> Result<(), Fail> {
-    drop(written(files.alloc(), opened(files, path)?)?);
+fn leave_written<O: Opens>(alloc: Global, folder: &O) -> Result<(), Fail> {
+    drop(written(alloc, folder.opened()?)?);
     Ok(())
 }
 
 /// Cuts the only file of a folder to five bytes.
-fn leave_cut(files: &HostRuntime, path: &str) -> Result<(), Fail> {
-    cut(files.alloc(), &mut opened(files, path)?, 5)
+fn leave_cut<O: Opens>(alloc: Global, folder: &O) -> Result<(), Fail> {
+    cut(alloc, &mut folder.opened()?, 5)
 }
 
 /// Takes the only file of a folder away.
-fn leave_removed(files: &HostRuntime, path: &str) -> Result<(), Fail> {
-    remove(files.alloc(), &mut opened(files, path)?)
+fn leave_removed<O: Opens>(alloc: Global, folder: &O) -> Result<(), Fail> {
+    remove(alloc, &mut folder.opened()?)
 }
 
 /// Whether the only file of a folder has those bytes.
-fn is_left(files: &HostRuntime, path: &str, bytes: &[u8]) -> Result<bool, Fail> {
-    Ok(has(files.alloc(), &mut opened(files, path)?, bytes)?)
+fn is_left<O: Opens>(alloc: Global, folder: &O, bytes: &[u8]) -> Result<bool, Fail> {
+    Ok(has(alloc, &mut folder.opened()?, bytes)?)
 }
 
 /// Whether a folder has no file of a log.
-fn is_left_empty(files: &HostRuntime, path: &str) -> Result<bool, Fail> {
-    Ok(opened(files, path)?.list(files.alloc())?.is_empty())
+fn is_left_empty<O: Opens>(alloc: Global, folder: &O) -> Result<bool, Fail> {
+    Ok(folder.opened()?.list(alloc)?.is_empty())
 }
 
 /// Each store is over the folder as the one before left it.
+fn is_kept_in<O: Opens>(rt: &impl Abort, alloc: Global, folder: &O) -> Result<(), Fail> {
+    leave_written(alloc, folder)?;
+    assert!(rt; is_left(alloc, folder, b"first second")?);
+    leave_cut(alloc, folder)?;
+    assert!(rt; is_left(alloc, folder, b"first")?);
+    leave_removed(alloc, folder)?;
+    assert!(rt; is_left_empty(alloc, folder)?);
+    Ok(())
+}
+
+/// So they are beside a file that is no log's.
 fn is_kept(files: &HostRuntime, rt: &impl Abort, path: &str, other: &str) -> Result<(), Fail> {
-    leave_written(files, path)?;
+    let folder = OfSystem {
+        files: *files,
+        path,
+    };
     fs::write(files, other, "not a log's")?;
-    assert!(rt; is_left(files, path, b"first second")?);
-    leave_cut(files, path)?;
-    assert!(rt; is_left(files, path, b"first")?);
-    leave_removed(files, path)?;
-    assert!(rt; is_left_empty(files, path)?);
+    is_kept_in(rt, files.alloc(), &folder)?;
     assert!(rt; fs::read(files, other)?.as_slice() == b"not a log's".as_slice());
     Ok(())
 }

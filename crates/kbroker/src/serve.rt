@@ -2,6 +2,7 @@
 
 ghost use Rattle.std.specs.Prelude.{◌≡◌, ◌≤◌, ◌<◌, ◌*◌, ◌-◌, ◌^◌, max, min};
 
+use crate::board::Board;
 use crate::listening::{listen, tell_listening};
 use crate::open::{Start, consent_of, open_on, with_consent};
 use crate::telling::tell_turn;
@@ -101,10 +102,11 @@ fn serve_on<S: PutsOff + Drop>(
     let alloc = rt.alloc();
     let (opened, held) = open(rt, start, store, folder, journal)?;
     let mut edge = listen(rt, opened.broker, start.settings)?;
+    let mut board = Board::open(rt, start.settings, &edge, now(rt))?;
     tell_listening(rt, &edge, folder.folder())?;
     journal.tell_found(alloc, now(rt), Word::Start, held);
     journal.tell_change(alloc, now(rt), changed);
-    let served = turn_on(rt, &mut edge, journal, folder);
+    let served = turn_on(rt, &mut edge, &mut board, journal, folder);
     journal.tell_stop(alloc, now(rt));
     match served {
         Ok(()) => Ok(()),
@@ -148,6 +150,7 @@ fn settle<S: Store, L: PartitionLog + Drop>(broker: &mut Broker<S, L>) -> Result
 fn turn_on<R: Net, S: Store, L: PartitionLog + Drop>(
     rt: &HostRuntime,
     edge: &mut Edge<R, S, L>,
+    board: &mut Option<Board>,
     journal: &mut Journal,
     folder: &mut FolderJournal,
 ) -> Result<(), StoreFault> {
@@ -157,7 +160,11 @@ fn turn_on<R: Net, S: Store, L: PartitionLog + Drop>(
         let tick = clock.next(Reading::of(rt));
         let turn = edge.turn(rt.alloc(), tick.moment);
         folder.tell(rt, journal.lines(), tick.moment);
-        tell_turn(rt, journal, edge, &turn?, tick);
+        let turn = turn?;
+        tell_turn(rt, journal, edge, &turn, tick);
+        if let Some(board) = board {
+            board.turn(rt, edge, &turn, tick.moment);
+        }
     }
     Ok(())
 }

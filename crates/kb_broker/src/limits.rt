@@ -12,7 +12,8 @@ use std::alloc::{AllocError, Global};
 
 /// How far the settings let the groups of each tenant grow, by the tenant's place in the order of names.
 pub fn group_limits(alloc: Global, settings: &Settings) -> Result<Vec<Limits>, AllocError>
-    ensures says { IfOk result (λ limits. limits.items ≡ map (limits_named (values_of settings.now)) (tenants_of settings.now.users.items)) }
+    ensures says { IfOk result (λ limits.
+        limits.items ≡ map (limits_named (values_of settings.now)) (tenants_of settings.now.users.items)) }
     ensures within { IfOk result (λ limits. All (λ l. l.bytes < 2 ^ 63) limits.items) }
 {
     let names = tenant_names(alloc, &settings.users)?;

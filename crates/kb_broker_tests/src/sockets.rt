@@ -1,13 +1,12 @@
 //! Edges on the loopback, and one on a network of no system.
 
-use crate::bench::{Client, Move, Server, client_at, edge_for, edge_within, join, play};
+use crate::bench::{Client, Move, Server, client_at, edge_for, edge_within, play};
 use crate::crowd::Crowd;
-use crate::running::{new_broker, opened};
+use crate::running::Host;
 use crate::words::bytes_of;
 use Move::{Ask, At, Closed, Ends, Fails, Idle, Join, Leave, Send, Stays, Told, Turns};
-use kb_broker::{Broker, Listing, Settings};
+use kb_broker::{Listing, Settings};
 use kb_node::{BindFault, Edge, Limits, Turn};
-use kb_store::MemoryStore;
 use std::alloc::{AllocError, Global};
 use std::io;
 use std::process::Abort;
@@ -262,19 +261,19 @@ fn plays(
     net: &HostRuntime,
     rt: &impl Abort,
     alloc: Global,
-    broker: Broker<MemoryStore>,
+    host: Host,
     name: &'static str,
     moves: &[Move<'_>],
 ) -> Result<(), Fail> {
-    let mut edge = edge_for(net, alloc, broker)?;
+    let mut edge = edge_for(net, alloc, host)?;
     let mut clients = Vec::new(alloc);
     Ok(play(net, rt, alloc, &mut edge, &mut clients, name, moves)?)
 }
 
 #[test]
 fn scenes_are_played(rt: HostRuntime) -> Result<(), Fail> {
-    for (name, moves) in SCENES {
-        plays(&rt, &rt, rt.alloc(), new_broker(rt.alloc())?, name, moves)?;
+    for (name, moves) in &SCENES {
+        plays(&rt, &rt, rt.alloc(), Host::new(rt.alloc())?, name, moves)?;
     }
     Ok(())
 }
@@ -297,8 +296,8 @@ const LOGINS_FAIL: [Move<'static>; 7] = [
 #[test]
 fn failed_logins_are_counted(rt: HostRuntime) -> Result<(), Fail> {
     let settings = Settings::standard(rt.alloc())?;
-    let broker = opened(rt.alloc(), &settings, Listing::StockClients)?;
-    plays(&rt, &rt, rt.alloc(), broker, "logins fail", &LOGINS_FAIL)
+    let host = Host::of(rt.alloc(), &settings, Listing::StockClients)?;
+    plays(&rt, &rt, rt.alloc(), host, "logins fail", &LOGINS_FAIL)
 }
 
 /// The last number is given to one client, and none is left for the next.
@@ -312,10 +311,9 @@ const LAST: [Move<'static>; 5] = [
 
 #[test]
 fn the_last_number_is_given_once(rt: HostRuntime) -> Result<(), Fail> {
-    let mut broker = new_broker(rt.alloc())?;
-    assert!(rt; broker.last_connection() < u64::MAX - 1);
-    broker.connect(rt.alloc(), u64::MAX - 1)?;
-    plays(&rt, &rt, rt.alloc(), broker, "the last number", &LAST)
+    let mut host = Host::new(rt.alloc())?;
+    host.open(&rt, rt.alloc(), u64::MAX - 1)?;
+    plays(&rt, &rt, rt.alloc(), host, "the last number", &LAST)
 }
 
 /// How many requests are sent at once, at the most.
@@ -390,28 +388,62 @@ fn first_reads_late<E: Server>(
     alloc: Global,
     edge: &mut E,
 ) -> io::Result<()> {
-    let name = "a client does not read";
     let requests = many_requests(rt, alloc)?;
     let mut clients = Vec::new(alloc);
-    join(net, alloc, edge, &mut clients)?;
-    join(net, alloc, edge, &mut clients)?;
-    let first = client_at(rt, &mut clients, 0);
-    let (sent, written) = send_unread(edge, first, alloc, &requests);
+    play(net, rt, alloc, edge, &mut clients, "two join", &TWO_JOIN)?;
+    first_holds_nobody_up(net, rt, alloc, edge, &mut clients, &requests)
+}
+
+/// The same with both clients there.
+fn first_holds_nobody_up<E: Server>(
+    net: &HostRuntime,
+    rt: &impl Abort,
+    alloc: Global,
+    edge: &mut E,
+    clients: &mut Vec<Client>,
+    requests: &[u8],
+) -> io::Result<()> {
+    let (sent, written) = send_unread(edge, client_at(rt, clients, 0), alloc, requests);
     let replies = (sent / 14).saturating_mul(122);
     assert!(rt;
         written < replies as u64,
         "{written} of {replies} for {sent}"
     );
     let other = [Ask(1, "versions", "served")];
-    play(net, rt, alloc, edge, &mut clients, name, &other)?;
-    let first = client_at(rt, &mut clients, 0);
-    assert!(rt; read_all(edge, first, alloc, replies)? == replies);
+    play(
+        net,
+        rt,
+        alloc,
+        edge,
+        clients,
+        "a client does not read",
+        &other,
+    )?;
+    gets_all(rt, alloc, edge, client_at(rt, clients, 0), replies)
+}
+
+/// A client gets so many bytes once it reads.
+fn gets_all<E: Server>(
+    rt: &impl Abort,
+    alloc: Global,
+    edge: &mut E,
+    client: &mut Client,
+    bytes: usize,
+) -> io::Result<()> {
+    assert!(rt; read_all(edge, client, alloc, bytes)? == bytes);
+    Ok(())
+}
+
+/// A client asks for the versions.
+fn asks_versions(rt: &impl Abort, alloc: Global, client: &mut Client) -> io::Result<()> {
+    let request = bytes_of(rt, alloc, "versions")?;
+    assert!(rt; client.send_some(&request) == 14);
     Ok(())
 }
 
 #[test]
 fn a_client_that_does_not_read_holds_nobody_up(rt: HostRuntime) -> Result<(), Fail> {
-    let mut edge = edge_for(&rt, rt.alloc(), new_broker(rt.alloc())?)?;
+    let mut edge = edge_for(&rt, rt.alloc(), Host::new(rt.alloc())?)?;
     Ok(first_reads_late(&rt, &rt, rt.alloc(), &mut edge)?)
 }
 
@@ -425,22 +457,27 @@ fn all_wait_for_the_first<E: Server>(
 ) -> io::Result<()> {
     let requests = many_requests(rt, alloc)?;
     let mut clients = Vec::new(alloc);
-    join(net, alloc, edge, &mut clients)?;
-    join(net, alloc, edge, &mut clients)?;
-    let (sent, _) = send_unread(edge, client_at(rt, &mut clients, 0), alloc, &requests);
-    let replies = (sent / 14).saturating_mul(122);
-    let request = bytes_of(rt, alloc, "versions")?;
-    let second = client_at(rt, &mut clients, 1);
-    assert!(rt; second.send_some(&request) == 14);
+    play(net, rt, alloc, edge, &mut clients, "two join", &TWO_JOIN)?;
+    second_waits(rt, alloc, edge, &mut clients, &requests)
+}
+
+/// The same with both clients there.
+fn second_waits<E: Server>(
+    rt: &impl Abort,
+    alloc: Global,
+    edge: &mut E,
+    clients: &mut Vec<Client>,
+    requests: &[u8],
+) -> io::Result<()> {
+    let (sent, _) = send_unread(edge, client_at(rt, clients, 0), alloc, requests);
+    asks_versions(rt, alloc, client_at(rt, clients, 1))?;
     for _ in 0..8 {
         edge.turn(alloc, 0);
     }
-    assert!(rt; second.pass_over()? == 0);
-    let first = client_at(rt, &mut clients, 0);
-    assert!(rt; read_all(edge, first, alloc, replies)? == replies);
-    let second = client_at(rt, &mut clients, 1);
-    assert!(rt; read_all(edge, second, alloc, 122)? == 122);
-    Ok(())
+    assert!(rt; client_at(rt, clients, 1).pass_over()? == 0);
+    let replies = (sent / 14).saturating_mul(122);
+    gets_all(rt, alloc, edge, client_at(rt, clients, 0), replies)?;
+    gets_all(rt, alloc, edge, client_at(rt, clients, 1), 122)
 }
 
 #[test]
@@ -449,9 +486,12 @@ fn no_more_is_asked_for_than_is_kept(rt: HostRuntime) -> Result<(), Fail> {
         output_bytes: 1,
         ..Limits::default()
     };
-    let mut edge = edge_within(&rt, rt.alloc(), new_broker(rt.alloc())?, limits)?;
+    let mut edge = edge_within(&rt, rt.alloc(), Host::new(rt.alloc())?, limits)?;
     Ok(all_wait_for_the_first(&rt, &rt, rt.alloc(), &mut edge)?)
 }
+
+/// Two clients come.
+const TWO_JOIN: [Move<'static>; 2] = [Join, Join];
 
 /// Two clients log in.
 const TWO_LOG_IN: [Move<'static>; 6] = [
@@ -471,25 +511,43 @@ fn first_is_closed<E: Server>(
     alloc: Global,
     edge: &mut E,
 ) -> io::Result<(u64, u64)> {
-    let name = "a client does not read, and is closed";
-    let mut clients = Vec::new(alloc);
-    play(net, rt, alloc, edge, &mut clients, name, &TWO_LOG_IN)?;
     let requests = many_requests(rt, alloc)?;
+    let mut clients = Vec::new(alloc);
+    play(
+        net,
+        rt,
+        alloc,
+        edge,
+        &mut clients,
+        "two log in",
+        &TWO_LOG_IN,
+    )?;
     send_unread(edge, client_at(rt, &mut clients, 0), alloc, &requests);
-    let request = bytes_of(rt, alloc, "versions")?;
-    let second = client_at(rt, &mut clients, 1);
-    assert!(rt; second.send_some(&request) == 14);
-    let mut early = 0u64;
-    for now in [0, 0, 0, 0, 0, 0, 0, 0, 9999] {
-        early = early.saturating_add(edge.turn(alloc, now).unread);
-    }
+    second_is_served(rt, alloc, edge, client_at(rt, &mut clients, 1))
+}
+
+/// The same with the replies of the first unread.
+fn second_is_served<E: Server>(
+    rt: &impl Abort,
+    alloc: Global,
+    edge: &mut E,
+    second: &mut Client,
+) -> io::Result<(u64, u64)> {
+    asks_versions(rt, alloc, second)?;
+    let early = closed_unread(alloc, edge, &[0, 0, 0, 0, 0, 0, 0, 0, 9999]);
     assert!(rt; second.pass_over()? == 0);
-    let mut late = 0u64;
-    for now in [20_000, 40_000, 60_000] {
-        late = late.saturating_add(edge.turn(alloc, now).unread);
-    }
-    assert!(rt; read_all(edge, second, alloc, 122)? == 122);
+    let late = closed_unread(alloc, edge, &[20_000, 40_000, 60_000]);
+    gets_all(rt, alloc, edge, second, 122)?;
     Ok((early, late))
+}
+
+/// How many sockets are closed at those moments, since nothing was read of what waits there.
+fn closed_unread<E: Server>(alloc: Global, edge: &mut E, moments: &[u32]) -> u64 {
+    let mut closed = 0u64;
+    for now in moments {
+        closed = closed.saturating_add(edge.turn(alloc, *now).unread);
+    }
+    closed
 }
 
 #[test]
@@ -498,7 +556,7 @@ fn a_client_that_reads_nothing_is_closed_where_all_wait(rt: HostRuntime) -> Resu
         output_bytes: 1,
         ..Limits::default()
     };
-    let mut edge = edge_within(&rt, rt.alloc(), new_broker(rt.alloc())?, limits)?;
+    let mut edge = edge_within(&rt, rt.alloc(), Host::new(rt.alloc())?, limits)?;
     assert!(rt; first_is_closed(&rt, &rt, rt.alloc(), &mut edge)? == (0, 1));
     Ok(())
 }
@@ -508,10 +566,10 @@ fn a_client_that_reads_nothing_is_closed_where_all_wait(rt: HostRuntime) -> Resu
 fn refused(
     net: &HostRuntime,
     alloc: Global,
-    broker: Broker<MemoryStore>,
+    host: Host,
     address: &str,
 ) -> Option<(BindFault, u64)> {
-    match Edge::bind(net, alloc, broker, address, Limits::default()) {
+    match Edge::bind(net, alloc, host.into_broker(), address, Limits::default()) {
         Ok(_) => None,
         Err(refused) => Some((refused.fault, refused.broker.last_connection())),
     }
@@ -519,17 +577,23 @@ fn refused(
 
 #[test]
 fn a_taken_port_is_refused(rt: HostRuntime) -> Result<(), Fail> {
-    let edge = edge_for(&rt, rt.alloc(), new_broker(rt.alloc())?)?;
+    let edge = edge_for(&rt, rt.alloc(), Host::new(rt.alloc())?)?;
     let address = format!(in rt.alloc(); "127.0.0.1:{}", edge.port())?;
-    let found = refused(&rt, rt.alloc(), new_broker(rt.alloc())?, &address);
+    let found = refused(&rt, rt.alloc(), Host::new(rt.alloc())?, &address);
     assert!(rt; found == Some((BindFault::Bind, 0)));
     Ok(())
 }
 
 /// What the first turns of an edge with 1,025 clients at its door do.
-fn first_turns(alloc: Global, broker: Broker<MemoryStore>) -> Result<[Turn; 3], BindFault> {
+fn first_turns(alloc: Global, host: Host) -> Result<[Turn; 3], BindFault> {
     let crowd = Crowd { waiting: 1025 };
-    match Edge::bind(&crowd, alloc, broker, "127.0.0.1:9092", Limits::default()) {
+    match Edge::bind(
+        &crowd,
+        alloc,
+        host.into_broker(),
+        "127.0.0.1:9092",
+        Limits::default(),
+    ) {
         Ok(mut edge) => Ok([
             edge.turn(alloc, 0).unwrap_or_default(),
             edge.turn(alloc, 0).unwrap_or_default(),
@@ -541,7 +605,7 @@ fn first_turns(alloc: Global, broker: Broker<MemoryStore>) -> Result<[Turn; 3], 
 
 #[test]
 fn one_too_many_is_let_in_for_the_first(rt: HostRuntime) -> Result<(), Fail> {
-    let [full, next, last] = first_turns(rt.alloc(), new_broker(rt.alloc())?)?;
+    let [full, next, last] = first_turns(rt.alloc(), Host::new(rt.alloc())?)?;
     assert!(rt;
         full == Turn {
             accepted: 1024,
@@ -582,7 +646,7 @@ fn a_client_that_logged_in_makes_no_room(rt: HostRuntime) -> Result<(), Fail> {
         ..Limits::default()
     };
     let (name, alloc) = ("one at a time", rt.alloc());
-    let mut edge = edge_within(&rt, alloc, new_broker(alloc)?, limits)?;
+    let mut edge = edge_within(&rt, alloc, Host::new(alloc)?, limits)?;
     let mut clients = Vec::new(alloc);
     Ok(play(
         &rt,

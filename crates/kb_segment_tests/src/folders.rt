@@ -7,7 +7,7 @@ use kb_folder::{Folder, FolderCall, FolderFault, FolderStore, HostFolder, Refusa
 use kb_log::{LogFault, Shelf};
 use kb_process::soft_limit;
 use kb_store::{Store, StoreFault, read_file};
-use std::alloc::Global;
+use std::alloc::{AllocError, Global};
 use std::fs;
 use std::process::Abort;
 use std::test::Fail;
@@ -167,73 +167,102 @@ fn a_reserve_is_no_file_of_the_store(rt: HostRuntime) -> Result<(), Fail> {
     Ok(())
 }
 
-/// One refusal is noted, of that call and that file.
-fn is_noted(
-    rt: &impl Abort,
-    refusals: &Refusals,
-    call: FolderCall,
-    file: Option<u64>,
-) -> Result<(), Fail> {
-    let refusal = refusals.take().ok_or("nothing noted")?;
-    assert!(rt; refusal.call == call && refusal.file == file);
-    assert!(rt; refusals.take().is_none());
-    Ok(())
+/// A folder of the system's, and what it notes of refusals.
+#[derive(Drop)]
+struct Watched {
+    folder: HostFolder<HostRuntime>,
+    refusals: Refusals,
 }
 
-/// The length of a file is refused in a folder that is not there.
-fn has_no_length(files: &HostRuntime, rt: &impl Abort, refusals: &Refusals) -> Result<(), Fail> {
-    let mut folder = HostFolder::to_read(*files, "/nowhere")?.noting(refusals.share()?);
-    assert!(rt; folder.len(5) == Err(FolderFault::Refused));
-    Ok(())
+impl Watched {
+    /// A folder, of which nothing is noted yet.
+    fn new(alloc: Global, folder: HostFolder<HostRuntime>) -> Result<Watched, AllocError> {
+        let refusals = Refusals::new(alloc)?;
+        let folder = folder.noting(refusals.share()?);
+        Ok(Watched { folder, refusals })
+    }
+
+    /// One to write in.
+    fn to_write(files: &HostRuntime, path: &str) -> Result<Watched, Fail> {
+        let folder = HostFolder::new(*files, path)?;
+        Ok(Watched::new(files.alloc(), folder)?)
+    }
+
+    /// One to read in.
+    fn to_read(files: &HostRuntime, path: &str) -> Result<Watched, Fail> {
+        let folder = HostFolder::to_read(*files, path)?;
+        Ok(Watched::new(files.alloc(), folder)?)
+    }
+
+    /// One to write in that keeps in mind what it changes.
+    fn to_sync(files: &HostRuntime, path: &str) -> Result<Watched, Fail> {
+        let folder = HostFolder::new(*files, path)?.syncing();
+        Ok(Watched::new(files.alloc(), folder)?)
+    }
+
+    /// The length of a file.
+    fn len(&mut self, file: u64) -> Result<u64, FolderFault> {
+        self.folder.len(file)
+    }
+
+    /// How many bytes of a file are read, where none are asked for.
+    fn read(&mut self, file: u64) -> Result<usize, FolderFault> {
+        self.folder.read_at(file, 0, &mut [])
+    }
+
+    /// Makes a file.
+    fn create(&mut self, file: u64) -> Result<(), FolderFault> {
+        self.folder.create(file)
+    }
+
+    /// Syncs what was changed.
+    fn sync(&mut self) -> Result<(), FolderFault> {
+        self.folder.sync()
+    }
+
+    /// The file 3 is made, written, synced and removed again: how many bytes were written.
+    fn use_once(&mut self) -> Result<usize, FolderFault> {
+        self.folder.sync_found()?;
+        self.folder.create(3)?;
+        let written = self.folder.write_end(3, 0, b"some")?;
+        self.folder.sync()?;
+        self.folder.remove(3)?;
+        Ok(written)
+    }
+
+    /// One refusal is noted, of that call and that file.
+    fn has_noted(&self, rt: &impl Abort, call: FolderCall, file: Option<u64>) -> Result<(), Fail> {
+        let refusal = self.refusals.take().ok_or("nothing noted")?;
+        assert!(rt; refusal.call == call && refusal.file == file);
+        assert!(rt; self.refusals.take().is_none());
+        Ok(())
+    }
 }
 
 #[test]
 fn a_refusal_is_noted(rt: HostRuntime) -> Result<(), Fail> {
-    let refusals = Refusals::new(rt.alloc())?;
-    has_no_length(&rt, &rt, &refusals)?;
-    is_noted(&rt, &refusals, FolderCall::Length, Some(5))
-}
-
-/// A folder that keeps in mind what it changes, and notes what is refused.
-fn syncing(
-    files: &HostRuntime,
-    path: &str,
-    refusals: &Refusals,
-) -> Result<HostFolder<HostRuntime>, Fail> {
-    let folder = HostFolder::new(*files, path)?.syncing();
-    Ok(folder.noting(refusals.share()?))
-}
-
-/// A file is made, written, synced and removed again.
-fn is_synced(rt: &impl Abort, folder: &mut HostFolder<HostRuntime>) -> Result<(), Fail> {
-    folder.sync_found()?;
-    folder.create(3)?;
-    assert!(rt; folder.write_end(3, 0, b"some")? == 4);
-    folder.sync()?;
-    Ok(folder.remove(3)?)
+    let mut folder = Watched::to_read(&rt, "/nowhere")?;
+    assert!(rt; folder.len(5) == Err(FolderFault::Refused));
+    folder.has_noted(&rt, FolderCall::Length, Some(5))
 }
 
 /// A sync is refused, and noted.
-fn is_not_synced(
-    rt: &impl Abort,
-    folder: &mut HostFolder<HostRuntime>,
-    refusals: &Refusals,
-) -> Result<(), Fail> {
+fn is_not_synced(rt: &impl Abort, folder: &mut Watched) -> Result<(), Fail> {
     assert!(rt; folder.sync() == Err(FolderFault::Refused));
-    is_noted(rt, refusals, FolderCall::Sync, None)
+    folder.has_noted(rt, FolderCall::Sync, None)
 }
 
 /// A folder that keeps in mind what it changes is synced. Where that is refused, so is each later sync, also after the cause is gone.
 #[test]
 fn a_refused_sync_is_the_last(rt: HostRuntime) -> Result<(), Fail> {
-    let (refusals, path) = (Refusals::new(rt.alloc())?, folder_of_its_own(&rt)?);
-    let mut folder = syncing(&rt, path.as_str(), &refusals)?;
-    is_synced(&rt, &mut folder)?;
+    let path = folder_of_its_own(&rt)?;
+    let mut folder = Watched::to_sync(&rt, path.as_str())?;
+    assert!(rt; folder.use_once()? == 4);
     fs::remove_dir(&rt, path.as_str())?;
     assert!(rt; folder.create(4) == Err(FolderFault::Refused));
-    is_not_synced(&rt, &mut folder, &refusals)?;
+    is_not_synced(&rt, &mut folder)?;
     fs::create_dir(&rt, path.as_str())?;
-    is_not_synced(&rt, &mut folder, &refusals)?;
+    is_not_synced(&rt, &mut folder)?;
     fs::remove_dir(&rt, path.as_str())?;
     Ok(())
 }
@@ -244,25 +273,19 @@ fn a_folder_in_it_has_no_bytes(rt: HostRuntime) -> Result<(), Fail> {
     let path = folder_of_its_own(&rt)?;
     let inner = format!(in rt.alloc(); "{path}/00000000000000000007.seg")?;
     fs::create_dir(&rt, inner.as_str())?;
-    has_a_folder(&rt, &rt, HostFolder::new(rt, path.as_str())?)?;
-    has_a_folder(&rt, &rt, HostFolder::to_read(rt, path.as_str())?)?;
+    has_a_folder(&rt, &mut Watched::to_write(&rt, path.as_str())?)?;
+    has_a_folder(&rt, &mut Watched::to_read(&rt, path.as_str())?)?;
     fs::remove_dir(&rt, inner.as_str())?;
     fs::remove_dir(&rt, path.as_str())?;
     Ok(())
 }
 
 /// The file 7 of a folder is a folder.
-fn has_a_folder(
-    files: &HostRuntime,
-    rt: &impl Abort,
-    folder: HostFolder<HostRuntime>,
-) -> Result<(), Fail> {
-    let refusals = Refusals::new(files.alloc())?;
-    let mut folder = folder.noting(refusals.share()?);
+fn has_a_folder(rt: &impl Abort, folder: &mut Watched) -> Result<(), Fail> {
     assert!(rt; folder.len(7) == Ok(0));
-    is_noted(rt, &refusals, FolderCall::Length, Some(7))?;
-    assert!(rt; folder.read_at(7, 0, &mut []) == Ok(0));
-    assert!(rt; refusals.take().is_none());
+    folder.has_noted(rt, FolderCall::Length, Some(7))?;
+    assert!(rt; folder.read(7) == Ok(0));
+    assert!(rt; folder.refusals.take().is_none());
     Ok(())
 }
 

@@ -149,8 +149,8 @@ impl<T: Read + Write + Drop> Socket<T> {
         reply_reserve(handed, is_begun)
     }
 
-    /// How many bytes at the front of a piece are handed on past those that are kept: none where some are kept, or where the request may not
-    /// begin.
+    /// How many bytes at the front of a piece are handed on past those that are kept: none where some are kept, or where the request may
+    /// not begin.
     fn pass(&mut self, piece: &[u8], room: usize, most: u64, turn: &mut Turn) -> usize
         ensures within { result ≤ length piece.now }
         ensures first { result ≢ 0 → unhanded_of self.old ≡ [] }

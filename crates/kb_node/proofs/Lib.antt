@@ -2,3 +2,5 @@ pub mod Standard
 pub mod Handed
 pub mod Closing
 pub mod Counts
+pub mod Traffic
+pub mod Carries

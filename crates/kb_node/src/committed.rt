@@ -1,9 +1,11 @@
 //! A broker whose replies may wait until what was done lasts.
 
 ghost use Rattle.std.specs.Prelude.{◌≡◌, ◌≤◌, ◌<◌, ◌^◌, true, false, max, None, Some, Err, IfSome, IfErr, OnErr, OnOk};
+ghost use Rattle.kb_isolation_spec.specs.Machine.{Opens, Comes, Closes, Moment};
 ghost use Rattle.kb_isolation_spec.specs.Calls.{closed, taken, output_of, opened, IsRefused};
 ghost use Rattle.kb_broker.specs.Places.{numbers};
 ghost use Rattle.kb_broker.specs.Hosts.{is_honest};
+ghost use Rattle.kb_node.specs.Traffic.{Happens, IsCommitted};
 ghost use Rattle.kb_node.specs.Commits.{holds_back, is_due, may_tell, Lasts};
 
 use crate::commits::Commits;
@@ -61,6 +63,7 @@ impl<S: Store, L: PartitionLog + Drop> Committed<S, L> {
     /// A new connection, whose number is above that of each earlier one.
     pub fn connect(&mut self, alloc: Global, number: u64) -> Result<(), AllocError>
         requires { self.old.broker.state.last < number }
+        ensures happens { Happens S.disk (Opens number) self.old.broker self.new.broker }
         ensures commits { self.new.commits ≡ self.old.commits }
         ensures ok { OnOk result (self.new.broker.state ≡ opened self.old.broker.state number) }
         ensures err { OnErr result (IsRefused self.old.broker.state self.new.broker.state) }
@@ -70,6 +73,7 @@ impl<S: Store, L: PartitionLog + Drop> Committed<S, L> {
 
     /// A piece came on a connection.
     pub fn input(&mut self, alloc: Global, number: u64, piece: &[u8])
+        ensures happens { Happens S.disk (Comes number piece.now) self.old.broker self.new.broker }
         ensures commits { self.new.commits ≡ record self.old.commits { is_committed = self.new.commits.is_committed } }
         ensures lasts { self.new.commits.is_committed ≡ true → Lasts S.settled S.disk S.loss self.new.broker.store }
         ensures numbers { numbers self.new.broker.state ≡ numbers self.old.broker.state }
@@ -81,6 +85,7 @@ impl<S: Store, L: PartitionLog + Drop> Committed<S, L> {
     /// A moment of time, in milliseconds, at most 2^62.
     pub fn moment(&mut self, alloc: Global, now: u64)
         requires { now ≤ 2 ^ 62 }
+        ensures happens { Happens S.disk (Moment now) self.old.broker self.new.broker }
         ensures commits { self.new.commits ≡ record self.old.commits { is_committed = self.new.commits.is_committed } }
         ensures lasts { self.new.commits.is_committed ≡ true → Lasts S.settled S.disk S.loss self.new.broker.store }
         ensures clock { self.new.broker.state.clock ≡ max self.old.broker.state.clock now }
@@ -92,6 +97,7 @@ impl<S: Store, L: PartitionLog + Drop> Committed<S, L> {
 
     /// Closes a connection. What it had to say is dropped, and the store stays as it is.
     pub fn disconnect(&mut self, alloc: Global, number: u64)
+        ensures happens { Happens S.disk (Closes number) self.old.broker self.new.broker }
         ensures commits { self.new.commits ≡ self.old.commits }
         ensures broker { self.new.broker ≡ record self.old.broker { state = closed self.old.broker.state number } }
     {
@@ -117,6 +123,7 @@ impl<S: Store, L: PartitionLog + Drop> Committed<S, L> {
 
     /// Makes all that was done before last through a loss of power, where that is not known. Once it was refused it is refused for ever.
     pub fn commit(&mut self, now: u64) -> Result<(), StoreFault>
+        ensures commits { IsCommitted S.disk self.old.broker self.new.broker }
         ensures ok { OnOk result ((self.new.commits.sync ≡ self.old.commits.sync) × (self.new.commits.is_committed ≡ true)) }
         ensures lasts { OnOk result (Lasts S.settled S.disk S.loss self.new.broker.store) }
         ensures well { OnOk result ((self.old.commits.fault ≡ None) × (self.new.commits.fault ≡ None)) }
@@ -145,6 +152,7 @@ impl<S: Store, L: PartitionLog + Drop> Committed<S, L> {
 
     /// The same where it is due.
     pub fn commit_in_time(&mut self, now: u64) -> Result<(), StoreFault>
+        ensures commits { IsCommitted S.disk self.old.broker self.new.broker }
         ensures sync { OnOk result (self.new.commits.sync ≡ self.old.commits.sync) }
         ensures well { OnOk result (self.new.commits.fault ≡ None) }
         ensures due { OnOk result (is_due now self.new.commits ≡ false) }

@@ -1,6 +1,6 @@
 //! What was read on a socket and is not the connection's yet.
 
-ghost use Rattle.std.specs.Prelude.{◌≡◌, ◌≤◌, ◌-◌, true, drop, length, nat_lt, vec_len};
+ghost use Rattle.std.specs.Prelude.{◌≡◌, [], ◌++◌, OnOk, OnErr, ◌≤◌, ◌+◌, ◌-◌, take, true, drop, length, nat_lt, vec_len};
 ghost use Rattle.kb_node.specs.Requests.{request_end, piece_len, awaited, begun_size};
 
 use std::alloc::{AllocError, Global};
@@ -93,7 +93,9 @@ pub struct Input {
 
 impl Input {
     /// Nothing yet.
-    pub fn new(alloc: Global) -> Self {
+    pub fn new(alloc: Global) -> Self
+        ensures { drop result.handed result.bytes.items ≡ [] }
+    {
         Input {
             bytes: Vec::new(alloc),
             handed: 0,
@@ -102,7 +104,9 @@ impl Input {
     }
 
     /// Whether all was handed on.
-    pub fn is_empty(&self) -> bool {
+    pub fn is_empty(&self) -> bool
+        ensures { result ≡ true → drop self.now.handed self.now.bytes.items ≡ [] }
+    {
         self.handed == self.bytes.len()
     }
 
@@ -153,7 +157,9 @@ impl Input {
 
     /// Keeps bytes behind the others.
     pub fn push(&mut self, bytes: &[u8]) -> Result<(), AllocError>
-        ensures { self.new.progress ≡ self.old.progress }
+        ensures progress { self.new.progress ≡ self.old.progress }
+        ensures ok { OnOk result (drop self.new.handed self.new.bytes.items ≡ drop self.old.handed self.old.bytes.items ++ bytes.now) }
+        ensures err { OnErr result (drop self.new.handed self.new.bytes.items ≡ drop self.old.handed self.old.bytes.items) }
     {
         self.bytes.extend_from_slice(bytes)
     }
@@ -162,23 +168,34 @@ impl Input {
     pub fn pass(&mut self, piece: &[u8], room: usize) -> usize
         ensures within { result ≤ length piece.now }
         ensures fits { result ≤ room }
+        ensures bytes { (self.new.bytes ≡ self.old.bytes) × (self.new.handed ≡ self.old.handed) }
     {
         self.progress.advance(piece, room)
     }
 
-    /// The next bytes that are handed on.
-    pub fn next(&mut self, room: usize) -> &[u8]
-        ensures fits { length result.now ≤ room }
+    /// Goes on by the next bytes that are handed on: how many.
+    pub fn advance(&mut self, room: usize) -> usize
+        ensures fits { result ≤ room }
+        ensures handed { self.new.handed ≡ self.old.handed + result }
+        ensures bytes { self.new.bytes ≡ self.old.bytes }
     {
-        let start = self.handed;
-        let count = self.progress.advance(&self.bytes[start..], room);
-        self.handed = start + count;
-        &self.bytes[start..start + count]
+        let count = self.progress.advance(&self.bytes[self.handed..], room);
+        self.handed += count;
+        count
+    }
+
+    /// The last bytes that were handed on, so many.
+    pub fn passed(&self, count: usize) -> &[u8]
+        requires { count ≤ self.now.handed }
+        ensures { result.now ≡ take count (drop (self.now.handed - count) self.now.bytes.items) }
+    {
+        &self.bytes[self.handed - count..self.handed]
     }
 
     /// Forgets what was handed on, where that is all.
     pub fn tidy(&mut self, alloc: Global)
-        ensures { self.new.progress ≡ self.old.progress }
+        ensures progress { self.new.progress ≡ self.old.progress }
+        ensures bytes { drop self.new.handed self.new.bytes.items ≡ drop self.old.handed self.old.bytes.items }
     {
         if self.is_empty() {
             self.bytes = Vec::new(alloc);

@@ -1,30 +1,25 @@
 //! A socket and the connection that it carries.
 
-ghost use Rattle.std.specs.Prelude.{◌≡◌, ◌≢◌, ◌≤◌, ◌<◌, ◌+◌, ◌-◌, ◌||◌, ◌&&◌, not, true, false, None, drop, length, vec_len, IfOk, IfSome};
+ghost use Rattle.std.specs.Prelude.{◌≡◌, ◌≢◌, ◌≤◌, ◌<◌, ◌+◌, ◌-◌, ◌||◌, ◌&&◌, not, true, false, None, vec_len, IfSome};
 ghost use Rattle.kb_isolation_spec.specs.Broker.{bound_to};
-ghost use Rattle.kb_isolation_spec.specs.Calls.{is_open, output_of, room_of};
-ghost use Rattle.kb_broker.specs.Places.{numbers};
-ghost use Rattle.kb_node.specs.Commits.{may_tell, tells_at_once};
-ghost use Rattle.kb_node.specs.Sockets.{can_ask, is_done, is_welcome};
+ghost use Rattle.kb_node.specs.Sockets.{can_ask, is_done};
 ghost use Rattle.kb_node.specs.SocketShares.{may_bind};
 ghost use Rattle.kb_node.specs.declared.socket.Next.TheVariants.{End};
 
 mod asking;
+mod carrying;
 
 use crate::closed::Closed;
 use crate::committed::Committed;
 use crate::input::Input;
-use crate::login::is_welcome;
 use crate::socket_shares::SocketShares;
-use crate::transfer::write_to;
 use crate::turn::Turn;
 use kb_broker::Broker;
-use kb_isolation_spec::Shut;
 use kb_log::PartitionLog;
 use kb_store::Store;
 use mio::event::Event;
 use std::alloc::Global;
-use std::io::{ErrorKind, Read, Write};
+use std::io::{Read, Write};
 use std::mem;
 use std::net::SocketAddr;
 
@@ -255,75 +250,6 @@ impl<T: Read + Write + Drop> Socket<T> {
         }
     }
 
-    /// Writes what the connection has to say, hands on a request where all is written and nothing is waited for, and writes what
-    /// is said to that. With `may_ask` false nothing is handed on, and no request begins of more than `most` bytes. It is for replies
-    /// that wait for no commit.
-    ///
-    /// Where the peer is gone, or the connection is shut and all is written, the connection is closed.
-    pub fn serve<S: Store, L: PartitionLog + Drop>(
-        &mut self,
-        alloc: Global,
-        host: &mut Committed<S, L>,
-        shares: &mut SocketShares,
-        buffer: &mut [u8],
-        may_ask: bool,
-        most: u64,
-        turn: &mut Turn,
-    ) -> Next
-        requires not_ended { self.now.is_ended ≡ false }
-        requires at_once { tells_at_once host.old.commits ≡ true }
-        ensures connection { self.new.connection ≡ self.old.connection }
-        ensures at_once { tells_at_once host.new.commits ≡ true }
-        // Where it has ended the broker was told, and its connection is not open.
-        ensures ended { self.new.is_ended ≡ true → is_open self.old.connection host.new.broker.state ≡ false }
-        ensures over { result ≡ End → self.new.is_ended ≡ true }
-        // Else its connection and all others are open as before, and there is no cause to close it.
-        ensures open { result ≢ End → numbers host.new.broker.state ≡ numbers host.old.broker.state }
-        ensures stays { result ≢ End → is_done self.new.is_over self.new.is_half_closed
-            (vec_len self.new.output - self.new.written) self.new.connection host.new.broker.state ≡ false }
-    {
-        self.write_output(alloc, host, turn);
-        if may_ask && self.can_ask(host.broker()) {
-            self.ask(alloc, host, buffer, most, turn);
-            if self.take_seat(host.broker(), shares, turn) {
-                self.write_output(alloc, host, turn);
-            }
-        }
-        self.finish(alloc, host, turn)
-    }
-
-    /// Writes what is left of the output that was taken, and hands on a request where all is written that the connection had to say and
-    /// nothing is waited for. With `may_ask` false nothing is handed on, and no request begins of more than `most` bytes. What is said
-    /// since is left where it is.
-    ///
-    /// It answers how much is to be kept free for what is said to that.
-    pub fn hand_on<S: Store, L: PartitionLog + Drop>(
-        &mut self,
-        alloc: Global,
-        host: &mut Committed<S, L>,
-        shares: &mut SocketShares,
-        buffer: &mut [u8],
-        may_ask: bool,
-        most: u64,
-        turn: &mut Turn,
-    ) -> usize
-        requires { self.now.is_ended ≡ false }
-        ensures connection { self.new.connection ≡ self.old.connection }
-        ensures ended { self.new.is_ended ≡ self.old.is_ended }
-        ensures numbers { numbers host.new.broker.state ≡ numbers host.old.broker.state }
-        // With nothing to be asked the broker is not called.
-        ensures unasked { may_ask ≡ false → host.new ≡ host.old }
-    {
-        self.write_on(turn);
-        if may_ask && self.can_ask(host.broker()) && !host.speaks(self.connection) {
-            let reserve = self.ask(alloc, host, buffer, most, turn);
-            self.take_seat(host.broker(), shares, turn);
-            reserve
-        } else {
-            0
-        }
-    }
-
     /// Counts the socket for its tenant, where it has logged in now: true. Where the tenant may have no more, or memory is refused, the
     /// connection is to be closed, and what it is told of its login is taken no more.
     fn take_seat<S: Store, L: PartitionLog + Drop>(
@@ -334,6 +260,8 @@ impl<T: Read + Write + Drop> Socket<T> {
     ) -> bool
         ensures connection { self.new.connection ≡ self.old.connection }
         ensures ended { self.new.is_ended ≡ self.old.is_ended }
+        ensures over { self.old.is_over ≡ true → self.new.is_over ≡ true }
+        ensures rest { self.new ≡ record self.old { is_bound = self.new.is_bound; is_over = self.new.is_over } }
         ensures refused { result ≡ false → self.new.is_over ≡ true }
         ensures unbound { bound_to self.old.connection broker.now.state ≡ None → (result ≡ true) × (shares.new ≡ shares.old) }
         // It is counted as over a limit only where the tenant may not have it.
@@ -359,63 +287,6 @@ impl<T: Read + Write + Drop> Socket<T> {
         false
     }
 
-    /// Writes what the connection has to say, once all is written that it said before. It is for replies that waited for a commit.
-    ///
-    /// When the connection is closed, and when a login has failed, is as in [`Socket::serve`].
-    pub fn tell<S: Store, L: PartitionLog + Drop>(
-        &mut self,
-        alloc: Global,
-        host: &mut Committed<S, L>,
-        turn: &mut Turn,
-    ) -> Next
-        requires not_ended { self.now.is_ended ≡ false }
-        requires may_tell { may_tell host.old.commits ≡ true }
-        ensures connection { self.new.connection ≡ self.old.connection }
-        ensures commits { host.new.commits ≡ host.old.commits }
-        // Where it has ended the broker was told, and its connection is not open.
-        ensures ended { self.new.is_ended ≡ true → is_open self.old.connection host.new.broker.state ≡ false }
-        ensures over { result ≡ End → self.new.is_ended ≡ true }
-        // Else its connection and all others are open as before, and there is no cause to close it.
-        ensures open { result ≢ End → numbers host.new.broker.state ≡ numbers host.old.broker.state }
-        ensures stays { result ≢ End → is_done self.new.is_over self.new.is_half_closed
-            (vec_len self.new.output - self.new.written) self.new.connection host.new.broker.state ≡ false }
-    {
-        if self.unwritten() == 0 && !self.is_over {
-            self.write_output(alloc, host, turn);
-        }
-        self.finish(alloc, host, turn)
-    }
-
-    /// Closes the connection where it is to be closed, and answers what it waits for.
-    fn finish<S: Store, L: PartitionLog + Drop>(
-        &mut self,
-        alloc: Global,
-        host: &mut Committed<S, L>,
-        turn: &mut Turn,
-    ) -> Next
-        requires { self.now.is_ended ≡ false }
-        ensures connection { self.new.connection ≡ self.old.connection }
-        ensures commits { host.new.commits ≡ host.old.commits }
-        ensures ended { self.new.is_ended ≡ true → is_open self.old.connection host.new.broker.state ≡ false }
-        ensures over { result ≡ End → self.new.is_ended ≡ true }
-        ensures open { result ≢ End → numbers host.new.broker.state ≡ numbers host.old.broker.state }
-        ensures stays { result ≢ End → is_done self.new.is_over self.new.is_half_closed
-            (vec_len self.new.output - self.new.written) self.new.connection host.new.broker.state ≡ false }
-    {
-        let cause = host.broker().why(self.connection);
-        if self.asked != Asked::Nothing && matches!(cause, Some(Shut::Denied)) {
-            turn.count_denied();
-        }
-        self.asked = Asked::Nothing;
-        if self.is_done(host.broker()) {
-            let tenant = host.broker().tenant_of(self.connection);
-            self.closed = Closed::of(self.peer, tenant, cause);
-            self.end(alloc, host, turn);
-            return Next::End;
-        }
-        self.next(host.broker())
-    }
-
     /// Whether a request may be handed on.
     fn can_ask<S: Store, L: PartitionLog + Drop>(&self, broker: &Broker<S, L>) -> bool
         ensures { result ≡ can_ask self.now.is_over (vec_len self.now.output - self.now.written) self.now.connection broker.now.state }
@@ -436,45 +307,6 @@ impl<T: Read + Write + Drop> Socket<T> {
             || self.is_half_closed && broker.waits(self.connection)
     }
 
-    /// Closes its connection as if the peer were gone.
-    pub fn close<S: Store, L: PartitionLog + Drop>(
-        &mut self,
-        alloc: Global,
-        host: &mut Committed<S, L>,
-        turn: &mut Turn,
-    )
-        ensures connection { self.new.connection ≡ self.old.connection }
-        ensures commits { host.new.commits ≡ host.old.commits }
-        ensures ended { self.new.is_ended ≡ true }
-        ensures closed { is_open self.old.connection host.new.broker.state ≡ false }
-    {
-        self.is_over = true;
-        self.end(alloc, host, turn);
-    }
-
-    /// Closes its connection, and forgets what is not written.
-    #[tactic(auto, using(crate::proofs::Closing::is_closed))]
-    fn end<S: Store, L: PartitionLog + Drop>(
-        &mut self,
-        alloc: Global,
-        host: &mut Committed<S, L>,
-        turn: &mut Turn,
-    )
-        requires { is_done self.now.is_over self.now.is_half_closed
-            (vec_len self.now.output - self.now.written) self.now.connection host.now.broker.state ≡ true }
-        ensures connection { self.new.connection ≡ self.old.connection }
-        ensures commits { host.new.commits ≡ host.old.commits }
-        ensures ended { self.new.is_ended ≡ true }
-        ensures closed { is_open self.old.connection host.new.broker.state ≡ false }
-    {
-        self.is_ended = true;
-        self.output = Vec::new(alloc);
-        self.written = 0;
-        self.input = Input::new(alloc);
-        host.disconnect(alloc, self.connection);
-        turn.count_closed();
-    }
-
     /// What it waits for, where its connection is open.
     fn next<S: Store, L: PartitionLog + Drop>(&self, broker: &Broker<S, L>) -> Next
         ensures { result ≢ End }
@@ -487,70 +319,6 @@ impl<T: Read + Write + Drop> Socket<T> {
             Next::Turn
         } else {
             Next::System
-        }
-    }
-
-    /// Writes what the socket takes now of the output. New output is taken only once the earlier one is written.
-    fn write_output<S: Store, L: PartitionLog + Drop>(
-        &mut self,
-        alloc: Global,
-        host: &mut Committed<S, L>,
-        turn: &mut Turn,
-    )
-        requires { may_tell host.old.commits ≡ true }
-        ensures connection { self.new.connection ≡ self.old.connection }
-        ensures commits { host.new.commits ≡ host.old.commits }
-        ensures ended { self.new.is_ended ≡ self.old.is_ended }
-        ensures numbers { numbers host.new.broker.state ≡ numbers host.old.broker.state }
-        ensures read { turn.new.read ≡ turn.old.read }
-        ensures unchanged { self.old.written < vec_len self.old.output → host.new ≡ host.old }
-    {
-        if self.unwritten() == 0 {
-            self.take_output(alloc, host);
-        }
-        self.write_on(turn);
-    }
-
-    /// Takes what the connection has to say, once all is written that it said before.
-    #[tactic(auto, using(crate::proofs::Closing::numbers_taken))]
-    fn take_output<S: Store, L: PartitionLog + Drop>(
-        &mut self,
-        alloc: Global,
-        host: &mut Committed<S, L>,
-    )
-        requires written { self.now.written ≡ vec_len self.now.output }
-        requires may_tell { may_tell host.old.commits ≡ true }
-        ensures connection { self.new.connection ≡ self.old.connection }
-        ensures commits { host.new.commits ≡ host.old.commits }
-        ensures ended { self.new.is_ended ≡ self.old.is_ended }
-        ensures unwritten { self.new.written ≡ 0 }
-        ensures known { self.new.is_known
-            ≡ (self.old.is_known || is_welcome (output_of self.old.connection host.old.broker.state)) }
-        ensures numbers { numbers host.new.broker.state ≡ numbers host.old.broker.state }
-    {
-        self.written = 0;
-        self.output = host.take_output(alloc, self.connection);
-        self.is_known = self.is_known || is_welcome(&self.output);
-    }
-
-    /// Writes what the socket takes now of what was said.
-    pub fn write_on(&mut self, turn: &mut Turn)
-        ensures connection { self.new.connection ≡ self.old.connection }
-        ensures ended { self.new.is_ended ≡ self.old.is_ended }
-        ensures read { turn.new.read ≡ turn.old.read }
-    {
-        let rest = &self.output[self.written..];
-        if rest.is_empty() {
-            return;
-        }
-        match write_to(&mut self.stream, rest) {
-            Ok(0) => self.is_over = true,
-            Ok(n) => {
-                self.written += n;
-                turn.count_written(n);
-            }
-            Err(e) if e.kind() == ErrorKind::WouldBlock => {}
-            Err(_) => self.is_over = true,
         }
     }
 }

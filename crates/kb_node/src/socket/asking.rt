@@ -1,8 +1,10 @@
 //! What a socket's connection is asked.
 
-ghost use Rattle.std.specs.Prelude.{◌≡◌, ◌≤◌, ◌+◌, ◌-◌, ◌||◌, true, false, drop, length, vec_len};
+ghost use Rattle.std.specs.Prelude.{◌≡◌, ◌≢◌, [], ◌≤◌, ◌+◌, ◌-◌, ◌||◌, take, true, false, drop, length, vec_len};
+ghost use Rattle.std.specs.Io.KnownBytes.{Consumes};
 ghost use Rattle.kb_isolation_spec.specs.Calls.{room_of};
 ghost use Rattle.kb_broker.specs.Places.{numbers};
+ghost use Rattle.kb_node.specs.Carries.{Carries, HandsOn, unhanded_of, unwritten_of};
 ghost use Rattle.kb_node.specs.Commits.{tells_at_once};
 ghost use Rattle.kb_node.specs.Requests.{awaited, is_too_long, may_begin};
 ghost use Rattle.kb_node.specs.Sockets.{can_ask};
@@ -43,6 +45,7 @@ impl<T: Read + Write + Drop> Socket<T> {
         turn: &mut Turn,
     ) -> usize
         requires { can_ask self.now.is_over (vec_len self.now.output - self.now.written) self.now.connection host.now.broker.state ≡ true }
+        ensures carries { Carries S.disk T.contents T.remaining self.old self.new host.old.broker host.new.broker }
         ensures connection { self.new.connection ≡ self.old.connection }
         ensures ended { self.new.is_ended ≡ self.old.is_ended }
         ensures numbers { numbers host.new.broker.state ≡ numbers host.old.broker.state }
@@ -67,7 +70,8 @@ impl<T: Read + Write + Drop> Socket<T> {
             if !self.may_begin(awaited, most, turn) {
                 return 0;
             }
-            let piece = self.input.next(room);
+            let count = self.input.advance(room);
+            let piece = self.input.passed(count);
             note_login(alloc, &mut self.login, piece, is_bare, self.is_known);
             host.input(alloc, self.connection, piece);
             let reserve = reply_reserve(piece, is_begun);
@@ -97,6 +101,7 @@ impl<T: Read + Write + Drop> Socket<T> {
     fn may_begin(&mut self, size: usize, most: u64, turn: &mut Turn) -> bool
         ensures begins { result ≡ may_begin self.old.is_bound most size }
         ensures over { self.new.is_over ≡ (self.old.is_over || is_too_long self.old.is_bound size) }
+        ensures over_stays { self.old.is_over ≡ true → self.new.is_over ≡ true }
         ensures rest { self.new ≡ record self.old { is_over = self.new.is_over } }
         ensures read { turn.new.read ≡ turn.old.read }
     {
@@ -119,6 +124,9 @@ impl<T: Read + Write + Drop> Socket<T> {
         most: u64,
         turn: &mut Turn,
     ) -> usize
+        ensures hands_on { HandsOn S.disk self.old self.new piece.now host.old.broker host.new.broker }
+        ensures stream { self.new.stream ≡ self.old.stream }
+        ensures unwritten { unwritten_of self.new ≡ unwritten_of self.old }
         ensures connection { self.new.connection ≡ self.old.connection }
         ensures ended { self.new.is_ended ≡ self.old.is_ended }
         ensures numbers { numbers host.new.broker.state ≡ numbers host.old.broker.state }
@@ -129,17 +137,9 @@ impl<T: Read + Write + Drop> Socket<T> {
         ensures anew { self.old.is_anew ≡ false → self.new.is_anew ≡ true → self.new.input.progress.left ≡ 0 }
     {
         let is_begun = self.input.is_begun();
-        let is_first = self.input.is_empty();
-        let awaited = self.input.awaited_in(piece);
-        let count = if is_first && self.may_begin(awaited, most, turn) {
-            self.input.pass(piece, room)
-        } else {
-            0
-        };
+        let count = self.pass(piece, room, most, turn);
         let (handed, rest) = piece.split_at(count);
-        if self.input.push(rest).is_err() {
-            self.is_over = true;
-        }
+        self.is_over |= self.input.push(rest).is_err();
         if handed.is_empty() {
             return 0;
         }
@@ -149,9 +149,30 @@ impl<T: Read + Write + Drop> Socket<T> {
         reply_reserve(handed, is_begun)
     }
 
+    /// How many bytes at the front of a piece are handed on past those that are kept: none where some are kept, or where the request may
+    /// not begin.
+    fn pass(&mut self, piece: &[u8], room: usize, most: u64, turn: &mut Turn) -> usize
+        ensures within { result ≤ length piece.now }
+        ensures first { result ≢ 0 → unhanded_of self.old ≡ [] }
+        ensures held { may_begin self.old.is_bound most (awaited self.old.input.progress.left piece.now) ≡ false → result ≡ 0 }
+        ensures unhanded { unhanded_of self.new ≡ unhanded_of self.old }
+        ensures rest { self.new ≡ record self.old { input = self.new.input; is_over = self.new.is_over } }
+        ensures over { self.old.is_over ≡ true → self.new.is_over ≡ true }
+        ensures read { turn.new.read ≡ turn.old.read }
+    {
+        let awaited = self.input.awaited_in(piece);
+        if !self.input.is_empty() || !self.may_begin(awaited, most, turn) {
+            return 0;
+        }
+        self.input.pass(piece, room)
+    }
+
     /// Reads once: how many bytes came.
     fn read_piece(&mut self, piece: &mut [u8], turn: &mut Turn) -> usize
         ensures within { result ≤ length piece.old }
+        ensures came { Consumes (T.remaining self.old.stream) (T.remaining self.new.stream) (take result piece.new) }
+        ensures rest { self.new ≡ record self.old { stream = self.new.stream; is_over = self.new.is_over; can_read = self.new.can_read } }
+        ensures over { self.old.is_over ≡ true → self.new.is_over ≡ true }
         ensures connection { self.new.connection ≡ self.old.connection }
         ensures ended { self.new.is_ended ≡ self.old.is_ended }
         ensures read { turn.new.read ≤ turn.old.read + length piece.old }

@@ -1,0 +1,43 @@
+-- What a socket carries between its stream and its connection.
+use Rattle.std.specs.Prelude.{◌≡◌, ℕ, List, ◌++◌, drop, true, false, ◌||◌, [], Option}
+use Rattle.std.specs.List.{flat_map}
+use Rattle.kb_store.specs.Disk.{Disk}
+use Rattle.kb_broker.specs.Hosts.{OnStore}
+use Rattle.kb_node.specs.declared.socket.Socket.{Socket}
+use Rattle.kb_node.specs.Traffic.{Along, AreAbout, AreDone, Deed, IsUsed, Use, handed_by, read_by, taken_by, written_by}
+
+-- what was said to its connection and is not written
+abbrev pub unwritten_of : {T : Type 0} → Socket T → List ℕ
+unwritten_of s = drop s.written s.output.items
+
+-- what was read on it and is not handed on
+abbrev pub unhanded_of : {T : Type 0} → Socket T → List ℕ
+unhanded_of s = drop s.input.handed s.input.bytes.items
+
+-- Those at the front went on, in order, and the rest is what is left, unless that is lost.
+abbrev pub GoesOn : List ℕ → List ℕ → Type 0 → List ℕ → Type 0
+GoesOn all gone holds left = (rest : List ℕ) × (all ≡ gone ++ rest) × (holds → rest ≡ left)
+
+-- What a socket did to the broker was about its own connection alone. What it wrote to its stream is what was unwritten, and then what was
+-- taken. What it handed on is what was kept, and then what was read. Nothing is lost but at the end, and what was read but for want of
+-- memory, which is the end.
+pub record Carries {S T : Type 0} (disk : S → Disk) (contents remaining : T → Option (List ℕ)) (old new : Socket T)
+    (from to : OnStore S) : Type 0 where
+  pub deeds : List Deed
+  pub uses : List Use
+  pub about : AreAbout old.connection deeds
+  pub done : AreDone disk deeds from to
+  pub used : Along (IsUsed contents remaining) uses old.stream new.stream
+  pub writes : GoesOn (unwritten_of old ++ flat_map taken_by deeds) (flat_map written_by uses) (new.is_ended ≡ false) (unwritten_of new)
+  pub hands_on : GoesOn (unhanded_of old ++ flat_map read_by uses) (flat_map handed_by deeds) ((new.is_over || new.is_ended) ≡ false)
+      (unhanded_of new)
+  -- where the peer is gone it stays so, and nothing is read or handed on
+  pub over : old.is_over ≡ true → (new.is_over ≡ true) × (flat_map read_by uses ≡ []) × (flat_map handed_by deeds ≡ [])
+
+-- A piece was read where so much was kept: what of both was handed on is in front, as pieces on its own connection.
+pub record HandsOn {S T : Type 0} (disk : S → Disk) (old new : Socket T) (piece : List ℕ) (from to : OnStore S) : Type 0 where
+  pub deeds : List Deed
+  pub about : AreAbout old.connection deeds
+  pub done : AreDone disk deeds from to
+  pub none_taken : flat_map taken_by deeds ≡ []
+  pub hands_on : GoesOn (unhanded_of old ++ piece) (flat_map handed_by deeds) ((new.is_over || new.is_ended) ≡ false) (unhanded_of new)
